@@ -1,0 +1,4 @@
+pub mod CoreLemmas
+mod LineExamples
+mod NameExamples
+pub mod TextLemmas

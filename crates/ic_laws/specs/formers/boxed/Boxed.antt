@@ -1,0 +1,61 @@
+-- How `Boxed` holds its value, so that a type may lead back to itself through it.
+use mathlib.Core.Former.{Former, this, const, pair, via}
+use mathlib.Core.Path.{refl}
+use base.Fml.{ftrue}
+use base.Stored.{gnil}
+use denote.Hole.Fix.{over}
+use denote.HoleLaws.{Alike}
+use denote.HolePlaces.{Recodes, struct_places, laid, one_value}
+use denote.Memory.{part_of}
+use denote.Model.Placed.{view_places}
+use denote.Param.Weighed.{Weighed}
+use denote.RattleType.{RattleType}
+use denote.RawPtr.{Ptr}
+use denote.Sharing.{nothing}
+use Rattle.std.specs.contracts.alloc.Global as global
+use Rattle.std.specs.contracts.boxed.Box as box
+use Rattle.std.specs.contracts.impls.GlobalAllocator.TheImpl.{ghosts}
+use Rattle.std.specs.declared.alloc.Global.{Global}
+use Rattle.std.specs.declared.boxed.Box.{Box}
+use Rattle.ic_laws.specs.contracts.boxed.Boxed as row
+use Rattle.ic_laws.specs.contracts.boxed.Boxed.TheInside as inside
+use Rattle.ic_laws.specs.declared.boxed.Boxed.TheInside.{Inside}
+use Rattle.ic_laws.specs.declared.boxed.Boxed.TheView.{view, invariant}
+
+-- it holds one value
+abbrev pub the_former : Former {0} → Former {0}
+the_former held = held
+
+abbrev pub the_weighed : {held : Former {0}} → Weighed held → Weighed (the_former held)
+the_weighed weighed = weighed
+
+-- its one field: a pointer with its allocator, and the value
+abbrev field : Former {0}
+field =
+    via (pair (const (Ptr × Global)) this) Inside (λ X b. ((b.inner.ptr, b.inner.alloc), b.inner.value))
+    (λ X v. record { inner = record { ptr = v.0.0; alloc = v.0.1; value = v.1 } }) (λ X b. refl) (λ X v. refl)
+
+abbrev holding : {X Y : Type 0} → Box X Global → Y → Box Y Global
+holding b y = record { ptr = b.ptr; alloc = b.alloc; value = y }
+
+abbrev box_row : RattleType → RattleType
+box_row R = box.the_row R global.the_row ghosts
+
+module _ (R S : RattleType) (h : R.Denot → S.Denot) where
+  box_places : Alike R S h → Alike (box_row R) (box_row S) (λ b. holding b (h b.value))
+  unfolding part_of
+  box_places alike = record {
+    mir_same = λ i. (box_row (one_value R (alike.mir_same i) (λ _. ftrue) (λ _ _. nothing) gnil)).mir;
+    own_same = λ b i. (box_row (one_value R (alike.mir_same i) (alike.own_same b.value i) (alike.shr_same b.value i) gnil)).own_val (holding b tt);
+    shr_same = λ b i. (box_row (one_value R (alike.mir_same i) (alike.own_same b.value i) (alike.shr_same b.value i) gnil)).shr_at (holding b tt);
+  }
+
+  pub the_places : Alike R S h → Alike (row.the_row R) (row.the_row S) ((the_former this).map R.Denot S.Denot h)
+  the_places alike =
+      view_places field this view (λ X Y k u. refl) (λ X u. refl) R.Denot S.Denot h (row.the_row R).coded (row.the_row S).coded
+      (invariant R.Denot) (invariant S.Denot) (λ u p q. refl) (λ u p q. refl) (λ u e. tt) (λ u e. tt)
+      (over (inside.the_row R)) (over (inside.the_row S))
+      (struct_places (inside.the_type R) (inside.the_type S) ((λ b. holding b (h b.value)), tt) _ (λ d. refl) refl (laid _ _ _ (box_places alike), tt))
+
+  pub the_codes_placed : Recodes R S h → Recodes (row.the_row R) (row.the_row S) ((the_former this).map R.Denot S.Denot h)
+  the_codes_placed same b = same b

@@ -1,0 +1,34 @@
+ghost use Rattle.std.specs.Prelude.{◌≡◌};
+
+use std::marker::Model;
+
+/// A `Box` that contracts see as the value in it, so that a tree of them is plain data.
+#[derive(Debug, Drop)]
+pub struct Boxed<T> {
+    inner: Box<T>,
+}
+
+impl<T> Model for Boxed<T> {
+    ghost Value = { T };
+
+    ghost coded = { T.code };
+
+    ghost view = { λ b. b.inner.value };
+}
+
+impl<T> Boxed<T> {
+    /// The value in it.
+    pub fn as_ref(&self) -> &T
+        ensures { result.now ≡ self.now }
+    {
+        &self.inner
+    }
+}
+
+impl<T> From<Box<T>> for Boxed<T> {
+    ghost from_gives = { λ b v. v ≡ b.value };
+
+    fn from(inner: Box<T>) -> Boxed<T> {
+        Boxed { inner }
+    }
+}
