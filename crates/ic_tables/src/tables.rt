@@ -1,0 +1,96 @@
+ghost use Rattle.std.specs.Prelude.{◌≡◌, None, Some, chars, codes, option_map, IfOk, MatchResult};
+ghost use Rattle.ic_tables.specs.Making.{Tells};
+ghost use Rattle.ic_tables.specs.Tables.{TableSet, first_failed, language_of, locale_of, lists_zone};
+
+use crate::ids::{find_id, has_good_ids, has_id, have_different_ids};
+use crate::{BookIdError, FunctionKind, Language, Locale, NamedLocale, TablesError};
+use ic_laws::{Items, Text};
+use std::alloc::Global;
+use std::marker::Model;
+
+/// Languages, locales, zones and function kinds that meet every condition on tables.
+#[derive(Debug, Drop)]
+pub struct Tables {
+    languages: Items<Language>,
+    locales: Items<NamedLocale>,
+    zones: Items<Text>,
+    kinds: Items<FunctionKind>,
+}
+
+impl Model for Tables {
+    ghost use Rattle.ic_tables.specs.Tables.{TableSet, IsWellFormed};
+
+    ghost Value = { TableSet };
+
+    ghost view = { λ t. record { languages = t.languages; locales = t.locales; zones = t.zones; kinds = t.kinds } };
+
+    ghost invariant = { λ t. IsWellFormed (record { languages = t.languages; locales = t.locales; zones = t.zones; kinds = t.kinds }) };
+}
+
+impl Tables {
+    /// The tables of these lists. `BadTables` carries the number, from 1, of the first condition that fails.
+    pub fn new(
+        _alloc: Global,
+        languages: Items<Language>,
+        locales: Items<NamedLocale>,
+        zones: Items<Text>,
+        kinds: Items<FunctionKind>,
+    ) -> Result<Tables, TablesError>
+        ensures made { IfOk result (λ t. t ≡ record { languages = languages; locales = locales; zones = zones; kinds = kinds }) }
+        ensures failed { let set : TableSet = record { languages = languages; locales = locales; zones = zones; kinds = kinds } in
+            MatchResult result (λ _. first_failed set ≡ None) (λ e. Tells e (first_failed set)) }
+    {
+        if !has_good_ids(languages.as_slice()) || !has_good_ids(locales.as_slice()) {
+            return Err(TablesError::BadTables(1));
+        }
+        if !have_different_ids(zones.as_slice()) {
+            return Err(TablesError::BadTables(2));
+        }
+        Ok(Tables {
+            languages,
+            locales,
+            zones,
+            kinds,
+        })
+    }
+
+    /// The language with this code.
+    pub fn get_language(&self, id: &str) -> Result<&Language, BookIdError>
+        ensures { MatchResult result (λ l. language_of self.now (chars id.now) ≡ Some l.now)
+            (λ e. (e ≡ BookIdError.InvalidLanguage) × (language_of self.now (chars id.now) ≡ None)) }
+    {
+        find_id(self.languages.as_slice(), id).ok_or(BookIdError::InvalidLanguage)
+    }
+
+    /// The locale with this id.
+    pub fn get_locale(&self, id: &str) -> Result<&Locale, BookIdError>
+        ensures { MatchResult result (λ l. option_map (λ n. n.locale) (locale_of self.now (chars id.now)) ≡ Some l.now)
+            (λ e. (e ≡ BookIdError.InvalidLocale) × (locale_of self.now (chars id.now) ≡ None)) }
+    {
+        match find_id(self.locales.as_slice(), id) {
+            Some(named) => Ok(&named.locale),
+            None => Err(BookIdError::InvalidLocale),
+        }
+    }
+
+    /// The language `en`, which is always there.
+    pub fn get_default_language(&self) -> &Language
+        ensures { language_of self.now (codes "en") ≡ Some result.now }
+    {
+        find_id(self.languages.as_slice(), "en").unwrap()
+    }
+
+    /// The locale `en`, which is always there.
+    pub fn get_default_locale(&self) -> &Locale
+        ensures { option_map (λ n. n.locale) (locale_of self.now (codes "en")) ≡ Some result.now }
+    {
+        &find_id(self.locales.as_slice(), "en").unwrap().locale
+    }
+
+    /// Whether the list of zones has this name.
+    pub fn has_zone(&self, id: &str) -> bool
+        ensures { result ≡ lists_zone self.now (chars id.now) }
+    {
+        has_id(self.zones.as_slice(), id)
+    }
+}
