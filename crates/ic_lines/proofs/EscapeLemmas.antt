@@ -1,0 +1,170 @@
+-- Words and the texts that they spell.
+use Rattle.std.proofs.Common.{◌≡◌, ◌≢◌, ◌↔◌, ◌⊎◌, ℕ, List, [], ◌∷◌, ◌++◌, false, ◌==◌, Option, Some, None, IsSome, IsNone, is_some, option_map, option_and_then, refl, sym, subst, ◌∙◌, ap, inl, inr, append_assoc}
+use Rattle.std.proofs.lemmas.Bool.Decides.{eqb_tells}
+use Rattle.std.proofs.lemmas.List.{append-nil}
+use Rattle.ic_laws.specs.Lines.{escape_of, escape_meaning, escaped, unescaped}
+use Rattle.ic_lines.specs.Escapes.{GoesOnWrong, HasWrongEscape}
+
+-- a character that is no backslash stands for itself
+unescaped-plain : (c : ℕ) (cs : List ℕ) → (c == 92) ≡ false → unescaped (c ∷ cs) ≡ option_map (λ t. c ∷ t) (unescaped cs)
+unescaped-plain c [] h = rw h refl
+unescaped-plain c (d ∷ cs) h = rw h refl
+
+-- what a character is written as spells it
+unescaped-escape_of : (c : ℕ) (w t : List ℕ) → unescaped w ≡ Some t → unescaped (escape_of c ++ w) ≡ Some (c ∷ t)
+unescaped-escape_of c w t h =
+    elim (eqb_tells c 92) [
+      | inl p ↦ rw p.1 (ap (option_map (λ t. 92 ∷ t)) h)
+      | inr p ↦ elim (eqb_tells c 9) [
+        | inl q ↦ rw q.1 (ap (option_map (λ t. 9 ∷ t)) h)
+        | inr q ↦ elim (eqb_tells c 10) [
+          | inl r ↦ rw r.1 (ap (option_map (λ t. 10 ∷ t)) h)
+          | inr r ↦ elim (eqb_tells c 13) [
+            | inl s ↦ rw s.1 (ap (option_map (λ t. 13 ∷ t)) h)
+            | inr s ↦ let e : escape_of c ≡ c ∷ [] = rw (p.0, q.0, r.0, s.0) refl in
+                ap (λ v. unescaped (v ++ w)) e ∙ unescaped-plain c w p.0 ∙ ap (option_map (λ t. c ∷ t)) h
+          ]
+        ]
+      ]
+    ]
+
+-- what a text is written as spells it
+pub unescaped-escaped : (t : List ℕ) → unescaped (escaped t) ≡ Some t
+unescaped-escaped [] = refl
+unescaped-escaped (c ∷ t) = unescaped-escape_of c (escaped t) t (unescaped-escaped t)
+
+-- what is in front goes on in front
+front_more : (so : List ℕ) (c : ℕ) (o : Option (List ℕ)) → option_map (λ t. (so ++ c ∷ []) ++ t) o ≡ option_map (λ t. so ++ t) (option_map (λ t. c ∷ t) o)
+front_more so c None = refl
+front_more so c (Some t) = ap Some (append_assoc so (c ∷ []) t)
+
+-- with nothing in front
+front_none : (so : List ℕ) (o : Option (List ℕ)) → so ≡ [] → option_map (λ t. so ++ t) o ≡ o
+front_none so None h = refl
+front_none so (Some t) h = rw h refl
+
+-- So far a text came out, and what is left spells the rest of it. The word begins.
+pub spells_first : (so w : List ℕ) → so ≡ [] → option_map (λ t. so ++ t) (unescaped w) ≡ unescaped w
+spells_first so w h = front_none so (unescaped w) h
+
+-- a character that is no backslash
+pub spells_plain : (so left more : List ℕ) (w : Option (List ℕ)) (c : ℕ) → left ≡ c ∷ more → c ≢ 92 → option_map (λ t. so ++ t) (unescaped left) ≡ w → option_map (λ t. (so ++ c ∷ []) ++ t) (unescaped more) ≡ w
+spells_plain so left more w c e n h =
+    elim (eqb_tells c 92) [
+      | inl p ↦ absurd (n p.1)
+      | inr p ↦ front_more so c (unescaped more) ∙ ap (option_map (λ t. so ++ t)) (sym (unescaped-plain c more p.0)) ∙ ap (λ l. option_map (λ t. so ++ t) (unescaped l)) (sym e) ∙ h
+    ]
+
+-- an escape
+pub spells_escape : (so left more : List ℕ) (w : Option (List ℕ)) (d m : ℕ) → left ≡ 92 ∷ d ∷ more → Some m ≡ escape_meaning d → option_map (λ t. so ++ t) (unescaped left) ≡ w → option_map (λ t. (so ++ m ∷ []) ++ t) (unescaped more) ≡ w
+spells_escape so left more w d m e k h =
+    front_more so m (unescaped more)
+    ∙ ap (λ o. option_map (λ t. so ++ t) (option_and_then (λ m. option_map (λ t. m ∷ t) (unescaped more)) o)) k
+    ∙ ap (λ l. option_map (λ t. so ++ t) (unescaped l)) (sym e) ∙ h
+
+-- a backslash at the end
+pub spells_none_at_end : (so left : List ℕ) (w : Option (List ℕ)) → left ≡ 92 ∷ [] → option_map (λ t. so ++ t) (unescaped left) ≡ w → None ≡ w
+spells_none_at_end so left w e h = ap (λ l. option_map (λ t. so ++ t) (unescaped l)) (sym e) ∙ h
+
+-- a backslash with a character behind it that it means nothing with
+pub spells_none : (so left more : List ℕ) (w : Option (List ℕ)) (d : ℕ) → left ≡ 92 ∷ d ∷ more → None ≡ escape_meaning d → option_map (λ t. so ++ t) (unescaped left) ≡ w → None ≡ w
+spells_none so left more w d e k h =
+    ap (λ o. option_map (λ t. so ++ t) (option_and_then (λ m. option_map (λ t. m ∷ t) (unescaped more)) o)) k
+    ∙ ap (λ l. option_map (λ t. so ++ t) (unescaped l)) (sym e) ∙ h
+
+-- the end
+pub spells_last : (so left : List ℕ) (w : Option (List ℕ)) → left ≡ [] → option_map (λ t. so ++ t) (unescaped left) ≡ w → Some so ≡ w
+spells_last so left w e h = ap Some (sym (append-nil so)) ∙ ap (λ l. option_map (λ t. so ++ t) (unescaped l)) (sym e) ∙ h
+
+-- a text with one more character in front
+some_front : (c : ℕ) (o : Option (List ℕ)) → IsSome o → IsSome (option_map (λ t. c ∷ t) o)
+some_front c None s = s
+some_front c (Some t) s = refl
+
+some_behind : (c : ℕ) (o : Option (List ℕ)) → IsSome (option_map (λ t. c ∷ t) o) → IsSome o
+some_behind c None s = s
+some_behind c (Some t) s = refl
+
+none_behind : (c : ℕ) (o : Option (List ℕ)) → option_map (λ t. c ∷ t) o ≡ None → o ≡ None
+none_behind c None e = refl
+none_behind c (Some t) e = cc
+
+none_or_some : {A : Type 0} (o : Option A) → (o ≡ None) ⊎ ((m : A) × (o ≡ Some m))
+none_or_some None = inl refl
+none_or_some (Some m) = inr (m, refl)
+
+-- an escape, and what stands behind it
+unescaped-escape : (c d : ℕ) (cs : List ℕ) (o : Option ℕ) → c ≡ 92 → escape_meaning d ≡ o → unescaped (c ∷ d ∷ cs) ≡ option_and_then (λ m. option_map (λ t. m ∷ t) (unescaped cs)) o
+unescaped-escape c d cs o e k = ap (λ c. unescaped (c ∷ d ∷ cs)) e ∙ ap (λ o. option_and_then (λ m. option_map (λ t. m ∷ t) (unescaped cs)) o) k
+
+-- a wrong escape is still one behind a character
+wrong_behind_plain : (c : ℕ) (w : List ℕ) → (c == 92) ≡ false → HasWrongEscape w → HasWrongEscape (c ∷ w)
+wrong_behind_plain c w n h = record {
+  front = c ∷ h.front;
+  rest = h.rest;
+  whole = ap (λ v. c ∷ v) h.whole;
+  spelled = ap is_some (unescaped-plain c h.front n) ∙ some_front c (unescaped h.front) h.spelled;
+  wrong = h.wrong;
+}
+
+-- and behind an escape
+wrong_behind_escape : (c d m : ℕ) (w : List ℕ) → c ≡ 92 → escape_meaning d ≡ Some m → HasWrongEscape w → HasWrongEscape (c ∷ d ∷ w)
+wrong_behind_escape c d m w e k h = record {
+  front = c ∷ d ∷ h.front;
+  rest = h.rest;
+  whole = ap (λ v. c ∷ d ∷ v) h.whole;
+  spelled = ap is_some (unescaped-escape c d h.front (Some m) e k) ∙ some_front m (unescaped h.front) h.spelled;
+  wrong = h.wrong;
+}
+
+-- a word that spells nothing has a wrong escape
+wrong_from_none : (w : List ℕ) → unescaped w ≡ None → HasWrongEscape w
+wrong_from_none [] h = absurd (cc)
+wrong_from_none (c ∷ []) h =
+    elim (eqb_tells c 92) [
+      | inl p ↦ record { front = []; rest = []; whole = ap (λ x. x ∷ []) p.1; spelled = refl; wrong = tt }
+      | inr p ↦ let k = sym (unescaped-plain c [] p.0) ∙ h in absurd (cc)
+    ]
+wrong_from_none (c ∷ d ∷ cs) h =
+    elim (eqb_tells c 92) [
+      | inl p ↦ elim (none_or_some (escape_meaning d)) [
+        | inl k ↦ record { front = []; rest = d ∷ cs; whole = ap (λ x. x ∷ d ∷ cs) p.1; spelled = refl; wrong = k }
+        | inr k ↦ wrong_behind_escape c d k.0 cs p.1 k.1 (wrong_from_none cs (none_behind k.0 (unescaped cs) (sym (unescaped-escape c d cs (Some k.0) p.1 k.1) ∙ h)))
+      ]
+      | inr p ↦ wrong_behind_plain c (d ∷ cs) p.0 (wrong_from_none (d ∷ cs) (none_behind c (unescaped (d ∷ cs)) (sym (unescaped-plain c (d ∷ cs) p.0) ∙ h)))
+    ]
+
+-- what no escape goes on from spells nothing, whatever text is spelled before it
+none_from_parts : (front rest : List ℕ) → IsSome (unescaped front) → GoesOnWrong rest → unescaped (front ++ 92 ∷ rest) ≡ None
+none_from_parts [] [] s g = refl
+none_from_parts [] (d ∷ ds) s g = unescaped-escape 92 d ds None refl g
+none_from_parts (c ∷ []) rest s g =
+    elim (eqb_tells c 92) [
+      | inl p ↦ let k : IsSome (unescaped (92 ∷ [])) = subst (λ x. IsSome (unescaped (x ∷ []))) p.1 s in absurd (cc)
+      | inr p ↦ unescaped-plain c (92 ∷ rest) p.0 ∙ ap (option_map (λ t. c ∷ t)) (none_from_parts [] rest refl g)
+    ]
+none_from_parts (c ∷ d ∷ cs) rest s g =
+    elim (eqb_tells c 92) [
+      | inl p ↦ elim (none_or_some (escape_meaning d)) [
+        | inl k ↦ let n = sym (ap is_some (unescaped-escape c d cs None p.1 k)) ∙ s in absurd (cc)
+        | inr k ↦ unescaped-escape c d (cs ++ 92 ∷ rest) (Some k.0) p.1 k.1
+            ∙ ap (option_map (λ t. k.0 ∷ t)) (none_from_parts cs rest (some_behind k.0 (unescaped cs) (sym (ap is_some (unescaped-escape c d cs (Some k.0) p.1 k.1)) ∙ s)) g)
+      ]
+      | inr p ↦ unescaped-plain c (d ∷ cs ++ 92 ∷ rest) p.0
+          ∙ ap (option_map (λ t. c ∷ t)) (none_from_parts (d ∷ cs) rest (some_behind c (unescaped (d ∷ cs)) (sym (ap is_some (unescaped-plain c (d ∷ cs) p.0)) ∙ s)) g)
+    ]
+
+is_nothing : (o : Option (List ℕ)) → IsNone o → o ≡ None
+is_nothing None n = refl
+is_nothing (Some t) n = cc
+
+-- a word spells nothing exactly where it has a wrong escape
+pub wrong_exactly : (w : List ℕ) (r : Option (List ℕ)) → r ≡ unescaped w → IsNone r ↔ HasWrongEscape w
+wrong_exactly w r e = (
+  λ n. wrong_from_none w (sym e ∙ is_nothing r n),
+  λ h. ap is_some (e ∙ ap unescaped h.whole ∙ none_from_parts h.front h.rest h.spelled h.wrong),
+)
+
+-- what a text is written as is read back
+pub spelled_exactly : (w t : List ℕ) (r : Option (List ℕ)) → r ≡ unescaped w → w ≡ escaped t → r ≡ Some t
+spelled_exactly w t r e h = e ∙ ap unescaped h ∙ unescaped-escaped t

@@ -1,0 +1,37 @@
+-- What a source and a sink do to the bytes that they tell, and how their faults are seen.
+use Rattle.std.specs.Prelude.{◌≡◌, ℕ, ◌<◌, ◌≤◌, ◌⊎◌, List, [], ◌++◌, length, take, drop, Option, Some, None, Result, Ok, Err}
+use Rattle.ic_lines.specs.declared.error.Failed.{Failed}
+
+-- where a counter stands still
+abbrev pub last_count : ℕ
+last_count = 18446744073709551615
+
+-- A call met a fault: the count of faults rose in it, or stands at its end, where one more doesn't show.
+abbrev pub HasFault : ℕ → ℕ → Type 0
+HasFault before now = (before < now) ⊎ (now ≡ last_count)
+
+-- Where the bytes were told before a call, they are told after it too, and both are so related.
+abbrev pub IfTold : Option (List ℕ) → Option (List ℕ) → (List ℕ → List ℕ → Type 0) → Type 0
+IfTold None now P = Unit {0}
+IfTold (Some before) None P = ⊥
+IfTold (Some before) (Some now) P = P before now
+
+-- n bytes went from the front of what was left to the front of the buffer
+pub record TakesFront (n : ℕ) (buffer before now : List ℕ) : Type 0 where
+  pub enough : n ≤ length before
+  pub moved : take n buffer ≡ take n before
+  pub rest : now ≡ drop n before
+  -- no byte comes only at the end, or into no room
+  pub end : n ≡ 0 → 0 < length buffer → before ≡ []
+
+abbrev pub Reads : Option (List ℕ) → Option (List ℕ) → Result ℕ Failed → List ℕ → Type 0
+Reads before now (Ok n) buffer = IfTold before now (TakesFront n buffer)
+Reads before now (Err failed) buffer = IfTold before now (λ old new. new ≡ old)
+
+-- a front of the piece stands behind what was written before
+abbrev pub AppendsFront : List ℕ → List ℕ → List ℕ → Type 0
+AppendsFront piece before now = (n : ℕ) × (n ≤ length piece) × (now ≡ before ++ take n piece)
+
+abbrev pub Writes : Option (List ℕ) → Option (List ℕ) → Result ℕ Failed → List ℕ → Type 0
+Writes before now (Ok n) piece = IfTold before now (λ old new. new ≡ old ++ take n piece)
+Writes before now (Err failed) piece = IfTold before now (λ old new. new ≡ old)

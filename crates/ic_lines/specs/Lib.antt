@@ -1,0 +1,4 @@
+pub mod Bytes
+pub mod Escapes
+pub mod Memory
+pub mod Reading

@@ -1,0 +1,26 @@
+//! Bytes in, lines and bytes out: sources and sinks that tell their bytes and count their faults, the lines of a
+//! source, and the escapes of words.
+//!
+//! `LineReader::next_line` gives the lines that `specs/Lines` of `ic_laws` finds in the bytes, whatever the pieces
+//! in which they come. An error that speaks of a fault comes only where a count of faults shows one.
+#![tactic(auto)]
+
+mod error;
+mod escapes;
+mod line;
+mod memory;
+mod reader;
+mod sink;
+mod source;
+mod standard;
+#[cfg(test)]
+mod tests;
+
+pub use error::{Failed, RunError};
+pub use escapes::{escape, unescape};
+pub use line::Line;
+pub use memory::{MemorySink, MemorySource};
+pub use reader::LineReader;
+pub use sink::{Sink, write_all};
+pub use source::Source;
+pub use standard::{StdSink, StdSource};

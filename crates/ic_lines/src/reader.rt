@@ -1,0 +1,262 @@
+ghost use Rattle.std.specs.Prelude.{◌≡◌, ◌≢◌, ◌==◌, ◌⊎◌, ℕ, ◌+◌, ◌++◌, ◌<◌, ◌≤◌, [], true, false, None, Some, Err, IsSome, chars, take, drop, length, vec_len, position, Contains, IfOk, IfErr, OnOk, OnErr, MatchOption};
+ghost use Rattle.ic_laws.specs.Lines.{line_text};
+ghost use Rattle.ic_lines.specs.Bytes.{IfTold, HasFault};
+ghost use Rattle.ic_lines.specs.Reading.{Gives, GivesLine, GoesOn, IsFirstLineFeed, TakesBehind, budget, has_line_feed, most_turns, unread, without_return};
+
+use crate::{Line, RunError, Source};
+use ic_laws::{OutOfMemory, Text};
+use std::alloc::Global;
+use std::marker::Model;
+
+/// The bytes that one read is handed room for.
+const READ_SIZE: usize = 4096;
+
+/// The reads that give at least one byte, after which a reader gives up.
+const MOST_TURNS: u64 = 1 << 32;
+
+/// Takes bytes from a source and gives them out as lines.
+#[derive(Drop)]
+pub struct LineReader {
+    alloc: Global,
+    bytes: Vec<u8>,
+    /// Where the next line begins.
+    start: usize,
+    /// Up to where there is no line feed behind `start`.
+    scanned: usize,
+    ended: bool,
+    turns: u64,
+}
+
+impl Model for LineReader {
+    ghost use Rattle.std.specs.Prelude.{◌≡◌, ◌-◌, ◌≤◌, false, drop, take, vec_len};
+    ghost use Rattle.ic_lines.specs.Reading.{Reading, has_line_feed, most_turns};
+
+    ghost Value = { Reading };
+
+    ghost view = { λ r. record { held = drop r.start r.bytes.items; ended = r.ended; turns = r.turns } };
+
+    ghost invariant = { λ r. (r.start ≤ r.scanned) × (r.scanned ≤ vec_len r.bytes) × (r.turns ≤ most_turns)
+        × (has_line_feed (take (r.scanned - r.start) (drop r.start r.bytes.items)) ≡ false) };
+}
+
+impl LineReader {
+    /// A reader that holds no byte.
+    pub fn new(alloc: Global) -> LineReader
+        ensures { result ≡ record { held = []; ended = false; turns = 0 } }
+    {
+        LineReader {
+            alloc,
+            bytes: Vec::new(alloc),
+            start: 0,
+            scanned: 0,
+            ended: false,
+            turns: 0,
+        }
+    }
+
+    /// The next line; None exactly at the end, and from then on. It reads only where it holds no whole line, each
+    /// time into 4,096 bytes, and not again once it saw the end. A line that isn't UTF-8 is given as the empty line.
+    ///
+    /// `ReadFault` where a read failed, `TooManyTurns` after 2^32 reads of this reader that each gave a byte,
+    /// `OutOfMemory`. After an error every byte that was taken and not given is still held.
+    pub fn next_line<S: Source>(&mut self, source: &mut S) -> Result<Option<Line>, RunError>
+        ensures line { IfOk result (λ line. IfTold (S.left source.old) (S.left source.new)
+            (λ before now. GivesLine line (unread self.old before) (unread self.new now))) }
+        ensures end { IfOk result (λ line. line ≡ None → self.new.ended ≡ true) }
+
+        // It sees the end where the source has nothing left.
+        ensures ends { self.old.ended ≡ false → IfTold (S.left source.old) (S.left source.new)
+            (λ before now. self.new.ended ≡ true → now ≡ []) }
+
+        // It asks the source only where it has to.
+        ensures unasked { Contains self.old.held 10 ⊎ (self.old.ended ≡ true) → source.new ≡ source.old }
+
+        // What an error leaves, and when each comes.
+        ensures kept { OnErr result (IfTold (S.left source.old) (S.left source.new)
+            (λ before now. unread self.new now ≡ unread self.old before)) }
+        ensures read_fault { result ≡ Err RunError.ReadFault → HasFault (S.faults source.old) (S.faults source.new) }
+        ensures too_many { result ≡ Err RunError.TooManyTurns → self.new.turns ≡ most_turns }
+        ensures no_write { result ≢ Err RunError.WriteFault }
+
+        // Each turn took at least one byte.
+        ensures turns { IfTold (S.left source.old) (S.left source.new)
+            (λ before now. self.new.turns + length now ≤ self.old.turns + length before) }
+        ensures counted { S.faults source.old ≤ S.faults source.new }
+
+        // Each line takes bytes of those held, or of those that the turns that are left can bring.
+        ensures progress { IfOk result (λ line. IsSome line → budget self.new < budget self.old) }
+    {
+        loop {
+            if let Some(len) = self.line_feed() {
+                return Ok(Some(self.take_line(len)?));
+            }
+            if self.ended {
+                return Ok(self.take_last()?);
+            }
+            self.fill(source)?;
+        }
+    }
+
+    // How many of the bytes held stand before the first line feed.
+    fn line_feed(&mut self) -> Option<usize>
+        ensures same { self.new ≡ self.old }
+        ensures found { MatchOption result (has_line_feed self.old.held ≡ false) (IsFirstLineFeed self.old.held) }
+    {
+        match first_line_feed(&self.bytes[self.scanned..]) {
+            Some(place) => {
+                self.scanned += place;
+                Some(self.scanned - self.start)
+            }
+            None => {
+                self.scanned = self.bytes.len();
+                None
+            }
+        }
+    }
+
+    // Gives the line of this length, and drops the line feed behind it.
+    fn take_line(&mut self, len: usize) -> Result<Line, OutOfMemory>
+        requires { IsFirstLineFeed self.old.held len }
+        ensures ok { IfOk result (λ line. Gives (Some line) self.old self.new) }
+        ensures err { OnErr result (self.new ≡ self.old) }
+    {
+        let end = self.start + len;
+        let line = line_of(self.alloc, cut_return(&self.bytes[self.start..end]))?;
+        self.start = end + 1;
+        self.scanned = self.start;
+        Ok(line)
+    }
+
+    // Gives what is held as the last line, if anything is.
+    fn take_last(&mut self) -> Result<Option<Line>, OutOfMemory>
+        requires ended { self.old.ended ≡ true }
+        requires no_line_feed { has_line_feed self.old.held ≡ false }
+        ensures ok { IfOk result (λ line. Gives line self.old self.new) }
+        ensures err { OnErr result (self.new ≡ self.old) }
+    {
+        if self.start == self.bytes.len() {
+            return Ok(None);
+        }
+        let line = line_of(self.alloc, &self.bytes[self.start..])?;
+        self.start = self.bytes.len();
+        self.scanned = self.start;
+        Ok(Some(line))
+    }
+
+    // Reads once more.
+    fn fill<S: Source>(&mut self, source: &mut S) -> Result<(), RunError>
+        requires { self.old.ended ≡ false }
+        ensures kept { IfTold (S.left source.old) (S.left source.new)
+            (λ before now. unread self.new now ≡ unread self.old before) }
+        ensures turns { IfTold (S.left source.old) (S.left source.new)
+            (λ before now. self.new.turns + length now ≤ self.old.turns + length before) }
+        ensures ends { IfTold (S.left source.old) (S.left source.new) (λ before now. self.new.ended ≡ true → now ≡ []) }
+        ensures goes_on { OnOk result (GoesOn self.old self.new) }
+        ensures room { budget self.new ≤ budget self.old }
+        ensures read_fault { result ≡ Err RunError.ReadFault → HasFault (S.faults source.old) (S.faults source.new) }
+        ensures too_many { result ≡ Err RunError.TooManyTurns → self.new.turns ≡ most_turns }
+        ensures no_write { result ≢ Err RunError.WriteFault }
+        ensures counted { S.faults source.old ≤ S.faults source.new }
+    {
+        if self.turns == MOST_TURNS {
+            return Err(RunError::TooManyTurns);
+        }
+        drop_front(&mut self.bytes, self.start);
+        self.scanned -= self.start;
+        self.start = 0;
+        let taken = read_more(source, &mut self.bytes)?;
+        if taken == 0 {
+            self.ended = true;
+        } else {
+            self.turns += 1;
+        }
+        Ok(())
+    }
+}
+
+// How many bytes stand before the first line feed.
+fn first_line_feed(bytes: &[u8]) -> Option<usize>
+    ensures { MatchOption result (has_line_feed bytes.now ≡ false) (IsFirstLineFeed bytes.now) }
+{
+    line_feed_place(bytes)
+}
+
+// The place of the first line feed.
+fn line_feed_place(bytes: &[u8]) -> Option<usize>
+    ensures { result ≡ position (λ b. b == 10) bytes.now }
+{
+    bytes.iter().position(|b| *b == b'\n')
+}
+
+// The bytes without a carriage return at their end.
+fn cut_return(bytes: &[u8]) -> &[u8]
+    ensures { result.now ≡ without_return bytes.now }
+{
+    let Some((last, front)) = bytes.split_last() else {
+        return bytes;
+    };
+    if *last == b'\r' { front } else { bytes }
+}
+
+// The line of these bytes.
+fn line_of(alloc: Global, bytes: &[u8]) -> Result<Line, OutOfMemory>
+    requires { has_line_feed bytes.now ≡ false }
+    ensures { IfOk result (λ line. line ≡ line_text bytes.now) }
+{
+    let text = Text::from_str(alloc, text_of(bytes))?;
+    Ok(Line::without_line_feed(text))
+}
+
+// The text of these bytes, the empty one where they aren't UTF-8.
+#[tactic(auto, using(crate::proofs::LineLemmas::line_text_utf8, crate::proofs::LineLemmas::line_text_other))]
+fn text_of(bytes: &[u8]) -> &str
+    ensures { chars result.now ≡ line_text bytes.now }
+{
+    str::from_utf8(bytes).unwrap_or("")
+}
+
+// Drops so many bytes from the front.
+fn drop_front(bytes: &mut Vec<u8>, count: usize)
+    requires { count ≤ vec_len bytes.old }
+    ensures { bytes.new.items ≡ drop count bytes.old.items }
+{
+    // A long line that isn't whole yet stays where it is.
+    if count == 0 {
+        return;
+    }
+    let len = bytes.len();
+    bytes.copy_within(count..len, 0);
+    bytes.truncate(len - count);
+}
+
+// Reads behind the bytes that are there, and answers how many came.
+fn read_more<S: Source>(source: &mut S, bytes: &mut Vec<u8>) -> Result<usize, RunError>
+    ensures ok { IfOk result (λ n. IfTold (S.left source.old) (S.left source.new) (TakesBehind n bytes.old.items bytes.new.items)) }
+    ensures ok_len { IfOk result (λ n. (n ≤ READ_SIZE) × (vec_len bytes.new ≡ vec_len bytes.old + n)) }
+    ensures front { IfOk result (λ n. take (vec_len bytes.old) bytes.new.items ≡ bytes.old.items) }
+    ensures err { OnErr result (bytes.new.items ≡ bytes.old.items) }
+    ensures err_left { OnErr result (IfTold (S.left source.old) (S.left source.new) (λ before now. now ≡ before)) }
+    ensures which { IfErr result (λ e. (e ≡ RunError.ReadFault) ⊎ (e ≡ RunError.OutOfMemory)) }
+    ensures read_fault { result ≡ Err RunError.ReadFault → HasFault (S.faults source.old) (S.faults source.new) }
+    ensures counted { S.faults source.old ≤ S.faults source.new }
+{
+    let held = bytes.len();
+    make_room(bytes)?;
+    let Ok(taken) = source.read(&mut bytes[held..]) else {
+        bytes.truncate(held);
+        return Err(RunError::ReadFault);
+    };
+    bytes.truncate(held + taken);
+    Ok(taken)
+}
+
+// Adds as many zero bytes as one read is handed.
+fn make_room(bytes: &mut Vec<u8>) -> Result<(), OutOfMemory>
+    ensures front { OnOk result (take (vec_len bytes.old) bytes.new.items ≡ bytes.old.items) }
+    ensures len { OnOk result (vec_len bytes.new ≡ vec_len bytes.old + READ_SIZE) }
+    ensures err { OnErr result (bytes.new.items ≡ bytes.old.items) }
+{
+    let len = bytes.len() + READ_SIZE;
+    bytes.resize(len, 0)?;
+    Ok(())
+}

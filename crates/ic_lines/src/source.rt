@@ -1,0 +1,21 @@
+ghost use Rattle.std.specs.Prelude.{ℕ, ◌≤◌, List, Option, length, IfOk, OnErr};
+ghost use Rattle.ic_lines.specs.Bytes.{Reads, HasFault};
+
+use crate::Failed;
+
+/// Where bytes come from. An implementation may tell the bytes that are left; it counts its faults.
+pub trait Source {
+    /// The bytes that are left, where it tells them.
+    ghost left: { Self → Option (List ℕ) };
+
+    /// How many faults there were; the count stands still at 2^64 - 1.
+    ghost faults: { Self → ℕ };
+
+    /// Moves a front of the bytes that are left to the front of `buf`, and answers its length: 0 for a buffer that
+    /// isn't empty exactly at the end. A failed read moves nothing.
+    fn read(&mut self, buf: &mut [u8]) -> Result<usize, Failed>
+        ensures within { IfOk result (λ n. n ≤ length buf.new) }
+        ensures moved { Reads (left self.old) (left self.new) result buf.new }
+        ensures counted { faults self.old ≤ faults self.new }
+        ensures cause { OnErr result (HasFault (faults self.old) (faults self.new)) };
+}
