@@ -1,0 +1,24 @@
+use Rattle.std.proofs.Common.{◌≡◌, ◌∙◌, sym, ap, refl, true, false, chars, rules, ◌++◌, ◌∷◌, []}
+use Rattle.ic_laws.specs.CoreBook.{fresh_id, has_sheet}
+use Rattle.ic_laws.specs.Name.{is_sheet_name}
+use Rattle.ic_book.specs.Book.{Book, core_of}
+use Rattle.ic_book.specs.Sheets.{sheets_of}
+use Rattle.ic_book.proofs.BookLemmas.{IsValidBook-push}
+use Rattle.ic_book.proofs.model.Model.add_sheet.Goals as goal
+
+pub invariant_of-self-2 : goal.invariant_of-self-2
+invariant_of-self-2 c =
+    let book : Book = record {
+      name = c.self.inside.name;
+      sheets = sheets_of c.self.inside.sheets.items;
+      locale = c.self.inside.locale;
+      language = c.self.inside.language;
+      zone = c.self.inside.zone;
+      tables = c.self.inside.tables.now;
+    } in
+    let good : is_sheet_name (chars c.args.sheet_name.now) ≡ true = search rules in
+    let new : has_sheet (core_of book) (chars c.args.sheet_name.now) ≡ false =
+    sym (rw c.as_slice.ensures.value at c.is_taken.ensures) ∙ c.if-is_taken.false in
+    let fresh = c.in-Some.ensures.fresh ∙ ap (λ b. fresh_id (core_of b)) (sym c.self.view_is) in
+    IsValidBook-push book c.self.inside.sheets.items c.push.new.self.items c.in-Some.id (chars c.args.sheet_name.now) refl c.self.invariant good new fresh
+    (c.in_ok-push.ensures.items ∙ ap (λ n. c.self.inside.sheets.items ++ record { id = c.in-Some.id; name = n } ∷ []) c.in_ok-name.ensures)

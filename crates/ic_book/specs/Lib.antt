@@ -1,0 +1,3 @@
+pub mod Book
+pub mod Refused
+pub mod Sheets

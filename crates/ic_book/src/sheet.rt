@@ -1,0 +1,64 @@
+ghost use Rattle.std.specs.Prelude.{◌≡◌, chars, map};
+ghost use Rattle.std.specs.List.{list_any};
+ghost use Rattle.ic_laws.specs.Name.{agrees, is_forbidden, is_sheet_name};
+ghost use Rattle.ic_laws.specs.CoreBook.{greatest};
+ghost use Rattle.ic_book.specs.Sheets.{sheets_of};
+
+use ic_laws::{Text, agree, first_char};
+
+/// A sheet of a book: its id and its name.
+#[derive(Debug, Drop)]
+pub struct Worksheet {
+    pub id: u32,
+    pub name: Text,
+}
+
+/// The most characters of a sheet name.
+const LONGEST_NAME: usize = 31;
+
+/// Whether the text may name a sheet: 1 to 31 characters, none of `\ / * ? : [ ]`.
+pub fn is_valid_sheet_name(name: &str) -> bool
+    ensures { result ≡ is_sheet_name (chars name.now) }
+{
+    let mut count = 0;
+    let mut rest = name;
+    while let Some((c, after)) = first_char(rest) {
+        if count == LONGEST_NAME || is_forbidden_char(c) {
+            return false;
+        }
+        count += 1;
+        rest = after;
+    }
+    count > 0
+}
+
+/// Whether no sheet name has this character.
+fn is_forbidden_char(c: char) -> bool
+    ensures { result ≡ is_forbidden c }
+{
+    matches!(c, '\\' | '/' | '*' | '?' | ':' | '[' | ']')
+}
+
+/// Whether some sheet's name agrees with this one.
+pub fn is_taken(sheets: &[Worksheet], name: &str) -> bool
+    ensures { result ≡ list_any (agrees (chars name.now)) (map (λ s. s.name) (sheets_of sheets.now)) }
+{
+    any_agrees(sheets, name)
+}
+
+fn any_agrees(sheets: &[Worksheet], name: &str) -> bool
+    ensures { result ≡ list_any (λ s. agrees (chars name.now) s.name) sheets.now }
+{
+    sheets.iter().any(|s| agree(name, s.name.as_str()))
+}
+
+/// The greatest id of these sheets, 0 for none.
+pub fn greatest_id(sheets: &[Worksheet]) -> u32
+    ensures { result ≡ greatest (map (λ s. s.id) (sheets_of sheets.now)) }
+{
+    let mut most = 0;
+    for sheet in sheets {
+        most = most.max(sheet.id);
+    }
+    most
+}
