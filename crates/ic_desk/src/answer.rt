@@ -1,0 +1,74 @@
+ghost use Rattle.std.specs.Prelude.{◌≡◌, ◌==◌, ◌+◌, ◌++◌, ◌≤◌, ◌∷◌, [], false, Ok, chars, length, codes, IfOk, OnOk, OnErr, string_bytes, string_len, string_capacity};
+ghost use Rattle.std.specs.List.{list_any};
+ghost use Rattle.ic_laws.specs.Lines.{line_step, reply_text};
+ghost use Rattle.ic_book.specs.Book.{core_of, with_core};
+ghost use Rattle.ic_book.specs.Refused.{variant_name};
+
+use crate::command::{Command, read_command};
+use ic_book::{BookError, Model};
+use ic_laws::{OutOfMemory, Text};
+use ic_lines::Line;
+use std::alloc::Global;
+
+/// The bytes that are reserved for a reply before its command changes the book.
+const REPLY_ROOM: usize = 512;
+
+/// One step of the machine: what a line does to the book, and its reply without the line feed at its end. Want of
+/// memory changes nothing.
+pub fn answer_line(alloc: Global, model: &mut Model<'_>, line: &Line) -> Result<Line, OutOfMemory>
+    ensures reply { IfOk result (λ reply. reply ≡ reply_text (line_step (core_of model.old) line.now).1) }
+    ensures book { OnOk result (model.new ≡ with_core model.old (line_step (core_of model.old) line.now).0) }
+    ensures err { OnErr result (model.new ≡ model.old) }
+{
+    let command = read_command(alloc, line.text().as_str())?;
+    let reply = String::with_capacity(alloc, REPLY_ROOM)?;
+    let Some(Command::AddSheet(name)) = command else {
+        return Ok(error_reply(reply, &BookError::BadLine));
+    };
+    match model.add_sheet(name.as_str()) {
+        Ok(()) => Ok(ok_reply(reply)),
+        Err(BookError::OutOfMemory) => Err(OutOfMemory),
+        Err(e) => Ok(error_reply(reply, &e)),
+    }
+}
+
+/// The reply `ok`, written into a text that has room for it.
+fn ok_reply(mut reply: String) -> Line
+    requires empty { string_bytes reply ≡ [] }
+    requires room { 512 ≤ string_capacity reply }
+    ensures { result ≡ reply_text (Ok []) }
+{
+    append(&mut reply, "ok");
+    whole(reply)
+}
+
+/// The reply that tells an error, written into a text that has room for it.
+fn error_reply(mut reply: String, e: &BookError) -> Line
+    requires empty { string_bytes reply ≡ [] }
+    requires room { 512 ≤ string_capacity reply }
+    ensures { result ≡ codes "error" ++ 9 ∷ variant_name e.now }
+{
+    append(&mut reply, "error\t");
+    append(&mut reply, e.name());
+    whole(reply)
+}
+
+/// Adds a piece for which there is room.
+fn append(reply: &mut String, piece: &str)
+    requires { string_len reply.old + length piece.now ≤ string_capacity reply.old }
+    ensures bytes { string_bytes reply.new ≡ string_bytes reply.old ++ piece.now }
+    ensures room { string_capacity reply.old ≤ string_capacity reply.new }
+{
+    reply.push_str(piece).unwrap();
+}
+
+/// The text as a line, which it is.
+fn whole(text: String) -> Line
+    requires { list_any (λ c. c == 10) (chars (string_bytes text)) ≡ false }
+    ensures { result ≡ chars (string_bytes text) }
+{
+    match Line::new(Text::from(text)) {
+        Some(line) => line,
+        None => unreachable!(),
+    }
+}

@@ -1,0 +1,68 @@
+//! The program: command lines in, one reply a line out.
+//!
+//! `run` carries the main promise: where it answers Ok, the replies that it appended are those of the identity
+//! machine of `ic_laws`, and the book is the one that the machine leaves. `desk` gives that for the program's words.
+#![tactic(auto)]
+
+mod answer;
+mod command;
+mod desk;
+mod run;
+#[cfg(test)]
+mod tests;
+mod words;
+
+use ic_lines::{StdSink, StdSource};
+use ic_tables::sample_tables;
+use jiff::Timestamp;
+use std::process::ExitCode;
+use std::time::SystemTime;
+use std::{env, io};
+
+/// The status where memory runs out.
+const NO_MEMORY: u8 = 6;
+
+/// The status for words that are no stated form.
+const USAGE: u8 = 1;
+
+fn main(rt: HostRuntime) -> ExitCode {
+    ExitCode::from(status(&rt))
+}
+
+/// Runs `desk` over the standard streams with the words that the program was given.
+fn status(rt: &HostRuntime) -> u8 {
+    let alloc = rt.alloc();
+    let Ok(words) = words_given(rt) else {
+        return USAGE;
+    };
+    let Ok(tables) = sample_tables(alloc) else {
+        return NO_MEMORY;
+    };
+    let mut source = StdSource::new(rt.stdin());
+    let mut sink = StdSink::new(rt.stdout());
+    desk::desk(
+        alloc,
+        words.as_slice(),
+        &tables,
+        moment(rt),
+        &mut source,
+        &mut sink,
+    )
+}
+
+/// The words behind the program's name.
+fn words_given(rt: &HostRuntime) -> io::Result<Vec<String>> {
+    let mut words = Vec::new(rt.alloc());
+    for word in env::args(rt)?.skip(1) {
+        words.push(word)?;
+    }
+    Ok(words)
+}
+
+/// The moment by the clock, or the Unix epoch where there is none.
+fn moment(rt: &HostRuntime) -> Timestamp {
+    match SystemTime::now(rt) {
+        Ok(now) => Timestamp::try_from(now).unwrap_or(Timestamp::UNIX_EPOCH),
+        Err(_) => Timestamp::UNIX_EPOCH,
+    }
+}
