@@ -4,7 +4,7 @@ use Rattle.std.specs.List.{list_any}
 use Rattle.std.proofs.lemmas.List.{map-append}
 use Rattle.std.proofs.lemmas.List.Elements.{All-weaker}
 use Rattle.ic_laws.specs.Name.{is_sheet_name}
-use Rattle.ic_laws.specs.CoreBook.{CoreBook, IsValidCore, has_sheet, greatest, greatest_id, fresh_id}
+use Rattle.ic_laws.specs.CoreBook.{IsValidCore, has_sheet, greatest, greatest_id, fresh_id}
 use Rattle.ic_laws.specs.CoreStep.{with_new_sheet}
 use Rattle.ic_laws.proofs.CoreLemmas.{All-greatest, IsValidCore-with_new_sheet, IsValidCore-one_sheet, fresh_is_next}
 use Rattle.ic_tables.specs.Tables.{TableSet, locale_of, language_of, lists_zone}

@@ -1,5 +1,5 @@
 -- The whole book, and how its core is seen.
-use Rattle.std.specs.Prelude.{◌≡◌, ℕ, true, List, [], ◌∷◌, ◌++◌, Bool, not, ◌&&◌, Option, is_none, is_some, codes, bytes_eq, if◌then◌else◌}
+use Rattle.std.specs.Prelude.{◌≡◌, ℕ, true, List, [], ◌∷◌, ◌++◌, not, Option, is_none, is_some, codes, bytes_eq, if◌then◌else◌}
 use Rattle.ic_tables.specs.Tables.{TableSet, language_of, locale_of, lists_zone}
 use Rattle.ic_laws.specs.CoreBook.{CoreBook, Sheet, IsValidCore}
 use Rattle.ic_laws.specs.CoreStep.{Refusal, InvalidLocale, InvalidLanguage, InvalidTimezone, first_refusal}

@@ -5,21 +5,43 @@ use ic_lines::{MemorySink, MemorySource, RunError};
 use ic_tables::{Tables, sample_tables};
 use jiff::Timestamp;
 use std::alloc::Global;
+use std::process::Abort;
 use std::test::Fail;
 
-fn new_model(alloc: Global, tables: &Tables) -> Result<Model<'_>, Fail> {
-    let start = Timestamp::UNIX_EPOCH;
-    Ok(Model::new_empty(alloc, "book", "en", "UTC", "en", tables, start)?)
+/// Where lines come from, and where replies go.
+#[derive(Drop)]
+struct Ends {
+    source: MemorySource,
+    sink: MemorySink,
 }
 
-/// The number of lines and the replies of a run over these bytes, which come in chunks.
-fn outcome(alloc: Global, input: &[u8], chunk: usize) -> Result<(u64, Vec<u8>), Fail> {
-    let tables = sample_tables(alloc)?;
-    let mut model = new_model(alloc, &tables)?;
-    let mut source = MemorySource::new(alloc, input, chunk.max(1), &[])?;
-    let mut sink = MemorySink::new(alloc, 1000, &[])?;
-    let lines = run(alloc, &mut model, &mut source, &mut sink)?;
-    Ok((lines, sink.bytes().to_vec(alloc)?))
+fn ends_over(alloc: Global, input: &[u8], chunk: usize) -> Result<Ends, Fail> {
+    failing_ends(alloc, input, chunk, &[], 1000)
+}
+
+/// A source in chunks, of which these reads fail, and a sink with this much room.
+fn failing_ends(
+    alloc: Global,
+    input: &[u8],
+    chunk: usize,
+    failing: &[u64],
+    room: usize,
+) -> Result<Ends, Fail> {
+    let source = MemorySource::new(alloc, input, chunk.max(1), failing)?;
+    let sink = MemorySink::new(alloc, room, &[])?;
+    Ok(Ends { source, sink })
+}
+
+/// What a run on a new book answers, and the next id of the book that it leaves.
+fn run_anew(
+    alloc: Global,
+    tables: &Tables,
+    ends: &mut Ends,
+) -> Result<(Result<u64, RunError>, Option<u32>), Fail> {
+    let start = Timestamp::UNIX_EPOCH;
+    let mut model = Model::new_empty(alloc, "book", "en", "UTC", "en", tables, start)?;
+    let answer = run(alloc, &mut model, &mut ends.source, &mut ends.sink);
+    Ok((answer, model.get_new_sheet_id()))
 }
 
 /// Lines, their number and their replies.
@@ -47,13 +69,27 @@ const ROWS: [(&str, u64, &str); 5] = [
     ),
 ];
 
+/// Runs lines in chunks of this many bytes.
+fn expect_lines(
+    rt: &(impl AllocGlobal + Abort),
+    tables: &Tables,
+    input: &str,
+    chunk: usize,
+    (lines, replies): (u64, &str),
+) -> Result<(), Fail> {
+    let mut ends = ends_over(rt.alloc(), input.as_bytes(), chunk)?;
+    let (answer, _) = run_anew(rt.alloc(), tables, &mut ends)?;
+    assert_eq!(rt; answer, Ok(lines));
+    assert_eq!(rt; ends.sink.bytes(), replies.as_bytes());
+    Ok(())
+}
+
 #[test]
 fn answers_lines(rt: HostRuntime) -> Result<(), Fail> {
-    for (input, lines, replies) in ROWS {
+    let tables = sample_tables(rt.alloc())?;
+    for (input, lines, replies) in &ROWS {
         for chunk in [1, 8, 4096] {
-            let (count, written) = outcome(rt.alloc(), input.as_bytes(), chunk)?;
-            assert_eq!(rt; count, lines);
-            assert_eq!(rt; written.as_slice(), replies.as_bytes());
+            expect_lines(&rt, &tables, input, chunk, (*lines, *replies))?;
         }
     }
     Ok(())
@@ -103,81 +139,102 @@ const NO_COMMANDS: [&[u8]; 40] = [
     b"\xef\xbb\xbfadd_sheet\tA",
 ];
 
-#[test]
-fn answers_bad_lines(rt: HostRuntime) -> Result<(), Fail> {
-    let mut input = Vec::new(rt.alloc());
-    let mut replies = Vec::new(rt.alloc());
-    for line in NO_COMMANDS {
-        input.extend_from_slice(line)?;
-        input.push(b'\n')?;
-        replies.extend_from_slice(b"error\tBadLine\n")?;
-    }
-    let (count, written) = outcome(rt.alloc(), input.as_slice(), 4096)?;
-    assert_eq!(rt; count, 40);
-    assert_eq!(rt; written, replies);
+/// Runs one line, which is no command.
+fn expect_bad_line(
+    rt: &(impl AllocGlobal + Abort),
+    tables: &Tables,
+    line: &[u8],
+) -> Result<(), Fail> {
+    let mut input = line.to_vec(rt.alloc())?;
+    input.push(b'\n')?;
+    let mut ends = ends_over(rt.alloc(), input.as_slice(), 4096)?;
+    let (answer, next) = run_anew(rt.alloc(), tables, &mut ends)?;
+    assert_eq!(rt; answer, Ok(1));
+    assert_eq!(rt; next, Some(2));
+    assert_eq!(rt; ends.sink.bytes(), b"error\tBadLine\n".as_slice());
     Ok(())
 }
 
-/// What a run over the two lines answers where the source or the sink fails, and what was written.
-fn failing(
-    alloc: Global,
-    failing_reads: &[u64],
+#[test]
+fn answers_bad_lines(rt: HostRuntime) -> Result<(), Fail> {
+    let tables = sample_tables(rt.alloc())?;
+    for line in &NO_COMMANDS {
+        expect_bad_line(&rt, &tables, line)?;
+    }
+    Ok(())
+}
+
+const TWO_LINES: &[u8] = b"add_sheet\tData\nadd_sheet\tNext\n";
+
+/// Runs the two lines in chunks of 8 bytes over ends that fail.
+fn expect_fault(
+    rt: &(impl AllocGlobal + Abort),
+    failing: &[u64],
     room: usize,
-) -> Result<(Result<u64, RunError>, Vec<u8>), Fail> {
-    let tables = sample_tables(alloc)?;
-    let mut model = new_model(alloc, &tables)?;
-    let input = b"add_sheet\tData\nadd_sheet\tNext\n";
-    let mut source = MemorySource::new(alloc, input, 8, failing_reads)?;
-    let mut sink = MemorySink::new(alloc, room, &[])?;
-    let answer = run(alloc, &mut model, &mut source, &mut sink);
-    Ok((answer, sink.bytes().to_vec(alloc)?))
+    fault: RunError,
+    (next, written): (u32, &str),
+) -> Result<(), Fail> {
+    let tables = sample_tables(rt.alloc())?;
+    let mut ends = failing_ends(rt.alloc(), TWO_LINES, 8, failing, room)?;
+    let (answer, id) = run_anew(rt.alloc(), &tables, &mut ends)?;
+    assert_eq!(rt; answer, Err(fault));
+    assert_eq!(rt; id, Some(next));
+    assert_eq!(rt; ends.sink.bytes(), written.as_bytes());
+    Ok(())
 }
 
 #[test]
 fn stops_at_faults(rt: HostRuntime) -> Result<(), Fail> {
-    let (answer, written) = failing(rt.alloc(), &[3], 1000)?;
-    assert_eq!(rt; answer, Err(RunError::ReadFault));
-    assert_eq!(rt; written.as_slice(), b"ok\n".as_slice());
-    let (answer, written) = failing(rt.alloc(), &[], 4)?;
-    assert_eq!(rt; answer, Err(RunError::WriteFault));
-    assert_eq!(rt; written.as_slice(), b"ok\no".as_slice());
-    Ok(())
+    expect_fault(&rt, &[3], 1000, RunError::ReadFault, (3, "ok\n"))?;
+    expect_fault(&rt, &[], 4, RunError::WriteFault, (4, "ok\no"))
 }
 
-/// The status of the program for these words and this input, and what was written.
-fn status(alloc: Global, words: &str, input: &str) -> Result<(u8, Vec<u8>), Fail> {
-    let mut given = Vec::new(alloc);
-    for word in words.split_whitespace() {
-        given.push(String::from_str(alloc, word)?)?;
+fn words(alloc: Global, text: &str) -> Result<Vec<String>, Fail> {
+    let mut words = Vec::new(alloc);
+    for word in text.split_whitespace() {
+        words.push(String::from_str(alloc, word)?)?;
     }
-    let tables = sample_tables(alloc)?;
-    let mut source = MemorySource::new(alloc, input.as_bytes(), 4096, &[])?;
-    let mut sink = MemorySink::new(alloc, 1000, &[])?;
+    Ok(words)
+}
+
+/// Words, input, output and status.
+const STATUSES: [(&str, &str, &str, u8); 5] = [
+    ("", "", "", 0),
+    ("", "add_sheet\tData\n", "ok\n", 0),
+    ("run en", "add_sheet\tData\n", "", 1),
+    ("help", "add_sheet\tData\n", "", 1),
+    ("run en en UTC", "add_sheet\tData\n", "", 1),
+];
+
+/// Runs the program with these words on this input.
+fn expect_status(
+    rt: &(impl AllocGlobal + Abort),
+    tables: &Tables,
+    given: &str,
+    input: &str,
+    (output, status): (&str, u8),
+) -> Result<(), Fail> {
+    let given = words(rt.alloc(), given)?;
+    let mut ends = ends_over(rt.alloc(), input.as_bytes(), 4096)?;
     let moment = Timestamp::UNIX_EPOCH;
     let told = desk(
-        alloc,
+        rt.alloc(),
         given.as_slice(),
-        &tables,
+        tables,
         moment,
-        &mut source,
-        &mut sink,
+        &mut ends.source,
+        &mut ends.sink,
     );
-    Ok((told, sink.bytes().to_vec(alloc)?))
+    assert_eq!(rt; told, status);
+    assert_eq!(rt; ends.sink.bytes(), output.as_bytes());
+    Ok(())
 }
 
 #[test]
 fn tells_its_status(rt: HostRuntime) -> Result<(), Fail> {
-    let line = "add_sheet\tData\n";
-    for (words, input, output, wanted) in [
-        ("", "", "", 0),
-        ("", line, "ok\n", 0),
-        ("run en", line, "", 1),
-        ("help", line, "", 1),
-        ("run en en UTC", line, "", 1),
-    ] {
-        let (told, written) = status(rt.alloc(), words, input)?;
-        assert_eq!(rt; told, wanted);
-        assert_eq!(rt; written.as_slice(), output.as_bytes());
+    let tables = sample_tables(rt.alloc())?;
+    for (given, input, output, status) in &STATUSES {
+        expect_status(&rt, &tables, given, input, (*output, *status))?;
     }
     Ok(())
 }

@@ -1,4 +1,4 @@
-use Rattle.std.proofs.Common.{◌≡◌, ◌∙◌, sym, ap, refl, true, Some, is_some, chars, rules, ◌++◌, ◌∷◌, []}
+use Rattle.std.proofs.Common.{◌≡◌, ◌∙◌, sym, ap, true, is_some, chars, rules, ◌++◌, ◌∷◌, []}
 use Rattle.ic_book.specs.Book.{first_sheet_name_in}
 use Rattle.ic_tables.specs.Tables.{locale_of, language_of, lists_zone}
 use Rattle.ic_book.proofs.BookLemmas.{IsValidBook-start, not_err, is_some-mapped}
