@@ -1,5 +1,17 @@
+pub mod Amount
 pub mod CoreBook
 pub mod CoreStep
+pub mod FoldLaws
 pub mod Lines
+pub mod Longest
 pub mod Name
+pub mod Notation
+pub mod Parse
+pub mod Position
+pub mod Reading
+pub mod Smallest
+pub mod SmallestLaws
+pub mod Token
+pub mod Tree
+pub mod Yield
 pub mod formers

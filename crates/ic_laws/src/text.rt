@@ -1,7 +1,8 @@
-ghost use Rattle.std.specs.Prelude.{◌≡◌, ◌<◌, [], ◌∷◌, length, IfOk, IfSome, MatchOption, bytes_eq, chars, encode_utf8_all, string_bytes};
+ghost use Rattle.std.specs.Prelude.{◌≡◌, ◌<◌, ◌++◌, [], ◌∷◌, length, IfOk, IfSome, MatchOption, OnOk, bytes_eq, chars, encode_utf8_all, string_bytes};
 
 use crate::OutOfMemory;
 use std::alloc::Global;
+use std::fmt;
 use std::marker::Model;
 
 /// A text that contracts see as its list of characters (Unicode scalar values).
@@ -56,6 +57,33 @@ impl From<String> for Text {
     fn from(inner: String) -> Text {
         Text { inner }
     }
+}
+
+/// It shows as it is.
+impl fmt::Display for Text {
+    ghost use Rattle.std.specs.Prelude.{Some, encode_utf8_all};
+
+    ghost output = { λ t. Some (encode_utf8_all t) };
+
+    fn fmt<W: fmt::Write>(&self, f: &mut fmt::Formatter<W>) -> fmt::Result {
+        write!(f, "{}", self.as_str())
+    }
+}
+
+/// Appends a character.
+pub fn push_char(text: &mut String, c: char) -> Result<(), OutOfMemory>
+    ensures { OnOk result (chars (string_bytes text.new) ≡ chars (string_bytes text.old) ++ c ∷ []) }
+{
+    text.push(c)?;
+    Ok(())
+}
+
+/// Appends a text.
+pub fn push_text(text: &mut String, more: &str) -> Result<(), OutOfMemory>
+    ensures { OnOk result (chars (string_bytes text.new) ≡ chars (string_bytes text.old) ++ chars more.now) }
+{
+    text.push_str(more)?;
+    Ok(())
 }
 
 /// The first character of a text, and what stands after it.

@@ -1,0 +1,69 @@
+ghost use Rattle.std.specs.Prelude.{◌≡◌, chars, string_bytes, option_map, IfOk};
+ghost use Rattle.ic_laws.specs.Longest.{read_at};
+ghost use Rattle.ic_laws.specs.Notation.{Notation, IsNotation, FindsErrorAt, reference_text};
+
+use crate::{Error, OutOfMemory, RefToken};
+use std::alloc::Global;
+
+/// A list of words that a dialect has.
+#[derive(Clone, Copy, Debug, PartialEq, Eq)]
+pub enum WordKind {
+    /// 0 is true, 1 is false.
+    Boolean,
+    /// By the number of `Error`.
+    Error,
+    /// By the number of the function.
+    Function,
+}
+
+/// A way to write formulas: separators, words and references. It means one notation, and `laws` says what holds of
+/// that.
+pub trait Dialect {
+    ghost notation: { Self → Notation };
+
+    /// The separator of arguments.
+    fn list(&self) -> char
+        ensures { result ≡ (notation self.now).list };
+
+    /// The decimal separator.
+    fn decimal(&self) -> char
+        ensures { result ≡ (notation self.now).decimal };
+
+    /// The word of a number, None where the list has no such number.
+    fn word(&self, kind: WordKind, n: usize) -> Option<&str>
+        ensures { option_map (λ w. chars w.now) result ≡ (notation self.now).word kind n };
+
+    /// The number of the word that the whole text agrees with.
+    fn find(&self, kind: WordKind, text: &str) -> Option<usize>
+        ensures { result ≡ (notation self.now).find kind (chars text.now) };
+
+    /// The error whose word begins at a byte, with the number of bytes of that word.
+    fn find_error(&self, text: &str, at: usize) -> Option<(Error, usize)>
+        ensures { FindsErrorAt (notation self.now) text.now at result };
+
+    /// The number of LET.
+    fn let_fn(&self) -> usize
+        ensures { result ≡ (notation self.now).let_fn };
+
+    /// The number of LAMBDA.
+    fn lambda_fn(&self) -> usize
+        ensures { result ≡ (notation self.now).lambda_fn };
+
+    /// The longest reference that begins at a byte, with its number of bytes.
+    fn read_ref(
+        &self,
+        alloc: Global,
+        text: &str,
+        at: usize,
+    ) -> Result<Option<(RefToken, usize)>, OutOfMemory>
+        ensures { IfOk result (λ found. found ≡ read_at (notation self.now).read_ref text.now at) };
+
+    /// The text of a reference; the word of `Error::REF` for one that the dialect can't spell.
+    fn spell_ref(&self, alloc: Global, r: &RefToken) -> Result<String, OutOfMemory>
+        ensures { IfOk result (λ s. chars (string_bytes s) ≡ reference_text (notation self.now) r.now) };
+
+    ghost laws: { (d : Self) → IsNotation (notation d) };
+}
+
+#[cfg(test)]
+mod tests;
