@@ -1,0 +1,116 @@
+-- Digits at the front of a text.
+use Rattle.std.proofs.Common.{◌≡◌, ◌≢◌, ◌⊎◌, ◌≤◌, ◌<◌, ℕ, ◌+◌, ◌*◌, ◌-◌, List, [], ◌∷◌, ◌++◌, true, false, ◌&&◌, length, refl, sym, ◌∙◌, ap, subst, inl, inr, arith, leb}
+use Rattle.std.specs.Char.{digit_value}
+use Rattle.std.specs.Str.{all_ascii_digits}
+use Rattle.std.specs.Str.Parse.{digits_value_after}
+use Rattle.std.proofs.lemmas.Str.{digit_value_digit}
+use Rattle.std.proofs.lemmas.Bool.{and_parts, and_from, and_right, true≢false, leb-true, leb-false, le-leb, cases_Bool}
+use Rattle.ic_laws.specs.Name.{is_digit, first_is, run_of, past_run}
+use Rattle.ic_refs.specs.Number.{number_from}
+
+-- a digit counts what it stands for
+digit-counts : (c : ℕ) → is_digit c ≡ true → digit_value c ≡ c - 48
+digit-counts c h =
+    let p = and_parts (leb 48 c) (leb c 57) h in
+    omega (arith, digit_value_digit c (leb-true 48 c p.0, leb-true c 57 p.1), leb-true 48 c p.0)
+
+-- more digits make no smaller number
+pub after-grows : (n : ℕ) (ds : List ℕ) → n ≤ digits_value_after 10 n ds
+after-grows n [] = omega arith
+after-grows n (c ∷ ds) = omega (arith, after-grows (n * 10 + digit_value c) ds)
+
+-- one digit is taken
+number_one : (limit n c : ℕ) (cs : List ℕ) → is_digit c ≡ true → n * 10 + (c - 48) ≤ limit → number_from limit n (c ∷ cs) ≡ number_from limit (n * 10 + (c - 48)) cs
+number_one limit n c cs d h = rw (and_from (is_digit c) (leb (n * 10 + (c - 48)) limit) d (le-leb _ _ h)) refl
+
+-- digits are taken while the number stays within the limit
+pub number_over : (limit n : ℕ) (ds after : List ℕ) → all_ascii_digits ds ≡ true → digits_value_after 10 n ds ≤ limit → number_from limit n (ds ++ after) ≡ number_from limit (digits_value_after 10 n ds) after
+number_over limit n [] after d h = refl
+number_over limit n (c ∷ ds) after d h =
+    let p = and_parts (is_digit c) (all_ascii_digits ds) d in
+    let e : n * 10 + digit_value c ≡ n * 10 + (c - 48) = ap (λ v. n * 10 + v) (digit-counts c p.0) in
+    let k : digits_value_after 10 (n * 10 + (c - 48)) ds ≤ limit = subst (λ v. digits_value_after 10 v ds ≤ limit) e h in
+    number_one limit n c (ds ++ after) p.0 (omega (arith, k, after-grows (n * 10 + (c - 48)) ds))
+    ∙ number_over limit (n * 10 + (c - 48)) ds after p.1 k
+    ∙ ap (λ v. number_from limit (digits_value_after 10 v ds) after) (sym e)
+
+-- and no digit is taken where none stands
+pub number_stops : (limit n : ℕ) (after : List ℕ) → first_is is_digit after ≡ false → number_from limit n after ≡ (n, after)
+number_stops limit n [] h = refl
+number_stops limit n (c ∷ cs) h = rw h refl
+
+-- what is left is no longer than the text
+pub number_rest_le : (limit n : ℕ) (text : List ℕ) → length (number_from limit n text).1 ≤ length text
+number_rest_le limit n [] = omega arith
+number_rest_le limit n (c ∷ cs) =
+    elim (cases_Bool (is_digit c && leb (n * 10 + (c - 48)) limit)) [
+      | inl t ↦ rw t (omega (arith, number_rest_le limit (n * 10 + (c - 48)) cs))
+      | inr f ↦ rw f (omega arith)
+    ]
+
+-- What was read are digits, their number and the rest.
+pub record Reads (limit n : ℕ) (text : List ℕ) (read : ℕ × List ℕ) : Type 0 where
+  pub digits : List ℕ
+  pub whole : text ≡ digits ++ read.1
+  pub ascii : all_ascii_digits digits ≡ true
+  pub value : digits_value_after 10 n digits ≡ read.0
+  pub within : n ≤ limit → read.0 ≤ limit
+  pub some : digits ≢ [] ⊎ (read.1 ≡ text)
+
+pub number_reads : (limit n : ℕ) (text : List ℕ) → Reads limit n text (number_from limit n text)
+number_reads limit n [] = record { digits = []; whole = refl; ascii = refl; value = refl; within = λ h. h; some = inr refl }
+number_reads limit n (c ∷ cs) =
+    elim (cases_Bool (is_digit c && leb (n * 10 + (c - 48)) limit)) [
+      | inl t ↦
+          let p = and_parts (is_digit c) (leb (n * 10 + (c - 48)) limit) t in
+          let r = number_reads limit (n * 10 + (c - 48)) cs in
+          let e : n * 10 + digit_value c ≡ n * 10 + (c - 48) = ap (λ v. n * 10 + v) (digit-counts c p.0) in
+          rw t (record {
+            digits = c ∷ r.digits;
+            whole = ap (λ v. c ∷ v) r.whole;
+            ascii = and_from (is_digit c) (all_ascii_digits r.digits) p.0 r.ascii;
+            value = ap (λ v. digits_value_after 10 v r.digits) e ∙ r.value;
+            within = λ h. r.within (leb-true _ _ p.1);
+            some = inl (λ e. cc);
+          })
+      | inr f ↦ rw f (record { digits = []; whole = refl; ascii = refl; value = refl; within = λ h. h; some = inr refl })
+    ]
+
+-- no digit is taken where it would be too much
+number_none : (limit n c : ℕ) (cs : List ℕ) → leb (n * 10 + (c - 48)) limit ≡ false → number_from limit n (c ∷ cs) ≡ (n, c ∷ cs)
+number_none limit n c cs k = rw (and_right (is_digit c) (leb (n * 10 + (c - 48)) limit) k) refl
+
+-- Where no digit is left, the number is that of all digits at the front.
+pub number_all : (limit n : ℕ) (text : List ℕ) → first_is is_digit (number_from limit n text).1 ≡ false → (digits_value_after 10 n (run_of is_digit text) ≡ (number_from limit n text).0) × (past_run is_digit text ≡ (number_from limit n text).1)
+number_all limit n [] h = (refl, refl)
+number_all limit n (c ∷ cs) h =
+    elim (cases_Bool (is_digit c)) [
+      | inr f ↦ rw f (refl, refl)
+      | inl d ↦ elim (cases_Bool (leb (n * 10 + (c - 48)) limit)) [
+        | inl k ↦
+            let e = number_one limit n c cs d (leb-true _ _ k) in
+            let g : n * 10 + digit_value c ≡ n * 10 + (c - 48) = ap (λ v. n * 10 + v) (digit-counts c d) in
+            let ih = number_all limit (n * 10 + (c - 48)) cs (sym (ap (λ r. first_is is_digit r.1) e) ∙ h) in
+            rw (d, k) (ap (λ v. digits_value_after 10 v (run_of is_digit cs)) g ∙ ih.0, ih.1)
+        | inr k ↦ let b : is_digit c ≡ false = sym (ap (λ r. first_is is_digit r.1) (number_none limit n c cs k)) ∙ h in absurd (true≢false (sym d ∙ b))
+      ]
+    ]
+
+-- Where one is left, that number is too large.
+pub number_past : (limit n : ℕ) (text : List ℕ) → first_is is_digit (number_from limit n text).1 ≡ true → limit < digits_value_after 10 n (run_of is_digit text)
+number_past limit n [] h = absurd (true≢false (sym h))
+number_past limit n (c ∷ cs) h =
+    elim (cases_Bool (is_digit c)) [
+      | inr f ↦
+          let e : number_from limit n (c ∷ cs) ≡ (n, c ∷ cs) = number_stops limit n (c ∷ cs) f in
+          absurd (true≢false (sym h ∙ ap (λ r. first_is is_digit r.1) e ∙ f))
+      | inl d ↦ elim (cases_Bool (leb (n * 10 + (c - 48)) limit)) [
+        | inl k ↦
+            let e = number_one limit n c cs d (leb-true _ _ k) in
+            let g : n * 10 + digit_value c ≡ n * 10 + (c - 48) = ap (λ v. n * 10 + v) (digit-counts c d) in
+            let ih = number_past limit (n * 10 + (c - 48)) cs (sym (ap (λ r. first_is is_digit r.1) e) ∙ h) in
+            rw d (omega (arith, ih, ap (λ v. digits_value_after 10 v (run_of is_digit cs)) g))
+        | inr k ↦
+            rw d (omega (arith, leb-false _ _ k, digit-counts c d, after-grows (n * 10 + digit_value c) (run_of is_digit cs)))
+      ]
+    ]

@@ -1,0 +1,30 @@
+-- How a column is written.
+use Rattle.std.specs.Prelude.{ℕ, ℤ, pos, ◌+◌, ◌-◌, ◌/◌, ◌%◌, List, [], ◌∷◌, nat_lt, nat_le, nat_abs, Option, Some, None, Result, Ok, Err, if◌then◌else◌}
+use Rattle.std.specs.List.{list_all}
+use Rattle.ic_laws.specs.Position.{is_column, is_upper, letters_number}
+use Rattle.ic_refs.specs.declared.error.ColumnError.{ColumnError}
+use Rattle.ic_refs.specs.declared.error.ColumnError.TheVariants as errors
+
+-- the letter of a digit from 1 to 26
+abbrev pub letter : ℕ → ℕ
+letter digit = 64 + digit
+
+-- The letters of a column in upper case. One letter has the numbers up to 26, two letters the 676 from 27 on, three
+-- letters those from 703 on.
+unfoldable pub column_letters : ℕ → List ℕ
+column_letters n =
+    if nat_le n 26 then letter n ∷ []
+    else if nat_le n 702 then letter ((n - 1) / 26) ∷ letter ((n - 1) % 26 + 1) ∷ []
+    else letter ((n - 27) / 676) ∷ letter ((n - 27) / 26 % 26 + 1) ∷ letter ((n - 1) % 26 + 1) ∷ []
+
+-- the letters of a column of the sheet
+abbrev pub column_name : ℤ → Option (List ℕ)
+column_name n = if is_column n then Some (column_letters (nat_abs n)) else None
+
+-- The column that a text names: an error is the first that holds, in this order, over the whole text.
+abbrev pub column_number : List ℕ → Result ℤ ColumnError
+column_number [] = Err errors.Empty
+column_number (c ∷ cs) =
+    if list_all (λ x. nat_lt x 128) (c ∷ cs) then (if list_all is_upper (c ∷ cs) then
+    (if nat_le (letters_number (c ∷ cs)) 16384 then Ok (pos (letters_number (c ∷ cs))) else Err errors.NotValid)
+    else Err errors.NotLetters) else Err errors.NotAscii

@@ -1,0 +1,12 @@
+pub mod A1
+pub mod Column
+pub mod Digits
+pub mod Formula
+pub mod Longest
+pub mod Number
+pub mod R1C1
+pub mod Sheet
+pub mod Stored
+pub mod Token
+pub mod Trim
+pub mod Written

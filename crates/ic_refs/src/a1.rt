@@ -1,0 +1,197 @@
+ghost use Rattle.std.specs.Prelude.{◌≡◌, ◌-◌, ◌≤◌, ◌≤ℤ◌, pos, true, Some, None, chars, option_map, if◌then◌else◌};
+ghost use Rattle.ic_laws.specs.Name.{is_digit, past_dollar};
+ghost use Rattle.ic_refs.specs.A1.{a1_place_at, cell_at, column_at, digits_from, has_dollar, IsAnOrigin, pair_at, past_colon, read_position, row_at, whole_columns, whole_rows};
+
+use crate::column::read_letters;
+use ic_laws::{LAST_COLUMN, LAST_ROW, Place, Position, RefPart, first_char};
+
+/// The cell in which a reference is read or spelled.
+#[derive(Clone, Copy)]
+pub(crate) struct Origin {
+    pub(crate) row: i32,
+    pub(crate) column: i32,
+}
+
+// What a digit counts.
+fn digit_of(c: char) -> Option<u32>
+    ensures { result ≡ (if is_digit c then Some (c - 48) else None) }
+{
+    match c {
+        '0'..='9' => Some(c as u32 - 48),
+        _ => None,
+    }
+}
+
+// The number of the row whose digits are at the front, and what stands behind them. Digits are taken while the row is
+// one of the sheet. The number is 0 where there is no digit but 0.
+fn read_digits(text: &str) -> (u32, &str)
+    ensures exact { (result.0, chars result.1.now) ≡ digits_from 0 (chars text.now) }
+    ensures small { result.0 ≤ 1048576 }
+{
+    let mut number = 0;
+    let mut rest = text;
+    while let Some((c, after)) = first_char(rest) {
+        let Some(digit) = digit_of(c) else {
+            break;
+        };
+        let more = number * 10 + digit;
+        if more > 1_048_576 {
+            break;
+        }
+        number = more;
+        rest = after;
+    }
+    (number, rest)
+}
+
+// Whether a dollar sign stands at the front, and what stands behind it.
+fn read_dollar(text: &str) -> (bool, &str)
+    ensures dollar { result.0 ≡ has_dollar (chars text.now) }
+    ensures rest { chars result.1.now ≡ past_dollar (chars text.now) }
+{
+    match first_char(text) {
+        Some(('$', rest)) => (true, rest),
+        _ => (false, text),
+    }
+}
+
+// The position of a number that was read before this rest. There is none where the number is 0.
+fn read_position(absolute: bool, origin: i32, number: u32, rest: &str) -> Option<(Position, &str)>
+    requires small { number ≤ 1048576 }
+    requires low { pos 0 ≤ℤ origin }
+    requires high { origin ≤ℤ pos 1048576 }
+    ensures { option_map (λ f. (f.0, chars f.1.now)) result ≡ read_position absolute origin (number, chars rest.now) }
+{
+    if number == 0 {
+        return None;
+    }
+    let number = number as i32;
+    let position = if absolute {
+        Position::Abs(number)
+    } else {
+        Position::Rel(number - origin)
+    };
+    Some((position, rest))
+}
+
+// The column at the front, read at a column, and what stands behind it.
+fn read_column(text: &str, column: i32) -> Option<(Position, &str)>
+    requires low { pos 0 ≤ℤ column }
+    requires high { column ≤ℤ pos 16384 }
+    ensures { option_map (λ f. (f.0, chars f.1.now)) result ≡ column_at column (chars text.now) }
+{
+    let (absolute, letters) = read_dollar(text);
+    let (number, rest) = read_letters(letters);
+    read_position(absolute, column, number, rest)
+}
+
+// The row at the front, read at a row, and what stands behind it.
+fn read_row(text: &str, row: i32) -> Option<(Position, &str)>
+    requires low { pos 0 ≤ℤ row }
+    requires high { row ≤ℤ pos 1048576 }
+    ensures { option_map (λ f. (f.0, chars f.1.now)) result ≡ row_at row (chars text.now) }
+{
+    let (absolute, digits) = read_dollar(text);
+    let (number, rest) = read_digits(digits);
+    read_position(absolute, row, number, rest)
+}
+
+// The cell at the front, read at a row and a column, and what stands behind it.
+pub(crate) fn read_cell(text: &str, origin: Origin) -> Option<(RefPart, &str)>
+    requires { IsAnOrigin origin.row origin.column }
+    ensures { option_map (λ f. (f.0, chars f.1.now)) result ≡ cell_at origin.row origin.column (chars text.now) }
+{
+    let (column, rest) = read_column(text, origin.column)?;
+    let (row, rest) = read_row(rest, origin.row)?;
+    Some((RefPart { row, column }, rest))
+}
+
+// What stands behind a colon at the front.
+fn past_colon(text: &str) -> Option<&str>
+    ensures { option_map (λ r. chars r.now) result ≡ past_colon (chars text.now) }
+{
+    let (c, rest) = first_char(text)?;
+    if c == ':' { Some(rest) } else { None }
+}
+
+// Two cells with a colon between them.
+fn read_cells(text: &str, origin: Origin) -> Option<((RefPart, RefPart), &str)>
+    requires { IsAnOrigin origin.row origin.column }
+    ensures { option_map (λ f. (f.0, chars f.1.now)) result ≡ pair_at (cell_at origin.row origin.column) (chars text.now) }
+{
+    let (first, rest) = read_cell(text, origin)?;
+    let (last, rest) = read_cell(past_colon(rest)?, origin)?;
+    Some(((first, last), rest))
+}
+
+// Two columns with a colon between them.
+fn read_columns(text: &str, column: i32) -> Option<((Position, Position), &str)>
+    requires low { pos 0 ≤ℤ column }
+    requires high { column ≤ℤ pos 16384 }
+    ensures { option_map (λ f. (f.0, chars f.1.now)) result ≡ pair_at (column_at column) (chars text.now) }
+{
+    let (first, rest) = read_column(text, column)?;
+    let (last, rest) = read_column(past_colon(rest)?, column)?;
+    Some(((first, last), rest))
+}
+
+// Two rows with a colon between them.
+fn read_rows(text: &str, row: i32) -> Option<((Position, Position), &str)>
+    requires low { pos 0 ≤ℤ row }
+    requires high { row ≤ℤ pos 1048576 }
+    ensures { option_map (λ f. (f.0, chars f.1.now)) result ≡ pair_at (row_at row) (chars text.now) }
+{
+    let (first, rest) = read_row(text, row)?;
+    let (last, rest) = read_row(past_colon(rest)?, row)?;
+    Some(((first, last), rest))
+}
+
+// The longest place at the front, read at a row and a column, and what stands behind it.
+pub(crate) fn read_place(text: &str, origin: Origin) -> Option<(Place, &str)>
+    requires { IsAnOrigin origin.row origin.column }
+    ensures exact { option_map (λ f. (f.0, chars f.1.now)) result ≡ a1_place_at origin.row origin.column (chars text.now) }
+{
+    if let Some(((first, last), rest)) = read_cells(text, origin) {
+        return Some((Place::Range(first, last), rest));
+    }
+    if let Some((part, rest)) = read_cell(text, origin) {
+        return Some((Place::Cell(part), rest));
+    }
+    if let Some(((first, last), rest)) = read_columns(text, origin.column) {
+        return Some((whole_columns(first, last), rest));
+    }
+    let ((first, last), rest) = read_rows(text, origin.row)?;
+    Some((whole_rows(first, last), rest))
+}
+
+// All rows of these columns.
+fn whole_columns(first: Position, last: Position) -> Place
+    ensures { result ≡ whole_columns first last }
+{
+    Place::Range(
+        RefPart {
+            row: Position::Abs(1),
+            column: first,
+        },
+        RefPart {
+            row: Position::Abs(LAST_ROW),
+            column: last,
+        },
+    )
+}
+
+// All columns of these rows.
+fn whole_rows(first: Position, last: Position) -> Place
+    ensures { result ≡ whole_rows first last }
+{
+    Place::Range(
+        RefPart {
+            row: first,
+            column: Position::Abs(1),
+        },
+        RefPart {
+            row: last,
+            column: Position::Abs(LAST_COLUMN),
+        },
+    )
+}

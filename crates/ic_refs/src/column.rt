@@ -1,0 +1,197 @@
+ghost use Rattle.std.specs.Prelude.{◌≡◌, ◌↔◌, ◌<◌, ◌≤◌, [], ◌∷◌, ◌++◌, ◌+◌, true, false, pos, nat_lt, Some, Ok, IfOk, IfSome, OnOk, IsNone, is_ok, chars, string_bytes, option_map};
+ghost use Rattle.std.specs.List.{list_all};
+ghost use Rattle.ic_laws.specs.Position.{is_row, is_column, is_upper, letters_number};
+ghost use Rattle.ic_refs.specs.A1.{letters_from};
+ghost use Rattle.ic_refs.specs.Column.{column_letters, column_name, column_number, letter};
+
+use crate::ColumnError;
+use ic_laws::{LAST_COLUMN, LAST_ROW, OutOfMemory, first_char, letter_number, push_char};
+use std::alloc::Global;
+
+/// The number of the column with these letters, from 1. Only upper case is read.
+///
+/// Err tells the first that holds: the text is empty, a character isn't ASCII, a character is none of A to Z, or the
+/// column is past the last one, 16,384.
+pub fn column_to_number(column: &str) -> Result<i32, ColumnError>
+    ensures { result ≡ column_number (chars column.now) }
+{
+    if column.is_empty() {
+        return Err(ColumnError::Empty);
+    }
+    if !is_ascii(column) {
+        return Err(ColumnError::NotAscii);
+    }
+    if !is_upper(column) {
+        return Err(ColumnError::NotLetters);
+    }
+    let (number, rest) = read_letters(column);
+    match first_char(rest) {
+        None => Ok(number as i32),
+        Some(_) => Err(ColumnError::NotValid),
+    }
+}
+
+/// Whether these letters name a column: whether `column_to_number` gives its number.
+pub fn is_valid_column(column: &str) -> bool
+    ensures { result ≡ is_ok (column_number (chars column.now)) }
+{
+    column_to_number(column).is_ok()
+}
+
+/// Whether a column has this number: whether it is from 1 to 16,384.
+pub fn is_valid_column_number(column: i32) -> bool
+    ensures { result ≡ is_column column }
+{
+    1 <= column && column <= LAST_COLUMN
+}
+
+/// Whether a row has this number: whether it is from 1 to 1,048,576.
+pub fn is_valid_row(row: i32) -> bool
+    ensures { result ≡ is_row row }
+{
+    1 <= row && row <= LAST_ROW
+}
+
+/// The letters, in upper case, of the column with this number. None exactly where no column has it, outside 1 to
+/// 16,384.
+pub fn number_to_column(alloc: Global, column: i32) -> Result<Option<String>, OutOfMemory>
+    ensures exact { IfOk result (λ name. option_map (λ letters. chars (string_bytes letters)) name ≡ column_name column) }
+    ensures none { IfOk result (λ name. IsNone name ↔ (is_column column ≡ false)) }
+
+    // The letters are in upper case and name this column.
+    ensures letters { IfOk result (λ name. IfSome name (λ letters.
+        (list_all is_upper (chars (string_bytes letters)) ≡ true) × (pos (letters_number (chars (string_bytes letters))) ≡ column))) }
+{
+    if !is_valid_column_number(column) {
+        return Ok(None);
+    }
+    let mut name = String::with_capacity(alloc, 3)?;
+    push_column(&mut name, column as u32)?;
+    Ok(Some(name))
+}
+
+// Appends the letters of a column of the sheet.
+#[tactic(auto, unfolding(crate::specs::Column::column_letters))]
+pub(crate) fn push_column(text: &mut String, column: u32) -> Result<(), OutOfMemory>
+    requires some { 1 ≤ column }
+    requires few { column ≤ 16384 }
+    ensures { OnOk result (chars (string_bytes text.new) ≡ chars (string_bytes text.old) ++ column_letters column) }
+{
+    if column <= 26 {
+        return push_letter(text, column);
+    }
+    if column <= 702 {
+        push_letter(text, (column - 1) / 26)?;
+    } else {
+        push_letter(text, (column - 27) / 676)?;
+        push_letter(text, (column - 27) / 26 % 26 + 1)?;
+    }
+    push_letter(text, (column - 1) % 26 + 1)
+}
+
+// Appends the letter of a digit from 1 to 26.
+fn push_letter(text: &mut String, digit: u32) -> Result<(), OutOfMemory>
+    requires some { 1 ≤ digit }
+    requires few { digit ≤ 26 }
+    ensures { OnOk result (chars (string_bytes text.new) ≡ chars (string_bytes text.old) ++ letter digit ∷ []) }
+{
+    push_char(text, (64 + digit as u8) as char)
+}
+
+// Whether each character is ASCII.
+fn is_ascii(text: &str) -> bool
+    ensures { result ≡ list_all (λ c. nat_lt c 128) (chars text.now) }
+{
+    text.chars().all(|c| c.is_ascii())
+}
+
+// Whether each character is one of A to Z.
+fn is_upper(text: &str) -> bool
+    ensures { result ≡ list_all is_upper (chars text.now) }
+{
+    text.chars().all(|c| c.is_ascii_uppercase())
+}
+
+// The number of the column whose letters, in either case, are at the front, and what stands behind them. Letters are
+// taken while the column is one of the sheet. The number is 0 where there is no letter.
+pub(crate) fn read_letters(text: &str) -> (u32, &str)
+    ensures exact { (result.0, chars result.1.now) ≡ letters_from 0 (chars text.now) }
+    ensures small { result.0 ≤ 16384 }
+{
+    let mut number = 0;
+    let mut rest = text;
+    while let Some((c, after)) = first_char(rest) {
+        let Some(digit) = letter_number(c) else {
+            break;
+        };
+        let more = number * 26 + digit;
+        if more > 16384 {
+            break;
+        }
+        number = more;
+        rest = after;
+    }
+    (number, rest)
+}
+
+#[cfg(test)]
+mod tests {
+    use super::*;
+    use std::test::Fail;
+
+    #[test]
+    fn numbers_of_letters(rt: HostRuntime) {
+        for (letters, number) in [
+            ("A", Ok(1)),
+            ("Z", Ok(26)),
+            ("AA", Ok(27)),
+            ("AB", Ok(28)),
+            ("ZZ", Ok(702)),
+            ("AAA", Ok(703)),
+            ("XFD", Ok(16_384)),
+            ("XFE", Err(ColumnError::NotValid)),
+            ("AAAA", Err(ColumnError::NotValid)),
+            ("AAAAAAAAAAAAAAAAAAAA", Err(ColumnError::NotValid)),
+            ("", Err(ColumnError::Empty)),
+            ("ab", Err(ColumnError::NotLetters)),
+            ("A1", Err(ColumnError::NotLetters)),
+            ("$A", Err(ColumnError::NotLetters)),
+            ("💥", Err(ColumnError::NotAscii)),
+            ("aé", Err(ColumnError::NotAscii)),
+            ("XFEé", Err(ColumnError::NotAscii)),
+        ] {
+            assert_eq!(rt; column_to_number(letters), number, "{letters}");
+            assert_eq!(rt; is_valid_column(letters), number.is_ok(), "{letters}");
+        }
+    }
+
+    #[test]
+    fn letters_of_numbers(rt: HostRuntime) -> Result<(), Fail> {
+        for (number, letters) in [
+            (1, Some("A")),
+            (26, Some("Z")),
+            (27, Some("AA")),
+            (28, Some("AB")),
+            (702, Some("ZZ")),
+            (703, Some("AAA")),
+            (16_384, Some("XFD")),
+            (16_385, None),
+            (0, None),
+            (-1, None),
+            (i32::MAX, None),
+            (i32::MIN, None),
+        ] {
+            let found = number_to_column(rt.alloc(), number)?;
+            assert!(rt; found.as_deref() == letters, "{number}");
+            assert_eq!(rt;
+                is_valid_column_number(number),
+                letters.is_some(),
+                "{number}"
+            );
+        }
+        for (row, valid) in [(0, false), (1, true), (1_048_576, true), (1_048_577, false)] {
+            assert_eq!(rt; is_valid_row(row), valid, "{row}");
+        }
+        Ok(())
+    }
+}

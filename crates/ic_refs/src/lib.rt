@@ -1,0 +1,39 @@
+//! References and names: columns, the A1 form, the stored form and the R1C1 form of references, sheet names,
+//! variables, identifiers and quoting.
+//!
+//! A reader gives the longest reference that begins at a byte, and what a speller gives is read back. The definitions
+//! are in `specs/`: `A1` and `Stored` say how a reference is spelled, `Longest` what a reader of them answers.
+#![tactic(auto)]
+
+mod a1;
+mod a1_reference;
+mod a1_text;
+mod column;
+mod error;
+mod formula;
+mod name;
+mod number;
+mod offset;
+mod r1c1;
+mod r1c1_ends;
+mod r1c1_part;
+mod reference;
+mod sheet;
+mod stored;
+mod stored_text;
+mod trim;
+mod written;
+
+pub use a1_reference::{read_a1, spell_a1};
+pub use column::{
+    column_to_number, is_valid_column, is_valid_column_number, is_valid_row, number_to_column,
+};
+pub use error::{ColumnError, ReferenceError};
+pub use formula::parse_reference_a1;
+pub use name::{is_valid_a1_identifier, is_valid_identifier, is_valid_sheet_name, quote_name};
+pub use reference::{A1Reference, Area, CellReferenceIndex, ParsedReference};
+pub use stored::read_rc;
+pub use stored_text::spell_rc;
+
+#[cfg(test)]
+mod a1_tests;

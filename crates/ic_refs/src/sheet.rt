@@ -1,0 +1,161 @@
+ghost use Rattle.std.specs.Prelude.{◌≡◌, ◌<◌, length, IfSome, ◌++◌, ◌∷◌, ◌==◌, false, None, chars, string_bytes, MatchOption, OnOk, option_map};
+ghost use Rattle.ic_laws.specs.Name.{first_is};
+ghost use Rattle.ic_refs.specs.Sheet.{before_bang, name_in_quotes, sheet_at, sheet_text, written_name};
+ghost use Rattle.ic_refs.specs.Written.{ClosesAt, name_of, plain_name};
+
+use crate::name::{needs_quotes, push_quoted};
+use crate::written::{Quoting, WrittenName};
+use ic_laws::{OutOfMemory, Text, first_char, front_of, past_plain, plain_run, push_char};
+
+/// The sheet's name at the front of a text, and what stands behind its `!`. None where no valid name stands there.
+pub(crate) fn find_sheet(text: &str) -> Option<(WrittenName<'_>, &str)>
+    ensures { option_map (λ f. (name_of f.0, chars f.1.now)) result ≡ sheet_at (chars text.now) }
+{
+    let (name, rest) = written_name(text)?;
+    let after = past_bang(&name, rest)?;
+    Some((name, after))
+}
+
+/// The name at the front, as it may stand before a `!`, and what stands behind it.
+fn written_name(text: &str) -> Option<(WrittenName<'_>, &str)>
+    ensures { option_map (λ f. (name_of f.0, chars f.1.now)) result ≡ written_name (chars text.now) }
+{
+    let (c, after) = first_char(text)?;
+    if c == '\'' {
+        name_in_quotes(after)
+    } else {
+        unquoted_name(text)
+    }
+}
+
+/// The plain name at the front, and what stands behind it.
+fn unquoted_name(text: &str) -> Option<(WrittenName<'_>, &str)>
+    ensures { option_map (λ f. (name_of f.0, chars f.1.now)) result ≡ plain_name (chars text.now) }
+{
+    let name = plain_run(text);
+    if needs_quotes(name) {
+        return None;
+    }
+    let written = WrittenName {
+        inside: name,
+        quoting: Quoting::Plain,
+    };
+    Some((written, past_plain(text)))
+}
+
+/// The name behind an opening quote, and what stands behind the quote that closes it. None where none does.
+pub(crate) fn name_in_quotes(text: &str) -> Option<(WrittenName<'_>, &str)>
+    ensures { option_map (λ f. (name_of f.0, chars f.1.now)) result ≡ name_in_quotes (chars text.now) }
+{
+    let closing = closing_quote(text)?;
+    let (_, rest) = first_char(closing)?;
+    let inside = front_of(text, closing);
+    Some((
+        WrittenName {
+            inside,
+            quoting: Quoting::Doubled,
+        },
+        rest,
+    ))
+}
+
+/// What stands behind an opening quote from the quote on that closes the name.
+fn closing_quote(text: &str) -> Option<&str>
+    ensures { MatchOption result (name_in_quotes (chars text.now) ≡ None) (λ closing. ClosesAt (chars text.now) (chars closing.now)) }
+{
+    let mut rest = text;
+    while let Some((c, after)) = first_char(rest) {
+        if c != '\'' {
+            rest = after;
+            continue;
+        }
+        match past_quote(after) {
+            Some(behind) => rest = behind,
+            None => return Some(rest),
+        }
+    }
+    None
+}
+
+/// What stands behind the quote at the front, if there is one.
+fn past_quote(text: &str) -> Option<&str>
+    ensures cases { MatchOption result (first_is (λ c. c == 39) (chars text.now) ≡ false) (λ rest. chars text.now ≡ 39 ∷ chars rest.now) }
+    ensures shorter { IfSome result (λ rest. length rest.now < length text.now) }
+{
+    let (c, after) = first_char(text)?;
+    if c == '\'' { Some(after) } else { None }
+}
+
+/// What stands behind the `!` that follows this name, if it is a sheet's name.
+fn past_bang<'t>(name: &WrittenName<'_>, rest: &'t str) -> Option<&'t str>
+    ensures { option_map (λ r. (name_of name.now, chars r.now)) result ≡ before_bang (name_of name.now) (chars rest.now) }
+{
+    let (c, after) = first_char(rest)?;
+    if c == '!' && name.is_sheet_name() {
+        Some(after)
+    } else {
+        None
+    }
+}
+
+/// Appends a sheet's name as it is spelled before a reference, or nothing where there is none.
+pub(crate) fn push_sheet(out: &mut String, sheet: &Option<Text>) -> Result<(), OutOfMemory>
+    ensures { OnOk result (chars (string_bytes out.new) ≡ chars (string_bytes out.old) ++ sheet_text sheet.now) }
+{
+    let Some(name) = sheet else {
+        return Ok(());
+    };
+    push_quoted(out, name.as_str())?;
+    push_char(out, '!')
+}
+
+#[cfg(test)]
+mod tests {
+    use super::*;
+    use std::test::Fail;
+
+    #[test]
+    fn finds_a_sheet_before_a_reference(rt: HostRuntime) -> Result<(), Fail> {
+        for (text, name, rest) in [
+            ("Data!A1", "Data", "A1"),
+            ("'It''s'!A1", "It's", "A1"),
+            ("'A1'!A1", "A1", "A1"),
+            ("'Data'!", "Data", ""),
+            ("Été!x", "Été", "x"),
+        ] {
+            let found = find_sheet(text);
+            assert!(rt; found.is_some(), "{text}");
+            if let Some((written, after)) = found {
+                assert_eq!(rt; written.name(rt.alloc())?.as_str(), name);
+                assert_eq!(rt; after, rest);
+            }
+        }
+        Ok(())
+    }
+
+    #[test]
+    fn finds_no_sheet(rt: HostRuntime) {
+        for text in [
+            "",
+            "A1",
+            "A1!A1",
+            "'a[1'!A1",
+            "'Data!A1",
+            "My data!A1",
+            "''!A1",
+            "!A1",
+        ] {
+            assert!(rt; find_sheet(text).is_none(), "{text}");
+        }
+    }
+
+    #[test]
+    fn spells_a_sheet(rt: HostRuntime) -> Result<(), Fail> {
+        let mut out = String::new(rt.alloc());
+        push_sheet(&mut out, &None)?;
+        push_sheet(&mut out, &Some(Text::from_str(rt.alloc(), "It's")?))?;
+        push_sheet(&mut out, &Some(Text::from_str(rt.alloc(), "Data")?))?;
+        assert_eq!(rt; out.as_str(), "'It''s'!Data!");
+        Ok(())
+    }
+}
