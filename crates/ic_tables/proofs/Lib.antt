@@ -1,2 +1,5 @@
-pub mod Lookups
+mod BuilderLemmas
+mod FoldLemmas
+mod Lookups
+mod SampleLemmas
 pub mod WellFormed

@@ -1,10 +1,76 @@
--- What tables that meet each condition have, and when a list's ids meet the first one.
-use Rattle.std.proofs.Common.{◌≡◌, ℕ, [], ◌∷◌, Bool, true, false, ◌&&◌, Option, Some, None, cond, codes, refl}
-use Rattle.ic_tables.specs.Tables.{TableSet, codes_of, ids_of, has_text, are_different, has_ids, first_failed, IsWellFormed}
+-- What tables that meet every condition have: each condition as a fact, for the crates above.
+use Rattle.std.proofs.Common.{◌≡◌, ℕ, suc, ◌+◌, List, [], ◌∷◌, ◌++◌, Bool, true, false, not, ◌&&◌, ◌||◌, ◌==◌, nat_lt, Option, Some, None, bytes_eq, cond, codes, find, length, map, refl, suc-le-suc, zero-lt-suc, sym, ap, subst, ◌∙◌, arith}
+use Rattle.std.proofs.lemmas.Bool.{and_from, and_parts, eqb-true, not-true, or_parts}
+use Rattle.std.proofs.Math.ListN.{length-map}
+use Rattle.std.proofs.lemmas.List.{get_or-map}
+use Rattle.std.proofs.lemmas.List.Sums.{AllPass-from_list_all}
+use Rattle.std.proofs.lemmas.Slice.Eq.{bytes_eq-Decides}
+use Rattle.std.specs.List.{AllByRecursion, AllPass, IsAmong, IsDistinct, list_all, list_any, slice_get}
+use Rattle.ic_laws.specs.Name.{agrees, fold, is_variable_form}
+use Rattle.ic_tables.specs.declared.language.Language.{Language}
+use Rattle.ic_tables.specs.Tables.{TableSet, IsWellFormed, are_different, codes_of, conditions, english, error_words_in, first_false, has_english_words, has_ids, has_numbers, has_text, has_zones, have_boolean_words, have_error_words, have_function_words, ids_of, language_of, tell_booleans, tell_errors}
+use Rattle.ic_tables.specs.Words.{boolean_words, differ, error_words, has_boolean_words, has_error_words, has_function_words, has_stored_booleans, has_stored_functions, has_stored_words, is_error_word, is_function_word, is_prefix_free, is_proper_prefix, is_text, named_numbers, no_two_agree, numbers_functions, share_numbers, tells_booleans, tells_errors}
 
-is_none-cond : (b : Bool) (o : Option ℕ) (n : ℕ) → cond b o (Some n) ≡ None → b ≡ true
-is_none-cond true o n h = refl
-is_none-cond false o n h = absurd (cc)
+-- each condition holds
+pub record Conditions (t : TableSet) : Type 0 where
+  pub ids : has_ids t ≡ true
+  pub zones : has_zones t ≡ true
+  pub numbers : has_numbers t ≡ true
+  pub english_words : has_english_words t.languages ≡ true
+  pub boolean_words : have_boolean_words t.languages ≡ true
+  pub booleans_told : tell_booleans t.languages ≡ true
+  pub function_words : have_function_words t.languages ≡ true
+  pub error_words : have_error_words t.languages ≡ true
+  pub errors_told : tell_errors t.languages ≡ true
+
+true_first : (n : ℕ) (b : Bool) (bs : List Bool) → first_false n (b ∷ bs) ≡ None → (b ≡ true) × (first_false (n + 1) bs ≡ None)
+true_first n true bs h = (refl, h)
+true_first n false bs h = absurd (cc)
+
+all_true : (n : ℕ) (bs : List Bool) → first_false n bs ≡ None → AllByRecursion (λ b. b ≡ true) bs
+all_true n [] h = tt
+all_true n (b ∷ bs) h = let parts = true_first n b bs h in (parts.0, all_true (n + 1) bs parts.1)
+
+pub all_hold : (t : TableSet) → IsWellFormed t → Conditions t
+all_hold t h =
+    let all = all_true 1 (conditions t) h in
+    let words = all.1.1.1 in
+    let lists = words.1.1.1 in
+    record {
+      ids = all.0;
+      zones = all.1.0;
+      numbers = all.1.1.0;
+      english_words = words.0;
+      boolean_words = words.1.0;
+      booleans_told = words.1.1.0;
+      function_words = lists.0;
+      error_words = lists.1.0;
+      errors_told = lists.1.1.0;
+    }
+
+-- ---- what is among the languages
+
+-- an item of a list passes the test that all pass
+passes : {X : Type 0} (p : X → Bool) (xs : List X) (x : X) → list_all p xs ≡ true → IsAmong xs x → p x ≡ true
+passes p xs x h among = subst (λ y. p y ≡ true) (sym among.1.1) (AllPass-from_list_all p xs h among.0 x among.1.0)
+
+found_here : {X : Type 0} (p : X → Bool) (y x : X) (ys : List X) (b : Bool) → p y ≡ b → cond b (Some y) (find p ys) ≡ Some x
+    → (find p ys ≡ Some x → IsAmong ys x × (p x ≡ true)) → IsAmong (y ∷ ys) x × (p x ≡ true)
+found_here p y x ys true h e later = let same : y ≡ x = cc in ((0, (zero-lt-suc _, sym same)), subst (λ z. p z ≡ true) same h)
+found_here p y x ys false h e later = let found = later e in ((suc found.0.0, (suc-le-suc found.0.1.0, found.0.1.1)), found.1)
+
+found_among : {X : Type 0} (p : X → Bool) (xs : List X) (x : X) → find p xs ≡ Some x → IsAmong xs x × (p x ≡ true)
+found_among p [] x h = absurd (cc)
+found_among p (y ∷ ys) x h = found_here p y x ys (p y) refl h (found_among p ys x)
+
+bytes_same : (a b : List ℕ) → bytes_eq a b ≡ true → a ≡ b
+bytes_same a b h = (bytes_eq-Decides a b).0 h
+
+-- the language of a code is one of them, and has this code
+pub language_among : (t : TableSet) (code : List ℕ) (l : Language) → language_of t code ≡ Some l → IsAmong t.languages l × (l.code ≡ code)
+language_among t code l h = let found = found_among (λ m. bytes_eq m.code code) t.languages l h in (found.0, bytes_same l.code code found.1)
+
+-- ---- 1
 
 and_first : (a b c d e f : Bool) → (a && b && c && d && e && f) ≡ true → (a ≡ true) × (b ≡ true)
 and_first true true c d e f h = (refl, refl)
@@ -12,18 +78,147 @@ and_first true false c d e f h = absurd (cc)
 and_first false b c d e f h = absurd (cc)
 
 pub has_english : (t : TableSet) → IsWellFormed t → (has_text (codes_of t) (codes "en") ≡ true) × (has_text (ids_of t) (codes "en") ≡ true)
-has_english t h = and_first _ _ _ _ _ _ (is_none-cond (has_ids t) _ _ h)
+has_english t h = and_first _ _ _ _ _ _ (all_hold t h).ids
 
-pub and_swap : (a b c d e f : Bool) → (a && b && c && d && e && f) ≡ ((a && c && e) && (b && d && f))
-and_swap false b c d e f = refl
-and_swap true true false d e f = refl
-and_swap true true true true e f = refl
-and_swap true true true false true f = refl
-and_swap true true true false false f = refl
-and_swap true false true d true f = refl
-and_swap true false true d false f = refl
-and_swap true false false d e f = refl
+-- ---- 2
 
--- a language and a locale `en` alone, beside zones that differ
-pub english_alone : (t : TableSet) → codes_of t ≡ codes "en" ∷ [] → ids_of t ≡ codes "en" ∷ [] → are_different t.zones ≡ true → first_failed t ≡ None
-english_alone t a b d = rw (a, b, d) refl
+pub zones_differ : (t : TableSet) → IsWellFormed t → are_different t.zones ≡ true
+zones_differ t h = (all_hold t h).zones
+
+-- ---- 3
+
+-- a language numbers so many functions
+pub record Numbers (count : ℕ) (l : Language) : Type 0 where
+  pub words : length l.functions.words ≡ count
+  pub below : AllPass (λ n. nat_lt n count) (named_numbers l)
+  pub apart : differ (named_numbers l) ≡ true
+
+numbers_parts : (count : ℕ) (l : Language) → numbers_functions count l ≡ true → Numbers count l
+unfolding numbers_functions
+numbers_parts count l h =
+    let outer = and_parts (length l.functions.words == count && list_all (λ n. nat_lt n count) (named_numbers l)) (differ (named_numbers l)) h in
+    let inner = and_parts (length l.functions.words == count) (list_all (λ n. nat_lt n count) (named_numbers l)) outer.0 in
+    record {
+      words = eqb-true _ _ inner.0;
+      below = AllPass-from_list_all (λ n. nat_lt n count) (named_numbers l) inner.1;
+      apart = outer.1;
+    }
+
+pub functions_numbered : (t : TableSet) → IsWellFormed t → (l : Language) → IsAmong t.languages l → Numbers (length t.kinds) l
+functions_numbered t h l among =
+    let both = and_parts (list_all (numbers_functions (length t.kinds)) t.languages) (share_numbers t.languages) (all_hold t h).numbers in
+    numbers_parts (length t.kinds) l (passes (numbers_functions (length t.kinds)) t.languages l both.0 among)
+
+shared_with_first : (first : Language) (others : List Language) → share_numbers (first ∷ others) ≡ true → (l : Language) → IsAmong (first ∷ others) l → named_numbers l ≡ named_numbers first
+unfolding share_numbers
+shared_with_first first others h l among =
+    bytes_same _ _
+    (passes (λ m. bytes_eq (named_numbers m) (named_numbers first)) (first ∷ others) l
+    (and_from (bytes_eq (named_numbers first) (named_numbers first)) (list_all (λ m. bytes_eq (named_numbers m) (named_numbers first)) others)
+    ((bytes_eq-Decides (named_numbers first) (named_numbers first)).1 refl) h) among)
+
+shared : (ls : List Language) → share_numbers ls ≡ true → (l m : Language) → IsAmong ls l → IsAmong ls m → named_numbers l ≡ named_numbers m
+shared [] h l m a b = absurd (omega (arith, a.1.0))
+shared (first ∷ others) h l m a b = shared_with_first first others h l a ∙ sym (shared_with_first first others h m b)
+
+-- LET, LAMBDA, TRUE and FALSE have the same numbers in any two languages
+pub numbers_shared : (t : TableSet) → IsWellFormed t → (l m : Language) → IsAmong t.languages l → IsAmong t.languages m → named_numbers l ≡ named_numbers m
+numbers_shared t h l m a b =
+    shared t.languages (and_parts (list_all (numbers_functions (length t.kinds)) t.languages) (share_numbers t.languages) (all_hold t h).numbers).1 l m a b
+
+-- ---- 4
+
+-- a language has the words of stored formulas
+pub record Stores (l : Language) : Type 0 where
+  pub true_word : l.booleans.true_word ≡ codes "TRUE"
+  pub false_word : l.booleans.false_word ≡ codes "FALSE"
+  pub let_word : slice_get l.functions.words l.functions.let_fn ≡ Some (codes "LET")
+  pub lambda_word : slice_get l.functions.words l.functions.lambda_fn ≡ Some (codes "LAMBDA")
+
+text_there : (o : Option (List ℕ)) (text : List ℕ) → is_text o text ≡ true → o ≡ Some text
+text_there None text h = absurd (cc)
+text_there (Some word) text h = ap (λ w. Some w) (bytes_same word text h)
+
+stores_parts : (l : Language) → has_stored_words l ≡ true → Stores l
+unfolding has_stored_words
+stores_parts l h =
+    let both = and_parts (has_stored_booleans l.booleans) (has_stored_functions l.functions) h in
+    let b = and_parts (bytes_eq l.booleans.true_word (codes "TRUE")) (bytes_eq l.booleans.false_word (codes "FALSE")) both.0 in
+    let f = and_parts (is_text (slice_get l.functions.words l.functions.let_fn) (codes "LET")) (is_text (slice_get l.functions.words l.functions.lambda_fn) (codes "LAMBDA")) both.1 in
+    record {
+      true_word = bytes_same _ _ b.0;
+      false_word = bytes_same _ _ b.1;
+      let_word = text_there _ _ f.0;
+      lambda_word = text_there _ _ f.1;
+    }
+
+other_or : (b c : Bool) → (not b || c) ≡ true → b ≡ true → c ≡ true
+other_or true c h e = h
+other_or false c h e = absurd (cc)
+
+pub english_stores : (t : TableSet) → IsWellFormed t → (l : Language) → IsAmong t.languages l → l.code ≡ codes "en" → Stores l
+english_stores t h l among e =
+    stores_parts l
+    (other_or (bytes_eq l.code (codes "en")) (has_stored_words l)
+    (passes (λ m. not (bytes_eq m.code (codes "en")) || has_stored_words m) t.languages l (all_hold t h).english_words among)
+    ((bytes_eq-Decides l.code (codes "en")).1 e))
+
+-- ---- 5
+
+pub boolean_forms : (t : TableSet) → IsWellFormed t → (l : Language) → IsAmong t.languages l → AllPass is_variable_form (boolean_words l)
+unfolding has_boolean_words
+boolean_forms t h l among =
+    AllPass-from_list_all is_variable_form (boolean_words l) (passes has_boolean_words t.languages l (all_hold t h).boolean_words among)
+
+-- ---- 6
+
+pub booleans_differ : (t : TableSet) → IsWellFormed t → (l : Language) → IsAmong t.languages l → agrees l.booleans.true_word l.booleans.false_word ≡ false
+unfolding tells_booleans
+booleans_differ t h l among = not-true _ (passes tells_booleans t.languages l (all_hold t h).booleans_told among)
+
+-- ---- 7 and 8
+
+none_agrees : (p : List ℕ → Bool) (ws : List (List ℕ)) → list_any p ws ≡ false → AllByRecursion (λ v. p v ≡ false) ws
+none_agrees p [] h = tt
+none_agrees p (w ∷ ws) h = let parts = or_parts (p w) (list_any p ws) h in (parts.0, none_agrees p ws parts.1)
+
+distinct : (ws : List (List ℕ)) → no_two_agree ws ≡ true → IsDistinct agrees ws
+unfolding IsDistinct
+distinct [] h = tt
+distinct (w ∷ ws) h =
+    let parts = and_parts (not (list_any (agrees w) ws)) (no_two_agree ws) h in
+    (none_agrees (agrees w) ws (not-true _ parts.0), distinct ws parts.1)
+
+-- each word looks as it has to, and no two agree
+pub record GoodWords (looks : List ℕ → Bool) (words : List (List ℕ)) : Type 0 where
+  pub forms : AllPass looks words
+  pub apart : IsDistinct agrees words
+
+good_words : (looks : List ℕ → Bool) (words : List (List ℕ)) → (list_all looks words && no_two_agree words) ≡ true → GoodWords looks words
+good_words looks words h =
+    let parts = and_parts (list_all looks words) (no_two_agree words) h in
+    record { forms = AllPass-from_list_all looks words parts.0; apart = distinct words parts.1 }
+
+pub good_functions : (t : TableSet) → IsWellFormed t → (l : Language) → IsAmong t.languages l → GoodWords is_function_word l.functions.words
+unfolding has_function_words
+good_functions t h l among = good_words is_function_word l.functions.words (passes has_function_words t.languages l (all_hold t h).function_words among)
+
+pub good_errors : (t : TableSet) → IsWellFormed t → (l : Language) → IsAmong t.languages l → GoodWords is_error_word (error_words l)
+unfolding has_error_words
+good_errors t h l among = good_words is_error_word (error_words l) (passes has_error_words t.languages l (all_hold t h).error_words among)
+
+-- ---- 9
+
+folded_among : (words : List (List ℕ)) (a : List ℕ) → IsAmong words a → IsAmong (map fold words) (fold a)
+folded_among words a among = (among.0, (rw length-map among.1.0, ap fold among.1.1 ∙ sym (get_or-map fold words among.0 a (fold a) among.1.0)))
+
+-- of the words of a language's errors and of English ones no folded one begins another
+pub errors_free : (t : TableSet) → IsWellFormed t → (l : Language) → IsAmong t.languages l
+    → let words = error_words_in (english t.languages) ++ error_words l in
+    (a b : List ℕ) → IsAmong words a → IsAmong words b → is_proper_prefix (fold a) (fold b) ≡ false
+unfolding tells_errors
+errors_free t h l among a b is_a is_b =
+    let folded = map fold (error_words_in (english t.languages) ++ error_words l) in
+    let free : is_prefix_free folded ≡ true = passes (tells_errors (error_words_in (english t.languages))) t.languages l (all_hold t h).errors_told among in
+    let of_a = passes (λ x. list_all (λ y. not (is_proper_prefix x y)) folded) folded (fold a) free (folded_among _ a is_a) in
+    not-true _ (passes (λ y. not (is_proper_prefix (fold a) y)) folded (fold b) of_a (folded_among _ b is_b))

@@ -1,2 +1,4 @@
 pub mod Making
+pub mod Sample
 pub mod Tables
+pub mod Words

@@ -1,9 +1,10 @@
 -- The tables of a workbook, and when they are well-formed.
-use Rattle.std.specs.Prelude.{◌≡◌, ℕ, List, [], ◌∷◌, Bool, true, not, ◌&&◌, Option, Some, None, map, find, codes, bytes_eq, if◌then◌else◌}
-use Rattle.std.specs.List.{list_any}
+use Rattle.std.specs.Prelude.{◌≡◌, ℕ, ◌+◌, List, [], ◌∷◌, length, Bool, true, not, ◌&&◌, ◌||◌, Option, Some, None, map, find, codes, bytes_eq, if◌then◌else◌}
+use Rattle.std.specs.List.{list_any, list_all}
 use Rattle.ic_tables.specs.declared.language.Language.{Language}
 use Rattle.ic_tables.specs.declared.language.FunctionKind.{FunctionKind}
 use Rattle.ic_tables.specs.declared.locale.NamedLocale.{NamedLocale}
+use Rattle.ic_tables.specs.Words.{error_words, has_boolean_words, has_error_words, has_function_words, has_stored_words, numbers_functions, share_numbers, tells_booleans, tells_errors}
 
 -- what a tables value holds, each list in its order
 pub record TableSet : Type 0 where
@@ -37,20 +38,74 @@ has_ids tables =
 abbrev pub has_zones : TableSet → Bool
 has_zones tables = are_different tables.zones
 
--- the number of the first condition that fails
-abbrev pub first_failed : TableSet → Option ℕ
-first_failed tables = if has_ids tables then (if has_zones tables then None else Some 2) else Some 1
-
--- tables that meet each condition
-abbrev pub IsWellFormed : TableSet → Type 0
-IsWellFormed tables = first_failed tables ≡ None
-
 -- the language of a code, and the locale of an id
 abbrev pub language_of : TableSet → List ℕ → Option Language
 language_of tables code = find (λ l. bytes_eq l.code code) tables.languages
 
 abbrev pub locale_of : TableSet → List ℕ → Option NamedLocale
 locale_of tables id = find (λ l. bytes_eq l.id id) tables.locales
+
+-- 3: each word list is as long as the list of kinds, and LET, LAMBDA, TRUE and FALSE have the same four numbers in
+-- every language, each below that length
+abbrev pub has_numbers : TableSet → Bool
+has_numbers tables = list_all (numbers_functions (length tables.kinds)) tables.languages && share_numbers tables.languages
+
+-- English among these languages
+abbrev pub english : List Language → Option Language
+english languages = find (λ l. bytes_eq l.code (codes "en")) languages
+
+-- 4: English has the words of stored formulas
+abbrev pub has_english_words : List Language → Bool
+has_english_words languages = list_all (λ l. not (bytes_eq l.code (codes "en")) || has_stored_words l) languages
+
+-- 5: a boolean's word could be no reference
+abbrev pub have_boolean_words : List Language → Bool
+have_boolean_words languages = list_all has_boolean_words languages
+
+-- 6: the two booleans of a language can be told apart
+abbrev pub tell_booleans : List Language → Bool
+tell_booleans languages = list_all tells_booleans languages
+
+-- 7: a function's word looks like a name, and no two of a language agree
+abbrev pub have_function_words : List Language → Bool
+have_function_words languages = list_all has_function_words languages
+
+-- 8: an error's word looks like one, and no two of a language agree
+abbrev pub have_error_words : List Language → Bool
+have_error_words languages = list_all has_error_words languages
+
+-- the words of the errors of a language, if there is one
+abbrev pub error_words_in : Option Language → List (List ℕ)
+error_words_in None = []
+error_words_in (Some l) = error_words l
+
+-- 9: no error's word begins another of its language or of English
+abbrev pub tell_errors : List Language → Bool
+tell_errors languages = list_all (tells_errors (error_words_in (english languages))) languages
+
+-- the conditions in their order: on the words of functions and errors, on all words, and all of them
+abbrev pub list_conditions : List Language → List Bool
+list_conditions languages = have_function_words languages ∷ have_error_words languages ∷ tell_errors languages ∷ []
+
+abbrev pub word_conditions : List Language → List Bool
+word_conditions languages =
+    has_english_words languages ∷ have_boolean_words languages ∷ tell_booleans languages ∷ list_conditions languages
+
+abbrev pub conditions : TableSet → List Bool
+conditions tables = has_ids tables ∷ has_zones tables ∷ has_numbers tables ∷ word_conditions tables.languages
+
+-- the number of the first of these tests that fails, where they are numbered from n
+abbrev pub first_false : ℕ → List Bool → Option ℕ
+first_false n [] = None
+first_false n (b ∷ bs) = if b then first_false (n + 1) bs else Some n
+
+-- the number of the first condition that fails
+abbrev pub first_failed : TableSet → Option ℕ
+first_failed tables = first_false 1 (conditions tables)
+
+-- tables that meet each condition
+abbrev pub IsWellFormed : TableSet → Type 0
+IsWellFormed tables = first_failed tables ≡ None
 
 -- the list of zones has this name
 abbrev pub lists_zone : TableSet → List ℕ → Bool

@@ -37,6 +37,14 @@ impl HasId for Text {
     }
 }
 
+impl HasId for &Text {
+    ghost id_of = { λ t. t.now };
+
+    fn id(&self) -> &Text {
+        self
+    }
+}
+
 /// Whether one is listed under `id`.
 pub fn has_id<T: HasId>(items: &[T], id: &str) -> bool
     ensures { result ≡ has_text (map T.id_of items.now) (chars id.now) }

@@ -1,10 +1,13 @@
-ghost use Rattle.std.specs.Prelude.{◌≡◌, ◌∷◌, [], IfOk, chars, codes, map};
+ghost use Rattle.std.specs.Prelude.{◌≡◌, ◌∷◌, [], IfOk, chars, codes, length, map};
+ghost use Rattle.ic_tables.specs.Words.{boolean_words, error_words};
+ghost use Rattle.ic_tables.specs.Sample.{numbered, sample_booleans, sample_errors, sample_words};
 
 mod english;
 mod language;
 mod locale;
 
 use crate::{FunctionKind, Language, NamedLocale, Tables, TablesError};
+use english::{LANGUAGE, LOCALE};
 use ic_laws::{Items, OutOfMemory, Text};
 use language::language;
 use locale::locale;
@@ -74,10 +77,13 @@ pub fn sample_tables(alloc: Global) -> Result<Tables, OutOfMemory>
 }
 
 fn languages(alloc: Global) -> Result<Items<Language>, OutOfMemory>
-    ensures { IfOk result (λ ls. map (λ l. l.code) ls ≡ codes "en" ∷ []) }
+    ensures code { IfOk result (λ ls. map (λ l. l.code) ls ≡ codes "en" ∷ []) }
+    ensures booleans { IfOk result (λ ls. map boolean_words ls ≡ sample_booleans ∷ []) }
+    ensures errors { IfOk result (λ ls. map error_words ls ≡ sample_errors ∷ []) }
+    ensures functions { IfOk result (λ ls. map (λ l. l.functions) ls ≡ numbered sample_words ∷ []) }
 {
     let mut languages = Vec::new(alloc);
-    languages.push(language(alloc, "en", &english::LANGUAGE)?)?;
+    languages.push(language(alloc, "en", &LANGUAGE)?)?;
     Ok(Items::from(languages))
 }
 
@@ -85,7 +91,7 @@ fn locales(alloc: Global) -> Result<Items<NamedLocale>, OutOfMemory>
     ensures { IfOk result (λ ls. map (λ l. l.id) ls ≡ codes "en" ∷ []) }
 {
     let mut locales = Vec::new(alloc);
-    locales.push(locale(alloc, "en", &english::LOCALE)?)?;
+    locales.push(locale(alloc, "en", &LOCALE)?)?;
     Ok(Items::from(locales))
 }
 
@@ -106,7 +112,9 @@ fn list(alloc: Global, words: &[&str]) -> Result<Items<Text>, OutOfMemory>
     Ok(Items::from(texts))
 }
 
-fn kinds(alloc: Global) -> Result<Items<FunctionKind>, OutOfMemory> {
+fn kinds(alloc: Global) -> Result<Items<FunctionKind>, OutOfMemory>
+    ensures { IfOk result (λ ks. length ks ≡ 42) }
+{
     let mut kinds = Vec::new(alloc);
     for kind in KINDS {
         kinds.push(kind)?;
@@ -114,5 +122,7 @@ fn kinds(alloc: Global) -> Result<Items<FunctionKind>, OutOfMemory> {
     Ok(Items::from(kinds))
 }
 
+#[cfg(test)]
+mod broken;
 #[cfg(test)]
 mod tests;

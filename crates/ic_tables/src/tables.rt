@@ -2,7 +2,8 @@ ghost use Rattle.std.specs.Prelude.{◌≡◌, None, Some, chars, codes, option_
 ghost use Rattle.ic_tables.specs.Making.{Tells};
 ghost use Rattle.ic_tables.specs.Tables.{TableSet, first_failed, language_of, locale_of, lists_zone};
 
-use crate::ids::{find_id, has_good_ids, has_id, have_different_ids};
+use crate::conditions::check;
+use crate::ids::{find_id, has_id};
 use crate::{BookIdError, FunctionKind, Language, Locale, NamedLocale, TablesError};
 use ic_laws::{Items, Text};
 use std::alloc::Global;
@@ -30,7 +31,7 @@ impl Model for Tables {
 impl Tables {
     /// The tables of these lists. `BadTables` carries the number, from 1, of the first condition that fails.
     pub fn new(
-        _alloc: Global,
+        alloc: Global,
         languages: Items<Language>,
         locales: Items<NamedLocale>,
         zones: Items<Text>,
@@ -40,12 +41,13 @@ impl Tables {
         ensures failed { let set : TableSet = record { languages = languages; locales = locales; zones = zones; kinds = kinds } in
             MatchResult result (λ _. first_failed set ≡ None) (λ e. Tells e (first_failed set)) }
     {
-        if !has_good_ids(languages.as_slice()) || !has_good_ids(locales.as_slice()) {
-            return Err(TablesError::BadTables(1));
-        }
-        if !have_different_ids(zones.as_slice()) {
-            return Err(TablesError::BadTables(2));
-        }
+        check(
+            alloc,
+            languages.as_slice(),
+            locales.as_slice(),
+            zones.as_slice(),
+            kinds.as_slice(),
+        )?;
         Ok(Tables {
             languages,
             locales,
