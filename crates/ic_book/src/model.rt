@@ -5,8 +5,9 @@ ghost use Rattle.ic_book.specs.Book.{core_of, with_core, first_sheet_name_in, ne
 ghost use Rattle.ic_book.specs.Refused.{Refuses};
 
 use crate::BookError;
-use crate::sheet::{Worksheet, greatest_id, is_taken, is_valid_sheet_name};
+use crate::sheet::{Worksheet, greatest_id, is_taken};
 use ic_laws::{OutOfMemory, Text};
+use ic_refs::is_valid_sheet_name;
 use ic_tables::Tables;
 use jiff::Timestamp;
 use std::alloc::Global;

@@ -1,42 +1,16 @@
 ghost use Rattle.std.specs.Prelude.{◌≡◌, chars, map};
 ghost use Rattle.std.specs.List.{list_any};
-ghost use Rattle.ic_laws.specs.Name.{agrees, is_forbidden, is_sheet_name};
+ghost use Rattle.ic_laws.specs.Name.{agrees};
 ghost use Rattle.ic_laws.specs.CoreBook.{greatest};
 ghost use Rattle.ic_book.specs.Sheets.{sheets_of};
 
-use ic_laws::{Text, agree, first_char};
+use ic_laws::{Text, agree};
 
 /// A sheet of a book: its id and its name.
 #[derive(Debug, Drop)]
 pub struct Worksheet {
     pub id: u32,
     pub name: Text,
-}
-
-/// The most characters of a sheet name.
-const LONGEST_NAME: usize = 31;
-
-/// Whether the text may name a sheet: 1 to 31 characters, none of `\ / * ? : [ ]`.
-pub fn is_valid_sheet_name(name: &str) -> bool
-    ensures { result ≡ is_sheet_name (chars name.now) }
-{
-    let mut count = 0;
-    let mut rest = name;
-    while let Some((c, after)) = first_char(rest) {
-        if count == LONGEST_NAME || is_forbidden_char(c) {
-            return false;
-        }
-        count += 1;
-        rest = after;
-    }
-    count > 0
-}
-
-/// Whether no sheet name has this character.
-fn is_forbidden_char(c: char) -> bool
-    ensures { result ≡ is_forbidden c }
-{
-    matches!(c, '\\' | '/' | '*' | '?' | ':' | '[' | ']')
 }
 
 /// Whether some sheet's name agrees with this one.

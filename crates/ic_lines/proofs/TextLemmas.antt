@@ -8,14 +8,6 @@ use Rattle.std.proofs.lemmas.List.{append-nil, get_or_default}
 use Rattle.std.proofs.lemmas.List.Folds.{list_any-append, list_any_none}
 use Rattle.std.proofs.lemmas.Str.{chars-append, chars-nil, chars_past_char, encode_ascii, IsUtf8-encode, IsUtf8-string_bytes, inside_one}
 
--- the characters of a text with more at its end
-pub chars_more : {Z : Type 0} (s : String Z) (bytes : List ℕ) → chars (string_bytes s ++ bytes) ≡ chars (string_bytes s) ++ chars bytes
-chars_more s bytes = chars-append (string_bytes s) bytes (IsUtf8-string_bytes s)
-
--- the characters of one character
-pub chars-encode : (c : ℕ) → IsScalar c → chars (encode_utf8 c) ≡ c ∷ []
-chars-encode c s = chars_past_char (encode_utf8 c) [] c (IsUtf8-encode c s) (sym (append-nil (encode_utf8 c))) ∙ ap (λ cs. c ∷ cs) chars-nil
-
 -- a character that isn't ASCII has no ASCII byte
 high_bytes : (c : ℕ) → 128 ≤ c → (k : ℕ) → k < length (encode_utf8 c) → 128 ≤ get_or (encode_utf8 c) k 0
 high_bytes c h k l =

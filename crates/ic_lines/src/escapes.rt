@@ -2,7 +2,7 @@ ghost use Rattle.std.specs.Prelude.{◌≡◌, ◌↔◌, ◌∷◌, ◌++◌, [
 ghost use Rattle.ic_laws.specs.Lines.{escape_meaning, escape_of, escaped, unescaped};
 ghost use Rattle.ic_lines.specs.Escapes.{HasWrongEscape};
 
-use ic_laws::{OutOfMemory, Text, first_char};
+use ic_laws::{OutOfMemory, Text, first_char, push_char};
 use std::alloc::Global;
 
 /// The text as it is written in a word: each backslash, tab, line feed and carriage return by its escape.
@@ -52,14 +52,6 @@ fn spelled_text(alloc: Global, word: &str) -> Result<Option<Text>, OutOfMemory>
         rest = after;
     }
     Ok(Some(Text::from(text)))
-}
-
-// Appends a character.
-fn push_char(text: &mut String, c: char) -> Result<(), OutOfMemory>
-    ensures { OnOk result (chars (string_bytes text.new) ≡ chars (string_bytes text.old) ++ c ∷ []) }
-{
-    text.push(c)?;
-    Ok(())
 }
 
 // Writes a character as it stands in a word.

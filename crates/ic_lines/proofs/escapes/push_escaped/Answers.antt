@@ -1,6 +1,6 @@
 use Rattle.std.proofs.Common.{ap, ◌∙◌}
 use Rattle.std.specs.Str.{chars}
-use Rattle.ic_lines.proofs.TextLemmas.{chars_more}
+use Rattle.ic_laws.proofs.TextLemmas.{chars_more}
 use Rattle.ic_lines.proofs.escapes.push_escaped.Goals as goal
 
 pub returns-in_ok-push_str-in-92 : goal.returns-in_ok-push_str-in-92
