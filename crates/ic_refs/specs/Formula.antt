@@ -75,14 +75,9 @@ IsSheetOf Answers known None found = found ≡ found_or errors.NoSheetKnown know
 IsSheetOf Answers known (Some name) found = (answer : Option ℕ) × Answers name answer × (found ≡ found_or (errors.SheetUnknown name) answer)
 
 -- a result, unless memory ran out
-abbrev pub UnlessMemory : Result ParsedReference ReferenceError → (Result ParsedReference ReferenceError → Type 0) → Type 0
+abbrev pub UnlessMemory : {T : Type 0} → Result T ReferenceError → (Result T ReferenceError → Type 0) → Type 0
 UnlessMemory (Err errors.OutOfMemory) P = Unit {0}
 UnlessMemory result P = P result
-
--- the same of any result
-abbrev pub UnlessMemoryRanOut : {T : Type 0} → Result T ReferenceError → (Result T ReferenceError → Type 0) → Type 0
-UnlessMemoryRanOut (Err errors.OutOfMemory) P = Unit {0}
-UnlessMemoryRanOut result P = P result
 
 infixl 10 ◌>>=◌
 abbrev pub ◌>>=◌ : {A B : Type 0} → Result A ReferenceError → (A → Result B ReferenceError) → Result B ReferenceError

@@ -3,7 +3,7 @@ ghost use Rattle.std.specs.Fn.{FnReturnsAt};
 ghost use Rattle.ic_laws.specs.Position.{place_at};
 ghost use Rattle.ic_laws.specs.declared.reference.RefPart.{RefPart};
 ghost use Rattle.ic_refs.specs.A1.{SpellsCell, a1_place_at};
-ghost use Rattle.ic_refs.specs.Formula.{IsSheetOf, ParsesFormula, UnlessMemory, UnlessMemoryRanOut, a1_cell_of, a1_reference, cell_on, formula_token, is_absolute, not_a_reference, place_on, whole_of};
+ghost use Rattle.ic_refs.specs.Formula.{IsSheetOf, ParsesFormula, UnlessMemory, a1_cell_of, a1_reference, cell_on, formula_token, is_absolute, not_a_reference, place_on, whole_of};
 ghost use Rattle.ic_refs.specs.Sheet.{reference_at};
 ghost use Rattle.ic_refs.specs.Token.{token_of};
 ghost use Rattle.ic_refs.specs.Written.{name_of};
@@ -125,7 +125,7 @@ fn sheet_of<F: Fn(&str) -> Option<u32>>(
     find: F,
 ) -> Result<u32, ReferenceError>
     requires { F.IsAlwaysCallable find }
-    ensures { UnlessMemoryRanOut result (IsSheetOf (λ name answer. FnReturnsAt F.Fn find (encode_utf8_all name) answer) known (option_map name_of sheet.entry)) }
+    ensures { UnlessMemory result (IsSheetOf (λ name answer. FnReturnsAt F.Fn find (encode_utf8_all name) answer) known (option_map name_of sheet.entry)) }
 {
     let Some(written) = sheet else {
         return known.ok_or(ReferenceError::NoSheetKnown);

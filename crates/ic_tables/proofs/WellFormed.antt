@@ -1,5 +1,5 @@
 -- What tables that meet every condition have: each condition as a fact, for the crates above.
-use Rattle.std.proofs.Common.{◌≡◌, ℕ, suc, ◌+◌, List, [], ◌∷◌, ◌++◌, Bool, true, false, not, ◌&&◌, ◌||◌, ◌==◌, nat_lt, Option, Some, None, bytes_eq, cond, codes, find, length, map, refl, suc-le-suc, zero-lt-suc, sym, ap, subst, ◌∙◌, arith}
+use Rattle.std.proofs.Common.{◌≡◌, ℕ, suc, ◌+◌, List, [], ◌∷◌, ◌++◌, Bool, true, false, not, ◌&&◌, ◌||◌, ◌==◌, nat_lt, Option, Some, None, Result, Ok, Err, MatchResult, IfOk, Bor, bytes_eq, cond, codes, find, length, map, refl, suc-le-suc, zero-lt-suc, sym, ap, subst, ◌∙◌, arith}
 use Rattle.std.proofs.lemmas.Bool.{and_from, and_parts, eqb-true, not-true, or_parts}
 use Rattle.std.proofs.Math.ListN.{length-map}
 use Rattle.std.proofs.lemmas.List.{get_or-map}
@@ -8,7 +8,7 @@ use Rattle.std.proofs.lemmas.Slice.Eq.{bytes_eq-Decides}
 use Rattle.std.specs.List.{AllByRecursion, AllPass, IsAmong, IsDistinct, list_all, list_any, slice_get}
 use Rattle.ic_laws.specs.Name.{agrees, fold, is_variable_form}
 use Rattle.ic_tables.specs.declared.language.Language.{Language}
-use Rattle.ic_tables.specs.Tables.{TableSet, IsWellFormed, are_different, codes_of, conditions, english, error_words_in, first_false, has_english_words, has_ids, has_numbers, has_text, has_zones, have_boolean_words, have_error_words, have_function_words, ids_of, language_of, tell_booleans, tell_errors}
+use Rattle.ic_tables.specs.Tables.{TableSet, HasGoodWords, IsWellFormed, are_different, codes_of, conditions, english, error_words_in, first_false, has_english_words, has_ids, has_numbers, has_text, has_zones, have_boolean_words, have_error_words, have_function_words, ids_of, language_of, tell_booleans, tell_errors}
 use Rattle.ic_tables.specs.Words.{boolean_words, differ, error_words, has_boolean_words, has_error_words, has_function_words, has_stored_booleans, has_stored_functions, has_stored_words, is_error_word, is_function_word, is_prefix_free, is_proper_prefix, is_text, named_numbers, no_two_agree, numbers_functions, share_numbers, tells_booleans, tells_errors}
 
 -- each condition holds
@@ -194,18 +194,18 @@ pub record GoodWords (looks : List ℕ → Bool) (words : List (List ℕ)) : Typ
   pub forms : AllPass looks words
   pub apart : IsDistinct agrees words
 
-good_words : (looks : List ℕ → Bool) (words : List (List ℕ)) → (list_all looks words && no_two_agree words) ≡ true → GoodWords looks words
-good_words looks words h =
+looking_words : (looks : List ℕ → Bool) (words : List (List ℕ)) → (list_all looks words && no_two_agree words) ≡ true → GoodWords looks words
+looking_words looks words h =
     let parts = and_parts (list_all looks words) (no_two_agree words) h in
     record { forms = AllPass-from_list_all looks words parts.0; apart = distinct words parts.1 }
 
 pub good_functions : (t : TableSet) → IsWellFormed t → (l : Language) → IsAmong t.languages l → GoodWords is_function_word l.functions.words
 unfolding has_function_words
-good_functions t h l among = good_words is_function_word l.functions.words (passes has_function_words t.languages l (all_hold t h).function_words among)
+good_functions t h l among = looking_words is_function_word l.functions.words (passes has_function_words t.languages l (all_hold t h).function_words among)
 
 pub good_errors : (t : TableSet) → IsWellFormed t → (l : Language) → IsAmong t.languages l → GoodWords is_error_word (error_words l)
 unfolding has_error_words
-good_errors t h l among = good_words is_error_word (error_words l) (passes has_error_words t.languages l (all_hold t h).error_words among)
+good_errors t h l among = looking_words is_error_word (error_words l) (passes has_error_words t.languages l (all_hold t h).error_words among)
 
 -- ---- 9
 
@@ -222,3 +222,31 @@ errors_free t h l among a b is_a is_b =
     let free : is_prefix_free folded ≡ true = passes (tells_errors (error_words_in (english t.languages))) t.languages l (all_hold t h).errors_told among in
     let of_a = passes (λ x. list_all (λ y. not (is_proper_prefix x y)) folded) folded (fold a) free (folded_among _ a is_a) in
     not-true _ (passes (λ y. not (is_proper_prefix (fold a) y)) folded (fold b) of_a (folded_among _ b is_b))
+
+-- ---- of one language, all together
+
+pub good_words : (t : TableSet) → IsWellFormed t → (l : Language) → IsAmong t.languages l → HasGoodWords t l
+good_words t h l among =
+    let all = all_hold t h in
+    let numbers = and_parts (list_all (numbers_functions (length t.kinds)) t.languages) (share_numbers t.languages) all.numbers in
+    record {
+      numbers = passes (numbers_functions (length t.kinds)) t.languages l numbers.0 among;
+      booleans = passes has_boolean_words t.languages l all.boolean_words among;
+      booleans_told = passes tells_booleans t.languages l all.booleans_told among;
+      functions = passes has_function_words t.languages l all.function_words among;
+      errors = passes has_error_words t.languages l all.error_words among;
+      errors_told = passes (tells_errors (error_words_in (english t.languages))) t.languages l all.errors_told among;
+      shared = numbers.1;
+    }
+
+pub words_of_found : {E : Type 0} (t : TableSet) → IsWellFormed t → (code : List ℕ) (Q : E → Type 0) (r : Result (Bor Language) E) → MatchResult r (λ l. language_of t code ≡ Some l.now) Q → IfOk r (λ l. HasGoodWords t l.now)
+words_of_found t h code Q (Ok l) found = good_words t h l.now (language_among t code l.now found).0
+words_of_found t h code Q (Err e) found = tt
+
+-- English has the words of stored formulas
+pub english_words : (t : TableSet) → IsWellFormed t → (l : Language) → language_of t (codes "en") ≡ Some l → has_stored_words l ≡ true
+english_words t h l found =
+    let among = language_among t (codes "en") l found in
+    other_or (bytes_eq l.code (codes "en")) (has_stored_words l)
+    (passes (λ m. not (bytes_eq m.code (codes "en")) || has_stored_words m) t.languages l (all_hold t h).english_words among.0)
+    ((bytes_eq-Decides l.code (codes "en")).1 among.1)

@@ -110,3 +110,13 @@ IsWellFormed tables = first_failed tables ≡ None
 -- the list of zones has this name
 abbrev pub lists_zone : TableSet → List ℕ → Bool
 lists_zone tables zone = has_text tables.zones zone
+
+-- what the conditions say of one of the languages, for whoever reads and shows formulas by its words
+pub record HasGoodWords (tables : TableSet) (l : Language) : Type 0 where
+  pub numbers : numbers_functions (length tables.kinds) l ≡ true
+  pub booleans : has_boolean_words l ≡ true
+  pub booleans_told : tells_booleans l ≡ true
+  pub functions : has_function_words l ≡ true
+  pub errors : has_error_words l ≡ true
+  pub errors_told : tells_errors (error_words_in (english tables.languages)) l ≡ true
+  pub shared : share_numbers tables.languages ≡ true

@@ -1,6 +1,7 @@
-ghost use Rattle.std.specs.Prelude.{◌≡◌, None, Some, chars, codes, option_map, IfOk, MatchResult};
+ghost use Rattle.std.specs.Prelude.{◌≡◌, true, None, Some, chars, codes, option_map, IfOk, MatchResult};
 ghost use Rattle.ic_tables.specs.Making.{Tells};
-ghost use Rattle.ic_tables.specs.Tables.{TableSet, first_failed, language_of, locale_of, lists_zone};
+ghost use Rattle.ic_tables.specs.Words.{has_stored_words};
+ghost use Rattle.ic_tables.specs.Tables.{TableSet, HasGoodWords, first_failed, language_of, locale_of, lists_zone};
 
 use crate::conditions::check;
 use crate::ids::{find_id, has_id};
@@ -58,8 +59,11 @@ impl Tables {
 
     /// The language with this code.
     pub fn get_language(&self, id: &str) -> Result<&Language, BookIdError>
-        ensures { MatchResult result (λ l. language_of self.now (chars id.now) ≡ Some l.now)
+        ensures found { MatchResult result (λ l. language_of self.now (chars id.now) ≡ Some l.now)
             (λ e. (e ≡ BookIdError.InvalidLanguage) × (language_of self.now (chars id.now) ≡ None)) }
+
+        // Its words meet the conditions on words.
+        ensures words { IfOk result (λ l. HasGoodWords self.now l.now) }
     {
         find_id(self.languages.as_slice(), id).ok_or(BookIdError::InvalidLanguage)
     }
@@ -77,7 +81,11 @@ impl Tables {
 
     /// The language `en`, which is always there.
     pub fn get_default_language(&self) -> &Language
-        ensures { language_of self.now (codes "en") ≡ Some result.now }
+        ensures found { language_of self.now (codes "en") ≡ Some result.now }
+
+        // Its words meet the conditions on words, and are those of stored formulas.
+        ensures words { HasGoodWords self.now result.now }
+        ensures stored { has_stored_words result.now ≡ true }
     {
         find_id(self.languages.as_slice(), "en").unwrap()
     }
