@@ -3,7 +3,8 @@ ghost use Rattle.ic_laws.specs.Lines.{command_of};
 ghost use Rattle.ic_desk.specs.Meaning.{meaning};
 
 use crate::words::words_of;
-use ic_laws::{OutOfMemory, Text, same_text};
+use ic_laws::scan::same_text;
+use ic_laws::{OutOfMemory, Text};
 use ic_lines::unescape;
 use std::alloc::Global;
 

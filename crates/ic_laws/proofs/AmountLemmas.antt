@@ -8,7 +8,7 @@ use Rattle.std.proofs.lemmas.Bool.{cases_Bool, and_parts}
 use Rattle.std.proofs.lemmas.Bool.Decides.{nat_tests}
 use Rattle.std.proofs.lemmas.Str.Parse.{digits_value_short, numerals_by_value, tells_all_ascii_digits, IsNumeralModel}
 use Rattle.ic_laws.specs.Amount.{units_of, units_by, fraction_digits}
-use Rattle.ic_laws.specs.Name.{is_digit, run_of, past_run}
+use Rattle.ic_laws.specs.Scan.{is_digit, run_of, past_run}
 
 -- more digits don't make a number smaller
 pub digits_value_after-ge : (n : ℕ) (digits : List ℕ) → n ≤ digits_value_after 10 n digits

@@ -9,8 +9,8 @@ use Rattle.std.proofs.lemmas.Bool.{cases_Bool, and_parts}
 use Rattle.std.proofs.lemmas.Bool.Decides.{nat_tests}
 use Rattle.std.proofs.lemmas.Nat.{pow-add}
 use Rattle.std.proofs.lemmas.Fmt.{digits_decimal, digits_value-decimal, decimal_nonempty}
-use Rattle.ic_laws.specs.Amount.{one, units_by, fraction_digits, unsigned_text, unsigned_amount}
-use Rattle.ic_laws.specs.Name.{is_digit, run_of, past_run, first_is}
+use Rattle.ic_laws.specs.Amount.{units_of_one, units_by, fraction_digits, unsigned_text, unsigned_amount}
+use Rattle.ic_laws.specs.Scan.{is_digit, run_of, past_run, first_is}
 use Rattle.ic_laws.proofs.AmountLemmas.{digit_value-is, fraction_digits-first, fraction_digits-zero, first_digit, numerals}
 
 -- digits that follow a number move it to the left
@@ -81,7 +81,7 @@ run_of-front (d ∷ digits) tail all apart =
     let rest = run_of-front digits tail both.1 apart in
     (rw both.0 (ap (λ ds. d ∷ ds) rest.0), rw both.0 rest.1)
 
-units_by-gives : (whole count fraction places n : ℕ) → places ≤ 9 → 0 < count + places → whole * one + fraction * 10 ^ (9 - places) ≡ n → n < 10 ^ 27 → units_by whole count fraction places ≡ Some n
+units_by-gives : (whole count fraction places n : ℕ) → places ≤ 9 → 0 < count + places → whole * units_of_one + fraction * 10 ^ (9 - places) ≡ n → n < 10 ^ 27 → units_by whole count fraction places ≡ Some n
 units_by-gives whole count fraction places n few some e small =
     let a : nat_le places 9 ≡ true = grind (arith, nat_tests) in
     let b : nat_lt 0 (count + places) ≡ true = grind (arith, nat_tests) in
@@ -91,21 +91,21 @@ units_by-gives whole count fraction places n few some e small =
 -- the text of an amount from 0 on is read as that amount
 pub unsigned_amount-text : (separator n : ℕ) → n < 10 ^ 27 → is_digit separator ≡ false → unsigned_amount separator (unsigned_text separator n) ≡ Some n
 unsigned_amount-text separator n small apart =
-    let w : ℕ = n / one in
+    let w : ℕ = n / units_of_one in
     let large : w < 2 ^ 64 = omega arith in
     let all : all_ascii_digits (decimal w) ≡ true = digits_decimal numerals w large in
     let value : digits_value 10 (decimal w) ≡ w = digits_value-decimal numerals w large in
     let some = decimal_nonempty w large in
-    elim (cases_Bool (nat_eq (n % one) 0)) [
+    elim (cases_Bool (nat_eq (n % units_of_one) 0)) [
       | inl z ↦
-          let e : n % one ≡ 0 = grind (arith, nat_tests) in
+          let e : n % units_of_one ≡ 0 = grind (arith, nat_tests) in
           let run = run_of-front (decimal w) [] all refl in
           rw (z, run.0, run.1, value) (units_by-gives w (length (decimal w)) 0 0 n (omega arith) (omega arith) (omega arith) small)
       | inr f ↦
-          let fraction = fraction_writes 9 (n % one) (omega arith) in
+          let fraction = fraction_writes 9 (n % units_of_one) (omega arith) in
           let few = fraction.few in
-          let run = run_of-front (decimal w) (separator ∷ fraction_digits 9 (n % one)) all apart in
+          let run = run_of-front (decimal w) (separator ∷ fraction_digits 9 (n % units_of_one)) all apart in
           let same : (separator == separator) ≡ true = grind (arith, nat_tests) in
           rw (f, run.0, run.1, same, value, fraction.all)
-          (units_by-gives w (length (decimal w)) (digits_value 10 (fraction_digits 9 (n % one))) (length (fraction_digits 9 (n % one))) n few (omega arith) (rw fraction.number (omega arith)) small)
+          (units_by-gives w (length (decimal w)) (digits_value 10 (fraction_digits 9 (n % units_of_one))) (length (fraction_digits 9 (n % units_of_one))) n few (omega arith) (rw fraction.number (omega arith)) small)
     ]

@@ -5,10 +5,10 @@ use Rattle.std.proofs.lemmas.Option.{some_pair_parts}
 use Rattle.std.specs.List.{AllByRecursion}
 use Rattle.ic_laws.specs.CoreBook.{greatest}
 use Rattle.ic_laws.specs.Name.{is_variable}
-use Rattle.ic_laws.specs.Notation.{Notation}
+use Rattle.ic_laws.specs.Dialect.{DialectMeaning}
 use Rattle.ic_laws.specs.Parse.{node, Read, past_separator, past_close, ends_argument, argument, arguments, binder, function_call, name_call, primary, postfix, applied, prefix_sign, reader}
 use Rattle.ic_laws.specs.Token.{Token, Word, FunHead, NameHead, Separator, Open, Close}
-use Rattle.ic_laws.specs.Tree.{Spelled, is_empty, is_callable, are_arguments, height, open_brackets, is_called_name}
+use Rattle.ic_laws.specs.Tree.{Spelled, is_empty, is_callable, is_argument_list, height, open_brackets, is_called_name}
 use Rattle.ic_laws.specs.Yield.{joined, yield}
 use Rattle.ic_laws.specs.declared.tree.Tree.TheOpen as one
 use Rattle.ic_laws.proofs.Nodes.{WellKind, yield-node, height-node, brackets-node, level-node, level_positive, empty_yields, empty_is}
@@ -16,37 +16,37 @@ use Rattle.ic_laws.proofs.ReadLemmas.{reader-zero, reader_begins, no_close, clos
 use Rattle.ic_laws.proofs.Completeness.{ReadsBack, Wide, Complete, back, complete_primary, complete_postfix, complete-Word}
 
 -- an argument is left out or read back
-abbrev pub ArgumentReads : Notation → ℕ → ℕ → Spelled → Type 0
+abbrev pub ArgumentReads : DialectMeaning → ℕ → ℕ → Spelled → Type 0
 ArgumentReads d most b t = (is_empty t ≡ true) ⊎ ReadsBack d most b t
 
 -- what stands behind an argument ends it
 abbrev IsEnd : List Token → Type 0
 IsEnd rest = ends_argument rest ≡ true
 
-argument_empty : (d : Notation) (most b : ℕ) (t : Spelled) (rest : List Token) → is_empty t ≡ true → IsEnd rest → argument (reader d most) b (yield d t ++ rest) ≡ Some (t, rest)
+argument_empty : (d : DialectMeaning) (most b : ℕ) (t : Spelled) (rest : List Token) → is_empty t ≡ true → IsEnd rest → argument (reader d most) b (yield d t ++ rest) ≡ Some (t, rest)
 unfolding argument
 argument_empty d most b t rest h end = rw (empty_yields d t h, end, empty_is t h) refl
 
-argument_there : (d : Notation) (most b : ℕ) (t : Spelled) (rest : List Token) → ReadsBack d most b t → IsEnd rest → argument (reader d most) b (yield d t ++ rest) ≡ Some (t, rest)
+argument_there : (d : DialectMeaning) (most b : ℕ) (t : Spelled) (rest : List Token) → ReadsBack d most b t → IsEnd rest → argument (reader d most) b (yield d t ++ rest) ≡ Some (t, rest)
 unfolding argument
 argument_there d most b t rest back end =
     let read : reader d most b 1 (yield d t ++ rest) ≡ Some (t, rest) = back.reads 1 rest (level_positive t) (close_ends 1 rest end) in
     rw (reader_begins d most b 1 (yield d t ++ rest) (t, rest) read, read) refl
 
-argument_reads : (d : Notation) (most b : ℕ) (t : Spelled) → ArgumentReads d most b t → ItemReads (argument (reader d most) b) past_separator Separator (yield d) IsEnd t
+argument_reads : (d : DialectMeaning) (most b : ℕ) (t : Spelled) → ArgumentReads d most b t → ItemReads (argument (reader d most) b) past_separator Separator (yield d) IsEnd t
 argument_reads d most b t reads = record {
   reads = λ rest end. elim reads [ inl h ↦ argument_empty d most b t rest h end | inr back ↦ argument_there d most b t rest back end ];
 }
 
-separator_reads : (d : Notation) (most b : ℕ) → SignReads (argument (reader d most) b) past_separator Separator (yield d) IsEnd
+separator_reads : (d : DialectMeaning) (most b : ℕ) → SignReads (argument (reader d most) b) past_separator Separator (yield d) IsEnd
 separator_reads d most b = record { taken = λ rest. refl; fine = λ rest. refl }
 
-all_read : (d : Notation) (most b : ℕ) (ts : List Spelled) → AllByRecursion (ArgumentReads d most b) ts → AllByRecursion (ItemReads (argument (reader d most) b) past_separator Separator (yield d) IsEnd) ts
+all_read : (d : DialectMeaning) (most b : ℕ) (ts : List Spelled) → AllByRecursion (ArgumentReads d most b) ts → AllByRecursion (ItemReads (argument (reader d most) b) past_separator Separator (yield d) IsEnd) ts
 all_read d most b [] all = tt
 all_read d most b (t ∷ ts) all = (argument_reads d most b t all.0, all_read d most b ts all.1)
 
 -- arguments don't begin with the bracket that ends them
-no_close_first : (d : Notation) (most b : ℕ) (t : Spelled) (ts : List Spelled) (rest : List Token) → AllByRecursion (ArgumentReads d most b) (t ∷ ts) → are_arguments (t ∷ ts) ≡ true → past_close (joined Separator (map (yield d) (t ∷ ts)) ++ Close ∷ rest) ≡ None
+no_close_first : (d : DialectMeaning) (most b : ℕ) (t : Spelled) (ts : List Spelled) (rest : List Token) → AllByRecursion (ArgumentReads d most b) (t ∷ ts) → is_argument_list (t ∷ ts) ≡ true → past_close (joined Separator (map (yield d) (t ∷ ts)) ++ Close ∷ rest) ≡ None
 no_close_first d most b t [] rest all good = elim all.0 [
   | inl h ↦ let no : not (is_empty t) ≡ true = good in let no_more : not true ≡ true = subst (λ (e : Bool). not e ≡ true) h no in cc
   | inr back ↦ no_close _ (reader_begins d most b 1 _ _ (back.reads 1 (Close ∷ rest) (level_positive t) tt))
@@ -57,7 +57,7 @@ no_close_first d most b t (u ∷ us) rest all good =
       | inr back ↦ no_close _ (reader_begins d most b 1 _ _ (back.reads 1 (Separator ∷ (joined Separator (map (yield d) (u ∷ us)) ++ Close ∷ rest)) (level_positive t) tt))
     ])
 
-pub arguments_read : (d : Notation) (most b : ℕ) (ts : List Spelled) (rest : List Token) → AllByRecursion (ArgumentReads d most b) ts → are_arguments ts ≡ true → arguments (reader d most) b (joined Separator (map (yield d) ts) ++ Close ∷ rest) ≡ Some (ts, rest)
+pub arguments_read : (d : DialectMeaning) (most b : ℕ) (ts : List Spelled) (rest : List Token) → AllByRecursion (ArgumentReads d most b) ts → is_argument_list ts ≡ true → arguments (reader d most) b (joined Separator (map (yield d) ts) ++ Close ∷ rest) ≡ Some (ts, rest)
 unfolding arguments
 arguments_read d most b [] rest all good = refl
 arguments_read d most b (t ∷ ts) rest all good =
@@ -70,16 +70,16 @@ arguments_read d most b (t ∷ ts) rest all good =
     ) refl
 
 -- an argument is left out, or may be read back
-abbrev pub ArgumentWide : Notation → Spelled → Type 0
+abbrev pub ArgumentWide : DialectMeaning → Spelled → Type 0
 ArgumentWide d t = (is_empty t ≡ true) ⊎ Wide d t
 
-pub arguments_back : (d : Notation) (most b : ℕ) (ts : List Spelled) → AllByRecursion (ArgumentWide d) ts → greatest (map height ts) ≤ most → greatest (map open_brackets ts) ≤ b → AllByRecursion (ArgumentReads d most b) ts
+pub arguments_back : (d : DialectMeaning) (most b : ℕ) (ts : List Spelled) → AllByRecursion (ArgumentWide d) ts → greatest (map height ts) ≤ most → greatest (map open_brackets ts) ≤ b → AllByRecursion (ArgumentReads d most b) ts
 arguments_back d most b [] all low few = tt
 arguments_back d most b (t ∷ ts) all low few =
     let here : ArgumentReads d most b t = elim all.0 [ inl h ↦ inl h | inr wide ↦ inr (back d t wide most b (omega arith) (omega arith)) ] in
     (here, arguments_back d most b ts all.1 (omega arith) (omega arith))
 
-pub complete-Fun : (d : Notation) (number : ℕ) (ts : List Spelled) → WellKind d (one.Fun number ts) → AllByRecursion (ArgumentWide d) ts → Complete d (node (one.Fun number ts))
+pub complete-Fun : (d : DialectMeaning) (number : ℕ) (ts : List Spelled) → WellKind d (one.Fun number ts) → AllByRecursion (ArgumentWide d) ts → Complete d (node (one.Fun number ts))
 unfolding primary prefix_sign function_call
 complete-Fun d number ts well all = complete_primary d (one.Fun number ts) (record {
   token = FunHead number;
@@ -97,7 +97,7 @@ complete-Fun d number ts well all = complete_primary d (one.Fun number ts) (reco
         let all_back : AllByRecursion (ArgumentReads d most b) ts = arguments_back d most b ts all (omega (arith, low, height-node (one.Fun number ts))) (omega arith) in
         rw (ne_eqb number d.let_fn well.words.0, ne_eqb number d.lambda_fn well.words.1, arguments_read d most b ts rest all_back well.arguments, le-leb (height (node (one.Fun number ts))) (suc most) low) refl
 
-pub complete-Call : (d : Notation) (name : List ℕ) (ts : List Spelled) → WellKind d (one.Call name ts) → AllByRecursion (ArgumentWide d) ts → Complete d (node (one.Call name ts))
+pub complete-Call : (d : DialectMeaning) (name : List ℕ) (ts : List Spelled) → WellKind d (one.Call name ts) → AllByRecursion (ArgumentWide d) ts → Complete d (node (one.Call name ts))
 unfolding primary prefix_sign name_call
 complete-Call d name ts well all = complete_primary d (one.Call name ts) (record {
   token = NameHead name;
@@ -116,7 +116,7 @@ complete-Call d name ts well all = complete_primary d (one.Call name ts) (record
         let called : is_called_name name ≡ true = well.words in
         rw (called, arguments_read d most b ts rest all_back well.arguments, le-leb (height (node (one.Call name ts))) (suc most) low) refl
 
-applied_reads : (d : Notation) (most b : ℕ) (x : Spelled) (ts : List Spelled) (rest : List Token) → AllByRecursion (ArgumentWide d) ts → are_arguments ts ≡ true → is_callable x ≡ true → height (node (one.Apply x ts)) ≤ suc most → greatest (map open_brackets ts) + 1 ≤ b
+applied_reads : (d : DialectMeaning) (most b : ℕ) (x : Spelled) (ts : List Spelled) (rest : List Token) → AllByRecursion (ArgumentWide d) ts → is_argument_list ts ≡ true → is_callable x ≡ true → height (node (one.Apply x ts)) ≤ suc most → greatest (map open_brackets ts) + 1 ≤ b
     → postfix (suc most) (reader d most) b x (Open ∷ (joined Separator (map (yield d) ts) ++ Close ∷ rest)) ≡ Some (Some (node (one.Apply x ts), rest))
 unfolding postfix applied
 applied_reads d most zero x ts rest all good called low few = absurd (omega arith)
@@ -124,7 +124,7 @@ applied_reads d most (suc b) x ts rest all good called low few =
     let all_back : AllByRecursion (ArgumentReads d most b) ts = arguments_back d most b ts all (omega (arith, low, height-node (one.Apply x ts))) (omega arith) in
     rw (called, arguments_read d most b ts rest all_back good, le-leb (height (node (one.Apply x ts))) (suc most) low) refl
 
-pub complete-Apply : (d : Notation) (x : Spelled) (ts : List Spelled) → WellKind d (one.Apply x ts) → Complete d x → AllByRecursion (ArgumentWide d) ts → Complete d (node (one.Apply x ts))
+pub complete-Apply : (d : DialectMeaning) (x : Spelled) (ts : List Spelled) → WellKind d (one.Apply x ts) → Complete d x → AllByRecursion (ArgumentWide d) ts → Complete d (node (one.Apply x ts))
 complete-Apply d x ts well complete all = complete_postfix d (one.Apply x ts) (record {
   left = x;
   token = Open;
@@ -143,7 +143,7 @@ apart : (t u : Spelled) (rest after : List Token) → ◌≡◌ {A = Read Spelle
 apart t u rest after e = let parts = some_pair_parts t u (Close ∷ rest) (Separator ∷ after) e in let same : Close ∷ rest ≡ Separator ∷ after = parts.1 in cc
 
 -- what is read with a bracket behind it has begun with no variable and separator
-pub no_binder : (d : Notation) (most b : ℕ) (ts : List Token) (t : Spelled) (rest : List Token) → reader d most b 1 ts ≡ Some (t, Close ∷ rest) → binder ts ≡ None
+pub no_binder : (d : DialectMeaning) (most b : ℕ) (ts : List Token) (t : Spelled) (rest : List Token) → reader d most b 1 ts ≡ Some (t, Close ∷ rest) → binder ts ≡ None
 unfolding binder
 no_binder d most b (Word name ∷ Separator ∷ after) t rest e = elim (cases_Bool (is_variable name)) [
   | inl good ↦ absurd (word_first most good e)

@@ -2,8 +2,8 @@
 use Rattle.std.specs.Prelude.{ℤ}
 use Rattle.std.proofs.Common.{◌≡◌, ℕ, zero, suc, ◌+◌, ◌<◌, ◌≤◌, max, List, [], ◌∷◌, ◌++◌, append_assoc, Option, Some, None, Bool, true, refl, ◌∙◌, arith, ◌&&◌}
 use Rattle.std.proofs.lemmas.Bool.{le-leb}
-use Rattle.ic_laws.specs.Notation.{Notation}
-use Rattle.ic_laws.specs.Parse.{Kind, node, Read, Reader, postfix, postfixes, binary, binaries, joined_by, bracketed, primary, prefix_sign, prefixed, operand, expression, reader}
+use Rattle.ic_laws.specs.Dialect.{DialectMeaning}
+use Rattle.ic_laws.specs.Parse.{SpelledKind, node, Read, Reader, postfix, postfixes, binary, binaries, joined_by, bracketed, primary, prefix_sign, prefixed, operand, expression, reader}
 use Rattle.ic_laws.specs.Token.{Token, Num, Str, Boolean, Err, Ref, Word, Operator, Percent, Hash, Open, Close}
 use Rattle.ic_laws.specs.Name.{is_variable}
 use Rattle.ic_laws.specs.Position.{is_place_within}
@@ -20,7 +20,7 @@ use Rattle.ic_laws.proofs.Nodes.{WellKind, yield-node, height-node, brackets-nod
 use Rattle.ic_laws.proofs.ReadLemmas.{Ends, Ends-more, made_takes, made_if_takes, turns_stop, turns_go, postfix_stops, binary_stops}
 
 -- a tree is read back before what doesn't go on from it
-pub record ReadsBack (d : Notation) (most b : ℕ) (t : Spelled) : Type 0 where
+pub record ReadsBack (d : DialectMeaning) (most b : ℕ) (t : Spelled) : Type 0 where
   pub reads : (least : ℕ) (rest : List Token) → least ≤ level t → Ends least rest → reader d most b least (yield d t ++ rest) ≡ Some (t, rest)
 
 -- behind an operand its loop goes on, with fuel for all that a tree may still grow
@@ -30,19 +30,19 @@ pub record GoesOn (read : Read Spelled) (loop : ℕ → Read Spelled) (most : �
   pub same : read ≡ loop fuel
 
 -- a tree that binds as tightly as what stands behind an operand does, whatever stands behind it
-pub record Tight (d : Notation) (t : Spelled) : Type 0 where
+pub record Tight (d : DialectMeaning) (t : Spelled) : Type 0 where
   pub goes : (most b : ℕ) (rest : List Token) → height t ≤ suc most → open_brackets t ≤ b → GoesOn (operand d (suc most) (reader d most) b (yield d t ++ rest)) (λ fuel. postfixes (suc most) (reader d most) b fuel t rest) (suc most) t
 
 -- any tree, before what stands behind a whole operand
-pub record Wide (d : Notation) (t : Spelled) : Type 0 where
+pub record Wide (d : DialectMeaning) (t : Spelled) : Type 0 where
   pub goes : (most b least : ℕ) (rest : List Token) → height t ≤ suc most → open_brackets t ≤ b → least ≤ level t → Ends (suc (level t)) rest → GoesOn (expression d (suc most) (reader d most) b least (yield d t ++ rest)) (λ fuel. binaries (suc most) (reader d most) b least fuel t rest) (suc most) t
 
-pub record Complete (d : Notation) (t : Spelled) : Type 0 where
+pub record Complete (d : DialectMeaning) (t : Spelled) : Type 0 where
   pub tight : 7 ≤ level t → Tight d t
   pub wide : Wide d t
 
 -- where the loops stop, the tree is read back
-pub back : (d : Notation) (t : Spelled) → Wide d t → (most b : ℕ) → height t ≤ most → open_brackets t ≤ b → ReadsBack d most b t
+pub back : (d : DialectMeaning) (t : Spelled) → Wide d t → (most b : ℕ) → height t ≤ most → open_brackets t ≤ b → ReadsBack d most b t
 unfolding reader
 back d t wide zero b low few = absurd (omega (arith, height_positive t))
 back d t wide (suc most) b low few = record {
@@ -56,7 +56,7 @@ back d t wide (suc most) b low few = record {
     stopped least rest (suc fuel) some ends = turns_stop (binary (suc most) (reader d most) b least) fuel t rest (binary_stops (suc most) (reader d most) b least t rest ends)
 
 -- a tight tree before what doesn't go on
-pub wide_from_tight : (d : Notation) (t : Spelled) → 7 ≤ level t → Tight d t → Wide d t
+pub wide_from_tight : (d : DialectMeaning) (t : Spelled) → 7 ≤ level t → Tight d t → Wide d t
 unfolding expression
 wide_from_tight d t seven tight = record {
   goes = λ most b least rest low few enough ends.
@@ -72,11 +72,11 @@ wide_from_tight d t seven tight = record {
     stopped most b rest zero some ends = absurd (omega arith)
     stopped most b rest (suc fuel) some ends = turns_stop (postfix (suc most) (reader d most) b) fuel t rest (postfix_stops (suc most) (reader d most) b (suc (level t)) t rest ends)
 
-pub complete_tight : (d : Notation) (t : Spelled) → 7 ≤ level t → Tight d t → Complete d t
+pub complete_tight : (d : DialectMeaning) (t : Spelled) → 7 ≤ level t → Tight d t → Complete d t
 complete_tight d t seven tight = record { tight = λ h. tight; wide = wide_from_tight d t seven tight }
 
 -- an operand that begins with its token and isn't gone on from
-pub record Begins (d : Notation) (kind : Kind) : Type 0 where
+pub record Begins (d : DialectMeaning) (kind : SpelledKind) : Type 0 where
   pub token : Token
   pub behind : List Token
   pub tokens : yield d (node kind) ≡ token ∷ behind
@@ -84,7 +84,7 @@ pub record Begins (d : Notation) (kind : Kind) : Type 0 where
   pub no_sign : prefix_sign token ≡ None
   pub reads : (most b : ℕ) (rest : List Token) → height (node kind) ≤ suc most → open_brackets (node kind) ≤ b → primary d (suc most) (reader d most) b token (behind ++ rest) ≡ Some (node kind, rest)
 
-pub complete_primary : (d : Notation) (kind : Kind) → Begins d kind → Complete d (node kind)
+pub complete_primary : (d : DialectMeaning) (kind : SpelledKind) → Begins d kind → Complete d (node kind)
 unfolding operand
 complete_primary d kind begins = complete_tight d (node kind) begins.seven (record {
   goes = λ most b rest low few. record {
@@ -98,7 +98,7 @@ complete_primary d kind begins = complete_tight d (node kind) begins.seven (reco
     first_read most b rest low few = rw (begins.no_sign, operand, begins.reads most b rest low few) refl
 
 -- a turn of the loop behind an operand
-pub record Follows (d : Notation) (kind : Kind) : Type 0 where
+pub record Follows (d : DialectMeaning) (kind : SpelledKind) : Type 0 where
   pub left : Spelled
   pub token : Token
   pub behind : List Token
@@ -109,7 +109,7 @@ pub record Follows (d : Notation) (kind : Kind) : Type 0 where
   pub fewer : open_brackets left ≤ open_brackets (node kind)
   pub turn : (most b : ℕ) (rest : List Token) → height (node kind) ≤ suc most → open_brackets (node kind) ≤ b → postfix (suc most) (reader d most) b left (token ∷ (behind ++ rest)) ≡ Some (Some (node kind, rest))
 
-pub complete_postfix : (d : Notation) (kind : Kind) → Follows d kind → Complete d (node kind)
+pub complete_postfix : (d : DialectMeaning) (kind : SpelledKind) → Follows d kind → Complete d (node kind)
 complete_postfix d kind follows = complete_tight d (node kind) follows.seven (record {
   goes = λ most b rest low few.
       let on : GoesOn _ _ _ _ = follows.tight.goes most b (follows.token ∷ (follows.behind ++ rest)) (omega (arith, follows.higher)) (omega (arith, follows.fewer)) in
@@ -141,13 +141,13 @@ below_six signs.Times = omega arith
 below_six signs.Over = omega arith
 below_six signs.Power = omega arith
 
-operand_prefix : (d : Notation) (most : ℕ) (below : Reader) (b : ℕ) (sign : PrefixSign) (ts : List Token) (x : Spelled) (rest : List Token) → below b 6 ts ≡ Some (x, rest) → height (node (one.Prefix sign x)) ≤ most → operand d most below b (prefix_token sign ∷ ts) ≡ Some (node (one.Prefix sign x), rest)
+operand_prefix : (d : DialectMeaning) (most : ℕ) (below : Reader) (b : ℕ) (sign : PrefixSign) (ts : List Token) (x : Spelled) (rest : List Token) → below b 6 ts ≡ Some (x, rest) → height (node (one.Prefix sign x)) ≤ most → operand d most below b (prefix_token sign ∷ ts) ≡ Some (node (one.Prefix sign x), rest)
 unfolding operand prefix_sign prefixed
 operand_prefix d most below b prefixes.Plus ts x rest e low = rw (e, le-leb (height (node (one.Prefix prefixes.Plus x))) most low) refl
 operand_prefix d most below b prefixes.Minus ts x rest e low = rw (e, le-leb (height (node (one.Prefix prefixes.Minus x))) most low) refl
 operand_prefix d most below b prefixes.At ts x rest e low = rw (e, le-leb (height (node (one.Prefix prefixes.At x))) most low) refl
 
-pub complete-Num : (d : Notation) (units : ℤ) → WellKind d (one.Num units) → Complete d (node (one.Num units))
+pub complete-Num : (d : DialectMeaning) (units : ℤ) → WellKind d (one.Num units) → Complete d (node (one.Num units))
 unfolding primary prefix_sign
 complete-Num d units well = complete_primary d (one.Num units) (record {
   token = Num units;
@@ -158,7 +158,7 @@ complete-Num d units well = complete_primary d (one.Num units) (record {
   reads = λ most b rest low few. made_if_takes (is_unsigned units) (suc most) (one.Num units) rest well.unsigned low;
 })
 
-pub complete-Str : (d : Notation) (text : List ℕ) → Complete d (node (one.Str text))
+pub complete-Str : (d : DialectMeaning) (text : List ℕ) → Complete d (node (one.Str text))
 unfolding primary prefix_sign
 complete-Str d text = complete_primary d (one.Str text) (record {
   token = Str text;
@@ -169,7 +169,7 @@ complete-Str d text = complete_primary d (one.Str text) (record {
   reads = λ most b rest low few. made_takes (suc most) (one.Str text) rest low;
 })
 
-pub complete-Bool : (d : Notation) (value : Bool) → Complete d (node (one.Bool value))
+pub complete-Bool : (d : DialectMeaning) (value : Bool) → Complete d (node (one.Bool value))
 unfolding primary prefix_sign
 complete-Bool d value = complete_primary d (one.Bool value) (record {
   token = Boolean value;
@@ -180,7 +180,7 @@ complete-Bool d value = complete_primary d (one.Bool value) (record {
   reads = λ most b rest low few. made_takes (suc most) (one.Bool value) rest low;
 })
 
-pub complete-Err : (d : Notation) (error : Error) → Complete d (node (one.Err error))
+pub complete-Err : (d : DialectMeaning) (error : Error) → Complete d (node (one.Err error))
 unfolding primary prefix_sign
 complete-Err d error = complete_primary d (one.Err error) (record {
   token = Err error;
@@ -191,7 +191,7 @@ complete-Err d error = complete_primary d (one.Err error) (record {
   reads = λ most b rest low few. made_takes (suc most) (one.Err error) rest low;
 })
 
-pub complete-Reference : (d : Notation) (sheet : Option (List ℕ)) (place : Place) → WellKind d (one.Reference sheet place) → Complete d (node (one.Reference sheet place))
+pub complete-Reference : (d : DialectMeaning) (sheet : Option (List ℕ)) (place : Place) → WellKind d (one.Reference sheet place) → Complete d (node (one.Reference sheet place))
 unfolding primary prefix_sign
 complete-Reference d sheet place well = complete_primary d (one.Reference sheet place) (record {
   token = Ref (record { sheet = sheet; place = place });
@@ -206,7 +206,7 @@ complete-Reference d sheet place well = complete_primary d (one.Reference sheet 
     both : (a b : Bool) → a ≡ true → b ≡ true → (a && b) ≡ true
     both a b p q = rw (p, q) refl
 
-pub complete-Word : (d : Notation) (text : List ℕ) → is_variable text ≡ true → Complete d (node (one.Word text))
+pub complete-Word : (d : DialectMeaning) (text : List ℕ) → is_variable text ≡ true → Complete d (node (one.Word text))
 unfolding primary prefix_sign
 complete-Word d text good = complete_primary d (one.Word text) (record {
   token = Word text;
@@ -217,7 +217,7 @@ complete-Word d text good = complete_primary d (one.Word text) (record {
   reads = λ most b rest low few. made_if_takes (is_variable text) (suc most) (one.Word text) rest good low;
 })
 
-pub complete-Paren : (d : Notation) (x : Spelled) → Wide d x → Complete d (node (one.Paren x))
+pub complete-Paren : (d : DialectMeaning) (x : Spelled) → Wide d x → Complete d (node (one.Paren x))
 unfolding primary prefix_sign bracketed
 complete-Paren d x wide = complete_primary d (one.Paren x) (record {
   token = Open;
@@ -235,7 +235,7 @@ complete-Paren d x wide = complete_primary d (one.Paren x) (record {
         let inner : ReadsBack d most b x = back d x wide most b (omega (arith, low, height-node (one.Paren x))) (omega arith) in
         rw (inner.reads 1 (Close ∷ rest) (level_positive x) tt, le-leb (height (node (one.Paren x))) (suc most) low) refl
 
-pub complete-Prefix : (d : Notation) (sign : PrefixSign) (x : Spelled) → WellKind d (one.Prefix sign x) → Wide d x → Complete d (node (one.Prefix sign x))
+pub complete-Prefix : (d : DialectMeaning) (sign : PrefixSign) (x : Spelled) → WellKind d (one.Prefix sign x) → Wide d x → Complete d (node (one.Prefix sign x))
 unfolding expression
 complete-Prefix d sign x well wide = record {
   tight = λ h. absurd (omega (arith, h, level-node (one.Prefix sign x)));
@@ -258,7 +258,7 @@ complete-Prefix d sign x well wide = record {
     Ends-six (Open ∷ rest) h = h
     Ends-six ts h = tt
 
-pub complete-Percent : (d : Notation) (x : Spelled) → WellKind d (one.Percent x) → Complete d x → Complete d (node (one.Percent x))
+pub complete-Percent : (d : DialectMeaning) (x : Spelled) → WellKind d (one.Percent x) → Complete d x → Complete d (node (one.Percent x))
 unfolding postfix
 complete-Percent d x well complete = complete_postfix d (one.Percent x) (record {
   left = x;
@@ -272,7 +272,7 @@ complete-Percent d x well complete = complete_postfix d (one.Percent x) (record 
   turn = λ most b rest low few. rw (le-leb (height (node (one.Percent x))) (suc most) low) refl;
 })
 
-pub complete-Spill : (d : Notation) (x : Spelled) → WellKind d (one.Spill x) → Complete d x → Complete d (node (one.Spill x))
+pub complete-Spill : (d : DialectMeaning) (x : Spelled) → WellKind d (one.Spill x) → Complete d x → Complete d (node (one.Spill x))
 unfolding postfix
 complete-Spill d x well complete = complete_postfix d (one.Spill x) (record {
   left = x;
@@ -290,7 +290,7 @@ binary_takes : (most : ℕ) (below : Reader) (b least : ℕ) (sign : BinarySign)
 unfolding binary joined_by
 binary_takes most below b least sign left ts right rest enough e low = rw (le-leb least (sign_level sign) enough, e, le-leb (height (node (one.Binary sign left right))) most low) refl
 
-pub complete-Binary : (d : Notation) (sign : BinarySign) (x y : Spelled) → WellKind d (one.Binary sign x y) → Wide d x → Wide d y → Complete d (node (one.Binary sign x y))
+pub complete-Binary : (d : DialectMeaning) (sign : BinarySign) (x y : Spelled) → WellKind d (one.Binary sign x y) → Wide d x → Wide d y → Complete d (node (one.Binary sign x y))
 complete-Binary d sign x y well wide_x wide_y = record {
   tight = λ h. absurd (omega (arith, h, level-node (one.Binary sign x y), below_six sign));
   wide = record {

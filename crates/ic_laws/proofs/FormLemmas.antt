@@ -9,7 +9,8 @@ use Rattle.std.proofs.Math.Bool.{and_assoc}
 use Rattle.std.proofs.Math.Nat.{pow-suc}
 use Rattle.std.proofs.lemmas.Bool.Decides.{nat_tests, leb_tells}
 use Rattle.ic_laws.specs.Name.{names_row}
-use Rattle.ic_laws.specs.Position.{names_column, is_ascii_letter, letter_digit, letters_number}
+use Rattle.ic_laws.specs.Position.{names_column, letter_digit, letters_number}
+use Rattle.ic_laws.specs.Scan.{is_ascii_letter}
 
 -- the digits from a row so far, up to one past the last
 abbrev pub row_from : ℕ → List ℕ → Bool

@@ -1,9 +1,9 @@
 -- Formulas by example: the tokens of trees, and trees that are not well-formed.
 use Rattle.std.proofs.Common.{◌≡◌, ℕ, zero, suc, ◌+◌, ◌≤◌, pos, List, [], ◌∷◌, true, false, not, Option, None, Some, codes, refl, subst, ap, ◌∙◌, arith}
-use Rattle.ic_laws.specs.Notation.{Notation}
+use Rattle.ic_laws.specs.Dialect.{DialectMeaning}
 use Rattle.ic_laws.specs.Reading.{IsWell}
 use Rattle.ic_laws.specs.Token.{Token, Num, Ref, Word, FunHead, NameHead, Separator, Operator, Percent, Hash, Open, Close, OpenBrace, CloseBrace, Semicolon, Spells, string_text}
-use Rattle.ic_laws.specs.Tree.{Spelled, Level, IsLevelWell, spelled_names, open_brackets, brackets_step, level, kind_level, is_empty, is_empty_kind, is_callable, is_callable_kind}
+use Rattle.ic_laws.specs.Tree.{Spelled, Kind, IsKindWell, spelled_names, open_brackets, brackets_step, level, kind_level, is_empty, is_empty_kind, is_callable, is_callable_kind}
 use Rattle.ic_laws.specs.Yield.{yield, yield_step, pair_step, PairTokens}
 use Rattle.ic_laws.specs.declared.dialect.WordKind.TheVariants as kinds
 use Rattle.ic_laws.specs.declared.reference.Place.TheVariants as places
@@ -22,7 +22,7 @@ abbrev Sheet : Type 0
 Sheet = Option (List ℕ)
 
 -- a tree of one level, and a pair of LET
-abbrev node : Level Sheet (List ℕ) → Spelled
+abbrev node : Kind Sheet (List ℕ) → Spelled
 node kind = roll-Tree Sheet (List ℕ) kind
 
 abbrev pair : List ℕ → Spelled → LetPair Sheet (List ℕ)
@@ -38,14 +38,14 @@ word name = node (one.Word name)
 abbrev cell : Spelled
 cell = node (one.Reference None (places.Cell (record { row = at.Rel (pos 0); column = at.Rel (pos 0) })))
 
-tokens_of-node : (d : Notation) (kind : Level Sheet (List ℕ)) → yield d (node kind) ≡ yield_step d (map-Tree Sheet (List ℕ) Spelled (LetPair Sheet (List ℕ)) (List Token) PairTokens (yield d) (fold-LetPair Sheet (List ℕ) (List Token) PairTokens (yield_step d) pair_step) kind)
+tokens_of-node : (d : DialectMeaning) (kind : Kind Sheet (List ℕ)) → yield d (node kind) ≡ yield_step d (map-Tree Sheet (List ℕ) Spelled (LetPair Sheet (List ℕ)) (List Token) PairTokens (yield d) (fold-LetPair Sheet (List ℕ) (List Token) PairTokens (yield_step d) pair_step) kind)
 tokens_of-node d kind = fold-roll-Tree Sheet (List ℕ) (List Token) PairTokens (yield_step d) pair_step kind
 
-tokens_of-pair : (d : Notation) (variable : List ℕ) (value : Spelled) → fold-LetPair Sheet (List ℕ) (List Token) PairTokens (yield_step d) pair_step (pair variable value) ≡ record { variable = variable; value = yield d value }
+tokens_of-pair : (d : DialectMeaning) (variable : List ℕ) (value : Spelled) → fold-LetPair Sheet (List ℕ) (List Token) PairTokens (yield_step d) pair_step (pair variable value) ≡ record { variable = variable; value = yield d value }
 tokens_of-pair d variable value = fold-roll-LetPair Sheet (List ℕ) (List Token) PairTokens (yield_step d) pair_step (record { variable = variable; value = value })
 
 -- SUM(1.5,2), where SUM has the number 4
-sum : (d : Notation) → yield d (node (one.Fun 4 (number 1500000000 ∷ number 2000000000 ∷ []))) ≡ FunHead 4 ∷ Num (pos 1500000000) ∷ Separator ∷ Num (pos 2000000000) ∷ Close ∷ []
+sum : (d : DialectMeaning) → yield d (node (one.Fun 4 (number 1500000000 ∷ number 2000000000 ∷ []))) ≡ FunHead 4 ∷ Num (pos 1500000000) ∷ Separator ∷ Num (pos 2000000000) ∷ Close ∷ []
 sum d = simp tokens_of-node
 
 -- {1,2;3,4}: the rows have `;` between them, and `/` where `;` separates arguments
@@ -55,55 +55,55 @@ plain n = constants.Num false (pos n)
 abbrev array : Spelled
 array = node (one.Array ((plain 1 ∷ plain 2 ∷ []) ∷ (plain 3 ∷ constants.Num true (pos 4) ∷ []) ∷ []))
 
-array_rows : (d : Notation) → d.list ≡ 44 → yield d array ≡ OpenBrace ∷ Num (pos 1) ∷ Separator ∷ Num (pos 2) ∷ Semicolon ∷ Num (pos 3) ∷ Separator ∷ Operator signs.Minus ∷ Num (pos 4) ∷ CloseBrace ∷ []
+array_rows : (d : DialectMeaning) → d.list ≡ 44 → yield d array ≡ OpenBrace ∷ Num (pos 1) ∷ Separator ∷ Num (pos 2) ∷ Semicolon ∷ Num (pos 3) ∷ Separator ∷ Operator signs.Minus ∷ Num (pos 4) ∷ CloseBrace ∷ []
 array_rows d e = simp (tokens_of-node, e)
 
-array_rows_by_slash : (d : Notation) → d.list ≡ 59 → yield d array ≡ OpenBrace ∷ Num (pos 1) ∷ Separator ∷ Num (pos 2) ∷ Operator signs.Over ∷ Num (pos 3) ∷ Separator ∷ Operator signs.Minus ∷ Num (pos 4) ∷ CloseBrace ∷ []
+array_rows_by_slash : (d : DialectMeaning) → d.list ≡ 59 → yield d array ≡ OpenBrace ∷ Num (pos 1) ∷ Separator ∷ Num (pos 2) ∷ Operator signs.Over ∷ Num (pos 3) ∷ Separator ∷ Operator signs.Minus ∷ Num (pos 4) ∷ CloseBrace ∷ []
 array_rows_by_slash d e = simp (tokens_of-node, e)
 
 -- -2^2 is the square of -2
-minus_two_squared : (d : Notation) → yield d (node (one.Binary signs.Power (node (one.Prefix prefixes.Minus (number 2))) (number 2))) ≡ Operator signs.Minus ∷ Num (pos 2) ∷ Operator signs.Power ∷ Num (pos 2) ∷ []
+minus_two_squared : (d : DialectMeaning) → yield d (node (one.Binary signs.Power (node (one.Prefix prefixes.Minus (number 2))) (number 2))) ≡ Operator signs.Minus ∷ Num (pos 2) ∷ Operator signs.Power ∷ Num (pos 2) ∷ []
 minus_two_squared d = simp tokens_of-node
 
 -- -x% is the negative of x%
-minus_percent : (d : Notation) → yield d (node (one.Prefix prefixes.Minus (node (one.Percent (word (codes "x")))))) ≡ Operator signs.Minus ∷ Word (codes "x") ∷ Percent ∷ []
+minus_percent : (d : DialectMeaning) → yield d (node (one.Prefix prefixes.Minus (node (one.Percent (word (codes "x")))))) ≡ Operator signs.Minus ∷ Word (codes "x") ∷ Percent ∷ []
 minus_percent d = simp tokens_of-node
 
 -- A1#
-spill : (d : Notation) → yield d (node (one.Spill cell)) ≡ Ref (record { sheet = None; place = places.Cell (record { row = at.Rel (pos 0); column = at.Rel (pos 0) }) }) ∷ Hash ∷ []
+spill : (d : DialectMeaning) → yield d (node (one.Spill cell)) ≡ Ref (record { sheet = None; place = places.Cell (record { row = at.Rel (pos 0); column = at.Rel (pos 0) }) }) ∷ Hash ∷ []
 spill d = simp tokens_of-node
 
 -- f(1)(2)
-applied : (d : Notation) → yield d (node (one.Apply (node (one.Call (codes "f") (number 1 ∷ []))) (number 2 ∷ []))) ≡ NameHead (codes "f") ∷ Num (pos 1) ∷ Close ∷ Open ∷ Num (pos 2) ∷ Close ∷ []
+applied : (d : DialectMeaning) → yield d (node (one.Apply (node (one.Call (codes "f") (number 1 ∷ []))) (number 2 ∷ []))) ≡ NameHead (codes "f") ∷ Num (pos 1) ∷ Close ∷ Open ∷ Num (pos 2) ∷ Close ∷ []
 applied d = simp tokens_of-node
 
 -- f(,) has two arguments that are left out, f() none
-left_out : (d : Notation) → yield d (node (one.Call (codes "f") (node one.Empty ∷ node one.Empty ∷ []))) ≡ NameHead (codes "f") ∷ Separator ∷ Close ∷ []
+left_out : (d : DialectMeaning) → yield d (node (one.Call (codes "f") (node one.Empty ∷ node one.Empty ∷ []))) ≡ NameHead (codes "f") ∷ Separator ∷ Close ∷ []
 left_out d = simp tokens_of-node
 
-none : (d : Notation) → yield d (node (one.Call (codes "f") [])) ≡ NameHead (codes "f") ∷ Close ∷ []
+none : (d : DialectMeaning) → yield d (node (one.Call (codes "f") [])) ≡ NameHead (codes "f") ∷ Close ∷ []
 none d = simp tokens_of-node
 
 -- LET(x,1,x) and LAMBDA(x,x)
-with_let : (d : Notation) → yield d (node (one.Let (pair (codes "x") (number 1) ∷ []) (word (codes "x")))) ≡ FunHead d.let_fn ∷ Word (codes "x") ∷ Separator ∷ Num (pos 1) ∷ Separator ∷ Word (codes "x") ∷ Close ∷ []
+with_let : (d : DialectMeaning) → yield d (node (one.Let (pair (codes "x") (number 1) ∷ []) (word (codes "x")))) ≡ FunHead d.let_fn ∷ Word (codes "x") ∷ Separator ∷ Num (pos 1) ∷ Separator ∷ Word (codes "x") ∷ Close ∷ []
 with_let d = simp (tokens_of-node, tokens_of-pair)
 
-with_lambda : (d : Notation) → yield d (node (one.Lambda (codes "x" ∷ []) (word (codes "x")))) ≡ FunHead d.lambda_fn ∷ Word (codes "x") ∷ Separator ∷ Word (codes "x") ∷ Close ∷ []
+with_lambda : (d : DialectMeaning) → yield d (node (one.Lambda (codes "x" ∷ []) (word (codes "x")))) ≡ FunHead d.lambda_fn ∷ Word (codes "x") ∷ Separator ∷ Word (codes "x") ∷ Close ∷ []
 with_lambda d = simp tokens_of-node
 
 -- what holds of a well-formed tree's first level
-level_of : (d : Notation) (kind : Level Sheet (List ℕ)) → IsWell d (node kind) → IsLevelWell spelled_names d.let_fn d.lambda_fn kind
-level_of d kind well = subst (IsLevelWell spelled_names d.let_fn d.lambda_fn) (out-roll-Tree Sheet (List ℕ) kind) (every_here-Tree Sheet (List ℕ) _ _ _ well.levels)
+level_of : (d : DialectMeaning) (kind : Kind Sheet (List ℕ)) → IsWell d (node kind) → IsKindWell spelled_names d.let_fn d.lambda_fn kind
+level_of d kind well = subst (IsKindWell spelled_names d.let_fn d.lambda_fn) (out-roll-Tree Sheet (List ℕ) kind) (every_here-Tree Sheet (List ℕ) _ _ _ well.nodes)
 
 -- 1-(1-1) needs its brackets: the right operand binds more tightly than the sign
-loose_right : (d : Notation) → IsWell d (node (one.Binary signs.Minus (number 1) (node (one.Binary signs.Minus (number 1) (number 1))))) → ⊥
+loose_right : (d : DialectMeaning) → IsWell d (node (one.Binary signs.Minus (number 1) (node (one.Binary signs.Minus (number 1) (number 1))))) → ⊥
 loose_right d well =
     let h = (level_of d _ well).operands.1 in
     let e : level (node (one.Binary signs.Minus (number 1) (number 1))) ≡ 3 = ap kind_level (out-roll-Tree Sheet (List ℕ) (one.Binary signs.Minus (number 1) (number 1))) in
     omega (arith, h, e)
 
 -- the one argument that is left out is none
-one_empty : (d : Notation) → IsWell d (node (one.Call (codes "f") (node one.Empty ∷ []))) → ⊥
+one_empty : (d : DialectMeaning) → IsWell d (node (one.Call (codes "f") (node one.Empty ∷ []))) → ⊥
 one_empty d well =
     let h = (level_of d _ well).arguments in
     let e : is_empty (node one.Empty) ≡ true = ap is_empty_kind (out-roll-Tree Sheet (List ℕ) one.Empty) in
@@ -111,7 +111,7 @@ one_empty d well =
     cc (ap not e)
 
 -- LET without a pair
-no_pair : (d : Notation) → IsWell d (node (one.Let [] (number 1))) → ⊥
+no_pair : (d : DialectMeaning) → IsWell d (node (one.Let [] (number 1))) → ⊥
 no_pair d well = (level_of d _ well).elements refl
 
 -- the text of a string has its quotes doubled
@@ -119,7 +119,7 @@ doubled_quotes : string_text (codes "a\"b") ≡ codes "\"a\"\"b\""
 doubled_quotes = refl
 
 -- a word alone isn't called
-bare_word : (d : Notation) → IsWell d (node (one.Apply (word (codes "x")) [])) → ⊥
+bare_word : (d : DialectMeaning) → IsWell d (node (one.Apply (word (codes "x")) [])) → ⊥
 bare_word d well =
     let called : is_callable (word (codes "x")) ≡ true = (level_of d _ well).called in
     let e : is_callable (word (codes "x")) ≡ false = ap is_callable_kind (out-roll-Tree Sheet (List ℕ) (one.Word (codes "x"))) in
@@ -135,9 +135,9 @@ open_brackets-in_brackets zero = fold-roll-Tree Sheet (List ℕ) ℕ ℕ bracket
 open_brackets-in_brackets (suc n) = fold-roll-Tree Sheet (List ℕ) ℕ ℕ brackets_step (λ p. p.value) _ ∙ ap (λ k. k + 1) (open_brackets-in_brackets n) ∙ omega arith
 
 -- 129 brackets are one too many
-too_many_brackets : (d : Notation) → IsWell d (in_brackets 129) → ⊥
+too_many_brackets : (d : DialectMeaning) → IsWell d (in_brackets 129) → ⊥
 too_many_brackets d well = let h : open_brackets (in_brackets 129) ≤ 128 = well.few_brackets in omega (arith, h, open_brackets-in_brackets 129)
 
 -- a boolean word isn't spelled as a word
-boolean_is_no_word : (d : Notation) (rest : List ℕ) → d.find kinds.Boolean (codes "TRUE") ≡ Some 0 → Spells d (Word (codes "TRUE")) (codes "TRUE") rest → ⊥
+boolean_is_no_word : (d : DialectMeaning) (rest : List ℕ) → d.find kinds.Boolean (codes "TRUE") ≡ Some 0 → Spells d (Word (codes "TRUE")) (codes "TRUE") rest → ⊥
 boolean_is_no_word d rest found spelled = let other = spelled.3 in cc

@@ -2,7 +2,7 @@
 use Rattle.std.proofs.Common.{◌≡◌, ◌⊎◌, inl, inr, ℕ, zero, suc, ◌+◌, ◌<◌, ◌≤◌, List, ◌∷◌, Option, Some, None, nat_le, refl, sym, subst, ◌∙◌, arith}
 use Rattle.std.proofs.lemmas.Bool.{leb-true}
 use Rattle.std.proofs.lemmas.Option.{same_Some, cond_some, option_and_then_some}
-use Rattle.ic_laws.specs.Parse.{Kind, node, Read, Reader, made, arguments, turns, applied, postfix, joined_by, binary}
+use Rattle.ic_laws.specs.Parse.{SpelledKind, node, Read, Reader, made, arguments, turns, applied, postfix, joined_by, binary}
 use Rattle.ic_laws.specs.Token.{Token, Operator, Percent, Hash, Open}
 use Rattle.ic_laws.specs.Tree.{Spelled, sign_level, height, is_callable}
 use Rattle.ic_laws.specs.declared.tree.Tree.TheOpen as one
@@ -10,7 +10,7 @@ use Rattle.ic_laws.proofs.Nodes.{height-node, height_positive}
 use Rattle.ic_laws.proofs.ReadLemmas.{turns_stop, turns_go}
 use Rattle.ic_laws.proofs.SoundKinds.{if_some, opened_some}
 
-made_height : (most : ℕ) (kind : Kind) (rest : List Token) (read : Spelled × List Token) → made most kind rest ≡ Some read → (height read.0 ≡ height (node kind)) × (height read.0 ≤ most)
+made_height : (most : ℕ) (kind : SpelledKind) (rest : List Token) (read : Spelled × List Token) → made most kind rest ≡ Some read → (height read.0 ≡ height (node kind)) × (height read.0 ≤ most)
 made_height most kind rest read e =
     let parts = cond_some (nat_le (height (node kind)) most) (node kind, rest) read e in
     subst (λ (p : Spelled × List Token). (height p.0 ≡ height (node kind)) × (height p.0 ≤ most)) parts.1 (refl, leb-true (height (node kind)) most parts.0)

@@ -5,6 +5,7 @@ pub mod CompleteCalls
 pub mod CompleteParts
 pub mod Completeness
 pub mod CoreLemmas
+pub mod FoldLaws
 pub mod FormLemmas
 mod FormulaExamples
 pub mod FuelLemmas
@@ -15,6 +16,8 @@ pub mod Nodes
 pub mod ParseLemmas
 pub mod ReadLemmas
 pub mod RunLemmas
+pub mod Smallest
+pub mod SmallestLaws
 pub mod SmallestLemmas
 pub mod SoundKinds
 pub mod SoundOperands

@@ -1,6 +1,6 @@
 -- Fuel that is enough is as good as any other: lists of items, and the parts of LET and LAMBDA.
 use Rattle.std.proofs.Common.{◌≡◌, ◌⊎◌, inl, inr, ℕ, zero, suc, ◌<◌, ◌≤◌, List, [], ◌∷◌, length, length-append, Option, Some, None, option_map, refl, sym, ap, ◌∙◌, arith}
-use Rattle.ic_laws.specs.Notation.{Notation}
+use Rattle.ic_laws.specs.Dialect.{DialectMeaning}
 use Rattle.ic_laws.specs.Parse.{pair_of, Read, Reader, past_separator, past_close, followed, listed, argument, binder, let_parts, lambda_parts, past_row_sign, constant, row, reader}
 use Rattle.ic_laws.specs.Token.{Token, Separator, Word}
 use Rattle.ic_laws.specs.Tree.{Spelled}
@@ -60,7 +60,7 @@ pub record Takes (below : Reader) : Type 0 where
   pub shorter : (b : ℕ) (ts : List Token) (read : Spelled × List Token) → below b 1 ts ≡ Some read → length read.1 ≤ length ts
   pub nothing : (b : ℕ) → below b 1 [] ≡ None
 
-pub reader_takes : (d : Notation) (most : ℕ) → Takes (reader d most)
+pub reader_takes : (d : DialectMeaning) (most : ℕ) → Takes (reader d most)
 reader_takes d most = record {
   shorter = λ b ts read e.
       let sound : Sound d most (reader d most) = reader_sound d most in
@@ -73,7 +73,7 @@ reader_takes d most = record {
     none zero b = reader-zero d b 1 []
     none (suc most) b = reader_nothing d most b 1
 
-pub arguments_shrink : (d : Notation) (most b : ℕ) → Shrinks (argument (reader d most) b) past_separator
+pub arguments_shrink : (d : DialectMeaning) (most b : ℕ) → Shrinks (argument (reader d most) b) past_separator
 unfolding argument
 arguments_shrink d most b =
     let takes : Takes (reader d most) = reader_takes d most in
@@ -168,7 +168,7 @@ constants_shrink = record {
   sign = λ ts rest e. omega (arith, ap length (past_separator_some ts rest e));
 }
 
-pub rows_shrink : (d : Notation) → Shrinks row (past_row_sign d)
+pub rows_shrink : (d : DialectMeaning) → Shrinks row (past_row_sign d)
 unfolding listed
 rows_shrink d = record {
   shorter = λ ts read e. omega (arith, ap length (row_tokens_of ts read e), length-append (row_tokens read.0) read.1);

@@ -3,10 +3,10 @@ use mathlib.Core.Path.{fun_ext}
 use Rattle.std.proofs.Common.{◌≡◌, ℕ, ◌≤◌, List, [], ◌∷◌, Option, true, false, refl, sym, ap, subst, ◌∙◌, map, arith}
 use Rattle.std.specs.List.{AllByRecursion}
 use Rattle.ic_laws.specs.Name.{is_variable}
-use Rattle.ic_laws.specs.Notation.{Notation}
-use Rattle.ic_laws.specs.Parse.{Kind, node, Pair, pair_of}
+use Rattle.ic_laws.specs.Dialect.{DialectMeaning}
+use Rattle.ic_laws.specs.Parse.{SpelledKind, node, Pair, pair_of}
 use Rattle.ic_laws.specs.Token.{Token}
-use Rattle.ic_laws.specs.Tree.{Spelled, sign_level, kind_level, level, is_empty_kind, is_empty, is_callable_kind, is_callable, height_step, height, brackets_step, open_brackets, spelled_names, IsLevelWell, IsPairWell}
+use Rattle.ic_laws.specs.Tree.{Spelled, sign_level, kind_level, level, is_empty_kind, is_empty, is_callable_kind, is_callable, height_step, height, brackets_step, open_brackets, spelled_names, IsKindWell, IsPairWell}
 use Rattle.ic_laws.specs.Yield.{PairTokens, yield_step, pair_step, yield}
 use Rattle.ic_laws.specs.declared.tree.BinarySign.{BinarySign}
 use Rattle.ic_laws.specs.declared.tree.BinarySign.TheVariants as signs
@@ -16,7 +16,7 @@ use Rattle.ic_laws.specs.declared.tree.Tree.TheOpen.{LetPair-F}
 use Rattle.ic_laws.specs.declared.tree.Tree.TheOpen as one
 
 -- P holds of each child of a level, and Q of each pair
-abbrev pub OfChildren : (Spelled → Type 0) → (Pair → Type 0) → Kind → Type 0
+abbrev pub OfChildren : (Spelled → Type 0) → (Pair → Type 0) → SpelledKind → Type 0
 OfChildren P Q (one.Paren x) = P x
 OfChildren P Q (one.Prefix sign x) = P x
 OfChildren P Q (one.Percent x) = P x
@@ -39,7 +39,7 @@ HeldPair Q = (pair : Pair) × Q pair
 abbrev HeldKind : (Spelled → Type 0) → (Pair → Type 0) → Type 0
 HeldKind P Q = Tree-F (Option (List ℕ)) (List ℕ) (Held P) (HeldPair Q)
 
-abbrev bare : (P : Spelled → Type 0) (Q : Pair → Type 0) → HeldKind P Q → Kind
+abbrev bare : (P : Spelled → Type 0) (Q : Pair → Type 0) → HeldKind P Q → SpelledKind
 bare P Q y = map-Tree (Option (List ℕ)) (List ℕ) (Held P) (HeldPair Q) Spelled Pair (λ e. e.0) (λ e. e.0) y
 
 all_held : {A : Type 0} (P : A → Type 0) (held : List ((a : A) × P a)) → AllByRecursion P (map (λ e. e.0) held)
@@ -67,7 +67,7 @@ of_held P Q (one.Apply x arguments) = (x.1, all_held P arguments)
 of_held P Q (one.Array rows) = tt
 
 -- what holds of a level when it holds of its children holds of every tree
-pub by_levels : (P : Spelled → Type 0) (Q : Pair → Type 0) → ((kind : Kind) → OfChildren P Q kind → P (node kind)) → ((variable : List ℕ) (value : Spelled) → P value → Q (pair_of variable value)) → (t : Spelled) → P t
+pub by_levels : (P : Spelled → Type 0) (Q : Pair → Type 0) → ((kind : SpelledKind) → OfChildren P Q kind → P (node kind)) → ((variable : List ℕ) (value : Spelled) → P value → Q (pair_of variable value)) → (t : Spelled) → P t
 by_levels P Q f g =
     ind-Tree (Option (List ℕ)) (List ℕ) P Q
     (λ x y e. subst (λ z. P (roll-Tree (Option (List ℕ)) (List ℕ) z)) e (f _ (of_held P Q y)))
@@ -78,7 +78,7 @@ all_with : {A : Type 0} (P : A → Type 0) (xs : List A) → AllByRecursion P xs
 all_with P [] h = ([], refl)
 all_with P (x ∷ xs) h = let more = all_with P xs h.1 in ((x, h.0) ∷ more.0, ap (λ ys. x ∷ ys) more.1)
 
-with_facts : (P : Spelled → Type 0) (Q : Pair → Type 0) (kind : Kind) → OfChildren P Q kind → (y : HeldKind P Q) × (bare P Q y ≡ kind)
+with_facts : (P : Spelled → Type 0) (Q : Pair → Type 0) (kind : SpelledKind) → OfChildren P Q kind → (y : HeldKind P Q) × (bare P Q y ≡ kind)
 with_facts P Q (one.Num x) h = (one.Num x, refl)
 with_facts P Q (one.Str x) h = (one.Str x, refl)
 with_facts P Q (one.Bool x) h = (one.Bool x, refl)
@@ -92,81 +92,81 @@ with_facts P Q (one.Percent x) h = (one.Percent (x, h), refl)
 with_facts P Q (one.Spill x) h = (one.Spill (x, h), refl)
 with_facts P Q (one.Binary sign a b) h = (one.Binary sign (a, h.0) (b, h.1), refl)
 with_facts P Q (one.Fun number arguments) h =
-    let held = all_with P arguments h in (one.Fun number held.0, ap (λ (xs : List Spelled). let k : Kind = one.Fun number xs in k) held.1)
+    let held = all_with P arguments h in (one.Fun number held.0, ap (λ (xs : List Spelled). let k : SpelledKind = one.Fun number xs in k) held.1)
 with_facts P Q (one.Call word arguments) h =
-    let held = all_with P arguments h in (one.Call word held.0, ap (λ (xs : List Spelled). let k : Kind = one.Call word xs in k) held.1)
+    let held = all_with P arguments h in (one.Call word held.0, ap (λ (xs : List Spelled). let k : SpelledKind = one.Call word xs in k) held.1)
 with_facts P Q (one.Let pairs body) h =
-    let held = all_with Q pairs h.0 in (one.Let held.0 (body, h.1), ap (λ (xs : List Pair). let k : Kind = one.Let xs body in k) held.1)
+    let held = all_with Q pairs h.0 in (one.Let held.0 (body, h.1), ap (λ (xs : List Pair). let k : SpelledKind = one.Let xs body in k) held.1)
 with_facts P Q (one.Lambda parameters body) h = (one.Lambda parameters (body, h), refl)
 with_facts P Q (one.Apply x arguments) h =
-    let held = all_with P arguments h.1 in (one.Apply (x, h.0) held.0, ap (λ (xs : List Spelled). let k : Kind = one.Apply x xs in k) held.1)
+    let held = all_with P arguments h.1 in (one.Apply (x, h.0) held.0, ap (λ (xs : List Spelled). let k : SpelledKind = one.Apply x xs in k) held.1)
 with_facts P Q (one.Array rows) h = (one.Array rows, refl)
 
 -- each level and each pair of a tree is well-formed
-abbrev pub WellKind : Notation → Kind → Type 0
-WellKind d = IsLevelWell spelled_names d.let_fn d.lambda_fn
+abbrev pub WellKind : DialectMeaning → SpelledKind → Type 0
+WellKind d = IsKindWell spelled_names d.let_fn d.lambda_fn
 
-abbrev pub AllWell : Notation → Spelled → Type 0
+abbrev pub AllWell : DialectMeaning → Spelled → Type 0
 AllWell d t = every-Tree (Option (List ℕ)) (List ℕ) (WellKind d) IsPairWell t
 
-abbrev pub PairAllWell : Notation → Pair → Type 0
+abbrev pub PairAllWell : DialectMeaning → Pair → Type 0
 PairAllWell d pair = every-LetPair (Option (List ℕ)) (List ℕ) (WellKind d) IsPairWell pair
 
-pub well_here : (d : Notation) (kind : Kind) → AllWell d (node kind) → WellKind d kind
+pub well_here : (d : DialectMeaning) (kind : SpelledKind) → AllWell d (node kind) → WellKind d kind
 well_here d kind h =
     subst (WellKind d) (out-roll-Tree (Option (List ℕ)) (List ℕ) kind) (every_here-Tree (Option (List ℕ)) (List ℕ) (WellKind d) IsPairWell (node kind) h)
 
-pub well_below : (d : Notation) (kind : Kind) → AllWell d (node kind) → OfChildren (AllWell d) (PairAllWell d) kind
+pub well_below : (d : DialectMeaning) (kind : SpelledKind) → AllWell d (node kind) → OfChildren (AllWell d) (PairAllWell d) kind
 well_below d kind h =
     let held = every_held-Tree (Option (List ℕ)) (List ℕ) (WellKind d) IsPairWell (node kind) h in
     subst (OfChildren (AllWell d) (PairAllWell d)) (held.1 ∙ out-roll-Tree (Option (List ℕ)) (List ℕ) kind) (of_held (AllWell d) (PairAllWell d) held.0)
 
-pub well_made : (d : Notation) (kind : Kind) → WellKind d kind → OfChildren (AllWell d) (PairAllWell d) kind → AllWell d (node kind)
+pub well_made : (d : DialectMeaning) (kind : SpelledKind) → WellKind d kind → OfChildren (AllWell d) (PairAllWell d) kind → AllWell d (node kind)
 well_made d kind here below =
     let held = with_facts (AllWell d) (PairAllWell d) kind below in
     every_made-Tree (Option (List ℕ)) (List ℕ) (WellKind d) IsPairWell kind held.0 held.1 here
 
 -- the tokens of a pair
-abbrev pub pair_tokens : Notation → Pair → PairTokens
+abbrev pub pair_tokens : DialectMeaning → Pair → PairTokens
 pair_tokens d pair = record { variable = pair.variable; value = yield d pair.value }
 
 -- a level with the tokens of each child in its place, and with a number for each child
-abbrev pub with_tokens : Notation → Kind → Tree-F (Option (List ℕ)) (List ℕ) (List Token) PairTokens
+abbrev pub with_tokens : DialectMeaning → SpelledKind → Tree-F (Option (List ℕ)) (List ℕ) (List Token) PairTokens
 with_tokens d kind = map-Tree (Option (List ℕ)) (List ℕ) Spelled Pair (List Token) PairTokens (yield d) (pair_tokens d) kind
 
-abbrev pub with_numbers : (Spelled → ℕ) → Kind → Tree-F (Option (List ℕ)) (List ℕ) ℕ ℕ
+abbrev pub with_numbers : (Spelled → ℕ) → SpelledKind → Tree-F (Option (List ℕ)) (List ℕ) ℕ ℕ
 with_numbers count kind = map-Tree (Option (List ℕ)) (List ℕ) Spelled Pair ℕ ℕ count (λ pair. count pair.value) kind
 
 -- what the functions of trees answer at a level
-pub yield-node : (d : Notation) (kind : Kind) → yield d (node kind) ≡ yield_step d (with_tokens d kind)
+pub yield-node : (d : DialectMeaning) (kind : SpelledKind) → yield d (node kind) ≡ yield_step d (with_tokens d kind)
 yield-node d kind =
     fold-roll-Tree (Option (List ℕ)) (List ℕ) (List Token) PairTokens (yield_step d) pair_step kind
     ∙ ap (λ (g : Pair → PairTokens). yield_step d (map-Tree (Option (List ℕ)) (List ℕ) Spelled Pair (List Token) PairTokens (yield d) g kind))
     (fun_ext (λ pair. fold-roll-LetPair (Option (List ℕ)) (List ℕ) (List Token) PairTokens (yield_step d) pair_step (record { variable = pair.variable; value = pair.value })))
 
-pub height-node : (kind : Kind) → height (node kind) ≡ height_step (with_numbers height kind)
+pub height-node : (kind : SpelledKind) → height (node kind) ≡ height_step (with_numbers height kind)
 height-node kind =
     fold-roll-Tree (Option (List ℕ)) (List ℕ) ℕ ℕ height_step (λ pair. pair.value) kind
     ∙ ap (λ (g : Pair → ℕ). height_step (map-Tree (Option (List ℕ)) (List ℕ) Spelled Pair ℕ ℕ height g kind))
     (fun_ext (λ pair. fold-roll-LetPair (Option (List ℕ)) (List ℕ) ℕ ℕ height_step (λ pair. pair.value) (record { variable = pair.variable; value = pair.value })))
 
-pub brackets-node : (kind : Kind) → open_brackets (node kind) ≡ brackets_step (with_numbers open_brackets kind)
+pub brackets-node : (kind : SpelledKind) → open_brackets (node kind) ≡ brackets_step (with_numbers open_brackets kind)
 brackets-node kind =
     fold-roll-Tree (Option (List ℕ)) (List ℕ) ℕ ℕ brackets_step (λ pair. pair.value) kind
     ∙ ap (λ (g : Pair → ℕ). brackets_step (map-Tree (Option (List ℕ)) (List ℕ) Spelled Pair ℕ ℕ open_brackets g kind))
     (fun_ext (λ pair. fold-roll-LetPair (Option (List ℕ)) (List ℕ) ℕ ℕ brackets_step (λ pair. pair.value) (record { variable = pair.variable; value = pair.value })))
 
-pub level-node : (kind : Kind) → level (node kind) ≡ kind_level kind
+pub level-node : (kind : SpelledKind) → level (node kind) ≡ kind_level kind
 level-node kind = ap (kind_level {S = Option (List ℕ)} {W = List ℕ}) (out-roll-Tree (Option (List ℕ)) (List ℕ) kind)
 
-pub empty-node : (kind : Kind) → is_empty (node kind) ≡ is_empty_kind kind
+pub empty-node : (kind : SpelledKind) → is_empty (node kind) ≡ is_empty_kind kind
 empty-node kind = ap (is_empty_kind {S = Option (List ℕ)} {W = List ℕ}) (out-roll-Tree (Option (List ℕ)) (List ℕ) kind)
 
-pub callable-node : (kind : Kind) → is_callable (node kind) ≡ is_callable_kind kind
+pub callable-node : (kind : SpelledKind) → is_callable (node kind) ≡ is_callable_kind kind
 callable-node kind = ap (is_callable_kind {S = Option (List ℕ)} {W = List ℕ}) (out-roll-Tree (Option (List ℕ)) (List ℕ) kind)
 
 -- each tree is the tree of a level
-pub node_of : (t : Spelled) → (kind : Kind) × (node kind ≡ t)
+pub node_of : (t : Spelled) → (kind : SpelledKind) × (node kind ≡ t)
 node_of t = (out-Tree (Option (List ℕ)) (List ℕ) t, roll-out-Tree (Option (List ℕ)) (List ℕ) t)
 
 -- a level is at least 1, and so is a height
@@ -187,7 +187,7 @@ level_positive t = at_kind (out-Tree (Option (List ℕ)) (List ℕ) t)
     at_sign signs.Over = omega arith
     at_sign signs.Power = omega arith
 
-    at_kind : (kind : Kind) → 1 ≤ kind_level kind
+    at_kind : (kind : SpelledKind) → 1 ≤ kind_level kind
     at_kind (one.Binary sign a b) = at_sign sign
     at_kind (one.Prefix sign x) = omega arith
     at_kind (one.Percent x) = omega arith
@@ -200,7 +200,7 @@ height_positive t =
     let at = node_of t in
     subst (λ (u : Spelled). 1 ≤ height u) at.1 (subst (λ (n : ℕ). 1 ≤ n) (sym (height-node at.0)) (at_kind at.0))
   where
-    at_kind : (kind : Kind) → 1 ≤ height_step (with_numbers height kind)
+    at_kind : (kind : SpelledKind) → 1 ≤ height_step (with_numbers height kind)
     at_kind (one.Paren x) = omega arith
     at_kind (one.Prefix sign x) = omega arith
     at_kind (one.Percent x) = omega arith
@@ -214,13 +214,13 @@ height_positive t =
     at_kind kind = omega arith
 
 -- an argument that is left out has no tokens
-pub empty_yields : (d : Notation) (t : Spelled) → is_empty t ≡ true → yield d t ≡ []
+pub empty_yields : (d : DialectMeaning) (t : Spelled) → is_empty t ≡ true → yield d t ≡ []
 empty_yields d t h =
     let at = node_of t in
     subst (λ (u : Spelled). yield d u ≡ []) at.1
     (yield-node d at.0 ∙ at_kind at.0 (sym (empty-node at.0) ∙ subst (λ (u : Spelled). is_empty u ≡ true) (sym at.1) h))
   where
-    at_kind : (kind : Kind) → is_empty_kind kind ≡ true → yield_step d (with_tokens d kind) ≡ []
+    at_kind : (kind : SpelledKind) → is_empty_kind kind ≡ true → yield_step d (with_tokens d kind) ≡ []
     at_kind one.Empty e = refl
     at_kind kind e = cc
 
@@ -228,20 +228,20 @@ empty_yields d t h =
 pub empty_is : (t : Spelled) → is_empty t ≡ true → t ≡ node one.Empty
 empty_is t h = let at = node_of t in sym at.1 ∙ ap node (at_kind at.0 (sym (empty-node at.0) ∙ subst (λ (u : Spelled). is_empty u ≡ true) (sym at.1) h))
   where
-    at_kind : (kind : Kind) → is_empty_kind kind ≡ true → kind ≡ one.Empty
+    at_kind : (kind : SpelledKind) → is_empty_kind kind ≡ true → kind ≡ one.Empty
     at_kind one.Empty e = refl
     at_kind kind e = cc
 
 -- the same of a pair
-pub pair_here : (d : Notation) (pair : Pair) → PairAllWell d pair → (is_variable pair.variable ≡ true) × (is_empty pair.value ≡ false)
+pub pair_here : (d : DialectMeaning) (pair : Pair) → PairAllWell d pair → (is_variable pair.variable ≡ true) × (is_empty pair.value ≡ false)
 pair_here d pair h = let here = every_here-LetPair (Option (List ℕ)) (List ℕ) (WellKind d) IsPairWell pair h in (here.variable, here.value)
 
-pub pair_below : (d : Notation) (pair : Pair) → PairAllWell d pair → AllWell d pair.value
+pub pair_below : (d : DialectMeaning) (pair : Pair) → PairAllWell d pair → AllWell d pair.value
 pair_below d pair h =
     let held = every_held-LetPair (Option (List ℕ)) (List ℕ) (WellKind d) IsPairWell pair h in
     subst (AllWell d) (ap (λ (p : LetPair-F (Option (List ℕ)) (List ℕ) Spelled Pair). p.value) held.1) held.0.value.1
 
-pub pair_made : (d : Notation) (variable : List ℕ) (value : Spelled) → is_variable variable ≡ true → is_empty value ≡ false → AllWell d value → PairAllWell d (pair_of variable value)
+pub pair_made : (d : DialectMeaning) (variable : List ℕ) (value : Spelled) → is_variable variable ≡ true → is_empty value ≡ false → AllWell d value → PairAllWell d (pair_of variable value)
 pair_made d variable value good there well =
     every_made-LetPair (Option (List ℕ)) (List ℕ) (WellKind d) IsPairWell (record { variable = variable; value = value })
     (record { variable = variable; value = (value, well) }) refl (record { variable = good; value = there })

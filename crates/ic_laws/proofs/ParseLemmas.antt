@@ -4,8 +4,8 @@ use Rattle.std.proofs.Common.{◌≡◌, ◌≢◌, inl, inr, ℕ, zero, suc, Li
 use Rattle.std.proofs.lemmas.Bool.{cases_Bool}
 use Rattle.std.proofs.lemmas.Option.{same_Some, option_and_then_some}
 use Rattle.std.specs.List.{AllByRecursion}
-use Rattle.ic_laws.specs.Notation.{Notation}
-use Rattle.ic_laws.specs.Parse.{Kind, node, Pair, pair_of, Reader, reader, nothing_behind, parsed}
+use Rattle.ic_laws.specs.Dialect.{DialectMeaning}
+use Rattle.ic_laws.specs.Parse.{SpelledKind, node, Pair, pair_of, Reader, reader, nothing_behind, parsed}
 use Rattle.ic_laws.specs.Reading.{IsWell}
 use Rattle.ic_laws.specs.Token.{Token}
 use Rattle.ic_laws.specs.Tree.{Spelled, is_empty}
@@ -19,29 +19,29 @@ use Rattle.ic_laws.proofs.Soundness.{Good, Sound}
 use Rattle.ic_laws.proofs.SoundOperands.{expression_sound}
 
 -- what is well-formed, and there, is read back
-abbrev Reads : Notation → Spelled → Type 0
+abbrev Reads : DialectMeaning → Spelled → Type 0
 Reads d t = AllWell d t → is_empty t ≡ false → Complete d t
 
-abbrev ReadsPair : Notation → Pair → Type 0
+abbrev ReadsPair : DialectMeaning → Pair → Type 0
 ReadsPair d pair = PairAllWell d pair → PairWide d pair
 
-arguments_wide : (d : Notation) (ts : List Spelled) → AllByRecursion (Reads d) ts → AllByRecursion (AllWell d) ts → AllByRecursion (ArgumentWide d) ts
+arguments_wide : (d : DialectMeaning) (ts : List Spelled) → AllByRecursion (Reads d) ts → AllByRecursion (AllWell d) ts → AllByRecursion (ArgumentWide d) ts
 arguments_wide d [] reads well = tt
 arguments_wide d (t ∷ ts) reads well =
     let first : ArgumentWide d t = elim (cases_Bool (is_empty t)) [ inl h ↦ inl h | inr h ↦ let whole : Complete d t = reads.0 well.0 h in inr whole.wide ] in
     (first, arguments_wide d ts reads.1 well.1)
 
-pairs_wide : (d : Notation) (pairs : List Pair) → AllByRecursion (ReadsPair d) pairs → AllByRecursion (PairAllWell d) pairs → AllByRecursion (PairWide d) pairs
+pairs_wide : (d : DialectMeaning) (pairs : List Pair) → AllByRecursion (ReadsPair d) pairs → AllByRecursion (PairAllWell d) pairs → AllByRecursion (PairWide d) pairs
 pairs_wide d [] reads well = tt
 pairs_wide d (pair ∷ pairs) reads well = (reads.0 well.0, pairs_wide d pairs reads.1 well.1)
 
-reads_pair : (d : Notation) (variable : List ℕ) (value : Spelled) → Reads d value → ReadsPair d (pair_of variable value)
+reads_pair : (d : DialectMeaning) (variable : List ℕ) (value : Spelled) → Reads d value → ReadsPair d (pair_of variable value)
 reads_pair d variable value reads well =
     let here = pair_here d (pair_of variable value) well in
     let whole : Complete d value = reads (pair_below d (pair_of variable value) well) here.1 in
     (here.0, whole.wide)
 
-reads_kind : (d : Notation) → d.let_fn ≢ d.lambda_fn → (kind : Kind) → OfChildren (Reads d) (ReadsPair d) kind → WellKind d kind → OfChildren (AllWell d) (PairAllWell d) kind → is_empty (node kind) ≡ false → Complete d (node kind)
+reads_kind : (d : DialectMeaning) → d.let_fn ≢ d.lambda_fn → (kind : SpelledKind) → OfChildren (Reads d) (ReadsPair d) kind → WellKind d kind → OfChildren (AllWell d) (PairAllWell d) kind → is_empty (node kind) ≡ false → Complete d (node kind)
 reads_kind d differ (one.Num units) reads here below there = complete-Num d units here
 reads_kind d differ (one.Str text) reads here below there = complete-Str d text
 reads_kind d differ (one.Bool value) reads here below there = complete-Bool d value
@@ -66,28 +66,28 @@ reads_kind d differ (one.Lambda parameters body) reads here below there =
 reads_kind d differ (one.Apply x ts) reads here below there = complete-Apply d x ts here (reads.0 below.0 here.parts) (arguments_wide d ts reads.1 below.1)
 reads_kind d differ (one.Array rows) reads here below there = complete-Array d rows here
 
-reads_all : (d : Notation) → d.let_fn ≢ d.lambda_fn → (t : Spelled) → Reads d t
+reads_all : (d : DialectMeaning) → d.let_fn ≢ d.lambda_fn → (t : Spelled) → Reads d t
 reads_all d differ =
     by_levels (Reads d) (ReadsPair d) (λ kind reads well there. reads_kind d differ kind reads (well_here d kind well) (well_below d kind well) there)
     (λ variable value reads. reads_pair d variable value reads)
 
 -- a well-formed tree is read from its tokens
-pub parsed_complete : (d : Notation) (t : Spelled) → d.let_fn ≢ d.lambda_fn → IsWell d t → parsed d (yield d t) ≡ Some t
+pub parsed_complete : (d : DialectMeaning) (t : Spelled) → d.let_fn ≢ d.lambda_fn → IsWell d t → parsed d (yield d t) ≡ Some t
 unfolding parsed
 parsed_complete d t differ well =
-    let whole : Complete d t = reads_all d differ t well.levels well.there in
+    let whole : Complete d t = reads_all d differ t well.nodes well.there in
     let reads : ReadsBack d 1024 128 t = back d t whole.wide 1024 128 well.low well.few_brackets in
     let read : reader d 1024 128 1 (yield d t ++ []) ≡ Some (t, []) = reads.reads 1 [] (level_positive t) tt in
     let same : reader d 1024 128 1 (yield d t) ≡ Some (t, []) = subst (λ (ts : List Token). reader d 1024 128 1 ts ≡ Some (t, [])) (append-nil (yield d t)) read in
     rw same refl
 
 -- well-formed trees with the same tokens are equal
-pub yield_injective : (d : Notation) (s t : Spelled) → d.let_fn ≢ d.lambda_fn → IsWell d s → IsWell d t → yield d s ≡ yield d t → s ≡ t
+pub yield_injective : (d : DialectMeaning) (s t : Spelled) → d.let_fn ≢ d.lambda_fn → IsWell d s → IsWell d t → yield d s ≡ yield d t → s ≡ t
 yield_injective d s t differ well_s well_t same =
     same_Some s t (sym (parsed_complete d s differ well_s) ∙ (ap (parsed d) same ∙ parsed_complete d t differ well_t))
 
 -- a reader of lower trees reads no higher ones
-sound_higher : (d : Notation) (most : ℕ) (below : Reader) → Sound d most below → Sound d (suc most) below
+sound_higher : (d : DialectMeaning) (most : ℕ) (below : Reader) → Sound d most below → Sound d (suc most) below
 sound_higher d most below sound = record {
   good = λ b least ts read le e.
       let good : Good d most b least ts read = sound.good b least ts read le e in
@@ -95,13 +95,13 @@ sound_higher d most below sound = record {
   no_sign = sound.no_sign;
 }
 
-pub reader_sound : (d : Notation) (most : ℕ) → Sound d most (reader d most)
+pub reader_sound : (d : DialectMeaning) (most : ℕ) → Sound d most (reader d most)
 unfolding reader
 reader_sound d zero = record { good = λ b least ts read le e. cc; no_sign = λ b least ts read le e. cc }
 reader_sound d (suc most) = expression_sound d (suc most) (reader d most) (sound_higher d most (reader d most) (reader_sound d most))
 
 -- what is read from a list of tokens is a well-formed tree whose tokens those are
-pub parsed_sound : (d : Notation) (ts : List Token) (t : Spelled) → parsed d ts ≡ Some t → IsWell d t × (yield d t ≡ ts)
+pub parsed_sound : (d : DialectMeaning) (ts : List Token) (t : Spelled) → parsed d ts ≡ Some t → IsWell d t × (yield d t ≡ ts)
 unfolding parsed
 parsed_sound d ts t e = option_and_then_some _ (reader d 1024 128 1 ts) t e (λ read got h. at read.0 read.1 got h)
   where
@@ -112,7 +112,7 @@ parsed_sound d ts t e = option_and_then_some _ (reader d 1024 128 1 ts) t e (λ 
     at u [] got h =
         let good : Good d 1024 128 1 ts (u, []) = sound.good 128 1 ts (u, []) (omega arith) got in
         subst (λ (v : Spelled). IsWell d v × (yield d v ≡ ts)) (same_Some u t h) (
-          record { levels = good.well; there = good.there; few_brackets = good.few; low = good.low },
+          record { nodes = good.well; there = good.there; few_brackets = good.few; low = good.low },
           sym (good.tokens ∙ append-nil (yield d u)),
         )
     at u (token ∷ rest) got h = cc

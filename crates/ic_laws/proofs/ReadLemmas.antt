@@ -2,8 +2,8 @@
 use Rattle.std.proofs.Common.{◌≡◌, ℕ, zero, suc, ◌<◌, ◌≤◌, List, [], ◌∷◌, ◌++◌, length, length-append, append_assoc, Option, Some, None, Bool, true, false, refl, map, arith}
 use Rattle.std.proofs.lemmas.Bool.{le-leb, lt-leb}
 use Rattle.std.specs.List.{AllByRecursion}
-use Rattle.ic_laws.specs.Notation.{Notation}
-use Rattle.ic_laws.specs.Parse.{Kind, node, Read, Reader, made, made_if, past_close, listed, ends_argument, turns, postfix, binary, primary, prefix_sign, operand, expression, reader}
+use Rattle.ic_laws.specs.Dialect.{DialectMeaning}
+use Rattle.ic_laws.specs.Parse.{SpelledKind, node, Read, Reader, made, made_if, past_close, listed, ends_argument, turns, postfix, binary, primary, prefix_sign, operand, expression, reader}
 use Rattle.ic_laws.specs.Token.{Token, Separator, Operator, Percent, Hash, Open, Close}
 use Rattle.ic_laws.specs.Tree.{Spelled, sign_level, height}
 use Rattle.ic_laws.specs.Yield.{joined}
@@ -24,10 +24,10 @@ Ends-more a b (Hash ∷ rest) le h = h
 Ends-more a b (Open ∷ rest) le h = h
 Ends-more a b ts le h = tt
 
-pub made_takes : (most : ℕ) (kind : Kind) (rest : List Token) → height (node kind) ≤ most → made most kind rest ≡ Some (node kind, rest)
+pub made_takes : (most : ℕ) (kind : SpelledKind) (rest : List Token) → height (node kind) ≤ most → made most kind rest ≡ Some (node kind, rest)
 made_takes most kind rest low = rw (le-leb (height (node kind)) most low) refl
 
-pub made_if_takes : (good : Bool) (most : ℕ) (kind : Kind) (rest : List Token) → good ≡ true → height (node kind) ≤ most → made_if good most kind rest ≡ Some (node kind, rest)
+pub made_if_takes : (good : Bool) (most : ℕ) (kind : SpelledKind) (rest : List Token) → good ≡ true → height (node kind) ≤ most → made_if good most kind rest ≡ Some (node kind, rest)
 made_if_takes good most kind rest h low = rw h (made_takes most kind rest low)
 
 pub turns_stop : (turn : Spelled → List Token → Option (Read Spelled)) (fuel : ℕ) (left : Spelled) (ts : List Token) → turn left ts ≡ None → turns turn (suc fuel) left ts ≡ Some (left, ts)
@@ -50,16 +50,16 @@ unfolding binary
 binary_stops most below b least left (Operator sign ∷ rest) h = rw (lt-leb least (sign_level sign) h) refl
 binary_stops most below b least left ts h = refl
 
-pub reader-zero : (d : Notation) (b least : ℕ) (ts : List Token) → reader d zero b least ts ≡ None
+pub reader-zero : (d : DialectMeaning) (b least : ℕ) (ts : List Token) → reader d zero b least ts ≡ None
 unfolding reader
 reader-zero d b least ts = refl
 
-pub reader_nothing : (d : Notation) (most b least : ℕ) → reader d (suc most) b least [] ≡ None
+pub reader_nothing : (d : DialectMeaning) (most b least : ℕ) → reader d (suc most) b least [] ≡ None
 unfolding reader expression operand
 reader_nothing d most b least = refl
 
 -- what is read has begun with no end of an argument
-pub reader_begins : (d : Notation) (most b least : ℕ) (ts : List Token) (read : Spelled × List Token) → reader d most b least ts ≡ Some read → ends_argument ts ≡ false
+pub reader_begins : (d : DialectMeaning) (most b least : ℕ) (ts : List Token) (read : Spelled × List Token) → reader d most b least ts ≡ Some read → ends_argument ts ≡ false
 unfolding reader expression operand primary prefix_sign
 reader_begins d zero b least (Separator ∷ rest) read e = cc
 reader_begins d (suc most) b least (Separator ∷ rest) read e = cc

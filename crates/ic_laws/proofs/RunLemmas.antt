@@ -6,7 +6,7 @@ use Rattle.std.proofs.lemmas.Bool.{cases_Bool}
 use Rattle.std.proofs.lemmas.Bool.Decides.{nat_tests}
 use Rattle.std.proofs.lemmas.List.{append_cancel_right, length-append, take_at}
 use Rattle.std.proofs.lemmas.Str.{chars-append, encodes-chars, encodes-append, IsUtf8-take, IsCharBoundary-at_seam}
-use Rattle.ic_laws.specs.Name.{EndsWith, run_of, past_run, is_digit}
+use Rattle.ic_laws.specs.Scan.{EndsWith, run_of, past_run, is_digit}
 
 -- a text that ends with another by its characters does so by its bytes
 pub bytes_end : (text rest front : List ℕ) → IsUtf8 text → IsUtf8 rest → chars text ≡ front ++ chars rest → text ≡ encode_utf8_all front ++ rest

@@ -5,9 +5,9 @@ use Rattle.std.specs.Str.{IsCharBoundary}
 use Rattle.std.proofs.lemmas.Bool.Decides.{nat_tests}
 use Rattle.std.proofs.lemmas.List.{append-nil}
 use Rattle.std.proofs.lemmas.Str.{length-encode}
-use Rattle.ic_laws.specs.Notation.{FindsErrorAt, error_number}
-use Rattle.ic_laws.specs.Smallest.{count, numbered, number_below, smallest}
-use Rattle.ic_laws.specs.SmallestLaws.{found, finds}
+use Rattle.ic_laws.specs.Dialect.{FindsErrorAt, error_number}
+use Rattle.ic_laws.proofs.Smallest.{count, numbered, number_below, smallest}
+use Rattle.ic_laws.proofs.SmallestLaws.{found, finds}
 use Rattle.ic_laws.specs.declared.dialect.WordKind.{WordKind}
 use Rattle.ic_laws.specs.declared.dialect.WordKind.TheVariants as kinds
 use Rattle.ic_laws.specs.declared.tree.Error.{Error}

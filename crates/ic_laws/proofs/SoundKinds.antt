@@ -4,7 +4,7 @@ use Rattle.std.specs.Prelude.{ℤ}
 use Rattle.std.proofs.lemmas.Bool.{and_parts, cases_Bool, eqb-true, eqb-false}
 use Rattle.std.proofs.lemmas.Option.{option_and_then_some}
 use Rattle.ic_laws.specs.Name.{is_variable}
-use Rattle.ic_laws.specs.Notation.{Notation}
+use Rattle.ic_laws.specs.Dialect.{DialectMeaning}
 use Rattle.ic_laws.specs.Parse.{Pair, Read, Reader, made, made_if, past_close, past_brace, past_row_sign, followed, listed, arguments, let_parts, lambda_parts, let_call, lambda_call, function_call, name_call, bracketed, row, array, opened, primary}
 use Rattle.ic_laws.specs.Position.{is_place_within}
 use Rattle.ic_laws.specs.Token.{Token, Num, Str, Boolean, Err, Ref, Word, FunHead, NameHead, Open, Close, OpenBrace, CloseBrace}
@@ -26,7 +26,7 @@ pub opened_some : {A P : Type 0} (b : ℕ) (inside : ℕ → Read A) (y : A × L
 opened_some zero inside y e so = cc
 opened_some (suc b) inside y e so = so b (omega arith) e
 
-module _ (d : Notation) (most : ℕ) (below : Reader) (sound : Sound d most below) where
+module _ (d : DialectMeaning) (most : ℕ) (below : Reader) (sound : Sound d most below) where
   good-Num : (b : ℕ) (units : ℤ) (rest : List Token) (read : Spelled × List Token) → made_if (is_unsigned units) most (one.Num units) rest ≡ Some read → Good d most b 7 (Num units ∷ rest) read
   good-Num b units rest read e = if_some (is_unsigned units) (made most (one.Num units) rest) read e (λ good h.
       good_made d most b 7 (one.Num units) (Num units ∷ rest) rest read (record {

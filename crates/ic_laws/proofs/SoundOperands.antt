@@ -2,7 +2,7 @@
 use Rattle.std.proofs.Common.{◌≡◌, ℕ, suc, ◌+◌, ◌<◌, ◌≤◌, List, [], ◌∷◌, ◌++◌, append_assoc, Option, Some, None, option_and_then, Bool, true, false, nat_le, refl, sym, ap, subst, ◌∙◌, map, arith, if◌then◌else◌}
 use Rattle.std.proofs.lemmas.Bool.{leb-true, leb-false}
 use Rattle.std.proofs.lemmas.Option.{same_Some, option_and_then_some}
-use Rattle.ic_laws.specs.Notation.{Notation}
+use Rattle.ic_laws.specs.Dialect.{DialectMeaning}
 use Rattle.ic_laws.specs.Parse.{node, Reader, made, arguments, primary, applied, postfix, postfixes, joined_by, binary, prefix_sign, prefixed, operand, expression}
 use Rattle.ic_laws.specs.Token.{Token, Separator, Operator, At, Percent, Hash, Open, Close}
 use Rattle.ic_laws.specs.Tree.{Spelled, sign_level, level, is_callable}
@@ -18,7 +18,7 @@ use Rattle.ic_laws.proofs.Soundness.{NoSign, NoSign-more, Good, Good-less, Sound
 use Rattle.ic_laws.proofs.SoundParts.{ArgumentsGood, arguments_sound}
 use Rattle.ic_laws.proofs.SoundKinds.{if_some, opened_some, primary_sound}
 
-module _ (d : Notation) (most : ℕ) (below : Reader) (sound : Sound d most below) where
+module _ (d : DialectMeaning) (most : ℕ) (below : Reader) (sound : Sound d most below) where
   percent_sound : (b : ℕ) (all : List Token) (left : Spelled) (ts : List Token) (read : Spelled × List Token) → Good d most b 7 all (left, Percent ∷ ts) → made most (one.Percent left) ts ≡ Some read → Good d most b 7 all read
   percent_sound b all left ts read good e =
       good_made d most b 7 (one.Percent left) all ts read (record {

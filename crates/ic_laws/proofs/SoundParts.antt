@@ -5,10 +5,10 @@ use Rattle.std.proofs.lemmas.Option.{same_Some, cond_some, option_and_then_some}
 use Rattle.std.specs.List.{AllByRecursion, list_all}
 use Rattle.ic_laws.specs.CoreBook.{greatest}
 use Rattle.ic_laws.specs.Name.{is_variable}
-use Rattle.ic_laws.specs.Notation.{Notation}
+use Rattle.ic_laws.specs.Dialect.{DialectMeaning}
 use Rattle.ic_laws.specs.Parse.{node, Pair, pair_of, Read, Reader, past_separator, past_close, followed, listed, ends_argument, argument, arguments, binder, let_parts, lambda_parts}
 use Rattle.ic_laws.specs.Token.{Token, Word, Separator, Close}
-use Rattle.ic_laws.specs.Tree.{Spelled, is_empty, are_arguments, open_brackets}
+use Rattle.ic_laws.specs.Tree.{Spelled, is_empty, is_argument_list, open_brackets}
 use Rattle.ic_laws.specs.Yield.{joined, yield}
 use Rattle.ic_laws.specs.declared.tree.Tree.TheOpen as one
 use Rattle.ic_laws.proofs.Nodes.{AllWell, PairAllWell, well_made, pair_made, yield-node, brackets-node, empty_yields}
@@ -16,10 +16,10 @@ use Rattle.ic_laws.proofs.CompleteParts.{let_tokens, lambda_tokens, let_tokens-c
 use Rattle.ic_laws.proofs.Soundness.{Good, Sound, option_map_some, followed_some, past_separator_some, past_close_some, ItemSound, ListSound, listed_sound}
 
 -- an argument that is read is well-formed, with few enough brackets
-abbrev pub ArgumentGood : Notation → ℕ → Spelled → Type 0
+abbrev pub ArgumentGood : DialectMeaning → ℕ → Spelled → Type 0
 ArgumentGood d b t = AllWell d t × (open_brackets t ≤ b)
 
-pub argument_sound : (d : Notation) (most : ℕ) (below : Reader) → Sound d most below → (b : ℕ) (ts : List Token) (read : Spelled × List Token) → argument below b ts ≡ Some read → (ts ≡ yield d read.0 ++ read.1) × ArgumentGood d b read.0
+pub argument_sound : (d : DialectMeaning) (most : ℕ) (below : Reader) → Sound d most below → (b : ℕ) (ts : List Token) (read : Spelled × List Token) → argument below b ts ≡ Some read → (ts ≡ yield d read.0 ++ read.1) × ArgumentGood d b read.0
 unfolding argument
 argument_sound d most below sound b ts read e = at (ends_argument ts) e
   where
@@ -30,7 +30,7 @@ argument_sound d most below sound b ts read e = at (ends_argument ts) e
     )
     at false h = let good : Good d most b 1 ts read = sound.good b 1 ts read (omega arith) h in (good.tokens, (good.well, good.few))
 
-arguments_item : (d : Notation) (most : ℕ) (below : Reader) → Sound d most below → (b : ℕ) → ItemSound (argument below b) past_separator Separator (yield d) (ArgumentGood d b)
+arguments_item : (d : DialectMeaning) (most : ℕ) (below : Reader) → Sound d most below → (b : ℕ) → ItemSound (argument below b) past_separator Separator (yield d) (ArgumentGood d b)
 arguments_item d most below sound b = record {
   tokens_of = λ ts read e. let found = argument_sound d most below sound b ts read e in found.0;
   holds = λ ts read e. let found = argument_sound d most below sound b ts read e in found.1;
@@ -38,7 +38,7 @@ arguments_item d most below sound b = record {
 }
 
 -- arguments that don't begin with the bracket that ends them aren't the one that is left out
-are_arguments_read : (d : Notation) (ts : List Spelled) (all : List Token) (rest : List Token) → past_close all ≡ None → all ≡ joined Separator (map (yield d) ts) ++ Close ∷ rest → are_arguments ts ≡ true
+are_arguments_read : (d : DialectMeaning) (ts : List Spelled) (all : List Token) (rest : List Token) → past_close all ≡ None → all ≡ joined Separator (map (yield d) ts) ++ Close ∷ rest → is_argument_list ts ≡ true
 are_arguments_read d [] all rest none e = refl
 are_arguments_read d (t ∷ []) all rest none e = elim (cases_Bool (is_empty t)) [
   | inl h ↦ let no : Some rest ≡ None = sym (ap (λ (xs : List Token). past_close (xs ++ Close ∷ rest)) (empty_yields d t h)) ∙ (sym (ap past_close e) ∙ none) in cc
@@ -46,21 +46,21 @@ are_arguments_read d (t ∷ []) all rest none e = elim (cases_Bool (is_empty t))
 ]
 are_arguments_read d (t ∷ u ∷ us) all rest none e = refl
 
-pub record ArgumentsGood (d : Notation) (b : ℕ) (ts : List Token) (read : List Spelled × List Token) : Type 0 where
+pub record ArgumentsGood (d : DialectMeaning) (b : ℕ) (ts : List Token) (read : List Spelled × List Token) : Type 0 where
   pub tokens : ts ≡ joined Separator (map (yield d) read.0) ++ Close ∷ [] ++ read.1
   pub well : AllByRecursion (AllWell d) read.0
   pub few : greatest (map open_brackets read.0) ≤ b
-  pub arguments : are_arguments read.0 ≡ true
+  pub arguments : is_argument_list read.0 ≡ true
 
-all_well : (d : Notation) (b : ℕ) (ts : List Spelled) → AllByRecursion (ArgumentGood d b) ts → AllByRecursion (AllWell d) ts
+all_well : (d : DialectMeaning) (b : ℕ) (ts : List Spelled) → AllByRecursion (ArgumentGood d b) ts → AllByRecursion (AllWell d) ts
 all_well d b [] all = tt
 all_well d b (t ∷ ts) all = (all.0.0, all_well d b ts all.1)
 
-all_few : (d : Notation) (b : ℕ) (ts : List Spelled) → AllByRecursion (ArgumentGood d b) ts → greatest (map open_brackets ts) ≤ b
+all_few : (d : DialectMeaning) (b : ℕ) (ts : List Spelled) → AllByRecursion (ArgumentGood d b) ts → greatest (map open_brackets ts) ≤ b
 all_few d b [] all = omega arith
 all_few d b (t ∷ ts) all = omega (arith, all.0.1, all_few d b ts all.1)
 
-pub arguments_sound : (d : Notation) (most : ℕ) (below : Reader) → Sound d most below → (b : ℕ) (ts : List Token) (read : List Spelled × List Token) → arguments below b ts ≡ Some read → ArgumentsGood d b ts read
+pub arguments_sound : (d : DialectMeaning) (most : ℕ) (below : Reader) → Sound d most below → (b : ℕ) (ts : List Token) (read : List Spelled × List Token) → arguments below b ts ≡ Some read → ArgumentsGood d b ts read
 unfolding arguments
 arguments_sound d most below sound b ts read e = at (past_close ts) refl e
   where
@@ -90,13 +90,13 @@ binder_some (Word name ∷ Separator ∷ rest) read e =
 binder_some ts read e = cc
 
 -- a body with the bracket behind it
-pub record BodyGood (d : Notation) (b : ℕ) (ts : List Token) (read : Spelled × List Token) : Type 0 where
+pub record BodyGood (d : DialectMeaning) (b : ℕ) (ts : List Token) (read : Spelled × List Token) : Type 0 where
   pub tokens : ts ≡ yield d read.0 ++ Close ∷ read.1
   pub well : AllWell d read.0
   pub there : is_empty read.0 ≡ false
   pub few : open_brackets read.0 ≤ b
 
-pub body_sound : (d : Notation) (most : ℕ) (below : Reader) → Sound d most below → (b : ℕ) (ts : List Token) (read : Spelled × List Token) → followed past_close (below b 1 ts) ≡ Some read → BodyGood d b ts read
+pub body_sound : (d : DialectMeaning) (most : ℕ) (below : Reader) → Sound d most below → (b : ℕ) (ts : List Token) (read : Spelled × List Token) → followed past_close (below b 1 ts) ≡ Some read → BodyGood d b ts read
 body_sound d most below sound b ts read e =
     followed_some past_close (below b 1 ts) read e (λ after got closed.
     let good : Good d most b 1 ts (read.0, after) = sound.good b 1 ts (read.0, after) (omega arith) got in
@@ -107,14 +107,14 @@ body_sound d most below sound b ts read e =
       few = good.few;
     })
 
-pub record LetGood (d : Notation) (b : ℕ) (ts : List Token) (read : (List Pair × Spelled) × List Token) : Type 0 where
+pub record LetGood (d : DialectMeaning) (b : ℕ) (ts : List Token) (read : (List Pair × Spelled) × List Token) : Type 0 where
   pub tokens : ts ≡ let_tokens d read.0.0 read.0.1 ++ Close ∷ read.1
   pub pairs : AllByRecursion (PairAllWell d) read.0.0
   pub well : AllWell d read.0.1
   pub there : is_empty read.0.1 ≡ false
   pub few : max (greatest (map (λ pair. open_brackets pair.value) read.0.0)) (open_brackets read.0.1) ≤ b
 
-let_more : (d : Notation) (most : ℕ) (below : Reader) → Sound d most below → (b : ℕ) (ts : List Token) (begun : List ℕ × List Token) (value : Spelled × List Token) (parts : (List Pair × Spelled) × List Token) → binder ts ≡ Some begun → followed past_separator (below b 1 begun.1) ≡ Some value → LetGood d b value.1 parts
+let_more : (d : DialectMeaning) (most : ℕ) (below : Reader) → Sound d most below → (b : ℕ) (ts : List Token) (begun : List ℕ × List Token) (value : Spelled × List Token) (parts : (List Pair × Spelled) × List Token) → binder ts ≡ Some begun → followed past_separator (below b 1 begun.1) ≡ Some value → LetGood d b value.1 parts
     → LetGood d b ts ((pair_of begun.0 value.0 ∷ parts.0.0, parts.0.1), parts.1)
 let_more d most below sound b ts begun value parts begins e more =
     followed_some past_separator (below b 1 begun.1) value e (λ after got behind.
@@ -131,7 +131,7 @@ let_more d most below sound b ts begun value parts begins e more =
       few = omega (arith, more.few, good.few);
     })
 
-pub let_parts_sound : (d : Notation) (most : ℕ) (below : Reader) → Sound d most below → (b fuel : ℕ) (ts : List Token) (read : (List Pair × Spelled) × List Token) → let_parts below b fuel ts ≡ Some read → LetGood d b ts read
+pub let_parts_sound : (d : DialectMeaning) (most : ℕ) (below : Reader) → Sound d most below → (b fuel : ℕ) (ts : List Token) (read : (List Pair × Spelled) × List Token) → let_parts below b fuel ts ≡ Some read → LetGood d b ts read
 unfolding let_parts
 let_parts_sound d most below sound b zero ts read e = cc
 let_parts_sound d most below sound b (suc fuel) ts read e = at (λ rest parts got. let_parts_sound d most below sound b fuel rest parts got) (binder ts) refl e
@@ -151,7 +151,7 @@ let_parts_sound d most below sound b (suc fuel) ts read e = at (λ rest parts go
         option_map_some _ (let_parts below b fuel value.1) read more (λ parts others same.
         subst (LetGood d b ts) same (let_more d most below sound b ts begun value parts is got (again value.1 parts others))))
 
-pub record LambdaGood (d : Notation) (b : ℕ) (ts : List Token) (read : (List (List ℕ) × Spelled) × List Token) : Type 0 where
+pub record LambdaGood (d : DialectMeaning) (b : ℕ) (ts : List Token) (read : (List (List ℕ) × Spelled) × List Token) : Type 0 where
   pub tokens : ts ≡ lambda_tokens d read.0.0 read.0.1 ++ Close ∷ read.1
   pub names : list_all is_variable read.0.0 ≡ true
   pub well : AllWell d read.0.1
@@ -161,7 +161,7 @@ pub record LambdaGood (d : Notation) (b : ℕ) (ts : List Token) (read : (List (
 pub both_hold : (a c : Bool) → a ≡ true → c ≡ true → (a && c) ≡ true
 both_hold a c p q = rw (p, q) refl
 
-lambda_more : (d : Notation) (b : ℕ) (ts : List Token) (begun : List ℕ × List Token) (parts : (List (List ℕ) × Spelled) × List Token) → binder ts ≡ Some begun → LambdaGood d b begun.1 parts → LambdaGood d b ts ((begun.0 ∷ parts.0.0, parts.0.1), parts.1)
+lambda_more : (d : DialectMeaning) (b : ℕ) (ts : List Token) (begun : List ℕ × List Token) (parts : (List (List ℕ) × Spelled) × List Token) → binder ts ≡ Some begun → LambdaGood d b begun.1 parts → LambdaGood d b ts ((begun.0 ∷ parts.0.0, parts.0.1), parts.1)
 lambda_more d b ts begun parts begins more =
     let start = binder_some ts begun begins in
     record {
@@ -172,7 +172,7 @@ lambda_more d b ts begun parts begins more =
       few = more.few;
     }
 
-pub lambda_parts_sound : (d : Notation) (most : ℕ) (below : Reader) → Sound d most below → (b fuel : ℕ) (ts : List Token) (read : (List (List ℕ) × Spelled) × List Token) → lambda_parts below b fuel ts ≡ Some read → LambdaGood d b ts read
+pub lambda_parts_sound : (d : DialectMeaning) (most : ℕ) (below : Reader) → Sound d most below → (b fuel : ℕ) (ts : List Token) (read : (List (List ℕ) × Spelled) × List Token) → lambda_parts below b fuel ts ≡ Some read → LambdaGood d b ts read
 unfolding lambda_parts
 lambda_parts_sound d most below sound b zero ts read e = cc
 lambda_parts_sound d most below sound b (suc fuel) ts read e = at (λ rest parts got. lambda_parts_sound d most below sound b fuel rest parts got) (binder ts) refl e

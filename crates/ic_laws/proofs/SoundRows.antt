@@ -4,7 +4,7 @@ use Rattle.std.proofs.lemmas.Bool.{and_parts}
 use Rattle.std.proofs.lemmas.Option.{same_Some, cond_some}
 use Rattle.std.specs.Prelude.{ℤ}
 use Rattle.std.specs.List.{AllByRecursion, list_all}
-use Rattle.ic_laws.specs.Notation.{Notation}
+use Rattle.ic_laws.specs.Dialect.{DialectMeaning}
 use Rattle.ic_laws.specs.Parse.{past_separator, past_brace, past_row_sign, followed, listed, amount_of, constant, row}
 use Rattle.ic_laws.specs.Token.{Token, Num, Str, Boolean, Err, Separator, Operator, CloseBrace, Semicolon}
 use Rattle.ic_laws.specs.Tree.{is_unsigned, is_unsigned_constant, has_constant}
@@ -74,7 +74,7 @@ row_good : (ts : List Token) (read : List Constant × List Token) → ListSound 
 row_good ts read list =
     both_hold (has_constant read.0) (list_all is_unsigned_constant read.0) (some_constant read.0 list.some) (all_hold is_unsigned_constant read.0 list.all)
 
-pub past_row_sign_some : (d : Notation) (ts rest : List Token) → past_row_sign d ts ≡ Some rest → ts ≡ row_sign d ∷ rest
+pub past_row_sign_some : (d : DialectMeaning) (ts rest : List Token) → past_row_sign d ts ≡ Some rest → ts ≡ row_sign d ∷ rest
 past_row_sign_some d (Semicolon ∷ after) rest e =
     let parts = cond_some (nat_eq d.list 44) after rest e in rw parts.0 (ap (λ (xs : List Token). Semicolon ∷ xs) parts.1)
 past_row_sign_some d (Operator signs.Over ∷ after) rest e = over (nat_eq d.list 44) e
@@ -84,7 +84,7 @@ past_row_sign_some d (Operator signs.Over ∷ after) rest e = over (nat_eq d.lis
     over false h = ap (λ (xs : List Token). Operator signs.Over ∷ xs) (same_Some after rest h)
 past_row_sign_some d ts rest e = cc
 
-rows_item : (d : Notation) → ItemSound row (past_row_sign d) (row_sign d) row_tokens RowGood
+rows_item : (d : DialectMeaning) → ItemSound row (past_row_sign d) (row_sign d) row_tokens RowGood
 rows_item d = record {
   tokens_of = λ ts read e. let list : ListSound _ _ _ _ _ ts read = row_list ts read e in list.whole;
   holds = λ ts read e. row_good ts read (row_list ts read e);
@@ -99,13 +99,13 @@ parts_hold (r ∷ rows) all =
     (both_hold (has_constant r) (list_all has_constant rows) here.0 more.0, both_hold (list_all is_unsigned_constant r) (list_all (list_all is_unsigned_constant) rows) here.1 more.1)
 
 -- the rows of an array with the brace behind them
-pub record RowsGood (d : Notation) (ts : List Token) (read : List (List Constant) × List Token) : Type 0 where
+pub record RowsGood (d : DialectMeaning) (ts : List Token) (read : List (List Constant) × List Token) : Type 0 where
   pub tokens : ts ≡ joined (row_sign d) (map row_tokens read.0) ++ CloseBrace ∷ read.1
   pub some : read.0 ≢ []
   pub constants : list_all has_constant read.0 ≡ true
   pub unsigned : list_all (list_all is_unsigned_constant) read.0 ≡ true
 
-pub rows_sound : (d : Notation) (ts : List Token) (read : List (List Constant) × List Token) → followed past_brace (listed row (past_row_sign d) (length ts) ts) ≡ Some read → RowsGood d ts read
+pub rows_sound : (d : DialectMeaning) (ts : List Token) (read : List (List Constant) × List Token) → followed past_brace (listed row (past_row_sign d) (length ts) ts) ≡ Some read → RowsGood d ts read
 rows_sound d ts read e =
     followed_some past_brace (listed row (past_row_sign d) (length ts) ts) read e (λ after got closed.
     let list : ListSound row (past_row_sign d) (row_sign d) row_tokens RowGood ts (read.0, after) =

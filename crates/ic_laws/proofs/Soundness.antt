@@ -3,8 +3,8 @@ use Rattle.std.proofs.Common.{◌≡◌, ◌≢◌, ℕ, zero, suc, ◌<◌, ◌
 use Rattle.std.proofs.lemmas.Bool.{leb-true}
 use Rattle.std.proofs.lemmas.Option.{same_Some, cond_some, option_and_then_some}
 use Rattle.std.specs.List.{AllByRecursion}
-use Rattle.ic_laws.specs.Notation.{Notation}
-use Rattle.ic_laws.specs.Parse.{Kind, node, Read, Reader, made, past_separator, past_close, past_brace, followed, listed, turns}
+use Rattle.ic_laws.specs.Dialect.{DialectMeaning}
+use Rattle.ic_laws.specs.Parse.{SpelledKind, node, Read, Reader, made, past_separator, past_close, past_brace, followed, listed, turns}
 use Rattle.ic_laws.specs.Token.{Token, Separator, Operator, Close, CloseBrace}
 use Rattle.ic_laws.specs.Tree.{Spelled, kind_level, sign_level, level, is_empty_kind, is_empty, height, brackets_step, open_brackets}
 use Rattle.ic_laws.specs.Yield.{joined, yield_step, yield}
@@ -20,7 +20,7 @@ NoSign-more a b (Operator sign ∷ rest) le h = omega arith
 NoSign-more a b ts le h = tt
 
 -- what is read is a tree whose tokens stood there, well-formed, there, low enough, with few enough brackets, tight enough
-pub record Good (d : Notation) (most b least : ℕ) (ts : List Token) (read : Spelled × List Token) : Type 0 where
+pub record Good (d : DialectMeaning) (most b least : ℕ) (ts : List Token) (read : Spelled × List Token) : Type 0 where
   pub tokens : ts ≡ yield d read.0 ++ read.1
   pub well : AllWell d read.0
   pub there : is_empty read.0 ≡ false
@@ -28,24 +28,24 @@ pub record Good (d : Notation) (most b least : ℕ) (ts : List Token) (read : Sp
   pub few : open_brackets read.0 ≤ b
   pub tight : least ≤ level read.0
 
-pub Good-less : (d : Notation) (most b less least : ℕ) (ts : List Token) (read : Spelled × List Token) → less ≤ least → Good d most b least ts read → Good d most b less ts read
+pub Good-less : (d : DialectMeaning) (most b less least : ℕ) (ts : List Token) (read : Spelled × List Token) → less ≤ least → Good d most b least ts read → Good d most b less ts read
 Good-less d most b less least ts read le good =
     record { tokens = good.tokens; well = good.well; there = good.there; low = good.low; few = good.few; tight = omega (arith, good.tight) }
 
 -- a reader gives what is good, and no sign that binds at least so tightly stands behind it
-pub record Sound (d : Notation) (most : ℕ) (below : Reader) : Type 0 where
+pub record Sound (d : DialectMeaning) (most : ℕ) (below : Reader) : Type 0 where
   pub good : (b least : ℕ) (ts : List Token) (read : Spelled × List Token) → least ≤ 6 → below b least ts ≡ Some read → Good d most b least ts read
   pub no_sign : (b least : ℕ) (ts : List Token) (read : Spelled × List Token) → least ≤ 6 → below b least ts ≡ Some read → NoSign least read.1
 
 -- what a level must meet to be taken
-pub record Fitting (d : Notation) (b least : ℕ) (kind : Kind) : Type 0 where
+pub record Fitting (d : DialectMeaning) (b least : ℕ) (kind : SpelledKind) : Type 0 where
   pub well : WellKind d kind
   pub below : OfChildren (AllWell d) (PairAllWell d) kind
   pub there : is_empty_kind kind ≡ false
   pub few : brackets_step (with_numbers open_brackets kind) ≤ b
   pub tight : least ≤ kind_level kind
 
-pub good_made : (d : Notation) (most b least : ℕ) (kind : Kind) (ts rest : List Token) (read : Spelled × List Token) → Fitting d b least kind → ts ≡ yield_step d (with_tokens d kind) ++ rest → made most kind rest ≡ Some read → Good d most b least ts read
+pub good_made : (d : DialectMeaning) (most b least : ℕ) (kind : SpelledKind) (ts rest : List Token) (read : Spelled × List Token) → Fitting d b least kind → ts ≡ yield_step d (with_tokens d kind) ++ rest → made most kind rest ≡ Some read → Good d most b least ts read
 good_made d most b least kind ts rest read fits tokens e =
     let parts = cond_some (nat_le (height (node kind)) most) (node kind, rest) read e in
     subst (Good d most b least ts) parts.1 (record {

@@ -83,12 +83,12 @@ abbrev pub reply_bytes : Reply → List ℕ
 reply_bytes reply = encode_utf8_all (reply_text reply) ++ 10 ∷ []
 
 -- a refused line changes nothing
-abbrev pub settled : CoreBook → Result (CoreBook × List (List ℕ)) Refusal → CoreBook × Reply
-settled book (Ok done) = (done.0, Ok done.1)
-settled book (Err refusal) = (book, Err refusal)
+abbrev pub outcome_of : CoreBook → Result (CoreBook × List (List ℕ)) Refusal → CoreBook × Reply
+outcome_of book (Ok done) = (done.0, Ok done.1)
+outcome_of book (Err refusal) = (book, Err refusal)
 
 abbrev pub command_step : CoreBook → Option Command → CoreBook × Reply
-command_step book (Some command) = settled book (core_step book command)
+command_step book (Some command) = outcome_of book (core_step book command)
 command_step book None = (book, Err BadLine)
 
 -- what one line leaves, and its reply

@@ -1,10 +1,11 @@
 -- How a list of tokens is read as a tree: by operands, with loops for the signs behind and between them.
 use Rattle.std.specs.Prelude.{ℕ, zero, suc, ◌+◌, List, [], ◌∷◌, length, Bool, true, false, ◌&&◌, Option, Some, None, option_map, option_and_then, nat_eq, nat_le, if◌then◌else◌}
+use Rattle.ic_laws.specs.Character.{comma}
 use Rattle.ic_laws.specs.Name.{is_variable}
-use Rattle.ic_laws.specs.Notation.{Notation}
+use Rattle.ic_laws.specs.Dialect.{DialectMeaning}
 use Rattle.ic_laws.specs.Position.{is_place_within}
 use Rattle.ic_laws.specs.Token.{Token, Num, Str, Boolean, Err, Ref, Word, FunHead, NameHead, Separator, Operator, At, Percent, Hash, Open, Close, OpenBrace, CloseBrace, Semicolon}
-use Rattle.ic_laws.specs.Tree.{Spelled, Level, sign_level, height, is_callable, is_called_name, is_written_sheet, is_unsigned}
+use Rattle.ic_laws.specs.Tree.{Spelled, Kind, sign_level, height, is_callable, is_called_name, is_written_sheet, is_unsigned}
 use Rattle.ic_laws.specs.declared.tree.BinarySign.{BinarySign}
 use Rattle.ic_laws.specs.declared.tree.BinarySign.TheVariants as signs
 use Rattle.ic_laws.specs.declared.tree.Constant.{Constant}
@@ -24,11 +25,11 @@ abbrev pub Reader : Type 0
 Reader = ℕ → ℕ → List Token → Read Spelled
 
 -- one level of a spelled tree
-abbrev pub Kind : Type 0
-Kind = Level (Option (List ℕ)) (List ℕ)
+abbrev pub SpelledKind : Type 0
+SpelledKind = Kind (Option (List ℕ)) (List ℕ)
 
 -- the tree of a level
-abbrev pub node : Kind → Spelled
+abbrev pub node : SpelledKind → Spelled
 node kind = roll-Tree (Option (List ℕ)) (List ℕ) kind
 
 -- a variable of LET with its value
@@ -40,11 +41,11 @@ abbrev pub pair_of : List ℕ → Spelled → Pair
 pair_of variable value = roll-LetPair (Option (List ℕ)) (List ℕ) (record { variable = variable; value = value })
 
 -- a tree is taken where it isn't too high
-abbrev pub made : ℕ → Kind → List Token → Read Spelled
+abbrev pub made : ℕ → SpelledKind → List Token → Read Spelled
 made most kind rest = if nat_le (height (node kind)) most then Some (node kind, rest) else None
 
 -- a leaf is taken where it is what it may be
-abbrev pub made_if : Bool → ℕ → Kind → List Token → Read Spelled
+abbrev pub made_if : Bool → ℕ → SpelledKind → List Token → Read Spelled
 made_if good most kind rest = if good then made most kind rest else None
 
 -- what stands behind a separator
@@ -63,9 +64,9 @@ past_brace (CloseBrace ∷ rest) = Some rest
 past_brace ts = None
 
 -- what stands behind the sign between two rows
-abbrev pub past_row_sign : Notation → List Token → Option (List Token)
-past_row_sign d (Semicolon ∷ rest) = if nat_eq d.list 44 then Some rest else None
-past_row_sign d (Operator signs.Over ∷ rest) = if nat_eq d.list 44 then None else Some rest
+abbrev pub past_row_sign : DialectMeaning → List Token → Option (List Token)
+past_row_sign d (Semicolon ∷ rest) = if nat_eq d.list comma then Some rest else None
+past_row_sign d (Operator signs.Over ∷ rest) = if nat_eq d.list comma then None else Some rest
 past_row_sign d ts = None
 
 -- a value with what must stand behind it
@@ -137,7 +138,7 @@ lambda_call most below b ts =
     option_and_then (λ parts. made most (one.Lambda parts.0.0 parts.0.1) parts.1) (lambda_parts below b (length ts) ts)
 
 -- a function, whose head is read
-unfoldable pub function_call : Notation → ℕ → Reader → ℕ → ℕ → List Token → Read Spelled
+unfoldable pub function_call : DialectMeaning → ℕ → Reader → ℕ → ℕ → List Token → Read Spelled
 function_call d most below b number ts =
     if nat_eq number d.let_fn then let_call most below b ts
     else if nat_eq number d.lambda_fn then lambda_call most below b ts
@@ -170,7 +171,7 @@ abbrev pub row : List Token → Read (List Constant)
 row ts = listed constant past_separator (length ts) ts
 
 -- an array, whose brace is read
-unfoldable pub array : Notation → ℕ → List Token → Read Spelled
+unfoldable pub array : DialectMeaning → ℕ → List Token → Read Spelled
 array d most ts = option_and_then (λ read. made most (one.Array read.0) read.1) (followed past_brace (listed row (past_row_sign d) (length ts) ts))
 
 -- what opens a bracket is read where one is left to open
@@ -179,7 +180,7 @@ opened zero inside = None
 opened (suc b) inside = inside b
 
 -- an operand without signs, by its first token
-unfoldable pub primary : Notation → ℕ → Reader → ℕ → Token → List Token → Read Spelled
+unfoldable pub primary : DialectMeaning → ℕ → Reader → ℕ → Token → List Token → Read Spelled
 primary d most below b (Num units) rest = made_if (is_unsigned units) most (one.Num units) rest
 primary d most below b (Str text) rest = made most (one.Str text) rest
 primary d most below b (Boolean value) rest = made most (one.Bool value) rest
@@ -242,7 +243,7 @@ unfoldable pub prefixed : ℕ → Reader → ℕ → PrefixSign → List Token �
 prefixed most below b sign ts = option_and_then (λ x. made most (one.Prefix sign x.0) x.1) (below b 6 ts)
 
 -- an operand: a sign and what it stands before, or one without signs and what stands behind it
-unfoldable pub operand : Notation → ℕ → Reader → ℕ → List Token → Read Spelled
+unfoldable pub operand : DialectMeaning → ℕ → Reader → ℕ → List Token → Read Spelled
 operand d most below b [] = None
 operand d most below b (token ∷ rest) = elim (prefix_sign token) [
   | Some sign ↦ prefixed most below b sign rest
@@ -250,11 +251,11 @@ operand d most below b (token ∷ rest) = elim (prefix_sign token) [
 ]
 
 -- an operand and what is joined to it
-unfoldable pub expression : Notation → ℕ → Reader → Reader
+unfoldable pub expression : DialectMeaning → ℕ → Reader → Reader
 expression d most below b least ts = option_and_then (λ first. binaries most below b least most first.0 first.1) (operand d most below b ts)
 
 -- a tree no higher than a number
-unfoldable pub reader : Notation → ℕ → Reader
+unfoldable pub reader : DialectMeaning → ℕ → Reader
 reader d zero b least ts = None
 reader d (suc most) b least ts = expression d (suc most) (reader d most) b least ts
 
@@ -264,5 +265,5 @@ nothing_behind t [] = Some t
 nothing_behind t (token ∷ rest) = None
 
 -- the tree of a list of tokens
-unfoldable pub parsed : Notation → List Token → Option Spelled
+unfoldable pub parsed : DialectMeaning → List Token → Option Spelled
 parsed d ts = option_and_then (λ read. nothing_behind read.0 read.1) (reader d 1024 128 1 ts)

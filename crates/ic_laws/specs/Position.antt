@@ -1,29 +1,32 @@
 -- Rows, columns and where a reference points.
-use Rattle.std.specs.Prelude.{ℕ, ℤ, pos, ◌+◌, ◌-◌, ◌*◌, ◌^◌, List, [], ◌∷◌, Bool, ◌&&◌, ◌||◌, length, nat_lt, nat_le, nat_abs, int_le, ◌+ℤ◌, if◌then◌else◌}
+use Rattle.std.specs.Prelude.{ℕ, ℤ, pos, ◌+◌, ◌-◌, ◌*◌, ◌^◌, List, [], ◌∷◌, Bool, ◌&&◌, length, nat_lt, nat_le, nat_abs, int_le, ◌+ℤ◌, if◌then◌else◌}
 use Rattle.std.specs.List.{list_all}
+use Rattle.ic_laws.specs.Character.{at_sign, grave, lower_a}
+use Rattle.ic_laws.specs.Scan.{is_ascii_letter}
+use Rattle.ic_laws.specs.declared.reference.TheConstants.{LAST_ROW, LAST_COLUMN}
 use Rattle.ic_laws.specs.declared.reference.Position.{Position}
 use Rattle.ic_laws.specs.declared.reference.Position.TheVariants as at
 use Rattle.ic_laws.specs.declared.reference.RefPart.{RefPart}
 use Rattle.ic_laws.specs.declared.reference.Place.{Place}
 use Rattle.ic_laws.specs.declared.reference.Place.TheVariants as places
 
--- the rows and the columns of a sheet are numbered from 1
+-- how many rows and columns a sheet has
+abbrev pub row_count : ℕ
+row_count = nat_abs LAST_ROW
+
+abbrev pub column_count : ℕ
+column_count = nat_abs LAST_COLUMN
+
+-- they are numbered from 1
 abbrev pub is_row : ℤ → Bool
-is_row n = int_le (pos 1) n && int_le n (pos 1048576)
+is_row n = int_le (pos 1) n && int_le n LAST_ROW
 
 abbrev pub is_column : ℤ → Bool
-is_column n = int_le (pos 1) n && int_le n (pos 16384)
+is_column n = int_le (pos 1) n && int_le n LAST_COLUMN
 
--- an ASCII letter in upper case, and in either case
-abbrev pub is_upper : ℕ → Bool
-is_upper c = nat_le 65 c && nat_le c 90
-
-abbrev pub is_ascii_letter : ℕ → Bool
-is_ascii_letter c = is_upper c || nat_le 97 c && nat_le c 122
-
--- what a letter counts: A and a are 1, Z and z are 26
+-- what a letter counts: A and a are 1, Z and z are 26; `@` stands before `A`, and a grave accent before `a`
 abbrev pub letter_digit : ℕ → ℕ
-letter_digit c = if nat_lt c 97 then c - 64 else c - 96
+letter_digit c = if nat_lt c lower_a then c - at_sign else c - grave
 
 -- the number of column letters, in base 26 without a zero: each letter counts 26 times what it would one place
 -- further to the right
@@ -33,7 +36,7 @@ letters_number (c ∷ cs) = letter_digit c * 26 ^ length cs + letters_number cs
 
 -- the letters name a column of the sheet, in either case; more than three letters are past the last one
 abbrev pub names_column : List ℕ → Bool
-names_column letters = nat_lt 0 (length letters) && list_all is_ascii_letter letters && nat_le (letters_number letters) 16384
+names_column letters = nat_lt 0 (length letters) && list_all is_ascii_letter letters && nat_le (letters_number letters) column_count
 
 -- where a position lies, in a cell whose row or column is the origin
 abbrev pub place_at : Position → ℤ → ℤ
@@ -56,7 +59,7 @@ is_within length (at.Rel k) = nat_lt (nat_abs k) length
 
 -- so is each row and each column of a place
 abbrev pub is_part_within : RefPart → Bool
-is_part_within part = is_within 1048576 part.row && is_within 16384 part.column
+is_part_within part = is_within row_count part.row && is_within column_count part.column
 
 abbrev pub is_place_within : Place → Bool
 is_place_within (places.Cell part) = is_part_within part

@@ -1,9 +1,9 @@
 -- What it means to read a text as a tree, and to print a tree.
 use Rattle.std.specs.Prelude.{◌≡◌, ℕ, List, flat_map, Option, IsNone, IsSome, true}
 use Rattle.std.specs.List.{AllByRecursion}
-use Rattle.ic_laws.specs.Notation.{Notation}
+use Rattle.ic_laws.specs.Dialect.{DialectMeaning}
 use Rattle.ic_laws.specs.Token.{Lexes, token_text}
-use Rattle.ic_laws.specs.Tree.{Spelled, Level, IsWellFormed, spelled_names}
+use Rattle.ic_laws.specs.Tree.{Spelled, Kind, IsWellFormed, spelled_names}
 use Rattle.ic_laws.specs.Yield.{yield}
 use Rattle.ic_laws.specs.declared.dialect.WordKind.TheVariants as kinds
 use Rattle.ic_laws.specs.declared.tree.LetPair.{LetPair}
@@ -12,34 +12,34 @@ use Rattle.ic_laws.specs.declared.tree.Tree.TheOpen.{LetPair-F}
 use Rattle.ic_laws.specs.declared.tree.Tree.TheOpen as one
 
 -- a spelled tree is well-formed in a notation, which says which functions are LET and LAMBDA
-abbrev pub IsWell : Notation → Spelled → Type 0
+abbrev pub IsWell : DialectMeaning → Spelled → Type 0
 IsWell d t = IsWellFormed spelled_names d.let_fn d.lambda_fn t
 
 -- a text reads as a tree where its tokens are those of the tree
-pub record Reads (d : Notation) (text : List ℕ) (t : Spelled) : Type 0 where
+pub record Reads (d : DialectMeaning) (text : List ℕ) (t : Spelled) : Type 0 where
   pub well : IsWell d t
   pub tokens : Lexes d text (yield d t)
 
 -- the canonical text of a tree: its tokens in their spelling, without blanks
-abbrev pub printed : Notation → Spelled → List ℕ
+abbrev pub printed : DialectMeaning → Spelled → List ℕ
 printed d t = flat_map (token_text d) (yield d t)
 
 -- a word that isn't a boolean, and a called word that isn't a function
-abbrev pub IsFreeWord : Notation → List ℕ → Type 0
+abbrev pub IsFreeWord : DialectMeaning → List ℕ → Type 0
 IsFreeWord d word = IsNone (d.find kinds.Boolean word)
 
-abbrev pub FitsLevel : Notation → Level (Option (List ℕ)) (List ℕ) → Type 0
-FitsLevel d (one.Reference sheet place) = d.can_spell (record { sheet = sheet; place = place }) ≡ true
-FitsLevel d (one.Word word) = IsFreeWord d word
-FitsLevel d (one.Call word arguments) = IsNone (d.find kinds.Function word)
-FitsLevel d (one.Fun number arguments) = IsSome (d.word kinds.Function number)
-FitsLevel d (one.Lambda parameters body) = AllByRecursion (IsFreeWord d) parameters
-FitsLevel d kind = Unit {0}
+abbrev pub FitsKind : DialectMeaning → Kind (Option (List ℕ)) (List ℕ) → Type 0
+FitsKind d (one.Reference sheet place) = d.can_spell (record { sheet = sheet; place = place }) ≡ true
+FitsKind d (one.Word word) = IsFreeWord d word
+FitsKind d (one.Call word arguments) = IsNone (d.find kinds.Function word)
+FitsKind d (one.Fun number arguments) = IsSome (d.word kinds.Function number)
+FitsKind d (one.Lambda parameters body) = AllByRecursion (IsFreeWord d) parameters
+FitsKind d kind = Unit {0}
 
-abbrev pub FitsPair : Notation → LetPair-F (Option (List ℕ)) (List ℕ) Spelled (LetPair (Option (List ℕ)) (List ℕ)) → Type 0
+abbrev pub FitsPair : DialectMeaning → LetPair-F (Option (List ℕ)) (List ℕ) Spelled (LetPair (Option (List ℕ)) (List ℕ)) → Type 0
 FitsPair d pair = IsFreeWord d pair.variable
 
 -- a tree that a notation can spell so that it reads back
-pub record Fits (d : Notation) (t : Spelled) : Type 0 where
+pub record Fits (d : DialectMeaning) (t : Spelled) : Type 0 where
   pub well : IsWell d t
-  pub levels : every-Tree (Option (List ℕ)) (List ℕ) (FitsLevel d) (FitsPair d) t
+  pub nodes : every-Tree (Option (List ℕ)) (List ℕ) (FitsKind d) (FitsPair d) t

@@ -1,9 +1,11 @@
 -- The tokens of a formula, what spells each of them, and how a text falls into tokens.
-use Rattle.std.specs.Prelude.{◌≡◌, ◌≢◌, ℕ, ℤ, pos, ◌≤◌, List, [], ◌∷◌, ◌++◌, flat_map, Bool, true, false, ◌==◌, length, Some, None, option_map, codes, if◌then◌else◌}
+use Rattle.std.specs.Prelude.{◌≡◌, ◌≢◌, ℕ, ℤ, pos, ◌≤◌, List, [], ◌∷◌, ◌++◌, Bool, true, false, ◌==◌, length, Some, None, option_map, codes}
 use Rattle.std.specs.List.{list_all}
 use Rattle.ic_laws.specs.Amount.{amount_text, unsigned_amount}
-use Rattle.ic_laws.specs.Name.{begins_word, first_is, is_blank, is_variable, is_word_character}
-use Rattle.ic_laws.specs.Notation.{Notation, boolean_number, error_number, word_text, reference_text}
+use Rattle.ic_laws.specs.Character.{double_quote, semicolon}
+use Rattle.ic_laws.specs.Name.{is_variable}
+use Rattle.ic_laws.specs.Scan.{begins_word, between, first_is, is_blank, is_word_character}
+use Rattle.ic_laws.specs.Dialect.{DialectMeaning, boolean_number, error_number, word_text, reference_text}
 use Rattle.ic_laws.specs.declared.dialect.WordKind.TheVariants as kinds
 use Rattle.ic_laws.specs.declared.reference.RefToken.{RefToken}
 use Rattle.ic_laws.specs.declared.tree.BinarySign.{BinarySign}
@@ -46,9 +48,12 @@ sign_text signs.Times = codes "*"
 sign_text signs.Over = codes "/"
 sign_text signs.Power = codes "^"
 
--- a text between quotes, each quote in it doubled
+abbrev pub is_double_quote : ℕ → Bool
+is_double_quote c = c == double_quote
+
+-- a text between quotes, each quote in it doubled; a text token is whole, so that no quote stands after it
 abbrev pub string_text : List ℕ → List ℕ
-string_text text = 34 ∷ flat_map (λ c. if c == 34 then 34 ∷ 34 ∷ [] else c ∷ []) text ++ 34 ∷ []
+string_text text = between double_quote text
 
 -- a run of word characters that begins as a word does
 abbrev pub IsRun : List ℕ → Type 0
@@ -61,14 +66,14 @@ IsWholeRun run rest = IsRun run × (first_is is_word_character rest ≡ false)
 -- a run with an open bracket behind it, blanks aside
 pub record IsHead (name front : List ℕ) : Type 0 where
   pub blanks : List ℕ
-  pub whole : front ≡ name ++ blanks ++ 40 ∷ []
+  pub whole : front ≡ name ++ blanks ++ codes "("
   pub run : IsRun name
   pub blank : list_all is_blank blanks ≡ true
 
 -- front spells the token where rest stands behind it
-abbrev pub Spells : Notation → Token → List ℕ → List ℕ → Type 0
+abbrev pub Spells : DialectMeaning → Token → List ℕ → List ℕ → Type 0
 Spells d (Num units) front rest = option_map pos (unsigned_amount d.decimal front) ≡ Some units
-Spells d (Str text) front rest = front ≡ string_text text
+Spells d (Str text) front rest = (front ≡ string_text text) × (first_is is_double_quote rest ≡ false)
 Spells d (Boolean value) front rest = IsWholeRun front rest × (d.find kinds.Boolean front ≡ Some (boolean_number value))
 Spells d (Err error) front rest = d.find kinds.Error front ≡ Some (error_number error)
 Spells d (Ref reference) front rest = d.read_ref (front ++ rest) ≡ Some (reference, rest)
@@ -84,7 +89,7 @@ Spells d Open front rest = front ≡ codes "("
 Spells d Close front rest = front ≡ codes ")"
 Spells d OpenBrace front rest = front ≡ codes "{"
 Spells d CloseBrace front rest = front ≡ codes "}"
-Spells d Semicolon front rest = (d.list ≢ 59) × (front ≡ codes ";")
+Spells d Semicolon front rest = (d.list ≢ semicolon) × (front ≡ codes ";")
 
 -- of two tokens of one length a reference comes first, before a word above all
 abbrev pub IsBefore : Token → Token → Type 0
@@ -93,7 +98,7 @@ IsBefore token (Ref reference) = ⊥
 IsBefore token other = Unit {0}
 
 -- the longest token at the front of a text, and what stands behind it
-pub record Takes (d : Notation) (text : List ℕ) (token : Token) (rest : List ℕ) : Type 0 where
+pub record Takes (d : DialectMeaning) (text : List ℕ) (token : Token) (rest : List ℕ) : Type 0 where
   pub front : List ℕ
   pub whole : text ≡ front ++ rest
   pub spelled : Spells d token front rest
@@ -101,14 +106,14 @@ pub record Takes (d : Notation) (text : List ℕ) (token : Token) (rest : List �
   pub first : (other after : List ℕ) (t : Token) → text ≡ other ++ after → Spells d t other after → length other ≡ length front → IsBefore token t
 
 -- a text falls into tokens: blanks are skipped, the longest token is taken, and so on to the end
-abbrev pub Lexes : Notation → List ℕ → List Token → Type 0
+abbrev pub Lexes : DialectMeaning → List ℕ → List Token → Type 0
 Lexes d text [] = list_all is_blank text ≡ true
 Lexes d text (token ∷ tokens) =
     (blanks : List ℕ) × (behind : List ℕ) × (rest : List ℕ) × (list_all is_blank blanks ≡ true) × (text ≡ blanks ++ behind)
     × Takes d behind token rest × Lexes d rest tokens
 
 -- a token in its canonical spelling
-abbrev pub token_text : Notation → Token → List ℕ
+abbrev pub token_text : DialectMeaning → Token → List ℕ
 token_text d (Num units) = amount_text d.decimal units
 token_text d (Str text) = string_text text
 token_text d (Boolean value) = word_text d kinds.Boolean (boolean_number value)

@@ -2,6 +2,7 @@
 -- well-formed.
 use Rattle.std.specs.Prelude.{◌≡◌, ◌≢◌, ℕ, ℤ, ◌+◌, ◌≤◌, max, List, [], ◌∷◌, Bool, true, false, not, ◌&&◌, codes, Option, Some, None, int_le, pos}
 use Rattle.std.specs.List.{list_all}
+use Rattle.ic_laws.specs.Amount.{is_amount}
 use Rattle.ic_laws.specs.CoreBook.{greatest}
 use Rattle.ic_laws.specs.Name.{agrees, is_sheet_name, is_variable}
 use Rattle.ic_laws.specs.Position.{is_place_within}
@@ -27,8 +28,8 @@ abbrev pub Bound : Type 0
 Bound = Tree SheetMention NameMention
 
 -- one level of a tree, with trees below it
-abbrev pub Level : Type 0 → Type 0 → Type 0
-Level S W = Tree-F S W (Tree S W) (LetPair S W)
+abbrev pub Kind : Type 0 → Type 0 → Type 0
+Kind S W = Tree-F S W (Tree S W) (LetPair S W)
 
 -- How tightly a sign binds, from comparisons on.
 abbrev pub sign_level : BinarySign → ℕ
@@ -46,7 +47,7 @@ sign_level signs.Over = 4
 sign_level signs.Power = 5
 
 -- a sign before its operand has level 6, one behind it and a call of what a tree gives level 7, all else level 8
-abbrev pub kind_level : {S W : Type 0} → Level S W → ℕ
+abbrev pub kind_level : {S W : Type 0} → Kind S W → ℕ
 kind_level (one.Binary sign a b) = sign_level sign
 kind_level (one.Prefix sign x) = 6
 kind_level (one.Percent x) = 7
@@ -58,7 +59,7 @@ abbrev pub level : {S W : Type 0} → Tree S W → ℕ
 level {S} {W} t = kind_level (out-Tree S W t)
 
 -- an argument that is left out
-abbrev pub is_empty_kind : {S W : Type 0} → Level S W → Bool
+abbrev pub is_empty_kind : {S W : Type 0} → Kind S W → Bool
 is_empty_kind one.Empty = true
 is_empty_kind kind = false
 
@@ -66,7 +67,7 @@ abbrev pub is_empty : {S W : Type 0} → Tree S W → Bool
 is_empty {S} {W} t = is_empty_kind (out-Tree S W t)
 
 -- what ends with a closing bracket can be called
-abbrev pub is_callable_kind : {S W : Type 0} → Level S W → Bool
+abbrev pub is_callable_kind : {S W : Type 0} → Kind S W → Bool
 is_callable_kind (one.Paren x) = true
 is_callable_kind (one.Fun number arguments) = true
 is_callable_kind (one.Call word arguments) = true
@@ -148,7 +149,7 @@ abbrev pub IsOperand : {S W : Type 0} → ℕ → Tree S W → Type 0
 IsOperand least t = least ≤ level t
 
 -- operands bind tightly enough: to the left at least as tightly as the sign, to the right more tightly
-abbrev pub HasOperands : {S W : Type 0} → Level S W → Type 0
+abbrev pub HasOperands : {S W : Type 0} → Kind S W → Type 0
 HasOperands (one.Binary sign a b) = IsOperand (sign_level sign) a × IsOperand (sign_level sign + 1) b
 HasOperands (one.Prefix sign x) = IsOperand 6 x
 HasOperands (one.Percent x) = IsOperand 7 x
@@ -157,26 +158,26 @@ HasOperands (one.Apply x arguments) = IsOperand 7 x
 HasOperands kind = Unit {0}
 
 -- only what ends with a closing bracket is called
-abbrev pub CallsCallable : {S W : Type 0} → Level S W → Type 0
+abbrev pub CallsCallable : {S W : Type 0} → Kind S W → Type 0
 CallsCallable (one.Apply x arguments) = is_callable x ≡ true
 CallsCallable kind = Unit {0}
 
 -- a list of arguments isn't the one that is left out
-abbrev pub are_arguments : {S W : Type 0} → List (Tree S W) → Bool
-are_arguments (t ∷ []) = not (is_empty t)
-are_arguments arguments = true
+abbrev pub is_argument_list : {S W : Type 0} → List (Tree S W) → Bool
+is_argument_list (t ∷ []) = not (is_empty t)
+is_argument_list arguments = true
 
-abbrev pub HasArguments : {S W : Type 0} → Level S W → Type 0
-HasArguments (one.Fun number arguments) = are_arguments arguments ≡ true
-HasArguments (one.Call word arguments) = are_arguments arguments ≡ true
-HasArguments (one.Apply x arguments) = are_arguments arguments ≡ true
+abbrev pub HasArguments : {S W : Type 0} → Kind S W → Type 0
+HasArguments (one.Fun number arguments) = is_argument_list arguments ≡ true
+HasArguments (one.Call word arguments) = is_argument_list arguments ≡ true
+HasArguments (one.Apply x arguments) = is_argument_list arguments ≡ true
 HasArguments kind = Unit {0}
 
 -- nothing but an argument is left out
 abbrev pub IsThere : {S W : Type 0} → Tree S W → Type 0
 IsThere t = is_empty t ≡ false
 
-abbrev pub HasParts : {S W : Type 0} → Level S W → Type 0
+abbrev pub HasParts : {S W : Type 0} → Kind S W → Type 0
 HasParts (one.Paren x) = IsThere x
 HasParts (one.Prefix sign x) = IsThere x
 HasParts (one.Percent x) = IsThere x
@@ -192,26 +193,26 @@ abbrev pub has_constant : List Constant → Bool
 has_constant [] = false
 has_constant (c ∷ cs) = true
 
-abbrev pub HasElements : {S W : Type 0} → Level S W → Type 0
+abbrev pub HasElements : {S W : Type 0} → Kind S W → Type 0
 HasElements (one.Let pairs body) = pairs ≢ []
 HasElements (one.Array rows) = (rows ≢ []) × (list_all has_constant rows ≡ true)
 HasElements kind = Unit {0}
 
--- numbers are written without a sign: from 0 on
+-- numbers are amounts and are written without a sign: from 0 on
 abbrev pub is_unsigned : ℤ → Bool
-is_unsigned units = int_le (pos 0) units
+is_unsigned units = int_le (pos 0) units && is_amount units
 
 abbrev pub is_unsigned_constant : Constant → Bool
 is_unsigned_constant (constants.Num minus amount) = is_unsigned amount
 is_unsigned_constant constant = true
 
-abbrev pub HasUnsigned : {S W : Type 0} → Level S W → Type 0
+abbrev pub HasUnsigned : {S W : Type 0} → Kind S W → Type 0
 HasUnsigned (one.Num units) = is_unsigned units ≡ true
 HasUnsigned (one.Array rows) = list_all (list_all is_unsigned_constant) rows ≡ true
 HasUnsigned kind = Unit {0}
 
 -- words, binders and called words are what they may be, and a function is neither LET nor LAMBDA
-abbrev pub HasNames : {S W : Type 0} → Names S W → ℕ → ℕ → Level S W → Type 0
+abbrev pub HasNames : {S W : Type 0} → Names S W → ℕ → ℕ → Kind S W → Type 0
 HasNames names let_fn lambda_fn (one.Reference sheet place) = names.is_sheet sheet ≡ true
 HasNames names let_fn lambda_fn (one.Word word) = names.is_word word ≡ true
 HasNames names let_fn lambda_fn (one.Call word arguments) = names.is_called word ≡ true
@@ -220,12 +221,12 @@ HasNames names let_fn lambda_fn (one.Lambda parameters body) = list_all is_varia
 HasNames names let_fn lambda_fn kind = Unit {0}
 
 -- references are within the limits of the stored form
-abbrev pub HasPlaces : {S W : Type 0} → Level S W → Type 0
+abbrev pub HasPlaces : {S W : Type 0} → Kind S W → Type 0
 HasPlaces (one.Reference sheet place) = is_place_within place ≡ true
 HasPlaces kind = Unit {0}
 
 -- what is asked of each level
-pub record IsLevelWell {S W : Type 0} (names : Names S W) (let_fn lambda_fn : ℕ) (kind : Level S W) : Type 0 where
+pub record IsKindWell {S W : Type 0} (names : Names S W) (let_fn lambda_fn : ℕ) (kind : Kind S W) : Type 0 where
   pub operands : HasOperands kind
   pub called : CallsCallable kind
   pub arguments : HasArguments kind
@@ -242,7 +243,7 @@ pub record IsPairWell {S W : Type 0} (pair : LetPair-F S W (Tree S W) (LetPair S
 
 -- A tree is well-formed.
 pub record IsWellFormed {S W : Type 0} (names : Names S W) (let_fn lambda_fn : ℕ) (t : Tree S W) : Type 0 where
-  pub levels : every-Tree S W (IsLevelWell names let_fn lambda_fn) IsPairWell t
+  pub nodes : every-Tree S W (IsKindWell names let_fn lambda_fn) IsPairWell t
   pub there : IsThere t
   pub few_brackets : open_brackets t ≤ 128
   pub low : height t ≤ 1024

@@ -1,6 +1,7 @@
 -- The tokens of a tree.
 use Rattle.std.specs.Prelude.{ℕ, List, [], ◌∷◌, ◌++◌, map, flat_map, true, false, Option, nat_eq, if◌then◌else◌}
-use Rattle.ic_laws.specs.Notation.{Notation}
+use Rattle.ic_laws.specs.Character.{comma}
+use Rattle.ic_laws.specs.Dialect.{DialectMeaning}
 use Rattle.ic_laws.specs.Token.{Token, Num, Str, Boolean, Err, Ref, Word, FunHead, NameHead, Separator, Operator, At, Percent, Hash, Open, Close, OpenBrace, CloseBrace, Semicolon}
 use Rattle.ic_laws.specs.Tree.{Spelled}
 use Rattle.ic_laws.specs.declared.tree.BinarySign.TheVariants as signs
@@ -19,8 +20,8 @@ joined between (part ∷ []) = part
 joined between (part ∷ next ∷ parts) = part ++ between ∷ joined between (next ∷ parts)
 
 -- the token between the rows of an array: `;`, and `/` where `;` separates arguments
-abbrev pub row_sign : Notation → Token
-row_sign d = if nat_eq d.list 44 then Semicolon else Operator signs.Over
+abbrev pub row_sign : DialectMeaning → Token
+row_sign d = if nat_eq d.list comma then Semicolon else Operator signs.Over
 
 abbrev pub prefix_token : PrefixSign → Token
 prefix_token prefixes.Plus = Operator signs.Plus
@@ -47,7 +48,7 @@ abbrev pub pair_parts : List PairTokens → List (List Token)
 pair_parts pairs = flat_map (λ pair. (Word pair.variable ∷ []) ∷ pair.value ∷ []) pairs
 
 -- the tokens of one level, from those of what is below it
-abbrev pub yield_step : Notation → Tree-F (Option (List ℕ)) (List ℕ) (List Token) PairTokens → List Token
+abbrev pub yield_step : DialectMeaning → Tree-F (Option (List ℕ)) (List ℕ) (List Token) PairTokens → List Token
 yield_step d (one.Num units) = Num units ∷ []
 yield_step d (one.Str text) = Str text ∷ []
 yield_step d (one.Bool value) = Boolean value ∷ []
@@ -71,5 +72,5 @@ abbrev pub pair_step : LetPair-F (Option (List ℕ)) (List ℕ) (List Token) Pai
 pair_step pair = record { variable = pair.variable; value = pair.value }
 
 -- the tokens of a tree
-abbrev pub yield : Notation → Spelled → List Token
+abbrev pub yield : DialectMeaning → Spelled → List Token
 yield d t = fold-Tree (Option (List ℕ)) (List ℕ) (List Token) PairTokens (yield_step d) pair_step t

@@ -2,9 +2,10 @@ ghost use Rattle.std.specs.Prelude.{◌≡◌, ◌++◌, ◌∷◌, [], ◌+◌,
 ghost use Rattle.std.specs.Fmt.{decimal};
 ghost use Rattle.std.specs.Str.Parse.{digits_value};
 ghost use Rattle.ic_laws.specs.Amount.{amount_text, fraction_digits, is_amount, units_by, units_of, unsigned_amount, unsigned_text};
-ghost use Rattle.ic_laws.specs.Name.{is_digit, past_run, run_of};
+ghost use Rattle.ic_laws.specs.Scan.{is_digit, past_run, run_of};
 
-use crate::{OutOfMemory, first_char, push_char};
+use crate::OutOfMemory;
+use crate::scan::{first_char, push_char};
 use std::alloc::Global;
 use std::marker::Model;
 

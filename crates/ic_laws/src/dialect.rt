@@ -1,6 +1,6 @@
 ghost use Rattle.std.specs.Prelude.{◌≡◌, chars, string_bytes, option_map, IfOk};
 ghost use Rattle.ic_laws.specs.Longest.{read_at};
-ghost use Rattle.ic_laws.specs.Notation.{Notation, IsNotation, FindsErrorAt, reference_text};
+ghost use Rattle.ic_laws.specs.Dialect.{DialectMeaning, IsLawful, FindsErrorAt, reference_text};
 
 use crate::{Error, OutOfMemory, RefToken};
 use std::alloc::Global;
@@ -19,35 +19,35 @@ pub enum WordKind {
 /// A way to write formulas: separators, words and references. It means one notation, and `laws` says what holds of
 /// that.
 pub trait Dialect {
-    ghost notation: { Self → Notation };
+    ghost meaning: { Self → DialectMeaning };
 
     /// The separator of arguments.
     fn list(&self) -> char
-        ensures { result ≡ (notation self.now).list };
+        ensures { result ≡ (meaning self.now).list };
 
     /// The decimal separator.
     fn decimal(&self) -> char
-        ensures { result ≡ (notation self.now).decimal };
+        ensures { result ≡ (meaning self.now).decimal };
 
     /// The word of a number, None where the list has no such number.
     fn word(&self, kind: WordKind, n: usize) -> Option<&str>
-        ensures { option_map (λ w. chars w.now) result ≡ (notation self.now).word kind n };
+        ensures { option_map (λ w. chars w.now) result ≡ (meaning self.now).word kind n };
 
     /// The number of the word that the whole text agrees with.
     fn find(&self, kind: WordKind, text: &str) -> Option<usize>
-        ensures { result ≡ (notation self.now).find kind (chars text.now) };
+        ensures { result ≡ (meaning self.now).find kind (chars text.now) };
 
     /// The error whose word begins at a byte, with the number of bytes of that word.
     fn find_error(&self, text: &str, at: usize) -> Option<(Error, usize)>
-        ensures { FindsErrorAt (notation self.now) text.now at result };
+        ensures { FindsErrorAt (meaning self.now) text.now at result };
 
     /// The number of LET.
     fn let_fn(&self) -> usize
-        ensures { result ≡ (notation self.now).let_fn };
+        ensures { result ≡ (meaning self.now).let_fn };
 
     /// The number of LAMBDA.
     fn lambda_fn(&self) -> usize
-        ensures { result ≡ (notation self.now).lambda_fn };
+        ensures { result ≡ (meaning self.now).lambda_fn };
 
     /// The longest reference that begins at a byte, with its number of bytes.
     fn read_ref(
@@ -56,14 +56,11 @@ pub trait Dialect {
         text: &str,
         at: usize,
     ) -> Result<Option<(RefToken, usize)>, OutOfMemory>
-        ensures { IfOk result (λ found. found ≡ read_at (notation self.now).read_ref text.now at) };
+        ensures { IfOk result (λ found. found ≡ read_at (meaning self.now).read_ref text.now at) };
 
     /// The text of a reference; the word of `Error::REF` for one that the dialect can't spell.
     fn spell_ref(&self, alloc: Global, r: &RefToken) -> Result<String, OutOfMemory>
-        ensures { IfOk result (λ s. chars (string_bytes s) ≡ reference_text (notation self.now) r.now) };
+        ensures { IfOk result (λ s. chars (string_bytes s) ≡ reference_text (meaning self.now) r.now) };
 
-    ghost laws: { (d : Self) → IsNotation (notation d) };
+    ghost laws: { (d : Self) → IsLawful (meaning d) };
 }
-
-#[cfg(test)]
-mod tests;

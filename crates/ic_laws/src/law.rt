@@ -7,5 +7,5 @@ use crate::Dialect;
 
 /// A list of tokens is that of one formula at most: two well-formed formulas with the same tokens are equal.
 pub fn law_yield_injective<D: Dialect>()
-    ensures { (d : D) (s t : Spelled) → IsWell (D.notation d) s → IsWell (D.notation d) t → yield (D.notation d) s ≡ yield (D.notation d) t → s ≡ t }
+    ensures { (d : D) (s t : Spelled) → IsWell (D.meaning d) s → IsWell (D.meaning d) t → yield (D.meaning d) s ≡ yield (D.meaning d) t → s ≡ t }
 {}

@@ -1,6 +1,7 @@
-ghost use Rattle.std.specs.Prelude.{◌≡◌, ◌<◌, ◌++◌, [], ◌∷◌, length, IfOk, IfSome, MatchOption, OnOk, bytes_eq, chars, encode_utf8_all, string_bytes};
+ghost use Rattle.std.specs.Prelude.{◌≡◌, IfOk, bytes_eq, chars, encode_utf8_all, string_bytes};
 
 use crate::OutOfMemory;
+use crate::scan::same_text;
 use std::alloc::Global;
 use std::fmt;
 use std::marker::Model;
@@ -44,13 +45,6 @@ impl Text {
     }
 }
 
-/// Whether two texts are the same, character by character.
-pub fn same_text(a: &str, b: &str) -> bool
-    ensures { result ≡ bytes_eq (chars a.now) (chars b.now) }
-{
-    a == b
-}
-
 impl From<String> for Text {
     ghost from_gives = { λ s t. t ≡ chars (string_bytes s) };
 
@@ -68,33 +62,6 @@ impl fmt::Display for Text {
     fn fmt<W: fmt::Write>(&self, f: &mut fmt::Formatter<W>) -> fmt::Result {
         write!(f, "{}", self.as_str())
     }
-}
-
-/// Appends a character.
-pub fn push_char(text: &mut String, c: char) -> Result<(), OutOfMemory>
-    ensures { OnOk result (chars (string_bytes text.new) ≡ chars (string_bytes text.old) ++ c ∷ []) }
-{
-    text.push(c)?;
-    Ok(())
-}
-
-/// Appends a text.
-pub fn push_text(text: &mut String, more: &str) -> Result<(), OutOfMemory>
-    ensures { OnOk result (chars (string_bytes text.new) ≡ chars (string_bytes text.old) ++ chars more.now) }
-{
-    text.push_str(more)?;
-    Ok(())
-}
-
-/// The first character of a text, and what stands after it.
-#[tactic(auto, using(std::proofs::lemmas::Str::chars_past_char))]
-pub fn first_char(text: &str) -> Option<(char, &str)>
-    ensures parts { MatchOption result (chars text.now ≡ []) (λ p. chars text.now ≡ p.0 ∷ chars p.1.now) }
-    ensures shorter { IfSome result (λ p. length p.1.now < length text.now) }
-{
-    let mut rest = text.chars();
-    let c = rest.next()?;
-    Some((c, rest.as_str()))
 }
 
 /// Two texts are equal where their characters are.

@@ -2,7 +2,8 @@ ghost use Rattle.std.specs.Prelude.{◌≡◌, ◌↔◌, ◌∷◌, ◌++◌, [
 ghost use Rattle.ic_laws.specs.Lines.{escape_meaning, escape_of, escaped, unescaped};
 ghost use Rattle.ic_lines.specs.Escapes.{HasWrongEscape};
 
-use ic_laws::{OutOfMemory, Text, first_char, push_char};
+use ic_laws::scan::{first_char, push_char};
+use ic_laws::{OutOfMemory, Text};
 use std::alloc::Global;
 
 /// The text as it is written in a word: each backslash, tab, line feed and carriage return by its escape.

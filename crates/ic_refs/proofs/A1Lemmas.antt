@@ -1,7 +1,6 @@
 -- The place at the front of a text: what is read is spelled so, nothing longer is, and what is spelled is read.
 use Rattle.std.proofs.Common.{◌≡◌, ℕ, ℤ, pos, List, ◌∷◌, ◌++◌, Option, Some, None, option_map, option_and_then, refl, ◌∙◌, ap, subst, inl, inr}
-use Rattle.ic_laws.specs.Name.{is_digit}
-use Rattle.ic_laws.specs.Position.{is_ascii_letter}
+use Rattle.ic_laws.specs.Scan.{is_digit, is_ascii_letter}
 use Rattle.ic_laws.specs.declared.reference.Position.{Position}
 use Rattle.ic_laws.specs.declared.reference.Position.TheVariants as at
 use Rattle.ic_laws.specs.declared.reference.RefPart.{RefPart}

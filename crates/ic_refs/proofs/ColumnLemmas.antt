@@ -4,7 +4,8 @@ use Rattle.std.specs.List.{list_all}
 use Rattle.std.proofs.lemmas.Bool.{and_parts, and_from, le-leb, lt-ltb, or_left}
 use Rattle.std.proofs.lemmas.Bool.Decides.{leb_tells, nat_tests}
 use Rattle.std.proofs.lemmas.Int.{ints}
-use Rattle.ic_laws.specs.Position.{is_upper, is_ascii_letter, is_column, is_row, letter_digit, letters_number, names_column}
+use Rattle.ic_laws.specs.Position.{is_column, is_row, letter_digit, letters_number, names_column}
+use Rattle.ic_laws.specs.Scan.{is_upper, is_ascii_letter}
 use Rattle.ic_refs.specs.Column.{letter, column_letters, column_name}
 
 -- a letter of a digit from 1 to 26

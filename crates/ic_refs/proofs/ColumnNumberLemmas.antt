@@ -4,7 +4,8 @@ use Rattle.std.specs.List.{list_all}
 use Rattle.std.proofs.lemmas.Bool.{le-leb, leb-true, false_from_ne_true}
 use Rattle.std.proofs.lemmas.List.{append-nil, nil_from_length}
 use Rattle.std.proofs.lemmas.Str.{encodes-chars, chars-nil}
-use Rattle.ic_laws.specs.Position.{is_upper, is_ascii_letter, letter_digit, letters_number}
+use Rattle.ic_laws.specs.Position.{letter_digit, letters_number}
+use Rattle.ic_laws.specs.Scan.{is_upper, is_ascii_letter}
 use Rattle.ic_refs.specs.A1.{letters_from}
 use Rattle.ic_refs.specs.Column.{column_number}
 use Rattle.ic_refs.specs.Digits.{number_value}

@@ -3,7 +3,7 @@ use Rattle.std.proofs.Common.{◌≡◌, ℕ, ◌+◌, ◌*◌, ◌≤◌, List,
 use Rattle.std.specs.List.{list_all}
 use Rattle.std.proofs.Math.Nat.{mul-le-mul_left}
 use Rattle.std.proofs.lemmas.Bool.{and_parts, and_from, le-leb, leb-true, cases_Bool}
-use Rattle.ic_laws.specs.Name.{first_is}
+use Rattle.ic_laws.specs.Scan.{first_is}
 use Rattle.ic_refs.specs.Digits.{number_value, number_from}
 
 -- a number only grows

@@ -7,8 +7,8 @@ use Rattle.std.specs.Str.Parse.{digits_value, digits_value_after}
 use Rattle.std.proofs.Math.Nat.{pow-suc}
 use Rattle.std.proofs.lemmas.Bool.{and_parts, and_from, ltb-true, lt-ltb, leb-true, le-leb}
 use Rattle.std.proofs.lemmas.Bool.Decides.{nat_tests}
-use Rattle.ic_laws.specs.Name.{is_digit, first_is}
-use Rattle.ic_laws.specs.Position.{is_ascii_letter, letter_digit, letters_number}
+use Rattle.ic_laws.specs.Scan.{is_digit, first_is, is_ascii_letter}
+use Rattle.ic_laws.specs.Position.{letter_digit, letters_number}
 use Rattle.ic_laws.specs.declared.reference.Position.{Position}
 use Rattle.ic_refs.specs.A1.{SpellsColumn, SpellsRow, column_at, row_at}
 use Rattle.ic_refs.specs.Digits.{number_value}

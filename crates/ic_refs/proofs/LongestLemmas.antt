@@ -1,7 +1,6 @@
 -- The longest place at the front of a text, and the one that is read where nothing could go on behind it.
 use Rattle.std.proofs.Common.{◌≡◌, ℕ, ℤ, pos, ◌≤◌, List, ◌∷◌, ◌++◌, false, ◌==◌, length, Option, Some, None, refl, sym, ◌∙◌, ap, arith, inl, inr, append_assoc, length-append}
-use Rattle.ic_laws.specs.Name.{is_digit, first_is}
-use Rattle.ic_laws.specs.Position.{is_ascii_letter}
+use Rattle.ic_laws.specs.Scan.{is_digit, first_is, is_ascii_letter}
 use Rattle.ic_laws.specs.declared.reference.Position.{Position}
 use Rattle.ic_laws.specs.declared.reference.Position.TheVariants as at
 use Rattle.ic_laws.specs.declared.reference.RefPart.{RefPart}

@@ -5,15 +5,14 @@ use Rattle.std.proofs.lemmas.Bool.{and_parts, and_from, or_left, or_right, or_pa
 use Rattle.std.proofs.lemmas.Bool.Decides.{eqb_tells, nat_tests}
 use Rattle.std.proofs.lemmas.List.Folds.{list_all-append}
 use Rattle.ucd_derived.proofs.Computing.{ucd_derived}
-use Rattle.ic_laws.specs.Name.{is_digit, is_plain, is_letter, is_word_character, first_is, past_run}
-use Rattle.ic_laws.specs.Position.{is_ascii_letter, letter_digit}
+use Rattle.ic_laws.specs.Scan.{is_digit, is_plain, is_letter, is_word_character, first_is, past_run, is_ascii_letter, joins, IsEnd}
+use Rattle.ic_laws.specs.Position.{letter_digit}
 use Rattle.ic_laws.specs.declared.reference.Position.{Position}
 use Rattle.ic_laws.specs.declared.reference.Position.TheVariants as at
 use Rattle.ic_laws.specs.declared.reference.RefPart.{RefPart}
 use Rattle.ic_laws.specs.declared.reference.Place.{Place}
 use Rattle.ic_laws.specs.declared.reference.Place.TheVariants as places
 use Rattle.ic_refs.specs.A1.{SpellsColumn, SpellsRow, SpellsCell, SpellsPlace, dollar}
-use Rattle.ic_laws.specs.Name.{joins, IsEnd}
 use Rattle.ic_refs.proofs.KindLemmas.{digit_number, row_as_number, column_as_number, some_digits}
 use Rattle.ic_refs.proofs.PositionLemmas.{SpellsNumber}
 use Rattle.ic_refs.specs.Sheet.{sheet_at}

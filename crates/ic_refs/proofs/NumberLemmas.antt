@@ -5,7 +5,7 @@ use Rattle.std.specs.Str.{all_ascii_digits}
 use Rattle.std.specs.Str.Parse.{digits_value_after}
 use Rattle.std.proofs.lemmas.Str.{digit_value_digit}
 use Rattle.std.proofs.lemmas.Bool.{and_parts, and_from, and_right, true≢false, leb-true, leb-false, le-leb, cases_Bool}
-use Rattle.ic_laws.specs.Name.{is_digit, first_is, run_of, past_run}
+use Rattle.ic_laws.specs.Scan.{is_digit, first_is, run_of, past_run}
 use Rattle.ic_refs.specs.Number.{number_from}
 
 -- a digit counts what it stands for

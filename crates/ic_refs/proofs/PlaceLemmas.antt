@@ -3,8 +3,8 @@ use Rattle.std.proofs.Common.{◌≡◌, ℕ, ℤ, ◌<◌, List, [], ◌∷◌,
 use Rattle.std.specs.List.{list_all}
 use Rattle.std.proofs.lemmas.Bool.{and_parts}
 use Rattle.std.proofs.lemmas.Bool.Decides.{eqb_tells, nat_tests}
-use Rattle.ic_laws.specs.Name.{is_digit, first_is}
-use Rattle.ic_laws.specs.Position.{is_ascii_letter, letter_digit}
+use Rattle.ic_laws.specs.Scan.{is_digit, first_is, is_ascii_letter}
+use Rattle.ic_laws.specs.Position.{letter_digit}
 use Rattle.ic_laws.specs.declared.reference.Position.{Position}
 use Rattle.ic_laws.specs.declared.reference.Position.TheVariants as at
 use Rattle.ic_laws.specs.declared.reference.RefPart.{RefPart}

@@ -2,7 +2,7 @@
 use Rattle.std.proofs.Common.{◌≡◌, ◌≢◌, ℕ, List, [], ◌∷◌, ◌++◌, false, ◌==◌, Some, None, refl, sym, ◌∙◌, ap}
 use Rattle.std.proofs.lemmas.Bool.{ne_eqb}
 use Rattle.std.proofs.lemmas.List.{append_cancel_right}
-use Rattle.ic_laws.specs.Name.{first_is}
+use Rattle.ic_laws.specs.Scan.{first_is}
 use Rattle.ic_refs.specs.Sheet.{name_in_quotes, onto_text}
 use Rattle.ic_refs.specs.Written.{ClosesAt, undoubled}
 

@@ -5,7 +5,8 @@ use Rattle.std.specs.Prelude.{int_le, int_lt}
 use Rattle.std.proofs.lemmas.Int.{ints, clamps}
 use Rattle.std.proofs.Math.Nat.{mod-lt}
 use Rattle.std.proofs.lemmas.Bool.{and_parts, and_from, le-leb, cases_Bool}
-use Rattle.ic_laws.specs.Name.{is_digit, is_r, is_c, past_run}
+use Rattle.ic_laws.specs.Name.{is_r, is_c}
+use Rattle.ic_laws.specs.Scan.{is_digit, past_run}
 use Rattle.ic_laws.specs.Position.{is_row, is_column}
 use Rattle.ic_refs.specs.declared.error.ReferenceError.{ReferenceError}
 use Rattle.ic_refs.specs.declared.r1c1_ends.End.{End}

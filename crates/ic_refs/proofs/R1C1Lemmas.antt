@@ -3,7 +3,7 @@ use Rattle.std.proofs.Common.{◌≡◌, ◌≤◌, ℕ, ℤ, pos, ◌+ℤ◌, �
 use Rattle.std.specs.Int.{int_rem_euclid}
 use Rattle.std.specs.Str.Parse.{digits_value}
 use Rattle.std.proofs.lemmas.Bool.{le-leb, lt-leb, true≢false, cases_Bool, cond-true, cond-false}
-use Rattle.ic_laws.specs.Name.{is_digit, first_is, run_of, past_run}
+use Rattle.ic_laws.specs.Scan.{is_digit, first_is, run_of, past_run}
 use Rattle.ic_refs.specs.declared.error.ReferenceError.TheVariants as errors
 use Rattle.ic_refs.specs.Number.{number_from}
 use Rattle.ic_refs.specs.R1C1.{number_at, wrapped}

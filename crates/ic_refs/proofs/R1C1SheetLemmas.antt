@@ -2,7 +2,7 @@
 use Rattle.std.proofs.Common.{◌≡◌, ℕ, ◌+◌, List, [], ◌∷◌, ◌++◌, true, false, Option, Some, None, Result, Ok, Err, IfOk, take, drop, refl, sym, subst, ◌∙◌, ap, inl, inr, arith, suc}
 use Rattle.std.specs.List.{before_first, after_first, list_any, position_or_len}
 use Rattle.std.proofs.lemmas.Bool.{cases_Bool}
-use Rattle.ic_laws.specs.Name.{run_of, past_run}
+use Rattle.ic_laws.specs.Scan.{run_of, past_run}
 use Rattle.ic_laws.specs.Position.{is_row, is_column}
 use Rattle.ic_refs.specs.declared.error.ReferenceError.{ReferenceError}
 use Rattle.ic_refs.specs.declared.error.ReferenceError.TheVariants as errors

@@ -1,7 +1,7 @@
 -- Readers of the longest text at the front, and two of a kind with a colon between them.
 use Rattle.std.proofs.Common.{◌≡◌, ℕ, ◌≤◌, List, [], ◌∷◌, ◌++◌, Bool, false, ◌==◌, ◌⊎◌, length, Option, Some, None, option_map, option_and_then, refl, sym, ◌∙◌, ap, subst, arith, inl, inr, append_assoc, length-append}
 use Rattle.std.proofs.lemmas.Bool.Decides.{eqb_tells}
-use Rattle.ic_laws.specs.Name.{first_is}
+use Rattle.ic_laws.specs.Scan.{first_is}
 use Rattle.ic_refs.specs.A1.{past_colon, pair_at}
 use Rattle.ic_refs.specs.Sheet.{or_else}
 use Rattle.ic_refs.proofs.PositionLemmas.{Takes}

@@ -5,7 +5,8 @@ use Rattle.std.proofs.lemmas.Bool.{both_ways, cases_Bool, cond-false, eqb-true, 
 use Rattle.std.proofs.lemmas.Bool.Decides.{eqb_tells}
 use Rattle.std.proofs.lemmas.Option.{cond_some, none-some, option_and_then_some, some_pair_parts}
 use Rattle.ucd_derived.proofs.Computing.{ucd_derived}
-use Rattle.ic_laws.specs.Name.{first_is, in_quotes, is_a1_cell, is_digit, is_r1c1_cell, is_plain, is_sheet_name, needs_quotes, past_run, run_of}
+use Rattle.ic_laws.specs.Name.{in_quotes, is_a1_cell, is_r1c1_cell, is_sheet_name, needs_quotes}
+use Rattle.ic_laws.specs.Scan.{first_is, is_digit, is_plain, past_run, run_of}
 use Rattle.ic_refs.specs.Sheet.{SpellsSheet, before_bang, name_in_quotes, onto_text, sheet_at, sheet_text, written_name}
 use Rattle.ic_refs.specs.Written.{doubled, doubled_char}
 use Rattle.ic_refs.proofs.QuoteLemmas.{quoted_step, closed_here}

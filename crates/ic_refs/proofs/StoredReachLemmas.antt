@@ -2,7 +2,7 @@
 use Rattle.std.proofs.Common.{◌≡◌, ◌≢◌, ◌≤◌, ◌<◌, ℕ, ℤ, pos, neg_ℤ, nat_abs, ◌-◌, List, [], ◌∷◌, ◌++◌, true, false, ◌&&◌, length, Option, Some, None, option_map, option_and_then, refl, sym, subst, ◌∙◌, ap, inl, inr, arith, append_assoc, leb, eqb}
 use Rattle.std.specs.Str.{all_ascii_digits}
 use Rattle.std.proofs.lemmas.Bool.{and_parts, leb-true, ltb-true, cases_Bool, true≢false, ne_eqb, eq-eqb}
-use Rattle.ic_laws.specs.Name.{is_digit, first_is}
+use Rattle.ic_laws.specs.Scan.{is_digit, first_is}
 use Rattle.ic_laws.specs.declared.reference.Position.{Position}
 use Rattle.ic_laws.specs.declared.reference.Position.TheVariants as at
 use Rattle.ic_laws.specs.declared.reference.RefPart.{RefPart}

@@ -2,14 +2,14 @@
 use Rattle.std.proofs.Common.{◌≡◌, ℕ, ◌-◌, List, [], ◌∷◌, ◌++◌, true, false, Option, Some, None, IfSome, option_map, encode_utf8_all, chars, drop, length, IsUtf8, refl, sym, subst, ◌∙◌, ap, inl, inr, eqb}
 use Rattle.std.specs.List.{list_any}
 use Rattle.std.proofs.lemmas.Bool.{cases_Bool, or_parts}
-use Rattle.ic_laws.specs.Name.{EndsWith, is_plain, is_sheet_name, first_is, past_run}
+use Rattle.ic_laws.specs.Name.{is_sheet_name}
+use Rattle.ic_laws.specs.Scan.{EndsWith, is_plain, first_is, past_run, IsEnd}
 use Rattle.ic_laws.specs.declared.reference.Place.{Place}
 use Rattle.ic_laws.specs.declared.reference.RefToken.{RefToken}
 use Rattle.ic_refs.specs.Longest.{FindsLongest, FindsLongestAt, IsLongest, is_char_boundary, read_at}
 use Rattle.ic_refs.specs.Sheet.{reference_at, sheet_at}
 use Rattle.ic_laws.specs.Position.{is_place_within}
 use Rattle.ic_refs.specs.Stored.{SpellsPlace, SpellsStored, place_text, stored_text, stored_place_at}
-use Rattle.ic_laws.specs.Name.{IsEnd}
 use Rattle.ic_refs.proofs.OffsetLemmas.{finds_at}
 use Rattle.ic_refs.proofs.ReferenceLemmas.{finds_reference, reference_again}
 use Rattle.ic_refs.proofs.SheetLemmas.{no_sheet_without_bang}

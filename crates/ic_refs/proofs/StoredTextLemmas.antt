@@ -7,7 +7,7 @@ use Rattle.std.specs.Str.Parse.{digits_value}
 use Rattle.std.proofs.lemmas.Bool.{and_parts, or_parts, or_from, leb-true, ltb-true, false≢true}
 use Rattle.std.proofs.lemmas.Fmt.{digits_decimal, digits_value-decimal, decimal_nonempty}
 use Rattle.std.proofs.lemmas.Str.Parse.{IsNumeralModel, numerals_by_value, tells_all_ascii_digits}
-use Rattle.ic_laws.specs.Name.{is_digit, is_plain, is_word_character, is_letter, first_is}
+use Rattle.ic_laws.specs.Scan.{is_digit, is_plain, is_word_character, is_letter, first_is, joins, IsEnd}
 use Rattle.ic_laws.specs.declared.reference.Position.{Position}
 use Rattle.ic_laws.specs.declared.reference.Position.TheVariants as at
 use Rattle.ic_laws.specs.declared.reference.RefPart.{RefPart}
@@ -15,7 +15,6 @@ use Rattle.ic_laws.specs.declared.reference.Place.{Place}
 use Rattle.ic_laws.specs.declared.reference.Place.TheVariants as places
 use Rattle.ic_laws.specs.Position.{is_within, is_part_within, is_place_within}
 use Rattle.ic_refs.specs.Stored.{SpellsNumber, SpellsDistance, SpellsPosition, SpellsCell, SpellsPlace, position_text, cell_text, place_text, stored_place_at}
-use Rattle.ic_laws.specs.Name.{joins, IsEnd}
 use Rattle.ic_refs.proofs.StoredReachLemmas.{place_exactly, other_than_digit}
 
 -- digits and their number

@@ -4,7 +4,7 @@ use Rattle.std.specs.List.{list_all}
 use Rattle.std.proofs.lemmas.Bool.{and_parts, and_from}
 use Rattle.std.proofs.lemmas.List.{append-nil, append_cancel_right, reverse-append, reverse-reverse}
 use Rattle.std.proofs.lemmas.List.Folds.{list_all-append}
-use Rattle.ic_laws.specs.Name.{is_blank, past_run}
+use Rattle.ic_laws.specs.Scan.{is_blank, past_run}
 use Rattle.ic_refs.specs.Trim.{EndsSoFar, EndsAt, IsTrimmed}
 
 pub ends_first : (text : List ℕ) → EndsSoFar text text text

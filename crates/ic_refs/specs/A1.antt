@@ -3,8 +3,9 @@ use Rattle.std.specs.Prelude.{◌≡◌, ℕ, ℤ, pos, ◌-◌, ◌-ℤ◌, ◌
 use Rattle.std.specs.Fmt.{decimal}
 use Rattle.std.specs.Str.Parse.{digits_value}
 use Rattle.std.specs.Ordering.{int_eq}
-use Rattle.ic_laws.specs.Name.{is_digit, names_row, first_is, past_dollar}
-use Rattle.ic_laws.specs.Position.{is_row, is_column, is_ascii_letter, letter_digit, letters_number, names_column, place_at, is_inside}
+use Rattle.ic_laws.specs.Name.{names_row}
+use Rattle.ic_laws.specs.Scan.{is_digit, first_is, past_dollar, is_ascii_letter}
+use Rattle.ic_laws.specs.Position.{is_row, is_column, letter_digit, letters_number, names_column, place_at, is_inside}
 use Rattle.ic_laws.specs.declared.reference.Position.{Position}
 use Rattle.ic_laws.specs.declared.reference.Position.TheVariants as at
 use Rattle.ic_laws.specs.declared.reference.RefPart.{RefPart}

@@ -1,7 +1,8 @@
 -- How a column is written.
 use Rattle.std.specs.Prelude.{ℕ, ℤ, pos, ◌+◌, ◌-◌, ◌/◌, ◌%◌, List, [], ◌∷◌, nat_lt, nat_le, nat_abs, Option, Some, None, Result, Ok, Err, if◌then◌else◌}
 use Rattle.std.specs.List.{list_all}
-use Rattle.ic_laws.specs.Position.{is_column, is_upper, letters_number}
+use Rattle.ic_laws.specs.Position.{is_column, letters_number}
+use Rattle.ic_laws.specs.Scan.{is_upper}
 use Rattle.ic_refs.specs.declared.error.ColumnError.{ColumnError}
 use Rattle.ic_refs.specs.declared.error.ColumnError.TheVariants as errors
 

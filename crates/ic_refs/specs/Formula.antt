@@ -1,7 +1,7 @@
 -- What a whole text refers to, in the A1 form.
 use Rattle.std.specs.Prelude.{◌≡◌, ℕ, pos, List, [], ◌∷◌, Bool, true, false, reverse, Option, Some, None, Result, Ok, Err, option_map, if◌then◌else◌}
 use Rattle.std.specs.List.{list_all}
-use Rattle.ic_laws.specs.Name.{is_blank, is_word_character, past_run}
+use Rattle.ic_laws.specs.Scan.{is_blank, is_word_character, past_run}
 use Rattle.ic_laws.specs.Position.{place_at}
 use Rattle.ic_laws.specs.declared.reference.Position.{Position}
 use Rattle.ic_laws.specs.declared.reference.Position.TheVariants as at

@@ -1,6 +1,6 @@
 -- A number at the front of a text, while it is small enough.
 use Rattle.std.specs.Prelude.{ℕ, ◌+◌, ◌*◌, ◌-◌, List, [], ◌∷◌, ◌&&◌, nat_le, Option, Some, None, if◌then◌else◌}
-use Rattle.ic_laws.specs.Name.{is_digit}
+use Rattle.ic_laws.specs.Scan.{is_digit}
 
 -- the number of the digits at the front, behind those of n, and what stands behind them: digits are taken while the
 -- number is at most the limit

@@ -4,7 +4,8 @@ use Rattle.std.specs.Prelude.{◌≡◌, ℕ, ℤ, pos, neg_ℤ, ◌+ℤ◌, ◌
 use Rattle.std.specs.List.{before_first, after_first, list_any}
 use Rattle.std.specs.Int.{int_min, int_max, int_rem_euclid}
 use Rattle.std.specs.Str.Parse.{digits_value}
-use Rattle.ic_laws.specs.Name.{is_digit, is_r, is_c, run_of, past_run}
+use Rattle.ic_laws.specs.Name.{is_r, is_c}
+use Rattle.ic_laws.specs.Scan.{is_digit, run_of, past_run}
 use Rattle.ic_laws.specs.Position.{is_row, is_column}
 use Rattle.ic_refs.specs.declared.error.ReferenceError.{ReferenceError}
 use Rattle.ic_refs.specs.declared.error.ReferenceError.TheVariants as errors

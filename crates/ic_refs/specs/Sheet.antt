@@ -1,6 +1,7 @@
 -- A sheet's name before a reference, and references with one or without.
 use Rattle.std.specs.Prelude.{◌≡◌, ℕ, List, [], ◌∷◌, ◌++◌, true, false, ◌&&◌, ◌==◌, ◌⊎◌, Option, Some, None, option_map, option_and_then, if◌then◌else◌}
-use Rattle.ic_laws.specs.Name.{is_plain, is_sheet_name, needs_quotes, in_quotes, quoted, run_of, past_run}
+use Rattle.ic_laws.specs.Name.{is_sheet_name, needs_quotes, in_quotes, quoted}
+use Rattle.ic_laws.specs.Scan.{is_plain, run_of, past_run}
 use Rattle.ic_laws.specs.declared.reference.RefToken.{RefToken}
 use Rattle.ic_laws.specs.declared.reference.Place.{Place}
 

@@ -9,7 +9,7 @@ use Rattle.ic_laws.specs.declared.reference.RefPart.{RefPart}
 use Rattle.ic_laws.specs.declared.reference.Place.{Place}
 use Rattle.ic_laws.specs.declared.reference.Place.TheVariants as places
 use Rattle.ic_laws.specs.declared.reference.RefToken.{RefToken}
-use Rattle.ic_laws.specs.Name.{is_digit, first_is}
+use Rattle.ic_laws.specs.Scan.{is_digit, first_is}
 use Rattle.ic_laws.specs.Position.{is_part_within}
 use Rattle.ic_refs.specs.Number.{number_from}
 use Rattle.ic_refs.specs.Sheet.{SpellsReference, sheet_text}

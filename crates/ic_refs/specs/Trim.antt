@@ -1,7 +1,7 @@
 -- Where the blanks at the end of a text begin.
 use Rattle.std.specs.Prelude.{◌≡◌, ℕ, List, [], ◌++◌, true, reverse}
 use Rattle.std.specs.List.{list_all}
-use Rattle.ic_laws.specs.Name.{is_blank, past_run}
+use Rattle.ic_laws.specs.Scan.{is_blank, past_run}
 
 -- a text that doesn't end with a blank
 abbrev pub IsTrimmed : List ℕ → Type 0

@@ -1,6 +1,7 @@
 -- A sheet's name as it is written: plain, or what stands between quotes, with each quote doubled.
 use Rattle.std.specs.Prelude.{◌≡◌, ℕ, List, [], ◌∷◌, ◌++◌, ◌==◌, Option, Some, None, chars, flat_map, if◌then◌else◌}
-use Rattle.ic_laws.specs.Name.{is_plain, needs_quotes, run_of, past_run}
+use Rattle.ic_laws.specs.Name.{needs_quotes}
+use Rattle.ic_laws.specs.Scan.{is_plain, run_of, past_run}
 use Rattle.ic_refs.specs.Sheet.{name_in_quotes}
 use Rattle.ic_refs.specs.declared.written.Quoting.{Quoting}
 use Rattle.ic_refs.specs.declared.written.Quoting.TheVariants as quotings

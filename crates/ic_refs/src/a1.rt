@@ -1,9 +1,10 @@
 ghost use Rattle.std.specs.Prelude.{◌≡◌, ◌-◌, ◌≤◌, ◌≤ℤ◌, pos, true, Some, None, chars, option_map, if◌then◌else◌};
-ghost use Rattle.ic_laws.specs.Name.{is_digit, past_dollar};
+ghost use Rattle.ic_laws.specs.Scan.{is_digit, past_dollar};
 ghost use Rattle.ic_refs.specs.A1.{a1_place_at, cell_at, column_at, digits_from, has_dollar, IsAnOrigin, pair_at, past_colon, read_position, row_at, whole_columns, whole_rows};
 
 use crate::column::read_letters;
-use ic_laws::{LAST_COLUMN, LAST_ROW, Place, Position, RefPart, first_char};
+use ic_laws::scan::first_char;
+use ic_laws::{LAST_COLUMN, LAST_ROW, Place, Position, RefPart};
 
 /// The cell in which a reference is read or spelled.
 #[derive(Clone, Copy)]

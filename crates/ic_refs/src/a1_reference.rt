@@ -1,5 +1,6 @@
 ghost use Rattle.std.specs.Prelude.{◌≡◌, ◌↔◌, ◌&&◌, ◌+◌, ◌++◌, ◌-◌, ℕ, List, true, false, Some, None, chars, string_bytes, encode_utf8_all, length, option_map, option_and_then, IfOk, IfSome, IsNone};
-ghost use Rattle.ic_laws.specs.Name.{IsEnd, is_sheet_name};
+ghost use Rattle.ic_laws.specs.Name.{is_sheet_name};
+ghost use Rattle.ic_laws.specs.Scan.{IsEnd};
 ghost use Rattle.ic_laws.specs.Position.{is_column, is_row};
 ghost use Rattle.ic_refs.specs.A1.{a1_at, a1_place_at, a1_text, is_spellable, IsAnOrigin, SpellsA1};
 ghost use Rattle.ic_refs.specs.Longest.{FindsLongestAt, read_at};

@@ -5,7 +5,8 @@ ghost use Rattle.ic_refs.specs.A1.{are_whole_columns, are_whole_rows, cell_text,
 
 use crate::a1::Origin;
 use crate::column::push_column;
-use ic_laws::{LAST_COLUMN, LAST_ROW, OutOfMemory, Place, Position, RefPart, push_char, push_text};
+use ic_laws::scan::{push_char, push_text};
+use ic_laws::{LAST_COLUMN, LAST_ROW, OutOfMemory, Place, Position, RefPart};
 use std::alloc::Global;
 
 // Where a position lies, in a cell whose row or column is the origin.

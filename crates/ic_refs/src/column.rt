@@ -1,11 +1,13 @@
 ghost use Rattle.std.specs.Prelude.{◌≡◌, ◌↔◌, ◌<◌, ◌≤◌, [], ◌∷◌, ◌++◌, ◌+◌, true, false, pos, nat_lt, Some, Ok, IfOk, IfSome, OnOk, IsNone, is_ok, chars, string_bytes, option_map};
 ghost use Rattle.std.specs.List.{list_all};
-ghost use Rattle.ic_laws.specs.Position.{is_row, is_column, is_upper, letters_number};
+ghost use Rattle.ic_laws.specs.Position.{is_row, is_column, letters_number};
+ghost use Rattle.ic_laws.specs.Scan.{is_upper};
 ghost use Rattle.ic_refs.specs.A1.{letters_from};
 ghost use Rattle.ic_refs.specs.Column.{column_letters, column_name, column_number, letter};
 
 use crate::ColumnError;
-use ic_laws::{LAST_COLUMN, LAST_ROW, OutOfMemory, first_char, letter_number, push_char};
+use ic_laws::scan::{first_char, letter_number, push_char};
+use ic_laws::{LAST_COLUMN, LAST_ROW, OutOfMemory};
 use std::alloc::Global;
 
 /// The number of the column with these letters, from 1. Only upper case is read.

@@ -13,7 +13,8 @@ use crate::a1_reference::{FoundReference, find_reference};
 use crate::trim::trimmed;
 use crate::written::WrittenName;
 use crate::{A1Reference, CellReferenceIndex, ParsedReference, ReferenceError};
-use ic_laws::{Place, Position, RefPart, has_word_characters, is_nothing};
+use ic_laws::scan::{has_word_characters, is_nothing};
+use ic_laws::{Place, Position, RefPart};
 use std::alloc::Global;
 
 /// From the corner of the sheet each position is its number.

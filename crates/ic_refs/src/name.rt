@@ -1,12 +1,14 @@
 ghost use Rattle.std.specs.Prelude.{◌≡◌, ◌++◌, codes, ◌&&◌, ◌||◌, ◌==◌, nat_lt, length, chars, string_bytes, OnOk, IfOk};
-ghost use Rattle.ic_laws.specs.Name.{agrees, first_is, in_quotes, is_c, is_digit, is_identifier, is_numbered, is_r1c1_cell, is_sheet_name, is_variable, needs_quotes, quoted};
+ghost use Rattle.ic_laws.specs.Name.{agrees, in_quotes, is_c, is_identifier, is_numbered, is_r1c1_cell, is_sheet_name, is_variable, needs_quotes, quoted};
+ghost use Rattle.ic_laws.specs.Scan.{first_is, is_digit};
 ghost use Rattle.ic_refs.specs.Written.{doubled, doubled_char};
 
 use crate::written::{Quoting, spells_sheet_name};
-use ic_laws::{
-    OutOfMemory, agree, are_digits, begins_with_digit, first_char, is_a1_cell, is_c, is_lone,
-    is_nothing, is_r, is_variable_form, past_digits, past_plain, push_char, push_text,
+use ic_laws::scan::{
+    are_digits, begins_with_digit, first_char, is_a1_cell, is_c, is_lone, is_nothing, is_r,
+    is_variable_form, past_digits, past_plain, push_char, push_text,
 };
+use ic_laws::{OutOfMemory, agree};
 use std::alloc::Global;
 
 /// Whether the text may name a sheet: 1 to 31 characters, none of `\ / * ? : [ ]`.

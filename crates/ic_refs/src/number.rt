@@ -1,7 +1,7 @@
 ghost use Rattle.std.specs.Prelude.{◌≡◌, ◌≤◌, ◌^◌, chars};
 ghost use Rattle.ic_refs.specs.Number.{number_from, with_digit};
 
-use ic_laws::first_char;
+use ic_laws::scan::first_char;
 
 /// The number of the digits at the front, and what stands behind them. Digits are taken while the number is at most
 /// the limit; it is 0 where there is none.

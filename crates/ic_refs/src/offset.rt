@@ -1,5 +1,5 @@
 ghost use Rattle.std.specs.Prelude.{◌≡◌, ◌-◌, true, false, chars, drop, encode_utf8_all, length, MatchOption};
-ghost use Rattle.ic_laws.specs.Name.{EndsWith};
+ghost use Rattle.ic_laws.specs.Scan.{EndsWith};
 ghost use Rattle.ic_refs.specs.Longest.{is_char_boundary};
 
 /// The text from this byte on. None past the end and inside a character.

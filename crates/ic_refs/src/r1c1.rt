@@ -1,5 +1,5 @@
 ghost use Rattle.std.specs.Prelude.{◌≡◌, chars, true, option_map, IfOk};
-ghost use Rattle.ic_laws.specs.Name.{past_run};
+ghost use Rattle.ic_laws.specs.Scan.{past_run};
 ghost use Rattle.ic_laws.specs.Position.{is_row, is_column};
 ghost use Rattle.ic_refs.specs.Formula.{UnlessMemory};
 ghost use Rattle.ic_refs.specs.Sheet.{name_in_quotes};
@@ -11,7 +11,7 @@ use crate::r1c1_ends::{read_ends, referred};
 use crate::reference::{CellReferenceIndex, ParsedReference};
 use crate::sheet::name_in_quotes;
 use crate::written::{Quoting, WrittenName};
-use ic_laws::{first_char, front_of};
+use ic_laws::scan::{first_char, front_of};
 use std::alloc::Global;
 
 impl ParsedReference {

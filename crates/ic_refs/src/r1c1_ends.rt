@@ -5,7 +5,8 @@ ghost use Rattle.ic_refs.specs.R1C1.{Gives, column_behind, row_end_at, column_en
 use crate::error::ReferenceError;
 use crate::r1c1_part::read_part;
 use crate::reference::{CellReferenceIndex, ParsedReference};
-use ic_laws::{LAST_COLUMN, LAST_ROW, first_char};
+use ic_laws::scan::first_char;
+use ic_laws::{LAST_COLUMN, LAST_ROW};
 
 /// One end of a reference: a cell has a row and a column, a whole row no column, a whole column no row.
 #[derive(Clone, Copy)]

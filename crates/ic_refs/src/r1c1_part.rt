@@ -1,10 +1,10 @@
 ghost use Rattle.std.specs.Prelude.{◌≡◌, ◌≤◌, ◌<◌, ◌^◌, ◌≤ℤ◌, nat_abs, MatchResult, chars, pos, neg_ℤ};
-ghost use Rattle.ic_laws.specs.Name.{is_digit, first_is, past_run};
+ghost use Rattle.ic_laws.specs.Scan.{is_digit, first_is, past_run};
 ghost use Rattle.ic_refs.specs.R1C1.{Gives, number_at, absolute, wrapped, offset, past_bracket, offset_on_at, offset_back_at, offset_at, absolute_at, part_at};
 
 use crate::error::ReferenceError;
 use crate::number::read_number;
-use ic_laws::{begins_with_digit, first_char};
+use ic_laws::scan::{begins_with_digit, first_char};
 
 // The number of all digits at the front, and what stands behind them.
 #[tactic(auto, using(crate::proofs::R1C1Lemmas::number_missing, crate::proofs::R1C1Lemmas::number_large))]

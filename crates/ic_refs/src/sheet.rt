@@ -1,11 +1,12 @@
 ghost use Rattle.std.specs.Prelude.{◌≡◌, ◌<◌, length, IfSome, ◌++◌, ◌∷◌, ◌==◌, false, None, chars, string_bytes, MatchOption, OnOk, option_map};
-ghost use Rattle.ic_laws.specs.Name.{first_is};
+ghost use Rattle.ic_laws.specs.Scan.{first_is};
 ghost use Rattle.ic_refs.specs.Sheet.{before_bang, name_in_quotes, sheet_at, sheet_text, written_name};
 ghost use Rattle.ic_refs.specs.Written.{ClosesAt, name_of, plain_name};
 
 use crate::name::{needs_quotes, push_quoted};
 use crate::written::{Quoting, WrittenName};
-use ic_laws::{OutOfMemory, Text, first_char, front_of, past_plain, plain_run, push_char};
+use ic_laws::scan::{first_char, front_of, past_plain, plain_run, push_char};
+use ic_laws::{OutOfMemory, Text};
 
 /// The sheet's name at the front of a text, and what stands behind its `!`. None where no valid name stands there.
 pub(crate) fn find_sheet(text: &str) -> Option<(WrittenName<'_>, &str)>

@@ -8,9 +8,8 @@ use crate::number::read_number;
 use crate::offset::{bytes_before, text_from};
 use crate::sheet::find_sheet;
 use crate::written::{WrittenName, owned_name};
-use ic_laws::{
-    LAST_COLUMN, LAST_ROW, OutOfMemory, Place, Position, RefPart, RefToken, Text, first_char,
-};
+use ic_laws::scan::first_char;
+use ic_laws::{LAST_COLUMN, LAST_ROW, OutOfMemory, Place, Position, RefPart, RefToken, Text};
 use std::alloc::Global;
 
 /// The longest reference in the stored form that begins at this byte of the text, and the number of its bytes. None

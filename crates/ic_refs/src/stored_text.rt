@@ -4,10 +4,11 @@ ghost use Rattle.ic_laws.specs.Name.{is_sheet_name};
 ghost use Rattle.ic_laws.specs.Position.{is_place_within};
 ghost use Rattle.ic_refs.specs.Sheet.{reference_at};
 ghost use Rattle.ic_refs.specs.Stored.{stored_place_at, position_text, cell_text, place_text, stored_text};
-ghost use Rattle.ic_laws.specs.Name.{IsEnd};
+ghost use Rattle.ic_laws.specs.Scan.{IsEnd};
 
 use crate::sheet::push_sheet;
-use ic_laws::{OutOfMemory, Place, Position, RefPart, RefToken, push_char};
+use ic_laws::scan::push_char;
+use ic_laws::{OutOfMemory, Place, Position, RefPart, RefToken};
 use std::alloc::Global;
 
 /// The reference in the stored form.

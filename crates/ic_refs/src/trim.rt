@@ -1,9 +1,9 @@
 ghost use Rattle.std.specs.Prelude.{◌≡◌, chars};
-ghost use Rattle.ic_laws.specs.Name.{is_blank, past_run};
+ghost use Rattle.ic_laws.specs.Scan.{is_blank, past_run};
 ghost use Rattle.ic_refs.specs.Formula.{trimmed};
 ghost use Rattle.ic_refs.specs.Trim.{EndsAt};
 
-use ic_laws::{first_char, front_of};
+use ic_laws::scan::{first_char, front_of};
 
 /// The text without the blanks at both ends: spaces, tabs, line feeds and carriage returns.
 pub(crate) fn trimmed(text: &str) -> &str

@@ -2,7 +2,8 @@ ghost use Rattle.std.specs.Prelude.{◌≡◌, ◌<◌, ◌++◌, ◌∷◌, [],
 ghost use Rattle.ic_laws.specs.Name.{is_forbidden, is_sheet_name};
 ghost use Rattle.ic_refs.specs.Written.{name_of, spelled, undoubled};
 
-use ic_laws::{OutOfMemory, Text, first_char, push_char};
+use ic_laws::scan::{first_char, push_char};
+use ic_laws::{OutOfMemory, Text};
 use std::alloc::Global;
 
 /// How a sheet's name is written.

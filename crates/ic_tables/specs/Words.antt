@@ -1,7 +1,8 @@
 -- The words of a language: which texts may be one, and when those of a language can be told apart.
 use Rattle.std.specs.Prelude.{ℕ, List, [], ◌∷◌, ◌++◌, Bool, true, false, not, ◌&&◌, ◌==◌, nat_lt, length, Option, Some, None, map, codes, bytes_eq}
 use Rattle.std.specs.List.{list_any, list_all, slice_get}
-use Rattle.ic_laws.specs.Name.{agrees, first_is, fold, is_letter, is_variable_form, is_word_character}
+use Rattle.ic_laws.specs.Name.{agrees, fold, is_variable_form}
+use Rattle.ic_laws.specs.Scan.{first_is, is_letter, is_word_character}
 use Rattle.ic_tables.specs.declared.language.Booleans.{Booleans}
 use Rattle.ic_tables.specs.declared.language.Errors.{Errors}
 use Rattle.ic_tables.specs.declared.language.Functions.{Functions}

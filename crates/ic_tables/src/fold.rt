@@ -5,7 +5,8 @@ ghost use Rattle.std.specs.List.{list_all};
 
 use crate::ids::{HasId, have_different_ids};
 use caseless::default_case_fold_str;
-use ic_laws::{OutOfMemory, Text, first_char};
+use ic_laws::scan::first_char;
+use ic_laws::{OutOfMemory, Text};
 use std::alloc::Global;
 
 /// Whether no two of these words agree.

@@ -1,14 +1,13 @@
 ghost use Rattle.std.specs.Prelude.{◌≡◌, ◌==◌, IfOk, bytes_eq, chars, codes, map, nat_lt, not, option_copied};
 ghost use Rattle.std.specs.List.{list_all, list_any, slice_get};
-ghost use Rattle.ic_laws.specs.Name.{first_is};
+ghost use Rattle.ic_laws.specs.Scan.{first_is};
 ghost use Rattle.ic_tables.specs.Tables.{error_words_in};
 ghost use Rattle.ic_tables.specs.Words.{differ, ends_error_word, error_words, has_boolean_words, has_error_words, has_function_words, has_stored_booleans, has_stored_functions, has_stored_words, is_error_word, is_function_word, is_text, named_numbers, numbers_functions, numbers_of, tells_booleans, tells_errors};
 
 use crate::fold::{fold_onto, is_prefix_free, no_two_agree};
 use crate::{Booleans, Functions, Language};
-use ic_laws::{
-    OutOfMemory, Text, agree, begins_with_letter, first_char, has_word_characters, is_variable_form,
-};
+use ic_laws::scan::{begins_with_letter, first_char, has_word_characters, is_variable_form};
+use ic_laws::{OutOfMemory, Text, agree};
 use std::alloc::Global;
 
 /// Whether each of so many functions has a word, and LET, LAMBDA, TRUE and FALSE have four numbers of functions.

@@ -1,5 +1,5 @@
 use Rattle.std.proofs.Common.{chars, rules, subst, ◌<◌, ◌≡◌, true, arith}
-use Rattle.ic_laws.specs.Name.{is_digit}
+use Rattle.ic_laws.specs.Scan.{is_digit}
 use Rattle.ic_laws.proofs.AmountLemmas.{past_limit}
 use Rattle.ic_laws.proofs.amount.digits_at.Goals as goal
 

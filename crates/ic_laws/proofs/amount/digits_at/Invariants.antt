@@ -2,7 +2,7 @@ use Rattle.std.proofs.Common.{◌≡◌, ◌+◌, ◌≤◌, chars, length}
 use denote.Text.{Utf8}
 use denote.Shadow.{shadow}
 use Rattle.std.specs.Str.Parse.{digits_value, digits_value_after}
-use Rattle.ic_laws.specs.Name.{is_digit, run_of, past_run}
+use Rattle.ic_laws.specs.Scan.{is_digit, run_of, past_run}
 use Rattle.ic_laws.proofs.amount.digits_at.Given as goal
 
 -- what was passed and the digits of what is left are those of the text

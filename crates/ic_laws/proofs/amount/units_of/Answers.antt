@@ -1,6 +1,6 @@
 use Rattle.std.proofs.Common.{chars, sym, ◌∙◌, ◌≡◌, ◌≢◌, [], ap₂}
 use Rattle.ic_laws.specs.Amount.{units_by}
-use Rattle.ic_laws.specs.Name.{is_digit, past_run}
+use Rattle.ic_laws.specs.Scan.{is_digit, past_run}
 use Rattle.ic_laws.proofs.AmountLemmas.{units_of-digits, units_of-long, units_of-more}
 use Rattle.ic_laws.proofs.amount.units_of.Goals as goal
 

@@ -1,7 +1,7 @@
 use Rattle.std.proofs.Common.{◌≡◌, chars, length}
 use denote.Text.{Utf8}
 use denote.Shadow.{shadow}
-use Rattle.ic_laws.specs.Name.{past_run}
+use Rattle.ic_laws.specs.Scan.{past_run}
 use Rattle.ic_refs.specs.R1C1.{is_no_bang}
 use Rattle.ic_refs.proofs.r1c1.from_bang.Given as goal
 

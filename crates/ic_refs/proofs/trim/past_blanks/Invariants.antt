@@ -1,7 +1,7 @@
 use Rattle.std.proofs.Common.{◌≡◌, chars, length}
 use denote.Text.{Utf8}
 use denote.Shadow.{shadow}
-use Rattle.ic_laws.specs.Name.{is_blank, past_run}
+use Rattle.ic_laws.specs.Scan.{is_blank, past_run}
 use Rattle.ic_refs.proofs.trim.past_blanks.Given as goal
 
 -- behind the blanks of the rest stands what stands behind those of the text

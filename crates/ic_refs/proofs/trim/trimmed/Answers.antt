@@ -1,5 +1,5 @@
 use Rattle.std.proofs.Common.{◌∙◌, ap, reverse}
-use Rattle.ic_laws.specs.Name.{is_blank, past_run}
+use Rattle.ic_laws.specs.Scan.{is_blank, past_run}
 use Rattle.ic_refs.proofs.TrimLemmas.{trimmed_front}
 use Rattle.ic_refs.proofs.trim.trimmed.Goals as goal
 

@@ -1,8 +1,0 @@
-use Rattle.std.proofs.Common.{◌++◌, chars, string_bytes, ap, ◌∙◌}
-use Rattle.ic_laws.proofs.TextLemmas.{chars_more, chars-encode}
-use Rattle.ic_laws.proofs.text.push_char.Goals as goal
-
-pub returns : goal.returns
-returns c =
-    ap chars c.in_ok-push.ensures.bytes ∙ chars_more c.args.text.now _
-    ∙ ap (λ cs. chars (string_bytes c.args.text.now) ++ cs) (chars-encode c.args.c c.ranges.c.0)

@@ -1,6 +1,0 @@
-use Rattle.std.proofs.Common.{chars, ap, ◌∙◌}
-use Rattle.ic_laws.proofs.TextLemmas.{chars_more}
-use Rattle.ic_laws.proofs.text.push_text.Goals as goal
-
-pub returns : goal.returns
-returns c = ap chars c.in_ok-push_str.ensures.bytes ∙ chars_more c.args.text.now c.args.more.now
