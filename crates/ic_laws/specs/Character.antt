@@ -49,6 +49,12 @@ colon = 58
 abbrev pub semicolon : ℕ
 semicolon = 59
 
+abbrev pub equals : ℕ
+equals = 61
+
+abbrev pub greater : ℕ
+greater = 62
+
 abbrev pub at_sign : ℕ
 at_sign = 64
 
