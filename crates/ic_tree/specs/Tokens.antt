@@ -1,0 +1,47 @@
+-- What the tokens of the code mean, and what stands first in a list of tokens.
+use Rattle.std.specs.Prelude.{List, [], ◌∷◌}
+use Rattle.ic_laws.specs.Token as tokens
+use Rattle.ic_laws.specs.Token.{Token}
+use Rattle.ic_tree.specs.declared.token.Ahead.{Ahead}
+use Rattle.ic_tree.specs.declared.token.Ahead.TheVariants as ahead
+use Rattle.ic_tree.specs.declared.token.Token as code
+use Rattle.ic_tree.specs.declared.token.Token.TheVariants as of
+
+-- the token of the definitions that a token of the code is
+abbrev pub token_of : code.Token → Token
+token_of (of.Num units) = tokens.Num units
+token_of (of.Str text) = tokens.Str text
+token_of (of.Boolean value) = tokens.Boolean value
+token_of (of.Err error) = tokens.Err error
+token_of (of.Ref reference) = tokens.Ref reference
+token_of (of.Word text) = tokens.Word text
+token_of (of.FunHead number) = tokens.FunHead number
+token_of (of.NameHead name) = tokens.NameHead name
+token_of of.Separator = tokens.Separator
+token_of (of.Operator sign) = tokens.Operator sign
+token_of of.At = tokens.At
+token_of of.Percent = tokens.Percent
+token_of of.Hash = tokens.Hash
+token_of of.Open = tokens.Open
+token_of of.Close = tokens.Close
+token_of of.OpenBrace = tokens.OpenBrace
+token_of of.CloseBrace = tokens.CloseBrace
+token_of of.Semicolon = tokens.Semicolon
+
+-- what is left after the first token
+abbrev pub after_first : List Token → List Token
+after_first [] = []
+after_first (t ∷ ts) = ts
+
+-- what is in sight
+abbrev pub ahead_of : List Token → Ahead
+ahead_of [] = ahead.End
+ahead_of (tokens.Percent ∷ ts) = ahead.Percent
+ahead_of (tokens.Hash ∷ ts) = ahead.Hash
+ahead_of (tokens.Open ∷ ts) = ahead.Open
+ahead_of (tokens.Close ∷ ts) = ahead.Close
+ahead_of (tokens.CloseBrace ∷ ts) = ahead.CloseBrace
+ahead_of (tokens.Separator ∷ ts) = ahead.Separator
+ahead_of (tokens.Semicolon ∷ ts) = ahead.Semicolon
+ahead_of (tokens.Operator sign ∷ ts) = ahead.Operator sign
+ahead_of (t ∷ ts) = ahead.Other
