@@ -21,7 +21,7 @@ use Rattle.ic_laws.specs.declared.tree.Tree.TheViews.{out-roll-Tree}
 abbrev Sheet : Type 0
 Sheet = Option (List ℕ)
 
--- a tree of one level, and a pair of LET
+-- a tree of one node, and a pair of LET
 abbrev node : Kind Sheet (List ℕ) → Spelled
 node kind = roll-Tree Sheet (List ℕ) kind
 
@@ -91,7 +91,7 @@ with_let d = simp (tokens_of-node, tokens_of-pair)
 with_lambda : (d : DialectMeaning) → yield d (node (one.Lambda (codes "x" ∷ []) (word (codes "x")))) ≡ FunHead d.lambda_fn ∷ Word (codes "x") ∷ Separator ∷ Word (codes "x") ∷ Close ∷ []
 with_lambda d = simp tokens_of-node
 
--- what holds of a well-formed tree's first level
+-- what holds of a well-formed tree's first node
 level_of : (d : DialectMeaning) (kind : Kind Sheet (List ℕ)) → IsWell d (node kind) → IsKindWell spelled_names d.let_fn d.lambda_fn kind
 level_of d kind well = subst (IsKindWell spelled_names d.let_fn d.lambda_fn) (out-roll-Tree Sheet (List ℕ) kind) (every_here-Tree Sheet (List ℕ) _ _ _ well.nodes)
 

@@ -1,5 +1,5 @@
--- The smallest dialect, which shows that the laws of a notation can be met. Each word is a mark of its kind with a digit
--- behind it, and there are no references.
+-- The smallest dialect, which shows that the laws of dialects can be met. Each word is a mark of its kind with a digit
+-- after it, and there are no references.
 use Rattle.std.specs.Prelude.{ℕ, zero, suc, ◌+◌, List, [], ◌∷◌, ◌++◌, false, nat_lt, bytes_eq, Option, Some, None, if◌then◌else◌}
 use Rattle.std.specs.Str.{chars}
 use Rattle.ic_laws.specs.Dialect.{DialectMeaning}
@@ -18,7 +18,7 @@ count kinds.Boolean = 2
 count kinds.Error = 12
 count kinds.Function = 2
 
--- the character behind the mark counts on from `0`, past `9` too
+-- the character after the mark counts on from `0`, past `9` too
 abbrev pub numbered : WordKind → ℕ → List ℕ
 numbered kind n = mark kind ++ (48 + n) ∷ []
 

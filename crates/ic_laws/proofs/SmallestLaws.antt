@@ -1,4 +1,4 @@
--- The smallest dialect meets the laws of a notation.
+-- The smallest dialect meets the laws of dialects.
 use Rattle.std.proofs.Common.{◌≡◌, ℕ, zero, suc, ◌+◌, ◌<◌, List, [], ◌∷◌, ◌++◌, true, ◌&&◌, nat_lt, bytes_eq, Option, Some, None, IsSome, refl, sym, ap, subst, ◌∙◌, arith, inl}
 use Rattle.std.specs.List.{list_all}
 use Rattle.std.proofs.lemmas.Bool.{cond_both, cond-true}

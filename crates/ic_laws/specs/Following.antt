@@ -8,7 +8,7 @@ use Rattle.ic_laws.specs.Token.{Token, Num, Str, Boolean, Ref, Word, FunHead, Na
 use Rattle.ic_laws.specs.declared.dialect.WordKind.TheVariants as kinds
 use Rattle.ic_laws.specs.declared.tree.BinarySign.TheVariants as signs
 
--- the notation can spell the token so that it reads back
+-- the dialect can spell the token so that it reads back
 abbrev pub CanSpell : DialectMeaning → Token → Type 0
 CanSpell d (Num (pos units)) = units < 10 ^ 27
 CanSpell d (Num (negsuc units)) = ⊥

@@ -11,7 +11,7 @@ abbrev pub at_line_feed : List ℕ → Bool
 at_line_feed [] = false
 at_line_feed (b ∷ bs) = b == 10
 
--- A line ends with a line feed, and one carriage return directly before that is no part of it. Behind the last
+-- A line ends with a line feed, and one carriage return directly before that is no part of it. After the last
 -- line feed a line stands where there is anything.
 abbrev pub lines_of : List ℕ → List (List ℕ)
 lines_of [] = []
@@ -38,7 +38,7 @@ escape_of c =
 abbrev pub escaped : List ℕ → List ℕ
 escaped text = flat_map escape_of text
 
--- what a backslash with this character behind it stands for
+-- what a backslash with this character after it stands for
 abbrev pub escape_meaning : ℕ → Option ℕ
 escape_meaning c = if c == 92 then Some 92 else if c == 116 then Some 9 else if c == 110 then Some 10 else if c == 114 then Some 13 else None
 
@@ -60,7 +60,7 @@ abbrev pub named_command : List ℕ → List (List ℕ) → Option Command
 named_command name (text ∷ []) = if bytes_eq name (codes "add_sheet") then Some (AddSheet text) else None
 named_command name texts = None
 
--- the command that the words spell: its name, and its texts behind that
+-- the command that the words spell: its name, and its texts after that
 abbrev pub spelled_command : List (List ℕ) → Option Command
 spelled_command [] = None
 spelled_command (name ∷ words) = option_and_then (named_command name) (word_texts words)

@@ -51,7 +51,7 @@ abbrev pub past_dollar : List ℕ → List ℕ
 past_dollar [] = []
 past_dollar (c ∷ cs) = if c == dollar then cs else c ∷ cs
 
--- the longest run of such characters at the front, and what stands behind it
+-- the longest run of such characters at the front, and what stands after it
 abbrev pub run_of : (ℕ → Bool) → List ℕ → List ℕ
 run_of p [] = []
 run_of p (c ∷ cs) = if p c then c ∷ run_of p cs else []

@@ -27,7 +27,7 @@ Spelled = Tree (Option (List ℕ)) (List ℕ)
 abbrev pub Bound : Type 0
 Bound = Tree SheetMention NameMention
 
--- one level of a tree, with trees below it
+-- the kind of a node, with the trees below it
 abbrev pub Kind : Type 0 → Type 0 → Type 0
 Kind S W = Tree-F S W (Tree S W) (LetPair S W)
 
@@ -46,7 +46,7 @@ sign_level signs.Times = 4
 sign_level signs.Over = 4
 sign_level signs.Power = 5
 
--- a sign before its operand has level 6, one behind it and a call of what a tree gives level 7, all else level 8
+-- a sign before its operand has level 6, one after it and a call of what a tree gives level 7, all else level 8
 abbrev pub kind_level : {S W : Type 0} → Kind S W → ℕ
 kind_level (one.Binary sign a b) = sign_level sign
 kind_level (one.Prefix sign x) = 6
@@ -225,7 +225,7 @@ abbrev pub HasPlaces : {S W : Type 0} → Kind S W → Type 0
 HasPlaces (one.Reference sheet place) = is_place_within place ≡ true
 HasPlaces kind = Unit {0}
 
--- what is asked of each level
+-- what is asked of each node
 pub record IsKindWell {S W : Type 0} (names : Names S W) (let_fn lambda_fn : ℕ) (kind : Kind S W) : Type 0 where
   pub operands : HasOperands kind
   pub called : CallsCallable kind

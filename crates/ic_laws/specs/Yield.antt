@@ -47,7 +47,7 @@ pub record PairTokens : Type 0 where
 abbrev pub pair_parts : List PairTokens → List (List Token)
 pair_parts pairs = flat_map (λ pair. (Word pair.variable ∷ []) ∷ pair.value ∷ []) pairs
 
--- the tokens of one level, from those of what is below it
+-- the tokens of one node, from those of what is below it
 abbrev pub yield_step : DialectMeaning → Tree-F (Option (List ℕ)) (List ℕ) (List Token) PairTokens → List Token
 yield_step d (one.Num units) = Num units ∷ []
 yield_step d (one.Str text) = Str text ∷ []

@@ -16,8 +16,8 @@ pub enum WordKind {
     Function,
 }
 
-/// A way to write formulas: separators, words and references. It means one notation, and `laws` says what holds of
-/// that.
+/// A way to write formulas: separators, words and references. `meaning` says what they
+/// mean, and `laws` what holds of that.
 pub trait Dialect {
     ghost meaning: { Self → DialectMeaning };
 

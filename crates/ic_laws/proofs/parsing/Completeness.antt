@@ -23,17 +23,17 @@ use Rattle.ic_laws.proofs.parsing.ReadLemmas.{Ends, Ends-more, made_takes, made_
 pub record ReadsBack (d : DialectMeaning) (most b : ℕ) (t : Spelled) : Type 0 where
   pub reads : (least : ℕ) (rest : List Token) → least ≤ level t → Ends least rest → reader d most b least (yield d t ++ rest) ≡ Some (t, rest)
 
--- behind an operand its loop goes on, with fuel for all that a tree may still grow
+-- after an operand its loop goes on, with fuel for all that a tree may still grow
 pub record GoesOn (read : Read Spelled) (loop : ℕ → Read Spelled) (most : ℕ) (t : Spelled) : Type 0 where
   pub fuel : ℕ
   pub enough : most < fuel + height t
   pub same : read ≡ loop fuel
 
--- a tree that binds as tightly as what stands behind an operand does, whatever stands behind it
+-- a tree that binds as tightly as what stands after an operand does, whatever stands after it
 pub record Tight (d : DialectMeaning) (t : Spelled) : Type 0 where
   pub goes : (most b : ℕ) (rest : List Token) → height t ≤ suc most → open_brackets t ≤ b → GoesOn (operand d (suc most) (reader d most) b (yield d t ++ rest)) (λ fuel. postfixes (suc most) (reader d most) b fuel t rest) (suc most) t
 
--- any tree, before what stands behind a whole operand
+-- any tree, before what stands after a whole operand
 pub record Wide (d : DialectMeaning) (t : Spelled) : Type 0 where
   pub goes : (most b least : ℕ) (rest : List Token) → height t ≤ suc most → open_brackets t ≤ b → least ≤ level t → Ends (suc (level t)) rest → GoesOn (expression d (suc most) (reader d most) b least (yield d t ++ rest)) (λ fuel. binaries (suc most) (reader d most) b least fuel t rest) (suc most) t
 
@@ -78,11 +78,11 @@ complete_tight d t seven tight = record { tight = λ h. tight; wide = wide_from_
 -- an operand that begins with its token and isn't gone on from
 pub record Begins (d : DialectMeaning) (kind : SpelledKind) : Type 0 where
   pub token : Token
-  pub behind : List Token
-  pub tokens : yield d (node kind) ≡ token ∷ behind
+  pub following : List Token
+  pub tokens : yield d (node kind) ≡ token ∷ following
   pub seven : 7 ≤ level (node kind)
   pub no_sign : prefix_sign token ≡ None
-  pub reads : (most b : ℕ) (rest : List Token) → height (node kind) ≤ suc most → open_brackets (node kind) ≤ b → primary d (suc most) (reader d most) b token (behind ++ rest) ≡ Some (node kind, rest)
+  pub reads : (most b : ℕ) (rest : List Token) → height (node kind) ≤ suc most → open_brackets (node kind) ≤ b → primary d (suc most) (reader d most) b token (following ++ rest) ≡ Some (node kind, rest)
 
 pub complete_primary : (d : DialectMeaning) (kind : SpelledKind) → Begins d kind → Complete d (node kind)
 unfolding operand
@@ -94,37 +94,37 @@ complete_primary d kind begins = complete_tight d (node kind) begins.seven (reco
   };
 })
   where
-    first_read : (most b : ℕ) (rest : List Token) → height (node kind) ≤ suc most → open_brackets (node kind) ≤ b → operand d (suc most) (reader d most) b (begins.token ∷ (begins.behind ++ rest)) ≡ postfixes (suc most) (reader d most) b (suc most) (node kind) rest
+    first_read : (most b : ℕ) (rest : List Token) → height (node kind) ≤ suc most → open_brackets (node kind) ≤ b → operand d (suc most) (reader d most) b (begins.token ∷ (begins.following ++ rest)) ≡ postfixes (suc most) (reader d most) b (suc most) (node kind) rest
     first_read most b rest low few = rw (begins.no_sign, operand, begins.reads most b rest low few) refl
 
--- a turn of the loop behind an operand
+-- a turn of the loop after an operand
 pub record Follows (d : DialectMeaning) (kind : SpelledKind) : Type 0 where
   pub left : Spelled
   pub token : Token
-  pub behind : List Token
-  pub tokens : yield d (node kind) ≡ yield d left ++ (token ∷ behind)
+  pub following : List Token
+  pub tokens : yield d (node kind) ≡ yield d left ++ (token ∷ following)
   pub seven : 7 ≤ level (node kind)
   pub tight : Tight d left
   pub higher : height left < height (node kind)
   pub fewer : open_brackets left ≤ open_brackets (node kind)
-  pub turn : (most b : ℕ) (rest : List Token) → height (node kind) ≤ suc most → open_brackets (node kind) ≤ b → postfix (suc most) (reader d most) b left (token ∷ (behind ++ rest)) ≡ Some (Some (node kind, rest))
+  pub turn : (most b : ℕ) (rest : List Token) → height (node kind) ≤ suc most → open_brackets (node kind) ≤ b → postfix (suc most) (reader d most) b left (token ∷ (following ++ rest)) ≡ Some (Some (node kind, rest))
 
 pub complete_postfix : (d : DialectMeaning) (kind : SpelledKind) → Follows d kind → Complete d (node kind)
 complete_postfix d kind follows = complete_tight d (node kind) follows.seven (record {
   goes = λ most b rest low few.
-      let on : GoesOn _ _ _ _ = follows.tight.goes most b (follows.token ∷ (follows.behind ++ rest)) (omega (arith, follows.higher)) (omega (arith, follows.fewer)) in
+      let on : GoesOn _ _ _ _ = follows.tight.goes most b (follows.token ∷ (follows.following ++ rest)) (omega (arith, follows.higher)) (omega (arith, follows.fewer)) in
       turned most b rest low few on.fuel on.enough on.same;
 })
   where
     turned : (most b : ℕ) (rest : List Token) → height (node kind) ≤ suc most → open_brackets (node kind) ≤ b → (fuel : ℕ) → suc most < fuel + height follows.left
-        → operand d (suc most) (reader d most) b (yield d follows.left ++ (follows.token ∷ (follows.behind ++ rest))) ≡ postfixes (suc most) (reader d most) b fuel follows.left (follows.token ∷ (follows.behind ++ rest))
+        → operand d (suc most) (reader d most) b (yield d follows.left ++ (follows.token ∷ (follows.following ++ rest))) ≡ postfixes (suc most) (reader d most) b fuel follows.left (follows.token ∷ (follows.following ++ rest))
         → GoesOn (operand d (suc most) (reader d most) b (yield d (node kind) ++ rest)) (λ fuel. postfixes (suc most) (reader d most) b fuel (node kind) rest) (suc most) (node kind)
     turned most b rest low few zero enough same = absurd (omega (arith, follows.higher))
     turned most b rest low few (suc fuel) enough same = record {
       fuel = fuel;
       enough = omega (arith, follows.higher);
-      same = rw (follows.tokens, append_assoc (yield d follows.left) (follows.token ∷ follows.behind) rest)
-          (same ∙ turns_go (postfix (suc most) (reader d most) b) fuel follows.left (follows.token ∷ (follows.behind ++ rest)) (node kind) rest (follows.turn most b rest low few));
+      same = rw (follows.tokens, append_assoc (yield d follows.left) (follows.token ∷ follows.following) rest)
+          (same ∙ turns_go (postfix (suc most) (reader d most) b) fuel follows.left (follows.token ∷ (follows.following ++ rest)) (node kind) rest (follows.turn most b rest low few));
     }
 
 pub below_six : (sign : BinarySign) → sign_level sign < 6
@@ -151,7 +151,7 @@ pub complete-Num : (d : DialectMeaning) (units : ℤ) → WellKind d (one.Num un
 unfolding primary prefix_sign
 complete-Num d units well = complete_primary d (one.Num units) (record {
   token = Num units;
-  behind = [];
+  following = [];
   tokens = yield-node d (one.Num units);
   seven = omega (arith, level-node (one.Num units));
   no_sign = refl;
@@ -162,7 +162,7 @@ pub complete-Str : (d : DialectMeaning) (text : List ℕ) → Complete d (node (
 unfolding primary prefix_sign
 complete-Str d text = complete_primary d (one.Str text) (record {
   token = Str text;
-  behind = [];
+  following = [];
   tokens = yield-node d (one.Str text);
   seven = omega (arith, level-node (one.Str text));
   no_sign = refl;
@@ -173,7 +173,7 @@ pub complete-Bool : (d : DialectMeaning) (value : Bool) → Complete d (node (on
 unfolding primary prefix_sign
 complete-Bool d value = complete_primary d (one.Bool value) (record {
   token = Boolean value;
-  behind = [];
+  following = [];
   tokens = yield-node d (one.Bool value);
   seven = omega (arith, level-node (one.Bool value));
   no_sign = refl;
@@ -184,7 +184,7 @@ pub complete-Err : (d : DialectMeaning) (error : Error) → Complete d (node (on
 unfolding primary prefix_sign
 complete-Err d error = complete_primary d (one.Err error) (record {
   token = Err error;
-  behind = [];
+  following = [];
   tokens = yield-node d (one.Err error);
   seven = omega (arith, level-node (one.Err error));
   no_sign = refl;
@@ -195,7 +195,7 @@ pub complete-Reference : (d : DialectMeaning) (sheet : Option (List ℕ)) (place
 unfolding primary prefix_sign
 complete-Reference d sheet place well = complete_primary d (one.Reference sheet place) (record {
   token = Ref (record { sheet = sheet; place = place });
-  behind = [];
+  following = [];
   tokens = yield-node d (one.Reference sheet place);
   seven = omega (arith, level-node (one.Reference sheet place));
   no_sign = refl;
@@ -210,7 +210,7 @@ pub complete-Word : (d : DialectMeaning) (text : List ℕ) → is_variable text 
 unfolding primary prefix_sign
 complete-Word d text good = complete_primary d (one.Word text) (record {
   token = Word text;
-  behind = [];
+  following = [];
   tokens = yield-node d (one.Word text);
   seven = omega (arith, level-node (one.Word text));
   no_sign = refl;
@@ -221,7 +221,7 @@ pub complete-Paren : (d : DialectMeaning) (x : Spelled) → Wide d x → Complet
 unfolding primary prefix_sign bracketed
 complete-Paren d x wide = complete_primary d (one.Paren x) (record {
   token = Open;
-  behind = yield d x ++ Close ∷ [];
+  following = yield d x ++ Close ∷ [];
   tokens = yield-node d (one.Paren x);
   seven = omega (arith, level-node (one.Paren x));
   no_sign = refl;
@@ -263,7 +263,7 @@ unfolding postfix
 complete-Percent d x well complete = complete_postfix d (one.Percent x) (record {
   left = x;
   token = Percent;
-  behind = [];
+  following = [];
   tokens = yield-node d (one.Percent x);
   seven = omega (arith, level-node (one.Percent x));
   tight = complete.tight well.operands;
@@ -277,7 +277,7 @@ unfolding postfix
 complete-Spill d x well complete = complete_postfix d (one.Spill x) (record {
   left = x;
   token = Hash;
-  behind = [];
+  following = [];
   tokens = yield-node d (one.Spill x);
   seven = omega (arith, level-node (one.Spill x));
   tight = complete.tight well.operands;

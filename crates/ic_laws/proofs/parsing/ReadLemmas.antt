@@ -8,7 +8,7 @@ use Rattle.ic_laws.specs.Token.{Token, Separator, Operator, Percent, Hash, Open,
 use Rattle.ic_laws.specs.Tree.{Spelled, sign_level, height}
 use Rattle.ic_laws.specs.Yield.{joined}
 
--- a list of tokens begins with nothing that goes on from an operand: with no sign behind one, no bracket, and no sign
+-- a list of tokens begins with nothing that goes on from an operand: with no sign after one, no bracket, and no sign
 -- between operands that binds at least so tightly
 abbrev pub Ends : ℕ → List Token → Type 0
 Ends least (Operator sign ∷ rest) = sign_level sign < least
@@ -77,7 +77,7 @@ close_ends least (Close ∷ rest) e = tt
 close_ends least [] e = tt
 close_ends least (token ∷ rest) e = cc
 
--- a list of items reads back, where each of them does before what can stand behind it
+-- a list of items reads back, where each of them does before what can stand after it
 module _ {A : Type 0} (item : List Token → Read A) (past : List Token → Option (List Token)) (between : Token) (tokens : A → List Token) (Fine : List Token → Type 0) where
   pub record ItemReads (a : A) : Type 0 where
     pub reads : (rest : List Token) → Fine rest → item (tokens a ++ rest) ≡ Some (a, rest)

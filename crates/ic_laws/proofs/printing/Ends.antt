@@ -1,4 +1,4 @@
--- What a tree's tokens begin with, and what stands behind them.
+-- What a tree's tokens begin with, and what stands after them.
 use Rattle.std.proofs.Common.{if◌then◌else◌, ◌≡◌, ℕ, pos, ◌/◌, ◌%◌, ◌^◌, ◌<◌, List, [], ◌∷◌, ◌++◌, Bool, true, false, not, ◌&&◌, ◌||◌, ◌==◌, refl, sym, ◌∙◌, ap, subst, inl, inr, arith, append-nil, codes}
 use Rattle.std.specs.Fmt.{decimal}
 use Rattle.std.specs.List.{list_any}
@@ -21,7 +21,7 @@ use Rattle.ic_laws.proofs.printing.Operands.{first_reference, digits_first, digi
 use Rattle.ic_laws.proofs.printing.Signs.{not_true, not_decimal}
 use Rattle.ic_laws.proofs.printing.Words.{has_word, error_begins, error_number_small, boolean_small, letter_begins, begins_starts, starts, starts_other}
 
--- the tokens that may stand behind an operand
+-- the tokens that may stand after an operand
 abbrev pub is_after : Token → Bool
 is_after (Operator sign) = true
 is_after Percent = true

@@ -24,7 +24,7 @@ use Rattle.ic_laws.specs.declared.tree.PrefixSign.{PrefixSign}
 use Rattle.ic_laws.specs.declared.tree.PrefixSign.TheVariants as prefixes
 use Rattle.ic_laws.specs.declared.tree.Tree.{every-Tree}
 use Rattle.ic_laws.specs.declared.tree.Tree.TheOpen as one
-use Rattle.ic_laws.proofs.parsing.Nodes.{here_of, below_of, value_of, OfChildren, by_levels, WellKind, AllWell, PairAllWell, well_here, well_below, pair_here, pair_below, pair_tokens, with_tokens, yield-node, empty-node, callable-node}
+use Rattle.ic_laws.proofs.parsing.Nodes.{here_of, below_of, value_of, OfChildren, by_nodes, WellKind, AllWell, PairAllWell, well_here, well_below, pair_here, pair_below, pair_tokens, with_tokens, yield-node, empty-node, callable-node}
 use Rattle.ic_laws.specs.NextToken.{tokens_of}
 use Rattle.ic_laws.specs.Following.{CanSpell, MayFollow, IsChain, spelled_out}
 use Rattle.ic_laws.proofs.printing.Ends.{is_after, follows, follows_ends, NoSign, number_no_sign, word_no_sign, boolean_no_sign, error_no_sign, reference_no_sign, fun_head_no_sign, name_head_no_sign}
@@ -262,7 +262,7 @@ PairFit d pair = every-LetPair (Option (List ℕ)) (List ℕ) (FitsKind d) (Fits
 
 tree_printed : (d : DialectMeaning) → IsLawful d → (t : Spelled) → AllWell d t → AllFit d t → Printed d t
 tree_printed d n =
-    by_levels (λ t. AllWell d t → AllFit d t → Printed d t) (λ p. PairAllWell d p → PairFit d p → PairPrinted d p) at_kind at_pair
+    by_nodes (λ t. AllWell d t → AllFit d t → Printed d t) (λ p. PairAllWell d p → PairFit d p → PairPrinted d p) at_kind at_pair
   where
     at_kind : (kind : SpelledKind) → OfChildren (λ t. AllWell d t → AllFit d t → Printed d t) (λ p. PairAllWell d p → PairFit d p → PairPrinted d p) kind
         → AllWell d (node kind) → AllFit d (node kind) → Printed d (node kind)

@@ -20,7 +20,9 @@ use Rattle.ic_laws.specs.AmountFront.{number_in_one_pass}
 use Rattle.ic_laws.specs.Following.{CanSpell, MayFollow, IsNotCalled}
 use Rattle.ic_laws.specs.Split.{FindsBest, longer}
 use Rattle.ic_laws.proofs.tokens.Characters.{bracket_no_word, digit_begins_none, past_run_all}
-use Rattle.ic_laws.proofs.tokens.Kinds.{by_kinds, error_best, error_found, head_at_complete, look_holds, word_at_complete}
+use Rattle.ic_laws.proofs.tokens.Kinds.{by_kinds, error_best, error_found}
+use Rattle.ic_laws.proofs.tokens.NameReaders.{head_at_complete, word_at_complete}
+use Rattle.ic_laws.proofs.tokens.SignTables.{look_holds}
 use Rattle.ic_laws.proofs.tokens.Next.{ComesAfter}
 use Rattle.ic_laws.proofs.tokens.Plain.{is_ref}
 use Rattle.ic_laws.proofs.printing.Signs.{IsRead, is_mark, mark_begins_none, no_error_first, no_number, not_decimal, or_neither}
@@ -159,7 +161,7 @@ word_no_number d n c cs b = no_number d c cs digit (not_decimal d n c (other 46 
     other : (k : ℕ) → begins_word k ≡ false → (c == k) ≡ false
     other k h = elim (eqb_tells c k) [ inl e ↦ let no : begins_word c ≡ false = ap begins_word e.1 ∙ h in absurd (cc) | inr e ↦ e.0 ]
 
-pub not_called : (d : DialectMeaning) (name behind : List ℕ) → first_is (λ c. c == 40) behind ≡ false → head_before d name behind ≡ None
+pub not_called : (d : DialectMeaning) (name after : List ℕ) → first_is (λ c. c == 40) after ≡ false → head_before d name after ≡ None
 not_called d name [] h = refl
 not_called d name (c ∷ cs) h = rw h refl
 
@@ -187,8 +189,8 @@ word_back d n (c ∷ cs) rest t short whole s end called =
     let begins : begins_word c ≡ true = whole.0.0 in
     let word : word_at d text ≡ Some (t, rest) = word_at_complete d (c ∷ cs) rest t s in
     let past : past_run is_word_character text ≡ rest = past_run_all is_word_character (c ∷ cs) rest whole.0.1 whole.1 in
-    let behind : first_is (λ c. c == 40) (past_run is_blank (past_run is_word_character text)) ≡ false = ap (λ r. first_is (λ c. c == 40) (past_run is_blank r)) past ∙ called in
-    let head_token : head_at d text ≡ None = rw begins (not_called d (run_of is_word_character text) (past_run is_blank (past_run is_word_character text)) behind) in
+    let unread : first_is (λ c. c == 40) (past_run is_blank (past_run is_word_character text)) ≡ false = ap (λ r. first_is (λ c. c == 40) (past_run is_blank r)) past ∙ called in
+    let head_token : head_at d text ≡ None = rw begins (not_called d (run_of is_word_character text) (past_run is_blank (past_run is_word_character text)) unread) in
     start_kinds d n c (cs ++ rest) (begins_starts c begins) ∙ rw (head_token, word, word_no_number d n c (cs ++ rest) begins)
     (gives_way d text rest t (d.read_ref text) (λ r after e. n.shorter_than (c ∷ cs) rest after r short end e))
 

@@ -72,13 +72,13 @@ pub token_best : (d : DialectMeaning) → IsLawful d → (text : List ℕ) → F
 token_best d n text = split_best (Spells d) ComesAfter (token_of d) text (token_decided d n)
 
 -- the best is taken, and what is taken is the best
-longest_by : (front rest other behind : List ℕ) (v value : Token) → front ++ rest ≡ other ++ behind → (length rest < length behind) ⊎ ((behind ≡ rest) × ((v ≡ value) ⊎ ComesAfter v value)) → length other ≤ length front
-longest_by front rest other behind v value e (inl short) = omega (arith, short, ap length e, length-append front rest, length-append other behind)
-longest_by front rest other behind v value e (inr one) = omega (arith, ap length one.0, ap length e, length-append front rest, length-append other behind)
+longest_by : (front rest other after : List ℕ) (v value : Token) → front ++ rest ≡ other ++ after → (length rest < length after) ⊎ ((after ≡ rest) × ((v ≡ value) ⊎ ComesAfter v value)) → length other ≤ length front
+longest_by front rest other after v value e (inl short) = omega (arith, short, ap length e, length-append front rest, length-append other after)
+longest_by front rest other after v value e (inr one) = omega (arith, ap length one.0, ap length e, length-append front rest, length-append other after)
 
-first_by : (front rest other behind : List ℕ) (v value : Token) → front ++ rest ≡ other ++ behind → length other ≡ length front → (length rest < length behind) ⊎ ((behind ≡ rest) × ((v ≡ value) ⊎ ComesAfter v value)) → IsBefore value v
-first_by front rest other behind v value e len (inl short) = absurd (omega (arith, short, len, ap length e, length-append front rest, length-append other behind))
-first_by front rest other behind v value e len (inr one) =
+first_by : (front rest other after : List ℕ) (v value : Token) → front ++ rest ≡ other ++ after → length other ≡ length front → (length rest < length after) ⊎ ((after ≡ rest) × ((v ≡ value) ⊎ ComesAfter v value)) → IsBefore value v
+first_by front rest other after v value e len (inl short) = absurd (omega (arith, short, len, ap length e, length-append front rest, length-append other after))
+first_by front rest other after v value e len (inr one) =
     elim one.1 [
       | inl same ↦ subst (λ t. IsBefore t v) same (before_itself v)
       | inr late ↦ reference_before value v late.1
