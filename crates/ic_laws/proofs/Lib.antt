@@ -10,7 +10,6 @@ mod NameExamples
 pub mod RunLemmas
 pub mod Smallest
 pub mod SmallestLaws
-pub mod SmallestLemmas
 pub mod TextLemmas
 pub mod parsing
 pub mod printing
