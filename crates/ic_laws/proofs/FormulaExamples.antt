@@ -1,5 +1,5 @@
 -- Formulas by example: the tokens of trees, and trees that are not well-formed.
-use Rattle.std.proofs.Common.{◌≡◌, ℕ, zero, suc, ◌+◌, ◌≤◌, pos, List, [], ◌∷◌, true, false, not, Option, None, Some, codes, refl, subst, ap, ◌∙◌, arith}
+use Rattle.std.proofs.Common.{◌≡◌, ℕ, zero, suc, ◌+◌, ◌*◌, ◌≤◌, pos, List, [], ◌∷◌, true, false, not, Option, None, Some, codes, refl, subst, ap, ◌∙◌, arith}
 use Rattle.ic_laws.specs.Dialect.{DialectMeaning}
 use Rattle.ic_laws.specs.Reading.{IsWell}
 use Rattle.ic_laws.specs.Token.{Token, Num, Ref, Word, FunHead, NameHead, Separator, Operator, Percent, Hash, Open, Close, OpenBrace, CloseBrace, Semicolon, Spells, string_text}
@@ -28,9 +28,15 @@ node kind = roll-Tree Sheet (List ℕ) kind
 abbrev pair : List ℕ → Spelled → LetPair Sheet (List ℕ)
 pair variable value = roll-LetPair Sheet (List ℕ) (record { variable = variable; value = value })
 
--- so many units, a word, and the cell A1 in the cell A1
+-- so many units, a whole number, a word, and the cell A1 in the cell A1
+abbrev number_of : ℕ → Spelled
+number_of units = node (one.Num (pos units))
+
+abbrev whole : ℕ → ℕ
+whole n = n * 1000000000
+
 abbrev number : ℕ → Spelled
-number n = node (one.Num (pos n))
+number n = number_of (whole n)
 
 abbrev word : List ℕ → Spelled
 word name = node (one.Word name)
@@ -45,24 +51,24 @@ tokens_of-pair : (d : DialectMeaning) (variable : List ℕ) (value : Spelled) �
 tokens_of-pair d variable value = fold-roll-LetPair Sheet (List ℕ) (List Token) PairTokens (yield_step d) pair_step (record { variable = variable; value = value })
 
 -- SUM(1.5,2), where SUM has the number 4
-sum : (d : DialectMeaning) → yield d (node (one.Fun 4 (number 1500000000 ∷ number 2000000000 ∷ []))) ≡ FunHead 4 ∷ Num (pos 1500000000) ∷ Separator ∷ Num (pos 2000000000) ∷ Close ∷ []
+sum : (d : DialectMeaning) → yield d (node (one.Fun 4 (number_of 1500000000 ∷ number 2 ∷ []))) ≡ FunHead 4 ∷ Num (pos 1500000000) ∷ Separator ∷ Num (pos 2000000000) ∷ Close ∷ []
 sum d = simp tokens_of-node
 
--- {1,2;3,4}: the rows have `;` between them, and `/` where `;` separates arguments
+-- {1,2;3,-4}: the rows have `;` between them, and `/` where `;` separates arguments
 abbrev plain : ℕ → Constant
-plain n = constants.Num false (pos n)
+plain n = constants.Num false (pos (whole n))
 
 abbrev array : Spelled
-array = node (one.Array ((plain 1 ∷ plain 2 ∷ []) ∷ (plain 3 ∷ constants.Num true (pos 4) ∷ []) ∷ []))
+array = node (one.Array ((plain 1 ∷ plain 2 ∷ []) ∷ (plain 3 ∷ constants.Num true (pos (whole 4)) ∷ []) ∷ []))
 
-array_rows : (d : DialectMeaning) → d.list ≡ 44 → yield d array ≡ OpenBrace ∷ Num (pos 1) ∷ Separator ∷ Num (pos 2) ∷ Semicolon ∷ Num (pos 3) ∷ Separator ∷ Operator signs.Minus ∷ Num (pos 4) ∷ CloseBrace ∷ []
+array_rows : (d : DialectMeaning) → d.list ≡ 44 → yield d array ≡ OpenBrace ∷ Num (pos 1000000000) ∷ Separator ∷ Num (pos 2000000000) ∷ Semicolon ∷ Num (pos 3000000000) ∷ Separator ∷ Operator signs.Minus ∷ Num (pos 4000000000) ∷ CloseBrace ∷ []
 array_rows d e = simp (tokens_of-node, e)
 
-array_rows_by_slash : (d : DialectMeaning) → d.list ≡ 59 → yield d array ≡ OpenBrace ∷ Num (pos 1) ∷ Separator ∷ Num (pos 2) ∷ Operator signs.Over ∷ Num (pos 3) ∷ Separator ∷ Operator signs.Minus ∷ Num (pos 4) ∷ CloseBrace ∷ []
+array_rows_by_slash : (d : DialectMeaning) → d.list ≡ 59 → yield d array ≡ OpenBrace ∷ Num (pos 1000000000) ∷ Separator ∷ Num (pos 2000000000) ∷ Operator signs.Over ∷ Num (pos 3000000000) ∷ Separator ∷ Operator signs.Minus ∷ Num (pos 4000000000) ∷ CloseBrace ∷ []
 array_rows_by_slash d e = simp (tokens_of-node, e)
 
 -- -2^2 is the square of -2
-minus_two_squared : (d : DialectMeaning) → yield d (node (one.Binary signs.Power (node (one.Prefix prefixes.Minus (number 2))) (number 2))) ≡ Operator signs.Minus ∷ Num (pos 2) ∷ Operator signs.Power ∷ Num (pos 2) ∷ []
+minus_two_squared : (d : DialectMeaning) → yield d (node (one.Binary signs.Power (node (one.Prefix prefixes.Minus (number 2))) (number 2))) ≡ Operator signs.Minus ∷ Num (pos 2000000000) ∷ Operator signs.Power ∷ Num (pos 2000000000) ∷ []
 minus_two_squared d = simp tokens_of-node
 
 -- -x% is the negative of x%
@@ -74,7 +80,7 @@ spill : (d : DialectMeaning) → yield d (node (one.Spill cell)) ≡ Ref (record
 spill d = simp tokens_of-node
 
 -- f(1)(2)
-applied : (d : DialectMeaning) → yield d (node (one.Apply (node (one.Call (codes "f") (number 1 ∷ []))) (number 2 ∷ []))) ≡ NameHead (codes "f") ∷ Num (pos 1) ∷ Close ∷ Open ∷ Num (pos 2) ∷ Close ∷ []
+applied : (d : DialectMeaning) → yield d (node (one.Apply (node (one.Call (codes "f") (number 1 ∷ []))) (number 2 ∷ []))) ≡ NameHead (codes "f") ∷ Num (pos 1000000000) ∷ Close ∷ Open ∷ Num (pos 2000000000) ∷ Close ∷ []
 applied d = simp tokens_of-node
 
 -- f(,) has two arguments that are left out, f() none
@@ -85,7 +91,7 @@ none : (d : DialectMeaning) → yield d (node (one.Call (codes "f") [])) ≡ Nam
 none d = simp tokens_of-node
 
 -- LET(x,1,x) and LAMBDA(x,x)
-with_let : (d : DialectMeaning) → yield d (node (one.Let (pair (codes "x") (number 1) ∷ []) (word (codes "x")))) ≡ FunHead d.let_fn ∷ Word (codes "x") ∷ Separator ∷ Num (pos 1) ∷ Separator ∷ Word (codes "x") ∷ Close ∷ []
+with_let : (d : DialectMeaning) → yield d (node (one.Let (pair (codes "x") (number 1) ∷ []) (word (codes "x")))) ≡ FunHead d.let_fn ∷ Word (codes "x") ∷ Separator ∷ Num (pos 1000000000) ∷ Separator ∷ Word (codes "x") ∷ Close ∷ []
 with_let d = simp (tokens_of-node, tokens_of-pair)
 
 with_lambda : (d : DialectMeaning) → yield d (node (one.Lambda (codes "x" ∷ []) (word (codes "x")))) ≡ FunHead d.lambda_fn ∷ Word (codes "x") ∷ Separator ∷ Word (codes "x") ∷ Close ∷ []

@@ -7,6 +7,7 @@ pub mod FormLemmas
 mod FormulaExamples
 mod LineExamples
 mod NameExamples
+mod ReadingExamples
 pub mod RunLemmas
 pub mod Smallest
 pub mod SmallestLaws

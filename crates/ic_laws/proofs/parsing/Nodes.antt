@@ -102,7 +102,7 @@ with_facts P Q (one.Apply x arguments) h =
     let held = all_with P arguments h.1 in (one.Apply (x, h.0) held.0, ap (λ (xs : List Spelled). let k : SpelledKind = one.Apply x xs in k) held.1)
 with_facts P Q (one.Array rows) h = (one.Array rows, refl)
 
--- any condition on nodes and pairs that holds of all of a tree holds here, and below
+-- any condition on nodes and pairs that holds of all of a tree holds here and below, and of what is made of such
 module _ (L : SpelledKind → Type 0) (M : LetPair-F (Option (List ℕ)) (List ℕ) Spelled Pair → Type 0) where
   abbrev pub Every : Spelled → Type 0
   Every t = every-Tree (Option (List ℕ)) (List ℕ) L M t
@@ -117,6 +117,11 @@ module _ (L : SpelledKind → Type 0) (M : LetPair-F (Option (List ℕ)) (List �
   below_of kind h =
       let held = every_held-Tree (Option (List ℕ)) (List ℕ) L M (node kind) h in
       subst (OfChildren Every EveryPair) (held.1 ∙ out-roll-Tree (Option (List ℕ)) (List ℕ) kind) (of_held Every EveryPair held.0)
+
+  pub made_of : (kind : SpelledKind) → L kind → OfChildren Every EveryPair kind → Every (node kind)
+  made_of kind here below =
+      let held = with_facts Every EveryPair kind below in
+      every_made-Tree (Option (List ℕ)) (List ℕ) L M kind held.0 held.1 here
 
   pub value_of : (pair : Pair) → EveryPair pair → Every pair.value
   value_of pair h =
@@ -140,9 +145,7 @@ pub well_below : (d : DialectMeaning) (kind : SpelledKind) → AllWell d (node k
 well_below d kind h = below_of (WellKind d) IsPairWell kind h
 
 pub well_made : (d : DialectMeaning) (kind : SpelledKind) → WellKind d kind → OfChildren (AllWell d) (PairAllWell d) kind → AllWell d (node kind)
-well_made d kind here below =
-    let held = with_facts (AllWell d) (PairAllWell d) kind below in
-    every_made-Tree (Option (List ℕ)) (List ℕ) (WellKind d) IsPairWell kind held.0 held.1 here
+well_made d kind here below = made_of (WellKind d) IsPairWell kind here below
 
 -- the tokens of a pair
 abbrev pub pair_tokens : DialectMeaning → Pair → PairTokens
