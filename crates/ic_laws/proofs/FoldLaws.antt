@@ -15,17 +15,17 @@ use Rattle.ic_laws.specs.Scan.{first_is}
 abbrev pub is_fixed : ℕ → Bool
 is_fixed c = nat_lt c 65 || nat_lt 90 c && nat_lt c 97 || nat_lt 122 c && nat_lt c 128 || c == 0x51FD
 
-abbrev is_empty : List ℕ → Bool
-is_empty [] = true
-is_empty (x ∷ xs) = false
+abbrev is_unlisted : List ℕ → Bool
+is_unlisted [] = true
+is_unlisted (x ∷ xs) = false
 
 -- a character that folds to another text is none of them, and that text begins with none of them
 abbrev is_apart : ℕ → List ℕ → Bool
 is_apart c folding = not (is_fixed c) && not (first_is is_fixed folding)
 
-apart : (c : ℕ) → is_empty (full_folding c) ≡ false → is_apart c (full_folding c) ≡ true
+apart : (c : ℕ) → is_unlisted (full_folding c) ≡ false → is_apart c (full_folding c) ≡ true
 unfolding tables points_ok full_folding_stepped
-apart c moved = Stepped-at_points full_folding full_folding_stepped is_empty is_apart refl c moved
+apart c moved = Stepped-at_points full_folding full_folding_stepped is_unlisted is_apart refl c moved
 
 clash : (b : Bool) → b ≡ true → not b ≡ true → ⊥
 clash true e f = cc
@@ -43,7 +43,7 @@ unfolding default_case_fold
 fold-cons c cs = refl
 
 -- such a character stays where a text is folded
-stays : (c : ℕ) (folding : List ℕ) → is_fixed c ≡ true → (is_empty folding ≡ false → is_apart c folding ≡ true) → or_itself c folding ≡ c ∷ []
+stays : (c : ℕ) (folding : List ℕ) → is_fixed c ≡ true → (is_unlisted folding ≡ false → is_apart c folding ≡ true) → or_itself c folding ≡ c ∷ []
 stays c [] fixed moved = refl
 stays c (x ∷ xs) fixed moved = absurd (clash (is_fixed c) fixed (and_parts (not (is_fixed c)) _ (moved refl)).0)
 
@@ -57,7 +57,7 @@ fold-fixed (c ∷ cs) fixed =
     fold_fixed_first c cs parts.0 ∙ ap (λ t. c ∷ t) (fold-fixed cs parts.1)
 
 -- a text whose folding begins with one begins with it
-first_folded : (c x : ℕ) (folding rest xs : List ℕ) → (is_empty folding ≡ false → is_apart c folding ≡ true) → is_fixed x ≡ true → or_itself c folding ++ rest ≡ x ∷ xs → (c ≡ x) × (rest ≡ xs)
+first_folded : (c x : ℕ) (folding rest xs : List ℕ) → (is_unlisted folding ≡ false → is_apart c folding ≡ true) → is_fixed x ≡ true → or_itself c folding ++ rest ≡ x ∷ xs → (c ≡ x) × (rest ≡ xs)
 first_folded c x [] rest xs moved fixed e = (cc, cc)
 first_folded c x (y ∷ ys) rest xs moved fixed e =
     let same : y ≡ x = cc in absurd (clash (is_fixed y) (ap is_fixed same ∙ fixed) (and_parts (not (is_fixed c)) _ (moved refl)).1)

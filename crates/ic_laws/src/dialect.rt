@@ -6,7 +6,7 @@ use crate::{Error, OutOfMemory, RefToken};
 use std::alloc::Global;
 
 /// A list of words that a dialect has.
-#[derive(Clone, Copy, Debug, PartialEq, Eq)]
+#[derive(Clone, Copy)]
 pub enum WordKind {
     /// 0 is true, 1 is false.
     Boolean,

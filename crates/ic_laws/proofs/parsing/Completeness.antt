@@ -17,11 +17,11 @@ use Rattle.ic_laws.specs.declared.tree.PrefixSign.{PrefixSign}
 use Rattle.ic_laws.specs.declared.tree.PrefixSign.TheVariants as prefixes
 use Rattle.ic_laws.specs.declared.tree.Tree.TheOpen as one
 use Rattle.ic_laws.proofs.parsing.Nodes.{WellKind, yield-node, height-node, brackets-node, level-node, level_positive, height_positive}
-use Rattle.ic_laws.proofs.parsing.ReadLemmas.{Ends, Ends-more, made_takes, made_if_takes, turns_stop, turns_go, postfix_stops, binary_stops}
+use Rattle.ic_laws.proofs.parsing.ReadLemmas.{NothingGoesOn, NothingGoesOn-more, made_takes, made_if_takes, turns_stop, turns_go, postfix_stops, binary_stops}
 
 -- a tree is read back before what doesn't go on from it
 pub record ReadsBack (d : DialectMeaning) (most b : ℕ) (t : Spelled) : Type 0 where
-  pub reads : (least : ℕ) (rest : List Token) → least ≤ level t → Ends least rest → reader d most b least (yield d t ++ rest) ≡ Some (t, rest)
+  pub reads : (least : ℕ) (rest : List Token) → least ≤ level t → NothingGoesOn least rest → reader d most b least (yield d t ++ rest) ≡ Some (t, rest)
 
 -- after an operand its loop goes on, with fuel for all that a tree may still grow
 pub record GoesOn (read : Read Spelled) (loop : ℕ → Read Spelled) (most : ℕ) (t : Spelled) : Type 0 where
@@ -35,7 +35,7 @@ pub record Tight (d : DialectMeaning) (t : Spelled) : Type 0 where
 
 -- any tree, before what stands after a whole operand
 pub record Wide (d : DialectMeaning) (t : Spelled) : Type 0 where
-  pub goes : (most b least : ℕ) (rest : List Token) → height t ≤ suc most → open_brackets t ≤ b → least ≤ level t → Ends (suc (level t)) rest → GoesOn (expression d (suc most) (reader d most) b least (yield d t ++ rest)) (λ fuel. binaries (suc most) (reader d most) b least fuel t rest) (suc most) t
+  pub goes : (most b least : ℕ) (rest : List Token) → height t ≤ suc most → open_brackets t ≤ b → least ≤ level t → NothingGoesOn (suc (level t)) rest → GoesOn (expression d (suc most) (reader d most) b least (yield d t ++ rest)) (λ fuel. binaries (suc most) (reader d most) b least fuel t rest) (suc most) t
 
 pub record Complete (d : DialectMeaning) (t : Spelled) : Type 0 where
   pub tight : 7 ≤ level t → Tight d t
@@ -47,11 +47,11 @@ unfolding reader
 back d t wide zero b low few = absurd (omega (arith, height_positive t))
 back d t wide (suc most) b low few = record {
   reads = λ least rest tight ends.
-      let on : GoesOn _ _ _ _ = wide.goes most b least rest low few tight (Ends-more least (suc (level t)) rest (omega arith) ends) in
+      let on : GoesOn _ _ _ _ = wide.goes most b least rest low few tight (NothingGoesOn-more least (suc (level t)) rest (omega arith) ends) in
       on.same ∙ stopped least rest on.fuel (omega (arith, on.enough)) ends;
 }
   where
-    stopped : (least : ℕ) (rest : List Token) (fuel : ℕ) → 0 < fuel → Ends least rest → binaries (suc most) (reader d most) b least fuel t rest ≡ Some (t, rest)
+    stopped : (least : ℕ) (rest : List Token) (fuel : ℕ) → 0 < fuel → NothingGoesOn least rest → binaries (suc most) (reader d most) b least fuel t rest ≡ Some (t, rest)
     stopped least rest zero some ends = absurd (omega arith)
     stopped least rest (suc fuel) some ends = turns_stop (binary (suc most) (reader d most) b least) fuel t rest (binary_stops (suc most) (reader d most) b least t rest ends)
 
@@ -68,7 +68,7 @@ wide_from_tight d t seven tight = record {
       };
 }
   where
-    stopped : (most b : ℕ) (rest : List Token) (fuel : ℕ) → 0 < fuel → Ends (suc (level t)) rest → postfixes (suc most) (reader d most) b fuel t rest ≡ Some (t, rest)
+    stopped : (most b : ℕ) (rest : List Token) (fuel : ℕ) → 0 < fuel → NothingGoesOn (suc (level t)) rest → postfixes (suc most) (reader d most) b fuel t rest ≡ Some (t, rest)
     stopped most b rest zero some ends = absurd (omega arith)
     stopped most b rest (suc fuel) some ends = turns_stop (postfix (suc most) (reader d most) b) fuel t rest (postfix_stops (suc most) (reader d most) b (suc (level t)) t rest ends)
 
@@ -76,7 +76,7 @@ pub complete_tight : (d : DialectMeaning) (t : Spelled) → 7 ≤ level t → Ti
 complete_tight d t seven tight = record { tight = λ h. tight; wide = wide_from_tight d t seven tight }
 
 -- an operand that begins with its token and isn't gone on from
-pub record Begins (d : DialectMeaning) (kind : SpelledKind) : Type 0 where
+pub record BeginsWithToken (d : DialectMeaning) (kind : SpelledKind) : Type 0 where
   pub token : Token
   pub following : List Token
   pub tokens : yield d (node kind) ≡ token ∷ following
@@ -84,7 +84,7 @@ pub record Begins (d : DialectMeaning) (kind : SpelledKind) : Type 0 where
   pub no_sign : prefix_sign token ≡ None
   pub reads : (most b : ℕ) (rest : List Token) → height (node kind) ≤ suc most → open_brackets (node kind) ≤ b → primary d (suc most) (reader d most) b token (following ++ rest) ≡ Some (node kind, rest)
 
-pub complete_primary : (d : DialectMeaning) (kind : SpelledKind) → Begins d kind → Complete d (node kind)
+pub complete_primary : (d : DialectMeaning) (kind : SpelledKind) → BeginsWithToken d kind → Complete d (node kind)
 unfolding operand
 complete_primary d kind begins = complete_tight d (node kind) begins.seven (record {
   goes = λ most b rest low few. record {
@@ -242,7 +242,7 @@ complete-Prefix d sign x well wide = record {
   wide = record {
     goes = λ most b least rest low few enough ends.
         let inner : ReadsBack d most b x = back d x wide most b (omega (arith, low, height-node (one.Prefix sign x))) (omega (arith, few, brackets-node (one.Prefix sign x))) in
-        let six : Ends 6 rest = Ends-six rest ends in
+        let six : NothingGoesOn 6 rest = NothingGoesOn-six rest ends in
         record {
           fuel = suc most;
           enough = omega (arith, height_positive (node (one.Prefix sign x)));
@@ -251,12 +251,12 @@ complete-Prefix d sign x well wide = record {
   };
 }
   where
-    Ends-six : (rest : List Token) → Ends (suc (level (node (one.Prefix sign x)))) rest → Ends 6 rest
-    Ends-six (Operator s ∷ rest) h = below_six s
-    Ends-six (Percent ∷ rest) h = h
-    Ends-six (Hash ∷ rest) h = h
-    Ends-six (Open ∷ rest) h = h
-    Ends-six ts h = tt
+    NothingGoesOn-six : (rest : List Token) → NothingGoesOn (suc (level (node (one.Prefix sign x)))) rest → NothingGoesOn 6 rest
+    NothingGoesOn-six (Operator s ∷ rest) h = below_six s
+    NothingGoesOn-six (Percent ∷ rest) h = h
+    NothingGoesOn-six (Hash ∷ rest) h = h
+    NothingGoesOn-six (Open ∷ rest) h = h
+    NothingGoesOn-six ts h = tt
 
 pub complete-Percent : (d : DialectMeaning) (x : Spelled) → WellKind d (one.Percent x) → Complete d x → Complete d (node (one.Percent x))
 unfolding postfix
@@ -300,7 +300,7 @@ complete-Binary d sign x y well wide_x wide_y = record {
         let on : GoesOn _ _ _ _ = wide_x.goes most b least (Operator sign ∷ (yield d y ++ rest)) (omega (arith, low, higher)) (omega (arith, few, fewer)) (omega arith) (omega arith) in
         let inner : ReadsBack d most b y = back d y wide_y most b (omega (arith, low, higher)) (omega (arith, few, fewer)) in
         let read : reader d most b (sign_level sign + 1) (yield d y ++ rest) ≡ Some (y, rest) =
-        inner.reads (sign_level sign + 1) rest well.operands.1 (Ends-more (suc (level (node (one.Binary sign x y)))) (sign_level sign + 1) rest (omega arith) ends) in
+        inner.reads (sign_level sign + 1) rest well.operands.1 (NothingGoesOn-more (suc (level (node (one.Binary sign x y)))) (sign_level sign + 1) rest (omega arith) ends) in
         turned most b least rest low (omega arith) read on.fuel on.enough on.same;
   };
 }

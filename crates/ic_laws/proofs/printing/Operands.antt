@@ -25,7 +25,7 @@ use Rattle.ic_laws.proofs.tokens.Characters.{digit_begins_none, past_run_all}
 use Rattle.ic_laws.proofs.tokens.NameReaders.{head_at_sound, word_at_sound}
 use Rattle.ic_laws.proofs.tokens.Next.{ComesAfter}
 use Rattle.ic_laws.proofs.tokens.Numbers.{IsTail, amount_parts, number_in_one_pass_best, number_spelled, separator_apart}
-use Rattle.ic_laws.proofs.printing.Chain.{ReadsBack, chain_lexes}
+use Rattle.ic_laws.proofs.printing.Chain.{TokensReadBack, chain_lexes}
 use Rattle.ic_laws.proofs.printing.Signs.{IsRead, sign_read, at_read, percent_read, open_read, close_read, open_brace_read, close_brace_read, semicolon_read, hash_read, separator_read, text_read}
 use Rattle.ic_laws.proofs.printing.Words.{end_no_word, error_read, word_read, boolean_read, name_head_read, fun_head_read, gives_way, keeps_first, of_start, same_kind, start_kinds, starts}
 use Rattle.ic_laws.proofs.tokens.Splits.{front_in_front, none_some, same_split}
@@ -240,7 +240,7 @@ reference_read d n r rest can may =
     ap (λ t. token_at d (t ++ rest)) spelled ∙ ap (token_at d) a.2 ∙ start_kinds d n a.0 a.1 a.3 ∙ ap (of_start d) (sym a.2) ∙ rw read (kept rest (Ref r) (longer (head_at d text) (longer (word_at d text) (number_in_one_pass d text))) others)
 
 -- each token in its canonical spelling, before what may follow it
-pub reads_back : (d : DialectMeaning) → IsLawful d → ReadsBack d
+pub reads_back : (d : DialectMeaning) → IsLawful d → TokensReadBack d
 reads_back d n (Num (pos units)) rest can may = number_read d n units rest can may.0 may.1
 reads_back d n (Num (negsuc units)) rest can may = absurd can
 reads_back d n (Str text) rest can may = text_read d n text rest may

@@ -160,13 +160,13 @@ mapped f (Some x) y e = (x, refl, cc)
 -- The longest split.
 module _ {T : Type 0} (read : List ℕ → List ℕ → Option T) where
   -- what is found was read at a split
-  pub record IsRead (front text : List ℕ) (found : T × List ℕ) : Type 0 where
+  pub record IsReadAt (front text : List ℕ) (found : T × List ℕ) : Type 0 where
     pub front_is : List ℕ
     pub whole : front_is ++ found.1 ≡ front ++ text
     pub read_there : read front_is found.1 ≡ Some found.0
     pub bound : length found.1 ≤ length text
 
-  read_here : (front text : List ℕ) (found : T × List ℕ) → option_map (λ v. (v, text)) (read front text) ≡ Some found → IsRead front text found
+  read_here : (front text : List ℕ) (found : T × List ℕ) → option_map (λ v. (v, text)) (read front text) ≡ Some found → IsReadAt front text found
   read_here front text found e =
       let p = mapped (λ (v : T). (v, text)) (read front text) found e in
       let rest : text ≡ found.1 = ap (λ (f : T × List ℕ). f.1) p.2 in
@@ -178,7 +178,7 @@ module _ {T : Type 0} (read : List ℕ → List ℕ → Option T) where
         bound = omega (arith, ap length rest);
       }
 
-  pub split_sound : (front text : List ℕ) (found : T × List ℕ) → longest_split read front text ≡ Some found → IsRead front text found
+  pub split_sound : (front text : List ℕ) (found : T × List ℕ) → longest_split read front text ≡ Some found → IsReadAt front text found
   unfolding longest_split
   split_sound front [] found e = read_here front [] found e
   split_sound front (c ∷ cs) found e =
