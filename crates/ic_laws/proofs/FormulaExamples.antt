@@ -14,7 +14,7 @@ use Rattle.ic_laws.specs.declared.tree.Constant.{Constant}
 use Rattle.ic_laws.specs.declared.tree.Constant.TheVariants as constants
 use Rattle.ic_laws.specs.declared.tree.LetPair.{LetPair, roll-LetPair}
 use Rattle.ic_laws.specs.declared.tree.PrefixSign.TheVariants as prefixes
-use Rattle.ic_laws.specs.declared.tree.Tree.{roll-Tree, map-Tree, fold-roll-Tree}
+use Rattle.ic_laws.specs.declared.tree.Tree.{map-Tree, fold-roll-Tree}
 use Rattle.ic_laws.specs.declared.tree.Tree.TheFolds.{fold-LetPair, fold-roll-LetPair, every_here-Tree}
 use Rattle.ic_laws.specs.declared.tree.Tree.TheOpen as one
 use Rattle.ic_laws.specs.declared.tree.Tree.TheViews.{out-roll-Tree}

@@ -1,6 +1,6 @@
 -- Texts and trees of the smallest dialect by example: a text that falls into tokens and one that doesn't, a tree that
 -- fits with its canonical text, and texts that read as it.
-use Rattle.std.proofs.Common.{◌≡◌, ◌+◌, ◌*◌, pos, List, [], ◌∷◌, true, None, Some, codes, refl, sym, ap, subst, ◌∙◌, arith}
+use Rattle.std.proofs.Common.{◌≡◌, pos, List, [], ◌∷◌, true, None, Some, codes, refl, sym, ap, subst, ◌∙◌, arith}
 use Rattle.std.specs.Fmt.{digits}
 use Rattle.ucd_derived.proofs.Computing.{ucd_derived}
 use Rattle.ic_laws.specs.Amount.{fraction_digits}

@@ -1,5 +1,5 @@
 -- Tokens in their canonical spelling, one after the other: which can be spelled, and what may follow each.
-use Rattle.std.specs.Prelude.{◌≡◌, ◌≢◌, ℕ, pos, negsuc, ◌<◌, ◌^◌, List, [], ◌∷◌, Bool, true, false, not, ◌||◌, ◌==◌, Option, None, IsSome, flat_map}
+use Rattle.std.specs.Prelude.{◌≡◌, ◌≢◌, ℕ, pos, negsuc, ◌<◌, ◌^◌, List, [], ◌∷◌, true, false, not, ◌||◌, ◌==◌, None, IsSome, flat_map}
 use Rattle.ic_laws.specs.Name.{is_variable}
 use Rattle.ic_laws.specs.Scan.{IsEnd, first_is, is_blank, past_run}
 use Rattle.ic_laws.specs.Character.{equals, greater, open_bracket, semicolon}
