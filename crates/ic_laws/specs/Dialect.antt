@@ -41,6 +41,7 @@ error_number errors.CIRC = 9
 error_number errors.ERROR = 10
 error_number errors.NULL = 11
 
+-- true is the first boolean, false the second
 abbrev pub boolean_number : Bool → ℕ
 boolean_number true = 0
 boolean_number false = 1

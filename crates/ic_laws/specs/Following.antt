@@ -23,6 +23,7 @@ CanSpell d token = Unit {0}
 abbrev pub IsNotCalled : List ℕ → Type 0
 IsNotCalled rest = first_is (λ c. c == open_bracket) (past_run is_blank rest) ≡ false
 
+-- no decimal separator
 abbrev pub NoDecimal : DialectMeaning → List ℕ → Type 0
 NoDecimal d rest = first_is (λ c. c == d.decimal) rest ≡ false
 

@@ -27,6 +27,7 @@ abbrev pub is_char_boundary : List ℕ → ℕ → Bool
 is_char_boundary text at =
     nat_le at (length text) && (nat_le (length text) at || nat_lt (slice_index text at) 128 || nat_le 192 (slice_index text at))
 
+-- what is read at a byte of a text, with its number of bytes
 abbrev pub read_at : {T : Type 0} → (List ℕ → Option (T × List ℕ)) → List ℕ → ℕ → Option (T × ℕ)
 read_at reader text at =
     if is_char_boundary text at then option_map (λ found. (found.0, length (drop at text) - length (encode_utf8_all found.1))) (reader (chars (drop at text)))

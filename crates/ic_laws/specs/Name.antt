@@ -38,6 +38,7 @@ abbrev pub is_a1_cell : List ℕ → Bool
 is_a1_cell text =
     names_column (run_of is_ascii_letter (past_dollar text)) && names_row (past_dollar (past_run is_ascii_letter (past_dollar text)))
 
+-- R and C, in either case
 abbrev pub is_r : ℕ → Bool
 is_r c = c == upper_r || c == lower_r
 

@@ -28,6 +28,7 @@ printed d t = flat_map (token_text d) (yield d t)
 abbrev pub IsFreeWord : DialectMeaning → List ℕ → Type 0
 IsFreeWord d word = IsNone (d.find kinds.Boolean word)
 
+-- a node can be spelled so that it reads back: its reference, its word, its function, its binders
 abbrev pub FitsKind : DialectMeaning → Kind (Option (List ℕ)) (List ℕ) → Type 0
 FitsKind d (one.Reference sheet place) = d.can_spell (record { sheet = sheet; place = place }) ≡ true
 FitsKind d (one.Word word) = IsFreeWord d word
@@ -36,6 +37,7 @@ FitsKind d (one.Fun number arguments) = IsSome (d.word kinds.Function number)
 FitsKind d (one.Lambda parameters body) = AllByRecursion (IsFreeWord d) parameters
 FitsKind d kind = Unit {0}
 
+-- so can a pair of LET
 abbrev pub FitsPair : DialectMeaning → LetPair-F (Option (List ℕ)) (List ℕ) Spelled (LetPair (Option (List ℕ)) (List ℕ)) → Type 0
 FitsPair d pair = IsFreeWord d pair.variable
 

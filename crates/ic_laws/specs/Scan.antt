@@ -43,6 +43,7 @@ first_is p (c ∷ cs) = p c
 abbrev pub joins : ℕ → Bool
 joins c = is_word_character c || c == bang || c == colon || c == dollar || c == open_square
 
+-- no such character goes on
 abbrev pub IsEnd : List ℕ → Type 0
 IsEnd rest = first_is joins rest ≡ false
 

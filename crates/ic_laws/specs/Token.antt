@@ -34,6 +34,7 @@ pub data Token : Type 0 where
   CloseBrace : Token
   Semicolon : Token
 
+-- the text of a sign between operands
 abbrev pub sign_text : BinarySign → List ℕ
 sign_text signs.Equal = codes "="
 sign_text signs.Unequal = codes "<>"
@@ -48,6 +49,7 @@ sign_text signs.Times = codes "*"
 sign_text signs.Over = codes "/"
 sign_text signs.Power = codes "^"
 
+-- the mark round a text
 abbrev pub is_double_quote : ℕ → Bool
 is_double_quote c = c == double_quote
 
