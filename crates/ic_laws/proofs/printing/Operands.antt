@@ -12,8 +12,7 @@ use Rattle.ic_laws.proofs.AmountLemmas.{numerals}
 use Rattle.ic_laws.proofs.AmountTexts.{unsigned_amount-text}
 use Rattle.ic_laws.specs.Amount.{units_of_one, fraction_digits, unsigned_amount, unsigned_text}
 use Rattle.ic_laws.specs.Scan.{IsEnd, begins_word, first_is, is_blank, is_digit, is_letter, is_word_character, past_run}
-use Rattle.ic_laws.specs.Dialect.{DialectMeaning, IsLawful, begins_reference, reference_text}
-use Rattle.ic_laws.specs.Dialect.{OfAmount}
+use Rattle.ic_laws.specs.Dialect.{DialectMeaning, IsLawful, begins_reference, reference_text, OfAmount}
 use Rattle.ic_laws.specs.Token.{Token, Num, Str, Boolean, Err, Ref, Word, FunHead, NameHead, Separator, Operator, At, Percent, Hash, Open, Close, OpenBrace, CloseBrace, Semicolon, IsHead, Lexes}
 use Rattle.ic_laws.specs.declared.reference.RefToken.{RefToken}
 use Rattle.ic_laws.specs.TokenKinds.{OfKind, is_number, is_word, is_head, head_at, word_at}
@@ -137,7 +136,7 @@ first_reference d n (c ∷ cs) rest r e =
       | inr b ↦ absurd (none_some (r, rest) (sym (n.reference_begins (c ∷ cs) b) ∙ e))
     ]
 
--- no head_token reaches past
+-- no head reaches past
 bracket_after : (blanks m more after : List ℕ) (x : ℕ) → list_all is_blank blanks ≡ true → blanks ++ 40 ∷ [] ≡ m ++ x ∷ more → first_is (λ c. c == 40) (past_run is_blank (x ∷ more ++ after)) ≡ true
 bracket_after blanks [] more after x all e =
     ap (λ t. first_is (λ c. c == 40) (past_run is_blank (t ++ after))) (sym e) ∙ ap (λ t. first_is (λ c. c == 40) (past_run is_blank t)) (append_assoc blanks (40 ∷ []) after)

@@ -13,7 +13,7 @@ use Rattle.ic_laws.specs.TokenKinds.{OfKind, is_reference, is_head, is_word, is_
 use Rattle.ic_laws.specs.NextToken.{all_errors, numbered, token_at}
 use Rattle.ic_laws.specs.Split.{IsBest, IsDecided, FindsBest, ReadsExactly, Either, Yields, longer}
 use Rattle.ic_laws.proofs.tokens.Next.{ComesAfter, token_best}
-use Rattle.ic_laws.proofs.tokens.Plain.{is_ref, plain_complete, number_sound, error_read, error_numbered}
+use Rattle.ic_laws.proofs.tokens.Plain.{plain_complete, number_sound, error_read, error_numbered}
 use Rattle.ic_laws.proofs.tokens.Quoted.{text_sound, text_complete}
 use Rattle.ic_laws.proofs.tokens.SignTables.{two_sound, two_complete, one_sound, one_complete}
 use Rattle.ic_laws.proofs.tokens.NameReaders.{word_at_sound, word_at_complete, head_at_sound, head_at_complete}
@@ -22,10 +22,10 @@ use Rattle.ic_laws.proofs.tokens.Numbers.{number_in_one_pass_best}
 use Rattle.ic_laws.proofs.tokens.Splits.{front_in_front, mapped, best_unique, exact_finds_best, finds_best_like, longer_best, split_best}
 
 -- Any two kinds, of which the second has no reference: of two of one length the second comes after.
-kinds_yield : (d : DialectMeaning) → IsLawful d → (p q : Token → Bool) → ((t : Token) → p t ≡ true → q t ≡ true → ⊥) → ((t : Token) → q t ≡ true → is_ref t ≡ false) → Yields ComesAfter (OfKind p d) (OfKind q d)
+kinds_yield : (d : DialectMeaning) → IsLawful d → (p q : Token → Bool) → ((t : Token) → p t ≡ true → q t ≡ true → ⊥) → ((t : Token) → q t ≡ true → is_reference t ≡ false) → Yields ComesAfter (OfKind p d) (OfKind q d)
 kinds_yield d n p q apart plain front rest v w a b =
-    let other : is_ref w ≡ false = plain w b.0 in
-    elim (cases_Bool (is_ref v)) [
+    let other : is_reference w ≡ false = plain w b.0 in
+    elim (cases_Bool (is_reference v)) [
       | inl r ↦ (other, r)
       | inr r ↦ let same : ◌≡◌ {A = Option Token} (Some v) (Some w) = sym (plain_complete d n front rest v r a.1) ∙ plain_complete d n front rest w other b.1 in
           let one : v ≡ w = cc in
@@ -44,7 +44,7 @@ kind_either d p q v front rest s =
     or_other x y e h = rw e at h
 
 -- the longer of the best of two kinds is the best of both
-pub kinds_join : (d : DialectMeaning) → IsLawful d → (text : List ℕ) (p q : Token → Bool) (a b : Option (Token × List ℕ)) → ((t : Token) → p t ≡ true → q t ≡ true → ⊥) → ((t : Token) → q t ≡ true → is_ref t ≡ false)
+pub kinds_join : (d : DialectMeaning) → IsLawful d → (text : List ℕ) (p q : Token → Bool) (a b : Option (Token × List ℕ)) → ((t : Token) → p t ≡ true → q t ≡ true → ⊥) → ((t : Token) → q t ≡ true → is_reference t ≡ false)
     → FindsBest (OfKind p d) ComesAfter text a → FindsBest (OfKind q d) ComesAfter text b → FindsBest (OfKind (λ t. p t || q t) d) ComesAfter text (longer a b)
 kinds_join d n text p q a b apart plain h k =
     finds_best_like (Either (OfKind p d) (OfKind q d)) ComesAfter (OfKind (λ t. p t || q t) d) (either_kind d p q) (kind_either d p q) text (longer a b)
@@ -146,7 +146,7 @@ signs_apart : (t : Token) → is_sign_of_two t ≡ true → is_sign_of_one t ≡
 signs_apart (Operator signs.Equal) h k = absurd (cc)
 signs_apart t h k = absurd (cc)
 
-signs_plain : (t : Token) → is_sign_of_one t ≡ true → is_ref t ≡ false
+signs_plain : (t : Token) → is_sign_of_one t ≡ true → is_reference t ≡ false
 signs_plain (Ref r) h = absurd (cc)
 signs_plain t h = refl
 
@@ -154,7 +154,7 @@ errors_apart : (t : Token) → is_error t ≡ true → signs_kind t ≡ true →
 errors_apart (Operator signs.Equal) h k = absurd (cc)
 errors_apart t h k = absurd (cc)
 
-errors_plain : (t : Token) → signs_kind t ≡ true → is_ref t ≡ false
+errors_plain : (t : Token) → signs_kind t ≡ true → is_reference t ≡ false
 errors_plain (Ref r) h = absurd (cc)
 errors_plain t h = refl
 
@@ -162,7 +162,7 @@ texts_apart : (t : Token) → is_text t ≡ true → error_kinds t ≡ true → 
 texts_apart (Operator signs.Equal) h k = absurd (cc)
 texts_apart t h k = absurd (cc)
 
-texts_plain : (t : Token) → error_kinds t ≡ true → is_ref t ≡ false
+texts_plain : (t : Token) → error_kinds t ≡ true → is_reference t ≡ false
 texts_plain (Ref r) h = absurd (cc)
 texts_plain t h = refl
 
@@ -170,7 +170,7 @@ numbers_apart : (t : Token) → is_number t ≡ true → text_kinds t ≡ true �
 numbers_apart (Operator signs.Equal) h k = absurd (cc)
 numbers_apart t h k = absurd (cc)
 
-numbers_plain : (t : Token) → text_kinds t ≡ true → is_ref t ≡ false
+numbers_plain : (t : Token) → text_kinds t ≡ true → is_reference t ≡ false
 numbers_plain (Ref r) h = absurd (cc)
 numbers_plain t h = refl
 
@@ -178,7 +178,7 @@ words_apart : (t : Token) → is_word t ≡ true → number_kinds t ≡ true →
 words_apart (Operator signs.Equal) h k = absurd (cc)
 words_apart t h k = absurd (cc)
 
-words_plain : (t : Token) → number_kinds t ≡ true → is_ref t ≡ false
+words_plain : (t : Token) → number_kinds t ≡ true → is_reference t ≡ false
 words_plain (Ref r) h = absurd (cc)
 words_plain t h = refl
 
@@ -186,7 +186,7 @@ heads_apart : (t : Token) → is_head t ≡ true → word_kinds t ≡ true → �
 heads_apart (Operator signs.Equal) h k = absurd (cc)
 heads_apart t h k = absurd (cc)
 
-heads_plain : (t : Token) → word_kinds t ≡ true → is_ref t ≡ false
+heads_plain : (t : Token) → word_kinds t ≡ true → is_reference t ≡ false
 heads_plain (Ref r) h = absurd (cc)
 heads_plain t h = refl
 
@@ -194,7 +194,7 @@ references_apart : (t : Token) → is_reference t ≡ true → head_kinds t ≡ 
 references_apart (Operator signs.Equal) h k = absurd (cc)
 references_apart t h k = absurd (cc)
 
-references_plain : (t : Token) → head_kinds t ≡ true → is_ref t ≡ false
+references_plain : (t : Token) → head_kinds t ≡ true → is_reference t ≡ false
 references_plain (Ref r) h = absurd (cc)
 references_plain t h = refl
 
@@ -218,7 +218,7 @@ same_best d text None None h k = refl
 same_best d text None (Some y) h k = absurd (h k.front y.1 y.0 k.whole k.spelled)
 same_best d text (Some x) None h k = absurd (k h.front x.1 x.0 h.whole h.spelled)
 same_best d text (Some x) (Some y) h k =
-    let one = best_unique (Spells d) ComesAfter (λ v w a b. both_ways (is_ref w) b.0 a.1) text x.1 y.1 x.0 y.0 h k in
+    let one = best_unique (Spells d) ComesAfter (λ v w a b. both_ways (is_reference w) b.0 a.1) text x.1 y.1 x.0 y.0 h k in
     ap (λ t. Some (t, x.1)) one.0 ∙ ap (λ r. Some (y.0, r)) one.1
 
 pub by_kinds : (d : DialectMeaning) → IsLawful d → (text : List ℕ) → token_by_kinds d text ≡ token_at d text
