@@ -3,7 +3,7 @@ ghost use Rattle.std.specs.Prelude.{◌≡◌};
 use std::marker::Model;
 
 /// A `Vec` that contracts see as the list of its items, so that a value which holds one is plain data.
-#[derive(Drop)]
+#[derive(Debug, Drop)]
 pub struct Items<T> {
     inner: Vec<T>,
 }
