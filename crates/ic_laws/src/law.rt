@@ -1,5 +1,6 @@
-ghost use Rattle.std.specs.Prelude.{◌≡◌, ℕ, List, Some};
+ghost use Rattle.std.specs.Prelude.{◌≡◌, ◌↔◌, ℕ, List, Some};
 ghost use Rattle.ic_laws.specs.NextToken.{tokens_of};
+ghost use Rattle.ic_laws.specs.ReadAs.{read_as};
 ghost use Rattle.ic_laws.specs.Reading.{Fits, IsWell, Reads, printed};
 ghost use Rattle.ic_laws.specs.Token.{Token, Lexes};
 ghost use Rattle.ic_laws.specs.Tree.{Spelled};
@@ -25,4 +26,9 @@ pub fn law_lex_print<D: Dialect>()
 /// A formula that fits is read from its canonical text.
 pub fn law_read_print<D: Dialect>()
     ensures { (d : D) (t : Spelled) → Fits (D.meaning d) t → Reads (D.meaning d) (printed (D.meaning d) t) t }
+{}
+
+/// A text reads as a formula exactly where the function that reads texts answers it. So it reads as one at most.
+pub fn law_read_as<D: Dialect>()
+    ensures { (d : D) (text : List ℕ) (t : Spelled) → Reads (D.meaning d) text t ↔ read_as (D.meaning d) text ≡ Some t }
 {}

@@ -15,8 +15,8 @@
 //!
 //! The laws of every dialect: `law_lexes_unique` (a text falls into tokens in one way at most), `law_yield_injective` (a
 //! list of tokens is that of one tree at most), `law_lex_print` and `law_read_print` (the canonical text of a tree that
-//! fits falls into its tokens, and reads as it). That the functions answer just what the relations say is in `proofs/`:
-//! `parsing` (`ReadAs`), `tokens` (`Next`, `Kinds`, `Lexing`) and `printing` (`Trees`).
+//! fits falls into its tokens, and reads as it), `law_read_as` (the function that reads texts answers just what the
+//! relation says). The proofs are in `proofs/parsing`, `proofs/tokens` and `proofs/printing`.
 #![tactic(auto)]
 
 mod amount;
@@ -35,7 +35,7 @@ pub use amount::{Amount, amount_spelling, unsigned_amount};
 pub use boxed::Boxed;
 pub use dialect::{Dialect, WordKind};
 pub use items::Items;
-pub use law::{law_lex_print, law_lexes_unique, law_read_print, law_yield_injective};
+pub use law::{law_lex_print, law_lexes_unique, law_read_as, law_read_print, law_yield_injective};
 pub use memory::OutOfMemory;
 pub use name::agree;
 pub use reference::{LAST_COLUMN, LAST_ROW, Place, Position, RefPart, RefToken};
