@@ -1,0 +1,98 @@
+//! Answers one call a line, for every public call that a row can show: the name of the call and its words, each after a
+//! tab and escaped as in command lines. The answer is one line: `none` for None, `error`, the variant's name and its
+//! text for an error, otherwise the fields of what is answered, each after a tab. A line that is no such call is
+//! answered `bad`.
+//!
+//! `stdin` holds the rows and `stdout` their answers. No contract speaks of this program: its rows are the cases of the
+//! crates that it calls.
+#![tactic(auto)]
+
+mod amounts;
+mod fault;
+mod names;
+mod places;
+mod references;
+mod words;
+
+use fault::Fault;
+use ic_laws::Text;
+use ic_lines::{Line, LineReader, StdSource, unescape};
+use ic_tables::{Tables, sample_tables};
+use std::alloc::Global;
+use std::io;
+use std::io::{BufWriter, Write};
+use words::name_of;
+
+/// The words of a line as texts; None where one has a wrong escape.
+fn words_of(alloc: Global, line: &str) -> Result<Option<Vec<Text>>, Fault> {
+    let mut words = Vec::new(alloc);
+    for word in line.split('\t') {
+        let Some(text) = unescape(alloc, word)? else {
+            return Ok(None);
+        };
+        words.push(text)?;
+    }
+    Ok(Some(words))
+}
+
+/// Makes the call of these words and appends its answer.
+fn call(alloc: Global, tables: &Tables, words: &[Text], out: &mut String) -> Result<(), Fault> {
+    let name = name_of(words);
+    if names::call(alloc, name, words, out)?
+        || amounts::call(alloc, name, words, out)?
+        || references::call(alloc, name, words, out)?
+    {
+        return Ok(());
+    }
+    Err(Fault::Row)
+}
+
+/// Appends the answer to a line.
+fn answer(alloc: Global, tables: &Tables, line: &Line, out: &mut String) -> Result<(), Fault> {
+    let Some(words) = words_of(alloc, line.text().as_str())? else {
+        return Err(Fault::Row);
+    };
+    call(alloc, tables, words.as_slice(), out)
+}
+
+/// Appends the answer to a line and a line feed; `bad` where the line is no call.
+fn answer_whole(
+    alloc: Global,
+    tables: &Tables,
+    line: &Line,
+    out: &mut String,
+) -> Result<(), Fault> {
+    match answer(alloc, tables, line, out) {
+        Ok(()) => {}
+        Err(Fault::Row) => {
+            out.clear();
+            out.push_str("bad")?;
+        }
+        Err(fault) => return Err(fault),
+    }
+    out.push('\n')?;
+    Ok(())
+}
+
+fn serve(rt: &HostRuntime) -> Result<(), Fault> {
+    let alloc = rt.alloc();
+    let tables = sample_tables(alloc)?;
+    let mut source = StdSource::new(rt.reader());
+    let mut reader = LineReader::new(alloc);
+    let mut writer = BufWriter::new(alloc, io::writer(rt))?;
+    let mut out = String::new(alloc);
+    for _ in 0..u64::MAX {
+        let Some(line) = reader.next_line(&mut source)? else {
+            break;
+        };
+        out.clear();
+        answer_whole(alloc, &tables, &line, &mut out)?;
+        writer.write_all(out.as_bytes())?;
+    }
+    writer.flush()?;
+    Ok(())
+}
+
+fn main(rt: HostRuntime) -> Result<(), Fault> {
+    serve(&rt)
+}
