@@ -12,6 +12,7 @@ mod fault;
 mod names;
 mod places;
 mod references;
+mod scans;
 mod words;
 
 use fault::Fault;
@@ -41,6 +42,7 @@ fn call(alloc: Global, tables: &Tables, words: &[Text], out: &mut String) -> Res
     if names::call(alloc, name, words, out)?
         || amounts::call(alloc, name, words, out)?
         || references::call(alloc, name, words, out)?
+        || scans::call(alloc, name, words, out)?
     {
         return Ok(());
     }

@@ -1,7 +1,7 @@
 //! References in the A1 form, the stored form and the R1C1 form.
 use crate::fault::Fault;
 use crate::places::{put_place, reference};
-use crate::words::{index, int, put_bool, put_error, put_none, put_some, put_text, size, word};
+use crate::words::{index, int, put_error, put_none, put_some, put_text, size, word};
 use ic_laws::{RefToken, Text};
 use ic_refs::{
     A1Reference, CellReferenceIndex, ParsedReference, ReferenceError, is_valid_column_number,
@@ -51,12 +51,17 @@ fn put_a1(out: &mut String, found: Option<A1Reference>) -> Result<(), Fault> {
     let Some(cell) = found else {
         return put_none(out);
     };
-    let row = cell.row;
-    let column = cell.column;
-    write!(out, "{row}\t{column}\t")?;
-    put_bool(out, cell.absolute_row)?;
+    put_number(out, cell.absolute_row, cell.row)?;
     out.push('\t')?;
-    put_bool(out, cell.absolute_column)
+    put_number(out, cell.absolute_column, cell.column)
+}
+
+fn put_number(out: &mut String, absolute: bool, n: i32) -> Result<(), Fault> {
+    if absolute {
+        out.push('$')?;
+    }
+    write!(out, "{n}")?;
+    Ok(())
 }
 
 fn parse_formula(alloc: Global, words: &[Text], out: &mut String) -> Result<(), Fault> {
