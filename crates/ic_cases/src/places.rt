@@ -1,5 +1,5 @@
-//! References in rows: a sheet as `-` or its name after a quote, then a cell's row and column or those of two corners. An
-//! absolute row or column has a `$` before its number, a relative one is the distance.
+//! References in rows: a sheet as `-` or its name after a quote, then `cell` with a row and a column, or `range` with
+//! those of two corners. An absolute row or column has a `$` before its number, a relative one is the distance.
 use crate::fault::Fault;
 use crate::words::word;
 use ic_laws::{Place, Position, RefPart, RefToken, Text};
@@ -29,11 +29,12 @@ fn part(words: &[Text], at: usize) -> Result<RefPart, Fault> {
 }
 
 fn place(words: &[Text], at: usize) -> Result<Place, Fault> {
-    let first = part(words, at)?;
-    if words.len() < at.saturating_add(3) {
-        return Ok(Place::Cell(first));
+    let first = part(words, at.saturating_add(1))?;
+    match word(words, at)? {
+        "cell" => Ok(Place::Cell(first)),
+        "range" => Ok(Place::Range(first, part(words, at.saturating_add(3))?)),
+        _ => Err(Fault::Row),
     }
-    Ok(Place::Range(first, part(words, at.saturating_add(2))?))
 }
 
 fn sheet(alloc: Global, words: &[Text], at: usize) -> Result<Option<Text>, Fault> {
