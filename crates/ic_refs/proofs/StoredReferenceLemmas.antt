@@ -1,7 +1,7 @@
 -- References in the stored form.
 use Rattle.std.proofs.Common.{◌≡◌, ℕ, ◌-◌, List, [], ◌∷◌, ◌++◌, true, false, Option, Some, None, IfSome, option_map, encode_utf8_all, chars, drop, length, IsUtf8, refl, sym, subst, ◌∙◌, ap, inl, inr, eqb}
 use Rattle.std.specs.List.{list_any}
-use Rattle.std.proofs.lemmas.Bool.{cases_Bool, or_parts}
+use Rattle.std.proofs.lemmas.Bool.{and_parts, cases_Bool, or_parts}
 use Rattle.ic_laws.specs.Name.{is_sheet_name}
 use Rattle.ic_laws.specs.Scan.{EndsWith, is_plain, first_is, past_run, IsEnd}
 use Rattle.ic_laws.specs.declared.reference.Place.{Place}
@@ -9,10 +9,11 @@ use Rattle.ic_laws.specs.declared.reference.RefToken.{RefToken}
 use Rattle.ic_refs.specs.Longest.{FindsLongest, FindsLongestAt, IsLongest, is_char_boundary, read_at}
 use Rattle.ic_refs.specs.Sheet.{reference_at, sheet_at}
 use Rattle.ic_laws.specs.Position.{is_place_within}
-use Rattle.ic_refs.specs.Stored.{SpellsPlace, SpellsStored, place_text, stored_text, stored_place_at}
+use Rattle.ic_laws.specs.Tree.{is_written_sheet}
+use Rattle.ic_refs.specs.Stored.{is_stored_spellable, SpellsPlace, SpellsStored, place_text, stored_text, stored_place_at}
 use Rattle.ic_refs.proofs.OffsetLemmas.{finds_at}
 use Rattle.ic_refs.proofs.ReferenceLemmas.{finds_reference, reference_again}
-use Rattle.ic_refs.proofs.SheetLemmas.{no_sheet_without_bang}
+use Rattle.ic_refs.proofs.SheetLemmas.{no_sheet_without_bang, sheet_named}
 use Rattle.ic_refs.proofs.StoredReachLemmas.{finds_longest_place}
 use Rattle.ic_refs.proofs.StoredTextLemmas.{place_again, place_spelled, place_begins, no_bang_in_place, end_bang, end_plain}
 
@@ -61,3 +62,7 @@ no_sheet_in_place place rest w e =
 pub stored_again : (token : RefToken) (rest : List ℕ) → is_place_within token.place ≡ true → IfSome token.sheet (λ name. is_sheet_name name ≡ true) → IsEnd rest → reference_at stored_place_at (stored_text token ++ rest) ≡ Some (token, rest)
 stored_again token rest w s e =
     reference_again stored_place_at (place_text token.place) rest token s (place_again token.place rest w e) (λ _. no_sheet_in_place token.place rest w e)
+
+pub stored_spelled : (token : RefToken) (rest : List ℕ) → is_stored_spellable token ≡ true → IsEnd rest → reference_at stored_place_at (stored_text token ++ rest) ≡ Some (token, rest)
+stored_spelled token rest h e =
+    let p = and_parts (is_place_within token.place) (is_written_sheet token.sheet) h in stored_again token rest p.0 (sheet_named token.sheet p.1) e

@@ -6,6 +6,7 @@ use Rattle.std.specs.Ordering.{int_eq}
 use Rattle.ic_laws.specs.Name.{names_row}
 use Rattle.ic_laws.specs.Scan.{is_digit, first_is, past_dollar, is_ascii_letter}
 use Rattle.ic_laws.specs.Position.{is_row, is_column, letter_digit, letters_number, names_column, place_at, is_inside}
+use Rattle.ic_laws.specs.Tree.{is_written_sheet}
 use Rattle.ic_laws.specs.declared.reference.Position.{Position}
 use Rattle.ic_laws.specs.declared.reference.Position.TheVariants as at
 use Rattle.ic_laws.specs.declared.reference.RefPart.{RefPart}
@@ -105,6 +106,10 @@ place_text row column (places.Range first last) = range_text row column first la
 -- a reference can be spelled in a cell where both lie in the sheet
 abbrev pub is_spellable : ℤ → ℤ → RefToken → Bool
 is_spellable row column token = is_row row && is_column column && is_inside token.place row column
+
+-- it can be written so that it is read back: the name of its sheet, if it has one, is one that a sheet may have
+abbrev pub is_shown_spellable : ℤ → ℤ → RefToken → Bool
+is_shown_spellable row column token = is_spellable row column token && is_written_sheet token.sheet
 
 abbrev pub a1_text : ℤ → ℤ → RefToken → Option (List ℕ)
 a1_text row column token = if is_spellable row column token then Some (sheet_text token.sheet ++ place_text row column token.place) else None

@@ -1,5 +1,5 @@
 -- The stored form of a reference: rows and columns by number, each absolute or by its distance from the cell.
-use Rattle.std.specs.Prelude.{◌≡◌, ◌≢◌, ◌⊎◌, ℕ, ℤ, pos, neg_ℤ, ◌-◌, List, [], ◌∷◌, ◌++◌, true, ◌==◌, Option, Some, None, option_map, option_and_then, if◌then◌else◌}
+use Rattle.std.specs.Prelude.{◌≡◌, ◌≢◌, ◌⊎◌, ℕ, ℤ, pos, neg_ℤ, ◌-◌, List, [], ◌∷◌, ◌++◌, Bool, true, ◌&&◌, ◌==◌, Option, Some, None, option_map, option_and_then, if◌then◌else◌}
 use Rattle.std.specs.Fmt.{signed_decimal}
 use Rattle.std.specs.Str.{all_ascii_digits}
 use Rattle.std.specs.Str.Parse.{digits_value}
@@ -10,7 +10,8 @@ use Rattle.ic_laws.specs.declared.reference.Place.{Place}
 use Rattle.ic_laws.specs.declared.reference.Place.TheVariants as places
 use Rattle.ic_laws.specs.declared.reference.RefToken.{RefToken}
 use Rattle.ic_laws.specs.Scan.{is_digit, first_is}
-use Rattle.ic_laws.specs.Position.{is_part_within}
+use Rattle.ic_laws.specs.Position.{is_part_within, is_place_within}
+use Rattle.ic_laws.specs.Tree.{is_written_sheet}
 use Rattle.ic_refs.specs.Number.{number_from}
 use Rattle.ic_refs.specs.Sheet.{SpellsReference, sheet_text}
 
@@ -44,6 +45,11 @@ SpellsPlace text (places.Range first last) = (a : List ℕ) × (b : List ℕ) ×
 -- the text is this reference in the stored form
 abbrev pub SpellsStored : List ℕ → RefToken → Type 0
 SpellsStored text token = SpellsReference SpellsPlace text token
+
+-- a reference can be written in the stored form: within the limits of the form, and with a name that a sheet may have,
+-- if it has one
+abbrev pub is_stored_spellable : RefToken → Bool
+is_stored_spellable token = is_place_within token.place && is_written_sheet token.sheet
 
 -- Spelling
 

@@ -1,8 +1,7 @@
 ghost use Rattle.std.specs.Prelude.{◌≡◌, ◌↔◌, ◌&&◌, ◌+◌, ◌++◌, ◌-◌, ℕ, List, true, false, Some, None, chars, string_bytes, encode_utf8_all, length, option_map, option_and_then, IfOk, IfSome, IsNone};
-ghost use Rattle.ic_laws.specs.Name.{is_sheet_name};
 ghost use Rattle.ic_laws.specs.Scan.{IsEnd};
 ghost use Rattle.ic_laws.specs.Position.{is_column, is_row};
-ghost use Rattle.ic_refs.specs.A1.{a1_at, a1_place_at, a1_text, is_spellable, IsAnOrigin, SpellsA1};
+ghost use Rattle.ic_refs.specs.A1.{a1_at, a1_place_at, a1_text, is_shown_spellable, is_spellable, IsAnOrigin, SpellsA1};
 ghost use Rattle.ic_refs.specs.Longest.{FindsLongestAt, read_at};
 ghost use Rattle.ic_refs.specs.Sheet.{reference_at, sheet_at, with_sheet};
 ghost use Rattle.ic_refs.specs.Token.{token_of};
@@ -141,7 +140,7 @@ pub fn spell_a1(
 ) -> Result<Option<String>, OutOfMemory>
     ensures exact { IfOk result (λ text. option_map (λ t. chars (string_bytes t)) text ≡ a1_text row column r.now) }
     ensures none { IfOk result (λ text. IsNone text ↔ (is_spellable row column r.now ≡ false)) }
-    ensures again { IfSome r.now.sheet (λ name. is_sheet_name name ≡ true) → IfOk result (λ text. IfSome text (λ t. (rest : List ℕ) → IsEnd rest
+    ensures again { is_shown_spellable row column r.now ≡ true → IfOk result (λ text. IfSome text (λ t. (rest : List ℕ) → IsEnd rest
         → a1_at row column (chars (string_bytes t) ++ rest) ≡ Some (r.now, rest))) }
 {
     spell_in_cell(alloc, r, Origin { row, column })

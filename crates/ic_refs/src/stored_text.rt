@@ -1,9 +1,7 @@
-ghost use Rattle.std.specs.Prelude.{◌≡◌, ◌++◌, List, ℕ, true, IfOk, OnOk, IfSome, chars, string_bytes};
+ghost use Rattle.std.specs.Prelude.{◌≡◌, ◌++◌, List, ℕ, true, IfOk, OnOk, chars, string_bytes};
 ghost use Rattle.std.specs.Fmt.{signed_decimal};
-ghost use Rattle.ic_laws.specs.Name.{is_sheet_name};
-ghost use Rattle.ic_laws.specs.Position.{is_place_within};
 ghost use Rattle.ic_refs.specs.Sheet.{reference_at};
-ghost use Rattle.ic_refs.specs.Stored.{stored_place_at, position_text, cell_text, place_text, stored_text};
+ghost use Rattle.ic_refs.specs.Stored.{is_stored_spellable, stored_place_at, position_text, cell_text, place_text, stored_text};
 ghost use Rattle.ic_laws.specs.Scan.{IsEnd};
 
 use crate::sheet::push_sheet;
@@ -16,8 +14,7 @@ pub fn spell_rc(alloc: Global, reference: &RefToken) -> Result<String, OutOfMemo
     ensures exact { IfOk result (λ text. chars (string_bytes text) ≡ stored_text reference.now) }
 
     // What is spelled is read back, wherever it ends, if the numbers are within the limits and the name is a sheet's.
-    ensures again { is_place_within reference.now.place ≡ true → IfSome reference.now.sheet (λ name. is_sheet_name name ≡ true)
-        → (rest : List ℕ) → IsEnd rest
+    ensures again { is_stored_spellable reference.now ≡ true → (rest : List ℕ) → IsEnd rest
         → IfOk result (λ text. reference_at stored_place_at (chars (string_bytes text) ++ rest) ≡ Some (reference.now, rest)) }
 {
     spelled_reference(alloc, reference)
