@@ -74,32 +74,3 @@ fn push_number(out: &mut String, number: i32) -> Result<(), OutOfMemory>
     write!(out, "{number}")?;
     Ok(())
 }
-
-#[cfg(test)]
-mod tests {
-    use super::*;
-    use crate::stored::read_rc;
-
-    #[test]
-    fn spells_what_it_reads(rt: HostRuntime) -> Result<(), OutOfMemory> {
-        for (text, want) in [
-            ("R1C1", "R1C1"),
-            ("R007C[-0]", "R7C[0]"),
-            ("R[-1]C[2]:R1048576C[-16383]", "R[-1]C[2]:R1048576C[-16383]"),
-            ("'Sheet1'!R1C1", "Sheet1!R1C1"),
-            ("'My sheet'!R1C1:R2C2", "'My sheet'!R1C1:R2C2"),
-            ("'It''s'!R[5]C5", "'It''s'!R[5]C5"),
-            ("'R1C1'!R2C2", "'R1C1'!R2C2"),
-            ("été!R1C1", "été!R1C1"),
-        ] {
-            match read_rc(rt.alloc(), text, 0)? {
-                Some((token, _)) => assert!(rt;
-                    spell_rc(rt.alloc(), &token)?.as_str() == want,
-                    "{text}"
-                ),
-                None => panic!(rt; "nothing in {text:?}"),
-            }
-        }
-        Ok(())
-    }
-}
