@@ -13,8 +13,11 @@ pub mod PlaceLemmas
 pub mod PositionLemmas
 pub mod PushLemmas
 pub mod QuoteLemmas
+pub mod R1C1EndLemmas
+pub mod R1C1FormLemmas
 pub mod R1C1InsideLemmas
 pub mod R1C1Lemmas
+pub mod R1C1PartLemmas
 pub mod R1C1SheetLemmas
 pub mod ReaderLemmas
 mod ReferenceExamples

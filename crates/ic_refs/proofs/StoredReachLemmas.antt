@@ -17,7 +17,7 @@ use Rattle.ic_refs.proofs.TakingLemmas.{Takes, Reaches, finds_longest, takes_le,
 use Rattle.ic_refs.proofs.StoredLemmas.{SpellsWithin, nat_abs_neg, cell_takes, place_takes}
 
 -- the first of digits is a digit
-digits_begin : (digits after : List ℕ) → all_ascii_digits digits ≡ true → digits ≢ [] → first_is is_digit (digits ++ after) ≡ true
+pub digits_begin : (digits after : List ℕ) → all_ascii_digits digits ≡ true → digits ≢ [] → first_is is_digit (digits ++ after) ≡ true
 digits_begin [] after a n = absurd (n refl)
 digits_begin (d ∷ ds) after a n = (and_parts (is_digit d) (all_ascii_digits ds) a).0
 

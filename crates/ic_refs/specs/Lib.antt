@@ -5,6 +5,8 @@ pub mod Formula
 pub mod Longest
 pub mod Number
 pub mod R1C1
+pub mod R1C1Form
+pub mod Referred
 pub mod Sheet
 pub mod Stored
 pub mod Token

@@ -15,6 +15,10 @@ use Rattle.ic_laws.specs.Tree.{is_written_sheet}
 use Rattle.ic_refs.specs.Number.{number_from}
 use Rattle.ic_refs.specs.Sheet.{SpellsReference, sheet_text}
 
+-- the bracket that closes a distance
+abbrev pub close_square : ℕ
+close_square = 93
+
 -- the digits of a number, zeros in front or not
 abbrev pub SpellsNumber : List ℕ → ℕ → Type 0
 SpellsNumber digits n = (all_ascii_digits digits ≡ true) × (digits ≢ []) × (digits_value 10 digits ≡ n)

@@ -119,7 +119,7 @@ fn not_a_reference(text: &str) -> ReferenceError
 }
 
 // The sheet that a reference is on: the one that is known where no name is written, else the one of this name.
-fn sheet_of<F: Fn(&str) -> Option<u32>>(
+pub(crate) fn sheet_of<F: Fn(&str) -> Option<u32>>(
     alloc: Global,
     sheet: Option<WrittenName<'_>>,
     known: Option<u32>,

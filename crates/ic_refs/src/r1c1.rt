@@ -1,12 +1,16 @@
-ghost use Rattle.std.specs.Prelude.{◌≡◌, chars, true, option_map, IfOk};
+ghost use Rattle.std.specs.Prelude.{◌≡◌, chars, encode_utf8_all, true, option_map, IfOk};
+ghost use Rattle.std.specs.Fn.{FnReturnsAt};
 ghost use Rattle.ic_laws.specs.Scan.{past_run};
 ghost use Rattle.ic_laws.specs.Position.{is_row, is_column};
 ghost use Rattle.ic_refs.specs.Formula.{UnlessMemory};
 ghost use Rattle.ic_refs.specs.Sheet.{name_in_quotes};
 ghost use Rattle.ic_refs.specs.Written.{name_of};
-ghost use Rattle.ic_refs.specs.R1C1.{Gives, is_no_bang, quoted_name, unquoted_name, split_sheet, refers, LiesInSheet, ParsesR1C1};
+ghost use Rattle.ic_refs.specs.R1C1.{Gives, is_no_bang, quoted_name, unquoted_name, split_sheet, refers, ParsesR1C1};
+ghost use Rattle.ic_refs.specs.R1C1Form.{TellsR1C1};
+ghost use Rattle.ic_refs.specs.Referred.{HasCornersInOrder, LiesInSheet};
 
 use crate::error::ReferenceError;
+use crate::formula::sheet_of;
 use crate::r1c1_ends::{read_ends, referred};
 use crate::reference::{CellReferenceIndex, ParsedReference};
 use crate::sheet::name_in_quotes;
@@ -35,36 +39,50 @@ impl ParsedReference {
         requires row { is_row cell.row ≡ true }
         requires column { is_column cell.column ≡ true }
         requires find { F.IsAlwaysCallable find }
-        ensures exact { UnlessMemory result (ParsesR1C1 (λ name answer. (s : _) × (chars s.now ≡ name) × F.post find s answer) cell (split_sheet (chars text.now))) }
+        ensures exact { UnlessMemory result (ParsesR1C1 (λ name answer. FnReturnsAt F.Fn find (encode_utf8_all name) answer) cell (split_sheet (chars text.now))) }
+
+        // What is answered is what the text spells.
+        ensures spelled { TellsR1C1 (λ name answer. FnReturnsAt F.Fn find (encode_utf8_all name) answer) cell (chars text.now) result }
         ensures inside { IfOk result LiesInSheet }
+        ensures order { IfOk result HasCornersInOrder }
     {
-        match split_sheet(text) {
-            Err(e) => Err(e),
-            Ok((None, rest)) => refers(cell, cell.sheet, rest),
-            Ok((Some(name), rest)) => refers_by_name(alloc, cell, &name, rest, find),
-        }
+        referred_from(alloc, cell, text, find)
     }
 }
 
-// What the text refers to on the sheet of this name.
-fn refers_by_name<F: Fn(&str) -> Option<u32>>(
+// The same, with the clause that says it all.
+fn referred_from<F: Fn(&str) -> Option<u32>>(
     alloc: Global,
     cell: CellReferenceIndex,
-    name: &WrittenName<'_>,
     text: &str,
     find: F,
 ) -> Result<ParsedReference, ReferenceError>
     requires row { is_row cell.row ≡ true }
     requires column { is_column cell.column ≡ true }
     requires find { F.IsAlwaysCallable find }
-    ensures exact { UnlessMemory result (ParsesR1C1 (λ name answer. (s : _) × (chars s.now ≡ name) × F.post find s answer) cell (Ok (Some (name_of name.now), chars text.now))) }
-    ensures inside { IfOk result LiesInSheet }
+    ensures { UnlessMemory result (ParsesR1C1 (λ name answer. FnReturnsAt F.Fn find (encode_utf8_all name) answer) cell (split_sheet (chars text.now))) }
 {
-    let name = name.name(alloc)?;
-    match find(name.as_str()) {
-        Some(sheet) => refers(cell, sheet, text),
-        None => Err(ReferenceError::SheetUnknown(name)),
+    match split_sheet(text) {
+        Err(e) => Err(e),
+        Ok((name, rest)) => refers_by_name(alloc, cell, name, rest, find),
     }
+}
+
+// What the text refers to on the sheet of this name, or on that of the cell.
+fn refers_by_name<F: Fn(&str) -> Option<u32>>(
+    alloc: Global,
+    cell: CellReferenceIndex,
+    name: Option<WrittenName<'_>>,
+    text: &str,
+    find: F,
+) -> Result<ParsedReference, ReferenceError>
+    requires row { is_row cell.row ≡ true }
+    requires column { is_column cell.column ≡ true }
+    requires find { F.IsAlwaysCallable find }
+    ensures { UnlessMemory result (ParsesR1C1 (λ name answer. FnReturnsAt F.Fn find (encode_utf8_all name) answer) cell (Ok (option_map name_of name.entry, chars text.now))) }
+{
+    let sheet = sheet_of(alloc, name, Some(cell.sheet), find)?;
+    refers(cell, sheet, text)
 }
 
 // What the text refers to on a sheet.
