@@ -3,6 +3,7 @@ pub mod A1ReferenceLemmas
 pub mod ColumnLemmas
 pub mod ColumnNumberLemmas
 pub mod DigitLemmas
+pub mod FormulaFormLemmas
 pub mod KindLemmas
 pub mod LongestLemmas
 pub mod MarkLemmas

@@ -268,10 +268,12 @@ tells_found Answers cell text (Ok split) found i k (Ok sheet, is, h) = (
   sheet,
   on_sheet_of Answers cell split.0 sheet is,
   (split.1, split_sound text split k, refers_sound cell split.1 sheet found i (sym h)),
-  λ other s.
-      let parts = same_ok (split.0, s.0) split (sym (split_complete text split.0 s.0 s.1) ∙ k) in
-      let rest : s.0 ≡ split.1 = ap (λ (f : Option (List ℕ) × List ℕ). f.1) parts in
-      same_ok other found (sym (refers_complete cell s.0 sheet other s.2) ∙ ap (λ t. refers cell t sheet) rest ∙ sym h),
+  λ name other s.
+      let parts = same_ok (name, s.0) split (sym (split_complete text name s.0 s.1) ∙ k) in
+      let rest : s.0 ≡ split.1 = ap (λ (f : Option (List ℕ) × List ℕ). f.1) parts in (
+        ap (λ (f : Option (List ℕ) × List ℕ). f.0) parts,
+        same_ok other found (sym (refers_complete cell s.0 sheet other s.2) ∙ ap (λ t. refers cell t sheet) rest ∙ sym h),
+      ),
 )
 
 tells_error : (Answers : List ℕ → Option ℕ → Type 0) (cell : CellReferenceIndex) (text : List ℕ) (split : Result (Option (List ℕ) × List ℕ) ReferenceError) (e : ReferenceError) → IsInSheet cell → split_sheet text ≡ split

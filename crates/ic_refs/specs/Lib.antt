@@ -2,6 +2,7 @@ pub mod A1
 pub mod Column
 pub mod Digits
 pub mod Formula
+pub mod FormulaForm
 pub mod Longest
 pub mod Number
 pub mod R1C1

@@ -108,7 +108,7 @@ HasUnknownSheet Answers text e = (name : List ℕ) × (rest : List ℕ) × Split
 abbrev pub TellsR1C1 : (List ℕ → Option ℕ → Type 0) → CellReferenceIndex → List ℕ → Result ParsedReference ReferenceError → Type 0
 TellsR1C1 Answers cell text (Ok found) =
     (name : Option (List ℕ)) × (sheet : ℕ) × IsOnSheet Answers cell name sheet × SpellsR1C1 cell text name sheet found
-    × ((other : ParsedReference) → SpellsR1C1 cell text name sheet other → other ≡ found)
+    × ((other_name : Option (List ℕ)) (other : ParsedReference) → SpellsR1C1 cell text other_name sheet other → (other_name ≡ name) × (other ≡ found))
 TellsR1C1 Answers cell text (Err errors.OutOfMemory) = Unit {0}
 TellsR1C1 Answers cell text (Err e) =
     HasUnknownSheet Answers text e ⊎ ((name : Option (List ℕ)) (sheet : ℕ) (found : ParsedReference) → SpellsR1C1 cell text name sheet found → ⊥)
