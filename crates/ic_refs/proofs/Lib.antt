@@ -1,6 +1,7 @@
 pub mod A1Lemmas
 pub mod A1ReferenceLemmas
 pub mod ColumnLemmas
+pub mod ColumnNamedLemmas
 pub mod ColumnNumberLemmas
 pub mod DigitLemmas
 pub mod FormulaFormLemmas

@@ -1,4 +1,4 @@
-ghost use Rattle.std.specs.Prelude.{◌≡◌, ◌↔◌, ◌<◌, ◌≤◌, [], ◌∷◌, ◌++◌, ◌+◌, true, false, pos, nat_lt, Some, Ok, IfOk, IfSome, OnOk, IsNone, is_ok, chars, string_bytes, option_map};
+ghost use Rattle.std.specs.Prelude.{◌≡◌, ◌↔◌, ◌<◌, ◌≤◌, [], ◌∷◌, ◌++◌, ◌+◌, ℤ, true, false, pos, nat_lt, Some, Ok, IfOk, IfSome, OnOk, IsNone, MatchResult, is_ok, chars, string_bytes, option_map};
 ghost use Rattle.std.specs.List.{list_all};
 ghost use Rattle.ic_laws.specs.Position.{is_row, is_column, letters_number};
 ghost use Rattle.ic_laws.specs.Scan.{is_upper};
@@ -15,6 +15,16 @@ use std::alloc::Global;
 /// Err tells the first that holds: the text is empty, a character isn't ASCII, a character is none of A to Z, or the
 /// column is past the last one, 16,384.
 pub fn column_to_number(column: &str) -> Result<i32, ColumnError>
+    ensures exact { result ≡ column_number (chars column.now) }
+
+    // A text names a column exactly where the column has these letters.
+    ensures named { MatchResult result (λ n. column_name n ≡ Some (chars column.now)) (λ e. (n : ℤ) → column_name n ≡ Some (chars column.now) → ⊥) }
+{
+    number_of_letters(column)
+}
+
+// The same, with the clause that says it all.
+fn number_of_letters(column: &str) -> Result<i32, ColumnError>
     ensures { result ≡ column_number (chars column.now) }
 {
     if column.is_empty() {
