@@ -1,16 +1,14 @@
 -- A text names a column exactly where the column has these letters.
-use Rattle.std.proofs.Common.{◌≡◌, ◌≢◌, ℕ, ℤ, pos, ◌+◌, ◌*◌, ◌-◌, ◌/◌, ◌%◌, ◌^◌, ◌≤◌, ◌<◌, List, [], ◌∷◌, true, false, nat_lt, nat_le, nat_abs, length, Option, Some, None, Result, Ok, Err, MatchResult, refl, sym, subst, ◌∙◌, ap, arith, inl, inr, zero, suc, cond}
+use Rattle.std.proofs.Common.{◌≡◌, ◌≢◌, ℕ, ℤ, pos, ◌+◌, ◌*◌, ◌-◌, ◌/◌, ◌%◌, ◌^◌, ◌≤◌, ◌<◌, List, [], ◌∷◌, true, false, nat_lt, nat_le, nat_abs, length, Option, Some, Result, Ok, Err, MatchResult, refl, sym, subst, ◌∙◌, ap, arith, inl, inr, zero, suc}
 use Rattle.std.specs.List.{list_all}
 use Rattle.std.proofs.Math.Nat.{pow-suc, le-mul_of_pos_right}
-use Rattle.std.proofs.lemmas.Bool.{and_parts, and_from, cases_Bool, le-leb, leb-true, lt-leb, lt-ltb, true≢false}
+use Rattle.std.proofs.lemmas.Bool.{and_parts, and_from, cases_Bool, le-leb, leb-true, lt-leb}
 use Rattle.std.proofs.lemmas.Bool.Decides.{nat_tests}
-use Rattle.std.proofs.lemmas.Int.{ints}
 use Rattle.ic_laws.specs.Position.{is_column, letter_digit, letters_number}
 use Rattle.ic_laws.specs.Scan.{is_upper}
 use Rattle.ic_refs.specs.Column.{column_letters, column_name, column_number, letter}
 use Rattle.ic_refs.specs.declared.error.ColumnError.{ColumnError}
-use Rattle.ic_refs.specs.declared.error.ColumnError.TheVariants as errors
-use Rattle.ic_refs.proofs.ColumnLemmas.{AreLettersOf, IsNumberOf, column_letters-AreLettersOf, number_of_column}
+use Rattle.ic_refs.proofs.ColumnLemmas.{AreLettersOf, column_letters-AreLettersOf, number_of_column}
 
 -- a letter in upper case is that of its digit
 record IsLetterOf (c : ℕ) : Type 0 where

@@ -1,6 +1,6 @@
 -- What a whole text refers to in the A1 form: what is answered is spelled so and lies in the sheet, and what is spelled
 -- is answered.
-use Rattle.std.proofs.Common.{◌≡◌, ◌⊎◌, ◌≤◌, ℕ, ℤ, pos, List, [], ◌∷◌, ◌++◌, true, false, ◌&&◌, Option, Some, None, Result, Ok, Err, IfOk, reverse, refl, sym, subst, ◌∙◌, ap, inl, inr, arith, append_assoc, leb}
+use Rattle.std.proofs.Common.{◌≡◌, ◌⊎◌, ℕ, ℤ, pos, List, [], ◌∷◌, ◌++◌, true, false, Option, Some, None, Result, Ok, Err, IfOk, reverse, refl, sym, subst, ◌∙◌, ap, inl, inr, leb}
 use Rattle.std.specs.List.{list_all}
 use Rattle.std.proofs.lemmas.Bool.{and_from, and_parts, cases_Bool, le-leb}
 use Rattle.std.proofs.lemmas.List.Folds.{list_all-append}
@@ -17,14 +17,14 @@ use Rattle.ic_refs.specs.declared.error.ReferenceError.{ReferenceError}
 use Rattle.ic_refs.specs.declared.error.ReferenceError.TheVariants as errors
 use Rattle.ic_refs.specs.declared.reference.ParsedReference.{ParsedReference}
 use Rattle.ic_refs.specs.A1.{SpellsCell, SpellsColumn, SpellsPlace, SpellsRow, a1_place_at}
-use Rattle.ic_refs.specs.Formula.{IsSheetOf, ParsesFormula, UnlessMemory, found_or, formula_token, not_a_reference, place_on, trimmed, whole_of, ◌>>=◌}
+use Rattle.ic_refs.specs.Formula.{IsSheetOf, ParsesFormula, UnlessMemory, found_or, formula_token, not_a_reference, place_on, trimmed, whole_of}
 use Rattle.ic_refs.specs.FormulaForm.{IsTrimmedOf, SpellsFormula, TellsFormula}
 use Rattle.ic_refs.specs.Longest.{FindsLongest, IsLongest}
 use Rattle.ic_refs.specs.Referred.{LiesInSheet}
 use Rattle.ic_refs.specs.Sheet.{SpellsReference, SpellsSheet, reference_at, sheet_at}
 use Rattle.ic_refs.proofs.A1ReferenceLemmas.{finds_a1_reference}
 use Rattle.ic_refs.proofs.KindLemmas.{column_as_number, row_as_number}
-use Rattle.ic_refs.proofs.LongestLemmas.{EndsPlace, place_at-exact}
+use Rattle.ic_refs.proofs.LongestLemmas.{place_at-exact}
 use Rattle.ic_refs.proofs.MarkLemmas.{place_is_text, place_no_sheet}
 use Rattle.ic_refs.proofs.ReferenceLemmas.{read_with_sheet}
 use Rattle.ic_refs.proofs.SheetLemmas.{past_run_all, sheet_complete}

@@ -11,12 +11,9 @@ use Rattle.ic_laws.specs.Scan.{is_digit, first_is, is_ascii_letter}
 use Rattle.ic_laws.specs.Position.{letter_digit, letters_number}
 use Rattle.ic_laws.specs.declared.reference.Position.{Position}
 use Rattle.ic_refs.specs.A1.{SpellsColumn, SpellsRow, column_at, row_at}
-use Rattle.ic_refs.specs.Digits.{number_value}
+use Rattle.ic_refs.specs.Digits.{digit_number, number_value}
 use Rattle.ic_refs.proofs.DigitLemmas.{number_grows}
 use Rattle.ic_refs.proofs.PositionLemmas.{SpellsNumber, Takes, number_at-spelled, number_at-longest, number_at-exact}
-
-abbrev pub digit_number : ℕ → ℕ
-digit_number c = c - 48
 
 regrouped : (n d p l : ℕ) → (n * 26 + d) * p + l ≡ n * (p * 26) + (d * p + l)
 regrouped n d p l = omega arith

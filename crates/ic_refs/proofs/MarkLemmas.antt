@@ -13,7 +13,8 @@ use Rattle.ic_laws.specs.declared.reference.RefPart.{RefPart}
 use Rattle.ic_laws.specs.declared.reference.Place.{Place}
 use Rattle.ic_laws.specs.declared.reference.Place.TheVariants as places
 use Rattle.ic_refs.specs.A1.{SpellsColumn, SpellsRow, SpellsCell, SpellsPlace, dollar}
-use Rattle.ic_refs.proofs.KindLemmas.{digit_number, row_as_number, column_as_number, some_digits}
+use Rattle.ic_refs.specs.Digits.{digit_number}
+use Rattle.ic_refs.proofs.KindLemmas.{row_as_number, column_as_number, some_digits}
 use Rattle.ic_refs.proofs.PositionLemmas.{SpellsNumber}
 use Rattle.ic_refs.specs.Sheet.{sheet_at}
 use Rattle.ic_refs.proofs.LongestLemmas.{EndsPlace}

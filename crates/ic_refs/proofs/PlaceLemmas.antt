@@ -9,10 +9,10 @@ use Rattle.ic_laws.specs.declared.reference.Position.{Position}
 use Rattle.ic_laws.specs.declared.reference.Position.TheVariants as at
 use Rattle.ic_laws.specs.declared.reference.RefPart.{RefPart}
 use Rattle.ic_refs.specs.A1.{SpellsColumn, SpellsRow, SpellsCell, dollar, read_position, column_at, row_at, cell_at}
-use Rattle.ic_refs.specs.Digits.{number_value}
+use Rattle.ic_refs.specs.Digits.{digit_number, number_value}
 use Rattle.ic_refs.proofs.DigitLemmas.{read_stops}
 use Rattle.ic_refs.proofs.PositionLemmas.{Takes}
-use Rattle.ic_refs.proofs.KindLemmas.{digit_number, row_as_number, column_at-spelled, row_at-spelled, column_at-longest, row_at-longest, column_at-exact, row_at-exact}
+use Rattle.ic_refs.proofs.KindLemmas.{row_as_number, column_at-spelled, row_at-spelled, column_at-longest, row_at-longest, column_at-exact, row_at-exact}
 use Rattle.ic_refs.proofs.ReaderLemmas.{Reads, mapped, chained}
 
 pub column_reads : (column : ℤ) → Reads (SpellsColumn column) (column_at column) is_ascii_letter

@@ -7,7 +7,7 @@ use Rattle.ic_laws.specs.Scan.{is_digit, first_is}
 use Rattle.ic_laws.specs.declared.reference.Position.{Position}
 use Rattle.ic_laws.specs.declared.reference.Position.TheVariants as at
 use Rattle.ic_laws.specs.declared.reference.RefPart.{RefPart}
-use Rattle.ic_refs.specs.Number.{number_from}
+use Rattle.ic_refs.specs.Digits.{decimal_from}
 use Rattle.ic_laws.specs.Position.{is_within}
 use Rattle.ic_refs.specs.Stored.{SpellsNumber, SpellsDistance, SpellsPosition, SpellsCell, SpellsPlace, absolute_of, past_bracket, digits_at, distance_at, part_at, position_at, cell_at, cell_or_range, place_from, stored_place_at}
 use Rattle.ic_refs.proofs.NumberLemmas.{Reads, number_reads}
@@ -48,7 +48,7 @@ digits_take : (length : ℕ) (text : List ℕ) → 0 < length → Takes (SpellsC
 digits_take length text pos_length =
     let r = number_reads (length - 1) 0 text in
     elim (cases_Bool (first_is is_digit text)) [
-      | inl t ↦ rw t (read_takes length (number_from (length - 1) 0 text).0 r.digits text (number_from (length - 1) 0 text).1 t r.whole r.ascii r.value (omega (arith, r.within (omega arith))))
+      | inl t ↦ rw t (read_takes length (decimal_from (length - 1) 0 text).0 r.digits text (decimal_from (length - 1) 0 text).1 t r.whole r.ascii r.value (omega (arith, r.within (omega arith))))
       | inr f ↦ rw f tt
     ]
 
@@ -103,7 +103,7 @@ part_takes letter length [] h = tt
 part_takes letter length (c ∷ cs) h =
     elim (cases_Bool (eqb c 91)) [
       | inl t ↦ rw t (subst (λ x. Takes (SpellsPart letter length) (x ∷ cs) (distance_at length cs)) (sym (eqb-true c 91 t)) (distance_takes letter length cs h))
-      | inr f ↦ rw f (absolute_takes letter length (c ∷ cs) (number_from length 0 (c ∷ cs)) (number_reads length 0 (c ∷ cs)))
+      | inr f ↦ rw f (absolute_takes letter length (c ∷ cs) (decimal_from length 0 (c ∷ cs)) (number_reads length 0 (c ∷ cs)))
     ]
 
 lettered : (letter length : ℕ) (text : List ℕ) (o : Option (Position × List ℕ)) → Takes (SpellsPart letter length) text o → Takes (SpellsWithin letter length) (letter ∷ text) o

@@ -4,7 +4,6 @@ pub mod Digits
 pub mod Formula
 pub mod FormulaForm
 pub mod Longest
-pub mod Number
 pub mod R1C1
 pub mod R1C1Form
 pub mod Referred

@@ -12,7 +12,7 @@ use Rattle.ic_laws.specs.declared.reference.RefToken.{RefToken}
 use Rattle.ic_laws.specs.Scan.{is_digit, first_is}
 use Rattle.ic_laws.specs.Position.{is_part_within, is_place_within}
 use Rattle.ic_laws.specs.Tree.{is_written_sheet}
-use Rattle.ic_refs.specs.Number.{number_from}
+use Rattle.ic_refs.specs.Digits.{decimal_from}
 use Rattle.ic_refs.specs.Sheet.{SpellsReference, sheet_text}
 
 -- the bracket that closes a distance
@@ -85,7 +85,7 @@ past_bracket n (c ∷ cs) = if c == 93 then Some (n, cs) else None
 -- the digits of a distance less than the length, and the bracket that closes it
 abbrev pub digits_at : ℕ → List ℕ → Option (ℕ × List ℕ)
 digits_at length text =
-    let read : ℕ × List ℕ = number_from (length - 1) 0 text in if first_is is_digit text then past_bracket read.0 read.1 else None
+    let read : ℕ × List ℕ = decimal_from (length - 1) 0 text in if first_is is_digit text then past_bracket read.0 read.1 else None
 
 -- what stands behind an opening bracket: a distance
 abbrev pub distance_at : ℕ → List ℕ → Option (Position × List ℕ)
@@ -97,7 +97,7 @@ distance_at length (c ∷ cs) =
 -- what stands behind the letter of a row or a column of a sheet of this length
 abbrev pub part_at : ℕ → List ℕ → Option (Position × List ℕ)
 part_at length [] = None
-part_at length (c ∷ cs) = if c == 91 then distance_at length cs else absolute_of (number_from length 0 (c ∷ cs))
+part_at length (c ∷ cs) = if c == 91 then distance_at length cs else absolute_of (decimal_from length 0 (c ∷ cs))
 
 -- the row or the column at the front
 abbrev pub position_at : ℕ → ℕ → List ℕ → Option (Position × List ℕ)

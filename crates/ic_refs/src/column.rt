@@ -2,7 +2,7 @@ ghost use Rattle.std.specs.Prelude.{◌≡◌, ◌↔◌, ◌<◌, ◌≤◌, []
 ghost use Rattle.std.specs.List.{list_all};
 ghost use Rattle.ic_laws.specs.Position.{is_row, is_column, letters_number};
 ghost use Rattle.ic_laws.specs.Scan.{is_upper};
-ghost use Rattle.ic_refs.specs.A1.{letters_from};
+ghost use Rattle.ic_refs.specs.Digits.{letters_from};
 ghost use Rattle.ic_refs.specs.Column.{column_letters, column_name, column_number, letter};
 
 use crate::ColumnError;

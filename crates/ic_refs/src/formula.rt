@@ -11,7 +11,7 @@ ghost use Rattle.ic_refs.specs.Token.{token_of};
 ghost use Rattle.ic_refs.specs.Written.{name_of};
 
 use crate::a1::{Origin, read_cell};
-use crate::a1_reference::{FoundReference, find_reference};
+use crate::find::{FoundReference, find_reference};
 use crate::trim::trimmed;
 use crate::written::WrittenName;
 use crate::{A1Reference, CellReferenceIndex, ParsedReference, ReferenceError};
@@ -118,7 +118,7 @@ fn whole_text<F: Fn(&str) -> Option<u32>>(
 fn whole_reference(text: &str) -> Option<FoundReference<'_>>
     ensures { option_map token_of result ≡ whole_of (reference_at (a1_place_at (pos 0) (pos 0)) (chars text.now)) }
 {
-    let found = find_reference(text, CORNER)?;
+    let found = find_reference(&CORNER, text)?;
     if is_nothing(found.rest) {
         Some(found)
     } else {

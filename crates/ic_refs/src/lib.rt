@@ -10,6 +10,7 @@ mod a1_reference;
 mod a1_text;
 mod column;
 mod error;
+mod find;
 mod formula;
 mod name;
 mod number;

@@ -2,14 +2,11 @@ ghost use Rattle.std.specs.Prelude.{◌≡◌, ◌≤◌, ◌<◌, ◌^◌, opti
 ghost use Rattle.ic_refs.specs.Longest.{FindsLongestAt, read_at};
 ghost use Rattle.ic_refs.specs.Sheet.{reference_at};
 ghost use Rattle.ic_refs.specs.Stored.{SpellsStored, digits_at, distance_at, part_at, position_at, cell_at, place_from, stored_place_at};
-ghost use Rattle.ic_refs.specs.Written.{name_of};
 
+use crate::find::{PlaceForm, read_reference};
 use crate::number::read_number;
-use crate::offset::{bytes_before, text_from};
-use crate::sheet::find_sheet;
-use crate::written::{WrittenName, owned_name};
 use ic_laws::scan::first_char;
-use ic_laws::{LAST_COLUMN, LAST_ROW, OutOfMemory, Place, Position, RefPart, RefToken, Text};
+use ic_laws::{LAST_COLUMN, LAST_ROW, OutOfMemory, Place, Position, RefPart, RefToken};
 use std::alloc::Global;
 
 /// The longest reference in the stored form that begins at this byte of the text, and the number of its bytes. None
@@ -22,39 +19,31 @@ pub fn read_rc(
     ensures exact { IfOk result (λ found. found ≡ read_at (reference_at stored_place_at) text.now at) }
     ensures longest { IfOk result (λ found. FindsLongestAt SpellsStored text.now at found) }
 {
-    read_reference(alloc, text, at)
+    read_stored(alloc, text, at)
 }
 
 // The same, with the clause that says it all.
-fn read_reference(
+fn read_stored(
     alloc: Global,
     text: &str,
     at: usize,
 ) -> Result<Option<(RefToken, usize)>, OutOfMemory>
     ensures { IfOk result (λ found. found ≡ read_at (reference_at stored_place_at) text.now at) }
 {
-    let Some(front) = text_from(text, at) else {
-        return Ok(None);
-    };
-    let Some((name, place, rest)) = find_reference(front) else {
-        return Ok(None);
-    };
-    let sheet = owned_name(alloc, name)?;
-    let length = bytes_before(front, rest);
-    Ok(Some((RefToken { sheet, place }, length)))
+    read_reference(alloc, &StoredForm, text, at)
 }
 
-// The longest reference at the front, with the name of its sheet as it is written, and what stands behind it.
-fn find_reference(text: &str) -> Option<(Option<WrittenName<'_>>, Place, &str)>
-    ensures { option_map (λ f. (record { sheet = option_map name_of f.0; place = f.1 }, chars f.2.now)) result ≡ reference_at stored_place_at (chars text.now) }
-{
-    if let Some((name, behind)) = find_sheet(text) {
-        if let Some((place, rest)) = read_place(behind) {
-            return Some((Some(name), place, rest));
-        }
+// The stored form.
+struct StoredForm;
+
+impl PlaceForm for StoredForm {
+    ghost place_at = { λ _ text. stored_place_at text };
+
+    ghost is_usable = { λ _. Unit {0} };
+
+    fn read_place<'t>(&self, text: &'t str) -> Option<(Place, &'t str)> {
+        read_place(text)
     }
-    let (place, rest) = read_place(text)?;
-    Some((None, place, rest))
 }
 
 // The digits of a distance less than the length, and what stands behind the bracket that closes it.
