@@ -49,7 +49,7 @@ number_rest_le limit n (c ∷ cs) =
     ]
 
 -- What was read are digits, their number and the rest.
-pub record Reads (limit n : ℕ) (text : List ℕ) (read : ℕ × List ℕ) : Type 0 where
+pub record AreDigitsRead (limit n : ℕ) (text : List ℕ) (read : ℕ × List ℕ) : Type 0 where
   pub digits : List ℕ
   pub whole : text ≡ digits ++ read.1
   pub ascii : all_ascii_digits digits ≡ true
@@ -57,7 +57,7 @@ pub record Reads (limit n : ℕ) (text : List ℕ) (read : ℕ × List ℕ) : Ty
   pub within : n ≤ limit → read.0 ≤ limit
   pub some : digits ≢ [] ⊎ (read.1 ≡ text)
 
-pub number_reads : (limit n : ℕ) (text : List ℕ) → Reads limit n text (decimal_from limit n text)
+pub number_reads : (limit n : ℕ) (text : List ℕ) → AreDigitsRead limit n text (decimal_from limit n text)
 number_reads limit n [] = record { digits = []; whole = refl; ascii = refl; value = refl; within = λ h. h; some = inr refl }
 number_reads limit n (c ∷ cs) =
     elim (cases_Bool (is_digit c && leb (n * 10 + (c - 48)) limit)) [
