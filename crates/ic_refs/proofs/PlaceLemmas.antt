@@ -8,7 +8,7 @@ use Rattle.ic_laws.specs.Position.{letter_digit}
 use Rattle.ic_laws.specs.declared.reference.Position.{Position}
 use Rattle.ic_laws.specs.declared.reference.Position.TheVariants as at
 use Rattle.ic_laws.specs.declared.reference.RefPart.{RefPart}
-use Rattle.ic_refs.specs.A1.{SpellsColumn, SpellsRow, SpellsCell, dollar, read_position, column_at, row_at, cell_at}
+use Rattle.ic_refs.specs.A1.{SpellsColumn, SpellsRow, SpellsCell, dollar_of, read_position, column_at, row_at, cell_at}
 use Rattle.ic_refs.specs.Digits.{digit_number, number_value}
 use Rattle.ic_refs.proofs.DigitLemmas.{read_stops}
 use Rattle.ic_refs.proofs.LongestLemmas.{IsTaken}
@@ -32,7 +32,7 @@ digits_no_letter [] rest a p = absurd (omega arith)
 digits_no_letter (c ∷ cs) rest a p = digit_no_letter c (and_parts (is_digit c) (list_all is_digit cs) a).0
 
 dollar_no_letter : (position : Position) (digits rest : List ℕ) → list_all is_digit digits ≡ true → 0 < number_value digit_number 10 0 digits
-    → first_is is_ascii_letter ((dollar position ++ digits) ++ rest) ≡ false
+    → first_is is_ascii_letter ((dollar_of position ++ digits) ++ rest) ≡ false
 dollar_no_letter (at.Abs n) digits rest a p = refl
 dollar_no_letter (at.Rel k) digits rest a p = digits_no_letter digits rest a p
 
@@ -43,7 +43,7 @@ row_no_letter row front rest position s =
 
 -- and so no column does
 dollar_no_column : (column : ℤ) (position : Position) (digits rest : List ℕ) → list_all is_digit digits ≡ true → 0 < number_value digit_number 10 0 digits
-    → column_at column ((dollar position ++ digits) ++ rest) ≡ None
+    → column_at column ((dollar_of position ++ digits) ++ rest) ≡ None
 dollar_no_column column (at.Abs n) digits rest a p =
     ap (read_position true column) (read_stops is_ascii_letter letter_digit 26 16384 0 (digits ++ rest) (digits_no_letter digits rest a p))
 dollar_no_column column (at.Rel k) [] rest a p = absurd (omega arith)

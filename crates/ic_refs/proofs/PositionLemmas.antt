@@ -8,7 +8,7 @@ use Rattle.ic_laws.specs.Scan.{first_is, past_dollar}
 use Rattle.ic_laws.specs.Position.{place_at}
 use Rattle.ic_laws.specs.declared.reference.Position.{Position}
 use Rattle.ic_laws.specs.declared.reference.Position.TheVariants as at
-use Rattle.ic_refs.specs.A1.{dollar, has_dollar, read_position, position_of}
+use Rattle.ic_refs.specs.A1.{dollar_of, has_dollar, read_position, position_of}
 use Rattle.ic_refs.specs.Digits.{number_value, number_from}
 use Rattle.ic_refs.specs.Formula.{is_absolute}
 use Rattle.ic_refs.proofs.LongestLemmas.{IsTaken}
@@ -17,7 +17,7 @@ use Rattle.ic_refs.proofs.DigitLemmas.{read_past, read_stops, IsNumberTaken, num
 -- a position spelled by digits of a kind, up to a limit
 pub record SpellsCounted (is : ℕ → Bool) (value : ℕ → ℕ) (base most : ℕ) (origin : ℤ) (text : List ℕ) (position : Position) : Type 0 where
   pub digits : List ℕ
-  pub whole : text ≡ dollar position ++ digits
+  pub whole : text ≡ dollar_of position ++ digits
   pub all : list_all is digits ≡ true
   pub positive : 0 < number_value value base 0 digits
   pub within : number_value value base 0 digits ≤ most
@@ -46,10 +46,10 @@ read_some absolute origin read h = rw (ne_eqb read.0 0 (λ e. omega arith)) refl
 -- what is read is spelled so
 read_spelled : (is : ℕ → Bool) (value : ℕ → ℕ) (base most : ℕ) (origin : ℤ) (absolute : Bool) (text : List ℕ) (read : ℕ × List ℕ) (found : Position × List ℕ)
     → IsNumberTaken is value base most 0 text read → read_position absolute origin read ≡ Some found
-    → (front : List ℕ) × (text ≡ front ++ found.1) × SpellsCounted is value base most origin (dollar (position_of absolute origin read.0) ++ front) found.0
+    → (front : List ℕ) × (text ≡ front ++ found.1) × SpellsCounted is value base most origin (dollar_of (position_of absolute origin read.0) ++ front) found.0
 read_spelled is value base most origin absolute text read found t e =
     let known = some_read absolute origin read found e in
-    let Wanted : Position × List ℕ → Type 0 = λ f. (front : List ℕ) × (text ≡ front ++ f.1) × SpellsCounted is value base most origin (dollar (position_of absolute origin read.0) ++ front) f.0 in
+    let Wanted : Position × List ℕ → Type 0 = λ f. (front : List ℕ) × (text ≡ front ++ f.1) × SpellsCounted is value base most origin (dollar_of (position_of absolute origin read.0) ++ front) f.0 in
     subst Wanted (sym known.1) (
       t.front,
       t.whole,
@@ -80,7 +80,7 @@ number_at-spelled is value base most origin (c ∷ cs) found e =
 -- a spelled position is read as its digits are, behind its dollar sign
 read_behind : (is : ℕ → Bool) (value : ℕ → ℕ) (base most : ℕ) (origin : ℤ) (digits rest : List ℕ) (position : Position) → is 36 ≡ false
     → list_all is digits ≡ true → 0 < number_value value base 0 digits
-    → number_at is value base most origin ((dollar position ++ digits) ++ rest) ≡ read_position (is_absolute position) origin (number_from is value base most 0 (digits ++ rest))
+    → number_at is value base most origin ((dollar_of position ++ digits) ++ rest) ≡ read_position (is_absolute position) origin (number_from is value base most 0 (digits ++ rest))
 read_behind is value base most origin digits rest (at.Abs n) d a p = refl
 read_behind is value base most origin [] rest (at.Rel k) d a p = absurd (omega arith)
 read_behind is value base most origin (c ∷ cs) rest (at.Rel k) d a p =

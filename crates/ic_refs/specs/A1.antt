@@ -3,6 +3,8 @@ use Rattle.std.specs.Prelude.{◌≡◌, ℕ, ℤ, pos, ◌-ℤ◌, ◌≤ℤ◌
 use Rattle.std.specs.Fmt.{decimal}
 use Rattle.std.specs.Str.Parse.{digits_value}
 use Rattle.std.specs.Ordering.{int_eq}
+use Rattle.ic_laws.specs.declared.reference.TheConstants.{LAST_ROW, LAST_COLUMN}
+use Rattle.ic_laws.specs.Character.{colon, dollar}
 use Rattle.ic_laws.specs.Name.{names_row}
 use Rattle.ic_laws.specs.Scan.{first_is, past_dollar}
 use Rattle.ic_laws.specs.Position.{row_count, is_row, is_column, letters_number, names_column, place_at, is_inside}
@@ -18,21 +20,21 @@ use Rattle.ic_refs.specs.Digits.{decimal_from, letters_from}
 use Rattle.ic_refs.specs.Sheet.{SpellsReference, sheet_text, or_else, reference_at}
 
 -- an absolute position has a dollar sign
-abbrev pub dollar : Position → List ℕ
-dollar (at.Abs n) = 36 ∷ []
-dollar (at.Rel k) = []
+abbrev pub dollar_of : Position → List ℕ
+dollar_of (at.Abs n) = dollar ∷ []
+dollar_of (at.Rel k) = []
 
 -- a column: its letters, behind a dollar sign or not
 pub record SpellsColumn (origin : ℤ) (text : List ℕ) (position : Position) : Type 0 where
   pub letters : List ℕ
-  pub whole : text ≡ dollar position ++ letters
+  pub whole : text ≡ dollar_of position ++ letters
   pub named : names_column letters ≡ true
   pub place : place_at position origin ≡ pos (letters_number letters)
 
 -- a row: its digits, behind a dollar sign or not
 pub record SpellsRow (origin : ℤ) (text : List ℕ) (position : Position) : Type 0 where
   pub digits : List ℕ
-  pub whole : text ≡ dollar position ++ digits
+  pub whole : text ≡ dollar_of position ++ digits
   pub named : names_row digits ≡ true
   pub place : place_at position origin ≡ pos (digits_value 10 digits)
 
@@ -46,10 +48,10 @@ pub record SpellsCell (at_row at_column : ℤ) (text : List ℕ) (part : RefPart
 
 -- what two corners have in common where they are whole columns, and where they are whole rows
 abbrev pub AreWholeColumns : RefPart → RefPart → Type 0
-AreWholeColumns first last = (first.row ≡ at.Abs (pos 1)) × (last.row ≡ at.Abs (pos 1048576))
+AreWholeColumns first last = (first.row ≡ at.Abs (pos 1)) × (last.row ≡ at.Abs LAST_ROW)
 
 abbrev pub AreWholeRows : RefPart → RefPart → Type 0
-AreWholeRows first last = (first.column ≡ at.Abs (pos 1)) × (last.column ≡ at.Abs (pos 16384))
+AreWholeRows first last = (first.column ≡ at.Abs (pos 1)) × (last.column ≡ at.Abs LAST_COLUMN)
 
 -- the two corners of a range: two cells, or two columns that are whole, or two rows that are whole
 abbrev pub SpellsCorners : ℤ → ℤ → List ℕ → List ℕ → RefPart → RefPart → Type 0
@@ -62,7 +64,7 @@ SpellsCorners row column a b first last =
 abbrev pub SpellsPlace : ℤ → ℤ → List ℕ → Place → Type 0
 SpellsPlace row column text (places.Cell part) = SpellsCell row column text part
 SpellsPlace row column text (places.Range first last) =
-    (a : List ℕ) × (b : List ℕ) × (text ≡ a ++ 58 ∷ b) × SpellsCorners row column a b first last
+    (a : List ℕ) × (b : List ℕ) × (text ≡ a ++ colon ∷ b) × SpellsCorners row column a b first last
 
 -- the text is this reference in the A1 form, in a cell of the sheet
 pub record SpellsA1 (row column : ℤ) (text : List ℕ) (token : RefToken) : Type 0 where
@@ -73,10 +75,10 @@ pub record SpellsA1 (row column : ℤ) (text : List ℕ) (token : RefToken) : Ty
 -- Spelling
 
 abbrev pub column_text : ℤ → Position → List ℕ
-column_text column position = dollar position ++ column_letters (nat_abs (place_at position column))
+column_text column position = dollar_of position ++ column_letters (nat_abs (place_at position column))
 
 abbrev pub row_text : ℤ → Position → List ℕ
-row_text row position = dollar position ++ decimal (nat_abs (place_at position row))
+row_text row position = dollar_of position ++ decimal (nat_abs (place_at position row))
 
 abbrev pub cell_text : ℤ → ℤ → RefPart → List ℕ
 cell_text row column part = column_text column part.column ++ row_text row part.row
@@ -87,17 +89,17 @@ is_abs (at.Abs n) m = int_eq n m
 is_abs (at.Rel k) m = false
 
 abbrev pub are_whole_columns : RefPart → RefPart → Bool
-are_whole_columns first last = is_abs first.row (pos 1) && is_abs last.row (pos 1048576)
+are_whole_columns first last = is_abs first.row (pos 1) && is_abs last.row LAST_ROW
 
 abbrev pub are_whole_rows : RefPart → RefPart → Bool
-are_whole_rows first last = is_abs first.column (pos 1) && is_abs last.column (pos 16384)
+are_whole_rows first last = is_abs first.column (pos 1) && is_abs last.column LAST_COLUMN
 
 -- whole columns and whole rows have a short form, and columns come first
 abbrev pub range_text : ℤ → ℤ → RefPart → RefPart → List ℕ
 range_text row column first last =
-    if are_whole_columns first last then column_text column first.column ++ 58 ∷ column_text column last.column
-    else if are_whole_rows first last then row_text row first.row ++ 58 ∷ row_text row last.row
-    else cell_text row column first ++ 58 ∷ cell_text row column last
+    if are_whole_columns first last then column_text column first.column ++ colon ∷ column_text column last.column
+    else if are_whole_rows first last then row_text row first.row ++ colon ∷ row_text row last.row
+    else cell_text row column first ++ colon ∷ cell_text row column last
 
 abbrev pub place_text : ℤ → ℤ → Place → List ℕ
 place_text row column (places.Cell part) = cell_text row column part
@@ -118,7 +120,7 @@ a1_text row column token = if is_spellable row column token then Some (sheet_tex
 
 -- a reference is read in a cell of the sheet, or from its corner, at row and column 0
 abbrev pub IsAnOrigin : ℤ → ℤ → Type 0
-IsAnOrigin row column = (pos 0 ≤ℤ row) × (row ≤ℤ pos 1048576) × (pos 0 ≤ℤ column) × (column ≤ℤ pos 16384)
+IsAnOrigin row column = (pos 0 ≤ℤ row) × (row ≤ℤ LAST_ROW) × (pos 0 ≤ℤ column) × (column ≤ℤ LAST_COLUMN)
 
 -- the position of this number, as it is written behind a dollar sign or without
 abbrev pub position_of : Bool → ℤ → ℕ → Position
@@ -126,7 +128,7 @@ position_of true origin n = at.Abs (pos n)
 position_of false origin n = at.Rel (pos n -ℤ origin)
 
 abbrev pub has_dollar : List ℕ → Bool
-has_dollar text = first_is (λ c. c == 36) text
+has_dollar text = first_is (λ c. c == dollar) text
 
 -- the position of a number that was read; there is none where no digit or letter was, and no row and column is 0
 abbrev pub read_position : Bool → ℤ → ℕ × List ℕ → Option (Position × List ℕ)
@@ -148,7 +150,7 @@ cell_at row column text =
 -- what stands behind a colon at the front
 abbrev pub past_colon : List ℕ → Option (List ℕ)
 past_colon [] = None
-past_colon (c ∷ cs) = if c == 58 then Some cs else None
+past_colon (c ∷ cs) = if c == colon then Some cs else None
 
 -- two of a kind with a colon between them
 abbrev pub pair_at : {T : Type 0} → (List ℕ → Option (T × List ℕ)) → List ℕ → Option ((T × T) × List ℕ)
@@ -157,10 +159,10 @@ pair_at read text =
 
 -- all rows of these columns, and all columns of these rows
 abbrev pub whole_columns : Position → Position → Place
-whole_columns first last = places.Range (record { row = at.Abs (pos 1); column = first }) (record { row = at.Abs (pos 1048576); column = last })
+whole_columns first last = places.Range (record { row = at.Abs (pos 1); column = first }) (record { row = at.Abs LAST_ROW; column = last })
 
 abbrev pub whole_rows : Position → Position → Place
-whole_rows first last = places.Range (record { row = first; column = at.Abs (pos 1) }) (record { row = last; column = at.Abs (pos 16384) })
+whole_rows first last = places.Range (record { row = first; column = at.Abs (pos 1) }) (record { row = last; column = at.Abs LAST_COLUMN })
 
 -- the longest place at the front
 abbrev pub a1_place_at : ℤ → ℤ → List ℕ → Option (Place × List ℕ)

@@ -18,7 +18,7 @@ is_quote c = c == quote
 abbrev pub SpellsSheet : List ℕ → Option (List ℕ) → Type 0
 SpellsSheet text None = text ≡ []
 SpellsSheet text (Some name) =
-    (is_sheet_name name ≡ true) × ((text ≡ in_quotes name ++ 33 ∷ []) ⊎ ((needs_quotes name ≡ false) × (text ≡ name ++ 33 ∷ [])))
+    (is_sheet_name name ≡ true) × ((text ≡ in_quotes name ++ bang ∷ []) ⊎ ((needs_quotes name ≡ false) × (text ≡ name ++ bang ∷ [])))
 
 -- a reference is a sheet's name or none, and a place
 pub record SpellsReference (SpellsPlace : List ℕ → Place → Type 0) (text : List ℕ) (token : RefToken) : Type 0 where
@@ -31,7 +31,7 @@ pub record SpellsReference (SpellsPlace : List ℕ → Place → Type 0) (text :
 -- how a sheet's name is spelled before a reference
 abbrev pub sheet_text : Option (List ℕ) → List ℕ
 sheet_text None = []
-sheet_text (Some name) = quoted name ++ 33 ∷ []
+sheet_text (Some name) = quoted name ++ bang ∷ []
 
 -- a character in front of a text that was read
 abbrev pub onto_text : ℕ → Option (List ℕ × List ℕ) → Option (List ℕ × List ℕ)
@@ -40,22 +40,22 @@ onto_text c read = option_map (λ f. (c ∷ f.0, f.1)) read
 -- the name behind an opening quote, and what stands behind the quote that closes it
 abbrev pub name_in_quotes : List ℕ → Option (List ℕ × List ℕ)
 name_in_quotes [] = None
-name_in_quotes (c ∷ []) = if c == 39 then Some ([], []) else None
+name_in_quotes (c ∷ []) = if is_quote c then Some ([], []) else None
 name_in_quotes (c ∷ d ∷ cs) =
-    if c == 39 then (if d == 39 then onto_text 39 (name_in_quotes cs) else Some ([], d ∷ cs)) else onto_text c (name_in_quotes (d ∷ cs))
+    if is_quote c then (if is_quote d then onto_text quote (name_in_quotes cs) else Some ([], d ∷ cs)) else onto_text c (name_in_quotes (d ∷ cs))
 
 -- the name at the front, as it may stand before a `!`
 abbrev pub written_name : List ℕ → Option (List ℕ × List ℕ)
 written_name [] = None
 written_name (c ∷ cs) =
-    if c == 39 then name_in_quotes cs
+    if is_quote c then name_in_quotes cs
     else if needs_quotes (run_of is_plain (c ∷ cs)) then None
     else Some (run_of is_plain (c ∷ cs), past_run is_plain (c ∷ cs))
 
 -- a sheet's name has a `!` behind it
 abbrev pub before_bang : List ℕ → List ℕ → Option (List ℕ × List ℕ)
 before_bang name [] = None
-before_bang name (c ∷ rest) = if c == 33 && is_sheet_name name then Some (name, rest) else None
+before_bang name (c ∷ rest) = if is_bang c && is_sheet_name name then Some (name, rest) else None
 
 -- the sheet's name at the front, and what stands behind its `!`
 abbrev pub sheet_at : List ℕ → Option (List ℕ × List ℕ)

@@ -1,7 +1,7 @@
 ghost use Rattle.std.specs.Prelude.{◌≡◌, ◌++◌, ◌∷◌, ◌≤◌, true, nat_abs, chars, string_bytes, OnOk};
 ghost use Rattle.std.specs.Fmt.{decimal};
 ghost use Rattle.ic_laws.specs.Position.{is_column, is_inside, is_part_inside, is_row, place_at};
-ghost use Rattle.ic_refs.specs.A1.{are_whole_columns, are_whole_rows, cell_text, column_text, dollar, is_abs, place_text, range_text, row_text};
+ghost use Rattle.ic_refs.specs.A1.{are_whole_columns, are_whole_rows, cell_text, column_text, dollar_of, is_abs, place_text, range_text, row_text};
 
 use crate::a1::Origin;
 use crate::column::push_column;
@@ -40,7 +40,7 @@ pub(crate) fn is_inside(place: Place, origin: Origin) -> bool
 
 // Appends the dollar sign of an absolute position.
 fn push_dollar(out: &mut String, position: Position) -> Result<(), OutOfMemory>
-    ensures { OnOk result (chars (string_bytes out.new) ≡ chars (string_bytes out.old) ++ dollar position) }
+    ensures { OnOk result (chars (string_bytes out.new) ≡ chars (string_bytes out.old) ++ dollar_of position) }
 {
     match position {
         Position::Abs(_) => push_char(out, '$'),
