@@ -1,4 +1,4 @@
--- The longest place at the front of a text, and the one that is read where nothing could go on behind it.
+-- The longest place at the front of a text, and the one that is read where nothing could go on after it.
 use Rattle.std.proofs.Common.{◌≡◌, ℕ, ℤ, pos, ◌≤◌, List, ◌∷◌, ◌++◌, false, ◌==◌, length, Some, None, sym, ◌∙◌, ap, arith, inl, inr, append_assoc}
 use Rattle.ic_laws.specs.Scan.{is_digit, first_is, is_ascii_letter}
 use Rattle.ic_laws.specs.declared.reference.Position.{Position}
@@ -13,7 +13,7 @@ use Rattle.ic_refs.proofs.LongestLemmas.{Reads, finds_longest, reaches_found, ta
 use Rattle.ic_refs.proofs.PlaceLemmas.{cell_reads, row_no_column}
 use Rattle.ic_refs.proofs.A1Lemmas.{as_cells, as_cell, as_columns, as_rows, cells_read, columns_read, rows_read, read_cells, read_cell, read_columns, read_rows, before_colon, place_at-spelled}
 
--- a place is read, and no more than this is left behind it
+-- a place is read, and no more than this is left after it
 abbrev IsReadUpTo : ℤ → ℤ → List ℕ → List ℕ → Type 0
 IsReadUpTo row column text rest = (found : Place × List ℕ) × (a1_place_at row column text ≡ Some found) × (length found.1 ≤ length rest)
 

@@ -20,13 +20,13 @@ regrouped : (n d p l : ℕ) → (n * 26 + d) * p + l ≡ n * (p * 26) + (d * p +
 regrouped n d p l = omega arith
 
 -- letters count as in base 26
-letters_value_behind : (n : ℕ) (cs : List ℕ) → number_value letter_digit 26 n cs ≡ n * 26 ^ length cs + letters_number cs
-letters_value_behind n [] = omega arith
-letters_value_behind n (c ∷ cs) =
-    letters_value_behind (n * 26 + letter_digit c) cs ∙ rw (pow-suc 26 (length cs)) (regrouped n (letter_digit c) (26 ^ length cs) (letters_number cs))
+letters_value_after : (n : ℕ) (cs : List ℕ) → number_value letter_digit 26 n cs ≡ n * 26 ^ length cs + letters_number cs
+letters_value_after n [] = omega arith
+letters_value_after n (c ∷ cs) =
+    letters_value_after (n * 26 + letter_digit c) cs ∙ rw (pow-suc 26 (length cs)) (regrouped n (letter_digit c) (26 ^ length cs) (letters_number cs))
 
 pub letters_value : (cs : List ℕ) → number_value letter_digit 26 0 cs ≡ letters_number cs
-letters_value cs = letters_value_behind 0 cs ∙ omega arith
+letters_value cs = letters_value_after 0 cs ∙ omega arith
 
 -- each letter counts
 pub letter_counts : (c : ℕ) → is_ascii_letter c ≡ true → 0 < letter_digit c
@@ -45,11 +45,11 @@ some_digits value base (c ∷ cs) h = omega arith
 digit_same : (c : ℕ) → is_digit c ≡ true → digit_value c ≡ c - 48
 digit_same c h = grind (arith, nat_tests)
 
-pub digits_value_behind : (n : ℕ) (cs : List ℕ) → list_all is_digit cs ≡ true → number_value digit_number 10 n cs ≡ digits_value_after 10 n cs
-digits_value_behind n [] a = refl
-digits_value_behind n (c ∷ cs) a =
+pub digits_value_on : (n : ℕ) (cs : List ℕ) → list_all is_digit cs ≡ true → number_value digit_number 10 n cs ≡ digits_value_after 10 n cs
+digits_value_on n [] a = refl
+digits_value_on n (c ∷ cs) a =
     let parts = and_parts (is_digit c) (list_all is_digit cs) a in
-    rw (digit_same c parts.0) (digits_value_behind (n * 10 + (c - 48)) cs parts.1)
+    rw (digit_same c parts.0) (digits_value_on (n * 10 + (c - 48)) cs parts.1)
 
 pub all_digits : (cs : List ℕ) → all_ascii_digits cs ≡ list_all is_digit cs
 all_digits [] = refl
@@ -86,7 +86,7 @@ row_as_number origin text position s =
     let named = and_parts (all_ascii_digits s.digits && nat_lt 0 n) (nat_le n 1048576) s.named in
     let parts = and_parts (all_ascii_digits s.digits) (nat_lt 0 n) named.0 in
     let all : list_all is_digit s.digits ≡ true = sym (all_digits s.digits) ∙ parts.0 in
-    let same : number_value digit_number 10 0 s.digits ≡ n = digits_value_behind 0 s.digits all in
+    let same : number_value digit_number 10 0 s.digits ≡ n = digits_value_on 0 s.digits all in
     record {
       digits = s.digits;
       whole = s.whole;
@@ -99,7 +99,7 @@ row_as_number origin text position s =
 pub number_as_row : (origin : ℤ) (text : List ℕ) (position : Position) → SpellsCounted is_digit digit_number 10 1048576 origin text position → SpellsRow origin text position
 number_as_row origin text position s =
     let n = digits_value 10 s.digits in
-    let same : number_value digit_number 10 0 s.digits ≡ n = digits_value_behind 0 s.digits s.all in
+    let same : number_value digit_number 10 0 s.digits ≡ n = digits_value_on 0 s.digits s.all in
     record {
       digits = s.digits;
       whole = s.whole;
@@ -131,7 +131,7 @@ pub row_at-longest : (row : ℤ) (front rest : List ℕ) (position : Position) �
 row_at-longest row front rest position s =
     number_at-longest is_digit digit_number 10 1048576 row front rest position (omega arith) refl (row_as_number row front position s)
 
--- just it where no letter, and no digit, stands behind it
+-- just it where no letter, and no digit, stands after it
 pub column_at-exact : (column : ℤ) (front rest : List ℕ) (position : Position) → SpellsColumn column front position → first_is is_ascii_letter rest ≡ false
     → column_at column (front ++ rest) ≡ Some (position, rest)
 column_at-exact column front rest position s stops =

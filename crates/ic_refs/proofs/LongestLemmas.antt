@@ -42,7 +42,7 @@ pub reaches_exactly : {T : Type 0} (after : List ℕ) (v : T) (o : Option (T × 
 reaches_exactly after v o e = subst (λ o. Reaches after o) (sym e) (omega arith)
 
 module _ {A B C : Type 0} (SpellsA : List ℕ → A → Type 0) (SpellsB : List ℕ → B → Type 0) (SpellsC : List ℕ → C → Type 0) (make : A → B → C) where
-  -- one behind the other
+  -- one after the other
   abbrev pub both : Option (A × List ℕ) → (List ℕ → Option (B × List ℕ)) → Option (C × List ℕ)
   both first second = option_and_then (λ a. option_map (λ b. (make a.0 b.0, b.1)) (second a.1)) first
 

@@ -62,10 +62,10 @@ row_no_column row column front rest position s =
 abbrev pub cell_of : Position × List ℕ → Position × List ℕ → RefPart × List ℕ
 cell_of c r = (record { row = r.0; column = c.0 }, r.1)
 
-cell_read : (row column : ℤ) (text behind : List ℕ) (c : Position) (r : Position × List ℕ) → column_at column text ≡ Some (c, behind) → row_at row behind ≡ Some r
+cell_read : (row column : ℤ) (text beyond : List ℕ) (c : Position) (r : Position × List ℕ) → column_at column text ≡ Some (c, beyond) → row_at row beyond ≡ Some r
     → cell_at row column text ≡ Some (record { row = r.0; column = c }, r.1)
-cell_read row column text behind c r p q =
-    ap (λ o. option_and_then (λ (c : Position × List ℕ). option_map (cell_of c) (row_at row c.1)) o) p ∙ ap (option_map (cell_of (c, behind))) q
+cell_read row column text beyond c r p q =
+    ap (λ o. option_and_then (λ (c : Position × List ℕ). option_map (cell_of c) (row_at row c.1)) o) p ∙ ap (option_map (cell_of (c, beyond))) q
 
 pub cell_none : (row column : ℤ) (text : List ℕ) → column_at column text ≡ None → cell_at row column text ≡ None
 cell_none row column text p = ap (λ o. option_and_then (λ (c : Position × List ℕ). option_map (cell_of c) (row_at row c.1)) o) p

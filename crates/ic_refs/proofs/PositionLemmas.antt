@@ -1,4 +1,4 @@
--- A position: its number, behind a dollar sign or not.
+-- A position: its number, after a dollar sign or not.
 use Rattle.std.proofs.Common.{◌≡◌, ℕ, ℤ, pos, ◌≤◌, ◌<◌, List, [], ◌∷◌, ◌++◌, Bool, true, false, length, Option, Some, refl, sym, ◌∙◌, ap, subst, arith, inl, inr}
 use Rattle.std.proofs.lemmas.Int.{ints}
 use Rattle.std.specs.List.{list_all}
@@ -77,13 +77,13 @@ number_at-spelled is value base most origin (c ∷ cs) found e =
           record { front = r.0; whole = r.1; spelled = r.2 }
     ]
 
--- a spelled position is read as its digits are, behind its dollar sign
-read_behind : (is : ℕ → Bool) (value : ℕ → ℕ) (base most : ℕ) (origin : ℤ) (digits rest : List ℕ) (position : Position) → is 36 ≡ false
+-- a spelled position is read as its digits are, after its dollar sign
+read_after : (is : ℕ → Bool) (value : ℕ → ℕ) (base most : ℕ) (origin : ℤ) (digits rest : List ℕ) (position : Position) → is 36 ≡ false
     → list_all is digits ≡ true → 0 < number_value value base 0 digits
     → number_at is value base most origin ((dollar_of position ++ digits) ++ rest) ≡ read_position (is_absolute position) origin (number_from is value base most 0 (digits ++ rest))
-read_behind is value base most origin digits rest (at.Abs n) d a p = refl
-read_behind is value base most origin [] rest (at.Rel k) d a p = absurd (omega arith)
-read_behind is value base most origin (c ∷ cs) rest (at.Rel k) d a p =
+read_after is value base most origin digits rest (at.Abs n) d a p = refl
+read_after is value base most origin [] rest (at.Rel k) d a p = absurd (omega arith)
+read_after is value base most origin (c ∷ cs) rest (at.Rel k) d a p =
     elim (eqb_tells c 36) [
       | inl q ↦ let yes : is 36 ≡ true = subst (λ x. is x ≡ true) q.1 (and_parts (is c) (list_all is cs) a).0 in absurd (cc)
       | inr q ↦ rw q.0 refl
@@ -100,7 +100,7 @@ number_at-longest is value base most origin front rest position b d s =
     let more : 0 < read.0 = omega (arith, t.grown b, s.positive) in (
       (position_of (is_absolute position) origin read.0, read.1),
       ap (λ v. number_at is value base most origin (v ++ rest)) s.whole
-          ∙ read_behind is value base most origin s.digits rest position d s.all s.positive
+          ∙ read_after is value base most origin s.digits rest position d s.all s.positive
           ∙ ap (read_position (is_absolute position) origin) (read_past is value base most 0 s.digits rest b s.all s.within)
           ∙ read_some (is_absolute position) origin read more,
       t.shorter,
@@ -111,14 +111,14 @@ position_again : (position : Position) (origin : ℤ) (n : ℕ) → place_at pos
 position_again (at.Abs m) origin n e = ap at.Abs (sym e)
 position_again (at.Rel k) origin n e = ap at.Rel (omega (arith, ints))
 
--- and just this one where no further digit stands behind it
+-- and just this one where no further digit stands after it
 pub number_at-exact : (is : ℕ → Bool) (value : ℕ → ℕ) (base most : ℕ) (origin : ℤ) (front rest : List ℕ) (position : Position) → 1 ≤ base → is 36 ≡ false
     → SpellsCounted is value base most origin front position → first_is is rest ≡ false
     → number_at is value base most origin (front ++ rest) ≡ Some (position, rest)
 number_at-exact is value base most origin front rest position b d s stops =
     let n = number_value value base 0 s.digits in
     ap (λ v. number_at is value base most origin (v ++ rest)) s.whole
-    ∙ read_behind is value base most origin s.digits rest position d s.all s.positive
+    ∙ read_after is value base most origin s.digits rest position d s.all s.positive
     ∙ ap (read_position (is_absolute position) origin) (read_past is value base most 0 s.digits rest b s.all s.within ∙ read_stops is value base most n rest stops)
     ∙ read_some (is_absolute position) origin (n, rest) s.positive
     ∙ ap (λ p. Some (p, rest)) (position_again position origin n s.place)

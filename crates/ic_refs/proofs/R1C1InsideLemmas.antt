@@ -13,14 +13,14 @@ use Rattle.ic_refs.specs.declared.r1c1_ends.End.{End}
 use Rattle.ic_refs.specs.declared.reference.CellReferenceIndex.{CellReferenceIndex}
 use Rattle.ic_refs.specs.declared.reference.ParsedReference.{ParsedReference}
 use Rattle.ic_refs.specs.Formula.{◌>>=◌}
-use Rattle.ic_refs.specs.R1C1.{number_at, absolute, offset, past_bracket, offset_on_at, offset_back_at, offset_at, absolute_at, part_at, column_behind, row_end_at, column_end_at, end_at, ended, last_end, ends_behind, ends_of, first_cell, last_cell, first_corner, last_corner, area_of, have_one_kind, referred, refers}
+use Rattle.ic_refs.specs.R1C1.{number_at, absolute, offset, past_bracket, offset_on_at, offset_back_at, offset_at, absolute_at, part_at, column_after, row_end_at, column_end_at, end_at, ended, last_end, ends_after, ends_of, first_cell, last_cell, first_corner, last_corner, area_of, have_one_kind, referred, refers}
 use Rattle.ic_refs.specs.Referred.{is_cell_of_sheet, LiesInSheet, HasCornersInOrder}
 
 -- a row or a column of a sheet of this length
 abbrev pub is_of : ℕ → ℤ → Bool
 is_of length z = int_le (pos 1) z && int_le z (pos length)
 
--- what holds behind a first step that may fail
+-- what holds after a first step that may fail
 held : {A B : Type 0} (Q : A → Type 0) (P : B → Type 0) (r : Result A ReferenceError) (f : A → Result B ReferenceError) → IfOk r Q → ((x : A) → Q x → IfOk (f x) P) → IfOk (r >>= f) P
 held Q P (Ok x) f q g = g x q
 held Q P (Err e) f q g = tt
@@ -106,9 +106,9 @@ part_of length origin (c ∷ cs) h o =
 abbrev IsEndInside : End → Type 0
 IsEndInside end = IfSome end.row (λ z. is_of 1048576 z ≡ true) × IfSome end.column (λ z. is_of 16384 z ≡ true)
 
-column_behind_of : (cell : CellReferenceIndex) (row : ℤ) (text : List ℕ) → is_column cell.column ≡ true → is_of 1048576 row ≡ true → IfOk (column_behind cell row text) (λ f. IsEndInside f.0)
-column_behind_of cell row [] k w = (w, tt)
-column_behind_of cell row (c ∷ cs) k w =
+column_after_of : (cell : CellReferenceIndex) (row : ℤ) (text : List ℕ) → is_column cell.column ≡ true → is_of 1048576 row ≡ true → IfOk (column_after cell row text) (λ f. IsEndInside f.0)
+column_after_of cell row [] k w = (w, tt)
+column_after_of cell row (c ∷ cs) k w =
     elim (cases_Bool (is_c c)) [
       | inl t ↦ rw t (held (IsPart 16384) (λ f. IsEndInside f.0) (part_at 16384 cell.column cs) (λ column. Ok (record { row = Some row; column = Some column.0 }, column.1)) (part_of 16384 cell.column cs (omega arith) k) (λ column v. (w, v)))
       | inr f ↦ rw f (w, tt)
@@ -116,8 +116,8 @@ column_behind_of cell row (c ∷ cs) k w =
 
 row_end_of : (cell : CellReferenceIndex) (text : List ℕ) → is_row cell.row ≡ true → is_column cell.column ≡ true → IfOk (row_end_at cell text) (λ f. IsEndInside f.0)
 row_end_of cell text r k =
-    held (IsPart 1048576) (λ f. IsEndInside f.0) (part_at 1048576 cell.row text) (λ row. column_behind cell row.0 row.1) (part_of 1048576 cell.row text (omega arith) r)
-    (λ row w. column_behind_of cell row.0 row.1 k w)
+    held (IsPart 1048576) (λ f. IsEndInside f.0) (part_at 1048576 cell.row text) (λ row. column_after cell row.0 row.1) (part_of 1048576 cell.row text (omega arith) r)
+    (λ row w. column_after_of cell row.0 row.1 k w)
 
 column_end_of : (cell : CellReferenceIndex) (text : List ℕ) → is_column cell.column ≡ true → IfOk (column_end_at cell text) (λ f. IsEndInside f.0)
 column_end_of cell text k =
@@ -146,9 +146,9 @@ last_end_of : (cell : CellReferenceIndex) (first : End) (text : List ℕ) → is
 last_end_of cell first text r k a =
     held (λ f. IsEndInside f.0) AreEndsInside (end_at cell text) (λ last. ended (first, Some last.0) last.1) (end_of cell text r k) (λ last b. ended_of first last.0 last.1 a b)
 
-ends_behind_of : (cell : CellReferenceIndex) (first : End) (text : List ℕ) → is_row cell.row ≡ true → is_column cell.column ≡ true → IsEndInside first → IfOk (ends_behind cell first text) AreEndsInside
-ends_behind_of cell first [] r k a = (a, tt)
-ends_behind_of cell first (c ∷ cs) r k a =
+ends_after_of : (cell : CellReferenceIndex) (first : End) (text : List ℕ) → is_row cell.row ≡ true → is_column cell.column ≡ true → IsEndInside first → IfOk (ends_after cell first text) AreEndsInside
+ends_after_of cell first [] r k a = (a, tt)
+ends_after_of cell first (c ∷ cs) r k a =
     elim (cases_Bool (eqb c 58)) [
       | inl t ↦ rw t (last_end_of cell first cs r k a)
       | inr f ↦ rw f tt
@@ -156,7 +156,7 @@ ends_behind_of cell first (c ∷ cs) r k a =
 
 ends_of_inside : (cell : CellReferenceIndex) (text : List ℕ) → is_row cell.row ≡ true → is_column cell.column ≡ true → IfOk (ends_of cell text) AreEndsInside
 ends_of_inside cell text r k =
-    held (λ f. IsEndInside f.0) AreEndsInside (end_at cell text) (λ first. ends_behind cell first.0 first.1) (end_of cell text r k) (λ first a. ends_behind_of cell first.0 first.1 r k a)
+    held (λ f. IsEndInside f.0) AreEndsInside (end_at cell text) (λ first. ends_after cell first.0 first.1) (end_of cell text r k) (λ first a. ends_after_of cell first.0 first.1 r k a)
 
 -- Corners
 

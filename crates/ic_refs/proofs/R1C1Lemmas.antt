@@ -14,7 +14,7 @@ pub number_missing : (most : ℕ) (text : List ℕ) → first_is is_digit text �
 number_missing most [] f = refl
 number_missing most (c ∷ cs) f = rw f refl
 
--- behind a digit there is one, if it isn't too large
+-- after a digit there is one, if it isn't too large
 pub number_some : (most c : ℕ) (cs : List ℕ) → is_digit c ≡ true → number_at most (c ∷ cs) ≡ cond (leb (digits_value 10 (run_of is_digit (c ∷ cs))) most) (Ok (digits_value 10 (run_of is_digit (c ∷ cs)))) (Err errors.ExpectedNumber)
 number_some most c cs d = rw d refl
 

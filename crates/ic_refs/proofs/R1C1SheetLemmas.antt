@@ -46,7 +46,7 @@ before_is (c ∷ cs) =
       | inr f ↦ rw f (ap (λ n. take n (c ∷ cs)) (one_more (position_or_len is_bang cs)) ∙ ap (λ v. c ∷ v) (before_is cs))
     ]
 
--- what stands behind it
+-- the rest
 pub after_is : (text after : List ℕ) (c : ℕ) → past_run is_no_bang text ≡ c ∷ after → after_first is_bang text ≡ after
 after_is [] after c e = absurd (cc)
 after_is (b ∷ cs) after c e =

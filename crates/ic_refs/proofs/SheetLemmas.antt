@@ -177,7 +177,7 @@ written_plain (c ∷ cs) rest s h =
     written_other c (cs ++ 33 ∷ rest) p ∙ ap (λ n. plain_read n (past_run is_plain (c ∷ (cs ++ 33 ∷ rest)))) run ∙ ap (plain_read (c ∷ cs)) past
     ∙ cond-false (needs_quotes (c ∷ cs)) None (Some (c ∷ cs, 33 ∷ rest)) h
 
--- What is spelled as a sheet's name is read, whatever stands behind it.
+-- What is spelled as a sheet's name is read, whatever stands after it.
 pub sheet_complete : (front name rest : List ℕ) → SpellsSheet front (Some name) → sheet_at (front ++ rest) ≡ Some (name, rest)
 sheet_complete front name rest h =
     elim h.1 [

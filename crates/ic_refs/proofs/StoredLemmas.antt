@@ -52,7 +52,7 @@ digits_take length text pos_length =
       | inr f ↦ rw f tt
     ]
 
--- what stands behind a letter
+-- what stands after a letter
 abbrev SpellsPart : ℕ → ℕ → List ℕ → Position → Type 0
 SpellsPart letter length text position = SpellsWithin letter length (letter ∷ text) position
 
@@ -134,9 +134,9 @@ cell_takes text =
     both_take (SpellsWithin 82 1048576) (SpellsWithin 67 16384) SpellsCell (λ r c. record { row = r; column = c }) text (position_at 82 1048576 text) (position_at 67 16384)
     (position_takes 82 1048576 text (omega arith)) (λ rest. position_takes 67 16384 rest (omega arith)) cell_of
 
-range_takes : (text a behind : List ℕ) (first : RefPart) (o : Option (RefPart × List ℕ)) → text ≡ a ++ 58 ∷ behind → SpellsCell a first → Takes SpellsCell behind o → Takes SpellsPlace text (Some (cell_or_range first (58 ∷ behind) o))
-range_takes text a behind first None e s t = record { front = a; whole = e; spelled = s }
-range_takes text a behind first (Some last) e s t = record {
+range_takes : (text a beyond : List ℕ) (first : RefPart) (o : Option (RefPart × List ℕ)) → text ≡ a ++ 58 ∷ beyond → SpellsCell a first → Takes SpellsCell beyond o → Takes SpellsPlace text (Some (cell_or_range first (58 ∷ beyond) o))
+range_takes text a beyond first None e s t = record { front = a; whole = e; spelled = s }
+range_takes text a beyond first (Some last) e s t = record {
   front = a ++ 58 ∷ t.front;
   whole = e ∙ ap (λ b. a ++ 58 ∷ b) t.whole ∙ sym (append_assoc a (58 ∷ t.front) last.1);
   spelled = (a, t.front, refl, s, t.spelled);

@@ -46,7 +46,7 @@ distance_exactly length k inner after (n, inr s) h =
     ∙ ap (option_map (λ f. (at.Rel (neg_ℤ (pos f.0)), f.1))) (digits_exactly length n s.0 after s.2 l)
     ∙ ap (λ k. Some (at.Rel k, after)) (sym s.3)
 
--- digits behind a letter
+-- digits after a letter
 part_digits : (length : ℕ) (text : List ℕ) → first_is is_digit text ≡ true → part_at length text ≡ absolute_of (decimal_from length 0 text)
 part_digits length [] f = absurd (true≢false (sym f))
 part_digits length (c ∷ cs) f = rw (other_than_digit c 91 f refl) refl
@@ -108,7 +108,7 @@ begins_letter : (letter : ℕ) (text after : List ℕ) (position : Position) →
 begins_letter letter text after (at.Abs n) f s = ap (λ t. first_is is_digit (t ++ after)) s.2 ∙ f
 begins_letter letter text after (at.Rel k) f s = ap (λ t. first_is is_digit (t ++ after)) s.1 ∙ f
 
--- the column of a cell is read behind its row
+-- the column of a cell is read after its row
 cell_row : (text after : List ℕ) (part : RefPart) → (s : SpellsCell text part) → cell_at (text ++ after) ≡ option_map (λ c. (record { row = part.row; column = c.0 }, c.1)) (position_at 67 16384 (s.column_text ++ after))
 cell_row text after part s =
     let w = and_parts (is_within 1048576 part.row) (is_within 16384 part.column) s.within in
@@ -147,11 +147,11 @@ cell_place_reaches : (after : List ℕ) (o : Option (RefPart × List ℕ)) → R
 cell_place_reaches after None r = r
 cell_place_reaches after (Some f) r = omega (arith, r, from_le f.0 f.1)
 
-range_reaches : (after behind : List ℕ) (first : RefPart) (o : Option (RefPart × List ℕ)) → Reaches after o → length (cell_or_range first behind o).1 ≤ length after
-range_reaches after behind first None r = absurd r
-range_reaches after behind first (Some last) r = r
+range_reaches : (after beyond : List ℕ) (first : RefPart) (o : Option (RefPart × List ℕ)) → Reaches after o → length (cell_or_range first beyond o).1 ≤ length after
+range_reaches after beyond first None r = absurd r
+range_reaches after beyond first (Some last) r = r
 
--- behind a first cell and a colon the second cell is read
+-- after a first cell and a colon the second cell is read
 range_at : (a b after : List ℕ) (first : RefPart) → SpellsCell a first → stored_place_at ((a ++ 58 ∷ b) ++ after) ≡ Some (cell_or_range first (58 ∷ (b ++ after)) (cell_at (b ++ after)))
 range_at a b after first s =
     ap stored_place_at (append_assoc a (58 ∷ b) after)

@@ -26,13 +26,13 @@ pub finds_stored_at : (text : List ℕ) (at : ℕ) (found : Option (RefToken × 
 finds_stored_at text at found u e = subst (λ f. FindsLongestAt SpellsStored text at f) (sym e) (finds_at SpellsStored (reference_at stored_place_at) finds_stored text at u)
 
 -- no `!` follows the plain characters at the front of a place before an end
-no_bang_behind : (text rest : List ℕ) → list_any (λ c. eqb c 33) text ≡ false → first_is is_plain rest ≡ false → first_is (λ c. eqb c 33) rest ≡ false → first_is (λ c. eqb c 33) (past_run is_plain (text ++ rest)) ≡ false
-no_bang_behind [] [] n p b = refl
-no_bang_behind [] (c ∷ cs) n p b = rw p b
-no_bang_behind (c ∷ cs) rest n p b =
+no_bang_after : (text rest : List ℕ) → list_any (λ c. eqb c 33) text ≡ false → first_is is_plain rest ≡ false → first_is (λ c. eqb c 33) rest ≡ false → first_is (λ c. eqb c 33) (past_run is_plain (text ++ rest)) ≡ false
+no_bang_after [] [] n p b = refl
+no_bang_after [] (c ∷ cs) n p b = rw p b
+no_bang_after (c ∷ cs) rest n p b =
     let q = or_parts (eqb c 33) (list_any (λ c. eqb c 33) cs) n in
     elim (cases_Bool (is_plain c)) [
-      | inl t ↦ rw t (no_bang_behind cs rest q.1 p b)
+      | inl t ↦ rw t (no_bang_after cs rest q.1 p b)
       | inr f ↦ rw f q.0
     ]
 
@@ -42,7 +42,7 @@ no_sheet_in_place place rest w e =
     let s = place_spelled place w in
     let b = place_begins (place_text place) place s in
     no_sheet_without_bang (place_text place ++ rest) (ap (λ t. first_is (λ c. eqb c 39) (t ++ rest)) b.1)
-    (no_bang_behind (place_text place) rest (no_bang_in_place (place_text place) place s) (end_plain rest e) (end_bang rest e))
+    (no_bang_after (place_text place) rest (no_bang_in_place (place_text place) place s) (end_plain rest e) (end_bang rest e))
 
 -- What is spelled is read back, wherever it ends.
 pub stored_again : (token : RefToken) (rest : List ℕ) → is_place_within token.place ≡ true → IfSome token.sheet (λ name. is_sheet_name name ≡ true) → IsEnd rest → reference_at stored_place_at (stored_text token ++ rest) ≡ Some (token, rest)

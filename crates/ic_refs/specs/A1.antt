@@ -24,14 +24,14 @@ abbrev pub dollar_of : Position → List ℕ
 dollar_of (at.Abs n) = dollar ∷ []
 dollar_of (at.Rel k) = []
 
--- a column: its letters, behind a dollar sign or not
+-- a column: its letters, after a dollar sign or not
 pub record SpellsColumn (origin : ℤ) (text : List ℕ) (position : Position) : Type 0 where
   pub letters : List ℕ
   pub whole : text ≡ dollar_of position ++ letters
   pub named : names_column letters ≡ true
   pub place : place_at position origin ≡ pos (letters_number letters)
 
--- a row: its digits, behind a dollar sign or not
+-- a row: its digits, after a dollar sign or not
 pub record SpellsRow (origin : ℤ) (text : List ℕ) (position : Position) : Type 0 where
   pub digits : List ℕ
   pub whole : text ≡ dollar_of position ++ digits
@@ -122,7 +122,7 @@ a1_text row column token = if is_spellable row column token then Some (sheet_tex
 abbrev pub IsAnOrigin : ℤ → ℤ → Type 0
 IsAnOrigin row column = (pos 0 ≤ℤ row) × (row ≤ℤ LAST_ROW) × (pos 0 ≤ℤ column) × (column ≤ℤ LAST_COLUMN)
 
--- the position of this number, as it is written behind a dollar sign or without
+-- the position of this number, as it is written after a dollar sign or without
 abbrev pub position_of : Bool → ℤ → ℕ → Position
 position_of true origin n = at.Abs (pos n)
 position_of false origin n = at.Rel (pos n -ℤ origin)
@@ -134,11 +134,11 @@ has_dollar text = first_is (λ c. c == dollar) text
 abbrev pub read_position : Bool → ℤ → ℕ × List ℕ → Option (Position × List ℕ)
 read_position absolute origin read = if read.0 == 0 then None else Some (position_of absolute origin read.0, read.1)
 
--- the column at the front, and what stands behind it
+-- the column at the front, and the rest
 abbrev pub column_at : ℤ → List ℕ → Option (Position × List ℕ)
 column_at column text = read_position (has_dollar text) column (letters_from 0 (past_dollar text))
 
--- the row at the front, and what stands behind it
+-- the row at the front, and the rest
 abbrev pub row_at : ℤ → List ℕ → Option (Position × List ℕ)
 row_at row text = read_position (has_dollar text) row (decimal_from row_count 0 (past_dollar text))
 
@@ -147,7 +147,7 @@ abbrev pub cell_at : ℤ → ℤ → List ℕ → Option (RefPart × List ℕ)
 cell_at row column text =
     option_and_then (λ c. option_map (λ r. (record { row = r.0; column = c.0 }, r.1)) (row_at row c.1)) (column_at column text)
 
--- what stands behind a colon at the front
+-- what stands after a colon at the front
 abbrev pub past_colon : List ℕ → Option (List ℕ)
 past_colon [] = None
 past_colon (c ∷ cs) = if c == colon then Some cs else None

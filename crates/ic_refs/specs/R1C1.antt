@@ -21,7 +21,7 @@ use Rattle.ic_refs.specs.Sheet.{is_bang, name_in_quotes, is_quote}
 
 -- The sheet's name
 
--- behind a quoted name stands a `!`
+-- after a quoted name stands a `!`
 abbrev pub past_bang : List ℕ → List ℕ → Result (Option (List ℕ) × List ℕ) ReferenceError
 past_bang name [] = Err errors.ExpectedBang
 past_bang name (c ∷ rest) = if is_bang c then Ok (Some name, rest) else Err errors.ExpectedBang
@@ -37,7 +37,7 @@ is_no_bang c = not (is_bang c)
 abbrev pub unquoted_name : List ℕ → Result (Option (List ℕ) × List ℕ) ReferenceError
 unquoted_name text = if list_any is_bang text then Ok (Some (before_first is_bang text), after_first is_bang text) else Ok (None, text)
 
--- the name of the sheet, if there is one, and what stands behind it
+-- the name of the sheet, if there is one, and the rest
 abbrev pub split_sheet : List ℕ → Result (Option (List ℕ) × List ℕ) ReferenceError
 split_sheet [] = Ok (None, [])
 split_sheet (c ∷ cs) = if is_quote c then quoted_name (name_in_quotes cs) else unquoted_name (c ∷ cs)
@@ -89,7 +89,7 @@ abbrev pub offset_back_at : ℕ → ℤ → List ℕ → Result (ℤ × List ℕ
 offset_back_at length origin text =
     number_at greatest_back text >>= λ n. offset length origin (neg_ℤ (pos n)) n >>= λ place. past_bracket place (past_run is_digit text)
 
--- what stands behind an opening bracket: a number, behind a minus or not, and a closing bracket
+-- what stands after an opening bracket: a number, after a minus or not, and a closing bracket
 abbrev pub offset_at : ℕ → ℤ → List ℕ → Result (ℤ × List ℕ) ReferenceError
 offset_at length origin [] = Err errors.ExpectedNumber
 offset_at length origin (c ∷ cs) = if c == minus then offset_back_at length origin cs else offset_on_at length origin (c ∷ cs)
@@ -98,22 +98,22 @@ offset_at length origin (c ∷ cs) = if c == minus then offset_back_at length or
 abbrev pub absolute_at : ℕ → List ℕ → Result (ℤ × List ℕ) ReferenceError
 absolute_at length text = number_at greatest_number text >>= λ n. absolute length n >>= λ place. Ok (place, past_run is_digit text)
 
--- what stands behind the letter: a number, an offset, or nothing, which is the place of the cell
+-- what stands after the letter: a number, an offset, or nothing, which is the place of the cell
 abbrev pub part_at : ℕ → ℤ → List ℕ → Result (ℤ × List ℕ) ReferenceError
 part_at length origin [] = Ok (origin, [])
 part_at length origin (c ∷ cs) =
     if is_digit c then absolute_at length (c ∷ cs) else if c == open_square then offset_at length origin cs else Ok (origin, c ∷ cs)
 
--- the column behind a row, if there is one
-abbrev pub column_behind : CellReferenceIndex → ℤ → List ℕ → Result (End × List ℕ) ReferenceError
-column_behind cell row [] = Ok (record { row = Some row; column = None }, [])
-column_behind cell row (c ∷ cs) =
+-- the column after a row, if there is one
+abbrev pub column_after : CellReferenceIndex → ℤ → List ℕ → Result (End × List ℕ) ReferenceError
+column_after cell row [] = Ok (record { row = Some row; column = None }, [])
+column_after cell row (c ∷ cs) =
     if is_c c then (part_at column_count cell.column cs >>= λ column. Ok (record { row = Some row; column = Some column.0 }, column.1))
     else Ok (record { row = Some row; column = None }, c ∷ cs)
 
--- a row part, and a column part behind it or not
+-- a row part, and a column part after it or not
 abbrev pub row_end_at : CellReferenceIndex → List ℕ → Result (End × List ℕ) ReferenceError
-row_end_at cell text = part_at row_count cell.row text >>= λ row. column_behind cell row.0 row.1
+row_end_at cell text = part_at row_count cell.row text >>= λ row. column_after cell row.0 row.1
 
 -- a column part alone
 abbrev pub column_end_at : CellReferenceIndex → List ℕ → Result (End × List ℕ) ReferenceError
@@ -126,22 +126,22 @@ end_at cell (c ∷ cs) = if is_r c then row_end_at cell cs else if is_c c then c
 
 -- The ends
 
--- nothing stands behind the ends
+-- nothing stands after the ends
 abbrev pub ended : {T : Type 0} → T → List ℕ → Result T ReferenceError
 ended ends [] = Ok ends
 ended ends (c ∷ cs) = Err errors.ExpectedEnd
 
--- the second end, and nothing behind it
+-- the second end, and nothing after it
 abbrev pub last_end : CellReferenceIndex → End → List ℕ → Result (End × Option End) ReferenceError
 last_end cell first text = end_at cell text >>= λ last. ended (first, Some last.0) last.1
 
--- behind the first end stands nothing, or a colon and the second end
-abbrev pub ends_behind : CellReferenceIndex → End → List ℕ → Result (End × Option End) ReferenceError
-ends_behind cell first [] = Ok (first, None)
-ends_behind cell first (c ∷ cs) = if c == colon then last_end cell first cs else Err errors.ExpectedEnd
+-- after the first end stands nothing, or a colon and the second end
+abbrev pub ends_after : CellReferenceIndex → End → List ℕ → Result (End × Option End) ReferenceError
+ends_after cell first [] = Ok (first, None)
+ends_after cell first (c ∷ cs) = if c == colon then last_end cell first cs else Err errors.ExpectedEnd
 
 abbrev pub ends_of : CellReferenceIndex → List ℕ → Result (End × Option End) ReferenceError
-ends_of cell text = end_at cell text >>= λ first. ends_behind cell first.0 first.1
+ends_of cell text = end_at cell text >>= λ first. ends_after cell first.0 first.1
 
 -- the first and the last cell of what an end stands for
 abbrev pub first_cell : ℕ → End → CellReferenceIndex

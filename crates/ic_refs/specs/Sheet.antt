@@ -13,7 +13,7 @@ is_bang c = c == bang
 abbrev pub is_quote : ℕ → Bool
 is_quote c = c == quote
 
--- a sheet's name is written between quotes, or without where it needs none, with a `!` behind it; no name is written
+-- a sheet's name is written between quotes, or without where it needs none, with a `!` after it; no name is written
 -- as nothing
 abbrev pub SpellsSheet : List ℕ → Option (List ℕ) → Type 0
 SpellsSheet text None = text ≡ []
@@ -37,7 +37,7 @@ sheet_text (Some name) = quoted name ++ bang ∷ []
 abbrev pub onto_text : ℕ → Option (List ℕ × List ℕ) → Option (List ℕ × List ℕ)
 onto_text c read = option_map (λ f. (c ∷ f.0, f.1)) read
 
--- the name behind an opening quote, and what stands behind the quote that closes it
+-- the name after an opening quote, and what stands after the quote that closes it
 abbrev pub name_in_quotes : List ℕ → Option (List ℕ × List ℕ)
 name_in_quotes [] = None
 name_in_quotes (c ∷ []) = if is_quote c then Some ([], []) else None
@@ -52,12 +52,12 @@ written_name (c ∷ cs) =
     else if needs_quotes (run_of is_plain (c ∷ cs)) then None
     else Some (run_of is_plain (c ∷ cs), past_run is_plain (c ∷ cs))
 
--- a sheet's name has a `!` behind it
+-- a sheet's name has a `!` after it
 abbrev pub before_bang : List ℕ → List ℕ → Option (List ℕ × List ℕ)
 before_bang name [] = None
 before_bang name (c ∷ rest) = if is_bang c && is_sheet_name name then Some (name, rest) else None
 
--- the sheet's name at the front, and what stands behind its `!`
+-- the sheet's name at the front, and what stands after its `!`
 abbrev pub sheet_at : List ℕ → Option (List ℕ × List ℕ)
 sheet_at text = option_and_then (λ f. before_bang f.0 f.1) (written_name text)
 

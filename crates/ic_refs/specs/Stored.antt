@@ -24,7 +24,7 @@ close_square = 93
 abbrev pub SpellsNumber : List ℕ → ℕ → Type 0
 SpellsNumber digits n = (all_ascii_digits digits ≡ true) × (digits ≢ []) × (digits_value 10 digits ≡ n)
 
--- a distance: digits, behind a `-` or not
+-- a distance: digits, after a `-` or not
 abbrev pub SpellsDistance : List ℕ → ℤ → Type 0
 SpellsDistance text k = (n : ℕ) × ((SpellsNumber text n × (k ≡ pos n)) ⊎ ((digits : List ℕ) × (text ≡ minus ∷ digits) × SpellsNumber digits n × (k ≡ neg_ℤ (pos n))))
 
@@ -78,7 +78,7 @@ stored_text token = sheet_text token.sheet ++ place_text token.place
 abbrev pub absolute_of : ℕ × List ℕ → Option (Position × List ℕ)
 absolute_of read = if read.0 == 0 then None else Some (at.Abs (pos read.0), read.1)
 
--- a number and what stands behind the bracket that closes it
+-- a number and what stands after the bracket that closes it
 abbrev pub past_bracket : ℕ → List ℕ → Option (ℕ × List ℕ)
 past_bracket n [] = None
 past_bracket n (c ∷ cs) = if c == close_square then Some (n, cs) else None
@@ -88,14 +88,14 @@ abbrev pub digits_at : ℕ → List ℕ → Option (ℕ × List ℕ)
 digits_at length text =
     let read : ℕ × List ℕ = decimal_from (length - 1) 0 text in if first_is is_digit text then past_bracket read.0 read.1 else None
 
--- what stands behind an opening bracket: a distance
+-- what stands after an opening bracket: a distance
 abbrev pub distance_at : ℕ → List ℕ → Option (Position × List ℕ)
 distance_at length [] = None
 distance_at length (c ∷ cs) =
     if c == minus then option_map (λ f. (at.Rel (neg_ℤ (pos f.0)), f.1)) (digits_at length cs)
     else option_map (λ f. (at.Rel (pos f.0), f.1)) (digits_at length (c ∷ cs))
 
--- what stands behind the letter of a row or a column of a sheet of this length
+-- what stands after the letter of a row or a column of a sheet of this length
 abbrev pub part_at : ℕ → List ℕ → Option (Position × List ℕ)
 part_at length [] = None
 part_at length (c ∷ cs) = if c == open_square then distance_at length cs else absolute_of (decimal_from length 0 (c ∷ cs))
@@ -112,8 +112,8 @@ cell_at text =
 
 -- a cell alone where no second cell was read
 abbrev pub cell_or_range : RefPart → List ℕ → Option (RefPart × List ℕ) → Place × List ℕ
-cell_or_range first behind None = (places.Cell first, behind)
-cell_or_range first behind (Some last) = (places.Range first last.0, last.1)
+cell_or_range first beyond None = (places.Cell first, beyond)
+cell_or_range first beyond (Some last) = (places.Range first last.0, last.1)
 
 -- the place that begins with a cell: with a colon and a second cell it is a range
 abbrev pub place_from : RefPart → List ℕ → Place × List ℕ

@@ -29,11 +29,11 @@ spelled quotings.Doubled cs = undoubled cs
 abbrev pub name_of : WrittenName → List ℕ
 name_of written = spelled written.quoting (chars written.inside.now)
 
--- the plain name at the front, and what stands behind it
+-- the plain name at the front, and the rest
 abbrev pub plain_name : List ℕ → Option (List ℕ × List ℕ)
 plain_name text = if needs_quotes (run_of is_plain text) then None else Some (run_of is_plain text, past_run is_plain text)
 
--- behind an opening quote, the quote that closes the name stands at the front of the second text
+-- after an opening quote, the quote that closes the name stands at the front of the second text
 pub record ClosesAt (text closing : List ℕ) : Type 0 where
   pub inside : List ℕ
   pub rest : List ℕ

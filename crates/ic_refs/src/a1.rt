@@ -1,4 +1,5 @@
 ghost use Rattle.std.specs.Prelude.{◌≡◌, ◌-◌, ◌≤◌, ◌≤ℤ◌, pos, true, Some, None, chars, option_map, if◌then◌else◌};
+ghost use Rattle.ic_laws.specs.Position.{row_count};
 ghost use Rattle.ic_laws.specs.Scan.{past_dollar};
 ghost use Rattle.ic_refs.specs.A1.{a1_place_at, cell_at, column_at, has_dollar, IsAnOrigin, pair_at, past_colon, read_position, row_at, whole_columns, whole_rows};
 
@@ -15,7 +16,7 @@ pub(crate) struct Origin {
     pub(crate) column: i32,
 }
 
-// Whether a dollar sign stands at the front, and what stands behind it.
+// Whether a dollar sign stands at the front, and the rest.
 fn read_dollar(text: &str) -> (bool, &str)
     ensures dollar { result.0 ≡ has_dollar (chars text.now) }
     ensures rest { chars result.1.now ≡ past_dollar (chars text.now) }
@@ -28,9 +29,9 @@ fn read_dollar(text: &str) -> (bool, &str)
 
 // The position of a number that was read before this rest. There is none where the number is 0.
 fn read_position(absolute: bool, origin: i32, number: u32, rest: &str) -> Option<(Position, &str)>
-    requires small { number ≤ 1048576 }
+    requires small { number ≤ row_count }
     requires low { pos 0 ≤ℤ origin }
-    requires high { origin ≤ℤ pos 1048576 }
+    requires high { origin ≤ℤ LAST_ROW }
     ensures { option_map (λ f. (f.0, chars f.1.now)) result ≡ read_position absolute origin (number, chars rest.now) }
 {
     if number == 0 {
@@ -45,10 +46,10 @@ fn read_position(absolute: bool, origin: i32, number: u32, rest: &str) -> Option
     Some((position, rest))
 }
 
-// The column at the front, read at a column, and what stands behind it.
+// The column at the front, read at a column, and the rest.
 fn read_column(text: &str, column: i32) -> Option<(Position, &str)>
     requires low { pos 0 ≤ℤ column }
-    requires high { column ≤ℤ pos 16384 }
+    requires high { column ≤ℤ LAST_COLUMN }
     ensures { option_map (λ f. (f.0, chars f.1.now)) result ≡ column_at column (chars text.now) }
 {
     let (absolute, letters) = read_dollar(text);
@@ -56,10 +57,10 @@ fn read_column(text: &str, column: i32) -> Option<(Position, &str)>
     read_position(absolute, column, number, rest)
 }
 
-// The row at the front, read at a row, and what stands behind it.
+// The row at the front, read at a row, and the rest.
 fn read_row(text: &str, row: i32) -> Option<(Position, &str)>
     requires low { pos 0 ≤ℤ row }
-    requires high { row ≤ℤ pos 1048576 }
+    requires high { row ≤ℤ LAST_ROW }
     ensures { option_map (λ f. (f.0, chars f.1.now)) result ≡ row_at row (chars text.now) }
 {
     let (absolute, digits) = read_dollar(text);
@@ -67,7 +68,7 @@ fn read_row(text: &str, row: i32) -> Option<(Position, &str)>
     read_position(absolute, row, number, rest)
 }
 
-// The cell at the front, read at a row and a column, and what stands behind it.
+// The cell at the front, read at a row and a column, and the rest.
 pub(crate) fn read_cell(text: &str, origin: Origin) -> Option<(RefPart, &str)>
     requires { IsAnOrigin origin.row origin.column }
     ensures { option_map (λ f. (f.0, chars f.1.now)) result ≡ cell_at origin.row origin.column (chars text.now) }
@@ -77,7 +78,7 @@ pub(crate) fn read_cell(text: &str, origin: Origin) -> Option<(RefPart, &str)>
     Some((RefPart { row, column }, rest))
 }
 
-// What stands behind a colon at the front.
+// What stands after a colon at the front.
 fn past_colon(text: &str) -> Option<&str>
     ensures { option_map (λ r. chars r.now) result ≡ past_colon (chars text.now) }
 {
@@ -98,7 +99,7 @@ fn read_cells(text: &str, origin: Origin) -> Option<((RefPart, RefPart), &str)>
 // Two columns with a colon between them.
 fn read_columns(text: &str, column: i32) -> Option<((Position, Position), &str)>
     requires low { pos 0 ≤ℤ column }
-    requires high { column ≤ℤ pos 16384 }
+    requires high { column ≤ℤ LAST_COLUMN }
     ensures { option_map (λ f. (f.0, chars f.1.now)) result ≡ pair_at (column_at column) (chars text.now) }
 {
     let (first, rest) = read_column(text, column)?;
@@ -109,7 +110,7 @@ fn read_columns(text: &str, column: i32) -> Option<((Position, Position), &str)>
 // Two rows with a colon between them.
 fn read_rows(text: &str, row: i32) -> Option<((Position, Position), &str)>
     requires low { pos 0 ≤ℤ row }
-    requires high { row ≤ℤ pos 1048576 }
+    requires high { row ≤ℤ LAST_ROW }
     ensures { option_map (λ f. (f.0, chars f.1.now)) result ≡ pair_at (row_at row) (chars text.now) }
 {
     let (first, rest) = read_row(text, row)?;
@@ -127,7 +128,7 @@ impl PlaceForm for Origin {
     }
 }
 
-// The longest place at the front, read at a row and a column, and what stands behind it.
+// The longest place at the front, read at a row and a column, and the rest.
 fn read_place(text: &str, origin: Origin) -> Option<(Place, &str)>
     requires { IsAnOrigin origin.row origin.column }
     ensures exact { option_map (λ f. (f.0, chars f.1.now)) result ≡ a1_place_at origin.row origin.column (chars text.now) }

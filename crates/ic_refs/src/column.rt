@@ -1,9 +1,9 @@
 ghost use Rattle.std.specs.Prelude.{◌≡◌, ◌↔◌, ◌<◌, ◌≤◌, [], ◌∷◌, ◌++◌, ◌+◌, ℤ, true, false, pos, nat_lt, Some, Ok, IfOk, IfSome, OnOk, IsNone, MatchResult, is_ok, chars, string_bytes, option_map};
 ghost use Rattle.std.specs.List.{list_all};
-ghost use Rattle.ic_laws.specs.Position.{is_row, is_column, letters_number};
+ghost use Rattle.ic_laws.specs.Position.{column_count, is_row, is_column, letters_number};
 ghost use Rattle.ic_laws.specs.Scan.{is_upper};
 ghost use Rattle.ic_refs.specs.Digits.{letters_from};
-ghost use Rattle.ic_refs.specs.Column.{column_letters, column_name, column_number, letter};
+ghost use Rattle.ic_refs.specs.Column.{is_ascii, column_letters, column_name, column_number, letter};
 
 use crate::ColumnError;
 use ic_laws::scan::{first_char, letter_number, push_char};
@@ -86,7 +86,7 @@ pub fn number_to_column(alloc: Global, column: i32) -> Result<Option<String>, Ou
 #[tactic(auto, unfolding(crate::specs::Column::column_letters))]
 pub(crate) fn push_column(text: &mut String, column: u32) -> Result<(), OutOfMemory>
     requires some { 1 ≤ column }
-    requires few { column ≤ 16384 }
+    requires few { column ≤ column_count }
     ensures { OnOk result (chars (string_bytes text.new) ≡ chars (string_bytes text.old) ++ column_letters column) }
 {
     if column <= 26 {
@@ -112,7 +112,7 @@ fn push_letter(text: &mut String, digit: u32) -> Result<(), OutOfMemory>
 
 // Whether each character is ASCII.
 fn is_ascii(text: &str) -> bool
-    ensures { result ≡ list_all (λ c. nat_lt c 128) (chars text.now) }
+    ensures { result ≡ list_all is_ascii (chars text.now) }
 {
     text.chars().all(|c| c.is_ascii())
 }
@@ -124,11 +124,11 @@ fn is_upper(text: &str) -> bool
     text.chars().all(|c| c.is_ascii_uppercase())
 }
 
-// The number of the column whose letters, in either case, are at the front, and what stands behind them. Letters are
+// The number of the column whose letters, in either case, are at the front, and the rest. Letters are
 // taken while the column is one of the sheet. The number is 0 where there is no letter.
 pub(crate) fn read_letters(text: &str) -> (u32, &str)
     ensures exact { (result.0, chars result.1.now) ≡ letters_from 0 (chars text.now) }
-    ensures small { result.0 ≤ 16384 }
+    ensures small { result.0 ≤ column_count }
 {
     let mut number = 0;
     let mut rest = text;
@@ -137,7 +137,7 @@ pub(crate) fn read_letters(text: &str) -> (u32, &str)
             break;
         };
         let more = number * 26 + digit;
-        if more > 16384 {
+        if more > LAST_COLUMN as u32 {
             break;
         }
         number = more;

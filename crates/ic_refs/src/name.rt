@@ -1,4 +1,5 @@
 ghost use Rattle.std.specs.Prelude.{◌≡◌, ◌++◌, codes, ◌&&◌, ◌||◌, ◌==◌, nat_lt, length, chars, string_bytes, OnOk, IfOk};
+ghost use Rattle.ic_laws.specs.Character.{dot};
 ghost use Rattle.ic_laws.specs.Name.{agrees, in_quotes, is_c, is_identifier, is_numbered, is_r1c1_cell, is_sheet_name, is_variable, needs_quotes, quoted};
 ghost use Rattle.ic_laws.specs.Scan.{first_is, is_digit};
 ghost use Rattle.ic_refs.specs.Written.{doubled, doubled_char};
@@ -55,7 +56,7 @@ pub(crate) fn needs_quotes(name: &str) -> bool
 
 /// Whether a digit or a dot stands at the front.
 fn begins_with_digit_or_dot(text: &str) -> bool
-    ensures { result ≡ first_is (λ c. is_digit c || c == 46) (chars text.now) }
+    ensures { result ≡ first_is (λ c. is_digit c || c == dot) (chars text.now) }
 {
     let Some((c, _)) = first_char(text) else {
         return false;

@@ -25,10 +25,10 @@ impl ParsedReference {
     /// put in order. Rows and columns are counted from 1.
     ///
     /// The first error from the left is told. In the name: `NameNotClosed`, where a quoted name has no closing quote;
-    /// `ExpectedBang`, where no `!` stands behind that; `SheetUnknown`, where `find` answers None. In each end:
+    /// `ExpectedBang`, where no `!` stands after that; `SheetUnknown`, where `find` answers None. In each end:
     /// `ExpectedLetter`, where neither R nor C stands in front; `ExpectedNumber`, where a number is missing or outside of
     /// `i32`; `ExpectedBracket`, where `]` is missing; `OffsetTooLarge`, where an offset is at least the sheet's length;
-    /// `OutsideSheet`, where the sheet has no such row or column. Behind the ends: `ExpectedEnd`, where text is left; then
+    /// `OutsideSheet`, where the sheet has no such row or column. After the ends: `ExpectedEnd`, where text is left; then
     /// `MixedEnds`, where the ends differ in kind. `OutOfMemory` is told where the name found no memory.
     pub fn parse_r1c1_reference<F: Fn(&str) -> Option<u32>>(
         alloc: Global,
@@ -99,7 +99,7 @@ fn refers(
     referred(ends, sheet)
 }
 
-// The name of a sheet at the front, if there is one, and what stands behind its `!`.
+// The name of a sheet at the front, if there is one, and what stands after its `!`.
 fn split_sheet(text: &str) -> Result<(Option<WrittenName<'_>>, &str), ReferenceError>
     ensures { Gives (λ f. (option_map name_of f.0, chars f.1.now)) result (split_sheet (chars text.now)) }
 {
@@ -110,7 +110,7 @@ fn split_sheet(text: &str) -> Result<(Option<WrittenName<'_>>, &str), ReferenceE
     }
 }
 
-// The same behind an opening quote.
+// The same after an opening quote.
 fn split_quoted(text: &str) -> Result<(Option<WrittenName<'_>>, &str), ReferenceError>
     ensures { Gives (λ f. (option_map name_of f.0, chars f.1.now)) result (quoted_name (name_in_quotes (chars text.now))) }
 {

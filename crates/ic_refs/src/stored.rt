@@ -46,7 +46,7 @@ impl PlaceForm for StoredForm {
     }
 }
 
-// The digits of a distance less than the length, and what stands behind the bracket that closes it.
+// The digits of a distance less than the length, and what stands after the bracket that closes it.
 fn read_digits(length: u32, text: &str) -> Option<(u32, &str)>
     requires { length < 2 ^ 31 }
     ensures exact { option_map (λ f. (f.0, chars f.1.now)) result ≡ digits_at length (chars text.now) }
@@ -65,7 +65,7 @@ fn read_digits(length: u32, text: &str) -> Option<(u32, &str)>
     }
 }
 
-// The distance behind an opening bracket.
+// The distance after an opening bracket.
 fn read_distance(length: u32, text: &str) -> Option<(Position, &str)>
     requires { length < 2 ^ 31 }
     ensures { option_map (λ f. (f.0, chars f.1.now)) result ≡ distance_at length (chars text.now) }
@@ -79,7 +79,7 @@ fn read_distance(length: u32, text: &str) -> Option<(Position, &str)>
     Some((Position::Rel(number as i32), rest))
 }
 
-// What stands behind the letter of a row or a column of a sheet of this length.
+// What stands after the letter of a row or a column of a sheet of this length.
 fn read_part(length: u32, text: &str) -> Option<(Position, &str)>
     requires { length < 2 ^ 31 }
     ensures { option_map (λ f. (f.0, chars f.1.now)) result ≡ part_at length (chars text.now) }
@@ -117,8 +117,8 @@ fn read_cell(text: &str) -> Option<(RefPart, &str)>
     Some((RefPart { row, column }, rest))
 }
 
-// The place that begins with a cell, and what stands behind it.
-fn read_behind(first: RefPart, text: &str) -> (Place, &str)
+// The place that begins with a cell, and the rest.
+fn read_after(first: RefPart, text: &str) -> (Place, &str)
     ensures { (result.0, chars result.1.now) ≡ place_from first (chars text.now) }
 {
     let Some((c, after)) = first_char(text) else {
@@ -133,10 +133,10 @@ fn read_behind(first: RefPart, text: &str) -> (Place, &str)
     }
 }
 
-// The longest place in the stored form at the front, and what stands behind it.
+// The longest place in the stored form at the front, and the rest.
 fn read_place(text: &str) -> Option<(Place, &str)>
     ensures { option_map (λ f. (f.0, chars f.1.now)) result ≡ stored_place_at (chars text.now) }
 {
     let (first, rest) = read_cell(text)?;
-    Some(read_behind(first, rest))
+    Some(read_after(first, rest))
 }

@@ -52,7 +52,7 @@ fn push_cell(out: &mut String, part: RefPart) -> Result<(), OutOfMemory>
     push_position(out, 'C', part.column)
 }
 
-// Appends a row or a column behind its letter.
+// Appends a row or a column after its letter.
 fn push_position(out: &mut String, letter: char, position: Position) -> Result<(), OutOfMemory>
     ensures { OnOk result (chars (string_bytes out.new) ≡ chars (string_bytes out.old) ++ position_text letter position) }
 {

@@ -18,10 +18,10 @@ loop-c-preserved c =
       text = search rules;
       closes = λ closing h.
           c.loop-c.invariant.closes closing
-          (closes_doubled (chars c.loop-c.rest.now) (chars c.in-Some.after.now) (chars c.in-Some-past_quote.behind.now) closing e c.in-Some-past_quote.ensures.cases h);
+          (closes_doubled (chars c.loop-c.rest.now) (chars c.in-Some.after.now) (chars c.in-Some-past_quote.more.now) closing e c.in-Some-past_quote.ensures.cases h);
       none = λ h.
           c.loop-c.invariant.none
-          (none_doubled (chars c.loop-c.rest.now) (chars c.in-Some.after.now) (chars c.in-Some-past_quote.behind.now) e c.in-Some-past_quote.ensures.cases h);
+          (none_doubled (chars c.loop-c.rest.now) (chars c.in-Some.after.now) (chars c.in-Some-past_quote.more.now) e c.in-Some-past_quote.ensures.cases h);
     }
 
 pub returns-in-None : goal.returns-in-None

@@ -5,4 +5,4 @@ use Rattle.ic_refs.proofs.trim.trimmed.Goals as goal
 
 pub returns : goal.returns
 returns c =
-    trimmed_front _ _ _ c.behind_last.ensures c.front_of.ensures ∙ ap (λ text. reverse (past_run is_blank (reverse text))) c.past_blanks-text.ensures
+    trimmed_front _ _ _ c.after_last.ensures c.front_of.ensures ∙ ap (λ text. reverse (past_run is_blank (reverse text))) c.past_blanks-text.ensures
