@@ -13,7 +13,7 @@ use Rattle.ic_refs.proofs.A1PlaceLemmas.{finds_longest_place}
 use Rattle.ic_refs.proofs.MarkLemmas.{end_of_place, place_is_text, place_no_bang, place_no_sheet}
 use Rattle.ic_refs.proofs.OffsetLemmas.{finds_at}
 use Rattle.ic_refs.proofs.ReferenceLemmas.{finds_reference, reference_again}
-use Rattle.ic_refs.proofs.SpellLemmas.{place_text-again, place_text-spells}
+use Rattle.ic_refs.proofs.A1SpellLemmas.{place_text-again, place_text-spells}
 
 -- the longest reference at the front, in any cell
 pub finds_a1_reference : (row column : ℤ) (text : List ℕ) → FindsLongest (SpellsReference (SpellsPlace row column)) text (reference_at (a1_place_at row column) text)

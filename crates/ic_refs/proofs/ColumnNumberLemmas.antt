@@ -10,8 +10,8 @@ use Rattle.ic_refs.specs.Digits.{letters_from}
 use Rattle.ic_refs.specs.Column.{column_number}
 use Rattle.ic_refs.specs.Digits.{number_value}
 use Rattle.ic_refs.specs.declared.error.ColumnError.TheVariants as errors
-use Rattle.ic_refs.proofs.DigitLemmas.{read_past, number_taken}
-use Rattle.ic_refs.proofs.KindLemmas.{letters_value}
+use Rattle.ic_refs.proofs.DigitsLemmas.{read_past, number_taken}
+use Rattle.ic_refs.proofs.A1NumberLemmas.{letters_value}
 use Rattle.ic_refs.proofs.ColumnLemmas.{upper_letters}
 
 -- a text without bytes has no characters, and one with bytes has some

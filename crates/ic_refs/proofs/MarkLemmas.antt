@@ -14,8 +14,8 @@ use Rattle.ic_laws.specs.declared.reference.Place.{Place}
 use Rattle.ic_laws.specs.declared.reference.Place.TheVariants as places
 use Rattle.ic_refs.specs.A1.{SpellsColumn, SpellsRow, SpellsCell, SpellsPlace, dollar_of}
 use Rattle.ic_refs.specs.Digits.{digit_number}
-use Rattle.ic_refs.proofs.KindLemmas.{row_as_number, column_as_number, some_digits}
-use Rattle.ic_refs.proofs.PositionLemmas.{SpellsCounted}
+use Rattle.ic_refs.proofs.A1NumberLemmas.{row_as_number, column_as_number, some_digits}
+use Rattle.ic_refs.proofs.A1PositionLemmas.{SpellsCounted}
 use Rattle.ic_refs.specs.Sheet.{sheet_at}
 use Rattle.ic_refs.proofs.A1PlaceLemmas.{EndsPlace}
 use Rattle.ic_refs.proofs.SheetLemmas.{no_sheet_without_bang}

@@ -11,7 +11,7 @@ use Rattle.ic_laws.specs.Scan.{first_is, is_digit, is_plain, past_run, run_of}
 use Rattle.ic_laws.specs.Tree.{is_written_sheet}
 use Rattle.ic_refs.specs.Sheet.{SpellsSheet, before_bang, name_in_quotes, onto_text, sheet_at, sheet_text, written_name}
 use Rattle.ic_refs.specs.Written.{doubled, doubled_char}
-use Rattle.ic_refs.proofs.QuoteLemmas.{quoted_step, closed_here}
+use Rattle.ic_refs.proofs.SheetQuoteLemmas.{quoted_step, closed_here}
 use Rattle.ic_laws.proofs.RunLemmas.{run_and_rest}
 
 -- a name that may be written is a sheet's

@@ -10,7 +10,7 @@ use Rattle.ic_laws.specs.declared.reference.RefPart.{RefPart}
 use Rattle.ic_refs.specs.Digits.{decimal_from}
 use Rattle.ic_laws.specs.Position.{is_within}
 use Rattle.ic_refs.specs.Stored.{SpellsNumber, SpellsDistance, SpellsPosition, SpellsCell, SpellsPlace, absolute_of, past_bracket, digits_at, distance_at, part_at, position_at, cell_at, cell_or_range, place_from, stored_place_at}
-use Rattle.ic_refs.proofs.NumberLemmas.{AreDigitsRead, number_reads}
+use Rattle.ic_refs.proofs.DigitsDecimalLemmas.{AreDigitsRead, number_reads}
 use Rattle.ic_refs.proofs.LongestLemmas.{Takes, both_take}
 
 -- a row or a column, within the limit

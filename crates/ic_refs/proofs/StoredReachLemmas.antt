@@ -12,7 +12,7 @@ use Rattle.ic_refs.specs.Longest.{FindsLongest}
 use Rattle.ic_refs.specs.Digits.{decimal_from}
 use Rattle.ic_laws.specs.Position.{is_within}
 use Rattle.ic_refs.specs.Stored.{SpellsNumber, SpellsDistance, SpellsPosition, SpellsCell, SpellsPlace, absolute_of, past_bracket, digits_at, distance_at, part_at, position_at, cell_at, cell_or_range, place_from, stored_place_at}
-use Rattle.ic_refs.proofs.NumberLemmas.{number_reads, number_over, number_stops, number_rest_le, after-grows}
+use Rattle.ic_refs.proofs.DigitsDecimalLemmas.{number_reads, number_over, number_stops, number_rest_le, after-grows}
 use Rattle.ic_refs.proofs.LongestLemmas.{Takes, Reaches, finds_longest, takes_le, reaches_exactly, reaches_map}
 use Rattle.ic_refs.proofs.StoredLemmas.{SpellsWithin, nat_abs_neg, cell_takes, place_takes}
 

@@ -3,7 +3,7 @@ use std::alloc::{AllocError, AllocFailed};
 use thiserror::Error;
 
 /// Why a text names no column. The first that holds, in this order, is told.
-#[derive(Clone, Copy, Debug, PartialEq, Eq, Error)]
+#[derive(Debug, Drop, Error)]
 pub enum ColumnError {
     #[error("Column identifier cannot be empty.")]
     Empty,
@@ -18,7 +18,7 @@ pub enum ColumnError {
 }
 
 /// Why a text is no reference.
-#[derive(Debug, Drop, PartialEq, Error)]
+#[derive(Debug, Drop, Error)]
 pub enum ReferenceError {
     /// It has other characters than those of words, and is no reference.
     #[error("Invalid reference. Expected only one token.")]

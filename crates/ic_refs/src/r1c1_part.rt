@@ -7,7 +7,7 @@ use crate::number::read_number;
 use ic_laws::scan::{begins_with_digit, first_char};
 
 // The number of all digits at the front, and the rest.
-#[tactic(auto, using(crate::proofs::R1C1Lemmas::number_missing, crate::proofs::R1C1Lemmas::number_large))]
+#[tactic(auto, using(crate::proofs::R1C1NumberLemmas::number_missing, crate::proofs::R1C1NumberLemmas::number_large))]
 fn read_whole_number(most: u32, text: &str) -> Result<(u32, &str), ReferenceError>
     requires { most ≤ 2 ^ 31 }
     ensures { MatchResult result

@@ -7,7 +7,7 @@ use ic_laws::{OutOfMemory, Text};
 use std::alloc::Global;
 
 /// How a sheet's name is written.
-#[derive(Clone, Copy, Debug, PartialEq, Eq)]
+#[derive(Clone, Copy)]
 pub(crate) enum Quoting {
     /// As it is.
     Plain,

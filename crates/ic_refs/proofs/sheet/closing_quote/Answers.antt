@@ -1,5 +1,5 @@
 use Rattle.std.proofs.Common.{◌∷◌, ◌∙◌, ap, chars, rules}
-use Rattle.ic_refs.proofs.QuoteLemmas.{closes_plain, none_plain, closes_doubled, none_doubled, closes_here}
+use Rattle.ic_refs.proofs.SheetQuoteLemmas.{closes_plain, none_plain, closes_doubled, none_doubled, closes_here}
 use Rattle.ic_refs.proofs.sheet.closing_quote.Goals as goal
 
 pub loop-c-preserved-then-c-ne39 : goal.loop-c-preserved-then-c-ne39

@@ -1,6 +1,6 @@
 use Rattle.std.proofs.Common.{◌∙◌, ap, reverse}
 use Rattle.ic_laws.specs.Scan.{is_blank, past_run}
-use Rattle.ic_refs.proofs.TrimLemmas.{trimmed_front}
+use Rattle.ic_refs.proofs.FormulaTrimLemmas.{trimmed_front}
 use Rattle.ic_refs.proofs.trim.trimmed.Goals as goal
 
 pub returns : goal.returns

@@ -7,7 +7,7 @@ use Rattle.ic_laws.specs.Scan.{is_digit, first_is, run_of, past_run}
 use Rattle.ic_refs.specs.declared.error.ReferenceError.TheVariants as errors
 use Rattle.ic_refs.specs.Digits.{decimal_from}
 use Rattle.ic_refs.specs.R1C1.{number_at, wrapped}
-use Rattle.ic_refs.proofs.NumberLemmas.{number_reads, number_all, number_past}
+use Rattle.ic_refs.proofs.DigitsDecimalLemmas.{number_reads, number_all, number_past}
 
 -- without a digit there is no number
 pub number_missing : (most : ℕ) (text : List ℕ) → first_is is_digit text ≡ false → number_at most text ≡ Err errors.ExpectedNumber

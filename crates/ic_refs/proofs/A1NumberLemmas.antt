@@ -12,8 +12,8 @@ use Rattle.ic_laws.specs.Position.{letter_digit, letters_number}
 use Rattle.ic_laws.specs.declared.reference.Position.{Position}
 use Rattle.ic_refs.specs.A1.{SpellsColumn, SpellsRow, column_at, row_at}
 use Rattle.ic_refs.specs.Digits.{digit_number, number_value}
-use Rattle.ic_refs.proofs.DigitLemmas.{number_grows}
-use Rattle.ic_refs.proofs.PositionLemmas.{SpellsCounted, number_at-spelled, number_at-longest, number_at-exact}
+use Rattle.ic_refs.proofs.DigitsLemmas.{number_grows}
+use Rattle.ic_refs.proofs.A1PositionLemmas.{SpellsCounted, number_at-spelled, number_at-longest, number_at-exact}
 use Rattle.ic_refs.proofs.LongestLemmas.{IsTaken}
 
 regrouped : (n d p l : ℕ) → (n * 26 + d) * p + l ≡ n * (p * 26) + (d * p + l)

@@ -12,7 +12,7 @@ use Rattle.ic_refs.specs.A1.{dollar_of, has_dollar, read_position, position_of}
 use Rattle.ic_refs.specs.Digits.{number_value, number_from}
 use Rattle.ic_refs.specs.Formula.{is_absolute}
 use Rattle.ic_refs.proofs.LongestLemmas.{IsTaken}
-use Rattle.ic_refs.proofs.DigitLemmas.{read_past, read_stops, IsNumberTaken, number_taken}
+use Rattle.ic_refs.proofs.DigitsLemmas.{read_past, read_stops, IsNumberTaken, number_taken}
 
 -- a position spelled by digits of a kind, up to a limit
 pub record SpellsCounted (is : ℕ → Bool) (value : ℕ → ℕ) (base most : ℕ) (origin : ℤ) (text : List ℕ) (position : Position) : Type 0 where

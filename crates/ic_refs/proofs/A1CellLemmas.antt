@@ -10,10 +10,10 @@ use Rattle.ic_laws.specs.declared.reference.Position.TheVariants as at
 use Rattle.ic_laws.specs.declared.reference.RefPart.{RefPart}
 use Rattle.ic_refs.specs.A1.{SpellsColumn, SpellsRow, SpellsCell, dollar_of, read_position, column_at, row_at, cell_at}
 use Rattle.ic_refs.specs.Digits.{digit_number, number_value}
-use Rattle.ic_refs.proofs.DigitLemmas.{read_stops}
+use Rattle.ic_refs.proofs.DigitsLemmas.{read_stops}
 use Rattle.ic_refs.proofs.LongestLemmas.{IsTaken}
-use Rattle.ic_refs.proofs.KindLemmas.{row_as_number, column_at-spelled, row_at-spelled, column_at-longest, row_at-longest, column_at-exact, row_at-exact}
-use Rattle.ic_refs.proofs.PairLemmas.{mapped, chained}
+use Rattle.ic_refs.proofs.A1NumberLemmas.{row_as_number, column_at-spelled, row_at-spelled, column_at-longest, row_at-longest, column_at-exact, row_at-exact}
+use Rattle.ic_refs.proofs.A1PairLemmas.{mapped, chained}
 use Rattle.ic_refs.proofs.LongestLemmas.{Reads}
 
 pub column_reads : (column : ℤ) → Reads (SpellsColumn column) (column_at column) is_ascii_letter
