@@ -9,7 +9,7 @@ use Rattle.ic_refs.specs.declared.r1c1_ends.End.{End}
 use Rattle.ic_refs.specs.declared.reference.CellReferenceIndex.{CellReferenceIndex}
 use Rattle.ic_refs.specs.Formula.{◌>>=◌}
 use Rattle.ic_refs.specs.R1C1.{part_at, column_after, row_end_at, column_end_at, end_at, ended, last_end, ends_after, ends_of}
-use Rattle.ic_refs.specs.R1C1Form.{IsNumberOf, SpellsRow, SpellsColumn, SpellsEnd}
+use Rattle.ic_refs.specs.R1C1Form.{IsNumberOf, SpellsRowPart, SpellsColumnPart, SpellsEnd}
 use Rattle.ic_refs.proofs.R1C1PartLemmas.{bound, bind, is_open, part_sound, part_complete}
 
 -- a cell of the sheet
@@ -47,7 +47,7 @@ same_ok x y e = cc
 
 -- What is read is spelled so
 
-after_sound : (cell : CellReferenceIndex) (row : ℤ) (front text : List ℕ) (found : End × List ℕ) → IsInSheet cell → SpellsRow cell front row → column_after cell row text ≡ Ok found → IsEndRead cell (front ++ text) found
+after_sound : (cell : CellReferenceIndex) (row : ℤ) (front text : List ℕ) (found : End × List ℕ) → IsInSheet cell → SpellsRowPart cell front row → column_after cell row text ≡ Ok found → IsEndRead cell (front ++ text) found
 after_sound cell row front [] found i s e =
     subst (IsEndRead cell (front ++ [])) (same_ok (record { row = Some row; column = None }, []) found e) (front, refl, s)
 after_sound cell row front (c ∷ cs) found i s e =
@@ -95,14 +95,14 @@ after_none : (cell : CellReferenceIndex) (row : ℤ) (rest : List ℕ) → first
 after_none cell row [] f = refl
 after_none cell row (c ∷ cs) f = rw f refl
 
-row_complete : (cell : CellReferenceIndex) (row : ℤ) (front rest : List ℕ) → SpellsRow cell front row → EndsPart rest → end_at cell (front ++ rest) ≡ column_after cell row rest
+row_complete : (cell : CellReferenceIndex) (row : ℤ) (front rest : List ℕ) → SpellsRowPart cell front row → EndsPart rest → end_at cell (front ++ rest) ≡ column_after cell row rest
 row_complete cell row front rest s ends =
     ap (λ t. end_at cell (t ++ rest)) s.2
     ∙ (let step : end_at cell (s.0 ∷ (s.1 ++ rest)) ≡ row_end_at cell (s.1 ++ rest) = rw s.3 refl in step)
     ∙ bind (part_at 1048576 cell.row (s.1 ++ rest)) (λ row. column_after cell row.0 row.1) (row, rest)
     (part_complete 1048576 cell.row row s.1 rest (omega arith) s.4 ends.no_digit ends.no_bracket)
 
-column_complete : (cell : CellReferenceIndex) (row column : ℤ) (front rest : List ℕ) → SpellsColumn cell front column → EndsPart rest
+column_complete : (cell : CellReferenceIndex) (row column : ℤ) (front rest : List ℕ) → SpellsColumnPart cell front column → EndsPart rest
     → column_after cell row (front ++ rest) ≡ Ok (record { row = Some row; column = Some column }, rest)
 column_complete cell row column front rest s ends =
     let go : (column : ℤ × List ℕ) → Result (End × List ℕ) ReferenceError = λ column. Ok (record { row = Some row; column = Some column.0 }, column.1) in
@@ -110,7 +110,7 @@ column_complete cell row column front rest s ends =
     ∙ (let step : column_after cell row (s.0 ∷ (s.1 ++ rest)) ≡ (part_at 16384 cell.column (s.1 ++ rest) >>= go) = rw s.3 refl in step)
     ∙ bind (part_at 16384 cell.column (s.1 ++ rest)) go (column, rest) (part_complete 16384 cell.column column s.1 rest (omega arith) s.4 ends.no_digit ends.no_bracket)
 
-alone_complete : (cell : CellReferenceIndex) (column : ℤ) (front rest : List ℕ) → SpellsColumn cell front column → EndsPart rest
+alone_complete : (cell : CellReferenceIndex) (column : ℤ) (front rest : List ℕ) → SpellsColumnPart cell front column → EndsPart rest
     → end_at cell (front ++ rest) ≡ Ok (record { row = None; column = Some column }, rest)
 alone_complete cell column front rest s ends =
     let go : (column : ℤ × List ℕ) → Result (End × List ℕ) ReferenceError = λ column. Ok (record { row = None; column = Some column.0 }, column.1) in
@@ -118,7 +118,7 @@ alone_complete cell column front rest s ends =
     ∙ (let step : end_at cell (s.0 ∷ (s.1 ++ rest)) ≡ column_end_at cell (s.1 ++ rest) = rw (c_no_r s.0 s.3, s.3) refl in step)
     ∙ bind (part_at 16384 cell.column (s.1 ++ rest)) go (column, rest) (part_complete 16384 cell.column column s.1 rest (omega arith) s.4 ends.no_digit ends.no_bracket)
 
-column_begins : (cell : CellReferenceIndex) (column : ℤ) (front rest : List ℕ) → SpellsColumn cell front column → EndsPart (front ++ rest)
+column_begins : (cell : CellReferenceIndex) (column : ℤ) (front rest : List ℕ) → SpellsColumnPart cell front column → EndsPart (front ++ rest)
 column_begins cell column front rest s = subst (λ t. EndsPart (t ++ rest)) (sym s.2) (c_ends s.0 (s.1 ++ rest) s.3)
 
 end_of_complete : (cell : CellReferenceIndex) (row column : Option ℤ) (front rest : List ℕ) → SpellsEnd cell front (record { row = row; column = column }) → EndsEnd rest

@@ -41,17 +41,17 @@ abbrev pub SpellsPart : ℕ → ℤ → List ℕ → ℤ → Type 0
 SpellsPart length origin text place = SpellsSame origin text place ⊎ SpellsAbsolute length text place ⊎ SpellsOffset length origin text place
 
 -- a row: R and its part; a column: C and its part
-abbrev pub SpellsRow : CellReferenceIndex → List ℕ → ℤ → Type 0
-SpellsRow cell text row = (r : ℕ) × (part : List ℕ) × (text ≡ r ∷ part) × (is_r r ≡ true) × SpellsPart row_count cell.row part row
+abbrev pub SpellsRowPart : CellReferenceIndex → List ℕ → ℤ → Type 0
+SpellsRowPart cell text row = (r : ℕ) × (part : List ℕ) × (text ≡ r ∷ part) × (is_r r ≡ true) × SpellsPart row_count cell.row part row
 
-abbrev pub SpellsColumn : CellReferenceIndex → List ℕ → ℤ → Type 0
-SpellsColumn cell text column = (c : ℕ) × (part : List ℕ) × (text ≡ c ∷ part) × (is_c c ≡ true) × SpellsPart column_count cell.column part column
+abbrev pub SpellsColumnPart : CellReferenceIndex → List ℕ → ℤ → Type 0
+SpellsColumnPart cell text column = (c : ℕ) × (part : List ℕ) × (text ≡ c ∷ part) × (is_c c ≡ true) × SpellsPart column_count cell.column part column
 
 -- an end: a row and a column for a cell, a row alone for a whole row, a column alone for a whole column
 abbrev pub SpellsEndOf : CellReferenceIndex → List ℕ → Option ℤ → Option ℤ → Type 0
-SpellsEndOf cell text (Some row) (Some column) = (a : List ℕ) × (b : List ℕ) × (text ≡ a ++ b) × SpellsRow cell a row × SpellsColumn cell b column
-SpellsEndOf cell text (Some row) None = SpellsRow cell text row
-SpellsEndOf cell text None (Some column) = SpellsColumn cell text column
+SpellsEndOf cell text (Some row) (Some column) = (a : List ℕ) × (b : List ℕ) × (text ≡ a ++ b) × SpellsRowPart cell a row × SpellsColumnPart cell b column
+SpellsEndOf cell text (Some row) None = SpellsRowPart cell text row
+SpellsEndOf cell text None (Some column) = SpellsColumnPart cell text column
 SpellsEndOf cell text None None = ⊥
 
 abbrev pub SpellsEnd : CellReferenceIndex → List ℕ → End → Type 0

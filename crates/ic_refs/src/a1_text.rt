@@ -58,7 +58,7 @@ fn push_number(alloc: Global, out: &mut String, number: u32) -> Result<(), OutOf
 }
 
 // The number of a column in the sheet.
-fn column_number(position: Position, origin: Origin) -> u32
+fn number_of_column(position: Position, origin: Origin) -> u32
     requires { is_column (place_at position origin.column) ≡ true }
     ensures same { result ≡ nat_abs (place_at position origin.column) }
     ensures low { 1 ≤ result }
@@ -68,7 +68,7 @@ fn column_number(position: Position, origin: Origin) -> u32
 }
 
 // The number of a row in the sheet.
-fn row_number(position: Position, origin: Origin) -> u32
+fn number_of_row(position: Position, origin: Origin) -> u32
     requires { is_row (place_at position origin.row) ≡ true }
     ensures { result ≡ nat_abs (place_at position origin.row) }
 {
@@ -81,7 +81,7 @@ fn push_column_at(out: &mut String, position: Position, origin: Origin) -> Resul
     ensures { OnOk result (chars (string_bytes out.new) ≡ chars (string_bytes out.old) ++ column_text origin.column position) }
 {
     push_dollar(out, position)?;
-    push_column(out, column_number(position, origin))
+    push_column(out, number_of_column(position, origin))
 }
 
 // Appends a row as it is written in a cell of this row.
@@ -95,7 +95,7 @@ fn push_row_at(
     ensures { OnOk result (chars (string_bytes out.new) ≡ chars (string_bytes out.old) ++ row_text origin.row position) }
 {
     push_dollar(out, position)?;
-    push_number(alloc, out, row_number(position, origin))
+    push_number(alloc, out, number_of_row(position, origin))
 }
 
 // Appends a cell as it is written in the cell at this row and column.

@@ -2,7 +2,8 @@
 //! variables, identifiers and quoting.
 //!
 //! A reader gives the longest reference that begins at a byte, and what a speller gives is read back. The definitions
-//! are in `specs/`: `A1` and `Stored` say how a reference is spelled, `Longest` what a reader of them answers.
+//! are in `specs/`: `A1` and `Stored` say how a reference is spelled, `FormulaForm` and `R1C1Form` what a whole text
+//! refers to, `Longest` what a reader of a reference at a byte answers.
 #![tactic(auto)]
 
 mod a1;
