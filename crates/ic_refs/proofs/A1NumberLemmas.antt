@@ -1,9 +1,8 @@
 -- Columns by their letters and rows by their digits.
-use Rattle.std.proofs.Common.{◌≡◌, ℕ, ℤ, pos, ◌+◌, ◌*◌, ◌-◌, ◌^◌, ◌≤◌, ◌<◌, List, [], ◌∷◌, ◌++◌, true, false, ◌&&◌, nat_lt, nat_le, length, Some, refl, sym, ◌∙◌, ap, arith}
+use Rattle.std.proofs.Common.{◌≡◌, ℕ, ℤ, pos, ◌+◌, ◌*◌, ◌^◌, ◌≤◌, ◌<◌, List, [], ◌∷◌, ◌++◌, true, false, ◌&&◌, nat_lt, nat_le, length, Some, refl, sym, ◌∙◌, ap, arith}
 use Rattle.std.specs.List.{list_all}
-use Rattle.std.specs.Char.{digit_value}
 use Rattle.std.specs.Str.{all_ascii_digits}
-use Rattle.std.specs.Str.Parse.{digits_value, digits_value_after}
+use Rattle.std.specs.Str.Parse.{digits_value}
 use Rattle.std.proofs.Math.Nat.{pow-suc}
 use Rattle.std.proofs.lemmas.Bool.{and_parts, and_from, ltb-true, lt-ltb, leb-true, le-leb}
 use Rattle.std.proofs.lemmas.Bool.Decides.{nat_tests}
@@ -12,6 +11,7 @@ use Rattle.ic_laws.specs.Position.{letter_digit, letters_number}
 use Rattle.ic_laws.specs.declared.reference.Position.{Position}
 use Rattle.ic_refs.specs.A1.{SpellsColumn, SpellsRow, column_at, row_at}
 use Rattle.ic_refs.specs.Digits.{digit_number, number_value}
+use Rattle.ic_refs.proofs.DigitsDecimalLemmas.{all_digits, digits_value_on}
 use Rattle.ic_refs.proofs.DigitsLemmas.{number_grows}
 use Rattle.ic_refs.proofs.A1PositionLemmas.{SpellsCounted, number_at-spelled, number_at-longest, number_at-exact}
 use Rattle.ic_refs.proofs.LongestLemmas.{IsTaken}
@@ -40,20 +40,6 @@ letters_positive (c ∷ cs) h a =
 pub some_digits : (value : ℕ → ℕ) (base : ℕ) (cs : List ℕ) → 0 < number_value value base 0 cs → 0 < length cs
 some_digits value base [] h = absurd (omega arith)
 some_digits value base (c ∷ cs) h = omega arith
-
--- digits count as in base 10
-digit_same : (c : ℕ) → is_digit c ≡ true → digit_value c ≡ c - 48
-digit_same c h = grind (arith, nat_tests)
-
-pub digits_value_on : (n : ℕ) (cs : List ℕ) → list_all is_digit cs ≡ true → number_value digit_number 10 n cs ≡ digits_value_after 10 n cs
-digits_value_on n [] a = refl
-digits_value_on n (c ∷ cs) a =
-    let parts = and_parts (is_digit c) (list_all is_digit cs) a in
-    rw (digit_same c parts.0) (digits_value_on (n * 10 + (c - 48)) cs parts.1)
-
-pub all_digits : (cs : List ℕ) → all_ascii_digits cs ≡ list_all is_digit cs
-all_digits [] = refl
-all_digits (c ∷ cs) = ap (λ b. is_digit c && b) (all_digits cs)
 
 -- A column is spelled as its letters' number is.
 pub column_as_number : (origin : ℤ) (text : List ℕ) (position : Position) → SpellsColumn origin text position → SpellsCounted is_ascii_letter letter_digit 26 16384 origin text position

@@ -1,12 +1,14 @@
 -- Digits at the front of a text.
-use Rattle.std.proofs.Common.{◌≡◌, ◌≢◌, ◌⊎◌, ◌≤◌, ◌<◌, ℕ, ◌+◌, ◌*◌, ◌-◌, List, [], ◌∷◌, ◌++◌, true, false, ◌&&◌, length, refl, sym, ◌∙◌, ap, subst, inl, inr, arith, leb}
+use Rattle.std.proofs.Common.{◌≡◌, ◌≤◌, ◌<◌, ℕ, ◌+◌, ◌*◌, ◌-◌, List, [], ◌∷◌, ◌++◌, true, false, ◌&&◌, length, refl, sym, ◌∙◌, ap, inl, inr, arith, leb}
 use Rattle.std.specs.Char.{digit_value}
+use Rattle.std.specs.List.{list_all}
 use Rattle.std.specs.Str.{all_ascii_digits}
 use Rattle.std.specs.Str.Parse.{digits_value_after}
 use Rattle.std.proofs.lemmas.Str.{digit_value_digit}
 use Rattle.std.proofs.lemmas.Bool.{and_parts, and_from, and_right, true≢false, leb-true, leb-false, le-leb, cases_Bool}
 use Rattle.ic_laws.specs.Scan.{is_digit, first_is, run_of, past_run}
-use Rattle.ic_refs.specs.Digits.{decimal_from}
+use Rattle.ic_refs.specs.Digits.{decimal_from, digit_number, number_value}
+use Rattle.ic_refs.proofs.DigitsLemmas.{number_taken, read_past, read_stops}
 
 -- a digit counts what it stands for
 digit-counts : (c : ℕ) → is_digit c ≡ true → digit_value c ≡ c - 48
@@ -23,30 +25,31 @@ after-grows n (c ∷ ds) = omega (arith, after-grows (n * 10 + digit_value c) ds
 number_one : (limit n c : ℕ) (cs : List ℕ) → is_digit c ≡ true → n * 10 + (c - 48) ≤ limit → decimal_from limit n (c ∷ cs) ≡ decimal_from limit (n * 10 + (c - 48)) cs
 number_one limit n c cs d h = rw (and_from (is_digit c) (leb (n * 10 + (c - 48)) limit) d (le-leb _ _ h)) refl
 
+-- digits count as in base 10
+pub digits_value_on : (n : ℕ) (cs : List ℕ) → list_all is_digit cs ≡ true → number_value digit_number 10 n cs ≡ digits_value_after 10 n cs
+digits_value_on n [] a = refl
+digits_value_on n (c ∷ cs) a =
+    let parts = and_parts (is_digit c) (list_all is_digit cs) a in
+    rw (digit-counts c parts.0) (digits_value_on (n * 10 + (c - 48)) cs parts.1)
+
+pub all_digits : (cs : List ℕ) → all_ascii_digits cs ≡ list_all is_digit cs
+all_digits [] = refl
+all_digits (c ∷ cs) = ap (λ b. is_digit c && b) (all_digits cs)
+
 -- digits are taken while the number stays within the limit
 pub number_over : (limit n : ℕ) (ds after : List ℕ) → all_ascii_digits ds ≡ true → digits_value_after 10 n ds ≤ limit → decimal_from limit n (ds ++ after) ≡ decimal_from limit (digits_value_after 10 n ds) after
-number_over limit n [] after d h = refl
-number_over limit n (c ∷ ds) after d h =
-    let p = and_parts (is_digit c) (all_ascii_digits ds) d in
-    let e : n * 10 + digit_value c ≡ n * 10 + (c - 48) = ap (λ v. n * 10 + v) (digit-counts c p.0) in
-    let k : digits_value_after 10 (n * 10 + (c - 48)) ds ≤ limit = subst (λ v. digits_value_after 10 v ds ≤ limit) e h in
-    number_one limit n c (ds ++ after) p.0 (omega (arith, k, after-grows (n * 10 + (c - 48)) ds))
-    ∙ number_over limit (n * 10 + (c - 48)) ds after p.1 k
-    ∙ ap (λ v. decimal_from limit (digits_value_after 10 v ds) after) (sym e)
+number_over limit n ds after d h =
+    let all : list_all is_digit ds ≡ true = sym (all_digits ds) ∙ d in
+    let value = digits_value_on n ds all in
+    read_past is_digit digit_number 10 limit n ds after (omega arith) all (omega (arith, value, h)) ∙ ap (λ v. decimal_from limit v after) value
 
 -- and no digit is taken where none stands
 pub number_stops : (limit n : ℕ) (after : List ℕ) → first_is is_digit after ≡ false → decimal_from limit n after ≡ (n, after)
-number_stops limit n [] h = refl
-number_stops limit n (c ∷ cs) h = rw h refl
+number_stops limit n after h = read_stops is_digit digit_number 10 limit n after h
 
 -- what is left is no longer than the text
 pub number_rest_le : (limit n : ℕ) (text : List ℕ) → length (decimal_from limit n text).1 ≤ length text
-number_rest_le limit n [] = omega arith
-number_rest_le limit n (c ∷ cs) =
-    elim (cases_Bool (is_digit c && leb (n * 10 + (c - 48)) limit)) [
-      | inl t ↦ rw t (omega (arith, number_rest_le limit (n * 10 + (c - 48)) cs))
-      | inr f ↦ rw f (omega arith)
-    ]
+number_rest_le limit n text = (number_taken is_digit digit_number 10 limit n text).shorter
 
 -- What was read are digits, their number and the rest.
 pub record AreDigitsRead (limit n : ℕ) (text : List ℕ) (read : ℕ × List ℕ) : Type 0 where
@@ -55,26 +58,17 @@ pub record AreDigitsRead (limit n : ℕ) (text : List ℕ) (read : ℕ × List �
   pub ascii : all_ascii_digits digits ≡ true
   pub value : digits_value_after 10 n digits ≡ read.0
   pub within : n ≤ limit → read.0 ≤ limit
-  pub some : digits ≢ [] ⊎ (read.1 ≡ text)
 
 pub number_reads : (limit n : ℕ) (text : List ℕ) → AreDigitsRead limit n text (decimal_from limit n text)
-number_reads limit n [] = record { digits = []; whole = refl; ascii = refl; value = refl; within = λ h. h; some = inr refl }
-number_reads limit n (c ∷ cs) =
-    elim (cases_Bool (is_digit c && leb (n * 10 + (c - 48)) limit)) [
-      | inl t ↦
-          let p = and_parts (is_digit c) (leb (n * 10 + (c - 48)) limit) t in
-          let r = number_reads limit (n * 10 + (c - 48)) cs in
-          let e : n * 10 + digit_value c ≡ n * 10 + (c - 48) = ap (λ v. n * 10 + v) (digit-counts c p.0) in
-          rw t (record {
-            digits = c ∷ r.digits;
-            whole = ap (λ v. c ∷ v) r.whole;
-            ascii = and_from (is_digit c) (all_ascii_digits r.digits) p.0 r.ascii;
-            value = ap (λ v. digits_value_after 10 v r.digits) e ∙ r.value;
-            within = λ h. r.within (leb-true _ _ p.1);
-            some = inl (λ e. cc);
-          })
-      | inr f ↦ rw f (record { digits = []; whole = refl; ascii = refl; value = refl; within = λ h. h; some = inr refl })
-    ]
+number_reads limit n text =
+    let t = number_taken is_digit digit_number 10 limit n text in
+    record {
+      digits = t.front;
+      whole = t.whole;
+      ascii = all_digits t.front ∙ t.all;
+      value = sym (digits_value_on n t.front t.all) ∙ sym t.number;
+      within = t.within;
+    }
 
 -- no digit is taken where it would be too much
 number_none : (limit n c : ℕ) (cs : List ℕ) → leb (n * 10 + (c - 48)) limit ≡ false → decimal_from limit n (c ∷ cs) ≡ (n, c ∷ cs)

@@ -16,7 +16,7 @@ use Rattle.ic_refs.specs.Formula.{◌>>=◌}
 use Rattle.ic_refs.specs.R1C1.{number_at, wrapped, absolute, offset, past_bracket, offset_on_at, offset_back_at, offset_at, absolute_at, part_at}
 use Rattle.ic_refs.specs.R1C1Form.{IsNumberOf, LiesAway, SpellsOffset, SpellsPart}
 use Rattle.ic_refs.specs.Stored.{SpellsNumber, SpellsDistance}
-use Rattle.ic_refs.proofs.A1NumberLemmas.{all_digits}
+use Rattle.ic_refs.proofs.DigitsDecimalLemmas.{all_digits}
 use Rattle.ic_refs.proofs.R1C1NumberLemmas.{number_some}
 use Rattle.ic_refs.proofs.SheetLemmas.{run_of_all, past_run_all}
 use Rattle.ic_refs.proofs.StoredLemmas.{nat_abs_neg}

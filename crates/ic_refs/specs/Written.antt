@@ -1,5 +1,5 @@
 -- A sheet's name as it is written: plain, or what stands between quotes, with each quote doubled.
-use Rattle.std.specs.Prelude.{◌≡◌, ℕ, List, [], ◌∷◌, ◌++◌, ◌==◌, Option, Some, None, chars, flat_map, if◌then◌else◌}
+use Rattle.std.specs.Prelude.{◌≡◌, ℕ, List, [], ◌∷◌, ◌++◌, Option, Some, None, chars, flat_map, if◌then◌else◌}
 use Rattle.ic_laws.specs.Character.{quote}
 use Rattle.ic_laws.specs.Name.{needs_quotes}
 use Rattle.ic_laws.specs.Scan.{is_plain, run_of, past_run}
