@@ -1,9 +1,8 @@
 -- Columns by their letters and rows by their digits.
-use Rattle.std.proofs.Common.{◌≡◌, ℕ, ℤ, pos, ◌+◌, ◌*◌, ◌-◌, ◌^◌, ◌≤◌, ◌<◌, List, [], ◌∷◌, ◌++◌, true, false, ◌&&◌, nat_lt, nat_le, length, Some, refl, sym, ◌∙◌, ap, arith}
+use Rattle.std.proofs.Common.{◌≡◌, ℕ, ℤ, pos, ◌+◌, ◌*◌, ◌^◌, ◌≤◌, ◌<◌, List, [], ◌∷◌, ◌++◌, true, false, ◌&&◌, nat_lt, nat_le, length, Some, refl, sym, ◌∙◌, ap, arith}
 use Rattle.std.specs.List.{list_all}
-use Rattle.std.specs.Char.{digit_value}
 use Rattle.std.specs.Str.{all_ascii_digits}
-use Rattle.std.specs.Str.Parse.{digits_value, digits_value_after}
+use Rattle.std.specs.Str.Parse.{digits_value}
 use Rattle.std.proofs.Math.Nat.{pow-suc}
 use Rattle.std.proofs.lemmas.Bool.{and_parts, and_from, ltb-true, lt-ltb, leb-true, le-leb}
 use Rattle.std.proofs.lemmas.Bool.Decides.{nat_tests}
@@ -11,24 +10,23 @@ use Rattle.ic_laws.specs.Scan.{is_digit, first_is, is_ascii_letter}
 use Rattle.ic_laws.specs.Position.{letter_digit, letters_number}
 use Rattle.ic_laws.specs.declared.reference.Position.{Position}
 use Rattle.ic_refs.specs.A1.{SpellsColumn, SpellsRow, column_at, row_at}
-use Rattle.ic_refs.specs.Digits.{number_value}
-use Rattle.ic_refs.proofs.DigitLemmas.{number_grows}
-use Rattle.ic_refs.proofs.PositionLemmas.{SpellsNumber, Takes, number_at-spelled, number_at-longest, number_at-exact}
-
-abbrev pub digit_number : ℕ → ℕ
-digit_number c = c - 48
+use Rattle.ic_refs.specs.Digits.{digit_number, number_value}
+use Rattle.ic_refs.proofs.DigitsDecimalLemmas.{all_digits, digits_value_on}
+use Rattle.ic_refs.proofs.DigitsLemmas.{number_grows}
+use Rattle.ic_refs.proofs.A1PositionLemmas.{SpellsCounted, number_at-spelled, number_at-longest, number_at-exact}
+use Rattle.ic_refs.proofs.LongestLemmas.{IsTaken}
 
 regrouped : (n d p l : ℕ) → (n * 26 + d) * p + l ≡ n * (p * 26) + (d * p + l)
 regrouped n d p l = omega arith
 
 -- letters count as in base 26
-letters_value_behind : (n : ℕ) (cs : List ℕ) → number_value letter_digit 26 n cs ≡ n * 26 ^ length cs + letters_number cs
-letters_value_behind n [] = omega arith
-letters_value_behind n (c ∷ cs) =
-    letters_value_behind (n * 26 + letter_digit c) cs ∙ rw (pow-suc 26 (length cs)) (regrouped n (letter_digit c) (26 ^ length cs) (letters_number cs))
+letters_value_after : (n : ℕ) (cs : List ℕ) → number_value letter_digit 26 n cs ≡ n * 26 ^ length cs + letters_number cs
+letters_value_after n [] = omega arith
+letters_value_after n (c ∷ cs) =
+    letters_value_after (n * 26 + letter_digit c) cs ∙ rw (pow-suc 26 (length cs)) (regrouped n (letter_digit c) (26 ^ length cs) (letters_number cs))
 
 pub letters_value : (cs : List ℕ) → number_value letter_digit 26 0 cs ≡ letters_number cs
-letters_value cs = letters_value_behind 0 cs ∙ omega arith
+letters_value cs = letters_value_after 0 cs ∙ omega arith
 
 -- each letter counts
 pub letter_counts : (c : ℕ) → is_ascii_letter c ≡ true → 0 < letter_digit c
@@ -43,22 +41,8 @@ pub some_digits : (value : ℕ → ℕ) (base : ℕ) (cs : List ℕ) → 0 < num
 some_digits value base [] h = absurd (omega arith)
 some_digits value base (c ∷ cs) h = omega arith
 
--- digits count as in base 10
-digit_same : (c : ℕ) → is_digit c ≡ true → digit_value c ≡ c - 48
-digit_same c h = grind (arith, nat_tests)
-
-pub digits_value_behind : (n : ℕ) (cs : List ℕ) → list_all is_digit cs ≡ true → number_value digit_number 10 n cs ≡ digits_value_after 10 n cs
-digits_value_behind n [] a = refl
-digits_value_behind n (c ∷ cs) a =
-    let parts = and_parts (is_digit c) (list_all is_digit cs) a in
-    rw (digit_same c parts.0) (digits_value_behind (n * 10 + (c - 48)) cs parts.1)
-
-pub all_digits : (cs : List ℕ) → all_ascii_digits cs ≡ list_all is_digit cs
-all_digits [] = refl
-all_digits (c ∷ cs) = ap (λ b. is_digit c && b) (all_digits cs)
-
 -- A column is spelled as its letters' number is.
-pub column_as_number : (origin : ℤ) (text : List ℕ) (position : Position) → SpellsColumn origin text position → SpellsNumber is_ascii_letter letter_digit 26 16384 origin text position
+pub column_as_number : (origin : ℤ) (text : List ℕ) (position : Position) → SpellsColumn origin text position → SpellsCounted is_ascii_letter letter_digit 26 16384 origin text position
 column_as_number origin text position s =
     let named = and_parts (nat_lt 0 (length s.letters) && list_all is_ascii_letter s.letters) (nat_le (letters_number s.letters) 16384) s.named in
     let parts = and_parts (nat_lt 0 (length s.letters)) (list_all is_ascii_letter s.letters) named.0 in
@@ -71,7 +55,7 @@ column_as_number origin text position s =
       place = s.place ∙ ap pos (sym (letters_value s.letters));
     }
 
-pub number_as_column : (origin : ℤ) (text : List ℕ) (position : Position) → SpellsNumber is_ascii_letter letter_digit 26 16384 origin text position → SpellsColumn origin text position
+pub number_as_column : (origin : ℤ) (text : List ℕ) (position : Position) → SpellsCounted is_ascii_letter letter_digit 26 16384 origin text position → SpellsColumn origin text position
 number_as_column origin text position s = record {
   letters = s.digits;
   whole = s.whole;
@@ -82,13 +66,13 @@ number_as_column origin text position s = record {
 }
 
 -- A row is spelled as its digits' number is.
-pub row_as_number : (origin : ℤ) (text : List ℕ) (position : Position) → SpellsRow origin text position → SpellsNumber is_digit digit_number 10 1048576 origin text position
+pub row_as_number : (origin : ℤ) (text : List ℕ) (position : Position) → SpellsRow origin text position → SpellsCounted is_digit digit_number 10 1048576 origin text position
 row_as_number origin text position s =
     let n = digits_value 10 s.digits in
     let named = and_parts (all_ascii_digits s.digits && nat_lt 0 n) (nat_le n 1048576) s.named in
     let parts = and_parts (all_ascii_digits s.digits) (nat_lt 0 n) named.0 in
     let all : list_all is_digit s.digits ≡ true = sym (all_digits s.digits) ∙ parts.0 in
-    let same : number_value digit_number 10 0 s.digits ≡ n = digits_value_behind 0 s.digits all in
+    let same : number_value digit_number 10 0 s.digits ≡ n = digits_value_on 0 s.digits all in
     record {
       digits = s.digits;
       whole = s.whole;
@@ -98,10 +82,10 @@ row_as_number origin text position s =
       place = s.place ∙ ap pos (sym same);
     }
 
-pub number_as_row : (origin : ℤ) (text : List ℕ) (position : Position) → SpellsNumber is_digit digit_number 10 1048576 origin text position → SpellsRow origin text position
+pub number_as_row : (origin : ℤ) (text : List ℕ) (position : Position) → SpellsCounted is_digit digit_number 10 1048576 origin text position → SpellsRow origin text position
 number_as_row origin text position s =
     let n = digits_value 10 s.digits in
-    let same : number_value digit_number 10 0 s.digits ≡ n = digits_value_behind 0 s.digits s.all in
+    let same : number_value digit_number 10 0 s.digits ≡ n = digits_value_on 0 s.digits s.all in
     record {
       digits = s.digits;
       whole = s.whole;
@@ -112,12 +96,12 @@ number_as_row origin text position s =
     }
 
 -- what is read at the front is spelled so
-pub column_at-spelled : (column : ℤ) (text : List ℕ) (found : Position × List ℕ) → column_at column text ≡ Some found → Takes (SpellsColumn column) text found
+pub column_at-spelled : (column : ℤ) (text : List ℕ) (found : Position × List ℕ) → column_at column text ≡ Some found → IsTaken (SpellsColumn column) text found
 column_at-spelled column text found e =
     let t = number_at-spelled is_ascii_letter letter_digit 26 16384 column text found e in
     record { front = t.front; whole = t.whole; spelled = number_as_column column t.front found.0 t.spelled }
 
-pub row_at-spelled : (row : ℤ) (text : List ℕ) (found : Position × List ℕ) → row_at row text ≡ Some found → Takes (SpellsRow row) text found
+pub row_at-spelled : (row : ℤ) (text : List ℕ) (found : Position × List ℕ) → row_at row text ≡ Some found → IsTaken (SpellsRow row) text found
 row_at-spelled row text found e =
     let t = number_at-spelled is_digit digit_number 10 1048576 row text found e in
     record { front = t.front; whole = t.whole; spelled = number_as_row row t.front found.0 t.spelled }
@@ -133,7 +117,7 @@ pub row_at-longest : (row : ℤ) (front rest : List ℕ) (position : Position) �
 row_at-longest row front rest position s =
     number_at-longest is_digit digit_number 10 1048576 row front rest position (omega arith) refl (row_as_number row front position s)
 
--- just it where no letter, and no digit, stands behind it
+-- just it where no letter, and no digit, stands after it
 pub column_at-exact : (column : ℤ) (front rest : List ℕ) (position : Position) → SpellsColumn column front position → first_is is_ascii_letter rest ≡ false
     → column_at column (front ++ rest) ≡ Some (position, rest)
 column_at-exact column front rest position s stops =

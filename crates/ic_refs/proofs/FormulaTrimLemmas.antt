@@ -8,7 +8,7 @@ use Rattle.ic_laws.specs.Scan.{is_blank, past_run}
 use Rattle.ic_refs.specs.Trim.{EndsSoFar, EndsAt, IsTrimmed}
 
 pub ends_first : (text : List ℕ) → EndsSoFar text text text
-ends_first text = record { front = []; blanks = []; whole = refl; behind = refl; trimmed = refl; blank = refl }
+ends_first text = record { front = []; blanks = []; whole = refl; beyond = refl; trimmed = refl; blank = refl }
 
 -- one more blank
 pub ends_blank : (text end rest after : List ℕ) (c : ℕ) → EndsSoFar text end rest → rest ≡ c ∷ after → is_blank c ≡ true → EndsSoFar text end after
@@ -16,7 +16,7 @@ ends_blank text end rest after c s e b = record {
   front = s.front;
   blanks = s.blanks ++ c ∷ [];
   whole = s.whole;
-  behind = s.behind ∙ ap (λ r. s.blanks ++ r) e ∙ sym (append_assoc s.blanks (c ∷ []) after);
+  beyond = s.beyond ∙ ap (λ r. s.blanks ++ r) e ∙ sym (append_assoc s.blanks (c ∷ []) after);
   trimmed = s.trimmed;
   blank = list_all-append is_blank s.blanks (c ∷ []) ∙ and_from (list_all is_blank s.blanks) (list_all is_blank (c ∷ [])) s.blank (and_from (is_blank c) true b refl);
 }
@@ -33,9 +33,9 @@ pub ends_other : (text end rest after : List ℕ) (c : ℕ) → EndsSoFar text e
 ends_other text end rest after c s e b = record {
   front = (s.front ++ s.blanks) ++ c ∷ [];
   blanks = [];
-  whole = s.whole ∙ ap (λ t. s.front ++ t) (s.behind ∙ ap (λ r. s.blanks ++ r) e)
+  whole = s.whole ∙ ap (λ t. s.front ++ t) (s.beyond ∙ ap (λ r. s.blanks ++ r) e)
       ∙ sym (append_assoc s.front s.blanks (c ∷ after)) ∙ sym (append_assoc (s.front ++ s.blanks) (c ∷ []) after);
-  behind = refl;
+  beyond = refl;
   trimmed = ends_plain (s.front ++ s.blanks) c b;
   blank = refl;
 }
@@ -45,7 +45,7 @@ past_blanks : (bs rest : List ℕ) → list_all is_blank bs ≡ true → past_ru
 past_blanks [] rest h = refl
 past_blanks (b ∷ bs) rest h = let parts = and_parts (is_blank b) (list_all is_blank bs) h in rw (parts.0) (past_blanks bs rest parts.1)
 
-blanks_reverse : (bs : List ℕ) → list_all is_blank bs ≡ true → list_all is_blank (reverse bs) ≡ true
+pub blanks_reverse : (bs : List ℕ) → list_all is_blank bs ≡ true → list_all is_blank (reverse bs) ≡ true
 blanks_reverse [] h = refl
 blanks_reverse (b ∷ bs) h =
     let parts = and_parts (is_blank b) (list_all is_blank bs) h in
@@ -56,7 +56,7 @@ blanks_reverse (b ∷ bs) h =
 pub trimmed_front : (text end front : List ℕ) → EndsAt text end → text ≡ front ++ end → front ≡ reverse (past_run is_blank (reverse text))
 trimmed_front text end front s e =
     let same : front ≡ s.front = append_cancel_right front s.front end (sym e ∙ s.whole) in
-    let parts : text ≡ s.front ++ s.blanks = s.whole ∙ ap (λ t. s.front ++ t) (s.behind ∙ append-nil s.blanks) in
+    let parts : text ≡ s.front ++ s.blanks = s.whole ∙ ap (λ t. s.front ++ t) (s.beyond ∙ append-nil s.blanks) in
     let past : past_run is_blank (reverse text) ≡ reverse s.front =
     ap (λ t. past_run is_blank (reverse t)) parts ∙ ap (past_run is_blank) (reverse-append s.front s.blanks)
     ∙ past_blanks (reverse s.blanks) (reverse s.front) (blanks_reverse s.blanks s.blank) ∙ s.trimmed in

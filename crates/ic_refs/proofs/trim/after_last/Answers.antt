@@ -1,6 +1,6 @@
 use Rattle.std.proofs.Common.{chars, sym, rules}
-use Rattle.ic_refs.proofs.TrimLemmas.{ends_first, ends_blank, ends_other}
-use Rattle.ic_refs.proofs.trim.behind_last.Goals as goal
+use Rattle.ic_refs.proofs.FormulaTrimLemmas.{ends_first, ends_blank, ends_other}
+use Rattle.ic_refs.proofs.trim.after_last.Goals as goal
 
 pub loop-c-init : goal.loop-c-init
 loop-c-init c = (c.utf8.text, c.utf8.text, ends_first (chars c.args.text.now))

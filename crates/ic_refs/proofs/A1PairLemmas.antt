@@ -1,17 +1,10 @@
--- Readers of the longest text at the front, and two of a kind with a colon between them.
+-- Two of a kind with a colon between them.
 use Rattle.std.proofs.Common.{◌≡◌, ℕ, ◌≤◌, List, [], ◌∷◌, ◌++◌, Bool, false, ◌==◌, ◌⊎◌, length, Option, Some, None, option_map, option_and_then, refl, sym, ◌∙◌, ap, subst, arith, inl, inr, append_assoc, length-append}
 use Rattle.std.proofs.lemmas.Bool.Decides.{eqb_tells}
 use Rattle.ic_laws.specs.Scan.{first_is}
 use Rattle.ic_refs.specs.A1.{past_colon, pair_at}
 use Rattle.ic_refs.specs.Sheet.{or_else}
-use Rattle.ic_refs.proofs.PositionLemmas.{Takes}
-
--- What a reader reads is spelled so; what is spelled is read, or more is; and just it is read, where no character that
--- could go on stands behind it.
-pub record Reads {T : Type 0} (Spells : List ℕ → T → Type 0) (read : List ℕ → Option (T × List ℕ)) (goes_on : ℕ → Bool) : Type 0 where
-  pub spelled : (text : List ℕ) (found : T × List ℕ) → read text ≡ Some found → Takes Spells text found
-  pub longest : (front rest : List ℕ) (v : T) → Spells front v → (found : T × List ℕ) × (read (front ++ rest) ≡ Some found) × (length found.1 ≤ length rest)
-  pub exact : (front rest : List ℕ) (v : T) → Spells front v → first_is goes_on rest ≡ false → read (front ++ rest) ≡ Some (v, rest)
+use Rattle.ic_refs.proofs.LongestLemmas.{IsTaken, Reads}
 
 -- options
 pub none_or_some : {T : Type 0} (o : Option T) → (o ≡ None) ⊎ ((x : T) × (o ≡ Some x))
@@ -52,10 +45,10 @@ no_colon (c ∷ cs) h = rw h refl
 -- what was read of each
 pub record PairParts {T : Type 0} (read : List ℕ → Option (T × List ℕ)) (text : List ℕ) (found : (T × T) × List ℕ) : Type 0 where
   pub first : T
-  pub behind : List ℕ
+  pub beyond : List ℕ
   pub last : T × List ℕ
-  pub read_first : read text ≡ Some (first, 58 ∷ behind)
-  pub read_last : read behind ≡ Some last
+  pub read_first : read text ≡ Some (first, 58 ∷ beyond)
+  pub read_last : read beyond ≡ Some last
   pub pair : ((first, last.0), last.1) ≡ found
 
 pub pair_parts : {T : Type 0} (read : List ℕ → Option (T × List ℕ)) (text : List ℕ) (found : (T × T) × List ℕ) → pair_at read text ≡ Some found → PairParts read text found
@@ -65,20 +58,20 @@ pair_parts {T} read text found e =
     let three = mapped (λ (b : T × List ℕ). ((one.0.0, b.0), b.1)) (read two.0) found two.2 in
     record {
       first = one.0.0;
-      behind = two.0;
+      beyond = two.0;
       last = three.0;
       read_first = one.1 ∙ ap (λ (r : List ℕ). Some (one.0.0, r)) (colon_past one.0.1 two.0 two.1);
       read_last = three.1;
       pair = three.2;
     }
 
-pair_read : {T : Type 0} (read : List ℕ → Option (T × List ℕ)) (text behind : List ℕ) (v : T) (last : T × List ℕ) → read text ≡ Some (v, 58 ∷ behind) → read behind ≡ Some last
+pair_read : {T : Type 0} (read : List ℕ → Option (T × List ℕ)) (text beyond : List ℕ) (v : T) (last : T × List ℕ) → read text ≡ Some (v, 58 ∷ beyond) → read beyond ≡ Some last
     → pair_at read text ≡ Some ((v, last.0), last.1)
-pair_read {T} read text behind v last p q =
+pair_read {T} read text beyond v last p q =
     ap (λ o. option_and_then (λ (a : T × List ℕ). option_and_then (λ rest. option_map (λ (b : T × List ℕ). ((a.0, b.0), b.1)) (read rest)) (past_colon a.1)) o) p
     ∙ ap (option_map (λ (b : T × List ℕ). ((v, b.0), b.1))) q
 
--- there is no pair where there is none of its kind, and where no colon stands behind the one
+-- there is no pair where there is none of its kind, and where no colon stands after the one
 pub pair_none : {T : Type 0} (read : List ℕ → Option (T × List ℕ)) (text : List ℕ) → read text ≡ None → pair_at read text ≡ None
 pair_none {T} read text p =
     ap (λ o. option_and_then (λ (a : T × List ℕ). option_and_then (λ rest. option_map (λ (b : T × List ℕ). ((a.0, b.0), b.1)) (read rest)) (past_colon a.1)) o) p
@@ -89,23 +82,23 @@ pair_alone {T} read text found p n =
     ap (λ o. option_and_then (λ (a : T × List ℕ). option_and_then (λ rest. option_map (λ (b : T × List ℕ). ((a.0, b.0), b.1)) (read rest)) (past_colon a.1)) o) p
     ∙ ap (λ o. option_and_then (λ rest. option_map (λ (b : T × List ℕ). ((found.0, b.0), b.1)) (read rest)) o) (no_colon found.1 n)
 
--- what is left behind a pair is less than what is left behind its first
+-- what is left after a pair is less than what is left after its first
 pub pair_longer : {T : Type 0} (Spells : List ℕ → T → Type 0) (read : List ℕ → Option (T × List ℕ)) (goes_on : ℕ → Bool) (r : Reads Spells read goes_on) (text : List ℕ) (found : (T × T) × List ℕ) (one : T × List ℕ)
     → pair_at read text ≡ Some found → read text ≡ Some one → length found.1 ≤ length one.1
 pair_longer {T} Spells read goes_on r text found one e p =
     let parts = pair_parts read text found e in
-    let t = r.spelled parts.behind parts.last parts.read_last in
-    let same : (parts.first, 58 ∷ parts.behind) ≡ one = same_found (read text) (parts.first, 58 ∷ parts.behind) one parts.read_first p in
-    let left : length (58 ∷ parts.behind) ≡ length one.1 = ap (λ (f : T × List ℕ). length f.1) same in
+    let t = r.spelled parts.beyond parts.last parts.read_last in
+    let same : (parts.first, 58 ∷ parts.beyond) ≡ one = same_found (read text) (parts.first, 58 ∷ parts.beyond) one parts.read_first p in
+    let left : length (58 ∷ parts.beyond) ≡ length one.1 = ap (λ (f : T × List ℕ). length f.1) same in
     let end : length parts.last.1 ≡ length found.1 = ap (λ (f : (T × T) × List ℕ). length f.1) parts.pair in
     omega (arith, left, end, ap length t.whole, length-append t.front parts.last.1)
 
 pair_spelled : {T : Type 0} (Spells : List ℕ → T → Type 0) (read : List ℕ → Option (T × List ℕ)) (goes_on : ℕ → Bool) (r : Reads Spells read goes_on) (text : List ℕ) (found : (T × T) × List ℕ)
-    → PairParts read text found → Takes (SpellsPair Spells) text found
+    → PairParts read text found → IsTaken (SpellsPair Spells) text found
 pair_spelled {T} Spells read goes_on r text found parts =
-    let a = r.spelled text (parts.first, 58 ∷ parts.behind) parts.read_first in
-    let b = r.spelled parts.behind parts.last parts.read_last in
-    let Wanted : (T × T) × List ℕ → Type 0 = λ f. Takes (SpellsPair Spells) text f in
+    let a = r.spelled text (parts.first, 58 ∷ parts.beyond) parts.read_first in
+    let b = r.spelled parts.beyond parts.last parts.read_last in
+    let Wanted : (T × T) × List ℕ → Type 0 = λ f. IsTaken (SpellsPair Spells) text f in
     subst Wanted parts.pair (record {
       front = a.front ++ 58 ∷ b.front;
       whole = a.whole ∙ ap (λ v. a.front ++ 58 ∷ v) b.whole ∙ sym (append_assoc a.front (58 ∷ b.front) parts.last.1);

@@ -8,12 +8,13 @@ use Rattle.ic_laws.specs.Position.{letter_digit}
 use Rattle.ic_laws.specs.declared.reference.Position.{Position}
 use Rattle.ic_laws.specs.declared.reference.Position.TheVariants as at
 use Rattle.ic_laws.specs.declared.reference.RefPart.{RefPart}
-use Rattle.ic_refs.specs.A1.{SpellsColumn, SpellsRow, SpellsCell, dollar, read_position, column_at, row_at, cell_at}
-use Rattle.ic_refs.specs.Digits.{number_value}
-use Rattle.ic_refs.proofs.DigitLemmas.{read_stops}
-use Rattle.ic_refs.proofs.PositionLemmas.{Takes}
-use Rattle.ic_refs.proofs.KindLemmas.{digit_number, row_as_number, column_at-spelled, row_at-spelled, column_at-longest, row_at-longest, column_at-exact, row_at-exact}
-use Rattle.ic_refs.proofs.ReaderLemmas.{Reads, mapped, chained}
+use Rattle.ic_refs.specs.A1.{SpellsColumn, SpellsRow, SpellsCell, dollar_of, read_position, column_at, row_at, cell_at}
+use Rattle.ic_refs.specs.Digits.{digit_number, number_value}
+use Rattle.ic_refs.proofs.DigitsLemmas.{read_stops}
+use Rattle.ic_refs.proofs.LongestLemmas.{IsTaken}
+use Rattle.ic_refs.proofs.A1NumberLemmas.{row_as_number, column_at-spelled, row_at-spelled, column_at-longest, row_at-longest, column_at-exact, row_at-exact}
+use Rattle.ic_refs.proofs.A1PairLemmas.{mapped, chained}
+use Rattle.ic_refs.proofs.LongestLemmas.{Reads}
 
 pub column_reads : (column : ℤ) → Reads (SpellsColumn column) (column_at column) is_ascii_letter
 column_reads column = record { spelled = column_at-spelled column; longest = column_at-longest column; exact = column_at-exact column }
@@ -31,7 +32,7 @@ digits_no_letter [] rest a p = absurd (omega arith)
 digits_no_letter (c ∷ cs) rest a p = digit_no_letter c (and_parts (is_digit c) (list_all is_digit cs) a).0
 
 dollar_no_letter : (position : Position) (digits rest : List ℕ) → list_all is_digit digits ≡ true → 0 < number_value digit_number 10 0 digits
-    → first_is is_ascii_letter ((dollar position ++ digits) ++ rest) ≡ false
+    → first_is is_ascii_letter ((dollar_of position ++ digits) ++ rest) ≡ false
 dollar_no_letter (at.Abs n) digits rest a p = refl
 dollar_no_letter (at.Rel k) digits rest a p = digits_no_letter digits rest a p
 
@@ -42,7 +43,7 @@ row_no_letter row front rest position s =
 
 -- and so no column does
 dollar_no_column : (column : ℤ) (position : Position) (digits rest : List ℕ) → list_all is_digit digits ≡ true → 0 < number_value digit_number 10 0 digits
-    → column_at column ((dollar position ++ digits) ++ rest) ≡ None
+    → column_at column ((dollar_of position ++ digits) ++ rest) ≡ None
 dollar_no_column column (at.Abs n) digits rest a p =
     ap (read_position true column) (read_stops is_ascii_letter letter_digit 26 16384 0 (digits ++ rest) (digits_no_letter digits rest a p))
 dollar_no_column column (at.Rel k) [] rest a p = absurd (omega arith)
@@ -61,21 +62,21 @@ row_no_column row column front rest position s =
 abbrev pub cell_of : Position × List ℕ → Position × List ℕ → RefPart × List ℕ
 cell_of c r = (record { row = r.0; column = c.0 }, r.1)
 
-cell_read : (row column : ℤ) (text behind : List ℕ) (c : Position) (r : Position × List ℕ) → column_at column text ≡ Some (c, behind) → row_at row behind ≡ Some r
+cell_read : (row column : ℤ) (text beyond : List ℕ) (c : Position) (r : Position × List ℕ) → column_at column text ≡ Some (c, beyond) → row_at row beyond ≡ Some r
     → cell_at row column text ≡ Some (record { row = r.0; column = c }, r.1)
-cell_read row column text behind c r p q =
-    ap (λ o. option_and_then (λ (c : Position × List ℕ). option_map (cell_of c) (row_at row c.1)) o) p ∙ ap (option_map (cell_of (c, behind))) q
+cell_read row column text beyond c r p q =
+    ap (λ o. option_and_then (λ (c : Position × List ℕ). option_map (cell_of c) (row_at row c.1)) o) p ∙ ap (option_map (cell_of (c, beyond))) q
 
 pub cell_none : (row column : ℤ) (text : List ℕ) → column_at column text ≡ None → cell_at row column text ≡ None
 cell_none row column text p = ap (λ o. option_and_then (λ (c : Position × List ℕ). option_map (cell_of c) (row_at row c.1)) o) p
 
-cell_spelled : (row column : ℤ) (text : List ℕ) (found : RefPart × List ℕ) → cell_at row column text ≡ Some found → Takes (SpellsCell row column) text found
+cell_spelled : (row column : ℤ) (text : List ℕ) (found : RefPart × List ℕ) → cell_at row column text ≡ Some found → IsTaken (SpellsCell row column) text found
 cell_spelled row column text found e =
     let one = chained (λ (c : Position × List ℕ). option_map (cell_of c) (row_at row c.1)) (column_at column text) found e in
     let two = mapped (cell_of one.0) (row_at row one.0.1) found one.2 in
     let c = column_at-spelled column text one.0 one.1 in
     let r = row_at-spelled row one.0.1 two.0 two.1 in
-    let Wanted : RefPart × List ℕ → Type 0 = λ f. Takes (SpellsCell row column) text f in
+    let Wanted : RefPart × List ℕ → Type 0 = λ f. IsTaken (SpellsCell row column) text f in
     subst Wanted two.2 (record {
       front = c.front ++ r.front;
       whole = c.whole ∙ ap (λ v. c.front ++ v) r.whole ∙ sym (append_assoc c.front r.front two.0.1);

@@ -15,7 +15,7 @@ pub undoubled_step : (c : ℕ) (cs : List ℕ) → (c == 39) ≡ false → undou
 undoubled_step c [] h = refl
 undoubled_step c (d ∷ cs) h = rw h refl
 
--- what closes a name closes it behind a character too
+-- what closes a name closes it after a character too
 pub closes_plain : (left more closing : List ℕ) (c : ℕ) → left ≡ c ∷ more → c ≢ 39 → ClosesAt more closing → ClosesAt left closing
 closes_plain left more closing c e n h =
     let f : (c == 39) ≡ false = ne_eqb c 39 n in
@@ -30,23 +30,23 @@ closes_plain left more closing c e n h =
 pub none_plain : (left more : List ℕ) (c : ℕ) → left ≡ c ∷ more → c ≢ 39 → name_in_quotes more ≡ None → name_in_quotes left ≡ None
 none_plain left more c e n h = ap name_in_quotes e ∙ quoted_step c more (ne_eqb c 39 n) ∙ ap (onto_text c) h
 
--- and behind a quote that is doubled
-two_quotes : (left more behind : List ℕ) → left ≡ 39 ∷ more → more ≡ 39 ∷ behind → left ≡ 39 ∷ 39 ∷ behind
-two_quotes left more behind e f = e ∙ ap (λ t. 39 ∷ t) f
+-- and after a quote that is doubled
+two_quotes : (left more beyond : List ℕ) → left ≡ 39 ∷ more → more ≡ 39 ∷ beyond → left ≡ 39 ∷ 39 ∷ beyond
+two_quotes left more beyond e f = e ∙ ap (λ t. 39 ∷ t) f
 
-pub closes_doubled : (left more behind closing : List ℕ) → left ≡ 39 ∷ more → more ≡ 39 ∷ behind → ClosesAt behind closing → ClosesAt left closing
-closes_doubled left more behind closing e f h = record {
+pub closes_doubled : (left more beyond closing : List ℕ) → left ≡ 39 ∷ more → more ≡ 39 ∷ beyond → ClosesAt beyond closing → ClosesAt left closing
+closes_doubled left more beyond closing e f h = record {
   inside = 39 ∷ 39 ∷ h.inside;
   rest = h.rest;
-  whole = two_quotes left more behind e f ∙ ap (λ t. 39 ∷ 39 ∷ t) h.whole;
+  whole = two_quotes left more beyond e f ∙ ap (λ t. 39 ∷ 39 ∷ t) h.whole;
   quote = h.quote;
-  read = ap name_in_quotes (two_quotes left more behind e f) ∙ ap (onto_text 39) h.read;
+  read = ap name_in_quotes (two_quotes left more beyond e f) ∙ ap (onto_text 39) h.read;
 }
 
-pub none_doubled : (left more behind : List ℕ) → left ≡ 39 ∷ more → more ≡ 39 ∷ behind → name_in_quotes behind ≡ None → name_in_quotes left ≡ None
-none_doubled left more behind e f h = ap name_in_quotes (two_quotes left more behind e f) ∙ ap (onto_text 39) h
+pub none_doubled : (left more beyond : List ℕ) → left ≡ 39 ∷ more → more ≡ 39 ∷ beyond → name_in_quotes beyond ≡ None → name_in_quotes left ≡ None
+none_doubled left more beyond e f h = ap name_in_quotes (two_quotes left more beyond e f) ∙ ap (onto_text 39) h
 
--- a quote with no other behind it closes the name
+-- a quote with no other after it closes the name
 pub closed_here : (more : List ℕ) → first_is (λ c. c == 39) more ≡ false → name_in_quotes (39 ∷ more) ≡ Some ([], more)
 closed_here [] h = refl
 closed_here (d ∷ ds) h = rw h refl
