@@ -2,6 +2,8 @@
 //! the text of a tree. Reader and printer are written once, for every dialect.
 #![tactic(auto)]
 
+mod stored;
 mod token;
 
+pub use stored::Stored;
 pub use token::{Ahead, Token, TokenSource};
