@@ -1,3 +1,4 @@
+pub mod Printed
 pub mod Stored
 pub mod Tokens
 pub mod laws

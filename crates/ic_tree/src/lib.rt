@@ -2,8 +2,11 @@
 //! the text of a tree. Reader and printer are written once, for every dialect.
 #![tactic(auto)]
 
+mod constant;
+mod printer;
 mod stored;
 mod token;
 
+pub use printer::print;
 pub use stored::Stored;
 pub use token::{Ahead, Token, TokenSource};
