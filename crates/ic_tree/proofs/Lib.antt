@@ -1,1 +1,2 @@
+pub mod ErrorLemmas
 pub mod PrintLemmas

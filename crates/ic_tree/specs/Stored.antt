@@ -54,3 +54,14 @@ pub record SpeaksWell (l : Language) : Type 0 where
   pub functions : has_function_words l ≡ true
   pub errors : has_error_words l ≡ true
   pub errors_told : tells_errors [] l ≡ true
+
+-- one of these words is at the front of the text: what stands before the rest agrees with the word of this number, and
+-- with no earlier one
+pub record BeginsWithWord (words : List (List ℕ)) (text rest : List ℕ) (n : ℕ) : Type 0 where
+  pub front : List ℕ
+  pub split : text ≡ front ++ rest
+  pub found : first_agreeing words front ≡ Some n
+
+-- no front of the text agrees with one of these words
+abbrev pub BeginsWithNone : List (List ℕ) → List ℕ → Type 0
+BeginsWithNone words text = (front rest : List ℕ) → text ≡ front ++ rest → first_agreeing words front ≡ None

@@ -5,6 +5,7 @@ ghost use Rattle.ic_laws.specs.Token.{string_text};
 ghost use Rattle.ic_laws.specs.declared.dialect.WordKind.TheVariants as kinds;
 ghost use Rattle.ic_tree.specs.Printed.{all_between, constant_text, doubled, doubled_char, row_separator, row_text, separator_before};
 
+use crate::number::error_number;
 use ic_laws::scan::{first_char, push_char, push_text};
 use ic_laws::{Amount, Constant, Dialect, Error, Items, OutOfMemory, WordKind, amount_spelling};
 use std::alloc::Global;
@@ -84,13 +85,6 @@ pub fn push_boolean<D: Dialect>(d: &D, out: &mut String, value: bool) -> Result<
     ensures { OnOk result (chars (string_bytes out.new) ≡ chars (string_bytes out.old) ++ word_text (D.meaning d.now) kinds.Boolean (boolean_number value)) }
 {
     push_word(d, out, WordKind::Boolean, if value { 0 } else { 1 })
-}
-
-// The number of an error.
-fn error_number(error: Error) -> usize
-    ensures { result ≡ error_number error }
-{
-    error as usize
 }
 
 /// Appends an error.

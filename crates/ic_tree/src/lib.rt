@@ -3,6 +3,7 @@
 #![tactic(auto)]
 
 mod constant;
+mod number;
 mod printer;
 mod stored;
 mod token;

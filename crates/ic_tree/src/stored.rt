@@ -1,10 +1,14 @@
-ghost use Rattle.std.specs.Prelude.{◌≡◌, ◌&&◌, ◌≤ℤ◌, pos, nat_abs, option_map, chars, length};
+ghost use Rattle.std.specs.Prelude.{◌≡◌, ◌++◌, ◌≤ℤ◌, ℕ, List, pos, nat_abs, option_map, chars, encode_utf8_all, length, MatchOption};
 ghost use Rattle.std.specs.List.{slice_get};
+ghost use Rattle.ic_laws.specs.Dialect.{FindsErrorAt};
 ghost use Rattle.ic_laws.specs.Position.{is_part_within as part_within, is_place_within as place_within, is_within};
+ghost use Rattle.ic_laws.specs.Scan.{EndsWith};
 ghost use Rattle.ic_laws.specs.Tree.{is_written_sheet as written};
-ghost use Rattle.ic_tables.specs.Words.{words_of_errors};
-ghost use Rattle.ic_tree.specs.Stored.{SpeaksWell, first_agreeing, is_stored_spellable as spellable, words_of};
+ghost use Rattle.ic_tables.specs.Words.{error_words, words_of_errors};
+ghost use Rattle.ic_tree.specs.Stored.{BeginsWithNone, BeginsWithWord, SpeaksWell, first_agreeing, is_stored_spellable as spellable, stored_meaning, words_of};
 
+use crate::number::error_of;
+use ic_laws::scan::{first_char, front_of};
 use ic_laws::{
     Dialect, Error, LAST_COLUMN, LAST_ROW, OutOfMemory, Place, Position, RefPart, RefToken, Text,
     WordKind, agree,
@@ -140,6 +144,38 @@ fn find_in(l: &Language, kind: WordKind, text: &str) -> Option<usize>
     None
 }
 
+// The number of the error whose word is at the front of a text, and what stands after it.
+fn find_error_in<'t>(l: &Language, text: &'t str) -> Option<(usize, &'t str)>
+    ensures { MatchOption result (BeginsWithNone (error_words l.now) (chars text.now)) (λ p. BeginsWithWord (error_words l.now) (chars text.now) (chars p.1.now) p.0) }
+{
+    let mut rest = text;
+    'fronts: loop {
+        if let Some(number) = find_in(l, WordKind::Error, front_of(text, rest)) {
+            return Some((number, rest));
+        }
+        let (_, after) = first_char(rest)?;
+        rest = after;
+    }
+}
+
+// The error whose word begins at a byte, and how many bytes that word has.
+fn find_error_at(l: &Language, text: &str, at: usize) -> Option<(Error, usize)>
+    ensures { FindsErrorAt (stored_meaning l.now) text.now at result }
+{
+    let (_, front) = text.split_at_checked(at)?;
+    let (number, rest) = find_error_in(l, front)?;
+    let error = error_of(number)?;
+    Some((error, bytes_before(front, rest)))
+}
+
+// How many bytes stand before this rest of a text.
+fn bytes_before(text: &str, rest: &str) -> usize
+    requires { EndsWith (chars text.now) (chars rest.now) }
+    ensures { (front : List ℕ) → chars text.now ≡ front ++ chars rest.now → result ≡ length (encode_utf8_all front) }
+{
+    text.len() - rest.len()
+}
+
 impl<'t> Dialect for Stored<'t> {
     ghost use Rattle.ic_tree.specs.Stored.{stored_meaning};
     ghost use Rattle.ic_tree.specs.laws.StoredLaws.{stored_laws};
@@ -163,7 +199,7 @@ impl<'t> Dialect for Stored<'t> {
     }
 
     fn find_error(&self, text: &str, at: usize) -> Option<(Error, usize)> {
-        None
+        find_error_at(self.english, text, at)
     }
 
     fn let_fn(&self) -> usize {

@@ -54,7 +54,7 @@ no_longer (x ∷ word) (c ∷ f) rest after w e h s =
 pub no_less_behind : (word front rest after : List ℕ) → word ++ rest ≡ front ++ after → length front ≤ length word → length rest ≤ length after
 no_less_behind word front rest after h le = omega (arith, ap length h, length-append word rest, length-append front after)
 
-same_front : (word front rest after : List ℕ) → word ++ rest ≡ front ++ after → length front ≡ length word → front ≡ word
+pub same_front : (word front rest after : List ℕ) → word ++ rest ≡ front ++ after → length front ≡ length word → front ≡ word
 same_front [] [] rest after h e = refl
 same_front [] (c ∷ f) rest after h e = absurd (omega arith)
 same_front (x ∷ w) [] rest after h e = absurd (omega arith)

@@ -190,7 +190,7 @@ told_alone l others h =
 
 -- ---- what is found is a word
 
-found_below : (l : Language) (kind : WordKind) (text : List ℕ) (n : ℕ) → first_agreeing (words_of l kind) text ≡ Some n → n < length (words_of l kind)
+pub found_below : (l : Language) (kind : WordKind) (text : List ℕ) (n : ℕ) → first_agreeing (words_of l kind) text ≡ Some n → n < length (words_of l kind)
 found_below l kind text n e = let f = found_at (words_of l kind) text n e in slice_get_within (words_of l kind) n f.0 f.1
 
 pub found_is_word : (l : Language) (kind : WordKind) (text : List ℕ) (n : ℕ) → first_agreeing (words_of l kind) text ≡ Some n → IsSome (slice_get (words_of l kind) n)
