@@ -1,4 +1,5 @@
 mod BuilderLemmas
+pub mod CompareLemmas
 mod FoldLemmas
 mod Lookups
 mod SampleLemmas

@@ -8,6 +8,7 @@
 //! id, and an error exactly where there is none.
 #![tactic(auto)]
 
+mod compare;
 mod conditions;
 mod error;
 mod fold;
@@ -15,10 +16,12 @@ mod ids;
 mod language;
 mod locale;
 mod numbered;
+mod order;
 mod sample;
 mod tables;
 mod words;
 
+pub use compare::compare_folded;
 pub use error::{BookIdError, TablesError};
 pub use language::{Booleans, Errors, FunctionKind, Functions, Language};
 pub use locale::{
@@ -26,5 +29,6 @@ pub use locale::{
     NumbersProperties, NumbersSymbols, TimeFormats,
 };
 pub use numbered::{find_word, word};
+pub use order::WordOrder;
 pub use sample::sample_tables;
 pub use tables::Tables;
