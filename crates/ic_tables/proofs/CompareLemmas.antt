@@ -5,14 +5,14 @@ use Rattle.std.proofs.lemmas.Bool.Decides.{nat_tests}
 use Rattle.std.proofs.lemmas.List.{take_more, drop_more, take-append-drop, append_cancel_left}
 use Rattle.std.proofs.lemmas.Map.Text.{is_eq-slice_cmp}
 use Rattle.std.proofs.lemmas.Slice.Eq.{bytes_eq-Decides}
-use Rattle.std.proofs.lemmas.Cmp.{nat_list_cmp_total, tied_itself, nat_cmp_total}
+use Rattle.std.proofs.lemmas.Cmp.{tied_itself, nat_cmp_total}
 use Rattle.std.specs.Char.{to_ascii_lowercase}
 use Rattle.std.specs.Cmp.Lexicographic.{slice_cmp}
 use Rattle.std.specs.Ordering.{nat_cmp, ordering_then, is_eq}
 use Rattle.std.specs.declared.cmp.Ordering.{Ordering}
 use Rattle.std.specs.declared.cmp.Ordering.TheVariants.{Less, Equal, Greater}
 use Rattle.ucd_case.proofs.Computing.{ucd_case}
-use Rattle.ucd_case.specs.CaseFolding.{full_folding, full_fold, or_itself}
+use Rattle.ucd_case.specs.CaseFolding.{full_fold, or_itself}
 use Rattle.caseless.specs.Caseless.{default_case_fold}
 use Rattle.ic_laws.specs.Name.{fold}
 use Rattle.ic_tables.specs.Order.{ComparesBy, FoldsFront, FoldsNoFront}
@@ -60,8 +60,8 @@ pub compares_after : (front text rest : List ℕ) (i c : ℕ) (order : Ordering)
 compares_after front text rest i c order h e at k =
     record {
       compared = λ more.
-        ap₂ (slice_cmp nat_cmp) (ap (λ f. f ++ more) (sym (take-append-drop i front) ∙ ap (λ l. take i front ++ l) (drop_more front i c h ∙ ap (λ x. x ∷ drop (i + 1) front) (sym at))) ∙ append_assoc (take i front) _ more) e
-        ∙ same_front (take i front) _ rest ∙ k.compared (drop (i + 1) front ++ more);
+          ap₂ (slice_cmp nat_cmp) (ap (λ f. f ++ more) (sym (take-append-drop i front) ∙ ap (λ l. take i front ++ l) (drop_more front i c h ∙ ap (λ x. x ∷ drop (i + 1) front) (sym at))) ∙ append_assoc (take i front) _ more) e
+          ∙ same_front (take i front) _ rest ∙ k.compared (drop (i + 1) front ++ more);
       apart = k.apart;
     }
 

@@ -2,6 +2,7 @@ mod BuilderLemmas
 pub mod CompareLemmas
 mod FoldLemmas
 mod Lookups
+pub mod OrderLemmas
 mod SampleLemmas
 pub mod WellFormed
 pub mod WordLemmas

@@ -1,29 +1,17 @@
 -- Words in the order of their foldings, by which a word is found without going through all of them.
-use Rattle.std.specs.Prelude.{◌≡◌, ℕ, ◌+◌, suc, List, [], ◌∷◌, ◌++◌, Bool, true, false, not, ◌&&◌, Option, Some, None, option_map, bytes_eq, if◌then◌else◌}
+use Rattle.std.specs.Prelude.{◌≡◌, ℕ, ◌+◌, List, [], ◌∷◌, ◌++◌, Bool, true, false, not, ◌&&◌, Option, Some, None, bytes_eq, if◌then◌else◌}
 use Rattle.std.specs.Cmp.Lexicographic.{slice_cmp}
 use Rattle.std.specs.List.{list_all}
 use Rattle.std.specs.Ordering.{nat_cmp, is_eq, is_lt}
 use Rattle.std.specs.declared.cmp.Ordering.{Ordering}
 use Rattle.ic_laws.specs.Name.{agrees, fold}
-use Rattle.ic_laws.specs.declared.dialect.WordKind.{WordKind}
 use Rattle.ic_laws.specs.declared.dialect.WordKind.TheVariants as kinds
-use Rattle.ic_tables.specs.Words.{boolean_words, error_words}
+use Rattle.ic_tables.specs.Words.{first_agreeing, words_of}
 use Rattle.ic_tables.specs.declared.language.Language.{Language}
 use Rattle.ic_tables.specs.declared.order.WordEntry.{WordEntry}
 use Rattle.ic_tables.specs.declared.order.WordOrder.{WordOrder}
 
--- the words of a kind, in their order
-abbrev pub words_of : Language → WordKind → List (List ℕ)
-words_of l kinds.Boolean = boolean_words l
-words_of l kinds.Error = error_words l
-words_of l kinds.Function = l.functions.words
-
--- the number of the first of these words that agrees with a text
-abbrev pub first_agreeing : List (List ℕ) → List ℕ → Option ℕ
-first_agreeing [] text = None
-first_agreeing (w ∷ ws) text = if agrees w text then Some 0 else option_map (λ n. suc n) (first_agreeing ws text)
-
--- the same, where the first word has this number
+-- the number of the first of these words that agrees with a text, where the first word has this number
 abbrev pub agreeing_from : ℕ → List (List ℕ) → List ℕ → Option ℕ
 agreeing_from n [] text = None
 agreeing_from n (w ∷ ws) text = if agrees w text then Some n else agreeing_from (n + 1) ws text
@@ -79,12 +67,12 @@ pub record FoldsFront (folded text rest : List ℕ) : Type 0 where
 abbrev pub FoldsNoFront : List ℕ → List ℕ → Type 0
 FoldsNoFront folded text = (front rest : List ℕ) → text ≡ front ++ rest → bytes_eq (fold front) folded ≡ false
 
--- a text begins with the word of this number, and the rest stands after it
-pub record BeginsWithWord (words : List (List ℕ)) (text rest : List ℕ) (n : ℕ) : Type 0 where
+-- a text begins with what is found as this number, and the rest stands after it
+pub record BeginsWithFound (find : List ℕ → Option ℕ) (text rest : List ℕ) (n : ℕ) : Type 0 where
   pub front : List ℕ
   pub split : text ≡ front ++ rest
-  pub found : first_agreeing words front ≡ Some n
+  pub found : find front ≡ Some n
 
--- no front of a text agrees with one of these words
-abbrev pub BeginsWithNone : List (List ℕ) → List ℕ → Type 0
-BeginsWithNone words text = (front rest : List ℕ) → text ≡ front ++ rest → first_agreeing words front ≡ None
+-- no front of a text is found
+abbrev pub BeginsWithNone : (List ℕ → Option ℕ) → List ℕ → Type 0
+BeginsWithNone find text = (front rest : List ℕ) → text ≡ front ++ rest → find front ≡ None

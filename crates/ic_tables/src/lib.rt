@@ -19,6 +19,7 @@ mod numbered;
 mod order;
 mod sample;
 mod tables;
+mod vocabulary;
 mod words;
 
 pub use compare::compare_folded;
@@ -32,3 +33,4 @@ pub use numbered::{find_word, word};
 pub use order::WordOrder;
 pub use sample::sample_tables;
 pub use tables::Tables;
+pub use vocabulary::Words;
