@@ -1,6 +1,6 @@
 -- The canonical text of a tree is that of its top level, with the texts of what is below it in their places.
 use mathlib.Core.Path.{fun_ext}
-use Rattle.std.proofs.Common.{◌≡◌, ℕ, zero, suc, ◌+◌, ◌<◌, List, [], ◌∷◌, ◌++◌, Bool, true, false, codes, nat_eq, append_assoc, flat_map, map, refl, sym, ap, ap₂, ◌∙◌, arith, inl, inr, length, get_or, drop, subst, Result, OnOk}
+use Rattle.std.proofs.Common.{◌≡◌, ℕ, suc, ◌+◌, ◌<◌, List, [], ◌∷◌, ◌++◌, true, false, codes, nat_eq, append_assoc, map, refl, sym, ap, ap₂, ◌∙◌, arith, inl, inr, length, get_or, drop, subst, Result, OnOk}
 use Rattle.std.proofs.lemmas.Bool.{cases_Bool}
 use Rattle.std.proofs.lemmas.Grind.{flat_map-append}
 use Rattle.std.proofs.Math.Seq.{drop-cons}
@@ -10,7 +10,7 @@ use Rattle.ic_laws.specs.Dialect.{DialectMeaning, word_text}
 use Rattle.ic_laws.specs.declared.dialect.WordKind.TheVariants as kinds
 use Rattle.ic_laws.specs.Following.{spelled_out}
 use Rattle.ic_laws.specs.Parse.{Pair, SpelledKind, node}
-use Rattle.ic_laws.specs.Token.{Token, Close, CloseBrace, Hash, Open, OpenBrace, Operator, Percent, Separator, Word, token_text}
+use Rattle.ic_laws.specs.Token.{Token, Close, CloseBrace, Hash, Open, Operator, Percent, Separator, Word, token_text}
 use Rattle.ic_laws.specs.Tree.{Spelled}
 use Rattle.ic_laws.specs.Yield.{constant_tokens, joined, pair_parts, prefix_token, row_sign, row_tokens, yield}
 use Rattle.ic_laws.specs.declared.tree.Constant.{Constant}

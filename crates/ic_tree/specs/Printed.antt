@@ -1,5 +1,5 @@
 -- The canonical text of a tree, level by level: what a level writes around the texts of what is below it.
-use Rattle.std.specs.Prelude.{◌≡◌, ℕ, zero, suc, ◌+◌, List, [], ◌∷◌, ◌++◌, Bool, true, false, ◌==◌, codes, flat_map, nat_eq, if◌then◌else◌}
+use Rattle.std.specs.Prelude.{ℕ, zero, suc, ◌+◌, List, [], ◌∷◌, ◌++◌, true, false, ◌==◌, codes, flat_map, nat_eq, if◌then◌else◌}
 use Rattle.ic_laws.specs.Amount.{amount_text}
 use Rattle.ic_laws.specs.Character.{at_sign, comma, double_quote, minus, semicolon}
 use Rattle.ic_laws.specs.Dialect.{DialectMeaning, boolean_number, error_number, reference_text, word_text}

@@ -1,29 +1,15 @@
 -- What the stored form means: English words, `,` and `.`, and references by distances.
-use Rattle.std.specs.Prelude.{◌≡◌, ℕ, ℤ, suc, List, [], ◌∷◌, ◌++◌, ◌⊎◌, Bool, true, ◌&&◌, length, Option, Some, None, option_map, if◌then◌else◌}
+use Rattle.std.specs.Prelude.{◌≡◌, [], Bool, true, ◌&&◌, length}
 use Rattle.std.specs.List.{slice_get}
-use Rattle.ic_laws.specs.Name.{agrees}
 use Rattle.ic_laws.specs.Character.{comma, dot}
 use Rattle.ic_laws.specs.Dialect.{DialectMeaning}
 use Rattle.ic_laws.specs.Position.{is_place_within}
 use Rattle.ic_laws.specs.Tree.{is_written_sheet}
-use Rattle.ic_laws.specs.declared.dialect.WordKind.{WordKind}
-use Rattle.ic_laws.specs.declared.dialect.WordKind.TheVariants as kinds
 use Rattle.ic_laws.specs.declared.reference.RefToken.{RefToken}
 use Rattle.ic_refs.specs.Sheet.{reference_at}
 use Rattle.ic_refs.specs.Stored.{stored_place_at, stored_text}
-use Rattle.ic_tables.specs.Words.{boolean_words, error_words, has_boolean_words, has_error_words, has_function_words, numbers_functions, tells_booleans, tells_errors}
+use Rattle.ic_tables.specs.Words.{first_agreeing, has_boolean_words, has_error_words, has_function_words, numbers_functions, tells_booleans, tells_errors, words_of}
 use Rattle.ic_tables.specs.declared.language.Language.{Language}
-
--- the words of a kind, in their order
-abbrev pub words_of : Language → WordKind → List (List ℕ)
-words_of l kinds.Boolean = boolean_words l
-words_of l kinds.Error = error_words l
-words_of l kinds.Function = l.functions.words
-
--- the number of the first of these words that agrees with a text
-abbrev pub first_agreeing : List (List ℕ) → List ℕ → Option ℕ
-first_agreeing [] text = None
-first_agreeing (w ∷ ws) text = if agrees w text then Some 0 else option_map (λ n. suc n) (first_agreeing ws text)
 
 -- a reference can be written in the stored form: within the limits of the form, and with a name that a sheet may have,
 -- if it has one
@@ -54,14 +40,3 @@ pub record SpeaksWell (l : Language) : Type 0 where
   pub functions : has_function_words l ≡ true
   pub errors : has_error_words l ≡ true
   pub errors_told : tells_errors [] l ≡ true
-
--- one of these words is at the front of the text: what stands before the rest agrees with the word of this number, and
--- with no earlier one
-pub record BeginsWithWord (words : List (List ℕ)) (text rest : List ℕ) (n : ℕ) : Type 0 where
-  pub front : List ℕ
-  pub split : text ≡ front ++ rest
-  pub found : first_agreeing words front ≡ Some n
-
--- no front of the text agrees with one of these words
-abbrev pub BeginsWithNone : List (List ℕ) → List ℕ → Type 0
-BeginsWithNone words text = (front rest : List ℕ) → text ≡ front ++ rest → first_agreeing words front ≡ None

@@ -1,20 +1,21 @@
-ghost use Rattle.std.specs.Prelude.{◌≡◌, ◌++◌, ◌≤ℤ◌, ℕ, List, pos, nat_abs, option_map, chars, encode_utf8_all, length, MatchOption};
-ghost use Rattle.std.specs.List.{slice_get};
+ghost use Rattle.std.specs.Prelude.{◌≡◌, ◌++◌, ◌≤ℤ◌, ℕ, List, pos, nat_abs, chars, encode_utf8_all, length, MatchOption};
 ghost use Rattle.ic_laws.specs.Dialect.{FindsErrorAt};
 ghost use Rattle.ic_laws.specs.Position.{is_part_within as part_within, is_place_within as place_within, is_within};
 ghost use Rattle.ic_laws.specs.Scan.{EndsWith};
 ghost use Rattle.ic_laws.specs.Tree.{is_written_sheet as written};
-ghost use Rattle.ic_tables.specs.Words.{error_words, words_of_errors};
-ghost use Rattle.ic_tree.specs.Stored.{BeginsWithNone, BeginsWithWord, SpeaksWell, first_agreeing, is_stored_spellable as spellable, stored_meaning, words_of};
+ghost use Rattle.ic_laws.specs.declared.dialect.WordKind.TheVariants as kinds;
+ghost use Rattle.ic_tables.specs.Order.{BeginsWithFound, BeginsWithNone};
+ghost use Rattle.ic_tables.specs.Words.{first_agreeing, words_of};
+ghost use Rattle.ic_tree.specs.Stored.{SpeaksWell, is_stored_spellable as spellable, stored_meaning};
 
 use crate::number::error_of;
 use ic_laws::scan::{first_char, front_of};
 use ic_laws::{
     Dialect, Error, LAST_COLUMN, LAST_ROW, OutOfMemory, Place, Position, RefPart, RefToken, Text,
-    WordKind, agree,
+    WordKind,
 };
 use ic_refs::{is_valid_sheet_name, read_rc, spell_rc};
-use ic_tables::{Errors, Language, Tables};
+use ic_tables::{Language, Tables, find_word, word};
 use std::alloc::Global;
 
 /// The stored form of formulas: English words, `,` between arguments, `.` before decimals, and references with rows and
@@ -26,35 +27,19 @@ pub struct Stored<'t> {
 }
 
 impl<'t> Stored<'t> {
+    ghost use Rattle.std.specs.Prelude.{◌≡◌, Some, codes, option_map};
+    ghost use Rattle.ic_tables.specs.Tables.{language_of};
+    ghost use Rattle.ic_tree.specs.Stored.{stored_meaning};
+
     /// The stored form with the English of these tables.
     #[tactic(auto, using(crate::specs::laws::StoredLaws::speaks_well))]
-    pub fn new(tables: &'t Tables) -> Stored<'t> {
+    pub fn new(tables: &'t Tables) -> Stored<'t>
+        ensures { option_map stored_meaning (language_of tables.now (codes "en")) ≡ Some (⟦<Stored<'t> as Dialect>⟧.meaning result) }
+    {
         Stored {
             english: tables.get_default_language(),
         }
     }
-}
-
-// The word of an error by its number.
-fn error_word(words: &Errors, n: usize) -> Option<&str>
-    ensures { option_map (λ w. chars w.now) result ≡ slice_get (words_of_errors words.now) n }
-{
-    let word = match n {
-        0 => &words.ref_word,
-        1 => &words.name,
-        2 => &words.value,
-        3 => &words.div,
-        4 => &words.na,
-        5 => &words.num,
-        6 => &words.nimpl,
-        7 => &words.spill,
-        8 => &words.calc,
-        9 => &words.circ,
-        10 => &words.error,
-        11 => &words.null,
-        _ => return None,
-    };
-    Some(word.as_str())
 }
 
 // Whether a row or a column is within a sheet of this length: by its number, or by its distance.
@@ -100,60 +85,19 @@ fn is_stored_spellable(r: &RefToken) -> bool
     is_place_within(r.place) && is_written_sheet(&r.sheet)
 }
 
-// How many words of a kind there are.
-fn word_count(l: &Language, kind: WordKind) -> usize
-    ensures { result ≡ length (words_of l.now kind) }
-{
-    match kind {
-        WordKind::Boolean => 2,
-        WordKind::Error => 12,
-        WordKind::Function => l.functions.words.as_slice().len(),
-    }
-}
-
-// The word of a kind by its number.
-fn word_of(l: &Language, kind: WordKind, n: usize) -> Option<&str>
-    ensures { option_map (λ w. chars w.now) result ≡ slice_get (words_of l.now kind) n }
-{
-    match kind {
-        WordKind::Boolean => match n {
-            0 => Some(l.booleans.true_word.as_str()),
-            1 => Some(l.booleans.false_word.as_str()),
-            _ => None,
-        },
-        WordKind::Error => error_word(&l.errors, n),
-        WordKind::Function => Some(l.functions.words.as_slice().get(n)?.as_str()),
-    }
-}
-
-// The number of the first word of a kind that agrees with a text.
-#[tactic(auto, using(crate::specs::laws::WordLaws::left_here, crate::specs::laws::WordLaws::left_later, crate::specs::laws::WordLaws::left_none, crate::specs::laws::WordLaws::left_end, crate::specs::laws::WordLaws::left_all))]
-fn find_in(l: &Language, kind: WordKind, text: &str) -> Option<usize>
-    ensures { result ≡ first_agreeing (words_of l.now kind) (chars text.now) }
-{
-    for n in 0..word_count(l, kind) {
-        match word_of(l, kind, n) {
-            None => return None,
-            Some(word) => {
-                if agree(word, text) {
-                    return Some(n);
-                }
-            }
-        }
-    }
-    None
-}
-
 // The number of the error whose word is at the front of a text, and what stands after it.
 fn find_error_in<'t>(l: &Language, text: &'t str) -> Option<(usize, &'t str)>
-    ensures { MatchOption result (BeginsWithNone (error_words l.now) (chars text.now)) (λ p. BeginsWithWord (error_words l.now) (chars text.now) (chars p.1.now) p.0) }
+    ensures { MatchOption result (BeginsWithNone (first_agreeing (words_of l.now kinds.Error)) (chars text.now))
+        (λ p. BeginsWithFound (first_agreeing (words_of l.now kinds.Error)) (chars text.now) (chars p.1.now) p.0) }
 {
     let mut rest = text;
     'fronts: loop {
-        if let Some(number) = find_in(l, WordKind::Error, front_of(text, rest)) {
+        if let Some(number) = find_word(l, WordKind::Error, front_of(text, rest)) {
             return Some((number, rest));
         }
-        let (_, after) = first_char(rest)?;
+        let Some((_, after)) = first_char(rest) else {
+            return None;
+        };
         rest = after;
     }
 }
@@ -162,9 +106,15 @@ fn find_error_in<'t>(l: &Language, text: &'t str) -> Option<(usize, &'t str)>
 fn find_error_at(l: &Language, text: &str, at: usize) -> Option<(Error, usize)>
     ensures { FindsErrorAt (stored_meaning l.now) text.now at result }
 {
-    let (_, front) = text.split_at_checked(at)?;
-    let (number, rest) = find_error_in(l, front)?;
-    let error = error_of(number)?;
+    let Some((_, front)) = text.split_at_checked(at) else {
+        return None;
+    };
+    let Some((number, rest)) = find_error_in(l, front) else {
+        return None;
+    };
+    let Some(error) = error_of(number) else {
+        return None;
+    };
     Some((error, bytes_before(front, rest)))
 }
 
@@ -191,11 +141,11 @@ impl<'t> Dialect for Stored<'t> {
     }
 
     fn word(&self, kind: WordKind, n: usize) -> Option<&str> {
-        word_of(self.english, kind, n)
+        word(self.english, kind, n)
     }
 
     fn find(&self, kind: WordKind, text: &str) -> Option<usize> {
-        find_in(self.english, kind, text)
+        find_word(self.english, kind, text)
     }
 
     fn find_error(&self, text: &str, at: usize) -> Option<(Error, usize)> {

@@ -1,18 +1,8 @@
 -- What a run of word characters before an end can have in common with a reference.
-use Rattle.std.proofs.Common.{◌≡◌, ◌≢◌, ℕ, ℤ, pos, ◌+◌, ◌<◌, ◌≤◌, List, [], ◌∷◌, ◌++◌, Bool, true, false, not, ◌&&◌, ◌||◌, ◌==◌, ◌⊎◌, length, length-append, append_assoc, Option, Some, None, refl, sym, subst, ◌∙◌, ap, inl, inr, arith, eqb, suc}
-use Rattle.std.specs.List.{list_all, list_any}
-use Rattle.std.specs.Str.{all_ascii_digits}
-use Rattle.std.proofs.lemmas.Bool.{and_parts, and_left, and_from, or_parts, or_left, or_right, cases_Bool, both_ways, eqb-true}
-use Rattle.std.proofs.lemmas.Bool.Decides.{nat_tests}
-use Rattle.ucd_derived.proofs.Computing.{ucd_derived}
-use Rattle.ic_laws.specs.Scan.{IsEnd, first_is, is_digit, is_letter, is_plain, is_word_character, joins, past_run, run_of}
-use Rattle.ic_laws.specs.Name.{has_row_column_form, is_c, is_lone, is_numbered, is_r}
-use Rattle.ic_laws.specs.declared.reference.Position.{Position}
-use Rattle.ic_laws.specs.declared.reference.Position.TheVariants as at
-use Rattle.ic_laws.specs.declared.reference.RefPart.{RefPart}
-use Rattle.ic_laws.specs.declared.reference.Place.{Place}
-use Rattle.ic_laws.specs.declared.reference.Place.TheVariants as places
-use Rattle.ic_refs.specs.Stored.{SpellsNumber, SpellsPosition, SpellsCell, SpellsPlace}
+use Rattle.std.proofs.Common.{◌≡◌, ◌≢◌, ℕ, ◌<◌, ◌≤◌, List, [], ◌∷◌, ◌++◌, Bool, true, false, ◌||◌, ◌⊎◌, length, length-append, refl, sym, subst, ◌∙◌, ap, inl, inr, arith, eqb}
+use Rattle.std.specs.List.{list_all}
+use Rattle.std.proofs.lemmas.Bool.{and_parts, or_left, cases_Bool, both_ways}
+use Rattle.ic_laws.specs.Scan.{IsEnd, first_is, is_word_character, joins, past_run}
 
 -- what stands behind a run of word characters is nothing, or goes on with a word or a reference
 abbrev pub Stops : List ℕ → Type 0

@@ -1,18 +1,17 @@
 -- Signs and blanks fold to themselves and no other character folds to them.
-use Rattle.std.proofs.Common.{◌≡◌, ℕ, Bool, true, false, not, ◌&&◌, ◌||◌, ◌==◌, nat_lt, List, [], ◌∷◌, ◌++◌, append_assoc, refl, sym, ap, ap₂, ◌∙◌, codes, inl, inr}
+use Rattle.std.proofs.Common.{◌≡◌, ℕ, Bool, true, false, not, ◌&&◌, ◌||◌, List, [], ◌∷◌, ◌++◌, append_assoc, refl, sym, ap, ◌∙◌, inl, inr}
 use Rattle.std.proofs.lemmas.Bool.{and_parts, cases_Bool, both_ways}
-use Rattle.std.specs.List.{list_all, list_any}
 use Rattle.ucd_table.proofs.Computing.{tables}
 use Rattle.ucd_table.proofs.RangedFacts.{points_ok, Stepped-at_points}
 use Rattle.ucd_case.specs.CaseFolding.{full_folding, full_fold, or_itself}
 use Rattle.ucd_case.proofs.CaseFoldingLemmas.{full_folding_stepped}
 use Rattle.caseless.specs.Caseless.{default_case_fold}
-use Rattle.ic_laws.specs.Name.{fold, Agree}
-use Rattle.ic_laws.specs.Scan.{first_is}
-use Rattle.ic_tables.specs.Words.{ends_error_word}
+use Rattle.ic_laws.specs.Name.{fold}
+use Rattle.ic_laws.specs.Scan.{first_is, is_blank}
+use Rattle.ic_laws.specs.Dialect.{is_sign}
 
 abbrev pub is_mark : ℕ → Bool
-is_mark c = ends_error_word c
+is_mark c = is_sign c || is_blank c
 
 abbrev is_empty : List ℕ → Bool
 is_empty [] = true

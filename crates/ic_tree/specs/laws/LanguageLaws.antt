@@ -1,19 +1,19 @@
 -- The laws of words, for any notation whose words are those of a language.
-use Rattle.std.proofs.Common.{◌≡◌, ◌≢◌, ℕ, zero, suc, ◌+◌, ◌<◌, ◌≤◌, List, [], ◌∷◌, ◌++◌, Bool, true, false, not, ◌&&◌, ◌||◌, ◌==◌, nat_lt, codes, length, map, Option, Some, None, IsSome, refl, sym, subst, ◌∙◌, ap, ap₂, ◌⊎◌, inl, inr, arith, eqb, bytes_eq}
+use Rattle.std.proofs.Common.{◌≡◌, ◌≢◌, ℕ, zero, suc, ◌<◌, List, [], ◌∷◌, ◌++◌, Bool, true, false, not, ◌&&◌, ◌||◌, ◌==◌, nat_lt, length, map, Some, IsSome, refl, sym, subst, ◌∙◌, ap, arith}
 use Rattle.std.specs.List.{list_all, list_any, slice_get}
-use Rattle.std.proofs.lemmas.Bool.{and_parts, and_from, or_parts, or_from, or_left, or_right, cases_Bool, both_ways, eqb-true, not-true, not-false}
+use Rattle.std.proofs.lemmas.Bool.{and_parts, and_from, or_parts, or_from, both_ways, eqb-true, not-true}
 use Rattle.std.proofs.lemmas.Bool.Decides.{nat_tests}
 use Rattle.std.proofs.lemmas.Option.{slice_get_within}
 use Rattle.ic_laws.specs.Name.{Agree, agrees, fold, is_variable_form}
-use Rattle.ic_laws.specs.Scan.{first_is, is_blank}
+use Rattle.ic_laws.specs.Scan.{is_blank}
 use Rattle.ic_laws.specs.Dialect.{has_error_shape, has_function_shape, is_sign}
 use Rattle.ic_laws.specs.declared.dialect.WordKind.{WordKind}
 use Rattle.ic_laws.specs.declared.dialect.WordKind.TheVariants as kinds
-use Rattle.ic_tables.specs.Words.{boolean_words, differ, ends_error_word, error_words, has_boolean_words, has_error_words, has_function_words, is_error_word, is_function_word, is_prefix_free, is_proper_prefix, named_numbers, no_two_agree, numbers_functions, tells_booleans, tells_errors}
+use Rattle.ic_tables.specs.Words.{boolean_words, differ, error_words, has_boolean_words, has_error_words, has_function_words, is_prefix_free, is_proper_prefix, named_numbers, no_two_agree, numbers_functions, tells_booleans, tells_errors, first_agreeing, words_of}
 use Rattle.ic_tables.specs.declared.language.Language.{Language}
-use Rattle.ic_tree.specs.Stored.{SpeaksWell, first_agreeing, words_of}
-use Rattle.ic_tree.specs.laws.WordLaws.{AgreesWithOne, agrees_behind, found_at, finds, finds_alike, not_prefix, passes_at, proper_prefix}
-use Rattle.ic_tree.specs.laws.FoldMarks.{fold_append, fold_empty, second_no_mark}
+use Rattle.ic_tree.specs.Stored.{SpeaksWell}
+use Rattle.ic_tables.proofs.WordLemmas.{AgreesWithOne, agrees_after, found_at, finds, finds_alike, not_prefix, passes_at, proper_prefix}
+use Rattle.ic_tree.specs.laws.FoldMarks.{is_mark, fold_append, fold_empty, second_no_mark}
 
 some_at : {X : Type 0} (xs : List X) (n : ℕ) → n < length xs → IsSome (slice_get xs n)
 some_at [] n h = absurd (omega arith)
@@ -72,8 +72,8 @@ no_two l kinds.Boolean w =
     apart : (b : Bool) → not b ≡ true → not (b || false) ≡ true
     apart true h = h
     apart false h = refl
-no_two l kinds.Error w = (and_parts (list_all is_error_word (error_words l)) (no_two_agree (error_words l)) w.errors).1
-no_two l kinds.Function w = (and_parts (list_all is_function_word l.functions.words) (no_two_agree l.functions.words) w.functions).1
+no_two l kinds.Error w = (and_parts (list_all has_error_shape (error_words l)) (no_two_agree (error_words l)) w.errors).1
+no_two l kinds.Function w = (and_parts (list_all has_function_shape l.functions.words) (no_two_agree l.functions.words) w.functions).1
 
 pub law_finds_word : (l : Language) → SpeaksWell l → (kind : WordKind) (n : ℕ) (word : List ℕ) → slice_get (words_of l kind) n ≡ Some word → first_agreeing (words_of l kind) word ≡ Some n
 law_finds_word l w kind n word e = finds (words_of l kind) n word (no_two l kind w) e
@@ -86,48 +86,30 @@ unfolding has_boolean_words
 law_boolean_shape l w n word e = passes_at is_variable_form (boolean_words l) n word w.booleans e
 
 pub law_function_shape : (l : Language) → SpeaksWell l → (n : ℕ) (word : List ℕ) → slice_get (words_of l kinds.Function) n ≡ Some word → has_function_shape word ≡ true
-unfolding has_function_words is_function_word
+unfolding has_function_words
 law_function_shape l w n word e =
-    passes_at is_function_word l.functions.words n word (and_parts (list_all is_function_word l.functions.words) (no_two_agree l.functions.words) w.functions).0 e
+    passes_at has_function_shape l.functions.words n word (and_parts (list_all has_function_shape l.functions.words) (no_two_agree l.functions.words) w.functions).0 e
 
 -- a word of an error by its first two characters
-error_parts : (word : List ℕ) → is_error_word word ≡ true → (d : ℕ) × (ds : List ℕ) × (word ≡ 35 ∷ d ∷ ds) × (ends_error_word d ≡ false)
-unfolding is_error_word
+error_parts : (word : List ℕ) → has_error_shape word ≡ true → (d : ℕ) × (ds : List ℕ) × (word ≡ 35 ∷ d ∷ ds) × (is_mark d ≡ false)
 error_parts [] h = absurd (cc)
-error_parts (c ∷ []) h = absurd (both_ways false refl (and_parts (c == 35) false h).1)
+error_parts (c ∷ []) h = absurd (cc)
 error_parts (c ∷ d ∷ ds) h =
-    let p = and_parts (c == 35) (not (ends_error_word d)) h in (d, ds, ap (λ x. x ∷ d ∷ ds) (eqb-true c 35 p.0), not-true _ p.1)
+    let p = and_parts (c == 35 && not (is_sign d)) (not (is_blank d)) h in
+    let q = and_parts (c == 35) (not (is_sign d)) p.0 in
+    (d, ds, ap (λ x. x ∷ d ∷ ds) (eqb-true c 35 q.0), or_from (is_sign d) (is_blank d) (not-true _ q.1) (not-true _ p.1))
 
-none_before : (p : ℕ → Bool) (c : ℕ) (xs ys : List ℕ) → list_any (λ x. c == x) (xs ++ ys) ≡ false → (list_any (λ x. c == x) xs ≡ false) × (list_any (λ x. c == x) ys ≡ false)
-none_before p c [] ys h = (refl, h)
-none_before p c (x ∷ xs) ys h =
-    let q = or_parts (c == x) (list_any (λ x. c == x) (xs ++ ys)) h in
-    let r = none_before p c xs ys q.1 in
-    (or_from (c == x) (list_any (λ x. c == x) xs) q.0 r.0, r.1)
-
--- what ends no such word is no sign and no blank
-no_sign : (c : ℕ) → ends_error_word c ≡ false → (is_sign c ≡ false) × (is_blank c ≡ false)
-no_sign c h =
-    let p = none_before is_sign c (codes "+-*/^&=<>%#@,;.(){}\"'") (codes " \t\n\r") h in (p.0, blank c p.1)
-  where
-    blank : (c : ℕ) → list_any (λ x. c == x) (codes " \t\n\r") ≡ false → is_blank c ≡ false
-    blank c h =
-        let a = or_parts (c == 32) (c == 9 || (c == 10 || (c == 13 || false))) h in
-        let b = or_parts (c == 9) (c == 10 || (c == 13 || false)) a.1 in
-        let d = or_parts (c == 10) (c == 13 || false) b.1 in
-        or_from (c == 32 || c == 9 || c == 10) (c == 13) (or_from (c == 32 || c == 9) (c == 10) (or_from (c == 32) (c == 9) a.0 b.0) d.0) (or_parts (c == 13) false d.1).0
-
-shape_of : (c : ℕ) (cs : List ℕ) → ends_error_word c ≡ false → has_error_shape (35 ∷ c ∷ cs) ≡ true
+shape_of : (c : ℕ) (cs : List ℕ) → is_mark c ≡ false → has_error_shape (35 ∷ c ∷ cs) ≡ true
 shape_of c cs h =
-    let p = no_sign c h in
+    let p = or_parts (is_sign c) (is_blank c) h in
     and_from (35 == 35 && not (is_sign c)) (not (is_blank c)) (and_from (35 == 35) (not (is_sign c)) refl (ap not p.0)) (ap not p.1)
 
 pub error_shape_of : (l : Language) → has_error_words l ≡ true → (text : List ℕ) (n : ℕ) → first_agreeing (error_words l) text ≡ Some n → has_error_shape text ≡ true
 unfolding has_error_words
 error_shape_of l h text n e =
     let f = found_at (error_words l) text n e in
-    let good = (and_parts (list_all is_error_word (error_words l)) (no_two_agree (error_words l)) h).0 in
-    let p = error_parts f.0 (passes_at is_error_word (error_words l) n f.0 good f.1) in
+    let good = (and_parts (list_all has_error_shape (error_words l)) (no_two_agree (error_words l)) h).0 in
+    let p = error_parts f.0 (passes_at has_error_shape (error_words l) n f.0 good f.1) in
     let q = second_no_mark text p.1 35 p.0 refl p.3 (sym f.2 ∙ ap fold p.2) in
     ap has_error_shape q.2 ∙ shape_of q.0 q.1 q.3
 
@@ -148,7 +130,7 @@ errors_apart_of l others told text more f g =
 
 pub law_errors_apart : (l : Language) → SpeaksWell l → (text more : List ℕ) (m n : ℕ) → first_agreeing (words_of l kinds.Error) text ≡ Some m → first_agreeing (words_of l kinds.Error) (text ++ more) ≡ Some n → more ≡ []
 law_errors_apart l w text more m n e h =
-    errors_apart_of l [] w.errors_told text more (agrees_behind [] (error_words l) text m e) (agrees_behind [] (error_words l) (text ++ more) n h)
+    errors_apart_of l [] w.errors_told text more (agrees_after [] (error_words l) text m e) (agrees_after [] (error_words l) (text ++ more) n h)
 
 -- ---- the facts from those on tables
 

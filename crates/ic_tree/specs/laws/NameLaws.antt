@@ -1,20 +1,13 @@
 -- What variables, words of functions and amounts look like: shared by every dialect.
-use Rattle.std.proofs.Common.{◌≡◌, ◌≢◌, ℕ, suc, ◌+◌, ◌<◌, ◌≤◌, ◌/◌, ◌^◌, List, [], ◌∷◌, ◌++◌, Bool, true, false, not, ◌&&◌, ◌||◌, ◌==◌, length, append_assoc, Option, Some, None, IfSome, refl, sym, subst, ◌∙◌, ap, inl, inr, arith, eqb}
+use Rattle.std.proofs.Common.{◌≡◌, ℕ, ◌<◌, ◌/◌, ◌^◌, List, [], ◌∷◌, ◌++◌, true, false, not, ◌&&◌, ◌||◌, length, append_assoc, sym, subst, arith, eqb}
 use Rattle.std.specs.Fmt.{decimal}
 use Rattle.std.specs.Str.{all_ascii_digits}
-use Rattle.std.specs.List.{list_all, list_any, slice_get}
-use Rattle.std.proofs.lemmas.Bool.{and_parts, or_parts, or_left, or_right, or_from, cases_Bool, both_ways, eqb-true, or_cases, not-true}
+use Rattle.std.specs.List.{list_all}
+use Rattle.std.proofs.lemmas.Bool.{and_parts, or_left, not-true}
 use Rattle.std.proofs.lemmas.Fmt.{digits_decimal, decimal_nonempty}
-use Rattle.ucd_derived.proofs.Computing.{ucd_derived}
 use Rattle.ic_laws.specs.Amount.{units_of_one, unsigned_text}
-use Rattle.ic_laws.specs.Scan.{IsEnd, begins_word, first_is, is_digit, is_letter, is_word_character}
-use Rattle.ic_laws.specs.Name.{agrees, has_row_column_form, is_a1_cell, is_lone, is_sheet_name, is_variable, is_variable_form}
-use Rattle.ic_laws.specs.Dialect.{IsLawful, IsWordOrAmount, begins_reference}
-use Rattle.ic_laws.specs.Position.{is_place_within}
-use Rattle.ic_laws.specs.Tree.{is_written_sheet}
-use Rattle.ic_laws.specs.declared.dialect.WordKind.TheVariants as kinds
-use Rattle.ic_laws.specs.declared.reference.Place.{Place}
-use Rattle.ic_laws.specs.declared.reference.RefToken.{RefToken}
+use Rattle.ic_laws.specs.Scan.{begins_word, first_is, is_digit, is_letter, is_word_character}
+use Rattle.ic_laws.specs.Name.{agrees, has_row_column_form, is_a1_cell, is_lone, is_variable, is_variable_form}
 use Rattle.ic_laws.proofs.AmountLemmas.{numerals}
 
 pub letter_begins_word : (word : List ℕ) → first_is is_letter word ≡ true → first_is begins_word word ≡ true

@@ -1,21 +1,21 @@
 -- The laws of references, whatever spells and reads a place.
-use Rattle.std.proofs.Common.{◌≡◌, ◌≢◌, ℕ, suc, ◌+◌, ◌<◌, ◌≤◌, List, [], ◌∷◌, ◌++◌, Bool, true, false, not, ◌&&◌, ◌||◌, ◌==◌, ◌⊎◌, length, append_assoc, Option, Some, None, codes, option_map, option_and_then, nat_lt, nat_le, refl, sym, subst, ◌∙◌, ap, inl, inr, arith, eqb}
+use Rattle.std.proofs.Common.{◌≡◌, ◌≢◌, ℕ, ◌≤◌, List, [], ◌∷◌, ◌++◌, Bool, true, false, not, ◌&&◌, ◌||◌, ◌==◌, ◌⊎◌, length, Option, Some, None, codes, option_and_then, refl, sym, subst, ◌∙◌, ap, inl, inr, eqb}
 use Rattle.std.specs.List.{list_all, list_any}
-use Rattle.std.proofs.lemmas.Bool.{and_parts, or_parts, or_left, or_right, or_from, cases_Bool, both_ways, eqb-true, or_cases}
-use Rattle.std.proofs.lemmas.Bool.Decides.{nat_tests, eqb_tells}
+use Rattle.std.proofs.lemmas.Bool.{and_parts, or_parts, or_left, or_right, or_from, cases_Bool, both_ways, or_cases}
+use Rattle.std.proofs.lemmas.Bool.Decides.{eqb_tells}
 use Rattle.std.proofs.lemmas.Option.{none-some}
 use Rattle.ucd_derived.proofs.Computing.{ucd_derived}
 use Rattle.ic_laws.specs.Scan.{IsEnd, begins_word, first_is, is_digit, is_letter, is_plain, is_word_character, past_run, run_of}
-use Rattle.ic_laws.specs.Name.{in_quotes, is_a1_cell, is_forbidden, is_r1c1_cell, is_sheet_name, needs_quotes}
+use Rattle.ic_laws.specs.Name.{is_a1_cell, is_r1c1_cell, is_sheet_name, needs_quotes}
 use Rattle.ic_laws.specs.Dialect.{begins_reference}
 use Rattle.ic_laws.specs.declared.reference.Place.{Place}
 use Rattle.ic_laws.specs.declared.reference.RefToken.{RefToken}
 use Rattle.ic_refs.specs.Longest.{FindsLongest, IsLongest}
-use Rattle.ic_refs.specs.Sheet.{SpellsReference, SpellsSheet, before_bang, or_else, reference_at, sheet_at, with_sheet, written_name}
+use Rattle.ic_refs.specs.Sheet.{SpellsReference, SpellsSheet, before_bang, reference_at, sheet_at, with_sheet, written_name}
 use Rattle.ic_refs.proofs.ReferenceLemmas.{finds_reference}
 use Rattle.ic_refs.proofs.SheetLemmas.{no_sheet_without_bang}
 use Rattle.ic_refs.proofs.StoredTextLemmas.{end_plain, end_bang}
-use Rattle.ic_tree.specs.laws.EndLaws.{Stops, no_longer, no_less_behind}
+use Rattle.ic_tree.specs.laws.EndLaws.{Stops, no_longer}
 
 -- ---- where no sheet's name stands
 

@@ -1,34 +1,34 @@
 -- The stored form meets the laws of a notation.
-use Rattle.std.proofs.Common.{◌≡◌, ◌≢◌, ℕ, suc, ◌+◌, ◌<◌, ◌≤◌, ◌/◌, ◌^◌, List, [], ◌∷◌, ◌++◌, Bool, true, false, not, ◌&&◌, ◌||◌, ◌==◌, length, append_assoc, Option, Some, None, IfSome, refl, sym, subst, ◌∙◌, ap, inl, inr, arith, eqb}
-use Rattle.std.specs.Fmt.{decimal}
-use Rattle.std.specs.Str.{all_ascii_digits}
-use Rattle.std.specs.List.{list_all, list_any, slice_get}
-use Rattle.std.proofs.lemmas.Bool.{and_parts, or_parts, or_left, or_right, or_from, cases_Bool, both_ways, eqb-true, or_cases, not-true}
-use Rattle.std.proofs.lemmas.Fmt.{digits_decimal, decimal_nonempty}
+use Rattle.std.proofs.Common.{◌≡◌, ◌≢◌, ℕ, ◌<◌, ◌≤◌, List, [], ◌∷◌, ◌++◌, Bool, true, false, not, ◌&&◌, ◌||◌, length, Option, Some, None, IfSome, refl, sym, subst, ◌∙◌, ap, inl}
+use Rattle.std.specs.List.{list_all, slice_get}
+use Rattle.std.proofs.lemmas.Bool.{and_from, and_parts, both_ways}
 use Rattle.ucd_derived.proofs.Computing.{ucd_derived}
-use Rattle.ic_laws.specs.Amount.{units_of_one, unsigned_text}
+use Rattle.ic_laws.specs.Amount.{unsigned_text}
 use Rattle.ic_laws.specs.Scan.{IsEnd, begins_word, first_is, is_digit, is_letter, is_word_character}
-use Rattle.ic_laws.specs.Name.{agrees, has_row_column_form, is_a1_cell, is_lone, is_sheet_name, is_variable, is_variable_form}
+use Rattle.ic_laws.specs.Name.{has_row_column_form, is_lone, is_sheet_name, is_variable_form}
 use Rattle.ic_laws.specs.Dialect.{IsLawful, IsWordOrAmount, begins_reference}
-use Rattle.ic_laws.specs.Position.{is_place_within}
+use Rattle.ic_laws.specs.Position.{is_part_within, is_place_within}
 use Rattle.ic_laws.specs.Tree.{is_written_sheet}
 use Rattle.ic_laws.specs.declared.dialect.WordKind.TheVariants as kinds
 use Rattle.ic_laws.specs.declared.reference.Place.{Place}
+use Rattle.ic_laws.specs.declared.reference.Place.TheVariants as places
 use Rattle.ic_laws.specs.declared.reference.RefToken.{RefToken}
-use Rattle.ic_laws.proofs.AmountLemmas.{numerals}
-use Rattle.ic_refs.specs.Sheet.{reference_at, sheet_at}
+use Rattle.ic_refs.specs.Longest.{FindsLongest, IsLongest}
+use Rattle.ic_refs.specs.Sheet.{SpellsReference, SpellsSheet, reference_at}
 use Rattle.ic_refs.specs.Stored.{SpellsPlace, stored_place_at, stored_text}
+use Rattle.ic_refs.proofs.ReferenceLemmas.{finds_reference}
 use Rattle.ic_refs.proofs.StoredReachLemmas.{finds_longest_place}
 use Rattle.ic_refs.proofs.StoredReferenceLemmas.{stored_again}
 use Rattle.ic_refs.proofs.StoredTextLemmas.{no_bang_in_place, place_begins}
-use Rattle.ic_tables.specs.Words.{has_stored_words, tells_errors}
+use Rattle.ic_tables.specs.Words.{words_of}
 use Rattle.ic_tables.specs.Tables.{HasGoodWords, TableSet, english, error_words_in}
 use Rattle.ic_tables.specs.declared.language.Language.{Language}
-use Rattle.ic_tree.specs.Stored.{SpeaksWell, stored_meaning, words_of}
+use Rattle.ic_tree.specs.Spelling.{SpellsWhatItReads}
+use Rattle.ic_tree.specs.Stored.{SpeaksWell, is_stored_spellable, stored_meaning}
 use Rattle.ic_tree.specs.laws.EndLaws.{more_behind, no_less_behind}
 use Rattle.ic_tree.specs.laws.StoredPlaces.{place_form, place_stops}
-use Rattle.ic_tree.specs.laws.LanguageLaws.{law_boolean_shape, law_booleans, law_differ, law_error_shape, law_errors, law_errors_apart, law_finds_agreeing, law_finds_word, law_function_shape, law_special, numbers_own, told_alone}
-use Rattle.ic_tree.specs.laws.NameLaws.{FormParts, amount_first, form_parts, letter_begins_word, variable_form}
+use Rattle.ic_tree.specs.laws.LanguageLaws.{found_is_word, law_boolean_shape, law_booleans, law_differ, law_error_shape, law_errors, law_errors_apart, law_finds_agreeing, law_finds_word, law_function_shape, law_special, numbers_own, told_alone}
+use Rattle.ic_tree.specs.laws.NameLaws.{amount_first, form_parts, letter_begins_word, variable_form}
 use Rattle.ic_tree.specs.laws.ReferenceLaws.{Begins, at_word, law_begins, law_front, no_sheet_at_digit, place_alone}
 
 row_begins : begins_reference 82 ≡ true
@@ -116,6 +116,24 @@ stored_laws l w = record {
   shorter_than = shorter l w;
   within_function = within l w;
 }
+
+-- ---- what is read can be spelled
+
+cell_within : (text : List ℕ) (p : Place) → SpellsPlace text p → is_place_within p ≡ true
+cell_within text (places.Cell part) s = s.within
+cell_within text (places.Range first last) s = and_from (is_part_within first) (is_part_within last) s.3.within s.4.within
+
+written_sheet : (text : List ℕ) (sheet : Option (List ℕ)) → SpellsSheet text sheet → is_written_sheet sheet ≡ true
+written_sheet text None s = refl
+written_sheet text (Some name) s = s.0
+
+reads_spellable : (text rest : List ℕ) (r : RefToken) → read text ≡ Some (r, rest) → is_stored_spellable r ≡ true
+reads_spellable text rest r e =
+    let l : IsLongest (SpellsReference SpellsPlace) text r rest = subst (λ f. FindsLongest (SpellsReference SpellsPlace) text f) e (finds_reference stored_place_at SpellsPlace finds_longest_place no_bang_in_place text) in
+    and_from (is_place_within r.place) (is_written_sheet r.sheet) (cell_within l.spelled.place_text r.place l.spelled.place) (written_sheet l.spelled.sheet_text r.sheet l.spelled.sheet)
+
+pub stored_spells : (l : Language) → SpellsWhatItReads (stored_meaning l)
+stored_spells l = record { references = reads_spellable; words = found_is_word l }
 
 -- each language of tables that meet their conditions
 pub speaks_well : (t : TableSet) (l : Language) → HasGoodWords t l → SpeaksWell l

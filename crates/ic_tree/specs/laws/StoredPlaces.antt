@@ -1,18 +1,18 @@
 -- The places of the stored form: where they stop, and which of them are word characters alone.
-use Rattle.std.proofs.Common.{◌≡◌, ◌≢◌, ℕ, ℤ, pos, ◌+◌, ◌<◌, ◌≤◌, List, [], ◌∷◌, ◌++◌, Bool, true, false, not, ◌&&◌, ◌||◌, ◌==◌, ◌⊎◌, length, length-append, append_assoc, Option, Some, None, refl, sym, subst, ◌∙◌, ap, inl, inr, arith, eqb, suc}
-use Rattle.std.specs.List.{list_all, list_any}
+use Rattle.std.proofs.Common.{◌≡◌, ℕ, List, [], ◌∷◌, ◌++◌, Bool, true, false, ◌&&◌, ◌||◌, ◌==◌, length, append_assoc, refl, sym, subst, ◌∙◌, ap, inl, inr, arith, eqb, suc}
+use Rattle.std.specs.List.{list_all}
 use Rattle.std.specs.Str.{all_ascii_digits}
-use Rattle.std.proofs.lemmas.Bool.{and_parts, and_left, and_from, or_parts, or_left, or_right, cases_Bool, both_ways, eqb-true}
+use Rattle.std.proofs.lemmas.Bool.{and_parts, and_left, and_from, or_left, or_right, both_ways}
 use Rattle.std.proofs.lemmas.Bool.Decides.{nat_tests}
 use Rattle.ucd_derived.proofs.Computing.{ucd_derived}
-use Rattle.ic_laws.specs.Scan.{IsEnd, first_is, is_digit, is_letter, is_plain, is_word_character, joins, past_run, run_of}
+use Rattle.ic_laws.specs.Scan.{is_digit, is_letter, is_plain, is_word_character, joins, past_run}
 use Rattle.ic_laws.specs.Name.{has_row_column_form, is_c, is_lone, is_numbered, is_r}
 use Rattle.ic_laws.specs.declared.reference.Position.{Position}
 use Rattle.ic_laws.specs.declared.reference.Position.TheVariants as at
 use Rattle.ic_laws.specs.declared.reference.RefPart.{RefPart}
 use Rattle.ic_laws.specs.declared.reference.Place.{Place}
 use Rattle.ic_laws.specs.declared.reference.Place.TheVariants as places
-use Rattle.ic_refs.specs.Stored.{SpellsNumber, SpellsPosition, SpellsCell, SpellsPlace}
+use Rattle.ic_refs.specs.Stored.{SpellsPosition, SpellsCell, SpellsPlace}
 use Rattle.ic_tree.specs.laws.EndLaws.{Stops, past_none, past_one}
 
 digit_word : (c : ℕ) → is_digit c ≡ true → is_word_character c ≡ true

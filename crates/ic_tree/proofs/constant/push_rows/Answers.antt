@@ -1,4 +1,4 @@
-use Rattle.std.proofs.Common.{◌≡◌, ◌++◌, chars, string_bytes, ap, ◌∙◌}
+use Rattle.std.proofs.Common.{◌++◌, chars, string_bytes, ap, ◌∙◌}
 use Rattle.ic_tree.specs.Printed.{row_separator, row_text, separator_before}
 use Rattle.ic_tree.proofs.PrintLemmas.{step_of}
 use Rattle.ic_tree.proofs.constant.push_rows.Goals as goal

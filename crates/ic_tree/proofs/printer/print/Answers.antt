@@ -1,4 +1,4 @@
-use Rattle.std.proofs.Common.{◌≡◌, ◌++◌, chars, ap, ◌∙◌}
+use Rattle.std.proofs.Common.{◌++◌, chars, ap, ◌∙◌}
 use Rattle.std.proofs.lemmas.Str.{chars-nil}
 use Rattle.ic_tree.specs.Printed.{tree_text}
 use Rattle.ic_tree.proofs.printer.print.Goals as goal
