@@ -8,9 +8,10 @@ use Rattle.ic_laws.specs.declared.reference.Place.{Place}
 use Rattle.ic_laws.specs.declared.reference.Place.TheVariants as places
 use Rattle.ic_refs.specs.A1.{SpellsColumn, SpellsRow, SpellsCell, SpellsPlace, column_at, row_at, cell_at, pair_at, a1_place_at}
 use Rattle.ic_refs.specs.Sheet.{or_else}
-use Rattle.ic_refs.proofs.PositionLemmas.{Takes}
+use Rattle.ic_refs.proofs.LongestLemmas.{IsTaken}
 use Rattle.ic_refs.proofs.KindLemmas.{column_at-exact}
-use Rattle.ic_refs.proofs.ReaderLemmas.{Reads, SpellsPair, pair_reads, pair_none, or_else_parts, mapped}
+use Rattle.ic_refs.proofs.PairLemmas.{SpellsPair, pair_reads, pair_none, or_else_parts, mapped}
+use Rattle.ic_refs.proofs.LongestLemmas.{Reads}
 use Rattle.ic_refs.proofs.PlaceLemmas.{column_reads, row_reads, cell_reads, cell_none}
 
 -- the four kinds of places
@@ -41,7 +42,7 @@ rows_read row = pair_reads (SpellsRow row) (row_at row) is_digit (row_reads row)
 
 -- what is read is spelled so
 abbrev IsPlaceRead : ℤ → ℤ → List ℕ → Place × List ℕ → Type 0
-IsPlaceRead row column text found = Takes (SpellsPlace row column) text found
+IsPlaceRead row column text found = IsTaken (SpellsPlace row column) text found
 
 from_cells : (row column : ℤ) (text : List ℕ) (f : (RefPart × RefPart) × List ℕ) → pair_at (cell_at row column) text ≡ Some f → IsPlaceRead row column text (as_cells f)
 from_cells row column text f e =
@@ -63,7 +64,7 @@ from_rows row column text f e =
     let t = Reads.spelled (rows_read row) text f e in
     record { front = t.front; whole = t.whole; spelled = (t.spelled.0, t.spelled.1, t.spelled.2, inr (inr ((refl, refl), t.spelled.3, t.spelled.4))) }
 
-pub place_at-spelled : (row column : ℤ) (text : List ℕ) (found : Place × List ℕ) → a1_place_at row column text ≡ Some found → Takes (SpellsPlace row column) text found
+pub place_at-spelled : (row column : ℤ) (text : List ℕ) (found : Place × List ℕ) → a1_place_at row column text ≡ Some found → IsTaken (SpellsPlace row column) text found
 place_at-spelled row column text found e =
     let a = pair_at (cell_at row column) text in
     let b = cell_at row column text in

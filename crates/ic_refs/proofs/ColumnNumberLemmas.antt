@@ -6,7 +6,7 @@ use Rattle.std.proofs.lemmas.List.{append-nil, nil_from_length}
 use Rattle.std.proofs.lemmas.Str.{encodes-chars, chars-nil}
 use Rattle.ic_laws.specs.Position.{letter_digit, letters_number}
 use Rattle.ic_laws.specs.Scan.{is_upper, is_ascii_letter}
-use Rattle.ic_refs.specs.A1.{letters_from}
+use Rattle.ic_refs.specs.Digits.{letters_from}
 use Rattle.ic_refs.specs.Column.{column_number}
 use Rattle.ic_refs.specs.Digits.{number_value}
 use Rattle.ic_refs.specs.declared.error.ColumnError.TheVariants as errors

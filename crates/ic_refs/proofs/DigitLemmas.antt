@@ -27,7 +27,7 @@ read_stops is value base most n [] h = refl
 read_stops is value base most n (c ∷ cs) h = rw h refl
 
 -- what was taken, and that it couldn't be more
-pub record IsTaken (is : ℕ → Bool) (value : ℕ → ℕ) (base most n : ℕ) (text : List ℕ) (read : ℕ × List ℕ) : Type 0 where
+pub record IsNumberTaken (is : ℕ → Bool) (value : ℕ → ℕ) (base most n : ℕ) (text : List ℕ) (read : ℕ × List ℕ) : Type 0 where
   pub front : List ℕ
   pub whole : text ≡ front ++ read.1
   pub all : list_all is front ≡ true
@@ -36,7 +36,7 @@ pub record IsTaken (is : ℕ → Bool) (value : ℕ → ℕ) (base most n : ℕ)
   pub shorter : length read.1 ≤ length text
   pub grown : 1 ≤ base → n ≤ read.0
 
-pub number_taken : (is : ℕ → Bool) (value : ℕ → ℕ) (base most n : ℕ) (text : List ℕ) → IsTaken is value base most n text (number_from is value base most n text)
+pub number_taken : (is : ℕ → Bool) (value : ℕ → ℕ) (base most n : ℕ) (text : List ℕ) → IsNumberTaken is value base most n text (number_from is value base most n text)
 number_taken is value base most n [] = record { front = []; whole = refl; all = refl; number = refl; within = λ h. h; shorter = omega arith; grown = λ h. omega arith }
 number_taken is value base most n (c ∷ cs) =
     elim (cases_Bool (is c && nat_le (n * base + value c) most)) [

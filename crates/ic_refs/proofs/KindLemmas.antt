@@ -11,12 +11,10 @@ use Rattle.ic_laws.specs.Scan.{is_digit, first_is, is_ascii_letter}
 use Rattle.ic_laws.specs.Position.{letter_digit, letters_number}
 use Rattle.ic_laws.specs.declared.reference.Position.{Position}
 use Rattle.ic_refs.specs.A1.{SpellsColumn, SpellsRow, column_at, row_at}
-use Rattle.ic_refs.specs.Digits.{number_value}
+use Rattle.ic_refs.specs.Digits.{digit_number, number_value}
 use Rattle.ic_refs.proofs.DigitLemmas.{number_grows}
-use Rattle.ic_refs.proofs.PositionLemmas.{SpellsNumber, Takes, number_at-spelled, number_at-longest, number_at-exact}
-
-abbrev pub digit_number : ℕ → ℕ
-digit_number c = c - 48
+use Rattle.ic_refs.proofs.PositionLemmas.{SpellsCounted, number_at-spelled, number_at-longest, number_at-exact}
+use Rattle.ic_refs.proofs.LongestLemmas.{IsTaken}
 
 regrouped : (n d p l : ℕ) → (n * 26 + d) * p + l ≡ n * (p * 26) + (d * p + l)
 regrouped n d p l = omega arith
@@ -58,7 +56,7 @@ all_digits [] = refl
 all_digits (c ∷ cs) = ap (λ b. is_digit c && b) (all_digits cs)
 
 -- A column is spelled as its letters' number is.
-pub column_as_number : (origin : ℤ) (text : List ℕ) (position : Position) → SpellsColumn origin text position → SpellsNumber is_ascii_letter letter_digit 26 16384 origin text position
+pub column_as_number : (origin : ℤ) (text : List ℕ) (position : Position) → SpellsColumn origin text position → SpellsCounted is_ascii_letter letter_digit 26 16384 origin text position
 column_as_number origin text position s =
     let named = and_parts (nat_lt 0 (length s.letters) && list_all is_ascii_letter s.letters) (nat_le (letters_number s.letters) 16384) s.named in
     let parts = and_parts (nat_lt 0 (length s.letters)) (list_all is_ascii_letter s.letters) named.0 in
@@ -71,7 +69,7 @@ column_as_number origin text position s =
       place = s.place ∙ ap pos (sym (letters_value s.letters));
     }
 
-pub number_as_column : (origin : ℤ) (text : List ℕ) (position : Position) → SpellsNumber is_ascii_letter letter_digit 26 16384 origin text position → SpellsColumn origin text position
+pub number_as_column : (origin : ℤ) (text : List ℕ) (position : Position) → SpellsCounted is_ascii_letter letter_digit 26 16384 origin text position → SpellsColumn origin text position
 number_as_column origin text position s = record {
   letters = s.digits;
   whole = s.whole;
@@ -82,7 +80,7 @@ number_as_column origin text position s = record {
 }
 
 -- A row is spelled as its digits' number is.
-pub row_as_number : (origin : ℤ) (text : List ℕ) (position : Position) → SpellsRow origin text position → SpellsNumber is_digit digit_number 10 1048576 origin text position
+pub row_as_number : (origin : ℤ) (text : List ℕ) (position : Position) → SpellsRow origin text position → SpellsCounted is_digit digit_number 10 1048576 origin text position
 row_as_number origin text position s =
     let n = digits_value 10 s.digits in
     let named = and_parts (all_ascii_digits s.digits && nat_lt 0 n) (nat_le n 1048576) s.named in
@@ -98,7 +96,7 @@ row_as_number origin text position s =
       place = s.place ∙ ap pos (sym same);
     }
 
-pub number_as_row : (origin : ℤ) (text : List ℕ) (position : Position) → SpellsNumber is_digit digit_number 10 1048576 origin text position → SpellsRow origin text position
+pub number_as_row : (origin : ℤ) (text : List ℕ) (position : Position) → SpellsCounted is_digit digit_number 10 1048576 origin text position → SpellsRow origin text position
 number_as_row origin text position s =
     let n = digits_value 10 s.digits in
     let same : number_value digit_number 10 0 s.digits ≡ n = digits_value_behind 0 s.digits s.all in
@@ -112,12 +110,12 @@ number_as_row origin text position s =
     }
 
 -- what is read at the front is spelled so
-pub column_at-spelled : (column : ℤ) (text : List ℕ) (found : Position × List ℕ) → column_at column text ≡ Some found → Takes (SpellsColumn column) text found
+pub column_at-spelled : (column : ℤ) (text : List ℕ) (found : Position × List ℕ) → column_at column text ≡ Some found → IsTaken (SpellsColumn column) text found
 column_at-spelled column text found e =
     let t = number_at-spelled is_ascii_letter letter_digit 26 16384 column text found e in
     record { front = t.front; whole = t.whole; spelled = number_as_column column t.front found.0 t.spelled }
 
-pub row_at-spelled : (row : ℤ) (text : List ℕ) (found : Position × List ℕ) → row_at row text ≡ Some found → Takes (SpellsRow row) text found
+pub row_at-spelled : (row : ℤ) (text : List ℕ) (found : Position × List ℕ) → row_at row text ≡ Some found → IsTaken (SpellsRow row) text found
 row_at-spelled row text found e =
     let t = number_at-spelled is_digit digit_number 10 1048576 row text found e in
     record { front = t.front; whole = t.whole; spelled = number_as_row row t.front found.0 t.spelled }

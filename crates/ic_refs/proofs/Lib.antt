@@ -1,22 +1,28 @@
 pub mod A1Lemmas
+pub mod A1PlaceLemmas
 pub mod A1ReferenceLemmas
 pub mod ColumnLemmas
+pub mod ColumnNamedLemmas
 pub mod ColumnNumberLemmas
 pub mod DigitLemmas
+pub mod FormulaFormLemmas
 pub mod KindLemmas
 pub mod LongestLemmas
 pub mod MarkLemmas
 pub mod NameLemmas
 pub mod NumberLemmas
 pub mod OffsetLemmas
+pub mod PairLemmas
 pub mod PlaceLemmas
 pub mod PositionLemmas
 pub mod PushLemmas
 pub mod QuoteLemmas
+pub mod R1C1EndLemmas
+pub mod R1C1FormLemmas
 pub mod R1C1InsideLemmas
 pub mod R1C1Lemmas
+pub mod R1C1PartLemmas
 pub mod R1C1SheetLemmas
-pub mod ReaderLemmas
 mod ReferenceExamples
 pub mod ReferenceLemmas
 pub mod SheetLemmas
@@ -25,6 +31,5 @@ pub mod StoredLemmas
 pub mod StoredReachLemmas
 pub mod StoredReferenceLemmas
 pub mod StoredTextLemmas
-pub mod TakingLemmas
 pub mod TrimLemmas
 pub mod WholeLemmas

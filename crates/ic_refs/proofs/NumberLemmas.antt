@@ -6,7 +6,7 @@ use Rattle.std.specs.Str.Parse.{digits_value_after}
 use Rattle.std.proofs.lemmas.Str.{digit_value_digit}
 use Rattle.std.proofs.lemmas.Bool.{and_parts, and_from, and_right, true≢false, leb-true, leb-false, le-leb, cases_Bool}
 use Rattle.ic_laws.specs.Scan.{is_digit, first_is, run_of, past_run}
-use Rattle.ic_refs.specs.Number.{number_from}
+use Rattle.ic_refs.specs.Digits.{decimal_from}
 
 -- a digit counts what it stands for
 digit-counts : (c : ℕ) → is_digit c ≡ true → digit_value c ≡ c - 48
@@ -20,11 +20,11 @@ after-grows n [] = omega arith
 after-grows n (c ∷ ds) = omega (arith, after-grows (n * 10 + digit_value c) ds)
 
 -- one digit is taken
-number_one : (limit n c : ℕ) (cs : List ℕ) → is_digit c ≡ true → n * 10 + (c - 48) ≤ limit → number_from limit n (c ∷ cs) ≡ number_from limit (n * 10 + (c - 48)) cs
+number_one : (limit n c : ℕ) (cs : List ℕ) → is_digit c ≡ true → n * 10 + (c - 48) ≤ limit → decimal_from limit n (c ∷ cs) ≡ decimal_from limit (n * 10 + (c - 48)) cs
 number_one limit n c cs d h = rw (and_from (is_digit c) (leb (n * 10 + (c - 48)) limit) d (le-leb _ _ h)) refl
 
 -- digits are taken while the number stays within the limit
-pub number_over : (limit n : ℕ) (ds after : List ℕ) → all_ascii_digits ds ≡ true → digits_value_after 10 n ds ≤ limit → number_from limit n (ds ++ after) ≡ number_from limit (digits_value_after 10 n ds) after
+pub number_over : (limit n : ℕ) (ds after : List ℕ) → all_ascii_digits ds ≡ true → digits_value_after 10 n ds ≤ limit → decimal_from limit n (ds ++ after) ≡ decimal_from limit (digits_value_after 10 n ds) after
 number_over limit n [] after d h = refl
 number_over limit n (c ∷ ds) after d h =
     let p = and_parts (is_digit c) (all_ascii_digits ds) d in
@@ -32,15 +32,15 @@ number_over limit n (c ∷ ds) after d h =
     let k : digits_value_after 10 (n * 10 + (c - 48)) ds ≤ limit = subst (λ v. digits_value_after 10 v ds ≤ limit) e h in
     number_one limit n c (ds ++ after) p.0 (omega (arith, k, after-grows (n * 10 + (c - 48)) ds))
     ∙ number_over limit (n * 10 + (c - 48)) ds after p.1 k
-    ∙ ap (λ v. number_from limit (digits_value_after 10 v ds) after) (sym e)
+    ∙ ap (λ v. decimal_from limit (digits_value_after 10 v ds) after) (sym e)
 
 -- and no digit is taken where none stands
-pub number_stops : (limit n : ℕ) (after : List ℕ) → first_is is_digit after ≡ false → number_from limit n after ≡ (n, after)
+pub number_stops : (limit n : ℕ) (after : List ℕ) → first_is is_digit after ≡ false → decimal_from limit n after ≡ (n, after)
 number_stops limit n [] h = refl
 number_stops limit n (c ∷ cs) h = rw h refl
 
 -- what is left is no longer than the text
-pub number_rest_le : (limit n : ℕ) (text : List ℕ) → length (number_from limit n text).1 ≤ length text
+pub number_rest_le : (limit n : ℕ) (text : List ℕ) → length (decimal_from limit n text).1 ≤ length text
 number_rest_le limit n [] = omega arith
 number_rest_le limit n (c ∷ cs) =
     elim (cases_Bool (is_digit c && leb (n * 10 + (c - 48)) limit)) [
@@ -49,7 +49,7 @@ number_rest_le limit n (c ∷ cs) =
     ]
 
 -- What was read are digits, their number and the rest.
-pub record Reads (limit n : ℕ) (text : List ℕ) (read : ℕ × List ℕ) : Type 0 where
+pub record AreDigitsRead (limit n : ℕ) (text : List ℕ) (read : ℕ × List ℕ) : Type 0 where
   pub digits : List ℕ
   pub whole : text ≡ digits ++ read.1
   pub ascii : all_ascii_digits digits ≡ true
@@ -57,7 +57,7 @@ pub record Reads (limit n : ℕ) (text : List ℕ) (read : ℕ × List ℕ) : Ty
   pub within : n ≤ limit → read.0 ≤ limit
   pub some : digits ≢ [] ⊎ (read.1 ≡ text)
 
-pub number_reads : (limit n : ℕ) (text : List ℕ) → Reads limit n text (number_from limit n text)
+pub number_reads : (limit n : ℕ) (text : List ℕ) → AreDigitsRead limit n text (decimal_from limit n text)
 number_reads limit n [] = record { digits = []; whole = refl; ascii = refl; value = refl; within = λ h. h; some = inr refl }
 number_reads limit n (c ∷ cs) =
     elim (cases_Bool (is_digit c && leb (n * 10 + (c - 48)) limit)) [
@@ -77,11 +77,11 @@ number_reads limit n (c ∷ cs) =
     ]
 
 -- no digit is taken where it would be too much
-number_none : (limit n c : ℕ) (cs : List ℕ) → leb (n * 10 + (c - 48)) limit ≡ false → number_from limit n (c ∷ cs) ≡ (n, c ∷ cs)
+number_none : (limit n c : ℕ) (cs : List ℕ) → leb (n * 10 + (c - 48)) limit ≡ false → decimal_from limit n (c ∷ cs) ≡ (n, c ∷ cs)
 number_none limit n c cs k = rw (and_right (is_digit c) (leb (n * 10 + (c - 48)) limit) k) refl
 
 -- Where no digit is left, the number is that of all digits at the front.
-pub number_all : (limit n : ℕ) (text : List ℕ) → first_is is_digit (number_from limit n text).1 ≡ false → (digits_value_after 10 n (run_of is_digit text) ≡ (number_from limit n text).0) × (past_run is_digit text ≡ (number_from limit n text).1)
+pub number_all : (limit n : ℕ) (text : List ℕ) → first_is is_digit (decimal_from limit n text).1 ≡ false → (digits_value_after 10 n (run_of is_digit text) ≡ (decimal_from limit n text).0) × (past_run is_digit text ≡ (decimal_from limit n text).1)
 number_all limit n [] h = (refl, refl)
 number_all limit n (c ∷ cs) h =
     elim (cases_Bool (is_digit c)) [
@@ -97,12 +97,12 @@ number_all limit n (c ∷ cs) h =
     ]
 
 -- Where one is left, that number is too large.
-pub number_past : (limit n : ℕ) (text : List ℕ) → first_is is_digit (number_from limit n text).1 ≡ true → limit < digits_value_after 10 n (run_of is_digit text)
+pub number_past : (limit n : ℕ) (text : List ℕ) → first_is is_digit (decimal_from limit n text).1 ≡ true → limit < digits_value_after 10 n (run_of is_digit text)
 number_past limit n [] h = absurd (true≢false (sym h))
 number_past limit n (c ∷ cs) h =
     elim (cases_Bool (is_digit c)) [
       | inr f ↦
-          let e : number_from limit n (c ∷ cs) ≡ (n, c ∷ cs) = number_stops limit n (c ∷ cs) f in
+          let e : decimal_from limit n (c ∷ cs) ≡ (n, c ∷ cs) = number_stops limit n (c ∷ cs) f in
           absurd (true≢false (sym h ∙ ap (λ r. first_is is_digit r.1) e ∙ f))
       | inl d ↦ elim (cases_Bool (leb (n * 10 + (c - 48)) limit)) [
         | inl k ↦

@@ -9,11 +9,12 @@ use Rattle.ic_laws.specs.declared.reference.Position.{Position}
 use Rattle.ic_laws.specs.declared.reference.Position.TheVariants as at
 use Rattle.ic_laws.specs.declared.reference.RefPart.{RefPart}
 use Rattle.ic_refs.specs.A1.{SpellsColumn, SpellsRow, SpellsCell, dollar, read_position, column_at, row_at, cell_at}
-use Rattle.ic_refs.specs.Digits.{number_value}
+use Rattle.ic_refs.specs.Digits.{digit_number, number_value}
 use Rattle.ic_refs.proofs.DigitLemmas.{read_stops}
-use Rattle.ic_refs.proofs.PositionLemmas.{Takes}
-use Rattle.ic_refs.proofs.KindLemmas.{digit_number, row_as_number, column_at-spelled, row_at-spelled, column_at-longest, row_at-longest, column_at-exact, row_at-exact}
-use Rattle.ic_refs.proofs.ReaderLemmas.{Reads, mapped, chained}
+use Rattle.ic_refs.proofs.LongestLemmas.{IsTaken}
+use Rattle.ic_refs.proofs.KindLemmas.{row_as_number, column_at-spelled, row_at-spelled, column_at-longest, row_at-longest, column_at-exact, row_at-exact}
+use Rattle.ic_refs.proofs.PairLemmas.{mapped, chained}
+use Rattle.ic_refs.proofs.LongestLemmas.{Reads}
 
 pub column_reads : (column : ℤ) → Reads (SpellsColumn column) (column_at column) is_ascii_letter
 column_reads column = record { spelled = column_at-spelled column; longest = column_at-longest column; exact = column_at-exact column }
@@ -69,13 +70,13 @@ cell_read row column text behind c r p q =
 pub cell_none : (row column : ℤ) (text : List ℕ) → column_at column text ≡ None → cell_at row column text ≡ None
 cell_none row column text p = ap (λ o. option_and_then (λ (c : Position × List ℕ). option_map (cell_of c) (row_at row c.1)) o) p
 
-cell_spelled : (row column : ℤ) (text : List ℕ) (found : RefPart × List ℕ) → cell_at row column text ≡ Some found → Takes (SpellsCell row column) text found
+cell_spelled : (row column : ℤ) (text : List ℕ) (found : RefPart × List ℕ) → cell_at row column text ≡ Some found → IsTaken (SpellsCell row column) text found
 cell_spelled row column text found e =
     let one = chained (λ (c : Position × List ℕ). option_map (cell_of c) (row_at row c.1)) (column_at column text) found e in
     let two = mapped (cell_of one.0) (row_at row one.0.1) found one.2 in
     let c = column_at-spelled column text one.0 one.1 in
     let r = row_at-spelled row one.0.1 two.0 two.1 in
-    let Wanted : RefPart × List ℕ → Type 0 = λ f. Takes (SpellsCell row column) text f in
+    let Wanted : RefPart × List ℕ → Type 0 = λ f. IsTaken (SpellsCell row column) text f in
     subst Wanted two.2 (record {
       front = c.front ++ r.front;
       whole = c.whole ∙ ap (λ v. c.front ++ v) r.whole ∙ sym (append_assoc c.front r.front two.0.1);

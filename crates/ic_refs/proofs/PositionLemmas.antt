@@ -11,10 +11,11 @@ use Rattle.ic_laws.specs.declared.reference.Position.TheVariants as at
 use Rattle.ic_refs.specs.A1.{dollar, has_dollar, read_position, position_of}
 use Rattle.ic_refs.specs.Digits.{number_value, number_from}
 use Rattle.ic_refs.specs.Formula.{is_absolute}
-use Rattle.ic_refs.proofs.DigitLemmas.{read_past, read_stops, IsTaken, number_taken}
+use Rattle.ic_refs.proofs.LongestLemmas.{IsTaken}
+use Rattle.ic_refs.proofs.DigitLemmas.{read_past, read_stops, IsNumberTaken, number_taken}
 
 -- a position spelled by digits of a kind, up to a limit
-pub record SpellsNumber (is : ℕ → Bool) (value : ℕ → ℕ) (base most : ℕ) (origin : ℤ) (text : List ℕ) (position : Position) : Type 0 where
+pub record SpellsCounted (is : ℕ → Bool) (value : ℕ → ℕ) (base most : ℕ) (origin : ℤ) (text : List ℕ) (position : Position) : Type 0 where
   pub digits : List ℕ
   pub whole : text ≡ dollar position ++ digits
   pub all : list_all is digits ≡ true
@@ -25,12 +26,6 @@ pub record SpellsNumber (is : ℕ → Bool) (value : ℕ → ℕ) (base most : �
 -- the position at the front
 abbrev pub number_at : (ℕ → Bool) → (ℕ → ℕ) → ℕ → ℕ → ℤ → List ℕ → Option (Position × List ℕ)
 number_at is value base most origin text = read_position (has_dollar text) origin (number_from is value base most 0 (past_dollar text))
-
--- a front and what stands behind it
-pub record Takes {T : Type 0} (Spells : List ℕ → T → Type 0) (text : List ℕ) (found : T × List ℕ) : Type 0 where
-  pub front : List ℕ
-  pub whole : text ≡ front ++ found.1
-  pub spelled : Spells front found.0
 
 placed : (absolute : Bool) (n : ℕ) (origin : ℤ) → place_at (position_of absolute origin n) origin ≡ pos n
 placed true n origin = refl
@@ -50,11 +45,11 @@ read_some absolute origin read h = rw (ne_eqb read.0 0 (λ e. omega arith)) refl
 
 -- what is read is spelled so
 read_spelled : (is : ℕ → Bool) (value : ℕ → ℕ) (base most : ℕ) (origin : ℤ) (absolute : Bool) (text : List ℕ) (read : ℕ × List ℕ) (found : Position × List ℕ)
-    → IsTaken is value base most 0 text read → read_position absolute origin read ≡ Some found
-    → (front : List ℕ) × (text ≡ front ++ found.1) × SpellsNumber is value base most origin (dollar (position_of absolute origin read.0) ++ front) found.0
+    → IsNumberTaken is value base most 0 text read → read_position absolute origin read ≡ Some found
+    → (front : List ℕ) × (text ≡ front ++ found.1) × SpellsCounted is value base most origin (dollar (position_of absolute origin read.0) ++ front) found.0
 read_spelled is value base most origin absolute text read found t e =
     let known = some_read absolute origin read found e in
-    let Wanted : Position × List ℕ → Type 0 = λ f. (front : List ℕ) × (text ≡ front ++ f.1) × SpellsNumber is value base most origin (dollar (position_of absolute origin read.0) ++ front) f.0 in
+    let Wanted : Position × List ℕ → Type 0 = λ f. (front : List ℕ) × (text ≡ front ++ f.1) × SpellsCounted is value base most origin (dollar (position_of absolute origin read.0) ++ front) f.0 in
     subst Wanted (sym known.1) (
       t.front,
       t.whole,
@@ -70,7 +65,7 @@ read_spelled is value base most origin absolute text read found t e =
 
 -- what is read at the front is spelled so
 pub number_at-spelled : (is : ℕ → Bool) (value : ℕ → ℕ) (base most : ℕ) (origin : ℤ) (text : List ℕ) (found : Position × List ℕ)
-    → number_at is value base most origin text ≡ Some found → Takes (SpellsNumber is value base most origin) text found
+    → number_at is value base most origin text ≡ Some found → IsTaken (SpellsCounted is value base most origin) text found
 number_at-spelled is value base most origin [] found e =
     let r = read_spelled is value base most origin false [] (number_from is value base most 0 []) found (number_taken is value base most 0 []) e in
     record { front = r.0; whole = r.1; spelled = r.2 }
@@ -96,7 +91,7 @@ read_behind is value base most origin (c ∷ cs) rest (at.Rel k) d a p =
 
 -- a spelled position is read, or a longer one
 pub number_at-longest : (is : ℕ → Bool) (value : ℕ → ℕ) (base most : ℕ) (origin : ℤ) (front rest : List ℕ) (position : Position) → 1 ≤ base → is 36 ≡ false
-    → SpellsNumber is value base most origin front position
+    → SpellsCounted is value base most origin front position
     → (found : Position × List ℕ) × (number_at is value base most origin (front ++ rest) ≡ Some found) × (length found.1 ≤ length rest)
 number_at-longest is value base most origin front rest position b d s =
     let n = number_value value base 0 s.digits in
@@ -118,7 +113,7 @@ position_again (at.Rel k) origin n e = ap at.Rel (omega (arith, ints))
 
 -- and just this one where no further digit stands behind it
 pub number_at-exact : (is : ℕ → Bool) (value : ℕ → ℕ) (base most : ℕ) (origin : ℤ) (front rest : List ℕ) (position : Position) → 1 ≤ base → is 36 ≡ false
-    → SpellsNumber is value base most origin front position → first_is is rest ≡ false
+    → SpellsCounted is value base most origin front position → first_is is rest ≡ false
     → number_at is value base most origin (front ++ rest) ≡ Some (position, rest)
 number_at-exact is value base most origin front rest position b d s stops =
     let n = number_value value base 0 s.digits in

@@ -11,8 +11,10 @@ use Rattle.ic_laws.specs.Position.{is_row, is_column}
 use Rattle.ic_refs.specs.declared.error.ReferenceError.{ReferenceError}
 use Rattle.ic_refs.specs.declared.r1c1_ends.End.{End}
 use Rattle.ic_refs.specs.declared.reference.CellReferenceIndex.{CellReferenceIndex}
+use Rattle.ic_refs.specs.declared.reference.ParsedReference.{ParsedReference}
 use Rattle.ic_refs.specs.Formula.{◌>>=◌}
-use Rattle.ic_refs.specs.R1C1.{number_at, absolute, offset, past_bracket, offset_on_at, offset_back_at, offset_at, absolute_at, part_at, column_behind, row_end_at, column_end_at, end_at, ended, last_end, ends_behind, ends_of, first_cell, last_cell, first_corner, last_corner, area_of, have_one_kind, referred, refers, is_inside, LiesInSheet}
+use Rattle.ic_refs.specs.R1C1.{number_at, absolute, offset, past_bracket, offset_on_at, offset_back_at, offset_at, absolute_at, part_at, column_behind, row_end_at, column_end_at, end_at, ended, last_end, ends_behind, ends_of, first_cell, last_cell, first_corner, last_corner, area_of, have_one_kind, referred, refers}
+use Rattle.ic_refs.specs.Referred.{is_cell_of_sheet, LiesInSheet, HasCornersInOrder}
 
 -- a row or a column of a sheet of this length
 abbrev pub is_of : ℕ → ℤ → Bool
@@ -162,11 +164,11 @@ unwrapped_of : (length : ℕ) (o : Option ℤ) (d : ℤ) → is_of length d ≡ 
 unwrapped_of length None d h s = h
 unwrapped_of length (Some z) d h s = s
 
-first_of_end : (sheet : ℕ) (end : End) → IsEndInside end → is_inside (first_cell sheet end) ≡ true
+first_of_end : (sheet : ℕ) (end : End) → IsEndInside end → is_cell_of_sheet (first_cell sheet end) ≡ true
 first_of_end sheet end h =
     and_from (is_row (unwrap_or end.row (pos 1))) (is_column (unwrap_or end.column (pos 1))) (unwrapped_of 1048576 end.row (pos 1) refl h.0) (unwrapped_of 16384 end.column (pos 1) refl h.1)
 
-last_of_end : (sheet : ℕ) (end : End) → IsEndInside end → is_inside (last_cell sheet end) ≡ true
+last_of_end : (sheet : ℕ) (end : End) → IsEndInside end → is_cell_of_sheet (last_cell sheet end) ≡ true
 last_of_end sheet end h =
     and_from (is_row (unwrap_or end.row (pos 1048576))) (is_column (unwrap_or end.column (pos 16384)))
     (unwrapped_of 1048576 end.row (pos 1048576) refl h.0) (unwrapped_of 16384 end.column (pos 16384) refl h.1)
@@ -175,14 +177,14 @@ either_of : (length : ℕ) (b : Bool) (x y : ℤ) → is_of length x ≡ true �
 either_of length true x y h k = h
 either_of length false x y h k = k
 
-first_inside : (a b : CellReferenceIndex) → is_inside a ≡ true → is_inside b ≡ true → is_inside (first_corner a b) ≡ true
+first_inside : (a b : CellReferenceIndex) → is_cell_of_sheet a ≡ true → is_cell_of_sheet b ≡ true → is_cell_of_sheet (first_corner a b) ≡ true
 first_inside a b h k =
     let p = and_parts (is_row a.row) (is_column a.column) h in
     let q = and_parts (is_row b.row) (is_column b.column) k in
     and_from (is_row (int_min a.row b.row)) (is_column (int_min a.column b.column))
     (either_of 1048576 (int_lt b.row a.row) b.row a.row q.0 p.0) (either_of 16384 (int_lt b.column a.column) b.column a.column q.1 p.1)
 
-last_inside : (a b : CellReferenceIndex) → is_inside a ≡ true → is_inside b ≡ true → is_inside (last_corner a b) ≡ true
+last_inside : (a b : CellReferenceIndex) → is_cell_of_sheet a ≡ true → is_cell_of_sheet b ≡ true → is_cell_of_sheet (last_corner a b) ≡ true
 last_inside a b h k =
     let p = and_parts (is_row a.row) (is_column a.column) h in
     let q = and_parts (is_row b.row) (is_column b.column) k in
@@ -196,19 +198,27 @@ unwrapped_le (Some z) low high h = omega (arith, ints)
 min_le_max : (a b x y : ℤ) → a ≤ℤ x → int_min a b ≤ℤ int_max x y
 min_le_max a b x y h = omega (arith, ints, clamps)
 
-area_inside : (sheet : ℕ) (a b : End) → IsEndInside a → IsEndInside b → LiesInSheet (area_of sheet a b)
+-- what is referred to lies in the sheet, its corners in order
+abbrev pub LiesInOrder : ParsedReference → Type 0
+LiesInOrder found = LiesInSheet found × HasCornersInOrder found
+
+area_inside : (sheet : ℕ) (a b : End) → IsEndInside a → IsEndInside b → LiesInOrder (area_of sheet a b)
 area_inside sheet a b h k = (
-  first_inside (first_cell sheet a) (first_cell sheet b) (first_of_end sheet a h) (first_of_end sheet b k),
-  last_inside (last_cell sheet a) (last_cell sheet b) (last_of_end sheet a h) (last_of_end sheet b k),
-  refl,
-  min_le_max _ _ _ _ (unwrapped_le a.row (pos 1) (pos 1048576) (omega (arith, ints))),
-  min_le_max _ _ _ _ (unwrapped_le a.column (pos 1) (pos 16384) (omega (arith, ints))),
+  (
+    first_inside (first_cell sheet a) (first_cell sheet b) (first_of_end sheet a h) (first_of_end sheet b k),
+    last_inside (last_cell sheet a) (last_cell sheet b) (last_of_end sheet a h) (last_of_end sheet b k),
+    refl,
+  ),
+  (
+    min_le_max _ _ _ _ (unwrapped_le a.row (pos 1) (pos 1048576) (omega (arith, ints))),
+    min_le_max _ _ _ _ (unwrapped_le a.column (pos 1) (pos 16384) (omega (arith, ints))),
+  ),
 )
 
-referred_inside : (ends : End × Option End) (sheet : ℕ) → AreEndsInside ends → IfOk (referred ends sheet) LiesInSheet
+referred_inside : (ends : End × Option End) (sheet : ℕ) → AreEndsInside ends → IfOk (referred ends sheet) LiesInOrder
 referred_inside (end, None) sheet h =
     elim (cases_Bool (is_some end.row && is_some end.column)) [
-      | inl t ↦ rw t (first_of_end sheet end h.0)
+      | inl t ↦ rw t (first_of_end sheet end h.0, tt)
       | inr f ↦ rw f (area_inside sheet end end h.0 h.0)
     ]
 referred_inside (first, Some last) sheet h =
@@ -218,6 +228,15 @@ referred_inside (first, Some last) sheet h =
     ]
 
 -- What a text refers to relative to a cell of the sheet lies in the sheet.
-pub refers_inside : (cell : CellReferenceIndex) (text : List ℕ) (sheet : ℕ) → is_row cell.row ≡ true → is_column cell.column ≡ true → IfOk (refers cell text sheet) LiesInSheet
+pub refers_inside : (cell : CellReferenceIndex) (text : List ℕ) (sheet : ℕ) → is_row cell.row ≡ true → is_column cell.column ≡ true → IfOk (refers cell text sheet) LiesInOrder
 refers_inside cell text sheet r k =
-    held AreEndsInside LiesInSheet (ends_of cell text) (λ ends. referred ends sheet) (ends_of_inside cell text r k) (λ ends h. referred_inside ends sheet h)
+    held AreEndsInside LiesInOrder (ends_of cell text) (λ ends. referred ends sheet) (ends_of_inside cell text r k) (λ ends h. referred_inside ends sheet h)
+
+-- either of the two
+pub only_inside : (r : Result ParsedReference ReferenceError) → IfOk r LiesInOrder → IfOk r LiesInSheet
+only_inside (Ok found) h = h.0
+only_inside (Err e) h = tt
+
+pub only_order : (r : Result ParsedReference ReferenceError) → IfOk r LiesInOrder → IfOk r HasCornersInOrder
+only_order (Ok found) h = h.1
+only_order (Err e) h = tt

@@ -136,7 +136,7 @@ module _ (read : List ℕ → Option (Place × List ℕ)) (SpellsPlace : List �
   pub finds_reference : (text : List ℕ) → FindsLongest (SpellsReference SpellsPlace) text (reference_at read text)
   finds_reference text = by_front text (sheet_at text) refl
 
-read_with_sheet : (read : List ℕ → Option (Place × List ℕ)) (text name r rest : List ℕ) (place : Place) → sheet_at text ≡ Some (name, r) → read r ≡ Some (place, rest) → reference_at read text ≡ Some (record { sheet = Some name; place = place }, rest)
+pub read_with_sheet : (read : List ℕ → Option (Place × List ℕ)) (text name r rest : List ℕ) (place : Place) → sheet_at text ≡ Some (name, r) → read r ≡ Some (place, rest) → reference_at read text ≡ Some (record { sheet = Some name; place = place }, rest)
 read_with_sheet read text name r rest place e h = rw (e, h) refl
 
 reference_again_by : (read : List ℕ → Option (Place × List ℕ)) (place_text rest : List ℕ) (sheet : Option (List ℕ)) (place : Place) → IfSome sheet (λ name. is_sheet_name name ≡ true) → read (place_text ++ rest) ≡ Some (place, rest) → (sheet ≡ None → sheet_at (place_text ++ rest) ≡ None) → reference_at read (sheet_text sheet ++ place_text ++ rest) ≡ Some (record { sheet = sheet; place = place }, rest)

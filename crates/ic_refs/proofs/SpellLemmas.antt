@@ -17,7 +17,7 @@ use Rattle.ic_laws.specs.declared.reference.Place.TheVariants as places
 use Rattle.ic_refs.specs.A1.{SpellsColumn, SpellsRow, SpellsCell, SpellsPlace, column_text, row_text, cell_text, is_abs, are_whole_columns, are_whole_rows, place_text, a1_place_at}
 use Rattle.ic_refs.specs.Column.{column_letters}
 use Rattle.ic_refs.proofs.ColumnLemmas.{letters_number-column_letters, names_column-column_letters, number_of_column, number_of_row}
-use Rattle.ic_refs.proofs.LongestLemmas.{EndsPlace, place_at-exact}
+use Rattle.ic_refs.proofs.A1PlaceLemmas.{EndsPlace, place_at-exact}
 
 numerals : IsNumeralModel (λ ds. all_ascii_digits ds ≡ true) (digits_value 10)
 numerals = numerals_by_value (λ ds. all_ascii_digits ds ≡ true) tells_all_ascii_digits

@@ -45,7 +45,7 @@ past_blanks : (bs rest : List ℕ) → list_all is_blank bs ≡ true → past_ru
 past_blanks [] rest h = refl
 past_blanks (b ∷ bs) rest h = let parts = and_parts (is_blank b) (list_all is_blank bs) h in rw (parts.0) (past_blanks bs rest parts.1)
 
-blanks_reverse : (bs : List ℕ) → list_all is_blank bs ≡ true → list_all is_blank (reverse bs) ≡ true
+pub blanks_reverse : (bs : List ℕ) → list_all is_blank bs ≡ true → list_all is_blank (reverse bs) ≡ true
 blanks_reverse [] h = refl
 blanks_reverse (b ∷ bs) h =
     let parts = and_parts (is_blank b) (list_all is_blank bs) h in

@@ -6,7 +6,8 @@ use Rattle.ic_laws.specs.declared.reference.RefPart.{RefPart}
 use Rattle.ic_refs.specs.A1.{SpellsCell, cell_at}
 use Rattle.ic_refs.specs.Formula.{whole_of, a1_reference, a1_cell_of}
 use Rattle.ic_refs.specs.declared.reference.A1Reference.{A1Reference}
-use Rattle.ic_refs.proofs.ReaderLemmas.{Reads, same_found}
+use Rattle.ic_refs.proofs.PairLemmas.{same_found}
+use Rattle.ic_refs.proofs.LongestLemmas.{Reads}
 use Rattle.ic_refs.proofs.PlaceLemmas.{cell_reads}
 
 -- a text that is a cell is read whole

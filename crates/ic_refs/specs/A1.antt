@@ -1,11 +1,12 @@
 -- The A1 form of a reference, in a cell. A position with a dollar sign is absolute, one without counts from the cell.
-use Rattle.std.specs.Prelude.{◌≡◌, ℕ, ℤ, pos, ◌-◌, ◌-ℤ◌, ◌≤ℤ◌, List, [], ◌∷◌, ◌++◌, Bool, true, false, ◌&&◌, ◌==◌, ◌⊎◌, nat_abs, Option, Some, None, option_map, option_and_then, if◌then◌else◌}
+use Rattle.std.specs.Prelude.{◌≡◌, ℕ, ℤ, pos, ◌-ℤ◌, ◌≤ℤ◌, List, [], ◌∷◌, ◌++◌, Bool, true, false, ◌&&◌, ◌==◌, ◌⊎◌, nat_abs, Option, Some, None, option_map, option_and_then, if◌then◌else◌}
 use Rattle.std.specs.Fmt.{decimal}
 use Rattle.std.specs.Str.Parse.{digits_value}
 use Rattle.std.specs.Ordering.{int_eq}
 use Rattle.ic_laws.specs.Name.{names_row}
-use Rattle.ic_laws.specs.Scan.{is_digit, first_is, past_dollar, is_ascii_letter}
-use Rattle.ic_laws.specs.Position.{is_row, is_column, letter_digit, letters_number, names_column, place_at, is_inside}
+use Rattle.ic_laws.specs.Scan.{first_is, past_dollar}
+use Rattle.ic_laws.specs.Position.{row_count, is_row, is_column, letters_number, names_column, place_at, is_inside}
+use Rattle.ic_laws.specs.Tree.{is_written_sheet}
 use Rattle.ic_laws.specs.declared.reference.Position.{Position}
 use Rattle.ic_laws.specs.declared.reference.Position.TheVariants as at
 use Rattle.ic_laws.specs.declared.reference.RefPart.{RefPart}
@@ -13,7 +14,7 @@ use Rattle.ic_laws.specs.declared.reference.Place.{Place}
 use Rattle.ic_laws.specs.declared.reference.Place.TheVariants as places
 use Rattle.ic_laws.specs.declared.reference.RefToken.{RefToken}
 use Rattle.ic_refs.specs.Column.{column_letters}
-use Rattle.ic_refs.specs.Digits.{number_from}
+use Rattle.ic_refs.specs.Digits.{decimal_from, letters_from}
 use Rattle.ic_refs.specs.Sheet.{SpellsReference, sheet_text, or_else, reference_at}
 
 -- an absolute position has a dollar sign
@@ -106,6 +107,10 @@ place_text row column (places.Range first last) = range_text row column first la
 abbrev pub is_spellable : ℤ → ℤ → RefToken → Bool
 is_spellable row column token = is_row row && is_column column && is_inside token.place row column
 
+-- it can be written so that it is read back: the name of its sheet, if it has one, is one that a sheet may have
+abbrev pub is_shown_spellable : ℤ → ℤ → RefToken → Bool
+is_shown_spellable row column token = is_spellable row column token && is_written_sheet token.sheet
+
 abbrev pub a1_text : ℤ → ℤ → RefToken → Option (List ℕ)
 a1_text row column token = if is_spellable row column token then Some (sheet_text token.sheet ++ place_text row column token.place) else None
 
@@ -123,14 +128,6 @@ position_of false origin n = at.Rel (pos n -ℤ origin)
 abbrev pub has_dollar : List ℕ → Bool
 has_dollar text = first_is (λ c. c == 36) text
 
--- the number of a column and what stands behind it: letters are taken while the column is one of the sheet
-abbrev pub letters_from : ℕ → List ℕ → ℕ × List ℕ
-letters_from n text = number_from is_ascii_letter letter_digit 26 16384 n text
-
--- the number of a row and what stands behind it: digits are taken while the row is one of the sheet
-abbrev pub digits_from : ℕ → List ℕ → ℕ × List ℕ
-digits_from n text = number_from is_digit (λ c. c - 48) 10 1048576 n text
-
 -- the position of a number that was read; there is none where no digit or letter was, and no row and column is 0
 abbrev pub read_position : Bool → ℤ → ℕ × List ℕ → Option (Position × List ℕ)
 read_position absolute origin read = if read.0 == 0 then None else Some (position_of absolute origin read.0, read.1)
@@ -141,7 +138,7 @@ column_at column text = read_position (has_dollar text) column (letters_from 0 (
 
 -- the row at the front, and what stands behind it
 abbrev pub row_at : ℤ → List ℕ → Option (Position × List ℕ)
-row_at row text = read_position (has_dollar text) row (digits_from 0 (past_dollar text))
+row_at row text = read_position (has_dollar text) row (decimal_from row_count 0 (past_dollar text))
 
 -- the cell at the front
 abbrev pub cell_at : ℤ → ℤ → List ℕ → Option (RefPart × List ℕ)

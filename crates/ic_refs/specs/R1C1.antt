@@ -1,12 +1,11 @@
 -- The R1C1 form of a reference, as a user writes it, relative to a cell. It is read from left to right, and the first
 -- error is told.
-use Rattle.std.specs.Prelude.{◌≡◌, ℕ, ℤ, pos, neg_ℤ, ◌+ℤ◌, ◌-ℤ◌, ◌≤ℤ◌, List, [], ◌∷◌, Bool, true, not, ◌&&◌, ◌==◌, is_some, nat_lt, nat_le, Option, Some, None, Result, Ok, Err, unwrap_or, if◌then◌else◌, length}
+use Rattle.std.specs.Prelude.{◌≡◌, ℕ, ℤ, pos, neg_ℤ, ◌+ℤ◌, ◌-ℤ◌, List, [], ◌∷◌, Bool, not, ◌&&◌, ◌==◌, is_some, nat_lt, nat_le, Option, Some, None, Result, Ok, Err, unwrap_or, if◌then◌else◌, length}
 use Rattle.std.specs.List.{before_first, after_first, list_any}
 use Rattle.std.specs.Int.{int_min, int_max, int_rem_euclid}
 use Rattle.std.specs.Str.Parse.{digits_value}
 use Rattle.ic_laws.specs.Name.{is_r, is_c}
 use Rattle.ic_laws.specs.Scan.{is_digit, run_of, past_run}
-use Rattle.ic_laws.specs.Position.{is_row, is_column}
 use Rattle.ic_refs.specs.declared.error.ReferenceError.{ReferenceError}
 use Rattle.ic_refs.specs.declared.error.ReferenceError.TheVariants as errors
 use Rattle.ic_refs.specs.declared.reference.CellReferenceIndex.{CellReferenceIndex}
@@ -14,7 +13,7 @@ use Rattle.ic_refs.specs.declared.reference.ParsedReference.{ParsedReference}
 use Rattle.ic_refs.specs.declared.reference.ParsedReference.TheVariants as parsed
 use Rattle.ic_refs.specs.declared.r1c1_ends.End.{End}
 use Rattle.ic_refs.specs.Formula.{IsSheetOf, ◌>>=◌}
-use Rattle.ic_refs.specs.Sheet.{name_in_quotes}
+use Rattle.ic_refs.specs.Sheet.{is_bang, name_in_quotes}
 
 -- The sheet's name
 
@@ -26,9 +25,6 @@ past_bang name (c ∷ rest) = if c == 33 then Ok (Some name, rest) else Err erro
 abbrev pub quoted_name : Option (List ℕ × List ℕ) → Result (Option (List ℕ) × List ℕ) ReferenceError
 quoted_name None = Err errors.NameNotClosed
 quoted_name (Some read) = past_bang read.0 read.1
-
-abbrev pub is_bang : ℕ → Bool
-is_bang c = c == 33
 
 abbrev pub is_no_bang : ℕ → Bool
 is_no_bang c = not (is_bang c)
@@ -177,13 +173,3 @@ ParsesR1C1 Answers cell (Err e) result = result ≡ Err e
 ParsesR1C1 Answers cell (Ok split) result =
     (sheet : Result ℕ ReferenceError) × IsSheetOf Answers (Some cell.sheet) split.0 sheet
     × (result ≡ (sheet >>= refers cell split.1))
-
--- a cell of the sheet
-abbrev pub is_inside : CellReferenceIndex → Bool
-is_inside cell = is_row cell.row && is_column cell.column
-
--- What is referred to lies in the sheet, and a range's first corner is above and to the left of its last.
-abbrev pub LiesInSheet : ParsedReference → Type 0
-LiesInSheet (parsed.CellReference cell) = is_inside cell ≡ true
-LiesInSheet (parsed.Range first last) =
-    (is_inside first ≡ true) × (is_inside last ≡ true) × (first.sheet ≡ last.sheet) × (first.row ≤ℤ last.row) × (first.column ≤ℤ last.column)

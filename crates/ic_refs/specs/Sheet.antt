@@ -1,9 +1,17 @@
 -- A sheet's name before a reference, and references with one or without.
-use Rattle.std.specs.Prelude.{◌≡◌, ℕ, List, [], ◌∷◌, ◌++◌, true, false, ◌&&◌, ◌==◌, ◌⊎◌, Option, Some, None, option_map, option_and_then, if◌then◌else◌}
+use Rattle.std.specs.Prelude.{◌≡◌, ℕ, List, [], ◌∷◌, ◌++◌, Bool, true, false, ◌&&◌, ◌==◌, ◌⊎◌, Option, Some, None, option_map, option_and_then, if◌then◌else◌}
+use Rattle.ic_laws.specs.Character.{bang, quote}
 use Rattle.ic_laws.specs.Name.{is_sheet_name, needs_quotes, in_quotes, quoted}
 use Rattle.ic_laws.specs.Scan.{is_plain, run_of, past_run}
 use Rattle.ic_laws.specs.declared.reference.RefToken.{RefToken}
 use Rattle.ic_laws.specs.declared.reference.Place.{Place}
+
+-- the mark after a sheet's name, and the one round it
+abbrev pub is_bang : ℕ → Bool
+is_bang c = c == bang
+
+abbrev pub is_quote : ℕ → Bool
+is_quote c = c == quote
 
 -- a sheet's name is written between quotes, or without where it needs none, with a `!` behind it; no name is written
 -- as nothing

@@ -1,5 +1,5 @@
 -- The stored form of a reference: rows and columns by number, each absolute or by its distance from the cell.
-use Rattle.std.specs.Prelude.{◌≡◌, ◌≢◌, ◌⊎◌, ℕ, ℤ, pos, neg_ℤ, ◌-◌, List, [], ◌∷◌, ◌++◌, true, ◌==◌, Option, Some, None, option_map, option_and_then, if◌then◌else◌}
+use Rattle.std.specs.Prelude.{◌≡◌, ◌≢◌, ◌⊎◌, ℕ, ℤ, pos, neg_ℤ, ◌-◌, List, [], ◌∷◌, ◌++◌, Bool, true, ◌&&◌, ◌==◌, Option, Some, None, option_map, option_and_then, if◌then◌else◌}
 use Rattle.std.specs.Fmt.{signed_decimal}
 use Rattle.std.specs.Str.{all_ascii_digits}
 use Rattle.std.specs.Str.Parse.{digits_value}
@@ -10,9 +10,14 @@ use Rattle.ic_laws.specs.declared.reference.Place.{Place}
 use Rattle.ic_laws.specs.declared.reference.Place.TheVariants as places
 use Rattle.ic_laws.specs.declared.reference.RefToken.{RefToken}
 use Rattle.ic_laws.specs.Scan.{is_digit, first_is}
-use Rattle.ic_laws.specs.Position.{is_part_within}
-use Rattle.ic_refs.specs.Number.{number_from}
+use Rattle.ic_laws.specs.Position.{is_part_within, is_place_within}
+use Rattle.ic_laws.specs.Tree.{is_written_sheet}
+use Rattle.ic_refs.specs.Digits.{decimal_from}
 use Rattle.ic_refs.specs.Sheet.{SpellsReference, sheet_text}
+
+-- the bracket that closes a distance
+abbrev pub close_square : ℕ
+close_square = 93
 
 -- the digits of a number, zeros in front or not
 abbrev pub SpellsNumber : List ℕ → ℕ → Type 0
@@ -45,6 +50,11 @@ SpellsPlace text (places.Range first last) = (a : List ℕ) × (b : List ℕ) ×
 abbrev pub SpellsStored : List ℕ → RefToken → Type 0
 SpellsStored text token = SpellsReference SpellsPlace text token
 
+-- a reference can be written in the stored form: within the limits of the form, and with a name that a sheet may have,
+-- if it has one
+abbrev pub is_stored_spellable : RefToken → Bool
+is_stored_spellable token = is_place_within token.place && is_written_sheet token.sheet
+
 -- Spelling
 
 abbrev pub position_text : ℕ → Position → List ℕ
@@ -75,7 +85,7 @@ past_bracket n (c ∷ cs) = if c == 93 then Some (n, cs) else None
 -- the digits of a distance less than the length, and the bracket that closes it
 abbrev pub digits_at : ℕ → List ℕ → Option (ℕ × List ℕ)
 digits_at length text =
-    let read : ℕ × List ℕ = number_from (length - 1) 0 text in if first_is is_digit text then past_bracket read.0 read.1 else None
+    let read : ℕ × List ℕ = decimal_from (length - 1) 0 text in if first_is is_digit text then past_bracket read.0 read.1 else None
 
 -- what stands behind an opening bracket: a distance
 abbrev pub distance_at : ℕ → List ℕ → Option (Position × List ℕ)
@@ -87,7 +97,7 @@ distance_at length (c ∷ cs) =
 -- what stands behind the letter of a row or a column of a sheet of this length
 abbrev pub part_at : ℕ → List ℕ → Option (Position × List ℕ)
 part_at length [] = None
-part_at length (c ∷ cs) = if c == 91 then distance_at length cs else absolute_of (number_from length 0 (c ∷ cs))
+part_at length (c ∷ cs) = if c == 91 then distance_at length cs else absolute_of (decimal_from length 0 (c ∷ cs))
 
 -- the row or the column at the front
 abbrev pub position_at : ℕ → ℕ → List ℕ → Option (Position × List ℕ)

@@ -1,8 +1,10 @@
 ghost use Rattle.std.specs.Prelude.{◌≡◌, ◌-◌, ◌≤◌, ◌≤ℤ◌, pos, true, Some, None, chars, option_map, if◌then◌else◌};
-ghost use Rattle.ic_laws.specs.Scan.{is_digit, past_dollar};
-ghost use Rattle.ic_refs.specs.A1.{a1_place_at, cell_at, column_at, digits_from, has_dollar, IsAnOrigin, pair_at, past_colon, read_position, row_at, whole_columns, whole_rows};
+ghost use Rattle.ic_laws.specs.Scan.{past_dollar};
+ghost use Rattle.ic_refs.specs.A1.{a1_place_at, cell_at, column_at, has_dollar, IsAnOrigin, pair_at, past_colon, read_position, row_at, whole_columns, whole_rows};
 
 use crate::column::read_letters;
+use crate::find::PlaceForm;
+use crate::number::read_number;
 use ic_laws::scan::first_char;
 use ic_laws::{LAST_COLUMN, LAST_ROW, Place, Position, RefPart};
 
@@ -11,38 +13,6 @@ use ic_laws::{LAST_COLUMN, LAST_ROW, Place, Position, RefPart};
 pub(crate) struct Origin {
     pub(crate) row: i32,
     pub(crate) column: i32,
-}
-
-// What a digit counts.
-fn digit_of(c: char) -> Option<u32>
-    ensures { result ≡ (if is_digit c then Some (c - 48) else None) }
-{
-    match c {
-        '0'..='9' => Some(c as u32 - 48),
-        _ => None,
-    }
-}
-
-// The number of the row whose digits are at the front, and what stands behind them. Digits are taken while the row is
-// one of the sheet. The number is 0 where there is no digit but 0.
-fn read_digits(text: &str) -> (u32, &str)
-    ensures exact { (result.0, chars result.1.now) ≡ digits_from 0 (chars text.now) }
-    ensures small { result.0 ≤ 1048576 }
-{
-    let mut number = 0;
-    let mut rest = text;
-    while let Some((c, after)) = first_char(rest) {
-        let Some(digit) = digit_of(c) else {
-            break;
-        };
-        let more = number * 10 + digit;
-        if more > 1_048_576 {
-            break;
-        }
-        number = more;
-        rest = after;
-    }
-    (number, rest)
 }
 
 // Whether a dollar sign stands at the front, and what stands behind it.
@@ -93,7 +63,7 @@ fn read_row(text: &str, row: i32) -> Option<(Position, &str)>
     ensures { option_map (λ f. (f.0, chars f.1.now)) result ≡ row_at row (chars text.now) }
 {
     let (absolute, digits) = read_dollar(text);
-    let (number, rest) = read_digits(digits);
+    let (number, rest) = read_number(LAST_ROW as u32, digits);
     read_position(absolute, row, number, rest)
 }
 
@@ -147,8 +117,18 @@ fn read_rows(text: &str, row: i32) -> Option<((Position, Position), &str)>
     Some(((first, last), rest))
 }
 
+impl PlaceForm for Origin {
+    ghost place_at = { λ origin text. a1_place_at origin.row origin.column text };
+
+    ghost is_usable = { λ origin. IsAnOrigin origin.row origin.column };
+
+    fn read_place<'t>(&self, text: &'t str) -> Option<(Place, &'t str)> {
+        read_place(text, *self)
+    }
+}
+
 // The longest place at the front, read at a row and a column, and what stands behind it.
-pub(crate) fn read_place(text: &str, origin: Origin) -> Option<(Place, &str)>
+fn read_place(text: &str, origin: Origin) -> Option<(Place, &str)>
     requires { IsAnOrigin origin.row origin.column }
     ensures exact { option_map (λ f. (f.0, chars f.1.now)) result ≡ a1_place_at origin.row origin.column (chars text.now) }
 {

@@ -1,8 +1,8 @@
-ghost use Rattle.std.specs.Prelude.{◌≡◌, ◌↔◌, ◌<◌, ◌≤◌, [], ◌∷◌, ◌++◌, ◌+◌, true, false, pos, nat_lt, Some, Ok, IfOk, IfSome, OnOk, IsNone, is_ok, chars, string_bytes, option_map};
+ghost use Rattle.std.specs.Prelude.{◌≡◌, ◌↔◌, ◌<◌, ◌≤◌, [], ◌∷◌, ◌++◌, ◌+◌, ℤ, true, false, pos, nat_lt, Some, Ok, IfOk, IfSome, OnOk, IsNone, MatchResult, is_ok, chars, string_bytes, option_map};
 ghost use Rattle.std.specs.List.{list_all};
 ghost use Rattle.ic_laws.specs.Position.{is_row, is_column, letters_number};
 ghost use Rattle.ic_laws.specs.Scan.{is_upper};
-ghost use Rattle.ic_refs.specs.A1.{letters_from};
+ghost use Rattle.ic_refs.specs.Digits.{letters_from};
 ghost use Rattle.ic_refs.specs.Column.{column_letters, column_name, column_number, letter};
 
 use crate::ColumnError;
@@ -15,6 +15,16 @@ use std::alloc::Global;
 /// Err tells the first that holds: the text is empty, a character isn't ASCII, a character is none of A to Z, or the
 /// column is past the last one, 16,384.
 pub fn column_to_number(column: &str) -> Result<i32, ColumnError>
+    ensures exact { result ≡ column_number (chars column.now) }
+
+    // A text names a column exactly where the column has these letters.
+    ensures named { MatchResult result (λ n. column_name n ≡ Some (chars column.now)) (λ e. (n : ℤ) → column_name n ≡ Some (chars column.now) → ⊥) }
+{
+    number_of_letters(column)
+}
+
+// The same, with the clause that says it all.
+fn number_of_letters(column: &str) -> Result<i32, ColumnError>
     ensures { result ≡ column_number (chars column.now) }
 {
     if column.is_empty() {
@@ -134,66 +144,4 @@ pub(crate) fn read_letters(text: &str) -> (u32, &str)
         rest = after;
     }
     (number, rest)
-}
-
-#[cfg(test)]
-mod tests {
-    use super::*;
-    use std::test::Fail;
-
-    #[test]
-    fn numbers_of_letters(rt: HostRuntime) {
-        for (letters, number) in [
-            ("A", Ok(1)),
-            ("Z", Ok(26)),
-            ("AA", Ok(27)),
-            ("AB", Ok(28)),
-            ("ZZ", Ok(702)),
-            ("AAA", Ok(703)),
-            ("XFD", Ok(16_384)),
-            ("XFE", Err(ColumnError::NotValid)),
-            ("AAAA", Err(ColumnError::NotValid)),
-            ("AAAAAAAAAAAAAAAAAAAA", Err(ColumnError::NotValid)),
-            ("", Err(ColumnError::Empty)),
-            ("ab", Err(ColumnError::NotLetters)),
-            ("A1", Err(ColumnError::NotLetters)),
-            ("$A", Err(ColumnError::NotLetters)),
-            ("💥", Err(ColumnError::NotAscii)),
-            ("aé", Err(ColumnError::NotAscii)),
-            ("XFEé", Err(ColumnError::NotAscii)),
-        ] {
-            assert_eq!(rt; column_to_number(letters), number, "{letters}");
-            assert_eq!(rt; is_valid_column(letters), number.is_ok(), "{letters}");
-        }
-    }
-
-    #[test]
-    fn letters_of_numbers(rt: HostRuntime) -> Result<(), Fail> {
-        for (number, letters) in [
-            (1, Some("A")),
-            (26, Some("Z")),
-            (27, Some("AA")),
-            (28, Some("AB")),
-            (702, Some("ZZ")),
-            (703, Some("AAA")),
-            (16_384, Some("XFD")),
-            (16_385, None),
-            (0, None),
-            (-1, None),
-            (i32::MAX, None),
-            (i32::MIN, None),
-        ] {
-            let found = number_to_column(rt.alloc(), number)?;
-            assert!(rt; found.as_deref() == letters, "{number}");
-            assert_eq!(rt;
-                is_valid_column_number(number),
-                letters.is_some(),
-                "{number}"
-            );
-        }
-        for (row, valid) in [(0, false), (1, true), (1_048_576, true), (1_048_577, false)] {
-            assert_eq!(rt; is_valid_row(row), valid, "{row}");
-        }
-        Ok(())
-    }
 }

@@ -10,6 +10,7 @@ mod a1_reference;
 mod a1_text;
 mod column;
 mod error;
+mod find;
 mod formula;
 mod name;
 mod number;
@@ -34,6 +35,3 @@ pub use name::{is_valid_a1_identifier, is_valid_identifier, is_valid_sheet_name,
 pub use reference::{A1Reference, Area, CellReferenceIndex, ParsedReference};
 pub use stored::read_rc;
 pub use stored_text::spell_rc;
-
-#[cfg(test)]
-mod a1_tests;

@@ -1,7 +1,7 @@
 use Rattle.std.proofs.Common.{◌≡◌, ◌≤◌, chars, length}
 use denote.Text.{Utf8}
 use denote.Shadow.{shadow}
-use Rattle.ic_refs.specs.A1.{letters_from}
+use Rattle.ic_refs.specs.Digits.{letters_from}
 use Rattle.ic_refs.proofs.column.read_letters.Given as goal
 
 -- behind the number so far, the rest is read as the whole is

@@ -1,17 +1,10 @@
--- Readers of the longest text at the front, and two of a kind with a colon between them.
+-- Two of a kind with a colon between them.
 use Rattle.std.proofs.Common.{◌≡◌, ℕ, ◌≤◌, List, [], ◌∷◌, ◌++◌, Bool, false, ◌==◌, ◌⊎◌, length, Option, Some, None, option_map, option_and_then, refl, sym, ◌∙◌, ap, subst, arith, inl, inr, append_assoc, length-append}
 use Rattle.std.proofs.lemmas.Bool.Decides.{eqb_tells}
 use Rattle.ic_laws.specs.Scan.{first_is}
 use Rattle.ic_refs.specs.A1.{past_colon, pair_at}
 use Rattle.ic_refs.specs.Sheet.{or_else}
-use Rattle.ic_refs.proofs.PositionLemmas.{Takes}
-
--- What a reader reads is spelled so; what is spelled is read, or more is; and just it is read, where no character that
--- could go on stands behind it.
-pub record Reads {T : Type 0} (Spells : List ℕ → T → Type 0) (read : List ℕ → Option (T × List ℕ)) (goes_on : ℕ → Bool) : Type 0 where
-  pub spelled : (text : List ℕ) (found : T × List ℕ) → read text ≡ Some found → Takes Spells text found
-  pub longest : (front rest : List ℕ) (v : T) → Spells front v → (found : T × List ℕ) × (read (front ++ rest) ≡ Some found) × (length found.1 ≤ length rest)
-  pub exact : (front rest : List ℕ) (v : T) → Spells front v → first_is goes_on rest ≡ false → read (front ++ rest) ≡ Some (v, rest)
+use Rattle.ic_refs.proofs.LongestLemmas.{IsTaken, Reads}
 
 -- options
 pub none_or_some : {T : Type 0} (o : Option T) → (o ≡ None) ⊎ ((x : T) × (o ≡ Some x))
@@ -101,11 +94,11 @@ pair_longer {T} Spells read goes_on r text found one e p =
     omega (arith, left, end, ap length t.whole, length-append t.front parts.last.1)
 
 pair_spelled : {T : Type 0} (Spells : List ℕ → T → Type 0) (read : List ℕ → Option (T × List ℕ)) (goes_on : ℕ → Bool) (r : Reads Spells read goes_on) (text : List ℕ) (found : (T × T) × List ℕ)
-    → PairParts read text found → Takes (SpellsPair Spells) text found
+    → PairParts read text found → IsTaken (SpellsPair Spells) text found
 pair_spelled {T} Spells read goes_on r text found parts =
     let a = r.spelled text (parts.first, 58 ∷ parts.behind) parts.read_first in
     let b = r.spelled parts.behind parts.last parts.read_last in
-    let Wanted : (T × T) × List ℕ → Type 0 = λ f. Takes (SpellsPair Spells) text f in
+    let Wanted : (T × T) × List ℕ → Type 0 = λ f. IsTaken (SpellsPair Spells) text f in
     subst Wanted parts.pair (record {
       front = a.front ++ 58 ∷ b.front;
       whole = a.whole ∙ ap (λ v. a.front ++ 58 ∷ v) b.whole ∙ sym (append_assoc a.front (58 ∷ b.front) parts.last.1);
