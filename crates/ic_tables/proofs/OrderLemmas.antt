@@ -1,8 +1,8 @@
 -- Entries in the order of their foldings: what a binary search keeps, and what it finds.
-use Rattle.std.proofs.Common.{◌≡◌, ℕ, ◌+◌, ◌<◌, ◌≤◌, suc, zero, Bool, true, false, not, List, [], ◌∷◌, ◌++◌, length, get_or, take, drop, map, bytes_eq, Bor, chars, MatchOption, Option, Some, None, option_map, refl, sym, ap, ap₂, subst, ◌∙◌, arith, add-one, cond}
-use Rattle.std.proofs.lemmas.Bool.{and_parts, and_from, both_ways, cond-true, cond-false, false_from_ne_true, true_from_ne_false, not-true, not_from_false}
+use Rattle.std.proofs.Common.{inl, inr, ◌≡◌, ℕ, ◌+◌, ◌<◌, ◌≤◌, suc, zero, Bool, true, false, not, List, [], ◌∷◌, ◌++◌, length, get_or, take, drop, map, bytes_eq, Bor, chars, MatchOption, Option, Some, None, option_map, refl, sym, ap, ap₂, subst, ◌∙◌, arith, add-one, cond}
+use Rattle.std.proofs.lemmas.Bool.{cases_eq, and_parts, and_from, both_ways, cond-true, cond-false, false_from_ne_true, true_from_ne_false, not-true, not_from_false}
 use Rattle.std.proofs.lemmas.Cmp.{nat_list_cmp_total, upto}
-use Rattle.std.proofs.lemmas.List.{drop_more, drop_all, take_more, take_all, take-append-drop}
+use Rattle.std.proofs.lemmas.List.{get_or_append_left, get_or_default, get_or_push, length_push, drop_more, drop_all, take_more, take_all, take-append-drop}
 use Rattle.std.proofs.lemmas.Map.Text.{is_eq-slice_cmp}
 use Rattle.std.proofs.lemmas.Slice.Eq.{bytes_eq-Decides}
 use Rattle.std.specs.Cmp.Lexicographic.{slice_cmp}
@@ -11,9 +11,11 @@ use Rattle.std.specs.Ordering.{nat_cmp, ordering_reverse, is_eq, is_lt, is_gt}
 use Rattle.std.specs.declared.cmp.Ordering.{Ordering}
 use Rattle.std.specs.declared.cmp.Ordering.TheVariants.{Less, Equal, Greater}
 use Rattle.ic_laws.specs.Name.{agrees, fold}
-use Rattle.ic_tables.specs.Order.{BeginsWithFound, BeginsWithNone, FoldsFront, FoldsNoFront, IsOrderOf, IsOrderFrom, IsPutFirst, agreeing_from, comes_before, is_sorted, number_at}
+use Rattle.ic_tables.specs.Order.{AreOrderedTo, OrdersWords, BeginsWithFound, BeginsWithNone, FoldsFront, FoldsNoFront, IsOrderOf, IsOrderFrom, IsPutFirst, agreeing_from, comes_before, is_sorted, number_at}
 use Rattle.ic_tables.specs.Words.{first_agreeing}
+use Rattle.ic_tables.specs.declared.language.Language.{Language}
 use Rattle.ic_tables.specs.declared.order.WordEntry.{WordEntry}
+use Rattle.ic_tables.specs.declared.order.WordOrder.{WordOrder}
 
 lt_of_reverse : (o : Ordering) → is_lt (ordering_reverse o) ≡ is_gt o
 lt_of_reverse Less = refl
@@ -282,3 +284,25 @@ error_nowhere words es text o none front rest split = sym (o.numbers front) ∙ 
 pub error_any : (words : List (List ℕ)) (es slice : List WordEntry) (text : List ℕ) (r : Option (ℕ × Bor (List ℕ))) → slice ≡ es → IsOrderOf words es → MatchOption r (BeginsWithNone (λ front. number_at slice (fold front)) text) (λ p. BeginsWithFound (λ front. number_at slice (fold front)) text (chars p.1.now) p.0) → MatchOption r (BeginsWithNone (first_agreeing words) text) (λ p. BeginsWithFound (first_agreeing words) text (chars p.1.now) p.0)
 error_any words es slice text None same o h = error_nowhere words slice text (subst (IsOrderOf words) (sym same) o) h
 error_any words es slice text (Some p) same o h = error_found words slice text _ _ (subst (IsOrderOf words) (sym same) o) h
+
+-- orders of languages
+pub ordered_none : (ls : List Language) → AreOrderedTo 0 ls []
+ordered_none ls = record { many = refl; each = λ k l o h _ _. absurd (omega arith) }
+
+pub ordered_more : (n : ℕ) (ls : List Language) (os made : List WordOrder) (l : Language) (o : WordOrder) → n < length ls → l ≡ get_or ls n l → made ≡ os ++ o ∷ [] → OrdersWords l o → AreOrderedTo n ls os → AreOrderedTo (n + 1) ls made
+ordered_more n ls os made l o h at is this so_far =
+    record {
+      many = ap length is ∙ length_push os o ∙ ap (λ k. k + 1) so_far.many;
+      each = λ k m p within m_at p_at.
+          elim (cases_eq k n) [
+            | inl same ↦
+                let m_is : m ≡ l = m_at ∙ ap (λ j. get_or ls j m) same ∙ get_or_default ls n m l h ∙ sym at in
+                let p_is : p ≡ o = p_at ∙ ap₂ (λ items j. get_or items j p) is same ∙ get_or_push os o p n so_far.many in
+                subst (λ x. OrdersWords x p) (sym m_is) (subst (OrdersWords l) (sym p_is) this)
+            | inr other ↦
+                let below : k < n = omega arith in
+                let many : length os ≡ n = so_far.many in
+                let within_old : k < length os = omega arith in
+                so_far.each k m p below m_at (p_at ∙ ap (λ items. get_or items k p) is ∙ get_or_append_left os (o ∷ []) p k within_old)
+          ];
+    }

@@ -1,5 +1,5 @@
 -- Words in the order of their foldings, by which a word is found without going through all of them.
-use Rattle.std.specs.Prelude.{◌≡◌, ℕ, ◌+◌, List, [], ◌∷◌, ◌++◌, Bool, true, false, not, ◌&&◌, Option, Some, None, bytes_eq, if◌then◌else◌}
+use Rattle.std.specs.Prelude.{◌≡◌, ℕ, ◌+◌, ◌<◌, length, slice_index_or, List, [], ◌∷◌, ◌++◌, Bool, true, false, not, ◌&&◌, Option, Some, None, bytes_eq, if◌then◌else◌}
 use Rattle.std.specs.Cmp.Lexicographic.{slice_cmp}
 use Rattle.std.specs.List.{list_all}
 use Rattle.std.specs.Ordering.{nat_cmp, is_eq, is_lt}
@@ -76,3 +76,12 @@ pub record BeginsWithFound (find : List ℕ → Option ℕ) (text rest : List �
 -- no front of a text is found
 abbrev pub BeginsWithNone : (List ℕ → Option ℕ) → List ℕ → Type 0
 BeginsWithNone find text = (front rest : List ℕ) → text ≡ front ++ rest → find front ≡ None
+
+-- the first so many languages have an order each, in the same order
+pub record AreOrderedTo (n : ℕ) (languages : List Language) (orders : List WordOrder) : Type 0 where
+  pub many : length orders ≡ n
+  pub each : (k : ℕ) (l : Language) (o : WordOrder) → k < n → l ≡ slice_index_or languages k l → o ≡ slice_index_or orders k o → OrdersWords l o
+
+-- each language has its order
+abbrev pub AreOrdered : List Language → List WordOrder → Type 0
+AreOrdered languages orders = AreOrderedTo (length languages) languages orders

@@ -14,6 +14,7 @@ mod error;
 mod fold;
 mod ids;
 mod language;
+mod languages;
 mod locale;
 mod numbered;
 mod order;

@@ -2,7 +2,7 @@
 ghost use Rattle.std.specs.Prelude.{◌≡◌, ◌<◌, ◌≤◌, true, not, chars, drop, length, map, take, IfOk, MatchOption, OnOk};
 ghost use Rattle.std.specs.List.{list_all};
 ghost use Rattle.ic_laws.specs.Name.{fold};
-ghost use Rattle.ic_tables.specs.Order.{BeginsWithFound, BeginsWithNone, IsOrderOf, IsPutFirst, OrdersWords, comes_before, is_sorted, number_at};
+ghost use Rattle.ic_tables.specs.Order.{AreOrdered, BeginsWithFound, BeginsWithNone, IsOrderOf, IsPutFirst, OrdersWords, comes_before, is_sorted, number_at};
 
 use crate::Language;
 use crate::compare::{compare_folded, past_folded};
@@ -43,6 +43,20 @@ impl WordOrder {
             functions,
         })
     }
+}
+
+/// The orders of the words of these languages.
+pub fn order_languages(
+    alloc: Global,
+    languages: &[Language],
+) -> Result<Items<WordOrder>, OutOfMemory>
+    ensures { IfOk result (λ orders. AreOrdered languages.now orders) }
+{
+    let mut orders = Vec::new(alloc);
+    for language in languages {
+        orders.push(WordOrder::new(alloc, language)?)?;
+    }
+    Ok(Items::from(orders))
 }
 
 /// These words in the order of their foldings, with their numbers.

@@ -1,8 +1,8 @@
 //! The words of a language with their order: the word of a number, and the number of a word.
-ghost use Rattle.std.specs.Prelude.{◌≡◌, MatchOption, chars, option_map};
+ghost use Rattle.std.specs.Prelude.{◌≡◌, MatchOption, bytes_eq, chars, find, option_map};
 ghost use Rattle.std.specs.List.{slice_get};
 ghost use Rattle.ic_laws.specs.declared.dialect.WordKind.TheVariants.{Error};
-ghost use Rattle.ic_tables.specs.Order.{BeginsWithFound, BeginsWithNone, OrdersWords};
+ghost use Rattle.ic_tables.specs.Order.{AreOrdered, BeginsWithFound, BeginsWithNone, OrdersWords};
 ghost use Rattle.ic_tables.specs.Words.{first_agreeing, words_of};
 
 use crate::order::{find_front, find_number};
@@ -61,4 +61,21 @@ impl<'t> Words<'t> {
     {
         find_front(self.order.errors.as_slice(), text)
     }
+}
+
+/// The words of the language with this code, among languages with their orders.
+pub fn words_among<'t>(
+    languages: &'t [Language],
+    orders: &'t [WordOrder],
+    code: &str,
+) -> Option<Words<'t>>
+    requires { AreOrdered languages.now orders.now }
+    ensures { option_map (λ w. w.language.now) result ≡ find (λ l. bytes_eq l.code (chars code.now)) languages.now }
+{
+    for (i, language) in languages.iter().enumerate() {
+        if language.code.is(code) {
+            return Some(Words::new(language, &orders[i]));
+        }
+    }
+    None
 }
