@@ -18,7 +18,7 @@ use Rattle.ic_laws.specs.declared.tree.Constant.TheVariants as constants
 use Rattle.ic_laws.specs.declared.tree.PrefixSign.TheVariants as prefixes
 use Rattle.ic_laws.specs.declared.tree.PrefixSign.{PrefixSign}
 use Rattle.ic_laws.specs.declared.tree.Tree.TheOpen as one
-use Rattle.ic_laws.proofs.Nodes.{pair_tokens, yield-node}
+use Rattle.ic_laws.proofs.parsing.Nodes.{pair_tokens, yield-node}
 use Rattle.ic_tree.specs.Printed.{all_between, arguments_text, constant_text, each_before, each_from, kind_text, pair_text, prefix_sign, row_separator, row_text, separator_before, tree_text}
 
 module _ (d : DialectMeaning) where

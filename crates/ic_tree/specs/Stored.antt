@@ -1,20 +1,12 @@
 -- What the stored form means: English words, `,` and `.`, and references by distances.
-use Rattle.std.specs.Prelude.{◌≡◌, [], Bool, true, ◌&&◌, length}
+use Rattle.std.specs.Prelude.{◌≡◌, [], true, length}
 use Rattle.std.specs.List.{slice_get}
 use Rattle.ic_laws.specs.Character.{comma, dot}
 use Rattle.ic_laws.specs.Dialect.{DialectMeaning}
-use Rattle.ic_laws.specs.Position.{is_place_within}
-use Rattle.ic_laws.specs.Tree.{is_written_sheet}
-use Rattle.ic_laws.specs.declared.reference.RefToken.{RefToken}
 use Rattle.ic_refs.specs.Sheet.{reference_at}
-use Rattle.ic_refs.specs.Stored.{stored_place_at, stored_text}
+use Rattle.ic_refs.specs.Stored.{is_stored_spellable, stored_place_at, stored_text}
 use Rattle.ic_tables.specs.Words.{first_agreeing, has_boolean_words, has_error_words, has_function_words, numbers_functions, tells_booleans, tells_errors, words_of}
 use Rattle.ic_tables.specs.declared.language.Language.{Language}
-
--- a reference can be written in the stored form: within the limits of the form, and with a name that a sheet may have,
--- if it has one
-abbrev pub is_stored_spellable : RefToken → Bool
-is_stored_spellable r = is_place_within r.place && is_written_sheet r.sheet
 
 -- The stored form in a language: arguments stand between `,`, and `.` is the decimal separator; the words are those of
 -- the language, and a text is the first word that it agrees with; references are in the stored form.

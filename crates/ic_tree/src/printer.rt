@@ -38,7 +38,7 @@ fn push_prefix(out: &mut String, sign: PrefixSign) -> Result<(), OutOfMemory>
 }
 
 // The text of a sign between two operands.
-#[tactic(auto, unfolding(ic_laws::proofs::Smallest::literal))]
+#[tactic(auto, unfolding(crate::proofs::Literals::literal))]
 fn sign_text(sign: BinarySign) -> &'static str
     ensures { chars result.now ≡ sign_text sign }
 {

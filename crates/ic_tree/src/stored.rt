@@ -6,7 +6,8 @@ ghost use Rattle.ic_laws.specs.Tree.{is_written_sheet as written};
 ghost use Rattle.ic_laws.specs.declared.dialect.WordKind.TheVariants as kinds;
 ghost use Rattle.ic_tables.specs.Order.{BeginsWithFound, BeginsWithNone};
 ghost use Rattle.ic_tables.specs.Words.{first_agreeing, words_of};
-ghost use Rattle.ic_tree.specs.Stored.{SpeaksWell, is_stored_spellable as spellable, stored_meaning};
+ghost use Rattle.ic_refs.specs.Stored.{is_stored_spellable as spellable};
+ghost use Rattle.ic_tree.specs.Stored.{SpeaksWell, stored_meaning};
 
 use crate::number::error_of;
 use ic_laws::scan::{first_char, front_of};

@@ -1,7 +1,7 @@
 -- The laws of words, for any notation whose words are those of a language.
-use Rattle.std.proofs.Common.{◌≡◌, ◌≢◌, ℕ, zero, suc, ◌<◌, List, [], ◌∷◌, ◌++◌, Bool, true, false, not, ◌&&◌, ◌||◌, ◌==◌, nat_lt, length, map, Some, IsSome, refl, sym, subst, ◌∙◌, ap, arith}
+use Rattle.std.proofs.Common.{codes, inl, inr, ◌≡◌, ◌≢◌, ℕ, zero, suc, ◌<◌, List, [], ◌∷◌, ◌++◌, Bool, true, false, not, ◌&&◌, ◌||◌, ◌==◌, nat_lt, length, map, Some, IsSome, refl, sym, subst, ◌∙◌, ap, arith}
 use Rattle.std.specs.List.{list_all, list_any, slice_get}
-use Rattle.std.proofs.lemmas.Bool.{and_parts, and_from, or_parts, or_from, both_ways, eqb-true, not-true}
+use Rattle.std.proofs.lemmas.Bool.{or_cases, and_parts, and_from, or_parts, or_from, both_ways, eqb-true, not-true}
 use Rattle.std.proofs.lemmas.Bool.Decides.{nat_tests}
 use Rattle.std.proofs.lemmas.Option.{slice_get_within}
 use Rattle.ic_laws.specs.Name.{Agree, agrees, fold, is_variable_form}
@@ -13,7 +13,7 @@ use Rattle.ic_tables.specs.Words.{boolean_words, differ, error_words, has_boolea
 use Rattle.ic_tables.specs.declared.language.Language.{Language}
 use Rattle.ic_tree.specs.Stored.{SpeaksWell}
 use Rattle.ic_tables.proofs.WordLemmas.{AgreesWithOne, agrees_after, found_at, finds, finds_alike, not_prefix, passes_at, proper_prefix}
-use Rattle.ic_tree.specs.laws.FoldMarks.{is_mark, fold_append, fold_empty, second_no_mark}
+use Rattle.ic_laws.proofs.FoldLaws.{fold_append, fold_empty, is_fixed, listed_fixed, second_stays}
 
 some_at : {X : Type 0} (xs : List X) (n : ℕ) → n < length xs → IsSome (slice_get xs n)
 some_at [] n h = absurd (omega arith)
@@ -90,6 +90,23 @@ unfolding has_function_words
 law_function_shape l w n word e =
     passes_at has_function_shape l.functions.words n word (and_parts (list_all has_function_shape l.functions.words) (no_two_agree l.functions.words) w.functions).0 e
 
+-- what no error's word has after its `#`: a sign or a blank; each of them folds to itself
+abbrev is_mark : ℕ → Bool
+is_mark c = is_sign c || is_blank c
+
+blank_fixed : (c : ℕ) → is_blank c ≡ true → is_fixed c ≡ true
+blank_fixed c h =
+    elim (or_cases (c == 32 || c == 9 || c == 10) (c == 13) h) [
+      | inr e ↦ ap is_fixed (eqb-true c 13 e)
+      | inl a ↦ elim (or_cases (c == 32 || c == 9) (c == 10) a) [
+        | inr e ↦ ap is_fixed (eqb-true c 10 e)
+        | inl b ↦ elim (or_cases (c == 32) (c == 9) b) [ inl e ↦ ap is_fixed (eqb-true c 32 e) | inr e ↦ ap is_fixed (eqb-true c 9 e) ]
+      ]
+    ]
+
+mark_fixed : (c : ℕ) → is_mark c ≡ true → is_fixed c ≡ true
+mark_fixed c h = elim (or_cases (is_sign c) (is_blank c) h) [ inl s ↦ listed_fixed (codes "+-*/^&=<>%#@,;.(){}\"'") refl c s | inr b ↦ blank_fixed c b ]
+
 -- a word of an error by its first two characters
 error_parts : (word : List ℕ) → has_error_shape word ≡ true → (d : ℕ) × (ds : List ℕ) × (word ≡ 35 ∷ d ∷ ds) × (is_mark d ≡ false)
 error_parts [] h = absurd (cc)
@@ -110,7 +127,7 @@ error_shape_of l h text n e =
     let f = found_at (error_words l) text n e in
     let good = (and_parts (list_all has_error_shape (error_words l)) (no_two_agree (error_words l)) h).0 in
     let p = error_parts f.0 (passes_at has_error_shape (error_words l) n f.0 good f.1) in
-    let q = second_no_mark text p.1 35 p.0 refl p.3 (sym f.2 ∙ ap fold p.2) in
+    let q = second_stays is_mark mark_fixed text p.1 35 p.0 refl p.3 (sym f.2 ∙ ap fold p.2) in
     ap has_error_shape q.2 ∙ shape_of q.0 q.1 q.3
 
 pub law_error_shape : (l : Language) → SpeaksWell l → (text : List ℕ) (n : ℕ) → first_agreeing (words_of l kinds.Error) text ≡ Some n → has_error_shape text ≡ true

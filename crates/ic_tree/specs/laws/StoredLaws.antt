@@ -1,11 +1,11 @@
 -- The stored form meets the laws of a notation.
-use Rattle.std.proofs.Common.{◌≡◌, ◌≢◌, ℕ, ◌<◌, ◌≤◌, List, [], ◌∷◌, ◌++◌, Bool, true, false, not, ◌&&◌, ◌||◌, length, Option, Some, None, IfSome, refl, sym, subst, ◌∙◌, ap, inl}
+use Rattle.std.proofs.Common.{◌≡◌, ◌≢◌, ℕ, ◌<◌, ◌≤◌, List, [], ◌∷◌, ◌++◌, Bool, true, false, not, ◌||◌, length, Option, Some, None, refl, sym, subst, ◌∙◌, ap, inl}
 use Rattle.std.specs.List.{list_all, slice_get}
 use Rattle.std.proofs.lemmas.Bool.{and_from, and_parts, both_ways}
 use Rattle.ucd_derived.proofs.Computing.{ucd_derived}
 use Rattle.ic_laws.specs.Amount.{unsigned_text}
 use Rattle.ic_laws.specs.Scan.{IsEnd, begins_word, first_is, is_digit, is_letter, is_word_character}
-use Rattle.ic_laws.specs.Name.{has_row_column_form, is_lone, is_sheet_name, is_variable_form}
+use Rattle.ic_laws.specs.Name.{has_row_column_form, is_lone, is_variable_form}
 use Rattle.ic_laws.specs.Dialect.{IsLawful, IsWordOrAmount, begins_reference}
 use Rattle.ic_laws.specs.Position.{is_part_within, is_place_within}
 use Rattle.ic_laws.specs.Tree.{is_written_sheet}
@@ -15,16 +15,16 @@ use Rattle.ic_laws.specs.declared.reference.Place.TheVariants as places
 use Rattle.ic_laws.specs.declared.reference.RefToken.{RefToken}
 use Rattle.ic_refs.specs.Longest.{FindsLongest, IsLongest}
 use Rattle.ic_refs.specs.Sheet.{SpellsReference, SpellsSheet, reference_at}
-use Rattle.ic_refs.specs.Stored.{SpellsPlace, stored_place_at, stored_text}
+use Rattle.ic_refs.specs.Stored.{SpellsPlace, is_stored_spellable, stored_place_at}
 use Rattle.ic_refs.proofs.ReferenceLemmas.{finds_reference}
 use Rattle.ic_refs.proofs.StoredReachLemmas.{finds_longest_place}
-use Rattle.ic_refs.proofs.StoredReferenceLemmas.{stored_again}
+use Rattle.ic_refs.proofs.StoredReferenceLemmas.{stored_spelled}
 use Rattle.ic_refs.proofs.StoredTextLemmas.{no_bang_in_place, place_begins}
 use Rattle.ic_tables.specs.Words.{words_of}
 use Rattle.ic_tables.specs.Tables.{HasGoodWords, TableSet, english, error_words_in}
 use Rattle.ic_tables.specs.declared.language.Language.{Language}
 use Rattle.ic_tree.specs.Spelling.{SpellsWhatItReads}
-use Rattle.ic_tree.specs.Stored.{SpeaksWell, is_stored_spellable, stored_meaning}
+use Rattle.ic_tree.specs.Stored.{SpeaksWell, stored_meaning}
 use Rattle.ic_tree.specs.laws.EndLaws.{more_behind, no_less_behind}
 use Rattle.ic_tree.specs.laws.StoredPlaces.{place_form, place_stops}
 use Rattle.ic_tree.specs.laws.LanguageLaws.{found_is_word, law_boolean_shape, law_booleans, law_differ, law_error_shape, law_errors, law_errors_apart, law_finds_agreeing, law_finds_word, law_function_shape, law_special, numbers_own, told_alone}
@@ -50,13 +50,6 @@ stored_reference_begins = law_begins stored_place_at SpellsPlace finds_longest_p
 stored_at_word : (word rest after : List ℕ) (r : RefToken) → first_is begins_word word ≡ true → list_all is_word_character word ≡ true → IsEnd rest → read (word ++ rest) ≡ Some (r, after)
     → (p : Place) × (front : List ℕ) × (word ++ rest ≡ front ++ after) × SpellsPlace front p × (length front ≤ length word)
 stored_at_word = at_word stored_place_at SpellsPlace finds_longest_place no_bang_in_place stored_begins place_stops
-
-named : (sheet : Option (List ℕ)) → is_written_sheet sheet ≡ true → IfSome sheet (λ name. is_sheet_name name ≡ true)
-named None h = tt
-named (Some name) h = h
-
-stored_reads_spelled : (r : RefToken) (rest : List ℕ) → (is_place_within r.place && is_written_sheet r.sheet) ≡ true → IsEnd rest → read (stored_text r ++ rest) ≡ Some (r, rest)
-stored_reads_spelled r rest h e = let p = and_parts (is_place_within r.place) (is_written_sheet r.sheet) h in stored_again r rest p.0 (named r.sheet p.1) e
 
 not_both : (lone form : Bool) → (lone || not form) ≡ true → form ≡ true → lone ≡ false → ⊥
 not_both true form h f l = cc
@@ -111,7 +104,7 @@ stored_laws l w = record {
   error_shape = law_error_shape l w;
   errors_apart = law_errors_apart l w;
   reference_front = stored_front;
-  reads_spelled = stored_reads_spelled;
+  reads_spelled = stored_spelled;
   reference_begins = stored_reference_begins;
   shorter_than = shorter l w;
   within_function = within l w;
