@@ -6,11 +6,13 @@ ghost use Rattle.ic_laws.specs.Token.{sign_text, string_text};
 ghost use Rattle.ic_laws.specs.declared.dialect.WordKind.TheVariants as kinds;
 ghost use Rattle.ic_tree.specs.Printed.{arguments_text, each_before, pair_text, prefix_sign, row_separator, tree_text};
 
-use crate::constant::{push_amount, push_boolean, push_error, push_rows, push_separator, push_string, push_word};
+use crate::constant::{
+    push_amount, push_boolean, push_error, push_rows, push_separator, push_string, push_word,
+};
 use ic_laws::scan::{push_char, push_text};
 use ic_laws::{
-    BinarySign, Dialect, LetPair, OutOfMemory, Place, PrefixSign, RefToken, Spelled, Text,
-    Tree, WordKind,
+    BinarySign, Dialect, LetPair, OutOfMemory, Place, PrefixSign, RefToken, Spelled, Text, Tree,
+    WordKind,
 };
 use std::alloc::Global;
 
@@ -134,8 +136,7 @@ fn push_tree<D: Dialect>(
         Tree::Empty => Ok(()),
         Tree::Paren(x) => {
             push_char(out, '(')?;
-            push_tree(alloc, d, out, x.as_ref())?;
-            push_char(out, ')')
+            push_closed(alloc, d, out, x.as_ref())
         }
         Tree::Prefix(sign, x) => {
             push_prefix(out, *sign)?;
@@ -165,12 +166,12 @@ fn push_tree<D: Dialect>(
         Tree::Let(pairs, body) => {
             push_head(d, out, d.let_fn())?;
             push_pairs(alloc, d, out, pairs.as_slice())?;
-            push_body(alloc, d, out, body.as_ref())
+            push_closed(alloc, d, out, body.as_ref())
         }
         Tree::Lambda(parameters, body) => {
             push_head(d, out, d.lambda_fn())?;
             push_parameters(d, out, parameters.as_slice())?;
-            push_body(alloc, d, out, body.as_ref())
+            push_closed(alloc, d, out, body.as_ref())
         }
         Tree::Apply(x, arguments) => {
             push_tree(alloc, d, out, x.as_ref())?;
@@ -185,17 +186,17 @@ fn push_tree<D: Dialect>(
     }
 }
 
-// Appends the last argument and the bracket that closes the arguments.
+// Appends a tree and the bracket that closes it.
 #[cycle(print)]
-fn push_body<D: Dialect>(
+fn push_closed<D: Dialect>(
     alloc: Global,
     d: &D,
     out: &mut String,
-    body: &Spelled,
+    tree: &Spelled,
 ) -> Result<(), OutOfMemory>
-    ensures { OnOk result (chars (string_bytes out.new) ≡ chars (string_bytes out.old) ++ (tree_text (D.meaning d.now) body.now ++ codes ")")) }
+    ensures { OnOk result (chars (string_bytes out.new) ≡ chars (string_bytes out.old) ++ (tree_text (D.meaning d.now) tree.now ++ codes ")")) }
 {
-    push_tree(alloc, d, out, body)?;
+    push_tree(alloc, d, out, tree)?;
     push_char(out, ')')
 }
 

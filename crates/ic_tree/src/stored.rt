@@ -174,10 +174,7 @@ impl<'t> Dialect for Stored<'t> {
         if is_stored_spellable(r) {
             spell_rc(alloc, r)
         } else {
-            Ok(String::from_str(
-                alloc,
-                self.english.errors.ref_word.as_str(),
-            )?)
+            Ok(String::from_str(alloc, self.english.errors.ref_word.as_str())?)
         }
     }
 

@@ -46,15 +46,15 @@ unfolding trees.roll-Tree denote.Hole.Carrier.roll
 push_tree-returns-in-Empty g t c =
     sym (ap (λ k. chars (string_bytes c.args.out.now) ++ k) (text_at (g.D.Dialect.meaning c.args.d.now) c.args.tree.now one.Empty c.in-Empty.is) ∙ append-nil _)
 
-pub push_tree-returns-in_ok-push_tree-in-Paren : goal.push_tree-returns-in_ok-push_tree-in-Paren
+pub push_tree-returns-in_ok-push_char-in-Paren : goal.push_tree-returns-in_ok-push_char-in-Paren
 unfolding trees.roll-Tree denote.Hole.Carrier.roll
-push_tree-returns-in_ok-push_tree-in-Paren g t c =
-    three_steps _ _ _ _ _ _ _ _ (g.D.Dialect.meaning c.args.d.now) _ (one.Paren c.in-Paren.x) c.in-Paren.is c.in_ok-push_char-in-Paren.ensures.ok c.in_ok-push_tree-in-Paren.ensures (ap (λ x. codes "(" ++ tree_text (g.D.Dialect.meaning c.args.d.now) x ++ codes ")") c.as_ref.ensures) c.push_char-in-Paren.ensures.ok
+push_tree-returns-in_ok-push_char-in-Paren g t c =
+    two_steps _ _ _ _ _ _ (g.D.Dialect.meaning c.args.d.now) _ (one.Paren c.in-Paren.x) c.in-Paren.is c.in_ok-push_char-in-Paren.ensures.ok (ap (λ x. codes "(" ++ (tree_text (g.D.Dialect.meaning c.args.d.now) x ++ codes ")")) c.as_ref.ensures) c.push_closed.ensures
 
 pub push_tree-returns-in_ok-push_prefix-in-Prefix : goal.push_tree-returns-in_ok-push_prefix-in-Prefix
 unfolding trees.roll-Tree denote.Hole.Carrier.roll
 push_tree-returns-in_ok-push_prefix-in-Prefix g t c =
-    two_steps _ _ _ _ _ _ (g.D.Dialect.meaning c.args.d.now) _ (one.Prefix c.in-Prefix.sign c.in-Prefix.x) c.in-Prefix.is c.in_ok-push_prefix-in-Prefix.ensures (ap (λ x. prefix_sign c.in-Prefix.sign ∷ tree_text (g.D.Dialect.meaning c.args.d.now) x) c.as_ref-in-Prefix.ensures) c.push_tree-in-Prefix.ensures
+    two_steps _ _ _ _ _ _ (g.D.Dialect.meaning c.args.d.now) _ (one.Prefix c.in-Prefix.sign c.in-Prefix.x) c.in-Prefix.is c.in_ok-push_prefix-in-Prefix.ensures (ap (λ x. prefix_sign c.in-Prefix.sign ∷ tree_text (g.D.Dialect.meaning c.args.d.now) x) c.as_ref-in-Prefix.ensures) c.push_tree.ensures
 
 pub push_tree-returns-in_ok-push_tree-in-Percent : goal.push_tree-returns-in_ok-push_tree-in-Percent
 unfolding trees.roll-Tree denote.Hole.Carrier.roll
@@ -84,12 +84,12 @@ push_tree-returns-in_ok-push_name_head-in-Call g t c =
 pub push_tree-returns-in_ok-push_pairs-in-Let : goal.push_tree-returns-in_ok-push_pairs-in-Let
 unfolding trees.roll-Tree denote.Hole.Carrier.roll
 push_tree-returns-in_ok-push_pairs-in-Let g t c =
-    three_steps _ _ _ _ _ _ _ _ (g.D.Dialect.meaning c.args.d.now) _ (one.Let c.in-Let.pairs c.in-Let.body) c.in-Let.is c.in_ok-push_head-in-Let.ensures c.in_ok-push_pairs-in-Let.ensures (ap (λ n. word_text (g.D.Dialect.meaning c.args.d.now) kinds.Function n ++ codes "(" ++ each_before (g.D.Dialect.meaning c.args.d.now).list (pair_text (g.D.Dialect.meaning c.args.d.now)) c.as_slice-in-Let.result.now ++ (tree_text (g.D.Dialect.meaning c.args.d.now) c.as_ref-in-Let.result.now ++ codes ")")) c.let_fn.ensures ∙ ap₂ (λ xs x. word_text (g.D.Dialect.meaning c.args.d.now) kinds.Function (g.D.Dialect.meaning c.args.d.now).let_fn ++ codes "(" ++ each_before (g.D.Dialect.meaning c.args.d.now).list (pair_text (g.D.Dialect.meaning c.args.d.now)) xs ++ (tree_text (g.D.Dialect.meaning c.args.d.now) x ++ codes ")")) c.as_slice-in-Let.ensures c.as_ref-in-Let.ensures) c.push_body.ensures
+    three_steps _ _ _ _ _ _ _ _ (g.D.Dialect.meaning c.args.d.now) _ (one.Let c.in-Let.pairs c.in-Let.body) c.in-Let.is c.in_ok-push_head-in-Let.ensures c.in_ok-push_pairs-in-Let.ensures (ap (λ n. word_text (g.D.Dialect.meaning c.args.d.now) kinds.Function n ++ codes "(" ++ each_before (g.D.Dialect.meaning c.args.d.now).list (pair_text (g.D.Dialect.meaning c.args.d.now)) c.as_slice-in-Let.result.now ++ (tree_text (g.D.Dialect.meaning c.args.d.now) c.as_ref-in-Let.result.now ++ codes ")")) c.let_fn.ensures ∙ ap₂ (λ xs x. word_text (g.D.Dialect.meaning c.args.d.now) kinds.Function (g.D.Dialect.meaning c.args.d.now).let_fn ++ codes "(" ++ each_before (g.D.Dialect.meaning c.args.d.now).list (pair_text (g.D.Dialect.meaning c.args.d.now)) xs ++ (tree_text (g.D.Dialect.meaning c.args.d.now) x ++ codes ")")) c.as_slice-in-Let.ensures c.as_ref-in-Let.ensures) c.push_closed-in-Let.ensures
 
 pub push_tree-returns-in_ok-push_parameters-in-Lambda : goal.push_tree-returns-in_ok-push_parameters-in-Lambda
 unfolding trees.roll-Tree denote.Hole.Carrier.roll
 push_tree-returns-in_ok-push_parameters-in-Lambda g t c =
-    three_steps _ _ _ _ _ _ _ _ (g.D.Dialect.meaning c.args.d.now) _ (one.Lambda c.in-Lambda.parameters c.in-Lambda.body) c.in-Lambda.is c.in_ok-push_head-in-Lambda.ensures c.in_ok-push_parameters-in-Lambda.ensures (ap (λ n. word_text (g.D.Dialect.meaning c.args.d.now) kinds.Function n ++ codes "(" ++ each_before (g.D.Dialect.meaning c.args.d.now).list (λ p. p) c.as_slice-in-Lambda.result.now ++ (tree_text (g.D.Dialect.meaning c.args.d.now) c.as_ref-in-Lambda.result.now ++ codes ")")) c.lambda_fn.ensures ∙ ap₂ (λ xs x. word_text (g.D.Dialect.meaning c.args.d.now) kinds.Function (g.D.Dialect.meaning c.args.d.now).lambda_fn ++ codes "(" ++ each_before (g.D.Dialect.meaning c.args.d.now).list (λ p. p) xs ++ (tree_text (g.D.Dialect.meaning c.args.d.now) x ++ codes ")")) c.as_slice-in-Lambda.ensures c.as_ref-in-Lambda.ensures) c.push_body-in-Lambda.ensures
+    three_steps _ _ _ _ _ _ _ _ (g.D.Dialect.meaning c.args.d.now) _ (one.Lambda c.in-Lambda.parameters c.in-Lambda.body) c.in-Lambda.is c.in_ok-push_head-in-Lambda.ensures c.in_ok-push_parameters-in-Lambda.ensures (ap (λ n. word_text (g.D.Dialect.meaning c.args.d.now) kinds.Function n ++ codes "(" ++ each_before (g.D.Dialect.meaning c.args.d.now).list (λ p. p) c.as_slice-in-Lambda.result.now ++ (tree_text (g.D.Dialect.meaning c.args.d.now) c.as_ref-in-Lambda.result.now ++ codes ")")) c.lambda_fn.ensures ∙ ap₂ (λ xs x. word_text (g.D.Dialect.meaning c.args.d.now) kinds.Function (g.D.Dialect.meaning c.args.d.now).lambda_fn ++ codes "(" ++ each_before (g.D.Dialect.meaning c.args.d.now).list (λ p. p) xs ++ (tree_text (g.D.Dialect.meaning c.args.d.now) x ++ codes ")")) c.as_slice-in-Lambda.ensures c.as_ref-in-Lambda.ensures) c.push_closed-in-Lambda.ensures
 
 pub push_tree-returns-in_ok-push_char-in-Apply : goal.push_tree-returns-in_ok-push_char-in-Apply
 unfolding trees.roll-Tree denote.Hole.Carrier.roll

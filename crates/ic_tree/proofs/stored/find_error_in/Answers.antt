@@ -13,11 +13,12 @@ returns-in_default-first_char c =
     (sym c.find_word.ensures ∙ c.in_default.is) c.in_default-first_char.ensures.parts c.fronts.invariant.2
 
 pub fronts-preserved : goal.fronts-preserved
-fronts-preserved c =
-    (search rules,
-    ends_after (chars c.args.text.now) (chars c.front_of.result.now) (chars c.fronts.rest.now) (chars c.in-Some-first_char.after.now) c.in-Some-first_char.field-0-0 c.front_of.ensures c.in-Some-first_char.ensures.parts,
-    tried_more (first_agreeing (words_of c.args.l.now kinds.Error)) (chars c.args.text.now) (chars c.front_of.result.now) (chars c.fronts.rest.now) (chars c.in-Some-first_char.after.now) c.in-Some-first_char.field-0-0 c.front_of.ensures
-    (sym c.find_word.ensures ∙ c.in_default.is) c.in-Some-first_char.ensures.parts c.fronts.invariant.2)
+fronts-preserved c = (
+  search rules,
+  ends_after (chars c.args.text.now) (chars c.front_of.result.now) (chars c.fronts.rest.now) (chars c.in-Some-first_char.after.now) c.in-Some-first_char.field-0-0 c.front_of.ensures c.in-Some-first_char.ensures.parts,
+  tried_more (first_agreeing (words_of c.args.l.now kinds.Error)) (chars c.args.text.now) (chars c.front_of.result.now) (chars c.fronts.rest.now) (chars c.in-Some-first_char.after.now) c.in-Some-first_char.field-0-0 c.front_of.ensures
+      (sym c.find_word.ensures ∙ c.in_default.is) c.in-Some-first_char.ensures.parts c.fronts.invariant.2,
+)
 
 pub fronts-init : goal.fronts-init
 fronts-init c = (c.utf8.text, ([], refl), none_tried (first_agreeing (words_of c.args.l.now kinds.Error)) (chars c.args.text.now))
