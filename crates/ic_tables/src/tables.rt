@@ -72,15 +72,22 @@ impl Tables {
 
     /// The words of the language with this code.
     pub fn get_words(&self, id: &str) -> Result<Words<'_>, BookIdError>
-        ensures { MatchResult result (λ w. language_of self.now (chars id.now) ≡ Some w.language.now)
+        ensures found { MatchResult result (λ w. language_of self.now (chars id.now) ≡ Some w.language.now)
             (λ e. (e ≡ BookIdError.InvalidLanguage) × (language_of self.now (chars id.now) ≡ None)) }
+
+        // They meet the conditions on words.
+        ensures words { IfOk result (λ w. HasGoodWords self.now w.language.now) }
     {
         self.languages.words(id).ok_or(BookIdError::InvalidLanguage)
     }
 
     /// The words of the language `en`, which is always there.
     pub fn get_default_words(&self) -> Words<'_>
-        ensures { language_of self.now (codes "en") ≡ Some result.language.now }
+        ensures found { language_of self.now (codes "en") ≡ Some result.language.now }
+
+        // They meet the conditions on words, and are those of stored formulas.
+        ensures words { HasGoodWords self.now result.language.now }
+        ensures stored { has_stored_words result.language.now ≡ true }
     {
         self.languages.words("en").unwrap()
     }
