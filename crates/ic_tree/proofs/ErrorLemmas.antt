@@ -1,9 +1,7 @@
 -- Finding an error's word at the front of a text.
-use Rattle.std.proofs.Common.{◌≡◌, ℕ, ◌-◌, ◌<◌, ◌≤◌, List, [], ◌∷◌, ◌++◌, length, drop, append_assoc, length-append, Option, Some, None, IsUtf8, chars, encode_utf8_all, sym, ap, ◌∙◌, inl, inr, arith}
-use Rattle.std.proofs.Math.Nat.{eq-or-lt_of_le}
+use Rattle.std.proofs.Common.{◌≡◌, ℕ, ◌-◌, ◌<◌, ◌≤◌, List, ◌++◌, length, drop, length-append, Option, Some, None, IsUtf8, chars, encode_utf8_all, sym, ap, ◌∙◌, arith}
 use Rattle.std.specs.Str.{IsCharBoundary}
 use Rattle.ic_laws.specs.Dialect.{DialectMeaning, FindsErrorAt, error_number}
-use Rattle.ic_laws.specs.Scan.{EndsWith}
 use Rattle.ic_laws.specs.declared.dialect.WordKind.TheVariants as kinds
 use Rattle.ic_laws.specs.declared.tree.Error.{Error}
 use Rattle.ic_laws.proofs.RunLemmas.{bytes_end}
@@ -11,43 +9,7 @@ use Rattle.ic_tables.specs.Order.{BeginsWithFound, BeginsWithNone}
 use Rattle.ic_tables.specs.Words.{first_agreeing, words_of}
 use Rattle.ic_tables.specs.declared.language.Language.{Language}
 use Rattle.ic_tree.specs.Stored.{stored_meaning}
-use Rattle.ic_tree.specs.laws.EndLaws.{same_front}
 use Rattle.ic_tree.specs.laws.LanguageLaws.{found_below}
-
--- ---- the fronts of a text, shorter ones first
-
--- no front that is shorter than the one before this rest agrees with one of them
-abbrev pub Tried : (List ℕ → Option ℕ) → List ℕ → List ℕ → Type 0
-Tried find text rest = (front other : List ℕ) → text ≡ front ++ other → length rest < length other → find front ≡ None
-
-pub none_tried : (find : List ℕ → Option ℕ) (text : List ℕ) → Tried find text text
-none_tried find text front other e l = absurd (omega (arith, ap length e, length-append front other))
-
--- nor the front before it
-tried_here : (find : List ℕ → Option ℕ) (text front rest : List ℕ) → text ≡ front ++ rest → find front ≡ None → (before other : List ℕ) → text ≡ before ++ other → length other ≡ length rest → find before ≡ None
-tried_here find text front rest e none before other f same =
-    let whole : front ++ rest ≡ before ++ other = sym e ∙ f in
-    let long : length before ≡ length front = omega (arith, ap length whole, length-append front rest, length-append before other) in
-    ap find (same_front front before rest other whole long) ∙ none
-
-pub tried_more : (find : List ℕ → Option ℕ) (text front rest after : List ℕ) (c : ℕ) → text ≡ front ++ rest → find front ≡ None → rest ≡ c ∷ after → Tried find text rest → Tried find text after
-tried_more find text front rest after c e none r tried before other f l =
-    elim (eq-or-lt_of_le {n = length rest} {m = length other} (omega (arith, ap length r))) [
-      | inl same ↦ tried_here find text front rest e none before other f (sym same)
-      | inr less ↦ tried before other f less
-    ]
-
-pub all_tried : (find : List ℕ → Option ℕ) (text front rest : List ℕ) → text ≡ front ++ rest → find front ≡ None → rest ≡ [] → Tried find text rest → BeginsWithNone find text
-all_tried find text front rest e none r tried before other f =
-    elim (eq-or-lt_of_le {n = length rest} {m = length other} (omega (arith, ap length r))) [
-      | inl same ↦ tried_here find text front rest e none before other f (sym same)
-      | inr less ↦ tried before other f less
-    ]
-
-pub ends_after : (text front rest after : List ℕ) (c : ℕ) → text ≡ front ++ rest → rest ≡ c ∷ after → EndsWith text after
-ends_after text front rest after c e r = (front ++ c ∷ [], e ∙ ap (λ t. front ++ t) r ∙ sym (append_assoc front (c ∷ []) after))
-
--- ---- at a byte of a text
 
 pub outside : (d : DialectMeaning) (text : List ℕ) (at : ℕ) → (IsCharBoundary text at → ⊥) → FindsErrorAt d text at None
 outside d text at h = λ b. absurd (h b)

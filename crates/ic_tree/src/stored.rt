@@ -10,21 +10,20 @@ ghost use Rattle.ic_refs.specs.Stored.{is_stored_spellable as spellable};
 ghost use Rattle.ic_tree.specs.Stored.{SpeaksWell, stored_meaning};
 
 use crate::number::error_of;
-use ic_laws::scan::{first_char, front_of};
 use ic_laws::{
     Dialect, Error, LAST_COLUMN, LAST_ROW, OutOfMemory, Place, Position, RefPart, RefToken, Text,
     WordKind,
 };
 use ic_refs::{is_valid_sheet_name, read_rc, spell_rc};
-use ic_tables::{Language, Tables, find_word, word};
+use ic_tables::{Tables, Words};
 use std::alloc::Global;
 
 /// The stored form of formulas: English words, `,` between arguments, `.` before decimals, and references with rows and
 /// columns by number or by distance, as `R1C[-2]`.
 #[derive(Clone, Copy)]
 pub struct Stored<'t> {
-    english: &'t Language,
-    ghost good: { SpeaksWell english.now },
+    words: Words<'t>,
+    ghost good: { SpeaksWell words.language.now },
 }
 
 impl<'t> Stored<'t> {
@@ -38,7 +37,7 @@ impl<'t> Stored<'t> {
         ensures { option_map stored_meaning (language_of tables.now (codes "en")) ≡ Some (⟦<Stored<'t> as Dialect>⟧.meaning result) }
     {
         Stored {
-            english: tables.get_default_language(),
+            words: tables.get_default_words(),
         }
     }
 }
@@ -86,31 +85,14 @@ fn is_stored_spellable(r: &RefToken) -> bool
     is_place_within(r.place) && is_written_sheet(&r.sheet)
 }
 
-// The number of the error whose word is at the front of a text, and what stands after it.
-fn find_error_in<'t>(l: &Language, text: &'t str) -> Option<(usize, &'t str)>
-    ensures { MatchOption result (BeginsWithNone (first_agreeing (words_of l.now kinds.Error)) (chars text.now))
-        (λ p. BeginsWithFound (first_agreeing (words_of l.now kinds.Error)) (chars text.now) (chars p.1.now) p.0) }
-{
-    let mut rest = text;
-    'fronts: loop {
-        if let Some(number) = find_word(l, WordKind::Error, front_of(text, rest)) {
-            return Some((number, rest));
-        }
-        let Some((_, after)) = first_char(rest) else {
-            return None;
-        };
-        rest = after;
-    }
-}
-
 // The error whose word begins at a byte, and how many bytes that word has.
-fn find_error_at(l: &Language, text: &str, at: usize) -> Option<(Error, usize)>
-    ensures { FindsErrorAt (stored_meaning l.now) text.now at result }
+fn find_error_at(words: &Words<'_>, text: &str, at: usize) -> Option<(Error, usize)>
+    ensures { FindsErrorAt (stored_meaning words.now.language.now) text.now at result }
 {
     let Some((_, front)) = text.split_at_checked(at) else {
         return None;
     };
-    let Some((number, rest)) = find_error_in(l, front) else {
+    let Some((number, rest)) = words.find_error(front) else {
         return None;
     };
     let Some(error) = error_of(number) else {
@@ -131,7 +113,7 @@ impl<'t> Dialect for Stored<'t> {
     ghost use Rattle.ic_tree.specs.Stored.{stored_meaning};
     ghost use Rattle.ic_tree.specs.laws.StoredLaws.{stored_laws};
 
-    ghost meaning = { λ d. stored_meaning d.english.now };
+    ghost meaning = { λ d. stored_meaning d.words.language.now };
 
     fn list(&self) -> char {
         ','
@@ -142,23 +124,23 @@ impl<'t> Dialect for Stored<'t> {
     }
 
     fn word(&self, kind: WordKind, n: usize) -> Option<&str> {
-        word(self.english, kind, n)
+        self.words.word(kind, n)
     }
 
     fn find(&self, kind: WordKind, text: &str) -> Option<usize> {
-        find_word(self.english, kind, text)
+        self.words.find(kind, text)
     }
 
     fn find_error(&self, text: &str, at: usize) -> Option<(Error, usize)> {
-        find_error_at(self.english, text, at)
+        find_error_at(&self.words, text, at)
     }
 
     fn let_fn(&self) -> usize {
-        self.english.functions.let_fn
+        self.words.language.functions.let_fn
     }
 
     fn lambda_fn(&self) -> usize {
-        self.english.functions.lambda_fn
+        self.words.language.functions.lambda_fn
     }
 
     fn read_ref(
@@ -174,9 +156,9 @@ impl<'t> Dialect for Stored<'t> {
         if is_stored_spellable(r) {
             spell_rc(alloc, r)
         } else {
-            Ok(String::from_str(alloc, self.english.errors.ref_word.as_str())?)
+            Ok(String::from_str(alloc, self.words.language.errors.ref_word.as_str())?)
         }
     }
 
-    ghost laws = { λ d. stored_laws d.english.now d.good };
+    ghost laws = { λ d. stored_laws d.words.language.now d.good };
 }
