@@ -1,4 +1,5 @@
 pub mod Making
+pub mod Order
 pub mod Sample
 pub mod Tables
 pub mod Words

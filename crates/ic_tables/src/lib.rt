@@ -8,21 +8,30 @@
 //! id, and an error exactly where there is none.
 #![tactic(auto)]
 
+mod compare;
 mod conditions;
 mod error;
 mod fold;
 mod ids;
 mod language;
+mod languages;
 mod locale;
+mod numbered;
+mod order;
 mod sample;
 mod tables;
+mod vocabulary;
 mod words;
 
+pub use compare::compare_folded;
 pub use error::{BookIdError, TablesError};
 pub use language::{Booleans, Errors, FunctionKind, Functions, Language};
 pub use locale::{
     Currency, CurrencyFormats, DateFormats, Dates, DecimalFormats, Locale, NamedLocale,
     NumbersProperties, NumbersSymbols, TimeFormats,
 };
+pub use numbered::{find_word, word};
+pub use order::WordOrder;
 pub use sample::sample_tables;
 pub use tables::Tables;
+pub use vocabulary::Words;

@@ -5,7 +5,8 @@ ghost use Rattle.ic_tables.specs.Tables.{TableSet, HasGoodWords, first_failed, l
 
 use crate::conditions::check;
 use crate::ids::{find_id, has_id};
-use crate::{BookIdError, FunctionKind, Language, Locale, NamedLocale, TablesError};
+use crate::languages::Languages;
+use crate::{BookIdError, FunctionKind, Language, Locale, NamedLocale, TablesError, Words};
 use ic_laws::{Items, Text};
 use std::alloc::Global;
 use std::marker::Model;
@@ -13,7 +14,7 @@ use std::marker::Model;
 /// Languages, locales, zones and function kinds that meet every condition on tables.
 #[derive(Debug, Drop)]
 pub struct Tables {
-    languages: Items<Language>,
+    languages: Languages,
     locales: Items<NamedLocale>,
     zones: Items<Text>,
     kinds: Items<FunctionKind>,
@@ -49,6 +50,7 @@ impl Tables {
             zones.as_slice(),
             kinds.as_slice(),
         )?;
+        let languages = Languages::new(alloc, languages)?;
         Ok(Tables {
             languages,
             locales,
@@ -66,6 +68,28 @@ impl Tables {
         ensures words { IfOk result (λ l. HasGoodWords self.now l.now) }
     {
         find_id(self.languages.as_slice(), id).ok_or(BookIdError::InvalidLanguage)
+    }
+
+    /// The words of the language with this code.
+    pub fn get_words(&self, id: &str) -> Result<Words<'_>, BookIdError>
+        ensures found { MatchResult result (λ w. language_of self.now (chars id.now) ≡ Some w.language.now)
+            (λ e. (e ≡ BookIdError.InvalidLanguage) × (language_of self.now (chars id.now) ≡ None)) }
+
+        // They meet the conditions on words.
+        ensures words { IfOk result (λ w. HasGoodWords self.now w.language.now) }
+    {
+        self.languages.words(id).ok_or(BookIdError::InvalidLanguage)
+    }
+
+    /// The words of the language `en`, which is always there.
+    pub fn get_default_words(&self) -> Words<'_>
+        ensures found { language_of self.now (codes "en") ≡ Some result.language.now }
+
+        // They meet the conditions on words, and are those of stored formulas.
+        ensures words { HasGoodWords self.now result.language.now }
+        ensures stored { has_stored_words result.language.now ≡ true }
+    {
+        self.languages.words("en").unwrap()
     }
 
     /// The locale with this id.

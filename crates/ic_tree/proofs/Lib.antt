@@ -1,0 +1,3 @@
+pub mod ErrorLemmas
+pub mod Literals
+pub mod PrintLemmas

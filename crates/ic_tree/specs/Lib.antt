@@ -1,1 +1,5 @@
+pub mod Printed
+pub mod Spelling
+pub mod Stored
 pub mod Tokens
+pub mod laws

@@ -2,6 +2,12 @@
 //! the text of a tree. Reader and printer are written once, for every dialect.
 #![tactic(auto)]
 
+mod constant;
+mod number;
+mod printer;
+mod stored;
 mod token;
 
+pub use printer::print;
+pub use stored::Stored;
 pub use token::{Ahead, Token, TokenSource};
