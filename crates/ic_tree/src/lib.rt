@@ -2,6 +2,7 @@
 //! the text of a tree. Reader and printer are written once, for every dialect.
 #![tactic(auto)]
 
+mod lexer;
 mod token;
 
 pub use token::{Ahead, Token, TokenSource};

@@ -1,0 +1,4 @@
+mod quoted;
+mod seen;
+mod signs;
+mod words;
