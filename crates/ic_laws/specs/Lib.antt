@@ -11,6 +11,7 @@ pub mod Name
 pub mod NextToken
 pub mod Parse
 pub mod Position
+pub mod ReadAs
 pub mod Reading
 pub mod Scan
 pub mod Split

@@ -1,5 +1,7 @@
-ghost use Rattle.std.specs.Prelude.{◌≡◌};
-ghost use Rattle.ic_laws.specs.Reading.{IsWell};
+ghost use Rattle.std.specs.Prelude.{◌≡◌, ℕ, List, Some};
+ghost use Rattle.ic_laws.specs.NextToken.{tokens_of};
+ghost use Rattle.ic_laws.specs.Reading.{Fits, IsWell, Reads, printed};
+ghost use Rattle.ic_laws.specs.Token.{Token, Lexes};
 ghost use Rattle.ic_laws.specs.Tree.{Spelled};
 ghost use Rattle.ic_laws.specs.Yield.{yield};
 
@@ -8,4 +10,19 @@ use crate::Dialect;
 /// A list of tokens is that of one formula at most: two well-formed formulas with the same tokens are equal.
 pub fn law_yield_injective<D: Dialect>()
     ensures { (d : D) (s t : Spelled) → IsWell (D.meaning d) s → IsWell (D.meaning d) t → yield (D.meaning d) s ≡ yield (D.meaning d) t → s ≡ t }
+{}
+
+/// A text falls into tokens in one way at most.
+pub fn law_lexes_unique<D: Dialect>()
+    ensures { (d : D) (text : List ℕ) (ts us : List Token) → Lexes (D.meaning d) text ts → Lexes (D.meaning d) text us → ts ≡ us }
+{}
+
+/// The canonical text of a formula that fits falls into the tokens of the formula, by the relation and by the function.
+pub fn law_lex_print<D: Dialect>()
+    ensures { (d : D) (t : Spelled) → Fits (D.meaning d) t → Lexes (D.meaning d) (printed (D.meaning d) t) (yield (D.meaning d) t) × (tokens_of (D.meaning d) (printed (D.meaning d) t) ≡ Some (yield (D.meaning d) t)) }
+{}
+
+/// A formula that fits is read from its canonical text.
+pub fn law_read_print<D: Dialect>()
+    ensures { (d : D) (t : Spelled) → Fits (D.meaning d) t → Reads (D.meaning d) (printed (D.meaning d) t) t }
 {}

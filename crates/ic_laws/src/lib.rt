@@ -26,7 +26,7 @@ pub use amount::{Amount, amount_spelling, unsigned_amount};
 pub use boxed::Boxed;
 pub use dialect::{Dialect, WordKind};
 pub use items::Items;
-pub use law::law_yield_injective;
+pub use law::{law_lex_print, law_lexes_unique, law_read_print, law_yield_injective};
 pub use memory::OutOfMemory;
 pub use name::agree;
 pub use reference::{LAST_COLUMN, LAST_ROW, Place, Position, RefPart, RefToken};

@@ -1,6 +1,6 @@
 -- The premise of the law is one of a dialect's own laws.
 use Rattle.ic_laws.specs.Dialect.{IsLawful}
-use Rattle.ic_laws.proofs.ParseLemmas.{yield_injective}
+use Rattle.ic_laws.proofs.parsing.ParseLemmas.{yield_injective}
 use Rattle.ic_laws.proofs.law.law_yield_injective.Goals as goal
 
 pub returns : goal.returns

@@ -13,10 +13,10 @@ use Rattle.ic_laws.specs.Yield.{joined, row_sign, row_tokens, yield}
 use Rattle.ic_laws.specs.declared.reference.RefToken.{RefToken}
 use Rattle.ic_laws.specs.declared.tree.Error.{Error}
 use Rattle.ic_laws.specs.declared.tree.Tree.TheOpen as one
-use Rattle.ic_laws.proofs.CompleteParts.{let_tokens, lambda_tokens}
-use Rattle.ic_laws.proofs.Soundness.{Good, Sound, good_made}
-use Rattle.ic_laws.proofs.SoundParts.{ArgumentsGood, arguments_sound, BodyGood, body_sound, LetGood, let_parts_sound, LambdaGood, lambda_parts_sound}
-use Rattle.ic_laws.proofs.SoundRows.{RowsGood, rows_sound}
+use Rattle.ic_laws.proofs.parsing.CompleteParts.{let_tokens, lambda_tokens}
+use Rattle.ic_laws.proofs.parsing.Soundness.{Good, Sound, good_made}
+use Rattle.ic_laws.proofs.parsing.SoundParts.{ArgumentsGood, arguments_sound, BodyGood, body_sound, LetGood, let_parts_sound, LambdaGood, lambda_parts_sound}
+use Rattle.ic_laws.proofs.parsing.SoundRows.{RowsGood, rows_sound}
 
 pub if_some : {A P : Type 0} (b : Bool) (o : Option A) (y : A) → (if b then o else None) ≡ Some y → (b ≡ true → o ≡ Some y → P) → P
 if_some true o y e so = so refl e

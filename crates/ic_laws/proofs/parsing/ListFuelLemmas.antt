@@ -5,11 +5,11 @@ use Rattle.ic_laws.specs.Parse.{pair_of, Read, Reader, past_separator, past_clos
 use Rattle.ic_laws.specs.Token.{Token, Separator, Word}
 use Rattle.ic_laws.specs.Tree.{Spelled}
 use Rattle.ic_laws.specs.Yield.{constant_tokens, row_tokens, yield}
-use Rattle.ic_laws.proofs.ReadLemmas.{reader-zero, reader_nothing}
-use Rattle.ic_laws.proofs.Soundness.{Good, Sound, followed_some, past_separator_some}
-use Rattle.ic_laws.proofs.SoundParts.{binder_some, argument_sound}
-use Rattle.ic_laws.proofs.SoundRows.{constant_sound, row_tokens_of, past_row_sign_some}
-use Rattle.ic_laws.proofs.ParseLemmas.{reader_sound}
+use Rattle.ic_laws.proofs.parsing.ReadLemmas.{reader-zero, reader_nothing}
+use Rattle.ic_laws.proofs.parsing.Soundness.{Good, Sound, followed_some, past_separator_some}
+use Rattle.ic_laws.proofs.parsing.SoundParts.{binder_some, argument_sound}
+use Rattle.ic_laws.proofs.parsing.SoundRows.{constant_sound, row_tokens_of, past_row_sign_some}
+use Rattle.ic_laws.proofs.parsing.ParseLemmas.{reader_sound}
 
 pub option_cases : {A : Type 0} (o : Option A) → (o ≡ None) ⊎ ((x : A) × (o ≡ Some x))
 option_cases None = inl refl

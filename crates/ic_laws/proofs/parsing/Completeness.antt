@@ -16,8 +16,8 @@ use Rattle.ic_laws.specs.declared.tree.Error.{Error}
 use Rattle.ic_laws.specs.declared.tree.PrefixSign.{PrefixSign}
 use Rattle.ic_laws.specs.declared.tree.PrefixSign.TheVariants as prefixes
 use Rattle.ic_laws.specs.declared.tree.Tree.TheOpen as one
-use Rattle.ic_laws.proofs.Nodes.{WellKind, yield-node, height-node, brackets-node, level-node, level_positive, height_positive}
-use Rattle.ic_laws.proofs.ReadLemmas.{Ends, Ends-more, made_takes, made_if_takes, turns_stop, turns_go, postfix_stops, binary_stops}
+use Rattle.ic_laws.proofs.parsing.Nodes.{WellKind, yield-node, height-node, brackets-node, level-node, level_positive, height_positive}
+use Rattle.ic_laws.proofs.parsing.ReadLemmas.{Ends, Ends-more, made_takes, made_if_takes, turns_stop, turns_go, postfix_stops, binary_stops}
 
 -- a tree is read back before what doesn't go on from it
 pub record ReadsBack (d : DialectMeaning) (most b : ℕ) (t : Spelled) : Type 0 where

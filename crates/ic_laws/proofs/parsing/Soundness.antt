@@ -8,7 +8,7 @@ use Rattle.ic_laws.specs.Parse.{SpelledKind, node, Read, Reader, made, past_sepa
 use Rattle.ic_laws.specs.Token.{Token, Separator, Operator, Close, CloseBrace}
 use Rattle.ic_laws.specs.Tree.{Spelled, kind_level, sign_level, level, is_empty_kind, is_empty, height, brackets_step, open_brackets}
 use Rattle.ic_laws.specs.Yield.{joined, yield_step, yield}
-use Rattle.ic_laws.proofs.Nodes.{OfChildren, AllWell, PairAllWell, WellKind, well_made, with_tokens, with_numbers, yield-node, brackets-node, level-node, empty-node}
+use Rattle.ic_laws.proofs.parsing.Nodes.{OfChildren, AllWell, PairAllWell, WellKind, well_made, with_tokens, with_numbers, yield-node, brackets-node, level-node, empty-node}
 
 -- a list of tokens begins with no sign between operands that binds at least so tightly
 abbrev pub NoSign : ℕ → List Token → Type 0

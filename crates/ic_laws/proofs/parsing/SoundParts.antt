@@ -11,9 +11,9 @@ use Rattle.ic_laws.specs.Token.{Token, Word, Separator, Close}
 use Rattle.ic_laws.specs.Tree.{Spelled, is_empty, is_argument_list, open_brackets}
 use Rattle.ic_laws.specs.Yield.{joined, yield}
 use Rattle.ic_laws.specs.declared.tree.Tree.TheOpen as one
-use Rattle.ic_laws.proofs.Nodes.{AllWell, PairAllWell, well_made, pair_made, yield-node, brackets-node, empty_yields}
-use Rattle.ic_laws.proofs.CompleteParts.{let_tokens, lambda_tokens, let_tokens-cons, lambda_tokens-cons}
-use Rattle.ic_laws.proofs.Soundness.{Good, Sound, option_map_some, followed_some, past_separator_some, past_close_some, ItemSound, ListSound, listed_sound}
+use Rattle.ic_laws.proofs.parsing.Nodes.{AllWell, PairAllWell, well_made, pair_made, yield-node, brackets-node, empty_yields}
+use Rattle.ic_laws.proofs.parsing.CompleteParts.{let_tokens, lambda_tokens, let_tokens-cons, lambda_tokens-cons}
+use Rattle.ic_laws.proofs.parsing.Soundness.{Good, Sound, option_map_some, followed_some, past_separator_some, past_close_some, ItemSound, ListSound, listed_sound}
 
 -- an argument that is read is well-formed, with few enough brackets
 abbrev pub ArgumentGood : DialectMeaning → ℕ → Spelled → Type 0

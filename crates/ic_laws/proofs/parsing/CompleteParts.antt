@@ -12,10 +12,10 @@ use Rattle.ic_laws.specs.Yield.{joined, row_sign, constant_tokens, row_tokens, p
 use Rattle.ic_laws.specs.declared.tree.Constant.{Constant}
 use Rattle.ic_laws.specs.declared.tree.Constant.TheVariants as constants
 use Rattle.ic_laws.specs.declared.tree.Tree.TheOpen as one
-use Rattle.ic_laws.proofs.Nodes.{WellKind, pair_tokens, yield-node, height-node, brackets-node, level-node, level_positive}
-use Rattle.ic_laws.proofs.ReadLemmas.{ItemReads, SignReads, listed_reads, joined_long}
-use Rattle.ic_laws.proofs.Completeness.{ReadsBack, Wide, Complete, back, complete_primary}
-use Rattle.ic_laws.proofs.CompleteCalls.{no_binder}
+use Rattle.ic_laws.proofs.parsing.Nodes.{WellKind, pair_tokens, yield-node, height-node, brackets-node, level-node, level_positive}
+use Rattle.ic_laws.proofs.parsing.ReadLemmas.{ItemReads, SignReads, listed_reads, joined_long}
+use Rattle.ic_laws.proofs.parsing.Completeness.{ReadsBack, Wide, Complete, back, complete_primary}
+use Rattle.ic_laws.proofs.parsing.CompleteCalls.{no_binder}
 
 -- a pair of LET whose value is read back, or may be
 abbrev PairReads : DialectMeaning → ℕ → ℕ → Pair → Type 0

@@ -102,6 +102,27 @@ with_facts P Q (one.Apply x arguments) h =
     let held = all_with P arguments h.1 in (one.Apply (x, h.0) held.0, ap (λ (xs : List Spelled). let k : SpelledKind = one.Apply x xs in k) held.1)
 with_facts P Q (one.Array rows) h = (one.Array rows, refl)
 
+-- any condition on levels and pairs that holds of all of a tree holds here, and below
+module _ (L : SpelledKind → Type 0) (M : LetPair-F (Option (List ℕ)) (List ℕ) Spelled Pair → Type 0) where
+  abbrev pub Every : Spelled → Type 0
+  Every t = every-Tree (Option (List ℕ)) (List ℕ) L M t
+
+  abbrev pub EveryPair : Pair → Type 0
+  EveryPair pair = every-LetPair (Option (List ℕ)) (List ℕ) L M pair
+
+  pub here_of : (kind : SpelledKind) → Every (node kind) → L kind
+  here_of kind h = subst L (out-roll-Tree (Option (List ℕ)) (List ℕ) kind) (every_here-Tree (Option (List ℕ)) (List ℕ) L M (node kind) h)
+
+  pub below_of : (kind : SpelledKind) → Every (node kind) → OfChildren Every EveryPair kind
+  below_of kind h =
+      let held = every_held-Tree (Option (List ℕ)) (List ℕ) L M (node kind) h in
+      subst (OfChildren Every EveryPair) (held.1 ∙ out-roll-Tree (Option (List ℕ)) (List ℕ) kind) (of_held Every EveryPair held.0)
+
+  pub value_of : (pair : Pair) → EveryPair pair → Every pair.value
+  value_of pair h =
+      let held = every_held-LetPair (Option (List ℕ)) (List ℕ) L M pair h in
+      subst Every (ap (λ (p : LetPair-F (Option (List ℕ)) (List ℕ) Spelled Pair). p.value) held.1) held.0.value.1
+
 -- each level and each pair of a tree is well-formed
 abbrev pub WellKind : DialectMeaning → SpelledKind → Type 0
 WellKind d = IsKindWell spelled_names d.let_fn d.lambda_fn
@@ -113,13 +134,10 @@ abbrev pub PairAllWell : DialectMeaning → Pair → Type 0
 PairAllWell d pair = every-LetPair (Option (List ℕ)) (List ℕ) (WellKind d) IsPairWell pair
 
 pub well_here : (d : DialectMeaning) (kind : SpelledKind) → AllWell d (node kind) → WellKind d kind
-well_here d kind h =
-    subst (WellKind d) (out-roll-Tree (Option (List ℕ)) (List ℕ) kind) (every_here-Tree (Option (List ℕ)) (List ℕ) (WellKind d) IsPairWell (node kind) h)
+well_here d kind h = here_of (WellKind d) IsPairWell kind h
 
 pub well_below : (d : DialectMeaning) (kind : SpelledKind) → AllWell d (node kind) → OfChildren (AllWell d) (PairAllWell d) kind
-well_below d kind h =
-    let held = every_held-Tree (Option (List ℕ)) (List ℕ) (WellKind d) IsPairWell (node kind) h in
-    subst (OfChildren (AllWell d) (PairAllWell d)) (held.1 ∙ out-roll-Tree (Option (List ℕ)) (List ℕ) kind) (of_held (AllWell d) (PairAllWell d) held.0)
+well_below d kind h = below_of (WellKind d) IsPairWell kind h
 
 pub well_made : (d : DialectMeaning) (kind : SpelledKind) → WellKind d kind → OfChildren (AllWell d) (PairAllWell d) kind → AllWell d (node kind)
 well_made d kind here below =
@@ -237,9 +255,7 @@ pub pair_here : (d : DialectMeaning) (pair : Pair) → PairAllWell d pair → (i
 pair_here d pair h = let here = every_here-LetPair (Option (List ℕ)) (List ℕ) (WellKind d) IsPairWell pair h in (here.variable, here.value)
 
 pub pair_below : (d : DialectMeaning) (pair : Pair) → PairAllWell d pair → AllWell d pair.value
-pair_below d pair h =
-    let held = every_held-LetPair (Option (List ℕ)) (List ℕ) (WellKind d) IsPairWell pair h in
-    subst (AllWell d) (ap (λ (p : LetPair-F (Option (List ℕ)) (List ℕ) Spelled Pair). p.value) held.1) held.0.value.1
+pair_below d pair h = value_of (WellKind d) IsPairWell pair h
 
 pub pair_made : (d : DialectMeaning) (variable : List ℕ) (value : Spelled) → is_variable variable ≡ true → is_empty value ≡ false → AllWell d value → PairAllWell d (pair_of variable value)
 pair_made d variable value good there well =

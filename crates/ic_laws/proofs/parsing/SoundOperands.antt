@@ -12,11 +12,11 @@ use Rattle.ic_laws.specs.declared.tree.BinarySign.TheVariants as signs
 use Rattle.ic_laws.specs.declared.tree.PrefixSign.{PrefixSign}
 use Rattle.ic_laws.specs.declared.tree.PrefixSign.TheVariants as prefixes
 use Rattle.ic_laws.specs.declared.tree.Tree.TheOpen as one
-use Rattle.ic_laws.proofs.Nodes.{level-node}
-use Rattle.ic_laws.proofs.Completeness.{below_six}
-use Rattle.ic_laws.proofs.Soundness.{NoSign, NoSign-more, Good, Good-less, Sound, good_made, turns_sound}
-use Rattle.ic_laws.proofs.SoundParts.{ArgumentsGood, arguments_sound}
-use Rattle.ic_laws.proofs.SoundKinds.{if_some, opened_some, primary_sound}
+use Rattle.ic_laws.proofs.parsing.Nodes.{level-node}
+use Rattle.ic_laws.proofs.parsing.Completeness.{below_six}
+use Rattle.ic_laws.proofs.parsing.Soundness.{NoSign, NoSign-more, Good, Good-less, Sound, good_made, turns_sound}
+use Rattle.ic_laws.proofs.parsing.SoundParts.{ArgumentsGood, arguments_sound}
+use Rattle.ic_laws.proofs.parsing.SoundKinds.{if_some, opened_some, primary_sound}
 
 module _ (d : DialectMeaning) (most : ℕ) (below : Reader) (sound : Sound d most below) where
   percent_sound : (b : ℕ) (all : List Token) (left : Spelled) (ts : List Token) (read : Spelled × List Token) → Good d most b 7 all (left, Percent ∷ ts) → made most (one.Percent left) ts ≡ Some read → Good d most b 7 all read

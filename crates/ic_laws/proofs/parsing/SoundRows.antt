@@ -12,8 +12,8 @@ use Rattle.ic_laws.specs.Yield.{joined, row_sign, constant_tokens, row_tokens}
 use Rattle.ic_laws.specs.declared.tree.BinarySign.TheVariants as signs
 use Rattle.ic_laws.specs.declared.tree.Constant.{Constant}
 use Rattle.ic_laws.specs.declared.tree.Constant.TheVariants as constants
-use Rattle.ic_laws.proofs.Soundness.{followed_some, past_separator_some, past_brace_some, ItemSound, ListSound, listed_sound}
-use Rattle.ic_laws.proofs.SoundParts.{both_hold}
+use Rattle.ic_laws.proofs.parsing.Soundness.{followed_some, past_separator_some, past_brace_some, ItemSound, ListSound, listed_sound}
+use Rattle.ic_laws.proofs.parsing.SoundParts.{both_hold}
 
 abbrev pub ConstantGood : Constant → Type 0
 ConstantGood c = is_unsigned_constant c ≡ true

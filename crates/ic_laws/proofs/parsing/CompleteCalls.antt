@@ -11,9 +11,9 @@ use Rattle.ic_laws.specs.Token.{Token, Word, FunHead, NameHead, Separator, Open,
 use Rattle.ic_laws.specs.Tree.{Spelled, is_empty, is_callable, is_argument_list, height, open_brackets, is_called_name}
 use Rattle.ic_laws.specs.Yield.{joined, yield}
 use Rattle.ic_laws.specs.declared.tree.Tree.TheOpen as one
-use Rattle.ic_laws.proofs.Nodes.{WellKind, yield-node, height-node, brackets-node, level-node, level_positive, empty_yields, empty_is}
-use Rattle.ic_laws.proofs.ReadLemmas.{reader-zero, reader_begins, no_close, close_ends, ItemReads, SignReads, listed_reads, joined_long}
-use Rattle.ic_laws.proofs.Completeness.{ReadsBack, Wide, Complete, back, complete_primary, complete_postfix, complete-Word}
+use Rattle.ic_laws.proofs.parsing.Nodes.{WellKind, yield-node, height-node, brackets-node, level-node, level_positive, empty_yields, empty_is}
+use Rattle.ic_laws.proofs.parsing.ReadLemmas.{reader-zero, reader_begins, no_close, close_ends, ItemReads, SignReads, listed_reads, joined_long}
+use Rattle.ic_laws.proofs.parsing.Completeness.{ReadsBack, Wide, Complete, back, complete_primary, complete_postfix, complete-Word}
 
 -- an argument is left out or read back
 abbrev pub ArgumentReads : DialectMeaning → ℕ → ℕ → Spelled → Type 0

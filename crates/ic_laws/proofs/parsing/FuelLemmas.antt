@@ -6,9 +6,9 @@ use Rattle.ic_laws.specs.Parse.{SpelledKind, node, Read, Reader, made, arguments
 use Rattle.ic_laws.specs.Token.{Token, Operator, Percent, Hash, Open}
 use Rattle.ic_laws.specs.Tree.{Spelled, sign_level, height, is_callable}
 use Rattle.ic_laws.specs.declared.tree.Tree.TheOpen as one
-use Rattle.ic_laws.proofs.Nodes.{height-node, height_positive}
-use Rattle.ic_laws.proofs.ReadLemmas.{turns_stop, turns_go}
-use Rattle.ic_laws.proofs.SoundKinds.{if_some, opened_some}
+use Rattle.ic_laws.proofs.parsing.Nodes.{height-node, height_positive}
+use Rattle.ic_laws.proofs.parsing.ReadLemmas.{turns_stop, turns_go}
+use Rattle.ic_laws.proofs.parsing.SoundKinds.{if_some, opened_some}
 
 made_height : (most : ℕ) (kind : SpelledKind) (rest : List Token) (read : Spelled × List Token) → made most kind rest ≡ Some read → (height read.0 ≡ height (node kind)) × (height read.0 ≤ most)
 made_height most kind rest read e =

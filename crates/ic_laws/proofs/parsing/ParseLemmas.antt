@@ -11,12 +11,12 @@ use Rattle.ic_laws.specs.Token.{Token}
 use Rattle.ic_laws.specs.Tree.{Spelled, is_empty}
 use Rattle.ic_laws.specs.Yield.{yield}
 use Rattle.ic_laws.specs.declared.tree.Tree.TheOpen as one
-use Rattle.ic_laws.proofs.Nodes.{OfChildren, by_levels, AllWell, PairAllWell, WellKind, well_here, well_below, pair_here, pair_below, empty-node, level_positive}
-use Rattle.ic_laws.proofs.Completeness.{ReadsBack, Complete, back, complete-Num, complete-Str, complete-Bool, complete-Err, complete-Reference, complete-Word, complete-Paren, complete-Prefix, complete-Percent, complete-Spill, complete-Binary}
-use Rattle.ic_laws.proofs.CompleteCalls.{ArgumentWide, complete-Fun, complete-Call, complete-Apply}
-use Rattle.ic_laws.proofs.CompleteParts.{PairWide, complete-Let, complete-Lambda, complete-Array}
-use Rattle.ic_laws.proofs.Soundness.{Good, Sound}
-use Rattle.ic_laws.proofs.SoundOperands.{expression_sound}
+use Rattle.ic_laws.proofs.parsing.Nodes.{OfChildren, by_levels, AllWell, PairAllWell, WellKind, well_here, well_below, pair_here, pair_below, empty-node, level_positive}
+use Rattle.ic_laws.proofs.parsing.Completeness.{ReadsBack, Complete, back, complete-Num, complete-Str, complete-Bool, complete-Err, complete-Reference, complete-Word, complete-Paren, complete-Prefix, complete-Percent, complete-Spill, complete-Binary}
+use Rattle.ic_laws.proofs.parsing.CompleteCalls.{ArgumentWide, complete-Fun, complete-Call, complete-Apply}
+use Rattle.ic_laws.proofs.parsing.CompleteParts.{PairWide, complete-Let, complete-Lambda, complete-Array}
+use Rattle.ic_laws.proofs.parsing.Soundness.{Good, Sound}
+use Rattle.ic_laws.proofs.parsing.SoundOperands.{expression_sound}
 
 -- what is well-formed, and there, is read back
 abbrev Reads : DialectMeaning → Spelled → Type 0

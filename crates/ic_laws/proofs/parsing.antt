@@ -1,0 +1,14 @@
+pub mod CompleteCalls
+pub mod CompleteParts
+pub mod Completeness
+pub mod FuelLemmas
+pub mod ListFuelLemmas
+pub mod Nodes
+pub mod ParseLemmas
+pub mod ReadAs
+pub mod ReadLemmas
+pub mod SoundKinds
+pub mod SoundOperands
+pub mod SoundParts
+pub mod SoundRows
+pub mod Soundness

@@ -1,0 +1,10 @@
+pub mod Bytes
+pub mod Characters
+pub mod Kinds
+pub mod Lexing
+pub mod Next
+pub mod Numbers
+pub mod Plain
+pub mod Quoted
+pub mod Splits
+pub mod Words
