@@ -1,0 +1,5 @@
+pub mod WordLemmas
+pub mod QuoteLemmas
+pub mod DigitLemmas
+pub mod CutLemmas
+pub mod FirstLemmas

@@ -1,4 +1,11 @@
+mod choice;
+mod errors;
+mod next;
+mod numbers;
 mod quoted;
+mod references;
 mod seen;
 mod signs;
 mod words;
+
+pub use next::next_token;

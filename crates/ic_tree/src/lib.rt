@@ -5,4 +5,5 @@
 mod lexer;
 mod token;
 
+pub use lexer::next_token;
 pub use token::{Ahead, Token, TokenSource};

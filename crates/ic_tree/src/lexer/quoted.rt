@@ -1,4 +1,4 @@
-ghost use Rattle.std.specs.Prelude.{◌≡◌, ◌<◌, ◌∷◌, ◌++◌, [], chars, length, option_map, false, true, IfOk, MatchOption};
+ghost use Rattle.std.specs.Prelude.{◌≡◌, ◌<◌, ◌∷◌, ◌++◌, [], chars, length, option_map, false, true, IfOk, IfSome, MatchOption, Some};
 ghost use Rattle.std.specs.List.{list_all};
 ghost use Rattle.ic_laws.specs.Character.{double_quote};
 ghost use Rattle.ic_laws.specs.Scan.{past_run};
@@ -20,12 +20,12 @@ pub(crate) fn quoted_at<'t>(
     let mut rest = text;
     while let Some((piece, after)) = piece_at(rest) {
         push_text(&mut inside, piece)?;
-        match first_char(after) {
-            Some(('"', more)) => {
+        match past_quote(after) {
+            Some(more) => {
                 push_char(&mut inside, '"')?;
                 rest = more;
             }
-            _ => return Ok(Some((Text::from(inside), after))),
+            None => return Ok(Some((Text::from(inside), after))),
         }
     }
     Ok(None)
@@ -34,13 +34,22 @@ pub(crate) fn quoted_at<'t>(
 /// What stands before the next quote, and after it. None where there is no quote.
 fn piece_at(text: &str) -> Option<(&str, &str)>
     ensures parts { MatchOption result (list_all is_inside (chars text.now) ≡ true) (λ p. (chars text.now ≡ chars p.0.now ++ double_quote ∷ chars p.1.now) × (list_all is_inside (chars p.0.now) ≡ true)) }
-    ensures shorter { MatchOption result (length text.now ≡ length text.now) (λ p. length p.1.now < length text.now) }
+    ensures shorter { IfSome result (λ p. length p.1.now < length text.now) }
 {
     let quote = past_inside(text);
     match first_char(quote) {
         Some((_, after)) => Some((front_of(text, quote), after)),
         None => None,
     }
+}
+
+/// What stands after a quote at the front; after a quote that is the last one there is none.
+fn past_quote(text: &str) -> Option<&str>
+    ensures parts { MatchOption result (closed true (chars text.now) ≡ Some ([], chars text.now)) (λ r. chars text.now ≡ double_quote ∷ chars r.now) }
+    ensures shorter { IfSome result (λ r. length r.now < length text.now) }
+{
+    let (c, rest) = first_char(text)?;
+    if c == '"' { Some(rest) } else { None }
 }
 
 /// The text from its first quote on.

@@ -17,14 +17,14 @@ pub(crate) enum Seen<'t> {
 }
 
 /// The token, with a copy of its text.
-pub(crate) fn kept(alloc: Global, seen: Seen) -> Result<Token, OutOfMemory>
-    ensures { IfOk result (λ t. token_of t ≡ seen_token seen.entry) }
+pub(crate) fn kept(alloc: Global, seen: &Seen) -> Result<Token, OutOfMemory>
+    ensures { IfOk result (λ t. token_of t ≡ seen_token seen.now) }
 {
     match seen {
-        Seen::Num(amount) => Ok(Token::Num(amount)),
-        Seen::Boolean(value) => Ok(Token::Boolean(value)),
+        Seen::Num(amount) => Ok(Token::Num(*amount)),
+        Seen::Boolean(value) => Ok(Token::Boolean(*value)),
         Seen::Word(text) => Ok(Token::Word(Text::from_str(alloc, text)?)),
-        Seen::FunHead(number) => Ok(Token::FunHead(number)),
+        Seen::FunHead(number) => Ok(Token::FunHead(*number)),
         Seen::NameHead(name) => Ok(Token::NameHead(Text::from_str(alloc, name)?)),
     }
 }

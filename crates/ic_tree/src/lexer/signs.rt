@@ -9,11 +9,7 @@ use ic_laws::scan::first_char;
 use ic_laws::{BinarySign, Dialect};
 
 /// The sign that begins with a character, and the rest of the text: the one of two characters, where there is one.
-pub(crate) fn sign_at<'t, D: Dialect>(
-    d: &D,
-    c: char,
-    after: &'t str,
-) -> Option<(Token, &'t str)>
+pub(crate) fn sign_at<'t, D: Dialect>(d: &D, c: char, after: &'t str) -> Option<(Token, &'t str)>
     ensures { option_map (λ f. (token_of f.0, chars f.1.now)) result ≡ longer (two_at (c ∷ chars after.now)) (one_at (D.meaning d.now) (c ∷ chars after.now)) }
 {
     match sign_of_two(c, after) {

@@ -28,11 +28,7 @@ pub(crate) fn word_at<'t, D: Dialect>(d: &D, text: &'t str) -> Option<(Seen<'t>,
 }
 
 /// The head of a name, where an open bracket stands in what follows it, blanks aside; and the rest.
-fn head_before<'t, D: Dialect>(
-    d: &D,
-    name: &'t str,
-    after: &'t str,
-) -> Option<(Seen<'t>, &'t str)>
+fn head_before<'t, D: Dialect>(d: &D, name: &'t str, after: &'t str) -> Option<(Seen<'t>, &'t str)>
     ensures { option_map (λ f. (seen_token f.0, chars f.1.now)) result ≡ head_before (D.meaning d.now) (chars name.now) (past_run is_blank (chars after.now)) }
 {
     match first_char(past_blanks(after)) {
