@@ -7,7 +7,7 @@ use Rattle.ic_laws.specs.Amount.{amount_text, fraction_digits, unsigned_amount}
 read : map (unsigned_amount 46) (codes "1." ∷ codes ".5" ∷ codes "." ∷ codes "" ∷ codes "007" ∷ codes "1,5" ∷ []) ≡ Some 1000000000 ∷ Some 500000000 ∷ None ∷ None ∷ Some 7000000000 ∷ None ∷ []
 read = refl
 
--- at most nine digits stand behind the separator, and the number is below 10^18
+-- at most nine digits stand after the separator, and the number is below 10^18
 limits : map (unsigned_amount 44) (codes "0,123456789" ∷ codes "0,1234567890" ∷ codes "999999999999999999,999999999" ∷ codes "1000000000000000000" ∷ []) ≡ Some 123456789 ∷ None ∷ Some 999999999999999999999999999 ∷ None ∷ []
 limits = refl
 

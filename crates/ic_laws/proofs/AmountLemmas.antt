@@ -30,7 +30,7 @@ pub run_of-digits : (text : List ℕ) → all_ascii_digits text ≡ true → run
 run_of-digits [] h = refl
 run_of-digits (c ∷ cs) h = let both = and_parts (is_digit c) (all_ascii_digits cs) h in rw both.0 (ap (λ ds. c ∷ ds) (run_of-digits cs both.1))
 
--- where nothing stands behind the run, there are digits alone
+-- where nothing stands after the run, there are digits alone
 pub all_digits-from_past : (text : List ℕ) → past_run is_digit text ≡ [] → all_ascii_digits text ≡ true
 all_digits-from_past [] h = refl
 all_digits-from_past (c ∷ cs) h =

@@ -7,10 +7,10 @@ pub mod FormLemmas
 mod FormulaExamples
 mod LineExamples
 mod NameExamples
+mod ReadingExamples
 pub mod RunLemmas
 pub mod Smallest
 pub mod SmallestLaws
-pub mod SmallestLemmas
 pub mod TextLemmas
 pub mod parsing
 pub mod printing

@@ -11,7 +11,7 @@ use Rattle.ic_laws.specs.Lines.{lines_of, texts_of, words_of, unescaped, escaped
 line_ends : lines_of (codes "a\r\n\n\r\r\nb\r") ≡ codes "a" ∷ [] ∷ codes "\r" ∷ codes "b\r" ∷ []
 line_ends = refl
 
--- behind the last line feed nothing is no line
+-- after the last line feed nothing is no line
 no_last_line : lines_of (codes "a\n") ≡ codes "a" ∷ []
 no_last_line = refl
 

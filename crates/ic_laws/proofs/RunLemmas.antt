@@ -33,7 +33,7 @@ front_before text rest front taken u v e t =
     let w : IsUtf8 taken = subst IsUtf8 (sym t) (IsUtf8-take text (length text - length rest) u (end_boundary text rest front u v e)) in
     ap chars (b ∙ ap (λ x. x ++ rest) (sym f)) ∙ chars-append taken rest w
 
--- a run, and what stands behind it
+-- a run, and what stands after it
 pub run_and_rest : (p : ℕ → Bool) (text : List ℕ) → text ≡ run_of p text ++ past_run p text
 run_and_rest p [] = refl
 run_and_rest p (c ∷ cs) = elim (cases_Bool (p c)) [ inl e ↦ rw e (ap (λ t. c ∷ t) (run_and_rest p cs)) | inr e ↦ rw e refl ]
@@ -46,7 +46,7 @@ run_before_rest p text front rest r e =
 something : (n : ℕ) → nat_eq (suc n) 0 ≡ false
 something n = grind (arith, nat_tests)
 
--- nothing is left behind a run of a text that has such characters alone
+-- nothing is left after a run of a text that has such characters alone
 pub nothing_left : (p : ℕ → Bool) (text : List ℕ) → nat_eq (length (past_run p text)) 0 ≡ list_all p text
 nothing_left p [] = refl
 nothing_left p (c ∷ cs) = elim (cases_Bool (p c)) [ inl e ↦ rw e (nothing_left p cs) | inr e ↦ rw e (something (length cs)) ]
@@ -55,6 +55,6 @@ pub nothing_past_digits : (text : List ℕ) → nat_eq (length (past_run is_digi
 nothing_past_digits [] = refl
 nothing_past_digits (c ∷ cs) = elim (cases_Bool (is_digit c)) [ inl e ↦ rw e (nothing_past_digits cs) | inr e ↦ rw e (something (length cs)) ]
 
--- a text ends with what stands behind a run of it
+-- a text ends with what stands after a run of it
 pub ends_with_rest : (p : ℕ → Bool) (text rest : List ℕ) → rest ≡ past_run p text → EndsWith text rest
 ends_with_rest p text rest e = (run_of p text, run_and_rest p text ∙ ap (λ r. run_of p text ++ r) (sym e))

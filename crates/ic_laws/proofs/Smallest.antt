@@ -1,7 +1,6 @@
--- The smallest dialect, which shows that the laws of a notation can be met. Each word is a mark of its kind with a digit
--- behind it, and there are no references.
+-- The smallest dialect, which shows that the laws of dialects can be met. Each word is a mark of its kind with a digit
+-- after it, and there are no references.
 use Rattle.std.specs.Prelude.{ℕ, zero, suc, ◌+◌, List, [], ◌∷◌, ◌++◌, false, nat_lt, bytes_eq, Option, Some, None, if◌then◌else◌}
-use Rattle.std.specs.Str.{chars}
 use Rattle.ic_laws.specs.Dialect.{DialectMeaning}
 use Rattle.ic_laws.specs.declared.dialect.WordKind.{WordKind}
 use Rattle.ic_laws.specs.declared.dialect.WordKind.TheVariants as kinds
@@ -18,23 +17,23 @@ count kinds.Boolean = 2
 count kinds.Error = 12
 count kinds.Function = 2
 
--- the character behind the mark counts on from `0`, past `9` too
-abbrev pub numbered : WordKind → ℕ → List ℕ
-numbered kind n = mark kind ++ (48 + n) ∷ []
+-- the character after the mark counts on from `0`, past `9` too
+abbrev pub marked : WordKind → ℕ → List ℕ
+marked kind n = mark kind ++ (48 + n) ∷ []
 
-abbrev pub word : WordKind → ℕ → Option (List ℕ)
-word kind n = if nat_lt n (count kind) then Some (numbered kind n) else None
+abbrev pub marked_word : WordKind → ℕ → Option (List ℕ)
+marked_word kind n = if nat_lt n (count kind) then Some (marked kind n) else None
 
 -- the number below a limit whose word is the text
 unfoldable pub number_below : WordKind → List ℕ → ℕ → Option ℕ
 number_below kind text zero = None
-number_below kind text (suc n) = if bytes_eq text (numbered kind n) then Some n else number_below kind text n
+number_below kind text (suc n) = if bytes_eq text (marked kind n) then Some n else number_below kind text n
 
 abbrev pub smallest : DialectMeaning
 smallest = record {
   list = 44;
   decimal = 46;
-  word = word;
+  word = marked_word;
   find = λ kind text. number_below kind text (count kind);
   let_fn = 0;
   lambda_fn = 1;
@@ -42,8 +41,3 @@ smallest = record {
   can_spell = λ r. false;
   spell_ref = λ r. [];
 }
-
--- `unfolding literal` lets `refl` compute the characters of a text that is written out
-unfoldable pub literal : Unit {0}
-unfolding chars
-literal = tt

@@ -7,7 +7,7 @@ use Rattle.std.specs.Str.Parse.{digits_value}
 use Rattle.ic_laws.specs.Character.{digit_zero, minus}
 use Rattle.ic_laws.specs.Scan.{is_digit, run_of, past_run}
 
--- the units of units_of_one
+-- how many units one has
 abbrev pub units_of_one : ℕ
 units_of_one = 1000000000
 
@@ -15,13 +15,13 @@ units_of_one = 1000000000
 abbrev pub is_amount : ℤ → Bool
 is_amount units = nat_lt (nat_abs units) (10 ^ 27)
 
--- the digits of a fraction of so many places, up to the last units_of_one that isn't zero
+-- the digits of a fraction of so many places, up to the last one that isn't zero
 unfoldable pub fraction_digits : ℕ → ℕ → List ℕ
 fraction_digits zero fraction = []
 fraction_digits (suc places) fraction =
     if fraction == 0 then [] else (digit_zero + fraction / 10 ^ places) ∷ fraction_digits places (fraction % 10 ^ places)
 
--- the text of an amount from 0 on: its whole part, and its fraction behind the separator where it has units_of_one
+-- the text of an amount from 0 on: its whole part, and its fraction after the separator where it has one
 abbrev pub unsigned_text : ℕ → ℕ → List ℕ
 unsigned_text separator units =
     decimal (units / units_of_one) ++ (if units % units_of_one == 0 then [] else separator ∷ fraction_digits 9 (units % units_of_one))
@@ -35,19 +35,19 @@ amount_text separator (negsuc n) = minus ∷ unsigned_text separator (suc n)
 abbrev pub if_amount : ℕ → Option ℕ
 if_amount units = if nat_lt units (10 ^ 27) then Some units else None
 
--- the units of a number of which so many digits before the separator write the units_of_one number and so many behind it the
--- other: at most nine are behind it
+-- the units of a number of which so many digits before the separator write the one number and so many after it the
+-- other: at most nine are after it
 abbrev pub units_by : ℕ → ℕ → ℕ → ℕ → Option ℕ
 units_by whole whole_count fraction fraction_count =
     if nat_le fraction_count 9 && nat_lt 0 (whole_count + fraction_count) then if_amount (whole * units_of_one + fraction * 10 ^ (9 - fraction_count)) else None
 
--- the same with these characters behind the separator, which are all digits
+-- the same with these characters after the separator, which are all digits
 abbrev pub units_of : ℕ → ℕ → List ℕ → Option ℕ
 units_of whole whole_count fraction =
     if all_ascii_digits fraction then units_by whole whole_count (digits_value 10 fraction) (length fraction) else None
 
--- the units that a whole text writes: digits with or without a separator and at most nine digits behind it, or a
--- separator and units_of_one to nine digits
+-- the units that a whole text writes: digits with or without a separator and at most nine digits after it, or a
+-- separator and one to nine digits
 abbrev pub read_units : ℕ → List ℕ → List ℕ → Option ℕ
 read_units separator whole [] = units_of (digits_value 10 whole) (length whole) []
 read_units separator whole (c ∷ fraction) = if c == separator then units_of (digits_value 10 whole) (length whole) fraction else None

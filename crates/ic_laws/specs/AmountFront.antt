@@ -16,6 +16,7 @@ abbrev pub digits_to : ℕ → ℕ → List ℕ → List ℕ
 digits_to most n [] = []
 digits_to most n (c ∷ cs) = if is_digit c && nat_le (n * 10 + digit_value c) most then c ∷ digits_to most (n * 10 + digit_value c) cs else []
 
+-- what stands after those digits
 abbrev pub past_to : ℕ → ℕ → List ℕ → List ℕ
 past_to most n [] = []
 past_to most n (c ∷ cs) = if is_digit c && nat_le (n * 10 + digit_value c) most then past_to most (n * 10 + digit_value c) cs else c ∷ cs
@@ -26,6 +27,7 @@ some_digits zero text = []
 some_digits (suc k) [] = []
 some_digits (suc k) (c ∷ cs) = if is_digit c then c ∷ some_digits k cs else []
 
+-- what stands after those
 abbrev pub past_some : ℕ → List ℕ → List ℕ
 past_some zero text = text
 past_some (suc k) [] = []
@@ -36,15 +38,19 @@ abbrev pub fraction_front : ℕ → List ℕ → List ℕ
 fraction_front separator [] = []
 fraction_front separator (c ∷ cs) = if c == separator then c ∷ some_digits 9 cs else []
 
+-- what stands after them
 abbrev pub past_fraction : ℕ → List ℕ → List ℕ
 past_fraction separator [] = []
 past_fraction separator (c ∷ cs) = if c == separator then past_some 9 cs else c ∷ cs
 
+-- the amount at the front: whole part, separator and fraction
 abbrev pub amount_front : ℕ → List ℕ → List ℕ
 amount_front separator text = digits_to last_whole 0 text ++ fraction_front separator (past_to last_whole 0 text)
 
+-- what stands after it
 abbrev pub past_amount : ℕ → List ℕ → List ℕ
 past_amount separator text = past_fraction separator (past_to last_whole 0 text)
 
+-- the number that it writes, where it is one, and what stands after it
 abbrev pub number_in_one_pass : DialectMeaning → List ℕ → Option (Token × List ℕ)
 number_in_one_pass d text = option_map (λ units. (Num (pos units), past_amount d.decimal text)) (unsigned_amount d.decimal (amount_front d.decimal text))

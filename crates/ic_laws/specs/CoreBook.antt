@@ -14,9 +14,11 @@ pub record CoreBook : Type 0 where
   pub locale : List ℕ
   pub language : List ℕ
 
+-- the names of the sheets
 abbrev pub names_of : CoreBook → List (List ℕ)
 names_of book = map (λ s. s.name) book.sheets
 
+-- their ids
 abbrev pub ids_of : CoreBook → List ℕ
 ids_of book = map (λ s. s.id) book.sheets
 

@@ -13,7 +13,7 @@ use Rattle.ic_laws.specs.declared.tree.Error.{Error}
 use Rattle.ic_laws.specs.declared.tree.Error.TheVariants as errors
 
 -- the separators of arguments and of decimals; the words by kind and number, and what text is which of them; the
--- numbers of LET and LAMBDA; the longest reference at the front of a text, with what stands behind it; which references
+-- numbers of LET and LAMBDA; the longest reference at the front of a text, with what stands after it; which references
 -- can be spelled, and how
 pub record DialectMeaning : Type 0 where
   pub list : ℕ
@@ -41,11 +41,12 @@ error_number errors.CIRC = 9
 error_number errors.ERROR = 10
 error_number errors.NULL = 11
 
+-- true is the first boolean, false the second
 abbrev pub boolean_number : Bool → ℕ
 boolean_number true = 0
 boolean_number false = 1
 
--- the word of a number; a notation that lacks it has nothing to write
+-- the word of a number; a dialect that lacks it has nothing to write
 abbrev pub word_text : DialectMeaning → WordKind → ℕ → List ℕ
 word_text d kind n = unwrap_or (d.word kind n) []
 
@@ -57,7 +58,7 @@ reference_text d r = if d.can_spell r then d.spell_ref r else word_text d kinds.
 abbrev pub begins_reference : ℕ → Bool
 begins_reference c = is_letter c || is_digit c || list_any (λ x. c == x) (codes "_$'")
 
--- the characters that no error word has behind its `#`
+-- the characters that no error word has after its `#`
 abbrev pub is_sign : ℕ → Bool
 is_sign c = list_any (λ x. c == x) (codes "+-*/^&=<>%#@,;.(){}\"'")
 
@@ -76,7 +77,7 @@ pub data IsWordOrAmount (d : DialectMeaning) : List ℕ → Type 0 where
   OfBoolean : (n : ℕ) (word : List ℕ) → d.word kinds.Boolean n ≡ Some word → IsWordOrAmount d word
   OfVariable : (name : List ℕ) → is_variable name ≡ true → IsWordOrAmount d name
 
--- What always holds of a notation.
+-- What always holds of a dialect.
 pub record IsLawful (d : DialectMeaning) : Type 0 where
   -- the separators are `,` and `.`, or `;` and `,`
   pub separators : ((d.list ≡ comma) × (d.decimal ≡ dot)) ⊎ ((d.list ≡ semicolon) × (d.decimal ≡ comma))

@@ -1,5 +1,5 @@
 -- Tokens in their canonical spelling, one after the other: which can be spelled, and what may follow each.
-use Rattle.std.specs.Prelude.{◌≡◌, ◌≢◌, ℕ, pos, negsuc, ◌<◌, ◌^◌, List, [], ◌∷◌, Bool, true, false, not, ◌||◌, ◌==◌, Option, None, IsSome, flat_map}
+use Rattle.std.specs.Prelude.{◌≡◌, ◌≢◌, ℕ, pos, negsuc, ◌<◌, ◌^◌, List, [], ◌∷◌, true, false, not, ◌||◌, ◌==◌, None, IsSome, flat_map}
 use Rattle.ic_laws.specs.Name.{is_variable}
 use Rattle.ic_laws.specs.Scan.{IsEnd, first_is, is_blank, past_run}
 use Rattle.ic_laws.specs.Character.{equals, greater, open_bracket, semicolon}
@@ -8,7 +8,7 @@ use Rattle.ic_laws.specs.Token.{Token, Num, Str, Boolean, Ref, Word, FunHead, Na
 use Rattle.ic_laws.specs.declared.dialect.WordKind.TheVariants as kinds
 use Rattle.ic_laws.specs.declared.tree.BinarySign.TheVariants as signs
 
--- the notation can spell the token so that it reads back
+-- the dialect can spell the token so that it reads back
 abbrev pub CanSpell : DialectMeaning → Token → Type 0
 CanSpell d (Num (pos units)) = units < 10 ^ 27
 CanSpell d (Num (negsuc units)) = ⊥
@@ -23,6 +23,7 @@ CanSpell d token = Unit {0}
 abbrev pub IsNotCalled : List ℕ → Type 0
 IsNotCalled rest = first_is (λ c. c == open_bracket) (past_run is_blank rest) ≡ false
 
+-- no decimal separator
 abbrev pub NoDecimal : DialectMeaning → List ℕ → Type 0
 NoDecimal d rest = first_is (λ c. c == d.decimal) rest ≡ false
 

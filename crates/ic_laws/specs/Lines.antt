@@ -3,19 +3,20 @@
 use Rattle.std.specs.Prelude.{ℕ, List, [], ◌∷◌, ◌++◌, Bool, false, ◌&&◌, ◌==◌, map, flat_map, Option, Some, None, option_map, option_and_then, Result, Ok, Err, if◌then◌else◌, codes, chars, encode_utf8_all, bytes_eq}
 use Rattle.std.specs.List.{onto_first, slice_split}
 use Rattle.std.specs.Str.{is_utf8}
+use Rattle.ic_laws.specs.Character.{backslash, carriage_return, line_feed, lower_n, lower_r, lower_t, tab}
 use Rattle.ic_laws.specs.CoreBook.{CoreBook}
 use Rattle.ic_laws.specs.CoreStep.{Refusal, BadLine, refusal_name, Command, AddSheet, core_step}
 
 -- the bytes begin with a line feed
 abbrev pub at_line_feed : List ℕ → Bool
 at_line_feed [] = false
-at_line_feed (b ∷ bs) = b == 10
+at_line_feed (b ∷ bs) = b == line_feed
 
--- A line ends with a line feed, and one carriage return directly before that is no part of it. Behind the last
+-- A line ends with a line feed, and one carriage return directly before that is no part of it. After the last
 -- line feed a line stands where there is anything.
 abbrev pub lines_of : List ℕ → List (List ℕ)
 lines_of [] = []
-lines_of (b ∷ bs) = if b == 10 then [] ∷ lines_of bs else if b == 13 && at_line_feed bs then lines_of bs else onto_first b (lines_of bs)
+lines_of (b ∷ bs) = if b == line_feed then [] ∷ lines_of bs else if b == carriage_return && at_line_feed bs then lines_of bs else onto_first b (lines_of bs)
 
 -- the text of a line's bytes; a line that isn't UTF-8 counts as the empty line, which is no command either
 abbrev pub line_text : List ℕ → List ℕ
@@ -27,27 +28,27 @@ texts_of bytes = map line_text (lines_of bytes)
 
 -- the words of a line stand between its tabs
 abbrev pub words_of : List ℕ → List (List ℕ)
-words_of line = slice_split (λ c. c == 9) line
+words_of line = slice_split (λ c. c == tab) line
 
 -- how a character is written in a word: a backslash, a tab, a line feed and a carriage return by an escape
 abbrev pub escape_of : ℕ → List ℕ
 escape_of c =
-    if c == 92 then codes "\\\\" else if c == 9 then codes "\\t" else if c == 10 then codes "\\n" else if c == 13 then codes "\\r" else c ∷ []
+    if c == backslash then codes "\\\\" else if c == tab then codes "\\t" else if c == line_feed then codes "\\n" else if c == carriage_return then codes "\\r" else c ∷ []
 
 -- a text as it is written in a word
 abbrev pub escaped : List ℕ → List ℕ
 escaped text = flat_map escape_of text
 
--- what a backslash with this character behind it stands for
+-- what a backslash with this character after it stands for
 abbrev pub escape_meaning : ℕ → Option ℕ
-escape_meaning c = if c == 92 then Some 92 else if c == 116 then Some 9 else if c == 110 then Some 10 else if c == 114 then Some 13 else None
+escape_meaning c = if c == backslash then Some backslash else if c == lower_t then Some tab else if c == lower_n then Some line_feed else if c == lower_r then Some carriage_return else None
 
 -- the text that a word spells, read from left to right; none where a backslash begins no escape
 abbrev pub unescaped : List ℕ → Option (List ℕ)
 unescaped [] = Some []
-unescaped (c ∷ []) = if c == 92 then None else Some (c ∷ [])
+unescaped (c ∷ []) = if c == backslash then None else Some (c ∷ [])
 unescaped (c ∷ d ∷ cs) =
-    if c == 92 then option_and_then (λ m. option_map (λ t. m ∷ t) (unescaped cs)) (escape_meaning d)
+    if c == backslash then option_and_then (λ m. option_map (λ t. m ∷ t) (unescaped cs)) (escape_meaning d)
     else option_map (λ t. c ∷ t) (unescaped (d ∷ cs))
 
 -- the texts of words; none where one has a wrong escape
@@ -60,7 +61,7 @@ abbrev pub named_command : List ℕ → List (List ℕ) → Option Command
 named_command name (text ∷ []) = if bytes_eq name (codes "add_sheet") then Some (AddSheet text) else None
 named_command name texts = None
 
--- the command that the words spell: its name, and its texts behind that
+-- the command that the words spell: its name, and its texts after that
 abbrev pub spelled_command : List (List ℕ) → Option Command
 spelled_command [] = None
 spelled_command (name ∷ words) = option_and_then (named_command name) (word_texts words)
@@ -75,18 +76,19 @@ Reply = Result (List (List ℕ)) Refusal
 
 -- the text of a reply, without the line feed at its end
 abbrev pub reply_text : Reply → List ℕ
-reply_text (Ok fields) = codes "ok" ++ flat_map (λ field. 9 ∷ escaped field) fields
-reply_text (Err refusal) = codes "error" ++ 9 ∷ refusal_name refusal
+reply_text (Ok fields) = codes "ok" ++ flat_map (λ field. tab ∷ escaped field) fields
+reply_text (Err refusal) = codes "error" ++ tab ∷ refusal_name refusal
 
 -- its bytes
 abbrev pub reply_bytes : Reply → List ℕ
-reply_bytes reply = encode_utf8_all (reply_text reply) ++ 10 ∷ []
+reply_bytes reply = encode_utf8_all (reply_text reply) ++ line_feed ∷ []
 
 -- a refused line changes nothing
 abbrev pub outcome_of : CoreBook → Result (CoreBook × List (List ℕ)) Refusal → CoreBook × Reply
 outcome_of book (Ok done) = (done.0, Ok done.1)
 outcome_of book (Err refusal) = (book, Err refusal)
 
+-- what a command leaves, and its reply; without one the line is bad
 abbrev pub command_step : CoreBook → Option Command → CoreBook × Reply
 command_step book (Some command) = outcome_of book (core_step book command)
 command_step book None = (book, Err BadLine)

@@ -33,11 +33,12 @@ is_sheet_name name = nat_lt 0 (length name) && nat_le (length name) 31 && not (l
 abbrev pub names_row : List ℕ → Bool
 names_row digits = all_ascii_digits digits && nat_lt 0 (digits_value 10 digits) && nat_le (digits_value 10 digits) row_count
 
--- an A1 cell inside the sheet: letters of a column and digits of a row, each behind a dollar sign or not
+-- an A1 cell inside the sheet: letters of a column and digits of a row, each after a dollar sign or not
 abbrev pub is_a1_cell : List ℕ → Bool
 is_a1_cell text =
     names_column (run_of is_ascii_letter (past_dollar text)) && names_row (past_dollar (past_run is_ascii_letter (past_dollar text)))
 
+-- R and C, in either case
 abbrev pub is_r : ℕ → Bool
 is_r c = c == upper_r || c == lower_r
 

@@ -1,6 +1,6 @@
 -- The token that a front of a text spells before what stands after it, the next token of a text, and all its tokens, as
 -- functions.
-use Rattle.std.specs.Prelude.{◌≡◌, ℕ, zero, suc, ◌+◌, pos, List, [], ◌∷◌, ◌++◌, Bool, true, false, not, ◌&&◌, ◌||◌, ◌==◌, length, Option, Some, None, option_map, option_and_then, codes, bytes_eq, if◌then◌else◌}
+use Rattle.std.specs.Prelude.{ℕ, zero, suc, ◌+◌, pos, List, [], ◌∷◌, ◌++◌, Bool, true, false, not, ◌&&◌, ◌||◌, ◌==◌, length, Option, Some, None, option_map, option_and_then, codes, bytes_eq, if◌then◌else◌}
 use Rattle.std.specs.List.{list_all}
 use Rattle.ic_laws.specs.Amount.{unsigned_amount}
 use Rattle.ic_laws.specs.Character.{double_quote, hash, semicolon}
@@ -18,6 +18,7 @@ use Rattle.ic_laws.specs.declared.tree.Error.TheVariants as errors
 abbrev pub separators : ℕ → List (List ℕ × Token)
 separators list = if list == semicolon then (codes ";", Separator) ∷ [] else (list ∷ [], Separator) ∷ (codes ";", Semicolon) ∷ []
 
+-- the signs, each with its token
 abbrev pub sign_table : ℕ → List (List ℕ × Token)
 sign_table list =
     (codes "=", Operator signs.Equal) ∷ (codes "<>", Operator signs.Unequal) ∷ (codes "<", Operator signs.Less) ∷ (codes ">", Operator signs.Greater)
@@ -100,13 +101,16 @@ abbrev pub after_token : (List ℕ → Option (List Token)) → Option (Token ×
 after_token more None = None
 after_token more (Some found) = option_map (λ ts. found.0 ∷ ts) (more found.1)
 
+-- nothing has no tokens; else the next token comes first
 abbrev pub next_tokens : (List ℕ → Option (List Token)) → DialectMeaning → List ℕ → Option (List Token)
 next_tokens more d [] = Some []
 next_tokens more d (c ∷ cs) = after_token more (token_at d (c ∷ cs))
 
+-- blanks are skipped before each token; a text has no more tokens than fuel
 unfoldable pub tokens_by : DialectMeaning → ℕ → List ℕ → Option (List Token)
 tokens_by d zero text = None
 tokens_by d (suc fuel) text = next_tokens (tokens_by d fuel) d (past_run is_blank text)
 
+-- all tokens of a text, if it falls into tokens
 abbrev pub tokens_of : DialectMeaning → List ℕ → Option (List Token)
 tokens_of d text = tokens_by d (length text + 1) text

@@ -1,4 +1,4 @@
--- How a list of tokens is read as a tree: by operands, with loops for the signs behind and between them.
+-- How a list of tokens is read as a tree: by operands, with loops for the signs after and between them.
 use Rattle.std.specs.Prelude.{ℕ, zero, suc, ◌+◌, List, [], ◌∷◌, length, Bool, true, false, ◌&&◌, Option, Some, None, option_map, option_and_then, nat_eq, nat_le, if◌then◌else◌}
 use Rattle.ic_laws.specs.Character.{comma}
 use Rattle.ic_laws.specs.Name.{is_variable}
@@ -16,7 +16,7 @@ use Rattle.ic_laws.specs.declared.tree.PrefixSign.TheVariants as prefixes
 use Rattle.ic_laws.specs.declared.tree.Tree.{roll-Tree}
 use Rattle.ic_laws.specs.declared.tree.Tree.TheOpen as one
 
--- what is read at the front of a list of tokens, and what stands behind it
+-- what is read at the front of a list of tokens, and what stands after it
 abbrev pub Read : Type 0 → Type 0
 Read A = Option (A × List Token)
 
@@ -24,11 +24,11 @@ Read A = Option (A × List Token)
 abbrev pub Reader : Type 0
 Reader = ℕ → ℕ → List Token → Read Spelled
 
--- one level of a spelled tree
+-- the kind of a node of a spelled tree
 abbrev pub SpelledKind : Type 0
 SpelledKind = Kind (Option (List ℕ)) (List ℕ)
 
--- the tree of a level
+-- the tree of such a node
 abbrev pub node : SpelledKind → Spelled
 node kind = roll-Tree (Option (List ℕ)) (List ℕ) kind
 
@@ -48,28 +48,28 @@ made most kind rest = if nat_le (height (node kind)) most then Some (node kind, 
 abbrev pub made_if : Bool → ℕ → SpelledKind → List Token → Read Spelled
 made_if good most kind rest = if good then made most kind rest else None
 
--- what stands behind a separator
+-- what stands after a separator
 abbrev pub past_separator : List Token → Option (List Token)
 past_separator (Separator ∷ rest) = Some rest
 past_separator ts = None
 
--- what stands behind a closing bracket
+-- what stands after a closing bracket
 abbrev pub past_close : List Token → Option (List Token)
 past_close (Close ∷ rest) = Some rest
 past_close ts = None
 
--- what stands behind a closing brace
+-- what stands after a closing brace
 abbrev pub past_brace : List Token → Option (List Token)
 past_brace (CloseBrace ∷ rest) = Some rest
 past_brace ts = None
 
--- what stands behind the sign between two rows
+-- what stands after the sign between two rows
 abbrev pub past_row_sign : DialectMeaning → List Token → Option (List Token)
 past_row_sign d (Semicolon ∷ rest) = if nat_eq d.list comma then Some rest else None
 past_row_sign d (Operator signs.Over ∷ rest) = if nat_eq d.list comma then None else Some rest
 past_row_sign d ts = None
 
--- a value with what must stand behind it
+-- a value with what must stand after it
 abbrev pub followed : {A : Type 0} → (List Token → Option (List Token)) → Read A → Read A
 followed past read = option_and_then (λ first. option_map (λ rest. (first.0, rest)) (past first.1)) read
 
@@ -101,7 +101,7 @@ arguments below b ts = elim (past_close ts) [
   | None ↦ followed past_close (listed (argument below b) past_separator (length ts) ts)
 ]
 
--- a variable with the separator behind it
+-- a variable with the separator after it
 unfoldable pub binder : List Token → Read (List ℕ)
 binder (Word name ∷ Separator ∷ rest) = if is_variable name then Some (name, rest) else None
 binder ts = None
@@ -206,23 +206,23 @@ turns turn (suc fuel) left ts = elim (turn left ts) [
 unfoldable pub applied : ℕ → Reader → ℕ → Spelled → List Token → Read Spelled
 applied most below b left ts = option_and_then (λ read. made most (one.Apply left read.0) read.1) (arguments below b ts)
 
--- what stands behind an operand: `%`, `#`, or arguments where the operand can be called
+-- what stands after an operand: `%`, `#`, or arguments where the operand can be called
 unfoldable pub postfix : ℕ → Reader → ℕ → Spelled → List Token → Option (Read Spelled)
 postfix most below b left (Percent ∷ rest) = Some (made most (one.Percent left) rest)
 postfix most below b left (Hash ∷ rest) = Some (made most (one.Spill left) rest)
 postfix most below b left (Open ∷ rest) = if is_callable left then Some (opened b (λ inner. applied most below inner left rest)) else None
 postfix most below b left ts = None
 
--- an operand with all that stands behind it
+-- an operand with all that stands after it
 abbrev pub postfixes : ℕ → Reader → ℕ → ℕ → Spelled → List Token → Read Spelled
 postfixes most below b fuel left ts = turns (postfix most below b) fuel left ts
 
--- a tree joined by a sign to the operand behind it, which binds more tightly than the sign
+-- a tree joined by a sign to the operand after it, which binds more tightly than the sign
 unfoldable pub joined_by : ℕ → Reader → ℕ → BinarySign → Spelled → List Token → Read Spelled
 joined_by most below b sign left ts =
     option_and_then (λ right. made most (one.Binary sign left right.0) right.1) (below b (sign_level sign + 1) ts)
 
--- what joins a tree to an operand behind it: a sign that binds at least so tightly
+-- what joins a tree to an operand after it: a sign that binds at least so tightly
 unfoldable pub binary : ℕ → Reader → ℕ → ℕ → Spelled → List Token → Option (Read Spelled)
 binary most below b least left (Operator sign ∷ rest) = if nat_le least (sign_level sign) then Some (joined_by most below b sign left rest) else None
 binary most below b least left ts = None
@@ -242,7 +242,7 @@ prefix_sign token = None
 unfoldable pub prefixed : ℕ → Reader → ℕ → PrefixSign → List Token → Read Spelled
 prefixed most below b sign ts = option_and_then (λ x. made most (one.Prefix sign x.0) x.1) (below b 6 ts)
 
--- an operand: a sign and what it stands before, or one without signs and what stands behind it
+-- an operand: a sign and what it stands before, or one without signs and what stands after it
 unfoldable pub operand : DialectMeaning → ℕ → Reader → ℕ → List Token → Read Spelled
 operand d most below b [] = None
 operand d most below b (token ∷ rest) = elim (prefix_sign token) [
@@ -259,11 +259,11 @@ unfoldable pub reader : DialectMeaning → ℕ → Reader
 reader d zero b least ts = None
 reader d (suc most) b least ts = expression d (suc most) (reader d most) b least ts
 
--- a tree is the whole where nothing stands behind it
-abbrev pub nothing_behind : Spelled → List Token → Option Spelled
-nothing_behind t [] = Some t
-nothing_behind t (token ∷ rest) = None
+-- a tree is the whole where nothing stands after it
+abbrev pub nothing_after : Spelled → List Token → Option Spelled
+nothing_after t [] = Some t
+nothing_after t (token ∷ rest) = None
 
 -- the tree of a list of tokens
 unfoldable pub parsed : DialectMeaning → List Token → Option Spelled
-parsed d ts = option_and_then (λ read. nothing_behind read.0 read.1) (reader d 1024 128 1 ts)
+parsed d ts = option_and_then (λ read. nothing_after read.0 read.1) (reader d 1024 128 1 ts)

@@ -61,6 +61,7 @@ is_within length (at.Rel k) = nat_lt (nat_abs k) length
 abbrev pub is_part_within : RefPart → Bool
 is_part_within part = is_within row_count part.row && is_within column_count part.column
 
+-- and of a place: of each corner
 abbrev pub is_place_within : Place → Bool
 is_place_within (places.Cell part) = is_part_within part
 is_place_within (places.Range first last) = is_part_within first && is_part_within last

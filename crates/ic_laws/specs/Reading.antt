@@ -11,7 +11,7 @@ use Rattle.ic_laws.specs.declared.tree.Tree.{every-Tree}
 use Rattle.ic_laws.specs.declared.tree.Tree.TheOpen.{LetPair-F}
 use Rattle.ic_laws.specs.declared.tree.Tree.TheOpen as one
 
--- a spelled tree is well-formed in a notation, which says which functions are LET and LAMBDA
+-- a spelled tree is well-formed in a dialect, which says which functions are LET and LAMBDA
 abbrev pub IsWell : DialectMeaning → Spelled → Type 0
 IsWell d t = IsWellFormed spelled_names d.let_fn d.lambda_fn t
 
@@ -28,6 +28,7 @@ printed d t = flat_map (token_text d) (yield d t)
 abbrev pub IsFreeWord : DialectMeaning → List ℕ → Type 0
 IsFreeWord d word = IsNone (d.find kinds.Boolean word)
 
+-- a node can be spelled so that it reads back: its reference, its word, its function, its binders
 abbrev pub FitsKind : DialectMeaning → Kind (Option (List ℕ)) (List ℕ) → Type 0
 FitsKind d (one.Reference sheet place) = d.can_spell (record { sheet = sheet; place = place }) ≡ true
 FitsKind d (one.Word word) = IsFreeWord d word
@@ -36,10 +37,11 @@ FitsKind d (one.Fun number arguments) = IsSome (d.word kinds.Function number)
 FitsKind d (one.Lambda parameters body) = AllByRecursion (IsFreeWord d) parameters
 FitsKind d kind = Unit {0}
 
+-- so can a pair of LET
 abbrev pub FitsPair : DialectMeaning → LetPair-F (Option (List ℕ)) (List ℕ) Spelled (LetPair (Option (List ℕ)) (List ℕ)) → Type 0
 FitsPair d pair = IsFreeWord d pair.variable
 
--- a tree that a notation can spell so that it reads back
+-- a tree that a dialect can spell so that it reads back
 pub record Fits (d : DialectMeaning) (t : Spelled) : Type 0 where
   pub well : IsWell d t
   pub nodes : every-Tree (Option (List ℕ)) (List ℕ) (FitsKind d) (FitsPair d) t

@@ -43,6 +43,7 @@ first_is p (c ∷ cs) = p c
 abbrev pub joins : ℕ → Bool
 joins c = is_word_character c || c == bang || c == colon || c == dollar || c == open_square
 
+-- no such character goes on
 abbrev pub IsEnd : List ℕ → Type 0
 IsEnd rest = first_is joins rest ≡ false
 
@@ -51,7 +52,7 @@ abbrev pub past_dollar : List ℕ → List ℕ
 past_dollar [] = []
 past_dollar (c ∷ cs) = if c == dollar then cs else c ∷ cs
 
--- the longest run of such characters at the front, and what stands behind it
+-- the longest run of such characters at the front, and what stands after it
 abbrev pub run_of : (ℕ → Bool) → List ℕ → List ℕ
 run_of p [] = []
 run_of p (c ∷ cs) = if p c then c ∷ run_of p cs else []

@@ -2,6 +2,7 @@
 -- found over all the ways to split the text, or as the longer of two candidates.
 use Rattle.std.specs.Prelude.{◌≡◌, ℕ, ◌<◌, List, [], ◌∷◌, ◌++◌, ◌⊎◌, length, nat_le, Option, Some, None, option_map, if◌then◌else◌}
 
+-- the first of two answers, where there is one
 abbrev pub or_else : {T : Type 0} → Option T → Option T → Option T
 or_else (Some x) y = Some x
 or_else None y = y

@@ -34,6 +34,7 @@ pub data Token : Type 0 where
   CloseBrace : Token
   Semicolon : Token
 
+-- the text of a sign between operands
 abbrev pub sign_text : BinarySign → List ℕ
 sign_text signs.Equal = codes "="
 sign_text signs.Unequal = codes "<>"
@@ -48,6 +49,7 @@ sign_text signs.Times = codes "*"
 sign_text signs.Over = codes "/"
 sign_text signs.Power = codes "^"
 
+-- the mark round a text
 abbrev pub is_double_quote : ℕ → Bool
 is_double_quote c = c == double_quote
 
@@ -59,18 +61,18 @@ string_text text = between double_quote text
 abbrev pub IsRun : List ℕ → Type 0
 IsRun run = (first_is begins_word run ≡ true) × (list_all is_word_character run ≡ true)
 
--- the same, and no word character stands behind it
+-- the same, and no word character stands after it
 abbrev pub IsWholeRun : List ℕ → List ℕ → Type 0
 IsWholeRun run rest = IsRun run × (first_is is_word_character rest ≡ false)
 
--- a run with an open bracket behind it, blanks aside
+-- a run with an open bracket after it, blanks aside
 pub record IsHead (name front : List ℕ) : Type 0 where
   pub blanks : List ℕ
   pub whole : front ≡ name ++ blanks ++ codes "("
   pub run : IsRun name
   pub blank : list_all is_blank blanks ≡ true
 
--- front spells the token where rest stands behind it
+-- front spells the token where rest stands after it
 abbrev pub Spells : DialectMeaning → Token → List ℕ → List ℕ → Type 0
 Spells d (Num units) front rest = option_map pos (unsigned_amount d.decimal front) ≡ Some units
 Spells d (Str text) front rest = (front ≡ string_text text) × (first_is is_double_quote rest ≡ false)
@@ -97,7 +99,7 @@ IsBefore (Ref reference) other = Unit {0}
 IsBefore token (Ref reference) = ⊥
 IsBefore token other = Unit {0}
 
--- the longest token at the front of a text, and what stands behind it
+-- the longest token at the front of a text, and what stands after it
 pub record Takes (d : DialectMeaning) (text : List ℕ) (token : Token) (rest : List ℕ) : Type 0 where
   pub front : List ℕ
   pub whole : text ≡ front ++ rest
@@ -109,8 +111,8 @@ pub record Takes (d : DialectMeaning) (text : List ℕ) (token : Token) (rest : 
 abbrev pub Lexes : DialectMeaning → List ℕ → List Token → Type 0
 Lexes d text [] = list_all is_blank text ≡ true
 Lexes d text (token ∷ tokens) =
-    (blanks : List ℕ) × (behind : List ℕ) × (rest : List ℕ) × (list_all is_blank blanks ≡ true) × (text ≡ blanks ++ behind)
-    × Takes d behind token rest × Lexes d rest tokens
+    (blanks : List ℕ) × (unread : List ℕ) × (rest : List ℕ) × (list_all is_blank blanks ≡ true) × (text ≡ blanks ++ unread)
+    × Takes d unread token rest × Lexes d rest tokens
 
 -- a token in its canonical spelling
 abbrev pub token_text : DialectMeaning → Token → List ℕ

@@ -11,28 +11,34 @@ use Rattle.ic_laws.specs.NextToken.{all_errors, boolean_or_word, head_token, loo
 use Rattle.ic_laws.specs.AmountFront.{number_in_one_pass}
 use Rattle.ic_laws.specs.Split.{longer, longest_split}
 
+-- the kinds of tokens: a reference
 abbrev pub is_reference : Token → Bool
 is_reference (Ref r) = true
 is_reference t = false
 
+-- a head
 abbrev pub is_head : Token → Bool
 is_head (FunHead n) = true
 is_head (NameHead name) = true
 is_head t = false
 
+-- a boolean or a word
 abbrev pub is_word : Token → Bool
 is_word (Boolean value) = true
 is_word (Word text) = true
 is_word t = false
 
+-- a number
 abbrev pub is_number : Token → Bool
 is_number (Num units) = true
 is_number t = false
 
+-- a text
 abbrev pub is_text : Token → Bool
 is_text (Str text) = true
 is_text t = false
 
+-- an error
 abbrev pub is_error : Token → Bool
 is_error (Err e) = true
 is_error t = false
@@ -64,6 +70,7 @@ is_sign_of_one t = false
 abbrev pub OfKind : (Token → Bool) → DialectMeaning → Token → List ℕ → List ℕ → Type 0
 OfKind kind d token front rest = (kind token ≡ true) × Spells d token front rest
 
+-- the reference at the front
 abbrev pub reference_at : DialectMeaning → List ℕ → Option (Token × List ℕ)
 reference_at d text = option_map (λ f. (Ref f.0, f.1)) (d.read_ref text)
 
@@ -77,10 +84,12 @@ closed false [] = None
 closed true (c ∷ cs) = if c == double_quote then onto double_quote (closed false cs) else Some ([], c ∷ cs)
 closed false (c ∷ cs) = if c == double_quote then closed true cs else onto c (closed false cs)
 
+-- the text at the front
 abbrev pub text_at : List ℕ → Option (Token × List ℕ)
 text_at [] = None
 text_at (c ∷ cs) = if c == double_quote then option_map (λ f. (Str f.0, f.1)) (closed false cs) else None
 
+-- the boolean or the word at the front
 abbrev pub word_at : DialectMeaning → List ℕ → Option (Token × List ℕ)
 word_at d text =
     if first_is begins_word text then
@@ -92,25 +101,32 @@ abbrev pub head_before : DialectMeaning → List ℕ → List ℕ → Option (To
 head_before d name [] = None
 head_before d name (c ∷ rest) = if c == open_bracket then option_map (λ t. (t, rest)) (head_token name (d.find kinds.Function name)) else None
 
+-- the head at the front
 abbrev pub head_at : DialectMeaning → List ℕ → Option (Token × List ℕ)
 head_at d text =
     if first_is begins_word text then head_before d (run_of is_word_character text) (past_run is_blank (past_run is_word_character text)) else None
 
+-- the number that a front is
 abbrev pub number_of : DialectMeaning → List ℕ → List ℕ → Option Token
 number_of d front rest = option_map (λ units. Num (pos units)) (unsigned_amount d.decimal front)
 
+-- the longest number at the front
 abbrev pub number_at : DialectMeaning → List ℕ → Option (Token × List ℕ)
 number_at d text = longest_split (number_of d) [] text
 
+-- the error that a front is
 abbrev pub error_of : DialectMeaning → List ℕ → List ℕ → Option Token
 error_of d front rest = option_and_then (λ n. option_map Err (numbered error_number all_errors n)) (d.find kinds.Error front)
 
+-- the longest error at the front
 abbrev pub error_at : DialectMeaning → List ℕ → Option (Token × List ℕ)
 error_at d text = longest_split (error_of d) [] text
 
+-- the signs of two characters
 abbrev pub two_table : List (List ℕ × Token)
 two_table = (codes "<>", Operator signs.Unequal) ∷ (codes "<=", Operator signs.AtMost) ∷ (codes ">=", Operator signs.AtLeast) ∷ []
 
+-- the signs of one character
 abbrev pub one_table : ℕ → List (List ℕ × Token)
 one_table list =
     (codes "=", Operator signs.Equal) ∷ (codes "<", Operator signs.Less) ∷ (codes ">", Operator signs.Greater) ∷ (codes "&", Operator signs.Join)
@@ -118,10 +134,12 @@ one_table list =
     ∷ (codes "^", Operator signs.Power) ∷ (codes "@", At) ∷ (codes "%", Percent) ∷ (codes "#", Hash) ∷ (codes "(", Open) ∷ (codes ")", Close)
     ∷ (codes "{", OpenBrace) ∷ (codes "}", CloseBrace) ∷ separators list
 
+-- the sign of two characters at the front
 abbrev pub two_at : List ℕ → Option (Token × List ℕ)
 two_at (c ∷ e ∷ cs) = option_map (λ t. (t, cs)) (look_up two_table (c ∷ e ∷ []))
 two_at text = None
 
+-- the sign of one character at the front
 abbrev pub one_at : DialectMeaning → List ℕ → Option (Token × List ℕ)
 one_at d [] = None
 one_at d (c ∷ cs) = option_map (λ t. (t, cs)) (look_up (one_table d.list) (c ∷ []))

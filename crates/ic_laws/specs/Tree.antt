@@ -27,7 +27,7 @@ Spelled = Tree (Option (List ℕ)) (List ℕ)
 abbrev pub Bound : Type 0
 Bound = Tree SheetMention NameMention
 
--- one level of a tree, with trees below it
+-- the kind of a node, with the trees below it
 abbrev pub Kind : Type 0 → Type 0 → Type 0
 Kind S W = Tree-F S W (Tree S W) (LetPair S W)
 
@@ -46,7 +46,7 @@ sign_level signs.Times = 4
 sign_level signs.Over = 4
 sign_level signs.Power = 5
 
--- a sign before its operand has level 6, one behind it and a call of what a tree gives level 7, all else level 8
+-- a sign before its operand has level 6, one after it and a call of what a tree gives level 7, all else level 8
 abbrev pub kind_level : {S W : Type 0} → Kind S W → ℕ
 kind_level (one.Binary sign a b) = sign_level sign
 kind_level (one.Prefix sign x) = 6
@@ -55,6 +55,7 @@ kind_level (one.Spill x) = 7
 kind_level (one.Apply x arguments) = 7
 kind_level kind = 8
 
+-- the same of a tree
 abbrev pub level : {S W : Type 0} → Tree S W → ℕ
 level {S} {W} t = kind_level (out-Tree S W t)
 
@@ -63,6 +64,7 @@ abbrev pub is_empty_kind : {S W : Type 0} → Kind S W → Bool
 is_empty_kind one.Empty = true
 is_empty_kind kind = false
 
+-- the same of a tree
 abbrev pub is_empty : {S W : Type 0} → Tree S W → Bool
 is_empty {S} {W} t = is_empty_kind (out-Tree S W t)
 
@@ -76,6 +78,7 @@ is_callable_kind (one.Lambda parameters body) = true
 is_callable_kind (one.Apply x arguments) = true
 is_callable_kind kind = false
 
+-- the same of a tree
 abbrev pub is_callable : {S W : Type 0} → Tree S W → Bool
 is_callable {S} {W} t = is_callable_kind (out-Tree S W t)
 
@@ -93,6 +96,7 @@ height_step (one.Lambda parameters body) = body + 1
 height_step (one.Apply x arguments) = max x (greatest arguments) + 1
 height_step kind = 1
 
+-- the height of a tree
 abbrev pub height : {S W : Type 0} → Tree S W → ℕ
 height {S} {W} t = fold-Tree S W ℕ ℕ height_step (λ pair. pair.value) t
 
@@ -111,6 +115,7 @@ brackets_step (one.Apply x arguments) = max x (greatest arguments + 1)
 brackets_step (one.Array rows) = 1
 brackets_step kind = 0
 
+-- the same of a tree
 abbrev pub open_brackets : {S W : Type 0} → Tree S W → ℕ
 open_brackets {S} {W} t = fold-Tree S W ℕ ℕ brackets_step (λ pair. pair.value) t
 
@@ -124,10 +129,12 @@ pub record Names (S W : Type 0) : Type 0 where
 abbrev pub is_called_name : List ℕ → Bool
 is_called_name name = is_variable name && not (agrees name (codes "LET")) && not (agrees name (codes "LAMBDA"))
 
+-- a sheet that is written has the name of one
 abbrev pub is_written_sheet : Option (List ℕ) → Bool
 is_written_sheet None = true
 is_written_sheet (Some name) = is_sheet_name name
 
+-- what is asked of the names of a spelled tree
 abbrev pub spelled_names : Names (Option (List ℕ)) (List ℕ)
 spelled_names = record { is_sheet = is_written_sheet; is_word = is_variable; is_called = is_called_name }
 
@@ -136,11 +143,13 @@ abbrev pub is_sheet_mention : SheetMention → Bool
 is_sheet_mention (sheets.Dangling name) = is_sheet_name name
 is_sheet_mention mention = true
 
+-- a word that was found is good, any other is what it may be
 abbrev pub is_word_mention : (List ℕ → Bool) → NameMention → Bool
 is_word_mention test (names.Var name) = test name
 is_word_mention test (names.Name key) = true
 is_word_mention test (names.Dangling name) = test name
 
+-- what is asked of the names of a bound tree
 abbrev pub bound_names : Names SheetMention NameMention
 bound_names = record { is_sheet = is_sheet_mention; is_word = is_word_mention is_variable; is_called = is_word_mention is_called_name }
 
@@ -167,6 +176,7 @@ abbrev pub is_argument_list : {S W : Type 0} → List (Tree S W) → Bool
 is_argument_list (t ∷ []) = not (is_empty t)
 is_argument_list arguments = true
 
+-- so are the arguments of a call
 abbrev pub HasArguments : {S W : Type 0} → Kind S W → Type 0
 HasArguments (one.Fun number arguments) = is_argument_list arguments ≡ true
 HasArguments (one.Call word arguments) = is_argument_list arguments ≡ true
@@ -177,6 +187,7 @@ HasArguments kind = Unit {0}
 abbrev pub IsThere : {S W : Type 0} → Tree S W → Type 0
 IsThere t = is_empty t ≡ false
 
+-- the parts of a node are there
 abbrev pub HasParts : {S W : Type 0} → Kind S W → Type 0
 HasParts (one.Paren x) = IsThere x
 HasParts (one.Prefix sign x) = IsThere x
@@ -202,10 +213,12 @@ HasElements kind = Unit {0}
 abbrev pub is_unsigned : ℤ → Bool
 is_unsigned units = int_le (pos 0) units && is_amount units
 
+-- the same of a constant
 abbrev pub is_unsigned_constant : Constant → Bool
 is_unsigned_constant (constants.Num minus amount) = is_unsigned amount
 is_unsigned_constant constant = true
 
+-- the numbers of a node are such
 abbrev pub HasUnsigned : {S W : Type 0} → Kind S W → Type 0
 HasUnsigned (one.Num units) = is_unsigned units ≡ true
 HasUnsigned (one.Array rows) = list_all (list_all is_unsigned_constant) rows ≡ true
@@ -225,7 +238,7 @@ abbrev pub HasPlaces : {S W : Type 0} → Kind S W → Type 0
 HasPlaces (one.Reference sheet place) = is_place_within place ≡ true
 HasPlaces kind = Unit {0}
 
--- what is asked of each level
+-- what is asked of each node
 pub record IsKindWell {S W : Type 0} (names : Names S W) (let_fn lambda_fn : ℕ) (kind : Kind S W) : Type 0 where
   pub operands : HasOperands kind
   pub called : CallsCallable kind

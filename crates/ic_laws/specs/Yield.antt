@@ -23,6 +23,7 @@ joined between (part ∷ next ∷ parts) = part ++ between ∷ joined between (n
 abbrev pub row_sign : DialectMeaning → Token
 row_sign d = if nat_eq d.list comma then Semicolon else Operator signs.Over
 
+-- the token of a sign before its operand
 abbrev pub prefix_token : PrefixSign → Token
 prefix_token prefixes.Plus = Operator signs.Plus
 prefix_token prefixes.Minus = Operator signs.Minus
@@ -36,6 +37,7 @@ constant_tokens (constants.Str text) = Str text ∷ []
 constant_tokens (constants.Bool value) = Boolean value ∷ []
 constant_tokens (constants.Err error) = Err error ∷ []
 
+-- the constants of a row, with separators
 abbrev pub row_tokens : List Constant → List Token
 row_tokens row = joined Separator (map constant_tokens row)
 
@@ -44,10 +46,11 @@ pub record PairTokens : Type 0 where
   pub variable : List ℕ
   pub value : List Token
 
+-- variables and values in turn
 abbrev pub pair_parts : List PairTokens → List (List Token)
 pair_parts pairs = flat_map (λ pair. (Word pair.variable ∷ []) ∷ pair.value ∷ []) pairs
 
--- the tokens of one level, from those of what is below it
+-- the tokens of one node, from those of what is below it
 abbrev pub yield_step : DialectMeaning → Tree-F (Option (List ℕ)) (List ℕ) (List Token) PairTokens → List Token
 yield_step d (one.Num units) = Num units ∷ []
 yield_step d (one.Str text) = Str text ∷ []
@@ -68,6 +71,7 @@ yield_step d (one.Lambda parameters body) = FunHead d.lambda_fn ∷ joined Separ
 yield_step d (one.Apply x arguments) = x ++ Open ∷ joined Separator arguments ++ Close ∷ []
 yield_step d (one.Array rows) = OpenBrace ∷ joined (row_sign d) (map row_tokens rows) ++ CloseBrace ∷ []
 
+-- the same of a pair of LET
 abbrev pub pair_step : LetPair-F (Option (List ℕ)) (List ℕ) (List Token) PairTokens → PairTokens
 pair_step pair = record { variable = pair.variable; value = pair.value }
 

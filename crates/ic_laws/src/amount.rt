@@ -62,7 +62,7 @@ impl Amount {
 }
 
 /// The text of an amount: the shortest decimal with this separator, and a minus where it is below 0. It has a digit
-/// before the separator, no zero at the end behind it, and no separator without digits behind it.
+/// before the separator, no zero at the end after it, and no separator without digits after it.
 pub fn amount_spelling(alloc: Global, v: Amount, decimal: char) -> Result<String, OutOfMemory>
     ensures exact { IfOk result (λ s. chars (string_bytes s) ≡ amount_text decimal v) }
 
@@ -141,7 +141,7 @@ fn push_digit(text: &mut String, digit: u32) -> Result<(), OutOfMemory>
     push_char(text, (b'0' + digit as u8) as char)
 }
 
-/// The amount that the whole text writes: digits with or without the separator and at most nine digits behind it, or
+/// The amount that the whole text writes: digits with or without the separator and at most nine digits after it, or
 /// the separator and one to nine digits. None exactly for every other text, and where it is no amount.
 pub fn unsigned_amount(text: &str, decimal: char) -> Option<Amount>
     ensures { result ≡ option_map pos (unsigned_amount decimal (chars text.now)) }
@@ -154,17 +154,17 @@ fn unsigned_units(text: &str, decimal: char) -> Option<u128>
     ensures { result ≡ unsigned_amount decimal (chars text.now) }
 {
     let whole = digits_at(text, GREATEST_WHOLE)?;
-    let Some((c, behind)) = first_char(whole.rest) else {
+    let Some((c, after)) = first_char(whole.rest) else {
         return units_by(whole.value, whole.count, 0, 0);
     };
     if c == decimal {
-        units_of(whole.value, whole.count, behind)
+        units_of(whole.value, whole.count, after)
     } else {
         None
     }
 }
 
-// The units of a number whose whole part is known, with this text behind the separator.
+// The units of a number whose whole part is known, with this text after the separator.
 fn units_of(whole: u64, whole_count: usize, text: &str) -> Option<u128>
     requires whole_fits { whole < 10 ^ 18 }
     requires few { whole_count + length text.now < 2 ^ 64 }
@@ -177,7 +177,7 @@ fn units_of(whole: u64, whole_count: usize, text: &str) -> Option<u128>
     }
 }
 
-// The digits at the front of a text: the number that they write, how many they are, and what stands behind them.
+// The digits at the front of a text: the number that they write, how many they are, and what stands after them.
 #[derive(Drop)]
 struct Digits<'t> {
     value: u64,
@@ -194,7 +194,7 @@ fn digits_at(text: &str, most: u64) -> Option<Digits<'_>>
     let mut value = 0;
     let mut count = 0;
     let mut rest = text;
-    while let Some((c, behind)) = first_char(rest) {
+    while let Some((c, after)) = first_char(rest) {
         if !c.is_ascii_digit() {
             break;
         }
@@ -203,12 +203,12 @@ fn digits_at(text: &str, most: u64) -> Option<Digits<'_>>
             return None;
         }
         count += 1;
-        rest = behind;
+        rest = after;
     }
     Some(Digits { value, count, rest })
 }
 
-// The units of a number with these digits before and behind the separator: at least one and at most nine behind it.
+// The units of a number with these digits before and after the separator: at least one and at most nine after it.
 fn units_by(whole: u64, whole_count: usize, fraction: u64, fraction_count: usize) -> Option<u128>
     requires whole_fits { whole < 10 ^ 18 }
     requires fraction_fits { fraction < 10 ^ 9 }

@@ -6,7 +6,7 @@ use crate::{Error, OutOfMemory, RefToken};
 use std::alloc::Global;
 
 /// A list of words that a dialect has.
-#[derive(Clone, Copy, Debug, PartialEq, Eq)]
+#[derive(Clone, Copy)]
 pub enum WordKind {
     /// 0 is true, 1 is false.
     Boolean,
@@ -16,8 +16,8 @@ pub enum WordKind {
     Function,
 }
 
-/// A way to write formulas: separators, words and references. It means one notation, and `laws` says what holds of
-/// that.
+/// A way to write formulas: separators, words and references. `meaning` says what they
+/// mean, and `laws` what holds of that.
 pub trait Dialect {
     ghost meaning: { Self → DialectMeaning };
 

@@ -1,13 +1,22 @@
-//! The words that every other crate's contracts use: texts, lists and boxes that contracts see as plain data, names,
-//! amounts, references, trees of formulas, dialects, the core book with the step of each command, and the lines and
-//! replies of a run.
+//! The words that every other crate's contracts use: texts, lists and boxes that contracts see as plain data, texts read
+//! character by character, names, amounts, references, trees of formulas, dialects, the core book with the step of each
+//! command, and the lines and replies of a run.
 //!
-//! The definitions are in `specs/`: `Name` (agreeing names, sheet names, variables, identifiers, quoting), `Position`
-//! (rows, columns, where a reference points), `Amount` (numbers and their texts), `Longest` (what a reader of the
-//! longest answers), `DialectMeaning` (what a dialect means, and its laws), `Token`, `Tree` and `Yield` (the tokens of a text,
-//! well-formed trees, and the tokens of a tree), `Reading` (what it means to read and to print), `Parse` (the function
-//! that reads a list of tokens as a tree), `CoreBook` and `CoreStep` (the book and its steps), `Lines` (lines, words,
-//! escapes, commands, replies and whole runs). `law_yield_injective` carries that a list of tokens has one tree.
+//! The definitions are in `specs/`: `Character` (code points by name), `Scan` (characters and the runs of them), `Name`
+//! (agreeing names, sheet names, variables, identifiers, quoting), `Position` (rows, columns, where a reference points),
+//! `Amount` (numbers and their texts), `Longest` (what a reader of the longest answers), `CoreBook` and `CoreStep` (the
+//! book and its steps), `Lines` (lines, words, escapes, commands, replies and whole runs).
+//!
+//! Those of formulas: `Dialect` (what a dialect means, and what always holds of it), `Token` (the tokens, what spells
+//! each, and how a text falls into them), `Tree` (well-formed trees), `Yield` (the tokens of a tree), `Reading` (what it
+//! means to read and to print), all of them relations; the same as functions, tied to them by proofs: `Split`,
+//! `NextToken`, `TokenKinds` and `AmountFront` (the next token of a text, and all of them), `Parse` (the tree of a list of
+//! tokens), `ReadAs` (the tree of a text); and `Following` (what may stand after a token).
+//!
+//! The laws of every dialect: `law_lexes_unique` (a text falls into tokens in one way at most), `law_yield_injective` (a
+//! list of tokens is that of one tree at most), `law_lex_print` and `law_read_print` (the canonical text of a tree that
+//! fits falls into its tokens, and reads as it). That the functions answer just what the relations say is in `proofs/`:
+//! `parsing` (`ReadAs`), `tokens` (`Next`, `Kinds`, `Lexing`) and `printing` (`Trees`).
 #![tactic(auto)]
 
 mod amount;

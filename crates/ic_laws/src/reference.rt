@@ -7,7 +7,7 @@ pub const LAST_ROW: i32 = 1_048_576;
 pub const LAST_COLUMN: i32 = 16_384;
 
 /// A row or a column of a reference.
-#[derive(Clone, Copy, Debug, PartialEq, Eq)]
+#[derive(Clone, Copy)]
 pub enum Position {
     /// The row or the column of this number, from 1.
     Abs(i32),
@@ -16,21 +16,21 @@ pub enum Position {
 }
 
 /// One corner of a reference.
-#[derive(Clone, Copy, Debug, PartialEq, Eq)]
+#[derive(Clone, Copy)]
 pub struct RefPart {
     pub row: Position,
     pub column: Position,
 }
 
 /// What a reference refers to on its sheet. The corners of a range stand as they were written.
-#[derive(Clone, Copy, Debug, PartialEq, Eq)]
+#[derive(Clone, Copy)]
 pub enum Place {
     Cell(RefPart),
     Range(RefPart, RefPart),
 }
 
 /// A reference as it stands in a formula's text: the name of a sheet, if one is written, and a place.
-#[derive(Debug, Drop, PartialEq)]
+#[derive(Drop)]
 pub struct RefToken {
     pub sheet: Option<Text>,
     pub place: Place,

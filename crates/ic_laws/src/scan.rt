@@ -91,7 +91,7 @@ pub fn is_ascii_letter(c: char) -> bool
     matches!(c, 'A'..='Z' | 'a'..='z')
 }
 
-/// What stands behind the run of plain characters at the front.
+/// What stands after the run of plain characters at the front.
 pub fn past_plain(text: &str) -> &str
     ensures { chars result.now ≡ past_run is_plain (chars text.now) }
 {
@@ -105,7 +105,7 @@ pub fn past_plain(text: &str) -> &str
     rest
 }
 
-/// What stands behind the run of ASCII letters at the front.
+/// What stands after the run of ASCII letters at the front.
 pub fn past_letters(text: &str) -> &str
     ensures { chars result.now ≡ past_run is_ascii_letter (chars text.now) }
 {
@@ -119,7 +119,7 @@ pub fn past_letters(text: &str) -> &str
     rest
 }
 
-/// What stands behind the run of digits at the front.
+/// What stands after the run of digits at the front.
 pub fn past_digits(text: &str) -> &str
     ensures { chars result.now ≡ past_run is_digit (chars text.now) }
 {

@@ -1,7 +1,7 @@
 use crate::{Amount, Boxed, Items, Place, Text};
 
 /// An error value. Its number is its place in this list, from 0.
-#[derive(Clone, Copy, Debug, PartialEq, Eq)]
+#[derive(Clone, Copy, Debug, PartialEq)]
 pub enum Error {
     REF,
     NAME,
@@ -18,7 +18,7 @@ pub enum Error {
 }
 
 /// A sign before its operand.
-#[derive(Clone, Copy, Debug, PartialEq, Eq)]
+#[derive(Clone, Copy)]
 pub enum PrefixSign {
     Plus,
     Minus,
@@ -26,7 +26,7 @@ pub enum PrefixSign {
 }
 
 /// A sign between two operands: `= <> < > <= >= & + - * / ^`.
-#[derive(Clone, Copy, Debug, PartialEq, Eq)]
+#[derive(Clone, Copy, PartialEq, Eq)]
 pub enum BinarySign {
     Equal,
     Unequal,
@@ -43,7 +43,7 @@ pub enum BinarySign {
 }
 
 /// What stands in an array.
-#[derive(Debug, Drop)]
+#[derive(Drop)]
 pub enum Constant {
     Num { minus: bool, amount: Amount },
     Str(Text),
@@ -52,7 +52,7 @@ pub enum Constant {
 }
 
 /// A formula as a tree, whose references name a sheet by an `S` and whose words are a `W`.
-#[derive(Debug, Drop)]
+#[derive(Drop)]
 #[cycle(tree)]
 pub enum Tree<S, W> {
     Num(Amount),
@@ -82,7 +82,7 @@ pub enum Tree<S, W> {
 }
 
 /// A variable of LET with its value.
-#[derive(Debug, Drop)]
+#[derive(Drop)]
 #[cycle(tree)]
 pub struct LetPair<S, W> {
     pub variable: Text,
@@ -93,7 +93,7 @@ pub struct LetPair<S, W> {
 pub type Spelled = Tree<Option<Text>, Text>;
 
 /// The sheet of a reference: the formula's own, one that was found, by its id, or one that wasn't, by its name.
-#[derive(Debug, Drop)]
+#[derive(Drop)]
 pub enum SheetMention {
     Own,
     Sheet(u32),
@@ -101,14 +101,14 @@ pub enum SheetMention {
 }
 
 /// The key of a definition: its folded name, and the id of the sheet that it is local to, if there is one.
-#[derive(Debug, Drop)]
+#[derive(Drop)]
 pub struct NameKey {
     pub name: Text,
     pub scope: Option<u32>,
 }
 
 /// A word: a variable of LET or LAMBDA, a definition that was found, by its key, or one that wasn't, by its spelling.
-#[derive(Debug, Drop)]
+#[derive(Drop)]
 pub enum NameMention {
     Var(Text),
     Name(NameKey),
@@ -119,7 +119,7 @@ pub enum NameMention {
 pub type Bound = Tree<SheetMention, NameMention>;
 
 /// What is kept of a formula: a tree, or its text where that doesn't read.
-#[derive(Debug, Drop)]
+#[derive(Drop)]
 pub enum Formula {
     Tree(Bound),
     Raw(Text),

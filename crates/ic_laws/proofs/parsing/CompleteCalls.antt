@@ -19,29 +19,29 @@ use Rattle.ic_laws.proofs.parsing.Completeness.{ReadsBack, Wide, Complete, back,
 abbrev pub ArgumentReads : DialectMeaning → ℕ → ℕ → Spelled → Type 0
 ArgumentReads d most b t = (is_empty t ≡ true) ⊎ ReadsBack d most b t
 
--- what stands behind an argument ends it
-abbrev IsEnd : List Token → Type 0
-IsEnd rest = ends_argument rest ≡ true
+-- what stands after an argument ends it
+abbrev EndsArgument : List Token → Type 0
+EndsArgument rest = ends_argument rest ≡ true
 
-argument_empty : (d : DialectMeaning) (most b : ℕ) (t : Spelled) (rest : List Token) → is_empty t ≡ true → IsEnd rest → argument (reader d most) b (yield d t ++ rest) ≡ Some (t, rest)
+argument_empty : (d : DialectMeaning) (most b : ℕ) (t : Spelled) (rest : List Token) → is_empty t ≡ true → EndsArgument rest → argument (reader d most) b (yield d t ++ rest) ≡ Some (t, rest)
 unfolding argument
 argument_empty d most b t rest h end = rw (empty_yields d t h, end, empty_is t h) refl
 
-argument_there : (d : DialectMeaning) (most b : ℕ) (t : Spelled) (rest : List Token) → ReadsBack d most b t → IsEnd rest → argument (reader d most) b (yield d t ++ rest) ≡ Some (t, rest)
+argument_there : (d : DialectMeaning) (most b : ℕ) (t : Spelled) (rest : List Token) → ReadsBack d most b t → EndsArgument rest → argument (reader d most) b (yield d t ++ rest) ≡ Some (t, rest)
 unfolding argument
 argument_there d most b t rest back end =
     let read : reader d most b 1 (yield d t ++ rest) ≡ Some (t, rest) = back.reads 1 rest (level_positive t) (close_ends 1 rest end) in
     rw (reader_begins d most b 1 (yield d t ++ rest) (t, rest) read, read) refl
 
-argument_reads : (d : DialectMeaning) (most b : ℕ) (t : Spelled) → ArgumentReads d most b t → ItemReads (argument (reader d most) b) past_separator Separator (yield d) IsEnd t
+argument_reads : (d : DialectMeaning) (most b : ℕ) (t : Spelled) → ArgumentReads d most b t → ItemReads (argument (reader d most) b) past_separator Separator (yield d) EndsArgument t
 argument_reads d most b t reads = record {
   reads = λ rest end. elim reads [ inl h ↦ argument_empty d most b t rest h end | inr back ↦ argument_there d most b t rest back end ];
 }
 
-separator_reads : (d : DialectMeaning) (most b : ℕ) → SignReads (argument (reader d most) b) past_separator Separator (yield d) IsEnd
+separator_reads : (d : DialectMeaning) (most b : ℕ) → SignReads (argument (reader d most) b) past_separator Separator (yield d) EndsArgument
 separator_reads d most b = record { taken = λ rest. refl; fine = λ rest. refl }
 
-all_read : (d : DialectMeaning) (most b : ℕ) (ts : List Spelled) → AllByRecursion (ArgumentReads d most b) ts → AllByRecursion (ItemReads (argument (reader d most) b) past_separator Separator (yield d) IsEnd) ts
+all_read : (d : DialectMeaning) (most b : ℕ) (ts : List Spelled) → AllByRecursion (ArgumentReads d most b) ts → AllByRecursion (ItemReads (argument (reader d most) b) past_separator Separator (yield d) EndsArgument) ts
 all_read d most b [] all = tt
 all_read d most b (t ∷ ts) all = (argument_reads d most b t all.0, all_read d most b ts all.1)
 
@@ -63,10 +63,10 @@ arguments_read d most b [] rest all good = refl
 arguments_read d most b (t ∷ ts) rest all good =
     let tokens : List Token = joined Separator (map (yield d) (t ∷ ts)) in
     let long : length (t ∷ ts) ≤ length (tokens ++ Close ∷ rest) =
-    omega (arith, joined_long (argument (reader d most) b) past_separator Separator (yield d) IsEnd t ts, length-append tokens (Close ∷ rest)) in
+    omega (arith, joined_long (argument (reader d most) b) past_separator Separator (yield d) EndsArgument t ts, length-append tokens (Close ∷ rest)) in
     rw (
       no_close_first d most b t ts rest all good,
-      listed_reads (argument (reader d most) b) past_separator Separator (yield d) IsEnd (separator_reads d most b) (Close ∷ rest) refl refl t ts (all_read d most b (t ∷ ts) all) (length (tokens ++ Close ∷ rest)) long,
+      listed_reads (argument (reader d most) b) past_separator Separator (yield d) EndsArgument (separator_reads d most b) (Close ∷ rest) refl refl t ts (all_read d most b (t ∷ ts) all) (length (tokens ++ Close ∷ rest)) long,
     ) refl
 
 -- an argument is left out, or may be read back
@@ -83,7 +83,7 @@ pub complete-Fun : (d : DialectMeaning) (number : ℕ) (ts : List Spelled) → W
 unfolding primary prefix_sign function_call
 complete-Fun d number ts well all = complete_primary d (one.Fun number ts) (record {
   token = FunHead number;
-  behind = joined Separator (map (yield d) ts) ++ Close ∷ [];
+  following = joined Separator (map (yield d) ts) ++ Close ∷ [];
   tokens = yield-node d (one.Fun number ts);
   seven = omega (arith, level-node (one.Fun number ts));
   no_sign = refl;
@@ -101,7 +101,7 @@ pub complete-Call : (d : DialectMeaning) (name : List ℕ) (ts : List Spelled) �
 unfolding primary prefix_sign name_call
 complete-Call d name ts well all = complete_primary d (one.Call name ts) (record {
   token = NameHead name;
-  behind = joined Separator (map (yield d) ts) ++ Close ∷ [];
+  following = joined Separator (map (yield d) ts) ++ Close ∷ [];
   tokens = yield-node d (one.Call name ts);
   seven = omega (arith, level-node (one.Call name ts));
   no_sign = refl;
@@ -128,7 +128,7 @@ pub complete-Apply : (d : DialectMeaning) (x : Spelled) (ts : List Spelled) → 
 complete-Apply d x ts well complete all = complete_postfix d (one.Apply x ts) (record {
   left = x;
   token = Open;
-  behind = joined Separator (map (yield d) ts) ++ Close ∷ [];
+  following = joined Separator (map (yield d) ts) ++ Close ∷ [];
   tokens = yield-node d (one.Apply x ts) ∙ append_assoc (yield d x) (Open ∷ joined Separator (map (yield d) ts)) (Close ∷ []);
   seven = omega (arith, level-node (one.Apply x ts));
   tight = complete.tight well.operands;
@@ -142,7 +142,7 @@ complete-Apply d x ts well complete all = complete_postfix d (one.Apply x ts) (r
 apart : (t u : Spelled) (rest after : List Token) → ◌≡◌ {A = Read Spelled} (Some (t, Close ∷ rest)) (Some (u, Separator ∷ after)) → ⊥
 apart t u rest after e = let parts = some_pair_parts t u (Close ∷ rest) (Separator ∷ after) e in let same : Close ∷ rest ≡ Separator ∷ after = parts.1 in cc
 
--- what is read with a bracket behind it has begun with no variable and separator
+-- what is read with a bracket after it has begun with no variable and separator
 pub no_binder : (d : DialectMeaning) (most b : ℕ) (ts : List Token) (t : Spelled) (rest : List Token) → reader d most b 1 ts ≡ Some (t, Close ∷ rest) → binder ts ≡ None
 unfolding binder
 no_binder d most b (Word name ∷ Separator ∷ after) t rest e = elim (cases_Bool (is_variable name)) [

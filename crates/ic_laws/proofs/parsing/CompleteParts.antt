@@ -89,7 +89,7 @@ unfolding primary prefix_sign function_call let_call
 complete-Let d [] body well all wide = absurd (well.elements refl)
 complete-Let d (pair ∷ pairs) body well all wide = complete_primary d (one.Let (pair ∷ pairs) body) (record {
   token = FunHead d.let_fn;
-  behind = let_tokens d (pair ∷ pairs) body ++ Close ∷ [];
+  following = let_tokens d (pair ∷ pairs) body ++ Close ∷ [];
   tokens = yield-node d (one.Let (pair ∷ pairs) body);
   seven = omega (arith, level-node (one.Let (pair ∷ pairs) body));
   no_sign = refl;
@@ -114,7 +114,7 @@ pub complete-Lambda : (d : DialectMeaning) → d.let_fn ≢ d.lambda_fn → (nam
 unfolding primary prefix_sign function_call lambda_call
 complete-Lambda d differ names body well wide = complete_primary d (one.Lambda names body) (record {
   token = FunHead d.lambda_fn;
-  behind = lambda_tokens d names body ++ Close ∷ [];
+  following = lambda_tokens d names body ++ Close ∷ [];
   tokens = yield-node d (one.Lambda names body);
   seven = omega (arith, level-node (one.Lambda names body));
   no_sign = refl;
@@ -148,7 +148,7 @@ constants_read (c ∷ cs) good =
     let parts = and_parts (is_unsigned_constant c) (list_all is_unsigned_constant cs) good in
     (record { reads = λ rest fine. constant_reads c rest parts.0 }, constants_read cs parts.1)
 
--- what stands behind a row
+-- what stands after a row
 abbrev EndsRow : List Token → Type 0
 EndsRow rest = (past_separator rest ≡ None) × (0 < length rest)
 
@@ -186,7 +186,7 @@ pub complete-Array : (d : DialectMeaning) (rows : List (List Constant)) → Well
 unfolding primary prefix_sign array
 complete-Array d rows well = complete_primary d (one.Array rows) (record {
   token = OpenBrace;
-  behind = joined (row_sign d) (map row_tokens rows) ++ CloseBrace ∷ [];
+  following = joined (row_sign d) (map row_tokens rows) ++ CloseBrace ∷ [];
   tokens = yield-node d (one.Array rows);
   seven = omega (arith, level-node (one.Array rows));
   no_sign = refl;

@@ -17,25 +17,25 @@ use Rattle.ic_laws.specs.declared.tree.PrefixSign.{PrefixSign}
 use Rattle.ic_laws.specs.declared.tree.PrefixSign.TheVariants as prefixes
 use Rattle.ic_laws.specs.declared.tree.Tree.TheOpen as one
 use Rattle.ic_laws.proofs.parsing.Nodes.{WellKind, yield-node, height-node, brackets-node, level-node, level_positive, height_positive}
-use Rattle.ic_laws.proofs.parsing.ReadLemmas.{Ends, Ends-more, made_takes, made_if_takes, turns_stop, turns_go, postfix_stops, binary_stops}
+use Rattle.ic_laws.proofs.parsing.ReadLemmas.{NothingGoesOn, NothingGoesOn-more, made_takes, made_if_takes, turns_stop, turns_go, postfix_stops, binary_stops}
 
 -- a tree is read back before what doesn't go on from it
 pub record ReadsBack (d : DialectMeaning) (most b : ℕ) (t : Spelled) : Type 0 where
-  pub reads : (least : ℕ) (rest : List Token) → least ≤ level t → Ends least rest → reader d most b least (yield d t ++ rest) ≡ Some (t, rest)
+  pub reads : (least : ℕ) (rest : List Token) → least ≤ level t → NothingGoesOn least rest → reader d most b least (yield d t ++ rest) ≡ Some (t, rest)
 
--- behind an operand its loop goes on, with fuel for all that a tree may still grow
+-- after an operand its loop goes on, with fuel for all that a tree may still grow
 pub record GoesOn (read : Read Spelled) (loop : ℕ → Read Spelled) (most : ℕ) (t : Spelled) : Type 0 where
   pub fuel : ℕ
   pub enough : most < fuel + height t
   pub same : read ≡ loop fuel
 
--- a tree that binds as tightly as what stands behind an operand does, whatever stands behind it
+-- a tree that binds as tightly as what stands after an operand does, whatever stands after it
 pub record Tight (d : DialectMeaning) (t : Spelled) : Type 0 where
   pub goes : (most b : ℕ) (rest : List Token) → height t ≤ suc most → open_brackets t ≤ b → GoesOn (operand d (suc most) (reader d most) b (yield d t ++ rest)) (λ fuel. postfixes (suc most) (reader d most) b fuel t rest) (suc most) t
 
--- any tree, before what stands behind a whole operand
+-- any tree, before what stands after a whole operand
 pub record Wide (d : DialectMeaning) (t : Spelled) : Type 0 where
-  pub goes : (most b least : ℕ) (rest : List Token) → height t ≤ suc most → open_brackets t ≤ b → least ≤ level t → Ends (suc (level t)) rest → GoesOn (expression d (suc most) (reader d most) b least (yield d t ++ rest)) (λ fuel. binaries (suc most) (reader d most) b least fuel t rest) (suc most) t
+  pub goes : (most b least : ℕ) (rest : List Token) → height t ≤ suc most → open_brackets t ≤ b → least ≤ level t → NothingGoesOn (suc (level t)) rest → GoesOn (expression d (suc most) (reader d most) b least (yield d t ++ rest)) (λ fuel. binaries (suc most) (reader d most) b least fuel t rest) (suc most) t
 
 pub record Complete (d : DialectMeaning) (t : Spelled) : Type 0 where
   pub tight : 7 ≤ level t → Tight d t
@@ -47,11 +47,11 @@ unfolding reader
 back d t wide zero b low few = absurd (omega (arith, height_positive t))
 back d t wide (suc most) b low few = record {
   reads = λ least rest tight ends.
-      let on : GoesOn _ _ _ _ = wide.goes most b least rest low few tight (Ends-more least (suc (level t)) rest (omega arith) ends) in
+      let on : GoesOn _ _ _ _ = wide.goes most b least rest low few tight (NothingGoesOn-more least (suc (level t)) rest (omega arith) ends) in
       on.same ∙ stopped least rest on.fuel (omega (arith, on.enough)) ends;
 }
   where
-    stopped : (least : ℕ) (rest : List Token) (fuel : ℕ) → 0 < fuel → Ends least rest → binaries (suc most) (reader d most) b least fuel t rest ≡ Some (t, rest)
+    stopped : (least : ℕ) (rest : List Token) (fuel : ℕ) → 0 < fuel → NothingGoesOn least rest → binaries (suc most) (reader d most) b least fuel t rest ≡ Some (t, rest)
     stopped least rest zero some ends = absurd (omega arith)
     stopped least rest (suc fuel) some ends = turns_stop (binary (suc most) (reader d most) b least) fuel t rest (binary_stops (suc most) (reader d most) b least t rest ends)
 
@@ -68,7 +68,7 @@ wide_from_tight d t seven tight = record {
       };
 }
   where
-    stopped : (most b : ℕ) (rest : List Token) (fuel : ℕ) → 0 < fuel → Ends (suc (level t)) rest → postfixes (suc most) (reader d most) b fuel t rest ≡ Some (t, rest)
+    stopped : (most b : ℕ) (rest : List Token) (fuel : ℕ) → 0 < fuel → NothingGoesOn (suc (level t)) rest → postfixes (suc most) (reader d most) b fuel t rest ≡ Some (t, rest)
     stopped most b rest zero some ends = absurd (omega arith)
     stopped most b rest (suc fuel) some ends = turns_stop (postfix (suc most) (reader d most) b) fuel t rest (postfix_stops (suc most) (reader d most) b (suc (level t)) t rest ends)
 
@@ -76,15 +76,15 @@ pub complete_tight : (d : DialectMeaning) (t : Spelled) → 7 ≤ level t → Ti
 complete_tight d t seven tight = record { tight = λ h. tight; wide = wide_from_tight d t seven tight }
 
 -- an operand that begins with its token and isn't gone on from
-pub record Begins (d : DialectMeaning) (kind : SpelledKind) : Type 0 where
+pub record BeginsWithToken (d : DialectMeaning) (kind : SpelledKind) : Type 0 where
   pub token : Token
-  pub behind : List Token
-  pub tokens : yield d (node kind) ≡ token ∷ behind
+  pub following : List Token
+  pub tokens : yield d (node kind) ≡ token ∷ following
   pub seven : 7 ≤ level (node kind)
   pub no_sign : prefix_sign token ≡ None
-  pub reads : (most b : ℕ) (rest : List Token) → height (node kind) ≤ suc most → open_brackets (node kind) ≤ b → primary d (suc most) (reader d most) b token (behind ++ rest) ≡ Some (node kind, rest)
+  pub reads : (most b : ℕ) (rest : List Token) → height (node kind) ≤ suc most → open_brackets (node kind) ≤ b → primary d (suc most) (reader d most) b token (following ++ rest) ≡ Some (node kind, rest)
 
-pub complete_primary : (d : DialectMeaning) (kind : SpelledKind) → Begins d kind → Complete d (node kind)
+pub complete_primary : (d : DialectMeaning) (kind : SpelledKind) → BeginsWithToken d kind → Complete d (node kind)
 unfolding operand
 complete_primary d kind begins = complete_tight d (node kind) begins.seven (record {
   goes = λ most b rest low few. record {
@@ -94,37 +94,37 @@ complete_primary d kind begins = complete_tight d (node kind) begins.seven (reco
   };
 })
   where
-    first_read : (most b : ℕ) (rest : List Token) → height (node kind) ≤ suc most → open_brackets (node kind) ≤ b → operand d (suc most) (reader d most) b (begins.token ∷ (begins.behind ++ rest)) ≡ postfixes (suc most) (reader d most) b (suc most) (node kind) rest
+    first_read : (most b : ℕ) (rest : List Token) → height (node kind) ≤ suc most → open_brackets (node kind) ≤ b → operand d (suc most) (reader d most) b (begins.token ∷ (begins.following ++ rest)) ≡ postfixes (suc most) (reader d most) b (suc most) (node kind) rest
     first_read most b rest low few = rw (begins.no_sign, operand, begins.reads most b rest low few) refl
 
--- a turn of the loop behind an operand
+-- a turn of the loop after an operand
 pub record Follows (d : DialectMeaning) (kind : SpelledKind) : Type 0 where
   pub left : Spelled
   pub token : Token
-  pub behind : List Token
-  pub tokens : yield d (node kind) ≡ yield d left ++ (token ∷ behind)
+  pub following : List Token
+  pub tokens : yield d (node kind) ≡ yield d left ++ (token ∷ following)
   pub seven : 7 ≤ level (node kind)
   pub tight : Tight d left
   pub higher : height left < height (node kind)
   pub fewer : open_brackets left ≤ open_brackets (node kind)
-  pub turn : (most b : ℕ) (rest : List Token) → height (node kind) ≤ suc most → open_brackets (node kind) ≤ b → postfix (suc most) (reader d most) b left (token ∷ (behind ++ rest)) ≡ Some (Some (node kind, rest))
+  pub turn : (most b : ℕ) (rest : List Token) → height (node kind) ≤ suc most → open_brackets (node kind) ≤ b → postfix (suc most) (reader d most) b left (token ∷ (following ++ rest)) ≡ Some (Some (node kind, rest))
 
 pub complete_postfix : (d : DialectMeaning) (kind : SpelledKind) → Follows d kind → Complete d (node kind)
 complete_postfix d kind follows = complete_tight d (node kind) follows.seven (record {
   goes = λ most b rest low few.
-      let on : GoesOn _ _ _ _ = follows.tight.goes most b (follows.token ∷ (follows.behind ++ rest)) (omega (arith, follows.higher)) (omega (arith, follows.fewer)) in
+      let on : GoesOn _ _ _ _ = follows.tight.goes most b (follows.token ∷ (follows.following ++ rest)) (omega (arith, follows.higher)) (omega (arith, follows.fewer)) in
       turned most b rest low few on.fuel on.enough on.same;
 })
   where
     turned : (most b : ℕ) (rest : List Token) → height (node kind) ≤ suc most → open_brackets (node kind) ≤ b → (fuel : ℕ) → suc most < fuel + height follows.left
-        → operand d (suc most) (reader d most) b (yield d follows.left ++ (follows.token ∷ (follows.behind ++ rest))) ≡ postfixes (suc most) (reader d most) b fuel follows.left (follows.token ∷ (follows.behind ++ rest))
+        → operand d (suc most) (reader d most) b (yield d follows.left ++ (follows.token ∷ (follows.following ++ rest))) ≡ postfixes (suc most) (reader d most) b fuel follows.left (follows.token ∷ (follows.following ++ rest))
         → GoesOn (operand d (suc most) (reader d most) b (yield d (node kind) ++ rest)) (λ fuel. postfixes (suc most) (reader d most) b fuel (node kind) rest) (suc most) (node kind)
     turned most b rest low few zero enough same = absurd (omega (arith, follows.higher))
     turned most b rest low few (suc fuel) enough same = record {
       fuel = fuel;
       enough = omega (arith, follows.higher);
-      same = rw (follows.tokens, append_assoc (yield d follows.left) (follows.token ∷ follows.behind) rest)
-          (same ∙ turns_go (postfix (suc most) (reader d most) b) fuel follows.left (follows.token ∷ (follows.behind ++ rest)) (node kind) rest (follows.turn most b rest low few));
+      same = rw (follows.tokens, append_assoc (yield d follows.left) (follows.token ∷ follows.following) rest)
+          (same ∙ turns_go (postfix (suc most) (reader d most) b) fuel follows.left (follows.token ∷ (follows.following ++ rest)) (node kind) rest (follows.turn most b rest low few));
     }
 
 pub below_six : (sign : BinarySign) → sign_level sign < 6
@@ -151,7 +151,7 @@ pub complete-Num : (d : DialectMeaning) (units : ℤ) → WellKind d (one.Num un
 unfolding primary prefix_sign
 complete-Num d units well = complete_primary d (one.Num units) (record {
   token = Num units;
-  behind = [];
+  following = [];
   tokens = yield-node d (one.Num units);
   seven = omega (arith, level-node (one.Num units));
   no_sign = refl;
@@ -162,7 +162,7 @@ pub complete-Str : (d : DialectMeaning) (text : List ℕ) → Complete d (node (
 unfolding primary prefix_sign
 complete-Str d text = complete_primary d (one.Str text) (record {
   token = Str text;
-  behind = [];
+  following = [];
   tokens = yield-node d (one.Str text);
   seven = omega (arith, level-node (one.Str text));
   no_sign = refl;
@@ -173,7 +173,7 @@ pub complete-Bool : (d : DialectMeaning) (value : Bool) → Complete d (node (on
 unfolding primary prefix_sign
 complete-Bool d value = complete_primary d (one.Bool value) (record {
   token = Boolean value;
-  behind = [];
+  following = [];
   tokens = yield-node d (one.Bool value);
   seven = omega (arith, level-node (one.Bool value));
   no_sign = refl;
@@ -184,7 +184,7 @@ pub complete-Err : (d : DialectMeaning) (error : Error) → Complete d (node (on
 unfolding primary prefix_sign
 complete-Err d error = complete_primary d (one.Err error) (record {
   token = Err error;
-  behind = [];
+  following = [];
   tokens = yield-node d (one.Err error);
   seven = omega (arith, level-node (one.Err error));
   no_sign = refl;
@@ -195,7 +195,7 @@ pub complete-Reference : (d : DialectMeaning) (sheet : Option (List ℕ)) (place
 unfolding primary prefix_sign
 complete-Reference d sheet place well = complete_primary d (one.Reference sheet place) (record {
   token = Ref (record { sheet = sheet; place = place });
-  behind = [];
+  following = [];
   tokens = yield-node d (one.Reference sheet place);
   seven = omega (arith, level-node (one.Reference sheet place));
   no_sign = refl;
@@ -210,7 +210,7 @@ pub complete-Word : (d : DialectMeaning) (text : List ℕ) → is_variable text 
 unfolding primary prefix_sign
 complete-Word d text good = complete_primary d (one.Word text) (record {
   token = Word text;
-  behind = [];
+  following = [];
   tokens = yield-node d (one.Word text);
   seven = omega (arith, level-node (one.Word text));
   no_sign = refl;
@@ -221,7 +221,7 @@ pub complete-Paren : (d : DialectMeaning) (x : Spelled) → Wide d x → Complet
 unfolding primary prefix_sign bracketed
 complete-Paren d x wide = complete_primary d (one.Paren x) (record {
   token = Open;
-  behind = yield d x ++ Close ∷ [];
+  following = yield d x ++ Close ∷ [];
   tokens = yield-node d (one.Paren x);
   seven = omega (arith, level-node (one.Paren x));
   no_sign = refl;
@@ -242,7 +242,7 @@ complete-Prefix d sign x well wide = record {
   wide = record {
     goes = λ most b least rest low few enough ends.
         let inner : ReadsBack d most b x = back d x wide most b (omega (arith, low, height-node (one.Prefix sign x))) (omega (arith, few, brackets-node (one.Prefix sign x))) in
-        let six : Ends 6 rest = Ends-six rest ends in
+        let six : NothingGoesOn 6 rest = NothingGoesOn-six rest ends in
         record {
           fuel = suc most;
           enough = omega (arith, height_positive (node (one.Prefix sign x)));
@@ -251,19 +251,19 @@ complete-Prefix d sign x well wide = record {
   };
 }
   where
-    Ends-six : (rest : List Token) → Ends (suc (level (node (one.Prefix sign x)))) rest → Ends 6 rest
-    Ends-six (Operator s ∷ rest) h = below_six s
-    Ends-six (Percent ∷ rest) h = h
-    Ends-six (Hash ∷ rest) h = h
-    Ends-six (Open ∷ rest) h = h
-    Ends-six ts h = tt
+    NothingGoesOn-six : (rest : List Token) → NothingGoesOn (suc (level (node (one.Prefix sign x)))) rest → NothingGoesOn 6 rest
+    NothingGoesOn-six (Operator s ∷ rest) h = below_six s
+    NothingGoesOn-six (Percent ∷ rest) h = h
+    NothingGoesOn-six (Hash ∷ rest) h = h
+    NothingGoesOn-six (Open ∷ rest) h = h
+    NothingGoesOn-six ts h = tt
 
 pub complete-Percent : (d : DialectMeaning) (x : Spelled) → WellKind d (one.Percent x) → Complete d x → Complete d (node (one.Percent x))
 unfolding postfix
 complete-Percent d x well complete = complete_postfix d (one.Percent x) (record {
   left = x;
   token = Percent;
-  behind = [];
+  following = [];
   tokens = yield-node d (one.Percent x);
   seven = omega (arith, level-node (one.Percent x));
   tight = complete.tight well.operands;
@@ -277,7 +277,7 @@ unfolding postfix
 complete-Spill d x well complete = complete_postfix d (one.Spill x) (record {
   left = x;
   token = Hash;
-  behind = [];
+  following = [];
   tokens = yield-node d (one.Spill x);
   seven = omega (arith, level-node (one.Spill x));
   tight = complete.tight well.operands;
@@ -300,7 +300,7 @@ complete-Binary d sign x y well wide_x wide_y = record {
         let on : GoesOn _ _ _ _ = wide_x.goes most b least (Operator sign ∷ (yield d y ++ rest)) (omega (arith, low, higher)) (omega (arith, few, fewer)) (omega arith) (omega arith) in
         let inner : ReadsBack d most b y = back d y wide_y most b (omega (arith, low, higher)) (omega (arith, few, fewer)) in
         let read : reader d most b (sign_level sign + 1) (yield d y ++ rest) ≡ Some (y, rest) =
-        inner.reads (sign_level sign + 1) rest well.operands.1 (Ends-more (suc (level (node (one.Binary sign x y)))) (sign_level sign + 1) rest (omega arith) ends) in
+        inner.reads (sign_level sign + 1) rest well.operands.1 (NothingGoesOn-more (suc (level (node (one.Binary sign x y)))) (sign_level sign + 1) rest (omega arith) ends) in
         turned most b least rest low (omega arith) read on.fuel on.enough on.same;
   };
 }

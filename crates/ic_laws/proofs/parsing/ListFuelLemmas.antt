@@ -56,11 +56,11 @@ module _ {A : Type 0} (item : List Token → Read A) (past : List Token → Opti
   ]
 
 -- a reader takes no more than stands there, and reads no tree from nothing
-pub record Takes (below : Reader) : Type 0 where
+pub record TakesNoMore (below : Reader) : Type 0 where
   pub shorter : (b : ℕ) (ts : List Token) (read : Spelled × List Token) → below b 1 ts ≡ Some read → length read.1 ≤ length ts
   pub nothing : (b : ℕ) → below b 1 [] ≡ None
 
-pub reader_takes : (d : DialectMeaning) (most : ℕ) → Takes (reader d most)
+pub reader_takes : (d : DialectMeaning) (most : ℕ) → TakesNoMore (reader d most)
 reader_takes d most = record {
   shorter = λ b ts read e.
       let sound : Sound d most (reader d most) = reader_sound d most in
@@ -76,7 +76,7 @@ reader_takes d most = record {
 pub arguments_shrink : (d : DialectMeaning) (most b : ℕ) → Shrinks (argument (reader d most) b) past_separator
 unfolding argument
 arguments_shrink d most b =
-    let takes : Takes (reader d most) = reader_takes d most in
+    let takes : TakesNoMore (reader d most) = reader_takes d most in
     record {
       shorter = λ ts read e.
           let found = argument_sound d most (reader d most) (reader_sound d most) b ts read e in
@@ -85,11 +85,11 @@ arguments_shrink d most b =
       sign = λ ts rest e. omega (arith, ap length (past_separator_some ts rest e));
     }
 
-value_shorter : (below : Reader) → Takes below → (b : ℕ) (ts : List Token) (begun : List ℕ × List Token) (value : Spelled × List Token) → binder ts ≡ Some begun → followed past_separator (below b 1 begun.1) ≡ Some value → length value.1 < length ts
+value_shorter : (below : Reader) → TakesNoMore below → (b : ℕ) (ts : List Token) (begun : List ℕ × List Token) (value : Spelled × List Token) → binder ts ≡ Some begun → followed past_separator (below b 1 begun.1) ≡ Some value → length value.1 < length ts
 value_shorter below takes b ts begun value begins e =
-    followed_some past_separator (below b 1 begun.1) value e (λ after got behind.
+    followed_some past_separator (below b 1 begun.1) value e (λ after got unread.
     let start = binder_some ts begun begins in
-    omega (arith, ap length start.0, takes.shorter b begun.1 (value.0, after) got, ap length (past_separator_some after value.1 behind)))
+    omega (arith, ap length start.0, takes.shorter b begun.1 (value.0, after) got, ap length (past_separator_some after value.1 unread)))
 
 binder_some_tokens : (ts : List Token) (begun : List ℕ × List Token) → binder ts ≡ Some begun → ts ≡ Word begun.0 ∷ Separator ∷ begun.1
 binder_some_tokens ts begun begins = let start = binder_some ts begun begins in start.0
@@ -108,12 +108,12 @@ module _ (below : Reader) (b : ℕ) where
   unfolding let_parts
   let_fails fuel ts begun begins e = rw (begins, let_parts, e) refl
 
-  let_nothing : Takes below → (fuel : ℕ) → let_parts below b fuel [] ≡ None
+  let_nothing : TakesNoMore below → (fuel : ℕ) → let_parts below b fuel [] ≡ None
   unfolding let_parts binder
   let_nothing takes zero = refl
   let_nothing takes (suc fuel) = rw (takes.nothing b) refl
 
-  pub let_fuel : Takes below → (f g : ℕ) (ts : List Token) → length ts ≤ f → length ts ≤ g → let_parts below b f ts ≡ let_parts below b g ts
+  pub let_fuel : TakesNoMore below → (f g : ℕ) (ts : List Token) → length ts ≤ f → length ts ≤ g → let_parts below b f ts ≡ let_parts below b g ts
   let_fuel takes zero g [] enough too = let_nothing takes zero ∙ sym (let_nothing takes g)
   let_fuel takes zero g (t ∷ ts) enough too = absurd (omega arith)
   let_fuel takes (suc f) zero [] enough too = let_nothing takes (suc f) ∙ sym (let_nothing takes zero)
@@ -141,12 +141,12 @@ module _ (below : Reader) (b : ℕ) where
   unfolding lambda_parts
   lambda_parameter fuel ts begun begins = rw (begins, lambda_parts) refl
 
-  lambda_nothing : Takes below → (fuel : ℕ) → lambda_parts below b fuel [] ≡ None
+  lambda_nothing : TakesNoMore below → (fuel : ℕ) → lambda_parts below b fuel [] ≡ None
   unfolding lambda_parts binder
   lambda_nothing takes zero = refl
   lambda_nothing takes (suc fuel) = rw (takes.nothing b) refl
 
-  pub lambda_fuel : Takes below → (f g : ℕ) (ts : List Token) → length ts ≤ f → length ts ≤ g → lambda_parts below b f ts ≡ lambda_parts below b g ts
+  pub lambda_fuel : TakesNoMore below → (f g : ℕ) (ts : List Token) → length ts ≤ f → length ts ≤ g → lambda_parts below b f ts ≡ lambda_parts below b g ts
   lambda_fuel takes zero g [] enough too = lambda_nothing takes zero ∙ sym (lambda_nothing takes g)
   lambda_fuel takes zero g (t ∷ ts) enough too = absurd (omega arith)
   lambda_fuel takes (suc f) zero [] enough too = lambda_nothing takes (suc f) ∙ sym (lambda_nothing takes zero)

@@ -1,4 +1,4 @@
--- Spelled trees, one level at a time: induction over levels, and what the functions of trees answer at a level.
+-- Spelled trees, one node at a time: induction, and what the functions of trees answer at a node.
 use mathlib.Core.Path.{fun_ext}
 use Rattle.std.proofs.Common.{◌≡◌, ℕ, ◌≤◌, List, [], ◌∷◌, Option, true, false, refl, sym, ap, subst, ◌∙◌, map, arith}
 use Rattle.std.specs.List.{AllByRecursion}
@@ -15,7 +15,7 @@ use Rattle.ic_laws.specs.declared.tree.Tree.{Tree-F, out-Tree, roll-Tree, out-ro
 use Rattle.ic_laws.specs.declared.tree.Tree.TheOpen.{LetPair-F}
 use Rattle.ic_laws.specs.declared.tree.Tree.TheOpen as one
 
--- P holds of each child of a level, and Q of each pair
+-- P holds of each child of a node, and Q of each pair
 abbrev pub OfChildren : (Spelled → Type 0) → (Pair → Type 0) → SpelledKind → Type 0
 OfChildren P Q (one.Paren x) = P x
 OfChildren P Q (one.Prefix sign x) = P x
@@ -29,7 +29,7 @@ OfChildren P Q (one.Lambda parameters body) = P body
 OfChildren P Q (one.Apply x arguments) = P x × AllByRecursion P arguments
 OfChildren P Q kind = Unit {0}
 
--- a level whose children each come with a fact
+-- a node whose children each come with a fact
 abbrev Held : (Spelled → Type 0) → Type 0
 Held P = (t : Spelled) × P t
 
@@ -66,14 +66,14 @@ of_held P Q (one.Lambda parameters body) = body.1
 of_held P Q (one.Apply x arguments) = (x.1, all_held P arguments)
 of_held P Q (one.Array rows) = tt
 
--- what holds of a level when it holds of its children holds of every tree
-pub by_levels : (P : Spelled → Type 0) (Q : Pair → Type 0) → ((kind : SpelledKind) → OfChildren P Q kind → P (node kind)) → ((variable : List ℕ) (value : Spelled) → P value → Q (pair_of variable value)) → (t : Spelled) → P t
-by_levels P Q f g =
+-- what holds of a node when it holds of its children holds of every tree
+pub by_nodes : (P : Spelled → Type 0) (Q : Pair → Type 0) → ((kind : SpelledKind) → OfChildren P Q kind → P (node kind)) → ((variable : List ℕ) (value : Spelled) → P value → Q (pair_of variable value)) → (t : Spelled) → P t
+by_nodes P Q f g =
     ind-Tree (Option (List ℕ)) (List ℕ) P Q
     (λ x y e. subst (λ z. P (roll-Tree (Option (List ℕ)) (List ℕ) z)) e (f _ (of_held P Q y)))
     (λ x y e. subst (λ z. Q (roll-LetPair (Option (List ℕ)) (List ℕ) z)) e (g y.variable y.value.0 y.value.1))
 
--- the children of a level with the facts that hold of them
+-- the children of a node with the facts that hold of them
 all_with : {A : Type 0} (P : A → Type 0) (xs : List A) → AllByRecursion P xs → (held : List ((a : A) × P a)) × (map (λ e. e.0) held ≡ xs)
 all_with P [] h = ([], refl)
 all_with P (x ∷ xs) h = let more = all_with P xs h.1 in ((x, h.0) ∷ more.0, ap (λ ys. x ∷ ys) more.1)
@@ -102,7 +102,7 @@ with_facts P Q (one.Apply x arguments) h =
     let held = all_with P arguments h.1 in (one.Apply (x, h.0) held.0, ap (λ (xs : List Spelled). let k : SpelledKind = one.Apply x xs in k) held.1)
 with_facts P Q (one.Array rows) h = (one.Array rows, refl)
 
--- any condition on levels and pairs that holds of all of a tree holds here, and below
+-- any condition on nodes and pairs that holds of all of a tree holds here and below, and of what is made of such
 module _ (L : SpelledKind → Type 0) (M : LetPair-F (Option (List ℕ)) (List ℕ) Spelled Pair → Type 0) where
   abbrev pub Every : Spelled → Type 0
   Every t = every-Tree (Option (List ℕ)) (List ℕ) L M t
@@ -118,12 +118,17 @@ module _ (L : SpelledKind → Type 0) (M : LetPair-F (Option (List ℕ)) (List �
       let held = every_held-Tree (Option (List ℕ)) (List ℕ) L M (node kind) h in
       subst (OfChildren Every EveryPair) (held.1 ∙ out-roll-Tree (Option (List ℕ)) (List ℕ) kind) (of_held Every EveryPair held.0)
 
+  pub made_of : (kind : SpelledKind) → L kind → OfChildren Every EveryPair kind → Every (node kind)
+  made_of kind here below =
+      let held = with_facts Every EveryPair kind below in
+      every_made-Tree (Option (List ℕ)) (List ℕ) L M kind held.0 held.1 here
+
   pub value_of : (pair : Pair) → EveryPair pair → Every pair.value
   value_of pair h =
       let held = every_held-LetPair (Option (List ℕ)) (List ℕ) L M pair h in
       subst Every (ap (λ (p : LetPair-F (Option (List ℕ)) (List ℕ) Spelled Pair). p.value) held.1) held.0.value.1
 
--- each level and each pair of a tree is well-formed
+-- each node and each pair of a tree is well-formed
 abbrev pub WellKind : DialectMeaning → SpelledKind → Type 0
 WellKind d = IsKindWell spelled_names d.let_fn d.lambda_fn
 
@@ -140,22 +145,20 @@ pub well_below : (d : DialectMeaning) (kind : SpelledKind) → AllWell d (node k
 well_below d kind h = below_of (WellKind d) IsPairWell kind h
 
 pub well_made : (d : DialectMeaning) (kind : SpelledKind) → WellKind d kind → OfChildren (AllWell d) (PairAllWell d) kind → AllWell d (node kind)
-well_made d kind here below =
-    let held = with_facts (AllWell d) (PairAllWell d) kind below in
-    every_made-Tree (Option (List ℕ)) (List ℕ) (WellKind d) IsPairWell kind held.0 held.1 here
+well_made d kind here below = made_of (WellKind d) IsPairWell kind here below
 
 -- the tokens of a pair
 abbrev pub pair_tokens : DialectMeaning → Pair → PairTokens
 pair_tokens d pair = record { variable = pair.variable; value = yield d pair.value }
 
--- a level with the tokens of each child in its place, and with a number for each child
+-- a node with the tokens of each child in its place, and with a number for each child
 abbrev pub with_tokens : DialectMeaning → SpelledKind → Tree-F (Option (List ℕ)) (List ℕ) (List Token) PairTokens
 with_tokens d kind = map-Tree (Option (List ℕ)) (List ℕ) Spelled Pair (List Token) PairTokens (yield d) (pair_tokens d) kind
 
 abbrev pub with_numbers : (Spelled → ℕ) → SpelledKind → Tree-F (Option (List ℕ)) (List ℕ) ℕ ℕ
 with_numbers count kind = map-Tree (Option (List ℕ)) (List ℕ) Spelled Pair ℕ ℕ count (λ pair. count pair.value) kind
 
--- what the functions of trees answer at a level
+-- what the functions of trees answer at a node
 pub yield-node : (d : DialectMeaning) (kind : SpelledKind) → yield d (node kind) ≡ yield_step d (with_tokens d kind)
 yield-node d kind =
     fold-roll-Tree (Option (List ℕ)) (List ℕ) (List Token) PairTokens (yield_step d) pair_step kind
@@ -183,7 +186,7 @@ empty-node kind = ap (is_empty_kind {S = Option (List ℕ)} {W = List ℕ}) (out
 pub callable-node : (kind : SpelledKind) → is_callable (node kind) ≡ is_callable_kind kind
 callable-node kind = ap (is_callable_kind {S = Option (List ℕ)} {W = List ℕ}) (out-roll-Tree (Option (List ℕ)) (List ℕ) kind)
 
--- each tree is the tree of a level
+-- each tree is the tree of a node
 pub node_of : (t : Spelled) → (kind : SpelledKind) × (node kind ≡ t)
 node_of t = (out-Tree (Option (List ℕ)) (List ℕ) t, roll-out-Tree (Option (List ℕ)) (List ℕ) t)
 
@@ -242,7 +245,7 @@ empty_yields d t h =
     at_kind one.Empty e = refl
     at_kind kind e = cc
 
--- and is the tree of that level
+-- and is the tree of that node
 pub empty_is : (t : Spelled) → is_empty t ≡ true → t ≡ node one.Empty
 empty_is t h = let at = node_of t in sym at.1 ∙ ap node (at_kind at.0 (sym (empty-node at.0) ∙ subst (λ (u : Spelled). is_empty u ≡ true) (sym at.1) h))
   where

@@ -5,13 +5,13 @@ use Rattle.std.proofs.lemmas.Bool.{cases_Bool}
 use Rattle.std.proofs.lemmas.Option.{same_Some, option_and_then_some}
 use Rattle.std.specs.List.{AllByRecursion}
 use Rattle.ic_laws.specs.Dialect.{DialectMeaning}
-use Rattle.ic_laws.specs.Parse.{SpelledKind, node, Pair, pair_of, Reader, reader, nothing_behind, parsed}
+use Rattle.ic_laws.specs.Parse.{SpelledKind, node, Pair, pair_of, Reader, reader, nothing_after, parsed}
 use Rattle.ic_laws.specs.Reading.{IsWell}
 use Rattle.ic_laws.specs.Token.{Token}
 use Rattle.ic_laws.specs.Tree.{Spelled, is_empty}
 use Rattle.ic_laws.specs.Yield.{yield}
 use Rattle.ic_laws.specs.declared.tree.Tree.TheOpen as one
-use Rattle.ic_laws.proofs.parsing.Nodes.{OfChildren, by_levels, AllWell, PairAllWell, WellKind, well_here, well_below, pair_here, pair_below, empty-node, level_positive}
+use Rattle.ic_laws.proofs.parsing.Nodes.{OfChildren, by_nodes, AllWell, PairAllWell, WellKind, well_here, well_below, pair_here, pair_below, empty-node, level_positive}
 use Rattle.ic_laws.proofs.parsing.Completeness.{ReadsBack, Complete, back, complete-Num, complete-Str, complete-Bool, complete-Err, complete-Reference, complete-Word, complete-Paren, complete-Prefix, complete-Percent, complete-Spill, complete-Binary}
 use Rattle.ic_laws.proofs.parsing.CompleteCalls.{ArgumentWide, complete-Fun, complete-Call, complete-Apply}
 use Rattle.ic_laws.proofs.parsing.CompleteParts.{PairWide, complete-Let, complete-Lambda, complete-Array}
@@ -19,29 +19,29 @@ use Rattle.ic_laws.proofs.parsing.Soundness.{Good, Sound}
 use Rattle.ic_laws.proofs.parsing.SoundOperands.{expression_sound}
 
 -- what is well-formed, and there, is read back
-abbrev Reads : DialectMeaning → Spelled → Type 0
-Reads d t = AllWell d t → is_empty t ≡ false → Complete d t
+abbrev IsReadBack : DialectMeaning → Spelled → Type 0
+IsReadBack d t = AllWell d t → is_empty t ≡ false → Complete d t
 
-abbrev ReadsPair : DialectMeaning → Pair → Type 0
-ReadsPair d pair = PairAllWell d pair → PairWide d pair
+abbrev PairIsReadBack : DialectMeaning → Pair → Type 0
+PairIsReadBack d pair = PairAllWell d pair → PairWide d pair
 
-arguments_wide : (d : DialectMeaning) (ts : List Spelled) → AllByRecursion (Reads d) ts → AllByRecursion (AllWell d) ts → AllByRecursion (ArgumentWide d) ts
+arguments_wide : (d : DialectMeaning) (ts : List Spelled) → AllByRecursion (IsReadBack d) ts → AllByRecursion (AllWell d) ts → AllByRecursion (ArgumentWide d) ts
 arguments_wide d [] reads well = tt
 arguments_wide d (t ∷ ts) reads well =
     let first : ArgumentWide d t = elim (cases_Bool (is_empty t)) [ inl h ↦ inl h | inr h ↦ let whole : Complete d t = reads.0 well.0 h in inr whole.wide ] in
     (first, arguments_wide d ts reads.1 well.1)
 
-pairs_wide : (d : DialectMeaning) (pairs : List Pair) → AllByRecursion (ReadsPair d) pairs → AllByRecursion (PairAllWell d) pairs → AllByRecursion (PairWide d) pairs
+pairs_wide : (d : DialectMeaning) (pairs : List Pair) → AllByRecursion (PairIsReadBack d) pairs → AllByRecursion (PairAllWell d) pairs → AllByRecursion (PairWide d) pairs
 pairs_wide d [] reads well = tt
 pairs_wide d (pair ∷ pairs) reads well = (reads.0 well.0, pairs_wide d pairs reads.1 well.1)
 
-reads_pair : (d : DialectMeaning) (variable : List ℕ) (value : Spelled) → Reads d value → ReadsPair d (pair_of variable value)
+reads_pair : (d : DialectMeaning) (variable : List ℕ) (value : Spelled) → IsReadBack d value → PairIsReadBack d (pair_of variable value)
 reads_pair d variable value reads well =
     let here = pair_here d (pair_of variable value) well in
     let whole : Complete d value = reads (pair_below d (pair_of variable value) well) here.1 in
     (here.0, whole.wide)
 
-reads_kind : (d : DialectMeaning) → d.let_fn ≢ d.lambda_fn → (kind : SpelledKind) → OfChildren (Reads d) (ReadsPair d) kind → WellKind d kind → OfChildren (AllWell d) (PairAllWell d) kind → is_empty (node kind) ≡ false → Complete d (node kind)
+reads_kind : (d : DialectMeaning) → d.let_fn ≢ d.lambda_fn → (kind : SpelledKind) → OfChildren (IsReadBack d) (PairIsReadBack d) kind → WellKind d kind → OfChildren (AllWell d) (PairAllWell d) kind → is_empty (node kind) ≡ false → Complete d (node kind)
 reads_kind d differ (one.Num units) reads here below there = complete-Num d units here
 reads_kind d differ (one.Str text) reads here below there = complete-Str d text
 reads_kind d differ (one.Bool value) reads here below there = complete-Bool d value
@@ -66,9 +66,9 @@ reads_kind d differ (one.Lambda parameters body) reads here below there =
 reads_kind d differ (one.Apply x ts) reads here below there = complete-Apply d x ts here (reads.0 below.0 here.parts) (arguments_wide d ts reads.1 below.1)
 reads_kind d differ (one.Array rows) reads here below there = complete-Array d rows here
 
-reads_all : (d : DialectMeaning) → d.let_fn ≢ d.lambda_fn → (t : Spelled) → Reads d t
+reads_all : (d : DialectMeaning) → d.let_fn ≢ d.lambda_fn → (t : Spelled) → IsReadBack d t
 reads_all d differ =
-    by_levels (Reads d) (ReadsPair d) (λ kind reads well there. reads_kind d differ kind reads (well_here d kind well) (well_below d kind well) there)
+    by_nodes (IsReadBack d) (PairIsReadBack d) (λ kind reads well there. reads_kind d differ kind reads (well_here d kind well) (well_below d kind well) there)
     (λ variable value reads. reads_pair d variable value reads)
 
 -- a well-formed tree is read from its tokens
@@ -108,7 +108,7 @@ parsed_sound d ts t e = option_and_then_some _ (reader d 1024 128 1 ts) t e (λ 
     sound : Sound d 1024 (reader d 1024)
     sound = reader_sound d 1024
 
-    at : (u : Spelled) (rest : List Token) → reader d 1024 128 1 ts ≡ Some (u, rest) → nothing_behind u rest ≡ Some t → IsWell d t × (yield d t ≡ ts)
+    at : (u : Spelled) (rest : List Token) → reader d 1024 128 1 ts ≡ Some (u, rest) → nothing_after u rest ≡ Some t → IsWell d t × (yield d t ≡ ts)
     at u [] got h =
         let good : Good d 1024 128 1 ts (u, []) = sound.good 128 1 ts (u, []) (omega arith) got in
         subst (λ (v : Spelled). IsWell d v × (yield d v ≡ ts)) (same_Some u t h) (

@@ -1,12 +1,12 @@
 -- The function that reads a text answers the tree exactly where the text reads as it.
-use Rattle.std.proofs.Common.{◌≡◌, ℕ, List, Option, Some, None, option_and_then, sym, ap, subst, ◌∙◌}
+use Rattle.std.proofs.Common.{◌≡◌, ℕ, List, Some, None, option_and_then, sym, ap, subst, ◌∙◌}
 use Rattle.std.proofs.lemmas.Option.{option_and_then_some, same_Some}
 use Rattle.ic_laws.specs.Dialect.{DialectMeaning, IsLawful}
 use Rattle.ic_laws.specs.NextToken.{tokens_of}
 use Rattle.ic_laws.specs.Parse.{parsed}
 use Rattle.ic_laws.specs.ReadAs.{read_as}
 use Rattle.ic_laws.specs.Reading.{IsWell, Reads}
-use Rattle.ic_laws.specs.Token.{Token, Lexes}
+use Rattle.ic_laws.specs.Token.{Lexes}
 use Rattle.ic_laws.specs.Tree.{Spelled}
 use Rattle.ic_laws.specs.Yield.{yield}
 use Rattle.ic_laws.proofs.parsing.ParseLemmas.{parsed_complete, parsed_sound}

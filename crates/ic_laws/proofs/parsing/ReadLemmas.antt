@@ -8,21 +8,21 @@ use Rattle.ic_laws.specs.Token.{Token, Separator, Operator, Percent, Hash, Open,
 use Rattle.ic_laws.specs.Tree.{Spelled, sign_level, height}
 use Rattle.ic_laws.specs.Yield.{joined}
 
--- a list of tokens begins with nothing that goes on from an operand: with no sign behind one, no bracket, and no sign
+-- a list of tokens begins with nothing that goes on from an operand: with no sign after one, no bracket, and no sign
 -- between operands that binds at least so tightly
-abbrev pub Ends : ℕ → List Token → Type 0
-Ends least (Operator sign ∷ rest) = sign_level sign < least
-Ends least (Percent ∷ rest) = ⊥
-Ends least (Hash ∷ rest) = ⊥
-Ends least (Open ∷ rest) = ⊥
-Ends least ts = Unit {0}
+abbrev pub NothingGoesOn : ℕ → List Token → Type 0
+NothingGoesOn least (Operator sign ∷ rest) = sign_level sign < least
+NothingGoesOn least (Percent ∷ rest) = ⊥
+NothingGoesOn least (Hash ∷ rest) = ⊥
+NothingGoesOn least (Open ∷ rest) = ⊥
+NothingGoesOn least ts = Unit {0}
 
-pub Ends-more : (a b : ℕ) (ts : List Token) → a ≤ b → Ends a ts → Ends b ts
-Ends-more a b (Operator sign ∷ rest) le h = omega arith
-Ends-more a b (Percent ∷ rest) le h = h
-Ends-more a b (Hash ∷ rest) le h = h
-Ends-more a b (Open ∷ rest) le h = h
-Ends-more a b ts le h = tt
+pub NothingGoesOn-more : (a b : ℕ) (ts : List Token) → a ≤ b → NothingGoesOn a ts → NothingGoesOn b ts
+NothingGoesOn-more a b (Operator sign ∷ rest) le h = omega arith
+NothingGoesOn-more a b (Percent ∷ rest) le h = h
+NothingGoesOn-more a b (Hash ∷ rest) le h = h
+NothingGoesOn-more a b (Open ∷ rest) le h = h
+NothingGoesOn-more a b ts le h = tt
 
 pub made_takes : (most : ℕ) (kind : SpelledKind) (rest : List Token) → height (node kind) ≤ most → made most kind rest ≡ Some (node kind, rest)
 made_takes most kind rest low = rw (le-leb (height (node kind)) most low) refl
@@ -38,14 +38,14 @@ pub turns_go : (turn : Spelled → List Token → Option (Read Spelled)) (fuel :
 unfolding turns
 turns_go turn fuel left ts next rest e = rw (e, turns) refl
 
-pub postfix_stops : (most : ℕ) (below : Reader) (b least : ℕ) (left : Spelled) (ts : List Token) → Ends least ts → postfix most below b left ts ≡ None
+pub postfix_stops : (most : ℕ) (below : Reader) (b least : ℕ) (left : Spelled) (ts : List Token) → NothingGoesOn least ts → postfix most below b left ts ≡ None
 unfolding postfix
 postfix_stops most below b least left (Percent ∷ rest) h = absurd h
 postfix_stops most below b least left (Hash ∷ rest) h = absurd h
 postfix_stops most below b least left (Open ∷ rest) h = absurd h
 postfix_stops most below b least left ts h = refl
 
-pub binary_stops : (most : ℕ) (below : Reader) (b least : ℕ) (left : Spelled) (ts : List Token) → Ends least ts → binary most below b least left ts ≡ None
+pub binary_stops : (most : ℕ) (below : Reader) (b least : ℕ) (left : Spelled) (ts : List Token) → NothingGoesOn least ts → binary most below b least left ts ≡ None
 unfolding binary
 binary_stops most below b least left (Operator sign ∷ rest) h = rw (lt-leb least (sign_level sign) h) refl
 binary_stops most below b least left ts h = refl
@@ -71,13 +71,13 @@ pub no_close : (ts : List Token) → ends_argument ts ≡ false → past_close t
 no_close (Close ∷ rest) e = cc
 no_close ts e = refl
 
-pub close_ends : (least : ℕ) (ts : List Token) → ends_argument ts ≡ true → Ends least ts
+pub close_ends : (least : ℕ) (ts : List Token) → ends_argument ts ≡ true → NothingGoesOn least ts
 close_ends least (Separator ∷ rest) e = tt
 close_ends least (Close ∷ rest) e = tt
 close_ends least [] e = tt
 close_ends least (token ∷ rest) e = cc
 
--- a list of items reads back, where each of them does before what can stand behind it
+-- a list of items reads back, where each of them does before what can stand after it
 module _ {A : Type 0} (item : List Token → Read A) (past : List Token → Option (List Token)) (between : Token) (tokens : A → List Token) (Fine : List Token → Type 0) where
   pub record ItemReads (a : A) : Type 0 where
     pub reads : (rest : List Token) → Fine rest → item (tokens a ++ rest) ≡ Some (a, rest)

@@ -73,8 +73,8 @@ arguments_sound d most below sound b ts read e = at (past_close ts) refl e
         followed_some past_close _ read h (λ after got closed.
         let list : ListSound (argument below b) past_separator Separator (yield d) (ArgumentGood d b) ts (read.0, after) =
         listed_sound (argument below b) past_separator Separator (yield d) (ArgumentGood d b) (arguments_item d most below sound b) (length ts) ts (read.0, after) got in
-        let behind : after ≡ Close ∷ read.1 = past_close_some after read.1 closed in
-        let whole : ts ≡ joined Separator (map (yield d) read.0) ++ Close ∷ read.1 = list.whole ∙ ap (λ (xs : List Token). joined Separator (map (yield d) read.0) ++ xs) behind in
+        let unread : after ≡ Close ∷ read.1 = past_close_some after read.1 closed in
+        let whole : ts ≡ joined Separator (map (yield d) read.0) ++ Close ∷ read.1 = list.whole ∙ ap (λ (xs : List Token). joined Separator (map (yield d) read.0) ++ xs) unread in
         record {
           tokens = whole ∙ sym (append_assoc (joined Separator (map (yield d) read.0)) (Close ∷ []) read.1);
           well = all_well d b read.0 list.all;
@@ -89,7 +89,7 @@ binder_some (Word name ∷ Separator ∷ rest) read e =
     subst (λ (p : List ℕ × List Token). (Word name ∷ Separator ∷ rest ≡ Word p.0 ∷ Separator ∷ p.1) × (is_variable p.0 ≡ true)) parts.1 (refl, parts.0)
 binder_some ts read e = cc
 
--- a body with the bracket behind it
+-- a body with the bracket after it
 pub record BodyGood (d : DialectMeaning) (b : ℕ) (ts : List Token) (read : Spelled × List Token) : Type 0 where
   pub tokens : ts ≡ yield d read.0 ++ Close ∷ read.1
   pub well : AllWell d read.0
@@ -117,13 +117,13 @@ pub record LetGood (d : DialectMeaning) (b : ℕ) (ts : List Token) (read : (Lis
 let_more : (d : DialectMeaning) (most : ℕ) (below : Reader) → Sound d most below → (b : ℕ) (ts : List Token) (begun : List ℕ × List Token) (value : Spelled × List Token) (parts : (List Pair × Spelled) × List Token) → binder ts ≡ Some begun → followed past_separator (below b 1 begun.1) ≡ Some value → LetGood d b value.1 parts
     → LetGood d b ts ((pair_of begun.0 value.0 ∷ parts.0.0, parts.0.1), parts.1)
 let_more d most below sound b ts begun value parts begins e more =
-    followed_some past_separator (below b 1 begun.1) value e (λ after got behind.
+    followed_some past_separator (below b 1 begun.1) value e (λ after got unread.
     let good : Good d most b 1 begun.1 (value.0, after) = sound.good b 1 begun.1 (value.0, after) (omega arith) got in
     let start = binder_some ts begun begins in
     record {
       tokens =
           start.0
-          ∙ ap (λ (xs : List Token). Word begun.0 ∷ Separator ∷ xs) (good.tokens ∙ ap (λ (xs : List Token). yield d value.0 ++ xs) (past_separator_some after value.1 behind ∙ ap (λ (xs : List Token). Separator ∷ xs) more.tokens))
+          ∙ ap (λ (xs : List Token). Word begun.0 ∷ Separator ∷ xs) (good.tokens ∙ ap (λ (xs : List Token). yield d value.0 ++ xs) (past_separator_some after value.1 unread ∙ ap (λ (xs : List Token). Separator ∷ xs) more.tokens))
           ∙ sym (let_tokens-cons d (pair_of begun.0 value.0) parts.0.0 parts.0.1 (Close ∷ parts.1));
       pairs = (pair_made d begun.0 value.0 start.1 good.there good.well, more.pairs);
       well = more.well;

@@ -98,7 +98,7 @@ parts_hold (r ∷ rows) all =
     let more = parts_hold rows all.1 in
     (both_hold (has_constant r) (list_all has_constant rows) here.0 more.0, both_hold (list_all is_unsigned_constant r) (list_all (list_all is_unsigned_constant) rows) here.1 more.1)
 
--- the rows of an array with the brace behind them
+-- the rows of an array with the brace after them
 pub record RowsGood (d : DialectMeaning) (ts : List Token) (read : List (List Constant) × List Token) : Type 0 where
   pub tokens : ts ≡ joined (row_sign d) (map row_tokens read.0) ++ CloseBrace ∷ read.1
   pub some : read.0 ≢ []

@@ -32,12 +32,12 @@ pub Good-less : (d : DialectMeaning) (most b less least : ℕ) (ts : List Token)
 Good-less d most b less least ts read le good =
     record { tokens = good.tokens; well = good.well; there = good.there; low = good.low; few = good.few; tight = omega (arith, good.tight) }
 
--- a reader gives what is good, and no sign that binds at least so tightly stands behind it
+-- a reader gives what is good, and no sign that binds at least so tightly stands after it
 pub record Sound (d : DialectMeaning) (most : ℕ) (below : Reader) : Type 0 where
   pub good : (b least : ℕ) (ts : List Token) (read : Spelled × List Token) → least ≤ 6 → below b least ts ≡ Some read → Good d most b least ts read
   pub no_sign : (b least : ℕ) (ts : List Token) (read : Spelled × List Token) → least ≤ 6 → below b least ts ≡ Some read → NoSign least read.1
 
--- what a level must meet to be taken
+-- what a node must meet to be taken
 pub record Fitting (d : DialectMeaning) (b least : ℕ) (kind : SpelledKind) : Type 0 where
   pub well : WellKind d kind
   pub below : OfChildren (AllWell d) (PairAllWell d) kind
@@ -64,8 +64,8 @@ option_map_some f (Some x) y e so = so x refl (same_Some (f x) y e)
 
 pub followed_some : {A P : Type 0} (past : List Token → Option (List Token)) (read : Read A) (r : A × List Token) → followed past read ≡ Some r → ((ts : List Token) → read ≡ Some (r.0, ts) → past ts ≡ Some r.1 → P) → P
 followed_some past read r e so =
-    option_and_then_some _ read r e (λ x is h. option_map_some _ (past x.1) r h (λ rest behind same.
-    so x.1 (is ∙ ap (λ (p : _). Some (p, x.1)) (ap (λ (p : _). p.0) same)) (behind ∙ ap (λ (p : _). Some p.1) same)))
+    option_and_then_some _ read r e (λ x is h. option_map_some _ (past x.1) r h (λ rest after same.
+    so x.1 (is ∙ ap (λ (p : _). Some (p, x.1)) (ap (λ (p : _). p.0) same)) (after ∙ ap (λ (p : _). Some p.1) same)))
 
 pub past_separator_some : (ts rest : List Token) → past_separator ts ≡ Some rest → ts ≡ Separator ∷ rest
 past_separator_some (Separator ∷ after) rest e = ap (λ xs. Separator ∷ xs) (same_Some after rest e)
@@ -99,10 +99,10 @@ module _ {A : Type 0} (item : List Token → Read A) (past : List Token → Opti
   listed_one sound ts x after e = record { whole = sound.tokens_of ts (x, after) e; all = (sound.holds ts (x, after) e, tt); some = λ h. cc }
 
   listed_more : (sound : ItemSound) (ts : List Token) (x : A) (after rest : List Token) (others : List A × List Token) → item ts ≡ Some (x, after) → past after ≡ Some rest → ListSound rest others → ListSound ts (x ∷ others.0, others.1)
-  listed_more sound ts x after rest others e behind more = record {
+  listed_more sound ts x after rest others e unread more = record {
     whole =
         sound.tokens_of ts (x, after) e
-        ∙ ap (λ (xs : List Token). tokens x ++ xs) (sound.sign after rest behind ∙ ap (λ (xs : List Token). between ∷ xs) more.whole)
+        ∙ ap (λ (xs : List Token). tokens x ++ xs) (sound.sign after rest unread ∙ ap (λ (xs : List Token). between ∷ xs) more.whole)
         ∙ sym (append_assoc (tokens x) (between ∷ joined between (map tokens others.0)) others.1)
         ∙ ap (λ (xs : List Token). xs ++ others.1) (sym (joined_two x others.0 more.some));
     all = (sound.holds ts (x, after) e, more.all);
@@ -112,14 +112,14 @@ module _ {A : Type 0} (item : List Token → Read A) (past : List Token → Opti
   pub listed_sound : (sound : ItemSound) (fuel : ℕ) (ts : List Token) (read : List A × List Token) → listed item past fuel ts ≡ Some read → ListSound ts read
   unfolding listed
   listed_sound sound zero ts read e = cc
-  listed_sound sound (suc fuel) ts read e = option_and_then_some _ (item ts) read e (λ first is h. behind (λ rest others got. listed_sound sound fuel rest others got) first is (past first.1) refl h)
+  listed_sound sound (suc fuel) ts read e = option_and_then_some _ (item ts) read e (λ first is h. after (λ rest others got. listed_sound sound fuel rest others got) first is (past first.1) refl h)
     where
-      behind : ((rest : List Token) (others : List A × List Token) → listed item past fuel rest ≡ Some others → ListSound rest others) → (first : A × List Token) → item ts ≡ Some first → (o : Option (List Token)) → past first.1 ≡ o → elim o [
+      after : ((rest : List Token) (others : List A × List Token) → listed item past fuel rest ≡ Some others → ListSound rest others) → (first : A × List Token) → item ts ≡ Some first → (o : Option (List Token)) → past first.1 ≡ o → elim o [
         | Some rest ↦ option_map (λ others. (first.0 ∷ others.0, others.1)) (listed item past fuel rest)
         | None ↦ Some (first.0 ∷ [], first.1)
       ] ≡ Some read → ListSound ts read
-      behind again first is None at h = subst (ListSound ts) (same_Some (first.0 ∷ [], first.1) read h) (listed_one sound ts first.0 first.1 is)
-      behind again first is (Some rest) at h =
+      after again first is None at h = subst (ListSound ts) (same_Some (first.0 ∷ [], first.1) read h) (listed_one sound ts first.0 first.1 is)
+      after again first is (Some rest) at h =
           option_map_some _ (listed item past fuel rest) read h (λ others got same.
           subst (ListSound ts) same (listed_more sound ts first.0 first.1 rest others is at (again rest others got)))
 

@@ -1,4 +1,4 @@
--- What a tree's tokens begin with, and what stands behind them.
+-- What a tree's tokens begin with, and what stands after them.
 use Rattle.std.proofs.Common.{if◌then◌else◌, ◌≡◌, ℕ, pos, ◌/◌, ◌%◌, ◌^◌, ◌<◌, List, [], ◌∷◌, ◌++◌, Bool, true, false, not, ◌&&◌, ◌||◌, ◌==◌, refl, sym, ◌∙◌, ap, subst, inl, inr, arith, append-nil, codes}
 use Rattle.std.specs.Fmt.{decimal}
 use Rattle.std.specs.List.{list_any}
@@ -21,7 +21,7 @@ use Rattle.ic_laws.proofs.printing.Operands.{first_reference, digits_first, digi
 use Rattle.ic_laws.proofs.printing.Signs.{not_true, not_decimal}
 use Rattle.ic_laws.proofs.printing.Words.{has_word, error_begins, error_number_small, boolean_small, letter_begins, begins_starts, starts, starts_other}
 
--- the tokens that may stand behind an operand
+-- the tokens that may stand after an operand
 abbrev pub is_after : Token → Bool
 is_after (Operator sign) = true
 is_after Percent = true
@@ -100,10 +100,10 @@ follows_ends d n (Semicolon ∷ ts) h = plain_ends d n 59 _ (omega arith) refl r
 follows_ends d n (t ∷ ts) h = absurd (cc)
 
 -- the first character is neither `=` nor `>`
-abbrev pub NoSign : DialectMeaning → List Token → Type 0
-NoSign d ts = first_is (λ c. c == 61 || c == 62) (spelled_out d ts) ≡ false
+abbrev pub NoComparison : DialectMeaning → List Token → Type 0
+NoComparison d ts = first_is (λ c. c == 61 || c == 62) (spelled_out d ts) ≡ false
 
-start_no_sign : (d : DialectMeaning) (t : Token) (ts : List Token) (c : ℕ) (cs : List ℕ) → token_text d t ≡ c ∷ cs → starts c ≡ true → NoSign d (t ∷ ts)
+start_no_sign : (d : DialectMeaning) (t : Token) (ts : List Token) (c : ℕ) (cs : List ℕ) → token_text d t ≡ c ∷ cs → starts c ≡ true → NoComparison d (t ∷ ts)
 start_no_sign d t ts c cs e s =
     ap (λ x. first_is (λ c. c == 61 || c == 62) (x ++ spelled_out d ts)) e ∙ rw (starts_other c 61 s (omega arith) refl, starts_other c 62 s (omega arith) refl) refl
 
@@ -114,41 +114,41 @@ word_first (c ∷ cs) h = (c, cs, refl, begins_starts c h)
 variable_first : (w : List ℕ) → is_variable_form w ≡ true → first_is begins_word w ≡ true
 variable_first w h = (and_parts _ _ (and_parts _ _ (and_parts _ _ h).0).0).0
 
-pub number_no_sign : (d : DialectMeaning) (units : ℕ) (ts : List Token) → units < 10 ^ 27 → NoSign d (Num (pos units) ∷ ts)
+pub number_no_sign : (d : DialectMeaning) (units : ℕ) (ts : List Token) → units < 10 ^ 27 → NoComparison d (Num (pos units) ∷ ts)
 number_no_sign d units ts small =
     let w : ℕ = units / units_of_one in
     let large : w < 2 ^ 64 = omega arith in
     let a = digits_first (decimal w) (if units % units_of_one == 0 then [] else d.decimal ∷ fraction_digits 9 (units % units_of_one)) (digits_decimal numerals w large) (decimal_nonempty w large) in
     start_no_sign d (Num (pos units)) ts a.0 a.1 a.2 (digit_starts a.0 a.3)
 
-pub word_no_sign : (d : DialectMeaning) (text : List ℕ) (ts : List Token) → is_variable text ≡ true → NoSign d (Word text ∷ ts)
+pub word_no_sign : (d : DialectMeaning) (text : List ℕ) (ts : List Token) → is_variable text ≡ true → NoComparison d (Word text ∷ ts)
 word_no_sign d text ts h = let a = word_first text (variable_first text (and_parts _ _ (and_parts _ _ h).0).0) in start_no_sign d (Word text) ts a.0 a.1 a.2 a.3
 
-pub boolean_no_sign : (d : DialectMeaning) → IsLawful d → (value : Bool) (ts : List Token) → NoSign d (Boolean value ∷ ts)
+pub boolean_no_sign : (d : DialectMeaning) → IsLawful d → (value : Bool) (ts : List Token) → NoComparison d (Boolean value ∷ ts)
 boolean_no_sign d n value ts =
     let w = has_word d kinds.Boolean (boolean_number value) (n.booleans (boolean_number value) (boolean_small value)) in
     let a = word_first w.0 (variable_first w.0 (n.boolean_shape (boolean_number value) w.0 w.1)) in
     start_no_sign d (Boolean value) ts a.0 a.1 (w.2 ∙ a.2) a.3
 
-pub error_no_sign : (d : DialectMeaning) → IsLawful d → (e : Error) (ts : List Token) → NoSign d (Err e ∷ ts)
+pub error_no_sign : (d : DialectMeaning) → IsLawful d → (e : Error) (ts : List Token) → NoComparison d (Err e ∷ ts)
 error_no_sign d n e ts =
     let w = has_word d kinds.Error (error_number e) (n.errors (error_number e) (error_number_small e)) in
     let b = error_begins w.0 (n.error_shape w.0 (error_number e) (n.finds_word kinds.Error (error_number e) w.0 w.1)) in
     ap (λ x. first_is (λ c. c == 61 || c == 62) (x ++ spelled_out d ts)) (w.2 ∙ b.1)
 
-pub reference_no_sign : (d : DialectMeaning) → IsLawful d → (r : RefToken) (ts : List Token) → d.can_spell r ≡ true → NoSign d (Ref r ∷ ts)
+pub reference_no_sign : (d : DialectMeaning) → IsLawful d → (r : RefToken) (ts : List Token) → d.can_spell r ≡ true → NoComparison d (Ref r ∷ ts)
 reference_no_sign d n r ts can =
     let text : reference_text d r ≡ d.spell_ref r = rw can refl in
     let a = first_reference d n (d.spell_ref r ++ []) [] r (n.reads_spelled r [] can refl) in
     start_no_sign d (Ref r) ts a.0 a.1 (text ∙ sym (append-nil (d.spell_ref r)) ∙ a.2) a.3
 
-pub fun_head_no_sign : (d : DialectMeaning) → IsLawful d → (number : ℕ) (ts : List Token) → CanSpell d (FunHead number) → NoSign d (FunHead number ∷ ts)
+pub fun_head_no_sign : (d : DialectMeaning) → IsLawful d → (number : ℕ) (ts : List Token) → CanSpell d (FunHead number) → NoComparison d (FunHead number ∷ ts)
 fun_head_no_sign d n number ts can =
     let w = has_word d kinds.Function number can in
     let a = word_first w.0 (letter_begins w.0 (and_parts _ _ (n.function_shape number w.0 w.1)).0) in
     start_no_sign d (FunHead number) ts a.0 (a.1 ++ codes "(") (ap (λ x. x ++ codes "(") (w.2 ∙ a.2)) a.3
 
-pub name_head_no_sign : (d : DialectMeaning) (name : List ℕ) (ts : List Token) → is_variable name ≡ true → NoSign d (NameHead name ∷ ts)
+pub name_head_no_sign : (d : DialectMeaning) (name : List ℕ) (ts : List Token) → is_variable name ≡ true → NoComparison d (NameHead name ∷ ts)
 name_head_no_sign d name ts h =
     let a = word_first name (variable_first name (and_parts _ _ (and_parts _ _ h).0).0) in
     start_no_sign d (NameHead name) ts a.0 (a.1 ++ codes "(") (ap (λ x. x ++ codes "(") a.2) a.3

@@ -12,8 +12,7 @@ use Rattle.ic_laws.proofs.AmountLemmas.{numerals}
 use Rattle.ic_laws.proofs.AmountTexts.{unsigned_amount-text}
 use Rattle.ic_laws.specs.Amount.{units_of_one, fraction_digits, unsigned_amount, unsigned_text}
 use Rattle.ic_laws.specs.Scan.{IsEnd, begins_word, first_is, is_blank, is_digit, is_letter, is_word_character, past_run}
-use Rattle.ic_laws.specs.Dialect.{DialectMeaning, IsLawful, begins_reference, reference_text}
-use Rattle.ic_laws.specs.Dialect.{OfAmount}
+use Rattle.ic_laws.specs.Dialect.{DialectMeaning, IsLawful, begins_reference, reference_text, OfAmount}
 use Rattle.ic_laws.specs.Token.{Token, Num, Str, Boolean, Err, Ref, Word, FunHead, NameHead, Separator, Operator, At, Percent, Hash, Open, Close, OpenBrace, CloseBrace, Semicolon, IsHead, Lexes}
 use Rattle.ic_laws.specs.declared.reference.RefToken.{RefToken}
 use Rattle.ic_laws.specs.TokenKinds.{OfKind, is_number, is_word, is_head, head_at, word_at}
@@ -22,10 +21,10 @@ use Rattle.ic_laws.specs.AmountFront.{number_in_one_pass}
 use Rattle.ic_laws.specs.Following.{CanSpell, MayFollow, IsChain, IsNotCalled, NoDecimal, spelled_out}
 use Rattle.ic_laws.specs.Split.{IsBest, FindsBest, longer}
 use Rattle.ic_laws.proofs.tokens.Characters.{digit_begins_none, past_run_all}
-use Rattle.ic_laws.proofs.tokens.Kinds.{head_at_sound, word_at_sound}
+use Rattle.ic_laws.proofs.tokens.NameReaders.{head_at_sound, word_at_sound}
 use Rattle.ic_laws.proofs.tokens.Next.{ComesAfter}
 use Rattle.ic_laws.proofs.tokens.Numbers.{IsTail, amount_parts, number_in_one_pass_best, number_spelled, separator_apart}
-use Rattle.ic_laws.proofs.printing.Chain.{ReadsBack, chain_lexes}
+use Rattle.ic_laws.proofs.printing.Chain.{TokensReadBack, chain_lexes}
 use Rattle.ic_laws.proofs.printing.Signs.{IsRead, sign_read, at_read, percent_read, open_read, close_read, open_brace_read, close_brace_read, semicolon_read, hash_read, separator_read, text_read}
 use Rattle.ic_laws.proofs.printing.Words.{end_no_word, error_read, word_read, boolean_read, name_head_read, fun_head_read, gives_way, keeps_first, of_start, same_kind, start_kinds, starts}
 use Rattle.ic_laws.proofs.tokens.Splits.{front_in_front, none_some, same_split}
@@ -49,7 +48,7 @@ number_chars separator other u e =
     let p = amount_parts separator other u e in
     ap (list_all (in_number separator)) p.made ∙ list_all-append (in_number separator) p.whole p.tail ∙ and_from _ _ (digits_in separator p.whole p.digits) (tail_in separator p.tail p.tail_is)
 
--- no digit and no separator stands behind
+-- no digit and no separator stands after
 number_end : (d : DialectMeaning) (rest : List ℕ) → IsEnd rest → NoDecimal d rest → first_is (in_number d.decimal) rest ≡ false
 number_end d [] h k = refl
 number_end d (c ∷ cs) h k =
@@ -66,19 +65,19 @@ number_end d (c ∷ cs) h k =
       | inr e ↦ e
     ]
 
--- a longer front of such characters would go on with units_of_one
-no_more : (p : ℕ → Bool) (front rest other behind : List ℕ) → front ++ rest ≡ other ++ behind → list_all p other ≡ true → first_is p rest ≡ false → length rest ≤ length behind
-no_more p front rest other behind e all stop =
-    let f = front_in_front front rest other behind e in
+-- a longer front of such characters would go on with one
+no_more : (p : ℕ → Bool) (front rest other after : List ℕ) → front ++ rest ≡ other ++ after → list_all p other ≡ true → first_is p rest ≡ false → length rest ≤ length after
+no_more p front rest other after e all stop =
+    let f = front_in_front front rest other after e in
     elim f.2 [
       | inl m ↦ more f.0 m
-      | inr m ↦ omega (arith, ap length e, length-append front rest, length-append other behind, ap length m, length-append other f.1)
+      | inr m ↦ omega (arith, ap length e, length-append front rest, length-append other after, ap length m, length-append other f.1)
     ]
   where
-    more : (m : List ℕ) → other ≡ front ++ m → length rest ≤ length behind
-    more [] m = omega (arith, ap length e, length-append front rest, length-append other behind, ap length m, length-append front [])
+    more : (m : List ℕ) → other ≡ front ++ m → length rest ≤ length after
+    more [] m = omega (arith, ap length e, length-append front rest, length-append other after, ap length m, length-append front [])
     more (x ∷ xs) m =
-        let rest_is : rest ≡ x ∷ xs ++ behind = append_cancel_left front rest (x ∷ xs ++ behind) (e ∙ ap (λ o. o ++ behind) m ∙ append_assoc front (x ∷ xs) behind) in
+        let rest_is : rest ≡ x ∷ xs ++ after = append_cancel_left front rest (x ∷ xs ++ after) (e ∙ ap (λ o. o ++ after) m ∙ append_assoc front (x ∷ xs) after) in
         let both : (list_all p front && list_all p (x ∷ xs)) ≡ true = sym (list_all-append p front (x ∷ xs)) ∙ ap (list_all p) (sym m) ∙ all in
         let yes : p x ≡ true = (and_parts (p x) (list_all p xs) (and_parts (list_all p front) (list_all p (x ∷ xs)) both).1).0 in
         let no : true ≡ false = sym yes ∙ ap (first_is p) (sym rest_is) ∙ stop in
@@ -90,15 +89,15 @@ number_best d n front rest units e end decimal = record {
   front = front;
   whole = refl;
   spelled = (refl, ap (option_map pos) e);
-  wins = λ other behind v is s.
-      let p = number_spelled d other behind v s in
-      let le : length rest ≤ length behind = no_more (in_number d.decimal) front rest other behind is (number_chars d.decimal other p.0 p.1) (number_end d rest end decimal) in
-      elim (cases_Bool (nat_le (length behind) (length rest))) [
-        | inl q ↦ let split = same_split other behind front rest (sym is) (omega (arith, le, leb-true (length behind) (length rest) q)) in
+  wins = λ other after v is s.
+      let p = number_spelled d other after v s in
+      let le : length rest ≤ length after = no_more (in_number d.decimal) front rest other after is (number_chars d.decimal other p.0 p.1) (number_end d rest end decimal) in
+      elim (cases_Bool (nat_le (length after) (length rest))) [
+        | inl q ↦ let split = same_split other after front rest (sym is) (omega (arith, le, leb-true (length after) (length rest) q)) in
             let units_are : ◌≡◌ {A = Option ℕ} (Some p.0) (Some units) = sym p.1 ∙ ap (unsigned_amount d.decimal) split.0 ∙ e in
             let same : p.0 ≡ units = cc in
             inr (split.1, inl (p.2 ∙ ap (λ u. Num (pos u)) same))
-        | inr q ↦ inl (leb-false (length behind) (length rest) q)
+        | inr q ↦ inl (leb-false (length after) (length rest) q)
       ];
 }
 
@@ -137,33 +136,33 @@ first_reference d n (c ∷ cs) rest r e =
       | inr b ↦ absurd (none_some (r, rest) (sym (n.reference_begins (c ∷ cs) b) ∙ e))
     ]
 
--- no head_token reaches past
-bracket_behind : (blanks m more after : List ℕ) (x : ℕ) → list_all is_blank blanks ≡ true → blanks ++ 40 ∷ [] ≡ m ++ x ∷ more → first_is (λ c. c == 40) (past_run is_blank (x ∷ more ++ after)) ≡ true
-bracket_behind blanks [] more after x all e =
+-- no head reaches past
+bracket_after : (blanks m more after : List ℕ) (x : ℕ) → list_all is_blank blanks ≡ true → blanks ++ 40 ∷ [] ≡ m ++ x ∷ more → first_is (λ c. c == 40) (past_run is_blank (x ∷ more ++ after)) ≡ true
+bracket_after blanks [] more after x all e =
     ap (λ t. first_is (λ c. c == 40) (past_run is_blank (t ++ after))) (sym e) ∙ ap (λ t. first_is (λ c. c == 40) (past_run is_blank t)) (append_assoc blanks (40 ∷ []) after)
     ∙ ap (first_is (λ c. c == 40)) (past_run_all is_blank blanks (40 ∷ after) all refl)
-bracket_behind [] (y ∷ ms) more after x all e = absurd (omega (arith, ap length e, length-append ms (x ∷ more)))
-bracket_behind (b ∷ bs) (y ∷ ms) more after x all e =
+bracket_after [] (y ∷ ms) more after x all e = absurd (omega (arith, ap length e, length-append ms (x ∷ more)))
+bracket_after (b ∷ bs) (y ∷ ms) more after x all e =
     let tails : bs ++ 40 ∷ [] ≡ ms ++ x ∷ more = cc in
-    bracket_behind bs ms more after x (and_parts _ _ all).1 tails
+    bracket_after bs ms more after x (and_parts _ _ all).1 tails
 
-head_short : (front rest other behind name blanks : List ℕ) → front ++ rest ≡ other ++ behind → other ≡ name ++ (blanks ++ 40 ∷ []) → list_all is_word_character name ≡ true → list_all is_blank blanks ≡ true
-    → first_is is_word_character rest ≡ false → IsNotCalled rest → length rest ≤ length behind
-head_short front rest other behind name blanks e made word blank stop called =
-    let f = front_in_front front rest other behind e in
+head_short : (front rest other after name blanks : List ℕ) → front ++ rest ≡ other ++ after → other ≡ name ++ (blanks ++ 40 ∷ []) → list_all is_word_character name ≡ true → list_all is_blank blanks ≡ true
+    → first_is is_word_character rest ≡ false → IsNotCalled rest → length rest ≤ length after
+head_short front rest other after name blanks e made word blank stop called =
+    let f = front_in_front front rest other after e in
     elim f.2 [
       | inl m ↦ more f.0 m
-      | inr m ↦ omega (arith, ap length e, length-append front rest, length-append other behind, ap length m, length-append other f.1)
+      | inr m ↦ omega (arith, ap length e, length-append front rest, length-append other after, ap length m, length-append other f.1)
     ]
   where
-    run_short : length rest ≤ length ((blanks ++ 40 ∷ []) ++ behind)
-    run_short = no_more is_word_character front rest name ((blanks ++ 40 ∷ []) ++ behind) (e ∙ ap (λ o. o ++ behind) made ∙ append_assoc name (blanks ++ 40 ∷ []) behind) word stop
+    run_short : length rest ≤ length ((blanks ++ 40 ∷ []) ++ after)
+    run_short = no_more is_word_character front rest name ((blanks ++ 40 ∷ []) ++ after) (e ∙ ap (λ o. o ++ after) made ∙ append_assoc name (blanks ++ 40 ∷ []) after) word stop
 
-    within : (x : ℕ) (xs : List ℕ) → other ≡ front ++ x ∷ xs → rest ≡ x ∷ xs ++ behind → (m : List ℕ) × (blanks ++ 40 ∷ [] ≡ m ++ x ∷ xs)
+    within : (x : ℕ) (xs : List ℕ) → other ≡ front ++ x ∷ xs → rest ≡ x ∷ xs ++ after → (m : List ℕ) × (blanks ++ 40 ∷ [] ≡ m ++ x ∷ xs)
     within x xs m rest_is =
         let g = front_in_front front (x ∷ xs) name (blanks ++ 40 ∷ []) (sym m ∙ made) in
         elim g.2 [
-          | inl p ↦ let nothing : g.0 ≡ [] = empty g.0 (omega (arith, run_short, ap length p, length-append front g.0, ap length rest_is, ap length e, length-append front rest, ap length made, length-append other behind, length-append name (blanks ++ 40 ∷ []), length-append (blanks ++ 40 ∷ []) behind)) in
+          | inl p ↦ let nothing : g.0 ≡ [] = empty g.0 (omega (arith, run_short, ap length p, length-append front g.0, ap length rest_is, ap length e, length-append front rest, ap length made, length-append other after, length-append name (blanks ++ 40 ∷ []), length-append (blanks ++ 40 ∷ []) after)) in
               ([], append_cancel_left front (blanks ++ 40 ∷ []) (x ∷ xs) (ap (λ t. t ++ (blanks ++ 40 ∷ [])) (sym (p ∙ ap (λ t. front ++ t) nothing ∙ append-nil front)) ∙ sym made ∙ m))
           | inr p ↦ (g.1, append_cancel_left name (blanks ++ 40 ∷ []) (g.1 ++ x ∷ xs) (sym made ∙ m ∙ ap (λ t. t ++ x ∷ xs) p ∙ append_assoc name g.1 (x ∷ xs)))
         ]
@@ -172,13 +171,13 @@ head_short front rest other behind name blanks e made word blank stop called =
         empty [] le = refl
         empty (y ∷ ys) le = absurd (omega (arith, le))
 
-    more : (m : List ℕ) → other ≡ front ++ m → length rest ≤ length behind
-    more [] m = omega (arith, ap length e, length-append front rest, length-append other behind, ap length m, length-append front [])
+    more : (m : List ℕ) → other ≡ front ++ m → length rest ≤ length after
+    more [] m = omega (arith, ap length e, length-append front rest, length-append other after, ap length m, length-append front [])
     more (x ∷ xs) m =
-        let rest_is : rest ≡ x ∷ xs ++ behind = append_cancel_left front rest (x ∷ xs ++ behind) (e ∙ ap (λ o. o ++ behind) m ∙ append_assoc front (x ∷ xs) behind) in
+        let rest_is : rest ≡ x ∷ xs ++ after = append_cancel_left front rest (x ∷ xs ++ after) (e ∙ ap (λ o. o ++ after) m ∙ append_assoc front (x ∷ xs) after) in
         let q = within x xs m rest_is in
-        let yes : first_is (λ c. c == 40) (past_run is_blank (x ∷ xs ++ behind)) ≡ true = bracket_behind blanks q.0 xs behind x blank q.1 in
-        let no : first_is (λ c. c == 40) (past_run is_blank (x ∷ xs ++ behind)) ≡ false = ap (λ t. first_is (λ c. c == 40) (past_run is_blank t)) (sym rest_is) ∙ called in
+        let yes : first_is (λ c. c == 40) (past_run is_blank (x ∷ xs ++ after)) ≡ true = bracket_after blanks q.0 xs after x blank q.1 in
+        let no : first_is (λ c. c == 40) (past_run is_blank (x ∷ xs ++ after)) ≡ false = ap (λ t. first_is (λ c. c == 40) (past_run is_blank t)) (sym rest_is) ∙ called in
         absurd (cc)
 
 -- what else begins there is no longer
@@ -240,7 +239,7 @@ reference_read d n r rest can may =
     ap (λ t. token_at d (t ++ rest)) spelled ∙ ap (token_at d) a.2 ∙ start_kinds d n a.0 a.1 a.3 ∙ ap (of_start d) (sym a.2) ∙ rw read (kept rest (Ref r) (longer (head_at d text) (longer (word_at d text) (number_in_one_pass d text))) others)
 
 -- each token in its canonical spelling, before what may follow it
-pub reads_back : (d : DialectMeaning) → IsLawful d → ReadsBack d
+pub reads_back : (d : DialectMeaning) → IsLawful d → TokensReadBack d
 reads_back d n (Num (pos units)) rest can may = number_read d n units rest can may.0 may.1
 reads_back d n (Num (negsuc units)) rest can may = absurd can
 reads_back d n (Str text) rest can may = text_read d n text rest may

@@ -16,7 +16,9 @@ use Rattle.ic_laws.specs.AmountFront.{number_in_one_pass}
 use Rattle.ic_laws.specs.Following.{CanSpell, MayFollow}
 use Rattle.ic_laws.specs.Split.{longer}
 use Rattle.ic_laws.proofs.tokens.Characters.{all_below, at_below}
-use Rattle.ic_laws.proofs.tokens.Kinds.{by_kinds, text_complete, one_semicolon}
+use Rattle.ic_laws.proofs.tokens.Kinds.{by_kinds}
+use Rattle.ic_laws.proofs.tokens.Quoted.{text_complete}
+use Rattle.ic_laws.proofs.tokens.SignTables.{one_semicolon}
 use Rattle.ic_laws.proofs.tokens.Splits.{none_or_some, none_some, split_sound}
 
 -- the characters of signs, and the quote
@@ -116,7 +118,7 @@ greater_alone : (rest : List ℕ) → first_is (λ c. c == 61) rest ≡ false �
 greater_alone [] h = refl
 greater_alone (c ∷ cs) h = rw (eqb_swap 61 c h) refl
 
--- an error word has no sign behind its `#`
+-- an error word has no sign after its `#`
 second_shape : (rest front after : List ℕ) → 35 ∷ rest ≡ front ++ after → has_error_shape front ≡ true → first_is (λ c. not (is_sign c || is_blank c)) rest ≡ true
 second_shape rest [] after e h = absurd (cc)
 second_shape rest (a ∷ []) after e h = absurd (cc)

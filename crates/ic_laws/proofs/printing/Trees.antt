@@ -1,5 +1,5 @@
 -- The tokens of a tree that fits are a chain, so its canonical text falls into just these tokens.
-use Rattle.std.proofs.Common.{int_le, ◌≡◌, ◌≢◌, ℕ, ℤ, pos, negsuc, List, [], ◌∷◌, ◌++◌, Bool, true, false, ◌||◌, ◌==◌, ◌⊎◌, map, ◌+◌, ◌-◌, Option, Some, None, IsNone, refl, sym, ◌∙◌, ap, subst, inl, inr, arith, append_assoc, append-nil}
+use Rattle.std.proofs.Common.{int_le, ◌≡◌, ◌≢◌, ℕ, ℤ, pos, negsuc, List, [], ◌∷◌, ◌++◌, Bool, true, false, ◌||◌, ◌==◌, ◌⊎◌, map, Option, Some, None, IsNone, refl, sym, ◌∙◌, ap, subst, inl, inr, arith, append_assoc, append-nil}
 use Rattle.std.specs.List.{list_all, AllByRecursion}
 use Rattle.std.proofs.lemmas.Bool.{and_parts}
 use Rattle.std.proofs.lemmas.Bool.Decides.{nat_tests}
@@ -24,10 +24,10 @@ use Rattle.ic_laws.specs.declared.tree.PrefixSign.{PrefixSign}
 use Rattle.ic_laws.specs.declared.tree.PrefixSign.TheVariants as prefixes
 use Rattle.ic_laws.specs.declared.tree.Tree.{every-Tree}
 use Rattle.ic_laws.specs.declared.tree.Tree.TheOpen as one
-use Rattle.ic_laws.proofs.parsing.Nodes.{here_of, below_of, value_of, OfChildren, by_levels, WellKind, AllWell, PairAllWell, well_here, well_below, pair_here, pair_below, pair_tokens, with_tokens, yield-node, empty-node, callable-node}
+use Rattle.ic_laws.proofs.parsing.Nodes.{here_of, below_of, value_of, OfChildren, by_nodes, WellKind, AllWell, PairAllWell, well_here, well_below, pair_here, pair_below, pair_tokens, with_tokens, yield-node, empty-node, callable-node}
 use Rattle.ic_laws.specs.NextToken.{tokens_of}
 use Rattle.ic_laws.specs.Following.{CanSpell, MayFollow, IsChain, spelled_out}
-use Rattle.ic_laws.proofs.printing.Ends.{is_after, follows, follows_ends, NoSign, number_no_sign, word_no_sign, boolean_no_sign, error_no_sign, reference_no_sign, fun_head_no_sign, name_head_no_sign}
+use Rattle.ic_laws.proofs.printing.Ends.{is_after, follows, follows_ends, NoComparison, number_no_sign, word_no_sign, boolean_no_sign, error_no_sign, reference_no_sign, fun_head_no_sign, name_head_no_sign}
 use Rattle.ic_laws.proofs.printing.Operands.{chain_read}
 
 all_apply : {A : Type 0} (P Q : A → Type 0) (xs : List A) → AllByRecursion (λ a. P a → Q a) xs → AllByRecursion P xs → AllByRecursion Q xs
@@ -48,12 +48,12 @@ children_apply A B C D (one.Apply x arguments) f h = (f.0 h.0, all_apply A B arg
 children_apply A B C D kind f h = tt
 
 -- What is shown of each tree, of its tokens before those that may go on.
-abbrev GoesOn : Bool → List Token → Type 0
-GoesOn callable more = (callable ≡ true) ⊎ (follows more ≡ true)
+abbrev MayGoOn : Bool → List Token → Type 0
+MayGoOn callable more = (callable ≡ true) ⊎ (follows more ≡ true)
 
 record IsPrinted (d : DialectMeaning) (callable empty : Bool) (ts : List Token) : Type 0 where
-  pub chain : (more : List Token) → IsChain d more → GoesOn callable more → IsChain d (ts ++ more)
-  pub begins : empty ≡ false → (more : List Token) → NoSign d (ts ++ more)
+  pub chain : (more : List Token) → IsChain d more → MayGoOn callable more → IsChain d (ts ++ more)
+  pub begins : empty ≡ false → (more : List Token) → NoComparison d (ts ++ more)
 
 abbrev Printed : DialectMeaning → Spelled → Type 0
 Printed d t = IsPrinted d (is_callable t) (is_empty t) (yield d t)
@@ -104,7 +104,7 @@ amount_small d (negsuc units) u = absurd (cc)
 number_part : (d : DialectMeaning) → IsLawful d → (units : ℤ) → CanSpell d (Num units) → Part d (Num units ∷ [])
 number_part d n units can more c f = let e = follows_ends d n more f in (can, (e.end, e.apart), c)
 
-number_begins : (d : DialectMeaning) (units : ℤ) (ts : List Token) → CanSpell d (Num units) → NoSign d (Num units ∷ ts)
+number_begins : (d : DialectMeaning) (units : ℤ) (ts : List Token) → CanSpell d (Num units) → NoComparison d (Num units ∷ ts)
 number_begins d (pos units) ts can = number_no_sign d units ts can
 number_begins d (negsuc units) ts can = absurd can
 
@@ -143,7 +143,7 @@ closing : (d : DialectMeaning) (close : Token) (ts more : List Token) → CanSpe
 closing d close ts more can may after part c = subst (IsChain d) (sym (append_assoc ts (close ∷ []) more)) (part (close ∷ more) (can, may _, c) after)
 
 -- a sign before an operand
-sign_before : (d : DialectMeaning) (sign : BinarySign) (ts : List Token) → NoSign d ts → MayFollow d (Operator sign) (spelled_out d ts)
+sign_before : (d : DialectMeaning) (sign : BinarySign) (ts : List Token) → NoComparison d ts → MayFollow d (Operator sign) (spelled_out d ts)
 sign_before d signs.Less ts h = h
 sign_before d signs.Greater ts h = only_greater (spelled_out d ts) h
   where
@@ -157,12 +157,12 @@ prefix_chain d prefixes.Plus ts c = (tt, tt, c)
 prefix_chain d prefixes.Minus ts c = (tt, tt, c)
 prefix_chain d prefixes.At ts c = (tt, tt, c)
 
-prefix_begins : (d : DialectMeaning) (sign : PrefixSign) (ts : List Token) → NoSign d (prefix_token sign ∷ ts)
+prefix_begins : (d : DialectMeaning) (sign : PrefixSign) (ts : List Token) → NoComparison d (prefix_token sign ∷ ts)
 prefix_begins d prefixes.Plus ts = refl
 prefix_begins d prefixes.Minus ts = refl
 prefix_begins d prefixes.At ts = refl
 
-goes : (more : List Token) → GoesOn false more → follows more ≡ true
+goes : (more : List Token) → MayGoOn false more → follows more ≡ true
 goes more (inl e) = absurd (cc)
 goes more (inr f) = f
 
@@ -199,17 +199,17 @@ kind_printed d n (one.Prefix sign x) w fits h = record {
 }
 kind_printed d n (one.Percent x) w fits h = record {
   chain = λ more c g. closing d Percent (yield d x) more tt (λ rest. tt) refl (λ m k f. h.chain m k (inr f)) c;
-  begins = λ e more. subst (NoSign d) (sym (append_assoc (yield d x) (Percent ∷ []) more)) (h.begins w.parts (Percent ∷ more));
+  begins = λ e more. subst (NoComparison d) (sym (append_assoc (yield d x) (Percent ∷ []) more)) (h.begins w.parts (Percent ∷ more));
 }
 kind_printed d n (one.Spill x) w fits h = record {
   chain = λ more c g. subst (IsChain d) (sym (append_assoc (yield d x) (Hash ∷ []) more)) (h.chain (Hash ∷ more) (tt, (follows_ends d n more (goes more g)).sign, c) (inr refl));
-  begins = λ e more. subst (NoSign d) (sym (append_assoc (yield d x) (Hash ∷ []) more)) (h.begins w.parts (Hash ∷ more));
+  begins = λ e more. subst (NoComparison d) (sym (append_assoc (yield d x) (Hash ∷ []) more)) (h.begins w.parts (Hash ∷ more));
 }
 kind_printed d n (one.Binary sign a b) w fits h = record {
   chain = λ more c g.
       subst (IsChain d) (sym (append_assoc (yield d a) (Operator sign ∷ yield d b) more))
       (h.0.chain (Operator sign ∷ (yield d b ++ more)) (tt, sign_before d sign (yield d b ++ more) (h.1.begins w.parts.1 more), h.1.chain more c (inr (goes more g))) (inr refl));
-  begins = λ e more. subst (NoSign d) (sym (append_assoc (yield d a) (Operator sign ∷ yield d b) more)) (h.0.begins w.parts.0 (Operator sign ∷ (yield d b ++ more)));
+  begins = λ e more. subst (NoComparison d) (sym (append_assoc (yield d a) (Operator sign ∷ yield d b) more)) (h.0.begins w.parts.0 (Operator sign ∷ (yield d b ++ more)));
 }
 kind_printed d n (one.Fun number arguments) w fits h = record {
   chain = λ more c g. (fits, tt, closing d Close (joined Separator (map (yield d) arguments)) more tt (λ rest. tt) refl (joined_part d Separator tt (λ rest. tt) refl (map (yield d) arguments) (arguments_part d arguments h)) c);
@@ -244,7 +244,7 @@ kind_printed d n (one.Apply x arguments) w fits h = record {
       let inner = closing d Close (joined Separator (map (yield d) arguments)) more tt (λ rest. tt) refl (joined_part d Separator tt (λ rest. tt) refl (map (yield d) arguments) (arguments_part d arguments h.1)) c in
       subst (IsChain d) (sym (apart (yield d x) (joined Separator (map (yield d) arguments)) more))
       (h.0.chain (Open ∷ ((joined Separator (map (yield d) arguments) ++ Close ∷ []) ++ more)) (tt, tt, inner) (inl w.called));
-  begins = λ e more. subst (NoSign d) (sym (apart (yield d x) (joined Separator (map (yield d) arguments)) more)) (h.0.begins w.parts (Open ∷ ((joined Separator (map (yield d) arguments) ++ Close ∷ []) ++ more)));
+  begins = λ e more. subst (NoComparison d) (sym (apart (yield d x) (joined Separator (map (yield d) arguments)) more)) (h.0.begins w.parts (Open ∷ ((joined Separator (map (yield d) arguments) ++ Close ∷ []) ++ more)));
 } where
   apart : (a b more : List Token) → (a ++ Open ∷ b ++ Close ∷ []) ++ more ≡ a ++ Open ∷ ((b ++ Close ∷ []) ++ more)
   apart a b more = ap (λ t. t ++ more) (append_assoc a (Open ∷ b) (Close ∷ [])) ∙ append_assoc a (Open ∷ (b ++ Close ∷ [])) more
@@ -262,7 +262,7 @@ PairFit d pair = every-LetPair (Option (List ℕ)) (List ℕ) (FitsKind d) (Fits
 
 tree_printed : (d : DialectMeaning) → IsLawful d → (t : Spelled) → AllWell d t → AllFit d t → Printed d t
 tree_printed d n =
-    by_levels (λ t. AllWell d t → AllFit d t → Printed d t) (λ p. PairAllWell d p → PairFit d p → PairPrinted d p) at_kind at_pair
+    by_nodes (λ t. AllWell d t → AllFit d t → Printed d t) (λ p. PairAllWell d p → PairFit d p → PairPrinted d p) at_kind at_pair
   where
     at_kind : (kind : SpelledKind) → OfChildren (λ t. AllWell d t → AllFit d t → Printed d t) (λ p. PairAllWell d p → PairFit d p → PairPrinted d p) kind
         → AllWell d (node kind) → AllFit d (node kind) → Printed d (node kind)

@@ -6,23 +6,23 @@ use Rattle.std.proofs.lemmas.Bool.Decides.{eqb_tells}
 use Rattle.ucd_derived.proofs.Computing.{ucd_derived}
 use Rattle.ic_laws.specs.Scan.{IsEnd, begins_word, first_is, is_blank, is_digit, is_letter, is_word_character, run_of, past_run}
 use Rattle.ic_laws.specs.Name.{is_variable_form}
-use Rattle.ic_laws.specs.Dialect.{DialectMeaning, IsLawful, begins_reference, boolean_number, error_number, has_error_shape, word_text}
-use Rattle.ic_laws.specs.Dialect.{IsWordOrAmount, OfBoolean, OfVariable}
+use Rattle.ic_laws.specs.Dialect.{DialectMeaning, IsLawful, begins_reference, boolean_number, error_number, has_error_shape, word_text, IsWordOrAmount, OfBoolean, OfVariable}
 use Rattle.ic_laws.specs.Token.{Token, Err, Ref, Boolean, Word, FunHead, NameHead, Hash, IsHead, IsWholeRun}
 use Rattle.ic_laws.specs.declared.dialect.WordKind.{WordKind}
 use Rattle.ic_laws.specs.declared.dialect.WordKind.TheVariants as kinds
 use Rattle.ic_laws.specs.declared.reference.RefToken.{RefToken}
 use Rattle.ic_laws.specs.declared.tree.Error.{Error}
 use Rattle.ic_laws.specs.declared.tree.Error.TheVariants as errors
-use Rattle.ic_laws.specs.TokenKinds.{OfKind, is_error, is_word, is_head, error_at, one_at, one_table, text_at, two_at, two_table, head_at, head_before, word_at, reference_at}
+use Rattle.ic_laws.specs.TokenKinds.{is_reference, OfKind, is_error, is_word, is_head, error_at, one_at, one_table, text_at, two_at, two_table, head_at, head_before, word_at, reference_at}
 use Rattle.ic_laws.specs.NextToken.{boolean_or_word, look_up, separators, token_at}
 use Rattle.ic_laws.specs.AmountFront.{number_in_one_pass}
 use Rattle.ic_laws.specs.Following.{CanSpell, MayFollow, IsNotCalled}
 use Rattle.ic_laws.specs.Split.{FindsBest, longer}
 use Rattle.ic_laws.proofs.tokens.Characters.{bracket_no_word, digit_begins_none, past_run_all}
-use Rattle.ic_laws.proofs.tokens.Kinds.{by_kinds, error_best, error_found, head_at_complete, look_holds, word_at_complete}
+use Rattle.ic_laws.proofs.tokens.Kinds.{by_kinds, error_best, error_found}
+use Rattle.ic_laws.proofs.tokens.NameReaders.{head_at_complete, word_at_complete}
+use Rattle.ic_laws.proofs.tokens.SignTables.{look_holds}
 use Rattle.ic_laws.proofs.tokens.Next.{ComesAfter}
-use Rattle.ic_laws.proofs.tokens.Plain.{is_ref}
 use Rattle.ic_laws.proofs.printing.Signs.{IsRead, is_mark, mark_begins_none, no_error_first, no_number, not_decimal, or_neither}
 use Rattle.ic_laws.proofs.tokens.Splits.{best_unique, none_or_some}
 
@@ -38,7 +38,7 @@ has_word d kind k h = by (d.word kind k) refl h
 pub same_kind : (d : DialectMeaning) (kind : Token → Bool) (text rest : List ℕ) (t : Token) (a : Option (Token × List ℕ)) → FindsBest (OfKind kind d) ComesAfter text a → FindsBest (OfKind kind d) ComesAfter text (Some (t, rest)) → a ≡ Some (t, rest)
 same_kind d kind text rest t None h k = absurd (h k.front rest t k.whole k.spelled)
 same_kind d kind text rest t (Some x) h k =
-    let one = best_unique (OfKind kind d) ComesAfter (λ v w a b. both_ways (is_ref w) b.0 a.1) text x.1 rest x.0 t h k in
+    let one = best_unique (OfKind kind d) ComesAfter (λ v w a b. both_ways (is_reference w) b.0 a.1) text x.1 rest x.0 t h k in
     ap (λ y. Some (y, x.1)) one.0 ∙ ap (λ r. Some (t, r)) one.1
 
 -- errors
@@ -133,7 +133,7 @@ longer_none : (a : Option (Token × List ℕ)) → longer a None ≡ a
 longer_none None = refl
 longer_none (Some x) = refl
 
--- it is a reference, a head_token, a word or a number
+-- it is a reference, a head, a word or a number
 abbrev pub of_start : DialectMeaning → List ℕ → Option (Token × List ℕ)
 of_start d text = longer (reference_at d text) (longer (head_at d text) (longer (word_at d text) (number_in_one_pass d text)))
 
@@ -159,7 +159,7 @@ word_no_number d n c cs b = no_number d c cs digit (not_decimal d n c (other 46 
     other : (k : ℕ) → begins_word k ≡ false → (c == k) ≡ false
     other k h = elim (eqb_tells c k) [ inl e ↦ let no : begins_word c ≡ false = ap begins_word e.1 ∙ h in absurd (cc) | inr e ↦ e.0 ]
 
-pub not_called : (d : DialectMeaning) (name behind : List ℕ) → first_is (λ c. c == 40) behind ≡ false → head_before d name behind ≡ None
+pub not_called : (d : DialectMeaning) (name after : List ℕ) → first_is (λ c. c == 40) after ≡ false → head_before d name after ≡ None
 not_called d name [] h = refl
 not_called d name (c ∷ cs) h = rw h refl
 
@@ -187,9 +187,9 @@ word_back d n (c ∷ cs) rest t short whole s end called =
     let begins : begins_word c ≡ true = whole.0.0 in
     let word : word_at d text ≡ Some (t, rest) = word_at_complete d (c ∷ cs) rest t s in
     let past : past_run is_word_character text ≡ rest = past_run_all is_word_character (c ∷ cs) rest whole.0.1 whole.1 in
-    let behind : first_is (λ c. c == 40) (past_run is_blank (past_run is_word_character text)) ≡ false = ap (λ r. first_is (λ c. c == 40) (past_run is_blank r)) past ∙ called in
-    let head_token : head_at d text ≡ None = rw begins (not_called d (run_of is_word_character text) (past_run is_blank (past_run is_word_character text)) behind) in
-    start_kinds d n c (cs ++ rest) (begins_starts c begins) ∙ rw (head_token, word, word_no_number d n c (cs ++ rest) begins)
+    let unread : first_is (λ c. c == 40) (past_run is_blank (past_run is_word_character text)) ≡ false = ap (λ r. first_is (λ c. c == 40) (past_run is_blank r)) past ∙ called in
+    let heads : head_at d text ≡ None = rw begins (not_called d (run_of is_word_character text) (past_run is_blank (past_run is_word_character text)) unread) in
+    start_kinds d n c (cs ++ rest) (begins_starts c begins) ∙ rw (heads, word, word_no_number d n c (cs ++ rest) begins)
     (gives_way d text rest t (d.read_ref text) (λ r after e. n.shorter_than (c ∷ cs) rest after r short end e))
 
 pub form_run : (word rest : List ℕ) → is_variable_form word ≡ true → IsEnd rest → IsWholeRun word rest
@@ -229,13 +229,13 @@ head_back d n [] rest t begins all s shorter = absurd (cc)
 head_back d n (c ∷ cs) rest t begins all s shorter =
     let whole : (c ∷ cs ++ codes "(") ++ rest ≡ c ∷ cs ++ 40 ∷ rest = append_assoc (c ∷ cs) (codes "(") rest in
     let text : List ℕ = c ∷ cs ++ 40 ∷ rest in
-    let head_token : head_at d text ≡ Some (t, rest) = ap (head_at d) (sym whole) ∙ head_at_complete d (c ∷ cs ++ codes "(") rest t s in
+    let heads : head_at d text ≡ Some (t, rest) = ap (head_at d) (sym whole) ∙ head_at_complete d (c ∷ cs ++ codes "(") rest t s in
     let past : past_run is_word_character text ≡ 40 ∷ rest = past_run_all is_word_character (c ∷ cs) (40 ∷ rest) all bracket_no_word in
     let run = run_of is_word_character text in
     let word : word_at d text ≡ option_map (λ u. (u, 40 ∷ rest)) (boolean_or_word d run (d.find kinds.Boolean run)) =
     rw begins (ap (λ r. option_map (λ u. let g : Token × List ℕ = (u, r) in g) (boolean_or_word d run (d.find kinds.Boolean run))) past) in
     let first : longer (head_at d text) (longer (word_at d text) (number_in_one_pass d text)) ≡ Some (t, rest) =
-    ap (λ h. longer h (longer (word_at d text) (number_in_one_pass d text))) head_token ∙ ap (λ w. longer (Some (t, rest)) (longer w (number_in_one_pass d text))) word
+    ap (λ h. longer h (longer (word_at d text) (number_in_one_pass d text))) heads ∙ ap (λ w. longer (Some (t, rest)) (longer w (number_in_one_pass d text))) word
     ∙ ap (λ m. longer (Some (t, rest)) (longer (option_map (λ u. (u, 40 ∷ rest)) (boolean_or_word d run (d.find kinds.Boolean run))) m)) (word_no_number d n c (cs ++ 40 ∷ rest) begins)
     ∙ word_before d t rest (40 ∷ rest) (boolean_or_word d run (d.find kinds.Boolean run)) (omega arith) in
     ap (token_at d) whole ∙ start_kinds d n c (cs ++ 40 ∷ rest) (begins_starts c begins) ∙ ap (longer (reference_at d text)) first

@@ -6,9 +6,9 @@ use Rattle.std.proofs.lemmas.List.{append_cancel_left}
 use Rattle.ic_laws.specs.Scan.{EndsWith}
 use Rattle.ic_laws.proofs.tokens.Splits.{front_in_front}
 
--- what stands behind more of a text is shorter by all of it
-behind_more : (b d more : List ℕ) → b ≡ more ++ d → (length b ≡ length more + length d) × (length more + length (encode_utf8_all d) ≤ length (encode_utf8_all b))
-behind_more b d more e =
+-- what stands after more of a text is shorter by all of it
+after_more : (b d more : List ℕ) → b ≡ more ++ d → (length b ≡ length more + length d) × (length more + length (encode_utf8_all d) ≤ length (encode_utf8_all b))
+after_more b d more e =
     let bytes : encode_utf8_all b ≡ encode_utf8_all more ++ encode_utf8_all d = ap encode_utf8_all e ∙ encodes-append more d in
     (ap length e ∙ length-append more d, omega (arith, ap length bytes, length-append (encode_utf8_all more) (encode_utf8_all d), length-le-encodes more))
 
@@ -21,13 +21,13 @@ by_more b d more e =
     elim (cases_Bool (nat_le (length b) (length d))) [
       | inl p ↦ let same = no_more b d more e (leb-true (length b) (length d) p) in
           p ∙ sym (le-leb (length (encode_utf8_all b)) (length (encode_utf8_all d)) (omega (arith, ap length (ap encode_utf8_all same))))
-      | inr n ↦ let parts = behind_more b d more e in
+      | inr n ↦ let parts = after_more b d more e in
           n ∙ sym (lt-leb (length (encode_utf8_all b)) (length (encode_utf8_all d)) (omega (arith, parts.0, parts.1, leb-false (length b) (length d) n)))
     ]
 
 by_less : (b d more : List ℕ) → d ≡ more ++ b → nat_le (length b) (length d) ≡ nat_le (length (encode_utf8_all b)) (length (encode_utf8_all d))
 by_less b d more e =
-    let parts = behind_more d b more e in
+    let parts = after_more d b more e in
     le-leb (length b) (length d) (omega (arith, parts.0)) ∙ sym (le-leb (length (encode_utf8_all b)) (length (encode_utf8_all d)) (omega (arith, parts.1)))
 
 pub ends_order : (text b d : List ℕ) → EndsWith text b → EndsWith text d → nat_le (length b) (length d) ≡ nat_le (length (encode_utf8_all b)) (length (encode_utf8_all d))

@@ -79,19 +79,19 @@ front_begins : (front rest : List ℕ) → Begins front → (Begins (front ++ re
 front_begins [] rest b = absurd b
 front_begins (c ∷ cs) rest b = (b, b)
 
--- what stands behind blanks before the next token
-behind_blanks : (d : DialectMeaning) → IsLawful d → (text blanks behind rest : List ℕ) (t : Token) → list_all is_blank blanks ≡ true → text ≡ blanks ++ behind → Takes d behind t rest → (behind ≡ past_run is_blank text) × Begins behind
-behind_blanks d n text blanks behind rest t all whole taken =
+-- what stands after blanks before the next token
+after_blanks : (d : DialectMeaning) → IsLawful d → (text blanks after rest : List ℕ) (t : Token) → list_all is_blank blanks ≡ true → text ≡ blanks ++ after → Takes d after t rest → (after ≡ past_run is_blank text) × Begins after
+after_blanks d n text blanks after rest t all whole taken =
     let b = front_begins taken.front rest (spelled_begins d n taken.front rest t taken.spelled) in
-    let stops : first_is is_blank behind ≡ false = ap (first_is is_blank) taken.whole ∙ b.1 in
-    (sym (ap (past_run is_blank) whole ∙ past_run_all is_blank blanks behind all stops), subst Begins (sym taken.whole) b.0)
+    let stops : first_is is_blank after ≡ false = ap (first_is is_blank) taken.whole ∙ b.1 in
+    (sym (ap (past_run is_blank) whole ∙ past_run_all is_blank blanks after all stops), subst Begins (sym taken.whole) b.0)
 
 all_past : (text : List ℕ) → list_all is_blank text ≡ true → past_run is_blank text ≡ []
 all_past text h = ap (past_run is_blank) (sym (append-nil text)) ∙ past_run_all is_blank text [] h refl
 
 blank_or_not : (d : DialectMeaning) → IsLawful d → (text : List ℕ) (t : Token) (ts : List Token) → Lexes d text [] → Lexes d text (t ∷ ts) → ⊥
 blank_or_not d n text t ts all l =
-    let b = behind_blanks d n text l.0 l.1 l.2 t l.3 l.4 l.5 in
+    let b = after_blanks d n text l.0 l.1 l.2 t l.3 l.4 l.5 in
     subst Begins (b.0 ∙ all_past text all) b.1
 
 pub lexes_unique : (d : DialectMeaning) → IsLawful d → (text : List ℕ) (ts us : List Token) → Lexes d text ts → Lexes d text us → ts ≡ us
@@ -99,14 +99,14 @@ lexes_unique d n text [] [] a b = refl
 lexes_unique d n text [] (u ∷ us) a b = absurd (blank_or_not d n text u us a b)
 lexes_unique d n text (t ∷ ts) [] a b = absurd (blank_or_not d n text t ts b a)
 lexes_unique d n text (t ∷ ts) (u ∷ us) a b =
-    let same : a.1 ≡ b.1 = (behind_blanks d n text a.0 a.1 a.2 t a.3 a.4 a.5).0 ∙ sym ((behind_blanks d n text b.0 b.1 b.2 u b.3 b.4 b.5).0) in
+    let same : a.1 ≡ b.1 = (after_blanks d n text a.0 a.1 a.2 t a.3 a.4 a.5).0 ∙ sym ((after_blanks d n text b.0 b.1 b.2 u b.3 b.4 b.5).0) in
     let one = takes_unique d n b.1 a.2 b.2 t u (subst (λ x. Takes d x t a.2) same a.5) b.5 in
     let others : ts ≡ us = lexes_unique d n b.2 ts us (subst (λ x. Lexes d x ts) one.1 a.6) b.6 in
     ap (λ x. x ∷ ts) one.0 ∙ ap (λ l. u ∷ l) others
 
 -- the function that answers the tokens of a text
-next_sound : (d : DialectMeaning) → IsLawful d → (more : List ℕ → Option (List Token)) (text behind : List ℕ) (ts : List Token) → ((rest : List ℕ) (us : List Token) → more rest ≡ Some us → Lexes d rest us)
-    → behind ≡ past_run is_blank text → next_tokens more d behind ≡ Some ts → Lexes d text ts
+next_sound : (d : DialectMeaning) → IsLawful d → (more : List ℕ → Option (List Token)) (text after : List ℕ) (ts : List Token) → ((rest : List ℕ) (us : List Token) → more rest ≡ Some us → Lexes d rest us)
+    → after ≡ past_run is_blank text → next_tokens more d after ≡ Some ts → Lexes d text ts
 next_sound d n more text [] ts sound is e =
     let same : [] ≡ ts = cc in
     let whole : text ≡ run_of is_blank text = run_and_rest is_blank text ∙ ap (λ r. run_of is_blank text ++ r) (sym is) ∙ append-nil (run_of is_blank text) in
@@ -132,7 +132,7 @@ unfolding tokens_by
 tokens_by_sound d n zero text ts e = absurd (none_some ts e)
 tokens_by_sound d n (suc fuel) text ts e = next_sound d n (tokens_by d fuel) text (past_run is_blank text) ts (λ rest us. tokens_by_sound d n fuel rest us) refl e
 
-next_complete : (d : DialectMeaning) (more : List ℕ → Option (List Token)) (behind rest : List ℕ) (t : Token) (ts : List Token) → Begins behind → token_at d behind ≡ Some (t, rest) → more rest ≡ Some ts → next_tokens more d behind ≡ Some (t ∷ ts)
+next_complete : (d : DialectMeaning) (more : List ℕ → Option (List Token)) (after rest : List ℕ) (t : Token) (ts : List Token) → Begins after → token_at d after ≡ Some (t, rest) → more rest ≡ Some ts → next_tokens more d after ≡ Some (t ∷ ts)
 next_complete d more [] rest t ts b e f = absurd b
 next_complete d more (c ∷ cs) rest t ts b e f = ap (after_token more) e ∙ ap (option_map (λ us. t ∷ us)) f
 
@@ -146,7 +146,7 @@ tokens_by_complete d n zero text ts lt l = absurd (omega (arith, lt))
 tokens_by_complete d n (suc fuel) text [] lt l = ap (next_tokens (tokens_by d fuel) d) (all_past text l)
 tokens_by_complete d n (suc fuel) text (t ∷ ts) lt l =
     let taken = l.5 in
-    let b = behind_blanks d n text l.0 l.1 l.2 t l.3 l.4 taken in
+    let b = after_blanks d n text l.0 l.1 l.2 t l.3 l.4 taken in
     let some = begins_some taken.front (spelled_begins d n taken.front l.2 t taken.spelled) in
     let small : length l.2 < fuel = omega (arith, lt, some, ap length l.4, length-append l.0 l.1, ap length taken.whole, length-append taken.front l.2) in
     ap (next_tokens (tokens_by d fuel) d) (sym b.0)

@@ -3,26 +3,27 @@ use Rattle.std.proofs.Common.{if◌then◌else◌, ◌≡◌, ℕ, ◌≤◌, Li
 use Rattle.std.proofs.lemmas.Option.{cond_some}
 use Rattle.std.proofs.lemmas.Slice.Eq.{bytes_eq-Decides}
 use Rattle.ic_laws.specs.Dialect.{DialectMeaning, IsLawful}
+use Rattle.ic_laws.specs.TokenKinds.{is_reference}
 use Rattle.ic_laws.specs.Token.{Token, Ref, IsBefore, Spells, Takes}
 use Rattle.ic_laws.specs.declared.reference.RefToken.{RefToken}
 use Rattle.ic_laws.specs.Split.{IsBest, IsDecided, FindsBest}
 use Rattle.ic_laws.specs.NextToken.{plain_of, reference_of, token_of, token_at}
-use Rattle.ic_laws.proofs.tokens.Plain.{is_ref, plain_sound, plain_complete}
+use Rattle.ic_laws.proofs.tokens.Plain.{plain_sound, plain_complete}
 use Rattle.ic_laws.proofs.tokens.Splits.{none_some, none_or_some, or_else_parts, split_best}
 
 -- of two of one length any token comes after a reference
 abbrev pub ComesAfter : Token → Token → Type 0
-ComesAfter t u = (is_ref t ≡ false) × (is_ref u ≡ true)
+ComesAfter t u = (is_reference t ≡ false) × (is_reference u ≡ true)
 
 before_itself : (t : Token) → IsBefore t t
 before_itself (Ref r) = tt
 before_itself t = tt
 
-reference_before : (t u : Token) → is_ref t ≡ true → IsBefore t u
+reference_before : (t u : Token) → is_reference t ≡ true → IsBefore t u
 reference_before (Ref r) u h = tt
 reference_before t u h = absurd (cc)
 
-none_before : (t u : Token) → is_ref t ≡ false → is_ref u ≡ true → IsBefore t u → ⊥
+none_before : (t u : Token) → is_reference t ≡ false → is_reference u ≡ true → IsBefore t u → ⊥
 none_before (Ref s) u h k b = absurd (cc)
 none_before t (Ref r) h k b = b
 none_before t u h k b = absurd (cc)
@@ -53,12 +54,12 @@ split_sound d front rest v e =
 abbrev IsAnswered : DialectMeaning → List ℕ → List ℕ → Token → Type 0
 IsAnswered d front rest v = (w : Token) × (token_of d front rest ≡ Some w) × ((v ≡ w) ⊎ ComesAfter v w)
 
-other_complete : (d : DialectMeaning) (n : IsLawful d) (front rest : List ℕ) (v : Token) → is_ref v ≡ false → Spells d v front rest → IsAnswered d front rest v
+other_complete : (d : DialectMeaning) (n : IsLawful d) (front rest : List ℕ) (v : Token) → is_reference v ≡ false → Spells d v front rest → IsAnswered d front rest v
 other_complete d n front rest v h s =
     let plain = plain_complete d n front rest v h s in
     elim (none_or_some (reference_of d front rest)) [
       | inl p ↦ (v, rw p plain, inl refl)
-      | inr p ↦ let q = reference_sound d front rest p.0 p.1 in (p.0, rw (p.1) refl, inr (h, ap is_ref (sym q.2)))
+      | inr p ↦ let q = reference_sound d front rest p.0 p.1 in (p.0, rw (p.1) refl, inr (h, ap is_reference (sym q.2)))
     ]
 
 split_complete : (d : DialectMeaning) (n : IsLawful d) (front rest : List ℕ) (v : Token) → Spells d v front rest → IsAnswered d front rest v
@@ -72,13 +73,13 @@ pub token_best : (d : DialectMeaning) → IsLawful d → (text : List ℕ) → F
 token_best d n text = split_best (Spells d) ComesAfter (token_of d) text (token_decided d n)
 
 -- the best is taken, and what is taken is the best
-longest_by : (front rest other behind : List ℕ) (v value : Token) → front ++ rest ≡ other ++ behind → (length rest < length behind) ⊎ ((behind ≡ rest) × ((v ≡ value) ⊎ ComesAfter v value)) → length other ≤ length front
-longest_by front rest other behind v value e (inl short) = omega (arith, short, ap length e, length-append front rest, length-append other behind)
-longest_by front rest other behind v value e (inr one) = omega (arith, ap length one.0, ap length e, length-append front rest, length-append other behind)
+longest_by : (front rest other after : List ℕ) (v value : Token) → front ++ rest ≡ other ++ after → (length rest < length after) ⊎ ((after ≡ rest) × ((v ≡ value) ⊎ ComesAfter v value)) → length other ≤ length front
+longest_by front rest other after v value e (inl short) = omega (arith, short, ap length e, length-append front rest, length-append other after)
+longest_by front rest other after v value e (inr one) = omega (arith, ap length one.0, ap length e, length-append front rest, length-append other after)
 
-first_by : (front rest other behind : List ℕ) (v value : Token) → front ++ rest ≡ other ++ behind → length other ≡ length front → (length rest < length behind) ⊎ ((behind ≡ rest) × ((v ≡ value) ⊎ ComesAfter v value)) → IsBefore value v
-first_by front rest other behind v value e len (inl short) = absurd (omega (arith, short, len, ap length e, length-append front rest, length-append other behind))
-first_by front rest other behind v value e len (inr one) =
+first_by : (front rest other after : List ℕ) (v value : Token) → front ++ rest ≡ other ++ after → length other ≡ length front → (length rest < length after) ⊎ ((after ≡ rest) × ((v ≡ value) ⊎ ComesAfter v value)) → IsBefore value v
+first_by front rest other after v value e len (inl short) = absurd (omega (arith, short, len, ap length e, length-append front rest, length-append other after))
+first_by front rest other after v value e len (inr one) =
     elim one.1 [
       | inl same ↦ subst (λ t. IsBefore t v) same (before_itself v)
       | inr late ↦ reference_before value v late.1

@@ -1,4 +1,4 @@
--- The longest amount at the front of a text is read in units_of_one pass.
+-- The longest amount at the front of a text is read in one pass.
 use Rattle.std.proofs.Common.{◌≡◌, ℕ, zero, suc, ◌+◌, ◌*◌, ◌-◌, ◌^◌, ◌<◌, ◌≤◌, List, [], ◌∷◌, ◌++◌, true, false, ◌&&◌, ◌==◌, nat_le, nat_lt, pos, length, Option, Some, None, option_map, refl, sym, ◌∙◌, ap, inl, inr, arith, append_assoc, append-nil, length-append}
 use Rattle.std.specs.Char.{digit_value}
 use Rattle.std.specs.List.{list_all}
@@ -73,7 +73,7 @@ some_few zero text = omega arith
 some_few (suc k) [] = omega arith
 some_few (suc k) (c ∷ cs) = elim (cases_Bool (is_digit c)) [ inl p ↦ rw p (omega (arith, some_few k cs)) | inr p ↦ rw p (omega arith) ]
 
--- digits that fit are taken, with more behind them
+-- digits that fit are taken, with more after them
 digits_over : (most n : ℕ) (w after : List ℕ) → list_all is_digit w ≡ true → digits_value_after 10 n w ≤ most
     → (digits_to most n (w ++ after) ≡ w ++ digits_to most (digits_value_after 10 n w) after) × (past_to most n (w ++ after) ≡ past_to most (digits_value_after 10 n w) after)
 digits_over most n [] after h le = (refl, refl)
@@ -102,7 +102,7 @@ all-ascii : (text : List ℕ) → all_ascii_digits text ≡ true → list_all is
 all-ascii [] h = refl
 all-ascii (c ∷ cs) h = let p = and_parts (is_digit c) (all_ascii_digits cs) h in and_from (is_digit c) (list_all is_digit cs) p.0 (all-ascii cs p.1)
 
--- what an amount is made of: the digits of its whole part, and what stands behind them
+-- what an amount is made of: the digits of its whole part, and what stands after them
 abbrev pub IsTail : ℕ → List ℕ → Type 0
 IsTail separator [] = Unit {0}
 IsTail separator (c ∷ f) = (c ≡ separator) × (list_all is_digit f ≡ true) × (length f ≤ 9)
@@ -157,7 +157,7 @@ pub amount_parts : (separator : ℕ) (text : List ℕ) (units : ℕ) → unsigne
 amount_parts separator text units e =
     read_parts separator text (run_of is_digit text) (past_run is_digit text) units (run_and_rest is_digit text) (all_of_run is_digit text) e
 
--- and what has these parts is units_of_one
+-- and what has these parts is one
 units_given : (whole count fraction digits : ℕ) → digits ≤ 9 → 0 < count + digits → whole ≤ last_whole → fraction < 10 ^ digits → (units : ℕ) × (units_by whole count fraction digits ≡ Some units)
 units_given whole count fraction digits few some small below =
     let scaled : fraction * 10 ^ (9 - digits) < 10 ^ digits * 10 ^ (9 - digits) = mul-lt-mul_of_pos_right below (one-le-pow (9 - digits) 10 (omega arith)) in
@@ -189,7 +189,7 @@ amount_given separator text apart p =
     let given = read_given separator p.whole p.tail p.small p.tail_is p.some in
     (given.0, ap (λ r. read_units separator r (past_run is_digit text)) run ∙ ap (read_units separator p.whole) past ∙ given.1)
 
--- What is taken reaches as far as any amount, and is units_of_one where there is any.
+-- What is taken reaches as far as any amount, and is one where there is any.
 fraction_tail : (separator : ℕ) (text : List ℕ) → IsTail separator (fraction_front separator text)
 fraction_tail separator [] = tt
 fraction_tail separator (c ∷ cs) = elim (eqb_tells c separator) [ inl p ↦ rw (p.0) (p.1, some_all 9 cs, some_few 9 cs) | inr p ↦ rw (p.0) tt ]
@@ -214,11 +214,11 @@ reached separator text other after whole (c ∷ f) apart is made digits small t 
     let stop = digits_stop last_whole (digits_value 10 whole) separator (f ++ after) apart in
     let taken : digits_to last_whole 0 text ≡ whole = ap (digits_to last_whole 0) text_is ∙ over.0 ∙ ap (λ r. whole ++ r) stop.0 ∙ append-nil whole in
     let past : past_to last_whole 0 text ≡ separator ∷ (f ++ after) = ap (past_to last_whole 0) text_is ∙ over.1 ∙ stop.1 in
-    let behind : fraction_front separator (past_to last_whole 0 text) ≡ separator ∷ some_digits 9 (f ++ after) = ap (fraction_front separator) past ∙ first_taken separator (f ++ after) in
+    let unread : fraction_front separator (past_to last_whole 0 text) ≡ separator ∷ some_digits 9 (f ++ after) = ap (fraction_front separator) past ∙ first_taken separator (f ++ after) in
     let many = some_over 9 f after t.1 t.2 in
     record {
-      long = omega (arith, ap length made, length-append whole (c ∷ f), ap length taken, ap length behind, many, length-append (digits_to last_whole 0 text) (fraction_front separator (past_to last_whole 0 text)));
-      some = omega (arith, some, ap length taken, ap places behind, many);
+      long = omega (arith, ap length made, length-append whole (c ∷ f), ap length taken, ap length unread, many, length-append (digits_to last_whole 0 text) (fraction_front separator (past_to last_whole 0 text)));
+      some = omega (arith, some, ap length taken, ap places unread, many);
     }
   where
     first_taken : (n : ℕ) (cs : List ℕ) → fraction_front n (n ∷ cs) ≡ n ∷ some_digits 9 cs

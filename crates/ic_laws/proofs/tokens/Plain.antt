@@ -8,6 +8,7 @@ use Rattle.ucd_derived.proofs.Computing.{ucd_derived}
 use Rattle.ic_laws.specs.Amount.{unsigned_amount}
 use Rattle.ic_laws.specs.Scan.{begins_word, first_is, is_blank, is_digit}
 use Rattle.ic_laws.specs.Dialect.{DialectMeaning, IsLawful, error_number, is_sign}
+use Rattle.ic_laws.specs.TokenKinds.{is_reference}
 use Rattle.ic_laws.specs.Token.{Token, Num, Str, Boolean, Err, Ref, Word, FunHead, NameHead, Separator, Operator, At, Percent, Hash, Open, Close, OpenBrace, CloseBrace, Semicolon, IsHead, sign_text, Spells, is_double_quote}
 use Rattle.ic_laws.specs.declared.dialect.WordKind.TheVariants as kinds
 use Rattle.ic_laws.specs.declared.tree.BinarySign.{BinarySign}
@@ -23,10 +24,6 @@ use Rattle.ic_laws.proofs.tokens.Words.{numbered_sound, word_sound, word_is_bool
 -- the decimal separator is a dot or a comma
 decimal_tells : (d : DialectMeaning) (n : IsLawful d) (c : ℕ) → (c == 46) ≡ false → (c == 44) ≡ false → (c == d.decimal) ≡ false
 decimal_tells d n c dot comma = elim n.separators [ inl s ↦ rw (s.1) dot | inr s ↦ rw (s.1) comma ]
-
-abbrev pub is_ref : Token → Bool
-is_ref (Ref r) = true
-is_ref t = false
 
 -- Signs.
 sign_sound : (d : DialectMeaning) (front rest : List ℕ) (table : List (List ℕ × Token)) (v : Token) → AllByRecursion (λ (e : List ℕ × Token). Spells d e.1 e.0 rest) table → look_up table front ≡ Some v → Spells d v front rest
@@ -209,7 +206,7 @@ head_branch d front rest name is =
     word_branch d front rest (ap (first_is begins_word) (is.whole ∙ append_assoc name is.blanks (40 ∷ [])) ∙ first_front begins_word name (is.blanks ++ 40 ∷ []) is.run.0)
     ∙ word_is_head d front rest name is
 
-pub plain_complete : (d : DialectMeaning) (n : IsLawful d) (front rest : List ℕ) (v : Token) → is_ref v ≡ false → Spells d v front rest → plain_of d front rest ≡ Some v
+pub plain_complete : (d : DialectMeaning) (n : IsLawful d) (front rest : List ℕ) (v : Token) → is_reference v ≡ false → Spells d v front rest → plain_of d front rest ≡ Some v
 plain_complete d n front rest (Num units) h s = number_read d n front rest units s
 plain_complete d n front rest (Str text) h s = string_read d n front rest text s
 plain_complete d n front rest (Boolean value) h s = word_branch d front rest s.0.0.0 ∙ word_is_boolean d front rest value s

@@ -3,7 +3,7 @@ use Rattle.std.proofs.Common.{◌≡◌, ℕ, ◌<◌, ◌≤◌, List, [], ◌�
 use Rattle.std.proofs.lemmas.Bool.{cases_Bool, leb-true, leb-false}
 use Rattle.ic_laws.specs.Split.{or_else, longest_split, IsBest, IsDecided, FindsBest, longer, Either, Yields, ReadsExactly}
 
--- two splits of one text with as much behind them are one
+-- two splits of one text with as much after them are one
 pub same_split : (a b c d : List ℕ) → a ++ b ≡ c ++ d → length b ≡ length d → (a ≡ c) × (b ≡ d)
 same_split [] b [] d e h = (refl, e)
 same_split [] b (x ∷ c) d e h = absurd (omega (arith, ap length e, length-append (x ∷ c) d, h))
@@ -57,9 +57,9 @@ module _ {T : Type 0} (Spells : T → List ℕ → List ℕ → Type 0) (After :
         front = p.0;
         whole = p.1;
         spelled = p.2;
-        wins = λ other behind v whole s.
-            let same : ◌≡◌ {A = Option (T × List ℕ)} (Some found) (Some (v, behind)) = sym e ∙ ap read whole ∙ r.complete other behind v s in
-            let parts : found ≡ (v, behind) = cc in
+        wins = λ other after v whole s.
+            let same : ◌≡◌ {A = Option (T × List ℕ)} (Some found) (Some (v, after)) = sym e ∙ ap read whole ∙ r.complete other after v s in
+            let parts : found ≡ (v, after) = cc in
             inr (ap (λ (f : T × List ℕ). f.1) (sym parts), inl (ap (λ (f : T × List ℕ). f.0) (sym parts)));
       }
 
@@ -74,39 +74,39 @@ module _ {T : Type 0} (Spells : T → List ℕ → List ℕ → Type 0) (After :
     front = h.front;
     whole = h.whole;
     spelled = to found.0 h.front found.1 h.spelled;
-    wins = λ other behind v whole s. h.wins other behind v whole (from v other behind s);
+    wins = λ other after v whole s. h.wins other after v whole (from v other after s);
   }
 
 -- The longer of the best of two kinds is the best of both, where the second yields to the first.
 module _ {T : Type 0} (A B : T → List ℕ → List ℕ → Type 0) (After : T → T → Type 0) where
   -- another that the one kind's best beats is beaten by a longer best of the other kind
-  beats_more : (x y v : T) (rest after behind : List ℕ) → length rest < length after → (length after < length behind) ⊎ ((behind ≡ after) × ((v ≡ y) ⊎ After v y)) → (length rest < length behind) ⊎ ((behind ≡ rest) × ((v ≡ x) ⊎ After v x))
-  beats_more x y v rest after behind lt (inl short) = inl (omega (arith, lt, short))
-  beats_more x y v rest after behind lt (inr one) = inl (omega (arith, lt, ap length one.0))
+  beats_more : (x y v : T) (rest after unread : List ℕ) → length rest < length after → (length after < length unread) ⊎ ((unread ≡ after) × ((v ≡ y) ⊎ After v y)) → (length rest < length unread) ⊎ ((unread ≡ rest) × ((v ≡ x) ⊎ After v x))
+  beats_more x y v rest after unread lt (inl short) = inl (omega (arith, lt, short))
+  beats_more x y v rest after unread lt (inr one) = inl (omega (arith, lt, ap length one.0))
 
   -- one of the second kind comes after the best of the first, where this is as long
-  ties : (text : List ℕ) (x : T) (rest : List ℕ) → Yields After A B → IsBest A After text x rest → (other behind : List ℕ) (v : T) → text ≡ other ++ behind → B v other behind → length rest ≤ length behind
-      → (length rest < length behind) ⊎ ((behind ≡ rest) × ((v ≡ x) ⊎ After v x))
-  ties text x rest yields a other behind v whole s le =
-      elim (cases_Bool (nat_le (length behind) (length rest))) [
-        | inl p ↦ let one = same_split other behind a.front rest (sym whole ∙ a.whole) (omega (arith, le, leb-true (length behind) (length rest) p)) in
+  ties : (text : List ℕ) (x : T) (rest : List ℕ) → Yields After A B → IsBest A After text x rest → (other after : List ℕ) (v : T) → text ≡ other ++ after → B v other after → length rest ≤ length after
+      → (length rest < length after) ⊎ ((after ≡ rest) × ((v ≡ x) ⊎ After v x))
+  ties text x rest yields a other after v whole s le =
+      elim (cases_Bool (nat_le (length after) (length rest))) [
+        | inl p ↦ let one = same_split other after a.front rest (sym whole ∙ a.whole) (omega (arith, le, leb-true (length after) (length rest) p)) in
             let b : B v a.front rest = subst (λ f. B v f rest) one.0 (subst (λ r. B v other r) one.1 s) in
             inr (one.1, inr (yields a.front rest x v a.spelled b))
-        | inr n ↦ inl (omega (arith, leb-false (length behind) (length rest) n))
+        | inr n ↦ inl (omega (arith, leb-false (length after) (length rest) n))
       ]
 
-  kept_below : (y v : T) (after behind : List ℕ) → (length after < length behind) ⊎ ((behind ≡ after) × ((v ≡ y) ⊎ After v y)) → length after ≤ length behind
-  kept_below y v after behind (inl short) = omega (arith, short)
-  kept_below y v after behind (inr one) = omega (arith, ap length one.0)
+  kept_below : (y v : T) (after unread : List ℕ) → (length after < length unread) ⊎ ((unread ≡ after) × ((v ≡ y) ⊎ After v y)) → length after ≤ length unread
+  kept_below y v after unread (inl short) = omega (arith, short)
+  kept_below y v after unread (inr one) = omega (arith, ap length one.0)
 
   longer_first : (text : List ℕ) (x y : T × List ℕ) → Yields After A B → IsBest A After text x.0 x.1 → IsBest B After text y.0 y.1 → length x.1 ≤ length y.1 → IsBest (Either A B) After text x.0 x.1
   longer_first text x y yields a b le = record {
     front = a.front;
     whole = a.whole;
     spelled = inl a.spelled;
-    wins = λ other behind v whole s. elim s [
-      | inl s ↦ a.wins other behind v whole s
-      | inr s ↦ ties text x.0 x.1 yields a other behind v whole s (omega (arith, le, kept_below y.0 v y.1 behind (b.wins other behind v whole s)))
+    wins = λ other after v whole s. elim s [
+      | inl s ↦ a.wins other after v whole s
+      | inr s ↦ ties text x.0 x.1 yields a other after v whole s (omega (arith, le, kept_below y.0 v y.1 after (b.wins other after v whole s)))
     ];
   }
 
@@ -115,9 +115,9 @@ module _ {T : Type 0} (A B : T → List ℕ → List ℕ → Type 0) (After : T 
     front = b.front;
     whole = b.whole;
     spelled = inr b.spelled;
-    wins = λ other behind v whole s. elim s [
-      | inl s ↦ beats_more y.0 x.0 v y.1 x.1 behind lt (a.wins other behind v whole s)
-      | inr s ↦ b.wins other behind v whole s
+    wins = λ other after v whole s. elim s [
+      | inl s ↦ beats_more y.0 x.0 v y.1 x.1 after lt (a.wins other after v whole s)
+      | inr s ↦ b.wins other after v whole s
     ];
   }
 
@@ -127,7 +127,7 @@ module _ {T : Type 0} (A B : T → List ℕ → List ℕ → Type 0) (After : T 
     front = k.front;
     whole = k.whole;
     spelled = inr k.spelled;
-    wins = λ other behind v whole s. elim s [ inl s ↦ absurd (h other behind v whole s) | inr s ↦ k.wins other behind v whole s ];
+    wins = λ other after v whole s. elim s [ inl s ↦ absurd (h other after v whole s) | inr s ↦ k.wins other after v whole s ];
   }
 
   pub longer_best : (text : List ℕ) (a b : Option (T × List ℕ)) → Yields After A B → FindsBest A After text a → FindsBest B After text b → FindsBest (Either A B) After text (longer a b)
@@ -136,7 +136,7 @@ module _ {T : Type 0} (A B : T → List ℕ → List ℕ → Type 0) (After : T 
     front = h.front;
     whole = h.whole;
     spelled = inl h.spelled;
-    wins = λ other behind v whole s. elim s [ inl s ↦ h.wins other behind v whole s | inr s ↦ absurd (k other behind v whole s) ];
+    wins = λ other after v whole s. elim s [ inl s ↦ h.wins other after v whole s | inr s ↦ absurd (k other after v whole s) ];
   }
   longer_best text (Some x) (Some y) yields h k =
       elim (cases_Bool (nat_le (length x.1) (length y.1))) [
@@ -160,13 +160,13 @@ mapped f (Some x) y e = (x, refl, cc)
 -- The longest split.
 module _ {T : Type 0} (read : List ℕ → List ℕ → Option T) where
   -- what is found was read at a split
-  pub record IsRead (front text : List ℕ) (found : T × List ℕ) : Type 0 where
+  pub record IsReadAt (front text : List ℕ) (found : T × List ℕ) : Type 0 where
     pub front_is : List ℕ
     pub whole : front_is ++ found.1 ≡ front ++ text
     pub read_there : read front_is found.1 ≡ Some found.0
     pub bound : length found.1 ≤ length text
 
-  read_here : (front text : List ℕ) (found : T × List ℕ) → option_map (λ v. (v, text)) (read front text) ≡ Some found → IsRead front text found
+  read_here : (front text : List ℕ) (found : T × List ℕ) → option_map (λ v. (v, text)) (read front text) ≡ Some found → IsReadAt front text found
   read_here front text found e =
       let p = mapped (λ (v : T). (v, text)) (read front text) found e in
       let rest : text ≡ found.1 = ap (λ (f : T × List ℕ). f.1) p.2 in
@@ -178,7 +178,7 @@ module _ {T : Type 0} (read : List ℕ → List ℕ → Option T) where
         bound = omega (arith, ap length rest);
       }
 
-  pub split_sound : (front text : List ℕ) (found : T × List ℕ) → longest_split read front text ≡ Some found → IsRead front text found
+  pub split_sound : (front text : List ℕ) (found : T × List ℕ) → longest_split read front text ≡ Some found → IsReadAt front text found
   unfolding longest_split
   split_sound front [] found e = read_here front [] found e
   split_sound front (c ∷ cs) found e =
@@ -190,33 +190,33 @@ module _ {T : Type 0} (read : List ℕ → List ℕ → Option T) where
 
   -- what is read at a split is found, or a longer one is
   abbrev Reaches : List ℕ → List ℕ → List ℕ → Type 0
-  Reaches front text behind = (found : T × List ℕ) × (longest_split read front text ≡ Some found) × (length found.1 ≤ length behind)
+  Reaches front text after = (found : T × List ℕ) × (longest_split read front text ≡ Some found) × (length found.1 ≤ length after)
 
-  read_last : (front other behind : List ℕ) (v : T) → read other behind ≡ Some v → (other ≡ front) × (behind ≡ []) → Reaches front [] behind
+  read_last : (front other after : List ℕ) (v : T) → read other after ≡ Some v → (other ≡ front) × (after ≡ []) → Reaches front [] after
   unfolding longest_split
-  read_last front other behind v e one =
+  read_last front other after v e one =
       let here : read front [] ≡ Some v = ap (λ f. read f []) (sym one.0) ∙ ap (read other) (sym one.1) ∙ e in
       ((v, []), rw here refl, omega arith)
 
-  reaches_more : (front : List ℕ) (c : ℕ) (cs behind : List ℕ) → Reaches (front ++ c ∷ []) cs behind → Reaches front (c ∷ cs) behind
+  reaches_more : (front : List ℕ) (c : ℕ) (cs after : List ℕ) → Reaches (front ++ c ∷ []) cs after → Reaches front (c ∷ cs) after
   unfolding longest_split
-  reaches_more front c cs behind more = (more.0, rw (more.1) refl, more.2)
+  reaches_more front c cs after more = (more.0, rw (more.1) refl, more.2)
 
-  read_first : (front : List ℕ) (c : ℕ) (cs other behind : List ℕ) (v : T) → read other behind ≡ Some v → (other ≡ front) × (behind ≡ c ∷ cs) → Reaches front (c ∷ cs) behind
+  read_first : (front : List ℕ) (c : ℕ) (cs other after : List ℕ) (v : T) → read other after ≡ Some v → (other ≡ front) × (after ≡ c ∷ cs) → Reaches front (c ∷ cs) after
   unfolding longest_split
-  read_first front c cs other behind v e one =
+  read_first front c cs other after v e one =
       let here : read front (c ∷ cs) ≡ Some v = ap (λ f. read f (c ∷ cs)) (sym one.0) ∙ ap (read other) (sym one.1) ∙ e in
       elim (none_or_some (longest_split read (front ++ c ∷ []) cs)) [
         | inl p ↦ ((v, c ∷ cs), rw (p, here) refl, omega (arith, ap length one.1))
         | inr p ↦ let more = split_sound (front ++ c ∷ []) cs p.0 p.1 in (p.0, rw (p.1) refl, omega (arith, more.bound, ap length one.1))
       ]
 
-  pub split_longest : (front text other behind : List ℕ) (v : T) → read other behind ≡ Some v → other ++ behind ≡ front ++ text → length behind ≤ length text → Reaches front text behind
-  split_longest front [] other behind v e whole le = read_last front other behind v e (same_split other behind front [] whole (omega (arith, le)))
-  split_longest front (c ∷ cs) other behind v e whole le =
-      elim (cases_Bool (nat_le (length behind) (length cs))) [
-        | inl p ↦ reaches_more front c cs behind (split_longest (front ++ c ∷ []) cs other behind v e (whole ∙ sym (append_assoc front (c ∷ []) cs)) (leb-true (length behind) (length cs) p))
-        | inr n ↦ read_first front c cs other behind v e (same_split other behind front (c ∷ cs) whole (omega (arith, le, leb-false (length behind) (length cs) n)))
+  pub split_longest : (front text other after : List ℕ) (v : T) → read other after ≡ Some v → other ++ after ≡ front ++ text → length after ≤ length text → Reaches front text after
+  split_longest front [] other after v e whole le = read_last front other after v e (same_split other after front [] whole (omega (arith, le)))
+  split_longest front (c ∷ cs) other after v e whole le =
+      elim (cases_Bool (nat_le (length after) (length cs))) [
+        | inl p ↦ reaches_more front c cs after (split_longest (front ++ c ∷ []) cs other after v e (whole ∙ sym (append_assoc front (c ∷ []) cs)) (leb-true (length after) (length cs) p))
+        | inr n ↦ read_first front c cs other after v e (same_split other after front (c ∷ cs) whole (omega (arith, le, leb-false (length after) (length cs) n)))
       ]
 
 -- The longest split that a decision answers is the best.
@@ -228,17 +228,17 @@ module _ {T : Type 0} (Spells : T → List ℕ → List ℕ → Type 0) (After :
         front = there.front_is;
         whole = sym there.whole;
         spelled = d.sound there.front_is found.1 found.0 there.read_there;
-        wins = λ other behind v whole s.
-            let w = d.complete other behind v s in
-            let far = split_longest read [] text other behind w.0 w.1 (sym whole) (omega (arith, ap length whole, length-append other behind)) in
+        wins = λ other after v whole s.
+            let w = d.complete other after v s in
+            let far = split_longest read [] text other after w.0 w.1 (sym whole) (omega (arith, ap length whole, length-append other after)) in
             let same : far.0 ≡ found = cc in
-            let le : length found.1 ≤ length behind = omega (arith, far.2, ap (λ (f : T × List ℕ). length f.1) same) in
-            elim (cases_Bool (nat_le (length behind) (length found.1))) [
-              | inl p ↦ let one = same_split other behind there.front_is found.1 (sym whole ∙ sym there.whole) (omega (arith, le, leb-true (length behind) (length found.1) p)) in
-                  let here : read other behind ≡ Some found.0 = ap (λ f. read f behind) one.0 ∙ ap (read there.front_is) one.1 ∙ there.read_there in
+            let le : length found.1 ≤ length after = omega (arith, far.2, ap (λ (f : T × List ℕ). length f.1) same) in
+            elim (cases_Bool (nat_le (length after) (length found.1))) [
+              | inl p ↦ let one = same_split other after there.front_is found.1 (sym whole ∙ sym there.whole) (omega (arith, le, leb-true (length after) (length found.1) p)) in
+                  let here : read other after ≡ Some found.0 = ap (λ f. read f after) one.0 ∙ ap (read there.front_is) one.1 ∙ there.read_there in
                   let won : w.0 ≡ found.0 = cc in
                   inr (one.1, subst (λ x. (v ≡ x) ⊎ After v x) won w.2)
-              | inr n ↦ inl (omega (arith, leb-false (length behind) (length found.1) n))
+              | inr n ↦ inl (omega (arith, leb-false (length after) (length found.1) n))
             ];
       }
 

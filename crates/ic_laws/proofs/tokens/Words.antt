@@ -89,13 +89,13 @@ blanks_stop (c ∷ cs) h = blank_no_word c ((and_parts (is_blank c) (list_all is
 
 pub word_is_head : (d : DialectMeaning) (front rest name : List ℕ) → IsHead name front → word_of d front rest ≡ head_token name (d.find kinds.Function name)
 word_is_head d front rest name is =
-    let behind : List ℕ = is.blanks ++ 40 ∷ [] in
+    let after : List ℕ = is.blanks ++ 40 ∷ [] in
     let whole : front ≡ name ++ (is.blanks ++ 40 ∷ []) = is.whole ∙ append_assoc name is.blanks (40 ∷ []) in
-    let stop : first_is is_word_character behind ≡ false = blanks_stop is.blanks is.blank in
+    let stop : first_is is_word_character after ≡ false = blanks_stop is.blanks is.blank in
     let some : list_all is_word_character front ≡ false =
     ap (list_all is_word_character) is.whole ∙ not_all_past is_word_character (name ++ is.blanks) [] 40 bracket_no_word in
-    let run : run_of is_word_character front ≡ name = ap (run_of is_word_character) whole ∙ run_of_all is_word_character name behind is.run.1 stop in
-    let past : past_run is_word_character front ≡ behind = ap (past_run is_word_character) whole ∙ past_run_all is_word_character name behind is.run.1 stop in
+    let run : run_of is_word_character front ≡ name = ap (run_of is_word_character) whole ∙ run_of_all is_word_character name after is.run.1 stop in
+    let past : past_run is_word_character front ≡ after = ap (past_run is_word_character) whole ∙ past_run_all is_word_character name after is.run.1 stop in
     let bracket : past_run is_blank (past_run is_word_character front) ≡ codes "(" = ap (past_run is_blank) past ∙ past_run_all is_blank is.blanks (40 ∷ []) is.blank refl in
     let yes : bytes_eq (past_run is_blank (past_run is_word_character front)) (codes "(") ≡ true = (bytes_eq-Decides (past_run is_blank (past_run is_word_character front)) (codes "(")).1 bracket in
     rw (some, yes, run) refl

@@ -7,4 +7,4 @@ pub returns-then-value-most : goal.returns-then-value-most
 returns-then-value-most c =
     let digit : is_digit c.in-Some.c ≡ true = search rules in
     subst (λ n. c.args.most < n) c.loop-c.invariant.number
-    (past_limit c.args.most c.loop-c.value c.in-Some.c (chars c.loop-c.rest.now) (chars c.in-Some.behind.now) c.in-Some.ensures.parts digit (omega arith))
+    (past_limit c.args.most c.loop-c.value c.in-Some.c (chars c.loop-c.rest.now) (chars c.in-Some.after.now) c.in-Some.ensures.parts digit (omega arith))

@@ -11,7 +11,7 @@ invariant-loop-c l = record {
   text : shadow (Utf8 l.rest);
   number : digits_value_after 10 l.value (run_of is_digit (chars l.rest)) ≡ digits_value 10 (run_of is_digit (chars l.text));
   counted : l.count + length (run_of is_digit (chars l.rest)) ≡ length (run_of is_digit (chars l.text));
-  behind : past_run is_digit (chars l.rest) ≡ past_run is_digit (chars l.text);
+  after : past_run is_digit (chars l.rest) ≡ past_run is_digit (chars l.text);
   small : l.value ≤ l.most;
   short : l.count + length l.rest ≤ length l.text;
 }
