@@ -1,5 +1,5 @@
 -- What is found at the first byte of a text, by its size in bytes, is what stands at its front.
-use Rattle.std.proofs.Common.{◌≡◌, ◌≢◌, ℕ, ◌+◌, ◌-◌, ◌≤◌, ◌<◌, List, [], ◌∷◌, ◌++◌, Bool, true, false, ◌&&◌, ◌||◌, nat_le, nat_lt, length, drop, take, Option, Some, None, option_map, option_and_then, chars, encode_utf8_all, IsUtf8, refl, sym, ◌∙◌, ap, subst, inl, inr, arith}
+use Rattle.std.proofs.Common.{◌≡◌, ◌≢◌, ℕ, ◌-◌, List, [], ◌∷◌, ◌++◌, true, length, drop, Option, Some, None, option_map, option_and_then, chars, encode_utf8_all, IsUtf8, refl, sym, ◌∙◌, ap, subst, inl, inr, arith}
 use Rattle.std.specs.Str.{IsCharBoundary}
 use Rattle.std.proofs.lemmas.Bool.{and_parts}
 use Rattle.std.proofs.lemmas.List.{length-append}

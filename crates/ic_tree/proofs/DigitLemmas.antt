@@ -1,16 +1,16 @@
 -- Digits at the front of a text: at most so many of them, and the number that a whole part and a fraction write.
-use Rattle.std.proofs.Common.{◌≡◌, ◌≢◌, ℕ, ℤ, zero, suc, ◌+◌, ◌*◌, ◌-◌, ◌^◌, ◌<◌, ◌≤◌, List, [], ◌∷◌, ◌++◌, Bool, true, false, ◌&&◌, ◌==◌, nat_le, length, Option, Some, None, option_map, pos, if◌then◌else◌, refl, sym, ◌∙◌, ap, inl, inr, arith, append-nil, add-one}
+use Rattle.std.proofs.Common.{◌≡◌, ℕ, ℤ, zero, suc, ◌+◌, ◌*◌, ◌-◌, ◌^◌, ◌<◌, List, [], ◌∷◌, ◌++◌, true, false, ◌&&◌, ◌==◌, nat_le, length, Option, Some, None, option_map, pos, refl, sym, ◌∙◌, ap, inl, inr, arith, add-one}
 use Rattle.std.proofs.Math.Nat.{pow-suc}
 use Rattle.std.specs.Char.{digit_value}
 use Rattle.std.specs.List.{list_all}
 use Rattle.std.specs.Str.{all_ascii_digits}
-use Rattle.std.specs.Str.Parse.{digits_value, digits_value_after}
+use Rattle.std.specs.Str.Parse.{digits_value}
 use Rattle.std.proofs.lemmas.Bool.{and_from, and_parts, cases_Bool}
 use Rattle.std.proofs.lemmas.Bool.Decides.{eqb_tells, nat_tests}
-use Rattle.ic_laws.specs.Amount.{units_by, units_of, read_units, unsigned_amount}
-use Rattle.ic_laws.specs.AmountFront.{amount_front, digits_to, fraction_front, last_whole, number_in_one_pass, past_amount, past_fraction, past_some, past_to, some_digits}
+use Rattle.ic_laws.specs.Amount.{units_by, read_units, unsigned_amount}
+use Rattle.ic_laws.specs.AmountFront.{amount_front, digits_to, fraction_front, last_whole, number_in_one_pass, past_fraction, past_some, past_to, some_digits}
 use Rattle.ic_laws.specs.Dialect.{DialectMeaning, IsLawful}
-use Rattle.ic_laws.specs.Scan.{first_is, is_digit, past_run, run_of}
+use Rattle.ic_laws.specs.Scan.{is_digit, past_run, run_of}
 use Rattle.ic_laws.specs.Token.{Token, Num}
 use Rattle.ic_tree.specs.Lexing.{fraction_run}
 use Rattle.ic_laws.proofs.tokens.Characters.{past_run_all, run_of_all}

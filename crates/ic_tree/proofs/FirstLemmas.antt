@@ -1,5 +1,5 @@
 -- The first character of a text tells which kinds of tokens can stand there.
-use Rattle.std.proofs.Common.{◌≡◌, ℕ, ◌<◌, ◌≤◌, List, [], ◌∷◌, ◌++◌, ◌⊎◌, Bool, true, false, ◌||◌, ◌==◌, length, nat_le, Option, Some, None, option_map, refl, sym, ◌∙◌, ap, subst, inl, inr, arith, length-append, if◌then◌else◌}
+use Rattle.std.proofs.Common.{◌≡◌, ℕ, ◌<◌, ◌≤◌, List, [], ◌∷◌, ◌⊎◌, Bool, true, false, ◌||◌, ◌==◌, length, nat_le, Option, Some, None, option_map, refl, sym, ◌∙◌, ap, subst, inl, inr, arith, length-append}
 use Rattle.std.proofs.lemmas.Bool.{cases_Bool, le-leb}
 use Rattle.std.proofs.lemmas.Bool.Decides.{eqb_tells}
 use Rattle.ucd_derived.proofs.Computing.{ucd_derived}
@@ -10,7 +10,8 @@ use Rattle.ic_laws.specs.Split.{FindsBest, longer, or_else}
 use Rattle.ic_laws.specs.Token.{Token, Hash, Str, Spells}
 use Rattle.ic_laws.specs.TokenKinds.{OfKind, closed, error_at, head_at, is_number, one_at, reference_at, text_at, token_by_kinds, two_at, word_at}
 use Rattle.ic_laws.specs.declared.reference.RefToken.{RefToken}
-use Rattle.ic_laws.proofs.tokens.Kinds.{by_kinds, error_best, head_at_sound, word_at_sound}
+use Rattle.ic_laws.proofs.tokens.Kinds.{by_kinds, error_best}
+use Rattle.ic_laws.proofs.tokens.NameReaders.{head_at_sound, word_at_sound}
 use Rattle.ic_laws.proofs.tokens.Lexing.{Begins, spelled_begins}
 use Rattle.ic_laws.proofs.tokens.Next.{ComesAfter, token_best}
 use Rattle.ic_laws.proofs.tokens.Numbers.{number_in_one_pass_best}

@@ -3,3 +3,5 @@ pub mod QuoteLemmas
 pub mod DigitLemmas
 pub mod CutLemmas
 pub mod FirstLemmas
+pub mod LexLemmas
+pub mod SightLemmas

@@ -1,14 +1,14 @@
 -- A text between quotes is read piece by piece: what stands before a quote, and what after it.
-use Rattle.std.proofs.Common.{◌≡◌, ℕ, ◌<◌, List, [], ◌∷◌, ◌++◌, Bool, true, false, not, ◌==◌, Option, Some, None, option_map, refl, sym, ◌∙◌, ap, subst, inl, inr, arith, append_assoc, append-nil}
+use Rattle.std.proofs.Common.{◌≡◌, ℕ, List, [], ◌∷◌, ◌++◌, true, false, ◌==◌, Option, Some, None, option_map, refl, sym, ◌∙◌, ap, arith, append_assoc, append-nil}
 use Rattle.std.specs.List.{list_all}
-use Rattle.std.proofs.lemmas.Bool.{and_parts, cases_Bool}
+use Rattle.std.proofs.lemmas.Bool.{and_parts}
 use Rattle.ic_laws.specs.Character.{double_quote}
 use Rattle.ic_laws.specs.Scan.{first_is, past_run, run_of}
 use Rattle.ic_laws.specs.TokenKinds.{closed, onto}
 use Rattle.ic_tree.specs.Lexing.{is_inside}
 use Rattle.ic_laws.proofs.RunLemmas.{run_and_rest}
 use Rattle.ic_laws.proofs.tokens.Characters.{all_of_run}
-use Rattle.ic_laws.proofs.tokens.Kinds.{past_stops}
+use Rattle.ic_laws.proofs.tokens.NameReaders.{past_stops}
 
 not_inside : (c : ℕ) → is_inside c ≡ false → c ≡ double_quote
 not_inside c h = grind arith

@@ -6,6 +6,8 @@ mod quoted;
 mod references;
 mod seen;
 mod signs;
+mod source;
 mod words;
 
 pub use next::next_token;
+pub use source::{Lexer, TextEnd};

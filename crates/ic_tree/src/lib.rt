@@ -2,8 +2,10 @@
 //! the text of a tree. Reader and printer are written once, for every dialect.
 #![tactic(auto)]
 
+mod law;
 mod lexer;
 mod token;
 
-pub use lexer::next_token;
+pub use law::law_tokens_before;
+pub use lexer::{Lexer, TextEnd, next_token};
 pub use token::{Ahead, Token, TokenSource};

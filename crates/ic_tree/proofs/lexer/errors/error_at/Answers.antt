@@ -1,4 +1,4 @@
-use Rattle.std.proofs.Common.{ap, chars, sym, ◌∙◌, Some, None, drop, List, ℕ}
+use Rattle.std.proofs.Common.{ap, chars, sym, ◌∙◌, Some, None, List, ℕ}
 use Rattle.ic_laws.specs.Token.{Token, Err}
 use Rattle.ic_tree.proofs.CutLemmas.{error_word_found}
 use Rattle.ic_tree.proofs.lexer.errors.error_at.Goals as goal

@@ -1,11 +1,10 @@
-use Rattle.std.proofs.Common.{◌≡◌, ◌∷◌, Some, chars, option_map, sym, ap, ◌∙◌}
+use Rattle.std.proofs.Common.{◌≡◌, ◌∷◌, Some, chars, sym, ap, ◌∙◌}
 use Rattle.std.proofs.lemmas.Result.{IfOk-weaker}
 use Rattle.ic_laws.specs.AmountFront.{number_in_one_pass}
 use Rattle.ic_laws.specs.Split.{longer, or_else}
 use Rattle.ic_laws.specs.Token as tokens
 use Rattle.ic_laws.specs.TokenKinds.{error_at, reference_at, token_by_kinds}
 use Rattle.ic_tree.specs.Lexing.{found, named_at}
-use Rattle.ic_tree.specs.Tokens.{token_of}
 use Rattle.ic_tree.proofs.FirstLemmas.{decimal_kinds, hash_kinds, named_kinds, nothing_there, quote_kinds, sign_kinds}
 use Rattle.ic_tree.proofs.lexer.next.next_token.Goals as goal
 

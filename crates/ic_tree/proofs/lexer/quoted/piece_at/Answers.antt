@@ -1,6 +1,5 @@
-use Rattle.std.proofs.Common.{◌≡◌, ◌≤◌, ◌<◌, ◌∷◌, ◌++◌, true, length, chars, sym, ap, ◌∙◌, arith}
+use Rattle.std.proofs.Common.{◌≤◌, ◌<◌, ◌∷◌, ◌++◌, length, chars, sym, ap, ◌∙◌, arith}
 use Rattle.std.specs.List.{list_all}
-use Rattle.ic_laws.specs.Character.{double_quote}
 use Rattle.ic_tree.specs.Lexing.{is_inside}
 use Rattle.ic_laws.proofs.RunLemmas.{ends_with_rest, end_fits, run_before_rest}
 use Rattle.ic_laws.proofs.tokens.Characters.{all_of_run}

@@ -1,4 +1,4 @@
-use Rattle.std.proofs.Common.{◌≡◌, ℕ, List, Some, ◌∷◌, ◌++◌, [], false, true, chars, string_bytes, sym, ◌∙◌, ap, rules}
+use Rattle.std.proofs.Common.{ℕ, List, Some, false, chars, string_bytes, sym, ◌∙◌, ap, rules}
 use Rattle.std.proofs.lemmas.Str.{chars-nil}
 use Rattle.ic_laws.specs.TokenKinds.{closed}
 use Rattle.ic_tree.proofs.QuoteLemmas.{ends_kept, goes_on_kept, never_closed, onto_all, onto_nothing}
