@@ -1,9 +1,11 @@
 -- The tokens of a text before the first place where none begins: one after another, and all of them where the text ends
 -- there.
-use Rattle.std.proofs.Common.{◌≡◌, ℕ, zero, suc, ◌+◌, ◌<◌, List, [], ◌∷◌, Bool, true, false, length, Option, Some, None, option_map, refl, sym, ◌∙◌, ap, inl, inr, arith, nat_eq, if◌then◌else◌}
+use Rattle.std.proofs.Common.{◌≡◌, ℕ, zero, suc, ◌+◌, ◌<◌, List, [], ◌∷◌, Bool, true, false, length, Option, Some, None, option_and_then, option_map, refl, sym, ◌∙◌, ap, inl, inr, arith, nat_eq, if◌then◌else◌}
 use Rattle.std.proofs.lemmas.Bool.{cases_Bool}
 use Rattle.std.proofs.lemmas.Bool.Decides.{nat_tests}
 use Rattle.ic_laws.specs.Dialect.{DialectMeaning, IsLawful}
+use Rattle.ic_laws.specs.Parse.{parsed}
+use Rattle.ic_laws.specs.ReadAs.{read_as}
 use Rattle.ic_laws.specs.NextToken.{after_token, next_tokens, tokens_by, tokens_of}
 use Rattle.ic_laws.specs.Scan.{is_blank, past_run}
 use Rattle.ic_laws.specs.Token.{Token}
@@ -111,3 +113,13 @@ pub at_end : (d : DialectMeaning) → IsLawful d → (text rest : List ℕ) → 
 at_end d n text rest e none =
     let here = (blanks_aside d n text rest e).0 in
     end_from d rest (ap (λ (r : List Token × Bool). r.0) (sym here) ∙ none) ∙ ap (λ (r : List Token × Bool). r.1) (sym here)
+
+-- a text reads as the formula of the tokens before the first place where none begins, where that is its end
+pub read_by_tokens : (d : DialectMeaning) → IsLawful d → (text : List ℕ) (whole : Bool) (tokens : List Token) → whole ≡ ends_whole d text → tokens ≡ tokens_before d text → (if whole then parsed d tokens else None) ≡ read_as d text
+read_by_tokens d n text whole tokens is_whole are =
+    ap (λ b. if b then parsed d tokens else None) is_whole ∙ ap (λ ts. if ends_whole d text then parsed d ts else None) are
+    ∙ under (ends_whole d text) (tokens_before d text) ∙ ap (option_and_then (parsed d)) (sym (tokens_whole d n text))
+  where
+    under : (b : Bool) (ts : List Token) → (if b then parsed d ts else None) ≡ option_and_then (parsed d) (if b then Some ts else None)
+    under true ts = refl
+    under false ts = refl

@@ -5,3 +5,4 @@ pub mod CutLemmas
 pub mod FirstLemmas
 pub mod LexLemmas
 pub mod SightLemmas
+pub mod ReadLemmas
