@@ -6,3 +6,4 @@ pub mod FirstLemmas
 pub mod LexLemmas
 pub mod SightLemmas
 pub mod ReadLemmas
+pub mod LetterLemmas

@@ -1,5 +1,6 @@
 mod choice;
 mod errors;
+mod letters;
 mod next;
 mod numbers;
 mod quoted;

@@ -11,16 +11,16 @@ ghost use Rattle.ic_tree.specs.Tokens.{token_of};
 use crate::Token;
 use crate::lexer::choice::{kept_with, longer_of};
 use crate::lexer::errors::error_at;
+use crate::lexer::letters::{begins_word, is_letter};
 use crate::lexer::numbers::number_at;
 use crate::lexer::quoted::quoted_at;
 use crate::lexer::references::reference_at;
 use crate::lexer::seen::Seen;
 use crate::lexer::signs::sign_at;
 use crate::lexer::words::word_at;
-use ic_laws::scan::{begins_word, first_char};
+use ic_laws::scan::first_char;
 use ic_laws::{Dialect, OutOfMemory};
 use std::alloc::Global;
-use unicode::properties::is_alphabetic;
 
 /// The token at the front of a text, and the rest: the longest one, and a reference where another is as long. None
 /// where no token begins there. The first character tells which kinds of tokens can be there.
@@ -51,7 +51,7 @@ pub fn next_token<'t, D: Dialect>(
 fn begins_name(c: char) -> bool
     ensures { result ≡ (begins_reference c || begins_word c) }
 {
-    is_alphabetic(c) || c.is_ascii_digit() || matches!(c, '_' | '\\' | '$' | '\'')
+    is_letter(c) || c.is_ascii_digit() || matches!(c, '_' | '\\' | '$' | '\'')
 }
 
 /// The text after an opening quote.

@@ -6,8 +6,9 @@ ghost use Rattle.ic_laws.specs.TokenKinds.{head_at, head_before, word_at};
 ghost use Rattle.ic_laws.specs.declared.dialect.WordKind.TheVariants as kinds;
 ghost use Rattle.ic_tree.specs.Lexing.{seen_token};
 
+use crate::lexer::letters::is_word_character;
 use crate::lexer::seen::Seen;
-use ic_laws::scan::{first_char, front_of, is_word_character};
+use ic_laws::scan::{first_char, front_of};
 use ic_laws::{Dialect, WordKind};
 use ic_refs::is_valid_a1_identifier;
 
