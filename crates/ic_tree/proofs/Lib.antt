@@ -1,3 +1,12 @@
+pub mod CutLemmas
+pub mod DigitLemmas
 pub mod ErrorLemmas
+pub mod FirstLemmas
+pub mod LetterLemmas
+pub mod LexLemmas
 pub mod Literals
 pub mod PrintLemmas
+pub mod QuoteLemmas
+pub mod ReadLemmas
+pub mod SightLemmas
+pub mod WordLemmas

@@ -1,4 +1,6 @@
+pub mod Lexing
 pub mod Printed
+pub mod Sight
 pub mod Spelling
 pub mod Stored
 pub mod Tokens

@@ -7,7 +7,10 @@ mod number;
 mod printer;
 mod stored;
 mod token;
-
 pub use printer::print;
 pub use stored::Stored;
+mod law;
+mod lexer;
+pub use law::law_tokens_before;
+pub use lexer::{Lexer, TextEnd, next_token};
 pub use token::{Ahead, Token, TokenSource};
