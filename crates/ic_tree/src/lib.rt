@@ -2,6 +2,9 @@
 //! the text of a tree. Reader and printer are written once, for every dialect.
 #![tactic(auto)]
 
+mod measured;
+mod reader;
 mod token;
 
+pub use measured::Measured;
 pub use token::{Ahead, Token, TokenSource};

@@ -1,0 +1,4 @@
+mod gathered;
+mod sign;
+
+pub use gathered::{Arguments, Pairs};
