@@ -1,4 +1,6 @@
+mod binder;
 mod gathered;
+mod leaf;
 mod sign;
 
 pub use gathered::{Arguments, Pairs};
