@@ -1,3 +1,4 @@
 pub mod Heights
 pub mod Signs
 pub mod Binders
+pub mod ListSteps

@@ -1,3 +1,4 @@
 pub mod Tokens
 pub mod Turned
 pub mod Begun
+pub mod Listing

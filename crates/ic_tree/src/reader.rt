@@ -1,3 +1,4 @@
+mod array;
 mod binder;
 mod gathered;
 mod leaf;
