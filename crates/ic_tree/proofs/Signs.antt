@@ -2,7 +2,7 @@
 use Rattle.std.proofs.Common.{◌≡◌, ◌≢◌, true, false, List, ◌∷◌, Some, None, refl, nat_eq, cond, eqb}
 use Rattle.ic_laws.specs.Character.{comma}
 use Rattle.ic_laws.specs.Dialect.{DialectMeaning}
-use Rattle.ic_laws.specs.Parse.{past_brace, past_close, past_row_sign, past_separator}
+use Rattle.ic_laws.specs.Parse.{ends_argument, past_brace, past_close, past_row_sign, past_separator}
 use Rattle.ic_laws.specs.Token.{Token, Close, CloseBrace, Separator, Semicolon, Operator}
 use Rattle.ic_laws.specs.declared.tree.BinarySign.TheVariants as signs
 use Rattle.ic_tree.specs.Tokens.{ahead_of, after_first}
@@ -49,3 +49,16 @@ pub over_lacks : (d : DialectMeaning) (ts : List Token) → nat_eq d.list comma 
 over_lacks d (Semicolon ∷ ts) pair lacks = rw pair refl
 over_lacks d (Operator signs.Over ∷ ts) pair lacks = absurd (lacks refl)
 over_lacks d ts pair lacks = refl
+
+pub ends_at_separator : (ts : List Token) → ahead_of ts ≡ ahead.Separator → ends_argument ts ≡ true
+ends_at_separator (Separator ∷ ts) is = refl
+ends_at_separator ts is = cc
+
+pub ends_at_close : (ts : List Token) → ahead_of ts ≡ ahead.Close → ends_argument ts ≡ true
+ends_at_close (Close ∷ ts) is = refl
+ends_at_close ts is = cc
+
+pub goes_on : (ts : List Token) → ahead_of ts ≢ ahead.Separator → ahead_of ts ≢ ahead.Close → ends_argument ts ≡ false
+goes_on (Separator ∷ ts) no_separator no_close = absurd (no_separator refl)
+goes_on (Close ∷ ts) no_separator no_close = absurd (no_close refl)
+goes_on ts no_separator no_close = refl

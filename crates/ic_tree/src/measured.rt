@@ -1,7 +1,7 @@
 ghost use Rattle.std.specs.Prelude.{◌≡◌, ◌+◌, List, IfOk, Some, None, option_map, nat_le, if◌then◌else◌};
 ghost use Rattle.ic_laws.specs.Token.{Token};
 ghost use Rattle.ic_laws.specs.Tree.{height, is_callable};
-ghost use Rattle.ic_laws.specs.Parse.{made};
+ghost use Rattle.ic_laws.specs.Parse.{made, node};
 ghost use Rattle.ic_laws.specs.declared.tree.Tree.TheOpen as one;
 ghost use Rattle.ic_tree.specs.Turned.{let_made};
 
@@ -68,6 +68,14 @@ impl Measured {
         ensures { IfOk result (λ r. r ≡ (if nat_le (height tree) most then Some tree else None)) }
     {
         Measured::built(alloc, tree, 0, most)
+    }
+
+    /// An argument that is left out.
+    pub fn left_out(alloc: Global) -> Result<Measured, OutOfMemory>
+        ensures { IfOk result (λ t. t ≡ node one.Empty) }
+    {
+        let tree = Box::new(alloc, Tree::Empty)?;
+        Ok(Measured { tree, nodes: 1 })
     }
 
     /// The tree alone.

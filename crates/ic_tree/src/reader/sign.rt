@@ -1,6 +1,6 @@
 ghost use Rattle.std.specs.Prelude.{◌≡◌, IfOk, Some, None, false, if◌then◌else◌};
 ghost use Rattle.ic_laws.specs.Tree.{sign_level};
-ghost use Rattle.ic_laws.specs.Parse.{past_brace, past_close, past_row_sign, past_separator, prefix_sign};
+ghost use Rattle.ic_laws.specs.Parse.{ends_argument as argument_ends, past_brace, past_close, past_row_sign, past_separator, prefix_sign};
 ghost use Rattle.ic_tree.specs.Tokens.{token_of};
 ghost use Rattle.ic_tree.specs.Turned.{Passes};
 
@@ -97,4 +97,16 @@ pub fn take_row_sign<D: Dialect, S: TokenSource>(
     }
     source.skip(alloc)?;
     Ok(true)
+}
+
+/// Whether an argument ends before what stands next: a separator or a closing bracket.
+#[tactic(auto, using(crate::proofs::Signs::ends_at_separator, crate::proofs::Signs::ends_at_close, crate::proofs::Signs::goes_on))]
+pub fn ends_argument<S: TokenSource>(source: &S) -> bool
+    ensures { result ≡ argument_ends (S.left source.now) }
+{
+    match source.ahead() {
+        Ahead::Separator => true,
+        Ahead::Close => true,
+        _ => false,
+    }
 }
