@@ -4,3 +4,4 @@ pub mod Binders
 pub mod ListSteps
 pub mod Parts
 pub mod Operands
+pub mod Turning

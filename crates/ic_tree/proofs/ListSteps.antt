@@ -10,6 +10,9 @@ pub joined_begins : {A : Type 0} (read : Read (List A)) → joined_to [] read �
 joined_begins None = refl
 joined_begins (Some read) = refl
 
+pub joined_start : {A : Type 0} (xs : List A) (read : Read (List A)) → xs ≡ [] → joined_to xs read ≡ read
+joined_start xs read none = ap (λ ys. joined_to ys read) none ∙ joined_begins read
+
 pub joined_more : {A : Type 0} (xs : List A) (x : A) (read : Read (List A)) → joined_to (xs ++ x ∷ []) read ≡ joined_to xs (option_map (λ others. (x ∷ others.0, others.1)) read)
 joined_more xs x None = refl
 joined_more xs x (Some read) = ap (λ ys. Some (ys, read.1)) (append_assoc xs (x ∷ []) read.0)

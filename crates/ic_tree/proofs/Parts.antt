@@ -20,6 +20,9 @@ pub parts_begin : {A : Type 0} (read : Read (List A × Spelled)) → parts_joine
 parts_begin None = refl
 parts_begin (Some read) = refl
 
+pub parts_start : {A : Type 0} (xs : List A) (read : Read (List A × Spelled)) → xs ≡ [] → parts_joined xs read ≡ read
+parts_start xs read none = ap (λ ys. parts_joined ys read) none ∙ parts_begin read
+
 parts_more : {A : Type 0} (xs : List A) (x : A) (read : Read (List A × Spelled)) → parts_joined (xs ++ x ∷ []) read ≡ parts_joined xs (option_map (λ parts. ((x ∷ parts.0.0, parts.0.1), parts.1)) read)
 parts_more xs x None = refl
 parts_more xs x (Some read) = ap (λ ys. Some ((ys, read.0.1), read.1)) (append_assoc xs (x ∷ []) read.0.0)

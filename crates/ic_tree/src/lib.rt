@@ -7,4 +7,5 @@ mod reader;
 mod token;
 
 pub use measured::Measured;
+pub use reader::parse;
 pub use token::{Ahead, Token, TokenSource};
