@@ -3,14 +3,19 @@
 #![tactic(auto)]
 
 mod constant;
-mod number;
-mod printer;
-mod stored;
-mod token;
-pub use printer::print;
-pub use stored::Stored;
 mod law;
 mod lexer;
+mod measured;
+mod number;
+mod printer;
+mod reader;
+mod stored;
+mod token;
+
 pub use law::law_tokens_before;
 pub use lexer::{Lexer, TextEnd, next_token};
+pub use measured::Measured;
+pub use printer::print;
+pub use reader::parse;
+pub use stored::Stored;
 pub use token::{Ahead, Token, TokenSource};
