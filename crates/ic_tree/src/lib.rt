@@ -9,13 +9,13 @@ mod measured;
 mod number;
 mod printer;
 mod reader;
+mod reading;
 mod stored;
 mod token;
 
 pub use law::law_tokens_before;
-pub use lexer::{Lexer, TextEnd, next_token};
-pub use measured::Measured;
+pub(crate) use measured::Measured;
 pub use printer::print;
-pub use reader::parse;
+pub use reading::read;
 pub use stored::Stored;
-pub use token::{Ahead, Token, TokenSource};
+pub(crate) use token::{Ahead, Token, TokenSource};
