@@ -59,11 +59,7 @@ impl Measured {
     }
 
     /// A leaf, where a tree may be so high.
-    pub fn leaf(
-        alloc: Global,
-        tree: Spelled,
-        most: usize,
-    ) -> Result<Option<Measured>, OutOfMemory>
+    pub fn leaf(alloc: Global, tree: Spelled, most: usize) -> Result<Option<Measured>, OutOfMemory>
         requires { height tree ≡ 1 }
         ensures { IfOk result (λ r. r ≡ (if nat_le (height tree) most then Some tree else None)) }
     {
@@ -117,11 +113,7 @@ impl Measured {
     }
 
     /// It with `%` after it.
-    pub fn percent(
-        self,
-        alloc: Global,
-        most: usize,
-    ) -> Result<Option<Measured>, OutOfMemory>
+    pub fn percent(self, alloc: Global, most: usize) -> Result<Option<Measured>, OutOfMemory>
         ensures { IfOk result (λ r. (rest : List Token) → option_map (λ t. (t, rest)) r ≡ made most (one.Percent self) rest) }
     {
         let tree = Tree::Percent(Boxed::from(self.tree));
@@ -129,11 +121,7 @@ impl Measured {
     }
 
     /// It with `#` after it.
-    pub fn spill(
-        self,
-        alloc: Global,
-        most: usize,
-    ) -> Result<Option<Measured>, OutOfMemory>
+    pub fn spill(self, alloc: Global, most: usize) -> Result<Option<Measured>, OutOfMemory>
         ensures { IfOk result (λ r. (rest : List Token) → option_map (λ t. (t, rest)) r ≡ made most (one.Spill self) rest) }
     {
         let tree = Tree::Spill(Boxed::from(self.tree));

@@ -10,11 +10,10 @@ mod gathered;
 mod leaf;
 mod sign;
 
-pub use gathered::{Arguments, Pairs};
-
 use crate::{Ahead, Measured, Token, TokenSource};
 use array::read_array;
 use binder::{Begun, next_part};
+pub use gathered::{Arguments, Pairs};
 use ic_laws::{Dialect, OutOfMemory, Spelled, Text};
 use leaf::{is_called_name, read_leaf};
 use sign::{ends_argument, level_of, sign_before, take_close, take_separator};
