@@ -1,5 +1,5 @@
 -- Whether a part of LET or LAMBDA begins with a variable and a separator.
-use Rattle.std.proofs.Common.{◌≡◌, ◌≢◌, true, false, ℕ, List, [], ◌∷◌, Some, None, refl}
+use Rattle.std.proofs.Common.{◌≡◌, ◌≢◌, true, false, ℕ, List, ◌∷◌, Some, None, refl}
 use Rattle.ic_laws.specs.Name.{is_variable}
 use Rattle.ic_laws.specs.Parse.{binder}
 use Rattle.ic_laws.specs.Token.{Token, Separator, Word}

@@ -1,6 +1,6 @@
 -- The turns of a loop that reads a list of items.
-use Rattle.std.proofs.Common.{◌≡◌, ℕ, zero, suc, ◌<◌, ◌≤◌, List, [], ◌∷◌, ◌++◌, append-nil, append_assoc, length, Bool, true, false, Option, Some, None, option_map, refl, sym, ap, subst, ◌∙◌, arith}
-use Rattle.ic_laws.specs.Parse.{Read, listed}
+use Rattle.std.proofs.Common.{◌≡◌, ◌<◌, ◌≤◌, List, [], ◌∷◌, ◌++◌, append_assoc, length, Bool, true, false, Option, Some, None, option_map, refl, sym, ap, subst, ◌∙◌, arith}
+use Rattle.ic_laws.specs.Parse.{Read}
 use Rattle.ic_laws.specs.Token.{Token}
 use Rattle.ic_laws.proofs.ListFuelLemmas.{Shrinks, listed_none, listed_last, listed_next, listed_fuel}
 use Rattle.ic_tree.specs.Listing.{all_listed, joined_to}

@@ -1,7 +1,7 @@
 -- The steps of the definition as the code takes them: operands, brackets, arguments and calls.
-use Rattle.std.proofs.Common.{◌≡◌, ◌≢◌, true, false, ◌∙◌, sym, ap, subst, refl, ℕ, zero, suc, ◌+◌, ◌-◌, ◌<◌, ◌≤◌, List, [], ◌∷◌, Option, Some, None, Bool, MatchOption, option_map, option_and_then, nat_eq, arith}
+use Rattle.std.proofs.Common.{◌≡◌, ◌≢◌, true, false, ◌∙◌, sym, ap, subst, refl, ℕ, zero, suc, ◌-◌, ◌<◌, List, [], ◌∷◌, Option, Some, None, Bool, MatchOption, option_map, option_and_then, nat_eq, arith}
 use Rattle.ic_laws.specs.Dialect.{DialectMeaning}
-use Rattle.ic_laws.specs.Parse.{Read, Reader, node, made, reader, expression, operand, postfix, binary, turns, primary, followed, past_close, past_separator, bracketed, prefixed, prefix_sign, argument, ends_argument, arguments, listed, function_call, name_call, let_call, lambda_call, array, opened, nothing_behind, parsed}
+use Rattle.ic_laws.specs.Parse.{Read, Reader, node, made, reader, expression, operand, postfix, binary, turns, primary, followed, past_close, past_separator, bracketed, prefixed, prefix_sign, argument, ends_argument, arguments, function_call, name_call, let_call, lambda_call, array, opened, nothing_behind, parsed}
 use Rattle.ic_laws.specs.Token.{Token, Close}
 use Rattle.ic_laws.specs.Tree.{Spelled, is_called_name}
 use Rattle.ic_laws.specs.declared.tree.PrefixSign.{PrefixSign}

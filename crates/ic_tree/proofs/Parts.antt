@@ -1,7 +1,7 @@
 -- The turns of the loops that read the parts of LET and LAMBDA.
-use Rattle.std.proofs.Common.{◌≡◌, ℕ, zero, suc, ◌<◌, ◌≤◌, List, [], ◌∷◌, ◌++◌, append-nil, append_assoc, length, Option, Some, None, option_map, option_and_then, refl, sym, ap, subst, ◌∙◌, arith}
+use Rattle.std.proofs.Common.{◌≡◌, ℕ, ◌<◌, ◌≤◌, List, [], ◌∷◌, ◌++◌, append-nil, append_assoc, length, Option, Some, None, option_map, refl, sym, ap, subst, ◌∙◌, arith}
 use Rattle.ic_laws.specs.Parse.{Pair, pair_of, Read, Reader, made, binder, followed, past_close, past_separator, let_parts, lambda_parts, let_call, lambda_call}
-use Rattle.ic_laws.specs.Token.{Token, Word, Separator}
+use Rattle.ic_laws.specs.Token.{Token}
 use Rattle.ic_laws.specs.Tree.{Spelled}
 use Rattle.ic_laws.specs.declared.tree.Tree.TheOpen as one
 use Rattle.ic_laws.proofs.ListFuelLemmas.{Takes, let_pair, let_body, let_fails, let_fuel, lambda_parameter, lambda_body, lambda_fuel}

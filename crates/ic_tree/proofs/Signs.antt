@@ -1,5 +1,5 @@
 -- What stands in sight says what is passed over.
-use Rattle.std.proofs.Common.{◌≡◌, ◌≢◌, true, false, List, ◌∷◌, Some, None, refl, nat_eq, cond, eqb}
+use Rattle.std.proofs.Common.{◌≡◌, ◌≢◌, true, false, List, ◌∷◌, Some, None, refl, nat_eq}
 use Rattle.ic_laws.specs.Character.{comma}
 use Rattle.ic_laws.specs.Dialect.{DialectMeaning}
 use Rattle.ic_laws.specs.Parse.{ends_argument, past_brace, past_close, past_row_sign, past_separator}

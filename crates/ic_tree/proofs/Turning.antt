@@ -1,5 +1,5 @@
 -- The turns of the loops over what stands after an operand and between operands.
-use Rattle.std.proofs.Common.{◌≡◌, ◌≢◌, true, false, ◌∙◌, sym, ap, subst, refl, ℕ, zero, suc, ◌+◌, ◌-◌, ◌<◌, ◌≤◌, List, [], ◌∷◌, Option, Some, None, Bool, option_map, option_and_then, arith}
+use Rattle.std.proofs.Common.{◌≡◌, ◌≢◌, true, false, ◌∙◌, sym, ap, subst, refl, ℕ, zero, suc, ◌+◌, ◌-◌, ◌<◌, ◌≤◌, List, ◌∷◌, Option, Some, None, option_map, arith}
 use Rattle.ic_laws.specs.Parse.{Read, Reader, made, arguments, postfix, binary, joined_by, turns, applied, opened}
 use Rattle.ic_laws.specs.Token.{Token, Percent, Hash, Operator, Open}
 use Rattle.ic_laws.specs.Tree.{Spelled, sign_level, is_callable}

@@ -4,10 +4,9 @@ use Rattle.ic_laws.specs.Name.{is_variable}
 use Rattle.ic_laws.specs.Position.{is_place_within}
 use Rattle.ic_laws.specs.Token.{Token, Num, Str, Boolean, Err, Ref, Word}
 use Rattle.ic_laws.specs.Tree.{Spelled, height, is_unsigned, is_written_sheet}
-use Rattle.ic_laws.specs.Parse.{Read, Pair, made, made_if, binder}
+use Rattle.ic_laws.specs.Parse.{Read, Pair, made, made_if}
 use Rattle.ic_laws.specs.declared.reference.RefToken.{RefToken}
 use Rattle.ic_laws.specs.declared.tree.Tree.TheOpen as one
-use Rattle.ic_tree.specs.Tokens.{token_of}
 
 -- the height of the value of a variable of LET
 abbrev pub value_height : Pair → ℕ

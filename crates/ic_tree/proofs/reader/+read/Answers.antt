@@ -1,6 +1,5 @@
-use Rattle.std.proofs.Common.{◌≡◌, ◌-◌, ◌∙◌, [], Some, sym, ap, refl, arith}
+use Rattle.std.proofs.Common.{◌-◌, ◌∙◌, [], Some, sym, ap, refl, arith}
 use Rattle.ic_laws.specs.Parse.{Read, reader, argument, past_separator, past_close}
-use Rattle.ic_laws.specs.Token.{Token}
 use Rattle.ic_laws.specs.Tree.{Spelled}
 use Rattle.ic_laws.proofs.ListFuelLemmas.{arguments_shrink, reader_takes}
 use Rattle.ic_tree.proofs.ListSteps.{joined_start, list_fails, list_last, list_more, list_smaller}

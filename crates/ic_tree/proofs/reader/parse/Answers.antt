@@ -1,5 +1,5 @@
 use Rattle.std.proofs.Common.{sym, ◌∙◌}
-use Rattle.ic_tree.proofs.Operands.{parsed_lacks, parsed_goes_on, parsed_is, at_end}
+use Rattle.ic_tree.proofs.Operands.{parsed_lacks, parsed_goes_on, parsed_is}
 use Rattle.ic_tree.proofs.reader.parse.Goals as goal
 
 pub returns-in_default-clause-tree : goal.returns-in_default-clause-tree

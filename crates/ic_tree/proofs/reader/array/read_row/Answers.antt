@@ -1,7 +1,7 @@
-use Rattle.std.proofs.Common.{sym, ◌∙◌}
+use Rattle.std.proofs.Common.{◌∙◌}
 use Rattle.ic_laws.specs.Parse.{constant, past_separator}
 use Rattle.ic_laws.proofs.ListFuelLemmas.{constants_shrink}
-use Rattle.ic_tree.proofs.ListSteps.{list_fails, list_last, list_more, list_smaller}
+use Rattle.ic_tree.proofs.ListSteps.{list_fails, list_last, list_more}
 use Rattle.ic_tree.proofs.reader.array.read_row.Goals as goal
 
 pub returns-in_default : goal.returns-in_default
