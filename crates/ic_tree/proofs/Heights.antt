@@ -4,7 +4,7 @@ use Rattle.ic_laws.specs.CoreBook.{greatest}
 use Rattle.ic_laws.specs.Parse.{node}
 use Rattle.ic_laws.specs.Tree.{Spelled, height}
 use Rattle.ic_laws.specs.declared.tree.Tree.TheOpen as one
-use Rattle.ic_laws.proofs.Nodes.{height-node}
+use Rattle.ic_laws.proofs.parsing.Nodes.{height-node}
 
 pub greatest_push : {A : Type 0} (f : A → ℕ) (xs : List A) (x : A) → greatest (map f (xs ++ x ∷ [])) ≡ max (greatest (map f xs)) (f x)
 greatest_push f [] x = omega arith

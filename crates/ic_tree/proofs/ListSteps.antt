@@ -2,7 +2,7 @@
 use Rattle.std.proofs.Common.{◌≡◌, ◌<◌, ◌≤◌, List, [], ◌∷◌, ◌++◌, append_assoc, length, Bool, true, false, Option, Some, None, option_map, refl, sym, ap, subst, ◌∙◌, arith}
 use Rattle.ic_laws.specs.Parse.{Read}
 use Rattle.ic_laws.specs.Token.{Token}
-use Rattle.ic_laws.proofs.ListFuelLemmas.{Shrinks, listed_none, listed_last, listed_next, listed_fuel}
+use Rattle.ic_laws.proofs.parsing.ListFuelLemmas.{Shrinks, listed_none, listed_last, listed_next, listed_fuel}
 use Rattle.ic_tree.specs.Listing.{all_listed, joined_to}
 use Rattle.ic_tree.specs.Turned.{Passes}
 

@@ -1,13 +1,13 @@
 -- The steps of the definition as the code takes them: operands, brackets, arguments and calls.
 use Rattle.std.proofs.Common.{◌≡◌, ◌≢◌, true, false, ◌∙◌, sym, ap, subst, refl, ℕ, zero, suc, ◌-◌, ◌<◌, List, [], ◌∷◌, Option, Some, None, Bool, MatchOption, option_map, option_and_then, nat_eq, arith}
 use Rattle.ic_laws.specs.Dialect.{DialectMeaning}
-use Rattle.ic_laws.specs.Parse.{Read, Reader, node, made, reader, expression, operand, postfix, binary, turns, primary, followed, past_close, past_separator, bracketed, prefixed, prefix_sign, argument, ends_argument, arguments, function_call, name_call, let_call, lambda_call, array, opened, nothing_behind, parsed}
+use Rattle.ic_laws.specs.Parse.{Read, Reader, node, made, reader, expression, operand, postfix, binary, turns, primary, followed, past_close, past_separator, bracketed, prefixed, prefix_sign, argument, ends_argument, arguments, function_call, name_call, let_call, lambda_call, array, opened, nothing_after, parsed}
 use Rattle.ic_laws.specs.Token.{Token, Close}
 use Rattle.ic_laws.specs.Tree.{Spelled, is_called_name}
 use Rattle.ic_laws.specs.declared.tree.PrefixSign.{PrefixSign}
 use Rattle.ic_laws.specs.declared.tree.Tree.TheOpen as one
 use Rattle.std.proofs.lemmas.Bool.Decides.{nat_tests}
-use Rattle.ic_laws.proofs.ReadLemmas.{reader-zero, reader_nothing}
+use Rattle.ic_laws.proofs.parsing.ReadLemmas.{reader-zero, reader_nothing}
 use Rattle.ic_tree.specs.Listing.{all_listed}
 use Rattle.ic_tree.specs.Tokens.{ahead_of, token_of}
 use Rattle.ic_tree.specs.Turned.{Passes, leaf}
@@ -61,7 +61,7 @@ pub parsed_goes_on : (d : DialectMeaning) (ts rest : List Token) (o : Option Spe
 unfolding parsed
 parsed_goes_on d ts rest o t got is more = let read : reader d 1024 128 1 ts ≡ Some (t, rest) = read_is o rest (reader d 1024 128 1 ts) t got is in rw read (stays rest more)
   where
-    stays : (us : List Token) → ahead_of us ≢ ahead.End → None ≡ nothing_behind t us
+    stays : (us : List Token) → ahead_of us ≢ ahead.End → None ≡ nothing_after t us
     stays [] more = absurd (more refl)
     stays (u ∷ us) more = refl
 

@@ -4,9 +4,9 @@ use Rattle.ic_laws.specs.Parse.{Pair, pair_of, Read, Reader, made, binder, follo
 use Rattle.ic_laws.specs.Token.{Token}
 use Rattle.ic_laws.specs.Tree.{Spelled}
 use Rattle.ic_laws.specs.declared.tree.Tree.TheOpen as one
-use Rattle.ic_laws.proofs.ListFuelLemmas.{Takes, let_pair, let_body, let_fails, let_fuel, lambda_parameter, lambda_body, lambda_fuel}
-use Rattle.ic_laws.proofs.SoundParts.{binder_some}
-use Rattle.ic_laws.proofs.Soundness.{followed_some, past_separator_some}
+use Rattle.ic_laws.proofs.parsing.ListFuelLemmas.{TakesNoMore, let_pair, let_body, let_fails, let_fuel, lambda_parameter, lambda_body, lambda_fuel}
+use Rattle.ic_laws.proofs.parsing.SoundParts.{binder_some}
+use Rattle.ic_laws.proofs.parsing.Soundness.{followed_some, past_separator_some}
 use Rattle.ic_tree.specs.Begun.{IsBegun}
 use Rattle.ic_tree.specs.Listing.{all_let, all_lambda, parts_joined}
 use Rattle.ic_tree.specs.Tokens.{token_of}
@@ -43,12 +43,12 @@ begun_nothing ts rest b h is = subst (λ (x : Begun). IsBegun ts x rest) is h
 begun_shorter : (ts : List Token) (name : List ℕ) (rest : List Token) → binder ts ≡ Some (name, rest) → length rest < length ts
 begun_shorter ts name rest e = let start = binder_some ts (name, rest) e in omega (arith, ap length start.0)
 
-value_shorter : (below : Reader) → Takes below → (b : ℕ) (middle : List Token) (value : Spelled × List Token) → followed past_separator (below b 1 middle) ≡ Some value → length value.1 ≤ length middle
+value_shorter : (below : Reader) → TakesNoMore below → (b : ℕ) (middle : List Token) (value : Spelled × List Token) → followed past_separator (below b 1 middle) ≡ Some value → length value.1 ≤ length middle
 value_shorter below takes b middle value e =
     followed_some past_separator (below b 1 middle) value e (λ after got goes.
     omega (arith, takes.shorter b middle (value.0, after) got, ap length (past_separator_some after value.1 goes)))
 
-module _ (below : Reader) (takes : Takes below) (b : ℕ) where
+module _ (below : Reader) (takes : TakesNoMore below) (b : ℕ) where
   -- a variable of LET with its value
   let_next : (ts middle rest : List Token) (name : List ℕ) (value : Spelled) → binder ts ≡ Some (name, middle) → followed past_separator (below b 1 middle) ≡ Some (value, rest)
       → all_let below b ts ≡ option_map (λ parts. ((pair_of name value ∷ parts.0.0, parts.0.1), parts.1)) (all_let below b rest)

@@ -5,8 +5,8 @@ use Rattle.ic_laws.specs.Token.{Token, Percent, Hash, Operator, Open}
 use Rattle.ic_laws.specs.Tree.{Spelled, sign_level, is_callable}
 use Rattle.ic_laws.specs.declared.tree.Tree.TheOpen as one
 use Rattle.ic_laws.specs.declared.tree.BinarySign.{BinarySign}
-use Rattle.ic_laws.proofs.ReadLemmas.{turns_stop, turns_go}
-use Rattle.ic_laws.proofs.FuelLemmas.{turns_fail}
+use Rattle.ic_laws.proofs.parsing.ReadLemmas.{turns_stop, turns_go}
+use Rattle.ic_laws.proofs.parsing.FuelLemmas.{turns_fail}
 use Rattle.std.proofs.lemmas.Bool.{le-leb, lt-leb}
 use Rattle.ic_tree.specs.Tokens.{ahead_of, after_first}
 use Rattle.ic_tree.specs.declared.token.Ahead.TheVariants as ahead

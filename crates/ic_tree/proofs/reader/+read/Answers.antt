@@ -1,7 +1,7 @@
 use Rattle.std.proofs.Common.{◌-◌, ◌∙◌, [], Some, sym, ap, refl, arith}
 use Rattle.ic_laws.specs.Parse.{Read, reader, argument, past_separator, past_close}
 use Rattle.ic_laws.specs.Tree.{Spelled}
-use Rattle.ic_laws.proofs.ListFuelLemmas.{arguments_shrink, reader_takes}
+use Rattle.ic_laws.proofs.parsing.ListFuelLemmas.{arguments_shrink, reader_takes}
 use Rattle.ic_tree.proofs.ListSteps.{joined_start, list_fails, list_last, list_more, list_smaller}
 use Rattle.ic_tree.proofs.Operands.{reader_taken, reader_lacks, reader_spent, expression_lacks, expression_is, prefix_lacks, prefix_makes, primary_lacks, primary_is, function_shut, function_opens, name_shut, name_opens, bracket_shut, bracket_opens, array_shut, array_opens, leaf_is, let_is, lambda_is, function_lacks, function_is, name_refused, name_lacks, name_is, bracketed_is, bracketed_lacks, bracketed_open, argument_left_out, argument_is, no_arguments, arguments_lack, arguments_open, arguments_are, followed_lacks, followed_open, followed_is}
 use Rattle.ic_tree.proofs.Parts.{parts_start, let_more, let_smaller, let_value_lacks, let_nothing, let_body_lacks, let_body_stands, lambda_more, lambda_smaller, lambda_nothing, lambda_body_lacks, lambda_body_stands, let_call_lacks, let_call_is, lambda_call_lacks, lambda_call_is}

@@ -1,6 +1,6 @@
 use Rattle.std.proofs.Common.{◌∙◌}
 use Rattle.ic_laws.specs.Parse.{constant, past_separator}
-use Rattle.ic_laws.proofs.ListFuelLemmas.{constants_shrink}
+use Rattle.ic_laws.proofs.parsing.ListFuelLemmas.{constants_shrink}
 use Rattle.ic_tree.proofs.ListSteps.{list_fails, list_last, list_more}
 use Rattle.ic_tree.proofs.reader.array.read_row.Goals as goal
 

@@ -1,6 +1,6 @@
 use Rattle.std.proofs.Common.{◌∙◌}
 use Rattle.ic_laws.specs.Parse.{row, past_row_sign}
-use Rattle.ic_laws.proofs.ListFuelLemmas.{rows_shrink}
+use Rattle.ic_laws.proofs.parsing.ListFuelLemmas.{rows_shrink}
 use Rattle.ic_tree.proofs.ListSteps.{list_fails, list_last, list_more, list_smaller}
 use Rattle.ic_tree.proofs.reader.array.read_rows.Goals as goal
 
