@@ -10,7 +10,6 @@ mod desk;
 mod run;
 #[cfg(test)]
 mod tests;
-mod words;
 
 use ic_lines::{StdSink, StdSource};
 use ic_tables::sample_tables;

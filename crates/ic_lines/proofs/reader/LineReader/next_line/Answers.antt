@@ -20,11 +20,12 @@ pub returns-in_err-fill-clause-taken : goal.returns-in_err-fill-clause-taken
 returns-in_err-fill-clause-taken g c =
     let old = c.loop-len.self in
     let same : c.line_feed.new.self ≡ old = c.line_feed.ensures.same in
-    let still : old.ended ≡ false = sym (ap (λ (r : Reading). r.ended) (c.self.view_is ∙ same)) ∙ c.if-self.false in
-    (c.fill.new.self,
+    let still : old.ended ≡ false = sym (ap (λ (r : Reading). r.ended) (c.self.view_is ∙ same)) ∙ c.if-self.false in (
+      c.fill.new.self,
       TakesLine-step c.args.self.now old c.fill.new.self _ _ _ c.loop-len.invariant.taken c.in_default.ensures.found still
-      (subst (λ r. TakesRead r c.fill.new.self (g.S.Source.left c.loop-len.source) (g.S.Source.left c.fill.new.source)) same c.fill.ensures.taken),
-      search rules)
+          (subst (λ r. TakesRead r c.fill.new.self (g.S.Source.left c.loop-len.source) (g.S.Source.left c.fill.new.source)) same c.fill.ensures.taken),
+      search rules,
+    )
 
 pub loop-len-preserved : goal.loop-len-preserved
 loop-len-preserved g c =
