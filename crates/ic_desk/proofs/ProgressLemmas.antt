@@ -23,15 +23,6 @@ pub record Progress (old new : Book) (count : ℕ) (reader : Reading) (before no
   pub ends : reader.ended ≡ true → left ≡ []
   pub feeds : reader.ended ≡ false → count + line_feeds (reader.held ++ left) ≡ line_feeds bytes
 
-pub Progress-start : (book : Book) (before : Option (List ℕ)) (bytes : List ℕ) → Progress book book 0 (record { held = []; ended = false; turns = 0 }) before before bytes bytes
-Progress-start book before bytes = record {
-  book = record { within = omega arith; book = refl };
-  rest = refl;
-  replied = IfTold-same before (HasReplied (core_of book) 0 (texts_of bytes)) (λ x. sym (append-nil x));
-  ends = λ ended. absurd (cc);
-  feeds = λ _. omega arith;
-}
-
 -- what a call of the reader that gave a line tells of the bytes
 pub record Next (line : List ℕ) (old new : Reading) (before now : List ℕ) : Type 0 where
   pub gives : texts_of (unread old before) ≡ line ∷ texts_of (unread new now)

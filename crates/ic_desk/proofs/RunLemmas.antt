@@ -30,24 +30,9 @@ module _ {X : Type 0} (lines : List X) (count : ℕ) (line : X) (rest : List X) 
   pub next_rest : rest ≡ drop (count + 1) lines
   next_rest = sym (ap (drop 1) next) ∙ drop-drop 1 count lines
 
--- a fault since a later moment is one since an earlier
-pub HasFault-since : (first before now : ℕ) → first ≤ before → HasFault before now → HasFault first now
-HasFault-since first before now l (inl rose) = inl (omega arith)
-HasFault-since first before now l (inr last) = inr last
-
 pub IfErr-given : (r : Result ℕ RunError) (e : RunError) (P : RunError → Type 0) → IsErrAnd r (λ x. x ≡ e) → P e → IfErr r P
 IfErr-given (Ok x) e P is p = tt
 IfErr-given (Err x) e P is p = subst P (sym is) p
 
 pub IsSome-is : {T : Type 0} (o : Option T) (x : T) → o ≡ Some x → IsSome o
 IsSome-is o x e = subst IsSome (sym e) (search rules)
-
--- without a fault, and with fewer bytes than turns, only that memory ran out is left
-pub completes : {T : Type 0} (r : Result T RunError) (F G : Type 0) (a b : Option (List ℕ)) → IfErr r (HasCause F G (IfTold a b (λ before now. 2 ^ 32 + length now ≤ length before))) → IsSomeAnd a (λ bytes. length bytes < 2 ^ 32) → ¬ F → ¬ G → IfErr r (λ e. e ≡ errors.OutOfMemory)
-completes (Ok x) F G a b h small f g = tt
-completes (Err errors.ReadFault) F G a b h small f g = absurd (f h)
-completes (Err errors.WriteFault) F G a b h small f g = absurd (g h)
-completes (Err errors.TooManyTurns) F G None b h small f g = absurd small
-completes (Err errors.TooManyTurns) F G (Some x) None h small f g = absurd h
-completes (Err errors.TooManyTurns) F G (Some x) (Some y) h small f g = absurd (omega (arith, h, small))
-completes (Err errors.OutOfMemory) F G a b h small f g = refl

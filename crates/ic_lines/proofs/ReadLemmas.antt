@@ -1,9 +1,9 @@
 -- Reads after the bytes that are there.
-use Rattle.std.proofs.Common.{◌≡◌, ℕ, ◌+◌, ◌≤◌, List, [], ◌++◌, length, take, drop, Option, sym, ◌∙◌, ap, inl, inr, arith, append_assoc}
+use Rattle.std.proofs.Common.{◌≡◌, ℕ, ◌+◌, ◌≤◌, List, ◌++◌, length, take, drop, Option, sym, ◌∙◌, ap, append_assoc}
 use Rattle.std.proofs.Math.Seq.{take-add}
-use Rattle.std.proofs.lemmas.List.{append-nil, drop_at, take-append-drop, take-append-le, take-take, take_at}
-use Rattle.ic_lines.specs.Bytes.{HasFault, IfTold, TakesFront}
-use Rattle.ic_lines.specs.Reading.{Reading, TakesAfter, TakesRead}
+use Rattle.std.proofs.lemmas.List.{drop_at, take-append-drop, take-append-le, take-take, take_at}
+use Rattle.ic_lines.specs.Bytes.{IfTold, TakesFront}
+use Rattle.ic_lines.specs.Reading.{TakesAfter}
 use Rattle.ic_lines.proofs.ToldLemmas.{IfTold-weaker}
 
 -- what was there, and a front of what was put after it
@@ -26,19 +26,3 @@ TakesAfter-from_buffer old new buffer taken held before now is_held e moved =
       told = IfTold-weaker before now (TakesFront taken buffer) (λ x y. x ≡ drop held new ++ y)
           (λ x y t. sym (take-append-drop taken x) ∙ ap (λ v. v ++ drop taken x) (sym (got ∙ t.moved)) ∙ ap (λ v. drop held new ++ v) (sym t.rest)) moved;
     }
-
--- a read that took nothing
-pub TakesRead-none : (old new : Reading) (before now : Option (List ℕ)) → new.held ≡ old.held → IfTold before now (λ x y. y ≡ x) → TakesRead old new before now
-TakesRead-none old new before now same still = record {
-  got = [];
-  few = omega arith;
-  taken = record {
-    held = same ∙ sym (append-nil old.held);
-    told = IfTold-weaker before now (λ x y. y ≡ x) (λ x y. x ≡ y) (λ x y e. sym e) still;
-  };
-}
-
--- a fault that came later came
-pub HasFault-from_later : (a b c : ℕ) → a ≤ b → HasFault b c → HasFault a c
-HasFault-from_later a b c le (inl rose) = inl (omega arith)
-HasFault-from_later a b c le (inr last) = inr last

@@ -91,7 +91,7 @@ impl LineReader {
         // Each line takes bytes of those held, or of those that the turns that are left can bring.
         ensures progress { IfOk result (λ line. IsSome line → budget self.new < budget self.old) }
     {
-        loop {
+        'reads: loop {
             if let Some(len) = self.line_feed() {
                 return Ok(Some(self.take_line(len)?));
             }

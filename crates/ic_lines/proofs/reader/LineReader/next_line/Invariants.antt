@@ -5,8 +5,8 @@ use Rattle.ic_lines.proofs.reader.LineReader.next_line.Given as goal
 
 -- what is still to be given stays, no fault was counted, and each read but the last brought no line feed; as long as
 -- nothing had to be asked nothing has happened
-abbrev pub invariant-loop-len : goal.invariant-loop-len
-invariant-loop-len g l =
+abbrev pub invariant-reads : goal.invariant-reads
+invariant-reads g l =
     let source = g.S.Source in
     record {
       kept : IfTold (source.left l.fn.source) (source.left l.source) (λ before now. unread l.self now ≡ unread l.fn.self before);
@@ -19,5 +19,5 @@ invariant-loop-len g l =
     }
 
 -- each read gives a byte, of which there are so many, or sees the end
-abbrev pub decreases-loop-len : goal.decreases-loop-len
-decreases-loop-len g l = (most_turns - l.self.turns) + (if l.self.ended then 0 else 1)
+abbrev pub decreases-reads : goal.decreases-reads
+decreases-reads g l = (most_turns - l.self.turns) + (if l.self.ended then 0 else 1)
