@@ -1,11 +1,11 @@
 -- The program's words, its start and its statuses.
-use Rattle.std.proofs.Common.{String, ◌≡◌, ◌≢◌, ◌↔◌, ◌⊎◌, ℕ, List, [], ◌∷◌, map, get_or, Option, Some, None, IsSome, IsNone, IsSomeAnd, Result, Ok, Err, OnOk, bytes_eq, codes, string_bytes, refl, arith, length, ◌==◌, true, false, inl, inr, sym, ◌∙◌, ap, if◌then◌else◌}
+use Rattle.std.proofs.Common.{String, ◌≡◌, ℕ, List, [], ◌∷◌, get_or, Some, None, Result, Ok, Err, OnOk, bytes_eq, codes, string_bytes, refl, arith, length, ◌==◌, true, false, sym, ◌∙◌, ap}
 use Rattle.std.proofs.lemmas.Bool.{eqb-true}
 use Rattle.std.specs.Str.{chars}
 use Rattle.std.specs.declared.alloc.Global.{Global}
 use Rattle.ic_lines.specs.declared.error.RunError.{RunError}
 use Rattle.ic_lines.specs.declared.error.RunError.TheVariants as run
-use Rattle.ic_desk.specs.Desk.{Setting, setting_of, run_status, texts}
+use Rattle.ic_desk.specs.Desk.{setting_of, run_status, texts}
 
 -- the status 0 is that of Ok
 pub on_ok_at_0 : (r : Result ℕ RunError) (P : Type 0) → OnOk r P → run_status r ≡ 0 → P

@@ -1,5 +1,5 @@
 -- How far a run over told bytes has come, line by line, and what its errors leave.
-use Rattle.std.proofs.Common.{◌≡◌, ℕ, ◌+◌, ◌<◌, ◌≤◌, ◌⊎◌, List, [], ◌∷◌, ◌++◌, length, take, drop, Bool, true, false, ◌==◌, Option, Some, None, ap, sym, subst, ◌∙◌, refl, inl, inr, arith, append_assoc, append-nil, length-append, length-drop, if◌then◌else◌}
+use Rattle.std.proofs.Common.{◌≡◌, ℕ, ◌+◌, ◌⊎◌, List, [], ◌∷◌, ◌++◌, length, take, drop, true, false, Option, Some, None, ap, sym, subst, ◌∙◌, refl, inl, inr, arith, append_assoc, append-nil, length-append, length-drop, if◌then◌else◌}
 use Rattle.std.proofs.Math.Seq.{take-append-add}
 use Rattle.std.proofs.lemmas.Bool.{cases_Bool}
 use Rattle.std.proofs.lemmas.Bool.Decides.{eqb_tells}
@@ -10,7 +10,7 @@ use Rattle.ic_lines.specs.Reading.{GivesHeld, GivesLine, HasToAsk, Reading, Take
 use Rattle.ic_lines.specs.declared.error.RunError.{RunError}
 use Rattle.ic_lines.specs.declared.error.RunError.TheVariants as errors
 use Rattle.ic_lines.proofs.FeedLemmas.{line_feeds-append, line_feeds-next}
-use Rattle.ic_lines.proofs.ToldLemmas.{IfTold-join, IfTold-same, IfTold-weaker}
+use Rattle.ic_lines.proofs.ToldLemmas.{IfTold-join, IfTold-weaker}
 use Rattle.ic_book.specs.Book.{Book, core_of, with_core}
 use Rattle.ic_desk.specs.Run.{AppendsReplies, AreRead, HasAnswered, HasPartlyAnswered, HasPartlyReplied, HasReplied, IsAfterLines, Leaves, TakesAll}
 use Rattle.ic_desk.proofs.RunLemmas.{after-append, next_rest, next_taken, next_within, replies-append}

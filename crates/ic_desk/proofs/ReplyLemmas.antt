@@ -1,5 +1,5 @@
 -- The texts of replies.
-use Rattle.std.proofs.Common.{◌≡◌, ◌⊎◌, ℕ, ◌+◌, ◌-◌, ◌<◌, List, [], ◌∷◌, ◌++◌, length, take, get_or, false, true, Option, Some, None, Result, Ok, Err, chars, encode_utf8_all, refl, ap, sym, ◌∙◌, inl, inr, arith, length-append}
+use Rattle.std.proofs.Common.{◌≡◌, ◌⊎◌, ℕ, ◌-◌, ◌<◌, List, [], ◌∷◌, ◌++◌, length, take, get_or, false, true, Option, Some, None, Ok, Err, chars, encode_utf8_all, refl, ap, sym, ◌∙◌, inl, inr, arith, length-append}
 use lib.Utf8.{scalars}
 use Rattle.std.proofs.Math.Seq.{get_or-append_seam}
 use Rattle.std.proofs.lemmas.List.{take_at}

@@ -1,13 +1,10 @@
 -- Books and replies after some of the lines, and the causes of errors.
-use Rattle.std.proofs.Common.{◌≡◌, ℕ, ◌+◌, ◌<◌, ◌≤◌, List, [], ◌∷◌, ◌++◌, length, take, drop, ap, sym, ◌∙◌, refl, inl, inr, arith, append_assoc, length-drop, Result, Ok, Err, Option, Some, None, IsSome, IfErr, IsErrAnd, IsSomeAnd, ◌^◌, subst, rules}
+use Rattle.std.proofs.Common.{◌≡◌, ℕ, ◌+◌, ◌<◌, List, [], ◌∷◌, ◌++◌, length, take, drop, ap, sym, ◌∙◌, refl, arith, append_assoc, length-drop, Result, Ok, Err, Option, Some, IsSome, IfErr, IsErrAnd, subst, rules}
 use Rattle.std.proofs.Math.Seq.{take-add}
 use Rattle.std.proofs.lemmas.List.{drop-drop}
 use Rattle.ic_laws.specs.CoreBook.{CoreBook}
 use Rattle.ic_laws.specs.Lines.{after, replies, line_step, reply_bytes}
-use Rattle.ic_lines.specs.Bytes.{HasFault, IfTold}
 use Rattle.ic_lines.specs.declared.error.RunError.{RunError}
-use Rattle.ic_lines.specs.declared.error.RunError.TheVariants as errors
-use Rattle.ic_desk.specs.Run.{HasCause}
 
 pub after-append : (core : CoreBook) (xs ys : List (List ℕ)) → after core (xs ++ ys) ≡ after (after core xs) ys
 after-append core [] ys = refl

@@ -1,4 +1,4 @@
-use Rattle.std.proofs.Common.{◌≡◌, ◌-◌, ◌<◌, take, length, encode_utf8_all, string_bytes, string_len, ap, ◌∙◌, arith, length-append}
+use Rattle.std.proofs.Common.{◌≡◌, length, encode_utf8_all, string_bytes, string_len, ◌∙◌}
 use Rattle.ic_laws.specs.Lines.{line_step, reply_text}
 use Rattle.ic_book.specs.Book.{core_of}
 use Rattle.ic_desk.proofs.ReplyLemmas.{cut_is_line, cut_reply, last_byte, some_byte}

@@ -1,4 +1,4 @@
-use Rattle.std.proofs.Common.{◌≡◌, ◌∙◌, sym, ap}
+use Rattle.std.proofs.Common.{◌∙◌, sym, ap}
 use Rattle.ic_desk.specs.Desk.{setting_of, texts}
 use Rattle.ic_desk.proofs.DeskLemmas.{empty_list, no_words, other_name, run_words}
 use Rattle.ic_desk.proofs.desk.start_named.Goals as goal

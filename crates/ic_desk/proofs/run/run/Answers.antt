@@ -1,10 +1,7 @@
-use Rattle.std.proofs.Common.{◌≡◌, ◌+◌, ◌≤◌, ◌⊎◌, length, Some, None, Err, subst, sym, ap, ◌∙◌, arith, inl, inr}
-use Rattle.ic_laws.specs.Lines.{line_step, reply_bytes, texts_of}
+use Rattle.std.proofs.Common.{◌+◌, ◌≤◌, length, Some, Err, subst, ap, ◌∙◌, arith, inl, inr}
 use Rattle.ic_lines.specs.Bytes.{IfTold}
-use Rattle.ic_lines.specs.Reading.{GivesHeld, GivesLine, HasToAsk, unread}
+use Rattle.ic_lines.specs.Reading.{GivesHeld, GivesLine, unread}
 use Rattle.ic_lines.proofs.ToldLemmas.{IfTold-join}
-use Rattle.ic_lines.specs.declared.error.RunError.TheVariants as errors
-use Rattle.ic_book.specs.Book.{core_of, with_core}
 use Rattle.ic_desk.specs.Run.{Leaves}
 use Rattle.ic_desk.proofs.ProgressLemmas.{Next, Progress, Progress-step, all_replied_told, leaves_at_line, leaves_at_reader, next_told, takes_all_told}
 use Rattle.ic_desk.proofs.RunLemmas.{IfErr-given, IsSome-is}
