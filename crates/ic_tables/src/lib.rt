@@ -11,12 +11,16 @@
 mod conditions;
 mod error;
 mod fold;
+mod formats;
 mod ids;
 mod language;
+mod language_words;
 mod locale;
+mod locale_words;
 mod numbered;
 mod sample;
 mod tables;
+mod word_list;
 mod words;
 
 pub use error::{BookIdError, TablesError};
@@ -25,6 +29,7 @@ pub use locale::{
     Currency, CurrencyFormats, DateFormats, Dates, DecimalFormats, Locale, NamedLocale,
     NumbersProperties, NumbersSymbols, TimeFormats,
 };
+pub use locale_words::LocaleWords;
 pub use numbered::{find_word, word};
 pub use sample::sample_tables;
 pub use tables::Tables;
