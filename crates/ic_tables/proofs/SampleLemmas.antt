@@ -1,6 +1,7 @@
 -- The sample tables meet every condition, computed over their words.
-use Rattle.std.proofs.Common.{◌≡◌, ℕ, List, [], ◌∷◌, Bool, true, ◌&&◌, Option, Some, None, chars, map, refl, ap, ap₂, sym, ◌∙◌}
+use Rattle.std.proofs.Common.{◌≡◌, ℕ, List, [], ◌∷◌, Bool, true, ◌&&◌, Option, Some, None, map, refl, ap, ap₂, sym, ◌∙◌}
 use Rattle.std.specs.List.{filter_map, list_all}
+use Rattle.std.specs.Str.{chars}
 use Rattle.caseless.proofs.Computing.{caseless}
 use Rattle.ucd_derived.proofs.Computing.{ucd_derived}
 use Rattle.ic_laws.specs.Dialect.{has_error_shape, has_function_shape}

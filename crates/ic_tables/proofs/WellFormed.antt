@@ -286,3 +286,6 @@ found_formats t h id (Some n) l e found =
 -- the locale that is found under an id
 pub formats_of_found : (t : TableSet) → IsWellFormed t → (id : List ℕ) (l : Locale) → option_map (λ n. n.locale) (locale_of t id) ≡ Some l → HasGoodFormats t l
 formats_of_found t h id l found = found_formats t h id (locale_of t id) l refl found
+
+pub formats_of_named : (t : TableSet) → IsWellFormed t → (id : List ℕ) (n : NamedLocale) → locale_of t id ≡ Some n → HasGoodFormats t n.locale
+formats_of_named t h id n e = good_formats t h n (found_among (λ m. bytes_eq m.id id) t.locales n e).0

@@ -68,7 +68,6 @@ fn locales(alloc: Global) -> Result<Items<NamedLocale>, OutOfMemory>
     Ok(Items::from(locales))
 }
 
-#[tactic(auto, using(crate::proofs::LiteralLemmas::literals))]
 fn american(alloc: Global) -> Result<NamedLocale, OutOfMemory>
     ensures { IfOk result (λ l. l ≡ american) }
 {
@@ -87,7 +86,6 @@ fn american(alloc: Global) -> Result<NamedLocale, OutOfMemory>
 }
 
 /// A locale of the euro, which differs from the others in its separator of groups.
-#[tactic(auto, using(crate::proofs::LiteralLemmas::literals))]
 fn european(alloc: Global, id: &str, group: &str) -> Result<NamedLocale, OutOfMemory>
     ensures { IfOk result (λ l. l ≡ european (chars id.now) (chars group.now)) }
 {
