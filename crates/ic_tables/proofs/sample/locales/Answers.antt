@@ -17,6 +17,6 @@ returns c =
       c.in_ok-european.ensures,
       c.in_ok-european-2.ensures,
       c.in_ok-european-3.ensures,
-      c.in_ok-european-4.ensures
+      c.in_ok-european-4.ensures,
     )
     refl

@@ -13,9 +13,10 @@ one_more ws ws' text after c word rest all h t w r e =
 
 pub loop-after-preserved : goal.loop-after-preserved
 loop-after-preserved c = (
-    c.past_word-rest-in-Some.utf8,
-    one_more _ _ _ _ _ _ _ _ c.loop-after.invariant.1 c.in-Some.ensures.parts
-    (c.in_ok-from_str-2.ensures ∙ c.first_word-in-Some.ensures) c.past_word-rest-in-Some.ensures.rest c.in_ok-push-2.ensures.items)
+  c.past_word-rest-in-Some.utf8,
+  one_more _ _ _ _ _ _ _ _ c.loop-after.invariant.1 c.in-Some.ensures.parts
+      (c.in_ok-from_str-2.ensures ∙ c.first_word-in-Some.ensures) c.past_word-rest-in-Some.ensures.rest c.in_ok-push-2.ensures.items,
+)
 
 none_left : (ws : List (List ℕ)) (text : List ℕ) (all : List (List ℕ)) → ws ++ later_words text ≡ all → text ≡ [] → ws ≡ all
 none_left ws text all h e = sym (append-nil ws) ∙ sym (ap (λ l. ws ++ l) (ap later_words e ∙ no_later_words)) ∙ h
