@@ -2,6 +2,7 @@ pub mod Formats
 pub mod LanguageWords
 pub mod LocaleWords
 pub mod Making
+pub mod Order
 pub mod Sample
 pub mod Tables
 pub mod WordList

@@ -33,7 +33,7 @@ pub fn fold_onto<T: HasId>(
 }
 
 /// The Unicode default case folding of a word.
-fn fold_word(alloc: Global, word: &str) -> Result<Text, OutOfMemory>
+pub fn fold_word(alloc: Global, word: &str) -> Result<Text, OutOfMemory>
     ensures { IfOk result (λ t. t ≡ fold (chars word.now)) }
 {
     Ok(Text::from(default_case_fold_str(alloc, word)?))

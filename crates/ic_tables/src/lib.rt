@@ -8,6 +8,7 @@
 //! id, and an error exactly where there is none.
 #![tactic(auto)]
 
+mod compare;
 mod conditions;
 mod error;
 mod fold;
@@ -15,14 +16,18 @@ mod formats;
 mod ids;
 mod language;
 mod language_words;
+mod languages;
 mod locale;
 mod locale_words;
 mod numbered;
+mod order;
 mod sample;
 mod tables;
+mod vocabulary;
 mod word_list;
 mod words;
 
+pub use compare::compare_folded;
 pub use error::{BookIdError, TablesError};
 pub use language::{Booleans, Errors, FunctionKind, Functions, Language};
 pub use locale::{
@@ -31,5 +36,7 @@ pub use locale::{
 };
 pub use locale_words::LocaleWords;
 pub use numbered::{find_word, word};
+pub use order::WordOrder;
 pub use sample::sample_tables;
 pub use tables::Tables;
+pub use vocabulary::Words;

@@ -6,7 +6,8 @@ ghost use Rattle.ic_tables.specs.Tables.{TableSet, HasGoodFormats, HasGoodWords,
 
 use crate::conditions::check;
 use crate::ids::{copy_ids, find_id, has_id};
-use crate::{BookIdError, FunctionKind, Language, Locale, NamedLocale, TablesError};
+use crate::languages::Languages;
+use crate::{BookIdError, FunctionKind, Language, Locale, NamedLocale, TablesError, Words};
 use ic_laws::{Items, OutOfMemory, Text};
 use std::alloc::Global;
 use std::marker::Model;
@@ -15,7 +16,7 @@ use std::marker::Model;
 #[derive(Drop)]
 pub struct Tables {
     alloc: Global,
-    languages: Items<Language>,
+    languages: Languages,
     locales: Items<NamedLocale>,
     zones: Items<Text>,
     kinds: Items<FunctionKind>,
@@ -51,6 +52,7 @@ impl Tables {
             zones.as_slice(),
             kinds.as_slice(),
         )?;
+        let languages = Languages::new(alloc, languages)?;
         Ok(Tables {
             alloc,
             languages,
@@ -69,6 +71,17 @@ impl Tables {
         ensures words { IfOk result (λ l. HasGoodWords self.now l.now) }
     {
         find_id(self.languages.as_slice(), id).ok_or(BookIdError::InvalidLanguage)
+    }
+
+    /// The words of the language with this code, by number and by text.
+    pub fn get_words(&self, id: &str) -> Result<Words<'_>, BookIdError>
+        ensures found { MatchResult result (λ w. language_of self.now (chars id.now) ≡ Some w.language.now)
+            (λ e. (e ≡ BookIdError.InvalidLanguage) × (language_of self.now (chars id.now) ≡ None)) }
+    {
+        match self.languages.words(id) {
+            Some(words) => Ok(words),
+            None => Err(BookIdError::InvalidLanguage),
+        }
     }
 
     /// The locale with this id.

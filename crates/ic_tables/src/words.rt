@@ -145,7 +145,7 @@ fn are_error_words(words: &[&Text]) -> bool
 }
 
 /// The words of the error values, in the order of their fields.
-fn error_words(language: &Language) -> [&Text; 12]
+pub fn error_words(language: &Language) -> [&Text; 12]
     ensures { map (λ w. w.now) result ≡ error_words language.now }
 {
     let errors = &language.errors;
