@@ -109,6 +109,13 @@ impl Tables {
         find_id(self.languages.as_slice(), "en").unwrap()
     }
 
+    /// The words of the language `en`, by number and by text.
+    pub fn get_default_words(&self) -> Words<'_>
+        ensures { language_of self.now (codes "en") ≡ Some result.language.now }
+    {
+        self.languages.words("en").unwrap()
+    }
+
     /// The locale `en`, which is always there.
     pub fn get_default_locale(&self) -> &Locale
         ensures found { option_map (λ n. n.locale) (locale_of self.now (codes "en")) ≡ Some result.now }
