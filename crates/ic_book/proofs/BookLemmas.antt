@@ -68,8 +68,8 @@ IsValidBook-push book sheets after id name seen valid good new fresh pushed =
     }
 
 -- a new book is valid where the tables have its locale, language and zone
-pub IsValidBook-start : (name locale zone language first : List ℕ) (tables : TableSet) (sheets : List Worksheet) → sheets ≡ record { id = 1; name = first } ∷ [] → first ≡ first_sheet_name_in language → is_some (locale_of tables locale) ≡ true → is_some (language_of tables language) ≡ true → lists_zone tables zone ≡ true → IsValidBook (record { name = name; sheets = sheets_of sheets; locale = locale; language = language; zone = zone; tables = tables })
-IsValidBook-start name locale zone language first tables sheets one named l g z =
+pub IsValidBook-start : (name locale zone language created first : List ℕ) (tables : TableSet) (sheets : List Worksheet) → sheets ≡ record { id = 1; name = first } ∷ [] → first ≡ first_sheet_name_in language → is_some (locale_of tables locale) ≡ true → is_some (language_of tables language) ≡ true → lists_zone tables zone ≡ true → IsValidBook (record { name = name; sheets = sheets_of sheets; locale = locale; language = language; zone = zone; created = created; tables = tables })
+IsValidBook-start name locale zone language created first tables sheets one named l g z =
     let good : is_sheet_name first ≡ true = ap is_sheet_name named ∙ first_name_is_good language in
     let core = IsValidCore-one_sheet 1 first locale language (omega arith, omega arith) good in
     record {

@@ -4,14 +4,15 @@ use Rattle.ic_tables.specs.Tables.{TableSet, language_of, locale_of, lists_zone}
 use Rattle.ic_laws.specs.CoreBook.{CoreBook, Sheet, IsValidCore}
 use Rattle.ic_laws.specs.CoreStep.{Refusal, InvalidLocale, InvalidLanguage, InvalidTimezone, first_refusal}
 
--- a book: its name, its sheets in their order, the ids of the locale and the language in force, the zone, and the
--- tables that it borrows
+-- a book: its name, its sheets in their order, the ids of the locale and the language in force, the zone, when it was
+-- made, and the tables that it borrows
 pub record Book : Type 0 where
   pub name : List ℕ
   pub sheets : List Sheet
   pub locale : List ℕ
   pub language : List ℕ
   pub zone : List ℕ
+  pub created : List ℕ
   pub tables : TableSet
 
 -- the core of a book
@@ -40,13 +41,14 @@ abbrev pub first_sheet_name_in : List ℕ → List ℕ
 first_sheet_name_in language = base_name language ++ codes "1"
 
 -- a new book: one sheet, which has the id 1 and the number 1 in its name
-abbrev pub new_book : List ℕ → List ℕ → List ℕ → List ℕ → TableSet → Book
-new_book name locale zone language tables = record {
+abbrev pub new_book : List ℕ → List ℕ → List ℕ → List ℕ → List ℕ → TableSet → Book
+new_book name locale zone language created tables = record {
   name = name;
   sheets = record { id = 1; name = first_sheet_name_in language } ∷ [];
   locale = locale;
   language = language;
   zone = zone;
+  created = created;
   tables = tables;
 }
 

@@ -1,11 +1,12 @@
 -- What a call's error says of the refusal that holds.
-use Rattle.std.specs.Prelude.{◌≡◌, ℕ, List, Option, Some, None, IfSome, Result, Ok, Err, codes}
+use Rattle.std.specs.Prelude.{◌≡◌, ℕ, List, Option, Some, None, Result, Ok, Err, codes}
+use Rattle.std.specs.Option.{option_map_or}
 use Rattle.ic_laws.specs.CoreStep as core
-use Rattle.ic_laws.specs.CoreStep.{Refusal}
+use Rattle.ic_laws.specs.CoreStep.{Refusal, refusal_name}
 use Rattle.ic_book.specs.declared.error.BookError.{BookError}
 use Rattle.ic_book.specs.declared.error.BookError.TheVariants as errors
 
--- the refusal that an error tells; want of memory is none
+-- the refusal that an error tells; that memory ran out is none
 abbrev pub refusal_of : BookError → Option Refusal
 refusal_of errors.BadLine = Some core.BadLine
 refusal_of errors.InvalidSheetName = Some core.InvalidSheetName
@@ -16,19 +17,12 @@ refusal_of errors.InvalidLanguage = Some core.InvalidLanguage
 refusal_of errors.InvalidTimezone = Some core.InvalidTimezone
 refusal_of errors.OutOfMemory = None
 
--- the name of an error's variant
-abbrev pub variant_name : BookError → List ℕ
-variant_name errors.BadLine = codes "BadLine"
-variant_name errors.InvalidSheetName = codes "InvalidSheetName"
-variant_name errors.SheetExists = codes "SheetExists"
-variant_name errors.IdsUsedUp = codes "IdsUsedUp"
-variant_name errors.InvalidLocale = codes "InvalidLocale"
-variant_name errors.InvalidLanguage = codes "InvalidLanguage"
-variant_name errors.InvalidTimezone = codes "InvalidTimezone"
-variant_name errors.OutOfMemory = codes "OutOfMemory"
+-- the name of an error's variant: that of its refusal
+abbrev pub error_name : BookError → List ℕ
+error_name e = option_map_or refusal_name (refusal_of e) (codes "OutOfMemory")
 
--- A call answers Ok exactly where nothing refuses, and otherwise the refusal; want of memory may come in place of
--- either.
+-- A call answers Ok only where nothing refuses. Its error is the refusal where there is one, and otherwise that memory
+-- ran out.
 abbrev pub Refuses : {T : Type 0} → Result T BookError → Option Refusal → Type 0
 Refuses (Ok value) refusal = refusal ≡ None
-Refuses (Err e) refusal = IfSome (refusal_of e) (λ told. refusal ≡ Some told)
+Refuses (Err e) refusal = refusal ≡ refusal_of e

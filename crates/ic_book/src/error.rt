@@ -5,7 +5,7 @@ use std::alloc::AllocFailed;
 use thiserror::Error;
 
 /// Why a call of the workbook was refused.
-#[derive(Debug, Drop, PartialEq, Eq, Error)]
+#[derive(Debug, Drop, Error)]
 pub enum BookError {
     /// A line that is no command. Only a reply tells it.
     #[error("Invalid line")]
@@ -34,11 +34,11 @@ pub enum BookError {
 }
 
 impl BookError {
-    ghost use Rattle.ic_book.specs.Refused.{variant_name};
+    ghost use Rattle.ic_book.specs.Refused.{error_name};
 
     /// The name of the variant, which a reply shows.
     pub fn name(&self) -> &'static str
-        ensures { result.now ≡ variant_name self.now }
+        ensures { result.now ≡ error_name self.now }
     {
         match self {
             BookError::BadLine => "BadLine",
@@ -72,32 +72,5 @@ impl<T: Drop> From<AllocFailed<T>> for BookError {
 
     fn from(_: AllocFailed<T>) -> BookError {
         BookError::OutOfMemory
-    }
-}
-
-#[cfg(test)]
-mod tests {
-    use super::*;
-    use std::test::Fail;
-
-    #[test]
-    fn displays_its_text(rt: HostRuntime) -> Result<(), Fail> {
-        let alloc = rt.alloc();
-        for (error, text) in [
-            (BookError::BadLine, "Invalid line"),
-            (BookError::InvalidSheetName, "Invalid name for a sheet"),
-            (
-                BookError::SheetExists,
-                "A worksheet already exists with that name",
-            ),
-            (BookError::IdsUsedUp, "No sheet id is left"),
-            (BookError::InvalidLocale, "Invalid locale"),
-            (BookError::InvalidLanguage, "Invalid language"),
-            (BookError::InvalidTimezone, "Invalid timezone"),
-            (BookError::OutOfMemory, "Out of memory"),
-        ] {
-            assert_eq!(rt; error.to_string(alloc)?.as_str(), text);
-        }
-        Ok(())
     }
 }

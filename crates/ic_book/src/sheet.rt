@@ -7,7 +7,7 @@ ghost use Rattle.ic_book.specs.Sheets.{sheets_of};
 use ic_laws::{Text, agree};
 
 /// A sheet of a book: its id and its name.
-#[derive(Debug, Drop)]
+#[derive(Drop)]
 pub struct Worksheet {
     pub id: u32,
     pub name: Text,

@@ -1,24 +1,11 @@
--- The program's start and its statuses.
-use Rattle.std.proofs.Common.{◌≡◌, ℕ, List, Option, Some, None, IsSome, IsNone, IfSome, Result, Ok, Err, OnOk, codes, refl, arith, rules, length, ◌==◌, true, [], ◌∷◌}
+-- The program's words, its start and its statuses.
+use Rattle.std.proofs.Common.{String, ◌≡◌, ℕ, List, [], ◌∷◌, get_or, Some, None, Result, Ok, Err, OnOk, bytes_eq, codes, string_bytes, refl, arith, length, ◌==◌, true, false, sym, ◌∙◌, ap}
 use Rattle.std.proofs.lemmas.Bool.{eqb-true}
 use Rattle.std.specs.Str.{chars}
-use Rattle.ic_laws.specs.CoreStep.{Refusal}
-use Rattle.ic_tables.specs.Tables.{TableSet}
+use Rattle.std.specs.declared.alloc.Global.{Global}
 use Rattle.ic_lines.specs.declared.error.RunError.{RunError}
 use Rattle.ic_lines.specs.declared.error.RunError.TheVariants as run
-use Rattle.ic_book.specs.declared.error.BookError.{BookError}
-use Rattle.ic_book.specs.declared.error.BookError.TheVariants as book
-use Rattle.ic_book.specs.Book.{new_book, new_book_refusal}
-use Rattle.ic_book.specs.Refused.{refusal_of}
-use Rattle.ic_desk.specs.Desk.{start, start_refusal, run_status, start_status}
-
-pub start_is : (tables : TableSet) → new_book (chars (codes "workbook")) (chars (codes "en")) (chars (codes "UTC")) (chars (codes "en")) tables ≡ start tables
-unfolding chars
-start_is tables = refl
-
-pub start_refusal_is : (tables : TableSet) → new_book_refusal (chars (codes "en")) (chars (codes "UTC")) (chars (codes "en")) tables ≡ start_refusal tables
-unfolding chars
-start_refusal_is tables = refl
+use Rattle.ic_desk.specs.Desk.{setting_of, run_status, texts}
 
 -- the status 0 is that of Ok
 pub on_ok_at_0 : (r : Result ℕ RunError) (P : Type 0) → OnOk r P → run_status r ≡ 0 → P
@@ -28,40 +15,54 @@ on_ok_at_0 (Err run.WriteFault) P h e = absurd (omega (arith, e))
 on_ok_at_0 (Err run.TooManyTurns) P h e = absurd (omega (arith, e))
 on_ok_at_0 (Err run.OutOfMemory) P h e = absurd (omega (arith, e))
 
-pub some_is_told : {T : Type 0} (o : Option T) (x : T) → o ≡ Some x → IsSome o
-some_is_told None x e = absurd (cc)
-some_is_told (Some y) x e = search rules
-
-pub none_is_not_some : {T : Type 0} (o : Option T) → o ≡ None → IsSome o → ⊥
-none_is_not_some None e h = cc
-none_is_not_some (Some x) e h = cc
-
-pub told_is_not_none : {T : Type 0} (o : Option T) (x : T) → o ≡ Some x → IsNone o → ⊥
-told_is_not_none None x e h = cc
-told_is_not_none (Some y) x e h = cc
-
--- the status 2 tells a refusal
-pub refused_at_2 : (e : BookError) (refusal : Option Refusal) → IfSome (refusal_of e) (λ told. refusal ≡ Some told) → start_status e ≡ 2 → IsSome refusal
-refused_at_2 book.OutOfMemory r h s = absurd (omega (arith, s))
-refused_at_2 book.BadLine r h s = some_is_told r _ h
-refused_at_2 book.InvalidSheetName r h s = some_is_told r _ h
-refused_at_2 book.SheetExists r h s = some_is_told r _ h
-refused_at_2 book.IdsUsedUp r h s = some_is_told r _ h
-refused_at_2 book.InvalidLocale r h s = some_is_told r _ h
-refused_at_2 book.InvalidLanguage r h s = some_is_told r _ h
-refused_at_2 book.InvalidTimezone r h s = some_is_told r _ h
-
--- without a refusal an error is want of memory
-pub unrefused_at_6 : (e : BookError) (refusal : Option Refusal) → IfSome (refusal_of e) (λ told. refusal ≡ Some told) → IsNone refusal → start_status e ≡ 6
-unrefused_at_6 book.OutOfMemory r h n = refl
-unrefused_at_6 book.BadLine r h n = absurd (told_is_not_none r _ h n)
-unrefused_at_6 book.InvalidSheetName r h n = absurd (told_is_not_none r _ h n)
-unrefused_at_6 book.SheetExists r h n = absurd (told_is_not_none r _ h n)
-unrefused_at_6 book.IdsUsedUp r h n = absurd (told_is_not_none r _ h n)
-unrefused_at_6 book.InvalidLocale r h n = absurd (told_is_not_none r _ h n)
-unrefused_at_6 book.InvalidLanguage r h n = absurd (told_is_not_none r _ h n)
-unrefused_at_6 book.InvalidTimezone r h n = absurd (told_is_not_none r _ h n)
-
 pub empty_list : {X : Type 0} (xs : List X) → (length xs == 0) ≡ true → xs ≡ []
 empty_list [] h = refl
 empty_list (x ∷ xs) h = absurd (omega (arith, eqb-true (length (x ∷ xs)) 0 h))
+
+-- without words the setting is en, en and UTC
+pub no_words : Some (record { locale = chars (codes "en"); language = chars (codes "en"); zone = chars (codes "UTC") }) ≡ setting_of []
+unfolding chars
+no_words = refl
+
+run_chars : codes "run" ≡ chars (codes "run")
+unfolding chars
+run_chars = refl
+
+-- four words are taken apart
+four_words : {X : Type 0} (words : List X) → length words ≡ 4 → (a : X) × (b : X) × (c : X) × (d : X) × (words ≡ a ∷ b ∷ c ∷ d ∷ [])
+four_words [] h = absurd (omega (arith, h))
+four_words (a ∷ []) h = absurd (omega (arith, h))
+four_words (a ∷ b ∷ []) h = absurd (omega (arith, h))
+four_words (a ∷ b ∷ c ∷ []) h = absurd (omega (arith, h))
+four_words (a ∷ b ∷ c ∷ d ∷ []) h = (a, b, c, d, refl)
+four_words (a ∷ b ∷ c ∷ d ∷ e ∷ words) h = absurd (omega (arith, h))
+
+-- a word at a place of them, and its text
+word_text : (words : List (String Global)) (i : ℕ) (w at : String Global) (t : List ℕ) → t ≡ string_bytes w → w ≡ get_or words i w → ((x : String Global) → get_or words i x ≡ at) → chars t ≡ chars (string_bytes at)
+word_text words i w at t e is there = ap chars (e ∙ ap string_bytes (is ∙ there w))
+
+-- words that don't begin with run name nothing
+pub other_name : (words : List (String Global)) (w : String Global) (t : List ℕ) → length words ≡ 4 → w ≡ get_or words 0 w → t ≡ string_bytes w → bytes_eq (chars t) (chars (codes "run")) ≡ false → None ≡ setting_of (texts words)
+other_name words w t four is e other =
+    let p = four_words words four in
+    let first : chars t ≡ chars (string_bytes p.0) = word_text words 0 w p.0 t e is (λ x. ap (λ v. get_or v 0 x) p.4) in
+    let no : bytes_eq (chars (string_bytes p.0)) (codes "run") ≡ false = ap (λ v. bytes_eq v (codes "run")) (sym first) ∙ ap (bytes_eq (chars t)) run_chars ∙ other in
+    let at : setting_of (texts (p.0 ∷ p.1 ∷ p.2 ∷ p.3 ∷ [])) ≡ None = rw no refl in
+    sym (ap (λ v. setting_of (texts v)) p.4 ∙ at)
+
+-- words that do name what follows it
+pub run_words : (words : List (String Global)) (w wl wg wz : String Global) (t l g z : List ℕ) → length words ≡ 4 → w ≡ get_or words 0 w → wl ≡ get_or words 1 wl → wg ≡ get_or words 2 wg → wz ≡ get_or words 3 wz
+    → t ≡ string_bytes w → l ≡ string_bytes wl → g ≡ string_bytes wg → z ≡ string_bytes wz → bytes_eq (chars t) (chars (codes "run")) ≡ true
+    → Some (record { locale = chars l; language = chars g; zone = chars z }) ≡ setting_of (texts words)
+run_words words w wl wg wz t l g z four is is_l is_g is_z e e_l e_g e_z named =
+    let p = four_words words four in
+    let first : chars t ≡ chars (string_bytes p.0) = word_text words 0 w p.0 t e is (λ x. ap (λ v. get_or v 0 x) p.4) in
+    let locale : chars l ≡ chars (string_bytes p.1) = word_text words 1 wl p.1 l e_l is_l (λ x. ap (λ v. get_or v 1 x) p.4) in
+    let language : chars g ≡ chars (string_bytes p.2) = word_text words 2 wg p.2 g e_g is_g (λ x. ap (λ v. get_or v 2 x) p.4) in
+    let zone : chars z ≡ chars (string_bytes p.3) = word_text words 3 wz p.3 z e_z is_z (λ x. ap (λ v. get_or v 3 x) p.4) in
+    let run : bytes_eq (chars (string_bytes p.0)) (codes "run") ≡ true = ap (λ v. bytes_eq v (codes "run")) (sym first) ∙ ap (bytes_eq (chars t)) run_chars ∙ named in
+    let at : setting_of (texts (p.0 ∷ p.1 ∷ p.2 ∷ p.3 ∷ [])) ≡ Some (record { locale = chars (string_bytes p.1); language = chars (string_bytes p.2); zone = chars (string_bytes p.3) }) = rw run refl in
+    ap (λ v. Some (record { locale = v; language = chars g; zone = chars z })) locale
+    ∙ ap (λ v. Some (record { locale = chars (string_bytes p.1); language = v; zone = chars z })) language
+    ∙ ap (λ v. Some (record { locale = chars (string_bytes p.1); language = chars (string_bytes p.2); zone = v })) zone
+    ∙ sym (ap (λ v. setting_of (texts v)) p.4 ∙ at)

@@ -1,5 +1,5 @@
 pub mod CommandLemmas
 pub mod DeskLemmas
+pub mod ProgressLemmas
 pub mod ReplyLemmas
 pub mod RunLemmas
-pub mod WordLemmas

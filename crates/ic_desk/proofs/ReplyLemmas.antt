@@ -1,32 +1,76 @@
 -- The texts of replies.
-use Rattle.std.proofs.Common.{◌≡◌, ◌==◌, ◌++◌, ◌∷◌, false, codes, refl}
-use Rattle.std.specs.List.{list_any}
-use Rattle.std.specs.Str.{chars}
-use Rattle.ic_book.specs.declared.error.BookError.{BookError}
-use Rattle.ic_book.specs.declared.error.BookError.TheVariants as errors
-use Rattle.ic_book.specs.Refused.{variant_name}
+use Rattle.std.proofs.Common.{◌≡◌, ◌⊎◌, ℕ, ◌-◌, ◌<◌, List, [], ◌∷◌, ◌++◌, length, take, get_or, false, true, Option, Some, None, Ok, Err, chars, encode_utf8_all, refl, ap, sym, ◌∙◌, inl, inr, arith, length-append}
+use lib.Utf8.{scalars}
+use Rattle.std.proofs.Math.Seq.{get_or-append_seam}
+use Rattle.std.proofs.lemmas.List.{take_at}
+use Rattle.std.proofs.lemmas.Str.{chars-encodes}
+use Rattle.ic_laws.specs.CoreBook.{CoreBook}
+use Rattle.ic_laws.specs.CoreStep.{AddSheet, BadLine, Command, IdsUsedUp, InvalidLanguage, InvalidLocale, InvalidSheetName, InvalidTimezone, Refusal, SheetExists, add_sheet_refusal, unless_refused, with_new_sheet}
+use Rattle.ic_laws.specs.Lines.{Reply, command_of, command_step, line_step, outcome_of, reply_bytes, reply_text}
+use Rattle.ic_lines.specs.Reading.{has_line_feed}
 
-pub ok_text : chars (codes "ok") ≡ codes "ok"
-unfolding chars
-ok_text = refl
+-- a reply without fields
+abbrev IsPlain : Reply → Type 0
+IsPlain reply = (reply ≡ Ok []) ⊎ ((r : Refusal) × (reply ≡ Err r))
 
-pub error_text : (e : BookError) → chars (codes "error\t" ++ variant_name e) ≡ codes "error" ++ 9 ∷ variant_name e
-unfolding chars
-error_text errors.BadLine = refl
-error_text errors.InvalidSheetName = refl
-error_text errors.SheetExists = refl
-error_text errors.IdsUsedUp = refl
-error_text errors.InvalidLocale = refl
-error_text errors.InvalidLanguage = refl
-error_text errors.InvalidTimezone = refl
-error_text errors.OutOfMemory = refl
+plain_outcome : (core book : CoreBook) (o : Option Refusal) → IsPlain (outcome_of core (unless_refused o book [])).1
+plain_outcome core book None = inl refl
+plain_outcome core book (Some r) = inr (r, refl)
 
-pub error_is_line : (e : BookError) → list_any (λ c. c == 10) (codes "error" ++ 9 ∷ variant_name e) ≡ false
-error_is_line errors.BadLine = refl
-error_is_line errors.InvalidSheetName = refl
-error_is_line errors.SheetExists = refl
-error_is_line errors.IdsUsedUp = refl
-error_is_line errors.InvalidLocale = refl
-error_is_line errors.InvalidLanguage = refl
-error_is_line errors.InvalidTimezone = refl
-error_is_line errors.OutOfMemory = refl
+plain_step : (core : CoreBook) (o : Option Command) → IsPlain (command_step core o).1
+plain_step core None = inr (BadLine, refl)
+plain_step core (Some (AddSheet name)) = plain_outcome core (with_new_sheet core name) (add_sheet_refusal core name)
+
+refusal_scalars : (r : Refusal) → scalars (reply_text (Err r)) ≡ true
+refusal_scalars BadLine = refl
+refusal_scalars InvalidSheetName = refl
+refusal_scalars SheetExists = refl
+refusal_scalars IdsUsedUp = refl
+refusal_scalars InvalidLocale = refl
+refusal_scalars InvalidLanguage = refl
+refusal_scalars InvalidTimezone = refl
+
+refusal_is_line : (r : Refusal) → has_line_feed (reply_text (Err r)) ≡ false
+refusal_is_line BadLine = refl
+refusal_is_line InvalidSheetName = refl
+refusal_is_line SheetExists = refl
+refusal_is_line IdsUsedUp = refl
+refusal_is_line InvalidLocale = refl
+refusal_is_line InvalidLanguage = refl
+refusal_is_line InvalidTimezone = refl
+
+-- the bytes of a reply without the last are its text, which has no line feed
+plain_text : (reply : Reply) → IsPlain reply → (chars (encode_utf8_all (reply_text reply)) ≡ reply_text reply) × (has_line_feed (reply_text reply) ≡ false)
+plain_text reply p = elim p [
+  | inl e ↦ (ap (λ r. chars (encode_utf8_all (reply_text r))) e ∙ chars-encodes (reply_text (Ok [])) refl ∙ ap reply_text (sym e), ap (λ r. has_line_feed (reply_text r)) e)
+  | inr e ↦ (
+    ap (λ r. chars (encode_utf8_all (reply_text r))) e.1 ∙ chars-encodes (reply_text (Err e.0)) (refusal_scalars e.0) ∙ ap reply_text (sym e.1),
+    ap (λ r. has_line_feed (reply_text r)) e.1 ∙ refusal_is_line e.0,
+  )
+]
+
+without_last : (front bytes : List ℕ) (len : ℕ) → bytes ≡ front ++ 10 ∷ [] → len ≡ length bytes → take (len - 1) bytes ≡ front
+without_last front bytes len e l =
+    let n : length front ≡ len - 1 = omega (arith, l, ap length e, length-append front (10 ∷ [])) in
+    ap (take (len - 1)) e ∙ take_at front (10 ∷ []) (len - 1) n
+
+pub some_byte : (front bytes : List ℕ) (len : ℕ) → bytes ≡ front ++ 10 ∷ [] → len ≡ length bytes → 0 < len
+some_byte front bytes len e l = omega (arith, l, ap length e, length-append front (10 ∷ []))
+
+-- the last byte is the line feed
+pub last_byte : (front bytes : List ℕ) (len : ℕ) → bytes ≡ front ++ 10 ∷ [] → len ≡ length bytes → get_or bytes (len - 1) 0 < 128
+last_byte front bytes len e l =
+    let n : length front ≡ len - 1 = omega (arith, l, ap length e, length-append front (10 ∷ [])) in
+    let at : get_or bytes (len - 1) 0 ≡ 10 = ap (λ v. get_or v (len - 1) 0) e ∙ ap (λ i. get_or (front ++ 10 ∷ []) i 0) (sym n) ∙ get_or-append_seam front 10 [] 0 in
+    omega (arith, at)
+
+-- a reply whose last byte went
+module _ (core : CoreBook) (line bytes cut : List ℕ) (len : ℕ) (is_reply : bytes ≡ reply_bytes (line_step core line).1) (is_len : len ≡ length bytes) (is_cut : cut ≡ take (len - 1) bytes) where
+  text : (chars (encode_utf8_all (reply_text (line_step core line).1)) ≡ reply_text (line_step core line).1) × (has_line_feed (reply_text (line_step core line).1) ≡ false)
+  text = plain_text (line_step core line).1 (plain_step core (command_of line))
+
+  pub cut_reply : chars cut ≡ reply_text (line_step core line).1
+  cut_reply = ap chars (is_cut ∙ without_last (encode_utf8_all (reply_text (line_step core line).1)) bytes len is_reply is_len) ∙ text.0
+
+  pub cut_is_line : has_line_feed (chars cut) ≡ false
+  cut_is_line = ap has_line_feed cut_reply ∙ text.1

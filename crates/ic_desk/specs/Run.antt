@@ -1,6 +1,9 @@
--- What a run of lines leaves, and the causes of its errors.
-use Rattle.std.specs.Prelude.{◌≡◌, ℕ, List, [], ◌++◌, length}
+-- What a run of lines leaves and writes, at its end and after an error.
+use Rattle.std.specs.Prelude.{◌≡◌, ℕ, ◌+◌, ◌<◌, ◌≤◌, ◌⊎◌, List, [], ◌++◌, length, take, Option}
+use Rattle.ic_laws.specs.CoreBook.{CoreBook}
 use Rattle.ic_laws.specs.Lines.{texts_of, after, replies}
+use Rattle.ic_lines.specs.Bytes.{IfTold}
+use Rattle.ic_lines.specs.Reading.{line_feeds}
 use Rattle.ic_lines.specs.declared.error.RunError.{RunError}
 use Rattle.ic_lines.specs.declared.error.RunError.TheVariants as errors
 use Rattle.ic_book.specs.Book.{Book, core_of, with_core}
@@ -11,26 +14,51 @@ pub record TakesAll (old new : Book) (lines : ℕ) (bytes left : List ℕ) : Typ
   pub count : lines ≡ length (texts_of bytes)
   pub book : new ≡ with_core old (after (core_of old) (texts_of bytes))
 
--- the machine's replies to the lines of the bytes stand behind what was written before
-abbrev pub AppendsReplies : Book → List ℕ → List ℕ → List ℕ → Type 0
-AppendsReplies old bytes before now = now ≡ before ++ replies (core_of old) (texts_of bytes)
+-- the machine's replies to the lines of the bytes stand after what was written before
+abbrev pub AppendsReplies : CoreBook → List ℕ → List ℕ → List ℕ → Type 0
+AppendsReplies core bytes before now = now ≡ before ++ replies core (texts_of bytes)
 
--- some of the first lines are done, so many, and the book is as they leave it; these lines are left
-pub record HasDone (old new : Book) (count : ℕ) (lines left : List (List ℕ)) : Type 0 where
-  pub done : List (List ℕ)
-  pub front : lines ≡ done ++ left
-  pub count_is : count ≡ length done
-  pub book : new ≡ with_core old (after (core_of old) done)
+-- so many lines were read with the line feed that ends them, or the source to its end
+abbrev pub AreRead : ℕ → List ℕ → List ℕ → Type 0
+AreRead count bytes left = (left ≡ []) ⊎ (count + line_feeds left ≤ line_feeds bytes)
 
--- the book is as some of the first lines leave it
-abbrev pub IsAfterSome : Book → Book → List (List ℕ) → Type 0
-IsAfterSome old new lines = (count : ℕ) × (left : List (List ℕ)) × HasDone old new count lines left
+-- the book is as the first so many lines leave it
+pub record IsAfterLines (old new : Book) (count : ℕ) (lines : List (List ℕ)) : Type 0 where
+  pub within : count ≤ length lines
+  pub book : new ≡ with_core old (after (core_of old) (take count lines))
 
--- what was written, with the replies to the lines that are left, is what the whole run is to write
-abbrev pub HasReplied : Book → Book → List (List ℕ) → List (List ℕ) → List ℕ → List ℕ → Type 0
-HasReplied old new lines left before now = now ++ replies (core_of new) left ≡ before ++ replies (core_of old) lines
+-- the replies to the first so many lines were appended
+abbrev pub HasReplied : CoreBook → ℕ → List (List ℕ) → List ℕ → List ℕ → Type 0
+HasReplied core count lines before now = now ≡ before ++ replies core (take count lines)
 
--- each error has its cause: a fault of the source, a fault of the sink, too many turns; want of memory needs none
+-- the replies to the first so many lines were appended, and of the next line's reply a front that isn't all of it
+pub record HasPartlyReplied (core : CoreBook) (count : ℕ) (lines : List (List ℕ)) (before now : List ℕ) : Type 0 where
+  pub bytes : ℕ
+  pub whole : length (replies core (take count lines)) ≤ bytes
+  pub part : bytes < length (replies core (take (count + 1) lines))
+  pub written : now ≡ before ++ take bytes (replies core (take (count + 1) lines))
+
+-- exactly the first so many lines were answered: the book is as they leave it, and their replies were appended
+pub record HasAnswered (old new : Book) (count : ℕ) (bytes left : List ℕ) (before now : Option (List ℕ)) : Type 0 where
+  pub read : AreRead count bytes left
+  pub book : IsAfterLines old new count (texts_of bytes)
+  pub replied : IfTold before now (HasReplied (core_of old) count (texts_of bytes))
+
+-- the same, and one line more, whose reply was appended in part
+pub record HasPartlyAnswered (old new : Book) (count : ℕ) (bytes left : List ℕ) (before now : Option (List ℕ)) : Type 0 where
+  pub read : AreRead (count + 1) bytes left
+  pub book : IsAfterLines old new (count + 1) (texts_of bytes)
+  pub replied : IfTold before now (HasPartlyReplied (core_of old) count (texts_of bytes))
+
+-- What an error leaves. Where a read failed or there were too many turns, each line whose line feed was read was
+-- answered; where memory ran out, some of the first lines were; where a write failed, the last of them in part.
+abbrev pub Leaves : RunError → Book → Book → List ℕ → List ℕ → Option (List ℕ) → Option (List ℕ) → Type 0
+Leaves errors.ReadFault old new bytes left before now = (count : ℕ) × HasAnswered old new count bytes left before now × (count + line_feeds left ≡ line_feeds bytes)
+Leaves errors.TooManyTurns old new bytes left before now = (count : ℕ) × HasAnswered old new count bytes left before now × (count + line_feeds left ≡ line_feeds bytes)
+Leaves errors.OutOfMemory old new bytes left before now = (count : ℕ) × HasAnswered old new count bytes left before now
+Leaves errors.WriteFault old new bytes left before now = (count : ℕ) × HasPartlyAnswered old new count bytes left before now
+
+-- each error has its cause: a fault of the source, a fault of the sink, too many turns; that memory ran out needs none
 abbrev pub HasCause : (read write turns : Type 0) → RunError → Type 0
 HasCause read write turns errors.ReadFault = read
 HasCause read write turns errors.WriteFault = write

@@ -1,8 +1,8 @@
-ghost use Rattle.std.specs.Prelude.{◌≡◌, ◌==◌, ◌+◌, ◌++◌, ◌≤◌, ◌∷◌, [], false, Ok, chars, length, codes, IfOk, OnOk, OnErr, string_bytes, string_len, string_capacity};
-ghost use Rattle.std.specs.List.{list_any};
-ghost use Rattle.ic_laws.specs.Lines.{line_step, reply_text};
+ghost use Rattle.std.specs.Prelude.{◌≡◌, ◌+◌, ◌++◌, ◌≤◌, [], false, Ok, Err, chars, length, IfOk, IfSome, OnOk, OnErr, string_bytes, string_len, string_capacity};
+ghost use Rattle.ic_laws.specs.Lines.{line_step, reply_bytes, reply_text};
+ghost use Rattle.ic_lines.specs.Reading.{has_line_feed};
 ghost use Rattle.ic_book.specs.Book.{core_of, with_core};
-ghost use Rattle.ic_book.specs.Refused.{variant_name};
+ghost use Rattle.ic_book.specs.Refused.{refusal_of};
 
 use crate::command::{Command, read_command};
 use ic_book::{BookError, Model};
@@ -13,10 +13,10 @@ use std::alloc::Global;
 /// The bytes that are reserved for a reply before its command changes the book.
 const REPLY_ROOM: usize = 512;
 
-/// One step of the machine: what a line does to the book, and its reply without the line feed at its end. Want of
-/// memory changes nothing.
-pub fn answer_line(alloc: Global, model: &mut Model<'_>, line: &Line) -> Result<Line, OutOfMemory>
-    ensures reply { IfOk result (λ reply. reply ≡ reply_text (line_step (core_of model.old) line.now).1) }
+/// One step of the machine: what a line does to the book, and its reply with the line feed at its end. Where memory
+/// runs out nothing has changed.
+pub fn reply_to(alloc: Global, model: &mut Model<'_>, line: &Line) -> Result<String, OutOfMemory>
+    ensures reply { IfOk result (λ reply. string_bytes reply ≡ reply_bytes (line_step (core_of model.old) line.now).1) }
     ensures book { OnOk result (model.new ≡ with_core model.old (line_step (core_of model.old) line.now).0) }
     ensures err { OnErr result (model.new ≡ model.old) }
 {
@@ -32,25 +32,37 @@ pub fn answer_line(alloc: Global, model: &mut Model<'_>, line: &Line) -> Result<
     }
 }
 
+/// The same, with the reply as a line: without the line feed at its end.
+pub fn answer_line(alloc: Global, model: &mut Model<'_>, line: &Line) -> Result<Line, OutOfMemory>
+    ensures reply { IfOk result (λ reply. reply ≡ reply_text (line_step (core_of model.old) line.now).1) }
+    ensures book { OnOk result (model.new ≡ with_core model.old (line_step (core_of model.old) line.now).0) }
+    ensures err { OnErr result (model.new ≡ model.old) }
+{
+    let mut reply = reply_to(alloc, model, line)?;
+    reply.pop();
+    Ok(whole(reply))
+}
+
 /// The reply `ok`, written into a text that has room for it.
-fn ok_reply(mut reply: String) -> Line
+fn ok_reply(mut reply: String) -> String
     requires empty { string_bytes reply ≡ [] }
     requires room { 512 ≤ string_capacity reply }
-    ensures { result ≡ reply_text (Ok []) }
+    ensures { string_bytes result ≡ reply_bytes (Ok []) }
 {
-    append(&mut reply, "ok");
-    whole(reply)
+    append(&mut reply, "ok\n");
+    reply
 }
 
 /// The reply that tells an error, written into a text that has room for it.
-fn error_reply(mut reply: String, e: &BookError) -> Line
+fn error_reply(mut reply: String, e: &BookError) -> String
     requires empty { string_bytes reply ≡ [] }
     requires room { 512 ≤ string_capacity reply }
-    ensures { result ≡ codes "error" ++ 9 ∷ variant_name e.now }
+    ensures { IfSome (refusal_of e.now) (λ refusal. string_bytes result ≡ reply_bytes (Err refusal)) }
 {
     append(&mut reply, "error\t");
     append(&mut reply, e.name());
-    whole(reply)
+    append(&mut reply, "\n");
+    reply
 }
 
 /// Adds a piece for which there is room.
@@ -64,7 +76,7 @@ fn append(reply: &mut String, piece: &str)
 
 /// The text as a line, which it is.
 fn whole(text: String) -> Line
-    requires { list_any (λ c. c == 10) (chars (string_bytes text)) ≡ false }
+    requires { has_line_feed (chars (string_bytes text)) ≡ false }
     ensures { result ≡ chars (string_bytes text) }
 {
     match Line::new(Text::from(text)) {

@@ -2,10 +2,9 @@ ghost use Rattle.std.specs.Prelude.{◌≡◌, IfOk, chars, option_map};
 ghost use Rattle.ic_laws.specs.Lines.{command_of};
 ghost use Rattle.ic_desk.specs.Meaning.{meaning};
 
-use crate::words::words_of;
 use ic_laws::scan::same_text;
 use ic_laws::{OutOfMemory, Text};
-use ic_lines::unescape;
+use ic_lines::{unescape, words_of};
 use std::alloc::Global;
 
 /// A command that the program serves, with its texts.

@@ -1,20 +1,31 @@
-ghost use Rattle.std.specs.Prelude.{◌≡◌, ◌≢◌, ◌⊎◌, ◌↔◌, ◌+◌, ◌<◌, ◌≤◌, ◌^◌, [], length, IsNone, IsSome, IsSomeAnd};
+ghost use Rattle.std.specs.Prelude.{◌≡◌, ◌⊎◌, ◌↔◌, ◌+◌, ◌<◌, ◌≤◌, ◌^◌, [], length, option_map, IfSome, IsNone, IsSome, IsSomeAnd};
 ghost use Rattle.ic_lines.specs.Bytes.{IfTold, HasFault};
-ghost use Rattle.ic_desk.specs.Desk.{start, start_refusal, run_status, start_status};
+ghost use Rattle.ic_desk.specs.Desk.{setting_of, start, start_refusal, start_status, run_status, texts};
+ghost use Rattle.ic_desk.specs.Meaning.{setting};
 ghost use Rattle.ic_desk.specs.Run.{AppendsReplies};
 
 use crate::run::run;
 use ic_book::{BookError, Model};
+use ic_laws::scan::same_text;
 use ic_lines::{RunError, Sink, Source};
 use ic_tables::Tables;
 use jiff::Timestamp;
 use std::alloc::Global;
 
-/// Does all that the program does, and answers its status. Without words it is `run` on a new book in the locale
-/// `en`, the language `en` and the zone `UTC`.
+/// The locale, the language and the zone that the program begins with.
+#[derive(Drop)]
+pub struct Start<'a> {
+    locale: &'a str,
+    language: &'a str,
+    zone: &'a str,
+}
+
+/// Does all that the program does, and answers its status. The words `run LOCALE LANGUAGE ZONE` are `run` on a new
+/// book in this locale, this language and this zone; no words are `run en en UTC`.
 ///
-/// The status is 0 where `run` answers Ok, 1 for any words, 2 where the tables lack the locale, the language or the
-/// zone, 3 for `ReadFault`, 4 for `WriteFault`, 5 for `TooManyTurns`, 6 for want of memory.
+/// The status is 0 where `run` answers Ok, 1 exactly for any other words, 2 exactly where it isn't 1 and the tables
+/// lack the locale, the language or the zone, 3 for `ReadFault`, 4 for `WriteFault`, 5 for `TooManyTurns`, 6 where
+/// memory runs out.
 pub fn desk<S: Source, K: Sink>(
     alloc: Global,
     words: &[String],
@@ -25,31 +36,64 @@ pub fn desk<S: Source, K: Sink>(
 ) -> u8
     // With 0 all bytes were taken, and the machine's replies from the start were appended.
     ensures taken { result ≡ 0 → IfTold (S.left source.old) (S.left source.new) (λ bytes left. left ≡ []) }
-    ensures replies { result ≡ 0 → IfTold (S.left source.old) (S.left source.new) (λ bytes _.
-        IfTold (K.written sink.old) (K.written sink.new) (AppendsReplies (start tables.now) bytes)) }
+    ensures replies { result ≡ 0 → IsSomeAnd (setting_of (texts words.now)) (λ setting. IfTold (S.left source.old) (S.left source.new) (λ bytes _.
+        IfTold (K.written sink.old) (K.written sink.new) (AppendsReplies (start setting) bytes))) }
 
-    // Each other status has its cause; want of memory may come in place of all but 1.
-    ensures usage { (result ≡ 1) ↔ (words.now ≢ []) }
-    ensures unknown { result ≡ 2 → (words.now ≡ []) × IsSome (start_refusal tables.now) }
-    ensures known { words.now ≡ [] → IsSome (start_refusal tables.now) → (result ≡ 2) ⊎ (result ≡ 6) }
+    // Each other status has its cause; that memory ran out may come in place of all but 1 and 2.
+    ensures usage { (result ≡ 1) ↔ IsNone (setting_of (texts words.now)) }
+    ensures unknown { (result ≡ 2) ↔ IsSomeAnd (setting_of (texts words.now)) (λ setting. IsSome (start_refusal setting tables.now)) }
     ensures untouched { (result ≡ 1) ⊎ (result ≡ 2) → (source.new ≡ source.old) × (sink.new ≡ sink.old) }
     ensures read_fault { result ≡ 3 → HasFault (S.faults source.old) (S.faults source.new) }
     ensures write_fault { result ≡ 4 → HasFault (K.faults sink.old) (K.faults sink.new) }
     ensures too_many { result ≡ 5 → IfTold (S.left source.old) (S.left source.new) (λ before now. 2 ^ 32 + length now ≤ length before) }
     ensures most { result ≤ 6 }
 
-    // Where there is no fault, and the source holds fewer than 2^32 bytes, only want of memory is left beside 0.
-    ensures completes { words.now ≡ [] → IsNone (start_refusal tables.now) → IsSomeAnd (S.left source.old) (λ bytes. length bytes < 2 ^ 32)
+    // Where there is no fault, and the source holds fewer than 2^32 bytes, only that memory runs out is left beside 0.
+    ensures completes { IsSomeAnd (setting_of (texts words.now)) (λ setting. IsNone (start_refusal setting tables.now))
+        → IsSomeAnd (S.left source.old) (λ bytes. length bytes < 2 ^ 32)
         → ¬ HasFault (S.faults source.old) (S.faults source.new) → ¬ HasFault (K.faults sink.old) (K.faults sink.new)
         → (result ≡ 0) ⊎ (result ≡ 6) }
 {
-    if !words.is_empty() {
+    let Some(start) = start_named(words) else {
         return 1;
-    }
-    match Model::new_empty(alloc, "workbook", "en", "UTC", "en", tables, moment) {
+    };
+    let book = Model::new_empty(
+        alloc,
+        "workbook",
+        start.locale,
+        start.zone,
+        start.language,
+        tables,
+        moment,
+    );
+    match book {
         Ok(mut model) => status_of(run(alloc, &mut model, source, sink)),
         Err(e) => status_without_book(&e),
     }
+}
+
+/// What the words name: en, en and UTC where there are none; None where they are no stated form.
+fn start_named(words: &[String]) -> Option<Start<'_>>
+    ensures { option_map setting result ≡ setting_of (texts words.now) }
+{
+    if words.is_empty() {
+        return Some(Start {
+            locale: "en",
+            language: "en",
+            zone: "UTC",
+        });
+    }
+    if words.len() != 4 {
+        return None;
+    }
+    if !same_text(words[0].as_str(), "run") {
+        return None;
+    }
+    Some(Start {
+        locale: words[1].as_str(),
+        language: words[2].as_str(),
+        zone: words[3].as_str(),
+    })
 }
 
 /// The status for what `run` answered.

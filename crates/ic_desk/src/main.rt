@@ -10,7 +10,6 @@ mod desk;
 mod run;
 #[cfg(test)]
 mod tests;
-mod words;
 
 use ic_lines::{StdSink, StdSource};
 use ic_tables::sample_tables;
@@ -50,7 +49,7 @@ fn status(rt: &HostRuntime) -> u8 {
     )
 }
 
-/// The words behind the program's name.
+/// The words after the program's name.
 fn words_given(rt: &HostRuntime) -> io::Result<Vec<String>> {
     let mut words = Vec::new(rt.alloc());
     for word in env::args(rt)?.skip(1) {

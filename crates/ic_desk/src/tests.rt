@@ -1,193 +1,198 @@
+use crate::answer::answer_line;
 use crate::desk::desk;
 use crate::run::run;
 use ic_book::Model;
-use ic_lines::{MemorySink, MemorySource, RunError};
+use ic_laws::Text;
+use ic_lines::{
+    Line, LineReader, MemorySink, MemorySource, RunError, StdSink, StdSource, write_all,
+};
 use ic_tables::{Tables, sample_tables};
 use jiff::Timestamp;
 use std::alloc::Global;
+use std::io::{self, Cursor, Read, Write};
 use std::process::Abort;
 use std::test::Fail;
 
-/// Where lines come from, and where replies go.
-#[derive(Drop)]
-struct Ends {
-    source: MemorySource,
-    sink: MemorySink,
-}
+/// What a run answers, the next id of the book that it leaves, and what it writes.
+type Outcome<'a> = (Result<u64, RunError>, u32, &'a str);
 
-fn ends_over(alloc: Global, input: &[u8], chunk: usize) -> Result<Ends, Fail> {
-    failing_ends(alloc, input, chunk, &[], 1000)
-}
-
-/// A source in chunks, of which these reads fail, and a sink with this much room.
-fn failing_ends(
-    alloc: Global,
-    input: &[u8],
-    chunk: usize,
-    failing: &[u64],
-    room: usize,
-) -> Result<Ends, Fail> {
-    let source = MemorySource::new(alloc, input, chunk.max(1), failing)?;
-    let sink = MemorySink::new(alloc, room, &[])?;
-    Ok(Ends { source, sink })
-}
-
-/// What a run on a new book answers, and the next id of the book that it leaves.
-fn run_anew(
-    alloc: Global,
+/// Runs these ends on a new book.
+fn expect_run(
+    rt: &(impl AllocGlobal + Abort),
     tables: &Tables,
-    ends: &mut Ends,
-) -> Result<(Result<u64, RunError>, Option<u32>), Fail> {
+    mut source: MemorySource,
+    mut sink: MemorySink,
+    outcome: &Outcome<'_>,
+) -> Result<(), Fail> {
+    let alloc = rt.alloc();
     let start = Timestamp::UNIX_EPOCH;
     let mut model = Model::new_empty(alloc, "book", "en", "UTC", "en", tables, start)?;
-    let answer = run(alloc, &mut model, &mut ends.source, &mut ends.sink);
-    Ok((answer, model.get_new_sheet_id()))
-}
-
-/// Lines, their number and their replies.
-const ROWS: [(&str, u64, &str); 5] = [
-    ("", 0, ""),
-    (
-        "add_sheet\tData\nadd_sheet\tDATA\n",
-        2,
-        "ok\nerror\tSheetExists\n",
-    ),
-    (
-        "add_sheet\tAAAAAAAAAABBBBBBBBBBCCCCCCCCCCD\nadd_sheet\tAAAAAAAAAABBBBBBBBBBCCCCCCCCCCDE\nadd_sheet\t \nadd_sheet\t\n",
-        4,
-        "ok\nerror\tInvalidSheetName\nok\nerror\tInvalidSheetName\n",
-    ),
-    (
-        "add_sheet\tA\r\nfoo\n\nadd_sheet\tB",
-        4,
-        "ok\nerror\tBadLine\nerror\tBadLine\nok\n",
-    ),
-    (
-        "add_sheet\tA\\tB\nadd_sheet\tA\\\\B\nadd_sheet\ta\\TB\n",
-        3,
-        "ok\nerror\tInvalidSheetName\nerror\tBadLine\n",
-    ),
-];
-
-/// Runs lines in chunks of this many bytes.
-fn expect_lines(
-    rt: &(impl AllocGlobal + Abort),
-    tables: &Tables,
-    input: &str,
-    chunk: usize,
-    (lines, replies): (u64, &str),
-) -> Result<(), Fail> {
-    let mut ends = ends_over(rt.alloc(), input.as_bytes(), chunk)?;
-    let (answer, _) = run_anew(rt.alloc(), tables, &mut ends)?;
-    assert_eq!(rt; answer, Ok(lines));
-    assert_eq!(rt; ends.sink.bytes(), replies.as_bytes());
+    let told = run(alloc, &mut model, &mut source, &mut sink);
+    assert_eq!(rt; told, outcome.0);
+    assert_eq!(rt; model.get_new_sheet_id(), Some(outcome.1));
+    assert_eq!(rt; sink.bytes(), outcome.2.as_bytes());
     Ok(())
 }
 
+const TWO: &[u8] = b"add_sheet\tData\nadd_sheet\tNext\n";
+
+/// The most bytes of one read, and a read that is never made or fails.
+const READS: [(usize, u64, Outcome<'static>); 10] = [
+    (1, 32, (Ok(2), 4, "ok\nok\n")),
+    (4096, 3, (Ok(2), 4, "ok\nok\n")),
+    (1, 15, (Err(RunError::ReadFault), 2, "")),
+    (1, 16, (Err(RunError::ReadFault), 3, "ok\n")),
+    (8, 3, (Err(RunError::ReadFault), 3, "ok\n")),
+    (15, 2, (Err(RunError::ReadFault), 3, "ok\n")),
+    (29, 2, (Err(RunError::ReadFault), 3, "ok\n")),
+    (30, 2, (Err(RunError::ReadFault), 4, "ok\nok\n")),
+    (4096, 1, (Err(RunError::ReadFault), 2, "")),
+    (4096, 2, (Err(RunError::ReadFault), 4, "ok\nok\n")),
+];
+
 #[test]
-fn answers_lines(rt: HostRuntime) -> Result<(), Fail> {
+fn answers_the_lines_that_it_holds(rt: HostRuntime) -> Result<(), Fail> {
     let tables = sample_tables(rt.alloc())?;
-    for (input, lines, replies) in &ROWS {
-        for chunk in [1, 8, 4096] {
-            expect_lines(&rt, &tables, input, chunk, (*lines, *replies))?;
+    for (chunk, failing, outcome) in &READS {
+        let source = MemorySource::new(rt.alloc(), TWO, (*chunk).max(1), &[*failing])?;
+        let sink = MemorySink::new(rt.alloc(), 1000, &[])?;
+        expect_run(&rt, &tables, source, sink, outcome)?;
+    }
+    Ok(())
+}
+
+/// The room of the sink, and a write that is never made or fails: one write a reply.
+const WRITES: [(usize, u64, Outcome<'static>); 5] = [
+    (6, 3, (Ok(2), 4, "ok\nok\n")),
+    (4, 3, (Err(RunError::WriteFault), 4, "ok\no")),
+    (3, 3, (Err(RunError::WriteFault), 4, "ok\n")),
+    (6, 1, (Err(RunError::WriteFault), 3, "")),
+    (6, 2, (Err(RunError::WriteFault), 4, "ok\n")),
+];
+
+#[test]
+fn stops_at_a_write_that_fails(rt: HostRuntime) -> Result<(), Fail> {
+    let tables = sample_tables(rt.alloc())?;
+    for (room, failing, outcome) in &WRITES {
+        let source = MemorySource::new(rt.alloc(), TWO, 4096, &[])?;
+        let sink = MemorySink::new(rt.alloc(), *room, &[*failing])?;
+        expect_run(&rt, &tables, source, sink, outcome)?;
+    }
+    Ok(())
+}
+
+/// A first line of so many bytes before its line feed, whose second read fails.
+fn expect_first_read(
+    rt: &(impl AllocGlobal + Abort),
+    tables: &Tables,
+    before: usize,
+    written: &str,
+) -> Result<(), Fail> {
+    let mut input = vec![in rt.alloc(); b'a'; before]?;
+    input.extend_from_slice(b"\nb\n")?;
+    let source = MemorySource::new(rt.alloc(), input.as_slice(), 10_000, &[2])?;
+    let sink = MemorySink::new(rt.alloc(), 1000, &[])?;
+    let outcome = (Err(RunError::ReadFault), 2, written);
+    expect_run(rt, tables, source, sink, &outcome)
+}
+
+#[test]
+fn reads_4096_bytes_at_once(rt: HostRuntime) -> Result<(), Fail> {
+    let tables = sample_tables(rt.alloc())?;
+    expect_first_read(&rt, &tables, 4095, "error\tBadLine\n")?;
+    expect_first_read(&rt, &tables, 4096, "")
+}
+
+#[test]
+fn a_line_that_is_not_utf8_is_bad(rt: HostRuntime) -> Result<(), Fail> {
+    let tables = sample_tables(rt.alloc())?;
+    let source = MemorySource::new(rt.alloc(), b"add_sheet\t\xff\n\xef\xbb\xbf", 4, &[])?;
+    let sink = MemorySink::new(rt.alloc(), 1000, &[])?;
+    let outcome = (Ok(2), 2, "error\tBadLine\nerror\tBadLine\n");
+    expect_run(&rt, &tables, source, sink, &outcome)
+}
+
+/// A reader that fails at its second call, and a writer that takes nothing at its second and fails at its third.
+#[derive(Drop)]
+struct Faulty {
+    calls: u64,
+}
+
+impl Read for Faulty {
+    fn read(&mut self, buf: &mut [u8]) -> io::Result<usize> {
+        self.calls = self.calls.saturating_add(1);
+        if self.calls == 2 {
+            return Err(io::Error::from(io::ErrorKind::WouldBlock));
+        }
+        let taken = buf.len().min(3);
+        buf[..taken].copy_from_slice(&b"a\nb"[..taken]);
+        Ok(taken)
+    }
+}
+
+impl Write for Faulty {
+    fn write(&mut self, buf: &[u8]) -> io::Result<usize> {
+        self.calls = self.calls.saturating_add(1);
+        match self.calls {
+            1 => Ok(buf.len()),
+            2 => Ok(0),
+            _ => Err(io::Error::from(io::ErrorKind::WouldBlock)),
         }
     }
-    Ok(())
-}
 
-/// No command: not UTF-8, wrong escapes, too few and too many words, other names, blanks, other case.
-const NO_COMMANDS: [&[u8]; 40] = [
-    b"",
-    b" ",
-    b"\t",
-    b"\t\t",
-    b"\r",
-    b"foo",
-    b"add_sheet",
-    b"add_sheet ",
-    b" add_sheet",
-    b" add_sheet\tA",
-    b"add_sheet \tA",
-    b"add_sheet A",
-    b"\tadd_sheet\tA",
-    b"add_sheet\tA\t",
-    b"add_sheet\tA\tB",
-    b"add_sheet\t\tA",
-    b"add_sheet\t\t",
-    b"Add_sheet\tA",
-    b"ADD_SHEET\tA",
-    b"add_Sheet\tA",
-    b"add-sheet\tA",
-    b"addsheet\tA",
-    b"add_sheets\tA",
-    b"add_shee\tA",
-    b"new_sheet",
-    b"new_sheet\t",
-    b"get_locale",
-    b"set_locale\ten",
-    b"delete_sheet\t0",
-    b"rename_sheet\tSheet1\tA",
-    b"add_sheet\t\\",
-    b"add_sheet\tA\\",
-    b"add_sheet\t\\x",
-    b"add_sheet\t\\N",
-    b"add_sheet\t\\ n",
-    b"add_sheet\t\\\\\\",
-    b"add\\_sheet\tA",
-    b"add_sheet\t\xff",
-    b"add_sheet\t\xc3",
-    b"\xef\xbb\xbfadd_sheet\tA",
-];
-
-/// Runs one line, which is no command.
-fn expect_bad_line(
-    rt: &(impl AllocGlobal + Abort),
-    tables: &Tables,
-    line: &[u8],
-) -> Result<(), Fail> {
-    let mut input = line.to_vec(rt.alloc())?;
-    input.push(b'\n')?;
-    let mut ends = ends_over(rt.alloc(), input.as_slice(), 4096)?;
-    let (answer, next) = run_anew(rt.alloc(), tables, &mut ends)?;
-    assert_eq!(rt; answer, Ok(1));
-    assert_eq!(rt; next, Some(2));
-    assert_eq!(rt; ends.sink.bytes(), b"error\tBadLine\n".as_slice());
-    Ok(())
+    fn flush(&mut self) -> io::Result<()> {
+        Ok(())
+    }
 }
 
 #[test]
-fn answers_bad_lines(rt: HostRuntime) -> Result<(), Fail> {
-    let tables = sample_tables(rt.alloc())?;
-    for line in &NO_COMMANDS {
-        expect_bad_line(&rt, &tables, line)?;
+fn a_reader_that_fails_is_a_fault(rt: HostRuntime) -> Result<(), Fail> {
+    let mut source = StdSource::new(Faulty { calls: 0 });
+    let mut reader = LineReader::new(rt.alloc());
+    assert!(rt; reader.next_line(&mut source)?.is_some());
+    assert!(rt; matches!(reader.next_line(&mut source), Err(RunError::ReadFault)));
+    match reader.next_line(&mut source)? {
+        Some(line) => assert!(rt; line.text().is("ba")),
+        None => panic!(rt; "no line"),
     }
     Ok(())
 }
 
-const TWO_LINES: &[u8] = b"add_sheet\tData\nadd_sheet\tNext\n";
-
-/// Runs the two lines in chunks of 8 bytes over ends that fail.
-fn expect_fault(
-    rt: &(impl AllocGlobal + Abort),
-    failing: &[u64],
-    room: usize,
-    fault: RunError,
-    (next, written): (u32, &str),
-) -> Result<(), Fail> {
-    let tables = sample_tables(rt.alloc())?;
-    let mut ends = failing_ends(rt.alloc(), TWO_LINES, 8, failing, room)?;
-    let (answer, id) = run_anew(rt.alloc(), &tables, &mut ends)?;
-    assert_eq!(rt; answer, Err(fault));
-    assert_eq!(rt; id, Some(next));
-    assert_eq!(rt; ends.sink.bytes(), written.as_bytes());
-    Ok(())
+#[test]
+fn a_writer_that_fails_is_a_fault(rt: HostRuntime) {
+    let mut sink = StdSink::new(Faulty { calls: 0 });
+    assert_eq!(rt; write_all(&mut sink, b"ok\n"), Ok(()));
+    assert_eq!(rt; write_all(&mut sink, b"ok\n"), Err(RunError::WriteFault));
+    assert_eq!(rt; write_all(&mut sink, b"ok\n"), Err(RunError::WriteFault));
 }
 
 #[test]
-fn stops_at_faults(rt: HostRuntime) -> Result<(), Fail> {
-    expect_fault(&rt, &[3], 1000, RunError::ReadFault, (3, "ok\n"))?;
-    expect_fault(&rt, &[], 4, RunError::WriteFault, (4, "ok\no"))
+fn reads_and_writes_by_std(rt: HostRuntime) -> Result<(), Fail> {
+    let tables = sample_tables(rt.alloc())?;
+    let mut source = StdSource::new(Cursor::new(TWO));
+    let mut written = Vec::new(rt.alloc());
+    let mut sink = StdSink::new(&mut written);
+    let start = Timestamp::UNIX_EPOCH;
+    let status = desk(rt.alloc(), &[], &tables, start, &mut source, &mut sink);
+    assert_eq!(rt; status, 0);
+    assert_eq!(rt; written.as_slice(), b"ok\nok\n".as_slice());
+    Ok(())
 }
+
+/// Words of the program, what it writes for one line, and its status.
+const STATUSES: [(&str, &str, u8); 11] = [
+    ("", "ok\n", 0),
+    ("run en en UTC", "ok\n", 0),
+    ("run xx en UTC", "", 2),
+    ("run en xx UTC", "", 2),
+    ("run en en Nowhere", "", 2),
+    ("run en", "", 1),
+    ("run en en", "", 1),
+    ("run en en UTC UTC", "", 1),
+    ("Run en en UTC", "", 1),
+    ("walk xx xx xx", "", 1),
+    ("help", "", 1),
+];
 
 fn words(alloc: Global, text: &str) -> Result<Vec<String>, Fail> {
     let mut words = Vec::new(alloc);
@@ -197,44 +202,64 @@ fn words(alloc: Global, text: &str) -> Result<Vec<String>, Fail> {
     Ok(words)
 }
 
-/// Words, input, output and status.
-const STATUSES: [(&str, &str, &str, u8); 5] = [
-    ("", "", "", 0),
-    ("", "add_sheet\tData\n", "ok\n", 0),
-    ("run en", "add_sheet\tData\n", "", 1),
-    ("help", "add_sheet\tData\n", "", 1),
-    ("run en en UTC", "add_sheet\tData\n", "", 1),
-];
-
-/// Runs the program with these words on this input.
+/// Runs the program with these words over these ends.
 fn expect_status(
     rt: &(impl AllocGlobal + Abort),
-    tables: &Tables,
     given: &str,
-    input: &str,
-    (output, status): (&str, u8),
+    mut source: MemorySource,
+    mut sink: MemorySink,
+    (written, status): (&str, u8),
 ) -> Result<(), Fail> {
-    let given = words(rt.alloc(), given)?;
-    let mut ends = ends_over(rt.alloc(), input.as_bytes(), 4096)?;
-    let moment = Timestamp::UNIX_EPOCH;
+    let alloc = rt.alloc();
+    let tables = sample_tables(alloc)?;
+    let given = words(alloc, given)?;
+    let start = Timestamp::UNIX_EPOCH;
     let told = desk(
-        rt.alloc(),
+        alloc,
         given.as_slice(),
-        tables,
-        moment,
-        &mut ends.source,
-        &mut ends.sink,
+        &tables,
+        start,
+        &mut source,
+        &mut sink,
     );
     assert_eq!(rt; told, status);
-    assert_eq!(rt; ends.sink.bytes(), output.as_bytes());
+    assert_eq!(rt; sink.bytes(), written.as_bytes());
     Ok(())
 }
 
 #[test]
 fn tells_its_status(rt: HostRuntime) -> Result<(), Fail> {
-    let tables = sample_tables(rt.alloc())?;
-    for (given, input, output, status) in &STATUSES {
-        expect_status(&rt, &tables, given, input, (*output, *status))?;
+    for (given, written, status) in &STATUSES {
+        let source = MemorySource::new(rt.alloc(), b"add_sheet\tA\n", 4096, &[])?;
+        let sink = MemorySink::new(rt.alloc(), 1000, &[])?;
+        expect_status(&rt, given, source, sink, (*written, *status))?;
+    }
+    Ok(())
+}
+
+#[test]
+fn tells_faults_by_its_status(rt: HostRuntime) -> Result<(), Fail> {
+    let source = MemorySource::new(rt.alloc(), TWO, 15, &[2])?;
+    let sink = MemorySink::new(rt.alloc(), 1000, &[])?;
+    expect_status(&rt, "", source, sink, ("ok\n", 3))?;
+    let source = MemorySource::new(rt.alloc(), TWO, 15, &[])?;
+    let sink = MemorySink::new(rt.alloc(), 4, &[])?;
+    expect_status(&rt, "run en en UTC", source, sink, ("ok\no", 4))
+}
+
+#[test]
+fn a_book_tells_when_it_was_made(rt: HostRuntime) -> Result<(), Fail> {
+    let alloc = rt.alloc();
+    let tables = sample_tables(alloc)?;
+    let moment = Timestamp::from_second(1_000_000_000)?;
+    let mut model = Model::new_empty(alloc, "book", "en", "UTC", "en", &tables, moment)?;
+    assert!(rt; model.created().is("2001-09-09T01:46:40Z"));
+    match Line::new(Text::from_str(alloc, "add_sheet\tsheet1")?) {
+        Some(line) => {
+            let reply = answer_line(alloc, &mut model, &line)?;
+            assert!(rt; reply.text().is("error\tSheetExists"));
+        }
+        None => panic!(rt; "no line"),
     }
     Ok(())
 }

@@ -66,7 +66,7 @@ spells_escape so left more w d m e k h =
 pub spells_none_at_end : (so left : List ℕ) (w : Option (List ℕ)) → left ≡ 92 ∷ [] → option_map (λ t. so ++ t) (unescaped left) ≡ w → None ≡ w
 spells_none_at_end so left w e h = ap (λ l. option_map (λ t. so ++ t) (unescaped l)) (sym e) ∙ h
 
--- a backslash with a character behind it that it means nothing with
+-- a backslash with a character after it that it means nothing with
 pub spells_none : (so left more : List ℕ) (w : Option (List ℕ)) (d : ℕ) → left ≡ 92 ∷ d ∷ more → None ≡ escape_meaning d → option_map (λ t. so ++ t) (unescaped left) ≡ w → None ≡ w
 spells_none so left more w d e k h =
     ap (λ o. option_map (λ t. so ++ t) (option_and_then (λ m. option_map (λ t. m ∷ t) (unescaped more)) o)) k
@@ -81,25 +81,25 @@ some_front : (c : ℕ) (o : Option (List ℕ)) → IsSome o → IsSome (option_m
 some_front c None s = s
 some_front c (Some t) s = refl
 
-some_behind : (c : ℕ) (o : Option (List ℕ)) → IsSome (option_map (λ t. c ∷ t) o) → IsSome o
-some_behind c None s = s
-some_behind c (Some t) s = refl
+some_after : (c : ℕ) (o : Option (List ℕ)) → IsSome (option_map (λ t. c ∷ t) o) → IsSome o
+some_after c None s = s
+some_after c (Some t) s = refl
 
-none_behind : (c : ℕ) (o : Option (List ℕ)) → option_map (λ t. c ∷ t) o ≡ None → o ≡ None
-none_behind c None e = refl
-none_behind c (Some t) e = cc
+none_after : (c : ℕ) (o : Option (List ℕ)) → option_map (λ t. c ∷ t) o ≡ None → o ≡ None
+none_after c None e = refl
+none_after c (Some t) e = cc
 
 none_or_some : {A : Type 0} (o : Option A) → (o ≡ None) ⊎ ((m : A) × (o ≡ Some m))
 none_or_some None = inl refl
 none_or_some (Some m) = inr (m, refl)
 
--- an escape, and what stands behind it
+-- an escape, and what stands after it
 unescaped-escape : (c d : ℕ) (cs : List ℕ) (o : Option ℕ) → c ≡ 92 → escape_meaning d ≡ o → unescaped (c ∷ d ∷ cs) ≡ option_and_then (λ m. option_map (λ t. m ∷ t) (unescaped cs)) o
 unescaped-escape c d cs o e k = ap (λ c. unescaped (c ∷ d ∷ cs)) e ∙ ap (λ o. option_and_then (λ m. option_map (λ t. m ∷ t) (unescaped cs)) o) k
 
--- a wrong escape is still one behind a character
-wrong_behind_plain : (c : ℕ) (w : List ℕ) → (c == 92) ≡ false → HasWrongEscape w → HasWrongEscape (c ∷ w)
-wrong_behind_plain c w n h = record {
+-- a wrong escape is still one after a character
+wrong_after_plain : (c : ℕ) (w : List ℕ) → (c == 92) ≡ false → HasWrongEscape w → HasWrongEscape (c ∷ w)
+wrong_after_plain c w n h = record {
   front = c ∷ h.front;
   rest = h.rest;
   whole = ap (λ v. c ∷ v) h.whole;
@@ -107,9 +107,9 @@ wrong_behind_plain c w n h = record {
   wrong = h.wrong;
 }
 
--- and behind an escape
-wrong_behind_escape : (c d m : ℕ) (w : List ℕ) → c ≡ 92 → escape_meaning d ≡ Some m → HasWrongEscape w → HasWrongEscape (c ∷ d ∷ w)
-wrong_behind_escape c d m w e k h = record {
+-- and after an escape
+wrong_after_escape : (c d m : ℕ) (w : List ℕ) → c ≡ 92 → escape_meaning d ≡ Some m → HasWrongEscape w → HasWrongEscape (c ∷ d ∷ w)
+wrong_after_escape c d m w e k h = record {
   front = c ∷ d ∷ h.front;
   rest = h.rest;
   whole = ap (λ v. c ∷ d ∷ v) h.whole;
@@ -129,9 +129,9 @@ wrong_from_none (c ∷ d ∷ cs) h =
     elim (eqb_tells c 92) [
       | inl p ↦ elim (none_or_some (escape_meaning d)) [
         | inl k ↦ record { front = []; rest = d ∷ cs; whole = ap (λ x. x ∷ d ∷ cs) p.1; spelled = refl; wrong = k }
-        | inr k ↦ wrong_behind_escape c d k.0 cs p.1 k.1 (wrong_from_none cs (none_behind k.0 (unescaped cs) (sym (unescaped-escape c d cs (Some k.0) p.1 k.1) ∙ h)))
+        | inr k ↦ wrong_after_escape c d k.0 cs p.1 k.1 (wrong_from_none cs (none_after k.0 (unescaped cs) (sym (unescaped-escape c d cs (Some k.0) p.1 k.1) ∙ h)))
       ]
-      | inr p ↦ wrong_behind_plain c (d ∷ cs) p.0 (wrong_from_none (d ∷ cs) (none_behind c (unescaped (d ∷ cs)) (sym (unescaped-plain c (d ∷ cs) p.0) ∙ h)))
+      | inr p ↦ wrong_after_plain c (d ∷ cs) p.0 (wrong_from_none (d ∷ cs) (none_after c (unescaped (d ∷ cs)) (sym (unescaped-plain c (d ∷ cs) p.0) ∙ h)))
     ]
 
 -- what no escape goes on from spells nothing, whatever text is spelled before it
@@ -148,10 +148,10 @@ none_from_parts (c ∷ d ∷ cs) rest s g =
       | inl p ↦ elim (none_or_some (escape_meaning d)) [
         | inl k ↦ let n = sym (ap is_some (unescaped-escape c d cs None p.1 k)) ∙ s in absurd (cc)
         | inr k ↦ unescaped-escape c d (cs ++ 92 ∷ rest) (Some k.0) p.1 k.1
-            ∙ ap (option_map (λ t. k.0 ∷ t)) (none_from_parts cs rest (some_behind k.0 (unescaped cs) (sym (ap is_some (unescaped-escape c d cs (Some k.0) p.1 k.1)) ∙ s)) g)
+            ∙ ap (option_map (λ t. k.0 ∷ t)) (none_from_parts cs rest (some_after k.0 (unescaped cs) (sym (ap is_some (unescaped-escape c d cs (Some k.0) p.1 k.1)) ∙ s)) g)
       ]
       | inr p ↦ unescaped-plain c (d ∷ cs ++ 92 ∷ rest) p.0
-          ∙ ap (option_map (λ t. c ∷ t)) (none_from_parts (d ∷ cs) rest (some_behind c (unescaped (d ∷ cs)) (sym (ap is_some (unescaped-plain c (d ∷ cs) p.0)) ∙ s)) g)
+          ∙ ap (option_map (λ t. c ∷ t)) (none_from_parts (d ∷ cs) rest (some_after c (unescaped (d ∷ cs)) (sym (ap is_some (unescaped-plain c (d ∷ cs) p.0)) ∙ s)) g)
     ]
 
 is_nothing : (o : Option (List ℕ)) → IsNone o → o ≡ None

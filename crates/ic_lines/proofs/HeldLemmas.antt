@@ -2,10 +2,10 @@
 use Rattle.std.proofs.Common.{◌≡◌, ℕ, ◌+◌, ◌-◌, ◌<◌, ◌≤◌, List, [], ◌∷◌, ◌++◌, length, take, drop, map, Bool, true, false, Some, refl, sym, subst, ◌∙◌, ap, arith, append_assoc, length-drop, if◌then◌else◌}
 use Rattle.std.proofs.lemmas.List.{append-nil, drop-drop}
 use Rattle.ic_laws.specs.Lines.{line_text, texts_of}
-use Rattle.ic_lines.specs.Reading.{Gives, has_line_feed, IsFirstLineFeed, without_return}
-use Rattle.ic_lines.proofs.LineLemmas.{first_behind, lines_of-last, lines_of-split, none_behind}
+use Rattle.ic_lines.specs.Reading.{GivesHeld, has_line_feed, IsFirstLineFeed, without_return}
+use Rattle.ic_lines.proofs.LineLemmas.{first_after, lines_of-last, lines_of-split, none_after}
 
--- the bytes behind those that were looked through
+-- the bytes after those that were looked through
 module _ (items : List ℕ) (start scanned : ℕ) (order : start ≤ scanned) (none : has_line_feed (take (scanned - start) (drop start items)) ≡ false) where
   rest_is : drop (scanned - start) (drop start items) ≡ drop scanned items
   rest_is = let e : start + (scanned - start) ≡ scanned = omega arith in drop-drop (scanned - start) start items ∙ ap (λ n. drop n items) e
@@ -14,14 +14,14 @@ module _ (items : List ℕ) (start scanned : ℕ) (order : start ≤ scanned) (n
   held_first place f =
       let e : scanned - start + place ≡ scanned + place - start = omega arith in
       subst (IsFirstLineFeed (drop start items)) e
-      (first_behind (drop start items) (scanned - start) place none (subst (λ v. IsFirstLineFeed v place) (sym rest_is) f))
+      (first_after (drop start items) (scanned - start) place none (subst (λ v. IsFirstLineFeed v place) (sym rest_is) f))
 
   pub held_none : has_line_feed (drop scanned items) ≡ false → has_line_feed (drop start items) ≡ false
-  held_none h = none_behind (drop start items) (scanned - start) none (ap has_line_feed rest_is ∙ h)
+  held_none h = none_after (drop start items) (scanned - start) none (ap has_line_feed rest_is ∙ h)
 
 -- a line with its line feed is given
 pub gives_line : (items : List ℕ) (start n : ℕ) (ended : Bool) (turns : ℕ) (line : List ℕ) → IsFirstLineFeed (drop start items) n → line ≡ line_text (without_return (take n (drop start items)))
-    → Gives (Some line) (record { held = drop start items; ended = ended; turns = turns }) (record { held = drop (start + n + 1) items; ended = ended; turns = turns })
+    → GivesHeld (Some line) (record { held = drop start items; ended = ended; turns = turns }) (record { held = drop (start + n + 1) items; ended = ended; turns = turns })
 gives_line items start n ended turns line f is_line =
     let held = drop start items in
     let m : start + (n + 1) ≡ start + n + 1 = omega arith in
@@ -44,7 +44,7 @@ last_text (b ∷ bs) line some none is_line = ap (map line_text) (lines_of-last 
 
 -- what is held is given as the last line
 pub gives_last : (held now : List ℕ) (ended : Bool) (turns : ℕ) (line : List ℕ) → ended ≡ true → now ≡ [] → 0 < length held → has_line_feed held ≡ false → line ≡ line_text held
-    → Gives (Some line) (record { held = held; ended = ended; turns = turns }) (record { held = now; ended = ended; turns = turns })
+    → GivesHeld (Some line) (record { held = held; ended = ended; turns = turns }) (record { held = now; ended = ended; turns = turns })
 gives_last held now ended turns line is_end e some none is_line = record {
   gives = λ left.
       let rest : (if ended then [] else left) ≡ [] = ap (λ b. if b then [] else left) is_end in

@@ -1,7 +1,10 @@
 pub mod EscapeLemmas
+pub mod FeedLemmas
 pub mod HeldLemmas
 pub mod LineLemmas
 pub mod ReadLemmas
+pub mod TakeLemmas
 pub mod TextLemmas
 pub mod ToldLemmas
+pub mod WordLemmas
 pub mod WriteLemmas

@@ -22,7 +22,7 @@ neither false b h = (refl, h)
 pub no_line_feed-append : (xs ys : List ℕ) → has_line_feed xs ≡ false → has_line_feed ys ≡ false → has_line_feed (xs ++ ys) ≡ false
 no_line_feed-append xs ys h k = list_any-append (λ b. b == 10) xs ys ∙ rw (h, k) refl
 
--- what a byte in front does where no line feed stands behind it
+-- what a byte in front does where no line feed stands after it
 lines_of-onto : (b c : ℕ) (bs : List ℕ) → (b == 10) ≡ false → (c == 10) ≡ false → lines_of (b ∷ c ∷ bs) ≡ onto_first b (lines_of (c ∷ bs))
 lines_of-onto b c bs h k = elim (eqb_tells b 13) [ inl p ↦ rw (h, k, p.0) refl | inr p ↦ rw (h, p.0) refl ]
 
@@ -105,9 +105,9 @@ pub found_from_position : (bytes : List ℕ) (r : Option ℕ) → r ≡ position
 found_from_position bytes None e = none_from_position bytes (sym e)
 found_from_position bytes (Some n) e = first_from_position bytes n (sym e)
 
--- behind a front with no line feed the first one of the rest is the first one
-pub first_behind : (held : List ℕ) (k place : ℕ) → has_line_feed (take k held) ≡ false → IsFirstLineFeed (drop k held) place → IsFirstLineFeed held (k + place)
-first_behind held k place h f =
+-- after a front with no line feed the first one of the rest is the first one
+pub first_after : (held : List ℕ) (k place : ℕ) → has_line_feed (take k held) ≡ false → IsFirstLineFeed (drop k held) place → IsFirstLineFeed held (k + place)
+first_after held k place h f =
     let e : take (k + place) held ≡ take k held ++ take place (drop k held) = take-add k place held in
     let m : k + (place + 1) ≡ k + place + 1 = omega arith in
     record {
@@ -120,8 +120,8 @@ first_behind held k place h f =
     }
 
 -- and where the rest has none there is none
-pub none_behind : (held : List ℕ) (k : ℕ) → has_line_feed (take k held) ≡ false → has_line_feed (drop k held) ≡ false → has_line_feed held ≡ false
-none_behind held k h n = ap has_line_feed (sym (take-append-drop k held)) ∙ no_line_feed-append (take k held) (drop k held) h n
+pub none_after : (held : List ℕ) (k : ℕ) → has_line_feed (take k held) ≡ false → has_line_feed (drop k held) ≡ false → has_line_feed held ≡ false
+none_after held k h n = ap has_line_feed (sym (take-append-drop k held)) ∙ no_line_feed-append (take k held) (drop k held) h n
 
 -- what is left of bytes with this one at their end
 pub cut_at_return : (bytes front : List ℕ) (b : ℕ) → bytes ≡ front ++ b ∷ [] → b ≡ 13 → front ≡ without_return bytes

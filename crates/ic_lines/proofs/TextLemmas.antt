@@ -1,12 +1,11 @@
 -- Texts, their characters and their bytes.
-use Rattle.std.proofs.Common.{String, ◌≡◌, ℕ, ◌<◌, ◌≤◌, List, [], ◌∷◌, ◌++◌, length, get_or, false, ◌==◌, chars, encode_utf8, encode_utf8_all, string_bytes, refl, sym, ◌∙◌, ap, inl, inr, arith}
-use Rattle.std.specs.Char.{IsScalar}
+use Rattle.std.proofs.Common.{◌≡◌, ℕ, ◌<◌, ◌≤◌, List, [], ◌∷◌, length, get_or, false, ◌==◌, encode_utf8, encode_utf8_all, refl, sym, ◌∙◌, ap, inl, inr, arith}
 use Rattle.std.specs.List.{list_any}
 use Rattle.std.proofs.Math.Bool.{or-false}
 use Rattle.std.proofs.lemmas.Bool.Decides.{eqb_tells, leb_tells}
 use Rattle.std.proofs.lemmas.List.{append-nil, get_or_default}
 use Rattle.std.proofs.lemmas.List.Folds.{list_any-append, list_any_none}
-use Rattle.std.proofs.lemmas.Str.{chars-append, chars-nil, chars_past_char, encode_ascii, IsUtf8-encode, IsUtf8-string_bytes, inside_one}
+use Rattle.std.proofs.lemmas.Str.{encode_ascii, inside_one}
 
 -- a character that isn't ASCII has no ASCII byte
 high_bytes : (c : ℕ) → 128 ≤ c → (k : ℕ) → k < length (encode_utf8 c) → 128 ≤ get_or (encode_utf8 c) k 0

@@ -5,7 +5,7 @@ use Rattle.std.proofs.lemmas.List.{drop-drop}
 use Rattle.ic_lines.specs.Bytes.{IfTold}
 use Rattle.ic_lines.proofs.ToldLemmas.{IfTold-join}
 
--- More is what is left behind a front of the rest, which is what is left of the bytes.
+-- More is what is left after a front of the rest, which is what is left of the bytes.
 module _ (bytes rest more : List ℕ) (taken : ℕ) (within : length rest ≤ length bytes) (is_rest : rest ≡ drop (length bytes - length rest) bytes) (fits : taken ≤ length rest) (is_more : more ≡ drop taken rest) where
   more_length : length more ≡ length rest - taken
   more_length = ap length is_more ∙ length-drop taken rest

@@ -24,14 +24,16 @@ pub record TakesFront (n : ℕ) (buffer before now : List ℕ) : Type 0 where
   -- no byte comes only at the end, or into no room
   pub end : n ≡ 0 → 0 < length buffer → before ≡ []
 
-abbrev pub Reads : Option (List ℕ) → Option (List ℕ) → Result ℕ Failed → List ℕ → Type 0
-Reads before now (Ok n) buffer = IfTold before now (TakesFront n buffer)
-Reads before now (Err failed) buffer = IfTold before now (λ old new. new ≡ old)
+-- what a read answers and does to the bytes that are left
+abbrev pub MovesRead : Option (List ℕ) → Option (List ℕ) → Result ℕ Failed → List ℕ → Type 0
+MovesRead before now (Ok n) buffer = IfTold before now (TakesFront n buffer)
+MovesRead before now (Err failed) buffer = IfTold before now (λ old new. new ≡ old)
 
--- a front of the piece stands behind what was written before
+-- a front of the piece, not all of it, stands after what was written before
 abbrev pub AppendsFront : List ℕ → List ℕ → List ℕ → Type 0
-AppendsFront piece before now = (n : ℕ) × (n ≤ length piece) × (now ≡ before ++ take n piece)
+AppendsFront piece before now = (n : ℕ) × (n < length piece) × (now ≡ before ++ take n piece)
 
-abbrev pub Writes : Option (List ℕ) → Option (List ℕ) → Result ℕ Failed → List ℕ → Type 0
-Writes before now (Ok n) piece = IfTold before now (λ old new. new ≡ old ++ take n piece)
-Writes before now (Err failed) piece = IfTold before now (λ old new. new ≡ old)
+-- what a write of a piece answers and does to the bytes that were written
+abbrev pub MovesWritten : Option (List ℕ) → Option (List ℕ) → Result ℕ Failed → List ℕ → Type 0
+MovesWritten before now (Ok n) piece = IfTold before now (λ old new. new ≡ old ++ take n piece)
+MovesWritten before now (Err failed) piece = IfTold before now (λ old new. new ≡ old)

@@ -1,5 +1,6 @@
 -- Which words have a wrong escape.
 use Rattle.std.specs.Prelude.{◌≡◌, ℕ, List, [], ◌∷◌, ◌++◌, None, IsSome}
+use Rattle.ic_laws.specs.Character.{backslash}
 use Rattle.ic_laws.specs.Lines.{escape_meaning, unescaped}
 
 -- no escape's second character stands first
@@ -7,10 +8,10 @@ abbrev pub GoesOnWrong : List ℕ → Type 0
 GoesOnWrong [] = Unit {0}
 GoesOnWrong (c ∷ cs) = escape_meaning c ≡ None
 
--- a backslash that begins no escape: what stands before it spells a text, and what stands behind it goes on wrong
+-- a backslash that begins no escape: what stands before it spells a text, and the rest goes on wrong
 pub record HasWrongEscape (word : List ℕ) : Type 0 where
   pub front : List ℕ
   pub rest : List ℕ
-  pub whole : word ≡ front ++ 92 ∷ rest
+  pub whole : word ≡ front ++ backslash ∷ rest
   pub spelled : IsSome (unescaped front)
   pub wrong : GoesOnWrong rest

@@ -2,12 +2,12 @@ use ic_laws::OutOfMemory;
 use thiserror::Error;
 
 /// A read or a write failed. The source or the sink has counted the fault.
-#[derive(Clone, Copy, Debug, PartialEq, Eq, Error)]
+#[derive(Debug, Drop, Error)]
 #[error("Failed")]
 pub struct Failed;
 
 /// Why a run over a source and a sink ended early.
-#[derive(Clone, Copy, Debug, PartialEq, Eq, Error)]
+#[derive(Debug, Drop, PartialEq, Error)]
 pub enum RunError {
     /// A read of the source failed.
     #[error("ReadFault")]

@@ -69,7 +69,7 @@ fn push_escaped(word: &mut String, c: char) -> Result<(), OutOfMemory>
     Ok(())
 }
 
-// What a backslash with this character behind it stands for.
+// What a backslash with this character after it stands for.
 fn meaning(c: char) -> Option<char>
     ensures { result ≡ escape_meaning c }
 {

@@ -13,8 +13,7 @@ mod reader;
 mod sink;
 mod source;
 mod standard;
-#[cfg(test)]
-mod tests;
+mod words;
 
 pub use error::{Failed, RunError};
 pub use escapes::{escape, unescape};
@@ -24,3 +23,4 @@ pub use reader::LineReader;
 pub use sink::{Sink, write_all};
 pub use source::Source;
 pub use standard::{StdSink, StdSource};
+pub use words::words_of;

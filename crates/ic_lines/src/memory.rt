@@ -1,5 +1,5 @@
-ghost use Rattle.std.specs.Prelude.{◌≡◌, ◌+◌, ◌++◌, ◌≤◌, Some, drop, length, take, vec_len, IfOk, OnErr, [], ◌<◌};
-ghost use Rattle.ic_lines.specs.Bytes.{Reads, Writes, HasFault};
+ghost use Rattle.std.specs.Prelude.{◌≡◌, ◌+◌, ◌++◌, ◌≤◌, Some, drop, length, take, vec_len, IfOk, OnOk, OnErr, [], ◌<◌, ◌⊎◌};
+ghost use Rattle.ic_lines.specs.Bytes.{MovesRead, MovesWritten, HasFault};
 ghost use Rattle.ic_lines.specs.Memory.{after_read, after_write};
 
 use crate::{Failed, Sink, Source};
@@ -59,9 +59,10 @@ impl Source for MemorySource {
 
     fn read(&mut self, buf: &mut [u8]) -> Result<usize, Failed>
         ensures within { IfOk result (λ n. n ≤ length buf.new) }
-        ensures moved { Reads (Some self.old.left) (Some self.new.left) result buf.new }
+        ensures moved { MovesRead (Some self.old.left) (Some self.new.left) result buf.new }
         ensures counted { self.old.faults ≤ self.new.faults }
         ensures cause { OnErr result (HasFault self.old.faults self.new.faults) }
+        ensures quiet { OnOk result (self.new.faults ≡ self.old.faults) }
         ensures exact { (result, self.new) ≡ after_read self.old (length buf.new) }
     {
         self.calls = self.calls.saturating_add(1);
@@ -128,10 +129,11 @@ impl Sink for MemorySink {
 
     fn write(&mut self, piece: &[u8]) -> Result<usize, Failed>
         ensures within { IfOk result (λ n. n ≤ length piece.now) }
-        ensures moved { Writes (Some self.old.written) (Some self.new.written) result piece.now }
+        ensures moved { MovesWritten (Some self.old.written) (Some self.new.written) result piece.now }
         ensures counted { self.old.faults ≤ self.new.faults }
         ensures cause { OnErr result (HasFault self.old.faults self.new.faults) }
         ensures stuck { IfOk result (λ n. n ≡ 0 → 0 < length piece.now → HasFault self.old.faults self.new.faults) }
+        ensures quiet { IfOk result (λ n. (0 < n) ⊎ (length piece.now ≡ 0) → self.new.faults ≡ self.old.faults) }
         ensures exact { (result, self.new) ≡ after_write self.old piece.now }
     {
         self.calls = self.calls.saturating_add(1);

@@ -1,7 +1,7 @@
-ghost use Rattle.std.specs.Prelude.{◌≡◌, ◌≢◌, ◌==◌, ◌⊎◌, ℕ, ◌+◌, ◌++◌, ◌<◌, ◌≤◌, [], true, false, None, Some, Err, IsSome, chars, take, drop, length, vec_len, position, Contains, IfOk, IfErr, OnOk, OnErr, MatchOption};
+ghost use Rattle.std.specs.Prelude.{◌≡◌, ◌≢◌, ◌==◌, ◌⊎◌, ℕ, ◌+◌, ◌++◌, ◌<◌, ◌≤◌, [], true, false, None, Some, Err, IsSome, chars, take, drop, length, vec_len, position, Contains, IfOk, IfErr, OnOk, OnErr, MatchOption, MatchResult};
 ghost use Rattle.ic_laws.specs.Lines.{line_text};
 ghost use Rattle.ic_lines.specs.Bytes.{IfTold, HasFault};
-ghost use Rattle.ic_lines.specs.Reading.{Gives, GivesLine, GoesOn, IsFirstLineFeed, TakesBehind, budget, has_line_feed, most_turns, unread, without_return};
+ghost use Rattle.ic_lines.specs.Reading.{GivesHeld, GivesLine, GoesOn, HasToAsk, IsFirstLineFeed, Reading, TakesAfter, TakesLine, TakesRead, budget, has_line_feed, most_turns, unread, without_return};
 
 use crate::{Line, RunError, Source};
 use ic_laws::{OutOfMemory, Text};
@@ -21,7 +21,7 @@ pub struct LineReader {
     bytes: Vec<u8>,
     /// Where the next line begins.
     start: usize,
-    /// Up to where there is no line feed behind `start`.
+    /// Up to where there is no line feed from `start` on.
     scanned: usize,
     ended: bool,
     turns: u64,
@@ -57,8 +57,9 @@ impl LineReader {
     /// The next line; None exactly at the end, and from then on. It reads only where it holds no whole line, each
     /// time into 4,096 bytes, and not again once it saw the end. A line that isn't UTF-8 is given as the empty line.
     ///
-    /// `ReadFault` where a read failed, `TooManyTurns` after 2^32 reads of this reader that each gave a byte,
-    /// `OutOfMemory`. After an error every byte that was taken and not given is still held.
+    /// `ReadFault` where a read failed, `TooManyTurns` after 2^32 reads of this reader that each gave a byte, both
+    /// only where no whole line is held and no end was seen; `OutOfMemory`. After an error every byte that was taken
+    /// and not given is still held.
     pub fn next_line<S: Source>(&mut self, source: &mut S) -> Result<Option<Line>, RunError>
         ensures line { IfOk result (λ line. IfTold (S.left source.old) (S.left source.new)
             (λ before now. GivesLine line (unread self.old before) (unread self.new now))) }
@@ -68,25 +69,29 @@ impl LineReader {
         ensures ends { self.old.ended ≡ false → IfTold (S.left source.old) (S.left source.new)
             (λ before now. self.new.ended ≡ true → now ≡ []) }
 
-        // It asks the source only where it has to.
+        // It asks the source only where it has to, and no more once a line came; then it gives the line, or None at
+        // the end, of what it holds, also where the source tells nothing.
         ensures unasked { Contains self.old.held 10 ⊎ (self.old.ended ≡ true) → source.new ≡ source.old }
+        ensures taken { (asked : Reading) × TakesLine self.old asked (S.left source.old) (S.left source.new)
+            × MatchResult result (λ line. GivesHeld line asked self.new) (λ e. self.new ≡ asked) }
 
         // What an error leaves, and when each comes.
         ensures kept { OnErr result (IfTold (S.left source.old) (S.left source.new)
             (λ before now. unread self.new now ≡ unread self.old before)) }
-        ensures read_fault { result ≡ Err RunError.ReadFault → HasFault (S.faults source.old) (S.faults source.new) }
-        ensures too_many { result ≡ Err RunError.TooManyTurns → self.new.turns ≡ most_turns }
+        ensures read_fault { result ≡ Err RunError.ReadFault → HasFault (S.faults source.old) (S.faults source.new) × HasToAsk self.new }
+        ensures too_many { result ≡ Err RunError.TooManyTurns → (self.new.turns ≡ most_turns) × HasToAsk self.new }
         ensures no_write { result ≢ Err RunError.WriteFault }
 
         // Each turn took at least one byte.
         ensures turns { IfTold (S.left source.old) (S.left source.new)
             (λ before now. self.new.turns + length now ≤ self.old.turns + length before) }
         ensures counted { S.faults source.old ≤ S.faults source.new }
+        ensures quiet { OnOk result (S.faults source.new ≡ S.faults source.old) }
 
         // Each line takes bytes of those held, or of those that the turns that are left can bring.
         ensures progress { IfOk result (λ line. IsSome line → budget self.new < budget self.old) }
     {
-        loop {
+        'reads: loop {
             if let Some(len) = self.line_feed() {
                 return Ok(Some(self.take_line(len)?));
             }
@@ -114,10 +119,10 @@ impl LineReader {
         }
     }
 
-    // Gives the line of this length, and drops the line feed behind it.
+    // Gives the line of this length, and drops the line feed after it.
     fn take_line(&mut self, len: usize) -> Result<Line, OutOfMemory>
         requires { IsFirstLineFeed self.old.held len }
-        ensures ok { IfOk result (λ line. Gives (Some line) self.old self.new) }
+        ensures ok { IfOk result (λ line. GivesHeld (Some line) self.old self.new) }
         ensures err { OnErr result (self.new ≡ self.old) }
     {
         let end = self.start + len;
@@ -131,7 +136,7 @@ impl LineReader {
     fn take_last(&mut self) -> Result<Option<Line>, OutOfMemory>
         requires ended { self.old.ended ≡ true }
         requires no_line_feed { has_line_feed self.old.held ≡ false }
-        ensures ok { IfOk result (λ line. Gives line self.old self.new) }
+        ensures ok { IfOk result (λ line. GivesHeld line self.old self.new) }
         ensures err { OnErr result (self.new ≡ self.old) }
     {
         if self.start == self.bytes.len() {
@@ -151,12 +156,15 @@ impl LineReader {
         ensures turns { IfTold (S.left source.old) (S.left source.new)
             (λ before now. self.new.turns + length now ≤ self.old.turns + length before) }
         ensures ends { IfTold (S.left source.old) (S.left source.new) (λ before now. self.new.ended ≡ true → now ≡ []) }
+        ensures taken { TakesRead self.old self.new (S.left source.old) (S.left source.new) }
         ensures goes_on { OnOk result (GoesOn self.old self.new) }
+        ensures err { OnErr result ((self.new.held ≡ self.old.held) × (self.new.ended ≡ false)) }
         ensures room { budget self.new ≤ budget self.old }
         ensures read_fault { result ≡ Err RunError.ReadFault → HasFault (S.faults source.old) (S.faults source.new) }
         ensures too_many { result ≡ Err RunError.TooManyTurns → self.new.turns ≡ most_turns }
         ensures no_write { result ≢ Err RunError.WriteFault }
         ensures counted { S.faults source.old ≤ S.faults source.new }
+        ensures quiet { OnOk result (S.faults source.new ≡ S.faults source.old) }
     {
         if self.turns == MOST_TURNS {
             return Err(RunError::TooManyTurns);
@@ -229,16 +237,17 @@ fn drop_front(bytes: &mut Vec<u8>, count: usize)
     bytes.truncate(len - count);
 }
 
-// Reads behind the bytes that are there, and answers how many came.
+// Reads after the bytes that are there, and answers how many came.
 fn read_more<S: Source>(source: &mut S, bytes: &mut Vec<u8>) -> Result<usize, RunError>
-    ensures ok { IfOk result (λ n. IfTold (S.left source.old) (S.left source.new) (TakesBehind n bytes.old.items bytes.new.items)) }
+    ensures ok { OnOk result (TakesAfter (drop (vec_len bytes.old) bytes.new.items) bytes.old.items bytes.new.items (S.left source.old) (S.left source.new)) }
+    ensures end { IfOk result (λ n. n ≡ 0 → IfTold (S.left source.old) (S.left source.new) (λ before now. before ≡ [])) }
     ensures ok_len { IfOk result (λ n. (n ≤ READ_SIZE) × (vec_len bytes.new ≡ vec_len bytes.old + n)) }
-    ensures front { IfOk result (λ n. take (vec_len bytes.old) bytes.new.items ≡ bytes.old.items) }
     ensures err { OnErr result (bytes.new.items ≡ bytes.old.items) }
     ensures err_left { OnErr result (IfTold (S.left source.old) (S.left source.new) (λ before now. now ≡ before)) }
     ensures which { IfErr result (λ e. (e ≡ RunError.ReadFault) ⊎ (e ≡ RunError.OutOfMemory)) }
     ensures read_fault { result ≡ Err RunError.ReadFault → HasFault (S.faults source.old) (S.faults source.new) }
     ensures counted { S.faults source.old ≤ S.faults source.new }
+    ensures quiet { OnOk result (S.faults source.new ≡ S.faults source.old) }
 {
     let held = bytes.len();
     make_room(bytes)?;

@@ -1,5 +1,5 @@
-ghost use Rattle.std.specs.Prelude.{ℕ, ◌≤◌, List, Option, length, IfOk, OnErr};
-ghost use Rattle.ic_lines.specs.Bytes.{Reads, HasFault};
+ghost use Rattle.std.specs.Prelude.{◌≡◌, ℕ, ◌≤◌, List, Option, length, IfOk, OnOk, OnErr};
+ghost use Rattle.ic_lines.specs.Bytes.{MovesRead, HasFault};
 
 use crate::Failed;
 
@@ -12,10 +12,11 @@ pub trait Source {
     ghost faults: { Self → ℕ };
 
     /// Moves a front of the bytes that are left to the front of `buf`, and answers its length: 0 for a buffer that
-    /// isn't empty exactly at the end. A failed read moves nothing.
+    /// isn't empty exactly at the end. A failed read moves nothing, and it alone counts a fault.
     fn read(&mut self, buf: &mut [u8]) -> Result<usize, Failed>
         ensures within { IfOk result (λ n. n ≤ length buf.new) }
-        ensures moved { Reads (left self.old) (left self.new) result buf.new }
+        ensures moved { MovesRead (left self.old) (left self.new) result buf.new }
         ensures counted { faults self.old ≤ faults self.new }
-        ensures cause { OnErr result (HasFault (faults self.old) (faults self.new)) };
+        ensures cause { OnErr result (HasFault (faults self.old) (faults self.new)) }
+        ensures quiet { OnOk result (faults self.new ≡ faults self.old) };
 }

@@ -6,14 +6,14 @@ use Rattle.ic_laws.specs.Name.{is_sheet_name}
 use Rattle.ic_laws.specs.Position.{is_row, is_column, is_inside}
 use Rattle.ic_laws.specs.declared.reference.RefToken.{RefToken}
 use Rattle.ic_refs.specs.A1.{SpellsPlace, SpellsA1, is_spellable, place_text, a1_text, a1_place_at, a1_at}
-use Rattle.ic_laws.specs.Scan.{IsEnd, EndsWith}
+use Rattle.ic_laws.specs.Scan.{IsEnd}
 use Rattle.ic_refs.specs.Longest.{FindsLongest, FindsLongestAt, read_at}
 use Rattle.ic_refs.specs.Sheet.{SpellsReference, reference_at, sheet_text}
-use Rattle.ic_refs.proofs.LongestLemmas.{finds_longest_place}
+use Rattle.ic_refs.proofs.A1PlaceLemmas.{finds_longest_place}
 use Rattle.ic_refs.proofs.MarkLemmas.{end_of_place, place_is_text, place_no_bang, place_no_sheet}
 use Rattle.ic_refs.proofs.OffsetLemmas.{finds_at}
 use Rattle.ic_refs.proofs.ReferenceLemmas.{finds_reference, reference_again}
-use Rattle.ic_refs.proofs.SpellLemmas.{place_text-again, place_text-spells}
+use Rattle.ic_refs.proofs.A1SpellLemmas.{place_text-again, place_text-spells}
 
 -- the longest reference at the front, in any cell
 pub finds_a1_reference : (row column : ℤ) (text : List ℕ) → FindsLongest (SpellsReference (SpellsPlace row column)) text (reference_at (a1_place_at row column) text)
@@ -49,13 +49,6 @@ a1_again row column token rest h valid end =
     rw inside.0 (reference_again (a1_place_at row column) written rest token valid
     (place_text-again row column token.place rest inside.1 (end_of_place rest end))
     (λ _. place_no_sheet written rest (place_is_text row column written token.place spelled) end))
-
--- what stands behind what was read ends the text
-pub read_ends : (row column : ℤ) (text rest : List ℕ) (token : RefToken) → reference_at (a1_place_at row column) text ≡ Some (token, rest) → EndsWith text rest
-read_ends row column text rest token e =
-    let l : FindsLongest (SpellsReference (SpellsPlace row column)) text (Some (token, rest)) =
-    subst (FindsLongest (SpellsReference (SpellsPlace row column)) text) e (finds_a1_reference row column text) in
-    (l.front, l.whole)
 
 -- what is written of a reference
 pub written_token : (row column : ℤ) (token : RefToken) (empty named text : List ℕ) → (is_row row && is_column column) ≡ true → is_inside token.place row column ≡ true

@@ -78,16 +78,16 @@ names_column-column_letters n l h =
     (le-leb (letters_number cs) 16384 (omega (arith, a.number)))
 
 -- a row and a column of the sheet as numbers
-pub record IsNumberOf (most : ℕ) (z : ℤ) : Type 0 where
+pub record IsNaturalUpTo (most : ℕ) (z : ℤ) : Type 0 where
   pub same : z ≡ pos (nat_abs z)
   pub low : 1 ≤ nat_abs z
   pub high : nat_abs z ≤ most
 
-pub number_of_column : (z : ℤ) → is_column z ≡ true → IsNumberOf 16384 z
+pub number_of_column : (z : ℤ) → is_column z ≡ true → IsNaturalUpTo 16384 z
 number_of_column (pos n) h = record { same = refl; low = grind (arith, ints, nat_tests); high = grind (arith, ints, nat_tests) }
 number_of_column (negsuc n) h = absurd (grind (arith, ints, nat_tests))
 
-pub number_of_row : (z : ℤ) → is_row z ≡ true → IsNumberOf 1048576 z
+pub number_of_row : (z : ℤ) → is_row z ≡ true → IsNaturalUpTo 1048576 z
 number_of_row (pos n) h = record { same = refl; low = grind (arith, ints, nat_tests); high = grind (arith, ints, nat_tests) }
 number_of_row (negsuc n) h = absurd (grind (arith, ints, nat_tests))
 

@@ -6,12 +6,12 @@ use Rattle.std.proofs.lemmas.List.{append-nil, nil_from_length}
 use Rattle.std.proofs.lemmas.Str.{encodes-chars, chars-nil}
 use Rattle.ic_laws.specs.Position.{letter_digit, letters_number}
 use Rattle.ic_laws.specs.Scan.{is_upper, is_ascii_letter}
-use Rattle.ic_refs.specs.A1.{letters_from}
+use Rattle.ic_refs.specs.Digits.{letters_from}
 use Rattle.ic_refs.specs.Column.{column_number}
 use Rattle.ic_refs.specs.Digits.{number_value}
 use Rattle.ic_refs.specs.declared.error.ColumnError.TheVariants as errors
-use Rattle.ic_refs.proofs.DigitLemmas.{read_past, number_taken}
-use Rattle.ic_refs.proofs.KindLemmas.{letters_value}
+use Rattle.ic_refs.proofs.DigitsLemmas.{read_past, number_taken}
+use Rattle.ic_refs.proofs.A1NumberLemmas.{letters_value}
 use Rattle.ic_refs.proofs.ColumnLemmas.{upper_letters}
 
 -- a text without bytes has no characters, and one with bytes has some

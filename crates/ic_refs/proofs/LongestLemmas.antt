@@ -1,131 +1,83 @@
--- The longest place at the front of a text, and the one that is read where nothing could go on behind it.
-use Rattle.std.proofs.Common.{◌≡◌, ℕ, ℤ, pos, ◌≤◌, List, ◌∷◌, ◌++◌, false, ◌==◌, length, Option, Some, None, refl, sym, ◌∙◌, ap, arith, inl, inr, append_assoc, length-append}
-use Rattle.ic_laws.specs.Scan.{is_digit, first_is, is_ascii_letter}
-use Rattle.ic_laws.specs.declared.reference.Position.{Position}
-use Rattle.ic_laws.specs.declared.reference.Position.TheVariants as at
-use Rattle.ic_laws.specs.declared.reference.RefPart.{RefPart}
-use Rattle.ic_laws.specs.declared.reference.Place.{Place}
-use Rattle.ic_laws.specs.declared.reference.Place.TheVariants as places
-use Rattle.ic_refs.specs.A1.{SpellsColumn, SpellsRow, SpellsCell, SpellsPlace, AreWholeColumns, AreWholeRows, column_at, cell_at, pair_at, a1_place_at}
-use Rattle.ic_refs.specs.Longest.{FindsLongest}
-use Rattle.ic_refs.proofs.ReaderLemmas.{Reads, SpellsPair, pair_alone, pair_longer, none_or_some}
-use Rattle.ic_refs.proofs.PlaceLemmas.{cell_reads, row_no_column}
-use Rattle.ic_refs.proofs.A1Lemmas.{as_cells, as_cell, as_columns, as_rows, cells_read, columns_read, rows_read, read_cells, read_cell, read_columns, read_rows, before_colon, place_at-spelled}
+-- Readers of the longest text at the front: what they take is spelled, and they reach as far as any text that is.
+use Rattle.std.proofs.Common.{◌≡◌, ◌≤◌, ℕ, List, ◌++◌, Bool, false, length, Option, Some, None, option_map, option_and_then, refl, sym, subst, ◌∙◌, ap, arith, append_assoc, length-append}
+use Rattle.ic_laws.specs.Longest.{FindsLongest}
+use Rattle.ic_laws.specs.Scan.{first_is}
 
--- a place is read, and no more than this is left behind it
-abbrev IsReadUpTo : ℤ → ℤ → List ℕ → List ℕ → Type 0
-IsReadUpTo row column text rest = (found : Place × List ℕ) × (a1_place_at row column text ≡ Some found) × (length found.1 ≤ length rest)
+-- what was read is spelled by the front of the text, before the rest
+pub record IsTaken {T : Type 0} (Spells : List ℕ → T → Type 0) (text : List ℕ) (found : T × List ℕ) : Type 0 where
+  pub front : List ℕ
+  pub whole : text ≡ front ++ found.1
+  pub spelled : Spells front found.0
 
-cells_longest : (row column : ℤ) (front rest : List ℕ) (v : RefPart × RefPart) → SpellsPair (SpellsCell row column) front v → IsReadUpTo row column (front ++ rest) rest
-cells_longest row column front rest v s =
-    let more = Reads.longest (cells_read row column) front rest v s in
-    (as_cells more.0, read_cells row column (front ++ rest) more.0 more.1, more.2)
+abbrev pub Takes : {T : Type 0} → (List ℕ → T → Type 0) → List ℕ → Option (T × List ℕ) → Type 0
+Takes Spells text None = Unit {0}
+Takes Spells text (Some found) = IsTaken Spells text found
 
-cell_longest : (row column : ℤ) (front rest : List ℕ) (v : RefPart) → SpellsCell row column front v → IsReadUpTo row column (front ++ rest) rest
-cell_longest row column front rest v s =
-    let text = front ++ rest in
-    let more = Reads.longest (cell_reads row column) front rest v s in
-    elim (none_or_some (pair_at (cell_at row column) text)) [
-      | inl p ↦ (as_cell more.0, read_cell row column text more.0 p more.1, more.2)
-      | inr p ↦ (
-        as_cells p.0,
-        read_cells row column text p.0 p.1,
-        omega (arith, more.2, pair_longer (SpellsCell row column) (cell_at row column) is_digit (cell_reads row column) text p.0 more.0 p.1 more.1),
-      )
-    ]
+-- something was read, and no more is left than this
+abbrev pub Reaches : {T : Type 0} → List ℕ → Option (T × List ℕ) → Type 0
+Reaches after None = ⊥
+Reaches after (Some found) = length found.1 ≤ length after
 
-columns_longest : (row column : ℤ) (front rest : List ℕ) (v : Position × Position) → SpellsPair (SpellsColumn column) front v → IsReadUpTo row column (front ++ rest) rest
-columns_longest row column front rest v s =
-    let more = Reads.longest (columns_read column) front rest v s in
-    let no_cell : cell_at row column (front ++ rest) ≡ None =
-    ap (λ t. cell_at row column (t ++ rest)) s.2 ∙ ap (cell_at row column) (append_assoc s.0 (58 ∷ s.1) rest) ∙ before_colon row column s.0 (s.1 ++ rest) v.0 s.3 in
-    (as_columns more.0, read_columns row column (front ++ rest) more.0 no_cell more.1, more.2)
+longest_of : {T : Type 0} (Spells : List ℕ → T → Type 0) (text : List ℕ) (o : Option (T × List ℕ)) → Takes Spells text o → ((other after : List ℕ) (v : T) → text ≡ other ++ after → Spells other v → Reaches after o) → FindsLongest Spells text o
+longest_of Spells text None t r = λ front rest v e s. r front rest v e s
+longest_of Spells text (Some found) t r = record {
+  front = t.front;
+  whole = t.whole;
+  spelled = t.spelled;
+  longest = λ other after v e s.
+      omega (arith, r other after v e s, sym (length-append other after) ∙ sym (ap length e) ∙ ap length t.whole ∙ length-append t.front found.1);
+}
 
-rows_longest : (row column : ℤ) (front rest : List ℕ) (v : Position × Position) → SpellsPair (SpellsRow row) front v → IsReadUpTo row column (front ++ rest) rest
-rows_longest row column front rest v s =
-    let more = Reads.longest (rows_read row) front rest v s in
-    let no_column : column_at column (front ++ rest) ≡ None =
-    ap (λ t. column_at column (t ++ rest)) s.2 ∙ ap (column_at column) (append_assoc s.0 (58 ∷ s.1) rest) ∙ row_no_column row column s.0 (58 ∷ (s.1 ++ rest)) v.0 s.3 in
-    (as_rows more.0, read_rows row column (front ++ rest) more.0 no_column more.1, more.2)
+-- so it is the longest
+pub finds_longest : {T : Type 0} (Spells : List ℕ → T → Type 0) (read : List ℕ → Option (T × List ℕ)) → ((text : List ℕ) → Takes Spells text (read text)) → ((front after : List ℕ) (v : T) → Spells front v → Reaches after (read (front ++ after))) → (text : List ℕ) → FindsLongest Spells text (read text)
+finds_longest Spells read t r text =
+    longest_of Spells text (read text) (t text) (λ other after v e s. subst (λ l. Reaches after (read l)) (sym e) (r other after v s))
 
--- what is spelled is read, or more is
-pub place_at-longest : (row column : ℤ) (front rest : List ℕ) (place : Place) → SpellsPlace row column front place → IsReadUpTo row column (front ++ rest) rest
-place_at-longest row column front rest (places.Cell part) s = cell_longest row column front rest part s
-place_at-longest row column front rest (places.Range first last) s =
-    elim s.3 [
-      | inl p ↦ cells_longest row column front rest (first, last) (s.0, s.1, s.2, p.0, p.1)
-      | inr p ↦ elim p [
-        | inl q ↦ columns_longest row column front rest (first.column, last.column) (s.0, s.1, s.2, q.1, q.2)
-        | inr q ↦ rows_longest row column front rest (first.row, last.row) (s.0, s.1, s.2, q.1, q.2)
-      ]
-    ]
+-- what was read stands in front of a rest that is no longer
+pub takes_le : {T : Type 0} (Spells : List ℕ → T → Type 0) (text : List ℕ) (found : T × List ℕ) → Takes Spells text (Some found) → length found.1 ≤ length text
+takes_le Spells text found t = omega (arith, ap length t.whole, length-append t.front found.1)
 
--- nothing could go on: neither a letter, a digit nor a colon stands at the front
-pub record EndsPlace (rest : List ℕ) : Type 0 where
-  pub no_letter : first_is is_ascii_letter rest ≡ false
-  pub no_digit : first_is is_digit rest ≡ false
-  pub no_colon : first_is (λ c. c == 58) rest ≡ false
+-- what is read exactly is reached
+pub reaches_exactly : {T : Type 0} (after : List ℕ) (v : T) (o : Option (T × List ℕ)) → o ≡ Some (v, after) → Reaches after o
+reaches_exactly after v o e = subst (λ o. Reaches after o) (sym e) (omega arith)
 
--- whole columns and whole rows have the rows and columns of the short form
-abbrev with_rows : Position → Position → RefPart → RefPart → Place
-with_rows r s first last = places.Range (record { row = r; column = first.column }) (record { row = s; column = last.column })
+module _ {A B C : Type 0} (SpellsA : List ℕ → A → Type 0) (SpellsB : List ℕ → B → Type 0) (SpellsC : List ℕ → C → Type 0) (make : A → B → C) where
+  -- one after the other
+  abbrev pub both : Option (A × List ℕ) → (List ℕ → Option (B × List ℕ)) → Option (C × List ℕ)
+  both first second = option_and_then (λ a. option_map (λ b. (make a.0 b.0, b.1)) (second a.1)) first
 
-abbrev with_columns : Position → Position → RefPart → RefPart → Place
-with_columns c d first last = places.Range (record { row = first.row; column = c }) (record { row = last.row; column = d })
+  second_takes : (text : List ℕ) (a : A × List ℕ) (o : Option (B × List ℕ)) → Takes SpellsA text (Some a) → Takes SpellsB a.1 o
+      → ((s t : List ℕ) (x : A) (y : B) → SpellsA s x → SpellsB t y → SpellsC (s ++ t) (make x y))
+      → Takes SpellsC text (option_map (λ b. (make a.0 b.0, b.1)) o)
+  second_takes text a None t u j = tt
+  second_takes text a (Some b) t u j = record {
+    front = t.front ++ u.front;
+    whole = t.whole ∙ ap (λ r. t.front ++ r) u.whole ∙ sym (append_assoc t.front u.front b.1);
+    spelled = j t.front u.front a.0 b.0 t.spelled u.spelled;
+  }
 
-whole_columns : (first last : RefPart) → AreWholeColumns first last → with_rows (at.Abs (pos 1)) (at.Abs (pos 1048576)) first last ≡ places.Range first last
-whole_columns first last w = ap (λ r. with_rows r (at.Abs (pos 1048576)) first last) (sym w.0) ∙ ap (λ r. with_rows first.row r first last) (sym w.1)
+  pub both_take : (text : List ℕ) (first : Option (A × List ℕ)) (second : List ℕ → Option (B × List ℕ)) → Takes SpellsA text first → ((rest : List ℕ) → Takes SpellsB rest (second rest))
+      → ((s t : List ℕ) (x : A) (y : B) → SpellsA s x → SpellsB t y → SpellsC (s ++ t) (make x y))
+      → Takes SpellsC text (both first second)
+  both_take text None second t u j = tt
+  both_take text (Some a) second t u j = second_takes text a (second a.1) t (u a.1) j
 
-whole_rows : (first last : RefPart) → AreWholeRows first last → with_columns (at.Abs (pos 1)) (at.Abs (pos 16384)) first last ≡ places.Range first last
-whole_rows first last w = ap (λ c. with_columns c (at.Abs (pos 16384)) first last) (sym w.0) ∙ ap (λ c. with_columns first.column c first last) (sym w.1)
+-- a change of what was read leaves the rest
+pub reaches_map : {A C : Type 0} (f : A → C) (after : List ℕ) (o : Option (A × List ℕ)) → Reaches after o → Reaches after (option_map (λ b. (f b.0, b.1)) o)
+reaches_map f after None r = r
+reaches_map f after (Some b) r = r
 
--- what is spelled before an end is read again
-pub place_at-exact : (row column : ℤ) (front rest : List ℕ) (place : Place) → SpellsPlace row column front place → EndsPlace rest → a1_place_at row column (front ++ rest) ≡ Some (place, rest)
-place_at-exact row column front rest (places.Cell part) s end =
-    let e = Reads.exact (cell_reads row column) front rest part s end.no_digit in
-    read_cell row column (front ++ rest) (part, rest) (pair_alone (cell_at row column) (front ++ rest) (part, rest) e end.no_colon) e
-place_at-exact row column front rest (places.Range first last) s end =
-    elim s.3 [
-      | inl p ↦ read_cells row column (front ++ rest) ((first, last), rest) (Reads.exact (cells_read row column) front rest (first, last) (s.0, s.1, s.2, p.0, p.1) end.no_digit)
-      | inr p ↦ elim p [
-        | inl q ↦
-            let no_cell : cell_at row column (front ++ rest) ≡ None =
-            ap (λ t. cell_at row column (t ++ rest)) s.2 ∙ ap (cell_at row column) (append_assoc s.0 (58 ∷ s.1) rest) ∙ before_colon row column s.0 (s.1 ++ rest) first.column q.1 in
-            read_columns row column (front ++ rest) ((first.column, last.column), rest) no_cell
-            (Reads.exact (columns_read column) front rest (first.column, last.column) (s.0, s.1, s.2, q.1, q.2) end.no_letter)
-            ∙ ap (λ p. Some (p, rest)) (whole_columns first last q.0)
-        | inr q ↦
-            let no_column : column_at column (front ++ rest) ≡ None =
-            ap (λ t. column_at column (t ++ rest)) s.2 ∙ ap (column_at column) (append_assoc s.0 (58 ∷ s.1) rest) ∙ row_no_column row column s.0 (58 ∷ (s.1 ++ rest)) first.row q.1 in
-            read_rows row column (front ++ rest) ((first.row, last.row), rest) no_column
-            (Reads.exact (rows_read row) front rest (first.row, last.row) (s.0, s.1, s.2, q.1, q.2) end.no_digit)
-            ∙ ap (λ p. Some (p, rest)) (whole_rows first last q.0)
-      ]
-    ]
+-- the same where what is found is named
+pub takes_found : {T : Type 0} (Spells : List ℕ → T → Type 0) (text : List ℕ) (o : Option (T × List ℕ)) → ((found : T × List ℕ) → o ≡ Some found → IsTaken Spells text found) → Takes Spells text o
+takes_found Spells text None h = tt
+takes_found Spells text (Some found) h = h found refl
 
--- what is left behind a longer front is less
-left_behind : (text a b c d : List ℕ) → text ≡ a ++ b → text ≡ c ++ d → length d ≤ length b → length a ≤ length c
-left_behind text a b c d p q h = omega (arith, ap length p, ap length q, length-append a b, length-append c d)
+pub reaches_found : {T : Type 0} (after : List ℕ) (found : T × List ℕ) (o : Option (T × List ℕ)) → o ≡ Some found → length found.1 ≤ length after → Reaches after o
+reaches_found after found o e h = subst (λ o. Reaches after o) (sym e) h
 
-found_longest : (row column : ℤ) (text : List ℕ) (found : Option (Place × List ℕ)) → a1_place_at row column text ≡ found → FindsLongest (SpellsPlace row column) text found
-found_longest row column text None e =
-    λ front rest v whole s.
-    let more = place_at-longest row column front rest v s in
-    let none : a1_place_at row column text ≡ Some more.0 = ap (a1_place_at row column) whole ∙ more.1 in absurd (cc)
-found_longest row column text (Some found) e =
-    let t = place_at-spelled row column text found e in
-    record {
-      front = t.front;
-      whole = t.whole;
-      spelled = t.spelled;
-      longest = λ other after v whole s.
-          let more = place_at-longest row column other after v s in
-          let some : a1_place_at row column text ≡ Some more.0 = ap (a1_place_at row column) whole ∙ more.1 in
-          let same : more.0 ≡ found = cc in
-          let left : length more.0.1 ≡ length found.1 = ap (λ (f : Place × List ℕ). length f.1) same in
-          left_behind text other after t.front found.1 whole t.whole (omega (arith, left, more.2));
-    }
-
--- the longest place at the front
-pub finds_longest_place : (row column : ℤ) (text : List ℕ) → FindsLongest (SpellsPlace row column) text (a1_place_at row column text)
-finds_longest_place row column text = found_longest row column text (a1_place_at row column text) refl
+-- What a reader reads is spelled so; what is spelled is read, or more is; and just it is read, where no character that
+-- could go on stands at the front of the rest.
+pub record Reads {T : Type 0} (Spells : List ℕ → T → Type 0) (read : List ℕ → Option (T × List ℕ)) (goes_on : ℕ → Bool) : Type 0 where
+  pub spelled : (text : List ℕ) (found : T × List ℕ) → read text ≡ Some found → IsTaken Spells text found
+  pub longest : (front rest : List ℕ) (v : T) → Spells front v → (found : T × List ℕ) × (read (front ++ rest) ≡ Some found) × (length found.1 ≤ length rest)
+  pub exact : (front rest : List ℕ) (v : T) → Spells front v → first_is goes_on rest ≡ false → read (front ++ rest) ≡ Some (v, rest)

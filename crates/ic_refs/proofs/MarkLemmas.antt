@@ -12,11 +12,12 @@ use Rattle.ic_laws.specs.declared.reference.Position.TheVariants as at
 use Rattle.ic_laws.specs.declared.reference.RefPart.{RefPart}
 use Rattle.ic_laws.specs.declared.reference.Place.{Place}
 use Rattle.ic_laws.specs.declared.reference.Place.TheVariants as places
-use Rattle.ic_refs.specs.A1.{SpellsColumn, SpellsRow, SpellsCell, SpellsPlace, dollar}
-use Rattle.ic_refs.proofs.KindLemmas.{digit_number, row_as_number, column_as_number, some_digits}
-use Rattle.ic_refs.proofs.PositionLemmas.{SpellsNumber}
+use Rattle.ic_refs.specs.A1.{SpellsColumn, SpellsRow, SpellsCell, SpellsPlace, dollar_of}
+use Rattle.ic_refs.specs.Digits.{digit_number}
+use Rattle.ic_refs.proofs.A1NumberLemmas.{row_as_number, column_as_number, some_digits}
+use Rattle.ic_refs.proofs.A1PositionLemmas.{SpellsCounted}
 use Rattle.ic_refs.specs.Sheet.{sheet_at}
-use Rattle.ic_refs.proofs.LongestLemmas.{EndsPlace}
+use Rattle.ic_refs.proofs.A1PlaceLemmas.{EndsPlace}
 use Rattle.ic_refs.proofs.SheetLemmas.{no_sheet_without_bang}
 
 -- an ASCII letter is a letter
@@ -87,15 +88,15 @@ pub record IsPlaceText (text : List ℕ) : Type 0 where
   pub some : 0 < length text
   pub all : list_all is_place_character text ≡ true
 
-dollar_in_place : (position : Position) → list_all is_place_character (dollar position) ≡ true
+dollar_in_place : (position : Position) → list_all is_place_character (dollar_of position) ≡ true
 dollar_in_place (at.Abs n) = refl
 dollar_in_place (at.Rel k) = refl
 
 number_text : (is : ℕ → Bool) (value : ℕ → ℕ) (base most : ℕ) (origin : ℤ) (text : List ℕ) (position : Position) → ((c : ℕ) → is c ≡ true → is_place_character c ≡ true)
-    → SpellsNumber is value base most origin text position → IsPlaceText text
+    → SpellsCounted is value base most origin text position → IsPlaceText text
 number_text is value base most origin text position f s = record {
-  some = omega (arith, ap length s.whole, length-append (dollar position) s.digits, some_digits value base s.digits s.positive);
-  all = ap (list_all is_place_character) s.whole ∙ both_all (dollar position) s.digits (dollar_in_place position) (all_of is is_place_character s.digits f s.all);
+  some = omega (arith, ap length s.whole, length-append (dollar_of position) s.digits, some_digits value base s.digits s.positive);
+  all = ap (list_all is_place_character) s.whole ∙ both_all (dollar_of position) s.digits (dollar_in_place position) (all_of is is_place_character s.digits f s.all);
 }
 
 column_is_text : (column : ℤ) (text : List ℕ) (position : Position) → SpellsColumn column text position → IsPlaceText text

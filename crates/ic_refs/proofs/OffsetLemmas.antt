@@ -24,7 +24,7 @@ boundary_true text at h = boundary_to at (length text) (slice_index text at) h.0
 pub boundary_false : (text : List ℕ) (at : ℕ) → (IsCharBoundary text at → ⊥) → is_char_boundary text at ≡ false
 boundary_false text at h = elim (cases_Bool (is_char_boundary text at)) [ inl e ↦ absurd (h (boundary_holds text at e)) | inr e ↦ e ]
 
--- what a reader finds, by the bytes of the text and of what stands behind it
+-- what a reader finds, by the bytes of the text and of the rest
 pub read_found : {T : Type 0} (reader : List ℕ → Option (T × List ℕ)) (text rest after : List ℕ) (at : ℕ) (value : T) → is_char_boundary text at ≡ true → rest ≡ drop at text → IsUtf8 after → reader (chars rest) ≡ Some (value, chars after) → Some (value, length rest - length after) ≡ read_at reader text at
 read_found {T} reader text rest after at value b r u e =
     let sized : T × List ℕ → T × ℕ = λ f. (f.0, length (drop at text) - length (encode_utf8_all f.1)) in

@@ -13,7 +13,7 @@ pub same_appended : {T E : Type 0} (r : Result T E) (new old x y : List ℕ) →
 same_appended (Ok v) new old x y e h = h ∙ ap (λ t. old ++ t) e
 same_appended (Err v) new old x y e h = h
 
--- a text and another one behind it are appended
+-- a text and another one after it are appended
 pub both_appended : {T E : Type 0} (r : Result T E) (new mid old x y z : List ℕ) → y ≡ z → mid ≡ old ++ x → OnOk r (new ≡ mid ++ y) → OnOk r (new ≡ old ++ (x ++ z))
 both_appended (Ok v) new mid old x y z e m h = h ∙ ap (λ t. mid ++ t) e ∙ ap (λ t. t ++ z) m ∙ append_assoc old x z
 both_appended (Err v) new mid old x y z e m h = h

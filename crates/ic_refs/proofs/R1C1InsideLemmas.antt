@@ -11,14 +11,16 @@ use Rattle.ic_laws.specs.Position.{is_row, is_column}
 use Rattle.ic_refs.specs.declared.error.ReferenceError.{ReferenceError}
 use Rattle.ic_refs.specs.declared.r1c1_ends.End.{End}
 use Rattle.ic_refs.specs.declared.reference.CellReferenceIndex.{CellReferenceIndex}
+use Rattle.ic_refs.specs.declared.reference.ParsedReference.{ParsedReference}
 use Rattle.ic_refs.specs.Formula.{◌>>=◌}
-use Rattle.ic_refs.specs.R1C1.{number_at, absolute, offset, past_bracket, offset_on_at, offset_back_at, offset_at, absolute_at, part_at, column_behind, row_end_at, column_end_at, end_at, ended, last_end, ends_behind, ends_of, first_cell, last_cell, first_corner, last_corner, area_of, have_one_kind, referred, refers, is_inside, LiesInSheet}
+use Rattle.ic_refs.specs.R1C1.{number_at, absolute, offset, past_bracket, offset_on_at, offset_back_at, offset_at, absolute_at, part_at, column_after, row_end_at, column_end_at, end_at, ended, last_end, ends_after, ends_of, first_cell, last_cell, first_corner, last_corner, area_of, have_one_kind, referred, refers}
+use Rattle.ic_refs.specs.Referred.{is_cell_of_sheet, LiesInSheet, HasCornersInOrder}
 
 -- a row or a column of a sheet of this length
 abbrev pub is_of : ℕ → ℤ → Bool
 is_of length z = int_le (pos 1) z && int_le z (pos length)
 
--- what holds behind a first step that may fail
+-- what holds after a first step that may fail
 held : {A B : Type 0} (Q : A → Type 0) (P : B → Type 0) (r : Result A ReferenceError) (f : A → Result B ReferenceError) → IfOk r Q → ((x : A) → Q x → IfOk (f x) P) → IfOk (r >>= f) P
 held Q P (Ok x) f q g = g x q
 held Q P (Err e) f q g = tt
@@ -104,9 +106,9 @@ part_of length origin (c ∷ cs) h o =
 abbrev IsEndInside : End → Type 0
 IsEndInside end = IfSome end.row (λ z. is_of 1048576 z ≡ true) × IfSome end.column (λ z. is_of 16384 z ≡ true)
 
-column_behind_of : (cell : CellReferenceIndex) (row : ℤ) (text : List ℕ) → is_column cell.column ≡ true → is_of 1048576 row ≡ true → IfOk (column_behind cell row text) (λ f. IsEndInside f.0)
-column_behind_of cell row [] k w = (w, tt)
-column_behind_of cell row (c ∷ cs) k w =
+column_after_of : (cell : CellReferenceIndex) (row : ℤ) (text : List ℕ) → is_column cell.column ≡ true → is_of 1048576 row ≡ true → IfOk (column_after cell row text) (λ f. IsEndInside f.0)
+column_after_of cell row [] k w = (w, tt)
+column_after_of cell row (c ∷ cs) k w =
     elim (cases_Bool (is_c c)) [
       | inl t ↦ rw t (held (IsPart 16384) (λ f. IsEndInside f.0) (part_at 16384 cell.column cs) (λ column. Ok (record { row = Some row; column = Some column.0 }, column.1)) (part_of 16384 cell.column cs (omega arith) k) (λ column v. (w, v)))
       | inr f ↦ rw f (w, tt)
@@ -114,8 +116,8 @@ column_behind_of cell row (c ∷ cs) k w =
 
 row_end_of : (cell : CellReferenceIndex) (text : List ℕ) → is_row cell.row ≡ true → is_column cell.column ≡ true → IfOk (row_end_at cell text) (λ f. IsEndInside f.0)
 row_end_of cell text r k =
-    held (IsPart 1048576) (λ f. IsEndInside f.0) (part_at 1048576 cell.row text) (λ row. column_behind cell row.0 row.1) (part_of 1048576 cell.row text (omega arith) r)
-    (λ row w. column_behind_of cell row.0 row.1 k w)
+    held (IsPart 1048576) (λ f. IsEndInside f.0) (part_at 1048576 cell.row text) (λ row. column_after cell row.0 row.1) (part_of 1048576 cell.row text (omega arith) r)
+    (λ row w. column_after_of cell row.0 row.1 k w)
 
 column_end_of : (cell : CellReferenceIndex) (text : List ℕ) → is_column cell.column ≡ true → IfOk (column_end_at cell text) (λ f. IsEndInside f.0)
 column_end_of cell text k =
@@ -144,9 +146,9 @@ last_end_of : (cell : CellReferenceIndex) (first : End) (text : List ℕ) → is
 last_end_of cell first text r k a =
     held (λ f. IsEndInside f.0) AreEndsInside (end_at cell text) (λ last. ended (first, Some last.0) last.1) (end_of cell text r k) (λ last b. ended_of first last.0 last.1 a b)
 
-ends_behind_of : (cell : CellReferenceIndex) (first : End) (text : List ℕ) → is_row cell.row ≡ true → is_column cell.column ≡ true → IsEndInside first → IfOk (ends_behind cell first text) AreEndsInside
-ends_behind_of cell first [] r k a = (a, tt)
-ends_behind_of cell first (c ∷ cs) r k a =
+ends_after_of : (cell : CellReferenceIndex) (first : End) (text : List ℕ) → is_row cell.row ≡ true → is_column cell.column ≡ true → IsEndInside first → IfOk (ends_after cell first text) AreEndsInside
+ends_after_of cell first [] r k a = (a, tt)
+ends_after_of cell first (c ∷ cs) r k a =
     elim (cases_Bool (eqb c 58)) [
       | inl t ↦ rw t (last_end_of cell first cs r k a)
       | inr f ↦ rw f tt
@@ -154,7 +156,7 @@ ends_behind_of cell first (c ∷ cs) r k a =
 
 ends_of_inside : (cell : CellReferenceIndex) (text : List ℕ) → is_row cell.row ≡ true → is_column cell.column ≡ true → IfOk (ends_of cell text) AreEndsInside
 ends_of_inside cell text r k =
-    held (λ f. IsEndInside f.0) AreEndsInside (end_at cell text) (λ first. ends_behind cell first.0 first.1) (end_of cell text r k) (λ first a. ends_behind_of cell first.0 first.1 r k a)
+    held (λ f. IsEndInside f.0) AreEndsInside (end_at cell text) (λ first. ends_after cell first.0 first.1) (end_of cell text r k) (λ first a. ends_after_of cell first.0 first.1 r k a)
 
 -- Corners
 
@@ -162,11 +164,11 @@ unwrapped_of : (length : ℕ) (o : Option ℤ) (d : ℤ) → is_of length d ≡ 
 unwrapped_of length None d h s = h
 unwrapped_of length (Some z) d h s = s
 
-first_of_end : (sheet : ℕ) (end : End) → IsEndInside end → is_inside (first_cell sheet end) ≡ true
+first_of_end : (sheet : ℕ) (end : End) → IsEndInside end → is_cell_of_sheet (first_cell sheet end) ≡ true
 first_of_end sheet end h =
     and_from (is_row (unwrap_or end.row (pos 1))) (is_column (unwrap_or end.column (pos 1))) (unwrapped_of 1048576 end.row (pos 1) refl h.0) (unwrapped_of 16384 end.column (pos 1) refl h.1)
 
-last_of_end : (sheet : ℕ) (end : End) → IsEndInside end → is_inside (last_cell sheet end) ≡ true
+last_of_end : (sheet : ℕ) (end : End) → IsEndInside end → is_cell_of_sheet (last_cell sheet end) ≡ true
 last_of_end sheet end h =
     and_from (is_row (unwrap_or end.row (pos 1048576))) (is_column (unwrap_or end.column (pos 16384)))
     (unwrapped_of 1048576 end.row (pos 1048576) refl h.0) (unwrapped_of 16384 end.column (pos 16384) refl h.1)
@@ -175,14 +177,14 @@ either_of : (length : ℕ) (b : Bool) (x y : ℤ) → is_of length x ≡ true �
 either_of length true x y h k = h
 either_of length false x y h k = k
 
-first_inside : (a b : CellReferenceIndex) → is_inside a ≡ true → is_inside b ≡ true → is_inside (first_corner a b) ≡ true
+first_inside : (a b : CellReferenceIndex) → is_cell_of_sheet a ≡ true → is_cell_of_sheet b ≡ true → is_cell_of_sheet (first_corner a b) ≡ true
 first_inside a b h k =
     let p = and_parts (is_row a.row) (is_column a.column) h in
     let q = and_parts (is_row b.row) (is_column b.column) k in
     and_from (is_row (int_min a.row b.row)) (is_column (int_min a.column b.column))
     (either_of 1048576 (int_lt b.row a.row) b.row a.row q.0 p.0) (either_of 16384 (int_lt b.column a.column) b.column a.column q.1 p.1)
 
-last_inside : (a b : CellReferenceIndex) → is_inside a ≡ true → is_inside b ≡ true → is_inside (last_corner a b) ≡ true
+last_inside : (a b : CellReferenceIndex) → is_cell_of_sheet a ≡ true → is_cell_of_sheet b ≡ true → is_cell_of_sheet (last_corner a b) ≡ true
 last_inside a b h k =
     let p = and_parts (is_row a.row) (is_column a.column) h in
     let q = and_parts (is_row b.row) (is_column b.column) k in
@@ -196,19 +198,27 @@ unwrapped_le (Some z) low high h = omega (arith, ints)
 min_le_max : (a b x y : ℤ) → a ≤ℤ x → int_min a b ≤ℤ int_max x y
 min_le_max a b x y h = omega (arith, ints, clamps)
 
-area_inside : (sheet : ℕ) (a b : End) → IsEndInside a → IsEndInside b → LiesInSheet (area_of sheet a b)
+-- what is referred to lies in the sheet, its corners in order
+abbrev pub LiesInOrder : ParsedReference → Type 0
+LiesInOrder found = LiesInSheet found × HasCornersInOrder found
+
+area_inside : (sheet : ℕ) (a b : End) → IsEndInside a → IsEndInside b → LiesInOrder (area_of sheet a b)
 area_inside sheet a b h k = (
-  first_inside (first_cell sheet a) (first_cell sheet b) (first_of_end sheet a h) (first_of_end sheet b k),
-  last_inside (last_cell sheet a) (last_cell sheet b) (last_of_end sheet a h) (last_of_end sheet b k),
-  refl,
-  min_le_max _ _ _ _ (unwrapped_le a.row (pos 1) (pos 1048576) (omega (arith, ints))),
-  min_le_max _ _ _ _ (unwrapped_le a.column (pos 1) (pos 16384) (omega (arith, ints))),
+  (
+    first_inside (first_cell sheet a) (first_cell sheet b) (first_of_end sheet a h) (first_of_end sheet b k),
+    last_inside (last_cell sheet a) (last_cell sheet b) (last_of_end sheet a h) (last_of_end sheet b k),
+    refl,
+  ),
+  (
+    min_le_max _ _ _ _ (unwrapped_le a.row (pos 1) (pos 1048576) (omega (arith, ints))),
+    min_le_max _ _ _ _ (unwrapped_le a.column (pos 1) (pos 16384) (omega (arith, ints))),
+  ),
 )
 
-referred_inside : (ends : End × Option End) (sheet : ℕ) → AreEndsInside ends → IfOk (referred ends sheet) LiesInSheet
+referred_inside : (ends : End × Option End) (sheet : ℕ) → AreEndsInside ends → IfOk (referred ends sheet) LiesInOrder
 referred_inside (end, None) sheet h =
     elim (cases_Bool (is_some end.row && is_some end.column)) [
-      | inl t ↦ rw t (first_of_end sheet end h.0)
+      | inl t ↦ rw t (first_of_end sheet end h.0, tt)
       | inr f ↦ rw f (area_inside sheet end end h.0 h.0)
     ]
 referred_inside (first, Some last) sheet h =
@@ -218,6 +228,15 @@ referred_inside (first, Some last) sheet h =
     ]
 
 -- What a text refers to relative to a cell of the sheet lies in the sheet.
-pub refers_inside : (cell : CellReferenceIndex) (text : List ℕ) (sheet : ℕ) → is_row cell.row ≡ true → is_column cell.column ≡ true → IfOk (refers cell text sheet) LiesInSheet
+pub refers_inside : (cell : CellReferenceIndex) (text : List ℕ) (sheet : ℕ) → is_row cell.row ≡ true → is_column cell.column ≡ true → IfOk (refers cell text sheet) LiesInOrder
 refers_inside cell text sheet r k =
-    held AreEndsInside LiesInSheet (ends_of cell text) (λ ends. referred ends sheet) (ends_of_inside cell text r k) (λ ends h. referred_inside ends sheet h)
+    held AreEndsInside LiesInOrder (ends_of cell text) (λ ends. referred ends sheet) (ends_of_inside cell text r k) (λ ends h. referred_inside ends sheet h)
+
+-- either of the two
+pub only_inside : (r : Result ParsedReference ReferenceError) → IfOk r LiesInOrder → IfOk r LiesInSheet
+only_inside (Ok found) h = h.0
+only_inside (Err e) h = tt
+
+pub only_order : (r : Result ParsedReference ReferenceError) → IfOk r LiesInOrder → IfOk r HasCornersInOrder
+only_order (Ok found) h = h.1
+only_order (Err e) h = tt

@@ -8,13 +8,14 @@ use Rattle.ic_refs.specs.declared.error.ReferenceError.{ReferenceError}
 use Rattle.ic_refs.specs.declared.error.ReferenceError.TheVariants as errors
 use Rattle.ic_refs.specs.declared.reference.CellReferenceIndex.{CellReferenceIndex}
 use Rattle.ic_refs.specs.declared.reference.ParsedReference.{ParsedReference}
-use Rattle.ic_refs.specs.Formula.{UnlessMemory}
-use Rattle.ic_refs.specs.R1C1.{is_bang, is_no_bang, unquoted_name, refers, LiesInSheet, ParsesR1C1}
+use Rattle.ic_refs.specs.Formula.{UnlessMemory, ◌>>=◌}
+use Rattle.ic_refs.specs.Sheet.{is_bang}
+use Rattle.ic_refs.specs.R1C1.{is_no_bang, unquoted_name, refers, ParsesR1C1}
 use Rattle.ic_laws.proofs.RunLemmas.{run_before_rest}
-use Rattle.ic_refs.proofs.R1C1InsideLemmas.{refers_inside}
+use Rattle.ic_refs.proofs.R1C1InsideLemmas.{LiesInOrder, refers_inside}
 
 -- a text with no bang, and one that has one
-any_none : (text : List ℕ) → past_run is_no_bang text ≡ [] → list_any is_bang text ≡ false
+pub any_none : (text : List ℕ) → past_run is_no_bang text ≡ [] → list_any is_bang text ≡ false
 any_none [] e = refl
 any_none (c ∷ cs) e =
     elim (cases_Bool (is_bang c)) [
@@ -37,7 +38,7 @@ two_more : (k : ℕ) → 1 + k + 1 ≡ suc (k + 1)
 two_more k = omega arith
 
 -- what stands before the first bang
-before_is : (text : List ℕ) → before_first is_bang text ≡ run_of is_no_bang text
+pub before_is : (text : List ℕ) → before_first is_bang text ≡ run_of is_no_bang text
 before_is [] = refl
 before_is (c ∷ cs) =
     elim (cases_Bool (is_bang c)) [
@@ -45,8 +46,8 @@ before_is (c ∷ cs) =
       | inr f ↦ rw f (ap (λ n. take n (c ∷ cs)) (one_more (position_or_len is_bang cs)) ∙ ap (λ v. c ∷ v) (before_is cs))
     ]
 
--- what stands behind it
-after_is : (text after : List ℕ) (c : ℕ) → past_run is_no_bang text ≡ c ∷ after → after_first is_bang text ≡ after
+-- the rest
+pub after_is : (text after : List ℕ) (c : ℕ) → past_run is_no_bang text ≡ c ∷ after → after_first is_bang text ≡ after
 after_is [] after c e = absurd (cc)
 after_is (b ∷ cs) after c e =
     elim (cases_Bool (is_bang b)) [
@@ -79,6 +80,15 @@ on_own_sheet Answers cell split text r e h =
 pub on_sheet : (Answers : List ℕ → Option ℕ → Type 0) (cell : CellReferenceIndex) (name text : List ℕ) (sheet : ℕ) (r : Result ParsedReference ReferenceError) → Answers name (Some sheet) → r ≡ refers cell text sheet → UnlessMemory r (ParsesR1C1 Answers cell (Ok (Some name, text)))
 on_sheet Answers cell name text sheet r a h = unless_memory (ParsesR1C1 Answers cell (Ok (Some name, text))) r (Ok sheet, (Some sheet, a, refl), h)
 
--- What it refers to lies in the sheet.
-pub lies_in_sheet : (cell : CellReferenceIndex) (text : List ℕ) (sheet : ℕ) (r : Result ParsedReference ReferenceError) → is_row cell.row ≡ true → is_column cell.column ≡ true → r ≡ refers cell text sheet → IfOk r LiesInSheet
-lies_in_sheet cell text sheet r row column e = subst (λ r. IfOk r LiesInSheet) (sym e) (refers_inside cell text sheet row column)
+-- What it refers to lies in the sheet, its corners in order.
+lies_for : (cell : CellReferenceIndex) (text : List ℕ) (sheet : Result ℕ ReferenceError) (r : Result ParsedReference ReferenceError) → is_row cell.row ≡ true → is_column cell.column ≡ true → r ≡ (sheet >>= refers cell text) → IfOk r LiesInOrder
+lies_for cell text (Ok sheet) r row column e = subst (λ r. IfOk r LiesInOrder) (sym e) (refers_inside cell text sheet row column)
+lies_for cell text (Err x) r row column e = subst (λ r. IfOk r LiesInOrder) (sym e) tt
+
+lies_parsed : (Answers : List ℕ → Option ℕ → Type 0) (cell : CellReferenceIndex) (split : Result (Option (List ℕ) × List ℕ) ReferenceError) (r : Result ParsedReference ReferenceError) → is_row cell.row ≡ true → is_column cell.column ≡ true → ParsesR1C1 Answers cell split r → IfOk r LiesInOrder
+lies_parsed Answers cell (Ok split) r row column p = lies_for cell split.1 p.0 r row column p.2
+lies_parsed Answers cell (Err e) r row column p = subst (λ r. IfOk r LiesInOrder) (sym p) tt
+
+pub lies_in_order : (Answers : List ℕ → Option ℕ → Type 0) (cell : CellReferenceIndex) (split : Result (Option (List ℕ) × List ℕ) ReferenceError) (r : Result ParsedReference ReferenceError) → is_row cell.row ≡ true → is_column cell.column ≡ true → UnlessMemory r (ParsesR1C1 Answers cell split) → IfOk r LiesInOrder
+lies_in_order Answers cell split (Ok found) row column p = lies_parsed Answers cell split (Ok found) row column p
+lies_in_order Answers cell split (Err e) row column p = tt

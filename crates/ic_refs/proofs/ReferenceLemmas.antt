@@ -28,16 +28,16 @@ marked_longer p (x ∷ f) (o ∷ os) r after e h k =
     let more : list_any p f ≡ true = rw plain at h in
     omega (arith, marked_longer p f os r after rest more q.1)
 
-any_behind : (p : ℕ → Bool) (xs : List ℕ) (c : ℕ) → p c ≡ true → list_any p (xs ++ c ∷ []) ≡ true
-any_behind p [] c h = or_left (p c) false h
-any_behind p (x ∷ xs) c h = or_right (p x) (list_any p (xs ++ c ∷ [])) (any_behind p xs c h)
+any_after : (p : ℕ → Bool) (xs : List ℕ) (c : ℕ) → p c ≡ true → list_any p (xs ++ c ∷ []) ≡ true
+any_after p [] c h = or_left (p c) false h
+any_after p (x ∷ xs) c h = or_right (p x) (list_any p (xs ++ c ∷ [])) (any_after p xs c h)
 
 -- a sheet's name before a reference ends with a `!`
 sheet_has_bang : (front name : List ℕ) → SpellsSheet front (Some name) → has_bang front ≡ true
 sheet_has_bang front name h =
     elim h.1 [
-      | inl e ↦ ap has_bang e ∙ any_behind (λ c. c == 33) (in_quotes name) 33 refl
-      | inr e ↦ ap has_bang e.1 ∙ any_behind (λ c. c == 33) name 33 refl
+      | inl e ↦ ap has_bang e ∙ any_after (λ c. c == 33) (in_quotes name) 33 refl
+      | inr e ↦ ap has_bang e.1 ∙ any_after (λ c. c == 33) name 33 refl
     ]
 
 module _ (read : List ℕ → Option (Place × List ℕ)) (SpellsPlace : List ℕ → Place → Type 0) (finds : (text : List ℕ) → FindsLongest SpellsPlace text (read text)) (no_bang : (text : List ℕ) (p : Place) → SpellsPlace text p → has_bang text ≡ false) where
@@ -88,17 +88,17 @@ module _ (read : List ℕ → Option (Place × List ℕ)) (SpellsPlace : List �
         ];
       }
 
-  -- no place stands behind a sheet's name
-  NoneBehind : List ℕ → Type 0
-  NoneBehind text = (name r : List ℕ) → sheet_at text ≡ Some (name, r) → read r ≡ None
+  -- no place stands after a sheet's name
+  NoneAfter : List ℕ → Type 0
+  NoneAfter text = (name r : List ℕ) → sheet_at text ≡ Some (name, r) → read r ≡ None
 
-  none_with_sheet : (text other after name : List ℕ) (v : RefToken) (x : SpellsReference SpellsPlace other v) → NoneBehind text → text ≡ other ++ after → v.sheet ≡ Some name → ⊥
-  unfolding NoneBehind
+  none_with_sheet : (text other after name : List ℕ) (v : RefToken) (x : SpellsReference SpellsPlace other v) → NoneAfter text → text ≡ other ++ after → v.sheet ≡ Some name → ⊥
+  unfolding NoneAfter
   none_with_sheet text other after name v x none w e =
       no_place (x.place_text ++ after) x.place_text after v.place (none name (x.place_text ++ after) (read_of text other after name v x w e)) refl x.place
 
   -- a place alone
-  longest_place : (text rest : List ℕ) (p : Place) → NoneBehind text → read text ≡ Some (p, rest) → IsLongest (SpellsReference SpellsPlace) text (record { sheet = None; place = p }) rest
+  longest_place : (text rest : List ℕ) (p : Place) → NoneAfter text → read text ≡ Some (p, rest) → IsLongest (SpellsReference SpellsPlace) text (record { sheet = None; place = p }) rest
   longest_place text rest p none k =
       let l = found_place text rest p k in
       record {
@@ -111,24 +111,24 @@ module _ (read : List ℕ → Option (Place × List ℕ)) (SpellsPlace : List �
         ];
       }
 
-  nothing : (text : List ℕ) → NoneBehind text → read text ≡ None → FindsLongest (SpellsReference SpellsPlace) text None
+  nothing : (text : List ℕ) → NoneAfter text → read text ≡ None → FindsLongest (SpellsReference SpellsPlace) text None
   nothing text none k = λ other after v w x. elim (none_or_some v.sheet) [
     | inl n ↦ no_place text other after v.place k w (bare_place other v x n)
     | inr n ↦ none_with_sheet text other after n.0 v x none w n.1
   ]
 
-  by_place : (text : List ℕ) (q : Option (Place × List ℕ)) → NoneBehind text → read text ≡ q → FindsLongest (SpellsReference SpellsPlace) text (with_sheet None q)
+  by_place : (text : List ℕ) (q : Option (Place × List ℕ)) → NoneAfter text → read text ≡ q → FindsLongest (SpellsReference SpellsPlace) text (with_sheet None q)
   by_place text None none k = nothing text none k
   by_place text (Some (p, rest)) none k = longest_place text rest p none k
 
   by_sheet : (text name r : List ℕ) (q : Option (Place × List ℕ)) → sheet_at text ≡ Some (name, r) → read r ≡ q → FindsLongest (SpellsReference SpellsPlace) text (or_else (with_sheet (Some name) q) (with_sheet None (read text)))
-  unfolding NoneBehind
+  unfolding NoneAfter
   by_sheet text name r None e k =
       by_place text (read text) (λ n s h. ap read (sym (some_pair_parts name n r s (sym e ∙ h)).1) ∙ k) refl
   by_sheet text name r (Some (p, rest)) e k = longest_with_sheet text name r rest p e k
 
   by_front : (text : List ℕ) (o : Option (List ℕ × List ℕ)) → sheet_at text ≡ o → FindsLongest (SpellsReference SpellsPlace) text (or_else (option_and_then (λ (f : List ℕ × List ℕ). with_sheet (Some f.0) (read f.1)) o) (with_sheet None (read text)))
-  unfolding NoneBehind
+  unfolding NoneAfter
   by_front text None e = by_place text (read text) (λ n s h. absurd (none-some (n, s) (sym e ∙ h))) refl
   by_front text (Some (name, r)) e = by_sheet text name r (read r) e refl
 
@@ -136,7 +136,7 @@ module _ (read : List ℕ → Option (Place × List ℕ)) (SpellsPlace : List �
   pub finds_reference : (text : List ℕ) → FindsLongest (SpellsReference SpellsPlace) text (reference_at read text)
   finds_reference text = by_front text (sheet_at text) refl
 
-read_with_sheet : (read : List ℕ → Option (Place × List ℕ)) (text name r rest : List ℕ) (place : Place) → sheet_at text ≡ Some (name, r) → read r ≡ Some (place, rest) → reference_at read text ≡ Some (record { sheet = Some name; place = place }, rest)
+pub read_with_sheet : (read : List ℕ → Option (Place × List ℕ)) (text name r rest : List ℕ) (place : Place) → sheet_at text ≡ Some (name, r) → read r ≡ Some (place, rest) → reference_at read text ≡ Some (record { sheet = Some name; place = place }, rest)
 read_with_sheet read text name r rest place e h = rw (e, h) refl
 
 reference_again_by : (read : List ℕ → Option (Place × List ℕ)) (place_text rest : List ℕ) (sheet : Option (List ℕ)) (place : Place) → IfSome sheet (λ name. is_sheet_name name ≡ true) → read (place_text ++ rest) ≡ Some (place, rest) → (sheet ≡ None → sheet_at (place_text ++ rest) ≡ None) → reference_at read (sheet_text sheet ++ place_text ++ rest) ≡ Some (record { sheet = sheet; place = place }, rest)

@@ -1,16 +1,23 @@
 -- What is read as a sheet's name is spelled, and what is spelled is read.
 use Rattle.std.proofs.Common.{◌≡◌, ◌⊎◌, Bool, true, false, not, ◌&&◌, ◌||◌, ◌==◌, ℕ, List, [], ◌∷◌, ◌++◌, Option, Some, None, option_and_then, refl, sym, ◌∙◌, ap, inl, inr, append_assoc, if◌then◌else◌}
 use Rattle.std.specs.List.{list_all}
+use Rattle.std.specs.Option.{IfSome}
 use Rattle.std.proofs.lemmas.Bool.{both_ways, cases_Bool, cond-false, eqb-true, or_parts, and_parts, and_right, not-false}
 use Rattle.std.proofs.lemmas.Bool.Decides.{eqb_tells}
 use Rattle.std.proofs.lemmas.Option.{cond_some, none-some, option_and_then_some, some_pair_parts}
 use Rattle.ucd_derived.proofs.Computing.{ucd_derived}
 use Rattle.ic_laws.specs.Name.{in_quotes, is_a1_cell, is_r1c1_cell, is_sheet_name, needs_quotes}
 use Rattle.ic_laws.specs.Scan.{first_is, is_digit, is_plain, past_run, run_of}
+use Rattle.ic_laws.specs.Tree.{is_written_sheet}
 use Rattle.ic_refs.specs.Sheet.{SpellsSheet, before_bang, name_in_quotes, onto_text, sheet_at, sheet_text, written_name}
 use Rattle.ic_refs.specs.Written.{doubled, doubled_char}
-use Rattle.ic_refs.proofs.QuoteLemmas.{quoted_step, closed_here}
+use Rattle.ic_refs.proofs.SheetQuoteLemmas.{quoted_step, closed_here}
 use Rattle.ic_laws.proofs.RunLemmas.{run_and_rest}
+
+-- a name that may be written is a sheet's
+pub sheet_named : (sheet : Option (List ℕ)) → is_written_sheet sheet ≡ true → IfSome sheet (λ name. is_sheet_name name ≡ true)
+sheet_named None h = tt
+sheet_named (Some name) h = h
 
 -- `!`, a quote, a dollar sign, a colon and a bracket are not plain
 pub bang_not_plain : is_plain 33 ≡ false
@@ -170,7 +177,7 @@ written_plain (c ∷ cs) rest s h =
     written_other c (cs ++ 33 ∷ rest) p ∙ ap (λ n. plain_read n (past_run is_plain (c ∷ (cs ++ 33 ∷ rest)))) run ∙ ap (plain_read (c ∷ cs)) past
     ∙ cond-false (needs_quotes (c ∷ cs)) None (Some (c ∷ cs, 33 ∷ rest)) h
 
--- What is spelled as a sheet's name is read, whatever stands behind it.
+-- What is spelled as a sheet's name is read, whatever stands after it.
 pub sheet_complete : (front name rest : List ℕ) → SpellsSheet front (Some name) → sheet_at (front ++ rest) ≡ Some (name, rest)
 sheet_complete front name rest h =
     elim h.1 [

@@ -7,11 +7,11 @@ use Rattle.ic_laws.specs.Scan.{is_digit, first_is}
 use Rattle.ic_laws.specs.declared.reference.Position.{Position}
 use Rattle.ic_laws.specs.declared.reference.Position.TheVariants as at
 use Rattle.ic_laws.specs.declared.reference.RefPart.{RefPart}
-use Rattle.ic_refs.specs.Number.{number_from}
+use Rattle.ic_refs.specs.Digits.{decimal_from}
 use Rattle.ic_laws.specs.Position.{is_within}
 use Rattle.ic_refs.specs.Stored.{SpellsNumber, SpellsDistance, SpellsPosition, SpellsCell, SpellsPlace, absolute_of, past_bracket, digits_at, distance_at, part_at, position_at, cell_at, cell_or_range, place_from, stored_place_at}
-use Rattle.ic_refs.proofs.NumberLemmas.{Reads, number_reads}
-use Rattle.ic_refs.proofs.TakingLemmas.{Takes, both_take}
+use Rattle.ic_refs.proofs.DigitsDecimalLemmas.{AreDigitsRead, number_reads}
+use Rattle.ic_refs.proofs.LongestLemmas.{Takes, both_take}
 
 -- a row or a column, within the limit
 abbrev pub SpellsWithin : ℕ → ℕ → List ℕ → Position → Type 0
@@ -27,7 +27,7 @@ closed_takes : (length n : ℕ) (digits text after : List ℕ) → SpellsNumber 
 closed_takes length n digits text [] s h e = tt
 closed_takes length n digits text (c ∷ cs) s h e =
     elim (cases_Bool (eqb c 93)) [
-      | inl t ↦ rw t (digits ++ 93 ∷ [], e ∙ ap (λ x. digits ++ x ∷ cs) (eqb-true c 93 t) ∙ sym (append_assoc digits (93 ∷ []) cs), (digits, refl, s, h))
+      | inl t ↦ rw t (record { front = digits ++ 93 ∷ []; whole = e ∙ ap (λ x. digits ++ x ∷ cs) (eqb-true c 93 t) ∙ sym (append_assoc digits (93 ∷ []) cs); spelled = (digits, refl, s, h) })
       | inr f ↦ rw f tt
     ]
 
@@ -48,11 +48,11 @@ digits_take : (length : ℕ) (text : List ℕ) → 0 < length → Takes (SpellsC
 digits_take length text pos_length =
     let r = number_reads (length - 1) 0 text in
     elim (cases_Bool (first_is is_digit text)) [
-      | inl t ↦ rw t (read_takes length (number_from (length - 1) 0 text).0 r.digits text (number_from (length - 1) 0 text).1 t r.whole r.ascii r.value (omega (arith, r.within (omega arith))))
+      | inl t ↦ rw t (read_takes length (decimal_from (length - 1) 0 text).0 r.digits text (decimal_from (length - 1) 0 text).1 t r.whole r.ascii r.value (omega (arith, r.within (omega arith))))
       | inr f ↦ rw f tt
     ]
 
--- what stands behind a letter
+-- what stands after a letter
 abbrev SpellsPart : ℕ → ℕ → List ℕ → Position → Type 0
 SpellsPart letter length text position = SpellsWithin letter length (letter ∷ text) position
 
@@ -66,19 +66,19 @@ distance_part letter length n k inner front e d a h = ((inner, ap (λ v. letter 
 
 plus_takes : (letter length : ℕ) (text : List ℕ) (o : Option (ℕ × List ℕ)) → Takes (SpellsClosed length) text o → Takes (SpellsPart letter length) (91 ∷ text) (option_map (λ f. (at.Rel (pos f.0), f.1)) o)
 plus_takes letter length text None t = tt
-plus_takes letter length text (Some f) t = (
-  91 ∷ t.0,
-  ap (λ v. 91 ∷ v) t.1,
-  distance_part letter length f.0 (pos f.0) t.2.0 t.0 t.2.1 (f.0, inl (t.2.2, refl)) refl t.2.3,
-)
+plus_takes letter length text (Some f) t = record {
+  front = 91 ∷ t.front;
+  whole = ap (λ v. 91 ∷ v) t.whole;
+  spelled = distance_part letter length f.0 (pos f.0) t.spelled.0 t.front t.spelled.1 (f.0, inl (t.spelled.2, refl)) refl t.spelled.3;
+}
 
 minus_takes : (letter length : ℕ) (text : List ℕ) (o : Option (ℕ × List ℕ)) → Takes (SpellsClosed length) text o → Takes (SpellsPart letter length) (91 ∷ 45 ∷ text) (option_map (λ f. (at.Rel (neg_ℤ (pos f.0)), f.1)) o)
 minus_takes letter length text None t = tt
-minus_takes letter length text (Some f) t = (
-  91 ∷ 45 ∷ t.0,
-  ap (λ v. 91 ∷ 45 ∷ v) t.1,
-  distance_part letter length f.0 (neg_ℤ (pos f.0)) (45 ∷ t.2.0) (45 ∷ t.0) (ap (λ v. 45 ∷ v) t.2.1) (f.0, inr (t.2.0, refl, t.2.2, refl)) (nat_abs_neg f.0) t.2.3,
-)
+minus_takes letter length text (Some f) t = record {
+  front = 91 ∷ 45 ∷ t.front;
+  whole = ap (λ v. 91 ∷ 45 ∷ v) t.whole;
+  spelled = distance_part letter length f.0 (neg_ℤ (pos f.0)) (45 ∷ t.spelled.0) (45 ∷ t.front) (ap (λ v. 45 ∷ v) t.spelled.1) (f.0, inr (t.spelled.0, refl, t.spelled.2, refl)) (nat_abs_neg f.0) t.spelled.3;
+}
 
 distance_takes : (letter length : ℕ) (text : List ℕ) → 0 < length → Takes (SpellsPart letter length) (91 ∷ text) (distance_at length text)
 distance_takes letter length [] h = tt
@@ -88,14 +88,14 @@ distance_takes letter length (c ∷ cs) h =
       | inr f ↦ rw f (plus_takes letter length (c ∷ cs) (digits_at length (c ∷ cs)) (digits_take length (c ∷ cs) h))
     ]
 
-absolute_takes : (letter length : ℕ) (text : List ℕ) (read : ℕ × List ℕ) → Reads length 0 text read → Takes (SpellsPart letter length) text (absolute_of read)
+absolute_takes : (letter length : ℕ) (text : List ℕ) (read : ℕ × List ℕ) → AreDigitsRead length 0 text read → Takes (SpellsPart letter length) text (absolute_of read)
 absolute_takes letter length text read r =
     elim (cases_Bool (eqb read.0 0)) [
       | inl t ↦ rw t tt
       | inr f ↦
           let some : r.digits ≢ [] = λ e. eqb-false read.0 0 f (sym r.value ∙ ap (digits_value 10) e) in
           let low : 1 ≤ read.0 = omega (arith, eqb-false read.0 0 f) in
-          rw f (r.digits, r.whole, ((r.digits, read.0, refl, (r.ascii, some, r.value), refl), and_from (leb 1 read.0) (leb read.0 length) (le-leb _ _ low) (le-leb _ _ (r.within (omega arith)))))
+          rw f (record { front = r.digits; whole = r.whole; spelled = ((r.digits, read.0, refl, (r.ascii, some, r.value), refl), and_from (leb 1 read.0) (leb read.0 length) (le-leb _ _ low) (le-leb _ _ (r.within (omega arith)))) })
     ]
 
 part_takes : (letter length : ℕ) (text : List ℕ) → 0 < length → Takes (SpellsPart letter length) text (part_at length text)
@@ -103,12 +103,12 @@ part_takes letter length [] h = tt
 part_takes letter length (c ∷ cs) h =
     elim (cases_Bool (eqb c 91)) [
       | inl t ↦ rw t (subst (λ x. Takes (SpellsPart letter length) (x ∷ cs) (distance_at length cs)) (sym (eqb-true c 91 t)) (distance_takes letter length cs h))
-      | inr f ↦ rw f (absolute_takes letter length (c ∷ cs) (number_from length 0 (c ∷ cs)) (number_reads length 0 (c ∷ cs)))
+      | inr f ↦ rw f (absolute_takes letter length (c ∷ cs) (decimal_from length 0 (c ∷ cs)) (number_reads length 0 (c ∷ cs)))
     ]
 
 lettered : (letter length : ℕ) (text : List ℕ) (o : Option (Position × List ℕ)) → Takes (SpellsPart letter length) text o → Takes (SpellsWithin letter length) (letter ∷ text) o
 lettered letter length text None t = tt
-lettered letter length text (Some f) t = (letter ∷ t.0, ap (λ v. letter ∷ v) t.1, t.2)
+lettered letter length text (Some f) t = record { front = letter ∷ t.front; whole = ap (λ v. letter ∷ v) t.whole; spelled = t.spelled }
 
 position_takes : (letter length : ℕ) (text : List ℕ) → 0 < length → Takes (SpellsWithin letter length) text (position_at letter length text)
 position_takes letter length [] h = tt
@@ -134,27 +134,27 @@ cell_takes text =
     both_take (SpellsWithin 82 1048576) (SpellsWithin 67 16384) SpellsCell (λ r c. record { row = r; column = c }) text (position_at 82 1048576 text) (position_at 67 16384)
     (position_takes 82 1048576 text (omega arith)) (λ rest. position_takes 67 16384 rest (omega arith)) cell_of
 
-range_takes : (text a behind : List ℕ) (first : RefPart) (o : Option (RefPart × List ℕ)) → text ≡ a ++ 58 ∷ behind → SpellsCell a first → Takes SpellsCell behind o → Takes SpellsPlace text (Some (cell_or_range first (58 ∷ behind) o))
-range_takes text a behind first None e s t = (a, e, s)
-range_takes text a behind first (Some last) e s t = (
-  a ++ 58 ∷ t.0,
-  e ∙ ap (λ b. a ++ 58 ∷ b) t.1 ∙ sym (append_assoc a (58 ∷ t.0) last.1),
-  (a, t.0, refl, s, t.2),
-)
+range_takes : (text a beyond : List ℕ) (first : RefPart) (o : Option (RefPart × List ℕ)) → text ≡ a ++ 58 ∷ beyond → SpellsCell a first → Takes SpellsCell beyond o → Takes SpellsPlace text (Some (cell_or_range first (58 ∷ beyond) o))
+range_takes text a beyond first None e s t = record { front = a; whole = e; spelled = s }
+range_takes text a beyond first (Some last) e s t = record {
+  front = a ++ 58 ∷ t.front;
+  whole = e ∙ ap (λ b. a ++ 58 ∷ b) t.whole ∙ sym (append_assoc a (58 ∷ t.front) last.1);
+  spelled = (a, t.front, refl, s, t.spelled);
+}
 
 from_takes : (text a : List ℕ) (first : RefPart) (rest : List ℕ) → text ≡ a ++ rest → SpellsCell a first → Takes SpellsPlace text (Some (place_from first rest))
-from_takes text a first [] e s = (a, e, s)
+from_takes text a first [] e s = record { front = a; whole = e; spelled = s }
 from_takes text a first (c ∷ cs) e s =
     elim (cases_Bool (eqb c 58)) [
       | inl t ↦
           let k : c ≡ 58 = eqb-true c 58 t in
           rw t (subst (λ x. Takes SpellsPlace text (Some (cell_or_range first (x ∷ cs) (cell_at cs)))) (sym k) (range_takes text a cs first (cell_at cs) (e ∙ ap (λ x. a ++ x ∷ cs) k) s (cell_takes cs)))
-      | inr f ↦ rw f (a, e, s)
+      | inr f ↦ rw f (record { front = a; whole = e; spelled = s })
     ]
 
 place_takes_of : (text : List ℕ) (o : Option (RefPart × List ℕ)) → Takes SpellsCell text o → Takes SpellsPlace text (option_map (λ f. place_from f.0 f.1) o)
 place_takes_of text None t = tt
-place_takes_of text (Some f) t = from_takes text t.0 f.0 f.1 t.1 t.2
+place_takes_of text (Some f) t = from_takes text t.front f.0 f.1 t.whole t.spelled
 
 pub place_takes : (text : List ℕ) → Takes SpellsPlace text (stored_place_at text)
 place_takes text = place_takes_of text (cell_at text) (cell_takes text)

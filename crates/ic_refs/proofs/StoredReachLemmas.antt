@@ -9,15 +9,15 @@ use Rattle.ic_laws.specs.declared.reference.RefPart.{RefPart}
 use Rattle.ic_laws.specs.declared.reference.Place.{Place}
 use Rattle.ic_laws.specs.declared.reference.Place.TheVariants as places
 use Rattle.ic_refs.specs.Longest.{FindsLongest}
-use Rattle.ic_refs.specs.Number.{number_from}
+use Rattle.ic_refs.specs.Digits.{decimal_from}
 use Rattle.ic_laws.specs.Position.{is_within}
 use Rattle.ic_refs.specs.Stored.{SpellsNumber, SpellsDistance, SpellsPosition, SpellsCell, SpellsPlace, absolute_of, past_bracket, digits_at, distance_at, part_at, position_at, cell_at, cell_or_range, place_from, stored_place_at}
-use Rattle.ic_refs.proofs.NumberLemmas.{number_reads, number_over, number_stops, number_rest_le, after-grows}
-use Rattle.ic_refs.proofs.TakingLemmas.{Takes, Reaches, finds_longest, takes_le, reaches_exactly, reaches_map}
+use Rattle.ic_refs.proofs.DigitsDecimalLemmas.{number_reads, number_over, number_stops, number_rest_le, after-grows}
+use Rattle.ic_refs.proofs.LongestLemmas.{Takes, Reaches, finds_longest, takes_le, reaches_exactly, reaches_map}
 use Rattle.ic_refs.proofs.StoredLemmas.{SpellsWithin, nat_abs_neg, cell_takes, place_takes}
 
 -- the first of digits is a digit
-digits_begin : (digits after : List ℕ) → all_ascii_digits digits ≡ true → digits ≢ [] → first_is is_digit (digits ++ after) ≡ true
+pub digits_begin : (digits after : List ℕ) → all_ascii_digits digits ≡ true → digits ≢ [] → first_is is_digit (digits ++ after) ≡ true
 digits_begin [] after a n = absurd (n refl)
 digits_begin (d ∷ ds) after a n = (and_parts (is_digit d) (all_ascii_digits ds) a).0
 
@@ -28,7 +28,7 @@ other_than_digit c x h n = ne_eqb c x (λ e. true≢false (sym h ∙ ap is_digit
 digits_exactly : (length n : ℕ) (digits after : List ℕ) → SpellsNumber digits n → n < length → digits_at length (digits ++ 93 ∷ after) ≡ Some (n, after)
 digits_exactly length n digits after s h =
     let over = number_over (length - 1) 0 digits (93 ∷ after) s.0 (omega (arith, s.2)) in
-    let e : number_from (length - 1) 0 (digits ++ 93 ∷ after) ≡ (n, 93 ∷ after) = over ∙ ap (λ m. number_from (length - 1) m (93 ∷ after)) s.2 in
+    let e : decimal_from (length - 1) 0 (digits ++ 93 ∷ after) ≡ (n, 93 ∷ after) = over ∙ ap (λ m. decimal_from (length - 1) m (93 ∷ after)) s.2 in
     rw (digits_begin digits (93 ∷ after) s.0 s.1) (ap (λ r. past_bracket r.0 r.1) e)
 
 distance_plus : (length : ℕ) (text after : List ℕ) (n : ℕ) → first_is is_digit text ≡ true → digits_at length text ≡ Some (n, after) → distance_at length text ≡ Some (at.Rel (pos n), after)
@@ -46,18 +46,18 @@ distance_exactly length k inner after (n, inr s) h =
     ∙ ap (option_map (λ f. (at.Rel (neg_ℤ (pos f.0)), f.1))) (digits_exactly length n s.0 after s.2 l)
     ∙ ap (λ k. Some (at.Rel k, after)) (sym s.3)
 
--- digits behind a letter
-part_digits : (length : ℕ) (text : List ℕ) → first_is is_digit text ≡ true → part_at length text ≡ absolute_of (number_from length 0 text)
+-- digits after a letter
+part_digits : (length : ℕ) (text : List ℕ) → first_is is_digit text ≡ true → part_at length text ≡ absolute_of (decimal_from length 0 text)
 part_digits length [] f = absurd (true≢false (sym f))
 part_digits length (c ∷ cs) f = rw (other_than_digit c 91 f refl) refl
 
 absolute_some : (m : ℕ) (after : List ℕ) → 0 < m → absolute_of (m, after) ≡ Some (at.Abs (pos m), after)
 absolute_some m after h = rw (ne_eqb m 0 (λ e. omega arith)) refl
 
-part_over : (length m : ℕ) (digits after : List ℕ) → SpellsNumber digits m → m ≤ length → part_at length (digits ++ after) ≡ absolute_of (number_from length m after)
+part_over : (length m : ℕ) (digits after : List ℕ) → SpellsNumber digits m → m ≤ length → part_at length (digits ++ after) ≡ absolute_of (decimal_from length m after)
 part_over length m digits after s h =
     part_digits length (digits ++ after) (digits_begin digits after s.0 s.1)
-    ∙ ap absolute_of (number_over length 0 digits after s.0 (omega (arith, s.2)) ∙ ap (λ v. number_from length v after) s.2)
+    ∙ ap absolute_of (number_over length 0 digits after s.0 (omega (arith, s.2)) ∙ ap (λ v. decimal_from length v after) s.2)
 
 -- the same letter is in front
 position_letter : (letter length : ℕ) (text : List ℕ) → position_at letter length (letter ∷ text) ≡ part_at length text
@@ -93,7 +93,7 @@ position_reaches letter length text after (at.Abs n) s =
     let r = number_reads length m after in
     let e = ap (λ t. position_at letter length (t ++ after)) s.0.2 ∙ position_letter letter length (s.0.0 ++ after) ∙ part_over length m s.0.0 after s.0.3 (leb-true _ _ p.1) in
     subst (λ o. Reaches after o) (sym e)
-    (absolute_reaches m after (number_from length m after) (omega (arith, leb-true _ _ p.0, after-grows m r.digits, r.value)) (number_rest_le length m after))
+    (absolute_reaches m after (decimal_from length m after) (omega (arith, leb-true _ _ p.0, after-grows m r.digits, r.value)) (number_rest_le length m after))
 position_reaches letter length text after (at.Rel k) s =
     let e : position_at letter length (text ++ after) ≡ Some (at.Rel k, after) =
     ap (λ t. position_at letter length (t ++ after)) s.0.1
@@ -108,7 +108,7 @@ begins_letter : (letter : ℕ) (text after : List ℕ) (position : Position) →
 begins_letter letter text after (at.Abs n) f s = ap (λ t. first_is is_digit (t ++ after)) s.2 ∙ f
 begins_letter letter text after (at.Rel k) f s = ap (λ t. first_is is_digit (t ++ after)) s.1 ∙ f
 
--- the column of a cell is read behind its row
+-- the column of a cell is read after its row
 cell_row : (text after : List ℕ) (part : RefPart) → (s : SpellsCell text part) → cell_at (text ++ after) ≡ option_map (λ c. (record { row = part.row; column = c.0 }, c.1)) (position_at 67 16384 (s.column_text ++ after))
 cell_row text after part s =
     let w = and_parts (is_within 1048576 part.row) (is_within 16384 part.column) s.within in
@@ -147,11 +147,11 @@ cell_place_reaches : (after : List ℕ) (o : Option (RefPart × List ℕ)) → R
 cell_place_reaches after None r = r
 cell_place_reaches after (Some f) r = omega (arith, r, from_le f.0 f.1)
 
-range_reaches : (after behind : List ℕ) (first : RefPart) (o : Option (RefPart × List ℕ)) → Reaches after o → length (cell_or_range first behind o).1 ≤ length after
-range_reaches after behind first None r = absurd r
-range_reaches after behind first (Some last) r = r
+range_reaches : (after beyond : List ℕ) (first : RefPart) (o : Option (RefPart × List ℕ)) → Reaches after o → length (cell_or_range first beyond o).1 ≤ length after
+range_reaches after beyond first None r = absurd r
+range_reaches after beyond first (Some last) r = r
 
--- behind a first cell and a colon the second cell is read
+-- after a first cell and a colon the second cell is read
 range_at : (a b after : List ℕ) (first : RefPart) → SpellsCell a first → stored_place_at ((a ++ 58 ∷ b) ++ after) ≡ Some (cell_or_range first (58 ∷ (b ++ after)) (cell_at (b ++ after)))
 range_at a b after first s =
     ap stored_place_at (append_assoc a (58 ∷ b) after)

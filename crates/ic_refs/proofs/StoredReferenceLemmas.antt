@@ -1,18 +1,19 @@
 -- References in the stored form.
-use Rattle.std.proofs.Common.{◌≡◌, ℕ, ◌-◌, List, [], ◌∷◌, ◌++◌, true, false, Option, Some, None, IfSome, option_map, encode_utf8_all, chars, drop, length, IsUtf8, refl, sym, subst, ◌∙◌, ap, inl, inr, eqb}
+use Rattle.std.proofs.Common.{◌≡◌, ℕ, List, [], ◌∷◌, ◌++◌, true, false, Option, Some, None, IfSome, IsUtf8, refl, sym, subst, ap, inl, inr, eqb}
 use Rattle.std.specs.List.{list_any}
-use Rattle.std.proofs.lemmas.Bool.{cases_Bool, or_parts}
+use Rattle.std.proofs.lemmas.Bool.{and_parts, cases_Bool, or_parts}
 use Rattle.ic_laws.specs.Name.{is_sheet_name}
-use Rattle.ic_laws.specs.Scan.{EndsWith, is_plain, first_is, past_run, IsEnd}
+use Rattle.ic_laws.specs.Scan.{is_plain, first_is, past_run, IsEnd}
 use Rattle.ic_laws.specs.declared.reference.Place.{Place}
 use Rattle.ic_laws.specs.declared.reference.RefToken.{RefToken}
-use Rattle.ic_refs.specs.Longest.{FindsLongest, FindsLongestAt, IsLongest, is_char_boundary, read_at}
+use Rattle.ic_refs.specs.Longest.{FindsLongest, FindsLongestAt, read_at}
 use Rattle.ic_refs.specs.Sheet.{reference_at, sheet_at}
 use Rattle.ic_laws.specs.Position.{is_place_within}
-use Rattle.ic_refs.specs.Stored.{SpellsPlace, SpellsStored, place_text, stored_text, stored_place_at}
+use Rattle.ic_laws.specs.Tree.{is_written_sheet}
+use Rattle.ic_refs.specs.Stored.{is_stored_spellable, SpellsPlace, SpellsStored, place_text, stored_text, stored_place_at}
 use Rattle.ic_refs.proofs.OffsetLemmas.{finds_at}
 use Rattle.ic_refs.proofs.ReferenceLemmas.{finds_reference, reference_again}
-use Rattle.ic_refs.proofs.SheetLemmas.{no_sheet_without_bang}
+use Rattle.ic_refs.proofs.SheetLemmas.{no_sheet_without_bang, sheet_named}
 use Rattle.ic_refs.proofs.StoredReachLemmas.{finds_longest_place}
 use Rattle.ic_refs.proofs.StoredTextLemmas.{place_again, place_spelled, place_begins, no_bang_in_place, end_bang, end_plain}
 
@@ -24,28 +25,14 @@ finds_stored text = finds_reference stored_place_at SpellsPlace finds_longest_pl
 pub finds_stored_at : (text : List ℕ) (at : ℕ) (found : Option (RefToken × ℕ)) → IsUtf8 text → found ≡ read_at (reference_at stored_place_at) text at → FindsLongestAt SpellsStored text at found
 finds_stored_at text at found u e = subst (λ f. FindsLongestAt SpellsStored text at f) (sym e) (finds_at SpellsStored (reference_at stored_place_at) finds_stored text at u)
 
--- what stands behind a reference ends the text
-pub reference_ends : (text rest : List ℕ) (token : RefToken) → reference_at stored_place_at text ≡ Some (token, rest) → EndsWith text rest
-reference_ends text rest token e =
-    let l : IsLongest SpellsStored text token rest = subst (λ f. FindsLongest SpellsStored text f) e (finds_stored text) in (l.front, l.whole)
-
--- what was read at the front of the text behind a byte was read at that byte
-pub found_at : (text front rest : List ℕ) (at n : ℕ) (sheet read_sheet : Option (List ℕ)) (place : Place) → is_char_boundary text at ≡ true → front ≡ drop at text → Some (record { sheet = read_sheet; place = place }, rest) ≡ reference_at stored_place_at (chars front) → sheet ≡ read_sheet → n ≡ length front - length (encode_utf8_all rest) → Some (record { sheet = sheet; place = place }, n) ≡ read_at (reference_at stored_place_at) text at
-found_at text front rest at n sheet read_sheet place b f e s k =
-    rw b
-    (ap (λ s. Some (record { sheet = s; place = place }, n)) s
-    ∙ ap (λ m. Some (record { sheet = read_sheet; place = place }, m)) k
-    ∙ ap (option_map (λ (found : RefToken × List ℕ). (found.0, length front - length (encode_utf8_all found.1)))) e
-    ∙ ap (λ front. option_map (λ (found : RefToken × List ℕ). (found.0, length front - length (encode_utf8_all found.1))) (reference_at stored_place_at (chars front))) f)
-
 -- no `!` follows the plain characters at the front of a place before an end
-no_bang_behind : (text rest : List ℕ) → list_any (λ c. eqb c 33) text ≡ false → first_is is_plain rest ≡ false → first_is (λ c. eqb c 33) rest ≡ false → first_is (λ c. eqb c 33) (past_run is_plain (text ++ rest)) ≡ false
-no_bang_behind [] [] n p b = refl
-no_bang_behind [] (c ∷ cs) n p b = rw p b
-no_bang_behind (c ∷ cs) rest n p b =
+no_bang_after : (text rest : List ℕ) → list_any (λ c. eqb c 33) text ≡ false → first_is is_plain rest ≡ false → first_is (λ c. eqb c 33) rest ≡ false → first_is (λ c. eqb c 33) (past_run is_plain (text ++ rest)) ≡ false
+no_bang_after [] [] n p b = refl
+no_bang_after [] (c ∷ cs) n p b = rw p b
+no_bang_after (c ∷ cs) rest n p b =
     let q = or_parts (eqb c 33) (list_any (λ c. eqb c 33) cs) n in
     elim (cases_Bool (is_plain c)) [
-      | inl t ↦ rw t (no_bang_behind cs rest q.1 p b)
+      | inl t ↦ rw t (no_bang_after cs rest q.1 p b)
       | inr f ↦ rw f q.0
     ]
 
@@ -55,9 +42,13 @@ no_sheet_in_place place rest w e =
     let s = place_spelled place w in
     let b = place_begins (place_text place) place s in
     no_sheet_without_bang (place_text place ++ rest) (ap (λ t. first_is (λ c. eqb c 39) (t ++ rest)) b.1)
-    (no_bang_behind (place_text place) rest (no_bang_in_place (place_text place) place s) (end_plain rest e) (end_bang rest e))
+    (no_bang_after (place_text place) rest (no_bang_in_place (place_text place) place s) (end_plain rest e) (end_bang rest e))
 
 -- What is spelled is read back, wherever it ends.
 pub stored_again : (token : RefToken) (rest : List ℕ) → is_place_within token.place ≡ true → IfSome token.sheet (λ name. is_sheet_name name ≡ true) → IsEnd rest → reference_at stored_place_at (stored_text token ++ rest) ≡ Some (token, rest)
 stored_again token rest w s e =
     reference_again stored_place_at (place_text token.place) rest token s (place_again token.place rest w e) (λ _. no_sheet_in_place token.place rest w e)
+
+pub stored_spelled : (token : RefToken) (rest : List ℕ) → is_stored_spellable token ≡ true → IsEnd rest → reference_at stored_place_at (stored_text token ++ rest) ≡ Some (token, rest)
+stored_spelled token rest h e =
+    let p = and_parts (is_place_within token.place) (is_written_sheet token.sheet) h in stored_again token rest p.0 (sheet_named token.sheet p.1) e

@@ -82,7 +82,7 @@ pub end_colon : (rest : List ℕ) → IsEnd rest → first_is (λ c. eqb c 58) r
 end_colon [] h = refl
 end_colon (c ∷ cs) h = (at_end c h).colon
 
--- What is written of a place is read back, wherever the reference ends behind it.
+-- What is written of a place is read back, wherever the reference ends after it.
 pub place_again : (place : Place) (rest : List ℕ) → is_place_within place ≡ true → IsEnd rest → stored_place_at (place_text place ++ rest) ≡ Some (place, rest)
 place_again place rest w e = place_exactly (place_text place) rest place (place_spelled place w) (end_digit rest e) (end_colon rest e)
 

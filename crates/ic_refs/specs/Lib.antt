@@ -2,9 +2,11 @@ pub mod A1
 pub mod Column
 pub mod Digits
 pub mod Formula
+pub mod FormulaForm
 pub mod Longest
-pub mod Number
 pub mod R1C1
+pub mod R1C1Form
+pub mod Referred
 pub mod Sheet
 pub mod Stored
 pub mod Token

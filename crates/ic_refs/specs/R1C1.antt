@@ -1,12 +1,15 @@
 -- The R1C1 form of a reference, as a user writes it, relative to a cell. It is read from left to right, and the first
 -- error is told.
-use Rattle.std.specs.Prelude.{◌≡◌, ℕ, ℤ, pos, neg_ℤ, ◌+ℤ◌, ◌-ℤ◌, ◌≤ℤ◌, List, [], ◌∷◌, Bool, true, not, ◌&&◌, ◌==◌, is_some, nat_lt, nat_le, Option, Some, None, Result, Ok, Err, unwrap_or, if◌then◌else◌, length}
+use Rattle.std.specs.Prelude.{◌≡◌, ℕ, ℤ, pos, neg_ℤ, ◌-◌, ◌^◌, ◌+ℤ◌, ◌-ℤ◌, List, [], ◌∷◌, Bool, not, ◌&&◌, ◌==◌, is_some, nat_lt, nat_le, Option, Some, None, Result, Ok, Err, unwrap_or, if◌then◌else◌, length}
 use Rattle.std.specs.List.{before_first, after_first, list_any}
 use Rattle.std.specs.Int.{int_min, int_max, int_rem_euclid}
 use Rattle.std.specs.Str.Parse.{digits_value}
+use Rattle.ic_refs.specs.Stored.{close_square}
+use Rattle.ic_laws.specs.Position.{row_count, column_count}
+use Rattle.ic_laws.specs.declared.reference.TheConstants.{LAST_ROW, LAST_COLUMN}
+use Rattle.ic_laws.specs.Character.{colon, minus, open_square}
 use Rattle.ic_laws.specs.Name.{is_r, is_c}
 use Rattle.ic_laws.specs.Scan.{is_digit, run_of, past_run}
-use Rattle.ic_laws.specs.Position.{is_row, is_column}
 use Rattle.ic_refs.specs.declared.error.ReferenceError.{ReferenceError}
 use Rattle.ic_refs.specs.declared.error.ReferenceError.TheVariants as errors
 use Rattle.ic_refs.specs.declared.reference.CellReferenceIndex.{CellReferenceIndex}
@@ -14,21 +17,18 @@ use Rattle.ic_refs.specs.declared.reference.ParsedReference.{ParsedReference}
 use Rattle.ic_refs.specs.declared.reference.ParsedReference.TheVariants as parsed
 use Rattle.ic_refs.specs.declared.r1c1_ends.End.{End}
 use Rattle.ic_refs.specs.Formula.{IsSheetOf, ◌>>=◌}
-use Rattle.ic_refs.specs.Sheet.{name_in_quotes}
+use Rattle.ic_refs.specs.Sheet.{is_bang, name_in_quotes, is_quote}
 
 -- The sheet's name
 
--- behind a quoted name stands a `!`
+-- after a quoted name stands a `!`
 abbrev pub past_bang : List ℕ → List ℕ → Result (Option (List ℕ) × List ℕ) ReferenceError
 past_bang name [] = Err errors.ExpectedBang
-past_bang name (c ∷ rest) = if c == 33 then Ok (Some name, rest) else Err errors.ExpectedBang
+past_bang name (c ∷ rest) = if is_bang c then Ok (Some name, rest) else Err errors.ExpectedBang
 
 abbrev pub quoted_name : Option (List ℕ × List ℕ) → Result (Option (List ℕ) × List ℕ) ReferenceError
 quoted_name None = Err errors.NameNotClosed
 quoted_name (Some read) = past_bang read.0 read.1
-
-abbrev pub is_bang : ℕ → Bool
-is_bang c = c == 33
 
 abbrev pub is_no_bang : ℕ → Bool
 is_no_bang c = not (is_bang c)
@@ -37,10 +37,10 @@ is_no_bang c = not (is_bang c)
 abbrev pub unquoted_name : List ℕ → Result (Option (List ℕ) × List ℕ) ReferenceError
 unquoted_name text = if list_any is_bang text then Ok (Some (before_first is_bang text), after_first is_bang text) else Ok (None, text)
 
--- the name of the sheet, if there is one, and what stands behind it
+-- the name of the sheet, if there is one, and the rest
 abbrev pub split_sheet : List ℕ → Result (Option (List ℕ) × List ℕ) ReferenceError
 split_sheet [] = Ok (None, [])
-split_sheet (c ∷ cs) = if c == 39 then quoted_name (name_in_quotes cs) else unquoted_name (c ∷ cs)
+split_sheet (c ∷ cs) = if is_quote c then quoted_name (name_in_quotes cs) else unquoted_name (c ∷ cs)
 
 -- What a reader answers, seen by view, is what reading on lists gives.
 abbrev pub Gives : {X Y : Type 0} → (X → Y) → Result X ReferenceError → Result Y ReferenceError → Type 0
@@ -49,7 +49,14 @@ Gives view (Err e) read = read ≡ Err e
 
 -- One end
 
--- the number of the digits at the front, where it fits 32 bits: up to 2,147,483,647, or one more behind a minus
+-- the greatest number of 32 bits with a sign, and the greatest after a minus
+abbrev pub greatest_number : ℕ
+greatest_number = 2 ^ 31 - 1
+
+abbrev pub greatest_back : ℕ
+greatest_back = 2 ^ 31
+
+-- the number of the digits at the front, where it fits 32 bits
 abbrev pub number_at : ℕ → List ℕ → Result ℕ ReferenceError
 number_at most [] = Err errors.ExpectedNumber
 number_at most (c ∷ cs) =
@@ -71,47 +78,47 @@ offset length origin k distance = if nat_lt distance length then Ok (wrapped len
 -- a closing bracket stands at the front
 abbrev pub past_bracket : ℤ → List ℕ → Result (ℤ × List ℕ) ReferenceError
 past_bracket place [] = Err errors.ExpectedBracket
-past_bracket place (c ∷ rest) = if c == 93 then Ok (place, rest) else Err errors.ExpectedBracket
+past_bracket place (c ∷ rest) = if c == close_square then Ok (place, rest) else Err errors.ExpectedBracket
 
 -- an offset on, an offset back, and the bracket that closes them
 abbrev pub offset_on_at : ℕ → ℤ → List ℕ → Result (ℤ × List ℕ) ReferenceError
 offset_on_at length origin text =
-    number_at 2147483647 text >>= λ n. offset length origin (pos n) n >>= λ place. past_bracket place (past_run is_digit text)
+    number_at greatest_number text >>= λ n. offset length origin (pos n) n >>= λ place. past_bracket place (past_run is_digit text)
 
 abbrev pub offset_back_at : ℕ → ℤ → List ℕ → Result (ℤ × List ℕ) ReferenceError
 offset_back_at length origin text =
-    number_at 2147483648 text >>= λ n. offset length origin (neg_ℤ (pos n)) n >>= λ place. past_bracket place (past_run is_digit text)
+    number_at greatest_back text >>= λ n. offset length origin (neg_ℤ (pos n)) n >>= λ place. past_bracket place (past_run is_digit text)
 
--- what stands behind an opening bracket: a number, behind a minus or not, and a closing bracket
+-- what stands after an opening bracket: a number, after a minus or not, and a closing bracket
 abbrev pub offset_at : ℕ → ℤ → List ℕ → Result (ℤ × List ℕ) ReferenceError
 offset_at length origin [] = Err errors.ExpectedNumber
-offset_at length origin (c ∷ cs) = if c == 45 then offset_back_at length origin cs else offset_on_at length origin (c ∷ cs)
+offset_at length origin (c ∷ cs) = if c == minus then offset_back_at length origin cs else offset_on_at length origin (c ∷ cs)
 
 -- an absolute number
 abbrev pub absolute_at : ℕ → List ℕ → Result (ℤ × List ℕ) ReferenceError
-absolute_at length text = number_at 2147483647 text >>= λ n. absolute length n >>= λ place. Ok (place, past_run is_digit text)
+absolute_at length text = number_at greatest_number text >>= λ n. absolute length n >>= λ place. Ok (place, past_run is_digit text)
 
--- what stands behind the letter: a number, an offset, or nothing, which is the place of the cell
+-- what stands after the letter: a number, an offset, or nothing, which is the place of the cell
 abbrev pub part_at : ℕ → ℤ → List ℕ → Result (ℤ × List ℕ) ReferenceError
 part_at length origin [] = Ok (origin, [])
 part_at length origin (c ∷ cs) =
-    if is_digit c then absolute_at length (c ∷ cs) else if c == 91 then offset_at length origin cs else Ok (origin, c ∷ cs)
+    if is_digit c then absolute_at length (c ∷ cs) else if c == open_square then offset_at length origin cs else Ok (origin, c ∷ cs)
 
--- the column behind a row, if there is one
-abbrev pub column_behind : CellReferenceIndex → ℤ → List ℕ → Result (End × List ℕ) ReferenceError
-column_behind cell row [] = Ok (record { row = Some row; column = None }, [])
-column_behind cell row (c ∷ cs) =
-    if is_c c then (part_at 16384 cell.column cs >>= λ column. Ok (record { row = Some row; column = Some column.0 }, column.1))
+-- the column after a row, if there is one
+abbrev pub column_after : CellReferenceIndex → ℤ → List ℕ → Result (End × List ℕ) ReferenceError
+column_after cell row [] = Ok (record { row = Some row; column = None }, [])
+column_after cell row (c ∷ cs) =
+    if is_c c then (part_at column_count cell.column cs >>= λ column. Ok (record { row = Some row; column = Some column.0 }, column.1))
     else Ok (record { row = Some row; column = None }, c ∷ cs)
 
--- a row part, and a column part behind it or not
+-- a row part, and a column part after it or not
 abbrev pub row_end_at : CellReferenceIndex → List ℕ → Result (End × List ℕ) ReferenceError
-row_end_at cell text = part_at 1048576 cell.row text >>= λ row. column_behind cell row.0 row.1
+row_end_at cell text = part_at row_count cell.row text >>= λ row. column_after cell row.0 row.1
 
 -- a column part alone
 abbrev pub column_end_at : CellReferenceIndex → List ℕ → Result (End × List ℕ) ReferenceError
 column_end_at cell text =
-    part_at 16384 cell.column text >>= λ column. Ok (record { row = None; column = Some column.0 }, column.1)
+    part_at column_count cell.column text >>= λ column. Ok (record { row = None; column = Some column.0 }, column.1)
 
 abbrev pub end_at : CellReferenceIndex → List ℕ → Result (End × List ℕ) ReferenceError
 end_at cell [] = Err errors.ExpectedLetter
@@ -119,29 +126,29 @@ end_at cell (c ∷ cs) = if is_r c then row_end_at cell cs else if is_c c then c
 
 -- The ends
 
--- nothing stands behind the ends
+-- nothing stands after the ends
 abbrev pub ended : {T : Type 0} → T → List ℕ → Result T ReferenceError
 ended ends [] = Ok ends
 ended ends (c ∷ cs) = Err errors.ExpectedEnd
 
--- the second end, and nothing behind it
+-- the second end, and nothing after it
 abbrev pub last_end : CellReferenceIndex → End → List ℕ → Result (End × Option End) ReferenceError
 last_end cell first text = end_at cell text >>= λ last. ended (first, Some last.0) last.1
 
--- behind the first end stands nothing, or a colon and the second end
-abbrev pub ends_behind : CellReferenceIndex → End → List ℕ → Result (End × Option End) ReferenceError
-ends_behind cell first [] = Ok (first, None)
-ends_behind cell first (c ∷ cs) = if c == 58 then last_end cell first cs else Err errors.ExpectedEnd
+-- after the first end stands nothing, or a colon and the second end
+abbrev pub ends_after : CellReferenceIndex → End → List ℕ → Result (End × Option End) ReferenceError
+ends_after cell first [] = Ok (first, None)
+ends_after cell first (c ∷ cs) = if c == colon then last_end cell first cs else Err errors.ExpectedEnd
 
 abbrev pub ends_of : CellReferenceIndex → List ℕ → Result (End × Option End) ReferenceError
-ends_of cell text = end_at cell text >>= λ first. ends_behind cell first.0 first.1
+ends_of cell text = end_at cell text >>= λ first. ends_after cell first.0 first.1
 
 -- the first and the last cell of what an end stands for
 abbrev pub first_cell : ℕ → End → CellReferenceIndex
 first_cell sheet end = record { sheet = sheet; row = unwrap_or end.row (pos 1); column = unwrap_or end.column (pos 1) }
 
 abbrev pub last_cell : ℕ → End → CellReferenceIndex
-last_cell sheet end = record { sheet = sheet; row = unwrap_or end.row (pos 1048576); column = unwrap_or end.column (pos 16384) }
+last_cell sheet end = record { sheet = sheet; row = unwrap_or end.row LAST_ROW; column = unwrap_or end.column LAST_COLUMN }
 
 -- the corners in order, whichever was written first
 abbrev pub first_corner : CellReferenceIndex → CellReferenceIndex → CellReferenceIndex
@@ -177,13 +184,3 @@ ParsesR1C1 Answers cell (Err e) result = result ≡ Err e
 ParsesR1C1 Answers cell (Ok split) result =
     (sheet : Result ℕ ReferenceError) × IsSheetOf Answers (Some cell.sheet) split.0 sheet
     × (result ≡ (sheet >>= refers cell split.1))
-
--- a cell of the sheet
-abbrev pub is_inside : CellReferenceIndex → Bool
-is_inside cell = is_row cell.row && is_column cell.column
-
--- What is referred to lies in the sheet, and a range's first corner is above and to the left of its last.
-abbrev pub LiesInSheet : ParsedReference → Type 0
-LiesInSheet (parsed.CellReference cell) = is_inside cell ≡ true
-LiesInSheet (parsed.Range first last) =
-    (is_inside first ≡ true) × (is_inside last ≡ true) × (first.sheet ≡ last.sheet) × (first.row ≤ℤ last.row) × (first.column ≤ℤ last.column)

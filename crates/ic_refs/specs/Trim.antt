@@ -7,12 +7,12 @@ use Rattle.ic_laws.specs.Scan.{is_blank, past_run}
 abbrev pub IsTrimmed : List ℕ → Type 0
 IsTrimmed text = past_run is_blank (reverse text) ≡ reverse text
 
--- so far the text is a trimmed front, blanks, and a rest; end stands behind the front
+-- so far the text is a trimmed front, blanks, and a rest; end stands after the front
 pub record EndsSoFar (text end rest : List ℕ) : Type 0 where
   pub front : List ℕ
   pub blanks : List ℕ
   pub whole : text ≡ front ++ end
-  pub behind : end ≡ blanks ++ rest
+  pub beyond : end ≡ blanks ++ rest
   pub trimmed : IsTrimmed front
   pub blank : list_all is_blank blanks ≡ true
 

@@ -1,15 +1,16 @@
 -- A sheet's name as it is written: plain, or what stands between quotes, with each quote doubled.
-use Rattle.std.specs.Prelude.{◌≡◌, ℕ, List, [], ◌∷◌, ◌++◌, ◌==◌, Option, Some, None, chars, flat_map, if◌then◌else◌}
+use Rattle.std.specs.Prelude.{◌≡◌, ℕ, List, [], ◌∷◌, ◌++◌, Option, Some, None, chars, flat_map, if◌then◌else◌}
+use Rattle.ic_laws.specs.Character.{quote}
 use Rattle.ic_laws.specs.Name.{needs_quotes}
 use Rattle.ic_laws.specs.Scan.{is_plain, run_of, past_run}
-use Rattle.ic_refs.specs.Sheet.{name_in_quotes}
+use Rattle.ic_refs.specs.Sheet.{name_in_quotes, is_quote}
 use Rattle.ic_refs.specs.declared.written.Quoting.{Quoting}
 use Rattle.ic_refs.specs.declared.written.Quoting.TheVariants as quotings
 use Rattle.ic_refs.specs.declared.written.WrittenName.{WrittenName}
 
 -- a character of a name as it stands between quotes, and a whole name
 abbrev pub doubled_char : ℕ → List ℕ
-doubled_char c = if c == 39 then 39 ∷ 39 ∷ [] else c ∷ []
+doubled_char c = if is_quote c then quote ∷ quote ∷ [] else c ∷ []
 
 abbrev pub doubled : List ℕ → List ℕ
 doubled name = flat_map doubled_char name
@@ -18,7 +19,7 @@ doubled name = flat_map doubled_char name
 abbrev pub undoubled : List ℕ → List ℕ
 undoubled [] = []
 undoubled (c ∷ []) = c ∷ []
-undoubled (c ∷ d ∷ cs) = if c == 39 then 39 ∷ undoubled cs else c ∷ undoubled (d ∷ cs)
+undoubled (c ∷ d ∷ cs) = if is_quote c then quote ∷ undoubled cs else c ∷ undoubled (d ∷ cs)
 
 -- the name that is written so
 abbrev pub spelled : Quoting → List ℕ → List ℕ
@@ -28,14 +29,14 @@ spelled quotings.Doubled cs = undoubled cs
 abbrev pub name_of : WrittenName → List ℕ
 name_of written = spelled written.quoting (chars written.inside.now)
 
--- the plain name at the front, and what stands behind it
+-- the plain name at the front, and the rest
 abbrev pub plain_name : List ℕ → Option (List ℕ × List ℕ)
 plain_name text = if needs_quotes (run_of is_plain text) then None else Some (run_of is_plain text, past_run is_plain text)
 
--- behind an opening quote, the quote that closes the name stands at the front of the second text
+-- after an opening quote, the quote that closes the name stands at the front of the second text
 pub record ClosesAt (text closing : List ℕ) : Type 0 where
   pub inside : List ℕ
   pub rest : List ℕ
   pub whole : text ≡ inside ++ closing
-  pub quote : closing ≡ 39 ∷ rest
+  pub quote : closing ≡ quote ∷ rest
   pub read : name_in_quotes text ≡ Some (undoubled inside, rest)

@@ -1,8 +1,11 @@
 ghost use Rattle.std.specs.Prelude.{◌≡◌, ◌-◌, ◌≤◌, ◌≤ℤ◌, pos, true, Some, None, chars, option_map, if◌then◌else◌};
-ghost use Rattle.ic_laws.specs.Scan.{is_digit, past_dollar};
-ghost use Rattle.ic_refs.specs.A1.{a1_place_at, cell_at, column_at, digits_from, has_dollar, IsAnOrigin, pair_at, past_colon, read_position, row_at, whole_columns, whole_rows};
+ghost use Rattle.ic_laws.specs.Position.{row_count};
+ghost use Rattle.ic_laws.specs.Scan.{past_dollar};
+ghost use Rattle.ic_refs.specs.A1.{a1_place_at, cell_at, column_at, has_dollar, IsAnOrigin, pair_at, past_colon, read_position, row_at, whole_columns, whole_rows};
 
 use crate::column::read_letters;
+use crate::find::PlaceForm;
+use crate::number::read_number;
 use ic_laws::scan::first_char;
 use ic_laws::{LAST_COLUMN, LAST_ROW, Place, Position, RefPart};
 
@@ -13,39 +16,7 @@ pub(crate) struct Origin {
     pub(crate) column: i32,
 }
 
-// What a digit counts.
-fn digit_of(c: char) -> Option<u32>
-    ensures { result ≡ (if is_digit c then Some (c - 48) else None) }
-{
-    match c {
-        '0'..='9' => Some(c as u32 - 48),
-        _ => None,
-    }
-}
-
-// The number of the row whose digits are at the front, and what stands behind them. Digits are taken while the row is
-// one of the sheet. The number is 0 where there is no digit but 0.
-fn read_digits(text: &str) -> (u32, &str)
-    ensures exact { (result.0, chars result.1.now) ≡ digits_from 0 (chars text.now) }
-    ensures small { result.0 ≤ 1048576 }
-{
-    let mut number = 0;
-    let mut rest = text;
-    while let Some((c, after)) = first_char(rest) {
-        let Some(digit) = digit_of(c) else {
-            break;
-        };
-        let more = number * 10 + digit;
-        if more > 1_048_576 {
-            break;
-        }
-        number = more;
-        rest = after;
-    }
-    (number, rest)
-}
-
-// Whether a dollar sign stands at the front, and what stands behind it.
+// Whether a dollar sign stands at the front, and the rest.
 fn read_dollar(text: &str) -> (bool, &str)
     ensures dollar { result.0 ≡ has_dollar (chars text.now) }
     ensures rest { chars result.1.now ≡ past_dollar (chars text.now) }
@@ -58,9 +29,9 @@ fn read_dollar(text: &str) -> (bool, &str)
 
 // The position of a number that was read before this rest. There is none where the number is 0.
 fn read_position(absolute: bool, origin: i32, number: u32, rest: &str) -> Option<(Position, &str)>
-    requires small { number ≤ 1048576 }
+    requires small { number ≤ row_count }
     requires low { pos 0 ≤ℤ origin }
-    requires high { origin ≤ℤ pos 1048576 }
+    requires high { origin ≤ℤ LAST_ROW }
     ensures { option_map (λ f. (f.0, chars f.1.now)) result ≡ read_position absolute origin (number, chars rest.now) }
 {
     if number == 0 {
@@ -75,10 +46,10 @@ fn read_position(absolute: bool, origin: i32, number: u32, rest: &str) -> Option
     Some((position, rest))
 }
 
-// The column at the front, read at a column, and what stands behind it.
+// The column at the front, read at a column, and the rest.
 fn read_column(text: &str, column: i32) -> Option<(Position, &str)>
     requires low { pos 0 ≤ℤ column }
-    requires high { column ≤ℤ pos 16384 }
+    requires high { column ≤ℤ LAST_COLUMN }
     ensures { option_map (λ f. (f.0, chars f.1.now)) result ≡ column_at column (chars text.now) }
 {
     let (absolute, letters) = read_dollar(text);
@@ -86,18 +57,18 @@ fn read_column(text: &str, column: i32) -> Option<(Position, &str)>
     read_position(absolute, column, number, rest)
 }
 
-// The row at the front, read at a row, and what stands behind it.
+// The row at the front, read at a row, and the rest.
 fn read_row(text: &str, row: i32) -> Option<(Position, &str)>
     requires low { pos 0 ≤ℤ row }
-    requires high { row ≤ℤ pos 1048576 }
+    requires high { row ≤ℤ LAST_ROW }
     ensures { option_map (λ f. (f.0, chars f.1.now)) result ≡ row_at row (chars text.now) }
 {
     let (absolute, digits) = read_dollar(text);
-    let (number, rest) = read_digits(digits);
+    let (number, rest) = read_number(LAST_ROW as u32, digits);
     read_position(absolute, row, number, rest)
 }
 
-// The cell at the front, read at a row and a column, and what stands behind it.
+// The cell at the front, read at a row and a column, and the rest.
 pub(crate) fn read_cell(text: &str, origin: Origin) -> Option<(RefPart, &str)>
     requires { IsAnOrigin origin.row origin.column }
     ensures { option_map (λ f. (f.0, chars f.1.now)) result ≡ cell_at origin.row origin.column (chars text.now) }
@@ -107,7 +78,7 @@ pub(crate) fn read_cell(text: &str, origin: Origin) -> Option<(RefPart, &str)>
     Some((RefPart { row, column }, rest))
 }
 
-// What stands behind a colon at the front.
+// What stands after a colon at the front.
 fn past_colon(text: &str) -> Option<&str>
     ensures { option_map (λ r. chars r.now) result ≡ past_colon (chars text.now) }
 {
@@ -128,7 +99,7 @@ fn read_cells(text: &str, origin: Origin) -> Option<((RefPart, RefPart), &str)>
 // Two columns with a colon between them.
 fn read_columns(text: &str, column: i32) -> Option<((Position, Position), &str)>
     requires low { pos 0 ≤ℤ column }
-    requires high { column ≤ℤ pos 16384 }
+    requires high { column ≤ℤ LAST_COLUMN }
     ensures { option_map (λ f. (f.0, chars f.1.now)) result ≡ pair_at (column_at column) (chars text.now) }
 {
     let (first, rest) = read_column(text, column)?;
@@ -139,7 +110,7 @@ fn read_columns(text: &str, column: i32) -> Option<((Position, Position), &str)>
 // Two rows with a colon between them.
 fn read_rows(text: &str, row: i32) -> Option<((Position, Position), &str)>
     requires low { pos 0 ≤ℤ row }
-    requires high { row ≤ℤ pos 1048576 }
+    requires high { row ≤ℤ LAST_ROW }
     ensures { option_map (λ f. (f.0, chars f.1.now)) result ≡ pair_at (row_at row) (chars text.now) }
 {
     let (first, rest) = read_row(text, row)?;
@@ -147,8 +118,18 @@ fn read_rows(text: &str, row: i32) -> Option<((Position, Position), &str)>
     Some(((first, last), rest))
 }
 
-// The longest place at the front, read at a row and a column, and what stands behind it.
-pub(crate) fn read_place(text: &str, origin: Origin) -> Option<(Place, &str)>
+impl PlaceForm for Origin {
+    ghost place_at = { λ origin text. a1_place_at origin.row origin.column text };
+
+    ghost is_usable = { λ origin. IsAnOrigin origin.row origin.column };
+
+    fn read_place<'t>(&self, text: &'t str) -> Option<(Place, &'t str)> {
+        read_place(text, *self)
+    }
+}
+
+// The longest place at the front, read at a row and a column, and the rest.
+fn read_place(text: &str, origin: Origin) -> Option<(Place, &str)>
     requires { IsAnOrigin origin.row origin.column }
     ensures exact { option_map (λ f. (f.0, chars f.1.now)) result ≡ a1_place_at origin.row origin.column (chars text.now) }
 {

@@ -1,7 +1,8 @@
 ghost use Rattle.std.specs.Prelude.{◌≡◌, ◌++◌, ◌∷◌, ◌≤◌, true, nat_abs, chars, string_bytes, OnOk};
+ghost use Rattle.ic_laws.specs.Character.{colon};
 ghost use Rattle.std.specs.Fmt.{decimal};
-ghost use Rattle.ic_laws.specs.Position.{is_column, is_inside, is_part_inside, is_row, place_at};
-ghost use Rattle.ic_refs.specs.A1.{are_whole_columns, are_whole_rows, cell_text, column_text, dollar, is_abs, place_text, range_text, row_text};
+ghost use Rattle.ic_laws.specs.Position.{column_count, is_column, is_inside, is_part_inside, is_row, place_at};
+ghost use Rattle.ic_refs.specs.A1.{are_whole_columns, are_whole_rows, cell_text, column_text, dollar_of, is_abs, place_text, range_text, row_text};
 
 use crate::a1::Origin;
 use crate::column::push_column;
@@ -40,7 +41,7 @@ pub(crate) fn is_inside(place: Place, origin: Origin) -> bool
 
 // Appends the dollar sign of an absolute position.
 fn push_dollar(out: &mut String, position: Position) -> Result<(), OutOfMemory>
-    ensures { OnOk result (chars (string_bytes out.new) ≡ chars (string_bytes out.old) ++ dollar position) }
+    ensures { OnOk result (chars (string_bytes out.new) ≡ chars (string_bytes out.old) ++ dollar_of position) }
 {
     match position {
         Position::Abs(_) => push_char(out, '$'),
@@ -57,17 +58,17 @@ fn push_number(alloc: Global, out: &mut String, number: u32) -> Result<(), OutOf
 }
 
 // The number of a column in the sheet.
-fn column_number(position: Position, origin: Origin) -> u32
+fn number_of_column(position: Position, origin: Origin) -> u32
     requires { is_column (place_at position origin.column) ≡ true }
     ensures same { result ≡ nat_abs (place_at position origin.column) }
     ensures low { 1 ≤ result }
-    ensures high { result ≤ 16384 }
+    ensures high { result ≤ column_count }
 {
     place_at(position, origin.column) as u32
 }
 
 // The number of a row in the sheet.
-fn row_number(position: Position, origin: Origin) -> u32
+fn number_of_row(position: Position, origin: Origin) -> u32
     requires { is_row (place_at position origin.row) ≡ true }
     ensures { result ≡ nat_abs (place_at position origin.row) }
 {
@@ -80,7 +81,7 @@ fn push_column_at(out: &mut String, position: Position, origin: Origin) -> Resul
     ensures { OnOk result (chars (string_bytes out.new) ≡ chars (string_bytes out.old) ++ column_text origin.column position) }
 {
     push_dollar(out, position)?;
-    push_column(out, column_number(position, origin))
+    push_column(out, number_of_column(position, origin))
 }
 
 // Appends a row as it is written in a cell of this row.
@@ -94,7 +95,7 @@ fn push_row_at(
     ensures { OnOk result (chars (string_bytes out.new) ≡ chars (string_bytes out.old) ++ row_text origin.row position) }
 {
     push_dollar(out, position)?;
-    push_number(alloc, out, row_number(position, origin))
+    push_number(alloc, out, number_of_row(position, origin))
 }
 
 // Appends a cell as it is written in the cell at this row and column.
@@ -144,7 +145,7 @@ fn push_columns(
 ) -> Result<(), OutOfMemory>
     requires first { is_column (place_at first origin.column) ≡ true }
     requires last { is_column (place_at last origin.column) ≡ true }
-    ensures { OnOk result (chars (string_bytes out.new) ≡ chars (string_bytes out.old) ++ (column_text origin.column first ++ 58 ∷ column_text origin.column last)) }
+    ensures { OnOk result (chars (string_bytes out.new) ≡ chars (string_bytes out.old) ++ (column_text origin.column first ++ colon ∷ column_text origin.column last)) }
 {
     push_column_at(out, first, origin)?;
     push_char(out, ':')?;
@@ -161,7 +162,7 @@ fn push_rows(
 ) -> Result<(), OutOfMemory>
     requires first { is_row (place_at first origin.row) ≡ true }
     requires last { is_row (place_at last origin.row) ≡ true }
-    ensures { OnOk result (chars (string_bytes out.new) ≡ chars (string_bytes out.old) ++ (row_text origin.row first ++ 58 ∷ row_text origin.row last)) }
+    ensures { OnOk result (chars (string_bytes out.new) ≡ chars (string_bytes out.old) ++ (row_text origin.row first ++ colon ∷ row_text origin.row last)) }
 {
     push_row_at(alloc, out, first, origin)?;
     push_char(out, ':')?;
@@ -178,7 +179,7 @@ fn push_cells(
 ) -> Result<(), OutOfMemory>
     requires first { is_part_inside first origin.row origin.column ≡ true }
     requires last { is_part_inside last origin.row origin.column ≡ true }
-    ensures { OnOk result (chars (string_bytes out.new) ≡ chars (string_bytes out.old) ++ (cell_text origin.row origin.column first ++ 58 ∷ cell_text origin.row origin.column last)) }
+    ensures { OnOk result (chars (string_bytes out.new) ≡ chars (string_bytes out.old) ++ (cell_text origin.row origin.column first ++ colon ∷ cell_text origin.row origin.column last)) }
 {
     push_cell(alloc, out, first, origin)?;
     push_char(out, ':')?;

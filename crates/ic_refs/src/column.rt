@@ -1,9 +1,9 @@
-ghost use Rattle.std.specs.Prelude.{◌≡◌, ◌↔◌, ◌<◌, ◌≤◌, [], ◌∷◌, ◌++◌, ◌+◌, true, false, pos, nat_lt, Some, Ok, IfOk, IfSome, OnOk, IsNone, is_ok, chars, string_bytes, option_map};
+ghost use Rattle.std.specs.Prelude.{◌≡◌, ◌↔◌, ◌<◌, ◌≤◌, [], ◌∷◌, ◌++◌, ◌+◌, ℤ, true, false, pos, nat_lt, Some, Ok, IfOk, IfSome, OnOk, IsNone, MatchResult, is_ok, chars, string_bytes, option_map};
 ghost use Rattle.std.specs.List.{list_all};
-ghost use Rattle.ic_laws.specs.Position.{is_row, is_column, letters_number};
+ghost use Rattle.ic_laws.specs.Position.{column_count, is_row, is_column, letters_number};
 ghost use Rattle.ic_laws.specs.Scan.{is_upper};
-ghost use Rattle.ic_refs.specs.A1.{letters_from};
-ghost use Rattle.ic_refs.specs.Column.{column_letters, column_name, column_number, letter};
+ghost use Rattle.ic_refs.specs.Digits.{letters_from};
+ghost use Rattle.ic_refs.specs.Column.{is_ascii, column_letters, column_name, column_number, letter};
 
 use crate::ColumnError;
 use ic_laws::scan::{first_char, letter_number, push_char};
@@ -15,6 +15,16 @@ use std::alloc::Global;
 /// Err tells the first that holds: the text is empty, a character isn't ASCII, a character is none of A to Z, or the
 /// column is past the last one, 16,384.
 pub fn column_to_number(column: &str) -> Result<i32, ColumnError>
+    ensures exact { result ≡ column_number (chars column.now) }
+
+    // A text names a column exactly where the column has these letters.
+    ensures named { MatchResult result (λ n. column_name n ≡ Some (chars column.now)) (λ e. (n : ℤ) → column_name n ≡ Some (chars column.now) → ⊥) }
+{
+    number_of_letters(column)
+}
+
+// The same, with the clause that says it all.
+fn number_of_letters(column: &str) -> Result<i32, ColumnError>
     ensures { result ≡ column_number (chars column.now) }
 {
     if column.is_empty() {
@@ -76,7 +86,7 @@ pub fn number_to_column(alloc: Global, column: i32) -> Result<Option<String>, Ou
 #[tactic(auto, unfolding(crate::specs::Column::column_letters))]
 pub(crate) fn push_column(text: &mut String, column: u32) -> Result<(), OutOfMemory>
     requires some { 1 ≤ column }
-    requires few { column ≤ 16384 }
+    requires few { column ≤ column_count }
     ensures { OnOk result (chars (string_bytes text.new) ≡ chars (string_bytes text.old) ++ column_letters column) }
 {
     if column <= 26 {
@@ -102,7 +112,7 @@ fn push_letter(text: &mut String, digit: u32) -> Result<(), OutOfMemory>
 
 // Whether each character is ASCII.
 fn is_ascii(text: &str) -> bool
-    ensures { result ≡ list_all (λ c. nat_lt c 128) (chars text.now) }
+    ensures { result ≡ list_all is_ascii (chars text.now) }
 {
     text.chars().all(|c| c.is_ascii())
 }
@@ -114,11 +124,11 @@ fn is_upper(text: &str) -> bool
     text.chars().all(|c| c.is_ascii_uppercase())
 }
 
-// The number of the column whose letters, in either case, are at the front, and what stands behind them. Letters are
+// The number of the column whose letters, in either case, are at the front, and the rest. Letters are
 // taken while the column is one of the sheet. The number is 0 where there is no letter.
 pub(crate) fn read_letters(text: &str) -> (u32, &str)
     ensures exact { (result.0, chars result.1.now) ≡ letters_from 0 (chars text.now) }
-    ensures small { result.0 ≤ 16384 }
+    ensures small { result.0 ≤ column_count }
 {
     let mut number = 0;
     let mut rest = text;
@@ -127,73 +137,11 @@ pub(crate) fn read_letters(text: &str) -> (u32, &str)
             break;
         };
         let more = number * 26 + digit;
-        if more > 16384 {
+        if more > LAST_COLUMN as u32 {
             break;
         }
         number = more;
         rest = after;
     }
     (number, rest)
-}
-
-#[cfg(test)]
-mod tests {
-    use super::*;
-    use std::test::Fail;
-
-    #[test]
-    fn numbers_of_letters(rt: HostRuntime) {
-        for (letters, number) in [
-            ("A", Ok(1)),
-            ("Z", Ok(26)),
-            ("AA", Ok(27)),
-            ("AB", Ok(28)),
-            ("ZZ", Ok(702)),
-            ("AAA", Ok(703)),
-            ("XFD", Ok(16_384)),
-            ("XFE", Err(ColumnError::NotValid)),
-            ("AAAA", Err(ColumnError::NotValid)),
-            ("AAAAAAAAAAAAAAAAAAAA", Err(ColumnError::NotValid)),
-            ("", Err(ColumnError::Empty)),
-            ("ab", Err(ColumnError::NotLetters)),
-            ("A1", Err(ColumnError::NotLetters)),
-            ("$A", Err(ColumnError::NotLetters)),
-            ("💥", Err(ColumnError::NotAscii)),
-            ("aé", Err(ColumnError::NotAscii)),
-            ("XFEé", Err(ColumnError::NotAscii)),
-        ] {
-            assert_eq!(rt; column_to_number(letters), number, "{letters}");
-            assert_eq!(rt; is_valid_column(letters), number.is_ok(), "{letters}");
-        }
-    }
-
-    #[test]
-    fn letters_of_numbers(rt: HostRuntime) -> Result<(), Fail> {
-        for (number, letters) in [
-            (1, Some("A")),
-            (26, Some("Z")),
-            (27, Some("AA")),
-            (28, Some("AB")),
-            (702, Some("ZZ")),
-            (703, Some("AAA")),
-            (16_384, Some("XFD")),
-            (16_385, None),
-            (0, None),
-            (-1, None),
-            (i32::MAX, None),
-            (i32::MIN, None),
-        ] {
-            let found = number_to_column(rt.alloc(), number)?;
-            assert!(rt; found.as_deref() == letters, "{number}");
-            assert_eq!(rt;
-                is_valid_column_number(number),
-                letters.is_some(),
-                "{number}"
-            );
-        }
-        for (row, valid) in [(0, false), (1, true), (1_048_576, true), (1_048_577, false)] {
-            assert_eq!(rt; is_valid_row(row), valid, "{row}");
-        }
-        Ok(())
-    }
 }

@@ -3,7 +3,7 @@ use std::alloc::{AllocError, AllocFailed};
 use thiserror::Error;
 
 /// Why a text names no column. The first that holds, in this order, is told.
-#[derive(Clone, Copy, Debug, PartialEq, Eq, Error)]
+#[derive(Debug, Drop, Error)]
 pub enum ColumnError {
     #[error("Column identifier cannot be empty.")]
     Empty,
@@ -18,7 +18,7 @@ pub enum ColumnError {
 }
 
 /// Why a text is no reference.
-#[derive(Debug, Drop, PartialEq, Error)]
+#[derive(Debug, Drop, Error)]
 pub enum ReferenceError {
     /// It has other characters than those of words, and is no reference.
     #[error("Invalid reference. Expected only one token.")]
@@ -64,96 +64,5 @@ impl From<OutOfMemory> for ReferenceError {
 
     fn from(_: OutOfMemory) -> ReferenceError {
         ReferenceError::OutOfMemory
-    }
-}
-
-#[cfg(test)]
-mod tests {
-    use super::*;
-    use std::test::Fail;
-
-    #[test]
-    fn column_errors_show_their_texts(rt: HostRuntime) -> Result<(), Fail> {
-        for (error, text) in [
-            (ColumnError::Empty, "Column identifier cannot be empty."),
-            (ColumnError::NotAscii, "Column identifier must be ASCII."),
-            (
-                ColumnError::NotLetters,
-                "Column identifier can use only A-Z characters",
-            ),
-            (ColumnError::NotValid, "Column is not valid."),
-        ] {
-            assert_eq!(rt; error.to_string(rt.alloc())?.as_str(), text);
-        }
-        Ok(())
-    }
-
-    #[test]
-    fn reference_errors_show_their_texts(rt: HostRuntime) -> Result<(), Fail> {
-        for (error, text) in [
-            (
-                ReferenceError::OneToken,
-                "Invalid reference. Expected only one token.",
-            ),
-            (
-                ReferenceError::NotReference,
-                "Invalid reference. First token is not a reference.",
-            ),
-            (
-                ReferenceError::NoSheetKnown,
-                "Reference doesn't contain sheet name and relative cell is not known.",
-            ),
-            (
-                ReferenceError::ExpectedNumber,
-                "Invalid reference. Expected a number.",
-            ),
-            (
-                ReferenceError::ExpectedBracket,
-                "Invalid reference. Expected ']'.",
-            ),
-            (
-                ReferenceError::OffsetTooLarge,
-                "Invalid reference. The offset is larger than the sheet.",
-            ),
-            (
-                ReferenceError::OutsideSheet,
-                "Invalid reference. It is outside of the sheet.",
-            ),
-            (
-                ReferenceError::ExpectedLetter,
-                "Invalid reference. Expected 'R' or 'C'.",
-            ),
-            (
-                ReferenceError::ExpectedEnd,
-                "Invalid reference. Expected end of reference.",
-            ),
-            (
-                ReferenceError::MixedEnds,
-                "Invalid reference. The two ends of the range are of different kind.",
-            ),
-            (
-                ReferenceError::NameNotClosed,
-                "Invalid reference. The name of the sheet is not closed.",
-            ),
-            (
-                ReferenceError::ExpectedBang,
-                "Invalid reference. Expected '!' after the sheet name.",
-            ),
-            (ReferenceError::OutOfMemory, "Out of memory"),
-        ] {
-            assert_eq!(rt; error.to_string(rt.alloc())?.as_str(), text);
-        }
-        Ok(())
-    }
-
-    #[test]
-    fn unknown_sheet_shows_its_name(rt: HostRuntime) -> Result<(), Fail> {
-        let error = ReferenceError::SheetUnknown(Text::from_str(rt.alloc(), "Data")?);
-        let text = error.to_string(rt.alloc())?;
-        assert_eq!(rt;
-            text.as_str(),
-            "Invalid reference. Sheet \"Data\" could not be found."
-        );
-        Ok(())
     }
 }

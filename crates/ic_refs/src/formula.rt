@@ -1,15 +1,17 @@
-ghost use Rattle.std.specs.Prelude.{◌≡◌, pos, Some, None, chars, encode_utf8_all, option_map, MatchOption};
+ghost use Rattle.std.specs.Prelude.{◌≡◌, pos, Some, None, chars, encode_utf8_all, option_map, IfOk, MatchOption};
 ghost use Rattle.std.specs.Fn.{FnReturnsAt};
 ghost use Rattle.ic_laws.specs.Position.{place_at};
 ghost use Rattle.ic_laws.specs.declared.reference.RefPart.{RefPart};
 ghost use Rattle.ic_refs.specs.A1.{SpellsCell, a1_place_at};
 ghost use Rattle.ic_refs.specs.Formula.{IsSheetOf, ParsesFormula, UnlessMemory, a1_cell_of, a1_reference, cell_on, formula_token, is_absolute, not_a_reference, place_on, whole_of};
+ghost use Rattle.ic_refs.specs.FormulaForm.{TellsFormula};
+ghost use Rattle.ic_refs.specs.Referred.{LiesInSheet};
 ghost use Rattle.ic_refs.specs.Sheet.{reference_at};
 ghost use Rattle.ic_refs.specs.Token.{token_of};
 ghost use Rattle.ic_refs.specs.Written.{name_of};
 
 use crate::a1::{Origin, read_cell};
-use crate::a1_reference::{FoundReference, find_reference};
+use crate::find::{FoundReference, find_reference};
 use crate::trim::trimmed;
 use crate::written::WrittenName;
 use crate::{A1Reference, CellReferenceIndex, ParsedReference, ReferenceError};
@@ -84,22 +86,39 @@ impl ParsedReference {
         find: F,
     ) -> Result<ParsedReference, ReferenceError>
         requires { F.IsAlwaysCallable find }
-        ensures { UnlessMemory result (ParsesFormula (λ name answer. FnReturnsAt F.Fn find (encode_utf8_all name) answer) context (formula_token (chars text.now))) }
+        ensures exact { UnlessMemory result (ParsesFormula (λ name answer. FnReturnsAt F.Fn find (encode_utf8_all name) answer) context (formula_token (chars text.now))) }
+
+        // What is answered is what the text spells.
+        ensures spelled { TellsFormula (λ name answer. FnReturnsAt F.Fn find (encode_utf8_all name) answer) context (chars text.now) result }
+        ensures inside { IfOk result LiesInSheet }
     {
-        let token = trimmed(text);
-        let Some(found) = whole_reference(token) else {
-            return Err(not_a_reference(token));
-        };
-        let sheet = sheet_of(alloc, found.sheet, context, find)?;
-        Ok(place_on(found.place, sheet))
+        whole_text(alloc, context, text, find)
     }
+}
+
+// The same, with the clause that says it all.
+fn whole_text<F: Fn(&str) -> Option<u32>>(
+    alloc: Global,
+    context: Option<u32>,
+    text: &str,
+    find: F,
+) -> Result<ParsedReference, ReferenceError>
+    requires { F.IsAlwaysCallable find }
+    ensures { UnlessMemory result (ParsesFormula (λ name answer. FnReturnsAt F.Fn find (encode_utf8_all name) answer) context (formula_token (chars text.now))) }
+{
+    let token = trimmed(text);
+    let Some(found) = whole_reference(token) else {
+        return Err(not_a_reference(token));
+    };
+    let sheet = sheet_of(alloc, found.sheet, context, find)?;
+    Ok(place_on(found.place, sheet))
 }
 
 // The reference that the whole text is.
 fn whole_reference(text: &str) -> Option<FoundReference<'_>>
     ensures { option_map token_of result ≡ whole_of (reference_at (a1_place_at (pos 0) (pos 0)) (chars text.now)) }
 {
-    let found = find_reference(text, CORNER)?;
+    let found = find_reference(&CORNER, text)?;
     if is_nothing(found.rest) {
         Some(found)
     } else {
@@ -119,7 +138,7 @@ fn not_a_reference(text: &str) -> ReferenceError
 }
 
 // The sheet that a reference is on: the one that is known where no name is written, else the one of this name.
-fn sheet_of<F: Fn(&str) -> Option<u32>>(
+pub(crate) fn sheet_of<F: Fn(&str) -> Option<u32>>(
     alloc: Global,
     sheet: Option<WrittenName<'_>>,
     known: Option<u32>,

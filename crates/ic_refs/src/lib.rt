@@ -2,7 +2,8 @@
 //! variables, identifiers and quoting.
 //!
 //! A reader gives the longest reference that begins at a byte, and what a speller gives is read back. The definitions
-//! are in `specs/`: `A1` and `Stored` say how a reference is spelled, `Longest` what a reader of them answers.
+//! are in `specs/`: `A1` and `Stored` say how a reference is spelled, `FormulaForm` and `R1C1Form` what a whole text
+//! refers to, `Longest` what a reader of a reference at a byte answers.
 #![tactic(auto)]
 
 mod a1;
@@ -10,6 +11,7 @@ mod a1_reference;
 mod a1_text;
 mod column;
 mod error;
+mod find;
 mod formula;
 mod name;
 mod number;
@@ -34,6 +36,3 @@ pub use name::{is_valid_a1_identifier, is_valid_identifier, is_valid_sheet_name,
 pub use reference::{A1Reference, Area, CellReferenceIndex, ParsedReference};
 pub use stored::read_rc;
 pub use stored_text::spell_rc;
-
-#[cfg(test)]
-mod a1_tests;

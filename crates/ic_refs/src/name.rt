@@ -1,4 +1,5 @@
 ghost use Rattle.std.specs.Prelude.{◌≡◌, ◌++◌, codes, ◌&&◌, ◌||◌, ◌==◌, nat_lt, length, chars, string_bytes, OnOk, IfOk};
+ghost use Rattle.ic_laws.specs.Character.{dot};
 ghost use Rattle.ic_laws.specs.Name.{agrees, in_quotes, is_c, is_identifier, is_numbered, is_r1c1_cell, is_sheet_name, is_variable, needs_quotes, quoted};
 ghost use Rattle.ic_laws.specs.Scan.{first_is, is_digit};
 ghost use Rattle.ic_refs.specs.Written.{doubled, doubled_char};
@@ -55,7 +56,7 @@ pub(crate) fn needs_quotes(name: &str) -> bool
 
 /// Whether a digit or a dot stands at the front.
 fn begins_with_digit_or_dot(text: &str) -> bool
-    ensures { result ≡ first_is (λ c. is_digit c || c == 46) (chars text.now) }
+    ensures { result ≡ first_is (λ c. is_digit c || c == dot) (chars text.now) }
 {
     let Some((c, _)) = first_char(text) else {
         return false;
@@ -132,88 +133,4 @@ fn push_char_doubled(out: &mut String, c: char) -> Result<(), OutOfMemory>
         push_char(out, '\'')?;
     }
     push_char(out, c)
-}
-
-#[cfg(test)]
-mod tests {
-    use super::*;
-    use std::test::Fail;
-
-    #[test]
-    fn quotes_what_could_be_read_otherwise(rt: HostRuntime) -> Result<(), Fail> {
-        for (name, quoted) in [
-            ("Sheet1'", "'Sheet1'''"),
-            ("R1C1", "'R1C1'"),
-            ("r0c0", "'r0c0'"),
-            ("R9999999C1", "'R9999999C1'"),
-            ("B1048577", "B1048577"),
-            ("B1048576", "'B1048576'"),
-            ("Été", "Été"),
-            ("RC", "RC"),
-            ("R0", "R0"),
-            ("R1C", "R1C"),
-            ("A01", "'A01'"),
-            ("2x", "'2x'"),
-            (".x", "'.x'"),
-            ("My data", "'My data'"),
-        ] {
-            assert_eq!(rt; quote_name(rt.alloc(), name)?.as_str(), quoted);
-        }
-        Ok(())
-    }
-
-    #[test]
-    fn tells_identifiers(rt: HostRuntime) {
-        for (name, valid) in [
-            ("sum.total", true),
-            ("_x", true),
-            ("\\x", true),
-            ("XFE1", true),
-            ("A0", true),
-            ("Été", true),
-            ("LOG10", false),
-            ("c", false),
-            ("R23C", false),
-            ("LET", false),
-            ("lambda", false),
-            ("A1", false),
-            ("true", false),
-            ("rc", false),
-            ("r5c", false),
-            ("R0", false),
-            ("C99999", false),
-            ("1x", false),
-            ("a b", false),
-            ("", false),
-        ] {
-            assert_eq!(rt; is_valid_identifier(name), valid, "{name}");
-        }
-    }
-
-    #[test]
-    fn tells_variables(rt: HostRuntime) {
-        for (name, valid) in [
-            ("R", true),
-            ("c", true),
-            ("LET", true),
-            ("RC", false),
-            ("A01", false),
-            ("True", false),
-        ] {
-            assert_eq!(rt; is_valid_a1_identifier(name), valid, "{name}");
-        }
-    }
-
-    #[test]
-    fn tells_sheet_names(rt: HostRuntime) {
-        for (name, valid) in [
-            ("AAAAAAAAAABBBBBBBBBBCCCCCCCCCCD", true),
-            (" ", true),
-            ("AAAAAAAAAABBBBBBBBBBCCCCCCCCCCDE", false),
-            ("", false),
-            ("a[1", false),
-        ] {
-            assert_eq!(rt; is_valid_sheet_name(name), valid, "{name}");
-        }
-    }
 }

@@ -1,13 +1,13 @@
 ghost use Rattle.std.specs.Prelude.{◌≡◌, ◌≤◌, ◌^◌, chars};
-ghost use Rattle.ic_refs.specs.Number.{number_from, with_digit};
+ghost use Rattle.ic_refs.specs.Digits.{decimal_from, with_digit};
 
 use ic_laws::scan::first_char;
 
-/// The number of the digits at the front, and what stands behind them. Digits are taken while the number is at most
+/// The number of the digits at the front, and the rest. Digits are taken while the number is at most
 /// the limit; it is 0 where there is none.
 pub(crate) fn read_number(limit: u32, text: &str) -> (u32, &str)
     requires { limit ≤ 2 ^ 31 }
-    ensures exact { number_from limit 0 (chars text.now) ≡ (result.0, chars result.1.now) }
+    ensures exact { decimal_from limit 0 (chars text.now) ≡ (result.0, chars result.1.now) }
     ensures within { result.0 ≤ limit }
 {
     let mut number = 0;

@@ -1,5 +1,4 @@
 ghost use Rattle.std.specs.Prelude.{◌≡◌, ◌-◌, true, false, chars, drop, encode_utf8_all, length, MatchOption};
-ghost use Rattle.ic_laws.specs.Scan.{EndsWith};
 ghost use Rattle.ic_refs.specs.Longest.{is_char_boundary};
 
 /// The text from this byte on. None past the end and inside a character.
@@ -13,8 +12,7 @@ pub(crate) fn text_from(text: &str, at: usize) -> Option<&str>
 
 /// How many bytes stand before this rest of the text.
 pub(crate) fn bytes_before(text: &str, rest: &str) -> usize
-    requires { EndsWith (chars text.now) (chars rest.now) }
     ensures { result ≡ length text.now - length (encode_utf8_all (chars rest.now)) }
 {
-    text.len() - rest.len()
+    text.len().saturating_sub(rest.len())
 }

@@ -1,6 +1,6 @@
 ghost use Rattle.std.specs.Prelude.{◌≡◌, chars, true};
 ghost use Rattle.ic_laws.specs.Position.{is_row, is_column};
-ghost use Rattle.ic_refs.specs.R1C1.{Gives, column_behind, row_end_at, column_end_at, end_at, last_end, ends_behind, ends_of, first_cell, last_cell, first_corner, last_corner, area_of, have_one_kind, referred};
+ghost use Rattle.ic_refs.specs.R1C1.{Gives, column_after, row_end_at, column_end_at, end_at, last_end, ends_after, ends_of, first_cell, last_cell, first_corner, last_corner, area_of, have_one_kind, referred};
 
 use crate::error::ReferenceError;
 use crate::r1c1_part::read_part;
@@ -15,14 +15,14 @@ pub(crate) struct End {
     pub(crate) column: Option<i32>,
 }
 
-// A column part behind a row, if there is one.
-fn read_column_behind(
+// A column part after a row, if there is one.
+fn read_column_after(
     cell: CellReferenceIndex,
     row: i32,
     text: &str,
 ) -> Result<(End, &str), ReferenceError>
     requires { is_column cell.column ≡ true }
-    ensures { Gives (λ f. (f.0, chars f.1.now)) result (column_behind cell row (chars text.now)) }
+    ensures { Gives (λ f. (f.0, chars f.1.now)) result (column_after cell row (chars text.now)) }
 {
     match first_char(text) {
         Some(('C' | 'c', after)) => {
@@ -52,7 +52,7 @@ fn read_row_end(cell: CellReferenceIndex, text: &str) -> Result<(End, &str), Ref
     ensures { Gives (λ f. (f.0, chars f.1.now)) result (row_end_at cell (chars text.now)) }
 {
     let (row, rest) = read_part(LAST_ROW as u32, cell.row, text)?;
-    read_column_behind(cell, row, rest)
+    read_column_after(cell, row, rest)
 }
 
 // A column part alone.
@@ -70,7 +70,7 @@ fn read_column_end(cell: CellReferenceIndex, text: &str) -> Result<(End, &str), 
     ))
 }
 
-// One end at the front, and what stands behind it.
+// One end at the front, and the rest.
 fn read_end(cell: CellReferenceIndex, text: &str) -> Result<(End, &str), ReferenceError>
     requires row { is_row cell.row ≡ true }
     requires column { is_column cell.column ≡ true }
@@ -100,15 +100,15 @@ fn read_last_end(
     }
 }
 
-// What stands behind the first end: nothing, or a colon and the second end.
-fn read_ends_behind(
+// What stands after the first end: nothing, or a colon and the second end.
+fn read_ends_after(
     cell: CellReferenceIndex,
     first: End,
     text: &str,
 ) -> Result<(End, Option<End>), ReferenceError>
     requires row { is_row cell.row ≡ true }
     requires column { is_column cell.column ≡ true }
-    ensures { result ≡ ends_behind cell first (chars text.now) }
+    ensures { result ≡ ends_after cell first (chars text.now) }
 {
     match first_char(text) {
         None => Ok((first, None)),
@@ -127,7 +127,7 @@ pub(crate) fn read_ends(
     ensures { result ≡ ends_of cell (chars text.now) }
 {
     let (first, rest) = read_end(cell, text)?;
-    read_ends_behind(cell, first, rest)
+    read_ends_after(cell, first, rest)
 }
 
 // The first cell of what an end stands for.

@@ -6,8 +6,8 @@ use crate::error::ReferenceError;
 use crate::number::read_number;
 use ic_laws::scan::{begins_with_digit, first_char};
 
-// The number of all digits at the front, and what stands behind them.
-#[tactic(auto, using(crate::proofs::R1C1Lemmas::number_missing, crate::proofs::R1C1Lemmas::number_large))]
+// The number of all digits at the front, and the rest.
+#[tactic(auto, using(crate::proofs::R1C1NumberLemmas::number_missing, crate::proofs::R1C1NumberLemmas::number_large))]
 fn read_whole_number(most: u32, text: &str) -> Result<(u32, &str), ReferenceError>
     requires { most ≤ 2 ^ 31 }
     ensures { MatchResult result
@@ -78,7 +78,7 @@ fn offset_back(length: u32, origin: i32, distance: u32) -> Result<i32, Reference
     offset(length, origin, back, distance)
 }
 
-// What stands behind the closing bracket at the front.
+// What stands after the closing bracket at the front.
 fn past_bracket(place: i32, text: &str) -> Result<(i32, &str), ReferenceError>
     ensures { Gives (λ f. (f.0, chars f.1.now)) result (past_bracket place (chars text.now)) }
 {
@@ -114,7 +114,7 @@ fn read_offset_back(length: u32, origin: i32, text: &str) -> Result<(i32, &str),
     past_bracket(place, rest)
 }
 
-// What stands behind an opening bracket.
+// What stands after an opening bracket.
 fn read_offset(length: u32, origin: i32, text: &str) -> Result<(i32, &str), ReferenceError>
     requires some { 0 < length }
     requires most { length < 2 ^ 21 }
@@ -139,7 +139,7 @@ fn read_absolute(length: u32, text: &str) -> Result<(i32, &str), ReferenceError>
     Ok((place, rest))
 }
 
-/// What stands behind the letter: a number, an offset, or nothing, which is the place of the cell.
+/// What stands after the letter: a number, an offset, or nothing, which is the place of the cell.
 pub(crate) fn read_part(length: u32, origin: i32, text: &str) -> Result<(i32, &str), ReferenceError>
     requires some { 0 < length }
     requires most { length < 2 ^ 21 }

@@ -1,5 +1,5 @@
 /// A cell: its sheet as the caller numbers it, its row and its column from 1.
-#[derive(Clone, Copy, Debug, PartialEq, Eq)]
+#[derive(Clone, Copy, Debug, PartialEq)]
 pub struct CellReferenceIndex {
     pub sheet: u32,
     pub row: i32,
@@ -7,7 +7,7 @@ pub struct CellReferenceIndex {
 }
 
 /// An area of a sheet: its first cell, and its width and height in cells.
-#[derive(Clone, Copy, Debug, PartialEq, Eq)]
+#[derive(Clone, Copy)]
 pub struct Area {
     pub sheet: u32,
     pub row: i32,
@@ -17,7 +17,7 @@ pub struct Area {
 }
 
 /// A cell as it is written in the A1 form: its row and its column from 1, and which of them have a dollar sign.
-#[derive(Clone, Copy, Debug, PartialEq, Eq)]
+#[derive(Clone, Copy, Debug, PartialEq)]
 pub struct A1Reference {
     pub row: i32,
     pub column: i32,
@@ -26,7 +26,7 @@ pub struct A1Reference {
 }
 
 /// A reference whose sheet was found: a cell, or the two corners of a range.
-#[derive(Clone, Copy, Debug, PartialEq, Eq)]
+#[derive(Clone, Copy, Debug, PartialEq)]
 pub enum ParsedReference {
     CellReference(CellReferenceIndex),
     Range(CellReferenceIndex, CellReferenceIndex),

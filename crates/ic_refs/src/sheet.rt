@@ -1,6 +1,7 @@
 ghost use Rattle.std.specs.Prelude.{◌≡◌, ◌<◌, length, IfSome, ◌++◌, ◌∷◌, ◌==◌, false, None, chars, string_bytes, MatchOption, OnOk, option_map};
+ghost use Rattle.ic_laws.specs.Character.{quote};
 ghost use Rattle.ic_laws.specs.Scan.{first_is};
-ghost use Rattle.ic_refs.specs.Sheet.{before_bang, name_in_quotes, sheet_at, sheet_text, written_name};
+ghost use Rattle.ic_refs.specs.Sheet.{is_quote, before_bang, name_in_quotes, sheet_at, sheet_text, written_name};
 ghost use Rattle.ic_refs.specs.Written.{ClosesAt, name_of, plain_name};
 
 use crate::name::{needs_quotes, push_quoted};
@@ -8,7 +9,7 @@ use crate::written::{Quoting, WrittenName};
 use ic_laws::scan::{first_char, front_of, past_plain, plain_run, push_char};
 use ic_laws::{OutOfMemory, Text};
 
-/// The sheet's name at the front of a text, and what stands behind its `!`. None where no valid name stands there.
+/// The sheet's name at the front of a text, and what stands after its `!`. None where no valid name stands there.
 pub(crate) fn find_sheet(text: &str) -> Option<(WrittenName<'_>, &str)>
     ensures { option_map (λ f. (name_of f.0, chars f.1.now)) result ≡ sheet_at (chars text.now) }
 {
@@ -17,7 +18,7 @@ pub(crate) fn find_sheet(text: &str) -> Option<(WrittenName<'_>, &str)>
     Some((name, after))
 }
 
-/// The name at the front, as it may stand before a `!`, and what stands behind it.
+/// The name at the front, as it may stand before a `!`, and the rest.
 fn written_name(text: &str) -> Option<(WrittenName<'_>, &str)>
     ensures { option_map (λ f. (name_of f.0, chars f.1.now)) result ≡ written_name (chars text.now) }
 {
@@ -29,7 +30,7 @@ fn written_name(text: &str) -> Option<(WrittenName<'_>, &str)>
     }
 }
 
-/// The plain name at the front, and what stands behind it.
+/// The plain name at the front, and the rest.
 fn unquoted_name(text: &str) -> Option<(WrittenName<'_>, &str)>
     ensures { option_map (λ f. (name_of f.0, chars f.1.now)) result ≡ plain_name (chars text.now) }
 {
@@ -44,7 +45,7 @@ fn unquoted_name(text: &str) -> Option<(WrittenName<'_>, &str)>
     Some((written, past_plain(text)))
 }
 
-/// The name behind an opening quote, and what stands behind the quote that closes it. None where none does.
+/// The name after an opening quote, and what stands after the quote that closes it. None where none does.
 pub(crate) fn name_in_quotes(text: &str) -> Option<(WrittenName<'_>, &str)>
     ensures { option_map (λ f. (name_of f.0, chars f.1.now)) result ≡ name_in_quotes (chars text.now) }
 {
@@ -60,7 +61,7 @@ pub(crate) fn name_in_quotes(text: &str) -> Option<(WrittenName<'_>, &str)>
     ))
 }
 
-/// What stands behind an opening quote from the quote on that closes the name.
+/// What stands after an opening quote from the quote on that closes the name.
 fn closing_quote(text: &str) -> Option<&str>
     ensures { MatchOption result (name_in_quotes (chars text.now) ≡ None) (λ closing. ClosesAt (chars text.now) (chars closing.now)) }
 {
@@ -71,23 +72,23 @@ fn closing_quote(text: &str) -> Option<&str>
             continue;
         }
         match past_quote(after) {
-            Some(behind) => rest = behind,
+            Some(more) => rest = more,
             None => return Some(rest),
         }
     }
     None
 }
 
-/// What stands behind the quote at the front, if there is one.
+/// What stands after the quote at the front, if there is one.
 fn past_quote(text: &str) -> Option<&str>
-    ensures cases { MatchOption result (first_is (λ c. c == 39) (chars text.now) ≡ false) (λ rest. chars text.now ≡ 39 ∷ chars rest.now) }
+    ensures cases { MatchOption result (first_is is_quote (chars text.now) ≡ false) (λ rest. chars text.now ≡ quote ∷ chars rest.now) }
     ensures shorter { IfSome result (λ rest. length rest.now < length text.now) }
 {
     let (c, after) = first_char(text)?;
     if c == '\'' { Some(after) } else { None }
 }
 
-/// What stands behind the `!` that follows this name, if it is a sheet's name.
+/// What stands after the `!` that follows this name, if it is a sheet's name.
 fn past_bang<'t>(name: &WrittenName<'_>, rest: &'t str) -> Option<&'t str>
     ensures { option_map (λ r. (name_of name.now, chars r.now)) result ≡ before_bang (name_of name.now) (chars rest.now) }
 {
@@ -108,55 +109,4 @@ pub(crate) fn push_sheet(out: &mut String, sheet: &Option<Text>) -> Result<(), O
     };
     push_quoted(out, name.as_str())?;
     push_char(out, '!')
-}
-
-#[cfg(test)]
-mod tests {
-    use super::*;
-    use std::test::Fail;
-
-    #[test]
-    fn finds_a_sheet_before_a_reference(rt: HostRuntime) -> Result<(), Fail> {
-        for (text, name, rest) in [
-            ("Data!A1", "Data", "A1"),
-            ("'It''s'!A1", "It's", "A1"),
-            ("'A1'!A1", "A1", "A1"),
-            ("'Data'!", "Data", ""),
-            ("Été!x", "Été", "x"),
-        ] {
-            let found = find_sheet(text);
-            assert!(rt; found.is_some(), "{text}");
-            if let Some((written, after)) = found {
-                assert_eq!(rt; written.name(rt.alloc())?.as_str(), name);
-                assert_eq!(rt; after, rest);
-            }
-        }
-        Ok(())
-    }
-
-    #[test]
-    fn finds_no_sheet(rt: HostRuntime) {
-        for text in [
-            "",
-            "A1",
-            "A1!A1",
-            "'a[1'!A1",
-            "'Data!A1",
-            "My data!A1",
-            "''!A1",
-            "!A1",
-        ] {
-            assert!(rt; find_sheet(text).is_none(), "{text}");
-        }
-    }
-
-    #[test]
-    fn spells_a_sheet(rt: HostRuntime) -> Result<(), Fail> {
-        let mut out = String::new(rt.alloc());
-        push_sheet(&mut out, &None)?;
-        push_sheet(&mut out, &Some(Text::from_str(rt.alloc(), "It's")?))?;
-        push_sheet(&mut out, &Some(Text::from_str(rt.alloc(), "Data")?))?;
-        assert_eq!(rt; out.as_str(), "'It''s'!Data!");
-        Ok(())
-    }
 }

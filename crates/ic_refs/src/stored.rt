@@ -2,14 +2,11 @@ ghost use Rattle.std.specs.Prelude.{◌≡◌, ◌≤◌, ◌<◌, ◌^◌, opti
 ghost use Rattle.ic_refs.specs.Longest.{FindsLongestAt, read_at};
 ghost use Rattle.ic_refs.specs.Sheet.{reference_at};
 ghost use Rattle.ic_refs.specs.Stored.{SpellsStored, digits_at, distance_at, part_at, position_at, cell_at, place_from, stored_place_at};
-ghost use Rattle.ic_refs.specs.Written.{name_of};
 
+use crate::find::{PlaceForm, read_reference};
 use crate::number::read_number;
-use crate::offset::{bytes_before, text_from};
-use crate::sheet::find_sheet;
-use crate::written::{WrittenName, owned_name};
 use ic_laws::scan::first_char;
-use ic_laws::{LAST_COLUMN, LAST_ROW, OutOfMemory, Place, Position, RefPart, RefToken, Text};
+use ic_laws::{LAST_COLUMN, LAST_ROW, OutOfMemory, Place, Position, RefPart, RefToken};
 use std::alloc::Global;
 
 /// The longest reference in the stored form that begins at this byte of the text, and the number of its bytes. None
@@ -22,42 +19,34 @@ pub fn read_rc(
     ensures exact { IfOk result (λ found. found ≡ read_at (reference_at stored_place_at) text.now at) }
     ensures longest { IfOk result (λ found. FindsLongestAt SpellsStored text.now at found) }
 {
-    read_reference(alloc, text, at)
+    read_stored(alloc, text, at)
 }
 
 // The same, with the clause that says it all.
-fn read_reference(
+fn read_stored(
     alloc: Global,
     text: &str,
     at: usize,
 ) -> Result<Option<(RefToken, usize)>, OutOfMemory>
     ensures { IfOk result (λ found. found ≡ read_at (reference_at stored_place_at) text.now at) }
 {
-    let Some(front) = text_from(text, at) else {
-        return Ok(None);
-    };
-    let Some((name, place, rest)) = find_reference(front) else {
-        return Ok(None);
-    };
-    let sheet = owned_name(alloc, name)?;
-    let length = bytes_before(front, rest);
-    Ok(Some((RefToken { sheet, place }, length)))
+    read_reference(alloc, &StoredForm, text, at)
 }
 
-// The longest reference at the front, with the name of its sheet as it is written, and what stands behind it.
-fn find_reference(text: &str) -> Option<(Option<WrittenName<'_>>, Place, &str)>
-    ensures { option_map (λ f. (record { sheet = option_map name_of f.0; place = f.1 }, chars f.2.now)) result ≡ reference_at stored_place_at (chars text.now) }
-{
-    if let Some((name, behind)) = find_sheet(text) {
-        if let Some((place, rest)) = read_place(behind) {
-            return Some((Some(name), place, rest));
-        }
+// The stored form.
+struct StoredForm;
+
+impl PlaceForm for StoredForm {
+    ghost place_at = { λ _ text. stored_place_at text };
+
+    ghost is_usable = { λ _. Unit {0} };
+
+    fn read_place<'t>(&self, text: &'t str) -> Option<(Place, &'t str)> {
+        read_place(text)
     }
-    let (place, rest) = read_place(text)?;
-    Some((None, place, rest))
 }
 
-// The digits of a distance less than the length, and what stands behind the bracket that closes it.
+// The digits of a distance less than the length, and what stands after the bracket that closes it.
 fn read_digits(length: u32, text: &str) -> Option<(u32, &str)>
     requires { length < 2 ^ 31 }
     ensures exact { option_map (λ f. (f.0, chars f.1.now)) result ≡ digits_at length (chars text.now) }
@@ -76,7 +65,7 @@ fn read_digits(length: u32, text: &str) -> Option<(u32, &str)>
     }
 }
 
-// The distance behind an opening bracket.
+// The distance after an opening bracket.
 fn read_distance(length: u32, text: &str) -> Option<(Position, &str)>
     requires { length < 2 ^ 31 }
     ensures { option_map (λ f. (f.0, chars f.1.now)) result ≡ distance_at length (chars text.now) }
@@ -90,7 +79,7 @@ fn read_distance(length: u32, text: &str) -> Option<(Position, &str)>
     Some((Position::Rel(number as i32), rest))
 }
 
-// What stands behind the letter of a row or a column of a sheet of this length.
+// What stands after the letter of a row or a column of a sheet of this length.
 fn read_part(length: u32, text: &str) -> Option<(Position, &str)>
     requires { length < 2 ^ 31 }
     ensures { option_map (λ f. (f.0, chars f.1.now)) result ≡ part_at length (chars text.now) }
@@ -128,8 +117,8 @@ fn read_cell(text: &str) -> Option<(RefPart, &str)>
     Some((RefPart { row, column }, rest))
 }
 
-// The place that begins with a cell, and what stands behind it.
-fn read_behind(first: RefPart, text: &str) -> (Place, &str)
+// The place that begins with a cell, and the rest.
+fn read_after(first: RefPart, text: &str) -> (Place, &str)
     ensures { (result.0, chars result.1.now) ≡ place_from first (chars text.now) }
 {
     let Some((c, after)) = first_char(text) else {
@@ -144,158 +133,10 @@ fn read_behind(first: RefPart, text: &str) -> (Place, &str)
     }
 }
 
-// The longest place in the stored form at the front, and what stands behind it.
+// The longest place in the stored form at the front, and the rest.
 fn read_place(text: &str) -> Option<(Place, &str)>
     ensures { option_map (λ f. (f.0, chars f.1.now)) result ≡ stored_place_at (chars text.now) }
 {
     let (first, rest) = read_cell(text)?;
-    Some(read_behind(first, rest))
-}
-
-#[cfg(test)]
-mod tests {
-    use super::*;
-    use std::process::Abort;
-
-    fn cell(row: Position, column: Position) -> RefPart {
-        RefPart { row, column }
-    }
-
-    // At this byte of the text the place is read, with this sheet's name, and so many bytes.
-    fn expect_read(
-        rt: &(impl AllocGlobal + Abort),
-        text: &str,
-        at: usize,
-        sheet: &str,
-        place: Place,
-        length: usize,
-    ) -> Result<(), OutOfMemory> {
-        let Some((found, bytes)) = read_rc(rt.alloc(), text, at)? else {
-            panic!(rt; "nothing in {text:?}")
-        };
-        assert_eq!(rt; found.place, place, "{text}");
-        match &found.sheet {
-            Some(name) => assert!(rt; name.as_str() == sheet, "the name in {text:?}"),
-            None => assert!(rt; sheet == "", "no name in {text:?}"),
-        }
-        assert_eq!(rt; bytes, length, "the length in {text}");
-        Ok(())
-    }
-
-    #[test]
-    fn reads_cells(rt: HostRuntime) -> Result<(), OutOfMemory> {
-        for (text, at, sheet, row, column, length) in [
-            ("R1C1", 0, "", Position::Abs(1), Position::Abs(1), 4),
-            ("R1C16385", 0, "", Position::Abs(1), Position::Abs(1638), 7),
-            ("R1C1:R", 0, "", Position::Abs(1), Position::Abs(1), 4),
-            ("R1C1:R0C1", 0, "", Position::Abs(1), Position::Abs(1), 4),
-            (
-                "R1048576C16384",
-                0,
-                "",
-                Position::Abs(1048576),
-                Position::Abs(16384),
-                14,
-            ),
-            ("R007C03x", 0, "", Position::Abs(7), Position::Abs(3), 7),
-            ("R[-1]C[2]", 0, "", Position::Rel(-1), Position::Rel(2), 9),
-            ("R[-0]C[00]", 0, "", Position::Rel(0), Position::Rel(0), 10),
-            (
-                "R[1048575]C[-16383]",
-                0,
-                "",
-                Position::Rel(1048575),
-                Position::Rel(-16383),
-                19,
-            ),
-            ("xR1C1", 1, "", Position::Abs(1), Position::Abs(1), 4),
-            ("R1C1!R2C2", 0, "", Position::Abs(1), Position::Abs(1), 4),
-            (
-                "Sheet1!R1C1",
-                0,
-                "Sheet1",
-                Position::Abs(1),
-                Position::Abs(1),
-                11,
-            ),
-            (
-                "'It''s'!R1C1",
-                0,
-                "It's",
-                Position::Abs(1),
-                Position::Abs(1),
-                12,
-            ),
-            (
-                "'R1C1'!R2C2",
-                0,
-                "R1C1",
-                Position::Abs(2),
-                Position::Abs(2),
-                11,
-            ),
-            ("été!R1C1", 0, "été", Position::Abs(1), Position::Abs(1), 10),
-            ("ééR1C1é", 4, "", Position::Abs(1), Position::Abs(1), 4),
-        ] {
-            expect_read(&rt, text, at, sheet, Place::Cell(cell(row, column)), length)?;
-        }
-        Ok(())
-    }
-
-    #[test]
-    fn reads_ranges(rt: HostRuntime) -> Result<(), OutOfMemory> {
-        let corner = cell(Position::Abs(1), Position::Abs(1));
-        for (text, sheet, last, length) in [
-            ("R1C1:R2C2", "", cell(Position::Abs(2), Position::Abs(2)), 9),
-            (
-                "R1C1:R2C16385",
-                "",
-                cell(Position::Abs(2), Position::Abs(1638)),
-                12,
-            ),
-            (
-                "R1C1:R[-1]C[0]:R1C1",
-                "",
-                cell(Position::Rel(-1), Position::Rel(0)),
-                14,
-            ),
-            (
-                "'My sheet'!R1C1:R2C2+1",
-                "My sheet",
-                cell(Position::Abs(2), Position::Abs(2)),
-                20,
-            ),
-        ] {
-            expect_read(&rt, text, 0, sheet, Place::Range(corner, last), length)?;
-        }
-        Ok(())
-    }
-
-    #[test]
-    fn reads_nothing(rt: HostRuntime) -> Result<(), OutOfMemory> {
-        for (text, at) in [
-            ("", 0),
-            ("R1C1", 4),
-            ("R1C1", 5),
-            ("éR1C1", 1),
-            ("RC", 0),
-            ("R1", 0),
-            ("r1C1", 0),
-            ("R1c1", 0),
-            ("R0C1", 0),
-            ("R1C0", 0),
-            ("R1048577C1", 0),
-            ("R[1048576]C1", 0),
-            ("R1C[16384]", 0),
-            ("R[]C1", 0),
-            ("R[+1]C1", 0),
-            ("R[1C1", 0),
-            ("Sheet1!x", 0),
-            ("Sheet1!!R1C1", 0),
-            ("'R1C1", 0),
-        ] {
-            assert!(rt; read_rc(rt.alloc(), text, at)?.is_none(), "in {text:?}");
-        }
-        Ok(())
-    }
+    Some(read_after(first, rest))
 }

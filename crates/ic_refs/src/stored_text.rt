@@ -1,9 +1,7 @@
-ghost use Rattle.std.specs.Prelude.{◌≡◌, ◌++◌, List, ℕ, true, IfOk, OnOk, IfSome, chars, string_bytes};
+ghost use Rattle.std.specs.Prelude.{◌≡◌, ◌++◌, List, ℕ, true, IfOk, OnOk, chars, string_bytes};
 ghost use Rattle.std.specs.Fmt.{signed_decimal};
-ghost use Rattle.ic_laws.specs.Name.{is_sheet_name};
-ghost use Rattle.ic_laws.specs.Position.{is_place_within};
 ghost use Rattle.ic_refs.specs.Sheet.{reference_at};
-ghost use Rattle.ic_refs.specs.Stored.{stored_place_at, position_text, cell_text, place_text, stored_text};
+ghost use Rattle.ic_refs.specs.Stored.{is_stored_spellable, stored_place_at, position_text, cell_text, place_text, stored_text};
 ghost use Rattle.ic_laws.specs.Scan.{IsEnd};
 
 use crate::sheet::push_sheet;
@@ -16,8 +14,7 @@ pub fn spell_rc(alloc: Global, reference: &RefToken) -> Result<String, OutOfMemo
     ensures exact { IfOk result (λ text. chars (string_bytes text) ≡ stored_text reference.now) }
 
     // What is spelled is read back, wherever it ends, if the numbers are within the limits and the name is a sheet's.
-    ensures again { is_place_within reference.now.place ≡ true → IfSome reference.now.sheet (λ name. is_sheet_name name ≡ true)
-        → (rest : List ℕ) → IsEnd rest
+    ensures again { is_stored_spellable reference.now ≡ true → (rest : List ℕ) → IsEnd rest
         → IfOk result (λ text. reference_at stored_place_at (chars (string_bytes text) ++ rest) ≡ Some (reference.now, rest)) }
 {
     spelled_reference(alloc, reference)
@@ -55,7 +52,7 @@ fn push_cell(out: &mut String, part: RefPart) -> Result<(), OutOfMemory>
     push_position(out, 'C', part.column)
 }
 
-// Appends a row or a column behind its letter.
+// Appends a row or a column after its letter.
 fn push_position(out: &mut String, letter: char, position: Position) -> Result<(), OutOfMemory>
     ensures { OnOk result (chars (string_bytes out.new) ≡ chars (string_bytes out.old) ++ position_text letter position) }
 {
@@ -76,33 +73,4 @@ fn push_number(out: &mut String, number: i32) -> Result<(), OutOfMemory>
 {
     write!(out, "{number}")?;
     Ok(())
-}
-
-#[cfg(test)]
-mod tests {
-    use super::*;
-    use crate::stored::read_rc;
-
-    #[test]
-    fn spells_what_it_reads(rt: HostRuntime) -> Result<(), OutOfMemory> {
-        for (text, want) in [
-            ("R1C1", "R1C1"),
-            ("R007C[-0]", "R7C[0]"),
-            ("R[-1]C[2]:R1048576C[-16383]", "R[-1]C[2]:R1048576C[-16383]"),
-            ("'Sheet1'!R1C1", "Sheet1!R1C1"),
-            ("'My sheet'!R1C1:R2C2", "'My sheet'!R1C1:R2C2"),
-            ("'It''s'!R[5]C5", "'It''s'!R[5]C5"),
-            ("'R1C1'!R2C2", "'R1C1'!R2C2"),
-            ("été!R1C1", "été!R1C1"),
-        ] {
-            match read_rc(rt.alloc(), text, 0)? {
-                Some((token, _)) => assert!(rt;
-                    spell_rc(rt.alloc(), &token)?.as_str() == want,
-                    "{text}"
-                ),
-                None => panic!(rt; "nothing in {text:?}"),
-            }
-        }
-        Ok(())
-    }
 }

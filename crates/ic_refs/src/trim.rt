@@ -10,7 +10,7 @@ pub(crate) fn trimmed(text: &str) -> &str
     ensures { chars result.now ≡ trimmed (chars text.now) }
 {
     let text = past_blanks(text);
-    front_of(text, behind_last(text))
+    front_of(text, after_last(text))
 }
 
 // Whether it is a space, a tab, a line feed or a carriage return.
@@ -20,7 +20,7 @@ fn is_blank(c: char) -> bool
     matches!(c, ' ' | '\t' | '\n' | '\r')
 }
 
-// What stands behind the blanks at the front.
+// What stands after the blanks at the front.
 fn past_blanks(text: &str) -> &str
     ensures { chars result.now ≡ past_run is_blank (chars text.now) }
 {
@@ -34,8 +34,8 @@ fn past_blanks(text: &str) -> &str
     rest
 }
 
-// The blanks behind the last character that is none.
-fn behind_last(text: &str) -> &str
+// The blanks after the last character that is none.
+fn after_last(text: &str) -> &str
     ensures { EndsAt (chars text.now) (chars result.now) }
 {
     let mut end = text;

@@ -7,7 +7,7 @@ use ic_laws::{OutOfMemory, Text};
 use std::alloc::Global;
 
 /// How a sheet's name is written.
-#[derive(Clone, Copy, Debug, PartialEq, Eq)]
+#[derive(Clone, Copy)]
 pub(crate) enum Quoting {
     /// As it is.
     Plain,
@@ -79,7 +79,7 @@ fn is_forbidden(c: char) -> bool
     matches!(c, '\\' | '/' | '*' | '?' | ':' | '[' | ']')
 }
 
-/// The first character of a name that is written so, and what is written behind it.
+/// The first character of a name that is written so, and what is written after it.
 fn first_spelled(inside: &str, quoting: Quoting) -> Option<(char, &str)>
     ensures parts { MatchOption result (spelled quoting (chars inside.now) ≡ []) (λ p. spelled quoting (chars inside.now) ≡ p.0 ∷ spelled quoting (chars p.1.now)) }
     ensures shorter { IfSome result (λ p. length p.1.now < length inside.now) }
@@ -90,7 +90,7 @@ fn first_spelled(inside: &str, quoting: Quoting) -> Option<(char, &str)>
     }
 }
 
-/// The first character of a name whose quotes are doubled, and what is written behind it.
+/// The first character of a name whose quotes are doubled, and what is written after it.
 fn first_undoubled(inside: &str) -> Option<(char, &str)>
     ensures parts { MatchOption result (undoubled (chars inside.now) ≡ []) (λ p. undoubled (chars inside.now) ≡ p.0 ∷ undoubled (chars p.1.now)) }
     ensures shorter { IfSome result (λ p. length p.1.now < length inside.now) }
@@ -100,7 +100,7 @@ fn first_undoubled(inside: &str) -> Option<(char, &str)>
         return Some((c, after));
     }
     match first_char(after) {
-        Some((_, behind)) => Some((c, behind)),
+        Some((_, more)) => Some((c, more)),
         None => Some((c, after)),
     }
 }

@@ -1,136 +1,129 @@
--- The words of the sample tables meet the conditions on words.
-use Rattle.std.proofs.Common.{◌≡◌, List, [], ◌∷◌, ◌++◌, Bool, true, ◌&&◌, Some, None, codes, map, length, refl, ap, ◌∙◌}
-use Rattle.std.proofs.lemmas.Bool.{and_from}
-use Rattle.std.specs.List.{list_all}
+-- The sample tables meet every condition, computed over their words.
+use Rattle.std.proofs.Common.{◌≡◌, ℕ, List, [], ◌∷◌, Bool, true, ◌&&◌, Option, Some, None, map, refl, ap, ap₂, sym, ◌∙◌}
+use Rattle.std.specs.List.{filter_map, list_all}
+use Rattle.std.specs.Str.{chars}
 use Rattle.caseless.proofs.Computing.{caseless}
 use Rattle.ucd_derived.proofs.Computing.{ucd_derived}
-use Rattle.ic_laws.specs.Name.{fold, is_variable_form}
-use Rattle.ic_tables.specs.declared.language.Booleans.{Booleans}
+use Rattle.ic_laws.specs.Dialect.{has_error_shape, has_function_shape}
+use Rattle.ic_laws.specs.Name.{fold}
+use Rattle.ic_tables.specs.Formats.{has_dates, has_group, has_separators, has_symbol}
+use Rattle.ic_tables.specs.LanguageWords.{language_in}
+use Rattle.ic_tables.specs.LocaleWords.{sign}
+use Rattle.ic_tables.specs.LocaleWords as signs
+use Rattle.ic_tables.specs.Sample.{english_words, french_words, german_words, italian_words, kinds_in, sample, sample_languages, sample_locales, spanish_words}
+use Rattle.ic_tables.specs.Tables.{TableSet, are_different, first_failed, first_false, has_english_words, has_ids, has_numbers, has_zones, have_boolean_words, have_dates, have_error_words, have_function_words, have_groups, have_separators, have_symbols, tell_booleans, tell_errors}
+use Rattle.ic_tables.specs.WordList.{words_in}
+use Rattle.ic_tables.specs.Words.{error_words, has_boolean_words, has_error_words, has_function_words, has_stored_words, no_two_agree, numbers_functions, share_numbers, tells_booleans, tells_errors}
+use Rattle.ic_tables.specs.declared.language.FunctionKind.{FunctionKind}
 use Rattle.ic_tables.specs.declared.language.Language.{Language}
-use Rattle.ic_tables.specs.Sample.{numbered, sample_booleans, sample_errors, sample_words}
-use Rattle.ic_tables.specs.Tables.{TableSet, are_different, codes_of, english, first_failed, first_false, has_english_words, has_ids, has_numbers, has_zones, have_boolean_words, have_error_words, have_function_words, ids_of, tell_booleans, tell_errors}
-use Rattle.ic_tables.specs.Words.{boolean_words, error_words, has_boolean_words, has_error_words, has_function_words, has_stored_words, is_error_word, is_function_word, is_prefix_free, no_two_agree, numbers_functions, share_numbers, tells_booleans, tells_errors, words_of_booleans}
+use Rattle.ic_tables.specs.declared.locale.NamedLocale.{NamedLocale}
+use Rattle.ic_tables.specs.declared.sample.TheConstants.{KINDS, ZONES}
 use Rattle.ic_tables.proofs.FoldLemmas.{no_two_by_folding}
 
--- 3
-pub sample_numbers : (l : Language) → l.functions ≡ numbered sample_words → numbers_functions 42 l ≡ true
-unfolding numbers_functions sample_words
-sample_numbers l f = rw f refl
+-- 1 to 3
+ids : has_ids sample ≡ true
+unfolding sample english_words spanish_words french_words german_words italian_words language_in words_in chars
+ids = refl
 
--- 4
-booleans_are : (b : Booleans) → words_of_booleans b ≡ sample_booleans → (b.true_word ≡ codes "TRUE") × (b.false_word ≡ codes "FALSE")
-unfolding sample_booleans
-booleans_are b h = (cc, cc)
+zones : has_zones sample ≡ true
+unfolding sample words_in chars
+zones = refl
 
-pub sample_stored : (l : Language) → boolean_words l ≡ sample_booleans → l.functions ≡ numbered sample_words → has_stored_words l ≡ true
-unfolding has_stored_words sample_words
-sample_stored l b f = let are = booleans_are l.booleans b in rw (f, are.0, are.1) refl
+numbers : has_numbers sample ≡ true
+unfolding sample english_words spanish_words french_words german_words italian_words language_in words_in chars numbers_functions share_numbers
+numbers = refl
 
--- 5
-boolean_forms : list_all is_variable_form sample_booleans ≡ true
-unfolding sample_booleans ucd_derived
-boolean_forms = refl
+-- 4 to 6
+stored : has_english_words sample.languages ≡ true
+unfolding sample english_words spanish_words french_words german_words italian_words language_in words_in chars has_stored_words
+stored = refl
 
-pub sample_variables : (l : Language) → boolean_words l ≡ sample_booleans → has_boolean_words l ≡ true
-unfolding has_boolean_words
-sample_variables l b = ap (list_all is_variable_form) b ∙ boolean_forms
+booleans : have_boolean_words sample.languages ≡ true
+unfolding sample english_words spanish_words french_words german_words italian_words language_in words_in chars has_boolean_words ucd_derived
+booleans = refl
 
--- 6
-pub sample_told : (l : Language) → boolean_words l ≡ sample_booleans → tells_booleans l ≡ true
-unfolding tells_booleans caseless
-sample_told l b = let are = booleans_are l.booleans b in rw (are.0, are.1) refl
+booleans_told : tell_booleans sample.languages ≡ true
+unfolding sample english_words spanish_words french_words german_words italian_words language_in words_in chars tells_booleans caseless
+booleans_told = refl
 
--- 7
-function_words : list_all is_function_word sample_words ≡ true
-unfolding is_function_word sample_words ucd_derived
-function_words = refl
+-- 7 and 8, where each word is folded once
+all_alike : (p q : Language → Bool) → ((l : Language) → q l ≡ p l) → (ls : List Language) → list_all q ls ≡ list_all p ls
+all_alike p q e [] = refl
+all_alike p q e (l ∷ ls) = ap₂ ◌&&◌ (e l) (all_alike p q e ls)
 
-different_functions : are_different (map fold sample_words) ≡ true
-unfolding sample_words caseless
-different_functions = refl
+unfoldable functions_apart : Language → Bool
+functions_apart l = list_all has_function_shape l.functions.words && are_different (map fold l.functions.words)
 
-pub sample_functions : (l : Language) → l.functions ≡ numbered sample_words → has_function_words l ≡ true
-unfolding has_function_words
-sample_functions l f =
-    ap (λ g. list_all is_function_word g.words && no_two_agree g.words) f
-    ∙ and_from (list_all is_function_word sample_words) (no_two_agree sample_words) function_words (no_two_by_folding sample_words ∙ different_functions)
+unfoldable errors_apart : Language → Bool
+errors_apart l = list_all has_error_shape (error_words l) && are_different (map fold (error_words l))
 
--- 8
-error_forms : list_all is_error_word sample_errors ≡ true
-unfolding is_error_word sample_errors
-error_forms = refl
+functions_alike : (l : Language) → has_function_words l ≡ functions_apart l
+unfolding has_function_words functions_apart
+functions_alike l = ap (λ b. list_all has_function_shape l.functions.words && b) (no_two_by_folding l.functions.words)
 
-different_errors : are_different (map fold sample_errors) ≡ true
-unfolding sample_errors caseless
-different_errors = refl
+errors_alike : (l : Language) → has_error_words l ≡ errors_apart l
+unfolding has_error_words errors_apart
+errors_alike l = ap (λ b. list_all has_error_shape (error_words l) && b) (no_two_by_folding (error_words l))
 
-pub sample_error_words : (l : Language) → error_words l ≡ sample_errors → has_error_words l ≡ true
-unfolding has_error_words
-sample_error_words l e =
-    ap (λ words. list_all is_error_word words && no_two_agree words) e
-    ∙ and_from (list_all is_error_word sample_errors) (no_two_agree sample_errors) error_forms (no_two_by_folding sample_errors ∙ different_errors)
+functions_computed : list_all functions_apart sample.languages ≡ true
+unfolding sample english_words spanish_words french_words german_words italian_words language_in words_in chars functions_apart caseless ucd_derived
+functions_computed = refl
+
+errors_computed : list_all errors_apart sample.languages ≡ true
+unfolding sample english_words spanish_words french_words german_words italian_words language_in words_in chars errors_apart caseless
+errors_computed = refl
+
+functions : have_function_words sample.languages ≡ true
+functions = all_alike functions_apart has_function_words functions_alike sample.languages ∙ functions_computed
+
+errors : have_error_words sample.languages ≡ true
+errors = all_alike errors_apart has_error_words errors_alike sample.languages ∙ errors_computed
 
 -- 9
-free_errors : is_prefix_free (map fold (sample_errors ++ sample_errors)) ≡ true
-unfolding sample_errors caseless
-free_errors = refl
+errors_told : tell_errors sample.languages ≡ true
+unfolding sample english_words spanish_words french_words german_words italian_words language_in words_in chars tells_errors caseless
+errors_told = refl
 
-pub sample_told_errors : (l : Language) → error_words l ≡ sample_errors → tells_errors (error_words l) l ≡ true
-unfolding tells_errors
-sample_told_errors l e = ap (λ words. is_prefix_free (map fold (words ++ words))) e ∙ free_errors
+-- 10 to 13
+separators : have_separators sample.locales ≡ true
+unfolding sample words_in chars has_separators sign signs.symbols signs.numbers signs.dates signs.formats_by_length signs.currency
+separators = refl
 
-english_is : (l : Language) → l.code ≡ codes "en" → english (l ∷ []) ≡ Some l
-english_is l c = rw c refl
+groups : have_groups sample.locales ≡ true
+unfolding sample words_in chars has_group sign signs.symbols signs.numbers signs.dates signs.formats_by_length signs.currency ucd_derived
+groups = refl
 
-english_errors : (l : Language) → l.code ≡ codes "en" → error_words l ≡ sample_errors → tell_errors (l ∷ []) ≡ true
-english_errors l c e = rw (english_is l c, sample_told_errors l e) refl
+symbols : have_symbols sample.languages sample.locales ≡ true
+unfolding sample english_words spanish_words french_words german_words italian_words language_in words_in chars has_symbol sign signs.symbols signs.numbers signs.dates signs.formats_by_length signs.currency
+symbols = refl
 
--- what a list of languages with the words of the sample has
-pub record IsSample (languages : List Language) : Type 0 where
-  pub code : map (λ l. l.code) languages ≡ codes "en" ∷ []
-  pub booleans : map boolean_words languages ≡ sample_booleans ∷ []
-  pub errors : map error_words languages ≡ sample_errors ∷ []
-  pub functions : map (λ l. l.functions) languages ≡ numbered sample_words ∷ []
+dates : have_dates sample.locales ≡ true
+unfolding sample words_in chars has_dates sign signs.symbols signs.numbers signs.dates signs.formats_by_length signs.currency
+dates = refl
 
--- such a list meets the conditions on words
-pub record HasGoodWords (languages : List Language) : Type 0 where
-  pub numbered : (list_all (numbers_functions 42) languages && share_numbers languages) ≡ true
-  pub stored : has_english_words languages ≡ true
-  pub booleans : have_boolean_words languages ≡ true
-  pub told : tell_booleans languages ≡ true
-  pub functions : have_function_words languages ≡ true
-  pub errors : have_error_words languages ≡ true
-  pub told_errors : tell_errors languages ≡ true
+all_pass : (a b c d e f g h i j k l m : Bool) → a ≡ true → b ≡ true → c ≡ true → d ≡ true → e ≡ true → f ≡ true → g ≡ true → h ≡ true → i ≡ true → j ≡ true → k ≡ true → l ≡ true → m ≡ true
+    → first_false 1 (a ∷ b ∷ c ∷ d ∷ e ∷ f ∷ g ∷ h ∷ i ∷ j ∷ k ∷ l ∷ m ∷ []) ≡ None
+all_pass a b c d e f g h i j k l m pa pb pc pd pe pf pg ph pi pj pk pl pm = rw (pa, pb, pc, pd, pe, pf, pg, ph, pi, pj, pk, pl, pm) refl
 
-sample_words_pass : (languages : List Language) → IsSample languages → HasGoodWords languages
-unfolding share_numbers
-sample_words_pass [] is = absurd (let h = is.code in cc)
-sample_words_pass (l ∷ m ∷ ls) is = absurd (let h = is.code in cc)
-sample_words_pass (l ∷ []) is =
-    let c : l.code ≡ codes "en" = let h = is.code in cc in
-    let b : boolean_words l ≡ sample_booleans = let h = is.booleans in cc in
-    let e : error_words l ≡ sample_errors = let h = is.errors in cc in
-    let f : l.functions ≡ numbered sample_words = let h = is.functions in cc in
-    record {
-      numbered = rw (sample_numbers l f) refl;
-      stored = rw (sample_stored l b f, c) refl;
-      booleans = rw (sample_variables l b) refl;
-      told = rw (sample_told l b) refl;
-      functions = rw (sample_functions l f) refl;
-      errors = rw (sample_error_words l e) refl;
-      told_errors = english_errors l c e;
-    }
+pub sample_passes : first_failed sample ≡ None
+sample_passes =
+    all_pass _ _ _ _ _ _ _ _ _ _ _ _ _ ids zones numbers stored booleans booleans_told functions errors errors_told separators groups symbols dates
 
-all_pass : (a b c d e f g h i : Bool) → a ≡ true → b ≡ true → c ≡ true → d ≡ true → e ≡ true → f ≡ true → g ≡ true → h ≡ true → i ≡ true
-    → first_false 1 (a ∷ b ∷ c ∷ d ∷ e ∷ f ∷ g ∷ h ∷ i ∷ []) ≡ None
-all_pass a b c d e f g h i pa pb pc pd pe pf pg ph pi = rw (pa, pb, pc, pd, pe, pf, pg, ph, pi) refl
+-- what is there is itself
+pub those_there : {A : Type 0} (xs : List A) (os : List (Option A)) → map Some xs ≡ os → filter_map (λ o. o) os ≡ xs
+those_there xs os e = rw (← e) (somes xs)
+  where
+    somes : {A : Type 0} (ys : List A) → filter_map (λ o. o) (map Some ys) ≡ ys
+    somes [] = refl
+    somes (y ∷ ys) = ap (λ zs. y ∷ zs) (somes ys)
 
-english_ids : (t : TableSet) → codes_of t ≡ codes "en" ∷ [] → ids_of t ≡ codes "en" ∷ [] → has_ids t ≡ true
-english_ids t a b = rw (a, b) refl
+-- tables with these parts are the sample
+pub is_sample : (ls : List Language) (ns : List NamedLocale) (zs : List (List ℕ)) (ks : List FunctionKind)
+    → map Some ls ≡ sample_languages → ns ≡ sample_locales → zs ≡ words_in (chars ZONES.now) → ks ≡ kinds_in (chars KINDS.now)
+    → let t : TableSet = record { languages = ls; locales = ns; zones = zs; kinds = ks } in t ≡ sample
+unfolding sample
+is_sample ls ns zs ks l n z k = rw (n, z, k, sym (those_there ls sample_languages l)) refl
 
--- tables of such languages meet every condition
-pub sample_passes : (t : TableSet) → IsSample t.languages → ids_of t ≡ codes "en" ∷ [] → are_different t.zones ≡ true → length t.kinds ≡ 42 → first_failed t ≡ None
-sample_passes t is i z k =
-    let good : HasGoodWords t.languages = sample_words_pass t.languages is in
-    all_pass (has_ids t) (has_zones t) (has_numbers t) _ _ _ _ _ _ (english_ids t is.code i) z (rw k good.numbered) good.stored good.booleans good.told good.functions
-    good.errors good.told_errors
+-- so they meet every condition
+pub sample_well_formed : (t : TableSet) → t ≡ sample → first_failed t ≡ None
+sample_well_formed t e = ap first_failed e ∙ sample_passes

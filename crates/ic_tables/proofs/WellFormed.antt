@@ -1,5 +1,5 @@
 -- What tables that meet every condition have: each condition as a fact, for the crates above.
-use Rattle.std.proofs.Common.{◌≡◌, ℕ, suc, ◌+◌, List, [], ◌∷◌, ◌++◌, Bool, true, false, not, ◌&&◌, ◌||◌, ◌==◌, nat_lt, Option, Some, None, Result, Ok, Err, MatchResult, IfOk, Bor, bytes_eq, cond, codes, find, length, map, refl, suc-le-suc, zero-lt-suc, sym, ap, subst, ◌∙◌, arith}
+use Rattle.std.proofs.Common.{◌≡◌, ℕ, suc, ◌+◌, List, [], ◌∷◌, ◌++◌, Bool, true, false, not, ◌&&◌, ◌||◌, ◌==◌, nat_lt, Option, Some, None, Result, Ok, Err, MatchResult, IfOk, Bor, bytes_eq, cond, codes, find, length, map, option_map, refl, suc-le-suc, zero-lt-suc, sym, ap, subst, ◌∙◌, arith}
 use Rattle.std.proofs.lemmas.Bool.{and_from, and_parts, eqb-true, not-true, or_parts}
 use Rattle.std.proofs.Math.ListN.{length-map}
 use Rattle.std.proofs.lemmas.List.{get_or-map}
@@ -7,9 +7,13 @@ use Rattle.std.proofs.lemmas.List.Sums.{AllPass-from_list_all}
 use Rattle.std.proofs.lemmas.Slice.Eq.{bytes_eq-Decides}
 use Rattle.std.specs.List.{AllByRecursion, AllPass, IsAmong, IsDistinct, list_all, list_any, slice_get}
 use Rattle.ic_laws.specs.Name.{agrees, fold, is_variable_form}
+use Rattle.ic_laws.specs.Dialect.{has_error_shape, has_function_shape}
+use Rattle.ic_tables.specs.Formats.{has_dates, has_group, has_separators, has_symbol}
 use Rattle.ic_tables.specs.declared.language.Language.{Language}
-use Rattle.ic_tables.specs.Tables.{TableSet, HasGoodWords, IsWellFormed, are_different, codes_of, conditions, english, error_words_in, first_false, has_english_words, has_ids, has_numbers, has_text, has_zones, have_boolean_words, have_error_words, have_function_words, ids_of, language_of, tell_booleans, tell_errors}
-use Rattle.ic_tables.specs.Words.{boolean_words, differ, error_words, has_boolean_words, has_error_words, has_function_words, has_stored_booleans, has_stored_functions, has_stored_words, is_error_word, is_function_word, is_prefix_free, is_proper_prefix, is_text, named_numbers, no_two_agree, numbers_functions, share_numbers, tells_booleans, tells_errors}
+use Rattle.ic_tables.specs.declared.locale.Locale.{Locale}
+use Rattle.ic_tables.specs.declared.locale.NamedLocale.{NamedLocale}
+use Rattle.ic_tables.specs.Tables.{TableSet, HasGoodFormats, HasGoodWords, IsWellFormed, are_different, codes_of, conditions, english, error_words_in, first_false, has_english_words, has_ids, has_numbers, has_text, has_zones, have_boolean_words, have_dates, have_error_words, have_function_words, have_groups, have_separators, have_symbols, ids_of, language_of, locale_of, tell_booleans, tell_errors}
+use Rattle.ic_tables.specs.Words.{boolean_words, differ, error_words, has_boolean_words, has_error_words, has_function_words, has_stored_booleans, has_stored_functions, has_stored_words, is_prefix_free, is_proper_prefix, is_text, named_numbers, no_two_agree, numbers_functions, share_numbers, tells_booleans, tells_errors}
 
 -- each condition holds
 pub record Conditions (t : TableSet) : Type 0 where
@@ -22,6 +26,10 @@ pub record Conditions (t : TableSet) : Type 0 where
   pub function_words : have_function_words t.languages ≡ true
   pub error_words : have_error_words t.languages ≡ true
   pub errors_told : tell_errors t.languages ≡ true
+  pub separators : have_separators t.locales ≡ true
+  pub groups : have_groups t.locales ≡ true
+  pub symbols : have_symbols t.languages t.locales ≡ true
+  pub dates : have_dates t.locales ≡ true
 
 true_first : (n : ℕ) (b : Bool) (bs : List Bool) → first_false n (b ∷ bs) ≡ None → (b ≡ true) × (first_false (n + 1) bs ≡ None)
 true_first n true bs h = (refl, h)
@@ -36,6 +44,7 @@ all_hold t h =
     let all = all_true 1 (conditions t) h in
     let words = all.1.1.1 in
     let lists = words.1.1.1 in
+    let locales = lists.1.1.1 in
     record {
       ids = all.0;
       zones = all.1.0;
@@ -46,6 +55,10 @@ all_hold t h =
       function_words = lists.0;
       error_words = lists.1.0;
       errors_told = lists.1.1.0;
+      separators = locales.0;
+      groups = locales.1.0;
+      symbols = locales.1.1.0;
+      dates = locales.1.1.1.0;
     }
 
 -- ---- what is among the languages
@@ -199,13 +212,13 @@ looking_words looks words h =
     let parts = and_parts (list_all looks words) (no_two_agree words) h in
     record { forms = AllPass-from_list_all looks words parts.0; apart = distinct words parts.1 }
 
-pub good_functions : (t : TableSet) → IsWellFormed t → (l : Language) → IsAmong t.languages l → GoodWords is_function_word l.functions.words
+pub good_functions : (t : TableSet) → IsWellFormed t → (l : Language) → IsAmong t.languages l → GoodWords has_function_shape l.functions.words
 unfolding has_function_words
-good_functions t h l among = looking_words is_function_word l.functions.words (passes has_function_words t.languages l (all_hold t h).function_words among)
+good_functions t h l among = looking_words has_function_shape l.functions.words (passes has_function_words t.languages l (all_hold t h).function_words among)
 
-pub good_errors : (t : TableSet) → IsWellFormed t → (l : Language) → IsAmong t.languages l → GoodWords is_error_word (error_words l)
+pub good_errors : (t : TableSet) → IsWellFormed t → (l : Language) → IsAmong t.languages l → GoodWords has_error_shape (error_words l)
 unfolding has_error_words
-good_errors t h l among = looking_words is_error_word (error_words l) (passes has_error_words t.languages l (all_hold t h).error_words among)
+good_errors t h l among = looking_words has_error_shape (error_words l) (passes has_error_words t.languages l (all_hold t h).error_words among)
 
 -- ---- 9
 
@@ -250,3 +263,29 @@ english_words t h l found =
     other_or (bytes_eq l.code (codes "en")) (has_stored_words l)
     (passes (λ m. not (bytes_eq m.code (codes "en")) || has_stored_words m) t.languages l (all_hold t h).english_words among.0)
     ((bytes_eq-Decides l.code (codes "en")).1 among.1)
+
+-- ---- 10 to 13
+
+pub good_formats : (t : TableSet) → IsWellFormed t → (n : NamedLocale) → IsAmong t.locales n → HasGoodFormats t n.locale
+good_formats t h n among =
+    let all = all_hold t h in
+    record {
+      separators = passes (λ m. has_separators m.locale) t.locales n all.separators among;
+      group = passes (λ m. has_group m.locale) t.locales n all.groups among;
+      symbol = passes (λ m. has_symbol t.languages m.locale) t.locales n all.symbols among;
+      dates = passes (λ m. has_dates m.locale) t.locales n all.dates among;
+    }
+
+found_formats : (t : TableSet) → IsWellFormed t → (id : List ℕ) (o : Option NamedLocale) (l : Locale)
+    → locale_of t id ≡ o → option_map (λ n. n.locale) o ≡ Some l → HasGoodFormats t l
+found_formats t h id None l e found = absurd (cc)
+found_formats t h id (Some n) l e found =
+    let same : n.locale ≡ l = cc in
+    subst (λ m. HasGoodFormats t m) same (good_formats t h n (found_among (λ m. bytes_eq m.id id) t.locales n e).0)
+
+-- the locale that is found under an id
+pub formats_of_found : (t : TableSet) → IsWellFormed t → (id : List ℕ) (l : Locale) → option_map (λ n. n.locale) (locale_of t id) ≡ Some l → HasGoodFormats t l
+formats_of_found t h id l found = found_formats t h id (locale_of t id) l refl found
+
+pub formats_of_named : (t : TableSet) → IsWellFormed t → (id : List ℕ) (n : NamedLocale) → locale_of t id ≡ Some n → HasGoodFormats t n.locale
+formats_of_named t h id n e = good_formats t h n (found_among (λ m. bytes_eq m.id id) t.locales n e).0

@@ -3,7 +3,9 @@ use Rattle.std.specs.Prelude.{◌≡◌, ℕ, ◌+◌, List, [], ◌∷◌, leng
 use Rattle.std.specs.List.{list_any, list_all}
 use Rattle.ic_tables.specs.declared.language.Language.{Language}
 use Rattle.ic_tables.specs.declared.language.FunctionKind.{FunctionKind}
+use Rattle.ic_tables.specs.declared.locale.Locale.{Locale}
 use Rattle.ic_tables.specs.declared.locale.NamedLocale.{NamedLocale}
+use Rattle.ic_tables.specs.Formats.{has_dates, has_group, has_separators, has_symbol}
 use Rattle.ic_tables.specs.Words.{error_words, has_boolean_words, has_error_words, has_function_words, has_stored_words, numbers_functions, share_numbers, tells_booleans, tells_errors}
 
 -- what a tables value holds, each list in its order
@@ -83,16 +85,36 @@ error_words_in (Some l) = error_words l
 abbrev pub tell_errors : List Language → Bool
 tell_errors languages = list_all (tells_errors (error_words_in (english languages))) languages
 
--- the conditions in their order: on the words of functions and errors, on all words, and all of them
-abbrev pub list_conditions : List Language → List Bool
-list_conditions languages = have_function_words languages ∷ have_error_words languages ∷ tell_errors languages ∷ []
+-- 10: the separators of arguments and of decimals are `,` and `.`, or `;` and `,`
+abbrev pub have_separators : List NamedLocale → Bool
+have_separators locales = list_all (λ n. has_separators n.locale) locales
 
-abbrev pub word_conditions : List Language → List Bool
-word_conditions languages =
-    has_english_words languages ∷ have_boolean_words languages ∷ tell_booleans languages ∷ list_conditions languages
+-- 11: digits are grouped by a character that can't be taken for another part of a number
+abbrev pub have_groups : List NamedLocale → Bool
+have_groups locales = list_all (λ n. has_group n.locale) locales
+
+-- 12: a currency's symbol can't be taken for a part of a number or for the front of a boolean
+abbrev pub have_symbols : List Language → List NamedLocale → Bool
+have_symbols languages locales = list_all (λ n. has_symbol languages n.locale) locales
+
+-- 13: dates are written in one of three ways
+abbrev pub have_dates : List NamedLocale → Bool
+have_dates locales = list_all (λ n. has_dates n.locale) locales
+
+-- the conditions in their order: on locales, on the words of functions and errors, on all words, and all of them
+abbrev pub locale_conditions : List Language → List NamedLocale → List Bool
+locale_conditions languages locales = have_separators locales ∷ have_groups locales ∷ have_symbols languages locales ∷ have_dates locales ∷ []
+
+abbrev pub list_conditions : List Language → List NamedLocale → List Bool
+list_conditions languages locales =
+    have_function_words languages ∷ have_error_words languages ∷ tell_errors languages ∷ locale_conditions languages locales
+
+abbrev pub word_conditions : List Language → List NamedLocale → List Bool
+word_conditions languages locales =
+    has_english_words languages ∷ have_boolean_words languages ∷ tell_booleans languages ∷ list_conditions languages locales
 
 abbrev pub conditions : TableSet → List Bool
-conditions tables = has_ids tables ∷ has_zones tables ∷ has_numbers tables ∷ word_conditions tables.languages
+conditions tables = has_ids tables ∷ has_zones tables ∷ has_numbers tables ∷ word_conditions tables.languages tables.locales
 
 -- the number of the first of these tests that fails, where they are numbered from n
 abbrev pub first_false : ℕ → List Bool → Option ℕ
@@ -120,3 +142,10 @@ pub record HasGoodWords (tables : TableSet) (l : Language) : Type 0 where
   pub errors : has_error_words l ≡ true
   pub errors_told : tells_errors (error_words_in (english tables.languages)) l ≡ true
   pub shared : share_numbers tables.languages ≡ true
+
+-- what they say of one of the locales, for whoever reads and shows numbers and dates by it
+pub record HasGoodFormats (tables : TableSet) (l : Locale) : Type 0 where
+  pub separators : has_separators l ≡ true
+  pub group : has_group l ≡ true
+  pub symbol : has_symbol tables.languages l ≡ true
+  pub dates : has_dates l ≡ true

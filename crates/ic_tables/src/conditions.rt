@@ -1,9 +1,10 @@
 ghost use Rattle.std.specs.Prelude.{◌≡◌, ◌&&◌, ◌||◌, IfOk, bytes_eq, codes, not, option_copied};
 ghost use Rattle.std.specs.List.{list_all};
 ghost use Rattle.ic_tables.specs.Making.{Checks};
-ghost use Rattle.ic_tables.specs.Tables.{TableSet, conditions, english, error_words_in, list_conditions, word_conditions};
+ghost use Rattle.ic_tables.specs.Tables.{TableSet, conditions, english, error_words_in, have_dates, have_groups, have_separators, have_symbols, list_conditions, locale_conditions, word_conditions};
 ghost use Rattle.ic_tables.specs.Words.{has_boolean_words, has_error_words, has_function_words, has_stored_words, named_numbers, numbers_functions, share_numbers, tells_booleans, tells_errors};
 
+use crate::formats::{has_dates, has_group, has_separators, has_symbol};
 use crate::ids::{find_id, has_good_ids, have_different_ids};
 use crate::words::{
     has_boolean_words, has_error_words, has_function_words, has_same_numbers, has_stored_words,
@@ -33,12 +34,16 @@ pub fn check(
     if !has_numbers(languages, kinds.len()) {
         return Err(TablesError::BadTables(3));
     }
-    check_fixed_words(alloc, languages)
+    check_fixed_words(alloc, languages, locales)
 }
 
 /// The conditions from the fourth on: the words of English as they are stored, and the words of the booleans.
-fn check_fixed_words(alloc: Global, languages: &[Language]) -> Result<(), TablesError>
-    ensures { Checks 4 (word_conditions languages.now) result }
+fn check_fixed_words(
+    alloc: Global,
+    languages: &[Language],
+    locales: &[NamedLocale],
+) -> Result<(), TablesError>
+    ensures { Checks 4 (word_conditions languages.now locales.now) result }
 {
     if !has_english_words(languages) {
         return Err(TablesError::BadTables(4));
@@ -49,12 +54,16 @@ fn check_fixed_words(alloc: Global, languages: &[Language]) -> Result<(), Tables
     if !tell_booleans(languages) {
         return Err(TablesError::BadTables(6));
     }
-    check_long_lists(alloc, languages)
+    check_long_lists(alloc, languages, locales)
 }
 
 /// The conditions from the seventh on: the words of the functions and of the error values.
-fn check_long_lists(alloc: Global, languages: &[Language]) -> Result<(), TablesError>
-    ensures { Checks 7 (list_conditions languages.now) result }
+fn check_long_lists(
+    alloc: Global,
+    languages: &[Language],
+    locales: &[NamedLocale],
+) -> Result<(), TablesError>
+    ensures { Checks 7 (list_conditions languages.now locales.now) result }
 {
     if !have_function_words(alloc, languages)? {
         return Err(TablesError::BadTables(7));
@@ -65,7 +74,52 @@ fn check_long_lists(alloc: Global, languages: &[Language]) -> Result<(), TablesE
     if !tell_errors(alloc, languages)? {
         return Err(TablesError::BadTables(9));
     }
+    check_locales(languages, locales)
+}
+
+/// The conditions from the tenth on: the separators, symbols and dates of the locales.
+fn check_locales(languages: &[Language], locales: &[NamedLocale]) -> Result<(), TablesError>
+    ensures { Checks 10 (locale_conditions languages.now locales.now) result }
+{
+    if !have_separators(locales) {
+        return Err(TablesError::BadTables(10));
+    }
+    if !have_groups(locales) {
+        return Err(TablesError::BadTables(11));
+    }
+    if !have_symbols(languages, locales) {
+        return Err(TablesError::BadTables(12));
+    }
+    if !have_dates(locales) {
+        return Err(TablesError::BadTables(13));
+    }
     Ok(())
+}
+
+fn have_separators(locales: &[NamedLocale]) -> bool
+    ensures { result ≡ have_separators locales.now }
+{
+    locales.iter().all(|named| has_separators(&named.locale))
+}
+
+fn have_groups(locales: &[NamedLocale]) -> bool
+    ensures { result ≡ have_groups locales.now }
+{
+    locales.iter().all(|named| has_group(&named.locale))
+}
+
+fn have_symbols(languages: &[Language], locales: &[NamedLocale]) -> bool
+    ensures { result ≡ have_symbols languages.now locales.now }
+{
+    locales
+        .iter()
+        .all(|named| has_symbol(languages, &named.locale))
+}
+
+fn have_dates(locales: &[NamedLocale]) -> bool
+    ensures { result ≡ have_dates locales.now }
+{
+    locales.iter().all(|named| has_dates(&named.locale))
 }
 
 fn has_numbers(languages: &[Language], count: usize) -> bool

@@ -33,7 +33,7 @@ pub fn fold_onto<T: HasId>(
 }
 
 /// The Unicode default case folding of a word.
-fn fold_word(alloc: Global, word: &str) -> Result<Text, OutOfMemory>
+pub fn fold_word(alloc: Global, word: &str) -> Result<Text, OutOfMemory>
     ensures { IfOk result (λ t. t ≡ fold (chars word.now)) }
 {
     Ok(Text::from(default_case_fold_str(alloc, word)?))
@@ -65,9 +65,9 @@ fn is_proper_prefix(text: &str, other: &str) -> bool
     let mut whole = other;
     while let Some((c, rest)) = first_char(front) {
         match first_char(whole) {
-            Some((d, behind)) if c == d => {
+            Some((d, after)) if c == d => {
                 front = rest;
-                whole = behind;
+                whole = after;
             }
             _ => return false,
         }

@@ -1,8 +1,9 @@
-ghost use Rattle.std.specs.Prelude.{◌≡◌, ◌&&◌, List, [], ℕ, bytes_eq, chars, find, codes, map, not, option_map};
+ghost use Rattle.std.specs.Prelude.{◌≡◌, ◌&&◌, List, [], ℕ, bytes_eq, chars, find, codes, map, not, option_map, string_bytes, IfOk};
 ghost use Rattle.ic_tables.specs.Tables.{are_different, has_text};
 
 use crate::{Language, NamedLocale};
-use ic_laws::Text;
+use ic_laws::{OutOfMemory, Text};
+use std::alloc::Global;
 
 /// What is listed under a text.
 pub trait HasId {
@@ -86,4 +87,15 @@ pub fn has_good_ids<T: HasId>(items: &[T]) -> bool
         result ≡ has_text ids (codes "en") && are_different ids && not (has_text ids []) }
 {
     has_id(items, "en") && have_different_ids(items) && !has_id(items, "")
+}
+
+/// The texts that they are listed under, in their order.
+pub fn copy_ids<T: HasId>(alloc: Global, items: &[T]) -> Result<Vec<String>, OutOfMemory>
+    ensures { IfOk result (λ ids. map (λ s. chars (string_bytes s)) ids.items ≡ map T.id_of items.now) }
+{
+    let mut ids = Vec::new(alloc);
+    for item in items {
+        ids.push(String::from_str(alloc, item.id().as_str())?)?;
+    }
+    Ok(ids)
 }

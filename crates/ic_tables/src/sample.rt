@@ -1,74 +1,42 @@
-ghost use Rattle.std.specs.Prelude.{◌≡◌, ◌∷◌, [], IfOk, chars, codes, length, map};
-ghost use Rattle.ic_tables.specs.Words.{boolean_words, error_words};
-ghost use Rattle.ic_tables.specs.Sample.{numbered, sample_booleans, sample_errors, sample_words};
+//! The tables that the program uses. Each language has a file with its words as texts, one blank between two words:
+//! the booleans true and false, the error values by number, the functions by number.
+ghost use Rattle.std.specs.Prelude.{◌≡◌, IfOk, Some, chars, map};
+ghost use Rattle.ic_tables.specs.Sample.{american, european, kind_of, kinds_in, sample, sample_languages, sample_locales};
+ghost use Rattle.ic_tables.specs.WordList.{words_in};
 
 mod english;
-mod language;
-mod locale;
+mod french;
+mod german;
+mod italian;
+mod spanish;
 
-use crate::{FunctionKind, Language, NamedLocale, Tables, TablesError};
-use english::{LANGUAGE, LOCALE};
+use crate::word_list::words_in;
+use crate::{FunctionKind, Language, LocaleWords, NamedLocale, Tables, TablesError};
+use ic_laws::scan::first_char;
 use ic_laws::{Items, OutOfMemory, Text};
-use language::language;
-use locale::locale;
 use std::alloc::Global;
 
-const ZONES: [&str; 3] = ["UTC", "Europe/Berlin", "America/New_York"];
+/// The kinds of the functions by number: E is Each, W is Whole, D is Dynamic.
+pub const KINDS: &str = "EEEEWWWWWWWWWEEEWWEWEEEEEEEEEEEEEEEEWWWDDE";
 
-/// The kind of function n stands at place n.
-const KINDS: [FunctionKind; 42] = [
-    FunctionKind::Each,
-    FunctionKind::Each,
-    FunctionKind::Each,
-    FunctionKind::Each,
-    FunctionKind::Whole,
-    FunctionKind::Whole,
-    FunctionKind::Whole,
-    FunctionKind::Whole,
-    FunctionKind::Whole,
-    FunctionKind::Whole,
-    FunctionKind::Whole,
-    FunctionKind::Whole,
-    FunctionKind::Whole,
-    FunctionKind::Each,
-    FunctionKind::Each,
-    FunctionKind::Each,
-    FunctionKind::Whole,
-    FunctionKind::Whole,
-    FunctionKind::Each,
-    FunctionKind::Whole,
-    FunctionKind::Each,
-    FunctionKind::Each,
-    FunctionKind::Each,
-    FunctionKind::Each,
-    FunctionKind::Each,
-    FunctionKind::Each,
-    FunctionKind::Each,
-    FunctionKind::Each,
-    FunctionKind::Each,
-    FunctionKind::Each,
-    FunctionKind::Each,
-    FunctionKind::Each,
-    FunctionKind::Each,
-    FunctionKind::Each,
-    FunctionKind::Each,
-    FunctionKind::Each,
-    FunctionKind::Whole,
-    FunctionKind::Whole,
-    FunctionKind::Whole,
-    FunctionKind::Dynamic,
-    FunctionKind::Dynamic,
-    FunctionKind::Each,
-];
+/// The names of the time zones, with one blank between two.
+pub const ZONES: &str = "UTC Europe/Berlin America/New_York";
 
-/// The tables that the program uses: the language and the locale `en`, and three zones.
+/// How the United States write amounts of money, and how Spain, France, Germany and Italy do.
+pub const DOLLAR_FORMAT: &str = "¤#,##0.00";
+
+pub const EURO_FORMAT: &str = "#,##0.00\u{a0}¤";
+
+pub const EURO: &str = "€";
+
+/// The tables of five languages and five locales (`en`, `es`, `fr`, `de`, `it`), three time zones and 42 functions.
 pub fn sample_tables(alloc: Global) -> Result<Tables, OutOfMemory>
-    ensures { IfOk result (λ t. t.zones ≡ codes "UTC" ∷ codes "Europe/Berlin" ∷ codes "America/New_York" ∷ []) }
+    ensures { IfOk result (λ tables. tables ≡ sample) }
 {
     let languages = languages(alloc)?;
     let locales = locales(alloc)?;
     let zones = zones(alloc)?;
-    let kinds = kinds(alloc)?;
+    let kinds = kinds_in(alloc, KINDS)?;
     match Tables::new(alloc, languages, locales, zones, kinds) {
         Ok(tables) => Ok(tables),
         Err(TablesError::OutOfMemory) => Err(OutOfMemory),
@@ -77,52 +45,89 @@ pub fn sample_tables(alloc: Global) -> Result<Tables, OutOfMemory>
 }
 
 fn languages(alloc: Global) -> Result<Items<Language>, OutOfMemory>
-    ensures code { IfOk result (λ ls. map (λ l. l.code) ls ≡ codes "en" ∷ []) }
-    ensures booleans { IfOk result (λ ls. map boolean_words ls ≡ sample_booleans ∷ []) }
-    ensures errors { IfOk result (λ ls. map error_words ls ≡ sample_errors ∷ []) }
-    ensures functions { IfOk result (λ ls. map (λ l. l.functions) ls ≡ numbered sample_words ∷ []) }
+    ensures { IfOk result (λ ls. map Some ls ≡ sample_languages) }
 {
     let mut languages = Vec::new(alloc);
-    languages.push(language(alloc, "en", &LANGUAGE)?)?;
+    languages.push(english::language(alloc)?)?;
+    languages.push(spanish::language(alloc)?)?;
+    languages.push(french::language(alloc)?)?;
+    languages.push(german::language(alloc)?)?;
+    languages.push(italian::language(alloc)?)?;
     Ok(Items::from(languages))
 }
 
 fn locales(alloc: Global) -> Result<Items<NamedLocale>, OutOfMemory>
-    ensures { IfOk result (λ ls. map (λ l. l.id) ls ≡ codes "en" ∷ []) }
+    ensures { IfOk result (λ ls. ls ≡ sample_locales) }
 {
     let mut locales = Vec::new(alloc);
-    locales.push(locale(alloc, "en", &LOCALE)?)?;
+    locales.push(american(alloc)?)?;
+    locales.push(european(alloc, "es", ".")?)?;
+    locales.push(european(alloc, "fr", " ")?)?;
+    locales.push(european(alloc, "de", ".")?)?;
+    locales.push(european(alloc, "it", ".")?)?;
     Ok(Items::from(locales))
 }
 
+fn american(alloc: Global) -> Result<NamedLocale, OutOfMemory>
+    ensures { IfOk result (λ l. l ≡ american) }
+{
+    let words = LocaleWords {
+        id: "en",
+        decimal: ".",
+        group: ",",
+        list: ",",
+        iso: "USD",
+        symbol: "$",
+        money: DOLLAR_FORMAT,
+        short_date: "m/d/yyyy",
+        long_date: "yyyy-mm-dd",
+    };
+    NamedLocale::from_words(alloc, &words)
+}
+
+/// A locale of the euro, which differs from the others in its separator of groups.
+fn european(alloc: Global, id: &str, group: &str) -> Result<NamedLocale, OutOfMemory>
+    ensures { IfOk result (λ l. l ≡ european (chars id.now) (chars group.now)) }
+{
+    let words = LocaleWords {
+        id,
+        decimal: ",",
+        group,
+        list: ";",
+        iso: "EUR",
+        symbol: EURO,
+        money: EURO_FORMAT,
+        short_date: "dd/mm/yyyy",
+        long_date: "yyyy-mm-dd",
+    };
+    NamedLocale::from_words(alloc, &words)
+}
+
 fn zones(alloc: Global) -> Result<Items<Text>, OutOfMemory>
-    ensures { IfOk result (λ zs. zs ≡ codes "UTC" ∷ codes "Europe/Berlin" ∷ codes "America/New_York" ∷ []) }
+    ensures { IfOk result (λ zones. zones ≡ words_in (chars ZONES.now)) }
 {
-    list(alloc, &ZONES)
+    Ok(Items::from(words_in(alloc, ZONES)?))
 }
 
-/// These words as texts.
-fn list(alloc: Global, words: &[&str]) -> Result<Items<Text>, OutOfMemory>
-    ensures { IfOk result (λ ts. ts ≡ map (λ w. chars w.now) words.now) }
-{
-    let mut texts = Vec::new(alloc);
-    for word in words {
-        texts.push(Text::from_str(alloc, word)?)?;
-    }
-    Ok(Items::from(texts))
-}
-
-fn kinds(alloc: Global) -> Result<Items<FunctionKind>, OutOfMemory>
-    ensures { IfOk result (λ ks. length ks ≡ 42) }
+/// The kinds that these letters stand for.
+fn kinds_in(alloc: Global, letters: &str) -> Result<Items<FunctionKind>, OutOfMemory>
+    ensures { IfOk result (λ kinds. kinds ≡ kinds_in (chars letters.now)) }
 {
     let mut kinds = Vec::new(alloc);
-    for kind in KINDS {
-        kinds.push(kind)?;
+    let mut rest = letters;
+    while let Some((letter, after)) = first_char(rest) {
+        kinds.push(kind_of(letter))?;
+        rest = after;
     }
     Ok(Items::from(kinds))
 }
 
-#[cfg(test)]
-mod broken;
-#[cfg(test)]
-mod tests;
+fn kind_of(letter: char) -> FunctionKind
+    ensures { result ≡ kind_of letter }
+{
+    match letter {
+        'W' => FunctionKind::Whole,
+        'D' => FunctionKind::Dynamic,
+        _ => FunctionKind::Each,
+    }
+}

@@ -1,19 +1,22 @@
-ghost use Rattle.std.specs.Prelude.{◌≡◌, true, None, Some, chars, codes, option_map, IfOk, MatchResult};
+ghost use Rattle.std.specs.Prelude.{◌≡◌, true, None, Some, chars, codes, map, option_map, string_bytes, IfOk, MatchResult};
+ghost use Rattle.std.specs.List.{slice_get};
 ghost use Rattle.ic_tables.specs.Making.{Tells};
 ghost use Rattle.ic_tables.specs.Words.{has_stored_words};
-ghost use Rattle.ic_tables.specs.Tables.{TableSet, HasGoodWords, first_failed, language_of, locale_of, lists_zone};
+ghost use Rattle.ic_tables.specs.Tables.{TableSet, HasGoodFormats, HasGoodWords, first_failed, ids_of, language_of, locale_of, lists_zone};
 
 use crate::conditions::check;
-use crate::ids::{find_id, has_id};
-use crate::{BookIdError, FunctionKind, Language, Locale, NamedLocale, TablesError};
-use ic_laws::{Items, Text};
+use crate::ids::{copy_ids, find_id, has_id};
+use crate::languages::Languages;
+use crate::{BookIdError, FunctionKind, Language, Locale, NamedLocale, TablesError, Words};
+use ic_laws::{Items, OutOfMemory, Text};
 use std::alloc::Global;
 use std::marker::Model;
 
 /// Languages, locales, zones and function kinds that meet every condition on tables.
-#[derive(Debug, Drop)]
+#[derive(Drop)]
 pub struct Tables {
-    languages: Items<Language>,
+    alloc: Global,
+    languages: Languages,
     locales: Items<NamedLocale>,
     zones: Items<Text>,
     kinds: Items<FunctionKind>,
@@ -49,7 +52,9 @@ impl Tables {
             zones.as_slice(),
             kinds.as_slice(),
         )?;
+        let languages = Languages::new(alloc, languages)?;
         Ok(Tables {
+            alloc,
             languages,
             locales,
             zones,
@@ -68,10 +73,24 @@ impl Tables {
         find_id(self.languages.as_slice(), id).ok_or(BookIdError::InvalidLanguage)
     }
 
+    /// The words of the language with this code.
+    pub fn get_words(&self, id: &str) -> Result<Words<'_>, BookIdError>
+        ensures found { MatchResult result (λ w. language_of self.now (chars id.now) ≡ Some w.language.now)
+            (λ e. (e ≡ BookIdError.InvalidLanguage) × (language_of self.now (chars id.now) ≡ None)) }
+
+        // They meet the conditions on words.
+        ensures words { IfOk result (λ w. HasGoodWords self.now w.language.now) }
+    {
+        self.languages.words(id).ok_or(BookIdError::InvalidLanguage)
+    }
+
     /// The locale with this id.
     pub fn get_locale(&self, id: &str) -> Result<&Locale, BookIdError>
-        ensures { MatchResult result (λ l. option_map (λ n. n.locale) (locale_of self.now (chars id.now)) ≡ Some l.now)
+        ensures found { MatchResult result (λ l. option_map (λ n. n.locale) (locale_of self.now (chars id.now)) ≡ Some l.now)
             (λ e. (e ≡ BookIdError.InvalidLocale) × (locale_of self.now (chars id.now) ≡ None)) }
+
+        // Its formats meet the conditions on locales.
+        ensures formats { IfOk result (λ l. HasGoodFormats self.now l.now) }
     {
         match find_id(self.locales.as_slice(), id) {
             Some(named) => Ok(&named.locale),
@@ -90,9 +109,23 @@ impl Tables {
         find_id(self.languages.as_slice(), "en").unwrap()
     }
 
+    /// The words of the language `en`, which is always there.
+    pub fn get_default_words(&self) -> Words<'_>
+        ensures found { language_of self.now (codes "en") ≡ Some result.language.now }
+
+        // They meet the conditions on words, and are those of stored formulas.
+        ensures words { HasGoodWords self.now result.language.now }
+        ensures stored { has_stored_words result.language.now ≡ true }
+    {
+        self.languages.words("en").unwrap()
+    }
+
     /// The locale `en`, which is always there.
     pub fn get_default_locale(&self) -> &Locale
-        ensures { option_map (λ n. n.locale) (locale_of self.now (codes "en")) ≡ Some result.now }
+        ensures found { option_map (λ n. n.locale) (locale_of self.now (codes "en")) ≡ Some result.now }
+
+        // Its formats meet the conditions on locales.
+        ensures formats { HasGoodFormats self.now result.now }
     {
         &find_id(self.locales.as_slice(), "en").unwrap().locale
     }
@@ -102,5 +135,26 @@ impl Tables {
         ensures { result ≡ lists_zone self.now (chars id.now) }
     {
         has_id(self.zones.as_slice(), id)
+    }
+
+    /// The kind of function `n`, from 0. None exactly where the tables have no such function.
+    pub fn function_kind(&self, n: usize) -> Option<FunctionKind>
+        ensures { result ≡ slice_get self.now.kinds n }
+    {
+        self.kinds.as_slice().get(n).copied()
+    }
+
+    /// The ids of the locales, in the order of the tables.
+    pub fn get_supported_locales(&self) -> Result<Vec<String>, OutOfMemory>
+        ensures { IfOk result (λ ids. map (λ s. chars (string_bytes s)) ids.items ≡ ids_of self.now) }
+    {
+        copy_ids(self.alloc, self.locales.as_slice())
+    }
+
+    /// The names of the time zones, in the order of the tables.
+    pub fn get_all_timezones(&self) -> Result<Vec<String>, OutOfMemory>
+        ensures { IfOk result (λ names. map (λ s. chars (string_bytes s)) names.items ≡ self.now.zones) }
+    {
+        copy_ids(self.alloc, self.zones.as_slice())
     }
 }

@@ -1,1 +1,11 @@
+pub mod Begun
+pub mod Lexing
+pub mod Listing
+pub mod Printed
+pub mod Sight
+pub mod Spelling
+pub mod Stored
 pub mod Tokens
+pub mod Turn
+pub mod Turned
+pub mod laws

@@ -2,6 +2,20 @@
 //! the text of a tree. Reader and printer are written once, for every dialect.
 #![tactic(auto)]
 
+mod constant;
+mod law;
+mod lexer;
+mod measured;
+mod number;
+mod printer;
+mod reader;
+mod reading;
+mod stored;
 mod token;
 
-pub use token::{Ahead, Token, TokenSource};
+pub use law::law_tokens_before;
+pub(crate) use measured::Measured;
+pub use printer::print;
+pub use reading::read;
+pub use stored::Stored;
+pub(crate) use token::{Ahead, Token, TokenSource};

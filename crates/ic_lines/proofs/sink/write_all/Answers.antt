@@ -1,4 +1,4 @@
-use Rattle.std.proofs.Common.{arith}
+use Rattle.std.proofs.Common.{arith, inl}
 use Rattle.std.proofs.lemmas.List.{take_rest}
 use Rattle.ic_lines.proofs.WriteLemmas.{more_within, more_rest, more_written}
 use Rattle.ic_lines.proofs.sink.write_all.Goals as goal
@@ -14,5 +14,5 @@ loop-rest-preserved g c =
       within = more_within bytes rest _ taken i.within i.rest fits (take_rest rest taken);
       rest = more_rest bytes rest _ taken i.within i.rest fits (take_rest rest taken);
       written = more_written bytes rest _ taken i.within i.rest fits (take_rest rest taken) _ _ _ i.written c.in-Ok.ensures.moved;
-      counted = omega (arith, c.in-Ok.ensures.counted);
+      quiet = omega (arith, i.quiet, c.in-Ok.ensures.quiet (inl (omega arith)));
     }

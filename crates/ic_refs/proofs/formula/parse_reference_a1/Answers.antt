@@ -1,5 +1,5 @@
 use Rattle.std.proofs.Common.{chars}
-use Rattle.ic_refs.proofs.WholeLemmas.{whole_cell}
+use Rattle.ic_refs.proofs.FormulaCellLemmas.{whole_cell}
 use Rattle.ic_refs.proofs.formula.parse_reference_a1.Goals as goal
 
 pub returns-clause-spelled : goal.returns-clause-spelled

@@ -1,5 +1,5 @@
 use Rattle.std.proofs.Common.{◌∙◌, sym, chars}
-use Rattle.ic_refs.proofs.R1C1Lemmas.{whole_number}
+use Rattle.ic_refs.proofs.R1C1NumberLemmas.{whole_number}
 use Rattle.ic_refs.proofs.r1c1_part.read_whole_number.Goals as goal
 
 pub returns : goal.returns

@@ -1,6 +1,6 @@
 use Rattle.std.proofs.Common.{arith}
 use Rattle.std.proofs.lemmas.Int.{ints}
-use Rattle.ic_refs.proofs.R1C1Lemmas.{wrapped_from}
+use Rattle.ic_refs.proofs.R1C1NumberLemmas.{wrapped_from}
 use Rattle.ic_refs.proofs.r1c1_part.wrapped.Goals as goal
 
 pub returns : goal.returns

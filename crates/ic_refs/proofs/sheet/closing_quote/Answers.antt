@@ -1,5 +1,5 @@
 use Rattle.std.proofs.Common.{◌∷◌, ◌∙◌, ap, chars, rules}
-use Rattle.ic_refs.proofs.QuoteLemmas.{closes_plain, none_plain, closes_doubled, none_doubled, closes_here}
+use Rattle.ic_refs.proofs.SheetQuoteLemmas.{closes_plain, none_plain, closes_doubled, none_doubled, closes_here}
 use Rattle.ic_refs.proofs.sheet.closing_quote.Goals as goal
 
 pub loop-c-preserved-then-c-ne39 : goal.loop-c-preserved-then-c-ne39
@@ -18,10 +18,10 @@ loop-c-preserved c =
       text = search rules;
       closes = λ closing h.
           c.loop-c.invariant.closes closing
-          (closes_doubled (chars c.loop-c.rest.now) (chars c.in-Some.after.now) (chars c.in-Some-past_quote.behind.now) closing e c.in-Some-past_quote.ensures.cases h);
+          (closes_doubled (chars c.loop-c.rest.now) (chars c.in-Some.after.now) (chars c.in-Some-past_quote.more.now) closing e c.in-Some-past_quote.ensures.cases h);
       none = λ h.
           c.loop-c.invariant.none
-          (none_doubled (chars c.loop-c.rest.now) (chars c.in-Some.after.now) (chars c.in-Some-past_quote.behind.now) e c.in-Some-past_quote.ensures.cases h);
+          (none_doubled (chars c.loop-c.rest.now) (chars c.in-Some.after.now) (chars c.in-Some-past_quote.more.now) e c.in-Some-past_quote.ensures.cases h);
     }
 
 pub returns-in-None : goal.returns-in-None

@@ -1,5 +1,5 @@
 use Rattle.std.proofs.Common.{chars}
-use Rattle.ic_refs.proofs.QuoteLemmas.{read_closed}
+use Rattle.ic_refs.proofs.SheetQuoteLemmas.{read_closed}
 use Rattle.ic_refs.proofs.sheet.name_in_quotes.Goals as goal
 
 pub returns : goal.returns

@@ -8,5 +8,5 @@ use Rattle.ic_refs.proofs.stored.read_rc.Goals as goal
 
 pub returns-clause-longest : goal.returns-clause-longest
 returns-clause-longest c =
-    IfOk-weaker c.read_reference.result (λ found. found ≡ read_at (reference_at stored_place_at) c.args.text.now c.args.at) (λ found. FindsLongestAt SpellsStored c.args.text.now c.args.at found)
-    (λ found e. finds_stored_at c.args.text.now c.args.at found c.utf8.text e) c.read_reference.ensures
+    IfOk-weaker c.read_stored.result (λ found. found ≡ read_at (reference_at stored_place_at) c.args.text.now c.args.at) (λ found. FindsLongestAt SpellsStored c.args.text.now c.args.at found)
+    (λ found e. finds_stored_at c.args.text.now c.args.at found c.utf8.text e) c.read_stored.ensures

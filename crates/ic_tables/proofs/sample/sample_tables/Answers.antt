@@ -1,6 +1,7 @@
-use Rattle.std.proofs.Common.{◌≡◌, None, Some, refl, sym, ◌∙◌}
-use Rattle.ic_tables.specs.Tables.{TableSet, first_failed}
-use Rattle.ic_tables.proofs.SampleLemmas.{IsSample, sample_passes}
+use Rattle.std.proofs.Common.{◌≡◌, None, Some, sym, ◌∙◌}
+use Rattle.ic_tables.specs.Sample.{sample}
+use Rattle.ic_tables.specs.Tables.{TableSet}
+use Rattle.ic_tables.proofs.SampleLemmas.{is_sample, sample_well_formed}
 use Rattle.ic_tables.proofs.sample.sample_tables.Goals as goal
 
 pub unreachable-requires : goal.unreachable-requires
@@ -11,13 +12,11 @@ unreachable-requires c =
       zones = c.in_ok-zones.zones;
       kinds = c.in_ok-kinds.kinds;
     } in
-    let words : IsSample t.languages = record {
-      code = c.in_ok-languages.ensures.code;
-      booleans = c.in_ok-languages.ensures.booleans;
-      errors = c.in_ok-languages.ensures.errors;
-      functions = c.in_ok-languages.ensures.functions;
-    } in
-    let well : first_failed t ≡ None = sample_passes t words c.in_ok-locales.ensures (rw c.in_ok-zones.ensures refl) c.in_ok-kinds.ensures in
+    let same : t ≡ sample = is_sample _ _ _ _ c.in_ok-languages.ensures c.in_ok-locales.ensures c.in_ok-zones.ensures c.in_ok-kinds.ensures in
     let bad = rw c.in-Err-BadTables.field-0-is at c.in-Err-BadTables.ensures.failed in
-    let clash : None ≡ Some c.in-Err-BadTables.field-0-0 = sym well ∙ bad in
+    let clash : None ≡ Some c.in-Err-BadTables.field-0-0 = sym (sample_well_formed t same) ∙ bad in
     cc
+
+pub returns-in-Ok : goal.returns-in-Ok
+returns-in-Ok c =
+    c.in-Ok.ensures.made ∙ is_sample _ _ _ _ c.in_ok-languages.ensures c.in_ok-locales.ensures c.in_ok-zones.ensures c.in_ok-kinds.ensures

@@ -14,6 +14,7 @@ invariant_of-self-2 c =
       locale = c.self.inside.locale;
       language = c.self.inside.language;
       zone = c.self.inside.zone;
+      created = c.self.inside.created;
       tables = c.self.inside.tables.now;
     } in
     let good : is_sheet_name (chars c.args.sheet_name.now) ≡ true = search rules in

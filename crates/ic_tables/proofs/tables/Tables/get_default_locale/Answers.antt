@@ -1,8 +1,8 @@
-use Rattle.std.proofs.Common.{◌≡◌, Option, Some, codes, option_map, refl}
+use Rattle.std.proofs.Common.{◌≡◌, Option, Some, codes, option_map, refl, subst}
 use Rattle.std.specs.Str.{chars}
-use Rattle.ic_tables.specs.Tables.{TableSet}
+use Rattle.ic_tables.specs.Tables.{TableSet, IsWellFormed}
 use Rattle.ic_tables.proofs.Lookups.{found-is_some}
-use Rattle.ic_tables.proofs.WellFormed.{has_english}
+use Rattle.ic_tables.proofs.WellFormed.{formats_of_found, has_english}
 use Rattle.ic_tables.proofs.tables.Tables.get_default_locale.Goals as goal
 
 -- what was found has the part
@@ -22,8 +22,12 @@ unwrap-requires c =
     found-is_some (λ found. found.now) (λ l. l.id) (codes "en") c.self.inside.locales c.find_id.result (rw c.as_slice.ensures at c.find_id.ensures)
     (has_english t c.self.invariant).1
 
-pub returns : goal.returns
+pub returns-clause-found : goal.returns-clause-found
 unfolding chars
-returns c =
+returns-clause-found c =
     rw (← c.self.view_is)
     (found-part (λ found. found.now) (λ n. n.locale) c.find_id.result _ c.unwrap.result c.unwrap.ensures (rw c.as_slice.ensures at c.find_id.ensures))
+
+pub returns-clause-formats : goal.returns-clause-formats
+returns-clause-formats c =
+    formats_of_found c.args.self.now (subst IsWellFormed c.self.view_is c.self.invariant) (codes "en") _ (returns-clause-found c)

@@ -1,0 +1,7 @@
+use Rattle.std.specs.Str.{chars}
+use Rattle.ic_tables.specs.LocaleWords.{locale_in}
+use Rattle.ic_tables.proofs.sample.american.Goals as goal
+
+pub returns : goal.returns
+unfolding locale_in chars
+returns c = c.from_words.ensures

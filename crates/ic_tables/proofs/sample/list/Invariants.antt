@@ -1,5 +1,0 @@
-use Rattle.std.proofs.Common.{◌≡◌, chars, map, take}
-use Rattle.ic_tables.proofs.sample.list.Given as goal
-
-abbrev pub invariant-loop-word : goal.invariant-loop-word
-invariant-loop-word l = l.texts.items ≡ map (λ w. chars w.now) (take l.word-index l.words)

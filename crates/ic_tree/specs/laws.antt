@@ -1,0 +1,8 @@
+-- What always holds of the stored form, proved: the laws of a dialect, and what they rest on. Languages, names,
+-- ends and references are dealt with for any dialect.
+pub mod LanguageLaws
+pub mod NameLaws
+pub mod EndLaws
+pub mod ReferenceLaws
+pub mod StoredPlaces
+pub mod StoredLaws

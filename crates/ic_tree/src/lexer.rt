@@ -1,0 +1,14 @@
+mod choice;
+mod errors;
+mod letters;
+mod next;
+mod numbers;
+mod quoted;
+mod references;
+mod seen;
+mod signs;
+mod source;
+mod words;
+
+pub use next::next_token;
+pub use source::{Lexer, TextEnd};

@@ -1,0 +1,54 @@
+ghost use Rattle.std.specs.Prelude.{◌≡◌, chars, length, nat_le, option_map, Some, IfOk};
+ghost use Rattle.ic_laws.specs.Scan.{EndsWith};
+ghost use Rattle.ic_laws.specs.Split.{longer};
+ghost use Rattle.ic_laws.specs.Token as tokens;
+ghost use Rattle.ic_tree.specs.Lexing.{found, seen_token};
+ghost use Rattle.ic_tree.specs.Tokens.{token_of};
+
+use crate::Token;
+use crate::lexer::seen::{Seen, kept};
+use ic_laws::{OutOfMemory, RefToken};
+use std::alloc::Global;
+
+/// The longer of a reference and another token at the front of one text; the reference where both are of one length.
+pub(crate) fn longer_of<'t>(
+    alloc: Global,
+    text: &str,
+    reference: RefToken,
+    rest: &'t str,
+    seen: &Seen,
+    after: &'t str,
+) -> Result<Option<(Token, &'t str)>, OutOfMemory>
+    requires reference_ends { EndsWith (chars text.now) (chars rest.now) }
+    requires other_ends { EndsWith (chars text.now) (chars after.now) }
+    ensures { IfOk result (λ r. option_map (λ f. found (token_of f.0) (chars f.1.now)) r ≡ longer (Some (found (tokens.Ref reference) (chars rest.now))) (Some (found (seen_token seen.now) (chars after.now)))) }
+{
+    if leaves_no_more(text, rest, after) {
+        Ok(Some((Token::Ref(reference), rest)))
+    } else {
+        kept_with(alloc, seen, after)
+    }
+}
+
+/// The token that is seen, with a copy of its text, and the rest.
+pub(crate) fn kept_with<'t>(
+    alloc: Global,
+    seen: &Seen,
+    rest: &'t str,
+) -> Result<Option<(Token, &'t str)>, OutOfMemory>
+    ensures { IfOk result (λ r. option_map (λ f. found (token_of f.0) (chars f.1.now)) r ≡ Some (found (seen_token seen.now) (chars rest.now))) }
+{
+    match kept(alloc, seen) {
+        Ok(token) => Ok(Some((token, rest))),
+        Err(e) => Err(e),
+    }
+}
+
+/// The first of two ends of a text has no more characters than the second: its bytes tell.
+fn leaves_no_more(text: &str, rest: &str, after: &str) -> bool
+    requires rest_ends { EndsWith (chars text.now) (chars rest.now) }
+    requires after_ends { EndsWith (chars text.now) (chars after.now) }
+    ensures { result ≡ nat_le (length (chars rest.now)) (length (chars after.now)) }
+{
+    rest.len() <= after.len()
+}

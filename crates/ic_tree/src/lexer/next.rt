@@ -1,0 +1,125 @@
+ghost use Rattle.std.specs.Prelude.{◌≡◌, ◌∷◌, ◌||◌, ℕ, List, Some, chars, false, option_map, IfOk};
+ghost use Rattle.ic_laws.specs.AmountFront.{number_in_one_pass};
+ghost use Rattle.ic_laws.specs.Dialect.{begins_reference};
+ghost use Rattle.ic_laws.specs.Scan.{begins_word};
+ghost use Rattle.ic_laws.specs.Split.{longer, or_else};
+ghost use Rattle.ic_laws.specs.Token as tokens;
+ghost use Rattle.ic_laws.specs.TokenKinds.{closed, error_at, reference_at, token_by_kinds};
+ghost use Rattle.ic_tree.specs.Lexing.{found, named_at, seen_token};
+ghost use Rattle.ic_tree.specs.Tokens.{token_of};
+
+use crate::Token;
+use crate::lexer::choice::{kept_with, longer_of};
+use crate::lexer::errors::error_at;
+use crate::lexer::letters::{begins_word, is_letter};
+use crate::lexer::numbers::number_at;
+use crate::lexer::quoted::quoted_at;
+use crate::lexer::references::reference_at;
+use crate::lexer::seen::Seen;
+use crate::lexer::signs::sign_at;
+use crate::lexer::words::word_at;
+use ic_laws::scan::first_char;
+use ic_laws::{Dialect, OutOfMemory};
+use std::alloc::Global;
+
+/// The token at the front of a text, and the rest: the longest one, and a reference where another is as long. None
+/// where no token begins there. The first character tells which kinds of tokens can be there.
+pub fn next_token<'t, D: Dialect>(
+    alloc: Global,
+    d: &D,
+    text: &'t str,
+) -> Result<Option<(Token, &'t str)>, OutOfMemory>
+    ensures { IfOk result (λ r. option_map (λ f. found (token_of f.0) (chars f.1.now)) r ≡ token_by_kinds (D.meaning d.now) (chars text.now)) }
+{
+    let Some((c, after)) = first_char(text) else {
+        return Ok(None);
+    };
+    if c == '"' {
+        quoted_token(alloc, after)
+    } else if c == '#' {
+        Ok(error_or_hash(d, text, after))
+    } else if begins_name(c) {
+        named_token(alloc, d, c, text)
+    } else if c == d.decimal() {
+        decimal_token(alloc, d, text)
+    } else {
+        Ok(sign_at(d, c, after))
+    }
+}
+
+/// Whether a word or a reference may begin with it: a letter, a digit, `_`, `\`, `$` or a quote.
+fn begins_name(c: char) -> bool
+    ensures { result ≡ (begins_reference c || begins_word c) }
+{
+    is_letter(c) || c.is_ascii_digit() || matches!(c, '_' | '\\' | '$' | '\'')
+}
+
+/// The text after an opening quote.
+fn quoted_token<'t>(alloc: Global, text: &'t str) -> Result<Option<(Token, &'t str)>, OutOfMemory>
+    ensures { IfOk result (λ r. option_map (λ f. found (token_of f.0) (chars f.1.now)) r ≡ option_map (λ f. found (tokens.Str f.0) f.1) (closed false (chars text.now))) }
+{
+    match quoted_at(alloc, text) {
+        Ok(Some((inside, rest))) => Ok(Some((Token::Str(inside), rest))),
+        Ok(None) => Ok(None),
+        Err(e) => Err(e),
+    }
+}
+
+/// An error's word, or else the sign `#`, at the front of a text that begins with it.
+fn error_or_hash<'t, D: Dialect>(d: &D, text: &'t str, after: &'t str) -> Option<(Token, &'t str)>
+    ensures { option_map (λ f. found (token_of f.0) (chars f.1.now)) result ≡ or_else (error_at (D.meaning d.now) (chars text.now)) (Some (found tokens.Hash (chars after.now))) }
+{
+    match error_at(d, text) {
+        Some(found) => Some(found),
+        None => Some((Token::Hash, after)),
+    }
+}
+
+/// A number that begins with the decimal separator.
+fn decimal_token<'t, D: Dialect>(
+    alloc: Global,
+    d: &D,
+    text: &'t str,
+) -> Result<Option<(Token, &'t str)>, OutOfMemory>
+    ensures { IfOk result (λ r. option_map (λ f. found (token_of f.0) (chars f.1.now)) r ≡ number_in_one_pass (D.meaning d.now) (chars text.now)) }
+{
+    match number_at(d, text) {
+        Some((seen, rest)) => kept_with(alloc, &seen, rest),
+        None => Ok(None),
+    }
+}
+
+/// A reference, a head, a word or a number.
+fn named_token<'t, D: Dialect>(
+    alloc: Global,
+    d: &D,
+    c: char,
+    text: &'t str,
+) -> Result<Option<(Token, &'t str)>, OutOfMemory>
+    requires { (cs : List ℕ) × (chars text.now ≡ c ∷ cs) }
+    ensures { IfOk result (λ r. option_map (λ f. found (token_of f.0) (chars f.1.now)) r ≡ longer (reference_at (D.meaning d.now) (chars text.now)) (named_at (D.meaning d.now) (chars text.now))) }
+{
+    match reference_at(alloc, d, text) {
+        Err(e) => Err(e),
+        Ok(None) => match named_at(d, c, text) {
+            None => Ok(None),
+            Some((seen, after)) => kept_with(alloc, &seen, after),
+        },
+        Ok(Some((reference, rest))) => match named_at(d, c, text) {
+            None => Ok(Some((Token::Ref(reference), rest))),
+            Some((seen, after)) => longer_of(alloc, text, reference, rest, &seen, after),
+        },
+    }
+}
+
+/// A head, a word or a number.
+fn named_at<'t, D: Dialect>(d: &D, c: char, text: &'t str) -> Option<(Seen<'t>, &'t str)>
+    requires { (cs : List ℕ) × (chars text.now ≡ c ∷ cs) }
+    ensures { option_map (λ f. found (seen_token f.0) (chars f.1.now)) result ≡ named_at (D.meaning d.now) (chars text.now) }
+{
+    if begins_word(c) {
+        word_at(d, text)
+    } else {
+        number_at(d, text)
+    }
+}

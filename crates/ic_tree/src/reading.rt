@@ -1,0 +1,65 @@
+ghost use Rattle.std.specs.Prelude.{◌≡◌, None, chars, IfOk, IfSome, MatchOption, if◌then◌else◌};
+ghost use Rattle.ic_laws.specs.Parse.{parsed};
+ghost use Rattle.ic_laws.specs.ReadAs.{read_as};
+ghost use Rattle.ic_laws.specs.Reading.{Reads};
+ghost use Rattle.ic_laws.specs.Tree as trees;
+ghost use Rattle.ic_tree.specs.Lexing.{ends_whole};
+
+use crate::TokenSource;
+use crate::lexer::{Lexer, TextEnd};
+use crate::reader::parse;
+use ic_laws::{Dialect, OutOfMemory, Spelled};
+use std::alloc::Global;
+use std::marker::Brand;
+
+/// The formula that a text is in a dialect. None where no formula has this text: where it doesn't fall into tokens, or
+/// its tokens are those of no formula.
+pub fn read<D: Dialect>(alloc: Global, d: &D, text: &str) -> Result<Option<Spelled>, OutOfMemory>
+    ensures exact { IfOk result (λ r. r ≡ read_as (D.meaning d.now) (chars text.now)) }
+    ensures reads { IfOk result (λ r. IfSome r (λ t. Reads (D.meaning d.now) (chars text.now) t)) }
+    ensures none { IfOk result (λ r. MatchOption r ((t : trees.Spelled) → Reads (D.meaning d.now) (chars text.now) t → ⊥) (λ t. Unit {0})) }
+{
+    read_text::<D, Brand>(alloc, d, &Unread { text })
+}
+
+/// A text that is still to be read.
+#[derive(Drop)]
+struct Unread<'t> {
+    text: &'t str,
+}
+
+/// The same, where it is known of the text whether it falls into tokens.
+fn read_text<D: Dialect, K: TextEnd>(
+    alloc: Global,
+    d: &D,
+    unread: &Unread,
+) -> Result<Option<Spelled>, OutOfMemory>
+    requires { K.whole ≡ ends_whole (D.meaning d.now) (chars unread.now.text.now) }
+    ensures { IfOk result (λ r. r ≡ read_as (D.meaning d.now) (chars unread.now.text.now)) }
+{
+    match Lexer::<D, K>::new(alloc, d, unread.text) {
+        Err(e) => Err(e),
+        Ok(mut tokens) => read_tokens(alloc, d, &mut tokens),
+    }
+}
+
+/// The formula of the tokens, where they are all of the text.
+fn read_tokens<'t, D: Dialect, K: TextEnd>(
+    alloc: Global,
+    d: &D,
+    tokens: &mut Lexer<'t, D, K>,
+) -> Result<Option<Spelled>, OutOfMemory>
+    ensures { IfOk result (λ r. r ≡ (if K.whole then parsed (D.meaning d.now) (⟦<Lexer<'t, D, K> as TokenSource>⟧.left tokens.old) else None)) }
+{
+    match parse(alloc, d, tokens) {
+        Err(e) => Err(e),
+        Ok(None) => Ok(None),
+        Ok(Some(tree)) => {
+            if tokens.is_at_end() {
+                Ok(Some(tree))
+            } else {
+                Ok(None)
+            }
+        }
+    }
+}
