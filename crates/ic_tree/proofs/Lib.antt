@@ -1,3 +1,4 @@
 pub mod ErrorLemmas
 pub mod Literals
 pub mod PrintLemmas
+pub mod ShownLemmas

@@ -1,4 +1,5 @@
 pub mod Printed
+pub mod Shown
 pub mod Spelling
 pub mod Stored
 pub mod Tokens

@@ -1,4 +1,4 @@
--- What always holds of the stored form, proved: the laws of a dialect, and what they rest on. Languages, names,
+-- What always holds of the stored and the shown form, proved: the laws of a dialect, and what they rest on. Languages, names,
 -- ends and references are dealt with for any dialect.
 pub mod LanguageLaws
 pub mod NameLaws
@@ -6,3 +6,6 @@ pub mod EndLaws
 pub mod ReferenceLaws
 pub mod StoredPlaces
 pub mod StoredLaws
+pub mod EitherLaws
+pub mod A1Ends
+pub mod ShownLaws
