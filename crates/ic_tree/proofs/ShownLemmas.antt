@@ -1,5 +1,5 @@
 -- The shown form in code: errors by local words and then by English ones, its separators, and the text of a reference.
-use Rattle.std.proofs.Common.{◌≡◌, ℕ, ℤ, ◌<◌, ◌≤◌, List, [], ◌∷◌, Bool, true, false, ◌&&◌, ◌||◌, bytes_eq, codes, length, drop, Option, Some, None, option_map, MatchOption, chars, encode_utf8_all, if◌then◌else◌, refl, sym, subst, ap, ap₂, ◌∙◌, inl, inr, arith}
+use Rattle.std.proofs.Common.{◌≡◌, ℕ, ℤ, ◌<◌, ◌≤◌, List, Bool, true, false, ◌&&◌, bytes_eq, codes, length, drop, Option, Some, None, option_map, MatchOption, chars, encode_utf8_all, if◌then◌else◌, refl, sym, ap, ap₂, ◌∙◌, inl, inr, arith}
 use Rattle.std.proofs.lemmas.Bool.{and_parts, or_cases}
 use Rattle.std.proofs.lemmas.Slice.Eq.{bytes_eq-Decides}
 use Rattle.std.specs.Str.{IsCharBoundary}

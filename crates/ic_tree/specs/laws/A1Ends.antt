@@ -1,10 +1,10 @@
 -- The places of the A1 form: how they begin, where they stop, and what is none of them.
-use Rattle.std.proofs.Common.{◌≡◌, ◌≢◌, ℕ, ℤ, ◌+◌, ◌<◌, ◌≤◌, List, [], ◌∷◌, ◌++◌, Bool, true, false, not, ◌&&◌, ◌||◌, ◌==◌, ◌⊎◌, nat_lt, nat_le, length, append_assoc, codes, refl, sym, subst, ◌∙◌, ap, ap₂, inl, inr, arith, eqb}
+use Rattle.std.proofs.Common.{◌≡◌, ℕ, ℤ, List, [], ◌∷◌, ◌++◌, Bool, true, false, ◌&&◌, ◌||◌, ◌==◌, nat_lt, nat_le, length, append_assoc, codes, refl, sym, subst, ◌∙◌, ap, ap₂, inl, inr, arith, eqb}
 use Rattle.std.specs.List.{list_all, list_any}
 use Rattle.std.specs.Str.{all_ascii_digits}
 use Rattle.std.specs.Str.Parse.{digits_value}
-use Rattle.std.proofs.lemmas.Bool.{and_parts, and_from, or_parts, or_left, or_right, or_cases, cases_Bool, both_ways, eqb-true}
-use Rattle.std.proofs.lemmas.Bool.Decides.{eqb_tells, nat_tests}
+use Rattle.std.proofs.lemmas.Bool.{and_parts, and_from, or_left, or_right, or_cases, cases_Bool, both_ways, eqb-true}
+use Rattle.std.proofs.lemmas.Bool.Decides.{nat_tests}
 use Rattle.std.proofs.lemmas.List.Folds.{list_all-append}
 use Rattle.ucd_derived.proofs.Computing.{ucd_derived}
 use Rattle.ic_laws.specs.Dialect.{begins_reference}
@@ -18,7 +18,7 @@ use Rattle.ic_laws.specs.declared.reference.Place.{Place}
 use Rattle.ic_laws.specs.declared.reference.Place.TheVariants as places
 use Rattle.ic_laws.proofs.AmountTexts.{run_of-front}
 use Rattle.ic_laws.proofs.tokens.Characters.{past_run_all, run_of_all}
-use Rattle.ic_refs.specs.A1.{SpellsCell, SpellsColumn, SpellsCorners, SpellsPlace, SpellsRow, dollar}
+use Rattle.ic_refs.specs.A1.{SpellsCell, SpellsColumn, SpellsPlace, SpellsRow, dollar}
 use Rattle.ic_refs.proofs.MarkLemmas.{ascii_letter_plain, is_place_character, place_is_text}
 use Rattle.ic_tree.specs.laws.EndLaws.{Stops}
 use Rattle.ic_tree.specs.laws.ReferenceLaws.{Begins}

@@ -1,5 +1,5 @@
 -- The laws of words where English ones are found beside those of a language.
-use Rattle.std.proofs.Common.{◌≡◌, ℕ, List, [], ◌++◌, true, Option, Some, None, IsSome, ap, ap₂, ◌⊎◌, inl, inr}
+use Rattle.std.proofs.Common.{◌≡◌, ℕ, List, [], ◌++◌, true, Option, Some, None, ap, ap₂, ◌⊎◌, inl, inr}
 use Rattle.std.specs.List.{slice_get}
 use Rattle.ic_laws.specs.Dialect.{has_error_shape}
 use Rattle.ic_laws.specs.Name.{Agree}
