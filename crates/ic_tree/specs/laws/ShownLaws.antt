@@ -28,6 +28,7 @@ use Rattle.ic_refs.proofs.MarkLemmas.{place_no_bang}
 use Rattle.ic_refs.proofs.SheetLemmas.{sheet_named}
 use Rattle.ic_refs.proofs.StoredTextLemmas.{end_colon, end_digit}
 use Rattle.ic_tables.specs.declared.language.Language.{Language}
+use Rattle.ic_tables.proofs.WellFormed.{language_among}
 use Rattle.ic_tables.specs.Tables.{HasGoodWords, TableSet, error_words_in, language_of}
 use Rattle.ic_tables.specs.Words.{first_agreeing, tells_errors, words_of}
 use Rattle.ic_tree.specs.Shown.{AreSeparators, CanBeShown, SpeaksBeside, decimal_of, found_in, list_of, shown_meaning}
@@ -223,6 +224,11 @@ speaks_beside t l e g h found = record {
   counted = size_of e (length t.kinds) h.numbers ∙ sym (size_of l (length t.kinds) g.numbers);
 }
 
+-- a language that the tables gave under some code is found by its own
+pub found_by_its_code : (t : TableSet) (code : List ℕ) (l : Language) → language_of t code ≡ Some l → language_of t l.code ≡ Some l
+found_by_its_code t code l found = ap (language_of t) (language_among t code l found).1 ∙ found
+
+-- the two pairs of separators
 pub separators_of : (comma : Bool) → AreSeparators (list_of comma) (decimal_of comma)
 separators_of true = inr (refl, refl)
 separators_of false = inl (refl, refl)
