@@ -15,14 +15,11 @@ use Rattle.ic_tree.specs.laws.ShownLaws.{found_below_either}
 
 -- ---- two ways to find, one after the other
 
-pub first_found : (a b : List ℕ → Option ℕ) (text rest : List ℕ) (n : ℕ) → BeginsWithFound a text rest n → BeginsWithFound (λ t. or_else (a t) (b t)) text rest n
-first_found a b text rest n h = record { front = h.front; split = h.split; found = ap (λ o. or_else o (b h.front)) h.found }
-
-pub second_found : (a b : List ℕ → Option ℕ) (text rest : List ℕ) (n : ℕ) → BeginsWithNone a text → BeginsWithFound b text rest n → BeginsWithFound (λ t. or_else (a t) (b t)) text rest n
+second_found : (a b : List ℕ → Option ℕ) (text rest : List ℕ) (n : ℕ) → BeginsWithNone a text → BeginsWithFound b text rest n → BeginsWithFound (λ t. or_else (a t) (b t)) text rest n
 second_found a b text rest n none h =
     record { front = h.front; split = h.split; found = ap (λ o. or_else o (b h.front)) (none h.front rest h.split) ∙ h.found }
 
-pub neither_found : (a b : List ℕ → Option ℕ) (text : List ℕ) → BeginsWithNone a text → BeginsWithNone b text → BeginsWithNone (λ t. or_else (a t) (b t)) text
+neither_found : (a b : List ℕ → Option ℕ) (text : List ℕ) → BeginsWithNone a text → BeginsWithNone b text → BeginsWithNone (λ t. or_else (a t) (b t)) text
 neither_found a b text none other front rest split = ap (λ o. or_else o (b front)) (none front rest split) ∙ other front rest split
 
 pub second_answers : {X : Type 0} (a b : List ℕ → Option ℕ) (text : List ℕ) (o : Option X) (rest : X → List ℕ) (number : X → ℕ) → BeginsWithNone a text
@@ -33,18 +30,8 @@ second_answers a b text (Some p) rest number none h = second_found a b text (res
 
 -- ---- at a byte of a text
 
-pub not_found : (d : DialectMeaning) (text front : List ℕ) (at : ℕ) → front ≡ drop at text → BeginsWithNone (d.find kinds.Error) (chars front) → FindsErrorAt d text at None
-not_found d text front at here none = λ b word rest e split found. apart (none word rest (ap chars here ∙ split)) found
-  where
-    apart : {o : Option ℕ} {n : ℕ} → o ≡ None → o ≡ Some n → ⊥
-    apart e f = cc
-
 pub no_number : (l english : Language) (text rest : List ℕ) (n : ℕ) → SpeaksBeside l english → BeginsWithFound (found_in l english kinds.Error) text rest n → 12 ≤ n → ⊥
 no_number l english text rest n w b h = let below : n < 12 = found_below_either l english w kinds.Error b.front n b.found in omega arith
-
-pub found_here : (d : DialectMeaning) (text front rest : List ℕ) (at number bytes : ℕ) (e : Error) → IsCharBoundary text at → front ≡ drop at text → (b : BeginsWithFound (d.find kinds.Error) (chars front) rest number) → error_number e ≡ number → bytes ≡ length (encode_utf8_all b.front) → FindsErrorAt d text at (Some (e, bytes))
-found_here d text front rest at number bytes e boundary here b same size =
-    (boundary, (b.front, rest, ap chars (sym here) ∙ b.split, b.found ∙ ap Some (sym same), size))
 
 -- ---- the separators of a locale by whether the decimal one is a comma
 

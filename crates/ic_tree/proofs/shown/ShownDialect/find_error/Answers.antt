@@ -1,6 +1,7 @@
 use Rattle.std.proofs.Common.{chars, refl}
 use Rattle.ic_tree.specs.Shown.{decimal_of, list_of, shown_meaning}
-use Rattle.ic_tree.proofs.ShownLemmas.{found_here, no_number, not_found}
+use Rattle.ic_tree.proofs.ErrorLemmas.{found_here, not_found}
+use Rattle.ic_tree.proofs.ShownLemmas.{no_number}
 use Rattle.ic_tree.proofs.shown.ShownDialect.find_error.Goals as goal
 
 pub returns-in_default-find_error_in : goal.returns-in_default-find_error_in
