@@ -1,11 +1,8 @@
 -- The shown form in code: errors by local words and then by English ones, its separators, and the text of a reference.
-use Rattle.std.proofs.Common.{◌≡◌, ℕ, ℤ, ◌<◌, ◌≤◌, List, Bool, true, false, ◌&&◌, bytes_eq, codes, length, drop, Option, Some, None, option_map, MatchOption, chars, encode_utf8_all, if◌then◌else◌, refl, sym, ap, ap₂, ◌∙◌, inl, inr, arith}
+use Rattle.std.proofs.Common.{◌≡◌, ℕ, ℤ, ◌<◌, ◌≤◌, List, Bool, true, false, ◌&&◌, bytes_eq, codes, Option, Some, None, option_map, MatchOption, if◌then◌else◌, refl, sym, ap, ap₂, ◌∙◌, inl, inr, arith}
 use Rattle.std.proofs.lemmas.Bool.{and_parts, or_cases}
 use Rattle.std.proofs.lemmas.Slice.Eq.{bytes_eq-Decides}
-use Rattle.std.specs.Str.{IsCharBoundary}
-use Rattle.ic_laws.specs.Dialect.{DialectMeaning, FindsErrorAt, error_number}
 use Rattle.ic_laws.specs.declared.dialect.WordKind.TheVariants as kinds
-use Rattle.ic_laws.specs.declared.tree.Error.{Error}
 use Rattle.ic_refs.specs.Sheet.{or_else}
 use Rattle.ic_tables.specs.Order.{BeginsWithFound, BeginsWithNone}
 use Rattle.ic_tables.specs.declared.locale.Locale.{Locale}
