@@ -2,6 +2,7 @@ pub mod Begun
 pub mod Lexing
 pub mod Listing
 pub mod Printed
+pub mod Shown
 pub mod Sight
 pub mod Spelling
 pub mod Stored

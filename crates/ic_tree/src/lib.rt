@@ -1,5 +1,5 @@
-//! Formulas as texts: the dialect of stored formulas, the reader that gives the tree of a text, and the printer that gives
-//! the text of a tree. Reader and printer are written once, for every dialect.
+//! Formulas as texts: the dialects of stored and of shown formulas, the reader that gives the tree of a text, and the
+//! printer that gives the text of a tree. Reader and printer are written once, for every dialect.
 #![tactic(auto)]
 
 mod constant;
@@ -10,6 +10,7 @@ mod number;
 mod printer;
 mod reader;
 mod reading;
+mod shown;
 mod stored;
 mod token;
 
@@ -17,5 +18,6 @@ pub use law::law_tokens_before;
 pub(crate) use measured::Measured;
 pub use printer::print;
 pub use reading::read;
+pub use shown::Shown;
 pub use stored::Stored;
 pub(crate) use token::{Ahead, Token, TokenSource};
