@@ -1,12 +1,12 @@
 -- Binding by example.
-use Rattle.std.proofs.Common.{◌≡◌, ℕ, pos, List, [], ◌∷◌, Bool, true, false, Option, None, Some, codes, refl, if◌then◌else◌}
+use Rattle.std.proofs.Common.{◌≡◌, ℕ, pos, List, [], ◌∷◌, Option, None, Some, codes, refl, if◌then◌else◌}
 use Rattle.std.specs.Prelude.{bytes_eq}
 use Rattle.std.specs.Fmt.{decimal}
 use Rattle.caseless.proofs.Computing.{caseless}
-use Rattle.ic_laws.proofs.binding.Again.{BoundKind, bound_node, bound-node, spelled-node}
+use Rattle.ic_laws.proofs.binding.Again.{bound_node, bound-node, spelled-node}
 use Rattle.ic_laws.specs.Binding.{BoundPair, bound, bound_pair_of, bound_sheet, spelled, spelled_sheet}
 use Rattle.ic_laws.specs.Name.{agrees}
-use Rattle.ic_laws.specs.Parse.{Pair, SpelledKind, node, pair_of}
+use Rattle.ic_laws.specs.Parse.{Pair, node, pair_of}
 use Rattle.ic_laws.specs.Scene.{found_name, name_spelling, sheet_spelling}
 use Rattle.ic_laws.specs.Tree.{Spelled, Bound}
 use Rattle.ic_laws.specs.declared.scene.Scene.{Scene}

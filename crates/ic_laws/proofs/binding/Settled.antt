@@ -1,7 +1,6 @@
 -- A bound formula is settled: spelled and bound again, it is the same.
 use Rattle.std.proofs.Common.{◌≡◌, ◌∙◌, refl, ℕ, List, Option}
-use Rattle.ic_laws.specs.Tree.{Spelled, Bound, Kind}
-use Rattle.ic_laws.specs.declared.tree.NameKey.{NameKey}
+use Rattle.ic_laws.specs.Tree.{Spelled, Kind}
 use Rattle.ic_laws.specs.declared.tree.NameMention.{NameMention}
 use Rattle.ic_laws.specs.declared.tree.SheetMention.{SheetMention}
 use Rattle.ic_laws.specs.declared.tree.Tree.TheOpen as one

@@ -1,4 +1,4 @@
-use Rattle.std.proofs.Common.{◌≡◌, ◌∙◌, [], Some, None, bytes_eq, chars, sym, ap, rules}
+use Rattle.std.proofs.Common.{◌∙◌, [], Some, None, bytes_eq, chars, sym, ap, rules}
 use Rattle.ic_laws.proofs.binding.FoldedTexts.{fold_step, fold_end}
 use Rattle.ic_laws.proofs.scene.folds_to.Goals as goal
 
