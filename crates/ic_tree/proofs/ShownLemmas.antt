@@ -7,7 +7,8 @@ use Rattle.ic_refs.specs.Sheet.{or_else}
 use Rattle.ic_tables.specs.Order.{BeginsWithFound, BeginsWithNone}
 use Rattle.ic_tables.specs.declared.locale.Locale.{Locale}
 use Rattle.ic_tables.specs.declared.language.Language.{Language}
-use Rattle.ic_tree.specs.Shown.{SpeaksBeside, decimal_of, decimal_separator, found_in, has_separators, list_of, list_separator, only_character, shown_meaning}
+use Rattle.ic_tables.specs.Formats.{has_separators}
+use Rattle.ic_tree.specs.Shown.{SpeaksBeside, decimal_of, decimal_separator, found_in, list_of, list_separator, only_character, shown_meaning}
 use Rattle.ic_tree.specs.laws.ShownLaws.{found_below_either}
 
 -- ---- two ways to find, one after the other

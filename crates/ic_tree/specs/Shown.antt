@@ -1,6 +1,6 @@
 -- What the shown form means: the words of a language, and English ones where it has none; the separators of a locale;
 -- and references in the A1 form in a cell.
-use Rattle.std.specs.Prelude.{◌≡◌, ℕ, ℤ, List, [], ◌∷◌, ◌++◌, Bool, true, ◌&&◌, ◌||◌, ◌⊎◌, Option, bytes_eq, codes, length, if◌then◌else◌}
+use Rattle.std.specs.Prelude.{◌≡◌, ℕ, ℤ, List, [], ◌∷◌, ◌++◌, Bool, true, ◌⊎◌, Option, length, if◌then◌else◌}
 use Rattle.std.specs.List.{slice_get}
 use Rattle.std.specs.Option.{IfSome}
 use Rattle.ic_laws.specs.Character.{comma, dot, semicolon}
@@ -14,7 +14,6 @@ use Rattle.ic_refs.specs.Sheet.{or_else, sheet_text}
 use Rattle.ic_tables.specs.Words.{error_words, first_agreeing, has_error_words, tells_errors, words_of}
 use Rattle.ic_tables.specs.declared.language.Language.{Language}
 use Rattle.ic_tables.specs.declared.locale.Locale.{Locale}
-use Rattle.ic_tables.specs.declared.locale.NumbersSymbols.{NumbersSymbols}
 use Rattle.ic_tree.specs.Stored.{SpeaksWell}
 
 -- arguments are parted by `,` where decimals are by `.`, and by `;` where decimals are by `,`
@@ -79,11 +78,3 @@ list_separator locale = only_character locale.numbers.symbols.list
 
 abbrev pub decimal_separator : Locale → ℕ
 decimal_separator locale = only_character locale.numbers.symbols.decimal
-
--- a locale has one of the two pairs of separators
-abbrev pub are_separators : NumbersSymbols → Bool
-are_separators s =
-    bytes_eq s.list (codes ",") && bytes_eq s.decimal (codes ".") || bytes_eq s.list (codes ";") && bytes_eq s.decimal (codes ",")
-
-unfoldable pub has_separators : Locale → Bool
-has_separators l = are_separators l.numbers.symbols

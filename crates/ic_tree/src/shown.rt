@@ -27,7 +27,8 @@ pub struct Shown<'t> {
 impl<'t> Shown<'t> {
     ghost use Rattle.std.specs.Prelude.{codes};
     ghost use Rattle.ic_tables.specs.Tables.{language_of};
-    ghost use Rattle.ic_tree.specs.Shown.{decimal_separator, has_separators, list_separator, shown_meaning};
+    ghost use Rattle.ic_tables.specs.Tables.{HasGoodFormats};
+    ghost use Rattle.ic_tree.specs.Shown.{decimal_separator, list_separator, shown_meaning};
 
     /// The shown form in a language and a locale, in the cell at this row and column, both from 1. Where the cell lies
     /// outside the sheet no reference is read, and each is spelled as the error word of `Error::REF`.
@@ -42,7 +43,7 @@ impl<'t> Shown<'t> {
         column: i32,
     ) -> Shown<'t>
         requires language { language_of tables.now language.now.code ≡ Some language.now }
-        requires separators { has_separators locale.now ≡ true }
+        requires locale { HasGoodFormats tables.now locale.now }
         ensures { option_map (λ english. shown_meaning language.now english (list_separator locale.now) (decimal_separator locale.now) row column)
             (language_of tables.now (codes "en")) ≡ Some (⟦<Shown<'t> as Dialect>⟧.meaning result) }
     {

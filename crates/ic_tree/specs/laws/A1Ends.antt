@@ -18,7 +18,7 @@ use Rattle.ic_laws.specs.declared.reference.Place.{Place}
 use Rattle.ic_laws.specs.declared.reference.Place.TheVariants as places
 use Rattle.ic_laws.proofs.AmountTexts.{run_of-front}
 use Rattle.ic_laws.proofs.tokens.Characters.{past_run_all, run_of_all}
-use Rattle.ic_refs.specs.A1.{SpellsCell, SpellsColumn, SpellsPlace, SpellsRow, dollar}
+use Rattle.ic_refs.specs.A1.{SpellsCell, SpellsColumn, SpellsPlace, SpellsRow, dollar_of}
 use Rattle.ic_refs.proofs.MarkLemmas.{ascii_letter_plain, is_place_character, place_is_text}
 use Rattle.ic_tree.specs.laws.EndLaws.{Stops}
 use Rattle.ic_tree.specs.laws.ReferenceLaws.{Begins}
@@ -110,7 +110,7 @@ digits_of (c ∷ cs) h =
     let b = and_parts (all_ascii_digits (c ∷ cs)) (nat_lt 0 (digits_value 10 (c ∷ cs))) a.0 in
     record { first = c; more = cs; whole = refl; digit = (and_parts (is_digit c) (all_ascii_digits cs) b.0).0; all = b.0 }
 
-after_dollar : (position : Position) (text more : List ℕ) → text ≡ dollar position ++ more → Begins more → Begins text
+after_dollar : (position : Position) (text more : List ℕ) → text ≡ dollar_of position ++ more → Begins more → Begins text
 after_dollar (at.Abs n) text more e b = (36, more, e, dollar_begins)
 after_dollar (at.Rel k) text more e b = subst Begins (sym e) b
 
@@ -153,7 +153,7 @@ colon_no_word = refl
 all_split : (p : ℕ → Bool) (a b : List ℕ) → list_all p (a ++ b) ≡ true → (list_all p a ≡ true) × (list_all p b ≡ true)
 all_split p a b h = and_parts (list_all p a) (list_all p b) (sym (list_all-append p a b) ∙ h)
 
-no_dollar : (position : Position) (text more : List ℕ) → text ≡ dollar position ++ more → list_all is_word_character text ≡ true → text ≡ more
+no_dollar : (position : Position) (text more : List ℕ) → text ≡ dollar_of position ++ more → list_all is_word_character text ≡ true → text ≡ more
 no_dollar (at.Abs n) text more e w =
     absurd (both_ways (is_word_character 36) dollar_no_word (and_parts (is_word_character 36) (list_all is_word_character more) (sym (ap (list_all is_word_character) e) ∙ w)).0)
 no_dollar (at.Rel k) text more e w = e

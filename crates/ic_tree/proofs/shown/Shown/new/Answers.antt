@@ -19,4 +19,4 @@ returns c =
     meaning_told (language_of c.args.tables.now (codes "en")) c.args.language.now c.unwrap.result.language.now c.get_default_words.result.language.now c.args.locale.now c.is.result c.args.row c.args.column
     _ _ (to_z-of_z w32 c.args.row c.ranges.row) (to_z-of_z w32 c.args.column c.ranges.column)
     c.get_default_words.ensures.found
-    (sym c.requires.language ∙ ap (language_of c.args.tables.now) (sym c.as_str.ensures.characters) ∙ words) c.requires.separators c.is.ensures
+    (sym c.requires.language ∙ ap (language_of c.args.tables.now) (sym c.as_str.ensures.characters) ∙ words) c.requires.locale.separators c.is.ensures
