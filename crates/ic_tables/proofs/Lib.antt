@@ -3,3 +3,4 @@ mod FoldLemmas
 mod Lookups
 mod SampleLemmas
 pub mod WellFormed
+pub mod WordLemmas

@@ -5,11 +5,12 @@ use Rattle.std.specs.List.{list_all}
 use Rattle.caseless.proofs.Computing.{caseless}
 use Rattle.ucd_derived.proofs.Computing.{ucd_derived}
 use Rattle.ic_laws.specs.Name.{fold, is_variable_form}
+use Rattle.ic_laws.specs.Dialect.{has_error_shape, has_function_shape}
 use Rattle.ic_tables.specs.declared.language.Booleans.{Booleans}
 use Rattle.ic_tables.specs.declared.language.Language.{Language}
 use Rattle.ic_tables.specs.Sample.{numbered, sample_booleans, sample_errors, sample_words}
 use Rattle.ic_tables.specs.Tables.{TableSet, are_different, codes_of, english, first_failed, first_false, has_english_words, has_ids, has_numbers, has_zones, have_boolean_words, have_error_words, have_function_words, ids_of, tell_booleans, tell_errors}
-use Rattle.ic_tables.specs.Words.{boolean_words, error_words, has_boolean_words, has_error_words, has_function_words, has_stored_words, is_error_word, is_function_word, is_prefix_free, no_two_agree, numbers_functions, share_numbers, tells_booleans, tells_errors, words_of_booleans}
+use Rattle.ic_tables.specs.Words.{boolean_words, error_words, has_boolean_words, has_error_words, has_function_words, has_stored_words, is_prefix_free, no_two_agree, numbers_functions, share_numbers, tells_booleans, tells_errors, words_of_booleans}
 use Rattle.ic_tables.proofs.FoldLemmas.{no_two_by_folding}
 
 -- 3
@@ -41,8 +42,8 @@ unfolding tells_booleans caseless
 sample_told l b = let are = booleans_are l.booleans b in rw (are.0, are.1) refl
 
 -- 7
-function_words : list_all is_function_word sample_words ≡ true
-unfolding is_function_word sample_words ucd_derived
+function_words : list_all has_function_shape sample_words ≡ true
+unfolding sample_words ucd_derived
 function_words = refl
 
 different_functions : are_different (map fold sample_words) ≡ true
@@ -52,12 +53,12 @@ different_functions = refl
 pub sample_functions : (l : Language) → l.functions ≡ numbered sample_words → has_function_words l ≡ true
 unfolding has_function_words
 sample_functions l f =
-    ap (λ g. list_all is_function_word g.words && no_two_agree g.words) f
-    ∙ and_from (list_all is_function_word sample_words) (no_two_agree sample_words) function_words (no_two_by_folding sample_words ∙ different_functions)
+    ap (λ g. list_all has_function_shape g.words && no_two_agree g.words) f
+    ∙ and_from (list_all has_function_shape sample_words) (no_two_agree sample_words) function_words (no_two_by_folding sample_words ∙ different_functions)
 
 -- 8
-error_forms : list_all is_error_word sample_errors ≡ true
-unfolding is_error_word sample_errors
+error_forms : list_all has_error_shape sample_errors ≡ true
+unfolding sample_errors
 error_forms = refl
 
 different_errors : are_different (map fold sample_errors) ≡ true
@@ -67,8 +68,8 @@ different_errors = refl
 pub sample_error_words : (l : Language) → error_words l ≡ sample_errors → has_error_words l ≡ true
 unfolding has_error_words
 sample_error_words l e =
-    ap (λ words. list_all is_error_word words && no_two_agree words) e
-    ∙ and_from (list_all is_error_word sample_errors) (no_two_agree sample_errors) error_forms (no_two_by_folding sample_errors ∙ different_errors)
+    ap (λ words. list_all has_error_shape words && no_two_agree words) e
+    ∙ and_from (list_all has_error_shape sample_errors) (no_two_agree sample_errors) error_forms (no_two_by_folding sample_errors ∙ different_errors)
 
 -- 9
 free_errors : is_prefix_free (map fold (sample_errors ++ sample_errors)) ≡ true

@@ -7,9 +7,10 @@ use Rattle.std.proofs.lemmas.List.Sums.{AllPass-from_list_all}
 use Rattle.std.proofs.lemmas.Slice.Eq.{bytes_eq-Decides}
 use Rattle.std.specs.List.{AllByRecursion, AllPass, IsAmong, IsDistinct, list_all, list_any, slice_get}
 use Rattle.ic_laws.specs.Name.{agrees, fold, is_variable_form}
+use Rattle.ic_laws.specs.Dialect.{has_error_shape, has_function_shape}
 use Rattle.ic_tables.specs.declared.language.Language.{Language}
 use Rattle.ic_tables.specs.Tables.{TableSet, HasGoodWords, IsWellFormed, are_different, codes_of, conditions, english, error_words_in, first_false, has_english_words, has_ids, has_numbers, has_text, has_zones, have_boolean_words, have_error_words, have_function_words, ids_of, language_of, tell_booleans, tell_errors}
-use Rattle.ic_tables.specs.Words.{boolean_words, differ, error_words, has_boolean_words, has_error_words, has_function_words, has_stored_booleans, has_stored_functions, has_stored_words, is_error_word, is_function_word, is_prefix_free, is_proper_prefix, is_text, named_numbers, no_two_agree, numbers_functions, share_numbers, tells_booleans, tells_errors}
+use Rattle.ic_tables.specs.Words.{boolean_words, differ, error_words, has_boolean_words, has_error_words, has_function_words, has_stored_booleans, has_stored_functions, has_stored_words, is_prefix_free, is_proper_prefix, is_text, named_numbers, no_two_agree, numbers_functions, share_numbers, tells_booleans, tells_errors}
 
 -- each condition holds
 pub record Conditions (t : TableSet) : Type 0 where
@@ -199,13 +200,13 @@ looking_words looks words h =
     let parts = and_parts (list_all looks words) (no_two_agree words) h in
     record { forms = AllPass-from_list_all looks words parts.0; apart = distinct words parts.1 }
 
-pub good_functions : (t : TableSet) → IsWellFormed t → (l : Language) → IsAmong t.languages l → GoodWords is_function_word l.functions.words
+pub good_functions : (t : TableSet) → IsWellFormed t → (l : Language) → IsAmong t.languages l → GoodWords has_function_shape l.functions.words
 unfolding has_function_words
-good_functions t h l among = looking_words is_function_word l.functions.words (passes has_function_words t.languages l (all_hold t h).function_words among)
+good_functions t h l among = looking_words has_function_shape l.functions.words (passes has_function_words t.languages l (all_hold t h).function_words among)
 
-pub good_errors : (t : TableSet) → IsWellFormed t → (l : Language) → IsAmong t.languages l → GoodWords is_error_word (error_words l)
+pub good_errors : (t : TableSet) → IsWellFormed t → (l : Language) → IsAmong t.languages l → GoodWords has_error_shape (error_words l)
 unfolding has_error_words
-good_errors t h l among = looking_words is_error_word (error_words l) (passes has_error_words t.languages l (all_hold t h).error_words among)
+good_errors t h l among = looking_words has_error_shape (error_words l) (passes has_error_words t.languages l (all_hold t h).error_words among)
 
 -- ---- 9
 

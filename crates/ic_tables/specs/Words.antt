@@ -1,8 +1,10 @@
 -- The words of a language: which texts may be one, and when those of a language can be told apart.
-use Rattle.std.specs.Prelude.{ℕ, List, [], ◌∷◌, ◌++◌, Bool, true, false, not, ◌&&◌, ◌==◌, nat_lt, length, Option, Some, None, map, codes, bytes_eq}
+use Rattle.std.specs.Prelude.{ℕ, suc, List, [], ◌∷◌, ◌++◌, Bool, true, false, not, ◌&&◌, ◌==◌, nat_lt, length, Option, Some, None, map, codes, bytes_eq, option_map, if◌then◌else◌}
 use Rattle.std.specs.List.{list_any, list_all, slice_get}
+use Rattle.ic_laws.specs.Dialect.{has_error_shape, has_function_shape}
 use Rattle.ic_laws.specs.Name.{agrees, fold, is_variable_form}
-use Rattle.ic_laws.specs.Scan.{first_is, is_letter, is_word_character}
+use Rattle.ic_laws.specs.declared.dialect.WordKind.{WordKind}
+use Rattle.ic_laws.specs.declared.dialect.WordKind.TheVariants as kinds
 use Rattle.ic_tables.specs.declared.language.Booleans.{Booleans}
 use Rattle.ic_tables.specs.declared.language.Errors.{Errors}
 use Rattle.ic_tables.specs.declared.language.Functions.{Functions}
@@ -21,6 +23,17 @@ boolean_words l = words_of_booleans l.booleans
 
 abbrev pub error_words : Language → List (List ℕ)
 error_words l = words_of_errors l.errors
+
+-- the words of a kind, by number
+abbrev pub words_of : Language → WordKind → List (List ℕ)
+words_of l kinds.Boolean = boolean_words l
+words_of l kinds.Error = error_words l
+words_of l kinds.Function = l.functions.words
+
+-- the number of the first of these words that agrees with a text
+abbrev pub first_agreeing : List (List ℕ) → List ℕ → Option ℕ
+first_agreeing [] text = None
+first_agreeing (w ∷ ws) text = if agrees w text then Some 0 else option_map (λ n. suc n) (first_agreeing ws text)
 
 -- the numbers of LET, LAMBDA, TRUE and FALSE
 abbrev pub numbers_of : Functions → List ℕ
@@ -72,26 +85,13 @@ abbrev pub no_two_agree : List (List ℕ) → Bool
 no_two_agree [] = true
 no_two_agree (w ∷ ws) = not (list_any (agrees w) ws) && no_two_agree ws
 
--- a function's word begins with a letter and has only characters of words
-unfoldable pub is_function_word : List ℕ → Bool
-is_function_word word = first_is is_letter word && list_all is_word_character word
-
--- no two functions have words that agree
+-- each function's word begins with a letter and has only characters of words, and no two agree
 unfoldable pub has_function_words : Language → Bool
-has_function_words l = list_all is_function_word l.functions.words && no_two_agree l.functions.words
+has_function_words l = list_all has_function_shape l.functions.words && no_two_agree l.functions.words
 
--- the characters that end a word of an error value, or that stand between others in a formula
-abbrev pub ends_error_word : ℕ → Bool
-ends_error_word c = list_any (λ x. c == x) (codes "+-*/^&=<>%#@,;.(){}\"' \t\n\r")
-
--- the word of an error value begins with # and a character that ends no such word
-unfoldable pub is_error_word : List ℕ → Bool
-is_error_word [] = false
-is_error_word (c ∷ cs) = c == 35 && first_is (λ d. not (ends_error_word d)) cs
-
--- no two error values have words that agree
+-- each error's word begins with # and goes on with no sign and no blank, and no two agree
 unfoldable pub has_error_words : Language → Bool
-has_error_words l = list_all is_error_word (error_words l) && no_two_agree (error_words l)
+has_error_words l = list_all has_error_shape (error_words l) && no_two_agree (error_words l)
 
 -- the text is longer than this one, and begins with it
 abbrev pub is_proper_prefix : List ℕ → List ℕ → Bool

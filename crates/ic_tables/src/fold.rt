@@ -65,9 +65,9 @@ fn is_proper_prefix(text: &str, other: &str) -> bool
     let mut whole = other;
     while let Some((c, rest)) = first_char(front) {
         match first_char(whole) {
-            Some((d, behind)) if c == d => {
+            Some((d, after)) if c == d => {
                 front = rest;
-                whole = behind;
+                whole = after;
             }
             _ => return false,
         }

@@ -14,6 +14,7 @@ mod fold;
 mod ids;
 mod language;
 mod locale;
+mod numbered;
 mod sample;
 mod tables;
 mod words;
@@ -24,5 +25,6 @@ pub use locale::{
     Currency, CurrencyFormats, DateFormats, Dates, DecimalFormats, Locale, NamedLocale,
     NumbersProperties, NumbersSymbols, TimeFormats,
 };
+pub use numbered::{find_word, word};
 pub use sample::sample_tables;
 pub use tables::Tables;

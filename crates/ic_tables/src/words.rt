@@ -1,8 +1,9 @@
-ghost use Rattle.std.specs.Prelude.{◌≡◌, ◌==◌, IfOk, bytes_eq, chars, codes, map, nat_lt, not, option_copied};
+ghost use Rattle.std.specs.Prelude.{◌≡◌, ◌==◌, ◌∷◌, IfOk, bytes_eq, chars, codes, map, nat_lt, option_copied};
 ghost use Rattle.std.specs.List.{list_all, list_any, slice_get};
-ghost use Rattle.ic_laws.specs.Scan.{first_is};
+ghost use Rattle.ic_laws.specs.Dialect.{has_error_shape, has_function_shape, is_sign};
+ghost use Rattle.ic_laws.specs.Scan.{is_blank};
 ghost use Rattle.ic_tables.specs.Tables.{error_words_in};
-ghost use Rattle.ic_tables.specs.Words.{differ, ends_error_word, error_words, has_boolean_words, has_error_words, has_function_words, has_stored_booleans, has_stored_functions, has_stored_words, is_error_word, is_function_word, is_text, named_numbers, numbers_functions, numbers_of, tells_booleans, tells_errors};
+ghost use Rattle.ic_tables.specs.Words.{differ, error_words, has_boolean_words, has_error_words, has_function_words, has_stored_booleans, has_stored_functions, has_stored_words, is_text, named_numbers, numbers_functions, numbers_of, tells_booleans, tells_errors};
 
 use crate::fold::{fold_onto, is_prefix_free, no_two_agree};
 use crate::{Booleans, Functions, Language};
@@ -117,14 +118,13 @@ pub fn has_function_words(alloc: Global, language: &Language) -> Result<bool, Ou
 }
 
 fn are_function_words(words: &[Text]) -> bool
-    ensures { result ≡ list_all is_function_word words.now }
+    ensures { result ≡ list_all has_function_shape words.now }
 {
-    words.iter().all(|word| is_function_word(word.as_str()))
+    words.iter().all(|word| has_function_shape(word.as_str()))
 }
 
-#[tactic(auto, unfolding(crate::specs::Words::is_function_word))]
-fn is_function_word(word: &str) -> bool
-    ensures { result ≡ is_function_word (chars word.now) }
+fn has_function_shape(word: &str) -> bool
+    ensures { result ≡ has_function_shape (chars word.now) }
 {
     begins_with_letter(word) && has_word_characters(word)
 }
@@ -139,9 +139,9 @@ pub fn has_error_words(alloc: Global, language: &Language) -> Result<bool, OutOf
 }
 
 fn are_error_words(words: &[&Text]) -> bool
-    ensures { result ≡ list_all (λ w. is_error_word w.now) words.now }
+    ensures { result ≡ list_all (λ w. has_error_shape w.now) words.now }
 {
-    words.iter().all(|word| is_error_word(word.as_str()))
+    words.iter().all(|word| has_error_shape(word.as_str()))
 }
 
 /// The words of the error values, in the order of their fields.
@@ -165,30 +165,29 @@ fn error_words(language: &Language) -> [&Text; 12]
     ]
 }
 
-/// Whether the text begins with # and a character that ends no word of an error value.
-#[tactic(auto, unfolding(crate::specs::Words::is_error_word))]
-fn is_error_word(word: &str) -> bool
-    ensures { result ≡ is_error_word (chars word.now) }
+fn has_error_shape(word: &str) -> bool
+    ensures { result ≡ has_error_shape (chars word.now) }
 {
     match first_char(word) {
-        Some((c, rest)) => c == '#' && goes_on(rest),
+        Some((c, rest)) => goes_on_as_error(c, rest),
         None => false,
     }
 }
 
-fn goes_on(rest: &str) -> bool
-    ensures { result ≡ first_is (λ d. not (ends_error_word d)) (chars rest.now) }
+/// Whether the word of an error value may begin with this character and go on so.
+fn goes_on_as_error(first: char, rest: &str) -> bool
+    ensures { result ≡ has_error_shape (first ∷ chars rest.now) }
 {
     match first_char(rest) {
-        Some((c, _)) => !ends_error_word(c),
+        Some((c, _)) => first == '#' && !is_sign(c) && !is_blank(c),
         None => false,
     }
 }
 
-fn ends_error_word(c: char) -> bool
-    ensures { result ≡ ends_error_word c }
+fn is_sign(c: char) -> bool
+    ensures { result ≡ is_sign c }
 {
-    is_operator(c) || is_mark(c) || matches!(c, ' ' | '\t' | '\n' | '\r')
+    is_operator(c) || is_mark(c)
 }
 
 fn is_operator(c: char) -> bool
@@ -204,6 +203,12 @@ fn is_mark(c: char) -> bool
     ensures { result ≡ list_any (λ x. c == x) (codes ",;.(){}\"'") }
 {
     matches!(c, ',' | ';' | '.' | '(' | ')' | '{' | '}' | '"' | '\'')
+}
+
+fn is_blank(c: char) -> bool
+    ensures { result ≡ is_blank c }
+{
+    matches!(c, ' ' | '\t' | '\n' | '\r')
 }
 
 /// Whether, folded, no word of an error value begins another, be they of this language or of English.
