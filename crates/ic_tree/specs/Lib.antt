@@ -1,1 +1,3 @@
+pub mod Dynamic
+pub mod LanguageWords
 pub mod Tokens

@@ -2,6 +2,9 @@
 //! the text of a tree. Reader and printer are written once, for every dialect.
 #![tactic(auto)]
 
+mod copies;
+mod spelling;
 mod token;
 
+pub use spelling::spell;
 pub use token::{Ahead, Token, TokenSource};
