@@ -1,4 +1,6 @@
 pub mod Begun
+pub mod Dynamic
+pub mod LanguageWords
 pub mod Lexing
 pub mod Listing
 pub mod Printed

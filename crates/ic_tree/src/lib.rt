@@ -1,8 +1,10 @@
 //! Formulas as texts: the dialects of stored and of shown formulas, the reader that gives the tree of a text, and the
-//! printer that gives the text of a tree. Reader and printer are written once, for every dialect.
+//! printer that gives the text of a tree. Reader and printer are written once, for every dialect. `spell` writes what a
+//! formula mentions in its own spelling.
 #![tactic(auto)]
 
 mod constant;
+mod copies;
 mod law;
 mod lexer;
 mod measured;
@@ -11,6 +13,7 @@ mod printer;
 mod reader;
 mod reading;
 mod shown;
+mod spelling;
 mod stored;
 mod token;
 
@@ -19,5 +22,6 @@ pub(crate) use measured::Measured;
 pub use printer::print;
 pub use reading::read;
 pub use shown::Shown;
+pub use spelling::spell;
 pub use stored::Stored;
 pub(crate) use token::{Ahead, Token, TokenSource};
