@@ -12,6 +12,7 @@ pub mod RunLemmas
 pub mod Smallest
 pub mod SmallestLaws
 pub mod TextLemmas
+pub mod binding
 pub mod parsing
 pub mod printing
 pub mod tokens

@@ -1,12 +1,15 @@
 pub mod Amount
 pub mod AmountFront
+pub mod Binding
 pub mod Character
+pub mod Clash
 pub mod CoreBook
 pub mod CoreStep
 pub mod Dialect
 pub mod Following
 pub mod Lines
 pub mod Longest
+pub mod Mentions
 pub mod Name
 pub mod NextToken
 pub mod Parse
@@ -14,6 +17,7 @@ pub mod Position
 pub mod ReadAs
 pub mod Reading
 pub mod Scan
+pub mod Scene
 pub mod Split
 pub mod Token
 pub mod TokenKinds

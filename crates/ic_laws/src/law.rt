@@ -1,10 +1,13 @@
-ghost use Rattle.std.specs.Prelude.{◌≡◌, ◌↔◌, ℕ, List, Some};
+ghost use Rattle.std.specs.Prelude.{◌≡◌, ◌↔◌, ℕ, List, Option, Some};
+ghost use Rattle.ic_laws.specs.Binding.{IsSettled, RespectsFolding, bound};
 ghost use Rattle.ic_laws.specs.NextToken.{tokens_of};
 ghost use Rattle.ic_laws.specs.ReadAs.{read_as};
 ghost use Rattle.ic_laws.specs.Reading.{Fits, IsWell, Reads, printed};
+ghost use Rattle.ic_laws.specs.Scene.{KeysDiffer, SheetsDiffer};
 ghost use Rattle.ic_laws.specs.Token.{Token, Lexes};
 ghost use Rattle.ic_laws.specs.Tree.{Spelled};
 ghost use Rattle.ic_laws.specs.Yield.{yield};
+ghost use Rattle.ic_laws.specs.declared.scene.Scene.{Scene};
 
 use crate::Dialect;
 
@@ -31,4 +34,10 @@ pub fn law_read_print<D: Dialect>()
 /// A text reads as a formula exactly where the function that reads texts answers it. So it reads as one at most.
 pub fn law_read_as<D: Dialect>()
     ensures { (d : D) (text : List ℕ) (t : Spelled) → Reads (D.meaning d) text t ↔ read_as (D.meaning d) text ≡ Some t }
+{}
+
+/// What is bound is settled: written out and bound again in the same scene, a bound formula is the same. The function
+/// words must be told by folding alone, as those of every language are.
+pub fn law_binding_settled()
+    ensures { (english : List ℕ → Option ℕ) (scene : Scene) (scope : Option ℕ) → SheetsDiffer scene → KeysDiffer scene → RespectsFolding english → (t : Spelled) → IsSettled english scene scope (bound english scene scope t) }
 {}

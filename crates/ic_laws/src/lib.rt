@@ -28,6 +28,7 @@ mod memory;
 mod name;
 mod reference;
 pub mod scan;
+mod scene;
 mod text;
 mod tree;
 
@@ -35,10 +36,14 @@ pub use amount::{Amount, amount_spelling, unsigned_amount};
 pub use boxed::Boxed;
 pub use dialect::{Dialect, WordKind};
 pub use items::Items;
-pub use law::{law_lex_print, law_lexes_unique, law_read_as, law_read_print, law_yield_injective};
+pub use law::{
+    law_binding_settled, law_lex_print, law_lexes_unique, law_read_as, law_read_print,
+    law_yield_injective,
+};
 pub use memory::OutOfMemory;
 pub use name::agree;
 pub use reference::{LAST_COLUMN, LAST_ROW, Place, Position, RefPart, RefToken};
+pub use scene::{Finder, NameSpelling, Scene, SheetName};
 pub use text::Text;
 pub use tree::{
     BinarySign, Bound, Constant, Error, Formula, LetPair, NameKey, NameMention, PrefixSign,

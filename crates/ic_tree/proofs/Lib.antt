@@ -13,6 +13,7 @@ pub mod Parts
 pub mod PrintLemmas
 pub mod QuoteLemmas
 pub mod ReadLemmas
+pub mod ShownLemmas
 pub mod SightLemmas
 pub mod Signs
 pub mod Turning

@@ -1,7 +1,10 @@
 pub mod Begun
+pub mod Dynamic
+pub mod LanguageWords
 pub mod Lexing
 pub mod Listing
 pub mod Printed
+pub mod Shown
 pub mod Sight
 pub mod Spelling
 pub mod Stored

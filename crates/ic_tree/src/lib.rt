@@ -1,8 +1,10 @@
-//! Formulas as texts: the dialect of stored formulas, the reader that gives the tree of a text, and the printer that gives
-//! the text of a tree. Reader and printer are written once, for every dialect.
+//! Formulas as texts: the dialects of stored and of shown formulas, the reader that gives the tree of a text, and the
+//! printer that gives the text of a tree. Reader and printer are written once, for every dialect. `spell` writes what a
+//! formula mentions in its own spelling.
 #![tactic(auto)]
 
 mod constant;
+mod copies;
 mod law;
 mod lexer;
 mod measured;
@@ -10,6 +12,8 @@ mod number;
 mod printer;
 mod reader;
 mod reading;
+mod shown;
+mod spelling;
 mod stored;
 mod token;
 
@@ -17,5 +21,7 @@ pub use law::law_tokens_before;
 pub(crate) use measured::Measured;
 pub use printer::print;
 pub use reading::read;
+pub use shown::Shown;
+pub use spelling::spell;
 pub use stored::Stored;
 pub(crate) use token::{Ahead, Token, TokenSource};

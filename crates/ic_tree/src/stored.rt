@@ -69,7 +69,7 @@ fn is_place_within(place: Place) -> bool
 }
 
 // Whether a sheet may have this name, if there is one.
-fn is_written_sheet(sheet: &Option<Text>) -> bool
+pub fn is_written_sheet(sheet: &Option<Text>) -> bool
     ensures { result ≡ written sheet.now }
 {
     match sheet {
@@ -102,7 +102,7 @@ fn find_error_at(words: &Words<'_>, text: &str, at: usize) -> Option<(Error, usi
 }
 
 // How many bytes stand before this rest of a text.
-fn bytes_before(text: &str, rest: &str) -> usize
+pub fn bytes_before(text: &str, rest: &str) -> usize
     requires { EndsWith (chars text.now) (chars rest.now) }
     ensures { (front : List ℕ) → chars text.now ≡ front ++ chars rest.now → result ≡ length (encode_utf8_all front) }
 {

@@ -15,7 +15,7 @@ use Rattle.ic_tree.specs.Stored.{SpeaksWell}
 use Rattle.ic_tables.proofs.WordLemmas.{AgreesWithOne, agrees_after, found_at, finds, finds_alike, not_prefix, passes_at, proper_prefix}
 use Rattle.ic_laws.proofs.FoldLaws.{fold_append, fold_empty, is_fixed, listed_fixed, second_stays}
 
-some_at : {X : Type 0} (xs : List X) (n : ℕ) → n < length xs → IsSome (slice_get xs n)
+pub some_at : {X : Type 0} (xs : List X) (n : ℕ) → n < length xs → IsSome (slice_get xs n)
 some_at [] n h = absurd (omega arith)
 some_at (x ∷ xs) zero h = refl
 some_at (x ∷ xs) (suc n) h = some_at xs n (omega arith)
@@ -152,7 +152,7 @@ law_errors_apart l w text more m n e h =
 
 -- ---- the facts from those on tables
 
-size_of : (l : Language) (count : ℕ) → numbers_functions count l ≡ true → length l.functions.words ≡ count
+pub size_of : (l : Language) (count : ℕ) → numbers_functions count l ≡ true → length l.functions.words ≡ count
 unfolding numbers_functions
 size_of l count h =
     let f = l.functions in

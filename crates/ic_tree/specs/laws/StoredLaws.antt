@@ -116,7 +116,7 @@ cell_within : (text : List ℕ) (p : Place) → SpellsPlace text p → is_place_
 cell_within text (places.Cell part) s = s.within
 cell_within text (places.Range first last) s = and_from (is_part_within first) (is_part_within last) s.3.within s.4.within
 
-written_sheet : (text : List ℕ) (sheet : Option (List ℕ)) → SpellsSheet text sheet → is_written_sheet sheet ≡ true
+pub written_sheet : (text : List ℕ) (sheet : Option (List ℕ)) → SpellsSheet text sheet → is_written_sheet sheet ≡ true
 written_sheet text None s = refl
 written_sheet text (Some name) s = s.0
 

@@ -1,6 +1,5 @@
-use Rattle.std.proofs.Common.{Some, None, chars, sym, ap, ◌∙◌, if◌then◌else◌, option_and_then}
+use Rattle.std.proofs.Common.{chars, ◌∙◌}
 use Rattle.std.proofs.lemmas.Result.{IfOk-weaker}
-use Rattle.ic_laws.specs.Parse.{parsed}
 use Rattle.ic_tree.proofs.LexLemmas.{read_by_tokens}
 use Rattle.ic_tree.proofs.reading.read_text.Goals as goal
 

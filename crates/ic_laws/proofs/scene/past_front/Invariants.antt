@@ -1,0 +1,12 @@
+use Rattle.std.proofs.Common.{◌≡◌, chars, length}
+use denote.Shadow.{shadow}
+use denote.Text.{Utf8}
+use Rattle.ic_laws.specs.Scene.{past_front}
+use Rattle.ic_laws.proofs.scene.past_front.Given as goal
+
+-- what is left of both decides
+abbrev pub invariant-loop-c : goal.invariant-loop-c
+invariant-loop-c l = shadow (Utf8 l.rest) × (past_front l.left (chars l.rest) ≡ past_front l.front (chars l.text))
+
+abbrev pub decreases-loop-c : goal.decreases-loop-c
+decreases-loop-c l = length l.left

@@ -1,0 +1,164 @@
+ghost use Rattle.std.specs.Prelude.{◌≡◌, true, Some, None, chars, string_bytes, option_map, if◌then◌else◌, IfOk, MatchOption};
+ghost use Rattle.ic_laws.specs.declared.dialect.WordKind.TheVariants as kinds;
+ghost use Rattle.ic_refs.specs.A1.{is_shown_spellable};
+ghost use Rattle.ic_tables.specs.Order.{BeginsWithFound, BeginsWithNone};
+ghost use Rattle.ic_tree.specs.Shown.{SpeaksBeside, found_in, shown_text};
+
+use crate::number::error_of;
+use crate::stored::{bytes_before, is_written_sheet};
+use ic_laws::{Dialect, Error, OutOfMemory, RefToken, WordKind};
+use ic_refs::{read_a1, spell_a1};
+use ic_tables::{Language, Locale, Tables, Words};
+use std::alloc::Global;
+
+/// The shown form of formulas in a cell: the words of a language, and English ones where a text is none of them; the
+/// separators of a locale; references as they are written in that cell, as `$B3`.
+#[derive(Clone, Copy)]
+pub struct Shown<'t> {
+    words: Words<'t>,
+    english: Words<'t>,
+    // Whether decimals stand after a comma.
+    is_comma: bool,
+    row: i32,
+    column: i32,
+    ghost good: { SpeaksBeside words.language.now english.language.now },
+}
+
+impl<'t> Shown<'t> {
+    ghost use Rattle.std.specs.Prelude.{codes};
+    ghost use Rattle.ic_tables.specs.Tables.{language_of};
+    ghost use Rattle.ic_tables.specs.Tables.{HasGoodFormats};
+    ghost use Rattle.ic_tree.specs.Shown.{decimal_separator, list_separator, shown_meaning};
+
+    /// The shown form in a language and a locale, in the cell at this row and column, both from 1. Where the cell lies
+    /// outside the sheet no reference is read, and each is spelled as the error word of `Error::REF`.
+    ///
+    /// The language is one of these tables, and the locale separates arguments and decimals by `,` and `.` or by `;`
+    /// and `,`, as each locale of tables does.
+    pub fn new(
+        tables: &'t Tables,
+        locale: &'t Locale,
+        language: &'t Language,
+        row: i32,
+        column: i32,
+    ) -> Shown<'t>
+        requires language { language_of tables.now language.now.code ≡ Some language.now }
+        requires locale { HasGoodFormats tables.now locale.now }
+        ensures { option_map (λ english. shown_meaning language.now english (list_separator locale.now) (decimal_separator locale.now) row column)
+            (language_of tables.now (codes "en")) ≡ Some (⟦<Shown<'t> as Dialect>⟧.meaning result) }
+    {
+        Shown {
+            words: tables.get_words(language.code.as_str()).unwrap(),
+            english: tables.get_default_words(),
+            is_comma: locale.numbers.symbols.decimal.is(","),
+            row,
+            column,
+        }
+    }
+
+    // The text of a reference in the cell. None exactly where it can't be spelled so that it is read back.
+    fn spell_inside(&self, alloc: Global, r: &RefToken) -> Result<Option<String>, OutOfMemory>
+        ensures { IfOk result (λ text. option_map (λ t. chars (string_bytes t)) text
+            ≡ (if is_shown_spellable self.now.row self.now.column r.now then Some (shown_text self.now.row self.now.column r.now) else None)) }
+    {
+        spell_in_cell(alloc, r, self.row, self.column)
+    }
+}
+
+// The same in the cell at this row and column.
+fn spell_in_cell(
+    alloc: Global,
+    r: &RefToken,
+    row: i32,
+    column: i32,
+) -> Result<Option<String>, OutOfMemory>
+    ensures { IfOk result (λ text. option_map (λ t. chars (string_bytes t)) text
+        ≡ (if is_shown_spellable row column r.now then Some (shown_text row column r.now) else None)) }
+{
+    if is_written_sheet(&r.sheet) {
+        spell_a1(alloc, r, row, column)
+    } else {
+        Ok(None)
+    }
+}
+
+// The number of the error whose word is at the front of a text, by the words of a language or else by English ones, and
+// what stands after it.
+fn find_error_in<'a>(
+    words: &Words<'_>,
+    english: &Words<'_>,
+    text: &'a str,
+) -> Option<(usize, &'a str)>
+    ensures { MatchOption result (BeginsWithNone (found_in words.now.language.now english.now.language.now kinds.Error) (chars text.now))
+        (λ p. BeginsWithFound (found_in words.now.language.now english.now.language.now kinds.Error) (chars text.now) (chars p.1.now) p.0) }
+{
+    match words.find_error(text) {
+        Some(found) => Some(found),
+        None => english.find_error(text),
+    }
+}
+
+impl<'t> Dialect for Shown<'t> {
+    ghost use Rattle.ic_tree.specs.Shown.{decimal_of, list_of, shown_meaning};
+    ghost use Rattle.ic_tree.specs.laws.ShownLaws.{separators_of, shown_laws};
+
+    ghost meaning = { λ d. shown_meaning d.words.language.now d.english.language.now (list_of d.is_comma) (decimal_of d.is_comma) d.row d.column };
+
+    fn list(&self) -> char {
+        if self.is_comma { ';' } else { ',' }
+    }
+
+    fn decimal(&self) -> char {
+        if self.is_comma { ',' } else { '.' }
+    }
+
+    fn word(&self, kind: WordKind, n: usize) -> Option<&str> {
+        self.words.word(kind, n)
+    }
+
+    fn find(&self, kind: WordKind, text: &str) -> Option<usize> {
+        match self.words.find(kind, text) {
+            Some(number) => Some(number),
+            None => self.english.find(kind, text),
+        }
+    }
+
+    fn find_error(&self, text: &str, at: usize) -> Option<(Error, usize)> {
+        let Some((_, front)) = text.split_at_checked(at) else {
+            return None;
+        };
+        let Some((number, rest)) = find_error_in(&self.words, &self.english, front) else {
+            return None;
+        };
+        let Some(error) = error_of(number) else {
+            return None;
+        };
+        Some((error, bytes_before(front, rest)))
+    }
+
+    fn let_fn(&self) -> usize {
+        self.words.language.functions.let_fn
+    }
+
+    fn lambda_fn(&self) -> usize {
+        self.words.language.functions.lambda_fn
+    }
+
+    fn read_ref(
+        &self,
+        alloc: Global,
+        text: &str,
+        at: usize,
+    ) -> Result<Option<(RefToken, usize)>, OutOfMemory> {
+        read_a1(alloc, text, at, self.row, self.column)
+    }
+
+    fn spell_ref(&self, alloc: Global, r: &RefToken) -> Result<String, OutOfMemory> {
+        match self.spell_inside(alloc, r)? {
+            Some(text) => Ok(text),
+            None => Ok(String::from_str(alloc, self.words.language.errors.ref_word.as_str())?),
+        }
+    }
+
+    ghost laws = { λ d. shown_laws d.words.language.now d.english.language.now (list_of d.is_comma) (decimal_of d.is_comma) d.row d.column d.good (separators_of d.is_comma) };
+}
