@@ -8,7 +8,12 @@
 #![tactic(auto)]
 
 mod amounts;
+mod books;
+mod broken;
+mod errors;
 mod fault;
+mod formulas;
+mod lookups;
 mod names;
 mod places;
 mod references;
@@ -16,6 +21,7 @@ mod scans;
 mod words;
 
 use fault::Fault;
+use ic_book::Model;
 use ic_laws::Text;
 use ic_lines::{Line, LineReader, StdSource, unescape};
 use ic_tables::{Tables, sample_tables};
@@ -25,7 +31,7 @@ use std::io::{BufWriter, Write};
 use words::name_of;
 
 /// The words of a line as texts; None where one has a wrong escape.
-fn words_of(alloc: Global, line: &str) -> Result<Option<Vec<Text>>, Fault> {
+fn words_in(alloc: Global, line: &str) -> Result<Option<Vec<Text>>, Fault> {
     let mut words = Vec::new(alloc);
     for word in line.split('\t') {
         let Some(text) = unescape(alloc, word)? else {
@@ -36,35 +42,55 @@ fn words_of(alloc: Global, line: &str) -> Result<Option<Vec<Text>>, Fault> {
     Ok(Some(words))
 }
 
-/// Makes the call of these words and appends its answer.
-fn call(alloc: Global, tables: &Tables, words: &[Text], out: &mut String) -> Result<(), Fault> {
-    let name = name_of(words);
-    if names::call(alloc, name, words, out)?
-        || amounts::call(alloc, name, words, out)?
-        || references::call(alloc, name, words, out)?
-        || scans::call(alloc, name, words, out)?
+/// Answers a call that needs no book, if it is one.
+fn call(
+    alloc: Global,
+    tables: &Tables,
+    name: &str,
+    words: &[Text],
+    out: &mut String,
+) -> Result<bool, Fault> {
+    Ok(
+        formulas::call(alloc, tables, name, words, out)?
+            || names::call(alloc, name, words, out)?
+            || amounts::call(alloc, name, words, out)?
+            || references::call(alloc, name, words, out)?
+            || lookups::call(alloc, tables, name, words, out)?
+            || scans::call(alloc, name, words, out)?
+            || broken::call(alloc, name, words, out)?
+            || errors::call(alloc, name, words, out)?,
+    )
+}
+
+/// Appends the answer to a line.
+fn answer<'t>(
+    alloc: Global,
+    tables: &'t Tables,
+    book: &mut Option<Model<'t>>,
+    line: &Line,
+    out: &mut String,
+) -> Result<(), Fault> {
+    let Some(words) = words_in(alloc, line.text().as_str())? else {
+        return Err(Fault::Row);
+    };
+    let words = words.as_slice();
+    if call(alloc, tables, name_of(words), words, out)?
+        || books::call(alloc, tables, book, words, out)?
     {
         return Ok(());
     }
     Err(Fault::Row)
 }
 
-/// Appends the answer to a line.
-fn answer(alloc: Global, tables: &Tables, line: &Line, out: &mut String) -> Result<(), Fault> {
-    let Some(words) = words_of(alloc, line.text().as_str())? else {
-        return Err(Fault::Row);
-    };
-    call(alloc, tables, words.as_slice(), out)
-}
-
 /// Appends the answer to a line and a line feed; `bad` where the line is no call.
-fn answer_whole(
+fn answer_whole<'t>(
     alloc: Global,
-    tables: &Tables,
+    tables: &'t Tables,
+    book: &mut Option<Model<'t>>,
     line: &Line,
     out: &mut String,
 ) -> Result<(), Fault> {
-    match answer(alloc, tables, line, out) {
+    match answer(alloc, tables, book, line, out) {
         Ok(()) => {}
         Err(Fault::Row) => {
             out.clear();
@@ -82,13 +108,14 @@ fn serve(rt: &HostRuntime) -> Result<(), Fault> {
     let mut source = StdSource::new(rt.reader());
     let mut reader = LineReader::new(alloc);
     let mut writer = BufWriter::new(alloc, io::writer(rt))?;
+    let mut book = None;
     let mut out = String::new(alloc);
     for _ in 0..u64::MAX {
         let Some(line) = reader.next_line(&mut source)? else {
             break;
         };
         out.clear();
-        answer_whole(alloc, &tables, &line, &mut out)?;
+        answer_whole(alloc, &tables, &mut book, &line, &mut out)?;
         writer.write_all(out.as_bytes())?;
     }
     writer.flush()?;
