@@ -1,4 +1,4 @@
-use Rattle.std.proofs.Common.{◌≡◌, ◌∙◌, sym, Bool}
+use Rattle.std.proofs.Common.{◌∙◌, sym, Bool}
 use Rattle.ic_laws.specs.Binding.{BoundPair}
 use Rattle.ic_tree.proofs.AnyLemmas.{one_met}
 use Rattle.ic_tree.specs.Dynamic.{dynamic_with}
