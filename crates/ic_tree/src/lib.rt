@@ -24,7 +24,7 @@ mod token;
 pub use binding::bind;
 pub use clash::clashes;
 pub use dynamic::is_dynamic;
-pub use law::law_tokens_before;
+pub use law::{law_language_settled, law_tokens_before};
 pub(crate) use measured::Measured;
 pub use printer::print;
 pub use reading::read;
