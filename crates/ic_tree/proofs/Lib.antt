@@ -1,3 +1,5 @@
+pub mod AnyLemmas
+pub mod BindLemmas
 pub mod Binders
 pub mod CutLemmas
 pub mod DigitLemmas

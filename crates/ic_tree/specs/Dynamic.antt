@@ -1,5 +1,5 @@
 -- When a formula is dynamic: when what it gives may spill over several cells.
-use Rattle.std.specs.Prelude.{ℕ, List, Bool, true, false, ◌||◌, Option, None, Some}
+use Rattle.std.specs.Prelude.{List, Bool, true, false, ◌||◌, Option, None, Some}
 use Rattle.std.specs.List.{list_any, slice_get}
 use Rattle.ic_laws.specs.Tree.{Bound}
 use Rattle.ic_laws.specs.declared.reference.Place.{Place}

@@ -1,10 +1,14 @@
 //! Formulas as texts: the dialects of stored and of shown formulas, the reader that gives the tree of a text, and the
-//! printer that gives the text of a tree. Reader and printer are written once, for every dialect. `spell` writes what a
-//! formula mentions in its own spelling.
+//! printer that gives the text of a tree. Reader and printer are written once, for every dialect. `bind`
+//! finds what a formula mentions, and `spell` writes it in its own spelling.
 #![tactic(auto)]
 
+mod binding;
+mod clash;
 mod constant;
 mod copies;
+mod dynamic;
+mod language_words;
 mod law;
 mod lexer;
 mod measured;
@@ -17,7 +21,10 @@ mod spelling;
 mod stored;
 mod token;
 
-pub use law::law_tokens_before;
+pub use binding::bind;
+pub use clash::clashes;
+pub use dynamic::is_dynamic;
+pub use law::{law_language_settled, law_tokens_before};
 pub(crate) use measured::Measured;
 pub use printer::print;
 pub use reading::read;
