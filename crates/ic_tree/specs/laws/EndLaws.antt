@@ -4,7 +4,7 @@ use Rattle.std.specs.List.{list_all}
 use Rattle.std.proofs.lemmas.Bool.{and_parts, or_left, cases_Bool, both_ways}
 use Rattle.ic_laws.specs.Scan.{IsEnd, first_is, is_word_character, joins, past_run}
 
--- what stands behind a run of word characters is nothing, or goes on with a word or a reference
+-- what stands after a run of word characters is nothing, or goes on with a word or a reference
 abbrev pub Stops : List ℕ → Type 0
 Stops xs = (xs ≡ []) ⊎ (first_is joins xs ≡ true)
 
@@ -40,9 +40,9 @@ no_longer (x ∷ word) (c ∷ f) rest after w e h s =
     let is_word : is_word_character c ≡ true = subst (λ z. is_word_character z ≡ true) same p.0 in
     omega (arith, no_longer word f rest after p.1 e more (subst Stops (past_one is_word_character c f is_word) s))
 
--- so what stands behind the other is no shorter
-pub no_less_behind : (word front rest after : List ℕ) → word ++ rest ≡ front ++ after → length front ≤ length word → length rest ≤ length after
-no_less_behind word front rest after h le = omega (arith, ap length h, length-append word rest, length-append front after)
+-- so what stands after the other is no shorter
+pub no_less_after : (word front rest after : List ℕ) → word ++ rest ≡ front ++ after → length front ≤ length word → length rest ≤ length after
+no_less_after word front rest after h le = omega (arith, ap length h, length-append word rest, length-append front after)
 
 pub same_front : (word front rest after : List ℕ) → word ++ rest ≡ front ++ after → length front ≡ length word → front ≡ word
 same_front [] [] rest after h e = refl
@@ -53,8 +53,8 @@ same_front (x ∷ w) (c ∷ f) rest after h e =
     let more : w ++ rest ≡ f ++ after = cc in
     ap (λ z. z ∷ f) (sym same) ∙ ap (λ t. x ∷ t) (same_front w f rest after more (omega arith))
 
--- and more stands behind it where the run of word characters is not that text
-pub more_behind : (word front rest after : List ℕ) → word ++ rest ≡ front ++ after → length front ≤ length word → (front ≡ word → ⊥) → length rest < length after
-more_behind word front rest after h le apart =
+-- and more stands after it where the run of word characters is not that text
+pub more_after : (word front rest after : List ℕ) → word ++ rest ≡ front ++ after → length front ≤ length word → (front ≡ word → ⊥) → length rest < length after
+more_after word front rest after h le apart =
     let differ : length front ≢ length word = λ e. apart (same_front word front rest after h e) in
     omega (arith, ap length h, length-append word rest, length-append front after)

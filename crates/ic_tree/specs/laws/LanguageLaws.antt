@@ -166,15 +166,15 @@ fewer : (p : List ℕ → List ℕ → Bool) (others ws texts : List (List ℕ))
 fewer p others [] texts h = refl
 fewer p others (w ∷ ws) texts h =
     let q = and_parts (list_all (p w) (others ++ texts)) (list_all (λ a. list_all (p a) (others ++ texts)) ws) h in
-    and_from (list_all (p w) texts) (list_all (λ a. list_all (p a) texts) ws) (behind (p w) others texts q.0) (fewer p others ws texts q.1)
+    and_from (list_all (p w) texts) (list_all (λ a. list_all (p a) texts) ws) (later (p w) others texts q.0) (fewer p others ws texts q.1)
   where
-    behind : (p : List ℕ → Bool) (xs ys : List (List ℕ)) → list_all p (xs ++ ys) ≡ true → list_all p ys ≡ true
-    behind p [] ys h = h
-    behind p (x ∷ xs) ys h = behind p xs ys (and_parts (p x) (list_all p (xs ++ ys)) h).1
+    later : (p : List ℕ → Bool) (xs ys : List (List ℕ)) → list_all p (xs ++ ys) ≡ true → list_all p ys ≡ true
+    later p [] ys h = h
+    later p (x ∷ xs) ys h = later p xs ys (and_parts (p x) (list_all p (xs ++ ys)) h).1
 
-behind_all : (p : List ℕ → Bool) (xs ys : List (List ℕ)) → list_all p (xs ++ ys) ≡ true → list_all p ys ≡ true
-behind_all p [] ys h = h
-behind_all p (x ∷ xs) ys h = behind_all p xs ys (and_parts (p x) (list_all p (xs ++ ys)) h).1
+later_all : (p : List ℕ → Bool) (xs ys : List (List ℕ)) → list_all p (xs ++ ys) ≡ true → list_all p ys ≡ true
+later_all p [] ys h = h
+later_all p (x ∷ xs) ys h = later_all p xs ys (and_parts (p x) (list_all p (xs ++ ys)) h).1
 
 map_both : (xs ys : List (List ℕ)) → map fold (xs ++ ys) ≡ map fold xs ++ map fold ys
 map_both [] ys = refl
@@ -186,7 +186,7 @@ told_alone l others h =
     let a = map fold others in
     let b = map fold (error_words l) in
     let both : list_all (λ x. list_all (λ y. not (is_proper_prefix x y)) (a ++ b)) (a ++ b) ≡ true = subst (λ t. is_prefix_free t ≡ true) (map_both others (error_words l)) h in
-    fewer (λ x y. not (is_proper_prefix x y)) a b b (behind_all (λ x. list_all (λ y. not (is_proper_prefix x y)) (a ++ b)) a b both)
+    fewer (λ x y. not (is_proper_prefix x y)) a b b (later_all (λ x. list_all (λ y. not (is_proper_prefix x y)) (a ++ b)) a b both)
 
 -- ---- what is found is a word
 

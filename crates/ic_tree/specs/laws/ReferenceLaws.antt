@@ -35,13 +35,13 @@ no_bang_in_word (c ∷ cs) h =
     (elim (eqb_tells c 33) [ inl q ↦ absurd (both_ways (is_word_character c) (ap is_word_character q.1 ∙ bang_no_word) p.0) | inr q ↦ q.0 ])
     (no_bang_in_word cs p.1)
 
-no_bang_behind : (text rest : List ℕ) → list_any (λ c. c == 33) text ≡ false → first_is is_plain rest ≡ false → first_is (λ c. c == 33) rest ≡ false → first_is (λ c. c == 33) (past_run is_plain (text ++ rest)) ≡ false
-no_bang_behind [] [] n p b = refl
-no_bang_behind [] (c ∷ cs) n p b = rw p b
-no_bang_behind (c ∷ cs) rest n p b =
+no_bang_after : (text rest : List ℕ) → list_any (λ c. c == 33) text ≡ false → first_is is_plain rest ≡ false → first_is (λ c. c == 33) rest ≡ false → first_is (λ c. c == 33) (past_run is_plain (text ++ rest)) ≡ false
+no_bang_after [] [] n p b = refl
+no_bang_after [] (c ∷ cs) n p b = rw p b
+no_bang_after (c ∷ cs) rest n p b =
     let q = or_parts (c == 33) (list_any (λ c. c == 33) cs) n in
     elim (cases_Bool (is_plain c)) [
-      | inl t ↦ rw t (no_bang_behind cs rest q.1 p b)
+      | inl t ↦ rw t (no_bang_after cs rest q.1 p b)
       | inr f ↦ rw f q.0
     ]
 
@@ -53,7 +53,7 @@ no_quote_first (c ∷ cs) rest h =
 -- a run of a word before an end is no sheet's name
 pub no_sheet_at_word : (word rest : List ℕ) → first_is begins_word word ≡ true → list_all is_word_character word ≡ true → IsEnd rest → sheet_at (word ++ rest) ≡ None
 no_sheet_at_word word rest b w e =
-    no_sheet_without_bang (word ++ rest) (no_quote_first word rest b) (no_bang_behind word rest (no_bang_in_word word w) (end_plain rest e) (end_bang rest e))
+    no_sheet_without_bang (word ++ rest) (no_quote_first word rest b) (no_bang_after word rest (no_bang_in_word word w) (end_plain rest e) (end_bang rest e))
 
 digit_plain : (c : ℕ) → is_digit c ≡ true → is_plain c ≡ true
 digit_plain c h = or_left (is_letter c || is_digit c || eqb c 95) (eqb c 46) (or_left (is_letter c || is_digit c) (eqb c 95) (or_right (is_letter c) (is_digit c) h))
@@ -129,11 +129,11 @@ none_or_some (Some name) = inr (name, refl)
 
 of_place : (o : Option (Place × List ℕ)) (r : RefToken) (after : List ℕ) → with_sheet None o ≡ Some (r, after) → (p : Place) × (o ≡ Some (p, after))
 of_place None r after e = absurd (none-some (r, after) e)
-of_place (Some f) r after e = (f.0, let same : f.1 ≡ after = ap (λ o. behind o) e in ap (λ t. Some (f.0, t)) same)
+of_place (Some f) r after e = (f.0, let same : f.1 ≡ after = ap (λ o. later o) e in ap (λ t. Some (f.0, t)) same)
   where
-    behind : Option (RefToken × List ℕ) → List ℕ
-    behind None = []
-    behind (Some g) = g.1
+    later : Option (RefToken × List ℕ) → List ℕ
+    later None = []
+    later (Some g) = g.1
 
 module _ (read : List ℕ → Option (Place × List ℕ)) (SpellsPlace : List ℕ → Place → Type 0) (finds : (text : List ℕ) → FindsLongest SpellsPlace text (read text)) (no_bang : (text : List ℕ) (p : Place) → SpellsPlace text p → list_any (λ c. c == 33) text ≡ false) (begins : (text : List ℕ) (p : Place) → SpellsPlace text p → Begins text) (stops : (text : List ℕ) (p : Place) → SpellsPlace text p → Stops (past_run is_word_character text)) where
   longest : (text rest : List ℕ) (r : RefToken) → reference_at read text ≡ Some (r, rest) → IsLongest (SpellsReference SpellsPlace) text r rest

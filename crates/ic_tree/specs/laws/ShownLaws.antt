@@ -36,7 +36,7 @@ use Rattle.ic_tree.specs.Spelling.{SpellsWhatItReads}
 use Rattle.ic_tree.specs.Stored.{SpeaksWell}
 use Rattle.ic_tree.specs.laws.A1Ends.{a1_begins, a1_form, a1_stops, no_rows}
 use Rattle.ic_tree.specs.laws.EitherLaws.{law_error_shape_either, law_errors_apart_either, law_finds_agreeing_either, law_finds_word_either, or_else_cases}
-use Rattle.ic_tree.specs.laws.EndLaws.{more_behind, no_less_behind}
+use Rattle.ic_tree.specs.laws.EndLaws.{more_after, no_less_after}
 use Rattle.ic_tree.specs.laws.LanguageLaws.{found_below, law_boolean_shape, law_booleans, law_differ, law_errors, law_function_shape, law_special, size_of, some_at}
 use Rattle.ic_tree.specs.laws.NameLaws.{amount_first, form_parts, letter_begins_word, variable_form}
 use Rattle.ic_tree.specs.laws.ReferenceLaws.{at_word, law_begins, law_front, no_sheet_at_digit, place_alone}
@@ -116,7 +116,7 @@ module _ (row column : ℤ) where
   variable_shorter name rest after r v e h =
       let f = form_parts name v in
       let q = shown_at_word name rest after r f.begins f.all e h in
-      more_behind name q.1 rest after q.2 q.4
+      more_after name q.1 rest after q.2 q.4
       (λ same.
       let s : SpellsPlace row column name q.0 = subst (λ t. SpellsPlace row column t q.0) same q.3 in
       both_ways (is_a1_cell name) f.no_cell (a1_form row column name q.0 s f.all))
@@ -140,7 +140,7 @@ within : (l : Language) (row column : ℤ) → SpeaksWell l → (n : ℕ) (word 
 within l row column w n word rest after r found e h =
     let p = and_parts (first_is is_letter word) (list_all is_word_character word) (law_function_shape l w n word found) in
     let q = shown_at_word row column word rest after r (letter_begins_word word p.0) p.1 e h in
-    no_less_behind word q.1 rest after q.2 q.4
+    no_less_after word q.1 rest after q.2 q.4
 
 pub shown_laws : (l english : Language) (list decimal : ℕ) (row column : ℤ) → SpeaksBeside l english → AreSeparators list decimal → IsLawful (shown_meaning l english list decimal row column)
 shown_laws l english list decimal row column w s = record {

@@ -25,7 +25,7 @@ use Rattle.ic_tables.specs.Tables.{HasGoodWords, TableSet, english, error_words_
 use Rattle.ic_tables.specs.declared.language.Language.{Language}
 use Rattle.ic_tree.specs.Spelling.{SpellsWhatItReads}
 use Rattle.ic_tree.specs.Stored.{SpeaksWell, stored_meaning}
-use Rattle.ic_tree.specs.laws.EndLaws.{more_behind, no_less_behind}
+use Rattle.ic_tree.specs.laws.EndLaws.{more_after, no_less_after}
 use Rattle.ic_tree.specs.laws.StoredPlaces.{place_form, place_stops}
 use Rattle.ic_tree.specs.laws.LanguageLaws.{found_is_word, law_boolean_shape, law_booleans, law_differ, law_error_shape, law_errors, law_errors_apart, law_finds_agreeing, law_finds_word, law_function_shape, law_special, numbers_own, told_alone}
 use Rattle.ic_tree.specs.laws.NameLaws.{amount_first, form_parts, letter_begins_word, variable_form}
@@ -61,7 +61,7 @@ variable_shorter : (name rest after : List ℕ) (r : RefToken) → is_variable_f
 variable_shorter name rest after r v e h =
     let f = form_parts name v in
     let q = stored_at_word name rest after r f.begins f.all e h in
-    more_behind name q.1 rest after q.2 q.4
+    more_after name q.1 rest after q.2 q.4
     (λ same.
     let s : SpellsPlace name q.0 = subst (λ t. SpellsPlace t q.0) same q.3 in
     let k = place_form name q.0 s f.all in
@@ -88,7 +88,7 @@ within : (l : Language) → SpeaksWell l → (n : ℕ) (word rest after : List �
 within l w n word rest after r found e h =
     let p = and_parts (first_is is_letter word) (list_all is_word_character word) (law_function_shape l w n word found) in
     let q = stored_at_word word rest after r (letter_begins_word word p.0) p.1 e h in
-    no_less_behind word q.1 rest after q.2 q.4
+    no_less_after word q.1 rest after q.2 q.4
 
 pub stored_laws : (l : Language) → SpeaksWell l → IsLawful (stored_meaning l)
 stored_laws l w = record {

@@ -47,7 +47,7 @@ colon_joins : joins 58 ≡ true
 unfolding ucd_derived
 colon_joins = refl
 
--- a row or a column that ends with a run of word characters goes on with what stands behind it; one with a distance
+-- a row or a column that ends with a run of word characters goes on with what stands after it; one with a distance
 -- stops at its bracket
 position_stops : (letter : ℕ) (text rest : List ℕ) (position : Position) → is_word_character letter ≡ true → SpellsPosition letter text position → Stops (past_run is_word_character rest) → Stops (past_run is_word_character (text ++ rest))
 position_stops letter text rest (at.Abs n) w s next =
@@ -73,10 +73,10 @@ place_stops text (places.Range first last) s =
 
 -- a place of word characters alone has the form of row and column
 
-all_behind : (p : ℕ → Bool) (a b : List ℕ) → list_all p (a ++ b) ≡ true → (list_all p a ≡ true) × (list_all p b ≡ true)
-all_behind p [] b h = (refl, h)
-all_behind p (x ∷ a) b h =
-    let q = and_parts (p x) (list_all p (a ++ b)) h in let r = all_behind p a b q.1 in (and_from (p x) (list_all p a) q.0 r.0, r.1)
+all_later : (p : ℕ → Bool) (a b : List ℕ) → list_all p (a ++ b) ≡ true → (list_all p a ≡ true) × (list_all p b ≡ true)
+all_later p [] b h = (refl, h)
+all_later p (x ∷ a) b h =
+    let q = and_parts (p x) (list_all p (a ++ b)) h in let r = all_later p a b q.1 in (and_from (p x) (list_all p a) q.0 r.0, r.1)
 
 column_no_digit : is_digit 67 ≡ false
 column_no_digit = refl
@@ -98,7 +98,7 @@ not_lone c d ds = and_left (length (c ∷ d ∷ ds) == 1) (list_all (λ c. is_r 
     two : (n : ℕ) → (suc (suc n) == 1) ≡ false
     two n = grind (arith, nat_tests)
 
--- word characters alone: digits behind the letter
+-- word characters alone: digits after the letter
 bare_position : (letter : ℕ) (text : List ℕ) (position : Position) → SpellsPosition letter text position → list_all is_word_character text ≡ true → (ds : List ℕ) × (text ≡ letter ∷ ds) × (all_ascii_digits ds ≡ true)
 bare_position letter text (at.Abs n) s w = (s.0, s.2, s.3.0)
 bare_position letter text (at.Rel k) s w =
@@ -108,15 +108,15 @@ bare_position letter text (at.Rel k) s w =
 
 pub place_form : (text : List ℕ) (place : Place) → SpellsPlace text place → list_all is_word_character text ≡ true → (has_row_column_form text ≡ true) × (is_lone text ≡ false)
 place_form text (places.Cell part) s w =
-    let both = all_behind is_word_character s.row_text s.column_text (sym (ap (list_all is_word_character) s.whole) ∙ w) in
+    let both = all_later is_word_character s.row_text s.column_text (sym (ap (list_all is_word_character) s.whole) ∙ w) in
     let r = bare_position 82 s.row_text part.row s.row both.0 in
     let c = bare_position 67 s.column_text part.column s.column both.1 in
     let whole : text ≡ 82 ∷ r.0 ++ 67 ∷ c.0 = s.whole ∙ ap (λ t. t ++ s.column_text) r.1 ∙ ap (λ t. 82 ∷ r.0 ++ t) c.1 in
-    (ap has_row_column_form whole ∙ form_of_digits r.0 c.0 r.2 c.2, ap is_lone whole ∙ behind r.0 c.0)
+    (ap has_row_column_form whole ∙ form_of_digits r.0 c.0 r.2 c.2, ap is_lone whole ∙ later r.0 c.0)
   where
-    behind : (ds es : List ℕ) → is_lone (82 ∷ ds ++ 67 ∷ es) ≡ false
-    behind [] es = not_lone 82 67 es
-    behind (d ∷ ds) es = not_lone 82 d (ds ++ 67 ∷ es)
+    later : (ds es : List ℕ) → is_lone (82 ∷ ds ++ 67 ∷ es) ≡ false
+    later [] es = not_lone 82 67 es
+    later (d ∷ ds) es = not_lone 82 d (ds ++ 67 ∷ es)
 place_form text (places.Range first last) s w =
-    let both = all_behind is_word_character s.0 (58 ∷ s.1) (sym (ap (list_all is_word_character) s.2) ∙ w) in
+    let both = all_later is_word_character s.0 (58 ∷ s.1) (sym (ap (list_all is_word_character) s.2) ∙ w) in
     absurd (both_ways (is_word_character 58) colon_no_word (and_parts (is_word_character 58) (list_all is_word_character s.1) both.1).0)
