@@ -18,6 +18,7 @@ mod names;
 mod places;
 mod references;
 mod scans;
+mod scenes;
 mod words;
 
 use fault::Fault;
@@ -58,6 +59,7 @@ fn call(
             || lookups::call(alloc, tables, name, words, out)?
             || scans::call(alloc, name, words, out)?
             || broken::call(alloc, name, words, out)?
+            || scenes::call(alloc, tables, name, words, out)?
             || errors::call(alloc, name, words, out)?,
     )
 }
