@@ -1,8 +1,9 @@
 //! Formulas: a text is read and its tree printed, in the stored form or as it is shown in a cell.
 use crate::fault::Fault;
-use crate::words::{int, put_error, put_none, put_text, word};
+use crate::lookups::put_id_error;
+use crate::words::{int, put_none, put_text, word};
 use ic_laws::{Dialect, Text};
-use ic_tables::Tables;
+use ic_tables::{BookIdError, Tables};
 use ic_tree::{Shown, Stored, print, read};
 use std::alloc::Global;
 
@@ -37,18 +38,29 @@ fn put_canonical<D: Dialect>(
     put_text(alloc, out, printed.as_str())
 }
 
+/// The shown form in a locale and a language of the tables, by their ids, at a cell.
+pub fn shown_at<'t>(
+    tables: &'t Tables,
+    locale: &str,
+    language: &str,
+    row: i32,
+    column: i32,
+) -> Result<Shown<'t>, BookIdError> {
+    let locale = tables.get_locale(locale)?;
+    let language = tables.get_language(language)?;
+    Ok(Shown::new(tables, locale, language, row, column))
+}
+
 fn read_shown(
     alloc: Global,
     tables: &Tables,
     words: &[Text],
     out: &mut String,
 ) -> Result<(), Fault> {
-    let Ok(locale) = tables.get_locale(word(words, 1)?) else {
-        return put_error(alloc, out, "InvalidLocale", "Invalid locale");
-    };
-    let Ok(language) = tables.get_language(word(words, 2)?) else {
-        return put_error(alloc, out, "InvalidLanguage", "Language is not supported");
-    };
-    let shown = Shown::new(tables, locale, language, int(words, 3)?, int(words, 4)?);
-    put_canonical(alloc, &shown, word(words, 5)?, out)
+    let row = int(words, 3)?;
+    let column = int(words, 4)?;
+    match shown_at(tables, word(words, 1)?, word(words, 2)?, row, column) {
+        Ok(shown) => put_canonical(alloc, &shown, word(words, 5)?, out),
+        Err(e) => put_id_error(alloc, out, &e),
+    }
 }

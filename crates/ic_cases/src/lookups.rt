@@ -29,7 +29,8 @@ fn kind(words: &[Text], at: usize) -> Result<WordKind, Fault> {
     }
 }
 
-fn put_id_error(alloc: Global, out: &mut String, e: &BookIdError) -> Result<(), Fault> {
+/// An id that the tables lack.
+pub fn put_id_error(alloc: Global, out: &mut String, e: &BookIdError) -> Result<(), Fault> {
     let name = match e {
         BookIdError::InvalidLanguage => "InvalidLanguage",
         BookIdError::InvalidLocale => "InvalidLocale",

@@ -1,5 +1,6 @@
 //! Formulas in scenes: a text is read, its mentions are bound in the scene that the row gives, and it is written again.
 use crate::fault::Fault;
+use crate::formulas::shown_at;
 use crate::words::{index, put_none, put_text, word};
 use ic_laws::{Bound, Items, NameSpelling, Scene, SheetName, Text};
 use ic_tables::Tables;
@@ -18,17 +19,13 @@ pub fn call(
     if name != "bind" {
         return Ok(false);
     }
-    let Ok(language) = tables.get_language(word(words, 1)?) else {
-        return Err(Fault::Row);
-    };
-    let Ok(locale) = tables.get_locale(word(words, 2)?) else {
-        return Err(Fault::Row);
-    };
     let scene = Scene {
         sheets: sheets_in(alloc, words)?,
         names: names_in(alloc, words)?,
     };
-    let shown = Shown::new(tables, locale, language, 5, 3);
+    let Ok(shown) = shown_at(tables, word(words, 2)?, word(words, 1)?, 5, 3) else {
+        return Err(Fault::Row);
+    };
     put_bound(alloc, tables, &shown, &scene, words, out)?;
     Ok(true)
 }
