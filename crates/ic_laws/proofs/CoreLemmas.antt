@@ -1,4 +1,4 @@
--- A new sheet, with the fresh id and a name that agrees with no other, keeps a book valid.
+-- Ids and names: the greatest, the fresh one, and how many there are.
 use Rattle.std.proofs.Common.{Bool, ◌≡◌, ℕ, ◌+◌, ◌<◌, ◌≤◌, List, [], ◌∷◌, length, true, false, All, nat_eq, arith, subst, sym, length-append, max, inl, inr, Some, None, IfSome, nat_lt, if◌then◌else◌}
 use Rattle.std.specs.List.{list_any, IsDistinct}
 use Rattle.std.specs.Cmp.{IsEquivalence, nat_eq_equiv, on_equiv}
@@ -10,8 +10,8 @@ use Rattle.std.proofs.lemmas.Map.Keys.{IsDistinct-push, IsDistinct-cons}
 use Rattle.std.proofs.lemmas.Map.Steps.{length-le_from_distinct_below}
 use Rattle.std.proofs.lemmas.Map.Views.{Contains-from_any}
 use Rattle.ic_laws.specs.Name.{agrees, fold, is_sheet_name}
-use Rattle.ic_laws.specs.CoreBook.{CoreBook, Sheet, names_of, ids_of, has_sheet, greatest, greatest_id, fresh_id, last_id, IsId, IsValidCore}
-use Rattle.ic_laws.specs.CoreStep.{with_new_sheet}
+use Rattle.ic_laws.specs.CoreBook.{CoreBook, IsId, fresh_id, greatest_id, last_id, used_ids}
+use Rattle.ic_laws.specs.Greatest.{greatest}
 
 -- to agree is to be equal after folding, so it is an equivalence
 pub agrees_equiv : IsEquivalence agrees
@@ -50,47 +50,12 @@ ids_few ns each apart =
     positive : (n : ℕ) → 0 < n → nat_eq 0 n ≡ false
     positive n h = grind arith
 
--- a new sheet keeps a book valid
-pub IsValidCore-with_new_sheet : (book : CoreBook) (name : List ℕ) → IsValidCore book → is_sheet_name name ≡ true → has_sheet book name ≡ false → greatest_id book < last_id → IsValidCore (with_new_sheet book name)
-IsValidCore-with_new_sheet book name valid good new room =
-    let id : ℕ = greatest_id book + 1 in
-    let sheet : Sheet = record { id = id; name = name } in
-    let names = map-append (λ (s : Sheet). s.name) book.sheets (sheet ∷ []) in
-    let ids = map-append (λ (s : Sheet). s.id) book.sheets (sheet ∷ []) in
-    let fresh : IsId id = (omega arith, omega arith) in
-    let each : All IsId (ids_of (with_new_sheet book name)) = subst (All IsId) (sym ids) (All-push IsId (ids_of book) id valid.ids fresh) in
-    let apart : IsDistinct nat_eq (ids_of (with_new_sheet book name)) =
-    subst (IsDistinct nat_eq) (sym ids) (IsDistinct-push nat_eq_equiv (ids_of book) id valid.ids_differ (above_greatest id (ids_of book) (omega arith))) in
-    record {
-      some_sheet = omega (arith, length-append book.sheets (sheet ∷ []));
-      few = subst (λ n. n ≤ last_id) (length-map (with_new_sheet book name).sheets (λ (s : Sheet). s.id)) (ids_few (ids_of (with_new_sheet book name)) each apart);
-      names = subst (All (λ n. is_sheet_name n ≡ true)) (sym names) (All-push (λ n. is_sheet_name n ≡ true) (names_of book) name valid.names good);
-      names_differ = subst (IsDistinct agrees) (sym names) (IsDistinct-push agrees_equiv (names_of book) name valid.names_differ new);
-      ids = each;
-      ids_differ = apart;
-    }
-
 -- a fresh id is greater than each id in use
-pub fresh_unused : (book : CoreBook) → IfSome (fresh_id book) (λ id. All (λ used. used < id) (ids_of book))
-fresh_unused book = elim (nat_lt (greatest_id book) last_id) as (λ b. IfSome (if b then Some (greatest_id book + 1) else None) (λ id. All (λ used. used < id) (ids_of book))) [
-  | true ↦ All-weaker (λ n. n ≤ greatest_id book) (λ n. n < greatest_id book + 1) (λ n h. omega (arith, h)) (ids_of book) (All-greatest (ids_of book))
+pub fresh_unused : (book : CoreBook) → IfSome (fresh_id book) (λ id. All (λ used. used < id) (used_ids book))
+fresh_unused book = elim (nat_lt (greatest_id book) last_id) as (λ b. IfSome (if b then Some (greatest_id book + 1) else None) (λ id. All (λ used. used < id) (used_ids book))) [
+  | true ↦ All-weaker (λ n. n ≤ greatest_id book) (λ n. n < greatest_id book + 1) (λ n h. omega (arith, h)) (used_ids book) (All-greatest (used_ids book))
   | false ↦ tt
 ]
-
-IsDistinct-nil : {K : Type 0} (eq : K → K → Bool) → IsDistinct eq []
-unfolding IsDistinct
-IsDistinct-nil eq = tt
-
--- a book of one sheet is valid
-pub IsValidCore-one_sheet : (id : ℕ) (name locale language : List ℕ) → IsId id → is_sheet_name name ≡ true → IsValidCore (record { sheets = record { id = id; name = name } ∷ []; locale = locale; language = language })
-IsValidCore-one_sheet id name locale language fits good = record {
-  some_sheet = omega arith;
-  few = omega arith;
-  names = All-cons (λ n. is_sheet_name n ≡ true) name [] good (All-nil _);
-  names_differ = IsDistinct-cons agrees name [] tt (IsDistinct-nil agrees);
-  ids = All-cons IsId id [] fits (All-nil _);
-  ids_differ = IsDistinct-cons nat_eq id [] tt (IsDistinct-nil nat_eq);
-}
 
 -- where an id is left, it is one more than the greatest
 pub fresh_is_next : (book : CoreBook) (id : ℕ) → Some id ≡ fresh_id book → (greatest_id book < last_id) × (id ≡ greatest_id book + 1)

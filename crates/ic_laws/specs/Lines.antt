@@ -4,8 +4,11 @@ use Rattle.std.specs.Prelude.{ℕ, List, [], ◌∷◌, ◌++◌, Bool, false, �
 use Rattle.std.specs.List.{onto_first, slice_split}
 use Rattle.std.specs.Str.{is_utf8}
 use Rattle.ic_laws.specs.Character.{backslash, carriage_return, line_feed, lower_n, lower_r, lower_t, tab}
+use Rattle.ic_laws.specs.Command.{Command, Field, CommandRow, field_text, named_command, served}
 use Rattle.ic_laws.specs.CoreBook.{CoreBook}
-use Rattle.ic_laws.specs.CoreStep.{Refusal, BadLine, refusal_name, Command, AddSheet, core_step}
+use Rattle.ic_laws.specs.CoreStep.{Outcome, core_step}
+use Rattle.ic_laws.specs.Notations.{Notations}
+use Rattle.ic_laws.specs.Refusal.{Refusal, BadLine, refusal_name}
 
 -- the bytes begin with a line feed
 abbrev pub at_line_feed : List ℕ → Bool
@@ -56,27 +59,22 @@ abbrev pub word_texts : List (List ℕ) → Option (List (List ℕ))
 word_texts [] = Some []
 word_texts (w ∷ ws) = option_and_then (λ t. option_map (λ ts. t ∷ ts) (word_texts ws)) (unescaped w)
 
--- the command of this name with these texts
-abbrev pub named_command : List ℕ → List (List ℕ) → Option Command
-named_command name (text ∷ []) = if bytes_eq name (codes "add_sheet") then Some (AddSheet text) else None
-named_command name texts = None
+-- the command that words spell by a table: its name, and its texts after that
+abbrev pub spelled_command : List CommandRow → List (List ℕ) → Option Command
+spelled_command table [] = None
+spelled_command table (name ∷ words) = option_and_then (named_command table name) (word_texts words)
 
--- the command that the words spell: its name, and its texts after that
-abbrev pub spelled_command : List (List ℕ) → Option Command
-spelled_command [] = None
-spelled_command (name ∷ words) = option_and_then (named_command name) (word_texts words)
-
--- the command that a line is, if it is one
+-- the command that a line is, if it is one that is served
 abbrev pub command_of : List ℕ → Option Command
-command_of line = spelled_command (words_of line)
+command_of line = spelled_command served (words_of line)
 
 -- the fields of a reply, or why there are none
 abbrev pub Reply : Type 0
-Reply = Result (List (List ℕ)) Refusal
+Reply = Result (List Field) Refusal
 
 -- the text of a reply, without the line feed at its end
 abbrev pub reply_text : Reply → List ℕ
-reply_text (Ok fields) = codes "ok" ++ flat_map (λ field. tab ∷ escaped field) fields
+reply_text (Ok fields) = codes "ok" ++ flat_map (λ field. tab ∷ escaped (field_text field)) fields
 reply_text (Err refusal) = codes "error" ++ tab ∷ refusal_name refusal
 
 -- its bytes
@@ -84,25 +82,26 @@ abbrev pub reply_bytes : Reply → List ℕ
 reply_bytes reply = encode_utf8_all (reply_text reply) ++ line_feed ∷ []
 
 -- a refused line changes nothing
-abbrev pub outcome_of : CoreBook → Result (CoreBook × List (List ℕ)) Refusal → CoreBook × Reply
+abbrev pub outcome_of : CoreBook → Outcome → CoreBook × Reply
 outcome_of book (Ok done) = (done.0, Ok done.1)
 outcome_of book (Err refusal) = (book, Err refusal)
 
--- what a command leaves, and its reply; without one the line is bad
-abbrev pub command_step : CoreBook → Option Command → CoreBook × Reply
-command_step book (Some command) = outcome_of book (core_step book command)
-command_step book None = (book, Err BadLine)
+module _ (n : Notations) where
+  -- what a command leaves, and its reply; without one the line is bad
+  abbrev pub command_step : CoreBook → Option Command → CoreBook × Reply
+  command_step book (Some command) = outcome_of book (core_step n book command)
+  command_step book None = (book, Err BadLine)
 
--- what one line leaves, and its reply
-abbrev pub line_step : CoreBook → List ℕ → CoreBook × Reply
-line_step book line = command_step book (command_of line)
+  -- what one line leaves, and its reply
+  abbrev pub line_step : CoreBook → List ℕ → CoreBook × Reply
+  line_step book line = command_step book (command_of line)
 
--- the book that lines leave
-abbrev pub after : CoreBook → List (List ℕ) → CoreBook
-after book [] = book
-after book (line ∷ lines) = after (line_step book line).0 lines
+  -- the book that lines leave
+  abbrev pub after : CoreBook → List (List ℕ) → CoreBook
+  after book [] = book
+  after book (line ∷ lines) = after (line_step book line).0 lines
 
--- the bytes of the replies to lines
-abbrev pub replies : CoreBook → List (List ℕ) → List ℕ
-replies book [] = []
-replies book (line ∷ lines) = reply_bytes (line_step book line).1 ++ replies (line_step book line).0 lines
+  -- the bytes of the replies to lines
+  abbrev pub replies : CoreBook → List (List ℕ) → List ℕ
+  replies book [] = []
+  replies book (line ∷ lines) = reply_bytes (line_step book line).1 ++ replies (line_step book line).0 lines

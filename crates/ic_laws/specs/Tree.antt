@@ -3,7 +3,7 @@
 use Rattle.std.specs.Prelude.{◌≡◌, ◌≢◌, ℕ, ℤ, ◌+◌, ◌≤◌, max, List, [], ◌∷◌, Bool, true, false, not, ◌&&◌, codes, Option, Some, None, int_le, pos}
 use Rattle.std.specs.List.{list_all}
 use Rattle.ic_laws.specs.Amount.{is_amount}
-use Rattle.ic_laws.specs.CoreBook.{greatest}
+use Rattle.ic_laws.specs.Greatest.{greatest}
 use Rattle.ic_laws.specs.Name.{agrees, is_sheet_name, is_variable}
 use Rattle.ic_laws.specs.Position.{is_place_within}
 use Rattle.ic_laws.specs.declared.tree.BinarySign.{BinarySign}

@@ -2,7 +2,7 @@
 use Rattle.std.proofs.Common.{◌≡◌, ◌≢◌, inl, inr, ℕ, zero, suc, ◌+◌, ◌<◌, ◌≤◌, max, List, [], ◌∷◌, ◌++◌, length, length-append, append_assoc, Some, None, true, false, nat_eq, refl, sym, ap, subst, ◌∙◌, map, arith}
 use Rattle.std.proofs.lemmas.Bool.{cases_Bool, le-leb, ne_eqb, eq-eqb, and_parts}
 use Rattle.std.specs.List.{AllByRecursion, list_all}
-use Rattle.ic_laws.specs.CoreBook.{greatest}
+use Rattle.ic_laws.specs.Greatest.{greatest}
 use Rattle.ic_laws.specs.Name.{is_variable}
 use Rattle.ic_laws.specs.Dialect.{DialectMeaning}
 use Rattle.ic_laws.specs.Parse.{node, Pair, past_separator, past_brace, past_row_sign, followed, listed, binder, let_parts, lambda_parts, let_call, lambda_call, function_call, constant, row, array, primary, prefix_sign, reader}

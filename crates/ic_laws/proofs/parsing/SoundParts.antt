@@ -3,7 +3,7 @@ use Rattle.std.proofs.Common.{◌≡◌, inl, inr, ℕ, zero, suc, ◌≤◌, ma
 use Rattle.std.proofs.lemmas.Bool.{cases_Bool}
 use Rattle.std.proofs.lemmas.Option.{same_Some, cond_some, option_and_then_some}
 use Rattle.std.specs.List.{AllByRecursion, list_all}
-use Rattle.ic_laws.specs.CoreBook.{greatest}
+use Rattle.ic_laws.specs.Greatest.{greatest}
 use Rattle.ic_laws.specs.Name.{is_variable}
 use Rattle.ic_laws.specs.Dialect.{DialectMeaning}
 use Rattle.ic_laws.specs.Parse.{node, Pair, pair_of, Read, Reader, past_separator, past_close, followed, listed, ends_argument, argument, arguments, binder, let_parts, lambda_parts}
