@@ -14,7 +14,7 @@ use Rattle.ic_laws.specs.Scan.{is_digit, run_of, past_run, first_is}
 use Rattle.ic_laws.proofs.AmountLemmas.{digit_value-is, fraction_digits-first, fraction_digits-zero, first_digit, numerals}
 
 -- digits that follow a number move it to the left
-digits_value_after-weight : (n : ℕ) (digits : List ℕ) → digits_value_after 10 n digits ≡ n * 10 ^ length digits + digits_value 10 digits
+pub digits_value_after-weight : (n : ℕ) (digits : List ℕ) → digits_value_after 10 n digits ≡ n * 10 ^ length digits + digits_value 10 digits
 digits_value_after-weight n [] = omega arith
 digits_value_after-weight n (c ∷ cs) =
     let here = digits_value_after-weight (n * 10 + digit_value c) cs in
@@ -81,7 +81,7 @@ run_of-front (d ∷ digits) tail all apart =
     let rest = run_of-front digits tail both.1 apart in
     (rw both.0 (ap (λ ds. d ∷ ds) rest.0), rw both.0 rest.1)
 
-units_by-gives : (whole count fraction places n : ℕ) → places ≤ 9 → 0 < count + places → whole * units_of_one + fraction * 10 ^ (9 - places) ≡ n → n < 10 ^ 27 → units_by whole count fraction places ≡ Some n
+pub units_by-gives : (whole count fraction places n : ℕ) → places ≤ 9 → 0 < count + places → whole * units_of_one + fraction * 10 ^ (9 - places) ≡ n → n < 10 ^ 27 → units_by whole count fraction places ≡ Some n
 units_by-gives whole count fraction places n few some e small =
     let a : nat_le places 9 ≡ true = grind (arith, nat_tests) in
     let b : nat_lt 0 (count + places) ≡ true = grind (arith, nat_tests) in

@@ -1,5 +1,6 @@
 mod AmountExamples
 pub mod AmountLemmas
+pub mod AmountReading
 pub mod AmountTexts
 pub mod CoreLemmas
 pub mod FoldLaws

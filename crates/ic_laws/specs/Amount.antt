@@ -1,6 +1,6 @@
 -- Amounts, and the numbers that are written in formulas. An amount is a whole number of units of 10^-9, below 10^27 of
 -- them in absolute value.
-use Rattle.std.specs.Prelude.{ℕ, zero, suc, ℤ, pos, negsuc, ◌+◌, ◌*◌, ◌-◌, ◌/◌, ◌%◌, ◌^◌, List, [], ◌∷◌, ◌++◌, Bool, ◌&&◌, ◌==◌, nat_lt, nat_le, nat_abs, length, Option, Some, None, if◌then◌else◌}
+use Rattle.std.specs.Prelude.{◌≡◌, ◌≢◌, ◌⊎◌, ◌<◌, ◌≤◌, ℕ, zero, suc, ℤ, pos, negsuc, ◌+◌, ◌*◌, ◌-◌, ◌/◌, ◌%◌, ◌^◌, List, [], ◌∷◌, ◌++◌, Bool, true, ◌&&◌, ◌==◌, nat_lt, nat_le, nat_abs, length, replicate, Option, Some, None, if◌then◌else◌}
 use Rattle.std.specs.Fmt.{decimal}
 use Rattle.std.specs.Str.{all_ascii_digits}
 use Rattle.std.specs.Str.Parse.{digits_value}
@@ -54,3 +54,16 @@ read_units separator whole (c ∷ fraction) = if c == separator then units_of (d
 
 abbrev pub unsigned_amount : ℕ → List ℕ → Option ℕ
 unsigned_amount separator text = read_units separator (run_of is_digit text) (past_run is_digit text)
+
+-- A text writes so many units, as a number is written: digits before and after the separator, at least one and at most
+-- nine of them after it; where there are none after it, the separator may be left out. Filled up with zeros to nine
+-- places after the separator, the digits are those of the units.
+pub record WritesUnits (separator : ℕ) (text : List ℕ) (units : ℕ) : Type 0 where
+  pub whole : List ℕ
+  pub fraction : List ℕ
+  pub form : (text ≡ whole ++ separator ∷ fraction) ⊎ ((text ≡ whole) × (fraction ≡ []))
+  pub digits : all_ascii_digits (whole ++ fraction) ≡ true
+  pub some : whole ++ fraction ≢ []
+  pub places : length fraction ≤ 9
+  pub number : digits_value 10 (whole ++ fraction ++ replicate (9 - length fraction) digit_zero) ≡ units
+  pub amount : units < 10 ^ 27

@@ -1,7 +1,7 @@
-ghost use Rattle.std.specs.Prelude.{◌≡◌, ◌++◌, ◌∷◌, [], ◌+◌, ◌-◌, ◌*◌, ◌/◌, ◌%◌, ◌^◌, ◌<◌, ◌≤◌, ℕ, ℤ, pos, Some, chars, length, nat_abs, option_map, string_bytes, true, false, IfOk, MatchOption, OnOk};
+ghost use Rattle.std.specs.Prelude.{◌≡◌, ◌++◌, ◌∷◌, [], ◌+◌, ◌-◌, ◌*◌, ◌/◌, ◌%◌, ◌^◌, ◌<◌, ◌≤◌, ℕ, ℤ, pos, Some, chars, length, nat_abs, option_map, string_bytes, true, false, IfOk, IfSome, MatchOption, OnOk};
 ghost use Rattle.std.specs.Fmt.{decimal};
 ghost use Rattle.std.specs.Str.Parse.{digits_value};
-ghost use Rattle.ic_laws.specs.Amount.{amount_text, fraction_digits, is_amount, units_by, units_of, unsigned_amount, unsigned_text};
+ghost use Rattle.ic_laws.specs.Amount.{WritesUnits, amount_text, fraction_digits, is_amount, units_by, units_of, unsigned_amount, unsigned_text};
 ghost use Rattle.ic_laws.specs.Scan.{is_digit, past_run, run_of};
 
 use crate::OutOfMemory;
@@ -144,6 +144,17 @@ fn push_digit(text: &mut String, digit: u32) -> Result<(), OutOfMemory>
 /// The amount that the whole text writes: digits with or without the separator and at most nine digits after it, or
 /// the separator and one to nine digits. None exactly for every other text, and where it is no amount.
 pub fn unsigned_amount(text: &str, decimal: char) -> Option<Amount>
+    ensures exact { result ≡ option_map pos (unsigned_amount decimal (chars text.now)) }
+
+    // What is answered is what the text writes; by a separator that is no digit, each amount that a text writes is answered.
+    ensures written { IfSome result (λ a. (n : ℕ) × (a ≡ pos n) × WritesUnits decimal (chars text.now) n) }
+    ensures each { (n : ℕ) → is_digit decimal ≡ false → WritesUnits decimal (chars text.now) n → result ≡ Some (pos n) }
+{
+    amount_of(text, decimal)
+}
+
+// The same by the function alone.
+fn amount_of(text: &str, decimal: char) -> Option<Amount>
     ensures { result ≡ option_map pos (unsigned_amount decimal (chars text.now)) }
 {
     Amount::from_units(unsigned_units(text, decimal)? as i128)

@@ -1,7 +1,7 @@
 use ic_laws::{Items, Text};
 
 /// A language in which formulas are shown and read.
-#[derive(Debug, Drop)]
+#[derive(Drop)]
 pub struct Language {
     /// Its name in that language, as `Español`.
     pub name: Text,
@@ -13,14 +13,14 @@ pub struct Language {
 }
 
 /// The words of the two booleans.
-#[derive(Debug, Drop)]
+#[derive(Drop)]
 pub struct Booleans {
     pub true_word: Text,
     pub false_word: Text,
 }
 
 /// The words of the twelve error values.
-#[derive(Debug, Drop)]
+#[derive(Drop)]
 pub struct Errors {
     pub ref_word: Text,
     pub name: Text,
@@ -37,7 +37,7 @@ pub struct Errors {
 }
 
 /// The words of the functions: the word of function n stands at place n, from 0.
-#[derive(Debug, Drop)]
+#[derive(Drop)]
 pub struct Functions {
     pub words: Items<Text>,
     /// The number of LET.

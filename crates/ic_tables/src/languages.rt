@@ -8,7 +8,7 @@ use std::alloc::Global;
 use std::marker::Model;
 
 /// Languages with the orders of their words, which contracts see as the list of the languages.
-#[derive(Debug, Drop)]
+#[derive(Drop)]
 pub struct Languages {
     list: Items<Language>,
     orders: Items<WordOrder>,

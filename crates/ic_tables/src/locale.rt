@@ -1,7 +1,7 @@
 use ic_laws::{Items, Text};
 
 /// The formats and separators of a place.
-#[derive(Debug, Drop)]
+#[derive(Drop)]
 pub struct Locale {
     pub dates: Dates,
     pub numbers: NumbersProperties,
@@ -9,21 +9,21 @@ pub struct Locale {
 }
 
 /// A locale with its id, as `fr`.
-#[derive(Debug, Drop)]
+#[derive(Drop)]
 pub struct NamedLocale {
     pub id: Text,
     pub locale: Locale,
 }
 
 /// The currency of a locale: its ISO 4217 code and its symbol.
-#[derive(Debug, Drop)]
+#[derive(Drop)]
 pub struct Currency {
     pub iso: Text,
     pub symbol: Text,
 }
 
 /// How a locale writes numbers.
-#[derive(Debug, Drop)]
+#[derive(Drop)]
 pub struct NumbersProperties {
     pub symbols: NumbersSymbols,
     pub decimal_formats: DecimalFormats,
@@ -31,7 +31,7 @@ pub struct NumbersProperties {
 }
 
 /// The signs and separators in numbers.
-#[derive(Debug, Drop)]
+#[derive(Drop)]
 pub struct NumbersSymbols {
     pub decimal: Text,
     pub group: Text,
@@ -49,13 +49,13 @@ pub struct NumbersSymbols {
 }
 
 /// The format codes of plain numbers.
-#[derive(Debug, Drop)]
+#[derive(Drop)]
 pub struct DecimalFormats {
     pub standard: Text,
 }
 
 /// The format codes of amounts of money; `¤` stands for the symbol.
-#[derive(Debug, Drop)]
+#[derive(Drop)]
 pub struct CurrencyFormats {
     pub standard: Text,
     pub standard_alpha_next_to_number: Option<Text>,
@@ -66,7 +66,7 @@ pub struct CurrencyFormats {
 }
 
 /// The names of days and months, and the format codes of dates and times.
-#[derive(Debug, Drop)]
+#[derive(Drop)]
 pub struct Dates {
     pub day_names: Items<Text>,
     pub day_names_short: Items<Text>,
@@ -79,7 +79,7 @@ pub struct Dates {
 }
 
 /// The format codes of dates, by length.
-#[derive(Debug, Drop)]
+#[derive(Drop)]
 pub struct DateFormats {
     pub full: Text,
     pub long: Text,
@@ -88,7 +88,7 @@ pub struct DateFormats {
 }
 
 /// The format codes of times, by length.
-#[derive(Debug, Drop)]
+#[derive(Drop)]
 pub struct TimeFormats {
     pub full: Text,
     pub long: Text,

@@ -14,14 +14,14 @@ use std::alloc::Global;
 use std::cmp::Ordering;
 
 /// A word by its folding, with its number.
-#[derive(Debug, Drop)]
+#[derive(Drop)]
 pub struct WordEntry {
     pub(crate) folded: Text,
     pub(crate) number: usize,
 }
 
 /// The words of a language, each kind's in the order of their foldings.
-#[derive(Debug, Drop)]
+#[derive(Drop)]
 pub struct WordOrder {
     pub(crate) booleans: Items<WordEntry>,
     pub(crate) errors: Items<WordEntry>,
