@@ -18,10 +18,10 @@ use Rattle.ic_laws.specs.declared.tree.Tree.{every-Tree}
 use Rattle.ic_laws.specs.declared.tree.Tree.TheOpen as one
 
 -- the functions of a formula are there, and its references lie in the sheet, in the cell at a row and a column
-abbrev pub HasParts : Notations → ℤ → ℤ → Kind SheetMention NameMention → Type 0
-HasParts n row column (one.Reference sheet place) = is_inside place row column ≡ true
-HasParts n row column (one.Fun number arguments) = HasFunction n number
-HasParts n row column kind = Unit {0}
+abbrev pub LiesInSheet : Notations → ℤ → ℤ → Kind SheetMention NameMention → Type 0
+LiesInSheet n row column (one.Reference sheet place) = is_inside place row column ≡ true
+LiesInSheet n row column (one.Fun number arguments) = HasFunction n number
+LiesInSheet n row column kind = Unit {0}
 
 -- What holds of each tree that a book keeps, for the sheet that its words are looked up from, and the cell that its
 -- references count from: it is well-formed, written out and bound again it is the same, its functions are there, and its
@@ -29,7 +29,7 @@ HasParts n row column kind = Unit {0}
 pub record IsKept (n : Notations) (scene : Scene) (scope : Option ℕ) (row column : ℤ) (t : Bound) : Type 0 where
   pub well : IsWellFormed bound_names n.stored.let_fn n.stored.lambda_fn t
   pub settled : IsSettled (english_function n) scene scope t
-  pub parts : every-Tree SheetMention NameMention (HasParts n row column) (λ pair. Unit {0}) t
+  pub parts : every-Tree SheetMention NameMention (LiesInSheet n row column) (λ pair. Unit {0}) t
 
 -- nothing is asked of a text that doesn't read
 abbrev pub IsKeptFormula : Notations → Scene → Option ℕ → ℤ → ℤ → Formula → Type 0
