@@ -4,10 +4,17 @@ use Rattle.std.specs.List.{list_any}
 use Rattle.std.proofs.lemmas.List.{map-append}
 use Rattle.std.proofs.lemmas.List.Elements.{All-weaker}
 use Rattle.ic_laws.specs.Name.{is_sheet_name}
-use Rattle.ic_laws.specs.CoreBook.{IsValidCore, has_sheet, greatest, greatest_id, fresh_id}
-use Rattle.ic_laws.specs.CoreStep.{with_new_sheet}
-use Rattle.ic_laws.proofs.CoreLemmas.{All-greatest, IsValidCore-with_new_sheet, IsValidCore-one_sheet, fresh_is_next}
-use Rattle.ic_tables.specs.Tables.{TableSet, locale_of, language_of, lists_zone}
+use Rattle.ic_laws.specs.CoreBook.{CoreBook, Sheet, fresh_id, has_sheet, scene_of}
+use Rattle.ic_laws.specs.CoreStep.{changed_by, with_new_sheet}
+use Rattle.ic_laws.specs.Greatest.{greatest}
+use Rattle.ic_laws.specs.Keeping.{KeyChange, kept_on_sheet, same_keys}
+use Rattle.ic_laws.specs.Notations.{Notations}
+use Rattle.ic_laws.specs.ValidCore.{IsValidCore}
+use Rattle.ic_laws.specs.declared.scene.Scene.{Scene}
+use Rattle.ic_laws.proofs.CoreLemmas.{All-greatest, fresh_is_next}
+use Rattle.ic_laws.proofs.core.SheetAdded.{one_sheet_valid}
+use Rattle.ic_tables.specs.Tables.{IsWellFormed, TableSet, locale_of, language_of, lists_zone}
+use Rattle.ic_tree.specs.Notations.{notations_of}
 use Rattle.ic_book.specs.Book.{Book, IsValidBook, core_of, first_sheet_name_in}
 use Rattle.ic_book.specs.Sheets.{sheets_of}
 use Rattle.ic_book.specs.declared.sheet.Worksheet.{Worksheet}
@@ -43,41 +50,48 @@ first_name_is_good language =
     rest : List ℕ
     rest = if bytes_eq language (codes "fr") then codes "Feuil" else more
 
-pub sheets_of-push : (sheets : List Worksheet) (s : Worksheet) → sheets_of (sheets ++ s ∷ []) ≡ sheets_of sheets ++ record { id = s.id; name = s.name } ∷ []
-sheets_of-push sheets s = map-append (λ (w : Worksheet). record { id = w.id; name = w.name }) sheets (s ∷ [])
+pub sheets_of-push : (sheets : List Worksheet) (s : Worksheet) → sheets_of (sheets ++ s ∷ []) ≡ sheets_of sheets ++ record { id = s.id; name = s.name; cells = [] } ∷ []
+sheets_of-push sheets s = map-append (λ (w : Worksheet). record { id = w.id; name = w.name; cells = [] }) sheets (s ∷ [])
+
+-- no sheet has a formula, so keeping changes nothing
+pub nothing_kept : (n : Notations) (before after : Scene) (change : KeyChange) (sheets : List Worksheet) → map (kept_on_sheet n before after change) (sheets_of sheets) ≡ sheets_of sheets
+nothing_kept n before after change [] = refl
+nothing_kept n before after change (s ∷ sheets) = ap (λ r. record { id = s.id; name = s.name; cells = [] } ∷ r) (nothing_kept n before after change sheets)
+
+-- a book of these sheets, without definitions
+module _ (n : Notations) (locale language : List ℕ) where
+  abbrev core_with : List Sheet → CoreBook
+  core_with sheets = record { sheets = sheets; definitions = []; locale = locale; language = language }
+
+  -- the sheets with a new one at their end are those of the machine
+  pub added_sheets : (sheets after : List Worksheet) (id : ℕ) (name : List ℕ) → Some id ≡ fresh_id (core_with (sheets_of sheets)) → after ≡ sheets ++ record { id = id; name = name } ∷ []
+      → core_with (sheets_of after) ≡ changed_by n (with_new_sheet name) (core_with (sheets_of sheets))
+  added_sheets sheets after id name fresh pushed =
+      let core : CoreBook = core_with (sheets_of sheets) in
+      let next = fresh_is_next core id fresh in
+      ap (λ xs. core_with (sheets_of xs)) pushed ∙ ap core_with (sheets_of-push sheets (record { id = id; name = name }))
+      ∙ ap (λ m. core_with (sheets_of sheets ++ record { id = m; name = name; cells = [] } ∷ [])) next.1
+      ∙ sym (ap (λ xs. with_new_sheet name (core_with xs)) (nothing_kept n (scene_of core) (scene_of (with_new_sheet name core)) same_keys sheets))
+
+-- a book stays valid when a sheet with the fresh id and a name of its own is pushed
+pub IsValidBook-push : (book : Book) (sheets after : List Worksheet) (id : ℕ) (name : List ℕ) → book.sheets ≡ sheets_of sheets → book.definitions ≡ [] → IsValidBook book → is_sheet_name name ≡ true → has_sheet (core_of book) name ≡ false → Some id ≡ fresh_id (core_of book) → after ≡ sheets ++ record { id = id; name = name } ∷ [] → IsValidBook (record book { sheets = sheets_of after; definitions = [] })
+IsValidBook-push book sheets after id name seen none valid good new fresh pushed = ?
+
+-- a new book is valid where the tables have its locale, language and zone
+pub IsValidBook-start : (name locale zone language created first : List ℕ) (tables : TableSet) (sheets : List Worksheet) → sheets ≡ record { id = 1; name = first } ∷ [] → first ≡ first_sheet_name_in language → is_some (locale_of tables locale) ≡ true → is_some (language_of tables language) ≡ true → lists_zone tables zone ≡ true → IsWellFormed tables → IsValidBook (record { name = name; sheets = sheets_of sheets; definitions = []; locale = locale; language = language; zone = zone; created = created; tables = tables })
+unfolding notations_of
+IsValidBook-start name locale zone language created first tables sheets one named l g z well =
+    let good : is_sheet_name first ≡ true = ap is_sheet_name named ∙ first_name_is_good language in
+    record {
+      core = subst (λ s. IsValidCore (notations_of tables) (record { sheets = sheets_of s; definitions = []; locale = locale; language = language })) (sym one) (one_sheet_valid (notations_of tables) first locale language good l g);
+      zone = z;
+      tables = well;
+    }
 
 -- a number one above the greatest id in use is above each
 pub above_all : (r : Option ℕ) (g : ℕ) (ids : List ℕ) → SomeIff r (g + 1 < 2 ^ 32) (g + 1) → g ≡ greatest ids → IfSome r (λ id. All (λ used. used < id) ids)
 above_all None g ids s e = tt
 above_all (Some id) g ids s e = All-weaker (λ n. n ≤ greatest ids) (λ n. n < id) (λ n h. omega (arith, h, s.1, e)) ids (All-greatest ids)
-
--- a book stays valid when a sheet with the fresh id and a name of its own is pushed
-pub IsValidBook-push : (book : Book) (sheets after : List Worksheet) (id : ℕ) (name : List ℕ) → book.sheets ≡ sheets_of sheets → IsValidBook book → is_sheet_name name ≡ true → has_sheet (core_of book) name ≡ false → Some id ≡ fresh_id (core_of book) → after ≡ sheets ++ record { id = id; name = name } ∷ [] → IsValidBook (record book { sheets = sheets_of after })
-IsValidBook-push book sheets after id name seen valid good new fresh pushed =
-    let next = fresh_is_next (core_of book) id fresh in
-    let one = IsValidCore-with_new_sheet (core_of book) name valid.core good new next.0 in
-    let same : (with_new_sheet (core_of book) name).sheets ≡ sheets_of after =
-    ap (λ x. x ++ record { id = greatest_id (core_of book) + 1; name = name } ∷ []) seen
-    ∙ ap (λ n. sheets_of sheets ++ record { id = n; name = name } ∷ []) (sym next.1)
-    ∙ sym (sheets_of-push sheets (record { id = id; name = name })) ∙ ap sheets_of (sym pushed) in
-    record {
-      core = subst (λ s. IsValidCore (record { sheets = s; locale = book.locale; language = book.language })) same one;
-      locale = valid.locale;
-      language = valid.language;
-      zone = valid.zone;
-    }
-
--- a new book is valid where the tables have its locale, language and zone
-pub IsValidBook-start : (name locale zone language created first : List ℕ) (tables : TableSet) (sheets : List Worksheet) → sheets ≡ record { id = 1; name = first } ∷ [] → first ≡ first_sheet_name_in language → is_some (locale_of tables locale) ≡ true → is_some (language_of tables language) ≡ true → lists_zone tables zone ≡ true → IsValidBook (record { name = name; sheets = sheets_of sheets; locale = locale; language = language; zone = zone; created = created; tables = tables })
-IsValidBook-start name locale zone language created first tables sheets one named l g z =
-    let good : is_sheet_name first ≡ true = ap is_sheet_name named ∙ first_name_is_good language in
-    let core = IsValidCore-one_sheet 1 first locale language (omega arith, omega arith) good in
-    record {
-      core = subst (λ s. IsValidCore (record { sheets = sheets_of s; locale = locale; language = language })) (sym one) core;
-      locale = l;
-      language = g;
-      zone = z;
-    }
 
 -- what an answer that is no error tells
 pub not_err : {T E R : Type 0} (r : Result T E) (P : T → Type 0) (Q : E → Type 0) → MatchResult r P Q → is_err r ≡ false → ((x : T) → P x → R) → R

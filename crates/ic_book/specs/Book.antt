@@ -1,14 +1,18 @@
 -- The whole book, and how its core is seen.
-use Rattle.std.specs.Prelude.{◌≡◌, ℕ, true, List, [], ◌∷◌, ◌++◌, not, Option, is_none, is_some, codes, bytes_eq, if◌then◌else◌}
-use Rattle.ic_tables.specs.Tables.{TableSet, language_of, locale_of, lists_zone}
-use Rattle.ic_laws.specs.CoreBook.{CoreBook, Sheet, IsValidCore}
-use Rattle.ic_laws.specs.CoreStep.{Refusal, InvalidLocale, InvalidLanguage, InvalidTimezone, first_refusal}
+use Rattle.std.specs.Prelude.{◌≡◌, ℕ, true, List, [], ◌∷◌, ◌++◌, not, Option, is_none, codes, bytes_eq, if◌then◌else◌}
+use Rattle.ic_tables.specs.Tables.{IsWellFormed, TableSet, language_of, locale_of, lists_zone}
+use Rattle.ic_laws.specs.CoreBook.{CoreBook, Definition, Sheet}
+use Rattle.ic_laws.specs.Notations.{Notations}
+use Rattle.ic_laws.specs.Refusal.{Refusal, InvalidLocale, InvalidLanguage, InvalidTimezone, first_refusal}
+use Rattle.ic_laws.specs.ValidCore.{IsValidCore}
+use Rattle.ic_tree.specs.Notations.{notations_of}
 
--- a book: its name, its sheets in their order, the ids of the locale and the language in force, the zone, when it was
--- made, and the tables that it borrows
+-- a book: its name, its sheets and its definitions in their order, the ids of the locale and the language in force, the
+-- zone, when it was made, and the tables that it borrows
 pub record Book : Type 0 where
   pub name : List ℕ
   pub sheets : List Sheet
+  pub definitions : List Definition
   pub locale : List ℕ
   pub language : List ℕ
   pub zone : List ℕ
@@ -17,18 +21,21 @@ pub record Book : Type 0 where
 
 -- the core of a book
 abbrev pub core_of : Book → CoreBook
-core_of book = record { sheets = book.sheets; locale = book.locale; language = book.language }
+core_of book = record { sheets = book.sheets; definitions = book.definitions; locale = book.locale; language = book.language }
 
 -- a book with this core, and the rest as it was
 abbrev pub with_core : Book → CoreBook → Book
-with_core book core = record book { sheets = core.sheets; locale = core.locale; language = core.language }
+with_core book core = record book { sheets = core.sheets; definitions = core.definitions; locale = core.locale; language = core.language }
+
+-- what the machine is told of the tables of a book
+abbrev pub notations_in : Book → Notations
+notations_in book = notations_of book.tables
 
 -- what always holds of a book
 pub record IsValidBook (book : Book) : Type 0 where
-  pub core : IsValidCore (core_of book)
-  pub locale : is_some (locale_of book.tables book.locale) ≡ true
-  pub language : is_some (language_of book.tables book.language) ≡ true
+  pub core : IsValidCore (notations_in book) (core_of book)
   pub zone : lists_zone book.tables book.zone ≡ true
+  pub tables : IsWellFormed book.tables
 
 -- how a new sheet is called in a language, before its number
 abbrev pub base_name : List ℕ → List ℕ
@@ -44,7 +51,8 @@ first_sheet_name_in language = base_name language ++ codes "1"
 abbrev pub new_book : List ℕ → List ℕ → List ℕ → List ℕ → List ℕ → TableSet → Book
 new_book name locale zone language created tables = record {
   name = name;
-  sheets = record { id = 1; name = first_sheet_name_in language } ∷ [];
+  sheets = record { id = 1; name = first_sheet_name_in language; cells = [] } ∷ [];
+  definitions = [];
   locale = locale;
   language = language;
   zone = zone;

@@ -1,8 +1,8 @@
 -- What a call's error says of the refusal that holds.
 use Rattle.std.specs.Prelude.{◌≡◌, ℕ, List, Option, Some, None, Result, Ok, Err, codes}
 use Rattle.std.specs.Option.{option_map_or}
-use Rattle.ic_laws.specs.CoreStep as core
-use Rattle.ic_laws.specs.CoreStep.{Refusal, refusal_name}
+use Rattle.ic_laws.specs.Refusal as core
+use Rattle.ic_laws.specs.Refusal.{Refusal, refusal_name}
 use Rattle.ic_book.specs.declared.error.BookError.{BookError}
 use Rattle.ic_book.specs.declared.error.BookError.TheVariants as errors
 

@@ -1,7 +1,7 @@
 ghost use Rattle.std.specs.Prelude.{◌≡◌, ◌<◌, chars, All, IfOk, IfSome, OnOk, OnErr};
-ghost use Rattle.ic_laws.specs.CoreBook.{fresh_id, ids_of};
-ghost use Rattle.ic_laws.specs.CoreStep.{add_sheet_refusal, with_new_sheet};
-ghost use Rattle.ic_book.specs.Book.{core_of, with_core, first_sheet_name_in, new_book, new_book_refusal};
+ghost use Rattle.ic_laws.specs.CoreBook.{fresh_id, used_ids};
+ghost use Rattle.ic_laws.specs.CoreStep.{add_sheet_refusal, changed_by, with_new_sheet};
+ghost use Rattle.ic_book.specs.Book.{core_of, with_core, first_sheet_name_in, new_book, new_book_refusal, notations_in};
 ghost use Rattle.ic_book.specs.Refused.{Refuses};
 
 use crate::BookError;
@@ -28,6 +28,7 @@ pub struct Model<'a> {
 }
 
 impl<'a> marker::Model for Model<'a> {
+    ghost use Rattle.std.specs.Prelude.{[]};
     ghost use Rattle.ic_book.specs.Book.{Book, IsValidBook};
     ghost use Rattle.ic_book.specs.Sheets.{sheets_of};
 
@@ -36,6 +37,7 @@ impl<'a> marker::Model for Model<'a> {
     ghost view = { λ m. record {
       name = m.name;
       sheets = sheets_of m.sheets.items;
+      definitions = [];
       locale = m.locale;
       language = m.language;
       zone = m.zone;
@@ -46,6 +48,7 @@ impl<'a> marker::Model for Model<'a> {
     ghost invariant = { λ m. IsValidBook (record {
       name = m.name;
       sheets = sheets_of m.sheets.items;
+      definitions = [];
       locale = m.locale;
       language = m.language;
       zone = m.zone;
@@ -110,7 +113,7 @@ impl<'a> Model<'a> {
     /// one, 4,294,967,295.
     pub fn get_new_sheet_id(&self) -> Option<u32>
         ensures fresh { result ≡ fresh_id (core_of self.now) }
-        ensures unused { IfSome result (λ id. All (λ used. used < id) (ids_of (core_of self.now))) }
+        ensures unused { IfSome result (λ id. All (λ used. used < id) (used_ids (core_of self.now))) }
     {
         greatest_id(self.sheets.as_slice()).checked_add(1)
     }
@@ -120,7 +123,7 @@ impl<'a> Model<'a> {
     /// `InvalidSheetName`, `SheetExists`, `IdsUsedUp`, in this order, each exactly where it holds; `OutOfMemory` only
     /// where none of them does. An error changes nothing.
     pub fn add_sheet(&mut self, sheet_name: &str) -> Result<(), BookError>
-        ensures ok { OnOk result (self.new ≡ with_core self.old (with_new_sheet (core_of self.old) (chars sheet_name.now))) }
+        ensures ok { OnOk result (self.new ≡ with_core self.old (changed_by (notations_in self.old) (with_new_sheet (chars sheet_name.now)) (core_of self.old))) }
         ensures refused { Refuses result (add_sheet_refusal (core_of self.old) (chars sheet_name.now)) }
         ensures err { OnErr result (self.new ≡ self.old) }
     {

@@ -2,33 +2,22 @@
 use Rattle.std.proofs.Common.{◌≡◌, ◌≢◌, ℕ, List, [], ◌∷◌, length, map, get_or, Option, Some, None, option_map, option_and_then, bytes_eq, codes, refl, ap, sym, ◌∙◌, arith, if◌then◌else◌, true, false, Bor}
 use Rattle.std.specs.Str.{chars}
 use Rattle.std.proofs.lemmas.List.{length-map}
-use Rattle.ic_laws.specs.CoreStep.{Command, AddSheet}
-use Rattle.ic_laws.specs.Lines.{command_of, named_command, spelled_command, unescaped, word_texts, words_of}
+use Rattle.ic_laws.specs.Command.{Command, AddSheet, all_said, commands, named_command, served}
+use Rattle.ic_laws.specs.Lines.{command_of, spelled_command, unescaped, word_texts, words_of}
 
-one_text : (name : List ℕ) (t : Option (List ℕ)) → option_and_then (named_command name) (option_and_then (λ t. option_map (λ ts. t ∷ ts) (Some [])) t) ≡ (if bytes_eq name (codes "add_sheet") then option_map AddSheet t else None)
-one_text name None = elim (bytes_eq name (codes "add_sheet")) as (λ b. none ≡ (if b then none else none)) [ true ↦ refl | false ↦ refl ]
-  where
-    none : Option Command
-    none = None
-one_text name (Some t) = refl
+-- the one command that is served has the name `add_sheet` and a text
+abbrev added : List (List ℕ) → Option (List ℕ)
+added (text ∷ []) = Some text
+added texts = None
 
--- two words are `add_sheet` with the text of the second, or nothing
-pub two_words : (name word : List ℕ) → spelled_command (name ∷ word ∷ []) ≡ (if bytes_eq name (codes "add_sheet") then option_map AddSheet (unescaped word) else None)
-two_words name word = one_text name (unescaped word)
+said_text : (texts : List (List ℕ)) → option_map (λ (w : AllSaid (OfText ∷ [])). AddSheet w.0) (all_said (OfText ∷ []) texts) ≡ option_map AddSheet (added texts)
+said_text [] = refl
+said_text (t ∷ []) = refl
+said_text (t ∷ u ∷ texts) = refl
 
--- texts of more words than one are no command
-more_texts : (name : List ℕ) (a b : Option (List ℕ)) (c : Option (List (List ℕ))) → option_and_then (named_command name) (option_and_then (λ t. option_map (λ ts. t ∷ ts) (option_and_then (λ u. option_map (λ us. u ∷ us) c) b)) a) ≡ None
-more_texts name None b c = refl
-more_texts name (Some t) None c = refl
-more_texts name (Some t) (Some u) None = refl
-more_texts name (Some t) (Some u) (Some us) = refl
-
--- fewer or more words than two are no command
-pub other_words : (words : List (List ℕ)) → length words ≢ 2 → spelled_command words ≡ None
-other_words [] h = refl
-other_words (name ∷ []) h = refl
-other_words (name ∷ word ∷ []) h = absurd (h refl)
-other_words (name ∷ v ∷ w ∷ words) h = more_texts name (unescaped v) (unescaped w) (word_texts words)
+served_command : (name : List ℕ) (texts : List (List ℕ)) → named_command served name texts ≡ (if bytes_eq name (codes "add_sheet") then option_map AddSheet (added texts) else None)
+unfolding commands
+served_command name texts = ?
 
 -- a list of two items
 pub two_items : {X : Type 0} (xs : List X) (d e : X) → length xs ≡ 2 → xs ≡ get_or xs 0 d ∷ get_or xs 1 e ∷ []

@@ -1,12 +1,17 @@
 -- The texts of replies.
-use Rattle.std.proofs.Common.{◌≡◌, ◌⊎◌, ℕ, ◌-◌, ◌<◌, List, [], ◌∷◌, ◌++◌, length, take, get_or, false, true, Option, Some, None, Ok, Err, chars, encode_utf8_all, refl, ap, sym, ◌∙◌, inl, inr, arith, length-append}
+use Rattle.std.proofs.Common.{◌≡◌, ◌⊎◌, ℕ, zero, suc, ◌-◌, ◌<◌, List, [], ◌∷◌, ◌++◌, length, take, get_or, false, true, Option, Some, None, Ok, Err, chars, encode_utf8_all, refl, ap, sym, ◌∙◌, inl, inr, arith, length-append, codes, option_map, slice_get, unwrap_or}
+use Rattle.std.specs.List.{AllByRecursion}
 use lib.Utf8.{scalars}
 use Rattle.std.proofs.Math.Seq.{get_or-append_seam}
 use Rattle.std.proofs.lemmas.List.{take_at}
 use Rattle.std.proofs.lemmas.Str.{chars-encodes}
 use Rattle.ic_laws.specs.CoreBook.{CoreBook}
-use Rattle.ic_laws.specs.CoreStep.{AddSheet, BadLine, Command, IdsUsedUp, InvalidLanguage, InvalidLocale, InvalidSheetName, InvalidTimezone, Refusal, SheetExists, add_sheet_refusal, unless_refused, with_new_sheet}
-use Rattle.ic_laws.specs.Lines.{Reply, command_of, command_step, line_step, outcome_of, reply_bytes, reply_text}
+use Rattle.ic_laws.specs.Command.{AddSheet}
+use Rattle.ic_laws.specs.CoreStep.{add_sheet_refusal, changed_by, core_step, unless_refused, with_new_sheet}
+use Rattle.ic_laws.specs.Lines.{Reply, command_step, line_step, outcome_of, reply_bytes, reply_text}
+use Rattle.ic_laws.specs.Notations.{Notations}
+use Rattle.ic_laws.specs.Refusal.{BadLine, Refusal, refusal_names}
+use Rattle.ic_desk.proofs.CommandLemmas.{served_line, served_text}
 use Rattle.ic_lines.specs.Reading.{has_line_feed}
 
 -- a reply without fields
@@ -17,27 +22,29 @@ plain_outcome : (core book : CoreBook) (o : Option Refusal) → IsPlain (outcome
 plain_outcome core book None = inl refl
 plain_outcome core book (Some r) = inr (r, refl)
 
-plain_step : (core : CoreBook) (o : Option Command) → IsPlain (command_step core o).1
-plain_step core None = inr (BadLine, refl)
-plain_step core (Some (AddSheet name)) = plain_outcome core (with_new_sheet core name) (add_sheet_refusal core name)
+plain_add : (n : Notations) (core : CoreBook) (name : List ℕ) → IsPlain (command_step n core (Some (AddSheet name))).1
+unfolding core_step
+plain_add n core name = plain_outcome core (changed_by n (with_new_sheet name) core) (add_sheet_refusal core name)
+
+-- a line that adds a sheet, or is no command, has a reply without fields
+plain_step : (n : Notations) (core : CoreBook) (o : Option (List ℕ)) → IsPlain (command_step n core (option_map AddSheet o)).1
+plain_step n core None = inr (BadLine, refl)
+plain_step n core (Some name) = plain_add n core name
+
+-- what holds of the name of each refusal in the list, and of none
+named : (P : List ℕ → Type 0) → P [] → (names : List (List ℕ)) → AllByRecursion P names → (place : ℕ) → P (unwrap_or (slice_get names place) [])
+named P none [] h place = none
+named P none (name ∷ names) h zero = h.0
+named P none (name ∷ names) h (suc place) = named P none names h.1 place
+
+abbrev told : List ℕ → List ℕ
+told name = codes "error" ++ 9 ∷ name
 
 refusal_scalars : (r : Refusal) → scalars (reply_text (Err r)) ≡ true
-refusal_scalars BadLine = refl
-refusal_scalars InvalidSheetName = refl
-refusal_scalars SheetExists = refl
-refusal_scalars IdsUsedUp = refl
-refusal_scalars InvalidLocale = refl
-refusal_scalars InvalidLanguage = refl
-refusal_scalars InvalidTimezone = refl
+refusal_scalars r = named (λ name. scalars (told name) ≡ true) refl refusal_names ? r.place
 
 refusal_is_line : (r : Refusal) → has_line_feed (reply_text (Err r)) ≡ false
-refusal_is_line BadLine = refl
-refusal_is_line InvalidSheetName = refl
-refusal_is_line SheetExists = refl
-refusal_is_line IdsUsedUp = refl
-refusal_is_line InvalidLocale = refl
-refusal_is_line InvalidLanguage = refl
-refusal_is_line InvalidTimezone = refl
+refusal_is_line r = named (λ name. has_line_feed (told name) ≡ false) refl refusal_names ? r.place
 
 -- the bytes of a reply without the last are its text, which has no line feed
 plain_text : (reply : Reply) → IsPlain reply → (chars (encode_utf8_all (reply_text reply)) ≡ reply_text reply) × (has_line_feed (reply_text reply) ≡ false)
@@ -65,12 +72,12 @@ last_byte front bytes len e l =
     omega (arith, at)
 
 -- a reply whose last byte went
-module _ (core : CoreBook) (line bytes cut : List ℕ) (len : ℕ) (is_reply : bytes ≡ reply_bytes (line_step core line).1) (is_len : len ≡ length bytes) (is_cut : cut ≡ take (len - 1) bytes) where
-  text : (chars (encode_utf8_all (reply_text (line_step core line).1)) ≡ reply_text (line_step core line).1) × (has_line_feed (reply_text (line_step core line).1) ≡ false)
-  text = plain_text (line_step core line).1 (plain_step core (command_of line))
+module _ (n : Notations) (core : CoreBook) (line bytes cut : List ℕ) (len : ℕ) (is_reply : bytes ≡ reply_bytes (line_step n core line).1) (is_len : len ≡ length bytes) (is_cut : cut ≡ take (len - 1) bytes) where
+  text : (chars (encode_utf8_all (reply_text (line_step n core line).1)) ≡ reply_text (line_step n core line).1) × (has_line_feed (reply_text (line_step n core line).1) ≡ false)
+  text = plain_text (line_step n core line).1 (rw (served_line line) (plain_step n core (served_text line)))
 
-  pub cut_reply : chars cut ≡ reply_text (line_step core line).1
-  cut_reply = ap chars (is_cut ∙ without_last (encode_utf8_all (reply_text (line_step core line).1)) bytes len is_reply is_len) ∙ text.0
+  pub cut_reply : chars cut ≡ reply_text (line_step n core line).1
+  cut_reply = ap chars (is_cut ∙ without_last (encode_utf8_all (reply_text (line_step n core line).1)) bytes len is_reply is_len) ∙ text.0
 
   pub cut_is_line : has_line_feed (chars cut) ≡ false
   cut_is_line = ap has_line_feed cut_reply ∙ text.1

@@ -4,17 +4,18 @@ use Rattle.std.proofs.Math.Seq.{take-add}
 use Rattle.std.proofs.lemmas.List.{drop-drop}
 use Rattle.ic_laws.specs.CoreBook.{CoreBook}
 use Rattle.ic_laws.specs.Lines.{after, replies, line_step, reply_bytes}
+use Rattle.ic_laws.specs.Notations.{Notations}
 use Rattle.ic_lines.specs.declared.error.RunError.{RunError}
 
-pub after-append : (core : CoreBook) (xs ys : List (List ℕ)) → after core (xs ++ ys) ≡ after (after core xs) ys
-after-append core [] ys = refl
-after-append core (x ∷ xs) ys = after-append (line_step core x).0 xs ys
+pub after-append : (n : Notations) (core : CoreBook) (xs ys : List (List ℕ)) → after n core (xs ++ ys) ≡ after n (after n core xs) ys
+after-append n core [] ys = refl
+after-append n core (x ∷ xs) ys = after-append n (line_step n core x).0 xs ys
 
-pub replies-append : (core : CoreBook) (xs ys : List (List ℕ)) → replies core (xs ++ ys) ≡ replies core xs ++ replies (after core xs) ys
-replies-append core [] ys = refl
-replies-append core (x ∷ xs) ys =
-    ap (λ v. reply_bytes (line_step core x).1 ++ v) (replies-append (line_step core x).0 xs ys)
-    ∙ sym (append_assoc (reply_bytes (line_step core x).1) (replies (line_step core x).0 xs) (replies (after (line_step core x).0 xs) ys))
+pub replies-append : (n : Notations) (core : CoreBook) (xs ys : List (List ℕ)) → replies n core (xs ++ ys) ≡ replies n core xs ++ replies n (after n core xs) ys
+replies-append n core [] ys = refl
+replies-append n core (x ∷ xs) ys =
+    ap (λ v. reply_bytes (line_step n core x).1 ++ v) (replies-append n (line_step n core x).0 xs ys)
+    ∙ sym (append_assoc (reply_bytes (line_step n core x).1) (replies n (line_step n core x).0 xs) (replies n (after n (line_step n core x).0 xs) ys))
 
 -- the next of some lines
 module _ {X : Type 0} (lines : List X) (count : ℕ) (line : X) (rest : List X) (next : drop count lines ≡ line ∷ rest) where

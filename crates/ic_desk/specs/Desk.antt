@@ -2,7 +2,7 @@
 use Rattle.std.specs.Prelude.{String, ℕ, List, [], ◌∷◌, map, chars, codes, string_bytes, bytes_eq, Option, Some, None, Result, Ok, Err, if◌then◌else◌}
 use Rattle.std.specs.declared.alloc.Global.{Global}
 use Rattle.ic_laws.specs.CoreBook.{CoreBook}
-use Rattle.ic_laws.specs.CoreStep.{Refusal}
+use Rattle.ic_laws.specs.Refusal.{Refusal}
 use Rattle.ic_tables.specs.Tables.{TableSet}
 use Rattle.ic_lines.specs.declared.error.RunError.{RunError}
 use Rattle.ic_lines.specs.declared.error.RunError.TheVariants as run
@@ -26,10 +26,11 @@ setting_of [] = Some (record { locale = codes "en"; language = codes "en"; zone 
 setting_of (name ∷ locale ∷ language ∷ zone ∷ []) = if bytes_eq name (codes "run") then Some (record { locale = locale; language = language; zone = zone }) else None
 setting_of words = None
 
--- the core of the book that the program begins with: one sheet, which has the id 1
+-- the core of the book that the program begins with: one sheet, which has the id 1, and nothing in it
 abbrev pub start : Setting → CoreBook
 start setting = record {
-  sheets = record { id = 1; name = first_sheet_name_in setting.language } ∷ [];
+  sheets = record { id = 1; name = first_sheet_name_in setting.language; cells = [] } ∷ [];
+  definitions = [];
   locale = setting.locale;
   language = setting.language;
 }

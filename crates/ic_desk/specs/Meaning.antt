@@ -1,6 +1,6 @@
 -- What a command of the program is to the machine, and what its start says.
 use Rattle.std.specs.Prelude.{chars}
-use Rattle.ic_laws.specs.CoreStep as machine
+use Rattle.ic_laws.specs.Command as machine
 use Rattle.ic_desk.specs.Desk.{Setting}
 use Rattle.ic_desk.specs.declared.command.Command.{Command}
 use Rattle.ic_desk.specs.declared.command.Command.TheVariants.{AddSheet}

@@ -2,21 +2,22 @@
 use Rattle.std.specs.Prelude.{◌≡◌, ℕ, ◌+◌, ◌<◌, ◌≤◌, ◌⊎◌, List, [], ◌++◌, length, take, Option}
 use Rattle.ic_laws.specs.CoreBook.{CoreBook}
 use Rattle.ic_laws.specs.Lines.{texts_of, after, replies}
+use Rattle.ic_laws.specs.Notations.{Notations}
 use Rattle.ic_lines.specs.Bytes.{IfTold}
 use Rattle.ic_lines.specs.Reading.{line_feeds}
 use Rattle.ic_lines.specs.declared.error.RunError.{RunError}
 use Rattle.ic_lines.specs.declared.error.RunError.TheVariants as errors
-use Rattle.ic_book.specs.Book.{Book, core_of, with_core}
+use Rattle.ic_book.specs.Book.{Book, core_of, notations_in, with_core}
 
 -- a whole run: nothing is left of the bytes, their lines are counted, and the book is the one that the machine leaves
 pub record TakesAll (old new : Book) (lines : ℕ) (bytes left : List ℕ) : Type 0 where
   pub all : left ≡ []
   pub count : lines ≡ length (texts_of bytes)
-  pub book : new ≡ with_core old (after (core_of old) (texts_of bytes))
+  pub book : new ≡ with_core old (after (notations_in old) (core_of old) (texts_of bytes))
 
 -- the machine's replies to the lines of the bytes stand after what was written before
-abbrev pub AppendsReplies : CoreBook → List ℕ → List ℕ → List ℕ → Type 0
-AppendsReplies core bytes before now = now ≡ before ++ replies core (texts_of bytes)
+abbrev pub AppendsReplies : Notations → CoreBook → List ℕ → List ℕ → List ℕ → Type 0
+AppendsReplies n core bytes before now = now ≡ before ++ replies n core (texts_of bytes)
 
 -- so many lines were read with the line feed that ends them, or the source to its end
 abbrev pub AreRead : ℕ → List ℕ → List ℕ → Type 0
@@ -25,30 +26,30 @@ AreRead count bytes left = (left ≡ []) ⊎ (count + line_feeds left ≤ line_f
 -- the book is as the first so many lines leave it
 pub record IsAfterLines (old new : Book) (count : ℕ) (lines : List (List ℕ)) : Type 0 where
   pub within : count ≤ length lines
-  pub book : new ≡ with_core old (after (core_of old) (take count lines))
+  pub book : new ≡ with_core old (after (notations_in old) (core_of old) (take count lines))
 
 -- the replies to the first so many lines were appended
-abbrev pub HasReplied : CoreBook → ℕ → List (List ℕ) → List ℕ → List ℕ → Type 0
-HasReplied core count lines before now = now ≡ before ++ replies core (take count lines)
+abbrev pub HasReplied : Book → ℕ → List (List ℕ) → List ℕ → List ℕ → Type 0
+HasReplied old count lines before now = now ≡ before ++ replies (notations_in old) (core_of old) (take count lines)
 
 -- the replies to the first so many lines were appended, and of the next line's reply a front that isn't all of it
-pub record HasPartlyReplied (core : CoreBook) (count : ℕ) (lines : List (List ℕ)) (before now : List ℕ) : Type 0 where
+pub record HasPartlyReplied (old : Book) (count : ℕ) (lines : List (List ℕ)) (before now : List ℕ) : Type 0 where
   pub bytes : ℕ
-  pub whole : length (replies core (take count lines)) ≤ bytes
-  pub part : bytes < length (replies core (take (count + 1) lines))
-  pub written : now ≡ before ++ take bytes (replies core (take (count + 1) lines))
+  pub whole : length (replies (notations_in old) (core_of old) (take count lines)) ≤ bytes
+  pub part : bytes < length (replies (notations_in old) (core_of old) (take (count + 1) lines))
+  pub written : now ≡ before ++ take bytes (replies (notations_in old) (core_of old) (take (count + 1) lines))
 
 -- exactly the first so many lines were answered: the book is as they leave it, and their replies were appended
 pub record HasAnswered (old new : Book) (count : ℕ) (bytes left : List ℕ) (before now : Option (List ℕ)) : Type 0 where
   pub read : AreRead count bytes left
   pub book : IsAfterLines old new count (texts_of bytes)
-  pub replied : IfTold before now (HasReplied (core_of old) count (texts_of bytes))
+  pub replied : IfTold before now (HasReplied old count (texts_of bytes))
 
 -- the same, and one line more, whose reply was appended in part
 pub record HasPartlyAnswered (old new : Book) (count : ℕ) (bytes left : List ℕ) (before now : Option (List ℕ)) : Type 0 where
   pub read : AreRead (count + 1) bytes left
   pub book : IsAfterLines old new (count + 1) (texts_of bytes)
-  pub replied : IfTold before now (HasPartlyReplied (core_of old) count (texts_of bytes))
+  pub replied : IfTold before now (HasPartlyReplied old count (texts_of bytes))
 
 -- What an error leaves. Where a read failed or there were too many turns, each line whose line feed was read was
 -- answered; where memory ran out, some of the first lines were; where a write failed, the last of them in part.

@@ -3,6 +3,7 @@ ghost use Rattle.ic_lines.specs.Bytes.{IfTold, HasFault};
 ghost use Rattle.ic_desk.specs.Desk.{setting_of, start, start_refusal, start_status, run_status, texts};
 ghost use Rattle.ic_desk.specs.Meaning.{setting};
 ghost use Rattle.ic_desk.specs.Run.{AppendsReplies};
+ghost use Rattle.ic_tree.specs.Notations.{notations_of};
 
 use crate::run::run;
 use ic_book::{BookError, Model};
@@ -37,7 +38,7 @@ pub fn desk<S: Source, K: Sink>(
     // With 0 all bytes were taken, and the machine's replies from the start were appended.
     ensures taken { result ≡ 0 → IfTold (S.left source.old) (S.left source.new) (λ bytes left. left ≡ []) }
     ensures replies { result ≡ 0 → IsSomeAnd (setting_of (texts words.now)) (λ setting. IfTold (S.left source.old) (S.left source.new) (λ bytes _.
-        IfTold (K.written sink.old) (K.written sink.new) (AppendsReplies (start setting) bytes))) }
+        IfTold (K.written sink.old) (K.written sink.new) (AppendsReplies (notations_of tables.now) (start setting) bytes))) }
 
     // Each other status has its cause; that memory ran out may come in place of all but 1 and 2.
     ensures usage { (result ≡ 1) ↔ IsNone (setting_of (texts words.now)) }

@@ -1,7 +1,7 @@
 ghost use Rattle.std.specs.Prelude.{◌≡◌, ◌⊎◌, ◌+◌, ◌++◌, ◌<◌, ◌≤◌, ◌^◌, Err, length, IfOk, IfErr, IsSomeAnd, OnOk};
 ghost use Rattle.ic_laws.specs.Lines.{line_step, reply_bytes};
 ghost use Rattle.ic_lines.specs.Bytes.{AppendsFront, HasFault, IfTold};
-ghost use Rattle.ic_book.specs.Book.{core_of, with_core};
+ghost use Rattle.ic_book.specs.Book.{core_of, notations_in, with_core};
 ghost use Rattle.ic_desk.specs.Run.{AppendsReplies, HasCause, Leaves, TakesAll};
 
 use crate::answer::reply_to;
@@ -24,7 +24,7 @@ pub fn run<S: Source, K: Sink>(
     // left.
     ensures book { IfOk result (λ count. IfTold (S.left source.old) (S.left source.new) (TakesAll model.old model.new count)) }
     ensures replies { OnOk result (IfTold (S.left source.old) (S.left source.new) (λ bytes _.
-        IfTold (K.written sink.old) (K.written sink.new) (AppendsReplies (core_of model.old) bytes))) }
+        IfTold (K.written sink.old) (K.written sink.new) (AppendsReplies (notations_in model.old) (core_of model.old) bytes))) }
 
     // Each error has its cause, and no fault is passed over.
     ensures cause { IfErr result (HasCause
@@ -61,14 +61,14 @@ fn answer_to<K: Sink>(
     line: &Line,
     sink: &mut K,
 ) -> Result<(), RunError>
-    ensures book { OnOk result (model.new ≡ with_core model.old (line_step (core_of model.old) line.now).0) }
+    ensures book { OnOk result (model.new ≡ with_core model.old (line_step (notations_in model.old) (core_of model.old) line.now).0) }
     ensures reply { OnOk result (IfTold (K.written sink.old) (K.written sink.new)
-        (λ before now. now ≡ before ++ reply_bytes (line_step (core_of model.old) line.now).1)) }
+        (λ before now. now ≡ before ++ reply_bytes (line_step (notations_in model.old) (core_of model.old) line.now).1)) }
     ensures which { IfErr result (λ e. (e ≡ RunError.OutOfMemory) ⊎ (e ≡ RunError.WriteFault)) }
     ensures no_memory { result ≡ Err RunError.OutOfMemory → (model.new ≡ model.old) × (sink.new ≡ sink.old) }
     ensures write_fault { result ≡ Err RunError.WriteFault → HasFault (K.faults sink.old) (K.faults sink.new)
-        × (model.new ≡ with_core model.old (line_step (core_of model.old) line.now).0)
-        × IfTold (K.written sink.old) (K.written sink.new) (AppendsFront (reply_bytes (line_step (core_of model.old) line.now).1)) }
+        × (model.new ≡ with_core model.old (line_step (notations_in model.old) (core_of model.old) line.now).0)
+        × IfTold (K.written sink.old) (K.written sink.new) (AppendsFront (reply_bytes (line_step (notations_in model.old) (core_of model.old) line.now).1)) }
     ensures counted { K.faults sink.old ≤ K.faults sink.new }
     ensures quiet { OnOk result (K.faults sink.new ≡ K.faults sink.old) }
 {

@@ -2,7 +2,7 @@ ghost use Rattle.std.specs.Prelude.{◌≡◌, true, None, Some, chars, codes, m
 ghost use Rattle.std.specs.List.{slice_get};
 ghost use Rattle.ic_tables.specs.Making.{Tells};
 ghost use Rattle.ic_tables.specs.Words.{has_stored_words};
-ghost use Rattle.ic_tables.specs.Tables.{TableSet, HasGoodFormats, HasGoodWords, first_failed, ids_of, language_of, locale_of, lists_zone};
+ghost use Rattle.ic_tables.specs.Tables.{TableSet, HasGoodFormats, HasGoodWords, IsWellFormed, first_failed, ids_of, language_of, locale_of, lists_zone};
 
 use crate::conditions::check;
 use crate::ids::{copy_ids, find_id, has_id};
@@ -130,9 +130,10 @@ impl Tables {
         &find_id(self.locales.as_slice(), "en").unwrap().locale
     }
 
-    /// Whether the list of zones has this name.
+    /// Whether the list of zones has this name. The tables meet every condition, whatever is asked.
     pub fn has_zone(&self, id: &str) -> bool
-        ensures { result ≡ lists_zone self.now (chars id.now) }
+        ensures listed { result ≡ lists_zone self.now (chars id.now) }
+        ensures well_formed { IsWellFormed self.now }
     {
         has_id(self.zones.as_slice(), id)
     }

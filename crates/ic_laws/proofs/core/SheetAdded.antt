@@ -1,12 +1,12 @@
 -- A book stays valid when a sheet with a good name and the fresh id is added, over which its formulas are kept.
-use Rattle.std.proofs.Common.{◌≡◌, ℕ, ◌+◌, ◌<◌, List, [], ◌∷◌, ◌++◌, map, true, false, flat_map, refl, ap, sym, subst, ◌∙◌, length-append, arith, nat_eq, inl, inr}
+use Rattle.std.proofs.Common.{◌≡◌, ℕ, ◌+◌, ◌<◌, List, [], ◌∷◌, ◌++◌, map, Bool, true, false, flat_map, refl, ap, sym, subst, ◌∙◌, length-append, arith, nat_eq, inl, inr}
 use Rattle.std.specs.List.{IsDistinct, list_any}
 use Rattle.std.specs.List.Sorted.{IsStrictlySortedBy}
 use Rattle.std.specs.Option.{option_to_list}
 use Rattle.std.specs.Cmp.{nat_eq_equiv}
 use Rattle.std.proofs.lemmas.Bool.{cases_Bool}
 use Rattle.std.proofs.lemmas.List.{map-append}
-use Rattle.std.proofs.lemmas.Map.Keys.{IsDistinct-push}
+use Rattle.std.proofs.lemmas.Map.Keys.{IsDistinct-cons, IsDistinct-push}
 use Rattle.ic_laws.proofs.CoreLemmas.{above_greatest, agrees_equiv}
 use Rattle.ic_laws.proofs.core.KeptBook.{KeepsTrees, in_body, mentioned, on_sheet, same_definitions, same_sheets, valid_definitions, valid_sheets}
 use Rattle.ic_laws.proofs.core.Lists.{all_pushed}
@@ -86,3 +86,22 @@ module _ (n : Notations) (book : CoreBook) (name : List ℕ) (valid : IsValidCor
       (subst (IsDistinct agrees) (sym (map-append (λ (s : Sheet). s.name) kept_sheets (new_sheet ∷ []) ∙ ap (λ names. names ++ name ∷ []) (kept_names n book later))) (IsDistinct-push agrees_equiv (names_of book) name valid.names_differ new))
       (subst (IsDistinct same_key) (sym (kept_keys n book later)) valid.keys_differ)
       valid.locale valid.language
+
+distinct_none : {K : Type 0} (same : K → K → Bool) → IsDistinct same []
+unfolding IsDistinct
+distinct_none same = tt
+
+-- a book of one sheet, which has the id 1 and no formulas, and no definitions is valid
+pub one_sheet_valid : (n : Notations) (name locale language : List ℕ) → is_sheet_name name ≡ true → n.knows_locale locale ≡ true → n.knows_language language ≡ true
+    → IsValidCore n (record { sheets = record { id = 1; name = name; cells = [] } ∷ []; definitions = []; locale = locale; language = language })
+one_sheet_valid n name locale language good l g = record {
+  some_sheet = omega arith;
+  few = omega arith;
+  sheets = (record { id = (omega arith, omega arith); name = good; ordered = none_ordered; cells = tt }, tt);
+  definitions = tt;
+  ids_differ = IsDistinct-cons nat_eq 1 [] tt (distinct_none nat_eq);
+  names_differ = IsDistinct-cons agrees name [] tt (distinct_none agrees);
+  keys_differ = distinct_none same_key;
+  locale = l;
+  language = g;
+}

@@ -11,6 +11,7 @@ invariant_of-self-2 c =
     let book : Book = record {
       name = c.self.inside.name;
       sheets = sheets_of c.self.inside.sheets.items;
+      definitions = [];
       locale = c.self.inside.locale;
       language = c.self.inside.language;
       zone = c.self.inside.zone;
@@ -21,5 +22,5 @@ invariant_of-self-2 c =
     let new : has_sheet (core_of book) (chars c.args.sheet_name.now) ≡ false =
     sym (rw c.as_slice.ensures.value at c.is_taken.ensures) ∙ c.if-is_taken.false in
     let fresh = c.in-Some.ensures.fresh ∙ ap (λ b. fresh_id (core_of b)) (sym c.self.view_is) in
-    IsValidBook-push book c.self.inside.sheets.items c.push.new.self.items c.in-Some.id (chars c.args.sheet_name.now) refl c.self.invariant good new fresh
+    IsValidBook-push book c.self.inside.sheets.items c.push.new.self.items c.in-Some.id (chars c.args.sheet_name.now) refl refl c.self.invariant good new fresh
     (c.in_ok-push.ensures.items ∙ ap (λ n. c.self.inside.sheets.items ++ record { id = c.in-Some.id; name = n } ∷ []) c.in_ok-name.ensures)
