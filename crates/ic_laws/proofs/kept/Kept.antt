@@ -1,13 +1,12 @@
 -- A tree that is read and bound is kept well, and so is a kept tree that is written and bound again when its book changes.
-use Rattle.std.proofs.Common.{◌≡◌, ℕ, ℤ, pos, ◌≤◌, List, [], ◌∷◌, map, Bool, true, false, not, ◌&&◌, codes, Option, None, Some, refl, sym, ap, subst, ◌∙◌, nat_eq, arith, inl, inr, ◌⊎◌}
+use Rattle.std.proofs.Common.{◌≡◌, ℕ, ℤ, ◌≤◌, List, [], ◌∷◌, map, Bool, true, not, ◌&&◌, codes, Option, None, Some, refl, sym, subst, ◌∙◌, nat_eq, arith, inl, inr, ◌⊎◌}
 use Rattle.std.specs.Prelude.{IsSome, bytes_eq, option_map, unwrap_or}
 use Rattle.std.specs.List.{AllByRecursion, find}
 use Rattle.std.specs.Fmt.{decimal}
 use Rattle.std.proofs.lemmas.Bool.{and_from, and_parts, cases_Bool}
-use Rattle.ic_laws.specs.Binding.{IsSettled, RespectsFolding, bound, bound_call, spelled, spelled_kind, spelled_sheet, spelled_with, spelled_word}
-use Rattle.ic_laws.specs.CoreBook.{CoreBook, Definition, Sheet, scene_of, spelling_of}
+use Rattle.ic_laws.specs.Binding.{RespectsFolding, bound, bound_call, spelled_kind, spelled_sheet, spelled_with, spelled_word}
 use Rattle.ic_laws.specs.Dialect.{DialectMeaning}
-use Rattle.ic_laws.specs.Keeping.{KeyChange, kept, kept_name, kept_sheet, same_keys}
+use Rattle.ic_laws.specs.Keeping.{KeyChange, kept, kept_name, kept_sheet}
 use Rattle.ic_laws.specs.Name.{agrees, fold, is_identifier, is_lone, is_sheet_name, is_variable}
 use Rattle.ic_laws.specs.Notations.{AreNotations, HasFunction, IsShownForm, Notations, english_function}
 use Rattle.ic_laws.specs.Parse.{SpelledKind, node}
@@ -17,7 +16,7 @@ use Rattle.ic_laws.specs.Reading.{Reads}
 use Rattle.ic_laws.specs.Scene.{SheetsDiffer, definition_at, name_of_key, name_of_sheet, name_spelling, same_scope, sheet_spelling}
 use Rattle.ic_laws.specs.Token.{FunHead, Ref, Spells, Token}
 use Rattle.ic_laws.specs.Tree.{Bound, IsKindWell, IsPairWell, IsWellFormed, Spelled, bound_names, is_called_name, is_sheet_mention, is_word_mention, is_written_sheet, spelled_names}
-use Rattle.ic_laws.specs.ValidCore.{IsKept, IsValidCore, IsValidDefinition, IsValidSheet, LiesInSheet}
+use Rattle.ic_laws.specs.ValidCore.{IsKept, LiesInSheet}
 use Rattle.ic_laws.specs.Yield.{yield}
 use Rattle.ic_laws.specs.declared.dialect.WordKind.TheVariants as kinds
 use Rattle.ic_laws.specs.declared.reference.Place.{Place}
@@ -30,16 +29,14 @@ use Rattle.ic_laws.specs.declared.tree.NameMention.{NameMention}
 use Rattle.ic_laws.specs.declared.tree.NameMention.TheVariants as names
 use Rattle.ic_laws.specs.declared.tree.SheetMention.{SheetMention}
 use Rattle.ic_laws.specs.declared.tree.SheetMention.TheVariants as sheets
-use Rattle.ic_laws.specs.declared.tree.Tree.{every-Tree}
 use Rattle.ic_laws.specs.declared.tree.Tree.TheOpen as one
 use Rattle.ic_laws.proofs.binding.Again.{BoundKind, children_spelled, once, under}
 use Rattle.ic_laws.proofs.binding.Induction.{every_made}
 use Rattle.ic_laws.proofs.binding.SceneLemmas.{find_here, find_later}
 use Rattle.ic_laws.proofs.binding.Settled.{bound_is_settled}
 use Rattle.ic_laws.proofs.kept.Everywhere.{every_both}
-use Rattle.ic_laws.proofs.kept.Lifting.{BindsFacts, SpellsFacts, every_bound, every_spelled}
-use Rattle.ic_laws.proofs.kept.Shapes.{SameSize}
-use Rattle.ic_laws.proofs.kept.Stays.{AllStays, CallStays, KeyStays, NameStays, SheetStays, Stays, settled_stays}
+use Rattle.ic_laws.proofs.kept.Lifting.{every_bound, every_spelled}
+use Rattle.ic_laws.proofs.kept.Stays.{NameStays, SheetStays, Stays, settled_stays}
 use Rattle.ic_laws.proofs.kept.Tokens.{OfNode, OfNodes, OfToken, lexed_all, nodes_of_tokens}
 use Rattle.ic_laws.proofs.kept.Wells.{IsWritten, SpecialWords, WrittenByNames, bound_well, spelled_well}
 use Rattle.ic_laws.proofs.parsing.Nodes.{brackets-node, empty-node, height-node}

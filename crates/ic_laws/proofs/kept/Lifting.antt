@@ -1,5 +1,5 @@
 -- What holds of each node and each pair of a formula gives what holds of those of it bound, and of it spelled.
-use Rattle.std.proofs.Common.{◌≡◌, ℕ, List, [], ◌∷◌, ◌++◌, map, Option, None, Some, refl, sym, subst}
+use Rattle.std.proofs.Common.{ℕ, List, [], ◌∷◌, ◌++◌, map, Option, None, Some, refl, sym, subst}
 use Rattle.std.specs.List.{AllByRecursion}
 use Rattle.ic_laws.specs.Binding.{Binders, BoundPair, all_bound, bound_call, bound_pair_of, bound_under, pair_binds, pairs_bound, spelled_kind, spelled_with, with_parameters, with_variables}
 use Rattle.ic_laws.specs.Parse.{Pair, SpelledKind, node, pair_of}

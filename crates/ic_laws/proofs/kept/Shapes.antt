@@ -1,9 +1,9 @@
 -- Binding and spelling change the mentions of a formula, and nothing else: how tightly it binds, how high it is, how many
 -- brackets are open in it, whether it is there and whether it can be called all stay.
 use mathlib.Core.Path.{fun_ext}
-use Rattle.std.proofs.Common.{◌≡◌, ℕ, ◌+◌, List, [], ◌∷◌, ◌++◌, map, max, Bool, true, false, not, Option, None, Some, refl, sym, ap, ap₂, subst, ◌∙◌}
+use Rattle.std.proofs.Common.{◌≡◌, ℕ, ◌+◌, List, [], ◌∷◌, ◌++◌, map, max, true, false, not, Option, None, Some, refl, sym, ap, ap₂, subst, ◌∙◌}
 use Rattle.std.specs.List.{AllByRecursion}
-use Rattle.ic_laws.specs.Binding.{Binders, BoundPair, all_bound, bound_call, bound_pair_of, bound_under, pair_binds, pairs_bound, spelled_kind, spelled_with, with_parameters, with_variables}
+use Rattle.ic_laws.specs.Binding.{Binders, BoundPair, all_bound, bound_call, bound_under, pair_binds, pairs_bound, spelled_kind, spelled_with, with_parameters, with_variables}
 use Rattle.ic_laws.specs.Greatest.{greatest}
 use Rattle.ic_laws.specs.Parse.{Pair, SpelledKind, node}
 use Rattle.ic_laws.specs.Tree.{Bound, Spelled, brackets_step, height, height_step, is_argument_list, is_callable, is_callable_kind, is_empty, is_empty_kind, kind_level, level, open_brackets}

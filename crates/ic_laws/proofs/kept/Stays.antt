@@ -1,10 +1,10 @@
 -- What binding gives is there in its own scene: each sheet and each definition that a settled formula mentions is one of
 -- the scene's, what dangles is found by nothing, and what is called is no English function.
-use Rattle.std.proofs.Common.{◌≡◌, ℕ, List, [], ◌∷◌, ◌++◌, map, Bool, true, false, Option, None, Some, refl, sym, ap, subst, ◌∙◌, nat_eq, if◌then◌else◌}
+use Rattle.std.proofs.Common.{◌≡◌, ℕ, List, [], map, Bool, true, false, Option, None, Some, refl, sym, ap, subst, ◌∙◌, nat_eq, if◌then◌else◌}
 use Rattle.std.specs.Prelude.{option_map, IsSome}
 use Rattle.std.specs.List.{find}
 use Rattle.std.proofs.lemmas.Bool.{eq-eqb}
-use Rattle.ic_laws.specs.Binding.{Binders, IsSettled, RespectsFolding, bound, bound_call, bound_sheet, bound_under, bound_word, is_bound_by, name_or_dangling, sheet_or_dangling, spelled, spelled_word}
+use Rattle.ic_laws.specs.Binding.{Binders, IsSettled, RespectsFolding, bound, bound_call, bound_sheet, bound_word, is_bound_by, name_or_dangling, sheet_or_dangling, spelled, spelled_word}
 use Rattle.ic_laws.specs.Name.{agrees, fold}
 use Rattle.ic_laws.specs.Parse.{SpelledKind}
 use Rattle.ic_laws.specs.Scene.{definition_at, found_name, found_sheet, key_found, name_of_key, name_of_sheet, name_spelling}
@@ -20,9 +20,9 @@ use Rattle.ic_laws.specs.declared.tree.SheetMention.TheVariants as sheets
 use Rattle.ic_laws.specs.declared.tree.Tree.{every-Tree}
 use Rattle.ic_laws.specs.declared.tree.Tree.TheOpen as one
 use Rattle.ic_laws.proofs.binding.Again.{BoundKind, once, under}
-use Rattle.ic_laws.proofs.binding.Induction.{Every, every_of_all}
+use Rattle.ic_laws.proofs.binding.Induction.{every_of_all}
 use Rattle.ic_laws.proofs.binding.SceneLemmas.{found_by_other, found_has_definition, word_fold}
-use Rattle.ic_laws.proofs.kept.Lifting.{BindsFacts, every_bound}
+use Rattle.ic_laws.proofs.kept.Lifting.{every_bound}
 
 -- a sheet that is mentioned has a name in the scene, and a name that dangles finds none
 abbrev pub SheetStays : Scene → SheetMention → Type 0

@@ -1,9 +1,9 @@
 -- What holds of each token of a formula that names a reference or a function holds of its nodes; and what holds of each
 -- token that is spelled so holds of those of a text.
-use Rattle.std.proofs.Common.{◌≡◌, ℕ, List, [], ◌∷◌, ◌++◌, map, Option, None, Some, refl, sym, subst}
+use Rattle.std.proofs.Common.{ℕ, List, [], ◌∷◌, ◌++◌, map, Option, refl, subst}
 use Rattle.std.specs.List.{AllByRecursion}
 use Rattle.ic_laws.specs.Dialect.{DialectMeaning}
-use Rattle.ic_laws.specs.Parse.{Pair, SpelledKind, node, pair_of}
+use Rattle.ic_laws.specs.Parse.{Pair, SpelledKind, node}
 use Rattle.ic_laws.specs.Token.{Close, FunHead, Hash, Lexes, Open, Operator, Percent, Ref, Separator, Spells, Token, Word}
 use Rattle.ic_laws.specs.Tree.{Spelled}
 use Rattle.ic_laws.specs.Yield.{joined, pair_parts, yield, yield_step}
@@ -11,7 +11,7 @@ use Rattle.ic_laws.specs.declared.reference.Place.{Place}
 use Rattle.ic_laws.specs.declared.tree.LetPair.{every_made-LetPair}
 use Rattle.ic_laws.specs.declared.tree.Tree.{every-Tree}
 use Rattle.ic_laws.specs.declared.tree.Tree.TheOpen as one
-use Rattle.ic_laws.proofs.binding.Induction.{Every, EveryPair, OfChildren, by_nodes, every_made}
+use Rattle.ic_laws.proofs.binding.Induction.{EveryPair, OfChildren, by_nodes, every_made}
 use Rattle.ic_laws.proofs.parsing.Nodes.{pair_tokens, with_tokens, yield-node}
 
 -- each token of a text has what each token has that is spelled so

@@ -3,21 +3,19 @@
 use Rattle.std.proofs.Common.{◌≡◌, ◌≢◌, ℕ, ◌+◌, ◌≤◌, List, [], ◌∷◌, map, Bool, true, false, not, ◌&&◌, codes, Option, None, Some, refl, sym, ap, subst, ◌∙◌, if◌then◌else◌}
 use Rattle.std.proofs.lemmas.Bool.{and_parts}
 use Rattle.ic_laws.specs.Binding.{Binders, BoundPair, all_bound, bound_call, bound_sheet, bound_under, bound_word, is_bound_by, name_or_dangling, pair_binds, pairs_bound, sheet_or_dangling, spelled_kind, spelled_sheet, spelled_with, spelled_word}
-use Rattle.ic_laws.specs.Name.{agrees, is_sheet_name, is_variable}
+use Rattle.ic_laws.specs.Name.{agrees, is_variable}
 use Rattle.ic_laws.specs.Parse.{Pair, SpelledKind}
 use Rattle.ic_laws.specs.Scene.{found_name, found_sheet}
-use Rattle.ic_laws.specs.Tree.{Bound, CallsCallable, HasArguments, HasElements, HasNames, HasOperands, HasParts, HasPlaces, HasUnsigned, IsKindWell, IsOperand, IsPairWell, IsThere, IsWellFormed, Kind, Spelled, bound_names, is_argument_list, is_callable, is_called_name, is_empty, is_sheet_mention, is_word_mention, is_written_sheet, level, sign_level, spelled_names}
+use Rattle.ic_laws.specs.Tree.{Bound, CallsCallable, HasArguments, HasElements, HasNames, HasOperands, HasParts, HasPlaces, HasUnsigned, IsKindWell, IsOperand, IsPairWell, IsThere, IsWellFormed, Spelled, bound_names, is_called_name, is_sheet_mention, is_word_mention, is_written_sheet, sign_level, spelled_names}
 use Rattle.ic_laws.specs.declared.scene.Scene.{Scene}
 use Rattle.ic_laws.specs.declared.tree.NameKey.{NameKey}
 use Rattle.ic_laws.specs.declared.tree.NameMention.{NameMention}
 use Rattle.ic_laws.specs.declared.tree.NameMention.TheVariants as names
 use Rattle.ic_laws.specs.declared.tree.SheetMention.{SheetMention}
-use Rattle.ic_laws.specs.declared.tree.SheetMention.TheVariants as sheets
 use Rattle.ic_laws.specs.declared.tree.Tree.{every-Tree}
 use Rattle.ic_laws.specs.declared.tree.Tree.TheOpen as one
 use Rattle.ic_laws.proofs.binding.Again.{BoundKind, children_spelled, once, pair_spelled, under}
-use Rattle.ic_laws.proofs.binding.Induction.{Every}
-use Rattle.ic_laws.proofs.kept.Lifting.{BindsFacts, BoundParts, SpellsFacts, every_bound, every_spelled}
+use Rattle.ic_laws.proofs.kept.Lifting.{every_bound, every_spelled}
 use Rattle.ic_laws.proofs.kept.Shapes.{bound_arguments, bound_size, bound_top, spelled_arguments, spelled_size, spelled_top}
 
 -- the words of LET and LAMBDA are these
