@@ -1,6 +1,8 @@
+pub mod Books
 pub mod Everywhere
 pub mod Kept
 pub mod Lifting
+pub mod Scenes
 pub mod Shapes
 pub mod Stays
 pub mod Tokens

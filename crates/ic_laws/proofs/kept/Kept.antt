@@ -192,7 +192,7 @@ pub record HasValidNames (scene : Scene) : Type 0 where
   pub definitions : AllByRecursion (λ (definition : NameSpelling). is_identifier definition.name ≡ true) scene.names
 
 -- what is found has what all of a list have
-found_has : {X : Type 0} (P : X → Type 0) (p : X → Bool) (xs : List X) → AllByRecursion P xs → (x : X) → find p xs ≡ Some x → P x
+pub found_has : {X : Type 0} (P : X → Type 0) (p : X → Bool) (xs : List X) → AllByRecursion P xs → (x : X) → find p xs ≡ Some x → P x
 found_has P p [] all x e = cc
 found_has {X} P p (y ∷ ys) all x e =
     elim (cases_Bool (p y)) [
