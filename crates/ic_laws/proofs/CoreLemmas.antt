@@ -1,5 +1,5 @@
 -- Ids and names: the greatest, the fresh one, and how many there are.
-use Rattle.std.proofs.Common.{Bool, ◌≡◌, ℕ, ◌+◌, ◌<◌, ◌≤◌, List, [], ◌∷◌, length, true, false, All, nat_eq, arith, subst, sym, length-append, max, inl, inr, Some, None, IfSome, nat_lt, if◌then◌else◌}
+use Rattle.std.proofs.Common.{Bool, ◌≡◌, ℕ, ◌+◌, ◌<◌, ◌≤◌, List, [], ◌∷◌, length, true, false, All, nat_eq, arith, subst, sym, length-append, max, inl, inr, Some, None, is_none, IfSome, nat_lt, if◌then◌else◌}
 use Rattle.std.specs.List.{list_any, IsDistinct}
 use Rattle.std.specs.Cmp.{IsEquivalence, nat_eq_equiv, on_equiv}
 use Rattle.std.specs.Cmp.Lexicographic.{nat_list_eq_equiv}
@@ -29,7 +29,7 @@ found_has : (P : ℕ → Type 0) (q : ℕ) (ns : List ℕ) → All P ns → list
 found_has P q ns h e = All-contains P ns q h (Contains-from_any eqb-true q ns e)
 
 -- what is above the greatest is in no list
-above_greatest : (q : ℕ) (ns : List ℕ) → greatest ns < q → list_any (nat_eq q) ns ≡ false
+pub above_greatest : (q : ℕ) (ns : List ℕ) → greatest ns < q → list_any (nat_eq q) ns ≡ false
 above_greatest q ns l =
     elim (cases_Bool (list_any (nat_eq q) ns)) [
       | inl e ↦ absurd (omega (arith, found_has (λ n. n ≤ greatest ns) q ns (All-greatest ns) e))
@@ -37,7 +37,7 @@ above_greatest q ns l =
     ]
 
 -- there are no more ids than numbers from 1 to the last
-ids_few : (ns : List ℕ) → All IsId ns → IsDistinct nat_eq ns → length ns ≤ last_id
+pub ids_few : (ns : List ℕ) → All IsId ns → IsDistinct nat_eq ns → length ns ≤ last_id
 ids_few ns each apart =
     let Small : ℕ → Type 0 = λ n. n ≤ last_id in
     let not_zero : All (λ n. nat_eq 0 n ≡ false) ns = All-weaker IsId _ (λ n h. positive n h.0) ns each in
@@ -63,4 +63,12 @@ fresh_is_next book id e =
     elim (cases_Bool (nat_lt (greatest_id book) last_id)) [
       | inl room ↦ let next : Some id ≡ Some (greatest_id book + 1) = rw room at e in (ltb-true _ _ room, cc)
       | inr none ↦ let no : Some id ≡ None = rw none at e in cc
+    ]
+
+-- where a fresh id is left, the greatest in use is not the last
+pub fresh_room : (book : CoreBook) → is_none (fresh_id book) ≡ false → greatest_id book < last_id
+fresh_room book e =
+    elim (cases_Bool (nat_lt (greatest_id book) last_id)) [
+      | inl room ↦ ltb-true _ _ room
+      | inr none ↦ let no : true ≡ false = rw none at e in cc
     ]

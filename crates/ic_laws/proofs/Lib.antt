@@ -14,6 +14,7 @@ pub mod Smallest
 pub mod SmallestLaws
 pub mod TextLemmas
 pub mod binding
+pub mod core
 pub mod kept
 pub mod parsing
 pub mod printing

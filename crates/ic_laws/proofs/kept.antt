@@ -1,4 +1,3 @@
-pub mod Books
 pub mod Everywhere
 pub mod Kept
 pub mod Lifting
@@ -6,4 +5,5 @@ pub mod Scenes
 pub mod Shapes
 pub mod Stays
 pub mod Tokens
+pub mod TreeFacts
 pub mod Wells

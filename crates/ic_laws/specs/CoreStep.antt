@@ -25,6 +25,10 @@ abbrev pub unless_refused : Option Refusal → CoreBook → List Field → Outco
 unless_refused (Some refusal) book fields = Err refusal
 unless_refused None book fields = Ok (book, fields)
 
+-- what may refuse a command, in the order in which it is told
+abbrev pub Causes : Type 0
+Causes = List (Bool × Refusal)
+
 -- a change of the sheets or the definitions of a book: all formulas are kept over it
 abbrev pub changed_by : Notations → (CoreBook → CoreBook) → CoreBook → CoreBook
 changed_by n change book = change (with_kept n (scene_of book) (scene_of (change book)) same_keys book)
@@ -36,10 +40,12 @@ lacks_sheet book index = not (nat_lt index (length book.sheets))
 -- a new sheet ----
 
 -- what refuses one of this name
+abbrev pub add_sheet_causes : CoreBook → List ℕ → Causes
+add_sheet_causes book name =
+    (not (is_sheet_name name), InvalidSheetName) ∷ (has_sheet book name, SheetExists) ∷ (is_none (fresh_id book), IdsUsedUp) ∷ []
+
 abbrev pub add_sheet_refusal : CoreBook → List ℕ → Option Refusal
-add_sheet_refusal book name =
-    first_refusal
-    ((not (is_sheet_name name), InvalidSheetName) ∷ (has_sheet book name, SheetExists) ∷ (is_none (fresh_id book), IdsUsedUp) ∷ [])
+add_sheet_refusal book name = first_refusal (add_sheet_causes book name)
 
 -- the sheets with a new one of this name at their end, which has the fresh id and no formulas
 abbrev pub with_new_sheet : List ℕ → CoreBook → CoreBook
@@ -54,10 +60,12 @@ add_sheet_step n book name = unless_refused (add_sheet_refusal book name) (chang
 abbrev pub has_other_sheet : CoreBook → ℕ → List ℕ → Bool
 has_other_sheet book index name = list_any (agrees name) (remove (names_of book) index)
 
+abbrev pub rename_causes : CoreBook → ℕ → List ℕ → Causes
+rename_causes book index name =
+    (not (is_sheet_name name), InvalidSheetName) ∷ (has_other_sheet book index name, SheetExists) ∷ (lacks_sheet book index, InvalidSheet) ∷ []
+
 abbrev pub rename_refusal : CoreBook → ℕ → List ℕ → Option Refusal
-rename_refusal book index name =
-    first_refusal
-    ((not (is_sheet_name name), InvalidSheetName) ∷ (has_other_sheet book index name, SheetExists) ∷ (lacks_sheet book index, InvalidSheet) ∷ [])
+rename_refusal book index name = first_refusal (rename_causes book index name)
 
 -- the item at an index, changed
 abbrev pub updated_at : {A : Type 0} → (A → A) → ℕ → List A → List A
@@ -85,8 +93,12 @@ at_found (Some index) step = step index
 
 -- another place for a sheet ----
 
+abbrev pub move_causes : CoreBook → ℕ → ℕ → Causes
+move_causes book from to =
+    (lacks_sheet book from, SheetIndexTooLarge) ∷ (lacks_sheet book to, TargetTooLarge) ∷ []
+
 abbrev pub move_refusal : CoreBook → ℕ → ℕ → Option Refusal
-move_refusal book from to = first_refusal ((lacks_sheet book from, SheetIndexTooLarge) ∷ (lacks_sheet book to, TargetTooLarge) ∷ [])
+move_refusal book from to = first_refusal (move_causes book from to)
 
 -- the item at an index is taken out and put at another
 abbrev pub put_back : {A : Type 0} → ℕ → List A → Option A → List A
@@ -101,8 +113,12 @@ move_step book from to = unless_refused (move_refusal book from to) (record book
 
 -- a sheet is taken out ----
 
+abbrev pub delete_causes : CoreBook → ℕ → Causes
+delete_causes book index =
+    (length book.sheets == 1, OnlySheet) ∷ (lacks_sheet book index, SheetIndexTooLarge) ∷ []
+
 abbrev pub delete_refusal : CoreBook → ℕ → Option Refusal
-delete_refusal book index = first_refusal ((length book.sheets == 1, OnlySheet) ∷ (lacks_sheet book index, SheetIndexTooLarge) ∷ [])
+delete_refusal book index = first_refusal (delete_causes book index)
 
 -- definitions that are local to it stay
 abbrev pub without_sheet : ℕ → CoreBook → CoreBook
@@ -129,11 +145,12 @@ has_definition book name scope = list_any (is_named name scope) book.definitions
 abbrev pub scope_or_none : CoreBook → Option ℕ → Option ℕ
 scope_or_none book index = unwrap_or (scope_of book index) None
 
+abbrev pub new_name_causes : Notations → CoreBook → List ℕ → Option ℕ → List ℕ → Causes
+new_name_causes n book name index body =
+    (not (is_identifier name), InvalidName) ∷ (is_none (scope_of book index), InvalidScope) ∷ (has_definition book name (scope_or_none book index), NameExists) ∷ (is_none (body_of n book body), InvalidNameFormula) ∷ []
+
 abbrev pub new_name_refusal : Notations → CoreBook → List ℕ → Option ℕ → List ℕ → Option Refusal
-new_name_refusal n book name index body =
-    first_refusal
-    ((not (is_identifier name), InvalidName) ∷ (is_none (scope_of book index), InvalidScope)
-    ∷ (has_definition book name (scope_or_none book index), NameExists) ∷ (is_none (body_of n book body), InvalidNameFormula) ∷ [])
+new_name_refusal n book name index body = first_refusal (new_name_causes n book name index body)
 
 -- the definitions with a new one at their end; its body is bound where the new definition is there too
 abbrev pub with_definition : Definition → CoreBook → CoreBook
@@ -167,11 +184,12 @@ valid_name_step n book name index body = unless_refused (new_name_refusal n book
 abbrev pub index_of_definition : CoreBook → List ℕ → Option ℕ → Option ℕ
 index_of_definition book name scope = position (is_named name scope) book.definitions
 
+abbrev pub delete_name_causes : CoreBook → List ℕ → Option ℕ → Causes
+delete_name_causes book name index =
+    (is_none (scope_of book index), InvalidSheet) ∷ (not (has_definition book name (scope_or_none book index)), NameNotFound) ∷ []
+
 abbrev pub delete_name_refusal : CoreBook → List ℕ → Option ℕ → Option Refusal
-delete_name_refusal book name index =
-    first_refusal
-    ((is_none (scope_of book index), InvalidSheet)
-    ∷ (not (has_definition book name (scope_or_none book index)), NameNotFound) ∷ [])
+delete_name_refusal book name index = first_refusal (delete_name_causes book name index)
 
 abbrev pub without_definition : Option ℕ → CoreBook → CoreBook
 without_definition None book = book
@@ -197,11 +215,12 @@ list_fields n book = flat_map (λ definition. fields_in_scope n book definition 
 
 -- formulas ----
 
+abbrev pub update_causes : CoreBook → ℕ → ℤ → ℤ → List ℕ → Causes
+update_causes book index row column text =
+    (lacks_sheet book index, InvalidSheet) ∷ (not (is_row row), InvalidRow) ∷ (not (is_column column), InvalidColumn) ∷ (not (is_formula_text text), NotAFormula) ∷ []
+
 abbrev pub update_refusal : CoreBook → ℕ → ℤ → ℤ → List ℕ → Option Refusal
-update_refusal book index row column text =
-    first_refusal
-    ((lacks_sheet book index, InvalidSheet) ∷ (not (is_row row), InvalidRow) ∷ (not (is_column column), InvalidColumn)
-    ∷ (not (is_formula_text text), NotAFormula) ∷ [])
+update_refusal book index row column text = first_refusal (update_causes book index row column text)
 
 -- the formula of a text in a cell of this sheet
 abbrev pub with_formula : Notations → CoreBook → ℤ → ℤ → List ℕ → Sheet → Sheet

@@ -34,6 +34,7 @@ use Rattle.ic_laws.proofs.binding.Again.{BoundKind, children_spelled, once, unde
 use Rattle.ic_laws.proofs.binding.Induction.{every_made}
 use Rattle.ic_laws.proofs.binding.SceneLemmas.{find_here, find_later}
 use Rattle.ic_laws.proofs.binding.Settled.{bound_is_settled}
+use Rattle.ic_laws.proofs.core.Named.{IsNamed}
 use Rattle.ic_laws.proofs.kept.Everywhere.{every_both}
 use Rattle.ic_laws.proofs.kept.Lifting.{every_bound, every_spelled}
 use Rattle.ic_laws.proofs.kept.Stays.{NameStays, SheetStays, Stays, settled_stays}
@@ -186,11 +187,6 @@ module _ (n : Notations) (scene : Scene) (scope : Option ℕ) (row column : ℤ)
           (record { node = lies_spelled; pair = λ variable value p. tt }) t is_kept.parts;
     }
 
--- each sheet of a scene has the name of one, and each definition an identifier
-pub record HasValidNames (scene : Scene) : Type 0 where
-  pub sheets : AllByRecursion (λ (sheet : SheetName). is_sheet_name sheet.name ≡ true) scene.sheets
-  pub definitions : AllByRecursion (λ (definition : NameSpelling). is_identifier definition.name ≡ true) scene.names
-
 -- what is found has what all of a list have
 pub found_has : {X : Type 0} (P : X → Type 0) (p : X → Bool) (xs : List X) → AllByRecursion P xs → (x : X) → find p xs ≡ Some x → P x
 found_has P p [] all x e = cc
@@ -207,13 +203,13 @@ sheet_named o = option_map (λ (s : SheetName). s.name) o
 abbrev definition_named : Option NameSpelling → Option (List ℕ)
 definition_named o = option_map (λ (d : NameSpelling). d.name) o
 
-module _ (scene : Scene) (valid : HasValidNames scene) where
+module _ (scene : Scene) (named : IsNamed scene) where
   -- the name of a sheet that has one is the name of a sheet, whatever one without a name is written by
   sheet_name_valid : (id : ℕ) (other : List ℕ) → (IsSome (name_of_sheet scene id)) ⊎ (is_sheet_name other ≡ true) → is_sheet_name (unwrap_or (name_of_sheet scene id) other) ≡ true
   sheet_name_valid id other h = at (find (λ (s : SheetName). nat_eq s.id id) scene.sheets) refl h
     where
       at : (o : Option SheetName) → find (λ (s : SheetName). nat_eq s.id id) scene.sheets ≡ o → (IsSome (sheet_named o)) ⊎ (is_sheet_name other ≡ true) → is_sheet_name (unwrap_or (sheet_named o) other) ≡ true
-      at (Some s) e g = found_has (λ (sheet : SheetName). is_sheet_name sheet.name ≡ true) (λ (x : SheetName). nat_eq x.id id) scene.sheets valid.sheets s e
+      at (Some s) e g = found_has (λ (sheet : SheetName). is_sheet_name sheet.name ≡ true) (λ (x : SheetName). nat_eq x.id id) scene.sheets named.sheets s e
       at None e (inl g) = cc
       at None e (inr g) = g
 
@@ -222,7 +218,7 @@ module _ (scene : Scene) (valid : HasValidNames scene) where
   key_name_valid key other h = at (definition_at scene key.name key.scope) refl h
     where
       at : (o : Option NameSpelling) → definition_at scene key.name key.scope ≡ o → (IsSome (definition_named o)) ⊎ (is_identifier other ≡ true) → is_identifier (unwrap_or (definition_named o) other) ≡ true
-      at (Some d) e g = found_has (λ (x : NameSpelling). is_identifier x.name ≡ true) (λ (x : NameSpelling). bytes_eq (fold x.name) key.name && same_scope x.scope key.scope) scene.names valid.definitions d e
+      at (Some d) e g = found_has (λ (x : NameSpelling). is_identifier x.name ≡ true) (λ (x : NameSpelling). bytes_eq (fold x.name) key.name && same_scope x.scope key.scope) scene.names named.names d e
       at None e (inl g) = cc
       at None e (inr g) = g
 
@@ -234,15 +230,15 @@ module _ (scene : Scene) (valid : HasValidNames scene) where
   }
 
 -- What writes a tree when its book changes writes names, whatever keys change.
-pub keeping_writes : (before after : Scene) → HasValidNames before → HasValidNames after → (change : KeyChange) → WritesNames before (kept_sheet before after) (kept_name before after change)
+pub keeping_writes : (before after : Scene) → IsNamed before → IsNamed after → (change : KeyChange) → WritesNames before (kept_sheet before after) (kept_name before after change)
 keeping_writes before after valid valid_after change = record {
   sheet = λ id there. sheet_name_valid after valid_after id (sheet_spelling before id) (inr ((spelling_writes before valid).sheet id there));
   definition = λ key there. key_name_valid after valid_after (change key) (name_spelling before key) (inr ((spelling_writes before valid).definition key there));
 }
 
 -- A kept tree over a change of its book is kept in the book after it, whatever keys change.
-pub kept_is_kept : (n : Notations) → AreNotations n → (before after : Scene) → HasValidNames before → HasValidNames after → SheetsDiffer after → (change : KeyChange) (scope : Option ℕ) (row column : ℤ) (t : Bound) → IsKept n before scope row column t
+pub kept_is_kept : (n : Notations) → AreNotations n → (before after : Scene) → IsNamed before → IsNamed after → (change : KeyChange) (scope : Option ℕ) (row column : ℤ) (t : Bound) → IsKept n before scope row column t
     → IsKept n after scope row column (kept (english_function n) before after change scope t)
-kept_is_kept n notations before after valid valid_after differ change scope row column t is_kept =
-    bound_kept n notations after scope row column differ (spelled_with (kept_sheet before after) (kept_name before after change) t)
-    (spelled_can_be_kept n before scope row column (kept_sheet before after) (kept_name before after change) (keeping_writes before after valid valid_after change) notations t is_kept)
+kept_is_kept n notations before after named named_after change scope row column t is_kept =
+    bound_kept n notations after scope row column named_after.differ (spelled_with (kept_sheet before after) (kept_name before after change) t)
+    (spelled_can_be_kept n before scope row column (kept_sheet before after) (kept_name before after change) (keeping_writes before after named named_after change) notations t is_kept)

@@ -10,15 +10,16 @@ use Rattle.std.proofs.lemmas.Bool.{cases_Bool}
 use Rattle.std.proofs.lemmas.List.Elements.{All-contains, All-contains_itself, All-from_recursion, recursion_from_All}
 use Rattle.std.proofs.lemmas.List.Sorted.{Contains-permutation, IsPermutation-insert, IsPermutation-map, IsPermutation-refl, IsPermutation-remove, IsPermutation-sym, IsPermutation-trans}
 use Rattle.std.proofs.lemmas.Map.Keys.{IsDistinct-IsPermutation, IsDistinct-head, IsDistinct-tail}
+use Rattle.std.proofs.lemmas.Simd.{map-map}
 use Rattle.std.proofs.lemmas.Option.{get_or_from_slice_get, same_Some, slice_get_within}
 use Rattle.ic_laws.specs.Binding.{Binders, Binds, BindsPair, IsSettled, all_bound, bound, bound_call, bound_kind, bound_pair_step, bound_sheet, bound_word, is_bound_by, name_or_dangling, sheet_or_dangling, spelled, spelled_with}
-use Rattle.ic_laws.specs.CoreBook.{CoreBook, Sheet, scene_of}
+use Rattle.ic_laws.specs.CoreBook.{CoreBook, Sheet, ids_of, scene_of}
 use Rattle.ic_laws.specs.CoreStep.{moved, put_back}
 use Rattle.ic_laws.specs.Name.{agrees}
 use Rattle.ic_laws.specs.Notations.{Notations, english_function}
 use Rattle.ic_laws.specs.Scene.{IdsDiffer, SheetsDiffer, found_name, found_sheet, name_of_sheet, name_spelling, sheet_spelling}
 use Rattle.ic_laws.specs.Tree.{Bound, Spelled}
-use Rattle.ic_laws.specs.ValidCore.{IsKept}
+use Rattle.ic_laws.specs.ValidCore.{IsKept, IsValidCore}
 use Rattle.ic_laws.specs.declared.scene.NameSpelling.{NameSpelling}
 use Rattle.ic_laws.specs.declared.scene.Scene.{Scene}
 use Rattle.ic_laws.specs.declared.scene.SheetName.{SheetName}
@@ -31,6 +32,9 @@ use Rattle.ic_laws.specs.declared.tree.Tree.TheOpen as one
 use Rattle.ic_laws.proofs.CoreLemmas.{agrees_equiv}
 use Rattle.ic_laws.proofs.binding.Again.{BoundKind, bound_node}
 use Rattle.ic_laws.proofs.binding.SceneLemmas.{find_here, find_later, found_passes}
+use Rattle.ic_laws.proofs.core.KeptBook.{mentioned}
+use Rattle.ic_laws.proofs.core.Named.{book_named}
+use Rattle.ic_laws.proofs.core.SheetMoved.{moved_permutes}
 use Rattle.ic_laws.proofs.kept.Kept.{found_has}
 
 -- Two scenes find the same by each text, and spell each sheet and each definition alike.
@@ -137,21 +141,15 @@ permuted_alike before after permuted same_names sheets_differ ids_differ = recor
   key_text = λ key. ap (λ definitions. name_spelling (record { sheets = after.sheets; names = definitions }) key) same_names;
 }
 
--- a sheet that is moved ----
+-- a book in which a sheet is moved ----
 
--- nothing is taken out past the end
-removed_none : {X : Type 0} (xs : List X) (i : ℕ) → slice_get xs i ≡ None → remove xs i ≡ xs
-removed_none [] zero e = refl
-removed_none [] (suc i) e = refl
-removed_none (x ∷ xs) zero e = cc
-removed_none (x ∷ xs) (suc i) e = ap (λ ys. x ∷ ys) (removed_none xs i e)
+ids_differ : (book : CoreBook) → IsDistinct nat_eq (ids_of book) → IdsDiffer (scene_of book)
+ids_differ book h = subst (IsDistinct nat_eq) (sym (map-map (λ (s : SheetName). s.id) mentioned book.sheets)) h
 
--- what is moved stands in another order
-pub moved_permuted : {X : Type 0} (from to : ℕ) (xs : List X) → IsPermutation xs (moved from to xs)
-moved_permuted {X} from to xs = at (slice_get xs from) refl
-  where
-    at : (o : Option X) → slice_get xs from ≡ o → IsPermutation xs (put_back to (remove xs from) o)
-    at None e = subst (IsPermutation xs) (sym (removed_none xs from e)) (IsPermutation-refl xs)
-    at (Some x) e =
-        IsPermutation-trans xs (x ∷ remove xs from) (put_back to (remove xs from) (Some x)) (IsPermutation-remove xs from x (slice_get_within xs from x e) (sym (get_or_from_slice_get xs from x x e)))
-        (IsPermutation-insert (remove xs from) to x)
+pub moved_alike : (n : Notations) (book : CoreBook) → IsValidCore n book → (from to : ℕ) → from < length book.sheets → FindsAlike (scene_of book) (scene_of (record book { sheets = moved from to book.sheets }))
+moved_alike n book valid from to within =
+    let permuted : IsPermutation (map mentioned book.sheets) (map mentioned (moved from to book.sheets)) = IsPermutation-map mentioned book.sheets (moved from to book.sheets) (moved_permutes book.sheets from to within) in
+    let after : List SheetName = map mentioned (moved from to book.sheets) in
+    permuted_alike (scene_of book) (scene_of (record book { sheets = moved from to book.sheets })) permuted refl
+    (IsDistinct-IsPermutation agrees agrees_equiv.symm (map (λ (s : SheetName). s.name) (map mentioned book.sheets)) (map (λ (s : SheetName). s.name) after) (IsPermutation-map (λ (s : SheetName). s.name) (map mentioned book.sheets) after permuted) (book_named n book valid).differ)
+    (IsDistinct-IsPermutation nat_eq nat_eq_equiv.symm (map (λ (s : SheetName). s.id) (map mentioned book.sheets)) (map (λ (s : SheetName). s.id) after) (IsPermutation-map (λ (s : SheetName). s.id) (map mentioned book.sheets) after permuted) (ids_differ book valid.ids_differ))
