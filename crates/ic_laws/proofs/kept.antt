@@ -7,3 +7,4 @@ pub mod Stays
 pub mod Tokens
 pub mod TreeFacts
 pub mod Wells
+pub mod Written
