@@ -1,11 +1,14 @@
-ghost use Rattle.std.specs.Prelude.{◌≡◌, ◌↔◌, ℕ, List, Option, Some};
-ghost use Rattle.ic_laws.specs.Binding.{IsSettled, RespectsFolding, bound};
+ghost use Rattle.std.specs.Prelude.{◌≡◌, ◌↔◌, ℕ, ℤ, List, Option, Some, option_map};
+ghost use Rattle.ic_laws.specs.Binding.{IsSettled, RespectsFolding, bound, spelled};
+ghost use Rattle.ic_laws.specs.CoreBook.{CoreBook, scene_of};
 ghost use Rattle.ic_laws.specs.NextToken.{tokens_of};
+ghost use Rattle.ic_laws.specs.Notations.{AreNotations, Notations, english_function};
 ghost use Rattle.ic_laws.specs.ReadAs.{read_as};
 ghost use Rattle.ic_laws.specs.Reading.{Fits, IsWell, Reads, printed};
 ghost use Rattle.ic_laws.specs.Scene.{KeysDiffer, SheetsDiffer};
 ghost use Rattle.ic_laws.specs.Token.{Token, Lexes};
-ghost use Rattle.ic_laws.specs.Tree.{Spelled};
+ghost use Rattle.ic_laws.specs.Tree.{Bound, Spelled};
+ghost use Rattle.ic_laws.specs.ValidCore.{IsKept, IsValidCore};
 ghost use Rattle.ic_laws.specs.Yield.{yield};
 ghost use Rattle.ic_laws.specs.declared.scene.Scene.{Scene};
 
@@ -40,4 +43,12 @@ pub fn law_read_as<D: Dialect>()
 /// words must be told by folding alone, as those of every language are.
 pub fn law_binding_settled()
     ensures { (english : List ℕ → Option ℕ) (scene : Scene) (scope : Option ℕ) → SheetsDiffer scene → KeysDiffer scene → RespectsFolding english → (t : Spelled) → IsSettled english scene scope (bound english scene scope t) }
+{}
+
+/// In a valid book the stored text of a tree that is kept, its spelling in the stored form, is read and bound as the tree,
+/// in every cell and in every notation. So two trees that are kept for one scope have equal stored texts exactly where
+/// they are equal.
+pub fn law_stored_text()
+    ensures binds { (n : Notations) (book : CoreBook) (scope : Option ℕ) (row column : ℤ) (t : Bound) → AreNotations n → IsValidCore n book → IsKept n (scene_of book) scope row column t → option_map (bound (english_function n) (scene_of book) scope) (read_as n.stored (printed n.stored (spelled (scene_of book) t))) ≡ Some t }
+    ensures decides { (n : Notations) (book : CoreBook) (scope : Option ℕ) (row column other_row other_column : ℤ) (t u : Bound) → AreNotations n → IsValidCore n book → IsKept n (scene_of book) scope row column t → IsKept n (scene_of book) scope other_row other_column u → printed n.stored (spelled (scene_of book) t) ≡ printed n.stored (spelled (scene_of book) u) ↔ t ≡ u }
 {}

@@ -1,0 +1,10 @@
+pub mod Everywhere
+pub mod Kept
+pub mod Lifting
+pub mod Scenes
+pub mod Shapes
+pub mod Stays
+pub mod Tokens
+pub mod TreeFacts
+pub mod Wells
+pub mod Written
