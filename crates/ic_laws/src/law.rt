@@ -1,6 +1,8 @@
-ghost use Rattle.std.specs.Prelude.{◌≡◌, ◌↔◌, ℕ, ℤ, List, Option, Some, option_map};
+ghost use Rattle.std.specs.Prelude.{◌≡◌, ◌↔◌, ℕ, ℤ, List, Ok, Option, Some, option_map};
 ghost use Rattle.ic_laws.specs.Binding.{IsSettled, RespectsFolding, bound, spelled};
+ghost use Rattle.ic_laws.specs.Command.{Command, Field};
 ghost use Rattle.ic_laws.specs.CoreBook.{CoreBook, scene_of};
+ghost use Rattle.ic_laws.specs.CoreStep.{core_step};
 ghost use Rattle.ic_laws.specs.NextToken.{tokens_of};
 ghost use Rattle.ic_laws.specs.Notations.{AreNotations, Notations, english_function};
 ghost use Rattle.ic_laws.specs.ReadAs.{read_as};
@@ -51,4 +53,9 @@ pub fn law_binding_settled()
 pub fn law_stored_text()
     ensures binds { (n : Notations) (book : CoreBook) (scope : Option ℕ) (row column : ℤ) (t : Bound) → AreNotations n → IsValidCore n book → IsKept n (scene_of book) scope row column t → option_map (bound (english_function n) (scene_of book) scope) (read_as n.stored (printed n.stored (spelled (scene_of book) t))) ≡ Some t }
     ensures decides { (n : Notations) (book : CoreBook) (scope : Option ℕ) (row column other_row other_column : ℤ) (t u : Bound) → AreNotations n → IsValidCore n book → IsKept n (scene_of book) scope row column t → IsKept n (scene_of book) scope other_row other_column u → printed n.stored (spelled (scene_of book) t) ≡ printed n.stored (spelled (scene_of book) u) ↔ t ≡ u }
+{}
+
+/// A command that is accepted leaves a valid book valid, whichever it is.
+pub fn law_steps_stay_valid()
+    ensures { (n : Notations) (book after : CoreBook) (command : Command) (fields : List Field) → AreNotations n → IsValidCore n book → core_step n book command ≡ Ok (after, fields) → IsValidCore n after }
 {}

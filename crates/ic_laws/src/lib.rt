@@ -38,7 +38,7 @@ pub use dialect::{Dialect, WordKind};
 pub use items::Items;
 pub use law::{
     law_binding_settled, law_lex_print, law_lexes_unique, law_read_as, law_read_print,
-    law_yield_injective,
+    law_steps_stay_valid, law_stored_text, law_yield_injective,
 };
 pub use memory::OutOfMemory;
 pub use name::agree;
