@@ -1,8 +1,10 @@
-ghost use Rattle.std.specs.Prelude.{◌≡◌, ◌↔◌, ℕ, ℤ, List, Option, Some, option_map};
+ghost use Rattle.std.specs.Prelude.{◌≡◌, ◌↔◌, ℕ, ℤ, List, Option, Some, false, is_some, option_map, true};
 ghost use Rattle.ic_laws.specs.Binding.{IsSettled, RespectsFolding, bound, spelled};
+ghost use Rattle.ic_laws.specs.Clash.{clashes_with};
 ghost use Rattle.ic_laws.specs.CoreBook.{CoreBook, scene_of};
+ghost use Rattle.ic_laws.specs.FormulaReading.{cell_formula, shown_at, shown_formula};
 ghost use Rattle.ic_laws.specs.NextToken.{tokens_of};
-ghost use Rattle.ic_laws.specs.Notations.{AreNotations, Notations, english_function};
+ghost use Rattle.ic_laws.specs.Notations.{AreNotations, Notations, english_function, is_cell};
 ghost use Rattle.ic_laws.specs.ReadAs.{read_as};
 ghost use Rattle.ic_laws.specs.Reading.{Fits, IsWell, Reads, printed};
 ghost use Rattle.ic_laws.specs.Scene.{KeysDiffer, SheetsDiffer};
@@ -10,7 +12,9 @@ ghost use Rattle.ic_laws.specs.Token.{Token, Lexes};
 ghost use Rattle.ic_laws.specs.Tree.{Bound, Spelled};
 ghost use Rattle.ic_laws.specs.ValidCore.{IsKept, IsValidCore};
 ghost use Rattle.ic_laws.specs.Yield.{yield};
+ghost use Rattle.ic_laws.specs.declared.dialect.WordKind.TheVariants as kinds;
 ghost use Rattle.ic_laws.specs.declared.scene.Scene.{Scene};
+ghost use Rattle.ic_laws.specs.declared.tree.Formula.TheVariants as formulas;
 
 use crate::Dialect;
 
@@ -51,4 +55,10 @@ pub fn law_binding_settled()
 pub fn law_stored_text()
     ensures binds { (n : Notations) (book : CoreBook) (scope : Option ℕ) (row column : ℤ) (t : Bound) → AreNotations n → IsValidCore n book → IsKept n (scene_of book) scope row column t → option_map (bound (english_function n) (scene_of book) scope) (read_as n.stored (printed n.stored (spelled (scene_of book) t))) ≡ Some t }
     ensures decides { (n : Notations) (book : CoreBook) (scope : Option ℕ) (row column other_row other_column : ℤ) (t u : Bound) → AreNotations n → IsValidCore n book → IsKept n (scene_of book) scope row column t → IsKept n (scene_of book) scope other_row other_column u → printed n.stored (spelled (scene_of book) t) ≡ printed n.stored (spelled (scene_of book) u) ↔ t ≡ u }
+{}
+
+/// What a valid book shows of a formula in a cell, typed into that cell again, is the same formula, in each locale and each
+/// language, unless a word of it is a word of the form that is shown.
+pub fn law_shown_text()
+    ensures { (n : Notations) (book : CoreBook) (id : ℕ) (row column : ℤ) (t : Bound) → AreNotations n → IsValidCore n book → is_cell row column ≡ true → IsKept n (scene_of book) (Some id) row column t → clashes_with (λ word. is_some ((shown_at n book row column).find kinds.Boolean word)) (λ word. is_some ((shown_at n book row column).find kinds.Function word)) t ≡ false → cell_formula n book id row column (shown_formula n book row column (formulas.Tree t)) ≡ formulas.Tree t }
 {}

@@ -1,38 +1,42 @@
 -- A kept tree that doesn't clash with a form has no word of it, so it is shown in the form so that it reads back.
 use mathlib.Core.Path.{fun_ext}
-use Rattle.std.proofs.Common.{◌≡◌, ℕ, ℤ, List, [], ◌∷◌, map, Bool, true, false, ◌||◌, ◌&&◌, Option, None, Some, option_map, refl, sym, ap, subst, ◌∙◌}
-use Rattle.std.specs.Prelude.{IsNone}
+use Rattle.std.proofs.Common.{◌≡◌, ℕ, ℤ, List, [], ◌∷◌, ◌++◌, map, Bool, true, false, ◌||◌, Option, Some, option_map, refl, sym, ap, ◌∙◌}
+use Rattle.std.specs.Prelude.{IsNone, codes, is_some}
+use Rattle.std.specs.Option.{option_or}
 use Rattle.std.specs.List.{AllByRecursion, list_all, list_any}
 use Rattle.std.proofs.lemmas.Bool.{and_parts}
-use Rattle.ic_laws.specs.Binding.{BoundPair, bound, bound_pair_of, spelled, spelled_kind, spelled_with, spelled_word}
+use Rattle.ic_laws.specs.Binding.{BoundPair, bound, bound_pair_of, spelled, spelled_kind, spelled_word}
 use Rattle.ic_laws.specs.Clash.{clashes_step, clashes_with, mentioned_name, one_clashes, pair_clashes}
-use Rattle.ic_laws.specs.Dialect.{DialectMeaning}
+use Rattle.ic_laws.specs.CoreBook.{CoreBook, scene_of}
+use Rattle.ic_laws.specs.Dialect.{DialectMeaning, IsLawful}
+use Rattle.ic_laws.specs.FormulaReading.{cell_formula, shown_at, shown_formula, tree_or_raw}
 use Rattle.ic_laws.specs.Name.{Agree, fold, is_variable}
 use Rattle.ic_laws.specs.Notations.{AreNotations, IsShownForm, Notations, english_function, is_cell}
 use Rattle.ic_laws.specs.Parse.{SpelledKind}
 use Rattle.ic_laws.specs.ReadAs.{read_as}
 use Rattle.ic_laws.specs.Reading.{FitsPair, IsFreeWord, printed}
 use Rattle.ic_laws.specs.Scene.{name_spelling, sheet_spelling}
-use Rattle.ic_laws.specs.Tree.{Bound, IsKindWell, IsPairWell, Spelled, spelled_names}
-use Rattle.ic_laws.specs.ValidCore.{IsKept}
+use Rattle.ic_laws.specs.Tree.{Bound, IsKindWell, IsPairWell, spelled_names}
+use Rattle.ic_laws.specs.ValidCore.{IsKept, IsValidCore}
 use Rattle.ic_laws.specs.declared.dialect.WordKind.TheVariants as kinds
 use Rattle.ic_laws.specs.declared.scene.Scene.{Scene}
+use Rattle.ic_laws.specs.declared.tree.Formula.{Formula}
+use Rattle.ic_laws.specs.declared.tree.Formula.TheVariants as formulas
 use Rattle.ic_laws.specs.declared.tree.LetPair.{every_made-LetPair, fold-roll-LetPair}
-use Rattle.ic_laws.specs.declared.tree.NameKey.{NameKey}
 use Rattle.ic_laws.specs.declared.tree.NameMention.{NameMention}
 use Rattle.ic_laws.specs.declared.tree.NameMention.TheVariants as names
 use Rattle.ic_laws.specs.declared.tree.SheetMention.{SheetMention}
-use Rattle.ic_laws.specs.declared.tree.Tree.{Tree-F, every-Tree, fold-roll-Tree, map-Tree}
+use Rattle.ic_laws.specs.declared.tree.Tree.{Tree-F, fold-roll-Tree, map-Tree}
 use Rattle.ic_laws.specs.declared.tree.Tree.TheOpen as one
 use Rattle.ic_laws.proofs.binding.Again.{BoundKind, bound_node, children_spelled}
 use Rattle.ic_laws.proofs.binding.Induction.{Every, EveryPair, OfChildren, by_nodes, every_made}
 use Rattle.ic_laws.proofs.binding.SceneLemmas.{spelled_alike}
-use Rattle.ic_laws.proofs.core.Named.{IsNamed}
+use Rattle.ic_laws.proofs.core.Named.{IsNamed, book_named}
 use Rattle.ic_laws.proofs.kept.Everywhere.{every_both}
 use Rattle.ic_laws.proofs.kept.Folded.{fold_again}
 use Rattle.ic_laws.proofs.kept.Kept.{english_by_fold}
-use Rattle.ic_laws.proofs.kept.Lifting.{BoundParts, SpelledParts, SpellsFacts, every_spelled}
-use Rattle.ic_laws.proofs.kept.Stays.{KeyStays, NameStays, Stays, settled_stays}
+use Rattle.ic_laws.proofs.kept.Lifting.{BoundParts, SpelledParts, every_spelled}
+use Rattle.ic_laws.proofs.kept.Stays.{NameStays, Stays, settled_stays}
 use Rattle.ic_laws.proofs.kept.Written.{CallsNoFunction, HasNoFormWord, HasNoFormWords, calls_no_function, shown_reads, spelling_can_be_kept}
 
 neither : (a b : Bool) → (a || b) ≡ false → (a ≡ false) × (b ≡ false)
@@ -184,3 +188,26 @@ module _ (n : Notations) (notations : AreNotations n) (scene : Scene) (named : I
       → option_map (bound (english_function n) scene scope) (read_as d (printed d (spelled scene t))) ≡ Some t
   shown_text_binds form cell t h e =
       ap (option_map (bound (english_function n) scene scope)) (shown_reads n notations scene named scope row column d form cell t h (no_form_words t h e)) ∙ ap (λ u. Some u) h.settled
+
+-- A form tells its own words.
+pub own_words : (n : Notations) (d : DialectMeaning) → IsLawful d → TellsWords n d (λ word. is_some (d.find kinds.Boolean word)) (λ word. is_some (d.find kinds.Function word))
+own_words n d lawful = record {
+  boolean = λ word good none. none;
+  function = λ word english none. none;
+  boolean_by_fold = λ a b same. ap is_some (lawful.finds_agreeing kinds.Boolean a b same);
+  function_by_fold = λ a b same. ap is_some (lawful.finds_agreeing kinds.Function a b same);
+}
+
+-- What is shown in a cell of a valid book and typed there again is the formula that is shown, unless it clashes.
+pub shown_again : (n : Notations) → AreNotations n → (book : CoreBook) → IsValidCore n book → (id : ℕ) (row column : ℤ) (t : Bound) → is_cell row column ≡ true → IsKept n (scene_of book) (Some id) row column t
+    → clashes_with (λ word. is_some ((shown_at n book row column).find kinds.Boolean word)) (λ word. is_some ((shown_at n book row column).find kinds.Function word)) t ≡ false
+    → cell_formula n book id row column (shown_formula n book row column (formulas.Tree t)) ≡ formulas.Tree t
+shown_again n notations book valid id row column t cell h free =
+    let d : DialectMeaning = shown_at n book row column in
+    let form : IsShownForm n d row column = notations.shown book.locale book.language row column valid.locale valid.language in
+    let text : List ℕ = printed d (spelled (scene_of book) t) in
+    let named : IsNamed (scene_of book) = book_named n book valid in
+    let none : HasNoFormWords d (spelled (scene_of book) t) =
+    no_form_words n notations (scene_of book) named (Some id) row column d (λ word. is_some (d.find kinds.Boolean word)) (λ word. is_some (d.find kinds.Function word)) (own_words n d form.lawful) t h free in
+    let reads : read_as d text ≡ Some (spelled (scene_of book) t) = shown_reads n notations (scene_of book) named (Some id) row column d form cell t h none in
+    ap (λ o. tree_or_raw (λ u. formulas.Tree (bound (english_function n) (scene_of book) (Some id) u)) text (option_or o (read_as d (text ++ codes ")")))) reads ∙ ap (λ u. let f : Formula = formulas.Tree u in f) h.settled

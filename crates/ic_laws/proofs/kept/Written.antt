@@ -1,18 +1,18 @@
 -- A kept tree is written so that it reads back: in the stored form always, and in a form that is shown in a cell where none
 -- of its words is a word of that form.
-use Rattle.std.proofs.Common.{◌≡◌, ◌↔◌, ℕ, ℤ, List, [], ◌∷◌, map, Bool, true, false, ◌&&◌, Option, None, Some, option_map, refl, sym, ap, subst, ◌∙◌}
+use Rattle.std.proofs.Common.{◌≡◌, ◌↔◌, ℕ, ℤ, List, [], ◌∷◌, true, false, Option, None, Some, option_map, refl, sym, ap, subst, ◌∙◌}
 use Rattle.std.specs.Prelude.{IsNone, IsSome}
 use Rattle.std.specs.List.{AllByRecursion, list_all}
 use Rattle.std.proofs.lemmas.Bool.{and_parts}
 use Rattle.std.proofs.lemmas.Option.{same_Some}
 use Rattle.ic_laws.specs.Binding.{bound, spelled, spelled_kind}
-use Rattle.ic_laws.specs.Dialect.{DialectMeaning, IsLawful}
+use Rattle.ic_laws.specs.Dialect.{DialectMeaning}
 use Rattle.ic_laws.specs.Name.{is_variable}
 use Rattle.ic_laws.specs.Notations.{AreNotations, HasFunction, IsShownForm, Notations, english_function, is_cell}
 use Rattle.ic_laws.specs.Parse.{SpelledKind}
 use Rattle.ic_laws.specs.Position.{is_inside, is_place_within}
 use Rattle.ic_laws.specs.ReadAs.{read_as}
-use Rattle.ic_laws.specs.Reading.{Fits, FitsKind, FitsPair, IsFreeWord, Reads, printed}
+use Rattle.ic_laws.specs.Reading.{Fits, FitsKind, FitsPair, IsFreeWord, printed}
 use Rattle.ic_laws.specs.Scene.{name_spelling, sheet_spelling}
 use Rattle.ic_laws.specs.Tree.{Bound, IsKindWell, IsPairWell, IsWellFormed, Spelled, is_written_sheet, spelled_names}
 use Rattle.ic_laws.specs.ValidCore.{IsKept}
@@ -25,7 +25,7 @@ use Rattle.ic_laws.proofs.binding.Again.{BoundKind, children_spelled}
 use Rattle.ic_laws.proofs.core.Named.{IsNamed}
 use Rattle.ic_laws.proofs.kept.Everywhere.{every_both}
 use Rattle.ic_laws.proofs.kept.Kept.{CanBeKept, IsPlaceInside, english_by_fold, spelled_can_be_kept, spelling_writes}
-use Rattle.ic_laws.proofs.kept.Lifting.{SpelledParts, SpellsFacts, every_spelled}
+use Rattle.ic_laws.proofs.kept.Lifting.{every_spelled}
 use Rattle.ic_laws.proofs.kept.Stays.{Stays, settled_stays}
 use Rattle.ic_laws.proofs.kept.Tokens.{OfNode}
 use Rattle.ic_laws.proofs.parsing.ReadAs.{read_as_complete}
