@@ -1,4 +1,6 @@
+pub mod Clashing
 pub mod Everywhere
+pub mod Folded
 pub mod Kept
 pub mod Lifting
 pub mod Scenes

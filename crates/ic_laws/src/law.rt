@@ -1,18 +1,22 @@
-ghost use Rattle.std.specs.Prelude.{◌≡◌, ◌↔◌, ℕ, ℤ, List, Ok, Option, Some, option_map};
+ghost use Rattle.std.specs.Prelude.{List, Ok, Option, Some, false, is_some, option_map, true, ℕ, ℤ, ◌↔◌, ◌≡◌};
 ghost use Rattle.ic_laws.specs.Binding.{IsSettled, RespectsFolding, bound, spelled};
 ghost use Rattle.ic_laws.specs.Command.{Command, Field};
 ghost use Rattle.ic_laws.specs.CoreBook.{CoreBook, scene_of};
 ghost use Rattle.ic_laws.specs.CoreStep.{core_step};
+ghost use Rattle.ic_laws.specs.Clash.{clashes_with};
+ghost use Rattle.ic_laws.specs.FormulaReading.{cell_formula, shown_at, shown_formula};
 ghost use Rattle.ic_laws.specs.NextToken.{tokens_of};
-ghost use Rattle.ic_laws.specs.Notations.{AreNotations, Notations, english_function};
+ghost use Rattle.ic_laws.specs.Notations.{AreNotations, Notations, english_function, is_cell};
 ghost use Rattle.ic_laws.specs.ReadAs.{read_as};
 ghost use Rattle.ic_laws.specs.Reading.{Fits, IsWell, Reads, printed};
 ghost use Rattle.ic_laws.specs.Scene.{KeysDiffer, SheetsDiffer};
-ghost use Rattle.ic_laws.specs.Token.{Token, Lexes};
+ghost use Rattle.ic_laws.specs.Token.{Lexes, Token};
 ghost use Rattle.ic_laws.specs.Tree.{Bound, Spelled};
 ghost use Rattle.ic_laws.specs.ValidCore.{IsKept, IsValidCore};
 ghost use Rattle.ic_laws.specs.Yield.{yield};
+ghost use Rattle.ic_laws.specs.declared.dialect.WordKind.TheVariants as kinds;
 ghost use Rattle.ic_laws.specs.declared.scene.Scene.{Scene};
+ghost use Rattle.ic_laws.specs.declared.tree.Formula.TheVariants as formulas;
 
 use crate::Dialect;
 
@@ -58,4 +62,10 @@ pub fn law_stored_text()
 /// A command that is accepted leaves a valid book valid, whichever it is.
 pub fn law_steps_stay_valid()
     ensures { (n : Notations) (book after : CoreBook) (command : Command) (fields : List Field) → AreNotations n → IsValidCore n book → core_step n book command ≡ Ok (after, fields) → IsValidCore n after }
+{}
+
+/// What a valid book shows of a formula in a cell, typed into that cell again, is the same formula, in each locale and each
+/// language, unless a word of it is a word of the form that is shown.
+pub fn law_shown_text()
+    ensures { (n : Notations) (book : CoreBook) (id : ℕ) (row column : ℤ) (t : Bound) → AreNotations n → IsValidCore n book → is_cell row column ≡ true → IsKept n (scene_of book) (Some id) row column t → clashes_with (λ word. is_some ((shown_at n book row column).find kinds.Boolean word)) (λ word. is_some ((shown_at n book row column).find kinds.Function word)) t ≡ false → cell_formula n book id row column (shown_formula n book row column (formulas.Tree t)) ≡ formulas.Tree t }
 {}

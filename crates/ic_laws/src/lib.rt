@@ -17,6 +17,10 @@
 //! list of tokens is that of one tree at most), `law_lex_print` and `law_read_print` (the canonical text of a tree that
 //! fits falls into its tokens, and reads as it), `law_read_as` (the function that reads texts answers just what the
 //! relation says). The proofs are in `proofs/parsing`, `proofs/tokens` and `proofs/printing`.
+//!
+//! The laws of books: `law_binding_settled` (what is bound stays when it is written and bound again), `law_stored_text`
+//! (trees that a book keeps are equal where their stored texts are), `law_shown_text` (what is shown in a cell and typed
+//! there again is the same formula). The proofs are in `proofs/binding` and `proofs/kept`.
 #![tactic(auto)]
 
 mod amount;
@@ -39,6 +43,7 @@ pub use items::Items;
 pub use law::{
     law_binding_settled, law_lex_print, law_lexes_unique, law_read_as, law_read_print,
     law_steps_stay_valid, law_stored_text, law_yield_injective,
+    law_shown_text, law_stored_text, law_yield_injective,
 };
 pub use memory::OutOfMemory;
 pub use name::agree;

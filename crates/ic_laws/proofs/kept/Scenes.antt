@@ -1,26 +1,24 @@
 -- Scenes that find and spell alike keep the same trees; so do those whose sheets stand in another order.
 use mathlib.Core.Path.{fun_ext}
-use Rattle.std.proofs.Common.{◌≡◌, ℕ, ℤ, zero, suc, ◌<◌, List, [], ◌∷◌, ◌++◌, length, map, Bool, true, false, Option, None, Some, refl, sym, ap, ap₂, subst, ◌∙◌, nat_eq, arith, inl, inr, if◌then◌else◌}
+use Rattle.std.proofs.Common.{◌≡◌, ℕ, ℤ, zero, suc, ◌<◌, List, [], ◌∷◌, length, map, Bool, true, false, Option, None, Some, refl, sym, ap, ap₂, subst, ◌∙◌, nat_eq, arith, inl, inr, if◌then◌else◌}
 use Rattle.std.specs.Prelude.{option_map, unwrap_or}
 use Rattle.std.specs.Cmp.{IsEquivalence, nat_eq_equiv}
 use Rattle.std.specs.Fmt.{decimal}
-use Rattle.std.specs.List.{AllByRecursion, Contains, IsDistinct, find, remove, slice_get}
+use Rattle.std.specs.List.{AllByRecursion, Contains, IsDistinct, find}
 use Rattle.std.specs.List.Sorted.{IsPermutation}
 use Rattle.std.proofs.lemmas.Bool.{cases_Bool}
 use Rattle.std.proofs.lemmas.List.Elements.{All-contains, All-contains_itself, All-from_recursion, recursion_from_All}
-use Rattle.std.proofs.lemmas.List.Sorted.{Contains-permutation, IsPermutation-insert, IsPermutation-map, IsPermutation-refl, IsPermutation-remove, IsPermutation-sym, IsPermutation-trans}
+use Rattle.std.proofs.lemmas.List.Sorted.{Contains-permutation, IsPermutation-map, IsPermutation-sym}
 use Rattle.std.proofs.lemmas.Map.Keys.{IsDistinct-IsPermutation, IsDistinct-head, IsDistinct-tail}
 use Rattle.std.proofs.lemmas.Simd.{map-map}
-use Rattle.std.proofs.lemmas.Option.{get_or_from_slice_get, same_Some, slice_get_within}
 use Rattle.ic_laws.specs.Binding.{Binders, Binds, BindsPair, IsSettled, all_bound, bound, bound_call, bound_kind, bound_pair_step, bound_sheet, bound_word, is_bound_by, name_or_dangling, sheet_or_dangling, spelled, spelled_with}
-use Rattle.ic_laws.specs.CoreBook.{CoreBook, Sheet, ids_of, scene_of}
-use Rattle.ic_laws.specs.CoreStep.{moved, put_back}
+use Rattle.ic_laws.specs.CoreBook.{CoreBook, ids_of, scene_of}
+use Rattle.ic_laws.specs.CoreStep.{moved}
 use Rattle.ic_laws.specs.Name.{agrees}
 use Rattle.ic_laws.specs.Notations.{Notations, english_function}
-use Rattle.ic_laws.specs.Scene.{IdsDiffer, SheetsDiffer, found_name, found_sheet, name_of_sheet, name_spelling, sheet_spelling}
+use Rattle.ic_laws.specs.Scene.{IdsDiffer, SheetsDiffer, found_name, found_sheet, name_spelling, sheet_spelling}
 use Rattle.ic_laws.specs.Tree.{Bound, Spelled}
 use Rattle.ic_laws.specs.ValidCore.{IsKept, IsValidCore}
-use Rattle.ic_laws.specs.declared.scene.NameSpelling.{NameSpelling}
 use Rattle.ic_laws.specs.declared.scene.Scene.{Scene}
 use Rattle.ic_laws.specs.declared.scene.SheetName.{SheetName}
 use Rattle.ic_laws.specs.declared.tree.NameKey.{NameKey}

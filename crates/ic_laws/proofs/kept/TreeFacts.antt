@@ -1,25 +1,21 @@
 -- What a step of a book asks of trees holds in all notations.
-use Rattle.std.proofs.Common.{◌≡◌, ℕ, ℤ, pos, List, [], ◌∷◌, Bool, true, false, Option, None, Some, option_and_then, option_map, cond, ◌==◌, refl, sym, ap, subst, ◌∙◌, inl, inr}
+use Rattle.std.proofs.Common.{◌≡◌, ℕ, pos, List, [], ◌∷◌, Bool, true, false, Option, None, Some, option_map, cond, ◌==◌, ap, subst}
 use Rattle.std.specs.Option.{option_or}
 use Rattle.std.proofs.lemmas.Option.{option_and_then_some, same_Some}
-use Rattle.std.proofs.lemmas.Bool.{cases_Bool}
-use Rattle.ic_laws.specs.Binding.{bound}
 use Rattle.ic_laws.specs.Character.{equals}
 use Rattle.ic_laws.specs.CoreBook.{CoreBook, scene_of}
 use Rattle.ic_laws.specs.Dialect.{DialectMeaning}
 use Rattle.ic_laws.specs.FormulaReading.{Body, body_of, if_lambda, is_found, is_lambda_kind, lambda_tree, reference_tree, shown_at, trimmed, whole_reference, without_equals}
 use Rattle.ic_laws.specs.Keeping.{same_keys}
-use Rattle.ic_laws.specs.Notations.{AreNotations, IsShownForm, Notations, english, english_function}
+use Rattle.ic_laws.specs.Notations.{AreNotations, IsShownForm, Notations, english}
 use Rattle.ic_laws.specs.Parse.{node}
 use Rattle.ic_laws.specs.ReadAs.{read_as}
 use Rattle.ic_laws.specs.Scan.{first_is}
 use Rattle.ic_laws.specs.Tree.{Spelled}
-use Rattle.ic_laws.specs.ValidCore.{IsKept}
 use Rattle.ic_laws.specs.declared.reference.RefToken.{RefToken}
 use Rattle.ic_laws.specs.declared.scene.Scene.{Scene}
 use Rattle.ic_laws.specs.declared.tree.Tree.{out-Tree}
 use Rattle.ic_laws.specs.declared.tree.Tree.TheOpen as one
-use Rattle.ic_laws.proofs.core.Named.{IsNamed}
 use Rattle.ic_laws.proofs.core.Steps.{TreeFacts}
 use Rattle.ic_laws.proofs.kept.Kept.{CanBeKept, bound_is_kept, bound_kept, kept_is_kept, read_can_be_kept, reference_can_be_kept}
 use Rattle.ic_laws.proofs.kept.Scenes.{kept_where_alike, moved_alike}

@@ -1,18 +1,18 @@
 -- A kept tree is written so that it reads back: in the stored form always, and in a form that is shown in a cell where none
 -- of its words is a word of that form.
-use Rattle.std.proofs.Common.{◌≡◌, ◌↔◌, ℕ, ℤ, List, [], ◌∷◌, map, Bool, true, false, ◌&&◌, Option, None, Some, option_map, refl, sym, ap, subst, ◌∙◌}
+use Rattle.std.proofs.Common.{◌≡◌, ◌↔◌, ℕ, ℤ, List, [], ◌∷◌, true, false, Option, None, Some, option_map, refl, sym, ap, subst, ◌∙◌}
 use Rattle.std.specs.Prelude.{IsNone, IsSome}
 use Rattle.std.specs.List.{AllByRecursion, list_all}
 use Rattle.std.proofs.lemmas.Bool.{and_parts}
 use Rattle.std.proofs.lemmas.Option.{same_Some}
 use Rattle.ic_laws.specs.Binding.{bound, spelled, spelled_kind}
-use Rattle.ic_laws.specs.Dialect.{DialectMeaning, IsLawful}
+use Rattle.ic_laws.specs.Dialect.{DialectMeaning}
 use Rattle.ic_laws.specs.Name.{is_variable}
 use Rattle.ic_laws.specs.Notations.{AreNotations, HasFunction, IsShownForm, Notations, english_function, is_cell}
 use Rattle.ic_laws.specs.Parse.{SpelledKind}
 use Rattle.ic_laws.specs.Position.{is_inside, is_place_within}
 use Rattle.ic_laws.specs.ReadAs.{read_as}
-use Rattle.ic_laws.specs.Reading.{Fits, FitsKind, FitsPair, IsFreeWord, Reads, printed}
+use Rattle.ic_laws.specs.Reading.{Fits, FitsKind, FitsPair, IsFreeWord, printed}
 use Rattle.ic_laws.specs.Scene.{name_spelling, sheet_spelling}
 use Rattle.ic_laws.specs.Tree.{Bound, IsKindWell, IsPairWell, IsWellFormed, Spelled, is_written_sheet, spelled_names}
 use Rattle.ic_laws.specs.ValidCore.{IsKept}
@@ -25,7 +25,7 @@ use Rattle.ic_laws.proofs.binding.Again.{BoundKind, children_spelled}
 use Rattle.ic_laws.proofs.core.Named.{IsNamed}
 use Rattle.ic_laws.proofs.kept.Everywhere.{every_both}
 use Rattle.ic_laws.proofs.kept.Kept.{CanBeKept, IsPlaceInside, english_by_fold, spelled_can_be_kept, spelling_writes}
-use Rattle.ic_laws.proofs.kept.Lifting.{SpelledParts, SpellsFacts, every_spelled}
+use Rattle.ic_laws.proofs.kept.Lifting.{every_spelled}
 use Rattle.ic_laws.proofs.kept.Stays.{Stays, settled_stays}
 use Rattle.ic_laws.proofs.kept.Tokens.{OfNode}
 use Rattle.ic_laws.proofs.parsing.ReadAs.{read_as_complete}
@@ -42,6 +42,11 @@ HasNoFormWord d kind = Unit {0}
 -- no word of a tree is
 abbrev pub HasNoFormWords : DialectMeaning → Spelled → Type 0
 HasNoFormWords d t = every-Tree (Option (List ℕ)) (List ℕ) (HasNoFormWord d) (FitsPair d) t
+
+-- what is called is no English function
+abbrev pub CallsNoFunction : Notations → SpelledKind → Type 0
+CallsNoFunction n (one.Call word arguments) = IsNone (n.stored.find kinds.Function word)
+CallsNoFunction n kind = Unit {0}
 
 -- A form in which a tree that can be kept in a cell can be written, if it has no word of the form: it has the numbers of LET
 -- and LAMBDA, the functions, and the references that lie in the sheet.
@@ -109,16 +114,16 @@ module _ (n : Notations) (notations : AreNotations n) (scene : Scene) (named : I
   free_words [] h = tt
   free_words (word ∷ words) h = let parts = and_parts (is_variable word) (list_all is_variable words) h in (free_word word parts.0, free_words words parts.1)
 
-  -- what is called is no English function
-  abbrev NoFunction : SpelledKind → Type 0
-  NoFunction (one.Call word arguments) = IsNone (n.stored.find kinds.Function word)
-  NoFunction kind = Unit {0}
-
-  no_function : (kind : BoundKind) → Stays (english_function n) scene scope kind → NoFunction (spelled_kind (sheet_spelling scene) (name_spelling scene) (children_spelled (sheet_spelling scene) (name_spelling scene) kind))
+  no_function : (kind : BoundKind) → Stays (english_function n) scene scope kind → CallsNoFunction n (spelled_kind (sheet_spelling scene) (name_spelling scene) (children_spelled (sheet_spelling scene) (name_spelling scene) kind))
   no_function (one.Call word arguments) stays = subst IsNone (sym stays.no_function) refl
   no_function kind stays = tt
 
-  no_stored_word : (kind : SpelledKind) → IsKindWell spelled_names n.stored.let_fn n.stored.lambda_fn kind → NoFunction kind → HasNoFormWord n.stored kind
+  pub calls_no_function : (t : Bound) → IsKept n scene scope row column t → every-Tree (Option (List ℕ)) (List ℕ) (CallsNoFunction n) (λ pair. Unit {0}) (spelled scene t)
+  calls_no_function t h =
+      every_spelled (sheet_spelling scene) (name_spelling scene) (Stays (english_function n) scene scope) (λ pair. Unit {0}) (CallsNoFunction n) (λ pair. Unit {0})
+      (record { node = no_function; pair = λ variable value stays. tt }) t (settled_stays (english_function n) scene scope (english_by_fold n notations) t h.settled)
+
+  no_stored_word : (kind : SpelledKind) → IsKindWell spelled_names n.stored.let_fn n.stored.lambda_fn kind → CallsNoFunction n kind → HasNoFormWord n.stored kind
   no_stored_word (one.Word word) h called = free_word word h.words
   no_stored_word (one.Call word arguments) h called = called
   no_stored_word (one.Lambda parameters body) h called = free_words parameters h.words
@@ -126,10 +131,8 @@ module _ (n : Notations) (notations : AreNotations n) (scene : Scene) (named : I
 
   no_stored_words : (t : Bound) → IsKept n scene scope row column t → HasNoFormWords n.stored (spelled scene t)
   no_stored_words t h =
-      every_both (IsKindWell spelled_names n.stored.let_fn n.stored.lambda_fn) IsPairWell NoFunction (λ pair. Unit {0}) (HasNoFormWord n.stored) (FitsPair n.stored) no_stored_word
-      (λ pair well called. free_word pair.variable well.variable) (spelled scene t) (spelling_can_be_kept t h).well.nodes
-      (every_spelled (sheet_spelling scene) (name_spelling scene) (Stays (english_function n) scene scope) (λ pair. Unit {0}) NoFunction (λ pair. Unit {0})
-      (record { node = no_function; pair = λ variable value stays. tt }) t (settled_stays (english_function n) scene scope (english_by_fold n notations) t h.settled))
+      every_both (IsKindWell spelled_names n.stored.let_fn n.stored.lambda_fn) IsPairWell (CallsNoFunction n) (λ pair. Unit {0}) (HasNoFormWord n.stored) (FitsPair n.stored) no_stored_word
+      (λ pair well called. free_word pair.variable well.variable) (spelled scene t) (spelling_can_be_kept t h).well.nodes (calls_no_function t h)
 
   -- A kept tree can be written in the stored form, and its stored text reads as what is written.
   pub stored_fits : (t : Bound) → IsKept n scene scope row column t → Fits n.stored (spelled scene t)
