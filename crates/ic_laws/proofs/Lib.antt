@@ -14,6 +14,7 @@ pub mod Smallest
 pub mod SmallestLaws
 pub mod TextLemmas
 pub mod binding
+pub mod keeping
 pub mod parsing
 pub mod printing
 pub mod tokens

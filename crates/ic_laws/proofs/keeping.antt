@@ -1,0 +1,3 @@
+pub mod Finding
+pub mod Holds
+pub mod Kept
