@@ -1,3 +1,4 @@
 pub mod Finding
 pub mod Holds
 pub mod Kept
+pub mod SheetChanges

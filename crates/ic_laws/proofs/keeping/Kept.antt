@@ -3,7 +3,7 @@ use Rattle.std.proofs.Common.{◌≡◌, ℕ, List, Bool, true, false, Option, N
 use Rattle.std.specs.Prelude.{bytes_eq, option_map, unwrap_or}
 use Rattle.std.specs.List.{list_any}
 use Rattle.ic_laws.proofs.binding.Again.{FindAgain, bound_again, mapped_same}
-use Rattle.ic_laws.proofs.binding.SceneLemmas.{folds_to_key, found_by_text, found_has_definition, found_spelled_alike, spelled_alike}
+use Rattle.ic_laws.proofs.binding.SceneLemmas.{folds_to_key, found_by_text, found_has_definition, spelled_alike}
 use Rattle.ic_laws.proofs.binding.Settled.{bound_is_settled}
 use Rattle.ic_laws.proofs.keeping.Finding.{found_where_any}
 use Rattle.ic_laws.proofs.keeping.Holds.{sheet_holds, word_holds}
@@ -35,12 +35,12 @@ module _ (before after : Scene) (scope : Option ℕ) where
   kept_word = spelled_word (kept_name before after same_keys)
 
   -- a definition that was found before keeps the folding of its name, whether it is there after or gone
-  key_kept : (word : List ℕ) (key : NameKey) → found_name before scope word ≡ Some key → fold (kept_name before after same_keys key) ≡ fold word
-  key_kept word key e = go (definition_at after key.name key.scope) refl
+  pub key_kept : (folded : List ℕ) (key : NameKey) → key_found before scope folded ≡ Some key → fold (kept_name before after same_keys key) ≡ folded
+  key_kept folded key e = go (definition_at after key.name key.scope) refl
     where
-      go : (o : Option NameSpelling) → definition_at after key.name key.scope ≡ o → fold (unwrap_or (option_map (λ (x : NameSpelling). x.name) o) (name_spelling before key)) ≡ fold word
-      go None f = found_spelled_alike before scope word key e
-      go (Some d) f = folds_to_key after key.name key.scope d f ∙ (found_has_definition before scope (fold word) key e).same
+      go : (o : Option NameSpelling) → definition_at after key.name key.scope ≡ o → fold (unwrap_or (option_map (λ (x : NameSpelling). x.name) o) (name_spelling before key)) ≡ folded
+      go None f = spelled_alike before scope folded key key.name e
+      go (Some d) f = folds_to_key after key.name key.scope d f ∙ (found_has_definition before scope folded key e).same
 
   spelling_kept : (binders : Binders) (word : List ℕ) → fold (kept_word (bound_word before scope binders word)) ≡ fold word
   spelling_kept binders word = go (is_bound_by binders word) (found_name before scope word) refl
@@ -48,7 +48,7 @@ module _ (before after : Scene) (scope : Option ℕ) where
       go : (b : Bool) (found : Option NameKey) → found_name before scope word ≡ found → fold (kept_word (mention b word found)) ≡ fold word
       go true found e = refl
       go false None e = refl
-      go false (Some key) e = key_kept word key e
+      go false (Some key) e = key_kept (fold word) key e
 
   -- so no variable that is seen captures it
   word_kept : (binders : Binders) (word : List ℕ)
@@ -61,7 +61,7 @@ module _ (before after : Scene) (scope : Option ℕ) where
       go false e None f = ap (λ b. mention b word (found_name after scope word)) e
       go false e (Some key) f =
           let spelling : List ℕ = kept_name before after same_keys key in
-          ap (λ b. mention b spelling (found_name after scope spelling)) (ap (λ w. list_any (λ (variable : List ℕ). bytes_eq (fold variable) w) binders) (key_kept word key f) ∙ e)
+          ap (λ b. mention b spelling (found_name after scope spelling)) (ap (λ w. list_any (λ (variable : List ℕ). bytes_eq (fold variable) w) binders) (key_kept (fold word) key f) ∙ e)
 
 -- What mentions that hold before become over a change: f and g of them.
 pub record Become (before after : Scene) (scope : Option ℕ) (f : SheetMention → SheetMention) (g : NameMention → NameMention) : Type 0 where
