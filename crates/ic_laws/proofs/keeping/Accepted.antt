@@ -1,0 +1,36 @@
+-- What an accepted command means: nothing refuses it.
+use Rattle.std.proofs.Common.{◌≡◌, ℕ, List, [], ◌∷◌, length, nat_lt, arith, Bool, true, false, not, Option, None, Some, Result, Ok, Err, refl, sym, ap, inl, inr}
+use Rattle.std.specs.List.{slice_get}
+use Rattle.std.proofs.lemmas.Bool.{cases_Bool, ltb-true, not-false}
+use Rattle.std.proofs.lemmas.Option.{slice_get_cases}
+use Rattle.ic_laws.specs.Command.{Field}
+use Rattle.ic_laws.specs.CoreBook.{CoreBook, Sheet}
+use Rattle.ic_laws.specs.CoreStep.{Outcome, lacks_sheet, unless_refused}
+use Rattle.ic_laws.specs.Refusal.{Refusal, first_refusal}
+
+-- an accepted command leaves what it says
+pub record Accepted (refusal : Option Refusal) (book after : CoreBook) : Type 0 where
+  pub unrefused : refusal ≡ None
+  pub left : after ≡ book
+
+pub accepted : (refusal : Option Refusal) (left after : CoreBook) (said fields : List Field) → unless_refused refusal left said ≡ Ok (after, fields) → Accepted refusal left after
+accepted (Some r) left after said fields e = absurd cc
+accepted None left after said fields e =
+    let both : (left, said) ≡ (after, fields) = ok_same (left, said) (after, fields) e in record { unrefused = refl; left = sym (ap (λ (p : CoreBook × List Field). p.0) both) }
+  where
+    ok_same : (a b : CoreBook × List Field) → (let o : Outcome = Ok a in o ≡ Ok b) → a ≡ b
+    ok_same a b e = cc
+
+-- the first cause doesn't hold, and none of the others
+pub first_clear : (b : Bool) (r : Refusal) (rest : List (Bool × Refusal)) → first_refusal ((b, r) ∷ rest) ≡ None → (b ≡ false) × (first_refusal rest ≡ None)
+first_clear true r rest e = absurd (let no : Some r ≡ None = e in cc)
+first_clear false r rest e = (refl, e)
+
+-- a sheet stands at the index
+pub sheet_at : (book : CoreBook) (index : ℕ) → lacks_sheet book index ≡ false → (sheet : Sheet) × (slice_get book.sheets index ≡ Some sheet)
+sheet_at book index e =
+    let within = ltb-true index (length book.sheets) (not-false _ e) in
+    elim (slice_get_cases book.sheets index).1 [
+      | inl there ↦ (there.0, there.2)
+      | inr none ↦ absurd (omega (arith, within, none.0))
+    ]
