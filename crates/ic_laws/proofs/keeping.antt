@@ -1,8 +1,11 @@
 pub mod Accepted
 pub mod Books
 pub mod Finding
+pub mod Founds
 pub mod Holds
 pub mod Kept
 pub mod Namings
+pub mod Renames
 pub mod SheetChanges
 pub mod Sheets
+pub mod Spared

@@ -1,6 +1,6 @@
 -- The formulas of a book, all at once: a fact of each tree, a book in which each is replaced, and two books with the same
 -- formulas but for mentions that dangled.
-use Rattle.std.specs.Prelude.{◌≡◌, ℕ, ℤ, List, map, Bool, Option, Some, None}
+use Rattle.std.specs.Prelude.{◌≡◌, ℕ, ℤ, List, [], ◌∷◌, ◌++◌, map, Bool, Option, Some, None}
 use Rattle.std.specs.List.{AllByRecursion, slice_get}
 use Rattle.ic_laws.specs.CoreBook.{Cells, CellPlace, CoreBook, Definition, Sheet, formula_at}
 use Rattle.ic_laws.specs.Keeping.{mapped_cells}
@@ -45,6 +45,10 @@ module _ (f : Option ℕ → Bound → Bound) where
   -- a book with each tree replaced, by the sheet that its words are looked up from
   abbrev pub with_trees : CoreBook → CoreBook
   with_trees book = record book { sheets = map with_cell_trees book.sheets; definitions = map with_body_tree book.definitions }
+
+-- a book with one more sheet, with no formulas
+abbrev pub with_sheet_at_end : ℕ → List ℕ → CoreBook → CoreBook
+with_sheet_at_end id name book = record book { sheets = book.sheets ++ record { id = id; name = name; cells = [] } ∷ [] }
 
 -- a mention that was found isn't replaced by another
 abbrev pub LeavesFoundSheet : (SheetMention → SheetMention) → SheetMention → Type 0

@@ -79,6 +79,10 @@ abbrev pub dangles_by : List ℕ → SheetMention → Bool
 dangles_by name (sheets.Dangling typed) = agrees name typed
 dangles_by name mention = false
 
+-- none of a formula's mentions does
+abbrev pub NoneDanglesBy : List ℕ → Bound → Type 0
+NoneDanglesBy name t = AllMentions (λ mention. dangles_by name mention ≡ false) (λ mention. Unit {0}) t
+
 -- A sheet, a new one or one that was there, gets a name: what dangled by an agreeing one means that sheet.
 abbrev pub sheet_named : ℕ → List ℕ → Change
 sheet_named id name = OfSheets (dangles_by name) (sheets.Sheet id)

@@ -1,6 +1,6 @@
 -- What an accepted command means: nothing refuses it.
 use Rattle.std.proofs.Common.{◌≡◌, ℕ, List, [], ◌∷◌, length, nat_lt, arith, Bool, true, false, not, Option, None, Some, Result, Ok, Err, refl, sym, ap, inl, inr}
-use Rattle.std.specs.List.{slice_get}
+use Rattle.std.specs.List.{AllByRecursion, slice_get}
 use Rattle.std.proofs.lemmas.Bool.{cases_Bool, ltb-true, not-false}
 use Rattle.std.proofs.lemmas.Option.{slice_get_cases}
 use Rattle.ic_laws.specs.Command.{Field}
@@ -21,10 +21,14 @@ accepted None left after said fields e =
     ok_same : (a b : CoreBook × List Field) → (let o : Outcome = Ok a in o ≡ Ok b) → a ≡ b
     ok_same a b e = cc
 
--- the first cause doesn't hold, and none of the others
-pub first_clear : (b : Bool) (r : Refusal) (rest : List (Bool × Refusal)) → first_refusal ((b, r) ∷ rest) ≡ None → (b ≡ false) × (first_refusal rest ≡ None)
-first_clear true r rest e = absurd (let no : Some r ≡ None = e in cc)
-first_clear false r rest e = (refl, e)
+-- where nothing refuses, no cause holds
+pub none_holds : (causes : List (Bool × Refusal)) → first_refusal causes ≡ None → AllByRecursion (λ (cause : Bool × Refusal). cause.0 ≡ false) causes
+none_holds [] e = tt
+none_holds (cause ∷ causes) e =
+    elim (cases_Bool cause.0) [
+      | inl t ↦ absurd (let no : Some cause.1 ≡ None = rw t at e in cc)
+      | inr f ↦ (f, none_holds causes (rw f at e))
+    ]
 
 -- a sheet stands at the index
 pub sheet_at : (book : CoreBook) (index : ℕ) → lacks_sheet book index ≡ false → (sheet : Sheet) × (slice_get book.sheets index ≡ Some sheet)

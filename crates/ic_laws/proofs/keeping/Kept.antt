@@ -6,9 +6,9 @@ use Rattle.ic_laws.proofs.binding.Again.{FindAgain, bound_again, mapped_same}
 use Rattle.ic_laws.proofs.binding.SceneLemmas.{folds_to_key, found_by_text, found_has_definition, spelled_alike}
 use Rattle.ic_laws.proofs.binding.Settled.{bound_is_settled}
 use Rattle.ic_laws.proofs.keeping.Finding.{found_where_any}
-use Rattle.ic_laws.proofs.keeping.Holds.{sheet_holds, word_holds}
+use Rattle.ic_laws.proofs.keeping.Holds.{settled_holds, sheet_holds, word_holds}
 use Rattle.ic_laws.specs.Binding.{Binders, IsSettled, RespectsFolding, bound_word, is_bound_by, name_or_dangling, sheet_or_dangling, spelled, spelled_with, spelled_word}
-use Rattle.ic_laws.specs.Changes.{Change, OfSheets, OfWords, IsSpared, SheetHolds, WordHolds, changed_sheet, changed_tree, changed_word, changes_sheet, changes_word, sheet_after, word_after}
+use Rattle.ic_laws.specs.Changes.{Change, OfSheets, OfWords, IsSpared, MentionsHold, SheetHolds, WordHolds, changed_sheet, changed_tree, changed_word, changes_sheet, changes_word, sheet_after, word_after}
 use Rattle.ic_laws.specs.Keeping.{KeyChange, kept, kept_name, kept_sheet, same_keys}
 use Rattle.ic_laws.specs.Mentions.{mapped}
 use Rattle.ic_laws.specs.Name.{fold}
@@ -100,6 +100,19 @@ word_stays before after scope (names.Dangling word) holds = ap (name_or_dangling
 word_stays before after scope (names.Name key) holds =
     let spelling : List ℕ = kept_name before after same_keys key in
     ap (name_or_dangling spelling) (ap (key_found after scope) (spelled_alike after scope key.name key (name_spelling before key) holds) ∙ holds)
+
+-- so where each mention holds, a settled formula is kept as it is
+pub kept_same : (english : List ℕ → Option ℕ) (before after : Scene) (scope : Option ℕ) → SheetsDiffer after → RespectsFolding english → (t : Bound) → IsSettled english before scope t → MentionsHold after scope t
+    → kept english before after same_keys scope t ≡ t
+kept_same english before after scope differ by_fold t settled hold =
+    kept_is_mapped english before after scope by_fold t settled
+    ∙ mapped_same (sheet_after before after) (word_after before after scope) (SheetHolds after) (WordHolds after scope) (sheet_stays before after differ) (word_stays before after scope) t hold
+
+-- and kept again where it was before, if it was kept as it is
+pub kept_back : (english : List ℕ → Option ℕ) (before between : Scene) (scope : Option ℕ) → SheetsDiffer before → SheetsDiffer between → RespectsFolding english → (t : Bound) → IsSettled english before scope t
+    → kept english before between same_keys scope t ≡ t → kept english between before same_keys scope t ≡ t
+kept_back english before between scope differ differ_between by_fold t settled same =
+    kept_same english between before scope differ by_fold t (subst (IsSettled english between scope) same (kept_is_settled english before between same_keys scope differ_between by_fold t)) (settled_holds english before scope t settled)
 
 -- a mention that a change can't change is left by it
 unchanged_sheet : (change : Change) (m : SheetMention) → changes_sheet change m ≡ false → changed_sheet change m ≡ m
