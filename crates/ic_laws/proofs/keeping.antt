@@ -4,6 +4,7 @@ pub mod Finding
 pub mod Founds
 pub mod Holds
 pub mod Kept
+pub mod Moves
 pub mod Namings
 pub mod Renames
 pub mod SheetChanges

@@ -1,7 +1,8 @@
 -- The formulas of a book, all at once: a fact of each tree, a book in which each is replaced, and two books with the same
 -- formulas but for mentions that dangled.
-use Rattle.std.specs.Prelude.{◌≡◌, ℕ, ℤ, List, [], ◌∷◌, ◌++◌, map, Bool, Option, Some, None}
+use Rattle.std.specs.Prelude.{◌≡◌, ℕ, ℤ, find, nat_eq, remove, List, [], ◌∷◌, ◌++◌, map, Bool, Option, Some, None}
 use Rattle.std.specs.List.{AllByRecursion, slice_get}
+use Rattle.std.specs.List.Sorted.{IsPermutation}
 use Rattle.ic_laws.specs.CoreBook.{Cells, CellPlace, CoreBook, Definition, Sheet, formula_at}
 use Rattle.ic_laws.specs.Keeping.{mapped_cells}
 use Rattle.ic_laws.specs.Mentions.{AllMentions, mapped}
@@ -94,3 +95,18 @@ pub record DefinitionKeepsFound (definition after : Definition) : Type 0 where
 pub record BookKeepsFound (book after : CoreBook) : Type 0 where
   pub sheets : (index : ℕ) → BothOrNone SheetKeepsFound (slice_get book.sheets index) (slice_get after.sheets index)
   pub definitions : (index : ℕ) → BothOrNone DefinitionKeepsFound (slice_get book.definitions index) (slice_get after.definitions index)
+
+-- the sheet with this id
+abbrev pub sheet_of : CoreBook → ℕ → Option Sheet
+sheet_of book id = find (λ (sheet : Sheet). nat_eq sheet.id id) book.sheets
+
+-- A sheet has moved from one index to another: the sheets are the same with all that is in them, each is found by its id,
+-- the others stand in the order in which they stood, and all else is the same.
+pub record IsMoved (from to : ℕ) (book after : CoreBook) : Type 0 where
+  pub sheets : IsPermutation book.sheets after.sheets
+  pub found : (id : ℕ) → sheet_of after id ≡ sheet_of book id
+  pub place : slice_get after.sheets to ≡ slice_get book.sheets from
+  pub others : remove after.sheets to ≡ remove book.sheets from
+  pub definitions : after.definitions ≡ book.definitions
+  pub locale : after.locale ≡ book.locale
+  pub language : after.language ≡ book.language

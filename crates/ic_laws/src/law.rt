@@ -1,11 +1,19 @@
-ghost use Rattle.std.specs.Prelude.{◌≡◌, ◌↔◌, ℕ, List, Option, Some};
+ghost use Rattle.std.specs.Prelude.{◌≡◌, ◌↔◌, ℕ, ◌+◌, List, Ok, Option, Some};
+ghost use Rattle.std.specs.List.{slice_get};
 ghost use Rattle.ic_laws.specs.Binding.{IsSettled, RespectsFolding, bound};
+ghost use Rattle.ic_laws.specs.BookTrees.{BookKeepsFound, EachTree, IsMoved, with_sheet_at_end, with_trees};
+ghost use Rattle.ic_laws.specs.Changes.{NoneDanglesBy, changed_tree, sheet_named};
+ghost use Rattle.ic_laws.specs.Command.{Field};
+ghost use Rattle.ic_laws.specs.CoreBook.{CoreBook, Sheet, greatest_id};
+ghost use Rattle.ic_laws.specs.CoreStep.{add_sheet_step, language_step, locale_step, move_step, rename_step, with_sheet_name};
 ghost use Rattle.ic_laws.specs.NextToken.{tokens_of};
+ghost use Rattle.ic_laws.specs.Notations.{AreNotations, Notations};
 ghost use Rattle.ic_laws.specs.ReadAs.{read_as};
 ghost use Rattle.ic_laws.specs.Reading.{Fits, IsWell, Reads, printed};
 ghost use Rattle.ic_laws.specs.Scene.{KeysDiffer, SheetsDiffer};
 ghost use Rattle.ic_laws.specs.Token.{Token, Lexes};
 ghost use Rattle.ic_laws.specs.Tree.{Spelled};
+ghost use Rattle.ic_laws.specs.ValidCore.{IsValidCore};
 ghost use Rattle.ic_laws.specs.Yield.{yield};
 ghost use Rattle.ic_laws.specs.declared.scene.Scene.{Scene};
 
@@ -40,4 +48,40 @@ pub fn law_read_as<D: Dialect>()
 /// words must be told by folding alone, as those of every language are.
 pub fn law_binding_settled()
     ensures { (english : List ℕ → Option ℕ) (scene : Scene) (scope : Option ℕ) → SheetsDiffer scene → KeysDiffer scene → RespectsFolding english → (t : Spelled) → IsSettled english scene scope (bound english scene scope t) }
+{}
+
+/// A new sheet stands at the end of the book. In each formula, what dangled by a name that agrees with its own means the new
+/// sheet, and each other mention is what it was.
+pub fn law_add_sheet_binds()
+    ensures { (n : Notations) (book after : CoreBook) (name : List ℕ) (fields : List Field) → AreNotations n → IsValidCore n book → add_sheet_step n book name ≡ Ok (after, fields) → after ≡ with_sheet_at_end (greatest_id book + 1) name (with_trees (changed_tree (sheet_named (greatest_id book + 1) name)) book) }
+{}
+
+/// A renamed sheet has its new name. In each formula, what dangled by a name that agrees with it means that sheet, and each
+/// other mention is what it was.
+pub fn law_rename_binds()
+    ensures { (n : Notations) (book after : CoreBook) (index : ℕ) (name : List ℕ) (sheet : Sheet) (fields : List Field) → AreNotations n → IsValidCore n book → slice_get book.sheets index ≡ Some sheet → rename_step n book index name ≡ Ok (after, fields) → after ≡ with_sheet_name index name (with_trees (changed_tree (sheet_named sheet.id name)) book) }
+{}
+
+/// Over the rename of a sheet each mention that was found stands as it did, in the formula of each cell and in the body of
+/// each definition.
+pub fn law_rename_keeps()
+    ensures { (n : Notations) (book after : CoreBook) (index : ℕ) (name : List ℕ) (fields : List Field) → AreNotations n → IsValidCore n book → rename_step n book index name ≡ Ok (after, fields) → BookKeepsFound book after }
+{}
+
+/// A sheet that is renamed, and renamed back to its old name, leaves the book as it was, where nothing dangled by a name that
+/// agrees with the one between.
+pub fn law_rename_back()
+    ensures { (n : Notations) (book between after : CoreBook) (index : ℕ) (name : List ℕ) (sheet : Sheet) (fields others : List Field) → AreNotations n → IsValidCore n book → slice_get book.sheets index ≡ Some sheet → EachTree (λ scope t. NoneDanglesBy name t) book → rename_step n book index name ≡ Ok (between, fields) → rename_step n between index sheet.name ≡ Ok (after, others) → after ≡ book }
+{}
+
+/// A moved sheet stands at its new index, the others in the order in which they stood; what is in them and all else is as it
+/// was.
+pub fn law_move_keeps()
+    ensures { (n : Notations) (book after : CoreBook) (from to : ℕ) (fields : List Field) → IsValidCore n book → move_step book from to ≡ Ok (after, fields) → IsMoved from to book after }
+{}
+
+/// A new locale or a new language leaves sheets and definitions as they are, and one another.
+pub fn law_notation_keeps()
+    ensures locale { (n : Notations) (book after : CoreBook) (id : List ℕ) (fields : List Field) → locale_step n book id ≡ Ok (after, fields) → (after.sheets ≡ book.sheets) × (after.definitions ≡ book.definitions) × (after.locale ≡ id) × (after.language ≡ book.language) }
+    ensures language { (n : Notations) (book after : CoreBook) (id : List ℕ) (fields : List Field) → language_step n book id ≡ Ok (after, fields) → (after.sheets ≡ book.sheets) × (after.definitions ≡ book.definitions) × (after.locale ≡ book.locale) × (after.language ≡ id) }
 {}

@@ -17,6 +17,12 @@
 //! list of tokens is that of one tree at most), `law_lex_print` and `law_read_print` (the canonical text of a tree that
 //! fits falls into its tokens, and reads as it), `law_read_as` (the function that reads texts answers just what the
 //! relation says). The proofs are in `proofs/parsing`, `proofs/tokens` and `proofs/printing`.
+//!
+//! What a change of the sheets or the definitions does to formulas is in `Keeping` (formulas are written out with the names
+//! after the change, and bound again) and, in the words of a user, in `Changes` (which mentions the change can change, and
+//! to what) and `BookTrees` (all formulas of a book at once). The laws of the core book: `law_add_sheet_binds` and
+//! `law_rename_binds` (what dangled is bound to the sheet that came, and nothing else changes), `law_rename_keeps` and
+//! `law_rename_back`, `law_move_keeps`, `law_notation_keeps`. The proofs are in `proofs/binding` and `proofs/keeping`.
 #![tactic(auto)]
 
 mod amount;
@@ -37,8 +43,9 @@ pub use boxed::Boxed;
 pub use dialect::{Dialect, WordKind};
 pub use items::Items;
 pub use law::{
-    law_binding_settled, law_lex_print, law_lexes_unique, law_read_as, law_read_print,
-    law_yield_injective,
+    law_add_sheet_binds, law_binding_settled, law_lex_print, law_lexes_unique, law_move_keeps,
+    law_notation_keeps, law_read_as, law_read_print, law_rename_back, law_rename_binds,
+    law_rename_keeps, law_yield_injective,
 };
 pub use memory::OutOfMemory;
 pub use name::agree;
