@@ -6,6 +6,7 @@ pub mod Holds
 pub mod Kept
 pub mod Moves
 pub mod Namings
+pub mod Removing
 pub mod Renames
 pub mod SheetChanges
 pub mod Sheets

@@ -1,10 +1,11 @@
 -- An accepted move.
 use Rattle.std.proofs.Common.{◌≡◌, ℕ, zero, suc, ◌+◌, ◌<◌, ◌≤◌, arith, List, [], ◌∷◌, ◌++◌, length, map, take, drop, Bool, true, false, cond, ◌||◌, not, Option, None, Some, Ok, refl, sym, ap, subst, ◌∙◌, nat_eq, nat_lt, inl, inr}
 use Rattle.std.specs.Prelude.{insert, remove, slice_get}
+use Rattle.std.specs.Cmp.{nat_eq_equiv}
 use Rattle.std.specs.Option.{option_or}
-use Rattle.std.specs.List.{AllByRecursion, IsDistinct, find}
+use Rattle.std.specs.List.{IsDistinct, find}
 use Rattle.std.specs.List.Sorted.{IsPermutation}
-use Rattle.std.proofs.lemmas.Bool.{cases_Bool, eq-eqb, eqb-true, ltb-true, not-false}
+use Rattle.std.proofs.lemmas.Bool.{cases_Bool, eqb-true, ltb-true, not-false}
 use Rattle.std.proofs.lemmas.List.{take-append-drop}
 use Rattle.std.proofs.lemmas.List.Edits.{length-remove}
 use Rattle.std.proofs.lemmas.List.Folds.{find-append}
@@ -12,6 +13,7 @@ use Rattle.std.proofs.lemmas.Option.{get_or_from_slice_get, slice_get_within}
 use Rattle.std.proofs.lemmas.List.Sorted.{IsPermutation-insert, IsPermutation-remove, IsPermutation-trans}
 use Rattle.ic_laws.proofs.binding.SceneLemmas.{find_here, find_later}
 use Rattle.ic_laws.proofs.keeping.Accepted.{accepted, none_holds, sheet_at}
+use Rattle.ic_laws.proofs.keeping.Removing.{finds_no_other}
 use Rattle.ic_laws.specs.BookTrees.{IsMoved, sheet_of}
 use Rattle.ic_laws.specs.Command.{Field}
 use Rattle.ic_laws.specs.CoreBook.{CoreBook, Sheet, ids_of}
@@ -52,37 +54,13 @@ insert_others xs zero x h = refl
 insert_others [] (suc i) x h = absurd (omega (arith, h))
 insert_others (y ∷ xs) (suc i) x h = ap (λ zs. y ∷ zs) (insert_others xs i x (omega (arith, h)))
 
-flip : (a b : ℕ) → nat_eq a b ≡ false → nat_eq b a ≡ false
-flip a b f =
-    elim (cases_Bool (nat_eq b a)) [
-      | inl t ↦ absurd (let no : true ≡ false = sym (eq-eqb a b (sym (eqb-true b a t))) ∙ f in cc)
-      | inr g ↦ g
-    ]
-
--- no other sheet has a sheet's id
-others : (ss : List Sheet) (i : ℕ) (s : Sheet) → IsDistinct nat_eq (map (λ (x : Sheet). x.id) ss) → slice_get ss i ≡ Some s → find (λ (x : Sheet). nat_eq x.id s.id) (remove ss i) ≡ None
-unfolding IsDistinct
-others [] i s differ e = absurd (let no : None ≡ Some s = e in cc)
-others (x ∷ ss) zero s differ e = let same : x ≡ s = cc in subst (λ (y : Sheet). find (λ (z : Sheet). nat_eq z.id y.id) ss ≡ None) same (none ss differ.0)
-  where
-    none : (ss : List Sheet) → AllByRecursion (λ id. nat_eq x.id id ≡ false) (map (λ (y : Sheet). y.id) ss) → find (λ (z : Sheet). nat_eq z.id x.id) ss ≡ None
-    none [] h = refl
-    none (y ∷ ss) h = find_later (λ (z : Sheet). nat_eq z.id x.id) y ss (flip x.id y.id h.0) ∙ none ss h.1
-others (x ∷ ss) (suc i) s differ e =
-    find_later (λ (z : Sheet). nat_eq z.id s.id) x (remove ss i) (before_it ss i differ.0 e) ∙ others ss i s differ.1 e
-  where
-    before_it : (ss : List Sheet) (i : ℕ) → AllByRecursion (λ id. nat_eq x.id id ≡ false) (map (λ (y : Sheet). y.id) ss) → slice_get ss i ≡ Some s → nat_eq x.id s.id ≡ false
-    before_it [] i h e = absurd (let no : None ≡ Some s = e in cc)
-    before_it (y ∷ ss) zero h e = let same : y ≡ s = cc in subst (λ (z : Sheet). nat_eq x.id z.id ≡ false) same h.0
-    before_it (y ∷ ss) (suc i) h e = before_it ss i h.1 e
-
 -- a sheet that is taken out and put back is found by its id, as each other
 same_found : (ss : List Sheet) (from to id : ℕ) (s : Sheet) → IsDistinct nat_eq (map (λ (x : Sheet). x.id) ss) → slice_get ss from ≡ Some s
     → find (λ (x : Sheet). nat_eq x.id id) (insert (remove ss from) to s) ≡ find (λ (x : Sheet). nat_eq x.id id) ss
 same_found ss from to id s differ at =
     let p : Sheet → Bool = λ x. nat_eq x.id id in
     let rest : List Sheet = remove ss from in
-    let none : p s ≡ true → find p rest ≡ None = λ t. subst (λ i. find (λ (x : Sheet). nat_eq x.id i) rest ≡ None) (eqb-true s.id id t) (others ss from s differ at) in
+    let none : p s ≡ true → find p rest ≡ None = λ t. subst (λ i. find (λ (x : Sheet). nat_eq x.id i) rest ≡ None) (eqb-true s.id id t) (finds_no_other (λ (x : Sheet). x.id) nat_eq nat_eq_equiv.symm ss from s differ at) in
     let again : take to rest ++ drop to rest ≡ rest = take-append-drop to rest in
     find_among p s (take to rest) (drop to rest) (λ t. ap (find p) again ∙ none t)
     ∙ (ap (λ xs. cond (p s) (Some s) (find p xs)) again
