@@ -5,6 +5,7 @@ pub mod Founds
 pub mod Holds
 pub mod Kept
 pub mod Moves
+pub mod NameChanges
 pub mod Namings
 pub mod Removing
 pub mod Renames
