@@ -1,5 +1,6 @@
 pub mod Accepted
 pub mod Books
+pub mod Deletes
 pub mod Finding
 pub mod Founds
 pub mod Holds

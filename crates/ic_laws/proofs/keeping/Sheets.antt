@@ -32,7 +32,7 @@ finding ss typed = option_map (λ (s : SheetName). s.id) (find (λ s. agrees s.n
 pub sheets_differ : (book : CoreBook) → IsDistinct agrees (names_of book) → SheetsDiffer (scene_of book)
 sheets_differ book h = subst (IsDistinct agrees) (sym (map-map (λ (x : SheetName). x.name) seen book.sheets)) h
 
-nothing_found : (found : Option SheetName) → option_map (λ (s : SheetName). s.id) found ≡ None → found ≡ None
+pub nothing_found : (found : Option SheetName) → option_map (λ (s : SheetName). s.id) found ≡ None → found ≡ None
 nothing_found None e = refl
 nothing_found (Some s) e = absurd (let no : Some s.id ≡ None = e in cc)
 
