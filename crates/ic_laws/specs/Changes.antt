@@ -4,7 +4,7 @@ use Rattle.std.specs.Prelude.{◌≡◌, ℕ, List, Bool, true, false, ◌&&◌,
 use Rattle.std.specs.List.{list_any}
 use Rattle.ic_laws.specs.Binding.{bound_sheet, bound_word, name_or_dangling, spelled_sheet}
 use Rattle.ic_laws.specs.Keeping.{kept_name, kept_sheet, same_keys}
-use Rattle.ic_laws.specs.Mentions.{AllMentions, mapped}
+use Rattle.ic_laws.specs.Mentions.{AllMentions, mapped, some_mention}
 use Rattle.ic_laws.specs.Name.{agrees, fold}
 use Rattle.ic_laws.specs.Scene.{found_name, found_sheet, key_found, key_of, same_key, same_scope}
 use Rattle.ic_laws.specs.Tree.{Bound}
@@ -54,6 +54,10 @@ changes_sheet (OfWords is_changed to) mention = false
 abbrev pub changes_word : Change → Option ℕ → NameMention → Bool
 changes_word (OfSheets is_changed to) scope mention = false
 changes_word (OfWords is_changed to) scope mention = is_changed scope mention
+
+-- or some mention of a formula
+abbrev pub changes_tree : Change → Option ℕ → Bound → Bool
+changes_tree change scope t = some_mention (changes_sheet change) (changes_word change scope) t
 
 -- none of a formula's mentions is one that it can change
 abbrev pub IsSpared : Change → Option ℕ → Bound → Type 0
