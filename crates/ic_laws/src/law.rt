@@ -1,18 +1,19 @@
-ghost use Rattle.std.specs.Prelude.{◌≡◌, ◌↔◌, ℕ, ◌+◌, List, Ok, Option, Some};
+ghost use Rattle.std.specs.Prelude.{◌≡◌, ◌↔◌, ℕ, ◌+◌, List, Ok, Option, Some, false};
 ghost use Rattle.std.specs.List.{slice_get};
 ghost use Rattle.ic_laws.specs.Binding.{IsSettled, RespectsFolding, bound};
 ghost use Rattle.ic_laws.specs.BookTrees.{BookKeepsFound, EachTree, IsMoved, with_sheet_at_end, with_trees};
-ghost use Rattle.ic_laws.specs.Changes.{NoneDanglesBy, changed_tree, sheet_named};
+ghost use Rattle.ic_laws.specs.Changes.{Change, NoneDanglesBy, changed_tree, changes_tree, name_added, name_gone, sheet_gone, sheet_named};
 ghost use Rattle.ic_laws.specs.Command.{Field};
-ghost use Rattle.ic_laws.specs.CoreBook.{CoreBook, Sheet, greatest_id};
-ghost use Rattle.ic_laws.specs.CoreStep.{add_sheet_step, language_step, locale_step, move_step, rename_step, with_sheet_name};
+ghost use Rattle.ic_laws.specs.CoreBook.{CoreBook, Definition, Sheet, greatest_id, scene_of, spelling_of};
+ghost use Rattle.ic_laws.specs.CoreStep.{add_sheet_step, delete_name_step, delete_step, index_of_definition, language_step, locale_step, move_step, new_definition, new_name_step, rename_step, scope_or_none, with_definition, with_sheet_name, without_definition, without_sheet};
+ghost use Rattle.ic_laws.specs.FormulaReading.{Body, body_of};
 ghost use Rattle.ic_laws.specs.NextToken.{tokens_of};
 ghost use Rattle.ic_laws.specs.Notations.{AreNotations, Notations};
 ghost use Rattle.ic_laws.specs.ReadAs.{read_as};
 ghost use Rattle.ic_laws.specs.Reading.{Fits, IsWell, Reads, printed};
 ghost use Rattle.ic_laws.specs.Scene.{KeysDiffer, SheetsDiffer};
 ghost use Rattle.ic_laws.specs.Token.{Token, Lexes};
-ghost use Rattle.ic_laws.specs.Tree.{Spelled};
+ghost use Rattle.ic_laws.specs.Tree.{Bound, Spelled};
 ghost use Rattle.ic_laws.specs.ValidCore.{IsValidCore};
 ghost use Rattle.ic_laws.specs.Yield.{yield};
 ghost use Rattle.ic_laws.specs.declared.scene.Scene.{Scene};
@@ -72,6 +73,27 @@ pub fn law_rename_keeps()
 /// agrees with the one between.
 pub fn law_rename_back()
     ensures { (n : Notations) (book between after : CoreBook) (index : ℕ) (name : List ℕ) (sheet : Sheet) (fields others : List Field) → AreNotations n → IsValidCore n book → slice_get book.sheets index ≡ Some sheet → EachTree (λ scope t. NoneDanglesBy name t) book → rename_step n book index name ≡ Ok (between, fields) → rename_step n between index sheet.name ≡ Ok (after, others) → after ≡ book }
+{}
+
+/// A deleted sheet is gone. In each formula, what meant it dangles by its name, and each other mention is what it was.
+pub fn law_delete_sheet_dangles()
+    ensures { (n : Notations) (book after : CoreBook) (index : ℕ) (sheet : Sheet) (fields : List Field) → AreNotations n → IsValidCore n book → slice_get book.sheets index ≡ Some sheet → delete_step n book index ≡ Ok (after, fields) → after ≡ without_sheet index (with_trees (changed_tree (sheet_gone sheet.id sheet.name)) book) }
+{}
+
+/// A new definition stands at the end. In each formula, what could mean it does, and each other mention is what it was.
+pub fn law_new_name_binds()
+    ensures { (n : Notations) (book after : CoreBook) (name : List ℕ) (index : Option ℕ) (text : List ℕ) (body : Body) (fields : List Field) → AreNotations n → IsValidCore n book → body_of n book text ≡ Some body → new_name_step n book name index text ≡ Ok (after, fields) → after ≡ with_definition (new_definition n book name (scope_or_none book index) body) (with_trees (changed_tree (name_added (record { name = name; scope = scope_or_none book index }))) book) }
+{}
+
+/// A deleted definition is gone. In each formula, what meant it means the one of an agreeing name that is local to no sheet,
+/// or dangles by its name where there is none; and each other mention is what it was.
+pub fn law_delete_name_dangles()
+    ensures { (n : Notations) (book after : CoreBook) (name : List ℕ) (scope : Option ℕ) (index : ℕ) (definition : Definition) (fields : List Field) → AreNotations n → IsValidCore n book → index_of_definition book name (scope_or_none book scope) ≡ Some index → slice_get book.definitions index ≡ Some definition → delete_name_step n book name scope ≡ Ok (after, fields) → after ≡ without_definition (Some index) (with_trees (changed_tree (name_gone (scene_of (without_definition (Some index) book)) (spelling_of definition))) book) }
+{}
+
+/// A formula that a change can't change is left as it is.
+pub fn law_untouched_stays()
+    ensures { (change : Change) (scope : Option ℕ) (t : Bound) → changes_tree change scope t ≡ false → changed_tree change scope t ≡ t }
 {}
 
 /// A moved sheet stands at its new index, the others in the order in which they stood; what is in them and all else is as it
