@@ -1,8 +1,8 @@
-ghost use Rattle.std.specs.Prelude.{◌≡◌, ◌↔◌, ℕ, ◌+◌, List, Ok, Option, Some, false};
+ghost use Rattle.std.specs.Prelude.{◌≡◌, ◌↔◌, ℕ, ◌+◌, List, [], Ok, Option, Some, false};
 ghost use Rattle.std.specs.List.{slice_get};
 ghost use Rattle.ic_laws.specs.Binding.{IsSettled, RespectsFolding, bound};
 ghost use Rattle.ic_laws.specs.BookTrees.{BookKeepsFound, EachTree, IsMoved, with_sheet_at_end, with_trees};
-ghost use Rattle.ic_laws.specs.Changes.{Change, NoneDanglesBy, changed_tree, changes_tree, name_added, name_gone, sheet_gone, sheet_named};
+ghost use Rattle.ic_laws.specs.Changes.{Change, MentionsHold, NoneDanglesBy, changed_tree, changes_tree, name_added, name_gone, sheet_gone, sheet_named};
 ghost use Rattle.ic_laws.specs.Command.{Field};
 ghost use Rattle.ic_laws.specs.CoreBook.{CoreBook, Definition, Sheet, greatest_id, scene_of, spelling_of};
 ghost use Rattle.ic_laws.specs.CoreStep.{add_sheet_step, delete_name_step, delete_step, index_of_definition, language_step, locale_step, move_step, new_definition, new_name_step, rename_step, scope_or_none, with_definition, with_sheet_name, without_definition, without_sheet};
@@ -69,10 +69,10 @@ pub fn law_rename_keeps()
     ensures { (n : Notations) (book after : CoreBook) (index : ℕ) (name : List ℕ) (fields : List Field) → AreNotations n → IsValidCore n book → rename_step n book index name ≡ Ok (after, fields) → BookKeepsFound book after }
 {}
 
-/// A sheet that is renamed, and renamed back to its old name, leaves the book as it was, where nothing dangled by a name that
-/// agrees with the one between.
+/// A sheet that was renamed can be renamed back to its old name, and this gives back the very book, where nothing dangled by
+/// a name that agrees with the one between.
 pub fn law_rename_back()
-    ensures { (n : Notations) (book between after : CoreBook) (index : ℕ) (name : List ℕ) (sheet : Sheet) (fields others : List Field) → AreNotations n → IsValidCore n book → slice_get book.sheets index ≡ Some sheet → EachTree (λ scope t. NoneDanglesBy name t) book → rename_step n book index name ≡ Ok (between, fields) → rename_step n between index sheet.name ≡ Ok (after, others) → after ≡ book }
+    ensures { (n : Notations) (book between : CoreBook) (index : ℕ) (name : List ℕ) (sheet : Sheet) (fields : List Field) → AreNotations n → IsValidCore n book → slice_get book.sheets index ≡ Some sheet → EachTree (λ scope t. NoneDanglesBy name t) book → rename_step n book index name ≡ Ok (between, fields) → rename_step n between index sheet.name ≡ Ok (book, []) }
 {}
 
 /// A deleted sheet is gone. In each formula, what meant it dangles by its name, and each other mention is what it was.
@@ -89,6 +89,12 @@ pub fn law_new_name_binds()
 /// or dangles by its name where there is none; and each other mention is what it was.
 pub fn law_delete_name_dangles()
     ensures { (n : Notations) (book after : CoreBook) (name : List ℕ) (scope : Option ℕ) (index : ℕ) (definition : Definition) (fields : List Field) → AreNotations n → IsValidCore n book → index_of_definition book name (scope_or_none book scope) ≡ Some index → slice_get book.definitions index ≡ Some definition → delete_name_step n book name scope ≡ Ok (after, fields) → after ≡ without_definition (Some index) (with_trees (changed_tree (name_gone (scene_of (without_definition (Some index) book)) (spelling_of definition))) book) }
+{}
+
+/// A formula that stays the same when it is written out and bound again mentions what is there: a sheet that it means is one
+/// of the scene, a definition that it means is found by its key, and for what dangles nothing is found.
+pub fn law_settled_holds()
+    ensures { (english : List ℕ → Option ℕ) (scene : Scene) (scope : Option ℕ) (t : Bound) → IsSettled english scene scope t → MentionsHold scene scope t }
 {}
 
 /// A formula that a change can't change is left as it is.

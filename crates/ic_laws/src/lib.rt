@@ -22,8 +22,8 @@
 //! after the change, and bound again) and, in the words of a user, in `Changes` (which mentions the change can change, and
 //! to what) and `BookTrees` (all formulas of a book at once). The laws of the core book say of each command just which
 //! mentions it changes, and to what: `law_add_sheet_binds`, `law_rename_binds`, `law_delete_sheet_dangles`,
-//! `law_new_name_binds`, `law_delete_name_dangles`; and what stays: `law_untouched_stays`, `law_rename_keeps`,
-//! `law_rename_back`, `law_move_keeps`, `law_notation_keeps`. The proofs are in `proofs/binding` and `proofs/keeping`.
+//! `law_new_name_binds`, `law_delete_name_dangles`; and what stays: `law_settled_holds`, `law_untouched_stays`,
+//! `law_rename_keeps`, `law_rename_back`, `law_move_keeps`, `law_notation_keeps`. The proofs are in `proofs/binding` and `proofs/keeping`.
 #![tactic(auto)]
 
 mod amount;
@@ -47,7 +47,7 @@ pub use law::{
     law_add_sheet_binds, law_binding_settled, law_delete_name_dangles, law_delete_sheet_dangles,
     law_lex_print, law_lexes_unique, law_move_keeps, law_new_name_binds, law_notation_keeps,
     law_read_as, law_read_print, law_rename_back, law_rename_binds, law_rename_keeps,
-    law_untouched_stays, law_yield_injective,
+    law_settled_holds, law_untouched_stays, law_yield_injective,
 };
 pub use memory::OutOfMemory;
 pub use name::agree;

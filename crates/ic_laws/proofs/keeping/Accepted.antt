@@ -30,6 +30,11 @@ none_holds (cause ∷ causes) e =
       | inr f ↦ (f, none_holds causes (rw f at e))
     ]
 
+-- and where no cause holds, nothing refuses
+pub none_refuses : (causes : List (Bool × Refusal)) → AllByRecursion (λ (cause : Bool × Refusal). cause.0 ≡ false) causes → first_refusal causes ≡ None
+none_refuses [] h = refl
+none_refuses (cause ∷ causes) h = rw h.0 (none_refuses causes h.1)
+
 -- a sheet stands at the index
 pub sheet_at : (book : CoreBook) (index : ℕ) → lacks_sheet book index ≡ false → (sheet : Sheet) × (slice_get book.sheets index ≡ Some sheet)
 sheet_at book index e =

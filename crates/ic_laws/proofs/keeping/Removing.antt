@@ -76,3 +76,14 @@ module _ {X K : Type 0} (key : X → K) (eq : K → K → Bool) (flip : (a b : K
   finds_no_other [] i d h at = absurd (let no : None ≡ Some d = at in cc)
   finds_no_other (x ∷ xs) zero d h at = let e : x ≡ d = cc in subst (λ z. find (λ y. eq (key y) (key z)) xs ≡ None) e (no_other x xs h.0)
   finds_no_other (x ∷ xs) (suc i) d h at = find_later (λ y. eq (key y) (key d)) x (remove xs i) (apart x xs i d h.0 at) ∙ finds_no_other xs i d h.1 at
+
+  -- no other key is the item's
+  no_other_key : (k : K) (xs : List X) → AllByRecursion (λ other. eq k other ≡ false) (map key xs) → list_any (eq k) (map key xs) ≡ false
+  no_other_key k [] h = refl
+  no_other_key k (x ∷ xs) h = rw h.0 (no_other_key k xs h.1)
+
+  pub key_of_no_other : (xs : List X) (i : ℕ) (d : X) → IsDistinct eq (map key xs) → slice_get xs i ≡ Some d → list_any (eq (key d)) (remove (map key xs) i) ≡ false
+  unfolding IsDistinct
+  key_of_no_other [] i d h at = absurd (let no : None ≡ Some d = at in cc)
+  key_of_no_other (x ∷ xs) zero d h at = let e : x ≡ d = cc in subst (λ y. list_any (eq (key y)) (map key xs) ≡ false) e (no_other_key (key x) xs h.0)
+  key_of_no_other (x ∷ xs) (suc i) d h at = rw (flip (key d) (key x) ∙ apart x xs i d h.0 at) (key_of_no_other xs i d h.1 at)

@@ -1,13 +1,15 @@
 -- An accepted rename and an accepted new sheet, whole; and a rename that is taken back.
-use Rattle.std.proofs.Common.{◌≡◌, ℕ, zero, suc, ◌+◌, List, [], ◌∷◌, ◌++◌, map, Bool, false, not, Option, None, Some, Ok, refl, sym, ap, subst, ◌∙◌}
-use Rattle.std.specs.Prelude.{is_none, slice_get}
-use Rattle.std.specs.List.{AllByRecursion}
-use Rattle.ic_laws.proofs.binding.Induction.{every_of_all}
-use Rattle.ic_laws.proofs.keeping.Accepted.{accepted, none_holds, sheet_at}
+use Rattle.std.proofs.Common.{◌≡◌, ℕ, zero, suc, ◌+◌, List, [], ◌∷◌, length, map, nat_lt, Bool, true, false, not, Option, None, Some, Ok, refl, sym, ap, subst, ◌∙◌}
+use Rattle.std.specs.Prelude.{is_none, remove, slice_get}
+use Rattle.std.specs.List.{AllByRecursion, list_any}
+use Rattle.std.proofs.lemmas.Bool.{not_from_true}
+use Rattle.ic_laws.proofs.CoreLemmas.{agrees_equiv}
+use Rattle.ic_laws.proofs.keeping.Accepted.{accepted, none_holds, none_refuses, sheet_at}
 use Rattle.ic_laws.proofs.keeping.Books.{each_both, each_weaker, kept_as, trees_same, trees_settled}
 use Rattle.ic_laws.proofs.keeping.Founds.{greatest_stays, naming_keeps, renamed_keeps}
 use Rattle.ic_laws.proofs.keeping.Kept.{kept_back, kept_becomes, spared_is_same}
 use Rattle.ic_laws.proofs.keeping.Namings.{add_naming, english_folds, kept_naming, rename_naming}
+use Rattle.ic_laws.proofs.keeping.Removing.{key_of_no_other}
 use Rattle.ic_laws.proofs.keeping.SheetChanges.{Naming, named_becomes}
 use Rattle.ic_laws.proofs.keeping.Sheets.{renamed, sheets_differ}
 use Rattle.ic_laws.proofs.keeping.Spared.{spared_naming}
@@ -16,18 +18,19 @@ use Rattle.ic_laws.specs.BookTrees.{BookKeepsFound, EachTree, OfCells, with_shee
 use Rattle.ic_laws.specs.Changes.{NoneDanglesBy, changed_sheet, changed_tree, changed_word, sheet_named}
 use Rattle.ic_laws.specs.Command.{Field}
 use Rattle.ic_laws.specs.CoreBook.{CoreBook, Sheet, fresh_id, greatest_id, has_sheet, scene_of}
-use Rattle.ic_laws.specs.CoreStep.{add_sheet_refusal, add_sheet_step, changed_by, has_other_sheet, lacks_sheet, rename_refusal, rename_step, updated_at, with_new_sheet, with_sheet_name}
+use Rattle.ic_laws.specs.CoreStep.{add_sheet_refusal, add_sheet_step, changed_by, has_other_sheet, lacks_sheet, rename_refusal, rename_step, unless_refused, updated_at, with_new_sheet, with_sheet_name}
 use Rattle.ic_laws.specs.Keeping.{kept, same_keys, with_kept}
-use Rattle.ic_laws.specs.Name.{is_sheet_name}
+use Rattle.ic_laws.specs.Name.{agrees, is_sheet_name}
 use Rattle.ic_laws.specs.Notations.{AreNotations, Notations, english_function}
 use Rattle.ic_laws.specs.Refusal.{IdsUsedUp, InvalidSheet, InvalidSheetName, SheetExists}
 use Rattle.ic_laws.specs.Tree.{Bound}
-use Rattle.ic_laws.specs.ValidCore.{IsValidCore}
+use Rattle.ic_laws.specs.ValidCore.{IsValidCore, IsValidSheet}
 use Rattle.ic_laws.specs.declared.scene.Scene.{Scene}
 
--- where a rename is accepted, no other sheet has an agreeing name
-rename_clear : (book : CoreBook) (index : ℕ) (name : List ℕ) → rename_refusal book index name ≡ None → has_other_sheet book index name ≡ false
-rename_clear book index name e = (none_holds ((not (is_sheet_name name), InvalidSheetName) ∷ (has_other_sheet book index name, SheetExists) ∷ (lacks_sheet book index, InvalidSheet) ∷ []) e).1.0
+-- where a rename is accepted, no other sheet has an agreeing name, and a sheet stands at the index
+rename_clear : (book : CoreBook) (index : ℕ) (name : List ℕ) → rename_refusal book index name ≡ None → (has_other_sheet book index name ≡ false) × (lacks_sheet book index ≡ false)
+rename_clear book index name e =
+    let clear = none_holds ((not (is_sheet_name name), InvalidSheetName) ∷ (has_other_sheet book index name, SheetExists) ∷ (lacks_sheet book index, InvalidSheet) ∷ []) e in (clear.1.0, clear.1.1.0)
 
 -- an accepted rename leaves the book with the new name and each dangling mention of an agreeing name bound to that sheet
 pub rename_binds : (n : Notations) (book after : CoreBook) (index : ℕ) (name : List ℕ) (sheet : Sheet) (fields : List Field) → AreNotations n → IsValidCore n book → slice_get book.sheets index ≡ Some sheet
@@ -36,14 +39,13 @@ rename_binds n book after index name sheet fields are valid at e =
     let ok = accepted (rename_refusal book index name) (changed_by n (with_sheet_name index name) book) after [] fields e in
     ok.left
     ∙ ap (with_sheet_name index name)
-    (kept_naming n book (scene_of (with_sheet_name index name book)) sheet.id name are valid (rename_naming book index name sheet valid.names_differ at (rename_clear book index name ok.unrefused)))
+    (kept_naming n book (scene_of (with_sheet_name index name book)) sheet.id name are valid (rename_naming book index name sheet valid.names_differ at (rename_clear book index name ok.unrefused).0))
 
 -- so each mention that was found stands as it did
 pub rename_keeps : (n : Notations) (book after : CoreBook) (index : ℕ) (name : List ℕ) (fields : List Field) → AreNotations n → IsValidCore n book → rename_step n book index name ≡ Ok (after, fields) → BookKeepsFound book after
 rename_keeps n book after index name fields are valid e =
     let ok = accepted (rename_refusal book index name) (changed_by n (with_sheet_name index name) book) after [] fields e in
-    let lacks : lacks_sheet book index ≡ false = (none_holds ((not (is_sheet_name name), InvalidSheetName) ∷ (has_other_sheet book index name, SheetExists) ∷ (lacks_sheet book index, InvalidSheet) ∷ []) ok.unrefused).1.1.0 in
-    let there = sheet_at book index lacks in
+    let there = sheet_at book index (rename_clear book index name ok.unrefused).1 in
     subst (BookKeepsFound book) (sym (rename_binds n book after index name there.0 fields are valid there.1 e))
     (renamed_keeps (changed_tree (sheet_named there.0.id name)) (naming_keeps there.0.id name) book index name)
 
@@ -76,17 +78,45 @@ renamed_back [] index name sheet at = refl
 renamed_back (s ∷ ss) zero name sheet at = let same : s ≡ sheet = cc in ap (λ (x : Sheet). renamed x.name s ∷ ss) (sym same)
 renamed_back (s ∷ ss) (suc index) name sheet at = ap (λ rest. s ∷ rest) (renamed_back ss index name sheet at)
 
-pub rename_back : (n : Notations) (book between after : CoreBook) (index : ℕ) (name : List ℕ) (sheet : Sheet) (fields others : List Field) → AreNotations n → IsValidCore n book → slice_get book.sheets index ≡ Some sheet
-    → EachTree (λ scope t. NoneDanglesBy name t) book → rename_step n book index name ≡ Ok (between, fields) → rename_step n between index sheet.name ≡ Ok (after, others) → after ≡ book
-rename_back n book between after index name sheet fields others are valid at none e e_back =
+-- what is asked of each sheet holds of the one at an index
+sheet_has : (P : Sheet → Type 0) (ss : List Sheet) (index : ℕ) (sheet : Sheet) → AllByRecursion P ss → slice_get ss index ≡ Some sheet → P sheet
+sheet_has P [] index sheet h at = absurd (let no : None ≡ Some sheet = at in cc)
+sheet_has P (s ∷ ss) zero sheet h at = let same : s ≡ sheet = cc in subst P same h.0
+sheet_has P (s ∷ ss) (suc index) sheet h at = sheet_has P ss index sheet h.1 at
+
+-- the other sheets keep their names, and there are as many
+others_named : (name : List ℕ) (ss : List Sheet) (index : ℕ) → remove (map (λ (x : Sheet). x.name) (updated_at (renamed name) index ss)) index ≡ remove (map (λ (x : Sheet). x.name) ss) index
+others_named name [] index = refl
+others_named name (s ∷ ss) zero = refl
+others_named name (s ∷ ss) (suc index) = ap (λ rest. s.name ∷ rest) (others_named name ss index)
+
+as_many : (name : List ℕ) (ss : List Sheet) (index : ℕ) → length (updated_at (renamed name) index ss) ≡ length ss
+as_many name [] index = refl
+as_many name (s ∷ ss) zero = refl
+as_many name (s ∷ ss) (suc index) = ap suc (as_many name ss index)
+
+-- the old name is free again
+back_clear : (n : Notations) (book : CoreBook) (index : ℕ) (name : List ℕ) (sheet : Sheet) → IsValidCore n book → slice_get book.sheets index ≡ Some sheet → lacks_sheet book index ≡ false → rename_refusal (with_sheet_name index name book) index sheet.name ≡ None
+back_clear n book index name sheet valid at lacks =
+    let is_name : is_sheet_name sheet.name ≡ true = (sheet_has (IsValidSheet n (scene_of book)) book.sheets index sheet valid.sheets at).name in
+    let free : has_other_sheet (with_sheet_name index name book) index sheet.name ≡ false =
+    ap (list_any (agrees sheet.name)) (others_named name book.sheets index) ∙ key_of_no_other (λ (x : Sheet). x.name) agrees agrees_equiv.symm book.sheets index sheet valid.names_differ at in
+    none_refuses ((not (is_sheet_name sheet.name), InvalidSheetName) ∷ (has_other_sheet (with_sheet_name index name book) index sheet.name, SheetExists) ∷ (lacks_sheet (with_sheet_name index name book) index, InvalidSheet) ∷ [])
+    (not_from_true _ is_name, (free, (ap (λ k. not (nat_lt index k)) (as_many name book.sheets index) ∙ lacks, tt)))
+
+pub rename_back : (n : Notations) (book between : CoreBook) (index : ℕ) (name : List ℕ) (sheet : Sheet) (fields : List Field) → AreNotations n → IsValidCore n book → slice_get book.sheets index ≡ Some sheet
+    → EachTree (λ scope t. NoneDanglesBy name t) book → rename_step n book index name ≡ Ok (between, fields) → rename_step n between index sheet.name ≡ Ok (book, [])
+rename_back n book between index name sheet fields are valid at none e =
     let ok = accepted (rename_refusal book index name) (changed_by n (with_sheet_name index name) book) between [] fields e in
-    let back = accepted (rename_refusal between index sheet.name) (changed_by n (with_sheet_name index sheet.name) between) after [] others e_back in
-    let same : between ≡ other_name = ok.left ∙ ap (with_sheet_name index name) (kept_still n before under book (there (rename_clear book index name ok.unrefused))) in
-    back.left
-    ∙ (ap (changed_by n (with_sheet_name index sheet.name)) same
-    ∙ (ap (λ (b : CoreBook). with_sheet_name index sheet.name (with_kept n under (scene_of b) same_keys other_name)) again
-    ∙ (ap (with_sheet_name index sheet.name) (kept_still n under before other_name (and_back (rename_clear book index name ok.unrefused)))
-    ∙ again)))
+    let clear = rename_clear book index name ok.unrefused in
+    let same : between ≡ other_name = ok.left ∙ ap (with_sheet_name index name) (kept_still n before under book (there clear.0)) in
+    let left : changed_by n (with_sheet_name index sheet.name) other_name ≡ book =
+    ap (λ (b : CoreBook). with_sheet_name index sheet.name (with_kept n under (scene_of b) same_keys other_name)) again
+    ∙ (ap (with_sheet_name index sheet.name) (kept_still n under before other_name (and_back clear.0))
+    ∙ again) in
+    ap (λ b. rename_step n b index sheet.name) same
+    ∙ (ap (λ r. unless_refused r (changed_by n (with_sheet_name index sheet.name) other_name) []) (back_clear n book index name sheet valid at clear.1)
+    ∙ ap (λ b. unless_refused None b []) left)
   where
     before : Scene
     before = scene_of book
