@@ -1,9 +1,9 @@
 -- The formulas of a book, all at once: a fact of each tree, a book in which each is replaced, and two books with the same
 -- formulas but for mentions that dangled.
-use Rattle.std.specs.Prelude.{◌≡◌, ℕ, ℤ, find, nat_eq, remove, List, [], ◌∷◌, ◌++◌, map, Bool, Option, Some, None}
+use Rattle.std.specs.Prelude.{◌≡◌, ℕ, ℤ, find, nat_eq, remove, List, [], ◌∷◌, ◌++◌, map, Option, Some, None}
 use Rattle.std.specs.List.{AllByRecursion, slice_get}
 use Rattle.std.specs.List.Sorted.{IsPermutation}
-use Rattle.ic_laws.specs.CoreBook.{Cells, CellPlace, CoreBook, Definition, Sheet, formula_at}
+use Rattle.ic_laws.specs.CoreBook.{CellPlace, CoreBook, Definition, Sheet, formula_at}
 use Rattle.ic_laws.specs.Keeping.{mapped_cells}
 use Rattle.ic_laws.specs.Mentions.{AllMentions, mapped}
 use Rattle.ic_laws.specs.Tree.{Bound}

@@ -1,8 +1,8 @@
 -- What a change of the sheets or the definitions does to formulas: which of their mentions it changes, and to what. Each
 -- such change turns mentions of one kind into one mention, and leaves all others.
-use Rattle.std.specs.Prelude.{◌≡◌, ℕ, List, Bool, true, false, ◌&&◌, ◌||◌, Option, Some, None, is_none, nat_eq, bytes_eq, if◌then◌else◌}
+use Rattle.std.specs.Prelude.{◌≡◌, ℕ, List, Bool, true, false, ◌&&◌, ◌||◌, Option, Some, None, nat_eq, bytes_eq, if◌then◌else◌}
 use Rattle.std.specs.List.{list_any}
-use Rattle.ic_laws.specs.Binding.{bound_sheet, bound_word, name_or_dangling, spelled_sheet}
+use Rattle.ic_laws.specs.Binding.{bound_sheet, name_or_dangling, spelled_sheet}
 use Rattle.ic_laws.specs.Keeping.{kept_name, kept_sheet, same_keys}
 use Rattle.ic_laws.specs.Mentions.{AllMentions, mapped, some_mention}
 use Rattle.ic_laws.specs.Name.{agrees, fold}

@@ -1,13 +1,13 @@
 -- All formulas of a book at once: facts of each tree, and books in which each tree is replaced.
-use Rattle.std.proofs.Common.{◌≡◌, ℕ, ℤ, pos, List, [], ◌∷◌, map, Bool, Option, None, Some, refl, sym, ap, ap₂, ◌∙◌}
+use Rattle.std.proofs.Common.{◌≡◌, ℕ, ℤ, pos, List, [], ◌∷◌, map, Option, Some, refl, ap, ap₂}
 use Rattle.std.specs.List.{AllByRecursion}
 use Rattle.ic_laws.specs.BookTrees.{EachTree, OfBody, OfCells, OfTree, with_body_tree, with_cell_trees, with_tree, with_trees}
 use Rattle.ic_laws.specs.Binding.{IsSettled}
 use Rattle.ic_laws.specs.CoreBook.{Cells, CellPlace, CoreBook, Definition, Sheet, scene_of}
-use Rattle.ic_laws.specs.Keeping.{KeyChange, kept, kept_formula, kept_in_body, kept_on_sheet, mapped_cells, with_kept}
+use Rattle.ic_laws.specs.Keeping.{KeyChange, kept, kept_formula, kept_in_body, kept_on_sheet, with_kept}
 use Rattle.ic_laws.specs.Notations.{Notations, english_function}
 use Rattle.ic_laws.specs.Tree.{Bound}
-use Rattle.ic_laws.specs.ValidCore.{IsKeptBody, IsKeptCell, IsKeptFormula, IsValidCore, IsValidDefinition, IsValidSheet}
+use Rattle.ic_laws.specs.ValidCore.{IsKeptFormula, IsValidCore, IsValidDefinition, IsValidSheet}
 use Rattle.ic_laws.specs.declared.scene.Scene.{Scene}
 use Rattle.ic_laws.specs.declared.tree.Formula.{Formula}
 use Rattle.ic_laws.specs.declared.tree.Formula.TheVariants as formulas

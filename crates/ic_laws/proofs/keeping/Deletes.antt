@@ -1,6 +1,6 @@
 -- A deleted sheet, a new definition and a deleted one: what they do to each formula of a valid book.
-use Rattle.std.proofs.Common.{◌≡◌, ℕ, List, [], ◌∷◌, ◌++◌, map, Bool, true, false, not, Option, None, Some, Ok, refl, sym, ap, subst, ◌∙◌, nat_eq}
-use Rattle.std.specs.Prelude.{is_none, option_map, remove, slice_get, unwrap_or}
+use Rattle.std.proofs.Common.{◌≡◌, ℕ, List, [], ◌∷◌, map, Option, Some, Ok, refl, sym, ap, subst, ◌∙◌, nat_eq}
+use Rattle.std.specs.Prelude.{option_map, remove, slice_get, unwrap_or}
 use Rattle.std.specs.Cmp.{nat_eq_equiv}
 use Rattle.std.specs.Fmt.{decimal}
 use Rattle.std.specs.List.{IsDistinct, find}
@@ -10,7 +10,7 @@ use Rattle.std.proofs.lemmas.Option.{slice_get-map}
 use Rattle.std.proofs.lemmas.Simd.{map-map}
 use Rattle.ic_laws.proofs.CoreLemmas.{agrees_equiv}
 use Rattle.ic_laws.proofs.keeping.Accepted.{accepted}
-use Rattle.ic_laws.proofs.keeping.NameChanges.{added_becomes, gone_name_becomes, same_key_flip}
+use Rattle.ic_laws.proofs.keeping.NameChanges.{added_becomes, gone_name_becomes}
 use Rattle.ic_laws.proofs.keeping.Namings.{kept_changed}
 use Rattle.ic_laws.proofs.keeping.Removing.{finds_itself, finds_no_other, remove_map, removed_any, removed_differs, removed_finds_none}
 use Rattle.ic_laws.proofs.keeping.SheetChanges.{Going, gone_becomes, has_id}

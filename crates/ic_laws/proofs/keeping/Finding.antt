@@ -1,5 +1,5 @@
 -- What a test finds in a list, and that it finds something.
-use Rattle.std.proofs.Common.{◌≡◌, List, [], ◌∷◌, Bool, true, false, ◌||◌, Option, None, Some, sym, refl, subst, ◌∙◌, inl, inr}
+use Rattle.std.proofs.Common.{◌≡◌, List, [], ◌∷◌, Bool, true, false, ◌||◌, None, Some, sym, refl, subst, ◌∙◌, inl, inr}
 use Rattle.std.specs.List.{find, list_any}
 use Rattle.std.proofs.lemmas.Bool.{cases_Bool}
 use Rattle.ic_laws.proofs.binding.SceneLemmas.{find_here, find_later}

@@ -1,8 +1,7 @@
 -- Where a sheet gets a name, each mention that was found stands as it did.
-use Rattle.std.proofs.Common.{◌≡◌, ℕ, ℤ, zero, suc, ◌+◌, List, [], ◌∷◌, ◌++◌, map, Bool, false, Option, None, Some, refl, sym, ap, ap₂, subst, ◌∙◌}
-use Rattle.std.specs.Prelude.{flat_map, option_map, option_to_list, slice_get}
+use Rattle.std.proofs.Common.{◌≡◌, ℕ, ℤ, zero, suc, List, [], ◌∷◌, ◌++◌, map, Option, None, Some, refl, sym, ap, ap₂, subst}
+use Rattle.std.specs.Prelude.{option_map, option_to_list, slice_get}
 use Rattle.std.specs.BTreeMap.{is_at}
-use Rattle.std.specs.Map.{lookup}
 use Rattle.std.proofs.lemmas.List.Folds.{flat_map-map}
 use Rattle.std.proofs.lemmas.Map.Made.{lookup-map_values}
 use Rattle.std.proofs.lemmas.Option.{slice_get-map}
@@ -11,7 +10,7 @@ use Rattle.ic_laws.proofs.binding.Induction.{every_of_all}
 use Rattle.ic_laws.proofs.keeping.Sheets.{renamed}
 use Rattle.ic_laws.specs.BookTrees.{BookKeepsFound, BothOrNone, DefinitionKeepsFound, FormulaKeepsFound, KeepsFound, LeavesFoundName, LeavesFoundSheet, SheetKeepsFound, with_body_tree, with_cell_trees, with_tree, with_trees}
 use Rattle.ic_laws.specs.Changes.{changed_sheet, changed_tree, changed_word, sheet_named}
-use Rattle.ic_laws.specs.CoreBook.{CellPlace, CoreBook, Definition, Sheet, formula_at, greatest_id, ids_of, place_cmp, used_ids}
+use Rattle.ic_laws.specs.CoreBook.{CoreBook, Definition, Sheet, formula_at, greatest_id, place_cmp}
 use Rattle.ic_laws.specs.CoreStep.{updated_at, with_sheet_name}
 use Rattle.ic_laws.specs.Greatest.{greatest}
 use Rattle.ic_laws.specs.Mentions.{OfMentions}

@@ -1,11 +1,11 @@
 -- Each mention of a bound formula holds in its scene.
 use Rattle.std.proofs.Common.{◌≡◌, ℕ, List, [], ◌∷◌, ◌++◌, map, Bool, true, false, Option, None, Some, refl, sym, ap, subst, ◌∙◌, nat_eq, if◌then◌else◌}
 use Rattle.std.specs.Prelude.{option_map}
-use Rattle.std.specs.List.{AllByRecursion, find, list_any}
+use Rattle.std.specs.List.{AllByRecursion, find}
 use Rattle.std.proofs.lemmas.Bool.{eq-eqb}
 use Rattle.ic_laws.proofs.binding.Again.{BoundKind, once, bound-node}
 use Rattle.ic_laws.proofs.binding.Induction.{by_nodes, OfChildren, EveryPair, every_made}
-use Rattle.ic_laws.proofs.binding.SceneLemmas.{found_by_other, found_has_definition}
+use Rattle.ic_laws.proofs.binding.SceneLemmas.{found_has_definition}
 use Rattle.ic_laws.proofs.keeping.Finding.{any_where_found}
 use Rattle.ic_laws.specs.Binding.{Binders, BoundPair, IsSettled, all_bound, bound, bound_call, bound_pair_of, bound_sheet, bound_under, bound_word, is_bound_by, name_or_dangling, pair_binds, pairs_bound, sheet_or_dangling, spelled, with_parameters, with_variables}
 use Rattle.ic_laws.specs.Changes.{MentionsHold, SheetHolds, WordHolds}

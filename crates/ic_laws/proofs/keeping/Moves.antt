@@ -1,22 +1,21 @@
 -- An accepted move.
-use Rattle.std.proofs.Common.{◌≡◌, ℕ, zero, suc, ◌+◌, ◌<◌, ◌≤◌, arith, List, [], ◌∷◌, ◌++◌, length, map, take, drop, Bool, true, false, cond, ◌||◌, not, Option, None, Some, Ok, refl, sym, ap, subst, ◌∙◌, nat_eq, nat_lt, inl, inr}
+use Rattle.std.proofs.Common.{◌≡◌, ℕ, zero, suc, ◌<◌, ◌≤◌, arith, List, [], ◌∷◌, ◌++◌, length, map, take, drop, Bool, true, cond, Option, None, Some, Ok, refl, sym, ap, subst, ◌∙◌, nat_eq, inl, inr}
 use Rattle.std.specs.Prelude.{insert, remove, slice_get}
 use Rattle.std.specs.Cmp.{nat_eq_equiv}
 use Rattle.std.specs.Option.{option_or}
 use Rattle.std.specs.List.{IsDistinct, find}
-use Rattle.std.specs.List.Sorted.{IsPermutation}
 use Rattle.std.proofs.lemmas.Bool.{cases_Bool, eqb-true, ltb-true, not-false}
 use Rattle.std.proofs.lemmas.List.{take-append-drop}
 use Rattle.std.proofs.lemmas.List.Edits.{length-remove}
 use Rattle.std.proofs.lemmas.List.Folds.{find-append}
 use Rattle.std.proofs.lemmas.Option.{get_or_from_slice_get, slice_get_within}
 use Rattle.std.proofs.lemmas.List.Sorted.{IsPermutation-insert, IsPermutation-remove, IsPermutation-trans}
-use Rattle.ic_laws.proofs.binding.SceneLemmas.{find_here, find_later}
+use Rattle.ic_laws.proofs.binding.SceneLemmas.{find_later}
 use Rattle.ic_laws.proofs.keeping.Accepted.{accepted, none_holds, sheet_at}
 use Rattle.ic_laws.proofs.keeping.Removing.{finds_no_other}
-use Rattle.ic_laws.specs.BookTrees.{IsMoved, sheet_of}
+use Rattle.ic_laws.specs.BookTrees.{IsMoved}
 use Rattle.ic_laws.specs.Command.{Field}
-use Rattle.ic_laws.specs.CoreBook.{CoreBook, Sheet, ids_of}
+use Rattle.ic_laws.specs.CoreBook.{CoreBook, Sheet}
 use Rattle.ic_laws.specs.CoreStep.{lacks_sheet, move_refusal, move_step, moved, put_back}
 use Rattle.ic_laws.specs.Notations.{Notations}
 use Rattle.ic_laws.specs.Refusal.{SheetIndexTooLarge, TargetTooLarge}

@@ -1,5 +1,5 @@
 -- What mentions become where a definition comes, and where one goes.
-use Rattle.std.proofs.Common.{◌≡◌, ℕ, List, [], ◌∷◌, ◌++◌, map, Bool, true, false, cond, ◌&&◌, ◌||◌, Option, None, Some, refl, sym, ap, ap₂, subst, ◌∙◌, nat_eq, inl, inr, if◌then◌else◌}
+use Rattle.std.proofs.Common.{◌≡◌, ℕ, List, [], ◌∷◌, ◌++◌, Bool, true, false, cond, ◌&&◌, ◌||◌, Option, None, Some, refl, sym, ap, ap₂, subst, ◌∙◌, nat_eq, inl, inr, if◌then◌else◌}
 use Rattle.std.specs.Prelude.{bytes_eq, option_map, remove, slice_get, unwrap_or}
 use Rattle.std.specs.Cmp.{nat_eq_equiv}
 use Rattle.std.specs.Cmp.Lexicographic.{nat_list_eq_equiv}
@@ -12,10 +12,10 @@ use Rattle.ic_laws.proofs.binding.SceneLemmas.{found_passes}
 use Rattle.ic_laws.proofs.keeping.Kept.{Become, key_kept, sheet_stays, word_stays}
 use Rattle.ic_laws.proofs.keeping.Removing.{finds_itself, finds_no_other, removed_finds, removed_finds_none}
 use Rattle.ic_laws.specs.Binding.{name_or_dangling}
-use Rattle.ic_laws.specs.Changes.{SheetHolds, WordHolds, changed_sheet, changed_word, name_added, name_gone, sheet_after, word_after}
+use Rattle.ic_laws.specs.Changes.{SheetHolds, WordHolds, changed_sheet, changed_word, name_added, name_gone, word_after}
 use Rattle.ic_laws.specs.Keeping.{kept_name, same_keys}
 use Rattle.ic_laws.specs.Name.{fold}
-use Rattle.ic_laws.specs.Scene.{KeysDiffer, SheetsDiffer, definition_at, found_name, found_sheet, key_found, key_of, name_of_key, name_spelling, same_key, same_scope}
+use Rattle.ic_laws.specs.Scene.{KeysDiffer, SheetsDiffer, definition_at, found_name, found_sheet, key_found, key_of, name_spelling, same_key, same_scope}
 use Rattle.ic_laws.specs.declared.scene.NameSpelling.{NameSpelling}
 use Rattle.ic_laws.specs.declared.scene.Scene.{Scene}
 use Rattle.ic_laws.specs.declared.scene.SheetName.{SheetName}

@@ -1,5 +1,5 @@
 -- A new sheet and a renamed one: what they do to the scene, and to each formula of the book.
-use Rattle.std.proofs.Common.{◌≡◌, ℕ, ◌+◌, List, [], ◌∷◌, Bool, false, Option, None, Some, refl, ap, ◌∙◌}
+use Rattle.std.proofs.Common.{◌≡◌, ℕ, ◌+◌, List, [], false, Option, Some, refl, ◌∙◌}
 use Rattle.std.specs.Prelude.{slice_get}
 use Rattle.std.specs.List.{IsDistinct}
 use Rattle.ic_laws.proofs.keeping.Books.{each_weaker, kept_as, trees_settled}
@@ -14,7 +14,6 @@ use Rattle.ic_laws.specs.CoreStep.{has_other_sheet, with_new_sheet, with_sheet_n
 use Rattle.ic_laws.specs.Keeping.{kept, same_keys, with_kept}
 use Rattle.ic_laws.specs.Name.{agrees}
 use Rattle.ic_laws.specs.Notations.{AreNotations, Notations, english_function}
-use Rattle.ic_laws.specs.Tree.{Bound}
 use Rattle.ic_laws.specs.ValidCore.{IsValidCore}
 use Rattle.ic_laws.specs.declared.dialect.WordKind.TheVariants as kinds
 use Rattle.ic_laws.specs.declared.scene.Scene.{Scene}

@@ -1,5 +1,5 @@
 -- What is found in a list after one of its items is taken out.
-use Rattle.std.proofs.Common.{◌≡◌, ℕ, zero, suc, List, [], ◌∷◌, map, Bool, true, false, cond, ◌||◌, Option, None, Some, refl, sym, ap, subst, ◌∙◌, inl, inr}
+use Rattle.std.proofs.Common.{◌≡◌, ℕ, zero, suc, List, [], ◌∷◌, map, Bool, true, false, cond, ◌||◌, None, Some, refl, sym, ap, subst, ◌∙◌, inl, inr}
 use Rattle.std.specs.Prelude.{remove, slice_get}
 use Rattle.std.specs.List.{AllByRecursion, IsDistinct, find, list_any}
 use Rattle.std.proofs.lemmas.Bool.{cases_Bool}

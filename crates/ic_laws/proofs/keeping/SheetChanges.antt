@@ -1,5 +1,5 @@
 -- What mentions become where a sheet gets a name, and where one goes.
-use Rattle.std.proofs.Common.{◌≡◌, ℕ, List, Bool, true, false, Option, None, Some, refl, ap, subst, ◌∙◌, nat_eq, inl, inr, if◌then◌else◌}
+use Rattle.std.proofs.Common.{◌≡◌, ℕ, List, Bool, true, false, Option, None, Some, refl, ap, ◌∙◌, nat_eq, inl, inr, if◌then◌else◌}
 use Rattle.std.specs.List.{list_any}
 use Rattle.std.proofs.lemmas.Bool.{cases_Bool, eqb-true}
 use Rattle.ic_laws.proofs.keeping.Kept.{Become, sheet_stays, word_stays}

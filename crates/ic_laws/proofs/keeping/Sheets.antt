@@ -14,7 +14,7 @@ use Rattle.ic_laws.proofs.keeping.SheetChanges.{has_id}
 use Rattle.ic_laws.specs.CoreBook.{CoreBook, Sheet, names_of, scene_of}
 use Rattle.ic_laws.specs.CoreStep.{updated_at}
 use Rattle.ic_laws.specs.Name.{agrees}
-use Rattle.ic_laws.specs.Scene.{SheetsDiffer, found_sheet}
+use Rattle.ic_laws.specs.Scene.{SheetsDiffer}
 use Rattle.ic_laws.specs.declared.scene.SheetName.{SheetName}
 
 -- a sheet as formulas see it
