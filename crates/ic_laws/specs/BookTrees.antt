@@ -51,16 +51,16 @@ module _ (f : Option ℕ → Bound → Bound) where
 abbrev pub with_sheet_at_end : ℕ → List ℕ → CoreBook → CoreBook
 with_sheet_at_end id name book = record book { sheets = book.sheets ++ record { id = id; name = name; cells = [] } ∷ [] }
 
--- a mention that was found isn't replaced by another
+-- a mention that doesn't dangle isn't replaced by another
 abbrev pub LeavesFoundSheet : (SheetMention → SheetMention) → SheetMention → Type 0
-LeavesFoundSheet f (sheets.Sheet id) = f (sheets.Sheet id) ≡ sheets.Sheet id
-LeavesFoundSheet f mention = Unit {0}
+LeavesFoundSheet f (sheets.Dangling name) = Unit {0}
+LeavesFoundSheet f mention = f mention ≡ mention
 
 abbrev pub LeavesFoundName : (NameMention → NameMention) → NameMention → Type 0
-LeavesFoundName g (names.Name key) = g (names.Name key) ≡ names.Name key
-LeavesFoundName g mention = Unit {0}
+LeavesFoundName g (names.Dangling word) = Unit {0}
+LeavesFoundName g mention = g mention ≡ mention
 
--- The second tree is the first but for mentions, and each mention of the first that was found stands in the second, too.
+-- The second tree is the first but for mentions that dangled: each mention that was found stands in the second, too.
 pub record KeepsFound (t u : Bound) : Type 0 where
   pub sheet : SheetMention → SheetMention
   pub name : NameMention → NameMention

@@ -39,12 +39,12 @@ naming_keeps id name scope t = record {
     g = changed_word (sheet_named id name) scope
 
     of_sheet : (m : SheetMention) → LeavesFoundSheet f m
-    of_sheet sheets.Own = tt
+    of_sheet sheets.Own = refl
     of_sheet (sheets.Sheet i) = refl
     of_sheet (sheets.Dangling typed) = tt
 
     of_word : (m : NameMention) → LeavesFoundName g m
-    of_word (names.Var word) = tt
+    of_word (names.Var word) = refl
     of_word (names.Name key) = refl
     of_word (names.Dangling word) = tt
 
