@@ -15,6 +15,7 @@ pub mod SmallestLaws
 pub mod TextLemmas
 pub mod binding
 pub mod core
+pub mod keeping
 pub mod kept
 pub mod parsing
 pub mod printing

@@ -1,6 +1,8 @@
 pub mod Amount
 pub mod AmountFront
 pub mod Binding
+pub mod BookTrees
+pub mod Changes
 pub mod Character
 pub mod Clash
 pub mod Command

@@ -1,4 +1,6 @@
--- The mentions of a bound formula, all at once: a fact of each, and a formula in which each is replaced.
+-- The mentions of a bound formula, all at once: a fact of each, a test that some pass, and a formula in which each is replaced.
+use Rattle.std.specs.Prelude.{Bool, false, ◌||◌}
+use Rattle.std.specs.List.{list_any}
 use Rattle.ic_laws.specs.Binding.{BoundPair, bound_pair_of}
 use Rattle.ic_laws.specs.Tree.{Bound, Kind}
 use Rattle.ic_laws.specs.declared.tree.NameMention.{NameMention}
@@ -17,6 +19,26 @@ OfMentions P Q kind = Unit {0}
 -- a fact of each mention of a formula
 abbrev pub AllMentions : (SheetMention → Type 0) → (NameMention → Type 0) → Bound → Type 0
 AllMentions P Q t = every-Tree SheetMention NameMention (OfMentions P Q) (λ pair. Unit {0}) t
+
+-- some mention of a formula passes a test
+module _ (is_sheet : SheetMention → Bool) (is_word : NameMention → Bool) where
+  abbrev pub some_step : Tree-F SheetMention NameMention Bool Bool → Bool
+  some_step (one.Reference sheet place) = is_sheet sheet
+  some_step (one.Word word) = is_word word
+  some_step (one.Paren x) = x
+  some_step (one.Prefix sign x) = x
+  some_step (one.Percent x) = x
+  some_step (one.Spill x) = x
+  some_step (one.Binary sign a b) = a || b
+  some_step (one.Fun number arguments) = list_any (λ b. b) arguments
+  some_step (one.Call word arguments) = is_word word || list_any (λ b. b) arguments
+  some_step (one.Let pairs body) = list_any (λ b. b) pairs || body
+  some_step (one.Lambda parameters body) = body
+  some_step (one.Apply x arguments) = x || list_any (λ b. b) arguments
+  some_step kind = false
+
+  abbrev pub some_mention : Bound → Bool
+  some_mention t = fold-Tree SheetMention NameMention Bool Bool some_step (λ pair. pair.value) t
 
 module _ (f : SheetMention → SheetMention) (g : NameMention → NameMention) where
   -- one node, with its mention replaced

@@ -18,12 +18,21 @@
 //! fits falls into its tokens, and reads as it), `law_read_as` (the function that reads texts answers just what the
 //! relation says). The proofs are in `proofs/parsing`, `proofs/tokens` and `proofs/printing`.
 //!
+//! What a change of the sheets or the definitions does to formulas is in `Keeping` (formulas are written out with the names
+//! after the change, and bound again) and, in the words of a user, in `Changes` (which mentions the change can change, and
+//! to what) and `BookTrees` (all formulas of a book at once).
+//!
 //! The laws of books: `law_binding_settled` (what is bound stays when it is written and bound again), `law_stored_text`
 //! (trees that a book keeps are equal where their stored texts are), `law_shown_text` (what is shown in a cell and typed
-//! there again is the same formula). The proofs are in `proofs/binding` and `proofs/kept`.
+//! there again is the same formula), `law_steps_stay_valid` (an accepted command leaves a valid book valid); and, for each
+//! command, just which mentions it changes, and to what: `law_add_sheet_binds`, `law_rename_binds`,
+//! `law_delete_sheet_dangles`, `law_new_name_binds`, `law_delete_name_dangles`; and what stays: `law_settled_holds`,
+//! `law_untouched_stays`, `law_rename_keeps`, `law_rename_back`, `law_move_keeps`, `law_notation_keeps`. The proofs are in
+//! `proofs/binding`, `proofs/kept`, `proofs/keeping` and `proofs/core`.
 #![tactic(auto)]
 
 mod amount;
+mod book_law;
 mod boxed;
 mod dialect;
 mod items;
@@ -37,13 +46,17 @@ mod text;
 mod tree;
 
 pub use amount::{Amount, amount_spelling, unsigned_amount};
+pub use book_law::{
+    law_add_sheet_binds, law_delete_name_dangles, law_delete_sheet_dangles, law_move_keeps,
+    law_new_name_binds, law_notation_keeps, law_rename_back, law_rename_binds, law_rename_keeps,
+    law_settled_holds, law_shown_text, law_steps_stay_valid, law_stored_text, law_untouched_stays,
+};
 pub use boxed::Boxed;
 pub use dialect::{Dialect, WordKind};
 pub use items::Items;
 pub use law::{
     law_binding_settled, law_lex_print, law_lexes_unique, law_read_as, law_read_print,
-    law_steps_stay_valid, law_stored_text, law_yield_injective,
-    law_shown_text, law_stored_text, law_yield_injective,
+    law_yield_injective,
 };
 pub use memory::OutOfMemory;
 pub use name::agree;

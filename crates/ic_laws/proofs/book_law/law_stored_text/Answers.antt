@@ -2,7 +2,7 @@
 use Rattle.ic_laws.specs.CoreBook.{scene_of}
 use Rattle.ic_laws.proofs.core.Named.{book_named}
 use Rattle.ic_laws.proofs.kept.Written.{stored_text_binds, stored_text_decides}
-use Rattle.ic_laws.proofs.law.law_stored_text.Goals as goal
+use Rattle.ic_laws.proofs.book_law.law_stored_text.Goals as goal
 
 pub returns : goal.returns
 returns c = record {
