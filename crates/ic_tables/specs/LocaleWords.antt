@@ -1,12 +1,11 @@
 -- Locales by their separators, their currency and their formats.
-use Rattle.std.specs.Prelude.{◌≡◌, ℕ, List, [], ◌∷◌, None, chars}
+use Rattle.std.specs.Prelude.{ℕ, List, [], ◌∷◌, None, chars}
 use Rattle.std.specs.List.{slice_index_or}
 use Rattle.ic_tables.specs.WordList.{words_in}
 use Rattle.ic_tables.specs.declared.locale.Currency.{Currency}
 use Rattle.ic_tables.specs.declared.locale.CurrencyFormats.{CurrencyFormats}
 use Rattle.ic_tables.specs.declared.locale.DateFormats.{DateFormats}
 use Rattle.ic_tables.specs.declared.locale.Dates.{Dates}
-use Rattle.ic_tables.specs.declared.locale.Locale.{Locale}
 use Rattle.ic_tables.specs.declared.locale.NamedLocale.{NamedLocale}
 use Rattle.ic_tables.specs.declared.locale.NumbersProperties.{NumbersProperties}
 use Rattle.ic_tables.specs.declared.locale.NumbersSymbols.{NumbersSymbols}
