@@ -1,7 +1,7 @@
 -- The words of a text, one after another.
-use Rattle.std.proofs.Common.{◌≡◌, ℕ, List, [], ◌∷◌, ◌++◌, Bool, true, false, not, ◌==◌, cond, refl, ap, ◌∙◌, sym}
+use Rattle.std.proofs.Common.{◌≡◌, ℕ, List, [], ◌∷◌, ◌==◌, refl, ap}
 use Rattle.std.proofs.lemmas.Bool.{cases_Bool}
-use Rattle.std.specs.List.{onto_first, slice_split}
+use Rattle.std.specs.List.{onto_first}
 use Rattle.std.proofs.Common.{inl, inr}
 use Rattle.ic_laws.specs.Character.{blank}
 use Rattle.ic_laws.specs.Scan.{past_run, run_of}

@@ -1,5 +1,5 @@
 -- The sample tables meet every condition, computed over their words.
-use Rattle.std.proofs.Common.{◌≡◌, ℕ, List, [], ◌∷◌, Bool, true, ◌&&◌, Option, Some, None, map, refl, ap, ap₂, sym, ◌∙◌}
+use Rattle.std.proofs.Common.{◌≡◌, ℕ, List, [], ◌∷◌, Bool, true, ◌&&◌, Option, Some, None, codes, map, refl, ap, ap₂, sym, ◌∙◌}
 use Rattle.std.specs.List.{filter_map, list_all}
 use Rattle.std.specs.Str.{chars}
 use Rattle.caseless.proofs.Computing.{caseless}
@@ -8,15 +8,16 @@ use Rattle.ic_laws.specs.Dialect.{has_error_shape, has_function_shape}
 use Rattle.ic_laws.specs.Name.{fold}
 use Rattle.ic_tables.specs.Formats.{has_dates, has_group, has_separators, has_symbol}
 use Rattle.ic_tables.specs.LanguageWords.{language_in}
-use Rattle.ic_tables.specs.LocaleWords.{sign}
+use Rattle.ic_tables.specs.LocaleWords.{locale_in, sign}
 use Rattle.ic_tables.specs.LocaleWords as signs
-use Rattle.ic_tables.specs.Sample.{english_words, french_words, german_words, italian_words, kinds_in, sample, sample_languages, sample_locales, spanish_words}
+use Rattle.ic_tables.specs.Sample.{american, english_words, european, french_words, german_words, italian_words, kinds_in, sample, sample_languages, sample_locales, spanish_words}
 use Rattle.ic_tables.specs.Tables.{TableSet, are_different, first_failed, first_false, has_english_words, has_ids, has_numbers, has_zones, have_boolean_words, have_dates, have_error_words, have_function_words, have_groups, have_separators, have_symbols, tell_booleans, tell_errors}
 use Rattle.ic_tables.specs.WordList.{words_in}
-use Rattle.ic_tables.specs.Words.{error_words, has_boolean_words, has_error_words, has_function_words, has_stored_words, no_two_agree, numbers_functions, share_numbers, tells_booleans, tells_errors}
+use Rattle.ic_tables.specs.Words.{error_words, has_boolean_words, has_error_words, has_function_words, has_stored_words, numbers_functions, share_numbers, tells_booleans, tells_errors}
 use Rattle.ic_tables.specs.declared.language.FunctionKind.{FunctionKind}
 use Rattle.ic_tables.specs.declared.language.Language.{Language}
 use Rattle.ic_tables.specs.declared.locale.NamedLocale.{NamedLocale}
+use Rattle.ic_tables.specs.declared.locale_words.LocaleWords.{LocaleWords}
 use Rattle.ic_tables.specs.declared.sample.TheConstants.{KINDS, ZONES}
 use Rattle.ic_tables.proofs.FoldLemmas.{no_two_by_folding}
 
@@ -116,6 +117,11 @@ those_there xs os e = rw (← e) (somes xs)
     somes : {A : Type 0} (ys : List A) → filter_map (λ o. o) (map Some ys) ≡ ys
     somes [] = refl
     somes (y ∷ ys) = ap (λ zs. y ∷ zs) (somes ys)
+
+-- the locales of the words of the five places are those of the sample
+pub five_places : (a b c d e : LocaleWords) → locale_in a ≡ american → locale_in b ≡ european (codes "es") (codes ".") → locale_in c ≡ european (codes "fr") (codes " ")
+    → locale_in d ≡ european (codes "de") (codes ".") → locale_in e ≡ european (codes "it") (codes ".") → map locale_in (a ∷ b ∷ c ∷ d ∷ e ∷ []) ≡ sample_locales
+five_places a b c d e pa pb pc pd pe = ap₂ ◌∷◌ pa (ap₂ ◌∷◌ pb (ap₂ ◌∷◌ pc (ap₂ ◌∷◌ pd (ap (λ l. l ∷ []) pe))))
 
 -- tables with these parts are the sample
 pub is_sample : (ls : List Language) (ns : List NamedLocale) (zs : List (List ℕ)) (ks : List FunctionKind)

@@ -1,7 +1,7 @@
 -- Words by their number, and the first word that agrees.
-use Rattle.std.proofs.Common.{◌≡◌, ℕ, zero, suc, ◌+◌, ◌<◌, ◌≤◌, List, [], ◌∷◌, ◌++◌, Bool, true, false, not, ◌&&◌, ◌||◌, ◌==◌, Option, Some, None, bytes_eq, option_map, drop, refl, sym, ap, ap₂, subst, ◌∙◌, inl, inr, arith, length, map}
+use Rattle.std.proofs.Common.{◌≡◌, ℕ, zero, suc, ◌+◌, List, [], ◌∷◌, ◌++◌, Bool, true, false, not, ◌==◌, Option, Some, None, bytes_eq, option_map, drop, refl, sym, ap, subst, ◌∙◌, inl, inr, arith, length, map}
 use Rattle.std.specs.List.{list_all, list_any, slice_get}
-use Rattle.std.proofs.lemmas.Bool.{and_from, and_parts, or_parts, cases_Bool, not-true, both_ways}
+use Rattle.std.proofs.lemmas.Bool.{and_from, and_parts, or_parts, cases_Bool, not-true}
 use Rattle.std.proofs.lemmas.Bool.Decides.{nat_tests}
 use Rattle.std.proofs.lemmas.Slice.Eq.{bytes_eq-Decides}
 use Rattle.ic_laws.specs.Name.{Agree, agrees, fold}

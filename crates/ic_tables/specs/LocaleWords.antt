@@ -1,12 +1,11 @@
 -- Locales by their separators, their currency and their formats.
-use Rattle.std.specs.Prelude.{◌≡◌, ℕ, List, [], ◌∷◌, None, chars}
+use Rattle.std.specs.Prelude.{ℕ, List, [], ◌∷◌, None, chars}
 use Rattle.std.specs.List.{slice_index_or}
 use Rattle.ic_tables.specs.WordList.{words_in}
 use Rattle.ic_tables.specs.declared.locale.Currency.{Currency}
 use Rattle.ic_tables.specs.declared.locale.CurrencyFormats.{CurrencyFormats}
 use Rattle.ic_tables.specs.declared.locale.DateFormats.{DateFormats}
 use Rattle.ic_tables.specs.declared.locale.Dates.{Dates}
-use Rattle.ic_tables.specs.declared.locale.Locale.{Locale}
 use Rattle.ic_tables.specs.declared.locale.NamedLocale.{NamedLocale}
 use Rattle.ic_tables.specs.declared.locale.NumbersProperties.{NumbersProperties}
 use Rattle.ic_tables.specs.declared.locale.NumbersSymbols.{NumbersSymbols}
@@ -53,16 +52,20 @@ symbols decimal group list = record {
   time_separator = chars TIME_SEPARATOR.now;
 }
 
+-- formats of amounts of money in the order of their fields
+abbrev pub of_money : List (List ℕ) → CurrencyFormats
+of_money formats = record {
+  standard = slice_index_or formats 0 [];
+  standard_alpha_next_to_number = None;
+  standard_no_currency = slice_index_or formats 1 [];
+  accounting = slice_index_or formats 2 [];
+  accounting_alpha_next_to_number = None;
+  accounting_no_currency = slice_index_or formats 3 [];
+}
+
 -- one format for every amount of money
 unfoldable pub currency_formats : List ℕ → CurrencyFormats
-currency_formats format = record {
-  standard = format;
-  standard_alpha_next_to_number = None;
-  standard_no_currency = format;
-  accounting = format;
-  accounting_alpha_next_to_number = None;
-  accounting_no_currency = format;
-}
+currency_formats format = of_money (format ∷ format ∷ format ∷ format ∷ [])
 
 unfoldable pub numbers : NumbersSymbols → List ℕ → NumbersProperties
 numbers signs format = record {
@@ -71,22 +74,35 @@ numbers signs format = record {
   currency_formats = currency_formats format;
 }
 
+-- four formats by their length, the longest first
+abbrev pub in_order : List (List ℕ) → DateFormats
+in_order formats = record {
+  full = slice_index_or formats 0 [];
+  long = slice_index_or formats 1 [];
+  medium = slice_index_or formats 2 [];
+  short = slice_index_or formats 3 [];
+}
+
 -- one format for all lengths but the short one
 unfoldable pub formats_by_length : List ℕ → List ℕ → DateFormats
-formats_by_length long short = record { full = long; long = long; medium = long; short = short }
+formats_by_length long short = in_order (long ∷ long ∷ long ∷ short ∷ [])
 
--- no names of days and months; times are written as long dates
-unfoldable pub dates : List ℕ → List ℕ → Dates
-dates long short = record {
+-- no names of days and months, and these formats
+abbrev pub dates_of : DateFormats → DateFormats → DateFormats → Dates
+dates_of dates times dates_with_times = record {
   day_names = [];
   day_names_short = [];
   months = [];
   months_short = [];
   months_letter = [];
-  date_formats = formats_by_length long short;
-  time_formats = formats_by_length long long;
-  date_time_formats = formats_by_length long long;
+  date_formats = dates;
+  time_formats = times;
+  date_time_formats = dates_with_times;
 }
+
+-- times are written as long dates
+unfoldable pub dates : List ℕ → List ℕ → Dates
+dates long short = dates_of (formats_by_length long short) (formats_by_length long long) (formats_by_length long long)
 
 -- a currency by its code and its symbol
 unfoldable pub currency : List ℕ → List ℕ → Currency

@@ -158,9 +158,7 @@ fn have_numbers_of(first: &Language, others: &[Language]) -> bool
 fn has_english_words(languages: &[Language]) -> bool
     ensures { result ≡ list_all (λ l. not (bytes_eq l.code (codes "en")) || has_stored_words l) languages.now }
 {
-    languages
-        .iter()
-        .all(|language| is_other_or_stored(language))
+    languages.iter().all(is_other_or_stored)
 }
 
 /// Whether the language isn't English, or has the words of formulas as they are stored.
@@ -173,13 +171,13 @@ fn is_other_or_stored(language: &Language) -> bool
 fn have_boolean_words(languages: &[Language]) -> bool
     ensures { result ≡ list_all has_boolean_words languages.now }
 {
-    languages.iter().all(|language| has_boolean_words(language))
+    languages.iter().all(has_boolean_words)
 }
 
 fn tell_booleans(languages: &[Language]) -> bool
     ensures { result ≡ list_all tells_booleans languages.now }
 {
-    languages.iter().all(|language| tells_booleans(language))
+    languages.iter().all(tells_booleans)
 }
 
 fn have_function_words(alloc: Global, languages: &[Language]) -> Result<bool, OutOfMemory>

@@ -2,7 +2,7 @@ use ic_laws::OutOfMemory;
 use thiserror::Error;
 
 /// Why `Tables::new` made no tables.
-#[derive(Clone, Copy, Debug, PartialEq, Eq, Error)]
+#[derive(Clone, Copy, Debug, Error)]
 pub enum TablesError {
     /// The number of the first condition that fails, from 1.
     #[error("BadTables")]
@@ -23,7 +23,7 @@ impl From<OutOfMemory> for TablesError {
 }
 
 /// Why a look-up by an id found nothing.
-#[derive(Clone, Copy, Debug, PartialEq, Eq, Error)]
+#[derive(Clone, Copy, Debug, Error)]
 pub enum BookIdError {
     /// No language has the code.
     #[error("Language is not supported")]

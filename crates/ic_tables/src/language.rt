@@ -51,7 +51,7 @@ pub struct Functions {
 }
 
 /// How a function takes an argument of several cells.
-#[derive(Clone, Copy, Debug, PartialEq, Eq)]
+#[derive(Clone, Copy)]
 pub enum FunctionKind {
     /// As a whole, as SUM does.
     Whole,

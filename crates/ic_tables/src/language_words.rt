@@ -26,48 +26,30 @@ impl Language {
     {
         let name = Text::from_str(alloc, name)?;
         let code = Text::from_str(alloc, code)?;
-        let functions = functions_in(alloc, functions)?;
-        let booleans = booleans_in(alloc, booleans)?;
-        let errors = errors_in(alloc, errors)?;
+        let functions = words_in(alloc, functions)?;
+        let booleans = words_in(alloc, booleans)?;
+        let errors = words_in(alloc, errors)?;
         Ok(with_parts(name, code, functions, booleans, errors))
     }
-}
-
-fn functions_in(alloc: Global, words: &str) -> Result<Functions, OutOfMemory>
-    ensures { IfOk result (λ f. f ≡ numbered (words_in (chars words.now))) }
-{
-    Ok(numbered(words_in(alloc, words)?))
-}
-
-fn booleans_in(alloc: Global, words: &str) -> Result<Option<Booleans>, OutOfMemory>
-    ensures { IfOk result (λ b. b ≡ booleans_of (words_in (chars words.now))) }
-{
-    Ok(booleans_of(words_in(alloc, words)?))
-}
-
-fn errors_in(alloc: Global, words: &str) -> Result<Option<Errors>, OutOfMemory>
-    ensures { IfOk result (λ e. e ≡ errors_of (words_in (chars words.now))) }
-{
-    Ok(errors_of(words_in(alloc, words)?))
 }
 
 fn with_parts(
     name: Text,
     code: Text,
-    functions: Functions,
-    booleans: Option<Booleans>,
-    errors: Option<Errors>,
+    functions: Vec<Text>,
+    booleans: Vec<Text>,
+    errors: Vec<Text>,
 ) -> Option<Language>
-    ensures { result ≡ with_parts name code functions booleans errors }
+    ensures { result ≡ with_parts name code (numbered functions.items) (booleans_of booleans.items) (errors_of errors.items) }
 {
-    let booleans = booleans?;
-    let errors = errors?;
+    let booleans = booleans_of(booleans)?;
+    let errors = errors_of(errors)?;
     Some(Language {
         name,
         code,
         booleans,
         errors,
-        functions,
+        functions: numbered(functions),
     })
 }
 

@@ -1,8 +1,8 @@
 //! Locales from their separators, their currency and their formats.
 ghost use Rattle.std.specs.Prelude.{◌≡◌, IfOk, chars};
-ghost use Rattle.ic_tables.specs.LocaleWords.{currency, currency_formats, dates, formats_by_length, list_of_signs, locale_in, numbers, shared_signs, symbols};
+ghost use Rattle.ic_tables.specs.LocaleWords.{dates_of, in_order, list_of_signs, locale_in, numbers, of_money, shared_signs, symbols};
 
-use crate::word_list::words_in;
+use crate::word_list::{four_texts, words_in};
 use crate::{
     Currency, CurrencyFormats, DateFormats, Dates, DecimalFormats, Locale, NamedLocale,
     NumbersProperties, NumbersSymbols,
@@ -51,41 +51,37 @@ impl NamedLocale {
     }
 }
 
-#[tactic(auto, unfolding(crate::specs::LocaleWords::locale_in))]
+#[tactic(auto, unfolding(crate::specs::LocaleWords::locale_in, crate::specs::LocaleWords::dates, crate::specs::LocaleWords::formats_by_length, crate::specs::LocaleWords::currency))]
 fn locale_in(alloc: Global, words: &LocaleWords) -> Result<Locale, OutOfMemory>
     ensures { IfOk result (λ locale. locale ≡ (locale_in words.now).locale) }
 {
-    let currency = currency(alloc, words.iso, words.symbol)?;
-    let dates = dates(alloc, words.long_date, words.short_date)?;
+    let long = words.long_date;
+    let dates = four_texts(alloc, [long, long, long, words.short_date])?;
+    let times = four_texts(alloc, [long, long, long, long])?;
+    let dates_with_times = four_texts(alloc, [long, long, long, long])?;
+    let iso = Text::from_str(alloc, words.iso)?;
+    let symbol = Text::from_str(alloc, words.symbol)?;
     let numbers = numbers_in(alloc, words)?;
     Ok(Locale {
-        dates,
+        dates: dates_of(alloc, dates, times, dates_with_times),
         numbers,
-        currency,
+        currency: Currency { iso, symbol },
     })
 }
 
-#[tactic(auto, unfolding(crate::specs::LocaleWords::numbers))]
+#[tactic(auto, unfolding(crate::specs::LocaleWords::numbers, crate::specs::LocaleWords::currency_formats))]
 fn numbers_in(alloc: Global, words: &LocaleWords) -> Result<NumbersProperties, OutOfMemory>
     ensures { IfOk result (λ n. n ≡ numbers (symbols (chars words.now.decimal.now) (chars words.now.group.now) (chars words.now.list.now)) (chars words.now.money.now)) }
 {
+    let money = words.money;
+    let formats = four_texts(alloc, [money, money, money, money])?;
     let standard = Text::from_str(alloc, DECIMAL_FORMAT)?;
-    let currency_formats = currency_formats(alloc, words.money)?;
     let symbols = symbols(alloc, words.decimal, words.group, words.list)?;
     Ok(NumbersProperties {
         symbols,
         decimal_formats: DecimalFormats { standard },
-        currency_formats,
+        currency_formats: of_money(formats),
     })
-}
-
-#[tactic(auto, unfolding(crate::specs::LocaleWords::currency))]
-fn currency(alloc: Global, iso: &str, symbol: &str) -> Result<Currency, OutOfMemory>
-    ensures { IfOk result (λ c. c ≡ currency (chars iso.now) (chars symbol.now)) }
-{
-    let iso = Text::from_str(alloc, iso)?;
-    let symbol = Text::from_str(alloc, symbol)?;
-    Ok(Currency { iso, symbol })
 }
 
 /// The separators of the locale, with the signs that all locales share.
@@ -98,11 +94,9 @@ fn symbols(
 ) -> Result<NumbersSymbols, OutOfMemory>
     ensures { IfOk result (λ s. s ≡ symbols (chars decimal.now) (chars group.now) (chars list.now)) }
 {
-    let decimal = Text::from_str(alloc, decimal)?;
-    let group = Text::from_str(alloc, group)?;
-    let list = Text::from_str(alloc, list)?;
-    let time_separator = Text::from_str(alloc, TIME_SEPARATOR)?;
+    let separators = four_texts(alloc, [decimal, group, list, TIME_SEPARATOR])?;
     let signs = shared_signs(alloc)?;
+    let [decimal, group, list, time_separator] = separators;
     Ok(NumbersSymbols {
         decimal,
         group,
@@ -172,57 +166,51 @@ fn signs_of(signs: [Text; 9]) -> SharedSigns
     }
 }
 
-/// One format for every amount of money.
-#[tactic(auto, unfolding(crate::specs::LocaleWords::currency_formats))]
-fn currency_formats(alloc: Global, format: &str) -> Result<CurrencyFormats, OutOfMemory>
-    ensures { IfOk result (λ f. f ≡ currency_formats (chars format.now)) }
+/// The formats of amounts of money, in the order of their fields.
+fn of_money(formats: [Text; 4]) -> CurrencyFormats
+    ensures { result ≡ of_money formats }
 {
-    let standard = Text::from_str(alloc, format)?;
-    let standard_no_currency = Text::from_str(alloc, format)?;
-    let accounting = Text::from_str(alloc, format)?;
-    let accounting_no_currency = Text::from_str(alloc, format)?;
-    Ok(CurrencyFormats {
+    let [
+        standard,
+        standard_no_currency,
+        accounting,
+        accounting_no_currency,
+    ] = formats;
+    CurrencyFormats {
         standard,
         standard_alpha_next_to_number: None,
         standard_no_currency,
         accounting,
         accounting_alpha_next_to_number: None,
         accounting_no_currency,
-    })
+    }
 }
 
-#[tactic(auto, unfolding(crate::specs::LocaleWords::dates))]
-fn dates(alloc: Global, long: &str, short: &str) -> Result<Dates, OutOfMemory>
-    ensures { IfOk result (λ d. d ≡ dates (chars long.now) (chars short.now)) }
+/// No names of days and months, and these formats.
+fn dates_of(alloc: Global, dates: [Text; 4], times: [Text; 4], dates_with_times: [Text; 4]) -> Dates
+    ensures { result ≡ dates_of (in_order dates) (in_order times) (in_order dates_with_times) }
 {
-    let date_formats = formats_by_length(alloc, long, short)?;
-    let time_formats = formats_by_length(alloc, long, long)?;
-    let date_time_formats = formats_by_length(alloc, long, long)?;
-    Ok(Dates {
+    Dates {
         day_names: Items::from(Vec::new(alloc)),
         day_names_short: Items::from(Vec::new(alloc)),
         months: Items::from(Vec::new(alloc)),
         months_short: Items::from(Vec::new(alloc)),
         months_letter: Items::from(Vec::new(alloc)),
-        date_formats,
-        time_formats,
-        date_time_formats,
-    })
+        date_formats: in_order(dates),
+        time_formats: in_order(times),
+        date_time_formats: in_order(dates_with_times),
+    }
 }
 
-/// One format for all lengths but the short one.
-#[tactic(auto, unfolding(crate::specs::LocaleWords::formats_by_length))]
-fn formats_by_length(alloc: Global, long: &str, short: &str) -> Result<DateFormats, OutOfMemory>
-    ensures { IfOk result (λ f. f ≡ formats_by_length (chars long.now) (chars short.now)) }
+/// Formats by their length, the longest first.
+fn in_order(formats: [Text; 4]) -> DateFormats
+    ensures { result ≡ in_order formats }
 {
-    let full = Text::from_str(alloc, long)?;
-    let medium = Text::from_str(alloc, long)?;
-    let short = Text::from_str(alloc, short)?;
-    let long = Text::from_str(alloc, long)?;
-    Ok(DateFormats {
+    let [full, long, medium, short] = formats;
+    DateFormats {
         full,
         long,
         medium,
         short,
-    })
+    }
 }

@@ -2,6 +2,7 @@
 //! the booleans true and false, the error values by number, the functions by number.
 ghost use Rattle.std.specs.Prelude.{◌≡◌, IfOk, Some, chars, map};
 ghost use Rattle.ic_tables.specs.Sample.{american, european, kind_of, kinds_in, sample, sample_languages, sample_locales};
+ghost use Rattle.ic_tables.specs.LocaleWords.{locale_in};
 ghost use Rattle.ic_tables.specs.WordList.{words_in};
 
 mod english;
@@ -59,19 +60,32 @@ fn languages(alloc: Global) -> Result<Items<Language>, OutOfMemory>
 fn locales(alloc: Global) -> Result<Items<NamedLocale>, OutOfMemory>
     ensures { IfOk result (λ ls. ls ≡ sample_locales) }
 {
+    let places = [
+        american(),
+        european("es", "."),
+        european("fr", " "),
+        european("de", "."),
+        european("it", "."),
+    ];
+    Ok(locales_in(alloc, &places)?)
+}
+
+/// The locales of these words.
+fn locales_in(alloc: Global, places: &[LocaleWords]) -> Result<Items<NamedLocale>, OutOfMemory>
+    ensures { IfOk result (λ ls. ls ≡ map locale_in places.now) }
+{
     let mut locales = Vec::new(alloc);
-    locales.push(american(alloc)?)?;
-    locales.push(european(alloc, "es", ".")?)?;
-    locales.push(european(alloc, "fr", " ")?)?;
-    locales.push(european(alloc, "de", ".")?)?;
-    locales.push(european(alloc, "it", ".")?)?;
+    for words in places {
+        locales.push(NamedLocale::from_words(alloc, words)?)?;
+    }
     Ok(Items::from(locales))
 }
 
-fn american(alloc: Global) -> Result<NamedLocale, OutOfMemory>
-    ensures { IfOk result (λ l. l ≡ american) }
+/// The locale of the United States.
+fn american() -> LocaleWords<'static>
+    ensures { locale_in result ≡ american }
 {
-    let words = LocaleWords {
+    LocaleWords {
         id: "en",
         decimal: ".",
         group: ",",
@@ -81,15 +95,14 @@ fn american(alloc: Global) -> Result<NamedLocale, OutOfMemory>
         money: DOLLAR_FORMAT,
         short_date: "m/d/yyyy",
         long_date: "yyyy-mm-dd",
-    };
-    NamedLocale::from_words(alloc, &words)
+    }
 }
 
 /// A locale of the euro, which differs from the others in its separator of groups.
-fn european(alloc: Global, id: &str, group: &str) -> Result<NamedLocale, OutOfMemory>
-    ensures { IfOk result (λ l. l ≡ european (chars id.now) (chars group.now)) }
+fn european<'w>(id: &'w str, group: &'w str) -> LocaleWords<'w>
+    ensures { locale_in result ≡ european (chars id.now) (chars group.now) }
 {
-    let words = LocaleWords {
+    LocaleWords {
         id,
         decimal: ",",
         group,
@@ -99,8 +112,7 @@ fn european(alloc: Global, id: &str, group: &str) -> Result<NamedLocale, OutOfMe
         money: EURO_FORMAT,
         short_date: "dd/mm/yyyy",
         long_date: "yyyy-mm-dd",
-    };
-    NamedLocale::from_words(alloc, &words)
+    }
 }
 
 fn zones(alloc: Global) -> Result<Items<Text>, OutOfMemory>

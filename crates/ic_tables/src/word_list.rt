@@ -1,5 +1,5 @@
 //! Lists of words as texts with one blank between two words.
-ghost use Rattle.std.specs.Prelude.{◌≡◌, ◌≤◌, IfOk, chars, length};
+ghost use Rattle.std.specs.Prelude.{◌≡◌, ◌≤◌, IfOk, chars, length, map};
 ghost use Rattle.ic_laws.specs.Scan.{past_run, run_of};
 ghost use Rattle.ic_tables.specs.WordList.{is_inside, words_in};
 
@@ -20,6 +20,27 @@ pub fn words_in(alloc: Global, text: &str) -> Result<Vec<Text>, OutOfMemory>
         rest = past_word(after);
     }
     Ok(words)
+}
+
+/// A text for each of these.
+fn texts(alloc: Global, words: &[&str]) -> Result<Vec<Text>, OutOfMemory>
+    ensures { IfOk result (λ texts. texts.items ≡ map (λ w. chars w.now) words.now) }
+{
+    let mut texts = Vec::new(alloc);
+    for word in words {
+        texts.push(Text::from_str(alloc, word)?)?;
+    }
+    Ok(texts)
+}
+
+/// Four texts.
+pub fn four_texts(alloc: Global, words: [&str; 4]) -> Result<[Text; 4], OutOfMemory>
+    ensures { IfOk result (λ texts. texts ≡ map (λ w. chars w.now) words.entry) }
+{
+    match <[Text; 4]>::try_from(texts(alloc, &words)?) {
+        Ok(texts) => Ok(texts),
+        Err(_) => unreachable!(),
+    }
 }
 
 /// What stands before the first blank.

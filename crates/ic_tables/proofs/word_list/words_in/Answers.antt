@@ -1,6 +1,6 @@
-use Rattle.std.proofs.Common.{◌≡◌, ◌∷◌, [], ◌++◌, List, ℕ, append_assoc, append-nil, chars, sym, ap, ◌∙◌}
+use Rattle.std.proofs.Common.{◌≡◌, ◌∷◌, [], ◌++◌, List, ℕ, append_assoc, append-nil, sym, ap, ◌∙◌}
 use Rattle.ic_laws.specs.Scan.{past_run, run_of}
-use Rattle.ic_tables.specs.WordList.{is_inside, words_in}
+use Rattle.ic_tables.specs.WordList.{is_inside}
 use Rattle.ic_tables.proofs.ListLemmas.{later_are, later_words, no_later_words}
 use Rattle.ic_tables.proofs.word_list.words_in.Goals as goal
 
