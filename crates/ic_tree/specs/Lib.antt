@@ -3,6 +3,7 @@ pub mod Dynamic
 pub mod LanguageWords
 pub mod Lexing
 pub mod Listing
+pub mod Notations
 pub mod Printed
 pub mod Shown
 pub mod Sight
