@@ -2,7 +2,7 @@ pub mod CompareLemmas
 mod FoldLemmas
 mod ListLemmas
 mod LiteralLemmas
-mod Lookups
+pub mod Lookups
 pub mod OrderLemmas
 mod PlaceLemmas
 mod SampleLemmas

@@ -1,6 +1,6 @@
 -- The greatest height of a list that grows at its end.
 use Rattle.std.proofs.Common.{◌≡◌, ℕ, ◌+◌, max, List, [], ◌∷◌, ◌++◌, map, arith, sym, ap, subst}
-use Rattle.ic_laws.specs.CoreBook.{greatest}
+use Rattle.ic_laws.specs.Greatest.{greatest}
 use Rattle.ic_laws.specs.Parse.{node}
 use Rattle.ic_laws.specs.Tree.{Spelled, height}
 use Rattle.ic_laws.specs.declared.tree.Tree.TheOpen as one

@@ -10,6 +10,7 @@ pub mod LetterLemmas
 pub mod LexLemmas
 pub mod ListSteps
 pub mod Literals
+pub mod NotationLaws
 pub mod Operands
 pub mod Parts
 pub mod PrintLemmas

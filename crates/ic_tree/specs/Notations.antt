@@ -1,5 +1,5 @@
 -- What the machine is told of languages and locales, by tables.
-use Rattle.std.specs.Prelude.{ℕ, ℤ, List, [], false, Option, Some, None, is_some, option_map, unwrap_or}
+use Rattle.std.specs.Prelude.{ℤ, [], false, Option, Some, None, is_some, option_map, unwrap_or}
 use Rattle.ic_laws.specs.Character.{comma, dot}
 use Rattle.ic_laws.specs.Dialect.{DialectMeaning}
 use Rattle.ic_laws.specs.Notations.{Notations, english}

@@ -1,5 +1,5 @@
 ghost use Rattle.std.specs.Prelude.{◌≡◌, ◌∷◌, ◌++◌, [], OnOk, map};
-ghost use Rattle.ic_laws.specs.CoreBook.{greatest};
+ghost use Rattle.ic_laws.specs.Greatest.{greatest};
 ghost use Rattle.ic_laws.specs.Tree.{height};
 ghost use Rattle.ic_laws.specs.Parse.{pair_of};
 ghost use Rattle.ic_tree.specs.Turned.{value_height};
@@ -18,7 +18,7 @@ pub struct Arguments {
 
 impl Model for Arguments {
     ghost use Rattle.std.specs.Prelude.{◌≡◌, List, map};
-    ghost use Rattle.ic_laws.specs.CoreBook.{greatest};
+    ghost use Rattle.ic_laws.specs.Greatest.{greatest};
     ghost use Rattle.ic_laws.specs.Tree.{Spelled, height};
 
     ghost Value = { List Spelled };
@@ -75,7 +75,7 @@ pub struct Pairs {
 
 impl Model for Pairs {
     ghost use Rattle.std.specs.Prelude.{◌≡◌, List, map};
-    ghost use Rattle.ic_laws.specs.CoreBook.{greatest};
+    ghost use Rattle.ic_laws.specs.Greatest.{greatest};
     ghost use Rattle.ic_laws.specs.Parse.{Pair};
     ghost use Rattle.ic_tree.specs.Turned.{value_height};
 
