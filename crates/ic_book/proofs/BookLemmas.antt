@@ -4,18 +4,21 @@ use Rattle.std.specs.List.{list_any}
 use Rattle.std.proofs.lemmas.List.{map-append}
 use Rattle.std.proofs.lemmas.List.Elements.{All-weaker}
 use Rattle.ic_laws.specs.Name.{is_sheet_name}
-use Rattle.ic_laws.specs.CoreBook.{CoreBook, Sheet, fresh_id, has_sheet, scene_of}
+use Rattle.ic_laws.specs.CoreBook.{CoreBook, Definition, Sheet, fresh_id, has_sheet, scene_of}
 use Rattle.ic_laws.specs.CoreStep.{changed_by, with_new_sheet}
 use Rattle.ic_laws.specs.Greatest.{greatest}
 use Rattle.ic_laws.specs.Keeping.{KeyChange, kept_on_sheet, same_keys}
-use Rattle.ic_laws.specs.Notations.{Notations}
+use Rattle.ic_laws.specs.Notations.{AreNotations, Notations}
 use Rattle.ic_laws.specs.ValidCore.{IsValidCore}
 use Rattle.ic_laws.specs.declared.scene.Scene.{Scene}
 use Rattle.ic_laws.proofs.CoreLemmas.{All-greatest, fresh_is_next}
-use Rattle.ic_laws.proofs.core.SheetAdded.{one_sheet_valid}
+use Rattle.ic_laws.proofs.core.Named.{added_named, book_named}
+use Rattle.ic_laws.proofs.core.SheetAdded.{added_valid, one_sheet_valid}
+use Rattle.ic_laws.proofs.kept.TreeFacts.{tree_facts}
 use Rattle.ic_tables.specs.Tables.{IsWellFormed, TableSet, locale_of, language_of, lists_zone}
+use Rattle.ic_tree.proofs.NotationLaws.{notations_are}
 use Rattle.ic_tree.specs.Notations.{notations_of}
-use Rattle.ic_book.specs.Book.{Book, IsValidBook, core_of, first_sheet_name_in}
+use Rattle.ic_book.specs.Book.{Book, IsValidBook, core_of, first_sheet_name_in, notations_in}
 use Rattle.ic_book.specs.Sheets.{sheets_of}
 use Rattle.ic_book.specs.declared.sheet.Worksheet.{Worksheet}
 
@@ -75,7 +78,20 @@ module _ (n : Notations) (locale language : List ℕ) where
 
 -- a book stays valid when a sheet with the fresh id and a name of its own is pushed
 pub IsValidBook-push : (book : Book) (sheets after : List Worksheet) (id : ℕ) (name : List ℕ) → book.sheets ≡ sheets_of sheets → book.definitions ≡ [] → IsValidBook book → is_sheet_name name ≡ true → has_sheet (core_of book) name ≡ false → Some id ≡ fresh_id (core_of book) → after ≡ sheets ++ record { id = id; name = name } ∷ [] → IsValidBook (record book { sheets = sheets_of after; definitions = [] })
-IsValidBook-push book sheets after id name seen none valid good new fresh pushed = ?
+IsValidBook-push book sheets after id name seen none valid good new fresh pushed =
+    let n : Notations = notations_in book in
+    let are : AreNotations n = notations_are book.tables valid.tables in
+    let core : CoreBook = core_of book in
+    let next = fresh_is_next core id fresh in
+    let later = added_named n core valid.core name good new in
+    let one : IsValidCore n (changed_by n (with_new_sheet name) core) =
+    added_valid n core name valid.core ((tree_facts n are).keeps (scene_of core) (scene_of (with_new_sheet name core)) (book_named n core valid.core) later) good new next.0 in
+    let is : core ≡ core_with n book.locale book.language (sheets_of sheets) =
+    ap (λ x. record { sheets = x; definitions = book.definitions; locale = book.locale; language = book.language }) seen
+    ∙ ap (λ (x : List Definition). record { sheets = sheets_of sheets; definitions = x; locale = book.locale; language = book.language }) none in
+    let same : changed_by n (with_new_sheet name) core ≡ core_with n book.locale book.language (sheets_of after) =
+    ap (changed_by n (with_new_sheet name)) is ∙ sym (added_sheets n book.locale book.language sheets after id name (fresh ∙ ap fresh_id is) pushed) in
+    record { core = subst (IsValidCore n) same one; zone = valid.zone; tables = valid.tables }
 
 -- a new book is valid where the tables have its locale, language and zone
 pub IsValidBook-start : (name locale zone language created first : List ℕ) (tables : TableSet) (sheets : List Worksheet) → sheets ≡ record { id = 1; name = first } ∷ [] → first ≡ first_sheet_name_in language → is_some (locale_of tables locale) ≡ true → is_some (language_of tables language) ≡ true → lists_zone tables zone ≡ true → IsWellFormed tables → IsValidBook (record { name = name; sheets = sheets_of sheets; definitions = []; locale = locale; language = language; zone = zone; created = created; tables = tables })
