@@ -1,5 +1,5 @@
 -- The texts of replies.
-use Rattle.std.proofs.Common.{◌≡◌, ◌⊎◌, ℕ, zero, suc, ◌-◌, ◌<◌, List, [], ◌∷◌, ◌++◌, length, take, get_or, false, true, Option, Some, None, Ok, Err, chars, encode_utf8_all, refl, ap, sym, ◌∙◌, inl, inr, arith, length-append, codes, option_map, slice_get, unwrap_or}
+use Rattle.std.proofs.Common.{◌≡◌, ◌⊎◌, ℕ, zero, suc, ◌-◌, ◌<◌, List, [], ◌∷◌, ◌++◌, length, take, get_or, false, true, Option, Some, None, Ok, Err, chars, encode_utf8_all, refl, ap, sym, subst, ◌∙◌, inl, inr, arith, length-append, codes, option_map, slice_get, unwrap_or}
 use Rattle.std.specs.List.{AllByRecursion}
 use lib.Utf8.{scalars}
 use Rattle.std.proofs.Math.Seq.{get_or-append_seam}
@@ -8,10 +8,10 @@ use Rattle.std.proofs.lemmas.Str.{chars-encodes}
 use Rattle.ic_laws.specs.CoreBook.{CoreBook}
 use Rattle.ic_laws.specs.Command.{AddSheet}
 use Rattle.ic_laws.specs.CoreStep.{add_sheet_refusal, changed_by, core_step, unless_refused, with_new_sheet}
-use Rattle.ic_laws.specs.Lines.{Reply, command_step, line_step, outcome_of, reply_bytes, reply_text}
+use Rattle.ic_laws.specs.Lines.{Reply, command_step, words_of, line_step, outcome_of, reply_bytes, reply_text}
 use Rattle.ic_laws.specs.Notations.{Notations}
 use Rattle.ic_laws.specs.Refusal.{BadLine, Refusal, refusal_names}
-use Rattle.ic_desk.proofs.CommandLemmas.{served_line, served_text}
+use Rattle.ic_desk.proofs.CommandLemmas.{served_text, served_words}
 use Rattle.ic_lines.specs.Reading.{has_line_feed}
 
 -- a reply without fields
@@ -40,11 +40,19 @@ named P none (name ∷ names) h (suc place) = named P none names h.1 place
 abbrev told : List ℕ → List ℕ
 told name = codes "error" ++ 9 ∷ name
 
+all_scalars : AllByRecursion (λ name. scalars (told name) ≡ true) refusal_names
+all_scalars = (refl, (refl, (refl, (refl, (refl, (refl, (refl, (refl, (refl, (refl, (refl, (refl, (refl, (refl, (refl, (refl, (refl, (refl, (refl, (refl, tt))))))))))))))))))))
+
+all_lines : AllByRecursion (λ name. has_line_feed (told name) ≡ false) refusal_names
+all_lines = (refl, (refl, (refl, (refl, (refl, (refl, (refl, (refl, (refl, (refl, (refl, (refl, (refl, (refl, (refl, (refl, (refl, (refl, (refl, (refl, tt))))))))))))))))))))
+
 refusal_scalars : (r : Refusal) → scalars (reply_text (Err r)) ≡ true
-refusal_scalars r = named (λ name. scalars (told name) ≡ true) refl refusal_names ? r.place
+refusal_scalars r =
+    named (λ name. scalars (told name) ≡ true) refl refusal_names all_scalars r.place
 
 refusal_is_line : (r : Refusal) → has_line_feed (reply_text (Err r)) ≡ false
-refusal_is_line r = named (λ name. has_line_feed (told name) ≡ false) refl refusal_names ? r.place
+refusal_is_line r =
+    named (λ name. has_line_feed (told name) ≡ false) refl refusal_names all_lines r.place
 
 -- the bytes of a reply without the last are its text, which has no line feed
 plain_text : (reply : Reply) → IsPlain reply → (chars (encode_utf8_all (reply_text reply)) ≡ reply_text reply) × (has_line_feed (reply_text reply) ≡ false)
@@ -74,7 +82,7 @@ last_byte front bytes len e l =
 -- a reply whose last byte went
 module _ (n : Notations) (core : CoreBook) (line bytes cut : List ℕ) (len : ℕ) (is_reply : bytes ≡ reply_bytes (line_step n core line).1) (is_len : len ≡ length bytes) (is_cut : cut ≡ take (len - 1) bytes) where
   text : (chars (encode_utf8_all (reply_text (line_step n core line).1)) ≡ reply_text (line_step n core line).1) × (has_line_feed (reply_text (line_step n core line).1) ≡ false)
-  text = plain_text (line_step n core line).1 (rw (served_line line) (plain_step n core (served_text line)))
+  text = plain_text (line_step n core line).1 (subst (λ o. IsPlain (command_step n core o).1) (sym (served_words (words_of line))) (plain_step n core (served_text (words_of line))))
 
   pub cut_reply : chars cut ≡ reply_text (line_step n core line).1
   cut_reply = ap chars (is_cut ∙ without_last (encode_utf8_all (reply_text (line_step n core line).1)) bytes len is_reply is_len) ∙ text.0

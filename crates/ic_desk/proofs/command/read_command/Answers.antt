@@ -1,5 +1,5 @@
 use Rattle.std.proofs.Common.{◌≡◌, ◌∙◌, ap, sym, map, chars, option_map}
-use Rattle.ic_laws.specs.CoreStep.{AddSheet}
+use Rattle.ic_laws.specs.Command.{AddSheet}
 use Rattle.ic_laws.specs.Lines.{words_of}
 use Rattle.ic_desk.proofs.CommandLemmas.{no_command, other_name, add_sheet_word}
 use Rattle.ic_desk.proofs.command.read_command.Goals as goal
