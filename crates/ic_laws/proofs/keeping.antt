@@ -1,3 +1,4 @@
+mod ChangeExamples
 pub mod Accepted
 pub mod Books
 pub mod Deletes
