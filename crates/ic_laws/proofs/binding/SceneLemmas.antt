@@ -145,7 +145,7 @@ sheet_settles_by_ids scene differ (Some name) = go (found_sheet scene name) refl
     go (Some id) e = ap (sheet_or_dangling (sheet_spelling scene id)) (sheet_found_again_by_ids scene differ name id e)
 
 -- the definition that a word finds has a spelling with the word's folding
-same_scope_self : (scope : Option ℕ) → same_scope scope scope ≡ true
+pub same_scope_self : (scope : Option ℕ) → same_scope scope scope ≡ true
 same_scope_self None = refl
 same_scope_self (Some n) = eq-eqb n n refl
 

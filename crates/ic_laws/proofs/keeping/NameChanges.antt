@@ -8,7 +8,7 @@ use Rattle.std.specs.List.{find, list_any}
 use Rattle.std.proofs.lemmas.Bool.{and_from, and_parts, cases_Bool, eq-eqb, eqb-true}
 use Rattle.std.proofs.lemmas.List.Folds.{find-append}
 use Rattle.std.proofs.lemmas.Slice.Eq.{bytes_eq-Decides}
-use Rattle.ic_laws.proofs.binding.SceneLemmas.{found_passes}
+use Rattle.ic_laws.proofs.binding.SceneLemmas.{found_passes, same_scope_self}
 use Rattle.ic_laws.proofs.keeping.Kept.{Become, key_kept, sheet_stays, word_stays}
 use Rattle.ic_laws.proofs.keeping.Removing.{finds_itself, finds_no_other, removed_finds, removed_finds_none}
 use Rattle.ic_laws.specs.Binding.{name_or_dangling}
@@ -39,15 +39,11 @@ same_scope_flip None (Some b) = refl
 same_scope_flip (Some a) None = refl
 same_scope_flip (Some a) (Some b) = nat_eq_equiv.symm a b
 
-scope_itself : (a : Option ℕ) → same_scope a a ≡ true
-scope_itself None = refl
-scope_itself (Some a) = eq-eqb a a refl
-
 pub same_key_flip : (a b : NameKey) → same_key a b ≡ same_key b a
 same_key_flip a b = ap₂ ◌&&◌ (nat_list_eq_equiv.symm a.name b.name) (same_scope_flip a.scope b.scope)
 
 pub key_itself : (a : NameKey) → same_key a a ≡ true
-key_itself a = and_from _ _ ((bytes_eq-Decides a.name a.name).1 refl) (scope_itself a.scope)
+key_itself a = and_from _ _ ((bytes_eq-Decides a.name a.name).1 refl) (same_scope_self a.scope)
 
 abbrev pub key_at : List ℕ → Option ℕ → NameKey
 key_at folded scope = record { name = folded; scope = scope }

@@ -11,7 +11,8 @@ remove_map f [] (suc i) = refl
 remove_map f (x ∷ xs) zero = refl
 remove_map f (x ∷ xs) (suc i) = ap (λ ys. f x ∷ ys) (remove_map f xs i)
 
-none_first : {X : Type 0} (p : X → Bool) (x : X) (xs : List X) → find p (x ∷ xs) ≡ None → (p x ≡ false) × (find p xs ≡ None)
+-- what finds nothing doesn't pass the first item, and finds nothing behind it
+pub none_first : {X : Type 0} (p : X → Bool) (x : X) (xs : List X) → find p (x ∷ xs) ≡ None → (p x ≡ false) × (find p xs ≡ None)
 none_first p x xs e =
     elim (cases_Bool (p x)) [
       | inl t ↦ absurd (let no : Some x ≡ None = sym (find_here p x xs t) ∙ e in cc)

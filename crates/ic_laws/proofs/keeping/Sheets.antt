@@ -3,13 +3,14 @@ use Rattle.std.proofs.Common.{◌≡◌, ℕ, suc, zero, List, [], ◌∷◌, �
 use Rattle.std.specs.Prelude.{option_map, remove, slice_get}
 use Rattle.std.specs.Option.{option_or}
 use Rattle.std.specs.List.{AllByRecursion, IsDistinct, find, list_any}
-use Rattle.std.proofs.lemmas.Bool.{cases_Bool}
+use Rattle.std.proofs.lemmas.Bool.{cases_Bool, or_parts}
 use Rattle.std.proofs.lemmas.List.{map-append}
 use Rattle.std.proofs.lemmas.List.Folds.{find-append, list_any-append}
 use Rattle.std.proofs.lemmas.Map.Keys.{IsDistinct-push}
 use Rattle.std.proofs.lemmas.Simd.{map-map}
 use Rattle.ic_laws.proofs.CoreLemmas.{agrees_equiv}
 use Rattle.ic_laws.proofs.binding.SceneLemmas.{find_later}
+use Rattle.ic_laws.proofs.keeping.Removing.{none_first}
 use Rattle.ic_laws.proofs.keeping.SheetChanges.{has_id}
 use Rattle.ic_laws.specs.CoreBook.{CoreBook, Sheet, names_of, scene_of}
 use Rattle.ic_laws.specs.CoreStep.{updated_at}
@@ -35,13 +36,6 @@ sheets_differ book h = subst (IsDistinct agrees) (sym (map-map (λ (x : SheetNam
 pub nothing_found : (found : Option SheetName) → option_map (λ (s : SheetName). s.id) found ≡ None → found ≡ None
 nothing_found None e = refl
 nothing_found (Some s) e = absurd (let no : Some s.id ≡ None = e in cc)
-
-none_here : (p : SheetName → Bool) (s : SheetName) (ss : List SheetName) → find p (s ∷ ss) ≡ None → (p s ≡ false) × (find p ss ≡ None)
-none_here p s ss e =
-    elim (cases_Bool (p s)) [
-      | inl t ↦ absurd (let no : Some s ≡ None = sym (ap (λ b. cond b (Some s) (find p ss)) t) ∙ e in cc)
-      | inr f ↦ (f, sym (find_later p s ss f) ∙ e)
-    ]
 
 -- a sheet comes at the end ----
 
@@ -75,12 +69,7 @@ module _ (name : List ℕ) where
 
   none_agrees : (names : List (List ℕ)) → list_any (agrees name) names ≡ false → AllByRecursion (λ other. agrees name other ≡ false) names
   none_agrees [] e = tt
-  none_agrees (n ∷ names) e = let parts = neither (agrees name n) _ e in (parts.0, none_agrees names parts.1)
-    where
-      neither : (a b : Bool) → (a || b) ≡ false → (a ≡ false) × (b ≡ false)
-      neither false false e = (refl, refl)
-      neither false true e = (refl, e)
-      neither true b e = absurd (let no : true ≡ false = e in cc)
+  none_agrees (n ∷ names) e = let parts = or_parts (agrees name n) _ e in (parts.0, none_agrees names parts.1)
 
   pub rename_differs : (ss : List Sheet) (index : ℕ) → IsDistinct agrees (map (λ (x : Sheet). x.name) ss) → list_any (agrees name) (remove (map (λ (x : Sheet). x.name) ss) index) ≡ false
       → IsDistinct agrees (map (λ (x : Sheet). x.name) (updated_at (renamed name) index ss))
@@ -113,7 +102,7 @@ module _ (name : List ℕ) where
 
       go : (xs : List Sheet) (index : ℕ) → slice_get xs index ≡ Some s → find p (all_seen xs) ≡ None → finding (all_seen (updated_at (renamed name) index xs)) typed ≡ (if agrees name typed then Some s.id else None)
       go [] index e f = absurd (let no : None ≡ Some s = e in cc)
-      go (x ∷ xs) zero e f = let same : x ≡ s = cc in either x xs (agrees name typed) same (none_here p (seen x) (all_seen xs) f).1
+      go (x ∷ xs) zero e f = let same : x ≡ s = cc in either x xs (agrees name typed) same (none_first p (seen x) (all_seen xs) f).1
       go (x ∷ xs) (suc index) e f =
-          let parts = none_here p (seen x) (all_seen xs) f in
+          let parts = none_first p (seen x) (all_seen xs) f in
           ap (option_map (λ (y : SheetName). y.id)) (find_later p (seen x) (all_seen (updated_at (renamed name) index xs)) parts.0) ∙ go xs index e parts.1

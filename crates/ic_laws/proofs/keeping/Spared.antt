@@ -2,6 +2,7 @@
 use mathlib.Core.Path.{fun_ext}
 use Rattle.std.proofs.Common.{◌≡◌, ℕ, List, [], ◌∷◌, map, Bool, true, false, ◌||◌, Option, refl, sym, ap, ◌∙◌}
 use Rattle.std.specs.List.{AllByRecursion, list_any}
+use Rattle.std.proofs.lemmas.Bool.{or_parts}
 use Rattle.ic_laws.proofs.binding.Again.{BoundKind, bound_node}
 use Rattle.ic_laws.proofs.binding.Induction.{EveryPair, OfChildren, by_nodes, every_below, every_here, every_made, every_value}
 use Rattle.ic_laws.proofs.keeping.Kept.{Become, kept_becomes, spared_is_same}
@@ -91,13 +92,9 @@ module _ (is_sheet : SheetMention → Bool) (is_word : NameMention → Bool) whe
   abbrev PairFails : BoundPair → Type 0
   PairFails pair = some_of_pair pair ≡ false → FailPair pair
 
-  neither : (a b : Bool) → (a || b) ≡ false → (a ≡ false) × (b ≡ false)
-  neither false b e = (refl, e)
-  neither true b e = absurd (let no : true ≡ false = e in cc)
-
   all_fail : {X : Type 0} (test : X → Bool) (F : X → Type 0) (xs : List X) → AllByRecursion (λ x. test x ≡ false → F x) xs → list_any (λ b. b) (map test xs) ≡ false → AllByRecursion F xs
   all_fail test F [] h e = tt
-  all_fail test F (x ∷ xs) h e = let parts = neither (test x) _ e in (h.0 parts.0, all_fail test F xs h.1 parts.1)
+  all_fail test F (x ∷ xs) h e = let parts = or_parts (test x) _ e in (h.0 parts.0, all_fail test F xs h.1 parts.1)
 
   abbrev step_of : BoundKind → Bool
   step_of kind = some_step is_sheet is_word (map-Tree SheetMention NameMention Bound BoundPair Bool Bool some some_of_pair kind)
@@ -114,12 +111,12 @@ module _ (is_sheet : SheetMention → Bool) (is_word : NameMention → Bool) whe
   kind_fails (one.Prefix sign x) h e = (tt, h e)
   kind_fails (one.Percent x) h e = (tt, h e)
   kind_fails (one.Spill x) h e = (tt, h e)
-  kind_fails (one.Binary sign a b) h e = let parts = neither (some a) (some b) e in (tt, (h.0 parts.0, h.1 parts.1))
+  kind_fails (one.Binary sign a b) h e = let parts = or_parts (some a) (some b) e in (tt, (h.0 parts.0, h.1 parts.1))
   kind_fails (one.Fun number arguments) h e = (tt, all_fail some Fail arguments h e)
-  kind_fails (one.Call word arguments) h e = let parts = neither (is_word word) _ e in (parts.0, all_fail some Fail arguments h parts.1)
-  kind_fails (one.Let pairs body) h e = let parts = neither _ (some body) e in (tt, (all_fail some_of_pair FailPair pairs h.0 parts.0, h.1 parts.1))
+  kind_fails (one.Call word arguments) h e = let parts = or_parts (is_word word) _ e in (parts.0, all_fail some Fail arguments h parts.1)
+  kind_fails (one.Let pairs body) h e = let parts = or_parts _ (some body) e in (tt, (all_fail some_of_pair FailPair pairs h.0 parts.0, h.1 parts.1))
   kind_fails (one.Lambda parameters body) h e = (tt, h e)
-  kind_fails (one.Apply x arguments) h e = let parts = neither (some x) _ e in (tt, (h.0 parts.0, all_fail some Fail arguments h.1 parts.1))
+  kind_fails (one.Apply x arguments) h e = let parts = or_parts (some x) _ e in (tt, (h.0 parts.0, all_fail some Fail arguments h.1 parts.1))
   kind_fails (one.Array rows) h e = (tt, tt)
 
   pub none_passes : (t : Bound) → some_mention is_sheet is_word t ≡ false → AllMentions (λ m. is_sheet m ≡ false) (λ m. is_word m ≡ false) t
