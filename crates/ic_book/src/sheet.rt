@@ -1,7 +1,7 @@
 ghost use Rattle.std.specs.Prelude.{◌≡◌, chars, map};
 ghost use Rattle.std.specs.List.{list_any};
 ghost use Rattle.ic_laws.specs.Name.{agrees};
-ghost use Rattle.ic_laws.specs.CoreBook.{greatest};
+ghost use Rattle.ic_laws.specs.Greatest.{greatest};
 ghost use Rattle.ic_book.specs.Sheets.{sheets_of};
 
 use ic_laws::{Text, agree};

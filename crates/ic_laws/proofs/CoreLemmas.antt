@@ -1,15 +1,14 @@
 -- Ids and names: the greatest, the fresh one, and how many there are.
-use Rattle.std.proofs.Common.{Bool, ◌≡◌, ℕ, ◌+◌, ◌<◌, ◌≤◌, List, [], ◌∷◌, length, true, false, All, nat_eq, arith, subst, sym, length-append, max, inl, inr, Some, None, is_none, IfSome, nat_lt, if◌then◌else◌}
+use Rattle.std.proofs.Common.{◌≡◌, ℕ, ◌+◌, ◌<◌, ◌≤◌, List, [], ◌∷◌, length, true, false, All, nat_eq, arith, max, inl, inr, Some, None, is_none, IfSome, nat_lt, if◌then◌else◌}
 use Rattle.std.specs.List.{list_any, IsDistinct}
-use Rattle.std.specs.Cmp.{IsEquivalence, nat_eq_equiv, on_equiv}
+use Rattle.std.specs.Cmp.{IsEquivalence, on_equiv}
 use Rattle.std.specs.Cmp.Lexicographic.{nat_list_eq_equiv}
 use Rattle.std.proofs.lemmas.Bool.{cases_Bool, eqb-true, ltb-true}
-use Rattle.std.proofs.lemmas.List.{map-append, length-map}
-use Rattle.std.proofs.lemmas.List.Elements.{All-push, All-cons, All-nil, All-weaker, All-contains, recursion_from_All}
-use Rattle.std.proofs.lemmas.Map.Keys.{IsDistinct-push, IsDistinct-cons}
+use Rattle.std.proofs.lemmas.List.Elements.{All-cons, All-nil, All-weaker, All-contains, recursion_from_All}
+use Rattle.std.proofs.lemmas.Map.Keys.{IsDistinct-cons}
 use Rattle.std.proofs.lemmas.Map.Steps.{length-le_from_distinct_below}
 use Rattle.std.proofs.lemmas.Map.Views.{Contains-from_any}
-use Rattle.ic_laws.specs.Name.{agrees, fold, is_sheet_name}
+use Rattle.ic_laws.specs.Name.{agrees, fold}
 use Rattle.ic_laws.specs.CoreBook.{CoreBook, IsId, fresh_id, greatest_id, last_id, used_ids}
 use Rattle.ic_laws.specs.Greatest.{greatest}
 

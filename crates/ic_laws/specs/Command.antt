@@ -1,6 +1,6 @@
 -- The commands as a table: each with its name, what its words are, and the command that they make. A line is read by the
 -- table; a new command is one row, and one step.
-use Rattle.std.specs.Prelude.{ℕ, ℤ, pos, neg_ℤ, ◌^◌, List, [], ◌∷◌, filter, find, Bool, true, false, ◌==◌, nat_le, nat_lt, bytes_eq, Option, Some, None, option_map, option_and_then, if◌then◌else◌, codes}
+use Rattle.std.specs.Prelude.{ℕ, ℤ, pos, neg_ℤ, List, [], ◌∷◌, filter, find, Bool, true, false, ◌==◌, nat_le, bytes_eq, Option, Some, None, option_map, option_and_then, if◌then◌else◌, codes}
 use Rattle.std.specs.Fmt.{decimal}
 use Rattle.std.specs.Str.{all_ascii_digits}
 use Rattle.std.specs.Str.Parse.{digits_value}

@@ -1,8 +1,8 @@
 -- What becomes of a formula when the sheets or the definitions of its book change: it is written out with the names that
 -- things have after the change, and bound again.
-use Rattle.std.specs.Prelude.{◌≡◌, ℕ, List, [], ◌∷◌, map, Bool, Option, Some, None, unwrap_or, if◌then◌else◌}
+use Rattle.std.specs.Prelude.{ℕ, List, map, Option, Some, unwrap_or, if◌then◌else◌}
 use Rattle.ic_laws.specs.Binding.{bound, spelled_with}
-use Rattle.ic_laws.specs.CoreBook.{Cells, CellPlace, CoreBook, Definition, Sheet}
+use Rattle.ic_laws.specs.CoreBook.{Cells, CoreBook, Definition, Sheet}
 use Rattle.ic_laws.specs.Notations.{Notations, english_function}
 use Rattle.ic_laws.specs.Scene.{name_of_key, name_of_sheet, name_spelling, same_key, sheet_spelling}
 use Rattle.ic_laws.specs.Tree.{Bound}

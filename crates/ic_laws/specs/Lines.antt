@@ -1,6 +1,6 @@
 -- Command lines: how bytes fall into lines, a line into words and words into texts, and what a run of lines
 -- leaves and answers.
-use Rattle.std.specs.Prelude.{ℕ, List, [], ◌∷◌, ◌++◌, Bool, false, ◌&&◌, ◌==◌, map, flat_map, Option, Some, None, option_map, option_and_then, Result, Ok, Err, if◌then◌else◌, codes, chars, encode_utf8_all, bytes_eq}
+use Rattle.std.specs.Prelude.{ℕ, List, [], ◌∷◌, ◌++◌, Bool, false, ◌&&◌, ◌==◌, map, flat_map, Option, Some, None, option_map, option_and_then, Result, Ok, Err, if◌then◌else◌, codes, chars, encode_utf8_all}
 use Rattle.std.specs.List.{onto_first, slice_split}
 use Rattle.std.specs.Str.{is_utf8}
 use Rattle.ic_laws.specs.Character.{backslash, carriage_return, line_feed, lower_n, lower_r, lower_t, tab}

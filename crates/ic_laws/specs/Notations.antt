@@ -4,7 +4,6 @@ use Rattle.ic_laws.specs.Dialect.{DialectMeaning, IsLawful}
 use Rattle.ic_laws.specs.Name.{agrees, is_variable}
 use Rattle.ic_laws.specs.Position.{is_column, is_inside, is_place_within, is_row}
 use Rattle.ic_laws.specs.Tree.{is_written_sheet}
-use Rattle.ic_laws.specs.declared.dialect.WordKind.{WordKind}
 use Rattle.ic_laws.specs.declared.dialect.WordKind.TheVariants as kinds
 use Rattle.ic_laws.specs.declared.reference.RefToken.{RefToken}
 

@@ -1,9 +1,9 @@
 -- What always holds of the core of a book.
-use Rattle.std.specs.Prelude.{◌≡◌, ℕ, ℤ, pos, ◌<◌, ◌≤◌, List, map, length, true, Option, Some, None, nat_eq, All}
+use Rattle.std.specs.Prelude.{◌≡◌, ℕ, ℤ, pos, ◌<◌, ◌≤◌, map, length, true, Option, Some, None, nat_eq}
 use Rattle.std.specs.List.{AllByRecursion, IsDistinct}
 use Rattle.std.specs.List.Sorted.{IsStrictlySortedBy}
 use Rattle.ic_laws.specs.Binding.{IsSettled}
-use Rattle.ic_laws.specs.CoreBook.{Cells, CellPlace, CoreBook, Definition, IsId, Sheet, ids_of, last_id, names_of, place_cmp, scene_of, spelling_of}
+use Rattle.ic_laws.specs.CoreBook.{CellPlace, CoreBook, Definition, IsId, Sheet, ids_of, last_id, names_of, place_cmp, scene_of, spelling_of}
 use Rattle.ic_laws.specs.Name.{agrees, is_identifier, is_sheet_name}
 use Rattle.ic_laws.specs.Notations.{HasFunction, Notations, english_function, is_cell}
 use Rattle.ic_laws.specs.Position.{is_inside}

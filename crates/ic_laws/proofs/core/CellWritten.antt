@@ -1,5 +1,5 @@
 -- A book stays valid when a cell gets a formula that is kept there: its cells stay in order.
-use Rattle.std.proofs.Common.{◌≡◌, ℕ, ℤ, zero, suc, ◌<◌, List, [], ◌∷◌, map, true, false, refl, ap, sym, subst, ◌∙◌, length, arith, nat_eq, Option, Some}
+use Rattle.std.proofs.Common.{◌≡◌, ℕ, ℤ, List, [], ◌∷◌, map, true, refl, ap, sym, subst, ◌∙◌, arith, nat_eq, Some}
 use Rattle.std.specs.BTreeMap.{insert_entry}
 use Rattle.std.specs.Cmp.{IsTotalOrder, int_cmp_total, on_total, then_total}
 use Rattle.std.specs.FinMap.{int_cmp-IsAntisymmetric}

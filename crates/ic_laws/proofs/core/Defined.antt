@@ -1,21 +1,21 @@
 -- A book stays valid when a definition with a key of its own is added, and when one is taken out, over which its formulas
 -- are kept.
-use Rattle.std.proofs.Common.{◌≡◌, ℕ, ◌<◌, List, [], ◌∷◌, ◌++◌, map, Bool, true, false, ◌&&◌, Option, Some, None, bytes_eq, refl, ap, sym, subst, ◌∙◌, length, arith, nat_eq, inl, inr}
+use Rattle.std.proofs.Common.{◌≡◌, ℕ, List, [], ◌∷◌, ◌++◌, map, true, false, Option, Some, None, refl, ap, sym, subst, ◌∙◌, arith, nat_eq, inl, inr}
 use Rattle.std.specs.Cmp.{IsEquivalence, and_equiv, nat_eq_equiv, on_equiv}
 use Rattle.std.specs.Cmp.Lexicographic.{nat_list_eq_equiv}
-use Rattle.std.specs.List.{AllByRecursion, IsDistinct, list_any, remove}
+use Rattle.std.specs.List.{IsDistinct, list_any, remove}
 use Rattle.std.proofs.lemmas.Bool.{cases_Bool}
 use Rattle.std.proofs.lemmas.List.{length-map, map-append}
 use Rattle.std.proofs.lemmas.Map.Keys.{IsDistinct-push}
 use Rattle.ic_laws.proofs.core.KeptBook.{KeepsTrees, in_body, mentioned, on_sheet, same_definitions, same_scene, same_sheets, valid_definitions, valid_sheets}
 use Rattle.ic_laws.proofs.core.Lists.{all_pushed, all_removed, distinct_removed, removed_seen}
 use Rattle.ic_laws.proofs.core.Made.{key, kept_ids, kept_keys, kept_names, made_valid}
-use Rattle.ic_laws.specs.CoreBook.{CoreBook, Definition, Sheet, ids_of, names_of, scene_of, spelling_of}
+use Rattle.ic_laws.specs.CoreBook.{CoreBook, Definition, scene_of, spelling_of}
 use Rattle.ic_laws.specs.CoreStep.{changed_by, has_definition, is_named, with_definition, without_definition}
 use Rattle.ic_laws.specs.Name.{agrees, fold}
 use Rattle.ic_laws.specs.Notations.{Notations}
 use Rattle.ic_laws.specs.Scene.{same_key, same_scope}
-use Rattle.ic_laws.specs.ValidCore.{IsValidCore, IsValidDefinition, IsValidSheet}
+use Rattle.ic_laws.specs.ValidCore.{IsValidCore, IsValidDefinition}
 use Rattle.ic_laws.specs.declared.scene.NameSpelling.{NameSpelling}
 use Rattle.ic_laws.specs.declared.scene.Scene.{Scene}
 use Rattle.ic_laws.specs.declared.scene.SheetName.{SheetName}

@@ -1,9 +1,9 @@
 -- A book whose formulas are kept over a change: its ids, names and keys are as before, and what was valid in the scene
 -- before the change is valid in the scene after it.
-use Rattle.std.proofs.Common.{◌≡◌, ℕ, ℤ, suc, pos, List, [], ◌∷◌, map, Option, Some, None, refl, ap, sym, subst, ◌∙◌, length}
+use Rattle.std.proofs.Common.{◌≡◌, ℕ, ℤ, pos, List, [], ◌∷◌, map, Option, Some, refl, ap, sym, subst, ◌∙◌}
 use Rattle.std.specs.List.{AllByRecursion}
 use Rattle.std.specs.List.Sorted.{IsStrictlySortedBy}
-use Rattle.ic_laws.specs.CoreBook.{Cells, CellPlace, CoreBook, Definition, Sheet, ids_of, names_of, place_cmp, scene_of, spelling_of}
+use Rattle.ic_laws.specs.CoreBook.{Cells, CellPlace, CoreBook, Definition, Sheet, place_cmp, scene_of, spelling_of}
 use Rattle.ic_laws.specs.Keeping.{kept, kept_formula, kept_in_body, kept_on_sheet, mapped_cells, same_keys, with_kept}
 use Rattle.ic_laws.specs.Notations.{Notations, english_function}
 use Rattle.ic_laws.specs.Tree.{Bound}

@@ -1,13 +1,13 @@
 -- The names in a scene are good and differ, in that of a valid book and in those of its changes.
-use Rattle.std.proofs.Common.{◌≡◌, ℕ, ◌+◌, List, [], ◌∷◌, ◌++◌, map, true, false, Option, Some, refl, ap, sym, subst, ◌∙◌}
-use Rattle.std.specs.List.{AllByRecursion, IsDistinct, remove}
+use Rattle.std.proofs.Common.{◌≡◌, ℕ, ◌+◌, List, [], ◌∷◌, map, true, false, Some, refl, ap, sym, subst}
+use Rattle.std.specs.List.{AllByRecursion, IsDistinct}
 use Rattle.std.proofs.lemmas.List.{map-append}
 use Rattle.std.proofs.lemmas.Map.Keys.{IsDistinct-push}
 use Rattle.ic_laws.proofs.CoreLemmas.{agrees_equiv}
 use Rattle.ic_laws.proofs.core.KeptBook.{mentioned}
 use Rattle.ic_laws.proofs.core.Lists.{all_pushed, all_removed, all_updated, distinct_removed, distinct_replaced, removed_seen, updated_seen}
 use Rattle.ic_laws.specs.CoreBook.{CoreBook, Definition, Sheet, greatest_id, has_sheet, names_of, scene_of, spelling_of}
-use Rattle.ic_laws.specs.CoreStep.{has_other_sheet, updated_at, with_definition, with_new_sheet, with_sheet_name, without_definition, without_sheet}
+use Rattle.ic_laws.specs.CoreStep.{has_other_sheet, with_definition, with_new_sheet, with_sheet_name, without_definition, without_sheet}
 use Rattle.ic_laws.specs.Name.{agrees, is_identifier, is_sheet_name}
 use Rattle.ic_laws.specs.Notations.{Notations}
 use Rattle.ic_laws.specs.Scene.{SheetsDiffer}

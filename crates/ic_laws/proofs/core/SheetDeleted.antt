@@ -1,5 +1,5 @@
 -- A book stays valid when a sheet is taken out that isn't its only one, over which its formulas are kept.
-use Rattle.std.proofs.Common.{◌≡◌, ℕ, ◌+◌, ◌<◌, List, [], ◌∷◌, ◌++◌, map, true, false, refl, ap, sym, subst, ◌∙◌, length, arith, nat_eq}
+use Rattle.std.proofs.Common.{◌≡◌, ℕ, ◌<◌, List, map, refl, ap, sym, subst, ◌∙◌, length, arith, nat_eq}
 use Rattle.std.specs.Cmp.{nat_eq_equiv}
 use Rattle.std.specs.List.{IsDistinct, remove}
 use Rattle.std.proofs.lemmas.List.{length-map}

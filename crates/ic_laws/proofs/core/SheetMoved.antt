@@ -1,14 +1,14 @@
 -- A book stays valid when a sheet is put at another place.
-use Rattle.std.proofs.Common.{◌≡◌, ℕ, ℤ, zero, suc, ◌<◌, List, [], ◌∷◌, ◌++◌, map, true, false, Option, Some, None, All, slice_get, pos, refl, ap, sym, subst, ◌∙◌, length, arith, nat_eq}
+use Rattle.std.proofs.Common.{◌≡◌, ℕ, ℤ, zero, suc, ◌<◌, List, [], ◌∷◌, Option, Some, slice_get, pos, refl, ap, sym, subst, length, arith, nat_eq}
 use Rattle.std.specs.Cmp.{nat_eq_equiv}
-use Rattle.std.specs.List.{AllByRecursion, IsDistinct, insert, remove}
+use Rattle.std.specs.List.{AllByRecursion, insert, remove}
 use Rattle.std.specs.List.Sorted.{IsPermutation}
 use Rattle.std.proofs.lemmas.List.Elements.{All-from_recursion, recursion_from_All}
 use Rattle.std.proofs.lemmas.List.Sorted.{All-permutation, IsPermutation-insert, IsPermutation-map, IsPermutation-sym, IsPermutation-trans, length_permutation}
 use Rattle.std.proofs.lemmas.Map.Keys.{IsDistinct-IsPermutation}
 use Rattle.ic_laws.proofs.CoreLemmas.{agrees_equiv}
 use Rattle.ic_laws.proofs.core.Made.{made_valid}
-use Rattle.ic_laws.specs.CoreBook.{Cells, CellPlace, CoreBook, Definition, Sheet, ids_of, names_of, scene_of}
+use Rattle.ic_laws.specs.CoreBook.{Cells, CoreBook, Definition, Sheet, ids_of, names_of, scene_of}
 use Rattle.ic_laws.specs.CoreStep.{moved, put_back}
 use Rattle.ic_laws.specs.Name.{agrees}
 use Rattle.ic_laws.specs.Notations.{Notations}

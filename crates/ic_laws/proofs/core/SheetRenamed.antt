@@ -1,12 +1,12 @@
 -- A book stays valid when a sheet gets a good name that agrees with no other's, over which its formulas are kept.
-use Rattle.std.proofs.Common.{◌≡◌, ℕ, ◌<◌, List, [], ◌∷◌, ◌++◌, map, true, false, refl, ap, sym, subst, ◌∙◌, length, arith, nat_eq}
+use Rattle.std.proofs.Common.{◌≡◌, ℕ, List, map, true, false, refl, ap, sym, subst, ◌∙◌, arith, nat_eq}
 use Rattle.std.specs.List.{IsDistinct}
 use Rattle.std.proofs.lemmas.List.{length-map}
 use Rattle.ic_laws.proofs.CoreLemmas.{agrees_equiv}
 use Rattle.ic_laws.proofs.core.KeptBook.{KeepsTrees, in_body, mentioned, on_sheet, same_definitions, same_sheets, valid_definitions, valid_sheets}
 use Rattle.ic_laws.proofs.core.Lists.{all_updated, distinct_replaced, length_updated, updated_seen, updated_unseen}
 use Rattle.ic_laws.proofs.core.Made.{kept_ids, kept_keys, kept_names, made_valid}
-use Rattle.ic_laws.specs.CoreBook.{CoreBook, Sheet, ids_of, names_of, scene_of, spelling_of}
+use Rattle.ic_laws.specs.CoreBook.{CoreBook, Sheet, names_of, scene_of, spelling_of}
 use Rattle.ic_laws.specs.CoreStep.{changed_by, has_other_sheet, updated_at, with_sheet_name}
 use Rattle.ic_laws.specs.Name.{agrees, is_sheet_name}
 use Rattle.ic_laws.specs.Notations.{Notations}

@@ -1,5 +1,5 @@
 -- What changes do to mentions, by example.
-use Rattle.std.proofs.Common.{◌≡◌, ℕ, List, [], ◌∷◌, Option, None, Some, codes, refl}
+use Rattle.std.proofs.Common.{◌≡◌, ℕ, [], ◌∷◌, Option, None, Some, codes, refl}
 use Rattle.caseless.proofs.Computing.{caseless}
 use Rattle.ic_laws.specs.Changes.{changed_sheet, changed_word, name_added, name_gone, sheet_gone, sheet_named}
 use Rattle.ic_laws.specs.declared.scene.NameSpelling.{NameSpelling}

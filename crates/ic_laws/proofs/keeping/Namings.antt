@@ -6,7 +6,8 @@ use Rattle.ic_laws.proofs.keeping.Books.{each_weaker, kept_as, trees_settled}
 use Rattle.ic_laws.proofs.keeping.Kept.{Become, kept_becomes}
 use Rattle.ic_laws.proofs.keeping.SheetChanges.{Naming, named_becomes}
 use Rattle.ic_laws.proofs.keeping.Sheets.{push_differs, push_finds, push_has, rename_differs, rename_finds, rename_has, sheets_differ}
-use Rattle.ic_laws.specs.Binding.{IsSettled, RespectsFolding}
+use Rattle.ic_laws.proofs.kept.Kept.{english_by_fold}
+use Rattle.ic_laws.specs.Binding.{IsSettled}
 use Rattle.ic_laws.specs.BookTrees.{with_trees}
 use Rattle.ic_laws.specs.Changes.{Change, changed_sheet, changed_tree, changed_word, sheet_named}
 use Rattle.ic_laws.specs.CoreBook.{CoreBook, Sheet, greatest_id, has_sheet, names_of, scene_of}
@@ -15,12 +16,7 @@ use Rattle.ic_laws.specs.Keeping.{kept, same_keys, with_kept}
 use Rattle.ic_laws.specs.Name.{agrees}
 use Rattle.ic_laws.specs.Notations.{AreNotations, Notations, english_function}
 use Rattle.ic_laws.specs.ValidCore.{IsValidCore}
-use Rattle.ic_laws.specs.declared.dialect.WordKind.TheVariants as kinds
 use Rattle.ic_laws.specs.declared.scene.Scene.{Scene}
-
--- English function words are told by folding
-pub english_folds : (n : Notations) → AreNotations n → RespectsFolding (english_function n)
-english_folds n are a b e = are.stored.finds_agreeing kinds.Function a b e
 
 -- A valid book is kept as the book with each of its trees changed, where that is what mentions become.
 pub kept_changed : (n : Notations) (book : CoreBook) (after : Scene) (change : Change) → AreNotations n → IsValidCore n book → ((scope : Option ℕ) → Become (scene_of book) after scope (changed_sheet change) (changed_word change scope))
@@ -28,7 +24,7 @@ pub kept_changed : (n : Notations) (book : CoreBook) (after : Scene) (change : C
 kept_changed n book after change are valid become =
     kept_as n (scene_of book) after same_keys (changed_tree change) book
     (each_weaker (IsSettled (english_function n) (scene_of book)) (λ scope t. kept (english_function n) (scene_of book) after same_keys scope t ≡ changed_tree change scope t)
-    (λ scope t settled. kept_becomes (english_function n) (scene_of book) after scope (changed_sheet change) (changed_word change scope) (become scope) (english_folds n are) t settled) book (trees_settled n book valid))
+    (λ scope t settled. kept_becomes (english_function n) (scene_of book) after scope (changed_sheet change) (changed_word change scope) (become scope) (english_by_fold n are) t settled) book (trees_settled n book valid))
 
 -- a new sheet of a name that agrees with none
 pub add_naming : (book : CoreBook) (name : List ℕ) → IsDistinct agrees (names_of book) → has_sheet book name ≡ false → Naming (scene_of book) (scene_of (with_new_sheet name book)) (greatest_id book + 1) name

@@ -8,7 +8,8 @@ use Rattle.ic_laws.proofs.keeping.Accepted.{accepted, none_holds, none_refuses, 
 use Rattle.ic_laws.proofs.keeping.Books.{each_both, each_weaker, kept_as, trees_same, trees_settled}
 use Rattle.ic_laws.proofs.keeping.Founds.{greatest_stays, naming_keeps, renamed_keeps}
 use Rattle.ic_laws.proofs.keeping.Kept.{kept_back, kept_becomes, spared_is_same}
-use Rattle.ic_laws.proofs.keeping.Namings.{add_naming, english_folds, kept_naming, rename_naming}
+use Rattle.ic_laws.proofs.keeping.Namings.{add_naming, kept_naming, rename_naming}
+use Rattle.ic_laws.proofs.kept.Kept.{english_by_fold}
 use Rattle.ic_laws.proofs.keeping.Removing.{key_of_no_other}
 use Rattle.ic_laws.proofs.keeping.SheetChanges.{Naming, named_becomes}
 use Rattle.ic_laws.proofs.keeping.Sheets.{renamed, sheets_differ}
@@ -137,13 +138,13 @@ rename_back n book between index name sheet fields are valid at none e =
     there clear =
         each_both (IsSettled (english_function n) before) (λ scope t. NoneDanglesBy name t) (λ scope t. kept (english_function n) before under same_keys scope t ≡ t)
         (λ scope t settled spared.
-        kept_becomes (english_function n) before under scope (changed_sheet (sheet_named sheet.id name)) (changed_word (sheet_named sheet.id name) scope) (named_becomes before under sheet.id name (naming clear) scope) (english_folds n are) t settled
+        kept_becomes (english_function n) before under scope (changed_sheet (sheet_named sheet.id name)) (changed_word (sheet_named sheet.id name) scope) (named_becomes before under sheet.id name (naming clear) scope) (english_by_fold n are) t settled
         ∙ spared_is_same (sheet_named sheet.id name) scope t (spared_naming sheet.id name scope t spared))
         book (trees_settled n book valid) none
 
     and_back : has_other_sheet book index name ≡ false → EachTree (λ scope t. kept (english_function n) under before same_keys scope t ≡ t) other_name
     and_back clear =
         let each = each_both (IsSettled (english_function n) before) (λ scope t. kept (english_function n) before under same_keys scope t ≡ t) (λ scope t. kept (english_function n) under before same_keys scope t ≡ t)
-        (λ scope t settled same. kept_back (english_function n) before under scope (sheets_differ book valid.names_differ) (naming clear).differ (english_folds n are) t settled same)
+        (λ scope t settled same. kept_back (english_function n) before under scope (sheets_differ book valid.names_differ) (naming clear).differ (english_by_fold n are) t settled same)
         book (trees_settled n book valid) (there clear) in
         record { cells = cells_renamed (λ scope t. kept (english_function n) under before same_keys scope t ≡ t) name book.sheets index each.cells; bodies = each.bodies }

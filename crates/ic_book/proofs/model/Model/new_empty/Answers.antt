@@ -18,4 +18,4 @@ invariant_of-result c =
     (c.in_ok-first_name.ensures ∙ ap first_sheet_name_in (sym c.language.view_is))
     (ap (λ l. is_some (locale_of tables l)) c.in_ok-from_str-2.ensures ∙ locale)
     (ap (λ l. is_some (language_of tables l)) told ∙ language)
-    (ap (lists_zone tables) c.in_ok-from_str-3.ensures ∙ zone)
+    (ap (lists_zone tables) c.in_ok-from_str-3.ensures ∙ zone) c.has_zone.ensures.well_formed
