@@ -34,6 +34,11 @@ impl<'a> marker::Model for Model<'a> {
 
     ghost Value = { Book };
 
+    ghost use Rattle.std.specs.Coded.{codes};
+    ghost use Rattle.ic_laws.specs.contracts.tree.Formula as formula;
+
+    ghost coded = { Prim.hlevel (codes, formula.the_row.coded) };
+
     ghost view = { λ m. record {
       name = m.name;
       sheets = sheets_of m.sheets.items;

@@ -1,5 +1,5 @@
 use Rattle.std.proofs.Common.{◌≡◌, map, drop, max}
-use Rattle.ic_laws.specs.CoreBook.{greatest}
+use Rattle.ic_laws.specs.Greatest.{greatest}
 use Rattle.ic_book.specs.Sheets.{sheets_of}
 use Rattle.ic_book.proofs.sheet.greatest_id.Given as goal
 
