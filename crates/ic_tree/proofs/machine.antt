@@ -1,0 +1,11 @@
+mod BodyExamples
+mod LocalExamples
+mod MentionExamples
+mod NameExamples
+mod NotationExamples
+mod RawExamples
+mod Readings
+mod RenameExample
+mod Session
+mod SheetExamples
+mod Small

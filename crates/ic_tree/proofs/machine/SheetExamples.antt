@@ -1,0 +1,24 @@
+-- Sheets by example.
+use Rattle.std.proofs.Common.{◌≡◌, ◌∷◌, [], codes, refl}
+use Rattle.caseless.proofs.Computing.{caseless}
+use Rattle.ic_laws.specs.Command.{commands}
+use Rattle.ic_laws.specs.CoreStep.{core_step}
+use Rattle.ic_tree.proofs.machine.Session.{answers, step}
+use Rattle.ic_tree.proofs.machine.Small.{start}
+
+-- a name that agrees with that of a sheet is refused
+same_name_twice : answers start (codes "add_sheet\tData" ∷ codes "add_sheet\tDATA" ∷ []) ≡ codes "ok" ∷ codes "error\tSheetExists" ∷ []
+unfolding answers step caseless commands core_step
+same_name_twice = refl
+
+-- a name that is too long is told as such where it agrees with that of a sheet, too: 16 sharp s agree with 32 s
+long_first : answers start (codes "add_sheet\tßßßßßßßßßßßßßßßß" ∷ codes "add_sheet\tssssssssssssssssssssssssssssssss" ∷ codes "add_sheet\tsssssssssssssssssssssssssssssss" ∷ []) ≡ codes "ok" ∷ codes "error\tInvalidSheetName" ∷ codes "ok" ∷ []
+unfolding answers step caseless commands core_step
+long_first = refl
+
+-- sheets that aren't there, and one that is the only one
+moved_and_deleted : answers start
+    (codes "delete_sheet\t5" ∷ codes "move_sheet\t5\t0" ∷ codes "move_sheet\t0\t5" ∷ codes "move_sheet\t0\t0" ∷ codes "add_sheet\tA" ∷ codes "delete_sheet_by_name\ta" ∷ codes "delete_sheet_by_sheet_id\t9" ∷ [])
+    ≡ codes "error\tOnlySheet" ∷ codes "error\tSheetIndexTooLarge" ∷ codes "error\tTargetTooLarge" ∷ codes "ok" ∷ codes "ok" ∷ codes "ok" ∷ codes "error\tSheetNotFound" ∷ []
+unfolding answers step caseless commands core_step
+moved_and_deleted = refl
