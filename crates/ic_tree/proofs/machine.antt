@@ -1,4 +1,5 @@
 mod BodyExamples
+mod EnglishExamples
 mod LocalExamples
 mod MentionExamples
 mod NameExamples

@@ -103,3 +103,14 @@ lambda_or_none book text t o none e h =
     let english_reads = read_as (small.shown (codes "en") (codes "en") (pos 1) (pos 1)) (without_equals text) in
     ap (λ r. option_or (option_map (λ t. record { has_equals = false; tree = t }) r) (option_map body (option_and_then if_lambda (option_or (read_as (shown_at small book (pos 1) (pos 1)) (without_equals text)) english_reads)))) none
     ∙ ap (λ r. option_map body (option_and_then if_lambda (option_or r english_reads))) e ∙ ap (option_map body) h
+
+-- and one that doesn't read in the notation in force, by what it reads as in English
+pub english_lambda : (book : CoreBook) (text : List ℕ) (t : Spelled) → reference_tree (shown_at small book (pos 1) (pos 1)) (scene_of book) text ≡ None
+    → read_as (shown_at small book (pos 1) (pos 1)) (without_equals text) ≡ None → read_as (small.shown (codes "en") (codes "en") (pos 1) (pos 1)) (without_equals text) ≡ Some t → if_lambda t ≡ Some t
+    → body_of small book text ≡ Some (record { has_equals = first_is (λ c. c == equals) text; tree = t })
+english_lambda book text t none unread e h =
+    let body : Spelled → Body = λ t. record { has_equals = first_is (λ c. c == equals) text; tree = t } in
+    let english_reads = read_as (small.shown (codes "en") (codes "en") (pos 1) (pos 1)) (without_equals text) in
+    ap (λ r. option_or (option_map (λ t. record { has_equals = false; tree = t }) r) (option_map body (option_and_then if_lambda (option_or (read_as (shown_at small book (pos 1) (pos 1)) (without_equals text)) english_reads)))) none
+    ∙ ap (λ r. option_map body (option_and_then if_lambda (option_or r english_reads))) unread
+    ∙ ap (λ r. option_map body (option_and_then if_lambda r)) e ∙ ap (option_map body) h

@@ -22,3 +22,17 @@ moved_and_deleted : answers start
     ≡ codes "error\tOnlySheet" ∷ codes "error\tSheetIndexTooLarge" ∷ codes "error\tTargetTooLarge" ∷ codes "ok" ∷ codes "ok" ∷ codes "ok" ∷ codes "error\tSheetNotFound" ∷ []
 unfolding answers step caseless commands core_step
 moved_and_deleted = refl
+
+-- of three sheets the first is put last: the second is the first one then, and goes
+moved_on : answers start
+    (codes "add_sheet\tB" ∷ codes "add_sheet\tC" ∷ codes "move_sheet\t0\t2" ∷ codes "delete_sheet\t0" ∷ codes "delete_sheet_by_name\tB" ∷ codes "delete_sheet_by_name\tc" ∷ codes "delete_sheet_by_name\tsheet1" ∷ [])
+    ≡ codes "ok" ∷ codes "ok" ∷ codes "ok" ∷ codes "ok" ∷ codes "error\tSheetNotFound" ∷ codes "ok" ∷ codes "error\tOnlySheet" ∷ []
+unfolding answers step caseless commands core_step
+moved_on = refl
+
+-- the last is put first: the one that was first is the second one then, and goes
+moved_back : answers start
+    (codes "add_sheet\tB" ∷ codes "add_sheet\tC" ∷ codes "move_sheet\t2\t0" ∷ codes "delete_sheet\t1" ∷ codes "delete_sheet_by_name\tSheet1" ∷ codes "delete_sheet_by_name\tB" ∷ codes "delete_sheet_by_name\tC" ∷ [])
+    ≡ codes "ok" ∷ codes "ok" ∷ codes "ok" ∷ codes "ok" ∷ codes "error\tSheetNotFound" ∷ codes "ok" ∷ codes "error\tOnlySheet" ∷ []
+unfolding answers step caseless commands core_step
+moved_back = refl
