@@ -36,3 +36,25 @@ moved_back : answers start
     ≡ codes "ok" ∷ codes "ok" ∷ codes "ok" ∷ codes "ok" ∷ codes "error\tSheetNotFound" ∷ codes "ok" ∷ codes "error\tOnlySheet" ∷ []
 unfolding answers step caseless commands core_step
 moved_back = refl
+
+-- a sheet may be renamed to a name that agrees with its own; an invalid name is told first, then one that another sheet
+-- has, then a sheet that isn't there
+renamed : answers start
+    (codes "add_sheet\tData" ∷ codes "rename_sheet_by_index\t1\tDATA" ∷ codes "rename_sheet_by_index\t9\ta/b" ∷ codes "rename_sheet_by_index\t9\tdata" ∷ codes "rename_sheet_by_index\t9\tx" ∷ [])
+    ≡ codes "ok" ∷ codes "ok" ∷ codes "error\tInvalidSheetName" ∷ codes "error\tSheetExists" ∷ codes "error\tInvalidSheet" ∷ []
+unfolding answers step caseless commands core_step
+renamed = refl
+
+-- a formula is refused for its sheet, its row, its column and its text, in this order; no formula is shown outside a sheet
+refused_formulas : answers start
+    (codes "update_cell_with_formula\t1\t0\t0\tx" ∷ codes "update_cell_with_formula\t0\t0\t0\tx" ∷ codes "update_cell_with_formula\t0\t1\t16385\tx" ∷ codes "update_cell_with_formula\t0\t1\t1\tx"
+    ∷ codes "get_cell_formula\t1\t1\t1" ∷ codes "get_cell_formula\t0\t0\t-1" ∷ codes "get_cell_formula\t0\tx\t1" ∷ [])
+    ≡ codes "error\tInvalidSheet" ∷ codes "error\tInvalidRow" ∷ codes "error\tInvalidColumn" ∷ codes "error\tNotAFormula"
+    ∷ codes "error\tInvalidSheet" ∷ codes "ok" ∷ codes "error\tBadLine" ∷ []
+unfolding answers step caseless commands core_step
+refused_formulas = refl
+
+-- where the last id is in use there is none for a new sheet
+last_id_used : answers (record start { sheets = record { id = 4294967295; name = codes "Sheet1"; cells = [] } ∷ [] }) (codes "get_new_sheet_id" ∷ codes "add_sheet\tB" ∷ []) ≡ codes "ok\t-" ∷ codes "error\tIdsUsedUp" ∷ []
+unfolding answers step caseless commands core_step
+last_id_used = refl
