@@ -21,3 +21,4 @@ pub mod SightLemmas
 pub mod Signs
 pub mod Turning
 pub mod WordLemmas
+mod machine

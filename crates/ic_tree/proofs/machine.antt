@@ -1,0 +1,12 @@
+mod BodyExamples
+mod EnglishExamples
+mod LocalExamples
+mod MentionExamples
+mod NameExamples
+mod NotationExamples
+mod RawExamples
+mod Readings
+mod RenameExample
+mod Session
+mod SheetExamples
+mod Small
