@@ -16,26 +16,40 @@ pub fn call(
     out: &mut String,
 ) -> Result<bool, Fault> {
     match name {
-        "read_stored" => put_canonical(alloc, &Stored::new(tables), word(words, 1)?, out)?,
+        "read_stored" => read_stored(alloc, tables, words, out)?,
         "read_shown" => read_shown(alloc, tables, words, out)?,
+        "shown_to_stored" => shown_to_stored(alloc, tables, words, out)?,
+        "stored_to_shown" => stored_to_shown(alloc, tables, words, out)?,
         _ => return Ok(false),
     }
     Ok(true)
 }
 
-/// `=` and the canonical text of a formula, `none` where the text is no formula.
-fn put_canonical<D: Dialect>(
+/// A formula is read in the one form and printed in the other: `=` and its canonical text there, `none` where the text
+/// is no formula.
+fn put_canonical<A: Dialect, B: Dialect>(
     alloc: Global,
-    d: &D,
+    from: &A,
+    to: &B,
     text: &str,
     out: &mut String,
 ) -> Result<(), Fault> {
-    let Some(tree) = read(alloc, d, text)? else {
+    let Some(tree) = read(alloc, from, text)? else {
         return put_none(out);
     };
-    let printed = print(alloc, d, &tree)?;
+    let printed = print(alloc, to, &tree)?;
     out.push('=')?;
     put_text(alloc, out, printed.as_str())
+}
+
+fn read_stored(
+    alloc: Global,
+    tables: &Tables,
+    words: &[Text],
+    out: &mut String,
+) -> Result<(), Fault> {
+    let stored = Stored::new(tables);
+    put_canonical(alloc, &stored, &stored, word(words, 1)?, out)
 }
 
 /// The shown form in a locale and a language of the tables, by their ids, at a cell.
@@ -60,7 +74,37 @@ fn read_shown(
     let row = int(words, 3)?;
     let column = int(words, 4)?;
     match shown_at(tables, word(words, 1)?, word(words, 2)?, row, column) {
-        Ok(shown) => put_canonical(alloc, &shown, word(words, 5)?, out),
+        Ok(shown) => put_canonical(alloc, &shown, &shown, word(words, 5)?, out),
         Err(e) => put_id_error(alloc, out, &e),
     }
+}
+
+/// The shown form of a row's locale, language, row and column, which the tables have.
+fn shown_in<'t>(tables: &'t Tables, words: &[Text]) -> Result<Shown<'t>, Fault> {
+    let row = int(words, 3)?;
+    let column = int(words, 4)?;
+    match shown_at(tables, word(words, 1)?, word(words, 2)?, row, column) {
+        Ok(shown) => Ok(shown),
+        Err(_) => Err(Fault::Row),
+    }
+}
+
+fn shown_to_stored(
+    alloc: Global,
+    tables: &Tables,
+    words: &[Text],
+    out: &mut String,
+) -> Result<(), Fault> {
+    let shown = shown_in(tables, words)?;
+    put_canonical(alloc, &shown, &Stored::new(tables), word(words, 5)?, out)
+}
+
+fn stored_to_shown(
+    alloc: Global,
+    tables: &Tables,
+    words: &[Text],
+    out: &mut String,
+) -> Result<(), Fault> {
+    let shown = shown_in(tables, words)?;
+    put_canonical(alloc, &Stored::new(tables), &shown, word(words, 5)?, out)
 }

@@ -2,13 +2,16 @@
 use crate::fault::Fault;
 use crate::formulas::shown_at;
 use crate::words::{index, put_none, put_text, word};
-use ic_laws::{Bound, Items, NameSpelling, Scene, SheetName, Text};
+use ic_laws::{
+    Bound, Items, NameMention, NameSpelling, Scene, SheetMention, SheetName, Spelled, Text, Tree,
+};
 use ic_tables::Tables;
-use ic_tree::{Shown, bind, clashes, is_dynamic, print, read, spell};
+use ic_tree::{Shown, Stored, bind, clashes, is_dynamic, print, read, spell};
 use std::alloc::Global;
 
 /// `bind`, a language, a locale, a scope or `none`, a text, and then the scene: `sheet`, an id and a name, or `name`, a
-/// name and a scope or `none`. The cell is in row 5 and column 3.
+/// name and a scope or `none`. The cell is in row 5 and column 3. `bind_stored`, a scope or `none`, a text in the stored
+/// form, and then the scene.
 pub fn call(
     alloc: Global,
     tables: &Tables,
@@ -16,18 +19,103 @@ pub fn call(
     words: &[Text],
     out: &mut String,
 ) -> Result<bool, Fault> {
-    if name != "bind" {
-        return Ok(false);
+    match name {
+        "bind" => put_shown(alloc, tables, words, out)?,
+        "bind_stored" => put_stored(alloc, tables, words, out)?,
+        _ => return Ok(false),
     }
-    let scene = Scene {
-        sheets: sheets_in(alloc, words)?,
-        names: names_in(alloc, words)?,
-    };
+    Ok(true)
+}
+
+/// The scene that stands in a row from a place on.
+fn scene_in(alloc: Global, words: &[Text], from: usize) -> Result<Scene, Fault> {
+    let sheets = sheets_in(alloc, words, from)?;
+    let names = names_in(alloc, words, from)?;
+    Ok(Scene { sheets, names })
+}
+
+fn put_shown(
+    alloc: Global,
+    tables: &Tables,
+    words: &[Text],
+    out: &mut String,
+) -> Result<(), Fault> {
+    let scene = scene_in(alloc, words, 5)?;
     let Ok(shown) = shown_at(tables, word(words, 2)?, word(words, 1)?, 5, 3) else {
         return Err(Fault::Row);
     };
-    put_bound(alloc, tables, &shown, &scene, words, out)?;
-    Ok(true)
+    put_bound(alloc, tables, &shown, &scene, words, out)
+}
+
+/// What the whole formula mentions, and the formula as it is written again.
+fn put_stored(
+    alloc: Global,
+    tables: &Tables,
+    words: &[Text],
+    out: &mut String,
+) -> Result<(), Fault> {
+    let scene = scene_in(alloc, words, 3)?;
+    let stored = Stored::new(tables);
+    let Some(tree) = read(alloc, &stored, word(words, 2)?)? else {
+        return put_none(out);
+    };
+    let english = tables.get_default_language();
+    let bound = bind(alloc, &scene, english, scope(words, 1)?, &tree)?;
+    put_mention(alloc, &bound, out)?;
+    let spelled = spell(alloc, &scene, &bound)?;
+    put_printed(alloc, &stored, &spelled, out)
+}
+
+fn put_printed(
+    alloc: Global,
+    stored: &Stored<'_>,
+    spelled: &Spelled,
+    out: &mut String,
+) -> Result<(), Fault> {
+    let printed = print(alloc, stored, spelled)?;
+    out.push('\t')?;
+    put_text(alloc, out, printed.as_str())
+}
+
+/// The sheet of a reference or the definition of a word, `none` for any other formula.
+fn put_mention(alloc: Global, bound: &Bound, out: &mut String) -> Result<(), Fault> {
+    match bound {
+        Tree::Reference(sheet, _) => put_sheet(alloc, sheet, out),
+        Tree::Word(name) => put_name(alloc, name, out),
+        _ => put_none(out),
+    }
+}
+
+/// `own`, the id of the sheet, or `dangling` and its name.
+fn put_sheet(alloc: Global, sheet: &SheetMention, out: &mut String) -> Result<(), Fault> {
+    match sheet {
+        SheetMention::Own => out.push_str("own")?,
+        SheetMention::Sheet(id) => write!(out, "sheet\t{id}")?,
+        SheetMention::Dangling(name) => {
+            out.push_str("dangling\t")?;
+            put_text(alloc, out, name.as_str())?;
+        }
+    }
+    Ok(())
+}
+
+/// `name`, the folded name of the definition and its scope or `none`, or `dangling` and the word.
+fn put_name(alloc: Global, name: &NameMention, out: &mut String) -> Result<(), Fault> {
+    match name {
+        NameMention::Var(word) | NameMention::Dangling(word) => {
+            out.push_str("dangling\t")?;
+            put_text(alloc, out, word.as_str())
+        }
+        NameMention::Name(key) => {
+            out.push_str("name\t")?;
+            put_text(alloc, out, key.name.as_str())?;
+            match key.scope {
+                Some(id) => write!(out, "\t{id}")?,
+                None => out.push_str("\tnone")?,
+            }
+            Ok(())
+        }
+    }
 }
 
 fn scope(words: &[Text], at: usize) -> Result<Option<u32>, Fault> {
@@ -37,9 +125,9 @@ fn scope(words: &[Text], at: usize) -> Result<Option<u32>, Fault> {
     }
 }
 
-fn sheets_in(alloc: Global, words: &[Text]) -> Result<Items<SheetName>, Fault> {
+fn sheets_in(alloc: Global, words: &[Text], from: usize) -> Result<Items<SheetName>, Fault> {
     let mut sheets = Vec::new(alloc);
-    for at in (5..words.len()).step_by(3) {
+    for at in (from..words.len()).step_by(3) {
         if word(words, at)? == "sheet" {
             let id = index(words, at.saturating_add(1))?;
             let name = Text::from_str(alloc, word(words, at.saturating_add(2))?)?;
@@ -49,9 +137,9 @@ fn sheets_in(alloc: Global, words: &[Text]) -> Result<Items<SheetName>, Fault> {
     Ok(Items::from(sheets))
 }
 
-fn names_in(alloc: Global, words: &[Text]) -> Result<Items<NameSpelling>, Fault> {
+fn names_in(alloc: Global, words: &[Text], from: usize) -> Result<Items<NameSpelling>, Fault> {
     let mut names = Vec::new(alloc);
-    for at in (5..words.len()).step_by(3) {
+    for at in (from..words.len()).step_by(3) {
         if word(words, at)? == "name" {
             let name = Text::from_str(alloc, word(words, at.saturating_add(1))?)?;
             let scope = scope(words, at.saturating_add(2))?;

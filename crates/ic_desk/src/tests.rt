@@ -34,6 +34,17 @@ fn expect_run(
     Ok(())
 }
 
+#[test]
+fn an_empty_input_writes_nothing(rt: HostRuntime) -> Result<(), Fail> {
+    let tables = sample_tables(rt.alloc())?;
+    let source = MemorySource::new(rt.alloc(), b"", 4096, &[])?;
+    let sink = MemorySink::new(rt.alloc(), 1000, &[])?;
+    expect_run(&rt, &tables, source, sink, &(Ok(0), 2, ""))?;
+    let source = MemorySource::new(rt.alloc(), b"", 4096, &[])?;
+    let sink = MemorySink::new(rt.alloc(), 1000, &[])?;
+    expect_status(&rt, "", source, sink, ("", 0))
+}
+
 const TWO: &[u8] = b"add_sheet\tData\nadd_sheet\tNext\n";
 
 /// The most bytes of one read, and a read that is never made or fails.

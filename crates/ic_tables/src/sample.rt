@@ -49,11 +49,12 @@ fn languages(alloc: Global) -> Result<Items<Language>, OutOfMemory>
     ensures { IfOk result (λ ls. map Some ls ≡ sample_languages) }
 {
     let mut languages = Vec::new(alloc);
-    languages.push(english::language(alloc)?)?;
-    languages.push(spanish::language(alloc)?)?;
-    languages.push(french::language(alloc)?)?;
-    languages.push(german::language(alloc)?)?;
-    languages.push(italian::language(alloc)?)?;
+    languages.reserve(5)?;
+    languages.push_reserved(english::language(alloc)?);
+    languages.push_reserved(spanish::language(alloc)?);
+    languages.push_reserved(french::language(alloc)?);
+    languages.push_reserved(german::language(alloc)?);
+    languages.push_reserved(italian::language(alloc)?);
     Ok(Items::from(languages))
 }
 
@@ -76,7 +77,9 @@ fn locales_in(alloc: Global, places: &[LocaleWords]) -> Result<Items<NamedLocale
 {
     let mut locales = Vec::new(alloc);
     for words in places {
-        locales.push(NamedLocale::from_words(alloc, words)?)?;
+        locales.reserve(1)?;
+        let locale = NamedLocale::from_words(alloc, words)?;
+        locales.push_reserved(locale);
     }
     Ok(Items::from(locales))
 }

@@ -74,27 +74,14 @@ pub fn spell<N: Finder>(alloc: Global, names: &N, tree: &Bound) -> Result<Spelle
         )),
         Tree::Word(word) => Ok(Tree::Word(spell_word(alloc, names, word)?)),
         Tree::Empty => Ok(Tree::Empty),
-        Tree::Paren(x) => {
-            let x = spell(alloc, names, x.as_ref())?;
-            Ok(Tree::Paren(Boxed::from(Box::new(alloc, x)?)))
-        }
-        Tree::Prefix(sign, x) => {
-            let x = spell(alloc, names, x.as_ref())?;
-            Ok(Tree::Prefix(*sign, Boxed::from(Box::new(alloc, x)?)))
-        }
-        Tree::Percent(x) => {
-            let x = spell(alloc, names, x.as_ref())?;
-            Ok(Tree::Percent(Boxed::from(Box::new(alloc, x)?)))
-        }
-        Tree::Spill(x) => {
-            let x = spell(alloc, names, x.as_ref())?;
-            Ok(Tree::Spill(Boxed::from(Box::new(alloc, x)?)))
-        }
+        Tree::Paren(x) => Ok(Tree::Paren(spell_boxed(alloc, names, x)?)),
+        Tree::Prefix(sign, x) => Ok(Tree::Prefix(*sign, spell_boxed(alloc, names, x)?)),
+        Tree::Percent(x) => Ok(Tree::Percent(spell_boxed(alloc, names, x)?)),
+        Tree::Spill(x) => Ok(Tree::Spill(spell_boxed(alloc, names, x)?)),
         Tree::Binary(sign, a, b) => {
-            let a = spell(alloc, names, a.as_ref())?;
-            let a = Boxed::from(Box::new(alloc, a)?);
-            let b = spell(alloc, names, b.as_ref())?;
-            Ok(Tree::Binary(*sign, a, Boxed::from(Box::new(alloc, b)?)))
+            let a = spell_boxed(alloc, names, a)?;
+            let b = spell_boxed(alloc, names, b)?;
+            Ok(Tree::Binary(*sign, a, b))
         }
         Tree::Fun(number, arguments) => {
             let arguments = spell_all(alloc, names, arguments.as_slice())?;
@@ -107,24 +94,37 @@ pub fn spell<N: Finder>(alloc: Global, names: &N, tree: &Bound) -> Result<Spelle
         }
         Tree::Let(pairs, body) => {
             let pairs = spell_pairs(alloc, names, pairs.as_slice())?;
-            let body = spell(alloc, names, body.as_ref())?;
-            Ok(Tree::Let(Items::from(pairs), Boxed::from(Box::new(alloc, body)?)))
+            let body = spell_boxed(alloc, names, body)?;
+            Ok(Tree::Let(Items::from(pairs), body))
         }
         Tree::Lambda(parameters, body) => {
-            let body = spell(alloc, names, body.as_ref())?;
             let parameters = copy_texts(alloc, parameters.as_slice())?;
-            Ok(Tree::Lambda(Items::from(parameters), Boxed::from(Box::new(alloc, body)?)))
+            let body = spell_boxed(alloc, names, body)?;
+            Ok(Tree::Lambda(Items::from(parameters), body))
         }
         Tree::Apply(x, arguments) => {
-            let x = spell(alloc, names, x.as_ref())?;
+            let x = spell_boxed(alloc, names, x)?;
             let arguments = spell_all(alloc, names, arguments.as_slice())?;
-            Ok(Tree::Apply(Boxed::from(Box::new(alloc, x)?), Items::from(arguments)))
+            Ok(Tree::Apply(x, Items::from(arguments)))
         }
         Tree::Array(rows) => {
             let rows = copy_rows(alloc, rows.as_slice())?;
             Ok(Tree::Array(Items::from(rows)))
         }
     }
+}
+
+/// The same of a part of a formula.
+#[cycle(spell)]
+fn spell_boxed<N: Finder>(
+    alloc: Global,
+    names: &N,
+    tree: &Boxed<Bound>,
+) -> Result<Boxed<Spelled>, OutOfMemory>
+    ensures { IfOk result (λ r. r ≡ spelled (N.scene names.now) tree.now) }
+{
+    let written = spell(alloc, names, tree.as_ref())?;
+    Ok(Boxed::from(Box::new(alloc, written)?))
 }
 
 /// Formulas in their present spelling.
