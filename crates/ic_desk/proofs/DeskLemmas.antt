@@ -1,11 +1,15 @@
 -- The program's words, its start and its statuses.
-use Rattle.std.proofs.Common.{String, ◌≡◌, ℕ, List, [], ◌∷◌, get_or, Some, None, Result, Ok, Err, OnOk, bytes_eq, codes, string_bytes, refl, arith, length, ◌==◌, true, false, sym, ◌∙◌, ap}
+use Rattle.std.proofs.Common.{String, ◌≡◌, ℕ, List, [], ◌∷◌, get_or, Option, Some, None, Result, Ok, Err, IfOk, OnOk, bytes_eq, codes, string_bytes, refl, arith, length, ◌==◌, true, false, sym, ◌∙◌, ap}
 use Rattle.std.proofs.lemmas.Bool.{eqb-true}
 use Rattle.std.specs.Str.{chars}
 use Rattle.std.specs.declared.alloc.Global.{Global}
 use Rattle.ic_lines.specs.declared.error.RunError.{RunError}
 use Rattle.ic_lines.specs.declared.error.RunError.TheVariants as run
+use Rattle.ic_lines.proofs.ToldLemmas.{IfTold-weaker}
+use Rattle.ic_lines.specs.Bytes.{IfTold}
+use Rattle.ic_book.specs.Book.{Book}
 use Rattle.ic_desk.specs.Desk.{setting_of, run_status, texts}
+use Rattle.ic_desk.specs.Run.{TakesAll}
 
 -- the status 0 is that of Ok
 pub on_ok_at_0 : (r : Result ℕ RunError) (P : Type 0) → OnOk r P → run_status r ≡ 0 → P
@@ -66,3 +70,8 @@ run_words words w wl wg wz t l g z four is is_l is_g is_z e e_l e_g e_z named =
     ∙ ap (λ v. Some (record { locale = chars (string_bytes p.1); language = v; zone = chars z })) language
     ∙ ap (λ v. Some (record { locale = chars (string_bytes p.1); language = chars (string_bytes p.2); zone = v })) zone
     ∙ sym (ap (λ v. setting_of (texts v)) p.4 ∙ at)
+
+-- a whole run leaves nothing of the source
+pub all_taken : (r : Result ℕ RunError) (old new : Book) (before now : Option (List ℕ)) → IfOk r (λ count. IfTold before now (TakesAll old new count)) → OnOk r (IfTold before now (λ bytes left. left ≡ []))
+all_taken (Ok n) old new before now h = IfTold-weaker before now (TakesAll old new n) (λ bytes left. left ≡ []) (λ bytes left t. t.all) h
+all_taken (Err e) old new before now h = tt

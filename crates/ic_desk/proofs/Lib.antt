@@ -1,3 +1,4 @@
+pub mod AnswerLemmas
 pub mod CommandLemmas
 pub mod DeskLemmas
 pub mod ProgressLemmas

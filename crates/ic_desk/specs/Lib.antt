@@ -1,3 +1,3 @@
 pub mod Desk
-pub mod Meaning
 pub mod Run
+pub mod Start

@@ -4,7 +4,7 @@ ghost use Rattle.ic_lines.specs.Reading.{has_line_feed};
 ghost use Rattle.ic_book.specs.Book.{core_of, notations_in, with_core};
 ghost use Rattle.ic_book.specs.Refused.{refusal_of};
 
-use crate::command::{Command, read_command};
+use crate::command::sheet_to_add;
 use ic_book::{BookError, Model};
 use ic_laws::{OutOfMemory, Text};
 use ic_lines::Line;
@@ -20,9 +20,9 @@ pub fn reply_to(alloc: Global, model: &mut Model<'_>, line: &Line) -> Result<Str
     ensures book { OnOk result (model.new ≡ with_core model.old (line_step (notations_in model.old) (core_of model.old) line.now).0) }
     ensures err { OnErr result (model.new ≡ model.old) }
 {
-    let command = read_command(alloc, line.text().as_str())?;
+    let name = sheet_to_add(alloc, line.text().as_str())?;
     let reply = String::with_capacity(alloc, REPLY_ROOM)?;
-    let Some(Command::AddSheet(name)) = command else {
+    let Some(name) = name else {
         return Ok(error_reply(reply, &BookError::BadLine));
     };
     match model.add_sheet(name.as_str()) {

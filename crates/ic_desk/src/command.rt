@@ -1,22 +1,15 @@
 ghost use Rattle.std.specs.Prelude.{◌≡◌, IfOk, chars, option_map};
+ghost use Rattle.ic_laws.specs.Command.{AddSheet};
 ghost use Rattle.ic_laws.specs.Lines.{command_of};
-ghost use Rattle.ic_desk.specs.Meaning.{meaning};
 
 use ic_laws::scan::same_text;
 use ic_laws::{OutOfMemory, Text};
 use ic_lines::{unescape, words_of};
 use std::alloc::Global;
 
-/// A command that the program serves, with its texts.
-#[derive(Drop)]
-pub enum Command {
-    /// A new sheet of this name.
-    AddSheet(Text),
-}
-
-/// The command that a line spells; None where it is no command.
-pub fn read_command(alloc: Global, line: &str) -> Result<Option<Command>, OutOfMemory>
-    ensures { IfOk result (λ command. option_map meaning command ≡ command_of (chars line.now)) }
+/// The name of the sheet that a line adds, by the one command that is served so far; None where it is no such command.
+pub fn sheet_to_add(alloc: Global, line: &str) -> Result<Option<Text>, OutOfMemory>
+    ensures { IfOk result (λ name. option_map AddSheet name ≡ command_of (chars line.now)) }
 {
     let words = words_of(alloc, line)?;
     let words = words.as_slice();
@@ -28,8 +21,5 @@ pub fn read_command(alloc: Global, line: &str) -> Result<Option<Command>, OutOfM
     if !same_text(name, "add_sheet") {
         return Ok(None);
     }
-    match unescape(alloc, word)? {
-        Some(name) => Ok(Some(Command::AddSheet(name))),
-        None => Ok(None),
-    }
+    unescape(alloc, word)
 }

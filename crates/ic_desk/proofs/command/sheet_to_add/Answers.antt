@@ -2,7 +2,7 @@ use Rattle.std.proofs.Common.{◌≡◌, ◌∙◌, ap, sym, map, chars, option_
 use Rattle.ic_laws.specs.Command.{AddSheet}
 use Rattle.ic_laws.specs.Lines.{words_of}
 use Rattle.ic_desk.proofs.CommandLemmas.{no_command, other_name, add_sheet_word}
-use Rattle.ic_desk.proofs.command.read_command.Goals as goal
+use Rattle.ic_desk.proofs.command.sheet_to_add.Goals as goal
 
 pub returns-then-words-ne2 : goal.returns-then-words-ne2
 returns-then-words-ne2 c =
@@ -14,12 +14,7 @@ returns-then-not-same_text c =
     let words : map (λ w. chars w.now) c.as_slice-words.result.now ≡ words_of (chars c.args.line.now) = ap (map (λ w. chars w.now)) c.as_slice-words.ensures.value ∙ c.in_ok-words.ensures in
     sym (other_name c.as_slice-words.result.now _ (chars c.args.line.now) c.if-words-ne2.false words (sym c.if-not-same_text.ensures))
 
-pub returns-in-Some : goal.returns-in-Some
-returns-in-Some c =
-    let words : map (λ w. chars w.now) c.as_slice-words.result.now ≡ words_of (chars c.args.line.now) = ap (map (λ w. chars w.now)) c.as_slice-words.ensures.value ∙ c.in_ok-words.ensures in
-    sym (add_sheet_word c.as_slice-words.result.now _ _ (chars c.args.line.now) c.if-words-ne2.false words (sym c.if-not-same_text.ensures) ∙ ap (option_map AddSheet) (sym c.in_ok-name.ensures.exact ∙ c.in-Some.is))
-
 pub returns : goal.returns
 returns c =
     let words : map (λ w. chars w.now) c.as_slice-words.result.now ≡ words_of (chars c.args.line.now) = ap (map (λ w. chars w.now)) c.as_slice-words.ensures.value ∙ c.in_ok-words.ensures in
-    sym (add_sheet_word c.as_slice-words.result.now _ _ (chars c.args.line.now) c.if-words-ne2.false words (sym c.if-not-same_text.ensures) ∙ ap (option_map AddSheet) (sym c.in_ok-name.ensures.exact ∙ c.in-None.is))
+    ?
