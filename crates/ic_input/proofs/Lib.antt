@@ -1,0 +1,5 @@
+pub mod CodeSteps
+pub mod DateSteps
+pub mod DigitLemmas
+pub mod LiteralLemmas
+pub mod NumberSteps
