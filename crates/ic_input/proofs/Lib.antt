@@ -1,5 +1,9 @@
+pub mod CodeLaws
 pub mod CodeSteps
 pub mod DateSteps
 pub mod DigitLemmas
+pub mod FormatLemmas
+pub mod GroupLemmas
 pub mod LiteralLemmas
 pub mod NumberSteps
+pub mod RunSteps

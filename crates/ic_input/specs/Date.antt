@@ -129,11 +129,10 @@ abbrev pub four_digits : ℕ → List ℕ
 four_digits n = two_digits (n / 100) ++ two_digits (n % 100)
 
 -- by `m/d/yyyy` months and days have as many digits as they need, otherwise two
-abbrev pub month_digits : List ℕ → ℕ → List ℕ
-month_digits code n = if is_american_date code then decimal n else two_digits n
-
 abbrev pub date_text : List ℕ → ℕ → ℕ → ℕ → List ℕ
-date_text code year month day = laid_out code (four_digits year) (month_digits code month) (month_digits code day)
+date_text code year month day =
+    if bytes_eq code iso_date then joined minus (four_digits year) (two_digits month) (two_digits day)
+    else (if is_american_date code then joined slash (decimal month) (decimal day) (four_digits year) else joined slash (two_digits day) (two_digits month) (four_digits year))
 
 -- a text shows day n by the code of dates
 pub record IsShownDay (code : List ℕ) (n : ℕ) (text : List ℕ) : Type 0 where

@@ -1,6 +1,6 @@
 -- Numbers as they are typed, without their sign: digits plain or in threes, decimals, and a currency at one side or a
 -- percent sign.
-use Rattle.std.specs.Prelude.{◌≡◌, ℕ, ◌+◌, ◌*◌, ◌-◌, ◌^◌, ◌<◌, ◌≤◌, List, [], ◌∷◌, ◌++◌, Bool, true, false, not, ◌&&◌, ◌||◌, ◌==◌, nat_le, nat_lt, length, Option, Some, None, if◌then◌else◌}
+use Rattle.std.specs.Prelude.{◌≡◌, ℕ, pos, ◌+◌, ◌*◌, ◌-◌, ◌^◌, ◌<◌, ◌≤◌, List, [], ◌∷◌, ◌++◌, Bool, true, false, not, ◌&&◌, ◌||◌, ◌==◌, nat_le, nat_lt, length, Option, Some, None, if◌then◌else◌}
 use Rattle.std.specs.Str.{all_ascii_digits}
 use Rattle.std.specs.Str.Parse.{digits_value, digits_value_after}
 use Rattle.ic_laws.specs.Scan.{is_digit, past_run, run_of}
@@ -54,8 +54,8 @@ pub record IsUnsigned (l : Locale) (text : List ℕ) (n : Number) : Type 0 where
   pub fraction_digits : all_ascii_digits (fraction_of fraction) ≡ true
   pub some : 0 < length whole + length (fraction_of fraction)
   pub few : length (fraction_of fraction) ≤ most_decimals after
-  pub value : n.units ≡ units_of (most_decimals after) whole (fraction_of fraction)
-  pub small : n.units < 10 ^ 27
+  pub value : n.amount ≡ pos (units_of (most_decimals after) whole (fraction_of fraction))
+  pub small : units_of (most_decimals after) whole (fraction_of fraction) < 10 ^ 27
   pub code : n.code ≡ code_for grouped before after (nat_lt 0 (length (fraction_of fraction)))
 
 -- The same as a function, in one pass: what stands before the first digit or decimal separator, the digits, the groups,
@@ -87,7 +87,7 @@ units_if places whole whole_count fraction count =
 
 abbrev pub with_code : Option CodeParts → Option ℕ → Option Number
 with_code code None = None
-with_code code (Some units) = Some (record { units = units; code = code })
+with_code code (Some units) = Some (record { amount = pos units; code = code })
 
 -- with what stands around the digits
 abbrev pub with_after : Locale → List ℕ → Bool → ℕ → ℕ → ℕ → ℕ → List ℕ → Option Number

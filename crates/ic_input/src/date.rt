@@ -1,11 +1,15 @@
 //! Dates: their day numbers, how they are typed and how they are shown.
-ghost use Rattle.std.specs.Prelude.{◌≡◌, ◌<◌, ◌≤◌, ◌^◌, ◌-◌, chars, length, option_map, IfSome, MatchOption};
+ghost use Rattle.std.specs.Prelude.{◌≡◌, ◌<◌, ◌≤◌, ◌^◌, ◌++◌, chars, length, option_map, string_bytes, IfSome, MatchOption, OnOk};
+ghost use Rattle.std.specs.Fmt.{decimal};
 ghost use Rattle.ic_laws.specs.AmountFront.{past_some};
-ghost use Rattle.ic_input.specs.Convention.{short_date};
-ghost use Rattle.ic_input.specs.Date.{IsDigit, IsNoDigit, day_of, field_at, three_fields, in_range, iso_number, past_mark, short_day_of, short_number};
+ghost use Rattle.ic_laws.specs.Character.{minus};
+ghost use Rattle.ic_input.specs.Convention.{short_date, slash};
+ghost use Rattle.ic_input.specs.Date.{IsDay, IsDigit, IsNoDigit, date_text, day_of, field_at, four_digits, three_fields, in_range, iso_number, joined, last_day, past_mark, short_day_of, short_number, two_digits};
 
 use crate::convention::is_nothing;
-use ic_laws::scan::first_char;
+use crate::push::{push_four_digits, push_number, push_two_digits};
+use ic_laws::OutOfMemory;
+use ic_laws::scan::{first_char, push_char, same_text};
 use ic_tables::Locale;
 use jiff_core::civil::Date;
 
@@ -148,4 +152,78 @@ fn in_range(number: i32) -> Option<u32>
     } else {
         None
     }
+}
+
+/// A day of the calendar, from the year 1899 to 9999.
+#[derive(Drop)]
+pub(crate) struct Civil {
+    year: u32,
+    month: u32,
+    day: u32,
+}
+
+/// The day of a number.
+pub(crate) fn civil_of(n: u32) -> Civil
+    requires first { 1 ≤ n }
+    requires last { n ≤ last_day }
+    ensures day { IsDay result.year result.month result.day n }
+    ensures bounds { (result.year < 10000) × (result.month < 100) × (result.day < 100) }
+{
+    let date = Date::from_unix_epoch_day(i64::from(n) - 25_569).unwrap();
+    Civil {
+        year: date.year as u32,
+        month: u32::from(date.month),
+        day: u32::from(date.day),
+    }
+}
+
+/// Appends a day by the code of dates: `yyyy-mm-dd`, `m/d/yyyy` or else `dd/mm/yyyy`.
+#[tactic(auto, using(crate::proofs::LiteralLemmas::literals))]
+pub(crate) fn push_day(text: &mut String, code: &str, day: &Civil) -> Result<(), OutOfMemory>
+    requires { (day.now.year < 10000) × (day.now.month < 100) × (day.now.day < 100) }
+    ensures { OnOk result (chars (string_bytes text.new) ≡ chars (string_bytes text.old) ++ date_text (chars code.now) day.now.year day.now.month day.now.day) }
+{
+    if same_text(code, "yyyy-mm-dd") {
+        push_iso(text, day)
+    } else if same_text(code, "m/d/yyyy") {
+        push_american(text, day)
+    } else {
+        push_day_first(text, day)
+    }
+}
+
+// Appends a day as `2026-01-15`.
+fn push_iso(text: &mut String, day: &Civil) -> Result<(), OutOfMemory>
+    requires { (day.now.year < 10000) × (day.now.month < 100) × (day.now.day < 100) }
+    ensures { OnOk result (chars (string_bytes text.new) ≡ chars (string_bytes text.old) ++ joined minus (four_digits day.now.year) (two_digits day.now.month) (two_digits day.now.day)) }
+{
+    push_four_digits(text, day.year)?;
+    push_char(text, '-')?;
+    push_two_digits(text, day.month)?;
+    push_char(text, '-')?;
+    push_two_digits(text, day.day)
+}
+
+// Appends a day as `1/15/2026`.
+fn push_american(text: &mut String, day: &Civil) -> Result<(), OutOfMemory>
+    requires { (day.now.year < 10000) × (day.now.month < 100) × (day.now.day < 100) }
+    ensures { OnOk result (chars (string_bytes text.new) ≡ chars (string_bytes text.old) ++ joined slash (decimal day.now.month) (decimal day.now.day) (four_digits day.now.year)) }
+{
+    push_number(text, u128::from(day.month))?;
+    push_char(text, '/')?;
+    push_number(text, u128::from(day.day))?;
+    push_char(text, '/')?;
+    push_four_digits(text, day.year)
+}
+
+// Appends a day as `15/01/2026`.
+fn push_day_first(text: &mut String, day: &Civil) -> Result<(), OutOfMemory>
+    requires { (day.now.year < 10000) × (day.now.month < 100) × (day.now.day < 100) }
+    ensures { OnOk result (chars (string_bytes text.new) ≡ chars (string_bytes text.old) ++ joined slash (two_digits day.now.day) (two_digits day.now.month) (four_digits day.now.year)) }
+{
+    push_two_digits(text, day.day)?;
+    push_char(text, '/')?;
+    push_two_digits(text, day.month)?;
+    push_char(text, '/')?;
+    push_four_digits(text, day.year)
 }

@@ -1,4 +1,9 @@
-//! What a user types.
+//! What a user types and what it becomes: amounts, numbers with groups, currencies and percent signs, dates, booleans,
+//! errors and formulas, by a locale and a language; and how an amount is shown by a format code.
+//!
+//! `specs/Typed` says what a text is typed as, by cases over whole texts, and the same as a function that goes over the
+//! text once; `classify` carries both. `specs/Number` has numbers, `specs/Date` dates and their day numbers (by `jiff`),
+//! `specs/Code` format codes, `specs/Formatted` what is shown by them, `specs/Group` digits in threes.
 #![tactic(auto)]
 
 mod amount;
@@ -6,7 +11,13 @@ mod code;
 mod convention;
 mod date;
 mod digits;
+mod format;
+mod input;
+mod kind;
 mod number;
+mod push;
 
 pub use amount::{amount_text, read_amount};
 pub use code::is_date_code;
+pub use format::format_amount;
+pub use input::{Typed, classify, value_needs_quoting};

@@ -1,5 +1,5 @@
 //! Numbers as they are typed, without their sign.
-ghost use Rattle.std.specs.Prelude.{◌≡◌, ◌<◌, ◌≤◌, ◌+◌, ◌^◌, ◌&&◌, ◌||◌, not, nat_le, nat_lt, min, chars, length};
+ghost use Rattle.std.specs.Prelude.{◌≡◌, ◌<◌, ◌≤◌, ◌+◌, ◌^◌, ◌&&◌, ◌||◌, not, nat_le, nat_lt, min, pos, chars, length, option_map};
 ghost use Rattle.std.specs.Str.Parse.{digits_value};
 ghost use Rattle.ic_laws.specs.Scan.{past_run};
 ghost use Rattle.ic_input.specs.Code.{stands_beside};
@@ -9,17 +9,14 @@ ghost use Rattle.ic_input.specs.Number.{code_for, decimals_at, from_digits, most
 use crate::code::{NumberCode, is_percent};
 use crate::convention::{decimal_of, group_of, is_currency, is_nothing};
 use crate::digits::{Digits, Groups, digits_at, groups_at};
+use ic_laws::Amount;
 use ic_laws::scan::{first_char, front_of};
 use ic_tables::Locale;
 
-/// Ten to the power of 27: the first number of units that is too many for an amount.
-const TOO_MANY: u128 = 1_000_000_000_000_000_000_000_000_000;
-
-/// A number without its sign: its units of 10^-9, and the parts of the code that shows it as it was typed, if it needs
-/// one.
+/// A number, and the parts of the code that shows it as it was typed, if it needs one.
 #[derive(Drop)]
 pub(crate) struct Number<'t> {
-    pub(crate) units: u128,
+    pub(crate) amount: Amount,
     pub(crate) code: Option<NumberCode<'t>>,
 }
 
@@ -114,7 +111,7 @@ fn with_after<'t>(
     if !is_beside(locale, before, after) {
         return None;
     }
-    let units = units_if(
+    let amount = amount_if(
         most_decimals(after),
         whole.value,
         whole_count,
@@ -122,7 +119,7 @@ fn with_after<'t>(
         decimals.count,
     )?;
     Some(Number {
-        units,
+        amount,
         code: code_for(whole.are_some, before, after, decimals.count > 0),
     })
 }
@@ -145,26 +142,26 @@ fn most_decimals(after: &str) -> u32
     if is_percent(after) { 7 } else { 9 }
 }
 
-// The units of digits that write these numbers, and are so many, where the last unit stands so many places after the
+// The amount of digits that write these numbers, and are so many, where the last unit stands so many places after the
 // separator.
-fn units_if(
+fn amount_if(
     places: u32,
     whole: u128,
     whole_count: usize,
     fraction: u128,
     count: usize,
-) -> Option<u128>
+) -> Option<Amount>
     requires places { places ≤ 9 }
     requires whole { whole ≤ 10 ^ 20 }
     requires fraction { fraction ≤ 10 ^ 20 }
     requires few { whole_count + count < 2 ^ 64 }
-    ensures { result ≡ units_if places whole whole_count fraction count }
+    ensures { result ≡ option_map pos (units_if places whole whole_count fraction count) }
 {
     if count > places as usize || (whole_count == 0 && count == 0) {
         return None;
     }
     let units = whole * scale(places) + fraction * scale(places - count as u32);
-    if units < TOO_MANY { Some(units) } else { None }
+    Amount::from_units(units as i128)
 }
 
 // Ten to the power of at most nine.
