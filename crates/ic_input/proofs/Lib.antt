@@ -1,9 +1,14 @@
 pub mod CodeLaws
 pub mod CodeSteps
+pub mod DateLaws
 pub mod DateSteps
 pub mod DigitLemmas
 pub mod FormatLemmas
 pub mod GroupLemmas
 pub mod LiteralLemmas
+pub mod LocaleLemmas
+pub mod NumberComplete
+pub mod NumberLaws
 pub mod NumberSteps
 pub mod RunSteps
+pub mod TripleLemmas

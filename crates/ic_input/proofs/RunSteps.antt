@@ -33,7 +33,7 @@ pub record CanStand (c : ℕ) : Type 0 where
   pub equals : (c == 61) ≡ false
   pub quote : (c == 39) ≡ false
 
-not-false : (b : Bool) → not b ≡ true → b ≡ false
+pub not-false : (b : Bool) → not b ≡ true → b ≡ false
 not-false true h = ap not h
 not-false false h = refl
 
