@@ -1,3 +1,4 @@
+pub mod AgainLemmas
 pub mod CodeLaws
 pub mod CodeSteps
 pub mod DateLaws
@@ -12,3 +13,5 @@ pub mod NumberLaws
 pub mod NumberSteps
 pub mod RunSteps
 pub mod TripleLemmas
+pub mod TypedLaws
+pub mod TypedSteps

@@ -185,7 +185,7 @@ finished l before grouped whole count fraction after n beside some few small amo
     rw (beside, lt-ltb _ _ some, le-leb _ _ few, lt-ltb _ _ small) (ap₂ (λ a c. Some (record { amount = a; code = c })) (sym amount) (sym code))
 
 -- the body of a number, from its digits on
-body_first : (l : Locale) (grouped : Bool) (whole text : List ℕ) (fraction : Option (List ℕ)) (after : List ℕ) → all_ascii_digits whole ≡ true → IsWhole (group_of l) grouped whole text → 0 < length whole + length (fraction_of fraction) → first_is (stands_before (decimal_of l)) (text ++ (fraction_text (decimal_of l) fraction ++ after)) ≡ false
+pub body_first : (l : Locale) (grouped : Bool) (whole text : List ℕ) (fraction : Option (List ℕ)) (after : List ℕ) → all_ascii_digits whole ≡ true → IsWhole (group_of l) grouped whole text → 0 < length whole + length (fraction_of fraction) → first_is (stands_before (decimal_of l)) (text ++ (fraction_text (decimal_of l) fraction ++ after)) ≡ false
 body_first l true [] text fraction after d w some = absurd (omega (arith, w.0))
 body_first l false [] text None after d w some = absurd (omega arith)
 body_first l false [] text (Some ds) after d w some =

@@ -1,8 +1,10 @@
-ghost use Rattle.std.specs.Prelude.{◌≡◌, ◌==◌, chars, option_map, IfOk, IsOk};
+ghost use Rattle.std.specs.Prelude.{◌≡◌, ◌↔◌, ◌==◌, chars, option_map, IfOk, IsOk};
 ghost use Rattle.ic_laws.specs.Scan.{first_is};
+ghost use Rattle.ic_tables.specs.Tables.{HasGoodFormats, TableSet};
 ghost use Rattle.ic_input.specs.Code.{code_text};
 ghost use Rattle.ic_input.specs.declared.input.Typed.TheVariants as kinds;
-ghost use Rattle.ic_input.specs.Typed.{begins_formula, needs_quoting, typed, typed_as};
+ghost use Rattle.ic_input.specs.Typed.{IsTyped, begins_formula, needs_quoting, typed, typed_as};
+ghost use Rattle.ic_input.specs.declared.input.Typed.{Typed};
 
 use crate::code::{NumberCode, push_code};
 use crate::kind::{Kind, kind_of};
@@ -47,7 +49,10 @@ pub fn classify(
     language: &Language,
     english: &Language,
 ) -> Result<Typed, OutOfMemory>
-    ensures { IfOk result (λ t. t ≡ typed locale.now language.now english.now (chars text.now)) }
+    ensures exact { IfOk result (λ t. t ≡ typed locale.now language.now english.now (chars text.now)) }
+
+    // By a locale of tables it is what the text is typed as, and nothing else.
+    ensures typed { (tables : TableSet) → HasGoodFormats tables locale.now → IfOk result (λ t. (u : Typed) → IsTyped locale.now language.now english.now (chars text.now) u ↔ (u ≡ t)) }
 {
     to_typed(alloc, kind_of(text, locale, language, english))
 }
