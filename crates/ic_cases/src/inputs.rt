@@ -35,7 +35,7 @@ struct Place<'t> {
     language: &'t Language,
 }
 
-fn place<'t>(tables: &'t Tables, words: &[Text]) -> Result<Place<'t>, Fault> {
+fn place_of<'t>(tables: &'t Tables, words: &[Text]) -> Result<Place<'t>, Fault> {
     let Ok(locale) = tables.get_locale(word(words, 1)?) else {
         return Err(Fault::Row);
     };
@@ -52,7 +52,7 @@ fn put_typed(
     words: &[Text],
     out: &mut String,
 ) -> Result<(), Fault> {
-    let place = place(tables, words)?;
+    let place = place_of(tables, words)?;
     let english = tables.get_default_language();
     let typed = classify(
         alloc,
@@ -126,7 +126,7 @@ fn put_quoting(
     words: &[Text],
     out: &mut String,
 ) -> Result<(), Fault> {
-    let place = place(tables, words)?;
+    let place = place_of(tables, words)?;
     let english = tables.get_default_language();
     let text = word(words, 3)?;
     put_bool(

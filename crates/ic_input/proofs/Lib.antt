@@ -1,8 +1,10 @@
 pub mod AgainLemmas
 pub mod CodeLaws
 pub mod CodeSteps
+pub mod DateAgain
 pub mod DateLaws
 pub mod DateSteps
+pub mod DayLemmas
 pub mod DigitLemmas
 pub mod FormatLemmas
 pub mod GroupLemmas

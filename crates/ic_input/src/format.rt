@@ -1,5 +1,5 @@
 //! How an amount is shown by a format code.
-ghost use Rattle.std.specs.Prelude.{◌≡◌, ◌<◌, ◌≤◌, ◌^◌, ◌+◌, ◌/◌, ◌%◌, ◌++◌, ◌∷◌, ◌⊎◌, true, ℕ, MatchOption, chars, string_bytes, IfOk, OnOk};
+ghost use Rattle.std.specs.Prelude.{◌≡◌, ◌<◌, ◌≤◌, ◌^◌, ◌+◌, ◌/◌, ◌%◌, ◌++◌, ◌∷◌, ◌⊎◌, true, ℕ, List, MatchOption, chars, string_bytes, IfOk, OnOk};
 ghost use Rattle.std.specs.Fmt.{decimal};
 ghost use Rattle.ic_laws.specs.Amount.{amount_text, is_amount};
 ghost use Rattle.ic_input.specs.Code.{is_date_code};
@@ -30,6 +30,14 @@ pub fn format_amount(
     code: &str,
     locale: &Locale,
 ) -> Result<String, OutOfMemory>
+    ensures shown { IfOk result (λ s. IsFormatted locale.now (chars code.now) v (chars (string_bytes s))) }
+    ensures only { IfOk result (λ s. (text : List ℕ) → IsFormatted locale.now (chars code.now) v text → text ≡ chars (string_bytes s)) }
+{
+    formatted(alloc, v, code, locale)
+}
+
+// The same, with the clause that says that it is so shown.
+fn formatted(alloc: Global, v: Amount, code: &str, locale: &Locale) -> Result<String, OutOfMemory>
     ensures { IfOk result (λ s. IsFormatted locale.now (chars code.now) v (chars (string_bytes s))) }
 {
     match number_code(code) {

@@ -22,4 +22,4 @@ pub use amount::{amount_text, read_amount};
 pub use code::is_date_code;
 pub use format::format_amount;
 pub use input::{Typed, classify, value_needs_quoting};
-pub use law::law_amount_typed_again;
+pub use law::{law_amount_typed_again, law_date_typed_again};
