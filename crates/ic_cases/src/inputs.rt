@@ -1,8 +1,9 @@
 //! What is typed, and how amounts are shown by format codes.
 use crate::fault::Fault;
-use crate::words::{character, put_bool, put_none, put_text, word};
+use crate::words::{character, put_bool, put_none, put_some, put_text, word};
 use ic_input::{
-    Typed, amount_text, classify, format_amount, is_date_code, read_amount, value_needs_quoting,
+    Typed, amount_text, classify, format_amount, formula_without_prefix, is_date_code, read_amount,
+    value_needs_quoting,
 };
 use ic_laws::{Amount, Error, Text};
 use ic_tables::{Language, Locale, Tables};
@@ -18,6 +19,7 @@ pub fn call(
 ) -> Result<bool, Fault> {
     match name {
         "classify" => put_typed(alloc, tables, words, out)?,
+        "formula_without_prefix" => put_formula(alloc, tables, words, out)?,
         "value_needs_quoting" => put_quoting(alloc, tables, words, out)?,
         "format_amount" => put_formatted(alloc, tables, words, out)?,
         "is_date_code" => put_bool(out, is_date_code(word(words, 1)?))?,
@@ -120,6 +122,23 @@ fn put_error_word(out: &mut String, e: Error) -> Result<(), Fault> {
     Ok(())
 }
 
+/// The formula of a text in a locale.
+fn put_formula(
+    alloc: Global,
+    tables: &Tables,
+    words: &[Text],
+    out: &mut String,
+) -> Result<(), Fault> {
+    let Ok(locale) = tables.get_locale(word(words, 1)?) else {
+        return Err(Fault::Row);
+    };
+    match formula_without_prefix(word(words, 2)?, locale) {
+        Some(formula) => put_some(alloc, out, formula),
+        None => put_none(out),
+    }
+}
+
+/// Whether a text needs a quote before it.
 fn put_quoting(
     alloc: Global,
     tables: &Tables,

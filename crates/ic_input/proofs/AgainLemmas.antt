@@ -1,10 +1,9 @@
 -- What is shown of an amount is typed as it.
-use Rattle.std.proofs.Common.{◌≡◌, ℕ, suc, ℤ, pos, negsuc, ◌+◌, ◌*◌, ◌-◌, ◌^◌, ◌<◌, ◌≤◌, List, [], ◌∷◌, ◌++◌, Bool, true, false, ◌&&◌, ◌==◌, nat_le, nat_lt, length, Option, Some, None, refl, sym, ap, subst, ◌∙◌, append-nil, inl, inr, arith}
+use Rattle.std.proofs.Common.{◌≡◌, ℕ, suc, ℤ, pos, negsuc, ◌+◌, ◌*◌, ◌-◌, ◌^◌, ◌<◌, ◌≤◌, List, [], ◌∷◌, ◌++◌, true, false, ◌&&◌, ◌==◌, nat_le, nat_lt, length, Option, Some, None, refl, sym, ap, ◌∙◌, append-nil, inl, inr}
 use Rattle.std.specs.Str.{all_ascii_digits}
 use Rattle.std.specs.Str.Parse.{digits_value}
 use Rattle.std.proofs.lemmas.Bool.{and_parts, cases_Bool, eqb-true, leb-true, ltb-true}
-use Rattle.std.proofs.lemmas.Bool.Decides.{nat_tests}
-use Rattle.ic_laws.specs.Amount.{amount_text, is_amount, read_units, unsigned_amount, unsigned_text, units_by, units_of, units_of_one}
+use Rattle.ic_laws.specs.Amount.{amount_text, is_amount, read_units, unsigned_text, units_by, units_of_one}
 use Rattle.ic_laws.specs.Scan.{is_digit, past_run, run_of}
 use Rattle.ic_laws.proofs.AmountTexts.{unsigned_amount-text}
 use Rattle.ic_laws.proofs.RunLemmas.{run_and_rest}
@@ -14,7 +13,6 @@ use Rattle.ic_input.specs.Convention.{decimal_of}
 use Rattle.ic_input.specs.Number.{IsUnsigned, fraction_of, fraction_text}
 use Rattle.ic_input.specs.Typed.{IsNumber, typed}
 use Rattle.ic_input.specs.declared.input.Typed.TheVariants as kinds
-use Rattle.ic_input.specs.declared.number.Number.{Number}
 use Rattle.ic_input.proofs.LocaleLemmas.{decimal_digit}
 use Rattle.ic_input.proofs.NumberSteps.{run-digits}
 use Rattle.ic_input.proofs.TypedLaws.{number_is_typed}

@@ -1,15 +1,14 @@
 -- The parts of a code that numbers are shown by are told by its text.
-use Rattle.std.proofs.Common.{◌≡◌, ℕ, suc, ◌-◌, List, [], ◌∷◌, ◌++◌, Bool, true, false, not, ◌&&◌, ◌||◌, ◌==◌, nat_lt, nat_eq, Option, Some, None, codes, refl, sym, ap, subst, ◌∙◌, append_assoc, inl, inr, arith, length}
-use Rattle.std.proofs.lemmas.Bool.{cases_Bool, and_parts, true≢false, not-true, or_parts, eqb-true}
+use Rattle.std.proofs.Common.{◌≡◌, ℕ, List, [], ◌∷◌, ◌++◌, Bool, true, false, not, ◌==◌, Option, Some, None, codes, refl, sym, ap, subst, ◌∙◌, inl, inr}
+use Rattle.std.proofs.lemmas.Bool.{cases_Bool, and_parts, true≢false, eqb-true}
 use Rattle.std.specs.List.{list_all}
-use Rattle.std.proofs.lemmas.Bool.Decides.{nat_tests}
 use Rattle.ic_laws.specs.Scan.{past_run, run_of}
 use Rattle.ic_laws.specs.Scene.{past_front}
 use Rattle.ic_laws.proofs.RunLemmas.{run_and_rest}
 use Rattle.ic_tables.specs.Formats.{may_stand_in_symbol}
-use Rattle.ic_input.specs.Code.{CodeParts, IsNumberCode, code_text, digits_code, has_up_to, is_no_hash, is_percent, is_supported, is_symbol, number_code, past_decimals, past_digits_code, stands_beside, supported}
+use Rattle.ic_input.specs.Code.{CodeParts, IsNumberCode, code_text, digits_code, is_no_hash, is_supported, is_symbol, number_code, past_decimals, past_digits_code, stands_beside, supported}
 use Rattle.ic_input.proofs.RunSteps.{all_weaker, can_stand, run_until, symbol_all}
-use Rattle.ic_input.specs.Convention.{is_nothing, percent}
+use Rattle.ic_input.specs.Convention.{is_nothing}
 
 -- what is left of a text after a front
 front_taken : (front text rest : List ℕ) → past_front front text ≡ Some rest → text ≡ front ++ rest

@@ -1,8 +1,8 @@
 -- A format code is taken apart from left to right.
-use Rattle.std.proofs.Common.{◌≡◌, ℕ, List, true, false, Option, Some, None, chars, codes, sym, ◌∙◌, ap, refl}
+use Rattle.std.proofs.Common.{◌≡◌, ℕ, List, true, false, Option, Some, None, chars, codes, ◌∙◌, ap}
 use Rattle.ic_laws.specs.Scan.{past_run, run_of}
 use Rattle.ic_laws.specs.Scene.{past_front}
-use Rattle.ic_input.specs.Code.{CodeParts, is_no_hash, number_code, past_decimals, past_digits_code, supported}
+use Rattle.ic_input.specs.Code.{is_no_hash, number_code, past_decimals, past_digits_code, supported}
 use Rattle.ic_input.proofs.LiteralLemmas.{two_decimals, whole_digits}
 
 -- from what stands before the first # on

@@ -1,17 +1,16 @@
 -- What the function of typed dates answers is in the relation, and what is in the relation it answers.
-use Rattle.std.proofs.Common.{◌≡◌, ℕ, zero, suc, ℤ, pos, negsuc, ◌+◌, ◌-◌, ◌<◌, ◌≤◌, List, [], ◌∷◌, ◌++◌, Bool, true, false, ◌&&◌, ◌==◌, ◌⊎◌, nat_le, length, bytes_eq, Option, Some, None, refl, sym, ap, ap₂, subst, ◌∙◌, append_assoc, append-nil, inl, inr, arith}
+use Rattle.std.proofs.Common.{◌≡◌, ℕ, zero, suc, ℤ, pos, negsuc, ◌≤◌, List, [], ◌∷◌, ◌++◌, true, false, ◌&&◌, ◌==◌, ◌⊎◌, nat_le, length, bytes_eq, Option, Some, None, refl, sym, ap, subst, ◌∙◌, append-nil, inl, inr, arith}
 use Rattle.std.specs.Str.{all_ascii_digits}
 use Rattle.std.specs.Str.Parse.{digits_value}
-use Rattle.std.proofs.lemmas.Bool.{and_from, and_parts, cases_Bool, eqb-true, le-leb, leb-true, true≢false}
+use Rattle.std.proofs.lemmas.Bool.{and_from, and_parts, cases_Bool, eqb-true, le-leb, leb-true}
 use Rattle.std.proofs.lemmas.Bool.Decides.{nat_tests}
-use Rattle.std.proofs.lemmas.Slice.Eq.{bytes_eq-Decides}
 use Rattle.ic_laws.specs.AmountFront.{past_some, some_digits}
 use Rattle.ic_laws.specs.Character.{minus}
 use Rattle.ic_laws.specs.Scan.{first_is, is_digit}
 use Rattle.ic_tables.specs.Formats.{is_american_date}
 use Rattle.ic_tables.specs.declared.locale.Locale.{Locale}
 use Rattle.ic_input.specs.Convention.{is_nothing, short_date, slash}
-use Rattle.ic_input.specs.Date.{IsDay, IsTypedDate, day_number, day_of, field_at, in_range, is_day, iso_date, iso_day, iso_number, joined, laid_out, last_day, past_mark, second_field, short_day, short_day_of, short_number, third_field, three_fields}
+use Rattle.ic_input.specs.Date.{IsDay, IsTypedDate, day_number, day_of, field_at, in_range, is_day, iso_date, iso_day, iso_number, joined, laid_out, last_day, past_mark, second_field, short_day, short_number, third_field, three_fields}
 use Rattle.ic_input.specs.declared.date.Field.{Field}
 use Rattle.ic_input.specs.declared.date.Fields.{Fields}
 use Rattle.ic_input.proofs.LocaleLemmas.{nothing-is}

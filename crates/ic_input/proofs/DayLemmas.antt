@@ -1,34 +1,17 @@
 -- A day number is that of one day, and what is shown of a day is typed as it.
-use Rattle.std.proofs.Common.{◌≡◌, ℕ, suc, ℤ, pos, ◌+◌, ◌*◌, ◌-◌, ◌/◌, ◌%◌, ◌<◌, ◌≤◌, ◌+ℤ◌, List, [], ◌∷◌, ◌++◌, Bool, true, false, ◌&&◌, ◌⊎◌, bytes_eq, length, Option, Some, None, refl, sym, ap, ap₂, subst, ◌∙◌, inl, inr, arith}
-use Rattle.std.specs.Char.{digit_value}
-use Rattle.std.specs.Fmt.{decimal}
-use Rattle.std.specs.Str.{all_ascii_digits}
-use Rattle.std.specs.Str.Parse.{digits_value}
-use Rattle.std.proofs.lemmas.Bool.{and_from, cases_Bool}
-use Rattle.std.proofs.lemmas.Bool.Decides.{leb_tells, nat_tests}
-use Rattle.std.proofs.lemmas.Fmt.{digits_decimal, digits_value-decimal, length-decimal-le}
+use Rattle.std.proofs.Common.{◌≡◌, ℕ, ℤ, pos, ◌*◌, ◌<◌, ◌≤◌, ◌+ℤ◌, List, ◌⊎◌, sym, ap, subst, ◌∙◌, inl, inr, arith}
+use Rattle.std.proofs.lemmas.Bool.Decides.{leb_tells}
 use Rattle.jiff_core.specs.Calendar.{IsCivilDate, day_count, days_from_civil}
-use Rattle.jiff_core.proofs.CalendarLemmas.{day_count-day, day_count-lt_month, day_count-lt_year, days_from_civil-day_count, days_in_month_bounds}
+use Rattle.jiff_core.proofs.CalendarLemmas.{day_count-day, day_count-lt_month, day_count-lt_year, days_from_civil-day_count}
 use Rattle.jiff_core.proofs.DateLemmas.{days_from_civil-max}
 use Rattle.jiff_core.proofs.SignedLemmas.{signed_arith}
 use Rattle.ic_laws.specs.Amount.{amount_text, units_of_one}
-use Rattle.ic_laws.specs.Scan.{is_digit}
-use Rattle.ic_laws.proofs.AmountLemmas.{digit_value-is, numerals}
-use Rattle.ic_tables.specs.Formats.{is_american_date}
-use Rattle.ic_tables.specs.declared.language.Language.{Language}
 use Rattle.ic_tables.specs.declared.locale.Locale.{Locale}
-use Rattle.ic_input.specs.Code.{CodeParts, IsNumberCode}
-use Rattle.ic_input.specs.Convention.{decimal_of, short_date}
-use Rattle.ic_input.specs.Date.{IsDay, IsShownDay, IsTypedDate, date_text, four_digits, iso_date, last_day, two_digits}
-use Rattle.ic_input.specs.Formatted.{IsDateShown, IsFormatted, IsNoDate, IsWholeDay, number_text}
-use Rattle.ic_input.specs.Typed.{amount_of_day, typed}
-use Rattle.ic_input.specs.declared.input.Typed.TheVariants as kinds
+use Rattle.ic_input.specs.Convention.{decimal_of}
+use Rattle.ic_input.specs.Date.{IsDay, IsShownDay}
+use Rattle.ic_input.specs.Formatted.{IsDateShown, IsFormatted, IsNoDate, number_text}
 use Rattle.ic_input.proofs.CodeLaws.{code_complete}
 use Rattle.ic_input.proofs.DateSteps.{day-parts, from_epoch}
-use Rattle.ic_input.proofs.GroupLemmas.{nonempty}
-use Rattle.ic_input.proofs.NumberLaws.{digits-append}
-use Rattle.ic_input.proofs.TypedLaws.{number_is_typed}
-use Rattle.ic_input.proofs.TypedSteps.{TellsTexts}
 
 -- the number of a day by the calendar's library
 counted : (y m d n : ℕ) → IsDay y m d n → days_from_civil (pos y) m d +ℤ pos 25569 ≡ pos n

@@ -1,10 +1,10 @@
 -- Digits that are read one after another, up to a number that is too large for anything.
-use Rattle.std.proofs.Common.{◌≡◌, ℕ, ◌+◌, ◌*◌, ◌-◌, ◌≤◌, ◌^◌, List, [], ◌∷◌, Bool, true, false, not, ◌||◌, ◌&&◌, ◌==◌, min, nat_le, Option, Some, None, refl, sym, ap, subst, ◌∙◌, inl, inr, arith, length}
+use Rattle.std.proofs.Common.{◌≡◌, ℕ, ◌+◌, ◌*◌, ◌-◌, ◌≤◌, List, [], ◌∷◌, Bool, true, false, not, ◌||◌, ◌&&◌, ◌==◌, min, Some, None, refl, sym, ap, subst, ◌∙◌, inl, inr, arith}
 use Rattle.std.specs.Char.{digit_value}
 use Rattle.std.specs.Str.Parse.{digits_value, digits_value_after}
-use Rattle.std.proofs.lemmas.Bool.{cases_Bool, and_parts}
+use Rattle.std.proofs.lemmas.Bool.{cases_Bool}
 use Rattle.std.proofs.lemmas.Bool.Decides.{leb_tells}
-use Rattle.ic_laws.specs.Scan.{is_digit, past_run, run_of}
+use Rattle.ic_laws.specs.Scan.{is_digit, run_of}
 use Rattle.ic_laws.proofs.AmountLemmas.{digit_value-is, digits_value_after-ge}
 use Rattle.ic_input.specs.Convention.{is_nothing}
 use Rattle.ic_input.specs.Group.{group_at, past_threes, threes}

@@ -1,5 +1,5 @@
 -- A shown number is its parts one after another, and a shown day is one of the calendar.
-use Rattle.std.proofs.Common.{◌≡◌, ℕ, suc, ℤ, pos, negsuc, nat_abs, ◌+◌, ◌-◌, ◌<◌, ◌≤◌, ◌-ℤ◌, ◌<ℤ◌, List, [], ◌++◌, true, refl, sym, ap, ◌∙◌, append_assoc, arith}
+use Rattle.std.proofs.Common.{◌≡◌, ℕ, ℤ, pos, negsuc, nat_abs, ◌<◌, ◌≤◌, ◌-ℤ◌, List, [], ◌++◌, refl, sym, ◌∙◌, append_assoc, arith}
 use lib.Dec.{T}
 use lib.Signed.{non_neg}
 use mir.Val.{Fits}

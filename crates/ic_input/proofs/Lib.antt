@@ -8,6 +8,7 @@ pub mod DayLemmas
 pub mod DigitLemmas
 pub mod FormatLemmas
 pub mod GroupLemmas
+pub mod InputExamples
 pub mod LiteralLemmas
 pub mod LocaleLemmas
 pub mod NumberComplete

@@ -1,18 +1,17 @@
 -- What the conditions on locales say of the signs in numbers.
-use Rattle.std.proofs.Common.{◌≡◌, ℕ, suc, ◌-◌, List, [], ◌∷◌, Bool, true, false, not, ◌&&◌, ◌||◌, ◌==◌, bytes_eq, codes, length, nat_eq, nat_lt, refl, sym, ap, subst, ◌∙◌, inl, inr, arith}
-use Rattle.std.specs.List.{list_all, list_any}
-use Rattle.std.proofs.lemmas.Bool.{and_from, and_parts, cases_Bool, eqb-true, or_parts, true≢false}
+use Rattle.std.proofs.Common.{◌≡◌, ℕ, suc, ◌-◌, List, [], ◌∷◌, Bool, true, false, not, ◌&&◌, ◌||◌, ◌==◌, bytes_eq, codes, length, nat_eq, refl, sym, ap, subst, ◌∙◌, inl, inr, arith}
+use Rattle.std.specs.List.{list_all}
+use Rattle.std.proofs.lemmas.Bool.{and_from, and_parts, cases_Bool, eqb-true, true≢false}
 use Rattle.std.proofs.lemmas.Bool.Decides.{nat_tests}
 use Rattle.std.proofs.lemmas.Slice.Eq.{bytes_eq-Decides}
 use Rattle.ic_laws.specs.Character.{comma, dollar, dot}
-use Rattle.ic_laws.specs.Scan.{is_digit, is_letter}
-use Rattle.ic_tables.specs.Formats.{are_separators, are_up_to, has_group, has_separators, has_symbol, is_symbol, may_group, may_stand_in_symbol, parts_groups}
+use Rattle.ic_laws.specs.Scan.{is_digit}
+use Rattle.ic_tables.specs.Formats.{are_up_to, has_group, has_separators, has_symbol, is_symbol, may_group, may_stand_in_symbol, parts_groups}
 use Rattle.ic_tables.specs.Tables.{HasGoodFormats, TableSet}
 use Rattle.ic_tables.specs.declared.language.Language.{Language}
 use Rattle.ic_tables.specs.declared.locale.Locale.{Locale}
 use Rattle.ic_input.specs.Convention.{decimal_of, euro, first_or, group_of, is_currency, is_dollar_or_euro, is_nothing}
-use Rattle.ic_input.specs.Number.{stands_before}
-use Rattle.ic_input.proofs.RunSteps.{all_weaker, can_stand, not-false}
+use Rattle.ic_input.proofs.RunSteps.{can_stand, not-false}
 
 -- What the signs of a locale are.
 pub record TellsSigns (l : Locale) : Type 0 where

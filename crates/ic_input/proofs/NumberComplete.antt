@@ -1,5 +1,5 @@
 -- What is in the relation of typed numbers the function answers.
-use Rattle.std.proofs.Common.{◌≡◌, ◌≢◌, ℕ, zero, suc, pos, ◌+◌, ◌*◌, ◌-◌, ◌^◌, ◌<◌, ◌≤◌, List, [], ◌∷◌, ◌++◌, Bool, true, false, not, ◌&&◌, ◌||◌, ◌==◌, nat_le, nat_lt, length, Option, Some, None, refl, sym, ap, subst, ap₂, ◌∙◌, append_assoc, append-nil, inl, inr, arith}
+use Rattle.std.proofs.Common.{◌≡◌, ℕ, zero, suc, pos, ◌+◌, ◌*◌, ◌-◌, ◌^◌, ◌<◌, ◌≤◌, List, [], ◌∷◌, ◌++◌, Bool, true, false, not, ◌&&◌, ◌||◌, ◌==◌, nat_le, nat_lt, length, Option, Some, None, refl, sym, ap, subst, ap₂, ◌∙◌, append_assoc, append-nil, inl, inr, arith}
 use Rattle.std.specs.List.{list_all}
 use Rattle.std.specs.Str.{all_ascii_digits}
 use Rattle.std.specs.Str.Parse.{digits_value, digits_value_after}
@@ -10,15 +10,15 @@ use Rattle.ic_laws.specs.Scan.{first_is, is_digit, past_run, run_of}
 use Rattle.ic_laws.proofs.AmountTexts.{run_of-front}
 use Rattle.ic_tables.specs.Formats.{may_stand_in_symbol}
 use Rattle.ic_tables.specs.declared.locale.Locale.{Locale}
-use Rattle.ic_input.specs.Code.{CodeParts, is_percent, stands_beside}
+use Rattle.ic_input.specs.Code.{is_percent, stands_beside}
 use Rattle.ic_input.specs.Convention.{decimal_of, group_of, is_currency, is_nothing, percent}
 use Rattle.ic_input.specs.Group.{in_threes, past_threes, threes}
-use Rattle.ic_input.specs.Number.{IsUnsigned, IsWhole, code_for, decimals_at, fraction_of, fraction_text, from_digits, is_first_group, most_decimals, past_decimals, stands_before, units_if, units_of, unsigned_number, with_code, with_decimals}
+use Rattle.ic_input.specs.Number.{IsUnsigned, IsWhole, code_for, decimals_at, fraction_of, fraction_text, from_digits, is_first_group, most_decimals, past_decimals, stands_before, unsigned_number, with_decimals}
 use Rattle.ic_input.specs.declared.number.Number.{Number}
 use Rattle.ic_input.proofs.LocaleLemmas.{TellsSigns, currency_all, decimal_apart, decimal_cases, decimal_digit, nothing-is}
 use Rattle.ic_input.proofs.NumberLaws.{digits-split, value-append}
 use Rattle.ic_input.proofs.RunSteps.{all_weaker, can_stand, run_until}
-use Rattle.ic_input.proofs.TripleLemmas.{IsTriples, ReadsGroups, Split, groups_read, in_threes-groups, separated, split}
+use Rattle.ic_input.proofs.TripleLemmas.{IsTriples, ReadsGroups, groups_read, in_threes-groups, separated, split}
 
 -- no digit and no decimal separator stands in a symbol
 symbol_before : (l : Locale) (c : ℕ) → may_stand_in_symbol c ≡ true → stands_before (decimal_of l) c ≡ true

@@ -1,25 +1,21 @@
 -- What the function of typed numbers answers is in the relation, and what is in the relation it answers.
-use Rattle.std.proofs.Common.{◌≡◌, ◌≢◌, ℕ, suc, pos, ◌+◌, ◌*◌, ◌-◌, ◌^◌, ◌<◌, ◌≤◌, List, [], ◌∷◌, ◌++◌, Bool, true, false, not, ◌&&◌, ◌||◌, ◌==◌, cond, nat_le, nat_lt, length, Option, Some, None, refl, sym, ap, subst, ◌∙◌, append_assoc, inl, inr, arith}
+use Rattle.std.proofs.Common.{◌≡◌, ℕ, pos, ◌+◌, ◌*◌, ◌-◌, ◌^◌, ◌<◌, ◌≤◌, List, [], ◌∷◌, ◌++◌, Bool, true, not, ◌&&◌, ◌==◌, nat_le, nat_lt, length, Option, Some, None, refl, sym, ap, subst, ◌∙◌, append_assoc, inl, inr, arith}
 use Rattle.std.specs.Char.{digit_value}
-use Rattle.std.specs.List.{list_all}
 use Rattle.std.specs.Str.{all_ascii_digits}
 use Rattle.std.specs.Str.Parse.{digits_value, digits_value_after}
-use Rattle.std.proofs.lemmas.Bool.{and_from, and_parts, and_right, cases_Bool, eqb-true, leb-true, ltb-true, true≢false}
+use Rattle.std.proofs.lemmas.Bool.{and_from, and_parts, cases_Bool, eqb-true, leb-true, ltb-true}
 use Rattle.std.proofs.lemmas.Bool.Decides.{nat_tests}
 use Rattle.std.proofs.lemmas.List.{length-append}
-use Rattle.ic_laws.specs.Scan.{first_is, is_digit, past_run, run_of}
+use Rattle.ic_laws.specs.Scan.{is_digit, past_run, run_of}
 use Rattle.ic_laws.proofs.RunLemmas.{run_and_rest}
-use Rattle.ic_tables.specs.Formats.{may_stand_in_symbol}
 use Rattle.ic_tables.specs.declared.locale.Locale.{Locale}
-use Rattle.ic_input.specs.Code.{CodeParts, is_percent, stands_beside}
-use Rattle.ic_input.specs.Convention.{decimal_of, group_of, is_currency, is_nothing, percent}
-use Rattle.ic_input.specs.Group.{in_threes, past_threes, threes}
-use Rattle.ic_input.specs.Number.{IsUnsigned, IsWhole, code_for, decimals_at, fraction_of, fraction_text, from_digits, is_first_group, most_decimals, past_decimals, stands_before, units_if, units_of, unsigned_number, with_after, with_code, with_decimals, with_groups}
+use Rattle.ic_input.specs.Code.{stands_beside}
+use Rattle.ic_input.specs.Convention.{decimal_of, group_of, is_currency, is_nothing}
+use Rattle.ic_input.specs.Group.{past_threes, threes}
+use Rattle.ic_input.specs.Number.{IsUnsigned, IsWhole, code_for, decimals_at, fraction_of, fraction_text, from_digits, is_first_group, most_decimals, past_decimals, stands_before, units_if, unsigned_number, with_after, with_code, with_groups}
 use Rattle.ic_input.specs.declared.number.Number.{Number}
-use Rattle.ic_input.proofs.LocaleLemmas.{TellsSigns, currency_all, decimal_apart, decimal_digit, nothing-is}
 use Rattle.ic_input.proofs.NumberSteps.{decimals-digits, run-digits}
-use Rattle.ic_input.proofs.RunSteps.{all_weaker, can_stand, run_until}
-use Rattle.ic_input.proofs.TripleLemmas.{IsTriples, ReadsGroups, Split, are_triples, groups_read, in_threes-groups, separated, split}
+use Rattle.ic_input.proofs.TripleLemmas.{IsTriples, are_triples, in_threes-groups, separated}
 
 -- digits of two lists
 pub digits-append : (a b : List ℕ) → all_ascii_digits a ≡ true → all_ascii_digits b ≡ true → all_ascii_digits (a ++ b) ≡ true

@@ -1,5 +1,5 @@
 -- A number is taken apart from left to right, and what is too large is counted as one number.
-use Rattle.std.proofs.Common.{◌≡◌, ◌≢◌, ℕ, zero, suc, ◌+◌, ◌*◌, ◌-◌, ◌^◌, ◌<◌, ◌≤◌, List, [], ◌∷◌, Bool, true, false, not, ◌&&◌, ◌||◌, ◌==◌, ◌⊎◌, cond, min, nat_le, nat_lt, length, chars, Option, Some, None, refl, sym, ap, subst, ◌∙◌, inl, inr, arith}
+use Rattle.std.proofs.Common.{◌≡◌, ℕ, ◌+◌, ◌*◌, ◌-◌, ◌^◌, ◌<◌, ◌≤◌, List, [], ◌∷◌, Bool, true, false, not, ◌&&◌, ◌||◌, ◌==◌, cond, min, nat_le, nat_lt, length, chars, None, refl, sym, ap, ◌∙◌, inl, inr, arith}
 use Rattle.std.specs.Str.{all_ascii_digits}
 use Rattle.std.specs.Str.Parse.{digits_value, digits_value_after}
 use Rattle.std.proofs.lemmas.Bool.{cases_Bool, and_right}
@@ -15,7 +15,6 @@ use Rattle.ic_input.specs.Group.{past_threes, threes}
 use Rattle.ic_input.specs.Number.{decimals_at, from_digits, is_first_group, most_decimals, past_decimals, stands_before, units_if, unsigned_number, with_after, with_code, code_for}
 use Rattle.ic_input.specs.declared.digits.Digits.{Digits}
 use Rattle.ic_input.specs.declared.digits.Groups.{Groups}
-use Rattle.ic_input.specs.declared.number.Number.{Number}
 use Rattle.ic_input.proofs.DigitLemmas.{capped, within-is}
 
 -- a run of digits has digits alone

@@ -1,13 +1,10 @@
 -- What the function of typed texts answers is in the relation, and what is in the relation it answers.
-use Rattle.std.proofs.Common.{◌≡◌, ◌≢◌, ◌↔◌, ℕ, zero, suc, ℤ, pos, ◌<◌, ◌≤◌, List, [], ◌∷◌, Bool, true, false, not, ◌||◌, ◌==◌, ◌⊎◌, bytes_eq, length, Option, Some, None, cond, option_map, refl, sym, ap, ap₂, subst, ◌∙◌, inl, inr, arith}
+use Rattle.std.proofs.Common.{◌≡◌, ◌≢◌, ◌↔◌, ℕ, zero, suc, ℤ, ◌<◌, List, [], ◌∷◌, Bool, true, false, ◌==◌, ◌⊎◌, length, Option, Some, None, option_map, refl, sym, ap, ap₂, subst, ◌∙◌, inl, inr, arith}
 use Rattle.std.specs.Option.{option_or}
-use Rattle.std.specs.List.{slice_get}
-use Rattle.std.proofs.lemmas.Bool.{cases_Bool, eq-eqb, eqb-true, or_parts, true≢false}
-use Rattle.std.proofs.lemmas.Bool.Decides.{nat_tests}
+use Rattle.std.proofs.lemmas.Bool.{cases_Bool, eq-eqb, eqb-true, true≢false}
 use Rattle.ic_laws.specs.Character.{equals, minus, quote}
 use Rattle.ic_laws.specs.Dialect.{boolean_number, error_number}
 use Rattle.ic_laws.specs.Name.{agrees}
-use Rattle.ic_laws.specs.Scan.{first_is, is_digit}
 use Rattle.ic_laws.specs.declared.tree.Error.{Error}
 use Rattle.ic_laws.specs.declared.tree.Error.TheVariants as errors
 use Rattle.ic_tables.specs.Words.{boolean_words, error_words, first_agreeing}
@@ -17,7 +14,7 @@ use Rattle.ic_input.specs.Code.{code_text}
 use Rattle.ic_input.specs.Convention.{is_nothing, is_sign, plus, short_date}
 use Rattle.ic_input.specs.Date.{IsTypedDate, iso_date, iso_number, short_number}
 use Rattle.ic_input.specs.Number.{IsUnsigned, unsigned_number}
-use Rattle.ic_input.specs.Typed.{IsBare, IsFormula, IsNoNumber, IsNumber, IsTyped, Writes, amount_of_day, as_boolean, as_date, as_error, as_number, as_short_date, as_signed, as_unsigned, as_word, boolean_word, error_at, error_in, error_word, opposite, same, sign_of, typed, typed_from, typed_unsigned, word_of}
+use Rattle.ic_input.specs.Typed.{IsBare, IsFormula, IsNoNumber, IsNumber, IsTyped, amount_of_day, as_boolean, as_date, as_error, as_short_date, as_signed, as_unsigned, as_word, boolean_word, error_at, error_in, error_word, formula_of, sign_of, typed, typed_from, typed_unsigned, unless_number, word_of}
 use Rattle.ic_input.specs.declared.input.Typed.{Typed}
 use Rattle.ic_input.specs.declared.input.Typed.TheVariants as kinds
 use Rattle.ic_input.specs.declared.number.Number.{Number}
@@ -351,3 +348,42 @@ typed_exactly l tells language english text t =
 -- a number is typed as it
 pub number_is_typed : (l : Locale) → TellsTexts l → (language english : Language) (text : List ℕ) (v : ℤ) (code : Option (List ℕ)) → IsNumber l text v code → typed l language english text ≡ kinds.Number v code
 number_is_typed l tells language english text v code h = number_typed l tells language english text v code h
+
+-- a text has a formula exactly where the function answers it
+formula_sound : (l : Locale) → TellsTexts l → (text formula : List ℕ) → formula_of l text ≡ Some formula → IsFormula l text formula
+unfolding formula_of
+formula_sound l tells [] formula h = absurd (cc)
+formula_sound l tells (c ∷ rest) formula h =
+    elim (cases_Bool (is_nothing rest)) [
+      | inl n ↦ let none : None ≡ Some formula = rw n at h in absurd (cc)
+      | inr n ↦ elim (cases_Bool (c == equals)) [
+        | inl e ↦
+            let some : Some rest ≡ Some formula = rw (n, e) at h in
+            let same : rest ≡ formula = cc in
+            inl (rw (eqb-true c equals e, same) refl, subst (λ r. r ≢ []) same (nothing_not rest n))
+        | inr e ↦ elim (cases_Bool (is_sign c)) [
+          | inr s ↦ let none : None ≡ Some formula = rw (n, e, s) at h in absurd (cc)
+          | inl s ↦ signed n s (unsigned_number l rest) refl (rw (n, e, s) at h)
+        ]
+      ]
+    ]
+  where
+    signed : is_nothing rest ≡ false → is_sign c ≡ true → (o : Option Number) → unsigned_number l rest ≡ o → unless_number (c ∷ rest) o ≡ Some formula → IsFormula l (c ∷ rest) formula
+    signed n s None u k = let same : c ∷ rest ≡ formula = cc in inr (same, (c, (rest, (refl, s, nothing_not rest n, no_unsigned l tells rest u))))
+    signed n s (Some m) u k = absurd (cc)
+
+formula_complete : (l : Locale) (text formula : List ℕ) → IsFormula l text formula → formula_of l text ≡ Some formula
+unfolding formula_of
+formula_complete l text formula (inl h) = rw (h.0, something formula h.1) refl
+formula_complete l text formula (inr h) =
+    let c = h.1.0 in
+    let rest = h.1.1.0 in
+    let s = h.1.1.1.1 in
+    let e : (c == equals) ≡ false = elim (sign_cases c s) [ inl z ↦ rw z refl | inr z ↦ rw z refl ] in
+    ap (formula_of l) h.1.1.1.0 ∙ signed c rest (something rest h.1.1.1.2) e s (none_unsigned l rest h.1.1.1.3) ∙ ap Some (sym h.1.1.1.0 ∙ h.0)
+  where
+    signed : (c : ℕ) (rest : List ℕ) → is_nothing rest ≡ false → (c == equals) ≡ false → is_sign c ≡ true → unsigned_number l rest ≡ None → formula_of l (c ∷ rest) ≡ Some (c ∷ rest)
+    signed c rest n e s u = rw (n, e, s, u) refl
+
+pub formula_exactly : (l : Locale) → TellsTexts l → (text formula : List ℕ) → IsFormula l text formula ↔ (formula_of l text ≡ Some formula)
+formula_exactly l tells text formula = (formula_complete l text formula, formula_sound l tells text formula)

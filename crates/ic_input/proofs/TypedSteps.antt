@@ -1,25 +1,24 @@
 -- Which texts are no numbers: what begins with a mark, and dates.
-use Rattle.std.proofs.Common.{◌≡◌, ◌≢◌, ℕ, suc, ℤ, pos, ◌+◌, ◌<◌, ◌≤◌, List, [], ◌∷◌, ◌++◌, Bool, true, false, not, ◌&&◌, ◌||◌, ◌==◌, ◌⊎◌, bytes_eq, codes, length, Option, Some, None, refl, sym, ap, subst, ◌∙◌, inl, inr, arith}
+use Rattle.std.proofs.Common.{◌≡◌, ℕ, ◌≤◌, List, [], ◌∷◌, ◌++◌, Bool, true, false, ◌&&◌, ◌==◌, ◌⊎◌, bytes_eq, codes, length, None, refl, sym, ◌∙◌, inl, inr, arith}
 use Rattle.std.specs.List.{list_all}
 use Rattle.std.specs.Str.{all_ascii_digits}
-use Rattle.std.proofs.lemmas.Bool.{and_from, and_parts, and_right, cases_Bool, true≢false}
-use Rattle.std.proofs.lemmas.Bool.Decides.{nat_tests}
+use Rattle.std.proofs.lemmas.Bool.{and_parts, and_right, cases_Bool, true≢false}
 use Rattle.std.proofs.lemmas.Slice.Eq.{bytes_eq-Decides}
 use Rattle.ic_laws.specs.Character.{equals, minus, quote}
-use Rattle.ic_laws.specs.Scan.{first_is, is_digit, past_run, run_of}
+use Rattle.ic_laws.specs.Scan.{first_is, is_digit}
 use Rattle.ic_laws.proofs.AmountTexts.{run_of-front}
 use Rattle.ic_tables.specs.Formats.{has_dates, is_american_date, is_short_date, may_stand_in_symbol}
 use Rattle.ic_tables.specs.Tables.{HasGoodFormats, TableSet}
 use Rattle.ic_tables.specs.declared.locale.Locale.{Locale}
-use Rattle.ic_input.specs.Code.{is_percent, stands_beside}
-use Rattle.ic_input.specs.Convention.{decimal_of, group_of, is_currency, is_nothing, is_sign, plus, short_date, slash}
-use Rattle.ic_input.specs.Date.{IsTypedDate, iso_date, joined, laid_out}
+use Rattle.ic_input.specs.Code.{stands_beside}
+use Rattle.ic_input.specs.Convention.{decimal_of, group_of, is_currency, is_nothing, plus, short_date, slash}
+use Rattle.ic_input.specs.Date.{IsTypedDate, iso_date, joined}
 use Rattle.ic_input.specs.Group.{past_threes, threes}
-use Rattle.ic_input.specs.Number.{IsUnsigned, decimals_at, fraction_of, fraction_text, past_decimals, stands_before, from_digits, unsigned_number}
+use Rattle.ic_input.specs.Number.{IsUnsigned, fraction_text, stands_before, from_digits, unsigned_number}
 use Rattle.ic_input.specs.declared.number.Number.{Number}
-use Rattle.ic_input.proofs.LocaleLemmas.{TellsSigns, currency_all, decimal_cases, decimal_digit, tells_signs}
+use Rattle.ic_input.proofs.LocaleLemmas.{TellsSigns, currency_all, decimal_cases, tells_signs}
 use Rattle.ic_input.proofs.NumberComplete.{body_first, unsigned_complete}
-use Rattle.ic_input.proofs.NumberLaws.{digits-split, unsigned_sound}
+use Rattle.ic_input.proofs.NumberLaws.{digits-split}
 use Rattle.ic_input.proofs.RunSteps.{can_stand, run_until}
 
 -- What a locale of tables tells of typed texts.

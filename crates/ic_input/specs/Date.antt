@@ -1,9 +1,9 @@
 -- Dates: their day numbers, how they are typed and how they are shown. Day 1 is 31 December 1899.
-use Rattle.std.specs.Prelude.{◌≡◌, ℕ, zero, suc, ℤ, pos, negsuc, ◌+◌, ◌-◌, ◌/◌, ◌%◌, ◌-ℤ◌, ◌<◌, ◌≤◌, List, [], ◌∷◌, ◌++◌, Bool, true, false, ◌&&◌, ◌⊎◌, ◌==◌, nat_le, nat_lt, length, codes, bytes_eq, Option, Some, None, if◌then◌else◌}
+use Rattle.std.specs.Prelude.{◌≡◌, ℕ, ℤ, pos, negsuc, ◌+◌, ◌/◌, ◌%◌, ◌-ℤ◌, ◌<◌, ◌≤◌, List, [], ◌∷◌, ◌++◌, Bool, true, false, ◌&&◌, ◌⊎◌, ◌==◌, nat_le, length, codes, bytes_eq, Option, Some, None, if◌then◌else◌}
 use Rattle.std.specs.Fmt.{decimal}
 use Rattle.std.specs.Str.{all_ascii_digits}
 use Rattle.std.specs.Str.Parse.{digits_value}
-use Rattle.jiff_core.specs.Calendar.{days_from_civil, days_in_month, days_in_year}
+use Rattle.jiff_core.specs.Calendar.{days_from_civil, days_in_month}
 use Rattle.ic_laws.specs.AmountFront.{past_some, some_digits}
 use Rattle.ic_laws.specs.Character.{digit_zero, minus}
 use Rattle.ic_laws.specs.Scan.{first_is, is_digit}

@@ -1,10 +1,10 @@
 -- How an amount is shown by a format code.
-use Rattle.std.specs.Prelude.{◌≡◌, ◌≢◌, ℕ, suc, ℤ, pos, negsuc, nat_abs, ◌+◌, ◌*◌, ◌-◌, ◌/◌, ◌%◌, ◌^◌, ◌≤◌, List, [], ◌∷◌, ◌++◌, Bool, true, false, ◌&&◌, ◌||◌, ◌⊎◌, ◌==◌, nat_lt, Option, Some, None, if◌then◌else◌}
+use Rattle.std.specs.Prelude.{◌≡◌, ℕ, ℤ, pos, negsuc, nat_abs, ◌+◌, ◌*◌, ◌-◌, ◌/◌, ◌%◌, ◌^◌, ◌≤◌, List, [], ◌∷◌, ◌++◌, Bool, true, false, ◌⊎◌, ◌==◌, if◌then◌else◌}
 use Rattle.std.specs.Fmt.{decimal}
 use Rattle.ic_laws.specs.Amount.{amount_text, units_of_one}
 use Rattle.ic_laws.specs.Character.{minus}
 use Rattle.ic_tables.specs.declared.locale.Locale.{Locale}
-use Rattle.ic_input.specs.Code.{CodeParts, IsNumberCode, is_date_code, is_percent, number_code}
+use Rattle.ic_input.specs.Code.{CodeParts, IsNumberCode, is_date_code, is_percent}
 use Rattle.ic_input.specs.Convention.{decimal_of, group_of}
 use Rattle.ic_input.specs.Date.{IsShownDay, last_day, two_digits}
 use Rattle.ic_input.specs.Group.{in_threes}

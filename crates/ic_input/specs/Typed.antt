@@ -11,7 +11,7 @@ use Rattle.ic_laws.specs.declared.tree.Error.TheVariants as errors
 use Rattle.ic_tables.specs.Words.{boolean_words, error_words, first_agreeing}
 use Rattle.ic_tables.specs.declared.language.Language.{Language}
 use Rattle.ic_tables.specs.declared.locale.Locale.{Locale}
-use Rattle.ic_input.specs.Code.{CodeParts, code_text}
+use Rattle.ic_input.specs.Code.{code_text}
 use Rattle.ic_input.specs.Convention.{is_nothing, is_sign, plus, short_date}
 use Rattle.ic_input.specs.Date.{IsTypedDate, iso_date, iso_number, short_number}
 use Rattle.ic_input.specs.Number.{IsUnsigned, unsigned_number}
@@ -143,6 +143,20 @@ typed_from l language english c rest =
 unfoldable pub typed : Locale → Language → Language → List ℕ → Typed
 typed l language english [] = kinds.Empty
 typed l language english (c ∷ rest) = if c == quote then kinds.Quoted rest else typed_from l language english c rest
+
+-- the formula of a typed text, as a function
+abbrev pub unless_number : List ℕ → Option Number → Option (List ℕ)
+unless_number text None = Some text
+unless_number text (Some n) = None
+
+abbrev pub formula_from : Locale → ℕ → List ℕ → Option (List ℕ)
+formula_from l c rest =
+    if is_nothing rest then None
+    else (if c == equals then Some rest else (if is_sign c then unless_number (c ∷ rest) (unsigned_number l rest) else None))
+
+unfoldable pub formula_of : Locale → List ℕ → Option (List ℕ)
+formula_of l [] = None
+formula_of l (c ∷ rest) = formula_from l c rest
 
 -- A text has to be typed after a quote to stay a text: it begins with `=` or a sign, or is typed as something else.
 abbrev pub is_text : Typed → Bool

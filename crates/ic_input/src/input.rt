@@ -1,13 +1,16 @@
-ghost use Rattle.std.specs.Prelude.{◌≡◌, ◌↔◌, ◌==◌, chars, option_map, IfOk, IsOk};
+ghost use Rattle.std.specs.Prelude.{◌≡◌, ◌↔◌, ◌==◌, ◌∷◌, List, ℕ, Some, chars, option_map, IfOk, IsOk};
 ghost use Rattle.ic_laws.specs.Scan.{first_is};
 ghost use Rattle.ic_tables.specs.Tables.{HasGoodFormats, TableSet};
 ghost use Rattle.ic_input.specs.Code.{code_text};
 ghost use Rattle.ic_input.specs.declared.input.Typed.TheVariants as kinds;
-ghost use Rattle.ic_input.specs.Typed.{IsTyped, begins_formula, needs_quoting, typed, typed_as};
+ghost use Rattle.ic_input.specs.Number.{unsigned_number};
+ghost use Rattle.ic_input.specs.Typed.{IsFormula, IsTyped, begins_formula, formula_from, formula_of, needs_quoting, unless_number, typed, typed_as};
 ghost use Rattle.ic_input.specs.declared.input.Typed.{Typed};
 
 use crate::code::{NumberCode, push_code};
+use crate::convention::is_nothing;
 use crate::kind::{Kind, kind_of};
+use crate::number::unsigned_number;
 use ic_laws::scan::first_char;
 use ic_laws::{Amount, Error, OutOfMemory, Text};
 use ic_tables::{Language, Locale};
@@ -90,6 +93,45 @@ fn code_text(alloc: Global, code: &NumberCode<'_>) -> Result<Text, OutOfMemory>
     let mut text = String::new(alloc);
     push_code(&mut text, code)?;
     Ok(Text::from(text))
+}
+
+/// The formula of a typed text: what stands after `=`, if anything does; or the whole text, where a sign begins it and
+/// something follows that is no number. None exactly where it has none. It is what `classify` answers of a formula.
+#[tactic(auto, unfolding(crate::specs::Typed::formula_of))]
+pub fn formula_without_prefix<'t>(text: &'t str, locale: &Locale) -> Option<&'t str>
+    ensures exact { option_map (λ f. chars f.now) result ≡ formula_of locale.now (chars text.entry.now) }
+
+    // By a locale of tables it is the formula of the text, and nothing else is.
+    ensures formula { (tables : TableSet) (f : List ℕ) → HasGoodFormats tables locale.now → IsFormula locale.now (chars text.entry.now) f ↔ (formula_of locale.now (chars text.entry.now) ≡ Some f) }
+{
+    let (c, rest) = first_char(text)?;
+    formula_from(text, c, rest, locale)
+}
+
+// The same by the first character and what stands after it.
+fn formula_from<'t>(text: &'t str, c: char, rest: &'t str, locale: &Locale) -> Option<&'t str>
+    requires { chars text.now ≡ c ∷ chars rest.now }
+    ensures { option_map (λ f. chars f.now) result ≡ formula_from locale.now c (chars rest.entry.now) }
+{
+    if is_nothing(rest) {
+        None
+    } else if c == '=' {
+        Some(rest)
+    } else if c == '+' || c == '-' {
+        unless_number(text, rest, locale)
+    } else {
+        None
+    }
+}
+
+// A text that a sign begins, unless what follows is a number.
+fn unless_number<'t>(text: &'t str, rest: &str, locale: &Locale) -> Option<&'t str>
+    ensures { option_map (λ f. chars f.now) result ≡ unless_number (chars text.entry.now) (unsigned_number locale.now (chars rest.now)) }
+{
+    match unsigned_number(rest, locale) {
+        Some(_) => None,
+        None => Some(text),
+    }
 }
 
 /// Whether a text has to be typed after a quote to stay a text: whether it begins with `=`, `+` or `-`, or is typed as

@@ -1,4 +1,4 @@
-use Rattle.std.proofs.Common.{◌≡◌, ◌∙◌, chars}
+use Rattle.std.proofs.Common.{◌∙◌, chars}
 use Rattle.ic_laws.proofs.RunLemmas.{ends_with_rest, run_before_rest}
 use Rattle.ic_input.specs.Code.{is_no_hash}
 use Rattle.ic_input.proofs.CodeSteps.{no_digits, with_decimals, without_decimals}

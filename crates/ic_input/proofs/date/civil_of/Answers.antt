@@ -1,11 +1,9 @@
-use Rattle.std.proofs.Common.{◌≡◌, ◌∙◌, ◌-ℤ◌, ℕ, ℤ, pos, nat_abs, ap, sym, w16, w64, FitsSigned, arith}
+use Rattle.std.proofs.Common.{◌∙◌, ◌-ℤ◌, pos, ap, w16, w64, FitsSigned, arith}
 use Rattle.std.proofs.lemmas.Int.{to_z-of_z}
 use mir.Val.{to_z, of_z}
-use Rattle.jiff_core.specs.Calendar.{days_from_civil}
 use Rattle.jiff_core.proofs.DateLemmas.{civil}
 use Rattle.jiff_core.proofs.SignedLemmas.{signed_arith}
-use Rattle.ic_input.specs.Date.{IsDay}
-use Rattle.ic_input.proofs.FormatLemmas.{IsNumbered, numbered, year_fits}
+use Rattle.ic_input.proofs.FormatLemmas.{numbered, year_fits}
 use Rattle.ic_input.proofs.date.civil_of.Goals as goal
 
 pub overflow_cast-result : goal.overflow_cast-result

@@ -1,9 +1,8 @@
-use Rattle.std.proofs.Common.{◌≡◌, ◌∙◌, ◌≤◌, ◌+ℤ◌, ℕ, ℤ, pos, true, false, ap, sym, w8, w16, w32, FitsSigned, refl, arith}
+use Rattle.std.proofs.Common.{◌≡◌, ◌∙◌, ◌+ℤ◌, pos, true, false, ap, w8, w16, w32, FitsSigned, refl, arith}
 use Rattle.std.proofs.lemmas.Int.{to_z-of_z, to_z_pos}
 use mir.Val.{to_z}
 use Rattle.jiff_core.specs.Calendar.{IsDate, days_from_civil}
 use Rattle.jiff_core.proofs.SignedLemmas.{signed_arith}
-use Rattle.ic_input.specs.Date.{in_range, is_day}
 use Rattle.ic_input.proofs.DateSteps.{date-of_day, day-of_date, day_found, no_day, past_day}
 use Rattle.ic_input.proofs.date.day_of.Goals as goal
 

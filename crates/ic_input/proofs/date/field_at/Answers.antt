@@ -1,6 +1,5 @@
-use Rattle.std.proofs.Common.{◌≡◌, ◌∙◌, ◌^◌, ◌-◌, ◌+◌, ◌*◌, ◌<◌, ◌≤◌, suc, chars, length, rules, ap, sym, arith}
+use Rattle.std.proofs.Common.{◌≡◌, ◌∙◌, ◌-◌, ◌<◌, suc, chars, rules, arith}
 use Rattle.std.proofs.Math.Nat.{pow-suc}
-use Rattle.ic_laws.specs.AmountFront.{past_some, some_digits}
 use Rattle.ic_input.proofs.DateSteps.{one_digit}
 use Rattle.ic_input.proofs.date.field_at.Goals as goal
 

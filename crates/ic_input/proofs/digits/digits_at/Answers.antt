@@ -1,4 +1,4 @@
-use Rattle.std.proofs.Common.{◌≡◌, ◌∙◌, ◌^◌, true, chars, rules, ap, arith, min, ◌*◌, ◌+◌, ◌-◌}
+use Rattle.std.proofs.Common.{◌≡◌, ◌∙◌, ◌^◌, true, chars, rules, ap, arith, min}
 use Rattle.std.specs.Str.Parse.{digits_value_after}
 use Rattle.ic_laws.specs.Scan.{is_digit, run_of}
 use Rattle.ic_input.proofs.DigitLemmas.{digit_more}

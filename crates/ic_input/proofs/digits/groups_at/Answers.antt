@@ -1,7 +1,7 @@
-use Rattle.std.proofs.Common.{◌≡◌, ◌∙◌, ◌^◌, ◌+◌, ◌*◌, ◌||◌, Bool, not, true, false, chars, rules, ap, sym, rules, arith, min, refl}
+use Rattle.std.proofs.Common.{◌∙◌, ◌^◌, ◌+◌, ◌*◌, chars, rules, ap, sym, rules, arith, min}
 use Rattle.std.specs.Str.Parse.{digits_value_after}
 use Rattle.ic_input.specs.Convention.{is_nothing}
-use Rattle.ic_input.specs.Group.{past_threes, threes}
+use Rattle.ic_input.specs.Group.{threes}
 use Rattle.ic_input.proofs.DigitLemmas.{capped, group_missing, group_taken, or-false, or-true, within-is}
 use Rattle.ic_input.proofs.digits.groups_at.Goals as goal
 

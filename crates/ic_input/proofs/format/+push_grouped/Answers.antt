@@ -1,4 +1,4 @@
-use Rattle.std.proofs.Common.{◌≡◌, chars, string_bytes, arith}
+use Rattle.std.proofs.Common.{arith}
 use Rattle.ic_input.proofs.GroupLemmas.{grouped_more, small_grouped}
 use Rattle.ic_input.proofs.format.+push_grouped.Goals as goal
 

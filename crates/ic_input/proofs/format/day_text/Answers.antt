@@ -1,4 +1,4 @@
-use Rattle.std.proofs.Common.{◌≡◌, ◌∙◌, ◌++◌, chars, ap}
+use Rattle.std.proofs.Common.{◌∙◌, ◌++◌, chars, ap}
 use Rattle.std.proofs.lemmas.Str.{chars-nil}
 use Rattle.ic_input.specs.Date.{date_text}
 use Rattle.ic_input.proofs.format.day_text.Goals as goal

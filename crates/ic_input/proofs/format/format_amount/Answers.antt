@@ -1,4 +1,4 @@
-use Rattle.std.proofs.Common.{◌≡◌, chars, string_bytes}
+use Rattle.std.proofs.Common.{chars, string_bytes}
 use Rattle.std.proofs.lemmas.Result.{IfOk-weaker}
 use Rattle.ic_input.proofs.DayLemmas.{formatted_once}
 use Rattle.ic_input.proofs.format.format_amount.Goals as goal

@@ -1,8 +1,8 @@
-use Rattle.std.proofs.Common.{◌≡◌, ◌∙◌, chars, ap, sym, inl, inr}
+use Rattle.std.proofs.Common.{◌∙◌, chars, ap, sym, inl, inr}
 use Rattle.std.specs.Int.{w128}
 use Rattle.std.proofs.lemmas.Result.{IfOk-weaker}
 use Rattle.std.proofs.lemmas.Int.{to_z-of_z}
-use mir.Val.{SFits, to_z, of_z}
+use mir.Val.{SFits}
 use Rattle.ic_input.specs.Formatted.{number_text}
 use Rattle.ic_input.proofs.CodeLaws.{code_none, code_sound}
 use Rattle.ic_input.proofs.format.formatted.Goals as goal

@@ -1,8 +1,8 @@
-use Rattle.std.proofs.Common.{◌≡◌, ◌∙◌, chars, ap, nat_abs}
+use Rattle.std.proofs.Common.{◌∙◌, chars, ap}
 use Rattle.std.specs.Int.{w128}
 use Rattle.std.proofs.lemmas.Int.{to_z-of_z}
 use Rattle.std.proofs.lemmas.Str.{chars-nil}
-use mir.Val.{SFits, to_z, of_z}
+use mir.Val.{SFits}
 use Rattle.ic_input.specs.Formatted.{nearest, step_of}
 use Rattle.ic_input.proofs.FormatLemmas.{shown_whole}
 use Rattle.ic_input.proofs.format.number_text.Goals as goal

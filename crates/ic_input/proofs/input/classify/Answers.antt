@@ -1,7 +1,6 @@
 use Rattle.std.proofs.Common.{◌≡◌, ◌∙◌, chars, sym}
 use Rattle.std.proofs.lemmas.Result.{IfOk-weaker}
 use Rattle.ic_input.specs.Typed.{typed, typed_as}
-use Rattle.ic_input.specs.declared.input.Typed.{Typed}
 use Rattle.ic_input.proofs.TypedLaws.{typed_exactly}
 use Rattle.ic_input.proofs.TypedSteps.{tells_texts}
 use Rattle.ic_input.proofs.input.classify.Goals as goal

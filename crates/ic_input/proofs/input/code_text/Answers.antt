@@ -1,4 +1,4 @@
-use Rattle.std.proofs.Common.{◌≡◌, ◌∙◌, ◌++◌, chars, ap}
+use Rattle.std.proofs.Common.{◌∙◌, ◌++◌, chars, ap}
 use Rattle.std.proofs.lemmas.Str.{chars-nil}
 use Rattle.ic_input.specs.Code.{code_text}
 use Rattle.ic_input.proofs.input.code_text.Goals as goal

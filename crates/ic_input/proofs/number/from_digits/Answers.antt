@@ -1,9 +1,5 @@
-use Rattle.std.proofs.Common.{◌≡◌, ◌∙◌, ◌^◌, chars, true, false, Bool, List, ℕ, sym, ap, min, not, length}
-use Rattle.std.specs.Str.Parse.{digits_value_after}
-use Rattle.ic_input.specs.Convention.{decimal_of, is_nothing}
-use Rattle.ic_input.specs.Group.{past_threes, threes}
-use Rattle.ic_input.specs.Number.{decimals_at, is_first_group, past_decimals}
-use Rattle.ic_input.proofs.NumberSteps.{assembled, decimals_is, fits-groups, first_in, groups_in, groups_is, refused, rest_in}
+use Rattle.std.proofs.Common.{◌∙◌, chars, true, false, sym}
+use Rattle.ic_input.proofs.NumberSteps.{assembled, decimals_is, fits-groups, groups_is, refused}
 use Rattle.ic_input.proofs.number.from_digits.Goals as goal
 
 pub returns-then-not-may_stand_before_groups : goal.returns-then-not-may_stand_before_groups

@@ -1,6 +1,5 @@
-use Rattle.std.proofs.Common.{◌≡◌, ◌∙◌, chars}
+use Rattle.std.proofs.Common.{◌∙◌, chars}
 use Rattle.ic_laws.proofs.RunLemmas.{ends_with_rest, run_before_rest}
-use Rattle.ic_input.specs.Convention.{decimal_of}
 use Rattle.ic_input.specs.Number.{stands_before}
 use Rattle.ic_input.proofs.NumberSteps.{from_start}
 use Rattle.ic_input.proofs.number.unsigned_number.Goals as goal
