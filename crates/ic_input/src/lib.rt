@@ -3,7 +3,9 @@
 //!
 //! `specs/Typed` says what a text is typed as, by cases over whole texts, and the same as a function that goes over the
 //! text once; `classify` carries both. `specs/Number` has numbers, `specs/Date` dates and their day numbers (by `jiff`),
-//! `specs/Code` format codes, `specs/Formatted` what is shown by them, `specs/Group` digits in threes.
+//! `specs/Code` format codes, `specs/Formatted` what is shown by them (a relation, and `format_amount` says that no other
+//! text is in it), `specs/Group` digits in threes, by which numbers are read and shown. The laws say that what is shown of
+//! an amount or of a day is typed as it. That a locale is one of tables is a premise of the clauses that need it.
 #![tactic(auto)]
 
 mod amount;
