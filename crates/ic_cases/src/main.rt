@@ -13,6 +13,7 @@ mod broken;
 mod errors;
 mod fault;
 mod formulas;
+mod inputs;
 mod lookups;
 mod names;
 mod places;
@@ -60,7 +61,8 @@ fn call(
             || scans::call(alloc, name, words, out)?
             || broken::call(alloc, name, words, out)?
             || scenes::call(alloc, tables, name, words, out)?
-            || errors::call(alloc, name, words, out)?,
+            || errors::call(alloc, name, words, out)?
+            || inputs::call(alloc, tables, name, words, out)?,
     )
 }
 

@@ -1,0 +1,20 @@
+ghost use Rattle.std.specs.Prelude.{◌≡◌, ◌⊎◌, ℕ, ℤ, List, true, Some, None};
+ghost use Rattle.ic_laws.specs.Amount.{amount_text, is_amount};
+ghost use Rattle.ic_tables.specs.Tables.{HasGoodFormats, TableSet};
+ghost use Rattle.ic_tables.specs.declared.language.Language.{Language};
+ghost use Rattle.ic_tables.specs.declared.locale.Locale.{Locale};
+ghost use Rattle.ic_input.specs.Convention.{decimal_of, short_date};
+ghost use Rattle.ic_input.specs.Date.{IsShownDay, iso_date};
+ghost use Rattle.ic_input.specs.Typed.{amount_of_day, typed};
+ghost use Rattle.ic_input.specs.declared.input.Typed.TheVariants as kinds;
+
+/// An amount's text, by the decimal separator of a locale of tables, is typed there as that amount, in any language.
+pub fn law_amount_typed_again()
+    ensures { (tables : TableSet) (l : Locale) (language english : Language) (v : ℤ) → HasGoodFormats tables l → is_amount v ≡ true → typed l language english (amount_text (decimal_of l) v) ≡ kinds.Number v None }
+{}
+
+/// What is shown of a day by `yyyy-mm-dd`, or by the code of the short dates of a locale of tables, is typed there as that
+/// day with that code, in any language.
+pub fn law_date_typed_again()
+    ensures { (tables : TableSet) (l : Locale) (language english : Language) (code text : List ℕ) (n : ℕ) → HasGoodFormats tables l → (code ≡ iso_date) ⊎ (code ≡ short_date l) → IsShownDay code n text → typed l language english text ≡ kinds.Number (amount_of_day n) (Some code) }
+{}

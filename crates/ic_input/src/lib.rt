@@ -1,0 +1,27 @@
+//! What a user types and what it becomes: amounts, numbers with groups, currencies and percent signs, dates, booleans,
+//! errors and formulas, by a locale and a language; and how an amount is shown by a format code.
+//!
+//! `specs/Typed` says what a text is typed as, by cases over whole texts, and the same as a function that goes over the
+//! text once; `classify` carries both. `specs/Number` has numbers, `specs/Date` dates and their day numbers (by `jiff`),
+//! `specs/Code` format codes, `specs/Formatted` what is shown by them (a relation, and `format_amount` says that no other
+//! text is in it), `specs/Group` digits in threes, by which numbers are read and shown. The laws say that what is shown of
+//! an amount or of a day is typed as it. That a locale is one of tables is a premise of the clauses that need it.
+#![tactic(auto)]
+
+mod amount;
+mod code;
+mod convention;
+mod date;
+mod digits;
+mod format;
+mod input;
+mod kind;
+mod law;
+mod number;
+mod push;
+
+pub use amount::{amount_text, read_amount};
+pub use code::is_date_code;
+pub use format::format_amount;
+pub use input::{Typed, classify, formula_without_prefix, value_needs_quoting};
+pub use law::{law_amount_typed_again, law_date_typed_again};
