@@ -1,0 +1,3 @@
+mod IndexLemmas
+mod Literals
+pub mod StyleLemmas
