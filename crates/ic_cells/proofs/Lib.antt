@@ -1,3 +1,4 @@
 mod IndexLemmas
 mod Literals
+mod MapLemmas
 pub mod StyleLemmas

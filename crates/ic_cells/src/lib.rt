@@ -9,12 +9,23 @@
 
 mod cell;
 mod key;
+mod layout;
 mod lent;
+mod maps;
+mod sheet;
 mod style;
 mod styles;
 mod value;
+mod workbook;
 
 pub use cell::{ArrayKind, Cell};
+pub use layout::{
+    ColumnProps, DEFAULT_COLUMN_WIDTH, DEFAULT_ROW_HEIGHT, Merge, RowProps, column_width,
+    row_height,
+};
+pub use maps::{LineMap, PlaceMap};
+pub use sheet::{SheetProperties, SheetState, Worksheet};
 pub use style::{Color, Style};
 pub use styles::Styles;
 pub use value::{CellType, CellValue, FormulaValue, SpillValue};
+pub use workbook::{DefinedName, Metadata, Theme, Workbook, WorkbookSettings};
