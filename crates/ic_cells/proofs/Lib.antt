@@ -1,4 +1,5 @@
+mod CellExamples
 mod IndexLemmas
 mod Literals
 mod MapLemmas
-pub mod StyleLemmas
+mod StyleLemmas

@@ -27,5 +27,5 @@ pub use maps::{LineMap, PlaceMap};
 pub use sheet::{SheetProperties, SheetState, Worksheet};
 pub use style::{Color, Style};
 pub use styles::Styles;
-pub use value::{CellType, CellValue, FormulaValue, SpillValue};
+pub use value::{CellType, CellValue, FormulaValue, SpillValue, law_equal_values};
 pub use workbook::{DefinedName, Metadata, Theme, Workbook, WorkbookSettings};

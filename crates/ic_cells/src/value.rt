@@ -1,4 +1,6 @@
 ghost use Rattle.std.specs.Prelude.{◌≡◌, IfOk, chars};
+ghost use Rattle.std.specs.Bool.{Decides};
+ghost use Rattle.ic_cells.specs.declared.value.CellValue.{CellValue};
 
 use ic_laws::{Amount, Error, OutOfMemory, Text};
 use std::alloc::Global;
@@ -52,6 +54,11 @@ impl From<bool> for CellValue {
         CellValue::Boolean(truth)
     }
 }
+
+/// Two values are equal by `==` exactly where they are one value.
+pub fn law_equal_values()
+    ensures { (a b : CellValue) → Decides (⟦<CellValue as PartialEq>⟧.eq a b) (a ≡ b) }
+{}
 
 /// The value that a formula cell keeps. A higher layer writes it.
 #[derive(Drop)]
