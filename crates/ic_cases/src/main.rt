@@ -10,6 +10,7 @@
 mod amounts;
 mod books;
 mod broken;
+mod cells;
 mod errors;
 mod fault;
 mod formulas;
@@ -19,6 +20,7 @@ mod places;
 mod references;
 mod scans;
 mod scenes;
+mod styles;
 mod words;
 
 use fault::Fault;
@@ -60,7 +62,9 @@ fn call(
             || scans::call(alloc, name, words, out)?
             || broken::call(alloc, name, words, out)?
             || scenes::call(alloc, tables, name, words, out)?
-            || errors::call(alloc, name, words, out)?,
+            || errors::call(alloc, name, words, out)?
+            || cells::call(alloc, tables, name, words, out)?
+            || styles::call(alloc, name, words, out)?,
     )
 }
 
