@@ -29,8 +29,11 @@ pub fn call(alloc: Global, name: &str, words: &[Text], out: &mut String) -> Resu
 fn session(alloc: Global, words: &[Text], out: &mut String) -> Result<(), Fault> {
     let mut styles = Styles::new(alloc)?;
     let mut at = 1;
-    while at < words.len() {
-        if at > 1 {
+    for turn in 0..words.len() {
+        if at >= words.len() {
+            break;
+        }
+        if turn > 0 {
             out.push('\t')?;
         }
         let taken = changed(alloc, &mut styles, words, at, out)?;
