@@ -10,6 +10,7 @@
 mod amounts;
 mod books;
 mod broken;
+mod cells;
 mod errors;
 mod fault;
 mod formulas;
@@ -20,6 +21,7 @@ mod places;
 mod references;
 mod scans;
 mod scenes;
+mod styles;
 mod words;
 
 use fault::Fault;
@@ -62,7 +64,9 @@ fn call(
             || broken::call(alloc, name, words, out)?
             || scenes::call(alloc, tables, name, words, out)?
             || errors::call(alloc, name, words, out)?
-            || inputs::call(alloc, tables, name, words, out)?,
+            || inputs::call(alloc, tables, name, words, out)?
+            || cells::call(alloc, tables, name, words, out)?
+            || styles::call(alloc, name, words, out)?,
     )
 }
 

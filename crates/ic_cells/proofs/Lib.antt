@@ -1,0 +1,5 @@
+mod CellExamples
+mod IndexLemmas
+mod Literals
+mod MapLemmas
+mod StyleLemmas

@@ -1,0 +1,10 @@
+use Rattle.std.proofs.Common.{◌∙◌}
+use Rattle.ic_cells.proofs.MapLemmas.{map_remove, places_exact, places_total, read_at, stored_pair}
+use Rattle.ic_cells.proofs.maps.PlaceMap.remove.Goals as goal
+
+pub returns-clause-before : goal.returns-clause-before
+returns-clause-before g c = c.remove.ensures.value ∙ read_at places_total c.self.inside.inner c.args.self.now _ (c.args.row, c.args.column) (stored_pair c.args.row c.args.column c.ranges.row c.ranges.column) c.self.view_is
+
+pub returns-clause-removed : goal.returns-clause-removed
+returns-clause-removed g c =
+    map_remove places_total places_exact c.self.inside.inner c.remove.new.self c.args.self.now _ (c.args.row, c.args.column) (stored_pair c.args.row c.args.column c.ranges.row c.ranges.column) c.self.view_is c.remove.ensures.updates

@@ -1,0 +1,154 @@
+//! Ordered maps that contracts see as finite maps, so that a record which holds one is plain data.
+ghost use Rattle.std.specs.Prelude.{◌≡◌, None, option_copied, IfOk, OnErr, OnOk};
+ghost use Rattle.std.specs.FinMap as map;
+
+use ic_laws::OutOfMemory;
+use std::alloc::Global;
+use std::collections::BTreeMap;
+use std::marker::Model;
+
+/// A map from places, each a row and a column from 1, by row and then by column. Contracts see the finite map.
+#[derive(Drop)]
+pub struct PlaceMap<T> {
+    inner: BTreeMap<(i32, i32), T>,
+}
+
+impl<T> Model for PlaceMap<T> {
+    ghost use Rattle.std.specs.Coded.{coded×, coded_ℤ};
+    ghost use Rattle.std.specs.FinMap as map;
+    ghost use Rattle.ic_cells.specs.Maps.{place_cmp};
+
+    ghost Value = { map.FinMap place_cmp T };
+
+    ghost coded = { map.code (coded× coded_ℤ coded_ℤ) T.code };
+
+    ghost view = { λ m. map.from_entries m.inner.entries };
+}
+
+impl<T: Drop> PlaceMap<T> {
+    /// No places.
+    pub fn new(alloc: Global) -> PlaceMap<T>
+        ensures { result ≡ map.empty }
+    {
+        PlaceMap {
+            inner: BTreeMap::new(alloc),
+        }
+    }
+
+    /// What stands at a place. None exactly where nothing does.
+    pub fn get(&self, row: i32, column: i32) -> Option<&T>
+        ensures { option_copied result ≡ map.get self.now (row, column) }
+    {
+        self.inner.get(&(row, column))
+    }
+
+    /// Puts an item at a place, and answers what stood there. Memory can only be missing where nothing stands there, and
+    /// then nothing has changed.
+    pub fn insert(&mut self, row: i32, column: i32, item: T) -> Result<Option<T>, OutOfMemory>
+        ensures before { IfOk result (λ before. before ≡ map.get self.old (row, column)) }
+        ensures ok { OnOk result (self.new ≡ map.insert self.old (row, column) item) }
+        ensures err { OnErr result (self.new ≡ self.old) }
+        ensures absent { OnErr result (map.get self.old (row, column) ≡ None) }
+    {
+        Ok(self.inner.insert((row, column), item)?)
+    }
+
+    /// Takes away what stands at a place, and answers it. None exactly where nothing did.
+    pub fn remove(&mut self, row: i32, column: i32) -> Option<T>
+        ensures before { result ≡ map.get self.old (row, column) }
+        ensures removed { self.new ≡ map.remove self.old (row, column) }
+    {
+        self.inner.remove(&(row, column))
+    }
+
+    /// All of it, in its order.
+    pub fn as_map(&self) -> &BTreeMap<(i32, i32), T>
+        ensures { map.from_entries result.now.entries ≡ self.now }
+    {
+        &self.inner
+    }
+}
+
+impl<T> From<BTreeMap<(i32, i32), T>> for PlaceMap<T> {
+    ghost use Rattle.std.specs.Prelude.{◌≡◌};
+    ghost use Rattle.std.specs.FinMap as map;
+
+    ghost from_gives = { λ m p. p ≡ map.from_entries m.entries };
+
+    fn from(inner: BTreeMap<(i32, i32), T>) -> PlaceMap<T> {
+        PlaceMap { inner }
+    }
+}
+
+/// A map from the numbers of rows or of columns, from 1, in their order. Contracts see the finite map.
+#[derive(Drop)]
+pub struct LineMap<T> {
+    inner: BTreeMap<i32, T>,
+}
+
+impl<T> Model for LineMap<T> {
+    ghost use Rattle.std.specs.Coded.{coded_ℤ};
+    ghost use Rattle.std.specs.FinMap as map;
+    ghost use Rattle.std.specs.Ordering.{int_cmp};
+
+    ghost Value = { map.FinMap int_cmp T };
+
+    ghost coded = { map.code coded_ℤ T.code };
+
+    ghost view = { λ m. map.from_entries m.inner.entries };
+}
+
+impl<T: Drop> LineMap<T> {
+    /// No numbers.
+    pub fn new(alloc: Global) -> LineMap<T>
+        ensures { result ≡ map.empty }
+    {
+        LineMap {
+            inner: BTreeMap::new(alloc),
+        }
+    }
+
+    /// What stands at a number. None exactly where nothing does.
+    pub fn get(&self, number: i32) -> Option<&T>
+        ensures { option_copied result ≡ map.get self.now number }
+    {
+        self.inner.get(&number)
+    }
+
+    /// Puts an item at a number, and answers what stood there. Memory can only be missing where nothing stands there, and
+    /// then nothing has changed.
+    pub fn insert(&mut self, number: i32, item: T) -> Result<Option<T>, OutOfMemory>
+        ensures before { IfOk result (λ before. before ≡ map.get self.old number) }
+        ensures ok { OnOk result (self.new ≡ map.insert self.old number item) }
+        ensures err { OnErr result (self.new ≡ self.old) }
+        ensures absent { OnErr result (map.get self.old number ≡ None) }
+    {
+        Ok(self.inner.insert(number, item)?)
+    }
+
+    /// Takes away what stands at a number, and answers it. None exactly where nothing did.
+    pub fn remove(&mut self, number: i32) -> Option<T>
+        ensures before { result ≡ map.get self.old number }
+        ensures removed { self.new ≡ map.remove self.old number }
+    {
+        self.inner.remove(&number)
+    }
+
+    /// All of it, in its order.
+    pub fn as_map(&self) -> &BTreeMap<i32, T>
+        ensures { map.from_entries result.now.entries ≡ self.now }
+    {
+        &self.inner
+    }
+}
+
+impl<T> From<BTreeMap<i32, T>> for LineMap<T> {
+    ghost use Rattle.std.specs.Prelude.{◌≡◌};
+    ghost use Rattle.std.specs.FinMap as map;
+
+    ghost from_gives = { λ m p. p ≡ map.from_entries m.entries };
+
+    fn from(inner: BTreeMap<i32, T>) -> LineMap<T> {
+        LineMap { inner }
+    }
+}
