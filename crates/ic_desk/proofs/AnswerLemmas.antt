@@ -1,9 +1,9 @@
 -- The step of a line that adds a sheet, by what refuses the sheet.
-use Rattle.std.proofs.Common.{◌≡◌, ◌∙◌, ap, refl, ℕ, List, [], Option, Some, None, is_some, Ok, Err, true}
+use Rattle.std.proofs.Common.{◌≡◌, ◌∙◌, ap, refl, ℕ, List, [], Option, Some, None, IsSomeAnd, Ok, Err, sym}
 use Rattle.ic_laws.specs.Command.{AddSheet}
 use Rattle.ic_laws.specs.CoreBook.{CoreBook}
 use Rattle.ic_laws.specs.CoreStep.{add_sheet_refusal, changed_by, core_step, unless_refused, with_new_sheet}
-use Rattle.ic_laws.specs.Lines.{command_of, command_step, line_step, outcome_of}
+use Rattle.ic_laws.specs.Lines.{command_of, command_step, line_step, outcome_of, reply_bytes}
 use Rattle.ic_laws.specs.Notations.{Notations}
 use Rattle.ic_laws.specs.Refusal.{Refusal}
 
@@ -20,7 +20,9 @@ module _ (n : Notations) (core : CoreBook) (line : List ℕ) where
   pub refused_step : (name : List ℕ) (refusal : Refusal) → command_of line ≡ Some (AddSheet name) → add_sheet_refusal core name ≡ Some refusal → line_step n core line ≡ (core, Err refusal)
   refused_step name refusal is some = ap (command_step n core) is ∙ by_refusal name ∙ ap (λ r. outcome_of core (unless_refused r (changed_by n (with_new_sheet name) core) [])) some
 
-  -- the same by what an error tells, which isn't that memory ran out
-  pub refused_with : (name : List ℕ) → command_of line ≡ Some (AddSheet name) → (told : Option Refusal) → add_sheet_refusal core name ≡ told → is_some told ≡ true → (refusal : Refusal) × (told ≡ Some refusal) × (line_step n core line ≡ (core, Err refusal))
-  refused_with name is None e some = cc
-  refused_with name is (Some refusal) e some = (refusal, refl, refused_step name refusal is e)
+  -- the reply and the book where the error tells a refusal
+  pub refused_reply : (name : List ℕ) → command_of line ≡ Some (AddSheet name) → (told : Option Refusal) → add_sheet_refusal core name ≡ told → (bytes : List ℕ) → IsSomeAnd told (λ refusal. bytes ≡ reply_bytes (Err refusal))
+      → (bytes ≡ reply_bytes (line_step n core line).1) × ((line_step n core line).0 ≡ core)
+  refused_reply name is None e bytes h = absurd h
+  refused_reply name is (Some refusal) e bytes h =
+      let step = refused_step name refusal is e in (h ∙ ap (λ s. reply_bytes s.1) (sym step), ap (λ s. s.0) step)

@@ -1,9 +1,10 @@
 -- Which words spell a command that is served.
-use Rattle.std.proofs.Common.{◌≡◌, ◌≢◌, ℕ, List, [], ◌∷◌, length, map, get_or, Option, Some, None, option_map, option_and_then, bytes_eq, codes, refl, ap, sym, ◌∙◌, arith, if◌then◌else◌, true, false, Bor}
+use Rattle.std.proofs.Common.{◌≡◌, ◌≢◌, ℕ, List, [], ◌∷◌, length, map, get_or, Option, Some, None, Result, Ok, Err, IfOk, option_map, option_and_then, bytes_eq, codes, refl, ap, sym, ◌∙◌, arith, if◌then◌else◌, true, false, Bor}
 use Rattle.std.specs.Cmp.Lexicographic.{nat_list_eq_equiv}
 use Rattle.std.specs.Str.{chars}
 use Rattle.std.proofs.lemmas.List.{length-map}
 use Rattle.ic_laws.specs.Command.{AddSheet, Command, CommandRow, OfText, all_said, commands, named_command, served}
+use Rattle.ic_laws.specs.declared.memory.OutOfMemory.{OutOfMemory}
 use Rattle.ic_laws.specs.Lines.{command_of, spelled_command, unescaped, word_texts, words_of}
 
 -- a table of one row
@@ -113,3 +114,8 @@ other_name xs d line two words name =
 pub add_sheet_word : (xs : List (Bor (List ℕ))) (d e : Bor (List ℕ)) (line : List ℕ) → length xs ≡ 2 → map (λ w. chars w.now) xs ≡ words_of line → bytes_eq (chars (get_or xs 0 d).now) (chars (codes "add_sheet")) ≡ true → command_of line ≡ option_map AddSheet (unescaped (chars (get_or xs 1 e).now))
 add_sheet_word xs d e line two words name =
     named_word xs d e line two words ∙ ap (λ b. option_map AddSheet (if b then unescaped (chars (get_or xs 1 e).now) else None)) name
+
+-- a text that was read so far as memory lasted
+pub spelled_ok : (r : Result (Option (List ℕ)) OutOfMemory) (text : Option (List ℕ)) (command : Option Command) → IfOk r (λ t. t ≡ text) → command ≡ option_map AddSheet text → IfOk r (λ t. option_map AddSheet t ≡ command)
+spelled_ok (Ok t) text command h e = ap (option_map AddSheet) h ∙ sym e
+spelled_ok (Err o) text command h e = tt

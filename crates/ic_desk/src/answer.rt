@@ -1,4 +1,4 @@
-ghost use Rattle.std.specs.Prelude.{◌≡◌, ◌+◌, ◌++◌, ◌≤◌, [], false, Ok, Err, chars, length, IfOk, IfSome, OnOk, OnErr, string_bytes, string_len, string_capacity};
+ghost use Rattle.std.specs.Prelude.{◌≡◌, ◌+◌, ◌++◌, ◌≤◌, [], false, Ok, Err, chars, length, IfOk, IfSome, IsSomeAnd, OnOk, OnErr, string_bytes, string_len, string_capacity};
 ghost use Rattle.ic_laws.specs.Lines.{line_step, reply_bytes, reply_text};
 ghost use Rattle.ic_lines.specs.Reading.{has_line_feed};
 ghost use Rattle.ic_book.specs.Book.{core_of, notations_in, with_core};
@@ -27,8 +27,7 @@ pub fn reply_to(alloc: Global, model: &mut Model<'_>, line: &Line) -> Result<Str
     };
     match model.add_sheet(name.as_str()) {
         Ok(()) => Ok(ok_reply(reply)),
-        Err(BookError::OutOfMemory) => Err(OutOfMemory),
-        Err(e) => Ok(error_reply(reply, &e)),
+        Err(e) => Ok(told(reply, &e)?),
     }
 }
 
@@ -63,6 +62,18 @@ fn error_reply(mut reply: String, e: &BookError) -> String
     append(&mut reply, e.name());
     append(&mut reply, "\n");
     reply
+}
+
+/// The reply to a command that was refused; there is none where memory ran out.
+fn told(reply: String, e: &BookError) -> Result<String, OutOfMemory>
+    requires empty { string_bytes reply ≡ [] }
+    requires room { 512 ≤ string_capacity reply }
+    ensures { IfOk result (λ text. IsSomeAnd (refusal_of e.now) (λ refusal. string_bytes text ≡ reply_bytes (Err refusal))) }
+{
+    match e {
+        BookError::OutOfMemory => Err(OutOfMemory),
+        _ => Ok(error_reply(reply, e)),
+    }
 }
 
 /// Adds a piece for which there is room.
