@@ -3,7 +3,7 @@ use crate::fault::Fault;
 use crate::formulas::shown_at;
 use crate::words::{index, put_none, put_text, word};
 use ic_laws::{
-    Bound, Items, NameMention, NameSpelling, Scene, SheetMention, SheetName, Spelled, Text, Tree,
+    Bound, Items, NameMention, NameSpelling, Scene, SheetMention, SheetName, Text, Tree,
 };
 use ic_tables::Tables;
 use ic_tree::{Shown, Stored, bind, clashes, is_dynamic, print, read, spell};
@@ -47,7 +47,6 @@ fn put_shown(
     put_bound(alloc, tables, &shown, &scene, words, out)
 }
 
-/// What the whole formula mentions, and the formula as it is written again.
 fn put_stored(
     alloc: Global,
     tables: &Tables,
@@ -55,24 +54,36 @@ fn put_stored(
     out: &mut String,
 ) -> Result<(), Fault> {
     let scene = scene_in(alloc, words, 3)?;
+    put_in_scene(alloc, tables, &scene, words, out)
+}
+
+/// What the whole formula mentions, and the formula as it is written again.
+fn put_in_scene(
+    alloc: Global,
+    tables: &Tables,
+    scene: &Scene,
+    words: &[Text],
+    out: &mut String,
+) -> Result<(), Fault> {
     let stored = Stored::new(tables);
+    let scope = scope(words, 1)?;
     let Some(tree) = read(alloc, &stored, word(words, 2)?)? else {
         return put_none(out);
     };
-    let english = tables.get_default_language();
-    let bound = bind(alloc, &scene, english, scope(words, 1)?, &tree)?;
+    let bound = bind(alloc, scene, tables.get_default_language(), scope, &tree)?;
     put_mention(alloc, &bound, out)?;
-    let spelled = spell(alloc, &scene, &bound)?;
-    put_printed(alloc, &stored, &spelled, out)
+    put_spelled(alloc, &stored, scene, &bound, out)
 }
 
-fn put_printed(
+fn put_spelled(
     alloc: Global,
     stored: &Stored<'_>,
-    spelled: &Spelled,
+    scene: &Scene,
+    bound: &Bound,
     out: &mut String,
 ) -> Result<(), Fault> {
-    let printed = print(alloc, stored, spelled)?;
+    let spelled = spell(alloc, scene, bound)?;
+    let printed = print(alloc, stored, &spelled)?;
     out.push('\t')?;
     put_text(alloc, out, printed.as_str())
 }
