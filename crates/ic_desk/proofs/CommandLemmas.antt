@@ -3,9 +3,10 @@ use Rattle.std.proofs.Common.{◌≡◌, ◌≢◌, ℕ, List, [], ◌∷◌, le
 use Rattle.std.specs.Cmp.Lexicographic.{nat_list_eq_equiv}
 use Rattle.std.specs.Str.{chars}
 use Rattle.std.proofs.lemmas.List.{length-map}
-use Rattle.ic_laws.specs.Command.{AddSheet, Command, CommandRow, OfText, all_said, commands, named_command, served}
+use Rattle.ic_laws.specs.Command.{AddSheet, Command, CommandRow, OfText, all_said, commands, named_command}
 use Rattle.ic_laws.specs.declared.memory.OutOfMemory.{OutOfMemory}
 use Rattle.ic_laws.specs.Lines.{command_of, spelled_command, unescaped, word_texts, words_of}
+use Rattle.ic_desk.specs.Served.{served}
 
 -- a table of one row
 one_row : (row : CommandRow) (name : List ℕ) (texts : List (List ℕ)) → named_command (row ∷ []) name texts ≡ (if bytes_eq row.name name then option_map row.command (all_said row.forms texts) else None)
@@ -27,9 +28,9 @@ chosen test (t ∷ u ∷ ts) none one more = more t u ts
 
 -- the one command that is served has the name `add_sheet` and a text
 served_command : (name : List ℕ) (texts : List (List ℕ)) → named_command served name texts ≡ (if bytes_eq name (codes "add_sheet") then option_map AddSheet (added texts) else None)
-unfolding commands
+unfolding commands served
 served_command name texts =
-    let row : CommandRow = record { name = codes "add_sheet"; forms = OfText ∷ []; command = λ w. AddSheet w.0; is_served = true } in
+    let row : CommandRow = record { name = codes "add_sheet"; forms = OfText ∷ []; command = λ w. AddSheet w.0 } in
     one_row row name texts
     ∙ ap (λ x. if bytes_eq (codes "add_sheet") name then x else None) (chosen (λ ts. option_map row.command (all_said row.forms ts)) texts refl (λ t. refl) (λ t u ts. refl))
     ∙ ap (λ b. if b then option_map AddSheet (added texts) else None) (nat_list_eq_equiv.symm (codes "add_sheet") name)
@@ -91,7 +92,7 @@ unfolding chars
 add_sheet_chars = refl
 
 -- what two words of a line spell
-named_word : (xs : List (Bor (List ℕ))) (d e : Bor (List ℕ)) (line : List ℕ) → length xs ≡ 2 → map (λ w. chars w.now) xs ≡ words_of line → command_of line ≡ option_map AddSheet (if bytes_eq (chars (get_or xs 0 d).now) (chars (codes "add_sheet")) then unescaped (chars (get_or xs 1 e).now) else None)
+named_word : (xs : List (Bor (List ℕ))) (d e : Bor (List ℕ)) (line : List ℕ) → length xs ≡ 2 → map (λ w. chars w.now) xs ≡ words_of line → command_of served line ≡ option_map AddSheet (if bytes_eq (chars (get_or xs 0 d).now) (chars (codes "add_sheet")) then unescaped (chars (get_or xs 1 e).now) else None)
 named_word xs d e line two words =
     let name : List ℕ = chars (get_or xs 0 d).now in
     let word : List ℕ = chars (get_or xs 1 e).now in
@@ -100,18 +101,18 @@ named_word xs d e line two words =
     ∙ ap (λ x. option_map AddSheet (if bytes_eq name x then unescaped word else None)) add_sheet_chars
 
 -- other numbers of words spell nothing
-pub no_command : (xs : List (Bor (List ℕ))) (line : List ℕ) → length xs ≢ 2 → map (λ w. chars w.now) xs ≡ words_of line → command_of line ≡ None
+pub no_command : (xs : List (Bor (List ℕ))) (line : List ℕ) → length xs ≢ 2 → map (λ w. chars w.now) xs ≡ words_of line → command_of served line ≡ None
 no_command xs line h words =
     served_words (words_of line)
     ∙ ap (option_map AddSheet) (other_words (words_of line) (λ e. h (sym (length-map xs (λ (w : Bor (List ℕ)). chars w.now)) ∙ ap length words ∙ e)))
 
 -- nor does another name
-pub other_name : (xs : List (Bor (List ℕ))) (d : Bor (List ℕ)) (line : List ℕ) → length xs ≡ 2 → map (λ w. chars w.now) xs ≡ words_of line → bytes_eq (chars (get_or xs 0 d).now) (chars (codes "add_sheet")) ≡ false → command_of line ≡ None
+pub other_name : (xs : List (Bor (List ℕ))) (d : Bor (List ℕ)) (line : List ℕ) → length xs ≡ 2 → map (λ w. chars w.now) xs ≡ words_of line → bytes_eq (chars (get_or xs 0 d).now) (chars (codes "add_sheet")) ≡ false → command_of served line ≡ None
 other_name xs d line two words name =
     named_word xs d d line two words ∙ ap (λ b. option_map AddSheet (if b then unescaped (chars (get_or xs 1 d).now) else None)) name
 
 -- the name `add_sheet` with a word spells what the word spells
-pub add_sheet_word : (xs : List (Bor (List ℕ))) (d e : Bor (List ℕ)) (line : List ℕ) → length xs ≡ 2 → map (λ w. chars w.now) xs ≡ words_of line → bytes_eq (chars (get_or xs 0 d).now) (chars (codes "add_sheet")) ≡ true → command_of line ≡ option_map AddSheet (unescaped (chars (get_or xs 1 e).now))
+pub add_sheet_word : (xs : List (Bor (List ℕ))) (d e : Bor (List ℕ)) (line : List ℕ) → length xs ≡ 2 → map (λ w. chars w.now) xs ≡ words_of line → bytes_eq (chars (get_or xs 0 d).now) (chars (codes "add_sheet")) ≡ true → command_of served line ≡ option_map AddSheet (unescaped (chars (get_or xs 1 e).now))
 add_sheet_word xs d e line two words name =
     named_word xs d e line two words ∙ ap (λ b. option_map AddSheet (if b then unescaped (chars (get_or xs 1 e).now) else None)) name
 

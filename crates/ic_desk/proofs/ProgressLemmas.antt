@@ -14,6 +14,7 @@ use Rattle.ic_lines.proofs.ToldLemmas.{IfTold-join, IfTold-weaker}
 use Rattle.ic_book.specs.Book.{Book, core_of, notations_in, with_core}
 use Rattle.ic_desk.specs.Run.{AppendsReplies, AreRead, HasAnswered, HasPartlyAnswered, HasPartlyReplied, HasReplied, IsAfterLines, Leaves, TakesAll}
 use Rattle.ic_desk.proofs.RunLemmas.{after-append, next_rest, next_taken, next_within, replies-append}
+use Rattle.ic_desk.specs.Served.{served}
 
 -- so many of the lines were answered, and the others are still to be given
 pub record Progress (old new : Book) (count : ℕ) (reader : Reading) (before now : Option (List ℕ)) (bytes left : List ℕ) : Type 0 where
@@ -92,30 +93,30 @@ module _ (old mid : Book) (count : ℕ) (reader new_reader : Reading) (before no
   read_before : AreRead count bytes b
   read_before = elim read_after [ inl all ↦ inl all | inr few ↦ inr (omega (arith, few)) ]
 
-  book_after : (new : Book) → new ≡ with_core mid (line_step (notations_in mid) (core_of mid) line).0 → IsAfterLines old new (count + 1) (texts_of bytes)
+  book_after : (new : Book) → new ≡ with_core mid (line_step (notations_in mid) served (core_of mid) line).0 → IsAfterLines old new (count + 1) (texts_of bytes)
   book_after new step = record {
     within = omega (arith, next_within (texts_of bytes) count line (texts_of (unread new_reader b)) next);
     book =
-        step ∙ ap (λ m. with_core m (line_step (notations_in m) (core_of m) line).0) p.book.book
-        ∙ ap (with_core old) (sym (ap (after (notations_in old) (core_of old)) (next_taken (texts_of bytes) count line (texts_of (unread new_reader b)) next) ∙ after-append (notations_in old) (core_of old) (take count (texts_of bytes)) (line ∷ [])));
+        step ∙ ap (λ m. with_core m (line_step (notations_in m) served (core_of m) line).0) p.book.book
+        ∙ ap (with_core old) (sym (ap (after (notations_in old) served (core_of old)) (next_taken (texts_of bytes) count line (texts_of (unread new_reader b)) next) ∙ after-append (notations_in old) (core_of old) (take count (texts_of bytes)) (line ∷ [])));
   }
 
   -- the replies to the lines up to this one
-  replies_after : replies (notations_in old) (core_of old) (take (count + 1) (texts_of bytes)) ≡ replies (notations_in old) (core_of old) (take count (texts_of bytes)) ++ reply_bytes (line_step (notations_in mid) (core_of mid) line).1
+  replies_after : replies (notations_in old) served (core_of old) (take (count + 1) (texts_of bytes)) ≡ replies (notations_in old) served (core_of old) (take count (texts_of bytes)) ++ reply_bytes (line_step (notations_in mid) served (core_of mid) line).1
   replies_after =
-      ap (replies (notations_in old) (core_of old)) (next_taken (texts_of bytes) count line (texts_of (unread new_reader b)) next)
+      ap (replies (notations_in old) served (core_of old)) (next_taken (texts_of bytes) count line (texts_of (unread new_reader b)) next)
       ∙ replies-append (notations_in old) (core_of old) (take count (texts_of bytes)) (line ∷ [])
-      ∙ ap (λ v. replies (notations_in old) (core_of old) (take count (texts_of bytes)) ++ v) (append-nil (reply_bytes (line_step (notations_in old) (after (notations_in old) (core_of old) (take count (texts_of bytes))) line).1))
-      ∙ ap (λ m. replies (notations_in old) (core_of old) (take count (texts_of bytes)) ++ reply_bytes (line_step (notations_in m) (core_of m) line).1) (sym p.book.book)
+      ∙ ap (λ v. replies (notations_in old) served (core_of old) (take count (texts_of bytes)) ++ v) (append-nil (reply_bytes (line_step (notations_in old) served (after (notations_in old) served (core_of old) (take count (texts_of bytes))) line).1))
+      ∙ ap (λ m. replies (notations_in old) served (core_of old) (take count (texts_of bytes)) ++ reply_bytes (line_step (notations_in m) served (core_of m) line).1) (sym p.book.book)
 
-  pub Progress-step : (new : Book) (written : Option (List ℕ)) → new ≡ with_core mid (line_step (notations_in mid) (core_of mid) line).0
-      → IfTold now written (λ x y. y ≡ x ++ reply_bytes (line_step (notations_in mid) (core_of mid) line).1) → Progress old new (count + 1) new_reader before written bytes b
+  pub Progress-step : (new : Book) (written : Option (List ℕ)) → new ≡ with_core mid (line_step (notations_in mid) served (core_of mid) line).0
+      → IfTold now written (λ x y. y ≡ x ++ reply_bytes (line_step (notations_in mid) served (core_of mid) line).1) → Progress old new (count + 1) new_reader before written bytes b
   Progress-step new written step reply = record {
     book = book_after new step;
     rest = next_rest (texts_of bytes) count line (texts_of (unread new_reader b)) next;
-    replied = IfTold-join before now written (HasReplied old count (texts_of bytes)) (λ x y. y ≡ x ++ reply_bytes (line_step (notations_in mid) (core_of mid) line).1) (HasReplied old (count + 1) (texts_of bytes))
-        (λ w x y q r. r ∙ ap (λ v. v ++ reply_bytes (line_step (notations_in mid) (core_of mid) line).1) q
-        ∙ append_assoc w (replies (notations_in old) (core_of old) (take count (texts_of bytes))) (reply_bytes (line_step (notations_in mid) (core_of mid) line).1)
+    replied = IfTold-join before now written (HasReplied old count (texts_of bytes)) (λ x y. y ≡ x ++ reply_bytes (line_step (notations_in mid) served (core_of mid) line).1) (HasReplied old (count + 1) (texts_of bytes))
+        (λ w x y q r. r ∙ ap (λ v. v ++ reply_bytes (line_step (notations_in mid) served (core_of mid) line).1) q
+        ∙ append_assoc w (replies (notations_in old) served (core_of old) (take count (texts_of bytes))) (reply_bytes (line_step (notations_in mid) served (core_of mid) line).1)
         ∙ ap (λ v. w ++ v) (sym replies_after)) p.replied reply;
     ends = ends_after;
     feeds = feeds_after;
@@ -126,15 +127,15 @@ module _ (old mid : Book) (count : ℕ) (reader new_reader : Reading) (before no
   leaves_no_memory = record { read = read_before; book = p.book; replied = p.replied }
 
   -- a write of its reply failed
-  leaves_write_fault : (new : Book) (written : Option (List ℕ)) → new ≡ with_core mid (line_step (notations_in mid) (core_of mid) line).0
-      → IfTold now written (AppendsFront (reply_bytes (line_step (notations_in mid) (core_of mid) line).1)) → HasPartlyAnswered old new count bytes b before written
+  leaves_write_fault : (new : Book) (written : Option (List ℕ)) → new ≡ with_core mid (line_step (notations_in mid) served (core_of mid) line).0
+      → IfTold now written (AppendsFront (reply_bytes (line_step (notations_in mid) served (core_of mid) line).1)) → HasPartlyAnswered old new count bytes b before written
   leaves_write_fault new written step part = record {
     read = read_after;
     book = book_after new step;
-    replied = IfTold-join before now written (HasReplied old count (texts_of bytes)) (AppendsFront (reply_bytes (line_step (notations_in mid) (core_of mid) line).1)) (HasPartlyReplied old count (texts_of bytes))
+    replied = IfTold-join before now written (HasReplied old count (texts_of bytes)) (AppendsFront (reply_bytes (line_step (notations_in mid) served (core_of mid) line).1)) (HasPartlyReplied old count (texts_of bytes))
         (λ w x y q r.
-        let done : List ℕ = replies (notations_in old) (core_of old) (take count (texts_of bytes)) in
-        let reply : List ℕ = reply_bytes (line_step (notations_in mid) (core_of mid) line).1 in
+        let done : List ℕ = replies (notations_in old) served (core_of old) (take count (texts_of bytes)) in
+        let reply : List ℕ = reply_bytes (line_step (notations_in mid) served (core_of mid) line).1 in
         record {
           bytes = length done + r.0;
           whole = omega arith;
@@ -148,7 +149,7 @@ module _ (old mid : Book) (count : ℕ) (reader new_reader : Reading) (before no
 pub leaves_at_line : (old mid new : Book) (count : ℕ) (reader new_reader : Reading) (before now written : Option (List ℕ)) (first a b : Option (List ℕ)) (line : List ℕ) (e : RunError)
     → IfTold first a (Progress old mid count reader before now) → IfTold a b (Next line reader new_reader) → (e ≡ errors.OutOfMemory) ⊎ (e ≡ errors.WriteFault)
     → (e ≡ errors.OutOfMemory → (new ≡ mid) × (written ≡ now))
-    → (e ≡ errors.WriteFault → (new ≡ with_core mid (line_step (notations_in mid) (core_of mid) line).0) × IfTold now written (AppendsFront (reply_bytes (line_step (notations_in mid) (core_of mid) line).1)))
+    → (e ≡ errors.WriteFault → (new ≡ with_core mid (line_step (notations_in mid) served (core_of mid) line).0) × IfTold now written (AppendsFront (reply_bytes (line_step (notations_in mid) served (core_of mid) line).1)))
     → IfTold first b (λ bytes left. Leaves e old new bytes left before written)
 leaves_at_line old mid new count reader new_reader before now written first a b line e p n which no_memory write_fault =
     IfTold-join first a b (Progress old mid count reader before now) (Next line reader new_reader) (λ bytes left. Leaves e old new bytes left before written)
@@ -228,13 +229,13 @@ module _ (old new : Book) (count : ℕ) (reader asked new_reader : Reading) (bef
   takes_all = record {
     all = nothing_left;
     count = omega (arith, ap length no_rest, length-drop count (texts_of bytes), p.book.within);
-    book = p.book.book ∙ ap (λ v. with_core old (after (notations_in old) (core_of old) v)) all_taken;
+    book = p.book.book ∙ ap (λ v. with_core old (after (notations_in old) served (core_of old) v)) all_taken;
   }
 
   all_replied : IfTold before now (AppendsReplies (notations_in old) (core_of old) bytes)
   all_replied =
       IfTold-weaker before now (HasReplied old count (texts_of bytes)) (AppendsReplies (notations_in old) (core_of old) bytes)
-      (λ x y q. q ∙ ap (λ v. x ++ replies (notations_in old) (core_of old) v) all_taken) p.replied
+      (λ x y q. q ∙ ap (λ v. x ++ replies (notations_in old) served (core_of old) v) all_taken) p.replied
 
 -- the end, over a source that tells its bytes
 module _ (old new : Book) (count : ℕ) (reader asked new_reader : Reading) (before now : Option (List ℕ)) (first a b : Option (List ℕ)) (p : IfTold first a (Progress old new count reader before now)) (t : TakesLine reader asked a b) (gives : IfTold a b (λ x y. GivesLine None (unread reader x) (unread new_reader y))) where

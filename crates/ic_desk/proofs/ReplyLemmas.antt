@@ -13,6 +13,7 @@ use Rattle.ic_laws.specs.Notations.{Notations}
 use Rattle.ic_laws.specs.Refusal.{BadLine, Refusal, refusal_names}
 use Rattle.ic_desk.proofs.CommandLemmas.{served_text, served_words}
 use Rattle.ic_lines.specs.Reading.{has_line_feed}
+use Rattle.ic_desk.specs.Served.{served}
 
 -- a reply without fields
 abbrev IsPlain : Reply → Type 0
@@ -80,12 +81,12 @@ last_byte front bytes len e l =
     omega (arith, at)
 
 -- a reply whose last byte went
-module _ (n : Notations) (core : CoreBook) (line bytes cut : List ℕ) (len : ℕ) (is_reply : bytes ≡ reply_bytes (line_step n core line).1) (is_len : len ≡ length bytes) (is_cut : cut ≡ take (len - 1) bytes) where
-  text : (chars (encode_utf8_all (reply_text (line_step n core line).1)) ≡ reply_text (line_step n core line).1) × (has_line_feed (reply_text (line_step n core line).1) ≡ false)
-  text = plain_text (line_step n core line).1 (subst (λ o. IsPlain (command_step n core o).1) (sym (served_words (words_of line))) (plain_step n core (served_text (words_of line))))
+module _ (n : Notations) (core : CoreBook) (line bytes cut : List ℕ) (len : ℕ) (is_reply : bytes ≡ reply_bytes (line_step n served core line).1) (is_len : len ≡ length bytes) (is_cut : cut ≡ take (len - 1) bytes) where
+  text : (chars (encode_utf8_all (reply_text (line_step n served core line).1)) ≡ reply_text (line_step n served core line).1) × (has_line_feed (reply_text (line_step n served core line).1) ≡ false)
+  text = plain_text (line_step n served core line).1 (subst (λ o. IsPlain (command_step n core o).1) (sym (served_words (words_of line))) (plain_step n core (served_text (words_of line))))
 
-  pub cut_reply : chars cut ≡ reply_text (line_step n core line).1
-  cut_reply = ap chars (is_cut ∙ without_last (encode_utf8_all (reply_text (line_step n core line).1)) bytes len is_reply is_len) ∙ text.0
+  pub cut_reply : chars cut ≡ reply_text (line_step n served core line).1
+  cut_reply = ap chars (is_cut ∙ without_last (encode_utf8_all (reply_text (line_step n served core line).1)) bytes len is_reply is_len) ∙ text.0
 
   pub cut_is_line : has_line_feed (chars cut) ≡ false
   cut_is_line = ap has_line_feed cut_reply ∙ text.1

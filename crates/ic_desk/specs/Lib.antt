@@ -1,3 +1,4 @@
 pub mod Desk
 pub mod Run
+pub mod Served
 pub mod Start

@@ -8,16 +8,17 @@ use Rattle.ic_lines.specs.Reading.{line_feeds}
 use Rattle.ic_lines.specs.declared.error.RunError.{RunError}
 use Rattle.ic_lines.specs.declared.error.RunError.TheVariants as errors
 use Rattle.ic_book.specs.Book.{Book, core_of, notations_in, with_core}
+use Rattle.ic_desk.specs.Served.{served}
 
 -- a whole run: nothing is left of the bytes, their lines are counted, and the book is the one that the machine leaves
 pub record TakesAll (old new : Book) (lines : ℕ) (bytes left : List ℕ) : Type 0 where
   pub all : left ≡ []
   pub count : lines ≡ length (texts_of bytes)
-  pub book : new ≡ with_core old (after (notations_in old) (core_of old) (texts_of bytes))
+  pub book : new ≡ with_core old (after (notations_in old) served (core_of old) (texts_of bytes))
 
 -- the machine's replies to the lines of the bytes stand after what was written before
 abbrev pub AppendsReplies : Notations → CoreBook → List ℕ → List ℕ → List ℕ → Type 0
-AppendsReplies n core bytes before now = now ≡ before ++ replies n core (texts_of bytes)
+AppendsReplies n core bytes before now = now ≡ before ++ replies n served core (texts_of bytes)
 
 -- so many lines were read with the line feed that ends them, or the source to its end
 abbrev pub AreRead : ℕ → List ℕ → List ℕ → Type 0
@@ -26,18 +27,18 @@ AreRead count bytes left = (left ≡ []) ⊎ (count + line_feeds left ≤ line_f
 -- the book is as the first so many lines leave it
 pub record IsAfterLines (old new : Book) (count : ℕ) (lines : List (List ℕ)) : Type 0 where
   pub within : count ≤ length lines
-  pub book : new ≡ with_core old (after (notations_in old) (core_of old) (take count lines))
+  pub book : new ≡ with_core old (after (notations_in old) served (core_of old) (take count lines))
 
 -- the replies to the first so many lines were appended
 abbrev pub HasReplied : Book → ℕ → List (List ℕ) → List ℕ → List ℕ → Type 0
-HasReplied old count lines before now = now ≡ before ++ replies (notations_in old) (core_of old) (take count lines)
+HasReplied old count lines before now = now ≡ before ++ replies (notations_in old) served (core_of old) (take count lines)
 
 -- the replies to the first so many lines were appended, and of the next line's reply a front that isn't all of it
 pub record HasPartlyReplied (old : Book) (count : ℕ) (lines : List (List ℕ)) (before now : List ℕ) : Type 0 where
   pub bytes : ℕ
-  pub whole : length (replies (notations_in old) (core_of old) (take count lines)) ≤ bytes
-  pub part : bytes < length (replies (notations_in old) (core_of old) (take (count + 1) lines))
-  pub written : now ≡ before ++ take bytes (replies (notations_in old) (core_of old) (take (count + 1) lines))
+  pub whole : length (replies (notations_in old) served (core_of old) (take count lines)) ≤ bytes
+  pub part : bytes < length (replies (notations_in old) served (core_of old) (take (count + 1) lines))
+  pub written : now ≡ before ++ take bytes (replies (notations_in old) served (core_of old) (take (count + 1) lines))
 
 -- exactly the first so many lines were answered: the book is as they leave it, and their replies were appended
 pub record HasAnswered (old new : Book) (count : ℕ) (bytes left : List ℕ) (before now : Option (List ℕ)) : Type 0 where

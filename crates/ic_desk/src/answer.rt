@@ -3,6 +3,7 @@ ghost use Rattle.ic_laws.specs.Lines.{line_step, reply_bytes, reply_text};
 ghost use Rattle.ic_lines.specs.Reading.{has_line_feed};
 ghost use Rattle.ic_book.specs.Book.{core_of, notations_in, with_core};
 ghost use Rattle.ic_book.specs.Refused.{refusal_of};
+ghost use Rattle.ic_desk.specs.Served.{served};
 
 use crate::command::sheet_to_add;
 use ic_book::{BookError, Model};
@@ -16,8 +17,8 @@ const REPLY_ROOM: usize = 512;
 /// One step of the machine: what a line does to the book, and its reply with the line feed at its end. Where memory
 /// runs out nothing has changed.
 pub fn reply_to(alloc: Global, model: &mut Model<'_>, line: &Line) -> Result<String, OutOfMemory>
-    ensures reply { IfOk result (λ reply. string_bytes reply ≡ reply_bytes (line_step (notations_in model.old) (core_of model.old) line.now).1) }
-    ensures book { OnOk result (model.new ≡ with_core model.old (line_step (notations_in model.old) (core_of model.old) line.now).0) }
+    ensures reply { IfOk result (λ reply. string_bytes reply ≡ reply_bytes (line_step (notations_in model.old) served (core_of model.old) line.now).1) }
+    ensures book { OnOk result (model.new ≡ with_core model.old (line_step (notations_in model.old) served (core_of model.old) line.now).0) }
     ensures err { OnErr result (model.new ≡ model.old) }
 {
     let name = sheet_to_add(alloc, line.text().as_str())?;
@@ -33,8 +34,8 @@ pub fn reply_to(alloc: Global, model: &mut Model<'_>, line: &Line) -> Result<Str
 
 /// The same, with the reply as a line: without the line feed at its end.
 pub fn answer_line(alloc: Global, model: &mut Model<'_>, line: &Line) -> Result<Line, OutOfMemory>
-    ensures reply { IfOk result (λ reply. reply ≡ reply_text (line_step (notations_in model.old) (core_of model.old) line.now).1) }
-    ensures book { OnOk result (model.new ≡ with_core model.old (line_step (notations_in model.old) (core_of model.old) line.now).0) }
+    ensures reply { IfOk result (λ reply. reply ≡ reply_text (line_step (notations_in model.old) served (core_of model.old) line.now).1) }
+    ensures book { OnOk result (model.new ≡ with_core model.old (line_step (notations_in model.old) served (core_of model.old) line.now).0) }
     ensures err { OnErr result (model.new ≡ model.old) }
 {
     let mut reply = reply_to(alloc, model, line)?;

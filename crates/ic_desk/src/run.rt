@@ -3,6 +3,7 @@ ghost use Rattle.ic_laws.specs.Lines.{line_step, reply_bytes};
 ghost use Rattle.ic_lines.specs.Bytes.{AppendsFront, HasFault, IfTold};
 ghost use Rattle.ic_book.specs.Book.{core_of, notations_in, with_core};
 ghost use Rattle.ic_desk.specs.Run.{AppendsReplies, HasCause, Leaves, TakesAll};
+ghost use Rattle.ic_desk.specs.Served.{served};
 
 use crate::answer::reply_to;
 use ic_book::Model;
@@ -61,14 +62,14 @@ fn answer_to<K: Sink>(
     line: &Line,
     sink: &mut K,
 ) -> Result<(), RunError>
-    ensures book { OnOk result (model.new ≡ with_core model.old (line_step (notations_in model.old) (core_of model.old) line.now).0) }
+    ensures book { OnOk result (model.new ≡ with_core model.old (line_step (notations_in model.old) served (core_of model.old) line.now).0) }
     ensures reply { OnOk result (IfTold (K.written sink.old) (K.written sink.new)
-        (λ before now. now ≡ before ++ reply_bytes (line_step (notations_in model.old) (core_of model.old) line.now).1)) }
+        (λ before now. now ≡ before ++ reply_bytes (line_step (notations_in model.old) served (core_of model.old) line.now).1)) }
     ensures which { IfErr result (λ e. (e ≡ RunError.OutOfMemory) ⊎ (e ≡ RunError.WriteFault)) }
     ensures no_memory { result ≡ Err RunError.OutOfMemory → (model.new ≡ model.old) × (sink.new ≡ sink.old) }
     ensures write_fault { result ≡ Err RunError.WriteFault → HasFault (K.faults sink.old) (K.faults sink.new)
-        × (model.new ≡ with_core model.old (line_step (notations_in model.old) (core_of model.old) line.now).0)
-        × IfTold (K.written sink.old) (K.written sink.new) (AppendsFront (reply_bytes (line_step (notations_in model.old) (core_of model.old) line.now).1)) }
+        × (model.new ≡ with_core model.old (line_step (notations_in model.old) served (core_of model.old) line.now).0)
+        × IfTold (K.written sink.old) (K.written sink.new) (AppendsFront (reply_bytes (line_step (notations_in model.old) served (core_of model.old) line.now).1)) }
     ensures counted { K.faults sink.old ≤ K.faults sink.new }
     ensures quiet { OnOk result (K.faults sink.new ≡ K.faults sink.old) }
 {

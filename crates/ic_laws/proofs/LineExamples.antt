@@ -3,7 +3,7 @@ use Rattle.std.proofs.Common.{◌≡◌, [], ◌∷◌, map, take, drop, pos, ne
 use Rattle.std.specs.Str.{is_utf8, chars}
 use lib.Utf8.{encode}
 use Rattle.caseless.proofs.Computing.{caseless}
-use Rattle.ic_laws.specs.Command.{AddSheet, UpdateCellWithFormula, commands, index_said, named_command, position_said, scope_said}
+use Rattle.ic_laws.specs.Command.{AddSheet, UpdateCellWithFormula, commands, index_said, named_command, position_said, rows_named, scope_said}
 use Rattle.ic_laws.specs.CoreBook.{CoreBook}
 use Rattle.ic_laws.specs.CoreStep.{core_step}
 use Rattle.ic_laws.specs.Lines.{lines_of, texts_of, words_of, unescaped, escaped, command_of, replies}
@@ -34,19 +34,19 @@ lone_backslash : unescaped (codes "a\\") ≡ None
 lone_backslash = refl
 
 -- the empty word is a word
-adds_empty : command_of (codes "add_sheet\t") ≡ Some (AddSheet [])
+adds_empty : command_of commands (codes "add_sheet\t") ≡ Some (AddSheet [])
 unfolding commands
 adds_empty = refl
 
-too_few : command_of (codes "add_sheet") ≡ None
+too_few : command_of commands (codes "add_sheet") ≡ None
 unfolding commands
 too_few = refl
 
-too_many : command_of (codes "add_sheet\tA\t") ≡ None
+too_many : command_of commands (codes "add_sheet\tA\t") ≡ None
 unfolding commands
 too_many = refl
 
-other_case : command_of (codes "Add_sheet\tA") ≡ None
+other_case : command_of commands (codes "Add_sheet\tA") ≡ None
 unfolding commands
 other_case = refl
 
@@ -71,8 +71,8 @@ whole_row : named_command commands (codes "update_cell_with_formula") (codes "0"
 unfolding commands
 whole_row = refl
 
--- one that isn't served is no command of a line
-not_served : command_of (codes "get_new_sheet_id") ≡ None
+-- one that a table lacks is no command of a line
+not_served : command_of (rows_named (codes "add_sheet" ∷ [])) (codes "get_new_sheet_id") ≡ None
 unfolding commands
 not_served = refl
 
@@ -88,11 +88,11 @@ start = record { sheets = record { id = 1; name = codes "Sheet1"; cells = [] } �
 
 module _ (n : Notations) where
   -- the second name agrees with the first
-  same_name_twice : replies n start (texts_of (codes "add_sheet\tData\nadd_sheet\tDATA\n")) ≡ codes "ok\nerror\tSheetExists\n"
+  same_name_twice : replies n commands start (texts_of (codes "add_sheet\tData\nadd_sheet\tDATA\n")) ≡ codes "ok\nerror\tSheetExists\n"
   unfolding caseless commands core_step start is_utf8 chars encode
   same_name_twice = refl
 
   -- lines that are no command change nothing
-  bad_lines : replies n start (texts_of (codes "add_sheet\tA\r\nfoo\n\nadd_sheet\tB")) ≡ codes "ok\nerror\tBadLine\nerror\tBadLine\nok\n"
+  bad_lines : replies n commands start (texts_of (codes "add_sheet\tA\r\nfoo\n\nadd_sheet\tB")) ≡ codes "ok\nerror\tBadLine\nerror\tBadLine\nok\n"
   unfolding caseless commands core_step start is_utf8 chars encode
   bad_lines = refl

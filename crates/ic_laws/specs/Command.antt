@@ -1,7 +1,8 @@
 -- The commands as a table: each with its name, what its words are, and the command that they make. A line is read by the
 -- table; a new command is one row, and one step.
-use Rattle.std.specs.Prelude.{ℕ, ℤ, pos, neg_ℤ, List, [], ◌∷◌, filter, find, Bool, true, false, ◌==◌, nat_le, bytes_eq, Option, Some, None, option_map, option_and_then, if◌then◌else◌, codes}
+use Rattle.std.specs.Prelude.{ℕ, ℤ, pos, neg_ℤ, List, [], ◌∷◌, filter, find, ◌==◌, nat_le, bytes_eq, Option, Some, None, option_map, option_and_then, if◌then◌else◌, codes}
 use Rattle.std.specs.Fmt.{decimal}
+use Rattle.std.specs.List.{list_any}
 use Rattle.std.specs.Str.{all_ascii_digits}
 use Rattle.std.specs.Str.Parse.{digits_value}
 use Rattle.ic_laws.specs.Character.{minus}
@@ -45,12 +46,11 @@ abbrev pub AllSaid : List WordForm → Type 0
 AllSaid [] = Unit {0}
 AllSaid (form ∷ forms) = Said form × AllSaid forms
 
--- one command of the table; those that aren't served yet are no commands
+-- one command of the table
 pub record CommandRow : Type 0 where
   pub name : List ℕ
   pub forms : List WordForm
   pub command : AllSaid forms → Command
-  pub is_served : Bool
 
 -- a number is ASCII digits, with or without zeros in front
 abbrev pub number_said : List ℕ → Option ℕ
@@ -90,28 +90,29 @@ all_said [] (word ∷ words) = None
 all_said (form ∷ forms) [] = None
 all_said (form ∷ forms) (word ∷ words) = option_and_then (λ first. option_map (λ others. (first, others)) (all_said forms words)) (said form word)
 
--- The table. So far `add_sheet` alone is served.
+-- the table
 unfoldable pub commands : List CommandRow
 commands =
-    record { name = codes "add_sheet"; forms = OfText ∷ []; command = λ w. AddSheet w.0; is_served = true }
-    ∷ record { name = codes "rename_sheet"; forms = OfText ∷ OfText ∷ []; command = λ w. RenameSheet w.0 w.1.0; is_served = false }
-    ∷ record { name = codes "rename_sheet_by_index"; forms = OfIndex ∷ OfText ∷ []; command = λ w. RenameSheetByIndex w.0 w.1.0; is_served = false }
-    ∷ record { name = codes "move_sheet"; forms = OfIndex ∷ OfIndex ∷ []; command = λ w. MoveSheet w.0 w.1.0; is_served = false }
-    ∷ record { name = codes "delete_sheet"; forms = OfIndex ∷ []; command = λ w. DeleteSheet w.0; is_served = false }
-    ∷ record { name = codes "delete_sheet_by_name"; forms = OfText ∷ []; command = λ w. DeleteSheetByName w.0; is_served = false }
-    ∷ record { name = codes "delete_sheet_by_sheet_id"; forms = OfIndex ∷ []; command = λ w. DeleteSheetBySheetId w.0; is_served = false }
-    ∷ record { name = codes "new_defined_name"; forms = OfText ∷ OfScope ∷ OfText ∷ []; command = λ w. NewDefinedName w.0 w.1.0 w.1.1.0; is_served = false }
-    ∷ record { name = codes "delete_defined_name"; forms = OfText ∷ OfScope ∷ []; command = λ w. DeleteDefinedName w.0 w.1.0; is_served = false }
-    ∷ record { name = codes "is_valid_defined_name"; forms = OfText ∷ OfScope ∷ OfText ∷ []; command = λ w. IsValidDefinedName w.0 w.1.0 w.1.1.0; is_served = false }
-    ∷ record { name = codes "get_defined_name_list"; forms = []; command = λ w. GetDefinedNameList; is_served = false }
-    ∷ record { name = codes "get_new_sheet_id"; forms = []; command = λ w. GetNewSheetId; is_served = false }
-    ∷ record { name = codes "set_locale"; forms = OfText ∷ []; command = λ w. SetLocale w.0; is_served = false }
-    ∷ record { name = codes "set_language"; forms = OfText ∷ []; command = λ w. SetLanguage w.0; is_served = false }
-    ∷ record { name = codes "update_cell_with_formula"; forms = OfIndex ∷ OfPosition ∷ OfPosition ∷ OfText ∷ []; command = λ w. UpdateCellWithFormula w.0 w.1.0 w.1.1.0 w.1.1.1.0; is_served = false }
-    ∷ record { name = codes "get_cell_formula"; forms = OfIndex ∷ OfPosition ∷ OfPosition ∷ []; command = λ w. GetCellFormula w.0 w.1.0 w.1.1.0; is_served = false } ∷ []
+    record { name = codes "add_sheet"; forms = OfText ∷ []; command = λ w. AddSheet w.0 }
+    ∷ record { name = codes "rename_sheet"; forms = OfText ∷ OfText ∷ []; command = λ w. RenameSheet w.0 w.1.0 }
+    ∷ record { name = codes "rename_sheet_by_index"; forms = OfIndex ∷ OfText ∷ []; command = λ w. RenameSheetByIndex w.0 w.1.0 }
+    ∷ record { name = codes "move_sheet"; forms = OfIndex ∷ OfIndex ∷ []; command = λ w. MoveSheet w.0 w.1.0 }
+    ∷ record { name = codes "delete_sheet"; forms = OfIndex ∷ []; command = λ w. DeleteSheet w.0 }
+    ∷ record { name = codes "delete_sheet_by_name"; forms = OfText ∷ []; command = λ w. DeleteSheetByName w.0 }
+    ∷ record { name = codes "delete_sheet_by_sheet_id"; forms = OfIndex ∷ []; command = λ w. DeleteSheetBySheetId w.0 }
+    ∷ record { name = codes "new_defined_name"; forms = OfText ∷ OfScope ∷ OfText ∷ []; command = λ w. NewDefinedName w.0 w.1.0 w.1.1.0 }
+    ∷ record { name = codes "delete_defined_name"; forms = OfText ∷ OfScope ∷ []; command = λ w. DeleteDefinedName w.0 w.1.0 }
+    ∷ record { name = codes "is_valid_defined_name"; forms = OfText ∷ OfScope ∷ OfText ∷ []; command = λ w. IsValidDefinedName w.0 w.1.0 w.1.1.0 }
+    ∷ record { name = codes "get_defined_name_list"; forms = []; command = λ w. GetDefinedNameList }
+    ∷ record { name = codes "get_new_sheet_id"; forms = []; command = λ w. GetNewSheetId }
+    ∷ record { name = codes "set_locale"; forms = OfText ∷ []; command = λ w. SetLocale w.0 }
+    ∷ record { name = codes "set_language"; forms = OfText ∷ []; command = λ w. SetLanguage w.0 }
+    ∷ record { name = codes "update_cell_with_formula"; forms = OfIndex ∷ OfPosition ∷ OfPosition ∷ OfText ∷ []; command = λ w. UpdateCellWithFormula w.0 w.1.0 w.1.1.0 w.1.1.1.0 }
+    ∷ record { name = codes "get_cell_formula"; forms = OfIndex ∷ OfPosition ∷ OfPosition ∷ []; command = λ w. GetCellFormula w.0 w.1.0 w.1.1.0 } ∷ []
 
-abbrev pub served : List CommandRow
-served = filter (λ row. row.is_served) commands
+-- the rows with these names
+abbrev pub rows_named : List (List ℕ) → List CommandRow
+rows_named names = filter (λ row. list_any (bytes_eq row.name) names) commands
 
 -- the command of this name with these texts, among those of a table
 abbrev pub named_command : List CommandRow → List ℕ → List (List ℕ) → Option Command

@@ -4,7 +4,7 @@ use Rattle.std.specs.Prelude.{ℕ, List, [], ◌∷◌, ◌++◌, Bool, false, �
 use Rattle.std.specs.List.{onto_first, slice_split}
 use Rattle.std.specs.Str.{is_utf8}
 use Rattle.ic_laws.specs.Character.{backslash, carriage_return, line_feed, lower_n, lower_r, lower_t, tab}
-use Rattle.ic_laws.specs.Command.{Command, Field, CommandRow, field_text, named_command, served}
+use Rattle.ic_laws.specs.Command.{Command, Field, CommandRow, field_text, named_command}
 use Rattle.ic_laws.specs.CoreBook.{CoreBook}
 use Rattle.ic_laws.specs.CoreStep.{Outcome, core_step}
 use Rattle.ic_laws.specs.Notations.{Notations}
@@ -64,9 +64,9 @@ abbrev pub spelled_command : List CommandRow → List (List ℕ) → Option Comm
 spelled_command table [] = None
 spelled_command table (name ∷ words) = option_and_then (named_command table name) (word_texts words)
 
--- the command that a line is, if it is one that is served
-abbrev pub command_of : List ℕ → Option Command
-command_of line = spelled_command served (words_of line)
+-- the command that a line is, if it is one of a table
+abbrev pub command_of : List CommandRow → List ℕ → Option Command
+command_of table line = spelled_command table (words_of line)
 
 -- the fields of a reply, or why there are none
 abbrev pub Reply : Type 0
@@ -86,15 +86,16 @@ abbrev pub outcome_of : CoreBook → Outcome → CoreBook × Reply
 outcome_of book (Ok done) = (done.0, Ok done.1)
 outcome_of book (Err refusal) = (book, Err refusal)
 
-module _ (n : Notations) where
-  -- what a command leaves, and its reply; without one the line is bad
-  abbrev pub command_step : CoreBook → Option Command → CoreBook × Reply
-  command_step book (Some command) = outcome_of book (core_step n book command)
-  command_step book None = (book, Err BadLine)
+-- what a command leaves, and its reply; without one the line is bad
+abbrev pub command_step : Notations → CoreBook → Option Command → CoreBook × Reply
+command_step n book (Some command) = outcome_of book (core_step n book command)
+command_step n book None = (book, Err BadLine)
 
+-- runs by the commands of a table
+module _ (n : Notations) (table : List CommandRow) where
   -- what one line leaves, and its reply
   abbrev pub line_step : CoreBook → List ℕ → CoreBook × Reply
-  line_step book line = command_step book (command_of line)
+  line_step book line = command_step n book (command_of table line)
 
   -- the book that lines leave
   abbrev pub after : CoreBook → List (List ℕ) → CoreBook

@@ -9,6 +9,7 @@ use Rattle.ic_laws.specs.Notations.{HasFunction, Notations, english_function, is
 use Rattle.ic_laws.specs.Position.{is_inside}
 use Rattle.ic_laws.specs.Scene.{key_of, same_key}
 use Rattle.ic_laws.specs.Tree.{Bound, IsWellFormed, Kind, bound_names}
+use Rattle.ic_laws.specs.declared.reference.Place.{Place}
 use Rattle.ic_laws.specs.declared.scene.Scene.{Scene}
 use Rattle.ic_laws.specs.declared.tree.Formula.{Formula}
 use Rattle.ic_laws.specs.declared.tree.Formula.TheVariants as formulas
@@ -17,19 +18,31 @@ use Rattle.ic_laws.specs.declared.tree.SheetMention.{SheetMention}
 use Rattle.ic_laws.specs.declared.tree.Tree.{every-Tree}
 use Rattle.ic_laws.specs.declared.tree.Tree.TheOpen as one
 
--- the functions of a formula are there, and its references lie in the sheet, in the cell at a row and a column
-abbrev pub LiesInSheet : Notations → ℤ → ℤ → Kind SheetMention NameMention → Type 0
-LiesInSheet n row column (one.Reference sheet place) = is_inside place row column ≡ true
-LiesInSheet n row column (one.Fun number arguments) = HasFunction n number
-LiesInSheet n row column kind = Unit {0}
+-- a place lies in the sheet, counted from the cell at a row and a column
+abbrev pub IsPlaceInside : ℤ → ℤ → Place → Type 0
+IsPlaceInside row column place = is_inside place row column ≡ true
 
--- What holds of each tree that a book keeps, for the sheet that its words are looked up from, and the cell that its
--- references count from: it is well-formed, written out and bound again it is the same, its functions are there, and its
--- references lie in the sheet.
-pub record IsKept (n : Notations) (scene : Scene) (scope : Option ℕ) (row column : ℤ) (t : Bound) : Type 0 where
+-- the functions of a formula are there, and of the places of its references this holds
+abbrev pub LiesWhere : Notations → (Place → Type 0) → Kind SheetMention NameMention → Type 0
+LiesWhere n Inside (one.Reference sheet place) = Inside place
+LiesWhere n Inside (one.Fun number arguments) = HasFunction n number
+LiesWhere n Inside kind = Unit {0}
+
+-- What holds of each tree that a book keeps, for the sheet that its words are looked up from: it is well-formed, written
+-- out and bound again it is the same, its functions are there, and of the places of its references this holds.
+pub record IsKeptWhere (n : Notations) (Inside : Place → Type 0) (scene : Scene) (scope : Option ℕ) (t : Bound) : Type 0 where
   pub well : IsWellFormed bound_names n.stored.let_fn n.stored.lambda_fn t
   pub settled : IsSettled (english_function n) scene scope t
-  pub parts : every-Tree SheetMention NameMention (LiesInSheet n row column) (λ pair. Unit {0}) t
+  pub parts : every-Tree SheetMention NameMention (LiesWhere n Inside) (λ pair. Unit {0}) t
+
+-- in a cell its references lie in the sheet
+abbrev pub IsKept : Notations → Scene → Option ℕ → ℤ → ℤ → Bound → Type 0
+IsKept n scene scope row column t = IsKeptWhere n (IsPlaceInside row column) scene scope t
+
+-- beside the cells, where the formulas of a sheet are kept for all of them, nothing is asked of places
+abbrev pub IsPooled : Notations → Scene → Option ℕ → Formula → Type 0
+IsPooled n scene scope (formulas.Tree t) = IsKeptWhere n (λ place. Unit {0}) scene scope t
+IsPooled n scene scope (formulas.Raw text) = Unit {0}
 
 -- nothing is asked of a text that doesn't read
 abbrev pub IsKeptFormula : Notations → Scene → Option ℕ → ℤ → ℤ → Formula → Type 0

@@ -9,7 +9,7 @@ ghost use Rattle.ic_laws.specs.Notations.{AreNotations, Notations, english_funct
 ghost use Rattle.ic_laws.specs.ReadAs.{read_as};
 ghost use Rattle.ic_laws.specs.Reading.{printed};
 ghost use Rattle.ic_laws.specs.Tree.{Bound};
-ghost use Rattle.ic_laws.specs.ValidCore.{IsKept, IsValidCore};
+ghost use Rattle.ic_laws.specs.ValidCore.{IsKept, IsPooled, IsValidCore};
 ghost use Rattle.std.specs.List.{slice_get};
 ghost use Rattle.ic_laws.specs.BookTrees.{BookKeepsFound, EachTree, IsMoved, with_sheet_at_end, with_trees};
 ghost use Rattle.ic_laws.specs.Changes.{Change, MentionsHold, NoneDanglesBy, changed_tree, changes_tree, name_added, name_gone, sheet_gone, sheet_named};
@@ -17,12 +17,13 @@ ghost use Rattle.ic_laws.specs.declared.dialect.WordKind.TheVariants as kinds;
 ghost use Rattle.ic_laws.specs.declared.scene.Scene.{Scene};
 ghost use Rattle.ic_laws.specs.declared.tree.Formula.TheVariants as formulas;
 
-/// In a valid book the stored text of a tree that is kept, its spelling in the stored form, is read and bound as the tree,
-/// in every cell and in every notation. So two trees that are kept for one scope have equal stored texts exactly where
-/// they are equal.
+/// In a valid book the stored text of a tree that is kept for a sheet, its spelling in the stored form, is read and bound
+/// as the tree, whether a cell has it or none, in every notation. So two trees that are kept for one sheet have equal stored
+/// texts exactly where they are equal.
 pub fn law_stored_text()
-    ensures binds { (n : Notations) (book : CoreBook) (scope : Option ℕ) (row column : ℤ) (t : Bound) → AreNotations n → IsValidCore n book → IsKept n (scene_of book) scope row column t → option_map (bound (english_function n) (scene_of book) scope) (read_as n.stored (printed n.stored (spelled (scene_of book) t))) ≡ Some t }
-    ensures decides { (n : Notations) (book : CoreBook) (scope : Option ℕ) (row column other_row other_column : ℤ) (t u : Bound) → AreNotations n → IsValidCore n book → IsKept n (scene_of book) scope row column t → IsKept n (scene_of book) scope other_row other_column u → printed n.stored (spelled (scene_of book) t) ≡ printed n.stored (spelled (scene_of book) u) ↔ t ≡ u }
+    ensures binds { (n : Notations) (book : CoreBook) (scope : Option ℕ) (t : Bound) → AreNotations n → IsValidCore n book → IsPooled n (scene_of book) scope (formulas.Tree t) → option_map (bound (english_function n) (scene_of book) scope) (read_as n.stored (printed n.stored (spelled (scene_of book) t))) ≡ Some t }
+    ensures decides { (n : Notations) (book : CoreBook) (scope : Option ℕ) (t u : Bound) → AreNotations n → IsValidCore n book → IsPooled n (scene_of book) scope (formulas.Tree t) → IsPooled n (scene_of book) scope (formulas.Tree u) → printed n.stored (spelled (scene_of book) t) ≡ printed n.stored (spelled (scene_of book) u) ↔ t ≡ u }
+    ensures of_cells { (n : Notations) (scene : Scene) (scope : Option ℕ) (row column : ℤ) (t : Bound) → IsKept n scene scope row column t → IsPooled n scene scope (formulas.Tree t) }
 {}
 
 /// A command that is accepted leaves a valid book valid, whichever it is.

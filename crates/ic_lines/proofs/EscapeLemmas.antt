@@ -1,9 +1,13 @@
 -- Words and the texts that they spell.
-use Rattle.std.proofs.Common.{◌≡◌, ◌≢◌, ◌↔◌, ◌⊎◌, ℕ, List, [], ◌∷◌, ◌++◌, false, ◌==◌, Option, Some, None, IsSome, IsNone, is_some, option_map, option_and_then, refl, sym, subst, ◌∙◌, ap, inl, inr, append_assoc}
-use Rattle.std.proofs.lemmas.Bool.Decides.{eqb_tells}
+use Rattle.std.proofs.Common.{◌≡◌, ◌≢◌, ◌↔◌, ◌⊎◌, ℕ, ◌≤◌, ◌||◌, arith, chars, encode_utf8, encode_utf8_all, IsUtf8, List, [], ◌∷◌, ◌++◌, false, ◌==◌, Option, Some, None, IsSome, IsNone, is_some, option_map, option_and_then, refl, sym, subst, ◌∙◌, ap, inl, inr, append_assoc}
+use Rattle.std.specs.List.{list_any}
+use Rattle.std.proofs.lemmas.Bool.{or_parts}
+use Rattle.std.proofs.lemmas.Bool.Decides.{eqb_tells, leb_tells, nat_tests}
 use Rattle.std.proofs.lemmas.List.{append-nil}
+use Rattle.std.proofs.lemmas.List.Folds.{list_any-append}
+use Rattle.std.proofs.lemmas.Str.{encode_ascii, encodes-chars}
 use Rattle.ic_laws.specs.Lines.{escape_of, escape_meaning, escaped, unescaped}
-use Rattle.ic_lines.specs.Escapes.{GoesOnWrong, HasWrongEscape}
+use Rattle.ic_lines.specs.Escapes.{GoesOnWrong, HasWrongEscape, is_escaped}
 
 -- a character that is no backslash stands for itself
 unescaped-plain : (c : ℕ) (cs : List ℕ) → (c == 92) ≡ false → unescaped (c ∷ cs) ≡ option_map (λ t. c ∷ t) (unescaped cs)
@@ -168,3 +172,28 @@ wrong_exactly w r e = (
 -- what a text is written as is read back
 pub spelled_exactly : (w t : List ℕ) (r : Option (List ℕ)) → r ≡ unescaped w → w ≡ escaped t → r ≡ Some t
 spelled_exactly w t r e h = e ∙ ap unescaped h ∙ unescaped-escaped t
+
+-- a character that needs no escape stands for itself
+escape_of-plain : (c : ℕ) → is_escaped c ≡ false → escape_of c ≡ c ∷ []
+escape_of-plain c h =
+    let last = or_parts (c == 92 || c == 9 || c == 10) (c == 13) h in
+    let third = or_parts (c == 92 || c == 9) (c == 10) last.0 in
+    let first = or_parts (c == 92) (c == 9) third.0 in
+    rw (first.0, first.1, third.1, last.1) refl
+
+high_plain : (c : ℕ) → 128 ≤ c → is_escaped c ≡ false
+high_plain c h = grind (arith, nat_tests)
+
+-- a text whose bytes need no escape is written as it is
+escaped_bytes : (cs : List ℕ) → list_any is_escaped (encode_utf8_all cs) ≡ false → escaped cs ≡ cs
+escaped_bytes [] h = refl
+escaped_bytes (c ∷ cs) h =
+    let parts = or_parts (list_any is_escaped (encode_utf8 c)) (list_any is_escaped (encode_utf8_all cs)) (sym (list_any-append is_escaped (encode_utf8 c) (encode_utf8_all cs)) ∙ h) in
+    let plain : is_escaped c ≡ false = elim (leb_tells 128 c) [
+      | inl p ↦ high_plain c p.1
+      | inr p ↦ (or_parts (is_escaped c) false (sym (ap (list_any is_escaped) (encode_ascii c p.1)) ∙ parts.0)).0
+    ] in
+    rw (escape_of-plain c plain) (ap (λ t. c ∷ t) (escaped_bytes cs parts.1))
+
+pub escaped-plain : (bytes : List ℕ) → IsUtf8 bytes → list_any is_escaped bytes ≡ false → escaped (chars bytes) ≡ chars bytes
+escaped-plain bytes u h = escaped_bytes (chars bytes) (ap (list_any is_escaped) (encodes-chars bytes u) ∙ h)

@@ -1,7 +1,11 @@
--- Which words have a wrong escape.
-use Rattle.std.specs.Prelude.{◌≡◌, ℕ, List, [], ◌∷◌, ◌++◌, None, IsSome}
-use Rattle.ic_laws.specs.Character.{backslash}
+-- Which characters are written by an escape, and which words have a wrong one.
+use Rattle.std.specs.Prelude.{◌≡◌, ℕ, Bool, ◌||◌, ◌==◌, List, [], ◌∷◌, ◌++◌, None, IsSome}
+use Rattle.ic_laws.specs.Character.{backslash, carriage_return, line_feed, tab}
 use Rattle.ic_laws.specs.Lines.{escape_meaning, unescaped}
+
+-- a character that is written by an escape
+abbrev pub is_escaped : ℕ → Bool
+is_escaped c = c == backslash || c == tab || c == line_feed || c == carriage_return
 
 -- no escape's second character stands first
 abbrev pub GoesOnWrong : List ℕ → Type 0

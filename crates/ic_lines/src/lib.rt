@@ -16,7 +16,7 @@ mod standard;
 mod words;
 
 pub use error::{Failed, RunError};
-pub use escapes::{escape, unescape};
+pub use escapes::{escape, push_escaped, unescape};
 pub use line::Line;
 pub use memory::{MemorySink, MemorySource};
 pub use reader::LineReader;

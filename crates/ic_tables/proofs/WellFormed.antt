@@ -83,6 +83,16 @@ bytes_same a b h = (bytes_eq-Decides a b).0 h
 pub language_among : (t : TableSet) (code : List ℕ) (l : Language) → language_of t code ≡ Some l → IsAmong t.languages l × (l.code ≡ code)
 language_among t code l h = let found = found_among (λ m. bytes_eq m.code code) t.languages l h in (found.0, bytes_same l.code code found.1)
 
+-- the language that a code finds has this code, and its own code finds it
+pub language_found : (t : TableSet) (code : List ℕ) (l : Language) → language_of t code ≡ Some l → (l.code ≡ code) × (language_of t l.code ≡ Some l)
+language_found t code l h = let same = (language_among t code l h).1 in (same, ap (language_of t) same ∙ h)
+
+-- the locale that an id finds has this id, and its own id finds it
+pub locale_found : (t : TableSet) (id : List ℕ) (l : NamedLocale) → locale_of t id ≡ Some l → (l.id ≡ id) × (locale_of t l.id ≡ Some l)
+locale_found t id l h =
+    let same : l.id ≡ id = bytes_same l.id id (found_among (λ n. bytes_eq n.id id) t.locales l h).1 in
+    (same, ap (locale_of t) same ∙ h)
+
 -- ---- 1
 
 and_first : (a b c d e f : Bool) → (a && b && c && d && e && f) ≡ true → (a ≡ true) × (b ≡ true)

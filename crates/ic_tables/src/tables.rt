@@ -84,6 +84,17 @@ impl Tables {
         self.languages.words(id).ok_or(BookIdError::InvalidLanguage)
     }
 
+    /// The locale with this id, beside the id.
+    pub fn get_named_locale(&self, id: &str) -> Result<&NamedLocale, BookIdError>
+        ensures found { MatchResult result (λ l. locale_of self.now (chars id.now) ≡ Some l.now)
+            (λ e. (e ≡ BookIdError.InvalidLocale) × (locale_of self.now (chars id.now) ≡ None)) }
+
+        // Its formats meet the conditions on locales.
+        ensures formats { IfOk result (λ l. HasGoodFormats self.now l.now.locale) }
+    {
+        find_id(self.locales.as_slice(), id).ok_or(BookIdError::InvalidLocale)
+    }
+
     /// The locale with this id.
     pub fn get_locale(&self, id: &str) -> Result<&Locale, BookIdError>
         ensures found { MatchResult result (λ l. option_map (λ n. n.locale) (locale_of self.now (chars id.now)) ≡ Some l.now)
@@ -92,10 +103,7 @@ impl Tables {
         // Its formats meet the conditions on locales.
         ensures formats { IfOk result (λ l. HasGoodFormats self.now l.now) }
     {
-        match find_id(self.locales.as_slice(), id) {
-            Some(named) => Ok(&named.locale),
-            None => Err(BookIdError::InvalidLocale),
-        }
+        Ok(&self.get_named_locale(id)?.locale)
     }
 
     /// The language `en`, which is always there.

@@ -1,6 +1,7 @@
 pub mod AnyLemmas
 pub mod BindLemmas
 pub mod Binders
+pub mod ClashLemmas
 pub mod CutLemmas
 pub mod DigitLemmas
 pub mod ErrorLemmas

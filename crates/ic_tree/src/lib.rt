@@ -1,6 +1,6 @@
 //! Formulas as texts: the dialects of stored and of shown formulas, the reader that gives the tree of a text, and the
 //! printer that gives the text of a tree. Reader and printer are written once, for every dialect. `bind`
-//! finds what a formula mentions, and `spell` writes it in its own spelling.
+//! finds what a formula mentions, `spell` writes it in its own spelling, and `spell_with` in any other.
 #![tactic(auto)]
 
 mod binding;
@@ -24,11 +24,11 @@ mod token;
 pub use binding::bind;
 pub use clash::clashes;
 pub use dynamic::is_dynamic;
-pub use law::{law_language_settled, law_tokens_before};
+pub use law::{law_language_settled, law_shown_reads, law_tokens_before};
 pub(crate) use measured::Measured;
 pub use printer::print;
 pub use reading::read;
 pub use shown::Shown;
-pub use spelling::spell;
+pub use spelling::{Spelling, spell, spell_definition, spell_sheet, spell_with};
 pub use stored::Stored;
 pub(crate) use token::{Ahead, Token, TokenSource};

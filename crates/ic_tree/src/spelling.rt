@@ -1,33 +1,54 @@
-ghost use Rattle.std.specs.Prelude.{◌≡◌, IfOk, map};
+ghost use Rattle.std.specs.Prelude.{◌≡◌, List, ℕ, IfOk, map};
 ghost use Rattle.std.specs.Fmt.{decimal};
-ghost use Rattle.ic_laws.specs.Binding.{spelled, spelled_sheet, spelled_word};
+ghost use Rattle.ic_laws.specs.Binding.{spelled, spelled_sheet, spelled_with, spelled_word};
 ghost use Rattle.ic_laws.specs.Scene.{name_spelling, sheet_spelling};
+ghost use Rattle.ic_laws.specs.declared.tree.NameKey.{NameKey};
 ghost use Rattle.ic_laws.proofs.binding.Again.{pair_spelled};
 
 use crate::copies::{copy_rows, copy_texts};
 use ic_laws::{
-    Bound, Boxed, Finder, Items, LetPair, NameMention, OutOfMemory, SheetMention, Spelled, Text,
-    Tree,
+    Bound, Boxed, Finder, Items, LetPair, NameKey, NameMention, OutOfMemory, SheetMention, Spelled,
+    Text, Tree,
 };
 use std::alloc::Global;
 
-/// The sheet of a reference: a found one by its own name, or by the digits of its id where that is gone.
-fn spell_sheet<N: Finder>(
-    alloc: Global,
-    names: &N,
-    sheet: &SheetMention,
-) -> Result<Option<Text>, OutOfMemory>
-    ensures { IfOk result (λ r. r ≡ spelled_sheet (sheet_spelling (N.scene names.now)) sheet.now) }
-{
-    match sheet {
-        SheetMention::Own => Ok(None),
-        SheetMention::Sheet(id) => Ok(Some(spell_id(alloc, names, *id)?)),
-        SheetMention::Dangling(name) => Ok(Some(Text::from_str(alloc, name.as_str())?)),
+/// How formulas are written: the text that each sheet and each definition has in them.
+pub trait Spelling {
+    ghost sheet_text: { Self → ℕ → List ℕ };
+
+    ghost key_text: { Self → NameKey → List ℕ };
+
+    /// The text of the sheet with this id.
+    fn sheet_text(&self, alloc: Global, id: u32) -> Result<Text, OutOfMemory>
+        ensures { IfOk result (λ r. r ≡ sheet_text self.now id) };
+
+    /// The text of the definition with this key.
+    fn key_text(&self, alloc: Global, key: &NameKey) -> Result<Text, OutOfMemory>
+        ensures { IfOk result (λ r. r ≡ key_text self.now key.now) };
+}
+
+/// The names that sheets and definitions have at present.
+#[derive(Drop)]
+struct Present<'n, N: Finder> {
+    names: &'n N,
+}
+
+impl<'n, N: Finder> Spelling for Present<'n, N> {
+    ghost sheet_text = { λ present. sheet_spelling (N.scene present.names.now) };
+
+    ghost key_text = { λ present. name_spelling (N.scene present.names.now) };
+
+    fn sheet_text(&self, alloc: Global, id: u32) -> Result<Text, OutOfMemory> {
+        spell_sheet(alloc, self.names, id)
+    }
+
+    fn key_text(&self, alloc: Global, key: &NameKey) -> Result<Text, OutOfMemory> {
+        spell_definition(alloc, self.names, key)
     }
 }
 
-/// The name of the sheet with this id, or the digits of the id.
-fn spell_id<N: Finder>(alloc: Global, names: &N, id: u32) -> Result<Text, OutOfMemory>
+/// The name of the sheet with this id, or the digits of the id where no sheet has it.
+pub fn spell_sheet<N: Finder>(alloc: Global, names: &N, id: u32) -> Result<Text, OutOfMemory>
     ensures { IfOk result (λ r. r ≡ sheet_spelling (N.scene names.now) id) }
 {
     match names.sheet_spelling(id) {
@@ -43,25 +64,67 @@ fn digits_of(alloc: Global, id: u32) -> Result<Text, OutOfMemory>
     Ok(Text::from(id.to_string(alloc)?))
 }
 
-/// A word: a found definition by its own name, or by its folded name where that is gone.
-fn spell_word<N: Finder>(alloc: Global, names: &N, word: &NameMention) -> Result<Text, OutOfMemory>
-    ensures { IfOk result (λ r. r ≡ spelled_word (name_spelling (N.scene names.now)) word.now) }
+/// The name of the definition with this key as it was given, or the key's folded name where no definition has it.
+pub fn spell_definition<N: Finder>(
+    alloc: Global,
+    names: &N,
+    key: &NameKey,
+) -> Result<Text, OutOfMemory>
+    ensures { IfOk result (λ r. r ≡ name_spelling (N.scene names.now) key.now) }
 {
-    match word {
-        NameMention::Var(word) => Ok(Text::from_str(alloc, word.as_str())?),
-        NameMention::Name(key) => match names.name_spelling(key) {
-            Some(name) => Ok(Text::from_str(alloc, name)?),
-            None => Ok(Text::from_str(alloc, key.name.as_str())?),
-        },
-        NameMention::Dangling(word) => Ok(Text::from_str(alloc, word.as_str())?),
+    match names.name_spelling(key) {
+        Some(name) => Ok(Text::from_str(alloc, name)?),
+        None => Ok(Text::from_str(alloc, key.name.as_str())?),
     }
 }
 
 /// A formula with each sheet and each definition that it mentions in its present spelling. What dangles and variables are
 /// written as they were typed, an id without a sheet by its digits, a key without a definition by its folded name.
-#[cycle(spell)]
 pub fn spell<N: Finder>(alloc: Global, names: &N, tree: &Bound) -> Result<Spelled, OutOfMemory>
     ensures { IfOk result (λ r. r ≡ spelled (N.scene names.now) tree.now) }
+{
+    spell_with(alloc, &Present { names }, tree)
+}
+
+/// The sheet of a reference: a found one by its text.
+fn spell_mention<S: Spelling>(
+    alloc: Global,
+    spelling: &S,
+    sheet: &SheetMention,
+) -> Result<Option<Text>, OutOfMemory>
+    ensures { IfOk result (λ r. r ≡ spelled_sheet (S.sheet_text spelling.now) sheet.now) }
+{
+    match sheet {
+        SheetMention::Own => Ok(None),
+        SheetMention::Sheet(id) => Ok(Some(spelling.sheet_text(alloc, *id)?)),
+        SheetMention::Dangling(name) => Ok(Some(Text::from_str(alloc, name.as_str())?)),
+    }
+}
+
+/// A word: a found definition by its text.
+fn spell_word<S: Spelling>(
+    alloc: Global,
+    spelling: &S,
+    word: &NameMention,
+) -> Result<Text, OutOfMemory>
+    ensures { IfOk result (λ r. r ≡ spelled_word (S.key_text spelling.now) word.now) }
+{
+    match word {
+        NameMention::Var(word) => Ok(Text::from_str(alloc, word.as_str())?),
+        NameMention::Name(key) => spelling.key_text(alloc, key),
+        NameMention::Dangling(word) => Ok(Text::from_str(alloc, word.as_str())?),
+    }
+}
+
+/// A formula with each sheet and each definition that it mentions by its text. What dangles and variables are written as
+/// they were typed.
+#[cycle(spell)]
+pub fn spell_with<S: Spelling>(
+    alloc: Global,
+    spelling: &S,
+    tree: &Bound,
+) -> Result<Spelled, OutOfMemory>
+    ensures { IfOk result (λ r. r ≡ spelled_with (S.sheet_text spelling.now) (S.key_text spelling.now) tree.now) }
 {
     match tree {
         Tree::Num(amount) => Ok(Tree::Num(*amount)),
@@ -69,42 +132,42 @@ pub fn spell<N: Finder>(alloc: Global, names: &N, tree: &Bound) -> Result<Spelle
         Tree::Bool(value) => Ok(Tree::Bool(*value)),
         Tree::Err(error) => Ok(Tree::Err(*error)),
         Tree::Reference(sheet, place) => Ok(Tree::Reference(
-            spell_sheet(alloc, names, sheet)?,
+            spell_mention(alloc, spelling, sheet)?,
             *place,
         )),
-        Tree::Word(word) => Ok(Tree::Word(spell_word(alloc, names, word)?)),
+        Tree::Word(word) => Ok(Tree::Word(spell_word(alloc, spelling, word)?)),
         Tree::Empty => Ok(Tree::Empty),
-        Tree::Paren(x) => Ok(Tree::Paren(spell_boxed(alloc, names, x)?)),
-        Tree::Prefix(sign, x) => Ok(Tree::Prefix(*sign, spell_boxed(alloc, names, x)?)),
-        Tree::Percent(x) => Ok(Tree::Percent(spell_boxed(alloc, names, x)?)),
-        Tree::Spill(x) => Ok(Tree::Spill(spell_boxed(alloc, names, x)?)),
+        Tree::Paren(x) => Ok(Tree::Paren(spell_boxed(alloc, spelling, x)?)),
+        Tree::Prefix(sign, x) => Ok(Tree::Prefix(*sign, spell_boxed(alloc, spelling, x)?)),
+        Tree::Percent(x) => Ok(Tree::Percent(spell_boxed(alloc, spelling, x)?)),
+        Tree::Spill(x) => Ok(Tree::Spill(spell_boxed(alloc, spelling, x)?)),
         Tree::Binary(sign, a, b) => {
-            let a = spell_boxed(alloc, names, a)?;
-            let b = spell_boxed(alloc, names, b)?;
+            let a = spell_boxed(alloc, spelling, a)?;
+            let b = spell_boxed(alloc, spelling, b)?;
             Ok(Tree::Binary(*sign, a, b))
         }
         Tree::Fun(number, arguments) => {
-            let arguments = spell_all(alloc, names, arguments.as_slice())?;
+            let arguments = spell_all(alloc, spelling, arguments.as_slice())?;
             Ok(Tree::Fun(*number, Items::from(arguments)))
         }
         Tree::Call(word, arguments) => {
-            let arguments = spell_all(alloc, names, arguments.as_slice())?;
+            let arguments = spell_all(alloc, spelling, arguments.as_slice())?;
             let arguments = Items::from(arguments);
-            Ok(Tree::Call(spell_word(alloc, names, word)?, arguments))
+            Ok(Tree::Call(spell_word(alloc, spelling, word)?, arguments))
         }
         Tree::Let(pairs, body) => {
-            let pairs = spell_pairs(alloc, names, pairs.as_slice())?;
-            let body = spell_boxed(alloc, names, body)?;
+            let pairs = spell_pairs(alloc, spelling, pairs.as_slice())?;
+            let body = spell_boxed(alloc, spelling, body)?;
             Ok(Tree::Let(Items::from(pairs), body))
         }
         Tree::Lambda(parameters, body) => {
             let parameters = copy_texts(alloc, parameters.as_slice())?;
-            let body = spell_boxed(alloc, names, body)?;
+            let body = spell_boxed(alloc, spelling, body)?;
             Ok(Tree::Lambda(Items::from(parameters), body))
         }
         Tree::Apply(x, arguments) => {
-            let x = spell_boxed(alloc, names, x)?;
-            let arguments = spell_all(alloc, names, arguments.as_slice())?;
+            let x = spell_boxed(alloc, spelling, x)?;
+            let arguments = spell_all(alloc, spelling, arguments.as_slice())?;
             Ok(Tree::Apply(x, Items::from(arguments)))
         }
         Tree::Array(rows) => {
@@ -116,29 +179,29 @@ pub fn spell<N: Finder>(alloc: Global, names: &N, tree: &Bound) -> Result<Spelle
 
 /// The same of a part of a formula.
 #[cycle(spell)]
-fn spell_boxed<N: Finder>(
+fn spell_boxed<S: Spelling>(
     alloc: Global,
-    names: &N,
+    spelling: &S,
     tree: &Boxed<Bound>,
 ) -> Result<Boxed<Spelled>, OutOfMemory>
-    ensures { IfOk result (λ r. r ≡ spelled (N.scene names.now) tree.now) }
+    ensures { IfOk result (λ r. r ≡ spelled_with (S.sheet_text spelling.now) (S.key_text spelling.now) tree.now) }
 {
-    let written = spell(alloc, names, tree.as_ref())?;
+    let written = spell_with(alloc, spelling, tree.as_ref())?;
     Ok(Boxed::from(Box::new(alloc, written)?))
 }
 
 /// Formulas in their present spelling.
 #[cycle(spell)]
-fn spell_all<N: Finder>(
+fn spell_all<S: Spelling>(
     alloc: Global,
-    names: &N,
+    spelling: &S,
     trees: &[Bound],
 ) -> Result<Vec<Spelled>, OutOfMemory>
-    ensures { IfOk result (λ r. r.items ≡ map (spelled (N.scene names.now)) trees.now) }
+    ensures { IfOk result (λ r. r.items ≡ map (spelled_with (S.sheet_text spelling.now) (S.key_text spelling.now)) trees.now) }
 {
     let mut out = Vec::new(alloc);
     for tree in trees {
-        let written = spell(alloc, names, tree)?;
+        let written = spell_with(alloc, spelling, tree)?;
         out.push(written)?;
     }
     Ok(out)
@@ -146,16 +209,16 @@ fn spell_all<N: Finder>(
 
 /// The variables of LET with their values in their present spelling.
 #[cycle(spell)]
-fn spell_pairs<N: Finder>(
+fn spell_pairs<S: Spelling>(
     alloc: Global,
-    names: &N,
+    spelling: &S,
     pairs: &[LetPair<SheetMention, NameMention>],
 ) -> Result<Vec<LetPair<Option<Text>, Text>>, OutOfMemory>
-    ensures { IfOk result (λ r. r.items ≡ map (pair_spelled (sheet_spelling (N.scene names.now)) (name_spelling (N.scene names.now))) pairs.now) }
+    ensures { IfOk result (λ r. r.items ≡ map (pair_spelled (S.sheet_text spelling.now) (S.key_text spelling.now)) pairs.now) }
 {
     let mut out = Vec::new(alloc);
     for pair in pairs {
-        let value = spell(alloc, names, &pair.value)?;
+        let value = spell_with(alloc, spelling, &pair.value)?;
         let variable = Text::from_str(alloc, pair.variable.as_str())?;
         out.push(LetPair { variable, value })?;
     }

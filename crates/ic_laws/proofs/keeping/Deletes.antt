@@ -43,16 +43,19 @@ removal_goes before after index s words fewer at differ ids = record {
       ∙ ap (λ o. unwrap_or (option_map (λ (x : SheetName). x.name) o) (decimal s.id)) (finds_itself (λ (x : SheetName). x.id) nat_eq nat_eq_equiv.symm (λ i. eq-eqb i i refl) before.sheets index s ids at);
 }
 
+-- what the deletion of a sheet does to what formulas can mention
+pub delete_going : (n : Notations) (book : CoreBook) (index : ℕ) (sheet : Sheet) → IsValidCore n book → slice_get book.sheets index ≡ Some sheet → Going (scene_of book) (scene_of (without_sheet index book)) sheet.id sheet.name
+delete_going n book index sheet valid at =
+    let ids : IdsDiffer (scene_of book) = subst (IsDistinct nat_eq) (sym (map-map (λ (x : SheetName). x.id) seen book.sheets)) valid.ids_differ in
+    removal_goes (scene_of book) (scene_of (without_sheet index book)) index (seen sheet) refl (remove_map seen book.sheets index) (slice_get-map seen book.sheets index ∙ ap (option_map seen) at) (sheets_differ book valid.names_differ) ids
+
 -- an accepted deletion of a sheet
 pub delete_dangles : (n : Notations) (book after : CoreBook) (index : ℕ) (sheet : Sheet) (fields : List Field) → AreNotations n → IsValidCore n book → slice_get book.sheets index ≡ Some sheet → delete_step n book index ≡ Ok (after, fields)
     → after ≡ without_sheet index (with_trees (changed_tree (sheet_gone sheet.id sheet.name)) book)
 delete_dangles n book after index sheet fields are valid at e =
-    let before : Scene = scene_of book in
     let rest : Scene = scene_of (without_sheet index book) in
-    let ids : IdsDiffer before = subst (IsDistinct nat_eq) (sym (map-map (λ (x : SheetName). x.id) seen book.sheets)) valid.ids_differ in
-    let going = removal_goes before rest index (seen sheet) refl (remove_map seen book.sheets index) (slice_get-map seen book.sheets index ∙ ap (option_map seen) at) (sheets_differ book valid.names_differ) ids in
     (accepted (delete_refusal book index) (changed_by n (without_sheet index) book) after [] fields e).left
-    ∙ ap (without_sheet index) (kept_changed n book rest (sheet_gone sheet.id sheet.name) are valid (gone_becomes before rest sheet.id sheet.name going))
+    ∙ ap (without_sheet index) (kept_changed n book rest (sheet_gone sheet.id sheet.name) are valid (gone_becomes (scene_of book) rest sheet.id sheet.name (delete_going n book index sheet valid at)))
 
 -- an accepted new definition
 pub new_name_binds : (n : Notations) (book after : CoreBook) (name : List ℕ) (index : Option ℕ) (text : List ℕ) (body : Body) (fields : List Field) → AreNotations n → IsValidCore n book → body_of n book text ≡ Some body

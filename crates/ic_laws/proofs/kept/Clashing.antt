@@ -17,7 +17,7 @@ use Rattle.ic_laws.specs.ReadAs.{read_as}
 use Rattle.ic_laws.specs.Reading.{FitsPair, IsFreeWord, printed}
 use Rattle.ic_laws.specs.Scene.{name_spelling, sheet_spelling}
 use Rattle.ic_laws.specs.Tree.{Bound, IsKindWell, IsPairWell, spelled_names}
-use Rattle.ic_laws.specs.ValidCore.{IsKept, IsValidCore}
+use Rattle.ic_laws.specs.ValidCore.{IsKept, IsPlaceInside, IsValidCore}
 use Rattle.ic_laws.specs.declared.dialect.WordKind.TheVariants as kinds
 use Rattle.ic_laws.specs.declared.scene.Scene.{Scene}
 use Rattle.ic_laws.specs.declared.tree.Formula.{Formula}
@@ -177,7 +177,7 @@ module _ (n : Notations) (notations : AreNotations n) (scene : Scene) (named : I
       (λ pair well free. tells.boolean pair.variable well.variable free) (spelled scene t)
       (every_both (IsKindWell spelled_names n.stored.let_fn n.stored.lambda_fn) IsPairWell (CallsNoFunction n) (λ pair. Unit {0}) IsSpelledNode IsPairWell
       (λ kind well calls. record { well = well; calls = calls }) (λ pair well calls. well) (spelled scene t)
-      (spelling_can_be_kept n notations scene named scope row column t h).well.nodes (calls_no_function n notations scene named scope row column t h))
+      (spelling_can_be_kept n notations scene named scope (IsPlaceInside row column) t h).well.nodes (calls_no_function n notations scene named scope (IsPlaceInside row column) t h))
       (every_spelled (sheet_spelling scene) (name_spelling scene) IsBoundNode (NoPairClash is_boolean is_function) (SpelledNoClash is_boolean is_function) (SpelledNoPairClash is_boolean is_function)
       (record { node = λ kind told. told_spelled kind told.free told.stays; pair = λ variable value free. free }) t
       (every_both (NoClash is_boolean is_function) (NoPairClash is_boolean is_function) (Stays (english_function n) scene scope) (λ pair. Unit {0}) IsBoundNode (NoPairClash is_boolean is_function)

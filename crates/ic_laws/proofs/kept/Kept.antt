@@ -16,7 +16,7 @@ use Rattle.ic_laws.specs.Reading.{Reads}
 use Rattle.ic_laws.specs.Scene.{SheetsDiffer, definition_at, name_of_key, name_of_sheet, name_spelling, same_scope, sheet_spelling}
 use Rattle.ic_laws.specs.Token.{FunHead, Ref, Spells, Token}
 use Rattle.ic_laws.specs.Tree.{Bound, IsKindWell, IsPairWell, IsWellFormed, Spelled, bound_names, is_called_name, is_sheet_mention, is_word_mention, is_written_sheet, spelled_names}
-use Rattle.ic_laws.specs.ValidCore.{IsKept, LiesInSheet}
+use Rattle.ic_laws.specs.ValidCore.{IsKept, IsKeptWhere, IsPlaceInside, LiesWhere}
 use Rattle.ic_laws.specs.Yield.{yield}
 use Rattle.ic_laws.specs.declared.dialect.WordKind.TheVariants as kinds
 use Rattle.ic_laws.specs.declared.reference.Place.{Place}
@@ -50,14 +50,15 @@ english_by_fold n notations a b same = notations.stored.finds_agreeing kinds.Fun
 special_words : (n : Notations) → AreNotations n → SpecialWords (english_function n) n.stored.let_fn n.stored.lambda_fn
 special_words n notations = record { of_let = notations.stored_let; of_lambda = notations.stored_lambda }
 
--- A spelled tree that can be kept: it is well-formed, its functions are there, and its references lie in the sheet, in the
--- cell at a row and a column.
-abbrev pub IsPlaceInside : ℤ → ℤ → Place → Type 0
-IsPlaceInside row column place = is_inside place row column ≡ true
-
-pub record CanBeKept (n : Notations) (row column : ℤ) (t : Spelled) : Type 0 where
+-- A spelled tree that can be kept: it is well-formed, its functions are there, and of the places of its references this
+-- holds.
+pub record CanBeKeptWhere (n : Notations) (Inside : Place → Type 0) (t : Spelled) : Type 0 where
   pub well : IsWellFormed spelled_names n.stored.let_fn n.stored.lambda_fn t
-  pub parts : OfNodes (IsPlaceInside row column) (HasFunction n) t
+  pub parts : OfNodes Inside (HasFunction n) t
+
+-- in a cell the references lie in the sheet
+abbrev pub CanBeKept : Notations → ℤ → ℤ → Spelled → Type 0
+CanBeKept n row column t = CanBeKeptWhere n (IsPlaceInside row column) t
 
 -- what is read in a form that is shown in a cell can be kept there ----
 
@@ -91,36 +92,36 @@ reference_can_be_kept n d row column form text rest r read =
 
 -- what can be kept is kept where it is bound ----
 
-module _ (n : Notations) (notations : AreNotations n) (scene : Scene) (scope : Option ℕ) (row column : ℤ) where
-  lies_bound : (kind : SpelledKind) (binders : List (List ℕ)) → OfNode (IsPlaceInside row column) (HasFunction n) kind → LiesInSheet n row column (once (english_function n) scene scope kind binders)
+module _ (n : Notations) (notations : AreNotations n) (scene : Scene) (scope : Option ℕ) (Inside : Place → Type 0) where
+  lies_bound : (kind : SpelledKind) (binders : List (List ℕ)) → OfNode Inside (HasFunction n) kind → LiesWhere n Inside (once (english_function n) scene scope kind binders)
   lies_bound (one.Reference sheet place) binders h = h
   lies_bound (one.Fun number arguments) binders h = h
   lies_bound (one.Call word arguments) binders h = at (english_function n word) refl
     where
-      at : (found : Option ℕ) → english_function n word ≡ found → LiesInSheet n row column (bound_call (english_function n) scene scope found word (map (under (english_function n) scene scope) arguments) binders)
+      at : (found : Option ℕ) → english_function n word ≡ found → LiesWhere n Inside (bound_call (english_function n) scene scope found word (map (under (english_function n) scene scope) arguments) binders)
       at (Some number) e = notations.stored_finds word number e
       at None e = tt
   lies_bound kind binders h = tt
 
-  pub bound_kept : SheetsDiffer scene → (t : Spelled) → CanBeKept n row column t → IsKept n scene scope row column (bound (english_function n) scene scope t)
+  pub bound_kept : SheetsDiffer scene → (t : Spelled) → CanBeKeptWhere n Inside t → IsKeptWhere n Inside scene scope (bound (english_function n) scene scope t)
   bound_kept differ t h = record {
     well = bound_well (english_function n) scene scope n.stored.let_fn n.stored.lambda_fn (special_words n notations) t h.well;
     settled = bound_is_settled (english_function n) scene scope differ (english_by_fold n notations) t;
     parts =
-        every_bound (english_function n) scene scope (OfNode (IsPlaceInside row column) (HasFunction n)) (λ pair. Unit {0}) (LiesInSheet n row column) (λ pair. Unit {0})
+        every_bound (english_function n) scene scope (OfNode Inside (HasFunction n)) (λ pair. Unit {0}) (LiesWhere n Inside) (λ pair. Unit {0})
         (record { node = lies_bound; pair = λ variable value binders p. tt }) t h.parts [];
   }
 
 -- What is read in a form that is shown in a cell is kept there.
 pub bound_is_kept : (n : Notations) → AreNotations n → (scene : Scene) → SheetsDiffer scene → (d : DialectMeaning) (row column : ℤ) → IsShownForm n d row column → (text : List ℕ) (t : Spelled) → read_as d text ≡ Some t → (scope : Option ℕ)
     → IsKept n scene scope row column (bound (english_function n) scene scope t)
-bound_is_kept n notations scene differ d row column form text t read scope = bound_kept n notations scene scope row column differ t (read_can_be_kept n d row column form text t read)
+bound_is_kept n notations scene differ d row column form text t read scope = bound_kept n notations scene scope (IsPlaceInside row column) differ t (read_can_be_kept n d row column form text t read)
 
 -- So is one reference.
 pub reference_is_kept : (n : Notations) → AreNotations n → (scene : Scene) → SheetsDiffer scene → (d : DialectMeaning) (row column : ℤ) → IsShownForm n d row column → (text rest : List ℕ) (r : RefToken) → d.read_ref text ≡ Some (r, rest) → (scope : Option ℕ)
     → IsKept n scene scope row column (bound (english_function n) scene scope (node (one.Reference r.sheet r.place)))
 reference_is_kept n notations scene differ d row column form text rest r read scope =
-    bound_kept n notations scene scope row column differ (node (one.Reference r.sheet r.place)) (reference_can_be_kept n d row column form text rest r read)
+    bound_kept n notations scene scope (IsPlaceInside row column) differ (node (one.Reference r.sheet r.place)) (reference_can_be_kept n d row column form text rest r read)
 
 -- a kept tree that is written by names can be kept ----
 
@@ -143,11 +144,11 @@ pub record WritesNames (scene : Scene) (sheet_text : ℕ → List ℕ) (key_text
   pub sheet : (id : ℕ) → IsSome (name_of_sheet scene id) → is_sheet_name (sheet_text id) ≡ true
   pub definition : (key : NameKey) → IsSome (name_of_key scene key) → is_identifier (key_text key) ≡ true
 
-module _ (n : Notations) (scene : Scene) (scope : Option ℕ) (row column : ℤ) (sheet_text : ℕ → List ℕ) (key_text : NameKey → List ℕ) where
+module _ (n : Notations) (scene : Scene) (scope : Option ℕ) (Inside : Place → Type 0) (sheet_text : ℕ → List ℕ) (key_text : NameKey → List ℕ) where
   abbrev spelled_of : BoundKind → SpelledKind
   spelled_of kind = spelled_kind sheet_text key_text (children_spelled sheet_text key_text kind)
 
-  lies_spelled : (kind : BoundKind) → LiesInSheet n row column kind → OfNode (IsPlaceInside row column) (HasFunction n) (spelled_of kind)
+  lies_spelled : (kind : BoundKind) → LiesWhere n Inside kind → OfNode Inside (HasFunction n) (spelled_of kind)
   lies_spelled (one.Reference sheet place) h = h
   lies_spelled (one.Fun number arguments) h = h
   lies_spelled kind h = tt
@@ -175,7 +176,7 @@ module _ (n : Notations) (scene : Scene) (scope : Option ℕ) (row column : ℤ)
     names_written kind h stays = tt
 
     -- what is written so of a kept tree can be kept
-    pub spelled_can_be_kept : AreNotations n → (t : Bound) → IsKept n scene scope row column t → CanBeKept n row column (spelled_with sheet_text key_text t)
+    pub spelled_can_be_kept : AreNotations n → (t : Bound) → IsKeptWhere n Inside scene scope t → CanBeKeptWhere n Inside (spelled_with sheet_text key_text t)
     spelled_can_be_kept notations t is_kept = record {
       well =
           spelled_well sheet_text key_text n.stored.let_fn n.stored.lambda_fn t is_kept.well
@@ -183,7 +184,7 @@ module _ (n : Notations) (scene : Scene) (scope : Option ℕ) (row column : ℤ)
           (λ kind h stays. record { well = h; names = names_written kind h stays }) (λ pair h stays. h) t is_kept.well.nodes
           (settled_stays (english_function n) scene scope (english_by_fold n notations) t is_kept.settled));
       parts =
-          every_spelled sheet_text key_text (LiesInSheet n row column) (λ pair. Unit {0}) (OfNode (IsPlaceInside row column) (HasFunction n)) (λ pair. Unit {0})
+          every_spelled sheet_text key_text (LiesWhere n Inside) (λ pair. Unit {0}) (OfNode Inside (HasFunction n)) (λ pair. Unit {0})
           (record { node = lies_spelled; pair = λ variable value p. tt }) t is_kept.parts;
     }
 
@@ -237,8 +238,21 @@ keeping_writes before after valid valid_after change = record {
 }
 
 -- A kept tree over a change of its book is kept in the book after it, whatever keys change.
-pub kept_is_kept : (n : Notations) → AreNotations n → (before after : Scene) → IsNamed before → IsNamed after → (change : KeyChange) (scope : Option ℕ) (row column : ℤ) (t : Bound) → IsKept n before scope row column t
-    → IsKept n after scope row column (kept (english_function n) before after change scope t)
-kept_is_kept n notations before after named named_after change scope row column t is_kept =
-    bound_kept n notations after scope row column named_after.differ (spelled_with (kept_sheet before after) (kept_name before after change) t)
-    (spelled_can_be_kept n before scope row column (kept_sheet before after) (kept_name before after change) (keeping_writes before after named named_after change) notations t is_kept)
+pub kept_is_kept : (n : Notations) → AreNotations n → (before after : Scene) → IsNamed before → IsNamed after → (change : KeyChange) (scope : Option ℕ) (Inside : Place → Type 0) (t : Bound) → IsKeptWhere n Inside before scope t
+    → IsKeptWhere n Inside after scope (kept (english_function n) before after change scope t)
+kept_is_kept n notations before after named named_after change scope Inside t is_kept =
+    bound_kept n notations after scope Inside named_after.differ (spelled_with (kept_sheet before after) (kept_name before after change) t)
+    (spelled_can_be_kept n before scope Inside (kept_sheet before after) (kept_name before after change) (keeping_writes before after named named_after change) notations t is_kept)
+
+-- What is kept where more is asked of places is kept where less is asked.
+pub kept_where_less : (n : Notations) (Inside Other : Place → Type 0) → ((place : Place) → Inside place → Other place) → (scene : Scene) (scope : Option ℕ) (t : Bound) → IsKeptWhere n Inside scene scope t → IsKeptWhere n Other scene scope t
+kept_where_less n Inside Other less scene scope t is_kept = record {
+  well = is_kept.well;
+  settled = is_kept.settled;
+  parts = every_both (LiesWhere n Inside) (λ pair. Unit {0}) (LiesWhere n Inside) (λ pair. Unit {0}) (LiesWhere n Other) (λ pair. Unit {0}) lies (λ pair a b. tt) t is_kept.parts is_kept.parts;
+}
+  where
+    lies : (kind : BoundKind) → LiesWhere n Inside kind → LiesWhere n Inside kind → LiesWhere n Other kind
+    lies (one.Reference sheet place) h k = less place h
+    lies (one.Fun number arguments) h k = h
+    lies kind h k = tt

@@ -18,7 +18,8 @@ use Rattle.ic_laws.specs.Name.{agrees}
 use Rattle.ic_laws.specs.Notations.{Notations, english_function}
 use Rattle.ic_laws.specs.Scene.{IdsDiffer, SheetsDiffer, found_name, found_sheet, name_spelling, sheet_spelling}
 use Rattle.ic_laws.specs.Tree.{Bound, Spelled}
-use Rattle.ic_laws.specs.ValidCore.{IsKept, IsValidCore}
+use Rattle.ic_laws.specs.ValidCore.{IsKeptWhere, IsValidCore}
+use Rattle.ic_laws.specs.declared.reference.Place.{Place}
 use Rattle.ic_laws.specs.declared.scene.Scene.{Scene}
 use Rattle.ic_laws.specs.declared.scene.SheetName.{SheetName}
 use Rattle.ic_laws.specs.declared.tree.NameKey.{NameKey}
@@ -76,8 +77,8 @@ module _ (english : List ℕ → Option ℕ) (before after : Scene) (alike : Fin
   settled_alike t settled = ap (bound english after scope) (sym (spelled_alike t)) ∙ (sym (bound_alike (spelled before t)) ∙ settled)
 
 -- What is kept in one is kept in the other.
-pub kept_where_alike : (n : Notations) (before after : Scene) → FindsAlike before after → (scope : Option ℕ) (row column : ℤ) (t : Bound) → IsKept n before scope row column t → IsKept n after scope row column t
-kept_where_alike n before after alike scope row column t is_kept =
+pub kept_where_alike : (n : Notations) (before after : Scene) → FindsAlike before after → (scope : Option ℕ) (Inside : Place → Type 0) (t : Bound) → IsKeptWhere n Inside before scope t → IsKeptWhere n Inside after scope t
+kept_where_alike n before after alike scope Inside t is_kept =
     record { well = is_kept.well; settled = settled_alike (english_function n) before after alike scope t is_kept.settled; parts = is_kept.parts }
 
 -- another order ----

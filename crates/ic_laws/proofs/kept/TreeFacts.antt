@@ -12,6 +12,7 @@ use Rattle.ic_laws.specs.Parse.{node}
 use Rattle.ic_laws.specs.ReadAs.{read_as}
 use Rattle.ic_laws.specs.Scan.{first_is}
 use Rattle.ic_laws.specs.Tree.{Spelled}
+use Rattle.ic_laws.specs.ValidCore.{IsPlaceInside}
 use Rattle.ic_laws.specs.declared.reference.RefToken.{RefToken}
 use Rattle.ic_laws.specs.declared.scene.Scene.{Scene}
 use Rattle.ic_laws.specs.declared.tree.Tree.{out-Tree}
@@ -89,9 +90,9 @@ module _ (n : Notations) (notations : AreNotations n) (book : CoreBook) (locale 
 -- What steps ask of trees.
 pub tree_facts : (n : Notations) → AreNotations n → TreeFacts n
 tree_facts n notations = record {
-  keeps = λ before after named named_after scope row column t h. kept_is_kept n notations before after named named_after same_keys scope row column t h;
+  keeps = λ before after named named_after scope row column t h. kept_is_kept n notations before after named named_after same_keys scope (IsPlaceInside row column) t h;
   reads = λ scene named d row column form text t read scope. bound_is_kept n notations scene named.differ d row column form text t read scope;
-  body = λ book locale language scene named text b e scope. bound_kept n notations scene scope (pos 1) (pos 1) named.differ b.tree (body_can_be_kept n notations book locale language text b e);
+  body = λ book locale language scene named text b e scope. bound_kept n notations scene scope (IsPlaceInside (pos 1) (pos 1)) named.differ b.tree (body_can_be_kept n notations book locale language text b e);
   alike = λ book valid from to within scope row column t h.
-      kept_where_alike n (scene_of book) _ (moved_alike n book valid from to within) scope row column t h;
+      kept_where_alike n (scene_of book) _ (moved_alike n book valid from to within) scope (IsPlaceInside row column) t h;
 }

@@ -15,8 +15,9 @@ use Rattle.ic_laws.specs.ReadAs.{read_as}
 use Rattle.ic_laws.specs.Reading.{Fits, FitsKind, FitsPair, IsFreeWord, printed}
 use Rattle.ic_laws.specs.Scene.{name_spelling, sheet_spelling}
 use Rattle.ic_laws.specs.Tree.{Bound, IsKindWell, IsPairWell, IsWellFormed, Spelled, is_written_sheet, spelled_names}
-use Rattle.ic_laws.specs.ValidCore.{IsKept}
+use Rattle.ic_laws.specs.ValidCore.{IsKept, IsKeptWhere, IsPlaceInside}
 use Rattle.ic_laws.specs.declared.dialect.WordKind.TheVariants as kinds
+use Rattle.ic_laws.specs.declared.reference.Place.{Place}
 use Rattle.ic_laws.specs.declared.reference.RefToken.{RefToken}
 use Rattle.ic_laws.specs.declared.scene.Scene.{Scene}
 use Rattle.ic_laws.specs.declared.tree.Tree.{every-Tree}
@@ -24,7 +25,7 @@ use Rattle.ic_laws.specs.declared.tree.Tree.TheOpen as one
 use Rattle.ic_laws.proofs.binding.Again.{BoundKind, children_spelled}
 use Rattle.ic_laws.proofs.core.Named.{IsNamed}
 use Rattle.ic_laws.proofs.kept.Everywhere.{every_both}
-use Rattle.ic_laws.proofs.kept.Kept.{CanBeKept, IsPlaceInside, english_by_fold, spelled_can_be_kept, spelling_writes}
+use Rattle.ic_laws.proofs.kept.Kept.{CanBeKeptWhere, english_by_fold, spelled_can_be_kept, spelling_writes}
 use Rattle.ic_laws.proofs.kept.Lifting.{every_spelled}
 use Rattle.ic_laws.proofs.kept.Stays.{Stays, settled_stays}
 use Rattle.ic_laws.proofs.kept.Tokens.{OfNode}
@@ -48,19 +49,19 @@ abbrev pub CallsNoFunction : Notations → SpelledKind → Type 0
 CallsNoFunction n (one.Call word arguments) = IsNone (n.stored.find kinds.Function word)
 CallsNoFunction n kind = Unit {0}
 
--- A form in which a tree that can be kept in a cell can be written, if it has no word of the form: it has the numbers of LET
--- and LAMBDA, the functions, and the references that lie in the sheet.
-pub record WritesKept (n : Notations) (d : DialectMeaning) (row column : ℤ) : Type 0 where
+-- A form in which a tree that can be kept can be written, if it has no word of the form: it has the numbers of LET and
+-- LAMBDA, the functions, and the references whose places are as asked.
+pub record WritesKept (n : Notations) (d : DialectMeaning) (Inside : Place → Type 0) : Type 0 where
   pub let_same : d.let_fn ≡ n.stored.let_fn
   pub lambda_same : d.lambda_fn ≡ n.stored.lambda_fn
   pub functions : (number : ℕ) → HasFunction n number → IsSome (d.word kinds.Function number)
-  pub references : (r : RefToken) → is_place_within r.place ≡ true → is_inside r.place row column ≡ true → is_written_sheet r.sheet ≡ true → d.can_spell r ≡ true
+  pub references : (r : RefToken) → is_place_within r.place ≡ true → Inside r.place → is_written_sheet r.sheet ≡ true → d.can_spell r ≡ true
 
-module _ (n : Notations) (d : DialectMeaning) (row column : ℤ) (writes : WritesKept n d row column) where
+module _ (n : Notations) (d : DialectMeaning) (Inside : Place → Type 0) (writes : WritesKept n d Inside) where
   -- what a node has that can be kept
   record IsKeptNode (kind : SpelledKind) : Type 0 where
     well : IsKindWell spelled_names n.stored.let_fn n.stored.lambda_fn kind
-    lies : OfNode (IsPlaceInside row column) (HasFunction n) kind
+    lies : OfNode Inside (HasFunction n) kind
 
   fits_kind : (kind : SpelledKind) → IsKeptNode kind → HasNoFormWord d kind → FitsKind d kind
   fits_kind (one.Reference sheet place) h free = writes.references (record { sheet = sheet; place = place }) h.well.places h.lies h.well.words
@@ -70,17 +71,17 @@ module _ (n : Notations) (d : DialectMeaning) (row column : ℤ) (writes : Write
   fits_kind (one.Lambda parameters body) h free = free
   fits_kind kind h free = tt
 
-  pub kept_fits : (t : Spelled) → CanBeKept n row column t → HasNoFormWords d t → Fits d t
+  pub kept_fits : (t : Spelled) → CanBeKeptWhere n Inside t → HasNoFormWords d t → Fits d t
   kept_fits t h free = record {
     well = subst (λ l. IsWellFormed spelled_names d.let_fn l t) (sym writes.lambda_same) (subst (λ l. IsWellFormed spelled_names l n.stored.lambda_fn t) (sym writes.let_same) h.well);
     nodes =
         every_both IsKeptNode IsPairWell (HasNoFormWord d) (FitsPair d) (FitsKind d) (FitsPair d) fits_kind (λ pair well free. free) t
-        (every_both (IsKindWell spelled_names n.stored.let_fn n.stored.lambda_fn) IsPairWell (OfNode (IsPlaceInside row column) (HasFunction n)) (λ pair. Unit {0}) IsKeptNode IsPairWell
+        (every_both (IsKindWell spelled_names n.stored.let_fn n.stored.lambda_fn) IsPairWell (OfNode Inside (HasFunction n)) (λ pair. Unit {0}) IsKeptNode IsPairWell
         (λ kind well lies. record { well = well; lies = lies }) (λ pair well lies. well) t h.well.nodes h.parts) free;
   }
 
 -- the forms that are shown in a cell of the sheet are such, and so is the stored form
-pub shown_writes : (n : Notations) (d : DialectMeaning) (row column : ℤ) → IsShownForm n d row column → is_cell row column ≡ true → WritesKept n d row column
+pub shown_writes : (n : Notations) (d : DialectMeaning) (row column : ℤ) → IsShownForm n d row column → is_cell row column ≡ true → WritesKept n d (IsPlaceInside row column)
 shown_writes n d row column form cell = record {
   let_same = form.let_same;
   lambda_same = form.lambda_same;
@@ -88,18 +89,18 @@ shown_writes n d row column form cell = record {
   references = λ r within inside sheet. form.writes_inside r cell inside sheet;
 }
 
-pub stored_writes : (n : Notations) → AreNotations n → (row column : ℤ) → WritesKept n n.stored row column
-stored_writes n notations row column = record {
+pub stored_writes : (n : Notations) → AreNotations n → (Inside : Place → Type 0) → WritesKept n n.stored Inside
+stored_writes n notations Inside = record {
   let_same = refl;
   lambda_same = refl;
   functions = λ number h. h;
   references = λ r within inside sheet. notations.stored_writes r within sheet;
 }
 
-module _ (n : Notations) (notations : AreNotations n) (scene : Scene) (named : IsNamed scene) (scope : Option ℕ) (row column : ℤ) where
+module _ (n : Notations) (notations : AreNotations n) (scene : Scene) (named : IsNamed scene) (scope : Option ℕ) (Inside : Place → Type 0) where
   -- a kept tree is spelled so that it can be kept
-  pub spelling_can_be_kept : (t : Bound) → IsKept n scene scope row column t → CanBeKept n row column (spelled scene t)
-  spelling_can_be_kept t h = spelled_can_be_kept n scene scope row column (sheet_spelling scene) (name_spelling scene) (spelling_writes scene named) notations t h
+  pub spelling_can_be_kept : (t : Bound) → IsKeptWhere n Inside scene scope t → CanBeKeptWhere n Inside (spelled scene t)
+  spelling_can_be_kept t h = spelled_can_be_kept n scene scope Inside (sheet_spelling scene) (name_spelling scene) (spelling_writes scene named) notations t h
 
   -- the words of a kept tree are no words of the stored form ----
 
@@ -118,7 +119,7 @@ module _ (n : Notations) (notations : AreNotations n) (scene : Scene) (named : I
   no_function (one.Call word arguments) stays = subst IsNone (sym stays.no_function) refl
   no_function kind stays = tt
 
-  pub calls_no_function : (t : Bound) → IsKept n scene scope row column t → every-Tree (Option (List ℕ)) (List ℕ) (CallsNoFunction n) (λ pair. Unit {0}) (spelled scene t)
+  pub calls_no_function : (t : Bound) → IsKeptWhere n Inside scene scope t → every-Tree (Option (List ℕ)) (List ℕ) (CallsNoFunction n) (λ pair. Unit {0}) (spelled scene t)
   calls_no_function t h =
       every_spelled (sheet_spelling scene) (name_spelling scene) (Stays (english_function n) scene scope) (λ pair. Unit {0}) (CallsNoFunction n) (λ pair. Unit {0})
       (record { node = no_function; pair = λ variable value stays. tt }) t (settled_stays (english_function n) scene scope (english_by_fold n notations) t h.settled)
@@ -129,38 +130,39 @@ module _ (n : Notations) (notations : AreNotations n) (scene : Scene) (named : I
   no_stored_word (one.Lambda parameters body) h called = free_words parameters h.words
   no_stored_word kind h called = tt
 
-  no_stored_words : (t : Bound) → IsKept n scene scope row column t → HasNoFormWords n.stored (spelled scene t)
+  no_stored_words : (t : Bound) → IsKeptWhere n Inside scene scope t → HasNoFormWords n.stored (spelled scene t)
   no_stored_words t h =
       every_both (IsKindWell spelled_names n.stored.let_fn n.stored.lambda_fn) IsPairWell (CallsNoFunction n) (λ pair. Unit {0}) (HasNoFormWord n.stored) (FitsPair n.stored) no_stored_word
       (λ pair well called. free_word pair.variable well.variable) (spelled scene t) (spelling_can_be_kept t h).well.nodes (calls_no_function t h)
 
   -- A kept tree can be written in the stored form, and its stored text reads as what is written.
-  pub stored_fits : (t : Bound) → IsKept n scene scope row column t → Fits n.stored (spelled scene t)
-  stored_fits t h = kept_fits n n.stored row column (stored_writes n notations row column) (spelled scene t) (spelling_can_be_kept t h) (no_stored_words t h)
+  pub stored_fits : (t : Bound) → IsKeptWhere n Inside scene scope t → Fits n.stored (spelled scene t)
+  stored_fits t h = kept_fits n n.stored Inside (stored_writes n notations Inside) (spelled scene t) (spelling_can_be_kept t h) (no_stored_words t h)
 
-  pub stored_reads : (t : Bound) → IsKept n scene scope row column t → read_as n.stored (printed n.stored (spelled scene t)) ≡ Some (spelled scene t)
+  pub stored_reads : (t : Bound) → IsKeptWhere n Inside scene scope t → read_as n.stored (printed n.stored (spelled scene t)) ≡ Some (spelled scene t)
   stored_reads t h = read_as_complete n.stored notations.stored (printed n.stored (spelled scene t)) (spelled scene t) (printed_reads n.stored notations.stored (spelled scene t) (stored_fits t h))
 
-  -- In a form that is shown in a cell, where it has no word of the form.
+-- In a form that is shown in a cell, where it has no word of the form.
+module _ (n : Notations) (notations : AreNotations n) (scene : Scene) (named : IsNamed scene) (scope : Option ℕ) (row column : ℤ) where
   pub shown_fits : (d : DialectMeaning) → IsShownForm n d row column → is_cell row column ≡ true → (t : Bound) → IsKept n scene scope row column t → HasNoFormWords d (spelled scene t) → Fits d (spelled scene t)
-  shown_fits d form cell t h free = kept_fits n d row column (shown_writes n d row column form cell) (spelled scene t) (spelling_can_be_kept t h) free
+  shown_fits d form cell t h free = kept_fits n d (IsPlaceInside row column) (shown_writes n d row column form cell) (spelled scene t) (spelling_can_be_kept n notations scene named scope (IsPlaceInside row column) t h) free
 
   pub shown_reads : (d : DialectMeaning) → IsShownForm n d row column → is_cell row column ≡ true → (t : Bound) → IsKept n scene scope row column t → HasNoFormWords d (spelled scene t) → read_as d (printed d (spelled scene t)) ≡ Some (spelled scene t)
   shown_reads d form cell t h free = read_as_complete d form.lawful (printed d (spelled scene t)) (spelled scene t) (printed_reads d form.lawful (spelled scene t) (shown_fits d form cell t h free))
 
 -- So its stored text is read and bound as the tree.
-pub stored_text_binds : (n : Notations) → AreNotations n → (scene : Scene) → IsNamed scene → (scope : Option ℕ) (row column : ℤ) (t : Bound) → IsKept n scene scope row column t
+pub stored_text_binds : (n : Notations) → AreNotations n → (scene : Scene) → IsNamed scene → (scope : Option ℕ) (Inside : Place → Type 0) (t : Bound) → IsKeptWhere n Inside scene scope t
     → option_map (bound (english_function n) scene scope) (read_as n.stored (printed n.stored (spelled scene t))) ≡ Some t
-stored_text_binds n notations scene named scope row column t h =
-    ap (option_map (bound (english_function n) scene scope)) (stored_reads n notations scene named scope row column t h) ∙ ap (λ u. Some u) h.settled
+stored_text_binds n notations scene named scope Inside t h =
+    ap (option_map (bound (english_function n) scene scope)) (stored_reads n notations scene named scope Inside t h) ∙ ap (λ u. Some u) h.settled
 
 -- Trees that are kept in one scene for one scope have equal stored texts exactly where they are equal.
-pub stored_text_decides : (n : Notations) → AreNotations n → (scene : Scene) → IsNamed scene → (scope : Option ℕ) (row column row_of_other column_of_other : ℤ) (t u : Bound) → IsKept n scene scope row column t → IsKept n scene scope row_of_other column_of_other u
+pub stored_text_decides : (n : Notations) → AreNotations n → (scene : Scene) → IsNamed scene → (scope : Option ℕ) (Inside OfOther : Place → Type 0) (t u : Bound) → IsKeptWhere n Inside scene scope t → IsKeptWhere n OfOther scene scope u
     → printed n.stored (spelled scene t) ≡ printed n.stored (spelled scene u) ↔ t ≡ u
-stored_text_decides n notations scene named scope row column row_of_other column_of_other t u kept_t kept_u = (
+stored_text_decides n notations scene named scope Inside OfOther t u kept_t kept_u = (
   λ same.
-      let read : read_as n.stored (printed n.stored (spelled scene t)) ≡ Some (spelled scene t) = stored_reads n notations scene named scope row column t kept_t in
-      let other : read_as n.stored (printed n.stored (spelled scene u)) ≡ Some (spelled scene u) = stored_reads n notations scene named scope row_of_other column_of_other u kept_u in
+      let read : read_as n.stored (printed n.stored (spelled scene t)) ≡ Some (spelled scene t) = stored_reads n notations scene named scope Inside t kept_t in
+      let other : read_as n.stored (printed n.stored (spelled scene u)) ≡ Some (spelled scene u) = stored_reads n notations scene named scope OfOther u kept_u in
       let one_spelling : spelled scene t ≡ spelled scene u = same_Some (spelled scene t) (spelled scene u) (sym read ∙ (ap (read_as n.stored) same ∙ other)) in
       sym kept_t.settled ∙ (ap (bound (english_function n) scene scope) one_spelling ∙ kept_u.settled),
   λ same. ap (λ x. printed n.stored (spelled scene x)) same,

@@ -1,20 +1,9 @@
-use Rattle.std.proofs.Common.{ap, ◌∙◌}
-use Rattle.std.specs.Str.{chars}
-use Rattle.ic_laws.proofs.TextLemmas.{chars_more}
+use Rattle.std.proofs.Common.{refl, sym}
+use Rattle.ic_lines.proofs.EscapeLemmas.{escaped-plain}
 use Rattle.ic_lines.proofs.escapes.push_escaped.Goals as goal
 
-pub returns-in_ok-push_str-in-92 : goal.returns-in_ok-push_str-in-92
-unfolding chars
-returns-in_ok-push_str-in-92 c = rw (c.in-92.is) (ap chars c.in_ok-push_str-in-92.ensures.bytes ∙ chars_more c.args.word.now _)
+pub returns-then-not-has_escaped : goal.returns-then-not-has_escaped
+returns-then-not-has_escaped c = rw (escaped-plain c.args.text.now c.utf8.text (sym c.if-not-has_escaped.ensures)) c.push_text.ensures.ok
 
-pub returns-in_ok-push_str-in-9 : goal.returns-in_ok-push_str-in-9
-unfolding chars
-returns-in_ok-push_str-in-9 c = rw (c.in-9.is) (ap chars c.in_ok-push_str-in-9.ensures.bytes ∙ chars_more c.args.word.now _)
-
-pub returns-in_ok-push_str-in-10 : goal.returns-in_ok-push_str-in-10
-unfolding chars
-returns-in_ok-push_str-in-10 c = rw (c.in-10.is) (ap chars c.in_ok-push_str-in-10.ensures.bytes ∙ chars_more c.args.word.now _)
-
-pub returns-in_ok-push_str-in-13 : goal.returns-in_ok-push_str-in-13
-unfolding chars
-returns-in_ok-push_str-in-13 c = rw (c.in-13.is) (ap chars c.in_ok-push_str-in-13.ensures.bytes ∙ chars_more c.args.word.now _)
+pub loop-c-init : goal.loop-c-init
+loop-c-init c = (c.utf8.text, refl)

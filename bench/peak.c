@@ -1,0 +1,24 @@
+/* Runs a program, which inherits standard input, with its output thrown away, and prints the most memory that it held, in
+   kilobytes. */
+#include <fcntl.h>
+#include <stdio.h>
+#include <sys/resource.h>
+#include <sys/wait.h>
+#include <unistd.h>
+
+int main(int count, char **words) {
+    if (count < 2) return 1;
+    pid_t child = fork();
+    if (child < 0) return 1;
+    if (child == 0) {
+        int nowhere = open("/dev/null", O_WRONLY);
+        dup2(nowhere, 1);
+        execv(words[1], words + 1);
+        _exit(127);
+    }
+    int status;
+    struct rusage used;
+    if (wait4(child, &status, 0, &used) < 0 || status) return 1;
+    printf("%ld\n", used.ru_maxrss);
+    return 0;
+}

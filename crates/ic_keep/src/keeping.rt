@@ -1,0 +1,84 @@
+ghost use Rattle.std.specs.Prelude.{◌≡◌, IfOk, option_copied};
+ghost use Rattle.ic_keep.specs.Change.{change_of};
+ghost use Rattle.ic_laws.specs.Keeping.{kept, kept_formula, kept_name, kept_sheet};
+ghost use Rattle.ic_tree.specs.LanguageWords.{function_of};
+
+use crate::KeyChange;
+use crate::change::changed_key;
+use ic_laws::{Bound, Finder, Formula, NameKey, OutOfMemory, Text};
+use ic_tables::Language;
+use ic_tree::{Spelling, bind, spell_definition, spell_sheet, spell_with};
+use std::alloc::Global;
+
+/// The names after a change, and those before it of what is gone.
+#[derive(Drop)]
+struct Change<'k, B: Finder, A: Finder> {
+    before: &'k B,
+    after: &'k A,
+    key: Option<&'k KeyChange>,
+}
+
+impl<'k, B: Finder, A: Finder> Spelling for Change<'k, B, A> {
+    ghost sheet_text = { λ change. kept_sheet (B.scene change.before.now) (A.scene change.after.now) };
+
+    ghost key_text = { λ change. kept_name (B.scene change.before.now) (A.scene change.after.now) (change_of (option_copied change.key)) };
+
+    fn sheet_text(&self, alloc: Global, id: u32) -> Result<Text, OutOfMemory> {
+        match self.after.sheet_spelling(id) {
+            Some(name) => Ok(Text::from_str(alloc, name)?),
+            None => spell_sheet(alloc, self.before, id),
+        }
+    }
+
+    fn key_text(&self, alloc: Global, key: &NameKey) -> Result<Text, OutOfMemory> {
+        match self.after.name_spelling(changed_key(self.key, key)) {
+            Some(name) => Ok(Text::from_str(alloc, name)?),
+            None => spell_definition(alloc, self.before, key),
+        }
+    }
+}
+
+/// A formula over a change of its book, from the sheets and definitions `before` to those `after`. Each sheet and each
+/// definition is written by its name after the change, by the one before where it is gone, and by the digits of its id or
+/// its folded name where it wasn't there either; what is written so is bound in the book after, with the sheet with the id
+/// `scope` as the one that words are looked up from first. `change` is the key of a definition that was updated, before and
+/// after; None where every definition keeps its key.
+pub fn keep<B: Finder, A: Finder>(
+    alloc: Global,
+    before: &B,
+    after: &A,
+    change: Option<&KeyChange>,
+    english: &Language,
+    scope: Option<u32>,
+    tree: &Bound,
+) -> Result<Bound, OutOfMemory>
+    ensures { IfOk result (λ r. r ≡ kept (function_of english.now) (B.scene before.now) (A.scene after.now) (change_of (option_copied change.entry)) scope tree.now) }
+{
+    let change = Change {
+        before,
+        after,
+        key: change,
+    };
+    let written = spell_with(alloc, &change, tree)?;
+    bind(alloc, after, english, scope, &written)
+}
+
+/// The same of what is kept of a formula. A text that doesn't read stays as it is.
+pub fn keep_formula<B: Finder, A: Finder>(
+    alloc: Global,
+    before: &B,
+    after: &A,
+    change: Option<&KeyChange>,
+    english: &Language,
+    scope: Option<u32>,
+    formula: &Formula,
+) -> Result<Formula, OutOfMemory>
+    ensures { IfOk result (λ r. r ≡ kept_formula (function_of english.now) (B.scene before.now) (A.scene after.now) (change_of (option_copied change.entry)) scope formula.now) }
+{
+    match formula {
+        Formula::Tree(tree) => Ok(Formula::Tree(keep(
+            alloc, before, after, change, english, scope, tree,
+        )?)),
+        Formula::Raw(text) => Ok(Formula::Raw(Text::from_str(alloc, text.as_str())?)),
+    }
+}

@@ -1,0 +1,13 @@
+//! Keeping formulas over a change of their book: what a rename, a new or a gone sheet, or an updated definition makes of a
+//! formula that mentions them.
+//!
+//! `keep` writes a formula out with the names that things have after the change, and with those before where they are
+//! gone, and binds it in the book after. So a reference to a renamed sheet follows it, one to a gone sheet dangles by the
+//! name that the sheet had, and what dangled finds a sheet or a definition that is new.
+#![tactic(auto)]
+
+mod change;
+mod keeping;
+
+pub use change::KeyChange;
+pub use keeping::{keep, keep_formula};

@@ -1,0 +1,10 @@
+pub mod ByteLaws
+pub mod CodeLaws
+pub mod CopyLemmas
+pub mod IndexLemmas
+pub mod KeyLemmas
+pub mod MentionLemmas
+pub mod PlacedLemmas
+pub mod Rebuilt
+pub mod RewriteLemmas
+pub mod WriteLemmas

@@ -1,0 +1,105 @@
+-- First places in a list of formulas, and a look-up that keeps up with it.
+use Rattle.std.proofs.Common.{◌≡◌, ◌≢◌, ℕ, zero, suc, ◌<◌, List, [], ◌∷◌, ◌++◌, Bool, true, false, cond, Option, Some, None, option_map, refl, sym, ap, subst, ◌∙◌, length, bytes_eq, arith}
+use Rattle.std.specs.List.{slice_get}
+use Rattle.std.specs.Cmp.Lexicographic.{slice_cmp}
+use Rattle.std.specs.Ordering.{nat_cmp}
+use Rattle.std.specs.BTreeMap.{BTreeMap, Updates, get, IsEmpty}
+use Rattle.std.specs.Map.{lookup}
+use Rattle.std.proofs.lemmas.Slice.Eq.{bytes_eq-Decides}
+use Rattle.std.proofs.lemmas.Map.Text.{is_eq-slice_cmp}
+use Rattle.ic_laws.specs.declared.tree.Formula.{Formula}
+use Rattle.ic_pool.specs.Code.{code}
+use Rattle.ic_pool.specs.Pool.{IsFirstAt, IsPlaced, first_place, KeepsPlaces}
+use Rattle.ic_pool.proofs.CodeLaws.{code_determines}
+use Rattle.ic_pool.proofs.KeyLemmas.{bytes_eq-flip, clash}
+
+-- ---- in a list
+
+first_head : {X : Type 0} (x : X) (xs : List X) → IsFirstAt x zero (x ∷ xs)
+first_head x xs = record { here = refl; none_before = λ k lt. absurd (omega arith) }
+
+first_tail : {X : Type 0} (x y : X) (at : ℕ) (xs : List X) → y ≢ x → IsFirstAt x at xs → IsFirstAt x (suc at) (y ∷ xs)
+first_tail {X} x y at xs apart f = record { here = f.here; none_before = none }
+  where
+    none : (k : ℕ) → k < suc at → slice_get (y ∷ xs) k ≢ Some x
+    none zero lt e = let same : y ≡ x = cc in apart same
+    none (suc k) lt e = f.none_before k (omega arith) e
+
+pub below_length : {X : Type 0} (x : X) (at : ℕ) (xs : List X) → slice_get xs at ≡ Some x → at < length xs
+below_length x at [] e = cc
+below_length x zero (y ∷ xs) e = omega arith
+below_length x (suc at) (y ∷ xs) e = let lt = below_length x at xs e in omega arith
+
+apart_from_codes : (x y : Formula) → bytes_eq (code x) (code y) ≡ false → y ≢ x
+apart_from_codes x y e same = clash (bytes_eq (code x) (code y)) ((bytes_eq-Decides (code x) (code y)).1 (ap code (sym same))) e
+
+found_step : (x y : Formula) (xs : List Formula) (at : ℕ) (o : Option ℕ) → ((k : ℕ) → o ≡ Some k → IsFirstAt x k xs) → (b : Bool) → bytes_eq (code x) (code y) ≡ b → cond b (Some 0) (option_map suc o) ≡ Some at → IsFirstAt x at (y ∷ xs)
+found_step x y xs at o h true b g =
+    let start : zero ≡ at = cc in
+    let same : x ≡ y = code_determines x y ((bytes_eq-Decides (code x) (code y)).0 b) in
+    subst (λ n. IsFirstAt x n (y ∷ xs)) start (subst (λ z. IsFirstAt x zero (z ∷ xs)) same (first_head x xs))
+found_step x y xs at None h false b g = cc
+found_step x y xs at (Some k) h false b g =
+    let next : suc k ≡ at = cc in subst (λ n. IsFirstAt x n (y ∷ xs)) next (first_tail x y k xs (apart_from_codes x y b) (h k refl))
+
+-- what the search by keys finds is the first place of the formula itself
+pub first_found : (x : Formula) (xs : List Formula) (at : ℕ) → first_place (code x) xs ≡ Some at → IsFirstAt x at xs
+first_found x [] at e = cc
+first_found x (y ∷ xs) at e = found_step x y xs at (first_place (code x) xs) (λ k f. first_found x xs k f) (bytes_eq (code x) (code y)) refl e
+
+none_left : (b : Bool) (o : Option ℕ) → cond b (Some 0) (option_map suc o) ≡ None → (b ≡ false) × (o ≡ None)
+none_left true o e = cc
+none_left false None e = (refl, refl)
+none_left false (Some k) e = cc
+
+-- a formula that the list has not is first at its end
+pub first_pushed : (x : Formula) (xs : List Formula) → first_place (code x) xs ≡ None → IsFirstAt x (length xs) (xs ++ x ∷ [])
+first_pushed x [] e = first_head x []
+first_pushed x (y ∷ xs) e =
+    let parts = none_left (bytes_eq (code x) (code y)) (first_place (code x) xs) e in
+    first_tail x y (length xs) (xs ++ x ∷ []) (apart_from_codes x y parts.0) (first_pushed x xs parts.1)
+
+swap_places : (t b : Bool) (n : ℕ) (r : Option ℕ) → (t ≡ true → b ≡ true → ⊥) → cond t (Some 0) (option_map suc (cond b (Some n) r)) ≡ cond b (Some (suc n)) (cond t (Some 0) (option_map suc r))
+swap_places true true n r h = absurd (h refl refl)
+swap_places true false n r h = refl
+swap_places false true n r h = refl
+swap_places false false n r h = refl
+
+first_place-push : (x : Formula) (xs : List Formula) → first_place (code x) xs ≡ None → (key : List ℕ) → first_place key (xs ++ x ∷ []) ≡ cond (bytes_eq (code x) key) (Some (length xs)) (first_place key xs)
+first_place-push x [] none key = ap (λ b. cond b (Some 0) None) (bytes_eq-flip key (code x))
+first_place-push x (y ∷ xs) none key =
+    let parts = none_left (bytes_eq (code x) (code y)) (first_place (code x) xs) none in
+    ap (λ o. cond (bytes_eq key (code y)) (Some 0) (option_map suc o)) (first_place-push x xs parts.1 key)
+    ∙ swap_places (bytes_eq key (code y)) (bytes_eq (code x) key) (length xs) (first_place key xs)
+    (λ t b.
+    let same : code x ≡ code y = (bytes_eq-Decides (code x) key).0 b ∙ (bytes_eq-Decides key (code y)).0 t in
+    clash (bytes_eq (code x) (code y)) ((bytes_eq-Decides (code x) (code y)).1 same) parts.0)
+
+-- ---- what `place` answers
+
+pub IsPlaced-found : (x : Formula) (at : ℕ) (xs : List Formula) → first_place (code x) xs ≡ Some at → IsPlaced x at xs xs
+IsPlaced-found x at xs e =
+    let first = first_found x xs at e in
+    let lt = below_length x at xs first.here in
+    record { first = first; found = λ h. refl; pushed = λ h. absurd (omega arith) }
+
+pub IsPlaced-pushed : (x : Formula) (at : ℕ) (xs after : List Formula) → first_place (code x) xs ≡ None → at ≡ length xs → after ≡ xs ++ x ∷ [] → IsPlaced x at xs after
+IsPlaced-pushed x at xs after none end put = record {
+  first = subst (λ ys. IsFirstAt x at ys) (sym put) (subst (λ n. IsFirstAt x n (xs ++ x ∷ [])) (sym end) (first_pushed x xs none));
+  found = λ h. absurd (omega arith);
+  pushed = λ h. put;
+}
+
+-- ---- the map
+
+pub KeepsPlaces-push : (before after : BTreeMap (List ℕ) ℕ) (xs list : List Formula) (x : Formula) (key : List ℕ) (at : ℕ) → KeepsPlaces before xs → first_place (code x) xs ≡ None → key ≡ code x → at ≡ length xs → Updates (slice_cmp nat_cmp) before after key (Some at) → list ≡ xs ++ x ∷ [] → KeepsPlaces after list
+KeepsPlaces-push before after xs list x key at kept none same end u put =
+    subst (KeepsPlaces after) (sym put)
+    (record {
+      finds = λ q.
+          u.0 q
+          ∙ ap (λ b. cond b (Some at) (get (slice_cmp nat_cmp) before q)) (is_eq-slice_cmp key q ∙ ap (λ k. bytes_eq k q) same)
+          ∙ ap (cond (bytes_eq (code x) q) (Some at)) (kept.finds q)
+          ∙ ap (λ n. cond (bytes_eq (code x) q) (Some n) (first_place q xs)) end
+          ∙ sym (first_place-push x xs none q);
+    })

@@ -1,0 +1,5 @@
+pub mod Bytes
+pub mod Code
+pub mod Mentions
+pub mod Pool
+pub mod Rewrites

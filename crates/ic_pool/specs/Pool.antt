@@ -1,0 +1,49 @@
+-- The formulas of a sheet, each at its place, and where each stands first.
+use Rattle.std.specs.Prelude.{◌≡◌, ◌≢◌, ℕ, suc, ◌<◌, ◌≤◌, List, [], ◌∷◌, ◌++◌, Bool, true, Option, Some, None, length, option_map, bytes_eq, if◌then◌else◌}
+use Rattle.std.specs.BTreeMap.{BTreeMap, get}
+use Rattle.std.specs.Cmp.Lexicographic.{slice_cmp}
+use Rattle.std.specs.List.{slice_get}
+use Rattle.std.specs.Ordering.{nat_cmp}
+use Rattle.ic_laws.specs.declared.tree.Formula.{Formula}
+use Rattle.ic_pool.specs.Code.{code}
+use Rattle.ic_pool.specs.Mentions.{has_dangling_sheet}
+
+-- what a pool is to contracts: its formulas in their places, from 0, and whether its look-up knows each of them
+pub record PoolState : Type 0 where
+  pub formulas : List Formula
+  pub is_whole : Bool
+
+-- a list has this item at this place, and at none before
+pub record IsFirstAt {X : Type 0} (x : X) (at : ℕ) (xs : List X) : Type 0 where
+  pub here : slice_get xs at ≡ Some x
+  pub none_before : (k : ℕ) → k < at → slice_get xs k ≢ Some x
+
+-- The item stands first at this place of the list after. Where it was in the list before, nothing has changed; else it was
+-- put at the end.
+pub record IsPlaced {X : Type 0} (x : X) (at : ℕ) (before after : List X) : Type 0 where
+  pub first : IsFirstAt x at after
+  pub found : at < length before → after ≡ before
+  pub pushed : length before ≤ at → after ≡ before ++ x ∷ []
+
+-- the first place of a formula with this key
+abbrev pub first_place : List ℕ → List Formula → Option ℕ
+first_place key [] = None
+first_place key (x ∷ xs) = if bytes_eq key (code x) then Some 0 else option_map suc (first_place key xs)
+
+-- at each key the look-up has the first place of a formula with that key
+pub record KeepsPlaces (index : BTreeMap (List ℕ) ℕ) (formulas : List Formula) : Type 0 where
+  pub finds : (key : List ℕ) → get (slice_cmp nat_cmp) index key ≡ first_place key formulas
+
+-- the places of the formulas that name a sheet that wasn't found, where the first formula stands at this place
+abbrev pub dangling_from : ℕ → List Formula → List ℕ
+dangling_from at [] = []
+dangling_from at (x ∷ xs) = if has_dangling_sheet x then at ∷ dangling_from (suc at) xs else dangling_from (suc at) xs
+
+-- the places of the formulas that name a sheet that wasn't found, in ascending order
+abbrev pub dangling_places : List Formula → List ℕ
+dangling_places formulas = dangling_from 0 formulas
+
+-- What a pool keeps beside its formulas is true of them: a look-up that is whole, and the list of places.
+pub record IsKept (index : BTreeMap (List ℕ) ℕ) (is_whole : Bool) (dangling : List ℕ) (formulas : List Formula) : Type 0 where
+  pub finds : is_whole ≡ true → KeepsPlaces index formulas
+  pub dangles : dangling ≡ dangling_places formulas

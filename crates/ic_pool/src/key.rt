@@ -1,0 +1,109 @@
+ghost use Rattle.std.specs.Prelude.{◌≡◌, ◌++◌, [], OnOk};
+ghost use Rattle.ic_pool.specs.Bytes.{joined, number_bytes};
+
+use ic_laws::OutOfMemory;
+use std::alloc::Global;
+use std::cmp::Ordering;
+use std::marker::Model;
+
+/// The code of a formula as a map's key. Contracts see its bytes.
+#[derive(Drop)]
+pub struct Key {
+    bytes: Vec<u8>,
+}
+
+impl Model for Key {
+    ghost use Rattle.std.specs.Prelude.{List, ℕ};
+
+    ghost Value = { List ℕ };
+
+    ghost view = { λ k. k.bytes.items };
+}
+
+impl Key {
+    /// No bytes.
+    pub(crate) fn new(alloc: Global) -> Key
+        ensures { result ≡ [] }
+    {
+        Key {
+            bytes: Vec::new(alloc),
+        }
+    }
+
+    /// Writes a number.
+    #[tactic(auto, unfolding(crate::specs::Bytes::number_bytes))]
+    pub(crate) fn push(&mut self, number: u64) -> Result<(), OutOfMemory>
+        ensures { OnOk result (self.new ≡ self.old ++ number_bytes number) }
+    {
+        if number < 255 {
+            self.bytes.push(number as u8)?;
+        } else {
+            self.bytes.push(255)?;
+            self.bytes.extend_from_slice(&number.to_be_bytes())?;
+        }
+        Ok(())
+    }
+
+    /// Writes numbers, one after another.
+    pub(crate) fn extend(&mut self, numbers: &[u64]) -> Result<(), OutOfMemory>
+        ensures { OnOk result (self.new ≡ self.old ++ joined number_bytes numbers.now) }
+    {
+        for number in numbers {
+            self.push(*number)?;
+        }
+        Ok(())
+    }
+}
+
+impl PartialEq for Key {
+    ghost use Rattle.std.specs.Prelude.{bytes_eq};
+    ghost use Rattle.std.specs.Cmp.Rules.{comparing};
+
+    ghost eq = { bytes_eq };
+
+    ghost laws = { Prim.search comparing };
+
+    fn eq(&self, other: &Key) -> bool {
+        self.bytes == other.bytes
+    }
+}
+
+impl Eq for Key {
+    ghost use Rattle.std.specs.Cmp.Rules.{comparing};
+
+    ghost laws = { Prim.search comparing };
+}
+
+impl PartialOrd for Key {
+    ghost use Rattle.std.proofs.Common.{rules};
+    ghost use Rattle.std.specs.Cmp.Lexicographic.{slice_cmp};
+    ghost use Rattle.std.specs.Cmp.Rules.{comparing};
+    ghost use Rattle.std.specs.Ordering.{nat_cmp, as_partial_cmp};
+
+    ghost partial_cmp = { as_partial_cmp (slice_cmp nat_cmp) };
+
+    ghost laws = { Prim.search (comparing, rules) };
+
+    fn partial_cmp(&self, other: &Key) -> Option<Ordering> {
+        Some(self.cmp(other))
+    }
+}
+
+impl Ord for Key {
+    ghost use Rattle.std.proofs.Common.{rules};
+    ghost use Rattle.std.specs.Cmp.Lexicographic.{slice_cmp};
+    ghost use Rattle.std.specs.Cmp.Rules.{comparing};
+    ghost use Rattle.std.specs.Ordering.{nat_cmp};
+
+    ghost cmp = { slice_cmp nat_cmp };
+
+    ghost total = { Prim.search (comparing, rules) };
+
+    ghost matches_partial_cmp = { Prim.search (comparing, rules) };
+
+    ghost matches_eq = { Prim.search (comparing, rules) };
+
+    fn cmp(&self, other: &Key) -> Ordering {
+        self.bytes.cmp(&other.bytes)
+    }
+}

@@ -1,0 +1,229 @@
+ghost use Rattle.std.specs.Prelude.{◌≡◌, ◌≤◌, ◌+◌, ◌<◌, ◌&&◌, [], None, false, true, length, map, option_map, IfOk, IsOk, OnErr, OnOk};
+ghost use Rattle.std.specs.List.{AllByRecursion, slice_get};
+ghost use Rattle.ic_laws.specs.declared.tree.Formula.{Formula};
+ghost use Rattle.ic_pool.specs.Code.{code};
+ghost use Rattle.ic_pool.specs.Mentions.{has_dangling_sheet};
+ghost use Rattle.ic_pool.specs.Rewrites.{FitsPool, changes_nothing, rewritten_by};
+ghost use Rattle.ic_pool.specs.Pool.{IsPlaced, dangling_places, first_place};
+
+mod index;
+mod rewrites;
+
+use crate::{Key, Steps, copy_formula, has_dangling_sheet, key_of};
+use ic_laws::{Formula, OutOfMemory};
+use index::index_of;
+use rewrites::{rewrites_at, rewrites_of};
+pub use rewrites::{Rewrites, Rewriting};
+use std::alloc::Global;
+use std::collections::BTreeMap;
+use std::marker::{Brand, Model};
+use std::sync::ledger::{Blank, Ledger};
+
+/// The formulas of one sheet, each in its place, from 0.
+#[derive(Drop)]
+pub struct Pool {
+    alloc: Global,
+    formulas: Vec<Formula>,
+    /// Where it is whole: for each formula its first place, by its key.
+    index: BTreeMap<Key, usize>,
+    is_whole: bool,
+    /// The places of the formulas that name a sheet that wasn't found.
+    dangling: Vec<usize>,
+}
+
+impl Model for Pool {
+    ghost use Rattle.ic_pool.specs.Pool.{PoolState, IsKept};
+
+    ghost Value = { PoolState };
+
+    ghost use Rattle.std.specs.Coded.{codes};
+    ghost use Rattle.ic_laws.specs.contracts.tree.Formula as formula;
+
+    ghost coded = { Prim.hlevel (codes, formula.the_row.coded) };
+
+    ghost view = { λ p. record { formulas = p.formulas.items; is_whole = p.is_whole } };
+
+    ghost invariant = { λ p. IsKept p.index p.is_whole p.dangling.items p.formulas.items };
+}
+
+impl Pool {
+    /// No formulas. Its look-up is whole.
+    pub fn new(alloc: Global) -> Pool
+        ensures formulas { result.formulas ≡ [] }
+        ensures whole { result.is_whole ≡ true }
+    {
+        Pool {
+            alloc,
+            formulas: Vec::new(alloc),
+            index: BTreeMap::new(alloc),
+            is_whole: true,
+            dangling: Vec::new(alloc),
+        }
+    }
+
+    /// How many formulas there are.
+    pub fn len(&self) -> usize
+        ensures { result ≡ length self.now.formulas }
+    {
+        self.formulas.len()
+    }
+
+    /// The formula at a place, from 0. None past the end.
+    pub fn get(&self, at: usize) -> Option<&Formula>
+        ensures { option_map (λ f. f.now) result ≡ slice_get self.now.formulas at }
+    {
+        self.formulas.get(at)
+    }
+
+    /// Whether its look-up knows each formula, as `place` needs it.
+    pub fn is_whole(&self) -> bool
+        ensures { result ≡ self.now.is_whole }
+    {
+        self.is_whole
+    }
+
+    /// How many formulas name a sheet that wasn't found.
+    pub fn dangling_count(&self) -> usize
+        ensures { result ≡ length (dangling_places self.now.formulas) }
+    {
+        self.dangling.len()
+    }
+
+    /// Makes its look-up whole, in one step for each formula; where it is whole already, in none and without memory.
+    /// `OutOfMemory` leaves it as it was.
+    pub fn make_whole<L: Ledger>(&mut self, steps: &mut Steps<L>) -> Result<(), OutOfMemory>
+        ensures ok { OnOk result (self.new ≡ record self.old { is_whole = true }) }
+        ensures err { OnErr result (self.new ≡ self.old) }
+        ensures ready { self.old.is_whole ≡ true → IsOk result }
+        ensures still { self.old.is_whole ≡ true → steps.new ≡ steps.old }
+        ensures cost { steps.new ≤ steps.old + length self.old.formulas }
+        ensures grows { steps.old ≤ steps.new }
+    {
+        if self.is_whole {
+            return Ok(());
+        }
+        self.index = index_of(self.alloc, &self.formulas, steps)?;
+        self.is_whole = true;
+        Ok(())
+    }
+
+    /// The same for a caller that counts no steps.
+    pub fn make_whole_uncounted(&mut self) -> Result<(), OutOfMemory>
+        ensures ok { OnOk result (self.new ≡ record self.old { is_whole = true }) }
+        ensures err { OnErr result (self.new ≡ self.old) }
+        ensures ready { self.old.is_whole ≡ true → IsOk result }
+    {
+        self.make_whole_in::<Brand>(Blank::new(1))
+    }
+
+    /// The same with a count of its own, which this blank names.
+    fn make_whole_in<L: Ledger>(&mut self, blank: Blank) -> Result<(), OutOfMemory>
+        requires name { blank.name ≡ L.name }
+        requires parts { blank.parts ≡ L.parts }
+        requires some { 0 < blank.parts }
+        ensures ok { OnOk result (self.new ≡ record self.old { is_whole = true }) }
+        ensures err { OnErr result (self.new ≡ self.old) }
+        ensures ready { self.old.is_whole ≡ true → IsOk result }
+    {
+        let mut steps = Steps::<L>::new(blank);
+        self.make_whole(&mut steps)
+    }
+
+    /// The first place of an equal formula; where there is none, the formula is put at the end. `OutOfMemory` changes
+    /// nothing.
+    pub fn place(&mut self, formula: Formula) -> Result<usize, OutOfMemory>
+        requires { self.old.is_whole ≡ true }
+        ensures ok { IfOk result (λ at. IsPlaced formula at self.old.formulas self.new.formulas) }
+        ensures within { IfOk result (λ at. at < length self.new.formulas) }
+        ensures whole { OnOk result (self.new.is_whole ≡ true) }
+        ensures err { OnErr result (self.new ≡ self.old) }
+    {
+        let key = key_of(self.alloc, &formula)?;
+        match self.place_of(&key) {
+            Some(at) => Ok(at),
+            None => self.append(key, formula),
+        }
+    }
+
+    /// The same for a formula that stays its owner's: where there is no equal one, a copy is put at the end.
+    pub fn place_copy(&mut self, formula: &Formula) -> Result<usize, OutOfMemory>
+        requires { self.old.is_whole ≡ true }
+        ensures ok { IfOk result (λ at. IsPlaced formula.now at self.old.formulas self.new.formulas) }
+        ensures within { IfOk result (λ at. at < length self.new.formulas) }
+        ensures whole { OnOk result (self.new.is_whole ≡ true) }
+        ensures err { OnErr result (self.new ≡ self.old) }
+    {
+        let key = key_of(self.alloc, formula)?;
+        match self.place_of(&key) {
+            Some(at) => Ok(at),
+            None => {
+                let copy = copy_formula(self.alloc, formula)?;
+                self.append(key, copy)
+            }
+        }
+    }
+
+    /// What a rewriting will do to its formulas, all prepared before any of them changes.
+    pub fn rewrites<R: Rewriting>(&self, rewriting: &R) -> Result<Rewrites, OutOfMemory>
+        requires { AllByRecursion (R.is_allowed rewriting.now) self.now.formulas }
+        ensures made { IfOk result (λ w. rewritten_by w self.now.formulas ≡ map (R.rewritten rewriting.now) self.now.formulas) }
+        ensures fits { IfOk result (λ w. FitsPool w self.now.formulas) }
+    {
+        rewrites_of(self.alloc, &self.formulas, rewriting)
+    }
+
+    /// The same for a rewriting that leaves each formula which names no sheet that wasn't found: it looks at the others
+    /// alone.
+    pub fn rewrites_of_dangling<R: Rewriting>(&self, rewriting: &R) -> Result<Rewrites, OutOfMemory>
+        requires allowed { AllByRecursion (R.is_allowed rewriting.now) self.now.formulas }
+        requires spares { (f : Formula) → R.is_allowed rewriting.now f → has_dangling_sheet f ≡ false → R.rewritten rewriting.now f ≡ f }
+        ensures made { IfOk result (λ w. rewritten_by w self.now.formulas ≡ map (R.rewritten rewriting.now) self.now.formulas) }
+        ensures fits { IfOk result (λ w. FitsPool w self.now.formulas) }
+    {
+        rewrites_at(self.alloc, &self.formulas, &self.dangling, rewriting)
+    }
+
+    /// Rewrites its formulas, each in its place, also where two become equal. Where some formula becomes another the
+    /// look-up is whole no more, until `make_whole` is called; else it stays.
+    pub fn apply(&mut self, rewrites: Rewrites)
+        requires { FitsPool rewrites self.old.formulas }
+        ensures formulas { self.new.formulas ≡ rewritten_by rewrites self.old.formulas }
+        ensures whole { self.new.is_whole ≡ (self.old.is_whole && changes_nothing rewrites) }
+    {
+        if !rewrites.is_empty() {
+            self.index.clear();
+            self.is_whole = false;
+        }
+        self.dangling = rewrites.put(&mut self.formulas);
+    }
+
+    /// The first place of a formula with this key.
+    fn place_of(&self, key: &Key) -> Option<usize>
+        requires { self.now.is_whole ≡ true }
+        ensures { result ≡ first_place key.now self.now.formulas }
+    {
+        self.index.get(key).copied()
+    }
+
+    /// Puts a formula with this key at the end, where none has it. What may fail comes before the first change.
+    fn append(&mut self, key: Key, formula: Formula) -> Result<usize, OutOfMemory>
+        requires whole { self.old.is_whole ≡ true }
+        requires its { key ≡ code formula }
+        requires fresh { first_place key self.old.formulas ≡ None }
+        ensures ok { IfOk result (λ at. IsPlaced formula at self.old.formulas self.new.formulas) }
+        ensures within { IfOk result (λ at. at < length self.new.formulas) }
+        ensures whole { OnOk result (self.new.is_whole ≡ true) }
+        ensures err { OnErr result (self.new ≡ self.old) }
+    {
+        let at = self.len();
+        let dangles = has_dangling_sheet(&formula);
+        self.formulas.reserve(1)?;
+        self.dangling.reserve(usize::from(dangles))?;
+        self.index.insert(key, at)?;
+        self.formulas.push_reserved(formula);
+        if dangles {
+            self.dangling.push_reserved(at);
+        }
+        Ok(at)
+    }
+}

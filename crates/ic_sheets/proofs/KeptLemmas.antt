@@ -1,0 +1,129 @@
+-- What the sheets keep beside them stays true when sheets come, go, get other names or places, and when their formulas change.
+use Rattle.std.proofs.Common.{◌≡◌, ℕ, suc, ◌<◌, List, [], ◌∷◌, ◌++◌, Bool, false, cond, Some, None, max, length, take, drop, get_or, slice_set, encode_utf8_all, bytes_eq, nat_eq, refl, sym, ap, subst, ◌∙◌, arith}
+use Rattle.std.proofs.lemmas.List.{map-append, take-append-drop}
+use Rattle.std.proofs.lemmas.List.Sorted.{IsPermutation-map}
+use Rattle.std.proofs.lemmas.Map.Keys.{IsDistinct-IsPermutation, IsDistinct-push}
+use Rattle.std.proofs.lemmas.Option.{slice_get_read}
+use Rattle.std.specs.BTreeMap.{IsEmpty, get_by_text}
+use Rattle.std.specs.Cmp.{nat_eq_equiv}
+use Rattle.std.specs.List.{AllByRecursion, IsDistinct, insert, list_any, remove}
+use Rattle.ic_laws.proofs.CoreLemmas.{above_greatest}
+use Rattle.ic_laws.proofs.core.Lists.{all_pushed, all_removed, all_updated, distinct_removed, none_passes, removed_seen, updated_unseen}
+use Rattle.ic_laws.proofs.core.SheetMoved.{moved_permutes}
+use Rattle.ic_laws.specs.CoreStep.{moved, put_back, updated_at}
+use Rattle.ic_laws.specs.Greatest.{greatest}
+use Rattle.ic_laws.specs.Name.{agrees, fold}
+use Rattle.ic_sheets.proofs.IndexLemmas.{Index, IsIndexed-add, IsIndexed-empty, IsIndexed-move, IsIndexed-remove_at, IsIndexed-rename_at, IsIndexed-same, none_agrees, set_updated, split_at}
+use Rattle.ic_sheets.proofs.SearchLemmas.{ids, names}
+use Rattle.ic_sheets.specs.Index.{AreKept, HasNoDangling, IsIndexed}
+use Rattle.ic_sheets.specs.Search.{id_of}
+use Rattle.ic_sheets.specs.declared.sheet.Worksheet.{Worksheet}
+
+none_apart : IsDistinct nat_eq []
+unfolding IsDistinct
+none_apart = tt
+
+pub kept_empty : (index : Index) (sheets : List Worksheet) → IsEmpty index → sheets ≡ [] → AreKept index 0 false sheets
+kept_empty index sheets empty none = record {
+  names = IsIndexed-empty index sheets empty none;
+  ids_differ = subst (λ xs. IsDistinct nat_eq (ids xs)) (sym none) none_apart;
+  greatest = sym (ap (λ xs. greatest (ids xs)) none);
+  dangles = λ e. subst (AllByRecursion HasNoDangling) (sym none) tt;
+}
+
+-- a name that no sheet has
+pub free_is_none : (name : List ℕ) (sheets : List Worksheet) → list_any (agrees name) (names sheets) ≡ false → id_of (fold name) sheets ≡ None
+free_is_none name sheets e = none_agrees name sheets (none_passes (agrees name) (names sheets) e)
+
+-- ---- a sheet comes
+
+greatest_pushed : (ns : List ℕ) (n : ℕ) → greatest ns < n → n ≡ greatest (ns ++ n ∷ [])
+greatest_pushed [] n lt = omega arith
+greatest_pushed (m ∷ ns) n lt = let rest : n ≡ greatest (ns ++ n ∷ []) = greatest_pushed ns n (omega arith) in omega arith
+
+pub kept_pushed : (before after : Index) (last : ℕ) (may : Bool) (sheets list : List Worksheet) (s : Worksheet) → AreKept before last may sheets → HasNoDangling s → list_any (agrees s.name) (names sheets) ≡ false → greatest (ids sheets) < s.id
+    → ((q : List ℕ) → get_by_text after (encode_utf8_all q) ≡ cond (bytes_eq (fold s.name) q) (Some s.id) (get_by_text before (encode_utf8_all q))) → list ≡ sheets ++ s ∷ [] → AreKept after s.id may list
+kept_pushed before after last may sheets list s kept clean free fresh u pushed =
+    let more : ids list ≡ ids sheets ++ s.id ∷ [] = ap ids pushed ∙ map-append (λ (x : Worksheet). x.id) sheets (s ∷ []) in
+    record {
+      names = IsIndexed-add before after sheets list s kept.names (free_is_none s.name sheets free) u pushed;
+      ids_differ = subst (IsDistinct nat_eq) (sym more) (IsDistinct-push nat_eq_equiv (ids sheets) s.id kept.ids_differ (above_greatest s.id (ids sheets) fresh));
+      greatest = greatest_pushed (ids sheets) s.id fresh ∙ sym (ap greatest more);
+      dangles = λ e. subst (AllByRecursion HasNoDangling) (sym pushed) (all_pushed HasNoDangling sheets s (kept.dangles e) clean);
+    }
+
+-- ---- a sheet goes
+
+pub kept_removed : (before after : Index) (last now_last : ℕ) (may : Bool) (sheets list : List Worksheet) (place : ℕ) (s : Worksheet) → AreKept before last may sheets → place < length sheets → s ≡ get_or sheets place s → list ≡ remove sheets place
+    → ((q : List ℕ) → get_by_text after (encode_utf8_all q) ≡ cond (bytes_eq (fold s.name) q) None (get_by_text before (encode_utf8_all q))) → now_last ≡ greatest (ids list) → AreKept after now_last may list
+kept_removed before after last now_last may sheets list place s kept lt read removed u found = record {
+  names = IsIndexed-remove_at before after sheets list place s kept.names lt read removed u;
+  ids_differ = subst (IsDistinct nat_eq) (sym (ap ids removed ∙ removed_seen (λ (x : Worksheet). x.id) sheets place)) (distinct_removed nat_eq_equiv (ids sheets) place kept.ids_differ);
+  greatest = found;
+  dangles = λ e. subst (AllByRecursion HasNoDangling) (sym removed) (all_removed HasNoDangling sheets place (kept.dangles e));
+}
+
+-- ---- a sheet gets another name
+
+pub kept_renamed : (before after : Index) (last : ℕ) (may : Bool) (sheets : List Worksheet) (place : ℕ) (s : Worksheet) (name : List ℕ) → AreKept before last may sheets → place < length sheets → s ≡ get_or sheets place s
+    → list_any (agrees name) (remove (names sheets) place) ≡ false
+    → ((q : List ℕ) → get_by_text after (encode_utf8_all q) ≡ cond (bytes_eq (fold name) q) (Some s.id) (cond (bytes_eq (fold s.name) q) None (get_by_text before (encode_utf8_all q))))
+    → AreKept after last may (slice_set sheets place (record s { name = name }))
+kept_renamed before after last may sheets place s name kept lt read free u =
+    let called : Worksheet → Worksheet = λ x. record x { name = name } in
+    let list : List Worksheet = slice_set sheets place (called s) in
+    let is : list ≡ updated_at called place sheets = set_updated called sheets place s read in
+    let same : ids list ≡ ids sheets = ap ids is ∙ updated_unseen (λ (x : Worksheet). x.id) called (λ x. refl) place sheets in
+    let none : id_of (fold name) (remove sheets place) ≡ None = free_is_none name (remove sheets place) (ap (list_any (agrees name)) (removed_seen (λ (x : Worksheet). x.name) sheets place) ∙ free) in
+    record {
+      names = IsIndexed-rename_at before after sheets place s (called s) kept.names lt read none u;
+      ids_differ = subst (IsDistinct nat_eq) (sym same) kept.ids_differ;
+      greatest = kept.greatest ∙ sym (ap greatest same);
+      dangles = λ e. subst (AllByRecursion HasNoDangling) (sym is) (all_updated HasNoDangling called (λ x h. h) place sheets (kept.dangles e));
+    }
+
+-- ---- a sheet gets another place
+
+greatest_middle : (front back : List Worksheet) (s : Worksheet) → greatest (ids (front ++ s ∷ back)) ≡ max s.id (greatest (ids (front ++ back)))
+greatest_middle [] back s = refl
+greatest_middle (x ∷ front) back s = let rest = greatest_middle front back s in omega (arith, rest)
+
+all_without : (P : Worksheet → Type 0) (front back : List Worksheet) (s : Worksheet) → AllByRecursion P (front ++ s ∷ back) → P s × AllByRecursion P (front ++ back)
+all_without P [] back s h = h
+all_without P (x ∷ front) back s h = let rest = all_without P front back s h.1 in (rest.0, (h.0, rest.1))
+
+all_with : (P : Worksheet → Type 0) (front back : List Worksheet) (s : Worksheet) → P s → AllByRecursion P (front ++ back) → AllByRecursion P (front ++ s ∷ back)
+all_with P [] back s p h = (p, h)
+all_with P (x ∷ front) back s p h = (h.0, all_with P front back s p h.1)
+
+pub moved_is : (sheets : List Worksheet) (from to : ℕ) (s : Worksheet) → from < length sheets → s ≡ get_or sheets from s → insert (remove sheets from) to s ≡ moved from to sheets
+moved_is sheets from to s lt read = ap (put_back to (remove sheets from)) (sym (slice_get_read sheets (length sheets) from s refl lt read))
+
+pub kept_moved : (index : Index) (last : ℕ) (may : Bool) (sheets list : List Worksheet) (from to : ℕ) (s : Worksheet) → AreKept index last may sheets → from < length sheets → s ≡ get_or sheets from s → list ≡ insert (remove sheets from) to s → AreKept index last may list
+kept_moved index last may sheets list from to s kept lt read put =
+    let front : List Worksheet = take from sheets in
+    let back : List Worksheet = drop (suc from) sheets in
+    let first : List Worksheet = take to (front ++ back) in
+    let rest : List Worksheet = drop to (front ++ back) in
+    let parts : sheets ≡ front ++ s ∷ back = split_at sheets from s lt read in
+    let same : first ++ rest ≡ front ++ back = take-append-drop to (front ++ back) in
+    let clean : AllByRecursion HasNoDangling (front ++ s ∷ back) → AllByRecursion HasNoDangling (first ++ s ∷ rest) = λ h.
+    let out = all_without HasNoDangling front back s h in all_with HasNoDangling first rest s out.0 (subst (AllByRecursion HasNoDangling) (sym same) out.1) in
+    subst (AreKept index last may) (sym put)
+    (record {
+      names = IsIndexed-move index front back first rest s same (subst (IsIndexed index) parts kept.names);
+      ids_differ = subst (λ xs. IsDistinct nat_eq (ids xs)) (sym (moved_is sheets from to s lt read))
+          (IsDistinct-IsPermutation nat_eq nat_eq_equiv.symm (ids sheets) (ids (moved from to sheets)) (IsPermutation-map (λ (x : Worksheet). x.id) sheets (moved from to sheets) (moved_permutes sheets from to lt)) kept.ids_differ);
+      greatest = kept.greatest ∙ ap (λ xs. greatest (ids xs)) parts ∙ greatest_middle front back s ∙ sym (greatest_middle first rest s ∙ ap (λ xs. max s.id (greatest (ids xs))) same);
+      dangles = λ e. clean (subst (AllByRecursion HasNoDangling) parts (kept.dangles e));
+    })
+
+-- ---- formulas change
+
+pub kept_same : (index : Index) (last : ℕ) (may may_now : Bool) (sheets list : List Worksheet) → AreKept index last may sheets → names list ≡ names sheets → ids list ≡ ids sheets → (may_now ≡ false → AllByRecursion HasNoDangling list) → AreKept index last may_now list
+kept_same index last may may_now sheets list kept same_names same_ids clean = record {
+  names = IsIndexed-same index sheets list same_names same_ids kept.names;
+  ids_differ = subst (IsDistinct nat_eq) (sym same_ids) kept.ids_differ;
+  greatest = kept.greatest ∙ sym (ap greatest same_ids);
+  dangles = clean;
+}

@@ -1,0 +1,7 @@
+pub mod CellLemmas
+pub mod IndexLemmas
+pub mod KeptLemmas
+pub mod PoolLemmas
+pub mod RewritingLemmas
+pub mod SearchLemmas
+pub mod WriteLemmas

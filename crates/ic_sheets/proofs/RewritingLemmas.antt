@@ -1,0 +1,265 @@
+-- What was prepared for the formulas of all sheets, done in any order of the steps of a change.
+use Rattle.std.proofs.Common.{◌≡◌, ℕ, zero, suc, ◌<◌, List, [], ◌∷◌, ◌++◌, Bool, true, false, cond, ◌&&◌, Option, Some, None, map, length, get_or, slice_set, take, drop, ◌+◌, refl, sym, ap, ap₂, subst, subst₂, ◌∙◌, arith}
+use Rattle.std.specs.List.{AllByRecursion, remove, slice_get}
+use Rattle.std.proofs.lemmas.Option.{slice_get_read}
+use Rattle.std.proofs.lemmas.List.{map-append, take_at, take_more}
+use Rattle.ic_laws.proofs.core.Lists.{removed_seen}
+use Rattle.ic_laws.proofs.keeping.Kept.{spared_is_same}
+use Rattle.ic_laws.proofs.keeping.Spared.{untouched_is_spared}
+use Rattle.ic_laws.specs.BookTrees.{with_tree}
+use Rattle.ic_laws.specs.Changes.{Change, changed_tree, sheet_gone, sheet_named}
+use Rattle.ic_laws.specs.CoreStep.{updated_at}
+use Rattle.ic_laws.specs.Tree.{Bound}
+use Rattle.ic_laws.specs.declared.tree.Formula.{Formula}
+use Rattle.ic_laws.specs.declared.tree.Formula.TheVariants as formulas
+use Rattle.ic_pool.proofs.MentionLemmas.{none_dangles_by}
+use Rattle.ic_pool.specs.Mentions.{formula_dangles_by, formula_mentions_sheet, has_dangling_sheet}
+use Rattle.ic_pool.specs.Pool.{PoolState, dangling_from}
+use Rattle.ic_pool.specs.Rewrites.{FitsPool, RewritesState, changes_nothing, rewritten_by}
+use Rattle.ic_sheets.proofs.SearchLemmas.{ids, names}
+use Rattle.ic_sheets.specs.Index.{HasNoDangling}
+use Rattle.ic_sheets.specs.Rewriting.{ArePrepared, FitSheets, IsPrepared, changed_pool, sheets_of, with_all_rewrites, with_rewrites}
+use Rattle.ic_sheets.specs.Sheet.{BookSheet, sheet_of}
+use Rattle.ic_sheets.specs.declared.sheet.Worksheet.{Worksheet}
+
+-- ---- formulas that stay
+
+pub naming_spares : (id : ℕ) (name : List ℕ) (scope : Option ℕ) (formula : Formula) → formula_dangles_by name formula ≡ false → with_tree (changed_tree (sheet_named id name) scope) formula ≡ formula
+naming_spares id name scope (formulas.Tree t) e =
+    ap (λ (u : Bound). let f : Formula = formulas.Tree u in f) (spared_is_same (sheet_named id name) scope t (untouched_is_spared (sheet_named id name) scope t e))
+naming_spares id name scope (formulas.Raw text) e = refl
+
+pub going_spares : (id : ℕ) (name : List ℕ) (scope : Option ℕ) (formula : Formula) → formula_mentions_sheet id formula ≡ false → with_tree (changed_tree (sheet_gone id name) scope) formula ≡ formula
+going_spares id name scope (formulas.Tree t) e =
+    ap (λ (u : Bound). let f : Formula = formulas.Tree u in f) (spared_is_same (sheet_gone id name) scope t (untouched_is_spared (sheet_gone id name) scope t e))
+going_spares id name scope (formulas.Raw text) e = refl
+
+pub no_dangling_spares : (id : ℕ) (name : List ℕ) (scope : Option ℕ) (formula : Formula) → has_dangling_sheet formula ≡ false → with_tree (changed_tree (sheet_named id name) scope) formula ≡ formula
+no_dangling_spares id name scope formula e = naming_spares id name scope formula (none_dangles_by name formula e)
+
+pool_spared : (id : ℕ) (name : List ℕ) (scope : Option ℕ) (at : ℕ) (pool : List Formula) → dangling_from at pool ≡ [] → pool ≡ map (with_tree (changed_tree (sheet_named id name) scope)) pool
+pool_spared id name scope at [] e = refl
+pool_spared id name scope at (x ∷ pool) e = by_test (has_dangling_sheet x) refl e (pool_spared id name scope (suc at) pool)
+  where
+    by_test : (b : Bool) → has_dangling_sheet x ≡ b → cond b (at ∷ dangling_from (suc at) pool) (dangling_from (suc at) pool) ≡ []
+        → (dangling_from (suc at) pool ≡ [] → pool ≡ map (with_tree (changed_tree (sheet_named id name) scope)) pool) → x ∷ pool ≡ map (with_tree (changed_tree (sheet_named id name) scope)) (x ∷ pool)
+    by_test true is e rest = cc
+    by_test false is e rest = ap₂ ◌∷◌ (sym (no_dangling_spares id name scope x is)) (rest e)
+
+pub sheets_spared : (id : ℕ) (name : List ℕ) (sheets : List Worksheet) → AllByRecursion HasNoDangling sheets → sheets_of sheets ≡ map (changed_pool (sheet_named id name)) (sheets_of sheets)
+sheets_spared id name [] h = refl
+sheets_spared id name (s ∷ sheets) h =
+    ap₂ ◌∷◌ (ap (λ (pool : List Formula). let one : BookSheet = record (sheet_of s) { pool = pool } in one) (pool_spared id name (Some s.id) 0 s.pool.formulas h.0)) (sheets_spared id name sheets h.1)
+
+-- ---- what was prepared
+
+pub prepared_push : (becomes : Formula → Formula) (ws : List RewritesState) (w : RewritesState) (sheets : List Worksheet) (s : Worksheet) → ArePrepared becomes ws sheets → IsPrepared becomes w s → ArePrepared becomes (ws ++ w ∷ []) (sheets ++ s ∷ [])
+prepared_push becomes [] w [] s h one = (one, tt)
+prepared_push becomes [] w (x ∷ sheets) s h one = absurd h
+prepared_push becomes (v ∷ ws) w [] s h one = absurd h
+prepared_push becomes (v ∷ ws) w (x ∷ sheets) s h one = (h.0, prepared_push becomes ws w sheets s h.1 one)
+
+pub prepared_fits : (becomes : Formula → Formula) (ws : List RewritesState) (sheets : List Worksheet) → ArePrepared becomes ws sheets → FitSheets ws sheets
+prepared_fits becomes [] sheets h = tt
+prepared_fits becomes (w ∷ ws) [] h = absurd h
+prepared_fits becomes (w ∷ ws) (s ∷ sheets) h = (h.0.fits, prepared_fits becomes ws sheets h.1)
+
+pub prepared_length : (becomes : Formula → Formula) (ws : List RewritesState) (sheets : List Worksheet) → ArePrepared becomes ws sheets → length ws ≡ length sheets
+prepared_length becomes [] [] h = refl
+prepared_length becomes [] (s ∷ sheets) h = absurd h
+prepared_length becomes (w ∷ ws) [] h = absurd h
+prepared_length becomes (w ∷ ws) (s ∷ sheets) h = ap suc (prepared_length becomes ws sheets h.1)
+
+pub prepared_more : (becomes : Formula → Formula) (ws more : List RewritesState) (w : RewritesState) (sheets : List Worksheet) (i : ℕ) (s : Worksheet) → i < length sheets → s ≡ get_or sheets i s → more ≡ ws ++ w ∷ [] → ArePrepared becomes ws (take i sheets) → IsPrepared becomes w s → ArePrepared becomes more (take (i + 1) sheets)
+prepared_more becomes ws more w sheets i s within item pushed h one =
+    subst₂ (ArePrepared becomes) (sym pushed) (ap (λ y. take i sheets ++ y ∷ []) item ∙ sym (take_more sheets i s within)) (prepared_push becomes ws w (take i sheets) s h one)
+
+-- what it makes of the sheets
+pub naming_made : (id : ℕ) (name : List ℕ) (ws : List RewritesState) (sheets : List Worksheet) → ArePrepared (with_tree (changed_tree (sheet_named id name) None)) ws sheets → sheets_of (with_all_rewrites ws sheets) ≡ map (changed_pool (sheet_named id name)) (sheets_of sheets)
+naming_made id name [] [] h = refl
+naming_made id name [] (s ∷ sheets) h = absurd h
+naming_made id name (w ∷ ws) [] h = absurd h
+naming_made id name (w ∷ ws) (s ∷ sheets) h =
+    ap₂ ◌∷◌ (ap (λ (pool : List Formula). let one : BookSheet = record (sheet_of s) { pool = pool } in one) h.0.made) (naming_made id name ws sheets h.1)
+
+pub going_made : (id : ℕ) (name : List ℕ) (ws : List RewritesState) (sheets : List Worksheet) → ArePrepared (with_tree (changed_tree (sheet_gone id name) None)) ws sheets → sheets_of (with_all_rewrites ws sheets) ≡ map (changed_pool (sheet_gone id name)) (sheets_of sheets)
+going_made id name [] [] h = refl
+going_made id name [] (s ∷ sheets) h = absurd h
+going_made id name (w ∷ ws) [] h = absurd h
+going_made id name (w ∷ ws) (s ∷ sheets) h =
+    ap₂ ◌∷◌ (ap (λ (pool : List Formula). let one : BookSheet = record (sheet_of s) { pool = pool } in one) h.0.made) (going_made id name ws sheets h.1)
+
+-- ---- done from the last one on
+
+pub last_within : (ws : List RewritesState) (w : RewritesState) (sheets : List Worksheet) → FitSheets (ws ++ w ∷ []) sheets → length ws < length sheets
+last_within [] w [] h = absurd h
+last_within [] w (s ∷ sheets) h = omega arith
+last_within (v ∷ ws) w [] h = absurd h
+last_within (v ∷ ws) w (s ∷ sheets) h = let rest = last_within ws w sheets h.1 in omega (arith, rest)
+
+pub last_fits : (ws : List RewritesState) (w : RewritesState) (sheets : List Worksheet) (s : Worksheet) → FitSheets (ws ++ w ∷ []) sheets → s ≡ get_or sheets (length ws) s → FitsPool w s.pool.formulas
+last_fits [] w [] s h is = absurd h
+last_fits [] w (x ∷ sheets) s h is = subst (λ (y : Worksheet). FitsPool w y.pool.formulas) (sym is) h.0
+last_fits (v ∷ ws) w [] s h is = absurd h
+last_fits (v ∷ ws) w (x ∷ sheets) s h is = last_fits ws w sheets s h.1 is
+
+pub rest_fits : (ws : List RewritesState) (w : RewritesState) (sheets : List Worksheet) (s : Worksheet) → FitSheets (ws ++ w ∷ []) sheets → FitSheets ws (slice_set sheets (length ws) s)
+rest_fits [] w sheets s h = tt
+rest_fits (v ∷ ws) w [] s h = absurd h
+rest_fits (v ∷ ws) w (x ∷ sheets) s h = (h.0, rest_fits ws w sheets s h.1)
+
+pub rest_left : (ws : List RewritesState) (w : RewritesState) (sheets : List Worksheet) (s : Worksheet) → FitSheets (ws ++ w ∷ []) sheets → s ≡ get_or sheets (length ws) s
+    → with_all_rewrites ws (slice_set sheets (length ws) (with_rewrites w s)) ≡ with_all_rewrites (ws ++ w ∷ []) sheets
+rest_left [] w [] s h is = absurd h
+rest_left [] w (x ∷ sheets) s h is = ap (λ (y : Worksheet). with_rewrites w y ∷ sheets) is
+rest_left (v ∷ ws) w [] s h is = absurd h
+rest_left (v ∷ ws) w (x ∷ sheets) s h is = ap (λ (rest : List Worksheet). with_rewrites v x ∷ rest) (rest_left ws w sheets s h.1 is)
+
+-- a sheet whose pool was rewritten
+pub filled : (w : RewritesState) (s there : Worksheet) (pool : PoolState) → s ≡ there → pool.formulas ≡ rewritten_by w there.pool.formulas → pool.is_whole ≡ (there.pool.is_whole && changes_nothing w)
+    → record there { pool = pool } ≡ with_rewrites w s
+filled w s there pool same made whole =
+    ap₂ (λ (formulas : List Formula) (is_whole : Bool). let one : Worksheet = record there { pool = record { formulas = formulas; is_whole = is_whole } } in one) made whole ∙ ap (with_rewrites w) (sym same)
+
+-- the last of them is taken and done
+module _ (all ws : List RewritesState) (w : RewritesState) (sheets : List Worksheet) (n : ℕ) (popped : all ≡ ws ++ w ∷ []) (counted : n ≡ length ws) (fits : FitSheets all sheets) where
+  abbrev AllFit : FitSheets (ws ++ w ∷ []) sheets
+  AllFit = subst (λ all. FitSheets all sheets) popped fits
+
+  pub taken_within : n < length sheets
+  taken_within = subst (λ k. k < length sheets) (sym counted) (last_within ws w sheets AllFit)
+
+  module _ (s : Worksheet) (is : s ≡ get_or sheets n s) where
+    here : s ≡ get_or sheets (length ws) s
+    here = is ∙ ap (λ k. get_or sheets k s) counted
+
+    pub taken_fits : FitsPool w s.pool.formulas
+    taken_fits = last_fits ws w sheets s AllFit here
+
+    pub taken_left : (t : Worksheet) → t ≡ with_rewrites w s → (with_all_rewrites ws (slice_set sheets n t) ≡ with_all_rewrites all sheets) × FitSheets ws (slice_set sheets n t)
+    taken_left t done = (
+      ap₂ (λ k y. with_all_rewrites ws (slice_set sheets k y)) counted done ∙ rest_left ws w sheets s AllFit here ∙ ap (λ all. with_all_rewrites all sheets) (sym popped),
+      subst (λ k. FitSheets ws (slice_set sheets k t)) (sym counted) (rest_fits ws w sheets t AllFit),
+    )
+
+-- ---- done after a sheet came, got another name or went
+
+pub fits_pushed : (ws : List RewritesState) (sheets more : List Worksheet) → FitSheets ws sheets → FitSheets ws (sheets ++ more)
+fits_pushed [] sheets more h = tt
+fits_pushed (w ∷ ws) [] more h = absurd h
+fits_pushed (w ∷ ws) (s ∷ sheets) more h = (h.0, fits_pushed ws sheets more h.1)
+
+pub made_pushed : (ws : List RewritesState) (sheets more : List Worksheet) → FitSheets ws sheets → with_all_rewrites ws (sheets ++ more) ≡ with_all_rewrites ws sheets ++ more
+made_pushed [] sheets more h = refl
+made_pushed (w ∷ ws) [] more h = absurd h
+made_pushed (w ∷ ws) (s ∷ sheets) more h = ap (λ (rest : List Worksheet). with_rewrites w s ∷ rest) (made_pushed ws sheets more h.1)
+
+module _ (name : List ℕ) where
+  abbrev pub called : Worksheet → Worksheet
+  called s = record s { name = name }
+
+  abbrev pub sheet_called : BookSheet → BookSheet
+  sheet_called s = record s { name = name }
+
+  pub fits_called : (ws : List RewritesState) (index : ℕ) (sheets : List Worksheet) → FitSheets ws sheets → FitSheets ws (updated_at called index sheets)
+  fits_called [] index sheets h = tt
+  fits_called (w ∷ ws) index [] h = absurd h
+  fits_called (w ∷ ws) zero (s ∷ sheets) h = h
+  fits_called (w ∷ ws) (suc index) (s ∷ sheets) h = (h.0, fits_called ws index sheets h.1)
+
+  pub made_called : (ws : List RewritesState) (index : ℕ) (sheets : List Worksheet) → with_all_rewrites ws (updated_at called index sheets) ≡ updated_at called index (with_all_rewrites ws sheets)
+  made_called [] index sheets = refl
+  made_called (w ∷ ws) index [] = refl
+  made_called (w ∷ ws) zero (s ∷ sheets) = refl
+  made_called (w ∷ ws) (suc index) (s ∷ sheets) = ap (λ (rest : List Worksheet). with_rewrites w s ∷ rest) (made_called ws index sheets)
+
+  pub sheets_called : (index : ℕ) (sheets : List Worksheet) → sheets_of (updated_at called index sheets) ≡ updated_at sheet_called index (sheets_of sheets)
+  sheets_called index [] = refl
+  sheets_called zero (s ∷ sheets) = refl
+  sheets_called (suc index) (s ∷ sheets) = ap (λ (rest : List BookSheet). sheet_of s ∷ rest) (sheets_called index sheets)
+
+pub fits_removed : (becomes : Formula → Formula) (ws : List RewritesState) (sheets : List Worksheet) (index : ℕ) → ArePrepared becomes ws sheets → FitSheets (remove ws index) (remove sheets index)
+fits_removed becomes [] sheets zero h = tt
+fits_removed becomes [] sheets (suc index) h = tt
+fits_removed becomes (w ∷ ws) [] index h = absurd h
+fits_removed becomes (w ∷ ws) (s ∷ sheets) zero h = prepared_fits becomes ws sheets h.1
+fits_removed becomes (w ∷ ws) (s ∷ sheets) (suc index) h = (h.0.fits, fits_removed becomes ws sheets index h.1)
+
+pub made_removed : (becomes : Formula → Formula) (ws : List RewritesState) (sheets : List Worksheet) (index : ℕ) → ArePrepared becomes ws sheets → with_all_rewrites (remove ws index) (remove sheets index) ≡ remove (with_all_rewrites ws sheets) index
+made_removed becomes [] sheets zero h = refl
+made_removed becomes [] sheets (suc index) h = refl
+made_removed becomes (w ∷ ws) [] index h = absurd h
+made_removed becomes (w ∷ ws) (s ∷ sheets) zero h = refl
+made_removed becomes (w ∷ ws) (s ∷ sheets) (suc index) h = ap (λ (rest : List Worksheet). with_rewrites w s ∷ rest) (made_removed becomes ws sheets index h.1)
+
+-- ---- ids and names stay
+
+pub names_rewritten : (ws : List RewritesState) (sheets : List Worksheet) → names (with_all_rewrites ws sheets) ≡ names sheets
+names_rewritten [] sheets = refl
+names_rewritten (w ∷ ws) [] = refl
+names_rewritten (w ∷ ws) (s ∷ sheets) = ap (λ (rest : List (List ℕ)). s.name ∷ rest) (names_rewritten ws sheets)
+
+pub ids_rewritten : (ws : List RewritesState) (sheets : List Worksheet) → ids (with_all_rewrites ws sheets) ≡ ids sheets
+ids_rewritten [] sheets = refl
+ids_rewritten (w ∷ ws) [] = refl
+ids_rewritten (w ∷ ws) (s ∷ sheets) = ap (λ (rest : List ℕ). s.id ∷ rest) (ids_rewritten ws sheets)
+
+length_rewritten : (ws : List RewritesState) (sheets : List Worksheet) → length (with_all_rewrites ws sheets) ≡ length sheets
+length_rewritten [] sheets = refl
+length_rewritten (w ∷ ws) [] = refl
+length_rewritten (w ∷ ws) (s ∷ sheets) = ap suc (length_rewritten ws sheets)
+
+-- a vector whose elements were rewritten through a slice
+pub written_back : (n : ℕ) (ws : List RewritesState) (old now new : List Worksheet) → new ≡ with_all_rewrites ws now → now ≡ old → n ≡ length old → take n (new ++ drop (length new) old) ≡ with_all_rewrites ws old
+written_back n ws old now new made same counted =
+    let is : new ≡ with_all_rewrites ws old = made ∙ ap (with_all_rewrites ws) same in
+    ap (λ k. take k (new ++ drop (length new) old)) (counted ∙ sym (ap length is ∙ length_rewritten ws old)) ∙ take_at new (drop (length new) old) (length new) refl ∙ is
+
+-- ---- whole changes
+
+pub sheet_there : (sheets : List Worksheet) (index : ℕ) → index < length sheets → (s : Worksheet) × (slice_get sheets index ≡ Some s)
+sheet_there [] index lt = absurd (omega arith)
+sheet_there (s ∷ sheets) zero lt = (s, refl)
+sheet_there (s ∷ sheets) (suc index) lt = sheet_there sheets index (omega arith)
+
+module _ (id : ℕ) (name : List ℕ) (old : List Worksheet) where
+  abbrev Becomes : Formula → Formula
+  Becomes = with_tree (changed_tree (sheet_named id name) None)
+
+  pub added_clean : (new : List Worksheet) (s : Worksheet) → AllByRecursion HasNoDangling old → new ≡ old ++ s ∷ [] → sheets_of new ≡ map (changed_pool (sheet_named id name)) (sheets_of old) ++ sheet_of s ∷ []
+  added_clean new s clean pushed = ap sheets_of pushed ∙ map-append sheet_of old (s ∷ []) ∙ ap (λ xs. xs ++ sheet_of s ∷ []) (sheets_spared id name old clean)
+
+  pub added_made : (ws : List RewritesState) (between new : List Worksheet) (s : Worksheet) → ArePrepared Becomes ws old → between ≡ old ++ s ∷ [] → new ≡ with_all_rewrites ws between
+      → sheets_of new ≡ map (changed_pool (sheet_named id name)) (sheets_of old) ++ sheet_of s ∷ []
+  added_made ws between new s prepared pushed done =
+      ap sheets_of (done ∙ ap (with_all_rewrites ws) pushed ∙ made_pushed ws old (s ∷ []) (prepared_fits Becomes ws old prepared)) ∙ map-append sheet_of (with_all_rewrites ws old) (s ∷ [])
+      ∙ ap (λ xs. xs ++ sheet_of s ∷ []) (naming_made id name ws old prepared)
+
+  pub renamed_clean : (new : List Worksheet) (index : ℕ) → AllByRecursion HasNoDangling old → new ≡ updated_at (called name) index old → sheets_of new ≡ updated_at (sheet_called name) index (map (changed_pool (sheet_named id name)) (sheets_of old))
+  renamed_clean new index clean renamed = ap sheets_of renamed ∙ sheets_called name index old ∙ ap (updated_at (sheet_called name) index) (sheets_spared id name old clean)
+
+  pub renamed_made : (ws : List RewritesState) (between new : List Worksheet) (index : ℕ) → ArePrepared Becomes ws old → between ≡ updated_at (called name) index old → new ≡ with_all_rewrites ws between
+      → sheets_of new ≡ updated_at (sheet_called name) index (map (changed_pool (sheet_named id name)) (sheets_of old))
+  renamed_made ws between new index prepared renamed done =
+      ap sheets_of (done ∙ ap (with_all_rewrites ws) renamed ∙ made_called name ws index old) ∙ sheets_called name index (with_all_rewrites ws old) ∙ ap (updated_at (sheet_called name) index) (naming_made id name ws old prepared)
+
+  pub deleted_made : (ws rest : List RewritesState) (between new : List Worksheet) (index : ℕ) → ArePrepared (with_tree (changed_tree (sheet_gone id name) None)) ws old → rest ≡ remove ws index → between ≡ remove old index → new ≡ with_all_rewrites rest between
+      → sheets_of new ≡ remove (map (changed_pool (sheet_gone id name)) (sheets_of old)) index
+  deleted_made ws rest between new index prepared taken removed done =
+      ap sheets_of (done ∙ ap₂ with_all_rewrites taken removed ∙ made_removed _ ws old index prepared) ∙ removed_seen sheet_of (with_all_rewrites ws old) index
+      ∙ ap (λ xs. remove xs index) (going_made id name ws old prepared)
+
+same_some : (s sheet : Worksheet) → Some s ≡ Some sheet → s ≡ sheet
+same_some s sheet e = cc
+
+-- the sheet that was read at a place is the one there
+pub read_there : (sheets : List Worksheet) (index : ℕ) (s sheet : Worksheet) → index < length sheets → s ≡ get_or sheets index s → slice_get sheets index ≡ Some sheet → s ≡ sheet
+read_there sheets index s sheet lt read at = same_some s sheet (sym (slice_get_read sheets (length sheets) index s refl lt read) ∙ at)
+
+pub named_there : (s sheet : Worksheet) (name : List ℕ) (ws : List RewritesState) (old : List Worksheet) → s ≡ sheet → ArePrepared (with_tree (changed_tree (sheet_named s.id name) None)) ws old → ArePrepared (with_tree (changed_tree (sheet_named sheet.id name) None)) ws old
+named_there s sheet name ws old same h = subst (λ (x : Worksheet). ArePrepared (with_tree (changed_tree (sheet_named x.id name) None)) ws old) same h
+
+pub gone_there : (s sheet : Worksheet) (name : List ℕ) (ws : List RewritesState) (old : List Worksheet) → s ≡ sheet → name ≡ s.name → ArePrepared (with_tree (changed_tree (sheet_gone s.id name) None)) ws old → ArePrepared (with_tree (changed_tree (sheet_gone sheet.id sheet.name) None)) ws old
+gone_there s sheet name ws old same called h =
+    subst (λ (x : Worksheet). ArePrepared (with_tree (changed_tree (sheet_gone x.id x.name) None)) ws old) same
+    (subst (λ n. ArePrepared (with_tree (changed_tree (sheet_gone s.id n) None)) ws old) called h)

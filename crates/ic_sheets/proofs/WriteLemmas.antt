@@ -1,0 +1,131 @@
+-- What the sheets keep beside them stays true when a formula gets its place in one of them.
+use Rattle.std.proofs.Common.{◌≡◌, ℕ, zero, suc, ◌<◌, List, [], ◌∷◌, ◌++◌, Bool, true, false, ◌||◌, cond, Some, Result, Ok, Err, map, length, get_or, slice_set, refl, sym, ap, subst, ◌∙◌, inl, inr}
+use Rattle.std.proofs.lemmas.Bool.{cases_Bool, cases_lt, or_parts}
+use Rattle.std.proofs.lemmas.Option.{slice_get_read}
+use Rattle.std.specs.BTreeMap.{insert_entry}
+use Rattle.std.specs.List.{AllByRecursion, slice_get}
+use Rattle.std.specs.Prelude.{IfOk, OnErr, OnOk, option_map, unwrap_or}
+use Rattle.ic_laws.specs.CoreBook.{CellPlace, place_cmp}
+use Rattle.ic_laws.specs.CoreStep.{updated_at}
+use Rattle.ic_laws.specs.declared.memory.OutOfMemory.{OutOfMemory}
+use Rattle.ic_laws.specs.declared.tree.Formula.{Formula}
+use Rattle.ic_pool.specs.Mentions.{has_dangling_sheet}
+use Rattle.ic_pool.specs.Pool.{IsPlaced, dangling_from, dangling_places}
+use Rattle.ic_sheets.proofs.IndexLemmas.{Index, set_updated}
+use Rattle.ic_sheets.proofs.KeptLemmas.{kept_same}
+use Rattle.ic_sheets.specs.Index.{AreKept, HasNoDangling}
+use Rattle.ic_sheets.specs.Sheet.{BookSheet, IsWritten, pool_at, sheet_of}
+use Rattle.ic_sheets.specs.declared.sheet.Worksheet.{Worksheet}
+
+-- an item written over by one that is seen alike
+seen_over : {X Y : Type 0} (g : X → Y) (xs : List X) (place : ℕ) (x y : X) → x ≡ get_or xs place x → g y ≡ g x → map g (slice_set xs place y) ≡ map g xs
+seen_over g [] place x y read same = refl
+seen_over g (z ∷ xs) zero x y read same = ap (λ e. e ∷ map g xs) (same ∙ ap g read)
+seen_over g (z ∷ xs) (suc place) x y read same = ap (λ es. g z ∷ es) (seen_over g xs place x y read same)
+
+all_over : {X : Type 0} (P : X → Type 0) (xs : List X) (place : ℕ) (x y : X) → x ≡ get_or xs place x → (P x → P y) → AllByRecursion P xs → AllByRecursion P (slice_set xs place y)
+all_over P [] place x y read keeps h = tt
+all_over P (z ∷ xs) zero x y read keeps h = (keeps (subst P (sym read) h.0), h.1)
+all_over P (z ∷ xs) (suc place) x y read keeps h = (h.0, all_over P xs place x y read keeps h.1)
+
+-- ---- formulas that name a sheet that wasn't found
+
+none_pushed : (at : ℕ) (xs : List Formula) (x : Formula) → dangling_from at xs ≡ [] → has_dangling_sheet x ≡ false → dangling_from at (xs ++ x ∷ []) ≡ []
+none_pushed at [] x none clean = ap (λ b. cond b (at ∷ []) []) clean
+none_pushed at (y ∷ xs) x none clean =
+    elim (cases_Bool (has_dangling_sheet y)) [
+      | inl t ↦ let no : at ∷ dangling_from (suc at) xs ≡ [] = rw t at none in cc
+      | inr f ↦ rw f (none_pushed (suc at) xs x (rw f at none) clean)
+    ]
+
+none_placed : (x : Formula) (at : ℕ) (before after : List Formula) → IsPlaced x at before after → has_dangling_sheet x ≡ false → dangling_places before ≡ [] → dangling_places after ≡ []
+none_placed x at before after placed clean none =
+    elim (cases_lt at (length before)) [
+      | inl lt ↦ ap dangling_places (placed.found lt) ∙ none
+      | inr le ↦ ap dangling_places (placed.pushed le) ∙ none_pushed 0 before x none clean
+    ]
+
+-- the same sheet, in which this formula may have got its place
+pub record IsLike (formula : Formula) (s after : Worksheet) : Type 0 where
+  pub id : after.id ≡ s.id
+  pub name : after.name ≡ s.name
+  pub clean : has_dangling_sheet formula ≡ false → HasNoDangling s → HasNoDangling after
+
+like_same : (formula : Formula) (s after : Worksheet) → sheet_of after ≡ sheet_of s → IsLike formula s after
+like_same formula s after same = record {
+  id = ap (λ (b : BookSheet). b.id) same;
+  name = ap (λ (b : BookSheet). b.name) same;
+  clean = λ e h. ap (λ (b : BookSheet). dangling_places b.pool) same ∙ h;
+}
+
+like_placed : (formula : Formula) (at : ℕ) (s after : Worksheet) → IsPlaced formula at s.pool.formulas after.pool.formulas → after.id ≡ s.id → after.name ≡ s.name → IsLike formula s after
+like_placed formula at s after placed same_id same_name = record {
+  id = same_id;
+  name = same_name;
+  clean = λ e h. none_placed formula at s.pool.formulas after.pool.formulas placed e h;
+}
+
+pub like_written : (formula : Formula) (cell : CellPlace) (s after : Worksheet) (r : Result (Unit {0}) OutOfMemory) → OnOk r (IsWritten formula cell s after) → OnErr r (sheet_of after ≡ sheet_of s) → IsLike formula s after
+like_written formula cell s after (Ok done) h e = like_placed formula h.0 s after h.1 (ap (λ (x : Worksheet). x.id) h.2) (ap (λ (x : Worksheet). x.name) h.2)
+like_written formula cell s after (Err error) h e = like_same formula s after e
+
+pub kept_over : (index : Index) (last : ℕ) (may : Bool) (sheets : List Worksheet) (place : ℕ) (s after : Worksheet) (formula : Formula) (dangles : Bool) → AreKept index last may sheets → s ≡ get_or sheets place s → IsLike formula s after
+    → dangles ≡ has_dangling_sheet formula → AreKept index last (may || dangles) (slice_set sheets place after)
+kept_over index last may sheets place s after formula dangles kept read like is =
+    kept_same index last may (may || dangles) sheets (slice_set sheets place after) kept
+    (seen_over (λ (x : Worksheet). x.name) sheets place s after read like.name)
+    (seen_over (λ (x : Worksheet). x.id) sheets place s after read like.id)
+    (λ e. let parts = or_parts may dangles e in all_over HasNoDangling sheets place s after read (like.clean (sym is ∙ parts.1)) (kept.dangles parts.0))
+
+-- ---- what the sheets are then
+
+pub pool_is : (sheets now_sheets : List Worksheet) (place : ℕ) (s : Worksheet) → sheets ≡ now_sheets → place < length now_sheets → s ≡ get_or sheets place s → pool_at now_sheets place ≡ s.pool.formulas
+pool_is sheets now_sheets place s is lt read =
+    ap (λ o. unwrap_or (option_map (λ (x : Worksheet). x.pool.formulas) o) [])
+    (slice_get_read now_sheets (length now_sheets) place s refl lt (read ∙ ap (λ xs. get_or xs place s) is))
+
+-- a cell of the sheet at a place has got a formula
+abbrev pub WritesAt : Formula → CellPlace → ℕ → List Worksheet → List Worksheet → Type 0
+WritesAt formula cell place sheets list =
+    (pool : List Formula) × (at : ℕ) × IsPlaced formula at (pool_at sheets place) pool
+    × (list ≡ updated_at (λ s. record s { pool = record { formulas = pool; is_whole = true }; cells = insert_entry place_cmp s.cells cell at }) place sheets)
+
+pub writes_at : (formula : Formula) (stored cell : CellPlace) (place : ℕ) (sheets now_sheets : List Worksheet) (s after : Worksheet) → stored ≡ cell → sheets ≡ now_sheets → place < length now_sheets → s ≡ get_or sheets place s → IsWritten formula stored s after
+    → WritesAt formula cell place now_sheets (slice_set sheets place after)
+writes_at formula stored cell place sheets now_sheets s after same is lt read h =
+    let put : Worksheet → Worksheet = λ x. record x { pool = record { formulas = after.pool.formulas; is_whole = true }; cells = insert_entry place_cmp x.cells stored h.0 } in
+    subst (λ k. WritesAt formula k place now_sheets (slice_set sheets place after)) same (
+      after.pool.formulas,
+      h.0,
+      subst (λ pool. IsPlaced formula h.0 pool after.pool.formulas) (sym (pool_is sheets now_sheets place s is lt read)) h.1,
+      ap (slice_set sheets place) h.2 ∙ set_updated put sheets place s read ∙ ap (updated_at put place) is,
+    )
+
+pub sheets_as_before : (sheets now_sheets : List Worksheet) (place : ℕ) (s after : Worksheet) → sheets ≡ now_sheets → s ≡ get_or sheets place s → sheet_of after ≡ sheet_of s → map sheet_of (slice_set sheets place after) ≡ map sheet_of now_sheets
+sheets_as_before sheets now_sheets place s after is read same = seen_over sheet_of sheets place s after read same ∙ ap (map sheet_of) is
+
+-- ---- a copy gets its place
+
+-- what a worksheet answers of it
+abbrev pub PlacesCopy : Formula → Worksheet → Worksheet → ℕ → Type 0
+PlacesCopy formula s after at =
+    IsPlaced formula at s.pool.formulas after.pool.formulas × (after ≡ record s { pool = record { formulas = after.pool.formulas; is_whole = true } })
+
+pub like_copied : (formula : Formula) (s after : Worksheet) (r : Result ℕ OutOfMemory) → IfOk r (PlacesCopy formula s after) → OnErr r (sheet_of after ≡ sheet_of s) → IsLike formula s after
+like_copied formula s after (Ok at) h e = like_placed formula at s after h.0 (ap (λ (x : Worksheet). x.id) h.1) (ap (λ (x : Worksheet). x.name) h.1)
+like_copied formula s after (Err error) h e = like_same formula s after e
+
+pub copies_at : (formula : Formula) (place : ℕ) (sheets now_sheets : List Worksheet) (s after : Worksheet) → sheets ≡ now_sheets → place < length now_sheets → s ≡ get_or sheets place s → (at : ℕ) → PlacesCopy formula s after at
+    → (pool : List Formula) × IsPlaced formula at (pool_at now_sheets place) pool × (slice_set sheets place after ≡ updated_at (λ x. record x { pool = record { formulas = pool; is_whole = true } }) place now_sheets)
+copies_at formula place sheets now_sheets s after is lt read at h =
+    let put : Worksheet → Worksheet = λ x. record x { pool = record { formulas = after.pool.formulas; is_whole = true } } in (
+      after.pool.formulas,
+      subst (λ pool. IsPlaced formula at pool after.pool.formulas) (sym (pool_is sheets now_sheets place s is lt read)) h.0,
+      ap (slice_set sheets place) h.1 ∙ set_updated put sheets place s read ∙ ap (updated_at put place) is,
+    )
+
+-- the sheet's look-up is whole where that of the sheet at the place is
+pub whole_at : (sheets now_sheets : List Worksheet) (place : ℕ) (s : Worksheet) → sheets ≡ now_sheets → place < length now_sheets → s ≡ get_or sheets place s → option_map (λ (x : Worksheet). x.pool.is_whole) (slice_get now_sheets place) ≡ Some true → s.pool.is_whole ≡ true
+whole_at sheets now_sheets place s is lt read e =
+    let at : Some s.pool.is_whole ≡ Some true = sym (ap (option_map (λ (x : Worksheet). x.pool.is_whole)) (slice_get_read now_sheets (length now_sheets) place s refl lt (read ∙ ap (λ xs. get_or xs place s) is))) ∙ e in
+    cc

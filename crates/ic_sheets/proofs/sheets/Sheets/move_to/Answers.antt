@@ -1,0 +1,26 @@
+use Rattle.std.proofs.Common.{◌≡◌, ◌<◌, ◌∙◌, ap, sym, subst, arith, length, if◌then◌else◌}
+use Rattle.std.specs.List.{insert, remove}
+use Rattle.ic_laws.specs.CoreStep.{moved}
+use Rattle.ic_sheets.proofs.KeptLemmas.{kept_moved, moved_is}
+use Rattle.ic_sheets.proofs.sheets.Sheets.move_to.Goals as goal
+use Rattle.ic_sheets.proofs.sheets.Sheets.move_to.Goals.{Joined-insert}
+
+-- there is room for the sheet
+put : (c : Joined-insert) → c.insert.new.self.items ≡ insert (remove c.self.inside.list.items c.args.from) c.args.to c.remove-sheet.result
+put c =
+    let list = c.self.inside.list in
+    let room = c.insert.ensures.succeeds (omega (arith, list.ok.0, list.ok.1, c.remove-sheet.ensures.len, c.remove-sheet.ensures.capacity)) in
+    c.insert.ensures.items ∙ ap (λ b. if b then insert c.remove-sheet.new.self.items c.args.to c.remove-sheet.result else c.remove-sheet.new.self.items) room
+    ∙ ap (λ xs. insert xs c.args.to c.remove-sheet.result) c.remove-sheet.ensures.items
+
+pub invariant_of-self : goal.invariant_of-self
+invariant_of-self c =
+    let sheets = c.self.inside.list.items in
+    let lt : c.args.from < length sheets = subst (λ xs. c.args.from < length xs) (sym c.self.view_is) c.requires.from in
+    kept_moved c.self.inside.ids c.self.inside.greatest c.self.inside.may_dangle sheets c.insert.new.self.items c.args.from c.args.to c.remove-sheet.result c.self.invariant lt c.remove-sheet.ensures.value (put c)
+
+pub returns : goal.returns
+returns c =
+    let sheets = c.self.inside.list.items in
+    let lt : c.args.from < length sheets = subst (λ xs. c.args.from < length xs) (sym c.self.view_is) c.requires.from in
+    put c ∙ moved_is sheets c.args.from c.args.to c.remove-sheet.result lt c.remove-sheet.ensures.value ∙ ap (moved c.args.from c.args.to) c.self.view_is

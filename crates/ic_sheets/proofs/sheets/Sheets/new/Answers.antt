@@ -1,0 +1,5 @@
+use Rattle.ic_sheets.proofs.KeptLemmas.{kept_empty}
+use Rattle.ic_sheets.proofs.sheets.Sheets.new.Goals as goal
+
+pub invariant_of-result : goal.invariant_of-result
+invariant_of-result c = kept_empty c.new-2.result c.new.result.items c.new-2.ensures.empty c.new.ensures.items

@@ -1,0 +1,18 @@
+use Rattle.std.proofs.Common.{◌≡◌, ◌<◌, ◌∙◌, ap, sym, subst, None, length, encode_utf8_all}
+use Rattle.ic_laws.specs.Greatest.{greatest}
+use Rattle.ic_laws.specs.Name.{fold}
+use Rattle.ic_sheets.proofs.IndexLemmas.{updated}
+use Rattle.ic_sheets.proofs.KeptLemmas.{kept_removed}
+use Rattle.ic_sheets.proofs.SearchLemmas.{ids}
+use Rattle.ic_sheets.proofs.sheets.Sheets.remove.Goals as goal
+
+pub invariant_of-self : goal.invariant_of-self
+invariant_of-self c =
+    let sheets = c.self.inside.list.items in
+    let s = c.index-sheet.result.now in
+    let lt : c.args.index < length sheets = subst (λ xs. c.args.index < length xs) (sym c.self.view_is) c.requires in
+    let key : c.as_str-2.result.now ≡ encode_utf8_all (fold s.name) =
+    c.as_str-2.ensures.value ∙ c.in_ok-old_key.ensures ∙ ap (λ n. encode_utf8_all (fold n)) c.as_str.ensures.characters in
+    kept_removed c.self.inside.ids c.remove.new.self c.self.inside.greatest c.greatest_of-self-inside.result c.self.inside.may_dangle sheets c.remove-2.new.self.items c.args.index s c.self.invariant lt c.index-sheet.ensures c.remove-2.ensures.items
+    (updated c.self.inside.ids c.remove.new.self _ (fold s.name) None c.remove.ensures.updates key)
+    (c.greatest_of-self-inside.ensures ∙ ap (λ xs. greatest (ids xs)) c.deref.ensures.value)

@@ -1,0 +1,22 @@
+use Rattle.std.proofs.lemmas.Result.{on_err_weaker, on_ok_weaker}
+use Rattle.ic_sheets.proofs.CellLemmas.{stored_pair}
+use Rattle.ic_sheets.proofs.WriteLemmas.{kept_over, like_written, sheets_as_before, writes_at}
+use Rattle.ic_sheets.proofs.sheets.Sheets.write.Goals as goal
+
+pub invariant_of-self : goal.invariant_of-self
+invariant_of-self c =
+    let s = c.index_mut-sheet.result.now in
+    kept_over c.self.inside.ids c.self.inside.greatest c.self.inside.may_dangle c.self.inside.list.items c.args.index s c.write.new.self c.args.formula _ c.self.invariant c.index_mut-sheet.ensures.value
+    (like_written c.args.formula _ s c.write.new.self c.write.result c.write.ensures.ok c.write.ensures.err) c.has_dangling_sheet.ensures
+
+pub returns-clause-ok : goal.returns-clause-ok
+returns-clause-ok c =
+    on_ok_weaker c.write.result
+    (writes_at c.args.formula _ _ c.args.index c.self.inside.list.items c.args.self.now c.index_mut-sheet.result.now c.write.new.self (stored_pair c.args.row c.args.column c.ranges.row c.ranges.column) c.self.view_is c.requires c.index_mut-sheet.ensures.value)
+    c.write.ensures.ok
+
+pub returns-clause-err : goal.returns-clause-err
+returns-clause-err c =
+    on_err_weaker c.write.result
+    (sheets_as_before c.self.inside.list.items c.args.self.now c.args.index c.index_mut-sheet.result.now c.write.new.self c.self.view_is c.index_mut-sheet.ensures.value)
+    c.write.ensures.err

@@ -1,0 +1,28 @@
+use Rattle.std.proofs.Common.{ap, subst, sym, ◌∙◌, ◌<◌, length, rules, arith}
+use Rattle.ic_pool.specs.Rewrites.{FitsPool}
+use Rattle.ic_sheets.proofs.RewritingLemmas.{filled, taken_fits, taken_left, taken_within}
+use Rattle.ic_sheets.specs.declared.sheet.Worksheet.{Worksheet}
+use Rattle.ic_sheets.proofs.sheets.rewriting.apply_all.Goals as goal
+
+pub offset_bounds-sheets-len : goal.offset_bounds-sheets-len
+offset_bounds-sheets-len c =
+    let within : c.len.result < length c.loop-rewrites.sheets =
+    taken_within c.loop-rewrites.prepared.items c.pop.new.self.items c.in-Some.rewrites c.loop-rewrites.sheets c.len.result c.in-Some.ensures.items (c.len.ensures ∙ c.pop.new.self.ok.0) c.loop-rewrites.invariant.fits in
+    search (rules, arith)
+
+pub bounds-sheets-len : goal.bounds-sheets-len
+bounds-sheets-len c =
+    taken_within c.loop-rewrites.prepared.items c.pop.new.self.items c.in-Some.rewrites c.loop-rewrites.sheets c.len.result c.in-Some.ensures.items (c.len.ensures ∙ c.pop.new.self.ok.0) c.loop-rewrites.invariant.fits
+
+pub apply-requires : goal.apply-requires
+apply-requires c =
+    subst (λ (s : Worksheet). FitsPool c.in-Some.rewrites s.pool.formulas) c.index-sheets-len.is
+    (taken_fits c.loop-rewrites.prepared.items c.pop.new.self.items c.in-Some.rewrites c.loop-rewrites.sheets c.len.result c.in-Some.ensures.items (c.len.ensures ∙ c.pop.new.self.ok.0) c.loop-rewrites.invariant.fits c.index-sheets-len.result
+    c.index-sheets-len.is)
+
+pub loop-rewrites-preserved : goal.loop-rewrites-preserved
+loop-rewrites-preserved c =
+    let both =
+    taken_left c.loop-rewrites.prepared.items c.pop.new.self.items c.in-Some.rewrites c.loop-rewrites.sheets c.len.result c.in-Some.ensures.items (c.len.ensures ∙ c.pop.new.self.ok.0) c.loop-rewrites.invariant.fits c.index-sheets-len.result
+    c.index-sheets-len.is _ (filled c.in-Some.rewrites c.index-sheets-len.result _ c.apply.new.self c.index-sheets-len.is c.apply.ensures.formulas c.apply.ensures.whole) in
+    record { left = both.0 ∙ c.loop-rewrites.invariant.left; fits = both.1 }

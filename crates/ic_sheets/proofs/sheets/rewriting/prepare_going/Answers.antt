@@ -1,0 +1,10 @@
+use Rattle.std.proofs.Common.{None, chars}
+use Rattle.ic_laws.specs.BookTrees.{with_tree}
+use Rattle.ic_laws.specs.Changes.{changed_tree, sheet_gone}
+use Rattle.ic_sheets.proofs.RewritingLemmas.{prepared_more}
+use Rattle.ic_sheets.proofs.sheets.rewriting.prepare_going.Goals as goal
+
+pub loop-sheet-preserved : goal.loop-sheet-preserved
+loop-sheet-preserved c =
+    prepared_more (with_tree (changed_tree (sheet_gone c.args.gone.now.id (chars c.args.gone.now.name.now)) None)) c.loop-sheet.prepared.items c.push.new.self.items c.in_ok-rewrites.field-0 c.args.sheets.now c.loop-sheet.sheet-index c.sheet-item.result
+    c.loop-sheet-test.true c.sheet-item.is c.in_ok-push.ensures.items c.loop-sheet.invariant (record { made = c.in_ok-rewrites.ensures.made; fits = c.in_ok-rewrites.ensures.fits })

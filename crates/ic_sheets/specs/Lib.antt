@@ -1,0 +1,4 @@
+pub mod Index
+pub mod Rewriting
+pub mod Search
+pub mod Sheet

@@ -1,0 +1,10 @@
+//! The sheets of a book with the formulas that they keep, found by their names without a search.
+#![tactic(auto)]
+
+mod cells;
+mod sheet;
+mod sheets;
+
+pub use cells::FormulaCells;
+pub use sheet::Worksheet;
+pub use sheets::Sheets;

@@ -1,0 +1,188 @@
+ghost use Rattle.std.specs.Prelude.{◌≡◌, [], chars, encode_utf8_all, find, length, map, nat_eq, option_map, position, remove, slice_get, string_bytes, IfOk};
+ghost use Rattle.std.specs.List.{IsDistinct, list_any};
+ghost use Rattle.ic_laws.specs.Greatest.{greatest};
+ghost use Rattle.ic_laws.specs.Name.{agrees, fold};
+ghost use Rattle.ic_sheets.specs.Search.{id_of};
+
+mod changes;
+mod edits;
+mod formulas;
+mod rewriting;
+
+use crate::Worksheet;
+use caseless::default_case_fold_str;
+use ic_laws::{OutOfMemory, agree};
+use std::alloc::Global;
+use std::collections::BTreeMap;
+use std::marker::Model;
+
+/// The sheets of a book in their order. No two have names that agree, and no two have one id.
+#[derive(Drop)]
+pub struct Sheets {
+    alloc: Global,
+    list: Vec<Worksheet>,
+    /// The id of each sheet, by its folded name.
+    ids: BTreeMap<String, u32>,
+    /// The greatest id of a sheet, 0 where there is none.
+    greatest: u32,
+    /// Where it is false, no formula names a sheet that wasn't found.
+    may_dangle: bool,
+}
+
+impl Model for Sheets {
+    ghost use Rattle.std.specs.Prelude.{List};
+    ghost use Rattle.std.specs.Coded.{codes};
+    ghost use Rattle.ic_sheets.specs.Index.{AreKept};
+    ghost use Rattle.ic_sheets.specs.contracts.sheet.Worksheet as worksheet;
+    ghost use Rattle.ic_sheets.specs.declared.sheet.Worksheet.{Worksheet};
+
+    ghost Value = { List Worksheet };
+
+    ghost coded = { Prim.hlevel (codes, worksheet.the_row.coded) };
+
+    ghost view = { λ s. s.list.items };
+
+    ghost invariant = { λ s. AreKept s.ids s.greatest s.may_dangle s.list.items };
+}
+
+/// The key of a name.
+fn folded(alloc: Global, name: &str) -> Result<String, OutOfMemory>
+    ensures { IfOk result (λ key. string_bytes key ≡ encode_utf8_all (fold (chars name.now))) }
+{
+    let key = default_case_fold_str(alloc, name)?;
+    Ok(key)
+}
+
+/// The id of the first sheet whose name agrees with this one.
+fn first_named(sheets: &[Worksheet], name: &str) -> Option<u32>
+    ensures { result ≡ option_map (λ s. s.id) (find (λ s. agrees s.name (chars name.now)) sheets.now) }
+{
+    let sheet = sheets
+        .iter()
+        .find(|sheet| agree(sheet.name.as_str(), name))?;
+    Some(sheet.id)
+}
+
+/// The place of the sheet with this id.
+fn place_of(sheets: &[Worksheet], id: u32) -> Option<usize>
+    ensures { result ≡ position (λ s. nat_eq s.id id) sheets.now }
+{
+    sheets.iter().position(|sheet| sheet.id == id)
+}
+
+/// The sheet at a place, from 0. None past the end.
+fn sheet_at(sheets: &[Worksheet], index: usize) -> Option<&Worksheet>
+    ensures { option_map (λ s. s.now) result ≡ slice_get sheets.now index }
+{
+    sheets.get(index)
+}
+
+impl Sheets {
+    /// No sheets.
+    pub fn new(alloc: Global) -> Sheets
+        ensures { result ≡ [] }
+    {
+        Sheets {
+            alloc,
+            list: Vec::new(alloc),
+            ids: BTreeMap::new(alloc),
+            greatest: 0,
+            may_dangle: false,
+        }
+    }
+
+    /// The sheets in their order.
+    pub fn as_slice(&self) -> &[Worksheet]
+        ensures sheets { result.now ≡ self.now }
+        ensures names_differ { IsDistinct agrees (map (λ s. s.name) self.now) }
+        ensures ids_differ { IsDistinct nat_eq (map (λ s. s.id) self.now) }
+    {
+        self.list.as_slice()
+    }
+
+    /// How many sheets there are.
+    pub fn len(&self) -> usize
+        ensures { result ≡ length self.now }
+    {
+        self.list.len()
+    }
+
+    /// The greatest id of a sheet, 0 where there is none.
+    pub fn greatest_id(&self) -> u32
+        ensures { result ≡ greatest (map (λ s. s.id) self.now) }
+    {
+        self.greatest
+    }
+
+    /// The id of the sheet whose name agrees with this one. None exactly where there is none. Where there is no memory for
+    /// the folded name, all names are compared.
+    pub fn find(&self, name: &str) -> Option<u32>
+        ensures { result ≡ option_map (λ s. s.id) (find (λ s. agrees s.name (chars name.now)) self.now) }
+    {
+        match folded(self.alloc, name) {
+            Ok(key) => self.find_by_key(key.as_str(), name),
+            Err(_) => first_named(&self.list, name),
+        }
+    }
+
+    /// The same, by the key of the name.
+    fn find_by_key(&self, key: &str, name: &str) -> Option<u32>
+        requires { key.now ≡ encode_utf8_all (fold (chars name.now)) }
+        ensures { result ≡ option_map (λ s. s.id) (find (λ s. agrees s.name (chars name.now)) self.now) }
+    {
+        self.ids.get(key).copied()
+    }
+
+    /// The place of the sheet with this id, from 0. None exactly where no sheet has it.
+    pub fn index_of_id(&self, id: u32) -> Option<usize>
+        ensures { result ≡ position (λ s. nat_eq s.id id) self.now }
+    {
+        place_of(&self.list, id)
+    }
+
+    /// The place of the sheet whose name agrees with this one, from 0. None exactly where there is none.
+    pub fn index_of_name(&self, name: &str) -> Option<usize>
+        ensures { result ≡ position (λ s. agrees s.name (chars name.now)) self.now }
+    {
+        let id = self.find(name)?;
+        place_of(&self.list, id)
+    }
+
+    /// The name of the sheet with this id. None exactly where no sheet has it.
+    pub fn name_of(&self, id: u32) -> Option<&str>
+        ensures { option_map (λ name. chars name.now) result ≡ option_map (λ s. s.name) (find (λ s. nat_eq s.id id) self.now) }
+    {
+        let sheet = self.list.iter().find(|sheet| sheet.id == id)?;
+        Some(sheet.name.as_str())
+    }
+
+    /// Whether the name of a sheet agrees with this one.
+    pub fn is_taken(&self, name: &str) -> bool
+        ensures { result ≡ list_any (agrees (chars name.now)) (map (λ s. s.name) self.now) }
+    {
+        self.find(name).is_some()
+    }
+
+    /// Whether the name of a sheet agrees with this one, other than the sheet at this place, from 0. Past the end no sheet
+    /// is left out.
+    pub fn is_taken_by_other(&self, index: usize, name: &str) -> bool
+        ensures { result ≡ list_any (agrees (chars name.now)) (remove (map (λ s. s.name) self.now) index) }
+    {
+        match (self.find(name), sheet_at(&self.list, index)) {
+            (None, _) => false,
+            (Some(_), None) => true,
+            (Some(id), Some(sheet)) => sheet.id != id,
+        }
+    }
+}
+
+/// The greatest id of these sheets, 0 where there is none.
+fn greatest_of(sheets: &[Worksheet]) -> u32
+    ensures { result ≡ greatest (map (λ s. s.id) sheets.now) }
+{
+    let mut most = 0;
+    for sheet in sheets {
+        most = most.max(sheet.id);
+    }
+    most
+}

@@ -1,0 +1,92 @@
+//! Sheets come, go, get other names and stand at other places.
+ghost use Rattle.std.specs.Prelude.{◌≡◌, ◌<◌, ◌++◌, ℕ, List, [], ◌∷◌, Some, None, OnOk, OnErr, bytes_eq, chars, cond, false, true, length, map, remove, string_bytes};
+ghost use Rattle.std.specs.BTreeMap.{get_by_text};
+ghost use Rattle.std.specs.List.{list_any};
+ghost use Rattle.ic_laws.specs.CoreStep.{moved, updated_at};
+ghost use Rattle.ic_laws.specs.Greatest.{greatest};
+ghost use Rattle.ic_laws.specs.Name.{agrees};
+
+use super::{Sheets, folded, greatest_of};
+use crate::Worksheet;
+use ic_laws::{OutOfMemory, Text};
+use std::collections::BTreeMap;
+
+impl Sheets {
+    /// Adds a sheet at the end, which keeps no formulas. `OutOfMemory` changes nothing.
+    pub fn push(&mut self, id: u32, name: &str) -> Result<(), OutOfMemory>
+        requires free { list_any (agrees (chars name.now)) (map (λ s. s.name) self.old) ≡ false }
+        requires fresh { greatest (map (λ s. s.id) self.old) < id }
+        ensures ok { OnOk result (self.new ≡ self.old ++ record { id = id; name = chars name.now; pool = record { formulas = []; is_whole = true }; cells = [] } ∷ []) }
+        ensures err { OnErr result (self.new ≡ self.old) }
+    {
+        let key = folded(self.alloc, name)?;
+        let name = Text::from_str(self.alloc, name)?;
+        self.list.reserve(1)?;
+        self.ids.insert(key, id)?;
+        self.list
+            .push_reserved(Worksheet::new(self.alloc, id, name));
+        self.greatest = id;
+        Ok(())
+    }
+
+    /// Gives the sheet at a place, from 0, another name. `OutOfMemory` changes nothing.
+    pub fn rename(&mut self, index: usize, name: &str) -> Result<(), OutOfMemory>
+        requires within { index < length self.old }
+        requires free { list_any (agrees (chars name.now)) (remove (map (λ s. s.name) self.old) index) ≡ false }
+        ensures ok { OnOk result (self.new ≡ updated_at (λ s. record s { name = chars name.now }) index self.old) }
+        ensures err { OnErr result (self.new ≡ self.old) }
+    {
+        let key = folded(self.alloc, name)?;
+        let new_name = Text::from_str(self.alloc, name)?;
+        let sheet = &self.list[index];
+        let id = sheet.id;
+        let old_key = folded(self.alloc, sheet.name.as_str())?;
+        rekey(&mut self.ids, old_key.as_str(), key, id)?;
+        let sheet = &mut self.list[index];
+        sheet.name = new_name;
+        Ok(())
+    }
+
+    /// Takes the sheet at a place away, from 0. `OutOfMemory` changes nothing.
+    pub fn remove(&mut self, index: usize) -> Result<(), OutOfMemory>
+        requires { index < length self.old }
+        ensures ok { OnOk result (self.new ≡ remove self.old index) }
+        ensures err { OnErr result (self.new ≡ self.old) }
+    {
+        let sheet = &self.list[index];
+        let old_key = folded(self.alloc, sheet.name.as_str())?;
+        self.ids.remove(old_key.as_str());
+        self.list.remove(index);
+        self.greatest = greatest_of(&self.list);
+        Ok(())
+    }
+
+    /// Puts the sheet at a place to another, both from 0; the others keep their order. It takes no memory.
+    pub fn move_to(&mut self, from: usize, to: usize)
+        requires from { from < length self.old }
+        requires to { to < length self.old }
+        ensures { self.new ≡ moved from to self.old }
+    {
+        let sheet = self.list.remove(from);
+        // There is room for it, where it was.
+        let _ = self.list.insert(to, sheet);
+    }
+}
+
+/// Takes a key out and puts another in, which may be the same.
+fn rekey(
+    ids: &mut BTreeMap<String, u32>,
+    old_key: &str,
+    key: String,
+    id: u32,
+) -> Result<(), OutOfMemory>
+    ensures ok { OnOk result ((q : List ℕ) → get_by_text ids.new q ≡ cond (bytes_eq (string_bytes key) q) (Some id) (cond (bytes_eq old_key.now q) None (get_by_text ids.old q))) }
+    ensures err { OnErr result ((q : List ℕ) → get_by_text ids.new q ≡ get_by_text ids.old q) }
+{
+    let same = key.as_str() == old_key;
+    ids.insert(key, id)?;
+    if !same {
+        ids.remove(old_key);
+    }
+    Ok(())
+}

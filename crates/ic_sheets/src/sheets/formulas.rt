@@ -1,0 +1,54 @@
+//! Formulas get their places in the sheets.
+ghost use Rattle.std.specs.Prelude.{◌≡◌, ◌<◌, ◌≤◌, ◌+◌, ℕ, List, Some, IfOk, OnErr, OnOk, length, map, option_map, slice_get, true};
+ghost use Rattle.std.specs.BTreeMap.{insert_entry};
+ghost use Rattle.ic_laws.specs.CoreBook.{place_cmp};
+ghost use Rattle.ic_laws.specs.CoreStep.{updated_at};
+ghost use Rattle.ic_laws.specs.declared.tree.Formula.{Formula};
+ghost use Rattle.ic_pool.specs.Pool.{IsPlaced};
+ghost use Rattle.ic_sheets.specs.Sheet.{pool_at, sheet_of};
+
+use super::Sheets;
+use ic_laws::{Formula, OutOfMemory};
+use ic_pool::{Steps, has_dangling_sheet};
+use std::sync::ledger::Ledger;
+
+impl Sheets {
+    /// Gives a cell of the sheet at a place, from 0, a formula: the cell of this row and this column, from 1.
+    /// `OutOfMemory` changes nothing but what formulas are found by.
+    pub fn write(
+        &mut self,
+        index: usize,
+        row: i32,
+        column: i32,
+        formula: Formula,
+    ) -> Result<(), OutOfMemory>
+        requires { index < length self.old }
+        ensures ok { OnOk result ((pool : List Formula) × (place : ℕ) × IsPlaced formula place (pool_at self.old index) pool × (self.new ≡ updated_at (λ s. record s { pool = record { formulas = pool; is_whole = true }; cells = insert_entry place_cmp s.cells (row, column) place }) index self.old)) }
+        ensures err { OnErr result (map sheet_of self.new ≡ map sheet_of self.old) }
+    {
+        self.may_dangle |= has_dangling_sheet(&formula);
+        let sheet = &mut self.list[index];
+        sheet.write(row, column, formula)
+    }
+
+    /// The place, from 0, of an equal formula among those that the sheet at a place, from 0, keeps; where there is none, a
+    /// copy gets one. What formulas are found by is made first, in as many steps as there are formulas, or in none where
+    /// it is there. `OutOfMemory` changes nothing but that.
+    pub fn place_copy<L: Ledger>(
+        &mut self,
+        index: usize,
+        formula: &Formula,
+        steps: &mut Steps<L>,
+    ) -> Result<usize, OutOfMemory>
+        requires { index < length self.old }
+        ensures ok { IfOk result (λ at. (pool : List Formula) × IsPlaced formula.now at (pool_at self.old index) pool × (self.new ≡ updated_at (λ s. record s { pool = record { formulas = pool; is_whole = true } }) index self.old)) }
+        ensures err { OnErr result (map sheet_of self.new ≡ map sheet_of self.old) }
+        ensures still { option_map (λ s. s.pool.is_whole) (slice_get self.old index) ≡ Some true → steps.new ≡ steps.old }
+        ensures cost { steps.new ≤ steps.old + length (pool_at self.old index) }
+        ensures grows { steps.old ≤ steps.new }
+    {
+        self.may_dangle |= has_dangling_sheet(formula);
+        let sheet = &mut self.list[index];
+        sheet.place_copy(formula, steps)
+    }
+}

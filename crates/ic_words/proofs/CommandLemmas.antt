@@ -1,0 +1,70 @@
+-- The commands of served names with one to four words.
+use Rattle.std.proofs.Common.{◌≡◌, ℕ, List, [], ◌∷◌, Option, Some, None, option_map, option_and_then, refl, ap, sym, ◌∙◌}
+use Rattle.ic_laws.specs.Command.{AllSaid, Command, OfText, Said, WordForm, said}
+use Rattle.ic_laws.specs.Lines.{spelled_command, unescaped}
+use Rattle.ic_words.specs.Command.{word_said, words_said}
+use Rattle.ic_words.specs.Served.{served}
+use Rattle.ic_words.specs.Words.{characters_of}
+use Rattle.ic_words.specs.declared.words.WordText.{WordText}
+use Rattle.ic_words.proofs.RowLemmas.{IsRow, command_as_said, command_said, none_after, none_first, nothing_said, said_first}
+
+-- a text says itself
+text_said : (o : Option (List ℕ)) → o ≡ option_and_then (said OfText) o
+text_said None = refl
+text_said (Some t) = refl
+
+pub text_there : (word : List ℕ) {o : Option WordText} {text : WordText} → o ≡ Some text → option_map characters_of o ≡ unescaped word → Some (characters_of text) ≡ word_said OfText word
+text_there word is e = ap (option_map characters_of) (sym is) ∙ e ∙ text_said (unescaped word)
+
+pub text_missing : (word : List ℕ) {o : Option WordText} → o ≡ None → option_map characters_of o ≡ unescaped word → None ≡ word_said OfText word
+text_missing word is e = ap (option_map characters_of) (sym is) ∙ e ∙ text_said (unescaped word)
+
+-- a served name with one text
+module _ {name : List ℕ} {command : AllSaid (OfText ∷ []) → Command} (row : IsRow name (OfText ∷ []) command) (words : List (List ℕ)) (o : Option WordText) (e : option_map (λ text. (characters_of text, tt)) o ≡ words_said (OfText ∷ []) words) where
+  pub one_text : (text : WordText) → o ≡ Some text → Some (command (characters_of text, tt)) ≡ spelled_command served (name ∷ words)
+  one_text text is = command_as_said row words (Some (characters_of text, tt)) (ap (option_map (λ text. (characters_of text, tt))) (sym is) ∙ e)
+
+  pub no_text : o ≡ None → None ≡ spelled_command served (name ∷ words)
+  no_text is = command_as_said row words None (ap (option_map (λ text. (characters_of text, tt))) (sym is) ∙ e)
+
+-- two words
+module _ {name : List ℕ} {f g : WordForm} {command : AllSaid (f ∷ g ∷ []) → Command} (row : IsRow name (f ∷ g ∷ []) command) {words : List (List ℕ)} {a b : List ℕ} (e : words ≡ a ∷ b ∷ []) where
+  pub two_said : {x : Said f} {y : Said g} → Some x ≡ word_said f a → Some y ≡ word_said g b → Some (command (x, (y, tt))) ≡ spelled_command served (name ∷ words)
+  two_said {x} {y} p q = command_said row words (a ∷ b ∷ []) (x, (y, tt)) e (said_first f (g ∷ []) a (b ∷ []) x (y, tt) p (said_first g [] b [] y tt q refl))
+
+  pub two_without_first : None ≡ word_said f a → None ≡ spelled_command served (name ∷ words)
+  two_without_first p = nothing_said row words (a ∷ b ∷ []) e (none_first f (g ∷ []) a (b ∷ []) p)
+
+  pub two_without_second : None ≡ word_said g b → None ≡ spelled_command served (name ∷ words)
+  two_without_second p = nothing_said row words (a ∷ b ∷ []) e (none_after f (g ∷ []) a (b ∷ []) (none_first g [] b [] p))
+
+-- three words
+module _ {name : List ℕ} {f g h : WordForm} {command : AllSaid (f ∷ g ∷ h ∷ []) → Command} (row : IsRow name (f ∷ g ∷ h ∷ []) command) {words : List (List ℕ)} {a b c : List ℕ} (e : words ≡ a ∷ b ∷ c ∷ []) where
+  pub three_said : {x : Said f} {y : Said g} {z : Said h} → Some x ≡ word_said f a → Some y ≡ word_said g b → Some z ≡ word_said h c → Some (command (x, (y, (z, tt)))) ≡ spelled_command served (name ∷ words)
+  three_said {x} {y} {z} p q r = command_said row words (a ∷ b ∷ c ∷ []) (x, (y, (z, tt))) e (said_first f (g ∷ h ∷ []) a (b ∷ c ∷ []) x (y, (z, tt)) p (said_first g (h ∷ []) b (c ∷ []) y (z, tt) q (said_first h [] c [] z tt r refl)))
+
+  pub three_without_first : None ≡ word_said f a → None ≡ spelled_command served (name ∷ words)
+  three_without_first p = nothing_said row words (a ∷ b ∷ c ∷ []) e (none_first f (g ∷ h ∷ []) a (b ∷ c ∷ []) p)
+
+  pub three_without_second : None ≡ word_said g b → None ≡ spelled_command served (name ∷ words)
+  three_without_second p = nothing_said row words (a ∷ b ∷ c ∷ []) e (none_after f (g ∷ h ∷ []) a (b ∷ c ∷ []) (none_first g (h ∷ []) b (c ∷ []) p))
+
+  pub three_without_third : None ≡ word_said h c → None ≡ spelled_command served (name ∷ words)
+  three_without_third p = nothing_said row words (a ∷ b ∷ c ∷ []) e (none_after f (g ∷ h ∷ []) a (b ∷ c ∷ []) (none_after g (h ∷ []) b (c ∷ []) (none_first h [] c [] p)))
+
+-- four words
+module _ {name : List ℕ} {f g h k : WordForm} {command : AllSaid (f ∷ g ∷ h ∷ k ∷ []) → Command} (row : IsRow name (f ∷ g ∷ h ∷ k ∷ []) command) {words : List (List ℕ)} {a b c d : List ℕ} (e : words ≡ a ∷ b ∷ c ∷ d ∷ []) where
+  pub four_said : {x : Said f} {y : Said g} {z : Said h} {w : Said k} → Some x ≡ word_said f a → Some y ≡ word_said g b → Some z ≡ word_said h c → Some w ≡ word_said k d → Some (command (x, (y, (z, (w, tt))))) ≡ spelled_command served (name ∷ words)
+  four_said {x} {y} {z} {w} p q r s = command_said row words (a ∷ b ∷ c ∷ d ∷ []) (x, (y, (z, (w, tt)))) e (said_first f (g ∷ h ∷ k ∷ []) a (b ∷ c ∷ d ∷ []) x (y, (z, (w, tt))) p (said_first g (h ∷ k ∷ []) b (c ∷ d ∷ []) y (z, (w, tt)) q (said_first h (k ∷ []) c (d ∷ []) z (w, tt) r (said_first k [] d [] w tt s refl))))
+
+  pub four_without_first : None ≡ word_said f a → None ≡ spelled_command served (name ∷ words)
+  four_without_first p = nothing_said row words (a ∷ b ∷ c ∷ d ∷ []) e (none_first f (g ∷ h ∷ k ∷ []) a (b ∷ c ∷ d ∷ []) p)
+
+  pub four_without_second : None ≡ word_said g b → None ≡ spelled_command served (name ∷ words)
+  four_without_second p = nothing_said row words (a ∷ b ∷ c ∷ d ∷ []) e (none_after f (g ∷ h ∷ k ∷ []) a (b ∷ c ∷ d ∷ []) (none_first g (h ∷ k ∷ []) b (c ∷ d ∷ []) p))
+
+  pub four_without_third : None ≡ word_said h c → None ≡ spelled_command served (name ∷ words)
+  four_without_third p = nothing_said row words (a ∷ b ∷ c ∷ d ∷ []) e (none_after f (g ∷ h ∷ k ∷ []) a (b ∷ c ∷ d ∷ []) (none_after g (h ∷ k ∷ []) b (c ∷ d ∷ []) (none_first h (k ∷ []) c (d ∷ []) p)))
+
+  pub four_without_fourth : None ≡ word_said k d → None ≡ spelled_command served (name ∷ words)
+  four_without_fourth p = nothing_said row words (a ∷ b ∷ c ∷ d ∷ []) e (none_after f (g ∷ h ∷ k ∷ []) a (b ∷ c ∷ d ∷ []) (none_after g (h ∷ k ∷ []) b (c ∷ d ∷ []) (none_after h (k ∷ []) c (d ∷ []) (none_first k [] d [] p))))

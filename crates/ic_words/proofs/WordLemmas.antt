@@ -1,0 +1,62 @@
+-- The first word of a line, and words without an escape.
+use Rattle.std.proofs.Common.{◌≡◌, ◌≢◌, ℕ, ◌+◌, ◌<◌, List, [], ◌∷◌, ◌++◌, ◌==◌, length, map, drop, get_or, false, Option, None, Some, lit<, Bor, chars, IsUtf8, All, option_map, refl, ap, sym, subst, ◌∙◌, arith, length-append, append_assoc, inl, inr}
+use Rattle.std.specs.List.{slice_split}
+use Rattle.std.specs.Str.{NoCharPasses, NonePass}
+use Rattle.std.proofs.lemmas.Bool.Decides.{eqb_tells}
+use Rattle.std.proofs.lemmas.List.{drop_at}
+use Rattle.std.proofs.lemmas.List.Elements.{All-from_get_or}
+use Rattle.std.proofs.lemmas.List.Splits.{length-slice_split, slice_split_at, slice_split_none}
+use Rattle.std.proofs.lemmas.Option.{MatchOption-at_none, MatchOption-at_some}
+use Rattle.std.proofs.lemmas.Str.Pattern.{IsSplitOnceResult, split_parts}
+use Rattle.std.proofs.lemmas.Str.{IsCharBoundary-after_ascii, IsUtf8-drop, chars_from_encodes, encodes-chars, scalars-chars}
+use Rattle.std.proofs.Math.Seq.{get_or-append_seam}
+use Rattle.ic_laws.specs.Lines.{unescaped, words_of}
+use Rattle.ic_lines.proofs.WordLemmas.{pieces}
+use Rattle.ic_words.specs.Words.{words_left}
+
+-- what stands after a tab is text
+after_tab : (bytes word rest : List ℕ) → IsUtf8 bytes → bytes ≡ word ++ 9 ∷ rest → IsUtf8 rest
+after_tab bytes word rest u e =
+    let within : length word < length bytes = omega (arith, ap length e, length-append word (9 ∷ rest)) in
+    let at : get_or bytes (length word) 0 ≡ 9 = ap (λ b. get_or b (length word) 0) e ∙ get_or-append_seam word 9 rest 0 in
+    let is_rest : drop (length word + 1) bytes ≡ rest =
+    ap (drop (length word + 1)) (e ∙ sym (append_assoc word (9 ∷ []) rest)) ∙ drop_at (word ++ 9 ∷ []) rest (length word + 1) (length-append word (9 ∷ [])) in
+    subst IsUtf8 is_rest (IsUtf8-drop bytes (length word + 1) u (IsCharBoundary-after_ascii bytes (length word) u within (omega (arith, at))))
+
+no_tabs : (bytes : List ℕ) → ((i : ℕ) → i < length bytes → get_or bytes i 0 ≢ 9) → All (λ b. (b == 9) ≡ false) bytes
+no_tabs bytes h = All-from_get_or (λ b. (b == 9) ≡ false) bytes 0 (λ i within.
+    elim (eqb_tells (get_or bytes i 0) 9) [ inl p ↦ absurd (h i within p.1) | inr p ↦ p.0 ])
+
+words_of-bytes : (bytes : List ℕ) → IsUtf8 bytes → words_of (chars bytes) ≡ map chars (slice_split (λ b. b == 9) bytes)
+words_of-bytes bytes u =
+    sym (pieces (chars bytes) (scalars-chars bytes u)) ∙ ap (λ b. map chars (slice_split (λ b. b == 9) b)) (encodes-chars bytes u)
+
+-- a line without a tab is one word
+pub lone_word : (bytes : List ℕ) (split : Option (Bor (List ℕ) × Bor (List ℕ))) → IsUtf8 bytes → IsSplitOnceResult 9 bytes split → split ≡ None → words_of (chars bytes) ≡ chars bytes ∷ []
+lone_word bytes split u cut none =
+    words_of-bytes bytes u ∙ ap (map chars) (slice_split_none (λ b. b == 9) bytes (no_tabs bytes (MatchOption-at_none _ _ none (split_parts 9 bytes split cut (lit< tt)))))
+
+-- what stands before the first tab is a word, and the others stand after it
+pub word_before : (bytes : List ℕ) (split : Option (Bor (List ℕ) × Bor (List ℕ))) (word rest : Bor (List ℕ)) → IsUtf8 bytes → IsSplitOnceResult 9 bytes split → split ≡ Some (word, rest) → words_of (chars bytes) ≡ chars word.now ∷ words_of (chars rest.now)
+word_before bytes split word rest u cut some =
+    let parts = MatchOption-at_some _ _ (word, rest) some (split_parts 9 bytes split cut (lit< tt)) in
+    words_of-bytes bytes u ∙ ap (λ b. map chars (slice_split (λ b. b == 9) b)) parts.0
+    ∙ ap (map chars) (slice_split_at (λ b. b == 9) word.now 9 rest.now (no_tabs word.now parts.1) refl)
+    ∙ ap (λ ws. chars word.now ∷ ws) (sym (words_of-bytes rest.now (after_tab bytes word.now rest.now u parts.0)))
+
+-- a word with a tab after it isn't the only one
+pub more_words : (left : Option (Bor (List ℕ))) (line : Bor (List ℕ)) (more : Option (Bor (List ℕ))) (rest : Bor (List ℕ)) (word : List ℕ) → left ≡ Some line → words_of (chars line.now) ≡ word ∷ words_left more → more ≡ Some rest → length (words_left left) ≢ 1
+more_words left line more rest word e w m one =
+    let all : words_left left ≡ word ∷ words_of (chars rest.now) = ap words_left e ∙ w ∙ ap (λ ws. word ∷ words_left ws) m in
+    omega (arith, one, ap length all, length-slice_split (λ c. c == 9) (chars rest.now))
+
+-- a word without a backslash spells itself
+plain : (cs : List ℕ) → NonePass (λ c. c == 92) cs → unescaped cs ≡ Some cs
+plain [] h = refl
+plain (c ∷ []) h = rw h.0 refl
+plain (c ∷ d ∷ cs) h = rw h.0 (ap (option_map (λ t. c ∷ t)) (plain (d ∷ cs) h.1))
+
+pub spells_itself : (bytes : List ℕ) → IsUtf8 bytes → NoCharPasses (λ c. c == 92) bytes → unescaped (chars bytes) ≡ Some (chars bytes)
+spells_itself bytes u h =
+    let same : h.0 ≡ chars bytes = chars_from_encodes h.0 bytes u h.1 in
+    subst (λ cs. unescaped cs ≡ Some cs) same (plain h.0 h.2)

@@ -1,0 +1,33 @@
+-- Commands as the code has them, and what words say.
+use Rattle.std.specs.Prelude.{ℕ, List, [], ◌∷◌, Option, Some, None, option_and_then, option_map}
+use Rattle.ic_laws.specs.Command as laws
+use Rattle.ic_laws.specs.Command.{AllSaid, Said, WordForm, said}
+use Rattle.ic_laws.specs.Lines.{unescaped}
+use Rattle.ic_words.specs.Words.{characters_of}
+use Rattle.ic_words.specs.declared.command.Command.{Command}
+use Rattle.ic_words.specs.declared.command.Command.TheVariants as commands
+
+-- the command that is meant
+abbrev pub command_meant : Command → laws.Command
+command_meant (commands.AddSheet name) = laws.AddSheet (characters_of name)
+command_meant (commands.RenameSheet old new) = laws.RenameSheet (characters_of old) (characters_of new)
+command_meant (commands.RenameSheetByIndex sheet name) = laws.RenameSheetByIndex sheet (characters_of name)
+command_meant (commands.MoveSheet sheet to) = laws.MoveSheet sheet to
+command_meant (commands.DeleteSheet sheet) = laws.DeleteSheet sheet
+command_meant (commands.DeleteSheetByName name) = laws.DeleteSheetByName (characters_of name)
+command_meant (commands.DeleteSheetBySheetId id) = laws.DeleteSheetBySheetId id
+command_meant (commands.SetLocale id) = laws.SetLocale (characters_of id)
+command_meant (commands.SetLanguage id) = laws.SetLanguage (characters_of id)
+command_meant (commands.UpdateCellWithFormula sheet row column text) = laws.UpdateCellWithFormula sheet row column (characters_of text)
+command_meant (commands.GetCellFormula sheet row column) = laws.GetCellFormula sheet row column
+
+-- what a word of this form says, by the text that it spells
+abbrev pub word_said : (form : WordForm) → List ℕ → Option (Said form)
+word_said form word = option_and_then (said form) (unescaped word)
+
+-- what words of these forms say; none where there are more or fewer, or one isn't of its form
+abbrev pub words_said : (forms : List WordForm) → List (List ℕ) → Option (AllSaid forms)
+words_said [] [] = Some tt
+words_said [] (word ∷ words) = None
+words_said (form ∷ forms) [] = None
+words_said (form ∷ forms) (word ∷ words) = option_and_then (λ first. option_map (λ others. (first, others)) (words_said forms words)) (word_said form word)

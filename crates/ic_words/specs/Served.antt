@@ -1,0 +1,9 @@
+-- The commands that are served so far.
+use Rattle.std.specs.Prelude.{List, [], ◌∷◌, codes}
+use Rattle.ic_laws.specs.Command.{CommandRow, rows_named}
+
+-- the rows of the table with these names
+unfoldable pub served : List CommandRow
+served =
+    rows_named (codes "add_sheet" ∷ codes "rename_sheet" ∷ codes "rename_sheet_by_index" ∷ codes "move_sheet" ∷ codes "delete_sheet" ∷ codes "delete_sheet_by_name"
+    ∷ codes "delete_sheet_by_sheet_id" ∷ codes "set_locale" ∷ codes "set_language" ∷ codes "update_cell_with_formula" ∷ codes "get_cell_formula" ∷ [])
