@@ -1,6 +1,6 @@
 # Writes command lines of one kind: `different`, so many different formulas, each into a cell of its own; `same`, one formula
 # into so many cells; `shown`, a reader for each of these cells; `bad`, lines that are no command; `found`, different
-# formulas that refer to three sheets of the book; `renames`, `moves` and `sheets`, so many of these commands.
+# formulas that refer to three sheets of the book; `renames`, `moves`, `sheets` and `more_sheets`, so many of these commands.
 function put(i, text) { printf "update_cell_with_formula\t0\t%d\t%d\t=%s\n", i % 100000 + 1, int(i / 100000) + 1, text }
 
 function formula(i,    a, b, c, k, n, m) {
@@ -21,11 +21,12 @@ BEGIN {
     if (kind == "found") print "add_sheet\tData\nadd_sheet\tBudget\nadd_sheet\tNext\nadd_sheet\tMy data"
     for (i = 1; i <= count; i++) {
         if (kind == "different" || kind == "found") put(i, formula(i))
-        else if (kind == "same") put(i, "SUM(Data!$A$1:$B$9)*2.5%+IF(B2>1,\"yes\",C3)")
+        else if (kind == "same") put(i, "SUM(Data!$A$1:$B$9)*2.5%+IF($B$2>1,\"yes\",$C$3)")
         else if (kind == "shown") printf "get_cell_formula\t0\t%d\t%d\n", i % 100000 + 1, int(i / 100000) + 1
         else if (kind == "bad") printf "update_cell\t0\t%d\t1\t=1\n", i
         else if (kind == "renames") printf "rename_sheet_by_index\t1\tN%d\n", i
         else if (kind == "moves") printf "move_sheet\t0\t%d\n", i % 4
         else if (kind == "sheets") printf "add_sheet\tT%d\n", i
+        else if (kind == "more_sheets") printf "add_sheet\tM%d\n", i
     }
 }

@@ -1,119 +1,165 @@
--- The sheets of a book as its core sees them, and the start.
-use Rattle.std.proofs.Common.{◌≡◌, ℕ, ◌+◌, ◌^◌, ◌<◌, ◌≤◌, ◌++◌, List, [], ◌∷◌, Bool, true, false, ◌||◌, Option, Some, None, SomeIff, IfSome, is_some, is_err, option_map, Result, Ok, Err, MatchResult, All, map, codes, bytes_eq, refl, ap, sym, ◌∙◌, subst, arith, if◌then◌else◌}
-use Rattle.std.specs.List.{list_any}
+-- The whole book over a change of its sheets: its core is changed as the machine's is, and its pools stay valid.
+use Rattle.std.proofs.Common.{◌≡◌, ℕ, zero, suc, ◌+◌, List, [], ◌∷◌, ◌++◌, map, flat_map, Option, Some, None, refl, sym, ap, ap₂, subst, ◌∙◌}
+use Rattle.std.specs.Prelude.{insert, remove, option_map}
+use Rattle.std.specs.List.{AllByRecursion, slice_get}
+use Rattle.std.specs.Option.{option_to_list}
 use Rattle.std.proofs.lemmas.List.{map-append}
-use Rattle.std.proofs.lemmas.List.Elements.{All-weaker}
-use Rattle.ic_laws.specs.Name.{is_sheet_name}
-use Rattle.ic_laws.specs.CoreBook.{CoreBook, Definition, Sheet, fresh_id, has_sheet, scene_of}
-use Rattle.ic_laws.specs.CoreStep.{changed_by, with_new_sheet}
+use Rattle.std.proofs.lemmas.Option.{slice_get-map}
+use Rattle.ic_laws.proofs.core.KeptBook.{in_body, mentioned, same_definitions}
+use Rattle.ic_laws.proofs.core.Lists.{all_pushed, all_removed, all_updated, removed_seen, updated_seen}
+use Rattle.ic_laws.proofs.core.Named.{IsNamed}
+use Rattle.ic_laws.specs.CoreBook.{CoreBook, Definition, Sheet, greatest_id, scene_of, spelling_of}
+use Rattle.ic_laws.specs.CoreStep.{changed_by, moved, put_back, updated_at, with_new_sheet, with_sheet_name, without_sheet}
 use Rattle.ic_laws.specs.Greatest.{greatest}
-use Rattle.ic_laws.specs.Keeping.{KeyChange, kept_on_sheet, same_keys}
+use Rattle.ic_laws.specs.Keeping.{kept_in_body, same_keys, with_kept}
 use Rattle.ic_laws.specs.Notations.{AreNotations, Notations}
-use Rattle.ic_laws.specs.ValidCore.{IsValidCore}
+use Rattle.ic_laws.specs.declared.scene.NameSpelling.{NameSpelling}
 use Rattle.ic_laws.specs.declared.scene.Scene.{Scene}
-use Rattle.ic_laws.proofs.CoreLemmas.{All-greatest, fresh_is_next}
-use Rattle.ic_laws.proofs.core.Named.{added_named, book_named}
-use Rattle.ic_laws.proofs.core.SheetAdded.{added_valid, one_sheet_valid}
-use Rattle.ic_laws.proofs.kept.TreeFacts.{tree_facts}
-use Rattle.ic_tables.specs.Tables.{IsWellFormed, TableSet, locale_of, language_of, lists_zone}
-use Rattle.ic_tree.proofs.NotationLaws.{notations_are}
-use Rattle.ic_tree.specs.Notations.{notations_of}
-use Rattle.ic_book.specs.Book.{Book, IsValidBook, core_of, first_sheet_name_in, notations_in}
-use Rattle.ic_book.specs.Sheets.{sheets_of}
-use Rattle.ic_book.specs.declared.sheet.Worksheet.{Worksheet}
+use Rattle.ic_laws.specs.declared.scene.SheetName.{SheetName}
+use Rattle.ic_sheets.specs.Sheet.{BookSheet, IsValidPool, kept_pool, sheet_core}
+use Rattle.ic_book.specs.Book.{Book, core_of, scene_in}
+use Rattle.ic_book.specs.Change.{with_added_sheet, with_kept_pools, with_moved_sheet, with_removed_sheet, with_renamed_sheet}
+use Rattle.ic_sheets.proofs.PoolLemmas.{pools_kept, sheet_cores-kept}
 
--- a test of the names, made sheet by sheet
-pub any_name : (p : List ℕ → Bool) (sheets : List Worksheet) → list_any p (map (λ s. s.name) (sheets_of sheets)) ≡ list_any (λ s. p s.name) sheets
-any_name p [] = refl
-any_name p (s ∷ sheets) = ap (λ b. p s.name || b) (any_name p sheets)
+-- a change of the sheets of a book, over which all formulas are kept as these notations say
+abbrev pub changed_in : Notations → (Book → Book) → Book → Book
+changed_in n change book = change (with_kept_pools n (scene_in book) (scene_in (change book)) book)
 
--- the name of a new book's sheet is a sheet name
-pub first_name_is_good : (language : List ℕ) → is_sheet_name (first_sheet_name_in language) ≡ true
-first_name_is_good language =
-    elim (bytes_eq language (codes "es")) as (λ b. is_sheet_name ((if b then codes "Hoja" else rest) ++ codes "1") ≡ true) [
-      | true ↦ refl
-      | false ↦
-          elim (bytes_eq language (codes "fr")) as (λ b. is_sheet_name ((if b then codes "Feuil" else more) ++ codes "1") ≡ true) [
-            | true ↦ refl
-            | false ↦
-                elim (bytes_eq language (codes "de")) as (λ b. is_sheet_name ((if b then codes "Tabelle" else last) ++ codes "1") ≡ true) [
-                  | true ↦ refl
-                  | false ↦
-                      elim (bytes_eq language (codes "it")) as (λ b. is_sheet_name ((if b then codes "Foglio" else codes "Sheet") ++ codes "1") ≡ true) [ true ↦ refl | false ↦ refl ]
-                ]
-          ]
-    ]
-  where
-    last : List ℕ
-    last = if bytes_eq language (codes "it") then codes "Foglio" else codes "Sheet"
+-- a book's core, over all formulas kept
+pub core_of-kept : (n : Notations) (before after : Scene) (book : Book) → core_of (with_kept_pools n before after book) ≡ with_kept n before after same_keys (core_of book)
+core_of-kept n before after book =
+    ap (λ (sheets : List Sheet). let core : CoreBook = record { sheets = sheets; definitions = map (kept_in_body n before after same_keys) book.definitions; locale = book.locale; language = book.language } in core)
+    (sheet_cores-kept n before after book.sheets)
 
-    more : List ℕ
-    more = if bytes_eq language (codes "de") then codes "Tabelle" else last
+-- the sheets and the definitions that formulas can mention
+abbrev seen : List BookSheet → List SheetName
+seen sheets = map mentioned (map sheet_core sheets)
 
-    rest : List ℕ
-    rest = if bytes_eq language (codes "fr") then codes "Feuil" else more
+abbrev ids : List BookSheet → List ℕ
+ids sheets = map (λ (s : Sheet). s.id) (map sheet_core sheets)
 
-pub sheets_of-push : (sheets : List Worksheet) (s : Worksheet) → sheets_of (sheets ++ s ∷ []) ≡ sheets_of sheets ++ record { id = s.id; name = s.name; cells = [] } ∷ []
-sheets_of-push sheets s = map-append (λ (w : Worksheet). record { id = w.id; name = w.name; cells = [] }) sheets (s ∷ [])
+module _ (n : Notations) (before after : Scene) where
+  seen-kept : (sheets : List BookSheet) → seen (map (kept_pool n before after) sheets) ≡ seen sheets
+  seen-kept [] = refl
+  seen-kept (s ∷ sheets) = ap (λ rest. let m : SheetName = record { id = s.id; name = s.name } in m ∷ rest) (seen-kept sheets)
 
--- no sheet has a formula, so keeping changes nothing
-pub nothing_kept : (n : Notations) (before after : Scene) (change : KeyChange) (sheets : List Worksheet) → map (kept_on_sheet n before after change) (sheets_of sheets) ≡ sheets_of sheets
-nothing_kept n before after change [] = refl
-nothing_kept n before after change (s ∷ sheets) = ap (λ r. record { id = s.id; name = s.name; cells = [] } ∷ r) (nothing_kept n before after change sheets)
+  ids-kept : (sheets : List BookSheet) → ids (map (kept_pool n before after) sheets) ≡ ids sheets
+  ids-kept [] = refl
+  ids-kept (s ∷ sheets) = ap (λ rest. s.id ∷ rest) (ids-kept sheets)
 
--- a book of these sheets, without definitions
-module _ (n : Notations) (locale language : List ℕ) where
-  abbrev core_with : List Sheet → CoreBook
-  core_with sheets = record { sheets = sheets; definitions = []; locale = locale; language = language }
+  scopes-kept : (definitions : List Definition) → flat_map (λ d. option_to_list d.scope) (map (in_body n before after) definitions) ≡ flat_map (λ (d : Definition). option_to_list d.scope) definitions
+  scopes-kept [] = refl
+  scopes-kept (d ∷ definitions) = ap (λ r. option_to_list d.scope ++ r) (scopes-kept definitions)
 
-  -- the sheets with a new one at their end are those of the machine
-  pub added_sheets : (sheets after : List Worksheet) (id : ℕ) (name : List ℕ) → Some id ≡ fresh_id (core_with (sheets_of sheets)) → after ≡ sheets ++ record { id = id; name = name } ∷ []
-      → core_with (sheets_of after) ≡ changed_by n (with_new_sheet name) (core_with (sheets_of sheets))
-  added_sheets sheets after id name fresh pushed =
-      let core : CoreBook = core_with (sheets_of sheets) in
-      let next = fresh_is_next core id fresh in
-      ap (λ xs. core_with (sheets_of xs)) pushed ∙ ap core_with (sheets_of-push sheets (record { id = id; name = name }))
-      ∙ ap (λ m. core_with (sheets_of sheets ++ record { id = m; name = name; cells = [] } ∷ [])) next.1
-      ∙ sym (ap (λ xs. with_new_sheet name (core_with xs)) (nothing_kept n (scene_of core) (scene_of (with_new_sheet name core)) same_keys sheets))
+  abbrev kept : Book → Book
+  kept book = with_kept_pools n before after book
 
--- a book stays valid when a sheet with the fresh id and a name of its own is pushed
-pub IsValidBook-push : (book : Book) (sheets after : List Worksheet) (id : ℕ) (name : List ℕ) → book.sheets ≡ sheets_of sheets → book.definitions ≡ [] → IsValidBook book → is_sheet_name name ≡ true → has_sheet (core_of book) name ≡ false → Some id ≡ fresh_id (core_of book) → after ≡ sheets ++ record { id = id; name = name } ∷ [] → IsValidBook (record book { sheets = sheets_of after; definitions = [] })
-IsValidBook-push book sheets after id name seen none valid good new fresh pushed =
-    let n : Notations = notations_in book in
-    let are : AreNotations n = notations_are book.tables valid.tables in
-    let core : CoreBook = core_of book in
-    let next = fresh_is_next core id fresh in
-    let later = added_named n core valid.core name good new in
-    let one : IsValidCore n (changed_by n (with_new_sheet name) core) =
-    added_valid n core name valid.core ((tree_facts n are).keeps (scene_of core) (scene_of (with_new_sheet name core)) (book_named n core valid.core) later) good new next.0 in
-    let is : core ≡ core_with n book.locale book.language (sheets_of sheets) =
-    ap (λ x. record { sheets = x; definitions = book.definitions; locale = book.locale; language = book.language }) seen
-    ∙ ap (λ (x : List Definition). record { sheets = sheets_of sheets; definitions = x; locale = book.locale; language = book.language }) none in
-    let same : changed_by n (with_new_sheet name) core ≡ core_with n book.locale book.language (sheets_of after) =
-    ap (changed_by n (with_new_sheet name)) is ∙ sym (added_sheets n book.locale book.language sheets after id name (fresh ∙ ap fresh_id is) pushed) in
-    record { core = subst (IsValidCore n) same one; zone = valid.zone; tables = valid.tables }
+  pub greatest-kept : (book : Book) → greatest_id (core_of (with_kept_pools n before after book)) ≡ greatest_id (core_of book)
+  greatest-kept book = ap₂ (λ a b. greatest (a ++ b)) (ids-kept book.sheets) (scopes-kept book.definitions)
 
--- a new book is valid where the tables have its locale, language and zone
-pub IsValidBook-start : (name locale zone language created first : List ℕ) (tables : TableSet) (sheets : List Worksheet) → sheets ≡ record { id = 1; name = first } ∷ [] → first ≡ first_sheet_name_in language → is_some (locale_of tables locale) ≡ true → is_some (language_of tables language) ≡ true → lists_zone tables zone ≡ true → IsWellFormed tables → IsValidBook (record { name = name; sheets = sheets_of sheets; definitions = []; locale = locale; language = language; zone = zone; created = created; tables = tables })
-unfolding notations_of
-IsValidBook-start name locale zone language created first tables sheets one named l g z well =
-    let good : is_sheet_name first ≡ true = ap is_sheet_name named ∙ first_name_is_good language in
-    record {
-      core = subst (λ s. IsValidCore (notations_of tables) (record { sheets = sheets_of s; definitions = []; locale = locale; language = language })) (sym one) (one_sheet_valid (notations_of tables) first locale language good l g);
-      zone = z;
-      tables = well;
-    }
+  -- books with these sheets can mention the same, where the definitions are those of the book or the kept ones
+  same_names : (book : Book) (one other : List BookSheet) → seen one ≡ seen other
+      → scene_in (record (with_kept_pools n before after book) { sheets = one }) ≡ scene_in (record book { sheets = other })
+  same_names book one other same =
+      ap₂ (λ (ss : List SheetName) (ds : List NameSpelling). let scene : Scene = record { sheets = ss; names = ds } in scene) same (same_definitions n before after spelling_of (λ d. refl) book.definitions)
 
--- a number one above the greatest id in use is above each
-pub above_all : (r : Option ℕ) (g : ℕ) (ids : List ℕ) → SomeIff r (g + 1 < 2 ^ 32) (g + 1) → g ≡ greatest ids → IfSome r (λ id. All (λ used. used < id) ids)
-above_all None g ids s e = tt
-above_all (Some id) g ids s e = All-weaker (λ n. n ≤ greatest ids) (λ n. n < id) (λ n h. omega (arith, h, s.1, e)) ids (All-greatest ids)
+  pub scene-added : (name : List ℕ) (book : Book) → scene_in (with_added_sheet name (with_kept_pools n before after book)) ≡ scene_in (with_added_sheet name book)
+  scene-added name book =
+      same_names book (with_added_sheet name (kept book)).sheets (with_added_sheet name book).sheets
+      (added (map (kept_pool n before after) book.sheets) (greatest_id (core_of (kept book)) + 1)
+      ∙ ap₂ (λ (front : List SheetName) (id : ℕ). front ++ record { id = id + 1; name = name } ∷ []) (seen-kept book.sheets) (greatest-kept book)
+      ∙ sym (added book.sheets (greatest_id (core_of book) + 1)))
+    where
+      added : (sheets : List BookSheet) (id : ℕ) → seen (sheets ++ record { id = id; name = name; pool = []; cells = [] } ∷ []) ≡ seen sheets ++ record { id = id; name = name } ∷ []
+      added [] id = refl
+      added (s ∷ sheets) id = ap (λ rest. let m : SheetName = record { id = s.id; name = s.name } in m ∷ rest) (added sheets id)
 
--- what an answer that is no error tells
-pub not_err : {T E R : Type 0} (r : Result T E) (P : T → Type 0) (Q : E → Type 0) → MatchResult r P Q → is_err r ≡ false → ((x : T) → P x → R) → R
-not_err (Ok x) P Q h e f = f x h
-not_err (Err x) P Q h e f = cc
+  pub scene-renamed : (index : ℕ) (name : List ℕ) (book : Book) → scene_in (with_renamed_sheet index name (with_kept_pools n before after book)) ≡ scene_in (with_renamed_sheet index name book)
+  scene-renamed index name book =
+      same_names book (with_renamed_sheet index name (kept book)).sheets (with_renamed_sheet index name book).sheets (renamed index book.sheets)
+    where
+      renamed : (index : ℕ) (sheets : List BookSheet) → seen (updated_at (λ s. record s { name = name }) index (map (kept_pool n before after) sheets)) ≡ seen (updated_at (λ (s : BookSheet). record s { name = name }) index sheets)
+      renamed index [] = refl
+      renamed zero (s ∷ sheets) = ap (λ rest. let m : SheetName = record { id = s.id; name = name } in m ∷ rest) (seen-kept sheets)
+      renamed (suc index) (s ∷ sheets) = ap (λ rest. let m : SheetName = record { id = s.id; name = s.name } in m ∷ rest) (renamed index sheets)
 
-pub is_some-mapped : {A B : Type 0} (f : A → B) (o : Option A) (b : B) → option_map f o ≡ Some b → is_some o ≡ true
-is_some-mapped f None b e = cc
-is_some-mapped f (Some a) b e = refl
+  pub scene-removed : (index : ℕ) (book : Book) → scene_in (with_removed_sheet index (with_kept_pools n before after book)) ≡ scene_in (with_removed_sheet index book)
+  scene-removed index book =
+      same_names book (with_removed_sheet index (kept book)).sheets (with_removed_sheet index book).sheets (removed book.sheets index)
+    where
+      removed : (sheets : List BookSheet) (index : ℕ) → seen (remove (map (kept_pool n before after) sheets) index) ≡ seen (remove sheets index)
+      removed [] zero = refl
+      removed [] (suc index) = refl
+      removed (s ∷ sheets) zero = seen-kept sheets
+      removed (s ∷ sheets) (suc index) = ap (λ rest. let m : SheetName = record { id = s.id; name = s.name } in m ∷ rest) (removed sheets index)
+
+-- a change of a book, and the same of its core
+pub record IsSheetChange (change : Book → Book) (of_core : CoreBook → CoreBook) : Type 0 where
+  pub core : (book : Book) → core_of (change book) ≡ of_core (core_of book)
+  pub scene : (n : Notations) (before after : Scene) (book : Book) → scene_in (change (with_kept_pools n before after book)) ≡ scene_in (change book)
+  pub pools : (n : Notations) (scene : Scene) (book : Book) → AllByRecursion (IsValidPool n scene) book.sheets → AllByRecursion (IsValidPool n scene) (change book).sheets
+
+pub added_change : (name : List ℕ) → IsSheetChange (with_added_sheet name) (with_new_sheet name)
+added_change name = record {
+  core = λ book. ap (λ (sheets : List Sheet). let core : CoreBook = record { sheets = sheets; definitions = book.definitions; locale = book.locale; language = book.language } in core) (map-append sheet_core book.sheets (record { id = greatest_id (core_of book) + 1; name = name; pool = []; cells = [] } ∷ []));
+  scene = λ n before after book. scene-added n before after name book;
+  pools = λ n scene book h. all_pushed (IsValidPool n scene) book.sheets (record { id = greatest_id (core_of book) + 1; name = name; pool = []; cells = [] }) h (record { formulas = tt; places = tt });
+}
+
+pub renamed_change : (index : ℕ) (name : List ℕ) → IsSheetChange (with_renamed_sheet index name) (with_sheet_name index name)
+renamed_change index name = record {
+  core = λ book. ap (λ (sheets : List Sheet). let core : CoreBook = record { sheets = sheets; definitions = book.definitions; locale = book.locale; language = book.language } in core)
+      (updated_seen sheet_core (λ s. record s { name = name }) (λ s. record s { name = name }) (λ s. refl) index book.sheets);
+  scene = λ n before after book. scene-renamed n before after index name book;
+  pools = λ n scene book h. all_updated (IsValidPool n scene) (λ s. record s { name = name }) (λ s v. record { formulas = v.formulas; places = v.places }) index book.sheets h;
+}
+
+pub removed_change : (index : ℕ) → IsSheetChange (with_removed_sheet index) (without_sheet index)
+removed_change index = record {
+  core = λ book. ap (λ (sheets : List Sheet). let core : CoreBook = record { sheets = sheets; definitions = book.definitions; locale = book.locale; language = book.language } in core) (removed_seen sheet_core book.sheets index);
+  scene = λ n before after book. scene-removed n before after index book;
+  pools = λ n scene book h. all_removed (IsValidPool n scene) book.sheets index h;
+}
+
+-- over such a change the book's core is changed as the machine's is
+pub core_of-changed : (n : Notations) (change : Book → Book) (of_core : CoreBook → CoreBook) → IsSheetChange change of_core → (book : Book) → core_of (changed_in n change book) ≡ changed_by n of_core (core_of book)
+core_of-changed n change of_core is book =
+    let after : Scene = scene_in (change book) in
+    is.core (with_kept_pools n (scene_in book) after book)
+    ∙ ap of_core (core_of-kept n (scene_in book) after book)
+    ∙ ap (λ (core : CoreBook). of_core (with_kept n (scene_in book) (scene_of core) same_keys (core_of book))) (is.core book)
+
+-- and its pools stay valid
+pub pools-changed : (n : Notations) → AreNotations n → (change : Book → Book) (of_core : CoreBook → CoreBook) → IsSheetChange change of_core → (book : Book) → IsNamed (scene_in book) → IsNamed (scene_in (change book)) → AllByRecursion (IsValidPool n (scene_in book)) book.sheets
+    → AllByRecursion (IsValidPool n (scene_in (changed_in n change book))) (changed_in n change book).sheets
+pools-changed n are change of_core is book named named_after h =
+    let after : Scene = scene_in (change book) in
+    let kept_book : Book = with_kept_pools n (scene_in book) after book in
+    subst (λ scene. AllByRecursion (IsValidPool n scene) (change kept_book).sheets) (sym (is.scene n (scene_in book) after book))
+    (is.pools n after kept_book
+    (pools_kept n (scene_in book) after are named named_after book.sheets h))
+
+-- a moved sheet ----
+
+insert-map : {X Y : Type 0} (f : X → Y) (xs : List X) (at : ℕ) (x : X) → map f (insert xs at x) ≡ insert (map f xs) at (f x)
+insert-map f [] zero x = refl
+insert-map f [] (suc at) x = refl
+insert-map f (y ∷ xs) zero x = refl
+insert-map f (y ∷ xs) (suc at) x = ap (λ rest. f y ∷ rest) (insert-map f xs at x)
+
+put_back-map : {X Y : Type 0} (f : X → Y) (to : ℕ) (xs : List X) (o : Option X) → map f (put_back to xs o) ≡ put_back to (map f xs) (option_map f o)
+put_back-map f to xs None = refl
+put_back-map f to xs (Some x) = insert-map f xs to x
+
+pub moved-map : {X Y : Type 0} (f : X → Y) (from to : ℕ) (xs : List X) → map f (moved from to xs) ≡ moved from to (map f xs)
+moved-map f from to xs =
+    put_back-map f to (remove xs from) (slice_get xs from)
+    ∙ ap₂ (λ ys o. put_back to ys o) (removed_seen f xs from) (sym (slice_get-map f xs from))
+
+pub core_of-moved : (from to : ℕ) (book : Book) → core_of (with_moved_sheet from to book) ≡ record (core_of book) { sheets = moved from to (core_of book).sheets }
+core_of-moved from to book =
+    ap (λ (sheets : List Sheet). let core : CoreBook = record { sheets = sheets; definitions = book.definitions; locale = book.locale; language = book.language } in core) (moved-map sheet_core from to book.sheets)
+
+-- what formulas can mention after a change of the machine's book is what they can after that of the book
+pub same_scene_after : (change : Book → Book) (of_core : CoreBook → CoreBook) → IsSheetChange change of_core → (book : Book) → scene_of (of_core (core_of book)) ≡ scene_in (change book)
+same_scene_after change of_core is book = ap scene_of (sym (is.core book))

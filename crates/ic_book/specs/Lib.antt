@@ -1,3 +1,6 @@
 pub mod Book
+pub mod Change
+pub mod Inside
 pub mod Refused
-pub mod Sheets
+pub mod Scene
+pub mod Written

@@ -9,9 +9,17 @@ use Rattle.ic_book.specs.declared.error.BookError.TheVariants as errors
 -- the refusal that an error tells; that memory ran out is none
 abbrev pub refusal_of : BookError → Option Refusal
 refusal_of errors.BadLine = Some core.BadLine
+refusal_of errors.InvalidSheet = Some core.InvalidSheet
+refusal_of errors.InvalidRow = Some core.InvalidRow
+refusal_of errors.InvalidColumn = Some core.InvalidColumn
+refusal_of errors.SheetIndexTooLarge = Some core.SheetIndexTooLarge
+refusal_of errors.TargetTooLarge = Some core.TargetTooLarge
 refusal_of errors.InvalidSheetName = Some core.InvalidSheetName
 refusal_of errors.SheetExists = Some core.SheetExists
+refusal_of errors.SheetNotFound = Some core.SheetNotFound
+refusal_of errors.OnlySheet = Some core.OnlySheet
 refusal_of errors.IdsUsedUp = Some core.IdsUsedUp
+refusal_of errors.NotAFormula = Some core.NotAFormula
 refusal_of errors.InvalidLocale = Some core.InvalidLocale
 refusal_of errors.InvalidLanguage = Some core.InvalidLanguage
 refusal_of errors.InvalidTimezone = Some core.InvalidTimezone
@@ -26,3 +34,14 @@ error_name e = option_map_or refusal_name (refusal_of e) (codes "OutOfMemory")
 abbrev pub Refuses : {T : Type 0} → Result T BookError → Option Refusal → Type 0
 Refuses (Ok value) refusal = refusal ≡ None
 Refuses (Err e) refusal = refusal ≡ refusal_of e
+
+-- A call that takes no memory answers Ok exactly where nothing refuses. Its error is the refusal, and never that memory ran
+-- out.
+abbrev pub RefusesOnly : {T : Type 0} → Result T BookError → Option Refusal → Type 0
+RefusesOnly (Ok value) refusal = refusal ≡ None
+RefusesOnly (Err e) refusal = (told : Refusal) × (refusal_of e ≡ Some told) × (refusal ≡ Some told)
+
+-- what refuses a command on a sheet that is looked up: that there is none, or what refuses it at its index
+abbrev pub refusal_at : Option ℕ → (ℕ → Option Refusal) → Option Refusal
+refusal_at None refusal = Some core.SheetNotFound
+refusal_at (Some index) refusal = refusal index

@@ -10,15 +10,39 @@ pub enum BookError {
     /// A line that is no command. Only a reply tells it.
     #[error("Invalid line")]
     BadLine,
+    /// No sheet stands at the index, which counts from 0.
+    #[error("Invalid sheet index")]
+    InvalidSheet,
+    /// The row isn't 1 to 1,048,576.
+    #[error("Invalid row")]
+    InvalidRow,
+    /// The column isn't 1 to 16,384.
+    #[error("Invalid column")]
+    InvalidColumn,
+    /// No sheet stands at the index of the sheet that is to be moved or deleted.
+    #[error("Sheet index too large")]
+    SheetIndexTooLarge,
+    /// No sheet stands at the index that a sheet is to be moved to.
+    #[error("Target sheet index too large")]
+    TargetTooLarge,
     /// The name is empty, has more than 31 characters, or has one of `\ / * ? : [ ]`.
     #[error("Invalid name for a sheet")]
     InvalidSheetName,
     /// Another sheet's name agrees with it.
     #[error("A worksheet already exists with that name")]
     SheetExists,
+    /// No sheet's name agrees, or none has the id.
+    #[error("Sheet not found")]
+    SheetNotFound,
+    /// There is no other sheet.
+    #[error("Cannot delete only sheet")]
+    OnlySheet,
     /// The greatest id in use is the last one, 4,294,967,295.
     #[error("No sheet id is left")]
     IdsUsedUp,
+    /// The text doesn't begin with `=`, or is `=` alone.
+    #[error("Not a valid formula")]
+    NotAFormula,
     /// No locale of the tables has the id.
     #[error("Invalid locale")]
     InvalidLocale,
@@ -42,9 +66,17 @@ impl BookError {
     {
         match self {
             BookError::BadLine => "BadLine",
+            BookError::InvalidSheet => "InvalidSheet",
+            BookError::InvalidRow => "InvalidRow",
+            BookError::InvalidColumn => "InvalidColumn",
+            BookError::SheetIndexTooLarge => "SheetIndexTooLarge",
+            BookError::TargetTooLarge => "TargetTooLarge",
             BookError::InvalidSheetName => "InvalidSheetName",
             BookError::SheetExists => "SheetExists",
+            BookError::SheetNotFound => "SheetNotFound",
+            BookError::OnlySheet => "OnlySheet",
             BookError::IdsUsedUp => "IdsUsedUp",
+            BookError::NotAFormula => "NotAFormula",
             BookError::InvalidLocale => "InvalidLocale",
             BookError::InvalidLanguage => "InvalidLanguage",
             BookError::InvalidTimezone => "InvalidTimezone",

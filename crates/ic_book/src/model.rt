@@ -1,65 +1,48 @@
-ghost use Rattle.std.specs.Prelude.{◌≡◌, ◌<◌, chars, All, IfOk, IfSome, OnOk, OnErr};
+ghost use Rattle.std.specs.Prelude.{◌≡◌, ◌<◌, [], ◌∷◌, Some, true, chars, All, IfOk, IfSome, option_map, option_and_then};
+ghost use Rattle.std.specs.List.{slice_get};
 ghost use Rattle.ic_laws.specs.CoreBook.{fresh_id, used_ids};
-ghost use Rattle.ic_laws.specs.CoreStep.{add_sheet_refusal, changed_by, with_new_sheet};
-ghost use Rattle.ic_book.specs.Book.{core_of, with_core, first_sheet_name_in, new_book, new_book_refusal, notations_in};
+ghost use Rattle.ic_laws.specs.Notations.{AreNotations};
+ghost use Rattle.ic_laws.specs.ValidCore.{IsPooled};
+ghost use Rattle.ic_book.specs.Book.{IsValidBook, core_of, first_sheet_name_in, new_book, new_book_refusal, notations_in, scene_in};
 ghost use Rattle.ic_book.specs.Refused.{Refuses};
 
 use crate::BookError;
-use crate::sheet::{Worksheet, greatest_id, is_taken};
-use ic_laws::{OutOfMemory, Text};
-use ic_refs::is_valid_sheet_name;
-use ic_tables::Tables;
+use ic_laws::{Formula, OutOfMemory, Text};
+use ic_sheets::Sheets;
+use ic_tables::{Language, NamedLocale, Tables};
 use jiff::Timestamp;
 use std::alloc::Global;
 use std::marker;
 
-/// A workbook. It borrows the tables that it is read and shown by.
+/// A workbook. It borrows the tables that it is read and shown by, and their entries of the locale and the language in
+/// force.
 #[derive(Drop)]
 pub struct Model<'a> {
-    alloc: Global,
-    tables: &'a Tables,
+    pub(crate) alloc: Global,
+    pub(crate) tables: &'a Tables,
     name: Text,
-    sheets: Vec<Worksheet>,
-    locale: Text,
-    language: Text,
+    pub(crate) sheets: Sheets,
+    pub(crate) locale: &'a NamedLocale,
+    pub(crate) language: &'a Language,
     zone: Text,
     /// When the book was made, as `Timestamp` displays it.
     created: Text,
 }
 
 impl<'a> marker::Model for Model<'a> {
-    ghost use Rattle.std.specs.Prelude.{[]};
-    ghost use Rattle.ic_book.specs.Book.{Book, IsValidBook};
-    ghost use Rattle.ic_book.specs.Sheets.{sheets_of};
+    ghost use Rattle.ic_book.specs.Book.{ModelState};
+    ghost use Rattle.ic_book.specs.Inside.{IsHeld, held_state};
 
-    ghost Value = { Book };
+    ghost Value = { ModelState };
 
     ghost use Rattle.std.specs.Coded.{codes};
     ghost use Rattle.ic_laws.specs.contracts.tree.Formula as formula;
 
     ghost coded = { Prim.hlevel (codes, formula.the_row.coded) };
 
-    ghost view = { λ m. record {
-      name = m.name;
-      sheets = sheets_of m.sheets.items;
-      definitions = [];
-      locale = m.locale;
-      language = m.language;
-      zone = m.zone;
-      created = m.created;
-      tables = m.tables.now;
-    } };
+    ghost view = { λ m. held_state m.name m.sheets m.locale.now m.language.now m.zone m.created m.tables.now };
 
-    ghost invariant = { λ m. IsValidBook (record {
-      name = m.name;
-      sheets = sheets_of m.sheets.items;
-      definitions = [];
-      locale = m.locale;
-      language = m.language;
-      zone = m.zone;
-      created = m.created;
-      tables = m.tables.now;
-    }) };
+    ghost invariant = { λ m. IsHeld m.name m.sheets m.locale.now m.language.now m.zone m.created m.tables.now };
 }
 
 impl<'a> Model<'a> {
@@ -76,31 +59,26 @@ impl<'a> Model<'a> {
         tables: &'a Tables,
         moment: Timestamp,
     ) -> Result<Model<'a>, BookError>
-        ensures start { IfOk result (λ m. m ≡ new_book (chars name.now) (chars locale_id.now) (chars timezone.now) (chars language_id.now) m.created tables.now) }
+        ensures start { IfOk result (λ m. m.book ≡ new_book (chars name.now) (chars locale_id.now) (chars timezone.now) (chars language_id.now) m.book.created tables.now) }
+        ensures looks_up { IfOk result (λ m. m.has_all ≡ true ∷ []) }
         ensures refused { Refuses result (new_book_refusal (chars locale_id.now) (chars timezone.now) (chars language_id.now) tables.now) }
     {
         if !tables.has_zone(timezone) {
             return Err(BookError::InvalidTimezone);
         }
-        if tables.get_locale(locale_id).is_err() {
+        let Ok(locale) = tables.get_named_locale(locale_id) else {
             return Err(BookError::InvalidLocale);
-        }
-        if tables.get_language(language_id).is_err() {
+        };
+        let Ok(language) = tables.get_language(language_id) else {
             return Err(BookError::InvalidLanguage);
-        }
-        let language = Text::from_str(alloc, language_id)?;
-        let mut sheets = Vec::new(alloc);
-        let first_name = first_sheet_name(alloc, &language)?;
-        sheets.push(Worksheet {
-            id: 1,
-            name: first_name,
-        })?;
+        };
+        let sheets = first_sheet(alloc, language)?;
         Ok(Model {
             alloc,
             tables,
             name: Text::from_str(alloc, name)?,
             sheets,
-            locale: Text::from_str(alloc, locale_id)?,
+            locale,
             language,
             zone: Text::from_str(alloc, timezone)?,
             created: moment_text(alloc, moment)?,
@@ -109,7 +87,7 @@ impl<'a> Model<'a> {
 
     /// When it was made, as `Timestamp` displays it.
     pub fn created(&self) -> &Text
-        ensures { result.now ≡ self.now.created }
+        ensures { result.now ≡ self.now.book.created }
     {
         &self.created
     }
@@ -117,41 +95,43 @@ impl<'a> Model<'a> {
     /// The id of the next new sheet: one more than the greatest id in use. None exactly where that is the last
     /// one, 4,294,967,295.
     pub fn get_new_sheet_id(&self) -> Option<u32>
-        ensures fresh { result ≡ fresh_id (core_of self.now) }
-        ensures unused { IfSome result (λ id. All (λ used. used < id) (used_ids (core_of self.now))) }
+        ensures fresh { result ≡ fresh_id (core_of self.now.book) }
+        ensures unused { IfSome result (λ id. All (λ used. used < id) (used_ids (core_of self.now.book))) }
     {
-        greatest_id(self.sheets.as_slice()).checked_add(1)
+        self.sheets.greatest_id().checked_add(1)
     }
 
-    /// Adds a sheet of this name at the end, with a fresh id and no cells.
-    ///
-    /// `InvalidSheetName`, `SheetExists`, `IdsUsedUp`, in this order, each exactly where it holds; `OutOfMemory` only
-    /// where none of them does. An error changes nothing.
-    pub fn add_sheet(&mut self, sheet_name: &str) -> Result<(), BookError>
-        ensures ok { OnOk result (self.new ≡ with_core self.old (changed_by (notations_in self.old) (with_new_sheet (chars sheet_name.now)) (core_of self.old))) }
-        ensures refused { Refuses result (add_sheet_refusal (core_of self.old) (chars sheet_name.now)) }
-        ensures err { OnErr result (self.new ≡ self.old) }
+    /// The formula at a place of the formulas that the sheet at an index keeps, both from 0. None exactly where there is
+    /// no such sheet or no such place.
+    pub fn parsed_formula(&self, sheet: u32, index: usize) -> Option<&Formula>
+        ensures formula { option_map (λ f. f.now) result ≡ option_and_then (λ s. slice_get s.pool index) (slice_get self.now.book.sheets sheet) }
+
+        // It is settled in its sheet, so that `shared_formula_index` takes it for that sheet.
+        ensures pooled { IfSome result (λ f. IfSome (slice_get self.now.book.sheets sheet) (λ s. IsPooled (notations_in self.now.book) (scene_in self.now.book) (Some s.id) f.now)) }
+
+        // What the laws on books ask of a book and its notations.
+        ensures valid { IsValidBook self.now.book }
+        ensures notations { AreNotations (notations_in self.now.book) }
     {
-        if !is_valid_sheet_name(sheet_name) {
-            return Err(BookError::InvalidSheetName);
-        }
-        if is_taken(self.sheets.as_slice(), sheet_name) {
-            return Err(BookError::SheetExists);
-        }
-        let Some(id) = self.get_new_sheet_id() else {
-            return Err(BookError::IdsUsedUp);
-        };
-        let name = Text::from_str(self.alloc, sheet_name)?;
-        self.sheets.push(Worksheet { id, name })?;
-        Ok(())
+        let worksheet = self.sheets.as_slice().get(sheet as usize)?;
+        worksheet.pool.get(index)
     }
 }
 
-/// The name of a new book's sheet: the base of the language and the number 1.
-fn first_sheet_name(alloc: Global, language: &Text) -> Result<Text, OutOfMemory>
-    ensures { IfOk result (λ t. t ≡ first_sheet_name_in language.now) }
+/// The sheets of a new book: one, with the id 1, named by the language.
+fn first_sheet(alloc: Global, language: &Language) -> Result<Sheets, OutOfMemory>
+    ensures { IfOk result (λ sheets. sheets ≡ record { id = 1; name = first_sheet_name_in language.now.code; pool = record { formulas = []; is_whole = true }; cells = [] } ∷ []) }
 {
-    let name = if language.is("es") {
+    let mut sheets = Sheets::new(alloc);
+    sheets.push(1, first_sheet_name(&language.code))?;
+    Ok(sheets)
+}
+
+/// The name of a new book's sheet: the base of the language and the number 1.
+fn first_sheet_name(language: &Text) -> &'static str
+    ensures { chars result.now ≡ first_sheet_name_in language.now }
+{
+    if language.is("es") {
         "Hoja1"
     } else if language.is("fr") {
         "Feuil1"
@@ -161,8 +141,7 @@ fn first_sheet_name(alloc: Global, language: &Text) -> Result<Text, OutOfMemory>
         "Foglio1"
     } else {
         "Sheet1"
-    };
-    Text::from_str(alloc, name)
+    }
 }
 
 /// The moment as `Timestamp` displays it.

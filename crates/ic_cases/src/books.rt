@@ -25,7 +25,8 @@ pub fn call<'t>(
     Ok(true)
 }
 
-fn put_book_error(alloc: Global, out: &mut String, e: &BookError) -> Result<(), Fault> {
+/// An error of the book: its variant and its text.
+pub fn put_book_error(alloc: Global, out: &mut String, e: &BookError) -> Result<(), Fault> {
     let text = e.to_string(alloc)?;
     put_error(alloc, out, e.name(), text.as_str())
 }

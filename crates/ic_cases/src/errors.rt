@@ -72,9 +72,17 @@ fn run_error(name: &str) -> Result<RunError, Fault> {
 fn book_error(name: &str) -> Result<BookError, Fault> {
     match name {
         "BadLine" => Ok(BookError::BadLine),
+        "InvalidSheet" => Ok(BookError::InvalidSheet),
+        "InvalidRow" => Ok(BookError::InvalidRow),
+        "InvalidColumn" => Ok(BookError::InvalidColumn),
+        "SheetIndexTooLarge" => Ok(BookError::SheetIndexTooLarge),
+        "TargetTooLarge" => Ok(BookError::TargetTooLarge),
         "InvalidSheetName" => Ok(BookError::InvalidSheetName),
         "SheetExists" => Ok(BookError::SheetExists),
+        "SheetNotFound" => Ok(BookError::SheetNotFound),
+        "OnlySheet" => Ok(BookError::OnlySheet),
         "IdsUsedUp" => Ok(BookError::IdsUsedUp),
+        "NotAFormula" => Ok(BookError::NotAFormula),
         "InvalidLocale" => Ok(BookError::InvalidLocale),
         "InvalidLanguage" => Ok(BookError::InvalidLanguage),
         "InvalidTimezone" => Ok(BookError::InvalidTimezone),

@@ -11,13 +11,16 @@ mod amounts;
 mod books;
 mod broken;
 mod cells;
+mod commands;
 mod errors;
 mod fault;
 mod formulas;
 mod inputs;
+mod keeps;
 mod lookups;
 mod names;
 mod places;
+mod pools;
 mod references;
 mod scans;
 mod scenes;
@@ -63,10 +66,26 @@ fn call(
             || scans::call(alloc, name, words, out)?
             || broken::call(alloc, name, words, out)?
             || scenes::call(alloc, tables, name, words, out)?
+            || keeps::call(alloc, tables, name, words, out)?
             || errors::call(alloc, name, words, out)?
             || inputs::call(alloc, tables, name, words, out)?
             || cells::call(alloc, tables, name, words, out)?
             || styles::call(alloc, name, words, out)?,
+    )
+}
+
+/// Answers a call that acts on the book of the last `new_empty`, if it is one.
+fn book_call<'t>(
+    alloc: Global,
+    tables: &'t Tables,
+    book: &mut Option<Model<'t>>,
+    words: &[Text],
+    out: &mut String,
+) -> Result<bool, Fault> {
+    Ok(
+        books::call(alloc, tables, book, words, out)?
+            || commands::call(alloc, book, words, out)?
+            || pools::call(alloc, tables, book, words, out)?,
     )
 }
 
@@ -83,7 +102,7 @@ fn answer<'t>(
     };
     let words = words.as_slice();
     if call(alloc, tables, name_of(words), words, out)?
-        || books::call(alloc, tables, book, words, out)?
+        || book_call(alloc, tables, book, words, out)?
     {
         return Ok(());
     }

@@ -27,10 +27,16 @@ pub fn call(
     Ok(true)
 }
 
-/// The scene that stands in a row from a place on.
-fn scene_in(alloc: Global, words: &[Text], from: usize) -> Result<Scene, Fault> {
-    let sheets = sheets_in(alloc, words, from)?;
-    let names = names_in(alloc, words, from)?;
+/// The scene that stands in a row from a place on. A sheet and a name each stand after a word that says so.
+pub fn scene_in(
+    alloc: Global,
+    words: &[Text],
+    from: usize,
+    sheet: &str,
+    name: &str,
+) -> Result<Scene, Fault> {
+    let sheets = sheets_in(alloc, words, from, sheet)?;
+    let names = names_in(alloc, words, from, name)?;
     Ok(Scene { sheets, names })
 }
 
@@ -40,7 +46,7 @@ fn put_shown(
     words: &[Text],
     out: &mut String,
 ) -> Result<(), Fault> {
-    let scene = scene_in(alloc, words, 5)?;
+    let scene = scene_in(alloc, words, 5, "sheet", "name")?;
     let Ok(shown) = shown_at(tables, word(words, 2)?, word(words, 1)?, 5, 3) else {
         return Err(Fault::Row);
     };
@@ -53,7 +59,7 @@ fn put_stored(
     words: &[Text],
     out: &mut String,
 ) -> Result<(), Fault> {
-    let scene = scene_in(alloc, words, 3)?;
+    let scene = scene_in(alloc, words, 3, "sheet", "name")?;
     put_in_scene(alloc, tables, &scene, words, out)
 }
 
@@ -75,7 +81,8 @@ fn put_in_scene(
     put_spelled(alloc, &stored, scene, &bound, out)
 }
 
-fn put_spelled(
+/// A tab, and a formula as it is written in a scene.
+pub fn put_spelled(
     alloc: Global,
     stored: &Stored<'_>,
     scene: &Scene,
@@ -89,7 +96,7 @@ fn put_spelled(
 }
 
 /// The sheet of a reference or the definition of a word, `none` for any other formula.
-fn put_mention(alloc: Global, bound: &Bound, out: &mut String) -> Result<(), Fault> {
+pub fn put_mention(alloc: Global, bound: &Bound, out: &mut String) -> Result<(), Fault> {
     match bound {
         Tree::Reference(sheet, _) => put_sheet(alloc, sheet, out),
         Tree::Word(name) => put_name(alloc, name, out),
@@ -129,17 +136,23 @@ fn put_name(alloc: Global, name: &NameMention, out: &mut String) -> Result<(), F
     }
 }
 
-fn scope(words: &[Text], at: usize) -> Result<Option<u32>, Fault> {
+/// The id of a sheet, or `none`.
+pub fn scope(words: &[Text], at: usize) -> Result<Option<u32>, Fault> {
     match word(words, at)? {
         "none" => Ok(None),
         _ => Ok(Some(index(words, at)?)),
     }
 }
 
-fn sheets_in(alloc: Global, words: &[Text], from: usize) -> Result<Items<SheetName>, Fault> {
+fn sheets_in(
+    alloc: Global,
+    words: &[Text],
+    from: usize,
+    kind: &str,
+) -> Result<Items<SheetName>, Fault> {
     let mut sheets = Vec::new(alloc);
     for at in (from..words.len()).step_by(3) {
-        if word(words, at)? == "sheet" {
+        if word(words, at)? == kind {
             let id = index(words, at.saturating_add(1))?;
             let name = Text::from_str(alloc, word(words, at.saturating_add(2))?)?;
             sheets.push(SheetName { id, name })?;
@@ -148,10 +161,15 @@ fn sheets_in(alloc: Global, words: &[Text], from: usize) -> Result<Items<SheetNa
     Ok(Items::from(sheets))
 }
 
-fn names_in(alloc: Global, words: &[Text], from: usize) -> Result<Items<NameSpelling>, Fault> {
+fn names_in(
+    alloc: Global,
+    words: &[Text],
+    from: usize,
+    kind: &str,
+) -> Result<Items<NameSpelling>, Fault> {
     let mut names = Vec::new(alloc);
     for at in (from..words.len()).step_by(3) {
-        if word(words, at)? == "name" {
+        if word(words, at)? == kind {
             let name = Text::from_str(alloc, word(words, at.saturating_add(1))?)?;
             let scope = scope(words, at.saturating_add(2))?;
             names.push(NameSpelling { name, scope })?;

@@ -1,5 +1,5 @@
 -- How far a run over told bytes has come, line by line, and what its errors leave.
-use Rattle.std.proofs.Common.{◌≡◌, ℕ, ◌+◌, ◌⊎◌, List, [], ◌∷◌, ◌++◌, length, take, drop, true, false, Option, Some, None, ap, sym, subst, ◌∙◌, refl, inl, inr, arith, append_assoc, append-nil, length-append, length-drop, if◌then◌else◌}
+use Rattle.std.proofs.Common.{◌≡◌, ℕ, ◌+◌, ◌⊎◌, List, [], ◌∷◌, ◌++◌, length, take, drop, true, false, Option, Some, None, ap, ap₂, sym, subst, ◌∙◌, refl, inl, inr, arith, append_assoc, append-nil, length-append, length-drop, if◌then◌else◌}
 use Rattle.std.proofs.Math.Seq.{take-append-add}
 use Rattle.std.proofs.lemmas.Bool.{cases_Bool}
 use Rattle.std.proofs.lemmas.Bool.Decides.{eqb_tells}
@@ -11,10 +11,15 @@ use Rattle.ic_lines.specs.declared.error.RunError.{RunError}
 use Rattle.ic_lines.specs.declared.error.RunError.TheVariants as errors
 use Rattle.ic_lines.proofs.FeedLemmas.{line_feeds-append, line_feeds-next}
 use Rattle.ic_lines.proofs.ToldLemmas.{IfTold-join, IfTold-weaker}
-use Rattle.ic_book.specs.Book.{Book, core_of, notations_in, with_core}
+use Rattle.ic_book.specs.Book.{Book, IsSameBeside, StepsTo, core_of, notations_in}
+use Rattle.ic_words.specs.Served.{served}
+use Rattle.ic_tree.specs.Notations.{notations_of}
 use Rattle.ic_desk.specs.Run.{AppendsReplies, AreRead, HasAnswered, HasPartlyAnswered, HasPartlyReplied, HasReplied, IsAfterLines, Leaves, TakesAll}
 use Rattle.ic_desk.proofs.RunLemmas.{after-append, next_rest, next_taken, next_within, replies-append}
-use Rattle.ic_desk.specs.Served.{served}
+
+-- what stays beside two steps
+pub same_beside_again : (old mid new : Book) → IsSameBeside old mid → IsSameBeside mid new → IsSameBeside old new
+same_beside_again old mid new p q = record { name = q.name ∙ p.name; zone = q.zone ∙ p.zone; created = q.created ∙ p.created; tables = q.tables ∙ p.tables }
 
 -- so many of the lines were answered, and the others are still to be given
 pub record Progress (old new : Book) (count : ℕ) (reader : Reading) (before now : Option (List ℕ)) (bytes left : List ℕ) : Type 0 where
@@ -93,23 +98,30 @@ module _ (old mid : Book) (count : ℕ) (reader new_reader : Reading) (before no
   read_before : AreRead count bytes b
   read_before = elim read_after [ inl all ↦ inl all | inr few ↦ inr (omega (arith, few)) ]
 
-  book_after : (new : Book) → new ≡ with_core mid (line_step (notations_in mid) served (core_of mid) line).0 → IsAfterLines old new (count + 1) (texts_of bytes)
+  -- the step of the line from the book that the machine has by then
+  same_step : line_step (notations_in mid) served (core_of mid) line ≡ line_step (notations_in old) served (after (notations_in old) served (core_of old) (take count (texts_of bytes))) line
+  same_step = ap₂ (λ tables core. line_step (notations_of tables) served core line) p.book.book.beside.tables p.book.book.core
+
+  book_after : (new : Book) → StepsTo mid new (line_step (notations_in mid) served (core_of mid) line).0 → IsAfterLines old new (count + 1) (texts_of bytes)
   book_after new step = record {
     within = omega (arith, next_within (texts_of bytes) count line (texts_of (unread new_reader b)) next);
-    book =
-        step ∙ ap (λ m. with_core m (line_step (notations_in m) served (core_of m) line).0) p.book.book
-        ∙ ap (with_core old) (sym (ap (after (notations_in old) served (core_of old)) (next_taken (texts_of bytes) count line (texts_of (unread new_reader b)) next) ∙ after-append (notations_in old) (core_of old) (take count (texts_of bytes)) (line ∷ [])));
+    book = record {
+      core =
+          step.core ∙ ap (λ s. s.0) same_step
+          ∙ sym (ap (after (notations_in old) served (core_of old)) (next_taken (texts_of bytes) count line (texts_of (unread new_reader b)) next) ∙ after-append (notations_in old) served (core_of old) (take count (texts_of bytes)) (line ∷ []));
+      beside = same_beside_again old mid new p.book.book.beside step.beside;
+    };
   }
 
   -- the replies to the lines up to this one
   replies_after : replies (notations_in old) served (core_of old) (take (count + 1) (texts_of bytes)) ≡ replies (notations_in old) served (core_of old) (take count (texts_of bytes)) ++ reply_bytes (line_step (notations_in mid) served (core_of mid) line).1
   replies_after =
       ap (replies (notations_in old) served (core_of old)) (next_taken (texts_of bytes) count line (texts_of (unread new_reader b)) next)
-      ∙ replies-append (notations_in old) (core_of old) (take count (texts_of bytes)) (line ∷ [])
+      ∙ replies-append (notations_in old) served (core_of old) (take count (texts_of bytes)) (line ∷ [])
       ∙ ap (λ v. replies (notations_in old) served (core_of old) (take count (texts_of bytes)) ++ v) (append-nil (reply_bytes (line_step (notations_in old) served (after (notations_in old) served (core_of old) (take count (texts_of bytes))) line).1))
-      ∙ ap (λ m. replies (notations_in old) served (core_of old) (take count (texts_of bytes)) ++ reply_bytes (line_step (notations_in m) served (core_of m) line).1) (sym p.book.book)
+      ∙ ap (λ s. replies (notations_in old) served (core_of old) (take count (texts_of bytes)) ++ reply_bytes s.1) (sym same_step)
 
-  pub Progress-step : (new : Book) (written : Option (List ℕ)) → new ≡ with_core mid (line_step (notations_in mid) served (core_of mid) line).0
+  pub Progress-step : (new : Book) (written : Option (List ℕ)) → StepsTo mid new (line_step (notations_in mid) served (core_of mid) line).0
       → IfTold now written (λ x y. y ≡ x ++ reply_bytes (line_step (notations_in mid) served (core_of mid) line).1) → Progress old new (count + 1) new_reader before written bytes b
   Progress-step new written step reply = record {
     book = book_after new step;
@@ -127,7 +139,7 @@ module _ (old mid : Book) (count : ℕ) (reader new_reader : Reading) (before no
   leaves_no_memory = record { read = read_before; book = p.book; replied = p.replied }
 
   -- a write of its reply failed
-  leaves_write_fault : (new : Book) (written : Option (List ℕ)) → new ≡ with_core mid (line_step (notations_in mid) served (core_of mid) line).0
+  leaves_write_fault : (new : Book) (written : Option (List ℕ)) → StepsTo mid new (line_step (notations_in mid) served (core_of mid) line).0
       → IfTold now written (AppendsFront (reply_bytes (line_step (notations_in mid) served (core_of mid) line).1)) → HasPartlyAnswered old new count bytes b before written
   leaves_write_fault new written step part = record {
     read = read_after;
@@ -149,7 +161,7 @@ module _ (old mid : Book) (count : ℕ) (reader new_reader : Reading) (before no
 pub leaves_at_line : (old mid new : Book) (count : ℕ) (reader new_reader : Reading) (before now written : Option (List ℕ)) (first a b : Option (List ℕ)) (line : List ℕ) (e : RunError)
     → IfTold first a (Progress old mid count reader before now) → IfTold a b (Next line reader new_reader) → (e ≡ errors.OutOfMemory) ⊎ (e ≡ errors.WriteFault)
     → (e ≡ errors.OutOfMemory → (new ≡ mid) × (written ≡ now))
-    → (e ≡ errors.WriteFault → (new ≡ with_core mid (line_step (notations_in mid) served (core_of mid) line).0) × IfTold now written (AppendsFront (reply_bytes (line_step (notations_in mid) served (core_of mid) line).1)))
+    → (e ≡ errors.WriteFault → (StepsTo mid new (line_step (notations_in mid) served (core_of mid) line).0) × IfTold now written (AppendsFront (reply_bytes (line_step (notations_in mid) served (core_of mid) line).1)))
     → IfTold first b (λ bytes left. Leaves e old new bytes left before written)
 leaves_at_line old mid new count reader new_reader before now written first a b line e p n which no_memory write_fault =
     IfTold-join first a b (Progress old mid count reader before now) (Next line reader new_reader) (λ bytes left. Leaves e old new bytes left before written)
@@ -229,7 +241,7 @@ module _ (old new : Book) (count : ℕ) (reader asked new_reader : Reading) (bef
   takes_all = record {
     all = nothing_left;
     count = omega (arith, ap length no_rest, length-drop count (texts_of bytes), p.book.within);
-    book = p.book.book ∙ ap (λ v. with_core old (after (notations_in old) served (core_of old) v)) all_taken;
+    book = record { core = p.book.book.core ∙ ap (after (notations_in old) served (core_of old)) all_taken; beside = p.book.book.beside };
   }
 
   all_replied : IfTold before now (AppendsReplies (notations_in old) (core_of old) bytes)

@@ -2,21 +2,22 @@
 use Rattle.std.proofs.Common.{◌≡◌, ℕ, ◌+◌, ◌<◌, List, [], ◌∷◌, ◌++◌, length, take, drop, ap, sym, ◌∙◌, refl, arith, append_assoc, length-drop, Result, Ok, Err, Option, Some, IsSome, IfErr, IsErrAnd, subst, rules}
 use Rattle.std.proofs.Math.Seq.{take-add}
 use Rattle.std.proofs.lemmas.List.{drop-drop}
+use Rattle.ic_laws.specs.Command.{CommandRow}
 use Rattle.ic_laws.specs.CoreBook.{CoreBook}
 use Rattle.ic_laws.specs.Lines.{after, replies, line_step, reply_bytes}
 use Rattle.ic_laws.specs.Notations.{Notations}
 use Rattle.ic_lines.specs.declared.error.RunError.{RunError}
-use Rattle.ic_desk.specs.Served.{served}
 
-pub after-append : (n : Notations) (core : CoreBook) (xs ys : List (List ℕ)) → after n served core (xs ++ ys) ≡ after n served (after n served core xs) ys
-after-append n core [] ys = refl
-after-append n core (x ∷ xs) ys = after-append n (line_step n served core x).0 xs ys
+module _ (n : Notations) (table : List CommandRow) where
+  pub after-append : (core : CoreBook) (xs ys : List (List ℕ)) → after n table core (xs ++ ys) ≡ after n table (after n table core xs) ys
+  after-append core [] ys = refl
+  after-append core (x ∷ xs) ys = after-append (line_step n table core x).0 xs ys
 
-pub replies-append : (n : Notations) (core : CoreBook) (xs ys : List (List ℕ)) → replies n served core (xs ++ ys) ≡ replies n served core xs ++ replies n served (after n served core xs) ys
-replies-append n core [] ys = refl
-replies-append n core (x ∷ xs) ys =
-    ap (λ v. reply_bytes (line_step n served core x).1 ++ v) (replies-append n (line_step n served core x).0 xs ys)
-    ∙ sym (append_assoc (reply_bytes (line_step n served core x).1) (replies n served (line_step n served core x).0 xs) (replies n served (after n served (line_step n served core x).0 xs) ys))
+  pub replies-append : (core : CoreBook) (xs ys : List (List ℕ)) → replies n table core (xs ++ ys) ≡ replies n table core xs ++ replies n table (after n table core xs) ys
+  replies-append core [] ys = refl
+  replies-append core (x ∷ xs) ys =
+      ap (λ v. reply_bytes (line_step n table core x).1 ++ v) (replies-append (line_step n table core x).0 xs ys)
+      ∙ sym (append_assoc (reply_bytes (line_step n table core x).1) (replies n table (line_step n table core x).0 xs) (replies n table (after n table (line_step n table core x).0 xs) ys))
 
 -- the next of some lines
 module _ {X : Type 0} (lines : List X) (count : ℕ) (line : X) (rest : List X) (next : drop count lines ≡ line ∷ rest) where

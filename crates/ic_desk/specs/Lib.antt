@@ -1,4 +1,3 @@
 pub mod Desk
 pub mod Run
-pub mod Served
 pub mod Start

@@ -7,14 +7,14 @@ use Rattle.ic_lines.specs.Bytes.{IfTold}
 use Rattle.ic_lines.specs.Reading.{line_feeds}
 use Rattle.ic_lines.specs.declared.error.RunError.{RunError}
 use Rattle.ic_lines.specs.declared.error.RunError.TheVariants as errors
-use Rattle.ic_book.specs.Book.{Book, core_of, notations_in, with_core}
-use Rattle.ic_desk.specs.Served.{served}
+use Rattle.ic_book.specs.Book.{Book, StepsTo, core_of, notations_in}
+use Rattle.ic_words.specs.Served.{served}
 
 -- a whole run: nothing is left of the bytes, their lines are counted, and the book is the one that the machine leaves
 pub record TakesAll (old new : Book) (lines : ℕ) (bytes left : List ℕ) : Type 0 where
   pub all : left ≡ []
   pub count : lines ≡ length (texts_of bytes)
-  pub book : new ≡ with_core old (after (notations_in old) served (core_of old) (texts_of bytes))
+  pub book : StepsTo old new (after (notations_in old) served (core_of old) (texts_of bytes))
 
 -- the machine's replies to the lines of the bytes stand after what was written before
 abbrev pub AppendsReplies : Notations → CoreBook → List ℕ → List ℕ → List ℕ → Type 0
@@ -27,7 +27,7 @@ AreRead count bytes left = (left ≡ []) ⊎ (count + line_feeds left ≤ line_f
 -- the book is as the first so many lines leave it
 pub record IsAfterLines (old new : Book) (count : ℕ) (lines : List (List ℕ)) : Type 0 where
   pub within : count ≤ length lines
-  pub book : new ≡ with_core old (after (notations_in old) served (core_of old) (take count lines))
+  pub book : StepsTo old new (after (notations_in old) served (core_of old) (take count lines))
 
 -- the replies to the first so many lines were appended
 abbrev pub HasReplied : Book → ℕ → List (List ℕ) → List ℕ → List ℕ → Type 0

@@ -4,8 +4,6 @@
 //! machine of `ic_laws`, and the book is the one that the machine leaves. `desk` gives that for the program's words.
 #![tactic(auto)]
 
-mod answer;
-mod command;
 mod desk;
 mod run;
 #[cfg(test)]

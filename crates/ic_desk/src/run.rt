@@ -1,12 +1,12 @@
 ghost use Rattle.std.specs.Prelude.{◌≡◌, ◌⊎◌, ◌+◌, ◌++◌, ◌<◌, ◌≤◌, ◌^◌, Err, length, IfOk, IfErr, IsSomeAnd, OnOk};
 ghost use Rattle.ic_laws.specs.Lines.{line_step, reply_bytes};
 ghost use Rattle.ic_lines.specs.Bytes.{AppendsFront, HasFault, IfTold};
-ghost use Rattle.ic_book.specs.Book.{core_of, notations_in, with_core};
+ghost use Rattle.ic_book.specs.Book.{StepsTo, core_of, notations_in};
+ghost use Rattle.ic_words.specs.Served.{served};
 ghost use Rattle.ic_desk.specs.Run.{AppendsReplies, HasCause, Leaves, TakesAll};
-ghost use Rattle.ic_desk.specs.Served.{served};
 
-use crate::answer::reply_to;
 use ic_book::Model;
+use ic_commands::reply_to;
 use ic_lines::{Line, LineReader, RunError, Sink, Source, write_all};
 use std::alloc::Global;
 
@@ -23,9 +23,9 @@ pub fn run<S: Source, K: Sink>(
 ) -> Result<u64, RunError>
     // The identity theorem: all bytes were taken, their lines counted, the machine's replies appended, and its book
     // left.
-    ensures book { IfOk result (λ count. IfTold (S.left source.old) (S.left source.new) (TakesAll model.old model.new count)) }
+    ensures book { IfOk result (λ count. IfTold (S.left source.old) (S.left source.new) (TakesAll model.old.book model.new.book count)) }
     ensures replies { OnOk result (IfTold (S.left source.old) (S.left source.new) (λ bytes _.
-        IfTold (K.written sink.old) (K.written sink.new) (AppendsReplies (notations_in model.old) (core_of model.old) bytes))) }
+        IfTold (K.written sink.old) (K.written sink.new) (AppendsReplies (notations_in model.old.book) (core_of model.old.book) bytes))) }
 
     // Each error has its cause, and no fault is passed over.
     ensures cause { IfErr result (HasCause
@@ -36,7 +36,7 @@ pub fn run<S: Source, K: Sink>(
 
     // After an error the book is as some of the first lines leave it, and their replies were appended.
     ensures front { IfErr result (λ e. IfTold (S.left source.old) (S.left source.new)
-        (λ bytes left. Leaves e model.old model.new bytes left (K.written sink.old) (K.written sink.new))) }
+        (λ bytes left. Leaves e model.old.book model.new.book bytes left (K.written sink.old) (K.written sink.new))) }
 
     ensures source_counted { S.faults source.old ≤ S.faults source.new }
     ensures sink_counted { K.faults sink.old ≤ K.faults sink.new }
@@ -62,14 +62,14 @@ fn answer_to<K: Sink>(
     line: &Line,
     sink: &mut K,
 ) -> Result<(), RunError>
-    ensures book { OnOk result (model.new ≡ with_core model.old (line_step (notations_in model.old) served (core_of model.old) line.now).0) }
+    ensures book { OnOk result (StepsTo model.old.book model.new.book (line_step (notations_in model.old.book) served (core_of model.old.book) line.now).0) }
     ensures reply { OnOk result (IfTold (K.written sink.old) (K.written sink.new)
-        (λ before now. now ≡ before ++ reply_bytes (line_step (notations_in model.old) served (core_of model.old) line.now).1)) }
+        (λ before now. now ≡ before ++ reply_bytes (line_step (notations_in model.old.book) served (core_of model.old.book) line.now).1)) }
     ensures which { IfErr result (λ e. (e ≡ RunError.OutOfMemory) ⊎ (e ≡ RunError.WriteFault)) }
-    ensures no_memory { result ≡ Err RunError.OutOfMemory → (model.new ≡ model.old) × (sink.new ≡ sink.old) }
+    ensures no_memory { result ≡ Err RunError.OutOfMemory → (model.new.book ≡ model.old.book) × (sink.new ≡ sink.old) }
     ensures write_fault { result ≡ Err RunError.WriteFault → HasFault (K.faults sink.old) (K.faults sink.new)
-        × (model.new ≡ with_core model.old (line_step (notations_in model.old) served (core_of model.old) line.now).0)
-        × IfTold (K.written sink.old) (K.written sink.new) (AppendsFront (reply_bytes (line_step (notations_in model.old) served (core_of model.old) line.now).1)) }
+        × (StepsTo model.old.book model.new.book (line_step (notations_in model.old.book) served (core_of model.old.book) line.now).0)
+        × IfTold (K.written sink.old) (K.written sink.new) (AppendsFront (reply_bytes (line_step (notations_in model.old.book) served (core_of model.old.book) line.now).1)) }
     ensures counted { K.faults sink.old ≤ K.faults sink.new }
     ensures quiet { OnOk result (K.faults sink.new ≡ K.faults sink.old) }
 {

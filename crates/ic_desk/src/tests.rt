@@ -1,7 +1,7 @@
-use crate::answer::answer_line;
 use crate::desk::desk;
 use crate::run::run;
 use ic_book::Model;
+use ic_commands::answer_line;
 use ic_laws::Text;
 use ic_lines::{
     Line, LineReader, MemorySink, MemorySource, RunError, StdSink, StdSource, write_all,
@@ -66,6 +66,29 @@ fn answers_the_lines_that_it_holds(rt: HostRuntime) -> Result<(), Fail> {
     let tables = sample_tables(rt.alloc())?;
     for (chunk, failing, outcome) in &READS {
         let source = MemorySource::new(rt.alloc(), TWO, (*chunk).max(1), &[*failing])?;
+        let sink = MemorySink::new(rt.alloc(), 1000, &[])?;
+        expect_run(&rt, &tables, source, sink, outcome)?;
+    }
+    Ok(())
+}
+
+/// A formula that names a sheet before it is there, the sheet, another name for it, and the formula shown.
+const FORMULAS: &[u8] =
+    b"update_cell_with_formula\t0\t1\t1\t=data!A1\nadd_sheet\tData\nrename_sheet\tdata\tMy data\nget_cell_formula\t0\t1\t1\n";
+
+/// The same of these lines.
+const FORMULA_READS: [(usize, u64, Outcome<'static>); 4] = [
+    (1, 106, (Ok(4), 3, "ok\nok\nok\nok\t='My data'!A1\n")),
+    (4096, 3, (Ok(4), 3, "ok\nok\nok\nok\t='My data'!A1\n")),
+    (1, 82, (Err(RunError::ReadFault), 3, "ok\nok\nok\n")),
+    (1, 39, (Err(RunError::ReadFault), 2, "")),
+];
+
+#[test]
+fn formulas_follow_the_sheets(rt: HostRuntime) -> Result<(), Fail> {
+    let tables = sample_tables(rt.alloc())?;
+    for (chunk, failing, outcome) in &FORMULA_READS {
+        let source = MemorySource::new(rt.alloc(), FORMULAS, (*chunk).max(1), &[*failing])?;
         let sink = MemorySink::new(rt.alloc(), 1000, &[])?;
         expect_run(&rt, &tables, source, sink, outcome)?;
     }

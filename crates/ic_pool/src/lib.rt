@@ -1,4 +1,5 @@
-//! The formulas of one sheet, each kept once where a cell first used it, and tests of what a formula mentions.
+//! The formulas of one sheet, each where a cell first used it, and tests of what a formula mentions. Two that a change
+//! makes equal both stay.
 //! `Pool` keeps them in their places. `IsPlaced` of `place` is its promise: an equal formula is found at its first place,
 //! a new one is put at the end, and nothing else moves. It looks formulas up by their keys, and `law_code_determines`
 //! says that equal keys are keys of equal formulas. `rewrites` prepares a change of all formulas, `made` says to what, and

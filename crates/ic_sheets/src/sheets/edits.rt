@@ -12,7 +12,8 @@ use ic_laws::{OutOfMemory, Text};
 use std::collections::BTreeMap;
 
 impl Sheets {
-    /// Adds a sheet at the end, which keeps no formulas. `OutOfMemory` changes nothing.
+    /// Adds a sheet at the end, which keeps no formulas, and leaves the formulas of the others: a new book begins with it.
+    /// `OutOfMemory` changes nothing.
     pub fn push(&mut self, id: u32, name: &str) -> Result<(), OutOfMemory>
         requires free { list_any (agrees (chars name.now)) (map (λ s. s.name) self.old) ≡ false }
         requires fresh { greatest (map (λ s. s.id) self.old) < id }
@@ -29,8 +30,8 @@ impl Sheets {
         Ok(())
     }
 
-    /// Gives the sheet at a place, from 0, another name. `OutOfMemory` changes nothing.
-    pub fn rename(&mut self, index: usize, name: &str) -> Result<(), OutOfMemory>
+    /// Gives the sheet at a place, from 0, another name, and leaves all formulas. `OutOfMemory` changes nothing.
+    pub(crate) fn rename(&mut self, index: usize, name: &str) -> Result<(), OutOfMemory>
         requires within { index < length self.old }
         requires free { list_any (agrees (chars name.now)) (remove (map (λ s. s.name) self.old) index) ≡ false }
         ensures ok { OnOk result (self.new ≡ updated_at (λ s. record s { name = chars name.now }) index self.old) }
@@ -47,8 +48,8 @@ impl Sheets {
         Ok(())
     }
 
-    /// Takes the sheet at a place away, from 0. `OutOfMemory` changes nothing.
-    pub fn remove(&mut self, index: usize) -> Result<(), OutOfMemory>
+    /// Takes the sheet at a place away, from 0, and leaves the formulas of the others. `OutOfMemory` changes nothing.
+    pub(crate) fn remove(&mut self, index: usize) -> Result<(), OutOfMemory>
         requires { index < length self.old }
         ensures ok { OnOk result (self.new ≡ remove self.old index) }
         ensures err { OnErr result (self.new ≡ self.old) }

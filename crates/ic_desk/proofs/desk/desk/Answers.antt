@@ -1,8 +1,7 @@
-use Rattle.std.proofs.Common.{◌≡◌, ◌∙◌, ap, sym, Some, subst, IsSomeAnd}
+use Rattle.std.proofs.Common.{◌∙◌, sym, subst, IsSomeAnd}
 use Rattle.ic_lines.specs.Bytes.{IfTold}
 use Rattle.ic_book.specs.Book.{Book, core_of, notations_in}
-use Rattle.ic_desk.specs.Desk.{Setting, setting_of, start, texts}
-use Rattle.ic_desk.specs.Start.{setting}
+use Rattle.ic_desk.specs.Desk.{Setting, start}
 use Rattle.ic_desk.specs.Run.{AppendsReplies}
 use Rattle.ic_tree.specs.Notations.{notations_of}
 use Rattle.ic_desk.proofs.DeskLemmas.{all_taken, on_ok_at_0}
@@ -18,5 +17,5 @@ returns-in-Ok-clause-replies g c at_0 =
     let written = g.K.Sink.written in
     let Told : Book → Type 0 = λ b. IfTold (left c.args.source.now) (left c.run.new.source) (λ bytes _. IfTold (written c.args.sink.now) (written c.run.new.sink) (AppendsReplies (notations_in b) (core_of b) bytes)) in
     let Wanted : Setting → Type 0 = λ s. IfTold (left c.args.source.now) (left c.run.new.source) (λ bytes _. IfTold (written c.args.sink.now) (written c.run.new.sink) (AppendsReplies (notations_of c.args.tables.now) (start s) bytes)) in
-    let told : Told c.in-Ok.model = on_ok_at_0 c.run.result (Told c.in-Ok.model) c.run.ensures.replies (sym c.status_of.ensures ∙ at_0) in
+    let told : Told c.in-Ok.model.book = on_ok_at_0 c.run.result (Told c.in-Ok.model.book) c.run.ensures.replies (sym c.status_of.ensures ∙ at_0) in
     subst (λ o. IsSomeAnd o Wanted) c.in-Some.ensures (subst Told c.in-Ok.ensures.start told)

@@ -14,19 +14,19 @@ returns-in_err-line-clause-front g c =
     let e = c.in_err-line.field-0.0 in
     let h = c.in_err-line.ensures in
     let t = h.taken in
-    let given = leaves_at_reader c.args.model.now c.lines.model c.lines.count c.lines.reader t.0 c.next_line.new.self (written c.args.sink.now) (written c.lines.sink) _ _ _ e
+    let given = leaves_at_reader c.args.model.now.book c.lines.model.book c.lines.count c.lines.reader t.0 c.next_line.new.self (written c.args.sink.now) (written c.lines.sink) _ _ _ e
     c.lines.invariant.done t.1 t.2 (λ which. elim which [ inl p ↦ (h.read_fault (ap Err p)).1 | inr p ↦ (h.too_many (ap Err p)).1 ]) (λ p. h.no_write (ap Err p)) in
     IfErr-given c.from_residual.result e
-    (λ x. IfTold (left c.args.source.now) (left c.next_line.new.source) (λ bytes b. Leaves x c.args.model.now c.lines.model bytes b (written c.args.sink.now) (written c.lines.sink)))
+    (λ x. IfTold (left c.args.source.now) (left c.next_line.new.source) (λ bytes b. Leaves x c.args.model.now.book c.lines.model.book bytes b (written c.args.sink.now) (written c.lines.sink)))
     c.from_residual.ensures.1 given
 
 pub returns-in_err-answer_to-clause-front : goal.returns-in_err-answer_to-clause-front
 returns-in_err-answer_to-clause-front g c =
     let left = g.S.Source.left in
     let written = g.K.Sink.written in
-    let old = c.args.model.now in
-    let mid = c.lines.model in
-    let new = c.answer_to.new.model in
+    let old = c.args.model.now.book in
+    let mid = c.lines.model.book in
+    let new = c.answer_to.new.model.book in
     let before = c.lines.reader in
     let after = c.next_line.new.self in
     let line = c.in-Some.line in
@@ -48,9 +48,9 @@ pub lines-preserved : goal.lines-preserved
 lines-preserved g c =
     let left = g.S.Source.left in
     let written = g.K.Sink.written in
-    let old = c.args.model.now in
-    let mid = c.lines.model in
-    let new = c.answer_to.new.model in
+    let old = c.args.model.now.book in
+    let mid = c.lines.model.book in
+    let new = c.answer_to.new.model.book in
     let before = c.lines.reader in
     let after = c.next_line.new.self in
     let line = c.in-Some.line in
@@ -79,7 +79,7 @@ returns-clause-book g c =
     let before = c.lines.reader in
     let after = c.next_line.new.self in
     let h = c.in_ok-line.ensures in
-    takes_all_told c.args.model.now c.lines.model c.lines.count before h.taken.0 after (g.K.Sink.written c.args.sink.now) (g.K.Sink.written c.lines.sink) _ _ _ c.lines.invariant.done h.taken.1
+    takes_all_told c.args.model.now.book c.lines.model.book c.lines.count before h.taken.0 after (g.K.Sink.written c.args.sink.now) (g.K.Sink.written c.lines.sink) _ _ _ c.lines.invariant.done h.taken.1
     (subst (λ o. IfTold (left c.lines.source) (left c.next_line.new.source) (λ a b. GivesLine o (unread before a) (unread after b))) c.in_default.is h.line)
 
 pub returns-clause-replies : goal.returns-clause-replies
@@ -88,5 +88,5 @@ returns-clause-replies g c =
     let before = c.lines.reader in
     let after = c.next_line.new.self in
     let h = c.in_ok-line.ensures in
-    all_replied_told c.args.model.now c.lines.model c.lines.count before h.taken.0 after (g.K.Sink.written c.args.sink.now) (g.K.Sink.written c.lines.sink) _ _ _ c.lines.invariant.done h.taken.1
+    all_replied_told c.args.model.now.book c.lines.model.book c.lines.count before h.taken.0 after (g.K.Sink.written c.args.sink.now) (g.K.Sink.written c.lines.sink) _ _ _ c.lines.invariant.done h.taken.1
     (subst (λ o. IfTold (left c.lines.source) (left c.next_line.new.source) (λ a b. GivesLine o (unread before a) (unread after b))) c.in_default.is h.line)

@@ -10,7 +10,7 @@ invariant-lines g l =
     let source = g.S.Source in
     let sink = g.K.Sink in
     record {
-      done : IfTold (source.left l.fn.source) (source.left l.source) (Progress l.fn.model l.model l.count l.reader (sink.written l.fn.sink) (sink.written l.sink));
+      done : IfTold (source.left l.fn.source) (source.left l.source) (Progress l.fn.model.book l.model.book l.count l.reader (sink.written l.fn.sink) (sink.written l.sink));
       turns : IfTold (source.left l.fn.source) (source.left l.source) (λ bytes left. l.reader.turns + length left ≤ length bytes);
       few : l.count + budget l.reader ≤ 4096 * 4294967296;
       source_quiet : source.faults l.source ≡ source.faults l.fn.source;

@@ -1,14 +1,15 @@
-use Rattle.std.proofs.Common.{◌≡◌, ap, append-nil, map}
-use Rattle.ic_laws.specs.CoreBook.{Sheet, used_ids}
-use Rattle.ic_laws.specs.Greatest.{greatest}
-use Rattle.ic_book.specs.Book.{core_of}
-use Rattle.ic_book.specs.Sheets.{sheets_of}
-use Rattle.ic_book.proofs.BookLemmas.{above_all}
+use Rattle.std.proofs.Common.{ap, ◌∙◌, subst, All, IfSome, ◌<◌}
+use Rattle.ic_laws.specs.CoreBook.{fresh_id, used_ids}
+use Rattle.ic_book.specs.Book.{ModelState, core_of}
+use Rattle.ic_book.proofs.HeldLemmas.{greatest_is, next_is, next_of}
+use Rattle.ic_book.proofs.StartLemmas.{above_all}
 use Rattle.ic_book.proofs.model.Model.get_new_sheet_id.Goals as goal
+
+pub returns-clause-fresh : goal.returns-clause-fresh
+returns-clause-fresh c =
+    next_is c.checked_add.result c.greatest_id.result c.checked_add.ensures ∙ ap next_of (c.greatest_id.ensures ∙ greatest_is c.self.inside.name c.self.inside.sheets c.self.inside.locale.now c.self.inside.language.now c.self.inside.zone c.self.inside.created c.self.inside.tables.now c.self.invariant) ∙ ap (λ (m : ModelState). fresh_id (core_of m.book)) c.self.view_is
 
 pub returns-clause-unused : goal.returns-clause-unused
 returns-clause-unused c =
-    let seen = ap (λ b. greatest (used_ids (core_of b))) c.self.view_is in
-    let alone = ap greatest (append-nil (map (λ (s : Sheet). s.id) (sheets_of c.self.inside.sheets.items))) in
-    let same : c.greatest_id.result ≡ greatest (used_ids (core_of c.args.self.now)) = cc (seen, alone, c.greatest_id.ensures, c.as_slice.ensures.value) in
-    above_all _ _ _ c.checked_add.ensures same
+    subst (λ (m : ModelState). IfSome c.checked_add.result (λ id. All (λ used. used < id) (used_ids (core_of m.book)))) c.self.view_is
+    (above_all c.checked_add.result c.greatest_id.result _ c.checked_add.ensures (c.greatest_id.ensures ∙ greatest_is c.self.inside.name c.self.inside.sheets c.self.inside.locale.now c.self.inside.language.now c.self.inside.zone c.self.inside.created c.self.inside.tables.now c.self.invariant))

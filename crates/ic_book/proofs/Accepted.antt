@@ -1,0 +1,39 @@
+-- Where nothing refuses a command, the machine accepts it, and leaves the book that the command names.
+use Rattle.std.proofs.Common.{◌≡◌, ℕ, ℤ, List, [], ◌∷◌, not, None, Ok, ap}
+use Rattle.ic_laws.specs.Command.{AddSheet, DeleteSheet, MoveSheet, RenameSheetByIndex, SetLanguage, SetLocale, UpdateCellWithFormula}
+use Rattle.ic_laws.specs.CoreBook.{CoreBook}
+use Rattle.ic_laws.specs.CoreStep.{add_sheet_refusal, changed_by, core_step, delete_refusal, move_refusal, moved, rename_refusal, unless_refused, update_refusal, updated_at, with_formula, with_new_sheet, with_sheet_name, without_sheet}
+use Rattle.ic_laws.specs.FormulaReading.{without_equals}
+use Rattle.ic_laws.specs.Notations.{Notations}
+use Rattle.ic_laws.specs.Refusal.{InvalidLanguage, InvalidLocale, first_refusal}
+
+module _ (n : Notations) (core : CoreBook) where
+  pub add_accepted : (name : List ℕ) → add_sheet_refusal core name ≡ None → core_step n core (AddSheet name) ≡ Ok (changed_by n (with_new_sheet name) core, [])
+  unfolding core_step
+  add_accepted name e = ap (λ r. unless_refused r (changed_by n (with_new_sheet name) core) []) e
+
+  pub rename_accepted : (index : ℕ) (name : List ℕ) → rename_refusal core index name ≡ None → core_step n core (RenameSheetByIndex index name) ≡ Ok (changed_by n (with_sheet_name index name) core, [])
+  unfolding core_step
+  rename_accepted index name e = ap (λ r. unless_refused r (changed_by n (with_sheet_name index name) core) []) e
+
+  pub move_accepted : (from to : ℕ) → move_refusal core from to ≡ None → core_step n core (MoveSheet from to) ≡ Ok (record core { sheets = moved from to core.sheets }, [])
+  unfolding core_step
+  move_accepted from to e = ap (λ r. unless_refused r (record core { sheets = moved from to core.sheets }) []) e
+
+  pub delete_accepted : (index : ℕ) → delete_refusal core index ≡ None → core_step n core (DeleteSheet index) ≡ Ok (changed_by n (without_sheet index) core, [])
+  unfolding core_step
+  delete_accepted index e = ap (λ r. unless_refused r (changed_by n (without_sheet index) core) []) e
+
+  pub locale_accepted : (id : List ℕ) → first_refusal ((not (n.knows_locale id), InvalidLocale) ∷ []) ≡ None → core_step n core (SetLocale id) ≡ Ok (record core { locale = id }, [])
+  unfolding core_step
+  locale_accepted id e = ap (λ r. unless_refused r (record core { locale = id }) []) e
+
+  pub language_accepted : (id : List ℕ) → first_refusal ((not (n.knows_language id), InvalidLanguage) ∷ []) ≡ None → core_step n core (SetLanguage id) ≡ Ok (record core { language = id }, [])
+  unfolding core_step
+  language_accepted id e = ap (λ r. unless_refused r (record core { language = id }) []) e
+
+  pub update_accepted : (index : ℕ) (row column : ℤ) (text : List ℕ) → update_refusal core index row column text ≡ None
+      → core_step n core (UpdateCellWithFormula index row column text) ≡ Ok (record core { sheets = updated_at (with_formula n core row column (without_equals text)) index core.sheets }, [])
+  unfolding core_step
+  update_accepted index row column text e =
+      ap (λ r. unless_refused r (record core { sheets = updated_at (with_formula n core row column (without_equals text)) index core.sheets }) []) e

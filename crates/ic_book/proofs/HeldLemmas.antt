@@ -1,0 +1,360 @@
+-- What a model holds, over each change of its sheets and its notation.
+use Rattle.std.proofs.Common.{◌≡◌, ◌≢◌, ◌==◌, ℕ, ℤ, zero, suc, ◌+◌, ◌<◌, ◌≤◌, ◌^◌, IfSome, SomeIff, Result, Ok, Err, IsErr, IsErrAnd, rules, arith, List, [], ◌∷◌, ◌++◌, Bool, true, false, not, Option, Some, None, option_map, map, length, get_or, is_some, append-nil, refl, sym, ap, ap₂, subst, ◌∙◌, nat_lt, if◌then◌else◌}
+use Rattle.std.specs.Prelude.{option_and_then, position, unwrap_or, remove, nat_eq}
+use Rattle.std.specs.Borrow.{Bor}
+use Rattle.std.specs.BTreeMap.{insert_entry}
+use Rattle.std.specs.List.{AllByRecursion, slice_get}
+use Rattle.std.proofs.lemmas.Option.{slice_get-map, slice_get_read}
+use Rattle.ic_laws.proofs.keeping.Accepted.{none_holds}
+use Rattle.ic_laws.proofs.keeping.Deletes.{delete_dangles}
+use Rattle.ic_laws.proofs.keeping.Moves.{move_keeps}
+use Rattle.ic_laws.proofs.keeping.Renames.{add_binds, rename_binds, rename_keeps}
+use Rattle.ic_laws.specs.BookTrees.{BookKeepsFound, IsMoved, with_sheet_at_end, with_trees}
+use Rattle.ic_laws.specs.Changes.{changed_tree, sheet_gone, sheet_named}
+use Rattle.ic_laws.specs.CoreBook.{CellPlace, CoreBook, Definition, formula_at, place_cmp, Sheet, fresh_id, greatest_id, has_sheet, scene_of, spelling_of}
+use Rattle.ic_laws.specs.CoreStep.{with_formula, add_sheet_causes, add_sheet_refusal, changed_by, delete_refusal, formula_of, has_other_sheet, update_causes, update_refusal, lacks_sheet, move_refusal, moved, rename_causes, rename_refusal, unless_refused, updated_at, with_new_sheet, with_sheet_name, without_sheet}
+use Rattle.ic_laws.specs.Greatest.{greatest}
+use Rattle.ic_laws.specs.Name.{agrees, is_sheet_name}
+use Rattle.ic_laws.specs.Notations.{AreNotations, Notations}
+use Rattle.ic_laws.specs.Refusal.{IdsUsedUp, InvalidLanguage, InvalidLocale, InvalidSheet, NotAFormula, SheetExists, first_refusal}
+use Rattle.ic_laws.specs.declared.scene.Scene.{Scene}
+use Rattle.ic_laws.specs.declared.scene.SheetName.{SheetName}
+use Rattle.ic_laws.proofs.core.KeptBook.{mentioned}
+use Rattle.ic_tables.specs.Tables.{TableSet, language_of, locale_of}
+use Rattle.ic_tables.specs.declared.language.Language.{Language}
+use Rattle.ic_tables.specs.declared.locale.NamedLocale.{NamedLocale}
+use Rattle.ic_tables.proofs.WellFormed.{language_found, locale_found}
+use Rattle.ic_tree.proofs.NotationLaws.{knows_language_is, knows_locale_is, notations_are}
+use Rattle.ic_tree.specs.Notations.{notations_of}
+use Rattle.ic_sheets.specs.Rewriting.{changed_pool, sheets_of}
+use Rattle.ic_sheets.specs.Sheet as sheets
+use Rattle.ic_sheets.specs.Sheet.{BookSheet, IsValidPool, cells_of, sheet_core, sheet_of}
+use Rattle.ic_pool.specs.Pool.{IsPlaced}
+use Rattle.ic_laws.specs.declared.tree.Formula.{Formula}
+use Rattle.ic_laws.specs.FormulaReading.{cell_formula, is_formula_text, without_equals}
+use Rattle.ic_laws.specs.Position.{is_column, is_row}
+use Rattle.ic_laws.specs.ValidCore.{IsPooled}
+use Rattle.ic_laws.proofs.core.Lists.{updated_seen}
+use Rattle.ic_book.specs.Written.{pool_at, with_cell, with_pool}
+use Rattle.ic_book.proofs.WrittenLemmas.{core_of-cell, core_of-pool, one_of_all}
+use Rattle.ic_sheets.specs.declared.sheet.Worksheet.{Worksheet}
+use Rattle.ic_book.specs.Book.{Book, IsValidBook, core_of, first_sheet_name_in, new_book, notations_in, scene_in}
+use Rattle.ic_book.specs.Change.{book_changed_by, with_added_sheet, with_moved_sheet, with_removed_sheet, with_renamed_sheet}
+use Rattle.ic_book.specs.Inside.{IsHeld, held}
+use Rattle.ic_book.proofs.BookLemmas.{moved-map}
+use Rattle.ic_book.proofs.BookValid.{placed_valid, written_valid}
+use Rattle.ic_book.proofs.ChangeLemmas.{added_is, removed_is, renamed_is}
+use Rattle.ic_book.proofs.ModelLemmas.{position-map, scene_is}
+use Rattle.ic_book.specs.Refused.{Refuses, refusal_of}
+use Rattle.ic_book.specs.Scene.{scene_of_sheets}
+use Rattle.ic_book.specs.declared.error.BookError.{BookError}
+use Rattle.ic_book.specs.declared.error.BookError.TheVariants as errors
+
+-- ---- the sheets as the core sees them
+
+pub seen_names : (ws : List Worksheet) → map (λ s. s.name) ws ≡ map (λ (s : Sheet). s.name) (map sheet_core (map sheet_of ws))
+seen_names [] = refl
+seen_names (s ∷ ws) = ap (λ (rest : List (List ℕ)). s.name ∷ rest) (seen_names ws)
+
+pub seen_ids : (ws : List Worksheet) → map (λ s. s.id) ws ≡ map (λ (s : Sheet). s.id) (map sheet_core (map sheet_of ws))
+seen_ids [] = refl
+seen_ids (s ∷ ws) = ap (λ (rest : List ℕ). s.id ∷ rest) (seen_ids ws)
+
+pub seen_length : (ws : List Worksheet) → length ws ≡ length (map sheet_core (map sheet_of ws))
+seen_length [] = refl
+seen_length (s ∷ ws) = ap suc (seen_length ws)
+
+pub found_by_name : (ws : List Worksheet) (name : List ℕ) → position (λ s. agrees s.name name) ws ≡ position (λ (s : Sheet). agrees s.name name) (map sheet_core (map sheet_of ws))
+found_by_name ws name = sym (position-map sheet_core (λ (s : Sheet). agrees s.name name) (map sheet_of ws) ∙ position-map sheet_of (λ (s : BookSheet). agrees s.name name) ws)
+
+pub found_by_id : (ws : List Worksheet) (id : ℕ) → position (λ s. nat_eq s.id id) ws ≡ position (λ (s : Sheet). nat_eq s.id id) (map sheet_core (map sheet_of ws))
+found_by_id ws id = sym (position-map sheet_core (λ (s : Sheet). nat_eq s.id id) (map sheet_of ws) ∙ position-map sheet_of (λ (s : BookSheet). nat_eq s.id id) ws)
+
+-- ---- refusals
+
+pub add_taken : (core : CoreBook) (name : List ℕ) → is_sheet_name name ≡ true → has_sheet core name ≡ true → add_sheet_refusal core name ≡ Some SheetExists
+add_taken core name good taken = rw good (rw taken refl)
+
+pub add_used_up : (core : CoreBook) (name : List ℕ) → is_sheet_name name ≡ true → has_sheet core name ≡ false → fresh_id core ≡ None → add_sheet_refusal core name ≡ Some IdsUsedUp
+add_used_up core name good free none = rw good (rw free (rw none refl))
+
+pub add_accepts : (core : CoreBook) (name : List ℕ) (id : ℕ) → is_sheet_name name ≡ true → has_sheet core name ≡ false → fresh_id core ≡ Some id → add_sheet_refusal core name ≡ None
+add_accepts core name id good free fresh = rw good (rw free (rw fresh refl))
+
+pub rename_taken : (core : CoreBook) (index : ℕ) (name : List ℕ) → is_sheet_name name ≡ true → has_other_sheet core index name ≡ true → rename_refusal core index name ≡ Some SheetExists
+rename_taken core index name good taken = rw good (rw taken refl)
+
+pub rename_lacks : (core : CoreBook) (index : ℕ) (name : List ℕ) → is_sheet_name name ≡ true → has_other_sheet core index name ≡ false → lacks_sheet core index ≡ true → rename_refusal core index name ≡ Some InvalidSheet
+rename_lacks core index name good free lacks = rw good (rw free (rw lacks refl))
+
+pub rename_accepts : (core : CoreBook) (index : ℕ) (name : List ℕ) → is_sheet_name name ≡ true → has_other_sheet core index name ≡ false → lacks_sheet core index ≡ false → rename_refusal core index name ≡ None
+rename_accepts core index name good free there = rw good (rw free (rw there refl))
+
+pub update_accepts : (core : CoreBook) (index : ℕ) (row column : ℤ) (text : List ℕ) → lacks_sheet core index ≡ false → is_row row ≡ true → is_column column ≡ true → is_formula_text text ≡ true → update_refusal core index row column text ≡ None
+update_accepts core index row column text there in_rows in_columns is = rw there (rw in_rows (rw in_columns (rw is refl)))
+
+pub not_a_formula : (core : CoreBook) (index : ℕ) (row column : ℤ) (text : List ℕ) → lacks_sheet core index ≡ false → is_row row ≡ true → is_column column ≡ true → is_formula_text text ≡ false → update_refusal core index row column text ≡ Some NotAFormula
+not_a_formula core index row column text there in_rows in_columns is = rw there (rw in_rows (rw in_columns (rw is refl)))
+
+fresh_is : (b : Bool) (g id : ℕ) → (if b then Some (g + 1) else None) ≡ Some id → id ≡ g + 1
+fresh_is true g id e = cc
+fresh_is false g id e = cc
+
+-- ---- indexes
+
+pub within_core : (ws : List Worksheet) (index : ℕ) → index < length ws → index < length (map sheet_core (map sheet_of ws))
+within_core ws index lt = subst (λ k. index < k) (seen_length ws) lt
+
+is_less : (m k : ℕ) → m < k → nat_lt m k ≡ true
+is_less m k lt = search (rules, arith)
+
+no_less : (m k : ℕ) → k ≤ m → nat_lt m k ≡ false
+no_less m k le = search (rules, arith)
+
+pub there_is : (ws : List Worksheet) (index : ℕ) → index < length ws → not (nat_lt index (length (map sheet_core (map sheet_of ws)))) ≡ false
+there_is ws index lt = ap not (is_less index _ (within_core ws index lt))
+
+pub lacks_is : (ws : List Worksheet) (index : ℕ) → length ws ≤ index → not (nat_lt index (length (map sheet_core (map sheet_of ws)))) ≡ true
+lacks_is ws index le = ap not (no_less index _ (subst (λ k. k ≤ index) (seen_length ws) le))
+
+pub within_of : (ws : List Worksheet) (len index : ℕ) → len ≡ length ws → index < len → index < length ws
+within_of ws len index e lt = subst (λ k. index < k) e lt
+
+pub there_of : (ws slice : List Worksheet) (index : ℕ) → slice ≡ ws → not (nat_lt index (length (map sheet_core (map sheet_of ws)))) ≡ false → true ≡ nat_lt index (length slice)
+there_of ws slice index same there = sym (ap (λ xs. nat_lt index (length xs)) same ∙ ap (nat_lt index) (seen_length ws) ∙ not_false _ there)
+  where
+    not_false : (b : Bool) → not b ≡ false → b ≡ true
+    not_false true e = refl
+    not_false false e = cc
+
+pub past_of : (ws : List Worksheet) (len index : ℕ) → len ≡ length ws → len ≤ index → length ws ≤ index
+past_of ws len index e le = subst (λ k. k ≤ index) e le
+
+pub move_accepts : (core : CoreBook) (from to : ℕ) → lacks_sheet core from ≡ false → lacks_sheet core to ≡ false → move_refusal core from to ≡ None
+move_accepts core from to one other = rw one (rw other refl)
+
+pub delete_accepts : (core : CoreBook) (index : ℕ) → (length core.sheets == 1) ≡ false → lacks_sheet core index ≡ false → delete_refusal core index ≡ None
+delete_accepts core index more there = rw more (rw there refl)
+
+pub more_than_one : (ws : List Worksheet) (len : ℕ) → len ≡ length ws → len ≢ 1 → (length (map sheet_core (map sheet_of ws)) == 1) ≡ false
+more_than_one ws len e more = subst (λ k. (k == 1) ≡ false) (e ∙ seen_length ws) (search (rules, arith))
+
+-- what holds at an index that was found
+pub at_some : (P : ℕ → Type 0) (o : Option ℕ) (index : ℕ) → o ≡ Some index → P index → IfSome o P
+at_some P o index e h = subst (λ o. IfSome o P) (sym e) h
+
+-- one more than the greatest id, where there is one
+abbrev pub next_of : ℕ → Option ℕ
+next_of g = if nat_lt g 4294967295 then Some (g + 1) else None
+
+pub next_is : (r : Option ℕ) (g : ℕ) → SomeIff r (g + 1 < 2 ^ 32) (g + 1) → r ≡ next_of g
+next_is (Some id) g h = ap (λ (n : ℕ). let o : Option ℕ = Some n in o) h.1 ∙ ap (λ b. if b then Some (g + 1) else None) (sym (is_less g 4294967295 (let lt = h.0 in omega arith)))
+next_is None g h = by_test (nat_lt g 4294967295) refl
+  where
+    none : Option ℕ
+    none = None
+
+    by_test : (b : Bool) → nat_lt g 4294967295 ≡ b → none ≡ (if b then Some (g + 1) else None)
+    by_test true e = absurd (h (let lt : g < 4294967295 = search (rules, arith) in omega arith))
+    by_test false e = refl
+
+-- ---- small facts
+
+pub option_map-twice : {A B C : Type 0} (f : A → B) (g : B → C) (o : Option A) → option_map g (option_map f o) ≡ option_map (λ x. g (f x)) o
+option_map-twice f g None = refl
+option_map-twice f g (Some x) = refl
+
+-- an error that is want of memory refuses nothing
+pub no_memory : (r : Result (Unit {0}) BookError) → IsErr r × IsErrAnd r (λ e. e ≡ errors.OutOfMemory) → Refuses r None
+no_memory (Ok done) h = let no : false ≡ true = h.0 in cc
+no_memory (Err e) h = sym (ap refusal_of h.1)
+
+-- what formulas can mention among these sheets
+pub scene_held : (ws : List Worksheet) (book : Book) → map sheet_of ws ≡ book.sheets → book.definitions ≡ [] → scene_of_sheets ws ≡ scene_of (core_of book)
+scene_held ws book same none =
+    ap₂ (λ (ss : List SheetName) (ds : List Definition). let scene : Scene = record { sheets = ss; names = map spelling_of ds } in scene) (scene_is ws ∙ ap (λ sheets. map mentioned (map sheet_core sheets)) same) (sym none)
+
+-- the sheet at an index of a slice
+pub at_index : (slice ws : List Worksheet) (i : ℕ) (s : Worksheet) → slice ≡ ws → true ≡ nat_lt i (length slice) → s ≡ get_or slice i s → slice_get ws i ≡ Some s
+at_index slice ws i s same within read = subst (λ xs. slice_get xs i ≡ Some s) same (slice_get_read slice (length slice) i s refl (search (rules, arith)) read)
+
+-- a new book
+pub start_is : (given name : List ℕ) (ws : List Worksheet) (locale : NamedLocale) (language : Language) (locale_id language_id given_zone zone created : List ℕ) (tables : TableSet) → given ≡ name
+    → ws ≡ record { id = 1; name = first_sheet_name_in language.code; pool = record { formulas = []; is_whole = true }; cells = [] } ∷ [] → locale.id ≡ locale_id → language.code ≡ language_id → given_zone ≡ zone
+    → held given ws locale language given_zone created tables ≡ new_book name locale_id zone language_id created tables
+start_is given name ws locale language locale_id language_id given_zone zone created tables one two three four five =
+    ap (λ a. make a (map sheet_of ws) locale.id language.code given_zone) one ∙ ap (λ (xs : List Worksheet). make name (map sheet_of xs) locale.id language.code given_zone) two
+    ∙ ap (λ l. make name (first language.code) l language.code given_zone) three ∙ ap (λ g. make name (first g) locale_id g given_zone) four ∙ ap (λ z. make name (first language_id) locale_id language_id z) five
+  where
+    first : List ℕ → List BookSheet
+    first code = record { id = 1; name = first_sheet_name_in code; pool = []; cells = [] } ∷ []
+
+    make : List ℕ → List BookSheet → List ℕ → List ℕ → List ℕ → Book
+    make a ss l g z = record { name = a; sheets = ss; definitions = []; locale = l; language = g; zone = z; created = created; tables = tables }
+
+pub whole_updated : (f : Worksheet → Worksheet) → ((s : Worksheet) → (f s).pool.is_whole ≡ true) → (i : ℕ) (ws : List Worksheet) → map (λ (s : Worksheet). s.pool.is_whole) (updated_at f i ws) ≡ updated_at (λ b. true) i (map (λ (s : Worksheet). s.pool.is_whole) ws)
+whole_updated f whole i ws = updated_seen (λ (s : Worksheet). s.pool.is_whole) f (λ b. true) whole i ws
+
+-- and the sheet at the index has a whole look-up
+pub whole_at : (f : Worksheet → Worksheet) → ((s : Worksheet) → (f s).pool.is_whole ≡ true) → (i : ℕ) (ws : List Worksheet) (s : Worksheet) → slice_get ws i ≡ Some s → slice_get (map (λ (s : Worksheet). s.pool.is_whole) (updated_at f i ws)) i ≡ Some true
+whole_at f whole i [] s at = cc
+whole_at f whole zero (w ∷ ws) s at = ap Some (whole w)
+whole_at f whole (suc i) (w ∷ ws) s at = whole_at f whole i ws s at
+
+-- ---- the notation
+
+pub locale_is : (tables : TableSet) (id : List ℕ) (l : NamedLocale) → locale_of tables id ≡ Some l → (l.id ≡ id) × (locale_of tables l.id ≡ Some l)
+locale_is tables id l found = locale_found tables id l found
+
+pub language_is : (tables : TableSet) (id : List ℕ) (l : Language) → language_of tables id ≡ Some l → (l.code ≡ id) × (language_of tables l.code ≡ Some l)
+language_is tables id l found = language_found tables id l found
+
+pub locale_accepted : (tables : TableSet) (id : List ℕ) (l : NamedLocale) → locale_of tables id ≡ Some l → first_refusal ((not ((notations_of tables).knows_locale id), InvalidLocale) ∷ []) ≡ None
+locale_accepted tables id l found = rw (knows_locale_is tables id ∙ ap is_some found) refl
+
+pub language_accepted : (tables : TableSet) (id : List ℕ) (l : Language) → language_of tables id ≡ Some l → first_refusal ((not ((notations_of tables).knows_language id), InvalidLanguage) ∷ []) ≡ None
+language_accepted tables id l found = rw (knows_language_is tables id ∙ ap is_some found) refl
+
+pub locale_unknown : (tables : TableSet) (id : List ℕ) → locale_of tables id ≡ None → first_refusal ((not ((notations_of tables).knows_locale id), InvalidLocale) ∷ []) ≡ Some InvalidLocale
+locale_unknown tables id none = rw (knows_locale_is tables id ∙ ap is_some none) refl
+
+pub language_unknown : (tables : TableSet) (id : List ℕ) → language_of tables id ≡ None → first_refusal ((not ((notations_of tables).knows_language id), InvalidLanguage) ∷ []) ≡ Some InvalidLanguage
+language_unknown tables id none = rw (knows_language_is tables id ∙ ap is_some none) refl
+
+-- ---- changes of the sheets
+
+module _ (name : List ℕ) (ws : List Worksheet) (locale : NamedLocale) (language : Language) (zone created : List ℕ) (tables : TableSet) (h : IsHeld name ws locale language zone created tables) where
+  abbrev book : Book
+  book = held name ws locale language zone created tables
+
+  abbrev pub after : List Worksheet → Book
+  after now = held name now locale language zone created tables
+
+  abbrev n : Notations
+  n = notations_in book
+
+  are : AreNotations (notations_in book)
+  are = notations_are tables h.valid.tables
+
+  pub notations : AreNotations (notations_in book)
+  notations = are
+
+  pub greatest_is : greatest (map (λ (s : Worksheet). s.id) ws) ≡ greatest_id (core_of book)
+  greatest_is = ap greatest (seen_ids ws ∙ sym (append-nil _))
+
+  pub fresh_above : (id : ℕ) → fresh_id (core_of book) ≡ Some id → greatest (map (λ (s : Worksheet). s.id) ws) < id
+  fresh_above id e = let g = fresh_is _ (greatest_id (core_of book)) id e in let same = greatest_is in omega (arith, g, same)
+
+  -- the same with other sheets
+  pub held_after : (now : List Worksheet) (becomes : Book) → after now ≡ becomes → IsValidBook becomes → IsHeld name now locale language zone created tables
+  held_after now becomes e valid = record { valid = subst IsValidBook (sym e) valid; locale_found = h.locale_found; language_found = h.language_found }
+
+  of_sheets : (now : List Worksheet) (sheets : List BookSheet) → sheets_of now ≡ sheets → after now ≡ record book { sheets = sheets }
+  of_sheets now sheets e = ap (λ (sheets : List BookSheet). let b : Book = record book { sheets = sheets } in b) e
+
+  module _ (now : List Worksheet) where
+    pub added : (called : List ℕ) (id : ℕ) → add_sheet_refusal (core_of book) called ≡ None → fresh_id (core_of book) ≡ Some id
+        → sheets_of now ≡ map (changed_pool (sheet_named id called)) (sheets_of ws) ++ record { id = id; name = called; pool = []; cells = [] } ∷ [] → after now ≡ book_changed_by (with_added_sheet called) book
+    added called id none fresh e =
+        of_sheets now _ e
+        ∙ sym (added_is n are book h.valid.core h.valid.pools refl called id (none_holds (add_sheet_causes (core_of book) called) none).1.0 (fresh_is _ (greatest_id (core_of book)) id fresh))
+
+    pub renamed : (index : ℕ) (called : List ℕ) (s : Worksheet) → rename_refusal (core_of book) index called ≡ None → slice_get ws index ≡ Some s
+        → sheets_of now ≡ updated_at (λ s. record s { name = called }) index (map (changed_pool (sheet_named s.id called)) (sheets_of ws)) → after now ≡ book_changed_by (with_renamed_sheet index called) book
+    renamed index called s none at e =
+        of_sheets now _ e
+        ∙ sym (renamed_is n are book h.valid.core h.valid.pools refl index called (sheet_of s) (slice_get-map sheet_of ws index ∙ ap (option_map sheet_of) at) (none_holds (rename_causes (core_of book) index called) none).1.0)
+
+    pub removed : (index : ℕ) (s : Worksheet) → slice_get ws index ≡ Some s → sheets_of now ≡ remove (map (changed_pool (sheet_gone s.id s.name)) (sheets_of ws)) index → after now ≡ book_changed_by (with_removed_sheet index) book
+    removed index s at e =
+        of_sheets now _ e
+        ∙ sym (removed_is n are book h.valid.core h.valid.pools refl index (sheet_of s) (slice_get-map sheet_of ws index ∙ ap (option_map sheet_of) at))
+
+    pub put : (from to : ℕ) → now ≡ moved from to ws → after now ≡ with_moved_sheet from to book
+    put from to e = of_sheets now _ (ap sheets_of e ∙ moved-map sheet_of from to ws)
+
+  pub binds_added : (called : List ℕ) → add_sheet_refusal (core_of book) called ≡ None
+      → changed_by n (with_new_sheet called) (core_of book) ≡ with_sheet_at_end (greatest_id (core_of book) + 1) called (with_trees (changed_tree (sheet_named (greatest_id (core_of book) + 1) called)) (core_of book))
+  binds_added called none = add_binds n (core_of book) _ called [] are h.valid.core (ap (λ r. unless_refused r (changed_by n (with_new_sheet called) (core_of book)) []) none)
+
+  pub keeps_renamed : (index : ℕ) (called : List ℕ) → rename_refusal (core_of book) index called ≡ None → BookKeepsFound (core_of book) (changed_by n (with_sheet_name index called) (core_of book))
+  keeps_renamed index called none = rename_keeps n (core_of book) _ index called [] are h.valid.core (ap (λ r. unless_refused r (changed_by n (with_sheet_name index called) (core_of book)) []) none)
+
+  pub binds_renamed : (index : ℕ) (called : List ℕ) (sheet : Sheet) → rename_refusal (core_of book) index called ≡ None → slice_get (core_of book).sheets index ≡ Some sheet
+      → changed_by n (with_sheet_name index called) (core_of book) ≡ with_sheet_name index called (with_trees (changed_tree (sheet_named sheet.id called)) (core_of book))
+  binds_renamed index called sheet none at = rename_binds n (core_of book) _ index called sheet [] are h.valid.core at (ap (λ r. unless_refused r (changed_by n (with_sheet_name index called) (core_of book)) []) none)
+
+  pub dangles_removed : (index : ℕ) (sheet : Sheet) → delete_refusal (core_of book) index ≡ None → slice_get (core_of book).sheets index ≡ Some sheet
+      → changed_by n (without_sheet index) (core_of book) ≡ without_sheet index (with_trees (changed_tree (sheet_gone sheet.id sheet.name)) (core_of book))
+  dangles_removed index sheet none at = delete_dangles n (core_of book) _ index sheet [] are h.valid.core at (ap (λ r. unless_refused r (changed_by n (without_sheet index) (core_of book)) []) none)
+
+  pub keeps_moved : (from to : ℕ) → move_refusal (core_of book) from to ≡ None → IsMoved from to (core_of book) (record (core_of book) { sheets = moved from to (core_of book).sheets })
+  keeps_moved from to none = move_keeps n (core_of book) _ from to [] h.valid.core (ap (λ r. unless_refused r (record (core_of book) { sheets = moved from to (core_of book).sheets }) []) none)
+
+  -- ---- formulas
+
+  module _ (index : ℕ) (s : Worksheet) where
+    in_book : slice_get ws index ≡ Some s → slice_get book.sheets index ≡ Some (sheet_of s)
+    in_book at = slice_get-map sheet_of ws index ∙ ap (option_map sheet_of) at
+
+    pub places_of : slice_get ws index ≡ Some s → AllByRecursion (λ (cell : CellPlace × ℕ). cell.1 < length s.pool.formulas) s.cells
+    places_of at = (one_of_all (IsValidPool n (scene_in book)) index book.sheets (sheet_of s) (in_book at) h.valid.pools).places
+
+    -- a formula that it keeps is settled there
+    pub pooled_at : slice_get ws index ≡ Some s → (place : ℕ) (formula : Formula) → slice_get s.pool.formulas place ≡ Some formula → IfSome (slice_get book.sheets index) (λ s. IsPooled n (scene_in book) (Some s.id) formula)
+    pooled_at at place formula there =
+        subst (λ o. IfSome o (λ (s : BookSheet). IsPooled n (scene_in book) (Some s.id) formula)) (sym (in_book at))
+        (one_of_all (IsPooled n (scene_in book) (Some s.id)) place s.pool.formulas formula there (one_of_all (IsValidPool n (scene_in book)) index book.sheets (sheet_of s) (in_book at) h.valid.pools).formulas)
+
+    -- the same of what is lent of its pool
+    pub pooled_of : (lent : Option (Bor Formula)) (place : ℕ) → slice_get ws index ≡ Some s → option_map (λ f. f.now) lent ≡ slice_get s.pool.formulas place → IfSome lent (λ f. IfSome (slice_get book.sheets index) (λ s. IsPooled n (scene_in book) (Some s.id) f.now))
+    pooled_of None place at e = tt
+    pooled_of (Some f) place at e = pooled_at at place f.now (sym e)
+
+    pub formula_in_pool : (place : ℕ) → slice_get ws index ≡ Some s → slice_get s.pool.formulas place ≡ option_and_then (λ (s : BookSheet). slice_get s.pool place) (slice_get book.sheets index)
+    formula_in_pool place at = sym (ap (option_and_then (λ (s : BookSheet). slice_get s.pool place)) (in_book at))
+
+    pub formula_of_is : (row column : ℤ) → slice_get ws index ≡ Some s → formula_of (core_of book) index row column ≡ formula_at (cells_of s.pool.formulas s.cells) row column
+    formula_of_is row column at =
+        ap (option_and_then (λ (sheet : Sheet). formula_at sheet.cells row column)) (slice_get-map sheet_core book.sheets index ∙ ap (option_map sheet_core) (in_book at))
+
+  pub pool_at_is : (index : ℕ) → sheets.pool_at ws index ≡ pool_at book index
+  pool_at_is index = ap (λ o. unwrap_or o []) (sym (ap (option_map (λ (s : BookSheet). s.pool)) (slice_get-map sheet_of ws index) ∙ option_map-twice sheet_of (λ (s : BookSheet). s.pool) (slice_get ws index)))
+
+  module _ (now : List Worksheet) (index : ℕ) where
+    pub placed : (pool : List Formula) → now ≡ updated_at (λ s. record s { pool = record { formulas = pool; is_whole = true } }) index ws → after now ≡ with_pool index pool book
+    placed pool e = of_sheets now _ (ap sheets_of e ∙ updated_seen sheet_of (λ s. record s { pool = record { formulas = pool; is_whole = true } }) (λ s. record s { pool = pool }) (λ s. refl) index ws)
+
+    module _ (s : Worksheet) (at : slice_get ws index ≡ Some s) (formula : Formula) (place : ℕ) (pool : List Formula) (is_placed : IsPlaced formula place (sheets.pool_at ws index) pool) where
+      there : IsPlaced formula place s.pool.formulas pool
+      there = subst (λ o. IsPlaced formula place (unwrap_or (option_map (λ (s : Worksheet). s.pool.formulas) o) []) pool) at is_placed
+
+      pub placed_core : now ≡ updated_at (λ s. record s { pool = record { formulas = pool; is_whole = true } }) index ws → core_of (after now) ≡ core_of book
+      placed_core e = ap core_of (placed pool e) ∙ core_of-pool n book index (sheet_of s) (in_book index s at) formula place pool there h.valid.pools
+
+      pub placed_held : now ≡ updated_at (λ s. record s { pool = record { formulas = pool; is_whole = true } }) index ws → IsPooled n (scene_in book) (Some s.id) formula → IsHeld name now locale language zone created tables
+      placed_held e pooled = held_after now (with_pool index pool book) (placed pool e) (placed_valid book h.valid index (sheet_of s) (in_book index s at) place pool formula there pooled)
+
+  pub present : (index : ℕ) (row column : ℤ) (text : List ℕ) → update_refusal (core_of book) index row column text ≡ None → lacks_sheet (core_of book) index ≡ false
+  present index row column text none = (none_holds (update_causes (core_of book) index row column text) none).0
+
+  module _ (now : List Worksheet) (index : ℕ) (s : Worksheet) (at : slice_get ws index ≡ Some s) (row column : ℤ) (text : List ℕ) (formula : Formula) (place : ℕ) (pool : List Formula)
+      (is_placed : IsPlaced formula place (sheets.pool_at ws index) pool) (is : formula ≡ cell_formula n (core_of book) s.id row column (without_equals text))
+      (e : now ≡ updated_at (λ s. record s { pool = record { formulas = pool; is_whole = true }; cells = insert_entry place_cmp s.cells (row, column) place }) index ws)
+    where
+      pub written : after now ≡ with_cell index pool row column place book
+      written =
+          of_sheets now _
+          (ap sheets_of e
+          ∙ updated_seen sheet_of (λ s. record s { pool = record { formulas = pool; is_whole = true }; cells = insert_entry place_cmp s.cells (row, column) place }) (λ s. record s { pool = pool; cells = insert_entry place_cmp s.cells (row, column) place }) (λ s. refl) index ws)
+
+      pub written_there : IsPlaced (cell_formula n (core_of book) s.id row column (without_equals text)) place s.pool.formulas pool
+      written_there = subst (λ f. IsPlaced f place s.pool.formulas pool) is (there now index s at formula place pool is_placed)
+
+      pub written_core : core_of (after now) ≡ record (core_of book) { sheets = updated_at (with_formula n (core_of book) row column (without_equals text)) index (core_of book).sheets }
+      written_core =
+          ap core_of written
+          ∙ core_of-cell n book index (sheet_of s) (in_book index s at) (cell_formula n (core_of book) s.id row column (without_equals text)) place pool written_there h.valid.pools row column (λ id. cell_formula n (core_of book) id row column (without_equals text)) refl
+
+      pub written_held : update_refusal (core_of book) index row column text ≡ None → IsHeld name now locale language zone created tables
+      written_held none = held_after now (with_cell index pool row column place book) written (written_valid book h.valid index (sheet_of s) (in_book index s at) place pool row column text none written_there)

@@ -1,0 +1,60 @@
+-- The start of a book, and small facts of its calls.
+use Rattle.std.proofs.Common.{◌≡◌, ℕ, ◌+◌, ◌^◌, ◌<◌, ◌≤◌, ◌++◌, List, true, false, Option, Some, None, SomeIff, IfSome, is_some, is_err, option_map, Result, Ok, Err, MatchResult, All, codes, bytes_eq, refl, arith, if◌then◌else◌}
+use Rattle.std.proofs.lemmas.List.Elements.{All-weaker}
+use Rattle.ic_laws.specs.Name.{is_sheet_name}
+use Rattle.ic_laws.specs.Greatest.{greatest}
+use Rattle.ic_laws.proofs.CoreLemmas.{All-greatest}
+use Rattle.ic_laws.proofs.core.SheetAdded.{one_sheet_valid}
+use Rattle.ic_tables.specs.Tables.{IsWellFormed, TableSet, locale_of, language_of, lists_zone}
+use Rattle.ic_tree.specs.Notations.{notations_of}
+use Rattle.ic_book.specs.Book.{IsValidBook, first_sheet_name_in, new_book}
+
+-- the name of a new book's sheet is a sheet name
+pub first_name_is_good : (language : List ℕ) → is_sheet_name (first_sheet_name_in language) ≡ true
+first_name_is_good language =
+    elim (bytes_eq language (codes "es")) as (λ b. is_sheet_name ((if b then codes "Hoja" else rest) ++ codes "1") ≡ true) [
+      | true ↦ refl
+      | false ↦
+          elim (bytes_eq language (codes "fr")) as (λ b. is_sheet_name ((if b then codes "Feuil" else more) ++ codes "1") ≡ true) [
+            | true ↦ refl
+            | false ↦
+                elim (bytes_eq language (codes "de")) as (λ b. is_sheet_name ((if b then codes "Tabelle" else last) ++ codes "1") ≡ true) [
+                  | true ↦ refl
+                  | false ↦
+                      elim (bytes_eq language (codes "it")) as (λ b. is_sheet_name ((if b then codes "Foglio" else codes "Sheet") ++ codes "1") ≡ true) [ true ↦ refl | false ↦ refl ]
+                ]
+          ]
+    ]
+  where
+    last : List ℕ
+    last = if bytes_eq language (codes "it") then codes "Foglio" else codes "Sheet"
+
+    more : List ℕ
+    more = if bytes_eq language (codes "de") then codes "Tabelle" else last
+
+    rest : List ℕ
+    rest = if bytes_eq language (codes "fr") then codes "Feuil" else more
+
+-- a new book is valid where the tables have its locale, language and zone
+pub new_book_valid : (name locale zone language created : List ℕ) (tables : TableSet) → is_some (locale_of tables locale) ≡ true → is_some (language_of tables language) ≡ true → lists_zone tables zone ≡ true → IsWellFormed tables → IsValidBook (new_book name locale zone language created tables)
+unfolding notations_of
+new_book_valid name locale zone language created tables l g z well = record {
+  core = one_sheet_valid (notations_of tables) (first_sheet_name_in language) locale language (first_name_is_good language) l g;
+  pools = (record { formulas = tt; places = tt }, tt);
+  zone = z;
+  tables = well;
+}
+
+-- a number one above the greatest id in use is above each
+pub above_all : (r : Option ℕ) (g : ℕ) (ids : List ℕ) → SomeIff r (g + 1 < 2 ^ 32) (g + 1) → g ≡ greatest ids → IfSome r (λ id. All (λ used. used < id) ids)
+above_all None g ids s e = tt
+above_all (Some id) g ids s e = All-weaker (λ n. n ≤ greatest ids) (λ n. n < id) (λ n h. omega (arith, h, s.1, e)) ids (All-greatest ids)
+
+-- what an answer that is no error tells
+pub not_err : {T E R : Type 0} (r : Result T E) (P : T → Type 0) (Q : E → Type 0) → MatchResult r P Q → is_err r ≡ false → ((x : T) → P x → R) → R
+not_err (Ok x) P Q h e f = f x h
+not_err (Err x) P Q h e f = cc
+
+pub is_some-mapped : {A B : Type 0} (f : A → B) (o : Option A) (b : B) → option_map f o ≡ Some b → is_some o ≡ true
+is_some-mapped f None b e = cc
+is_some-mapped f (Some a) b e = refl

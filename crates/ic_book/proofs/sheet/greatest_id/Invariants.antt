@@ -1,8 +1,0 @@
-use Rattle.std.proofs.Common.{◌≡◌, map, drop, max}
-use Rattle.ic_laws.specs.Greatest.{greatest}
-use Rattle.ic_book.specs.Sheets.{sheets_of}
-use Rattle.ic_book.proofs.sheet.greatest_id.Given as goal
-
--- the greatest so far and those of what is left are those of all
-abbrev pub invariant-loop-sheet : goal.invariant-loop-sheet
-invariant-loop-sheet l = max l.most (greatest (map (λ s. s.id) (sheets_of (drop l.sheet-index l.sheets)))) ≡ greatest (map (λ s. s.id) (sheets_of l.sheets))

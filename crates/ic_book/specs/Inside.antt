@@ -1,0 +1,31 @@
+-- What a model keeps, as contracts see it, and what always holds of that.
+use Rattle.std.specs.Prelude.{◌≡◌, ℕ, List, [], map, Some}
+use Rattle.ic_tables.specs.Tables.{TableSet, language_of, locale_of}
+use Rattle.ic_tables.specs.declared.language.Language.{Language}
+use Rattle.ic_tables.specs.declared.locale.NamedLocale.{NamedLocale}
+use Rattle.ic_sheets.specs.Sheet.{sheet_of}
+use Rattle.ic_sheets.specs.declared.sheet.Worksheet.{Worksheet}
+use Rattle.ic_book.specs.Book.{Book, IsValidBook, ModelState}
+
+module _ (name : List ℕ) (sheets : List Worksheet) (locale : NamedLocale) (language : Language) (zone created : List ℕ) (tables : TableSet) where
+  -- the book that it holds; it has no definitions yet
+  abbrev pub held : Book
+  held = record {
+    name = name;
+    sheets = map sheet_of sheets;
+    definitions = [];
+    locale = locale.id;
+    language = language.code;
+    zone = zone;
+    created = created;
+    tables = tables;
+  }
+
+  abbrev pub held_state : ModelState
+  held_state = record { book = held; has_all = map (λ s. s.pool.is_whole) sheets }
+
+  -- the book is valid, and the locale and the language are entries of its tables
+  pub record IsHeld : Type 0 where
+    pub valid : IsValidBook held
+    pub locale_found : locale_of tables locale.id ≡ Some locale
+    pub language_found : language_of tables language.code ≡ Some language

@@ -1,0 +1,246 @@
+ghost use Rattle.std.specs.Prelude.{◌≡◌, ◌+◌, ◌≤◌, ◌<◌, List, [], ◌∷◌, ℤ, ℕ, Some, true, false, chars, length, option_map, string_bytes, IfOk, IfSome, OnErr, OnOk, MatchOption, ◌++◌, codes};
+ghost use Rattle.std.specs.List.{AllByRecursion, slice_get};
+ghost use Rattle.ic_laws.specs.Binding.{bound};
+ghost use Rattle.ic_laws.specs.Character.{equals};
+ghost use Rattle.ic_laws.specs.CoreBook.{CellPlace, formula_at};
+ghost use Rattle.ic_laws.specs.CoreStep.{formula_of, lacks_sheet, update_refusal, updated_at, with_formula};
+ghost use Rattle.ic_laws.specs.FormulaReading.{cell_formula, cell_tree, is_formula_text, shown_at, shown_formula, without_equals};
+ghost use Rattle.ic_laws.specs.Notations.{english_function};
+ghost use Rattle.ic_laws.specs.ReadAs.{read_as};
+ghost use Rattle.ic_laws.specs.Refusal.{InvalidSheet, Refusal, first_refusal};
+ghost use Rattle.ic_laws.specs.Tree as trees;
+ghost use Rattle.ic_laws.specs.ValidCore.{IsPooled};
+ghost use Rattle.ic_laws.specs.declared.tree.Formula as kept;
+ghost use Rattle.ic_pool.specs.Pool.{IsPlaced};
+ghost use Rattle.ic_sheets.specs.Sheet.{cells_of};
+ghost use Rattle.ic_book.specs.Book.{IsSameBeside, core_of, notations_in, scene_in};
+ghost use Rattle.ic_book.specs.Refused.{Refuses, RefusesOnly};
+ghost use Rattle.ic_book.specs.Written.{pool_at, with_cell, with_pool};
+
+use crate::scene::BookScene;
+use crate::{BookError, Model};
+use ic_laws::scan::{first_char, push_char, push_text};
+use ic_laws::{Bound, Dialect, Formula, LAST_COLUMN, LAST_ROW, OutOfMemory, Spelled, Text};
+use ic_pool::Steps;
+use ic_sheets::Worksheet;
+use ic_tree::{Shown, bind, print, read, spell};
+use std::alloc::Global;
+use std::sync::ledger::Ledger;
+
+impl<'a> Model<'a> {
+    /// Writes a formula into the cell at a row and a column, both from 1, of the sheet at an index, from 0. The text is
+    /// `=` and a formula in the notation in force; where it doesn't read, it is read with a `)` added, and else kept as it
+    /// is. Sheets that it names are found now, and found again under every later name.
+    ///
+    /// `InvalidSheet`, `InvalidRow`, `InvalidColumn`, `NotAFormula` (the text doesn't begin with `=`, or is `=` alone), in
+    /// this order, each exactly where it holds; `OutOfMemory` only where none of them does. An error leaves the book, and a
+    /// refusal all that a model is.
+    pub fn update_cell_with_formula(
+        &mut self,
+        sheet: u32,
+        row: i32,
+        column: i32,
+        formula: String,
+    ) -> Result<(), BookError>
+        // The machine's step: the cell has the formula of the text, and all else of the core is as it was.
+        ensures core { OnOk result (core_of self.new.book ≡ record (core_of self.old.book) {
+          sheets = updated_at (with_formula (notations_in self.old.book) (core_of self.old.book) row column (without_equals (chars (string_bytes formula)))) sheet (core_of self.old.book).sheets;
+        }) }
+
+        // The formula stands in the pool of its sheet at its first place, or was put at the end; the rest of the book is
+        // as it was.
+        ensures written { OnOk result (IfSome (slice_get self.old.book.sheets sheet) (λ s. (pool : List kept.Formula) × (place : ℕ)
+            × IsPlaced (cell_formula (notations_in self.old.book) (core_of self.old.book) s.id row column (without_equals (chars (string_bytes formula)))) place s.pool pool
+            × (self.new.book ≡ with_cell sheet pool row column place self.old.book))) }
+        ensures beside { OnOk result (IsSameBeside self.old.book self.new.book) }
+        ensures looks_up { OnOk result (self.new.has_all ≡ updated_at (λ _. true) sheet self.old.has_all) }
+        ensures whole { OnOk result (slice_get self.new.has_all sheet ≡ Some true) }
+        ensures refused { Refuses result (update_refusal (core_of self.old.book) sheet row column (chars (string_bytes formula))) }
+        ensures untouched { (refusal : Refusal) → update_refusal (core_of self.old.book) sheet row column (chars (string_bytes formula)) ≡ Some refusal → self.new ≡ self.old }
+        ensures err { OnErr result (self.new.book ≡ self.old.book) }
+    {
+        let body = self.body_to_write(sheet, row, column, formula.as_str())?;
+        let id = self.sheets.as_slice()[sheet as usize].id;
+        let formula = self.formula_of(id, row, column, body)?;
+        self.sheets.write(sheet as usize, row, column, formula)?;
+        Ok(())
+    }
+
+    /// What is shown of the formula in the cell at a row and a column, both from 1, of the sheet at an index, from 0: `=`
+    /// and the formula with the names that things have now, in the notation in force; a text that didn't read as it was
+    /// typed. None exactly where the cell has no formula, also outside the sheet.
+    ///
+    /// `InvalidSheet` exactly where no sheet stands at the index.
+    pub fn get_cell_formula(
+        &self,
+        sheet: u32,
+        row: i32,
+        column: i32,
+    ) -> Result<Option<String>, BookError>
+        ensures shown { IfOk result (λ text. option_map (λ s. chars (string_bytes s)) text
+            ≡ option_map (λ f. equals ∷ shown_formula (notations_in self.now.book) (core_of self.now.book) row column f) (formula_of (core_of self.now.book) sheet row column)) }
+        ensures refused { Refuses result (first_refusal ((lacks_sheet (core_of self.now.book) sheet, InvalidSheet) ∷ [])) }
+    {
+        let Some(worksheet) = self.sheets.as_slice().get(sheet as usize) else {
+            return Err(BookError::InvalidSheet);
+        };
+        let Some(formula) = formula_at(worksheet, row, column) else {
+            return Ok(None);
+        };
+        Ok(Some(self.show(row, column, formula)?))
+    }
+
+    /// The place of a formula among those that the sheet at an index keeps, both from 0: the first place of an equal one;
+    /// where there is none, a copy is put at the end. Where the look-up of that sheet's formulas has all of them, it takes
+    /// no step; otherwise it is made anew, in one step for each formula, and has all of them from then on.
+    ///
+    /// The formula is a text that didn't read, or a tree that is well-formed, whose functions are those of the tables, and
+    /// which written out and bound again for that sheet is the same.
+    ///
+    /// `InvalidSheet` exactly where no sheet stands at the index. An error leaves the book.
+    pub fn shared_formula_index<L: Ledger>(
+        &mut self,
+        sheet: u32,
+        tree: &Formula,
+        steps: &mut Steps<L>,
+    ) -> Result<usize, BookError>
+        requires { IfSome (slice_get self.old.book.sheets sheet) (λ s. IsPooled (notations_in self.old.book) (scene_in self.old.book) (Some s.id) tree.now) }
+        ensures placed { IfOk result (λ at. (pool : List kept.Formula) × IsPlaced tree.now at (pool_at self.old.book sheet) pool × (self.new.book ≡ with_pool sheet pool self.old.book)) }
+        ensures core { core_of self.new.book ≡ core_of self.old.book }
+        ensures looks_up { OnOk result (self.new.has_all ≡ updated_at (λ _. true) sheet self.old.has_all) }
+        ensures whole { OnOk result (slice_get self.new.has_all sheet ≡ Some true) }
+        ensures still { slice_get self.old.has_all sheet ≡ Some true → steps.new ≡ steps.old }
+        ensures cost { steps.new ≤ steps.old + length (pool_at self.old.book sheet) }
+        ensures grows { steps.old ≤ steps.new }
+        ensures refused { Refuses result (first_refusal ((lacks_sheet (core_of self.old.book) sheet, InvalidSheet) ∷ [])) }
+        ensures untouched { (refusal : Refusal) → first_refusal ((lacks_sheet (core_of self.old.book) sheet, InvalidSheet) ∷ []) ≡ Some refusal → self.new ≡ self.old }
+        ensures err { OnErr result (self.new.book ≡ self.old.book) }
+    {
+        if sheet as usize >= self.sheets.len() {
+            return Err(BookError::InvalidSheet);
+        }
+        Ok(self.sheets.place_copy(sheet as usize, tree, steps)?)
+    }
+
+    /// What stands after `=` in a text that may be written into a cell.
+    fn body_to_write<'t>(
+        &self,
+        sheet: u32,
+        row: i32,
+        column: i32,
+        text: &'t str,
+    ) -> Result<&'t str, BookError>
+        ensures body { IfOk result (λ body. chars body.now ≡ without_equals (chars text.now)) }
+        ensures refused { RefusesOnly result (update_refusal (core_of self.now.book) sheet row column (chars text.now)) }
+    {
+        if sheet as usize >= self.sheets.len() {
+            return Err(BookError::InvalidSheet);
+        }
+        if row < 1 || row > LAST_ROW {
+            return Err(BookError::InvalidRow);
+        }
+        if column < 1 || column > LAST_COLUMN {
+            return Err(BookError::InvalidColumn);
+        }
+        match after_equals(text) {
+            Some(body) => Ok(body),
+            None => Err(BookError::NotAFormula),
+        }
+    }
+
+    /// The formula of a text in a cell of the sheet with this id.
+    fn formula_of(&self, id: u32, row: i32, column: i32, body: &str) -> Result<Formula, OutOfMemory>
+        ensures { IfOk result (λ f. f ≡ cell_formula (notations_in self.now.book) (core_of self.now.book) id row column (chars body.now)) }
+    {
+        match read_cell(self.alloc, &self.shown(row, column), body)? {
+            Some(tree) => Ok(Formula::Tree(self.bound(id, &tree)?)),
+            None => Ok(Formula::Raw(Text::from_str(self.alloc, body)?)),
+        }
+    }
+
+    /// A formula of the sheet with this id, bound to what it finds in the book.
+    fn bound(&self, id: u32, tree: &Spelled) -> Result<Bound, OutOfMemory>
+        ensures { IfOk result (λ t. t ≡ bound (english_function (notations_in self.now.book)) (scene_in self.now.book) (Some id) tree.now) }
+    {
+        let english = self.tables.get_default_language();
+        bind(
+            self.alloc,
+            &BookScene::new(&self.sheets),
+            english,
+            Some(id),
+            tree,
+        )
+    }
+
+    /// How formulas are written now, in the cell at a row and a column.
+    fn shown(&self, row: i32, column: i32) -> Shown<'a>
+        ensures { ⟦<Shown<'a> as Dialect>⟧.meaning result ≡ shown_at (notations_in self.now.book) (core_of self.now.book) row column }
+    {
+        Shown::new(self.tables, &self.locale.locale, self.language, row, column)
+    }
+
+    /// `=` and a formula as it is shown in the cell at a row and a column.
+    fn show(&self, row: i32, column: i32, formula: &Formula) -> Result<String, OutOfMemory>
+        ensures { IfOk result (λ text. chars (string_bytes text) ≡ equals ∷ shown_formula (notations_in self.now.book) (core_of self.now.book) row column formula.now) }
+    {
+        match formula {
+            Formula::Tree(tree) => {
+                let spelled = spell(self.alloc, &BookScene::new(&self.sheets), tree)?;
+                let text = print(self.alloc, &self.shown(row, column), &spelled)?;
+                after_sign(self.alloc, text.as_str())
+            }
+            Formula::Raw(text) => after_sign(self.alloc, text.as_str()),
+        }
+    }
+}
+
+/// What stands after `=` in a text that is `=` and something after it; None for every other text.
+fn after_equals(text: &str) -> Option<&str>
+    ensures { MatchOption result (is_formula_text (chars text.now) ≡ false) (λ body. (is_formula_text (chars text.now) ≡ true) × (chars body.now ≡ without_equals (chars text.now))) }
+{
+    let (first, body) = first_char(text)?;
+    if first != '=' {
+        return None;
+    }
+    first_char(body)?;
+    Some(body)
+}
+
+/// The tree of a text in a cell: as it stands, or else with a `)` added.
+fn read_cell<D: Dialect>(alloc: Global, d: &D, text: &str) -> Result<Option<Spelled>, OutOfMemory>
+    ensures { IfOk result (λ t. t ≡ cell_tree (D.meaning d.now) (chars text.now)) }
+{
+    match read(alloc, d, text)? {
+        Some(tree) => Ok(Some(tree)),
+        None => read_closed(alloc, d, text),
+    }
+}
+
+/// The tree of a text with a `)` added.
+fn read_closed<D: Dialect>(alloc: Global, d: &D, text: &str) -> Result<Option<Spelled>, OutOfMemory>
+    ensures { IfOk result (λ t. t ≡ read_as (D.meaning d.now) (chars text.now ++ codes ")")) }
+{
+    let mut closed = String::with_capacity(alloc, text.len())?;
+    push_text(&mut closed, text)?;
+    push_char(&mut closed, ')')?;
+    read(alloc, d, closed.as_str())
+}
+
+/// The formula in a cell of a sheet.
+fn formula_at(worksheet: &Worksheet, row: i32, column: i32) -> Option<&Formula>
+    requires { AllByRecursion (λ (cell : CellPlace × ℕ). cell.1 < length worksheet.now.pool.formulas) worksheet.now.cells }
+    ensures { option_map (λ f. f.now) result ≡ formula_at (cells_of worksheet.now.pool.formulas worksheet.now.cells) row column }
+{
+    let place = worksheet.cells.place_at(row, column)?;
+    worksheet.pool.get(place)
+}
+
+/// A text after `=`.
+fn after_sign(alloc: Global, text: &str) -> Result<String, OutOfMemory>
+    ensures { IfOk result (λ s. chars (string_bytes s) ≡ equals ∷ chars text.now) }
+{
+    let mut out = String::with_capacity(alloc, text.len())?;
+    push_char(&mut out, '=')?;
+    push_text(&mut out, text)?;
+    Ok(out)
+}

@@ -1,0 +1,108 @@
+-- A call's answer is a step of the machine.
+use Rattle.std.proofs.Common.{◌≡◌, ℕ, ℤ, List, [], ◌∷◌, ◌++◌, Option, Some, None, Result, Ok, Err, OnErr, OnOk, IfSome, option_map, refl, sym, ap, subst, ◌∙◌}
+use Rattle.std.specs.Option.{option_to_list}
+use Rattle.ic_laws.specs.Character.{equals}
+use Rattle.ic_laws.specs.Command.{Command, Field, GetCellFormula, TextField}
+use Rattle.ic_laws.specs.CoreBook.{CoreBook}
+use Rattle.ic_laws.specs.CoreStep.{formula_of, lacks_sheet, shown_field, unless_refused}
+use Rattle.ic_laws.specs.FormulaReading.{shown_formula}
+use Rattle.ic_laws.specs.Lines.{command_step, outcome_of, reply_bytes, reply_text}
+use Rattle.ic_laws.specs.Refusal.{InvalidSheet, Refusal, SheetNotFound, first_refusal}
+use Rattle.ic_book.specs.Book.{Book, IsSameBeside, ModelState, StepsTo, core_of, notations_in}
+use Rattle.ic_book.specs.Refused.{Refuses, RefusesOnly, refusal_at, refusal_of}
+use Rattle.ic_book.specs.declared.error.BookError.{BookError}
+use Rattle.ic_commands.specs.Answered.{IsAnswered, IsLineText, IsTold}
+use Rattle.ic_commands.proofs.ReplyLemmas.{ok_line, refusal_line}
+use Rattle.ic_commands.proofs.StepLemmas.{Done, shows}
+
+-- a book that is another stands beside what that stands beside
+pub beside_same : (old new book : Book) → new ≡ book → IsSameBeside old book → IsSameBeside old new
+beside_same old new book e h = subst (IsSameBeside old) (sym e) h
+
+pub only_refuses : {T : Type 0} (done : Result T BookError) (refusal : Option Refusal) → RefusesOnly done refusal → Refuses done refusal
+only_refuses (Ok value) refusal h = h
+only_refuses (Err e) refusal h = h.2 ∙ sym h.1
+
+-- after an error that is want of memory all is as before
+pub as_before : {T E U : Type 0} (X : Type 0) (result : Result T E) (done : Result U BookError) (e : BookError) → OnErr result (done ≡ Err e) → OnErr done X → OnErr result X
+as_before X (Ok value) done e h x = tt
+as_before X (Err none) done e h x = subst (λ d. OnErr d X) h x
+
+module _ (command : Command) (old new : Book) (before text : List ℕ) where
+  refused : (refusal : Refusal) → command_step (notations_in old) (core_of old) (Some command) ≡ (core_of old, Err refusal) → new ≡ old → text ≡ before ++ reply_bytes (Err refusal) → IsAnswered command old new before text
+  refused refusal step same told = record {
+    book = subst (λ s. StepsTo old new s.0) (sym step) (record { core = ap core_of same; beside = beside_same old new old same (record { name = refl; zone = refl; created = refl; tables = refl }) });
+    reply = told ∙ ap (λ s. before ++ reply_bytes s.1) (sym step);
+    line = subst (λ s. IsLineText (reply_text s.1)) (sym step) (refusal_line refusal);
+  }
+
+  -- by an error that a call tells
+  pub refused_by : (refusal : Option Refusal) (after : CoreBook) (fields : List Field) (e : BookError) → Done (notations_in old) (core_of old) command refusal after fields → refusal ≡ refusal_of e → new ≡ old → IsTold (Err e) before text → IsAnswered command old new before text
+  refused_by refusal after fields e step some same told = refused told.0 (step ∙ ap (λ r. outcome_of (core_of old) (unless_refused r after fields)) (some ∙ told.1)) same told.2
+
+  -- by what may refuse the command
+  pub answered : (refusal : Option Refusal) (after : CoreBook) (done : Result (Unit {0}) BookError) → Done (notations_in old) (core_of old) command refusal after [] → Refuses done refusal → OnOk done (StepsTo old new after) → OnErr done (new ≡ old)
+      → IsTold done before text → IsAnswered command old new before text
+  answered refusal after (Ok value) step none ok err told =
+      let is = step ∙ ap (λ r. outcome_of (core_of old) (unless_refused r after [])) none in
+      record { book = subst (λ s. StepsTo old new s.0) (sym is) ok; reply = told ∙ ap (λ s. before ++ reply_bytes s.1) (sym is); line = subst (λ s. IsLineText (reply_text s.1)) (sym is) ok_line }
+  answered refusal after (Err e) step some ok err told = refused_by refusal after [] e step some err told
+
+  -- and where the sheet is looked up first
+  pub answered_at : (o : Option ℕ) (refusal : ℕ → Option Refusal) (after : ℕ → CoreBook) (done : Result (Unit {0}) BookError)
+      → ((index : ℕ) → o ≡ Some index → Done (notations_in old) (core_of old) command (refusal index) (after index) [])
+      → (o ≡ None → command_step (notations_in old) (core_of old) (Some command) ≡ (core_of old, Err SheetNotFound))
+      → Refuses done (refusal_at o refusal) → ((index : ℕ) → o ≡ Some index → OnOk done (StepsTo old new (after index))) → OnErr done (new ≡ old) → IsTold done before text → IsAnswered command old new before text
+  answered_at (Some index) refusal after done found none refuses ok err told = answered (refusal index) (after index) done (found index refl) refuses (ok index refl) err told
+  answered_at None refusal after (Ok value) found none refuses ok err told = cc
+  answered_at None refusal after (Err e) found none refuses ok err told = refused SheetNotFound (none refl) err (told.2 ∙ ap (λ r. before ++ reply_bytes (Err r)) (same_told (sym told.1 ∙ sym refuses)))
+    where
+      same_told : {a b : Refusal} → Some a ≡ Some b → a ≡ b
+      same_told e = cc
+
+-- ---- what a call says of its book
+
+pub steps : {T : Type 0} (done : Result T BookError) (old new book : Book) (after : CoreBook) → OnOk done (new ≡ book) → OnOk done (core_of new ≡ after) → IsSameBeside old book → OnOk done (StepsTo old new after)
+steps (Ok value) old new book after is core beside = record { core = core; beside = beside_same old new book is beside }
+steps (Err e) old new book after is core beside = tt
+
+pub steps_at : {T : Type 0} (done : Result T BookError) (o : Option ℕ) (old new : Book) (book : ℕ → Book) (after : ℕ → CoreBook) → OnOk done (IfSome o (λ index. new ≡ book index)) → OnOk done (IfSome o (λ index. core_of new ≡ after index))
+    → ((index : ℕ) → IsSameBeside old (book index)) → (index : ℕ) → o ≡ Some index → OnOk done (StepsTo old new (after index))
+steps_at (Ok value) o old new book after is core beside index e =
+    record { core = subst (λ o. IfSome o (λ index. core_of new ≡ after index)) e core; beside = beside_same old new (book index) (subst (λ o. IfSome o (λ index. new ≡ book index)) e is) (beside index) }
+steps_at (Err e) o old new book after is core beside index found = tt
+
+pub steps_core : {T : Type 0} (done : Result T BookError) (old new : Book) (after : CoreBook) → OnOk done (core_of new ≡ after) → OnOk done (IsSameBeside old new) → OnOk done (StepsTo old new after)
+steps_core (Ok value) old new after core beside = record { core = core; beside = beside }
+steps_core (Err e) old new after core beside = tt
+
+pub book_kept : {T : Type 0} (done : Result T BookError) (old new : ModelState) → OnErr done (new ≡ old) → OnErr done (new.book ≡ old.book)
+book_kept (Ok value) old new same = tt
+book_kept (Err e) old new same = ap (λ m. m.book) same
+
+pub set_steps : {T : Type 0} (done : Result T BookError) (old new : ModelState) (book : Book) → OnOk done (new ≡ record old { book = book }) → IsSameBeside old.book book → OnOk done (StepsTo old.book new.book (core_of book))
+set_steps (Ok value) old new book is beside = record { core = ap (λ m. core_of m.book) is; beside = beside_same old.book new.book book (ap (λ m. m.book) is) beside }
+set_steps (Err e) old new book is beside = tt
+
+-- ---- what is shown of a formula
+
+-- the field with a text that is there
+fields_of : {A : Type 0} (g : A → List ℕ) (o : Option A) (text : Option (List ℕ)) → text ≡ option_map g o → option_to_list (option_map (λ a. TextField (g a)) o) ≡ option_to_list (option_map TextField text)
+fields_of g None text e = ap (λ t. option_to_list (option_map TextField t)) (sym e)
+fields_of g (Some a) text e = ap (λ t. option_to_list (option_map TextField t)) (sym e)
+
+pub shown_reply : (book : Book) (sheet : ℕ) (row column : ℤ) (before after : List ℕ) (text : Option (List ℕ)) → first_refusal ((lacks_sheet (core_of book) sheet, InvalidSheet) ∷ []) ≡ None
+    → text ≡ option_map (λ f. equals ∷ shown_formula (notations_in book) (core_of book) row column f) (formula_of (core_of book) sheet row column)
+    → IsLineText (reply_text (Ok (option_to_list (option_map TextField text)))) → after ≡ before ++ reply_bytes (Ok (option_to_list (option_map TextField text))) → IsAnswered (GetCellFormula sheet row column) book book before after
+shown_reply book sheet row column before after text none shown is_line told =
+    let n = notations_in book in
+    let core = core_of book in
+    let is =
+    shows n core sheet row column
+    ∙ ap (λ r. outcome_of core (unless_refused r core (option_to_list (option_map (shown_field n core row column) (formula_of core sheet row column))))) none
+    ∙ ap (λ (fields : List Field). outcome_of core (Ok (core, fields))) (fields_of (λ f. equals ∷ shown_formula n core row column f) (formula_of core sheet row column) text shown) in
+    record {
+      book = subst (λ s. StepsTo book book s.0) (sym is) (record { core = refl; beside = record { name = refl; zone = refl; created = refl; tables = refl } });
+      reply = told ∙ ap (λ s. before ++ reply_bytes s.1) (sym is);
+      line = subst (λ s. IsLineText (reply_text s.1)) (sym is) is_line;
+    }
