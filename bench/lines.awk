@@ -1,6 +1,8 @@
 # Writes command lines of one kind: `different`, so many different formulas, each into a cell of its own; `same`, one formula
 # into so many cells; `shown`, a reader for each of these cells; `bad`, lines that are no command; `found`, different
-# formulas that refer to three sheets of the book; `renames`, `moves`, `sheets` and `more_sheets`, so many of these commands.
+# formulas that refer to three sheets of the book; `renames`, `moves`, `sheets` and `more_sheets`, so many of these commands;
+# `defined`, so many definitions without scope, whose bodies are found; `names`, `own_names` and `gone`, so many more of them,
+# so many that are local to the first sheet, and so many deletions; `named`, formulas with two of their names each.
 function put(i, text) { printf "update_cell_with_formula\t0\t%d\t%d\t=%s\n", i % 100000 + 1, int(i / 100000) + 1, text }
 
 function formula(i,    a, b, c, k, n, m) {
@@ -28,5 +30,10 @@ BEGIN {
         else if (kind == "moves") printf "move_sheet\t0\t%d\n", i % 4
         else if (kind == "sheets") printf "add_sheet\tT%d\n", i
         else if (kind == "more_sheets") printf "add_sheet\tM%d\n", i
+        else if (kind == "defined") printf (i % 2 ? "new_defined_name\tname_%d\t-\tData!$A$%d\n" : "new_defined_name\tname_%d\t-\t=LAMBDA(x,x*Sheet1!$B$%d)\n"), i, i
+        else if (kind == "names") printf "new_defined_name\tmore_%d\t-\tData!$A$%d\n", i, i
+        else if (kind == "own_names") printf "new_defined_name\town_%d\t0\tData!$A$%d\n", i, i
+        else if (kind == "gone") printf "delete_defined_name\tname_%d\t-\n", i
+        else if (kind == "named") put(i, "name_" (i % 5000 * 2 + 1) "*" (i % 100) "+name_" (i % 4999 * 2 + 2) "(" i ")")
     }
 }

@@ -1,4 +1,4 @@
--- The whole book over a change of its sheets: its core is changed as the machine's is, and its pools stay valid.
+-- The whole book over a change of its sheets or its definitions: its core is changed as the machine's is, and its pools stay valid.
 use Rattle.std.proofs.Common.{◌≡◌, ℕ, zero, suc, ◌+◌, List, [], ◌∷◌, ◌++◌, map, flat_map, Option, Some, None, refl, sym, ap, ap₂, subst, ◌∙◌}
 use Rattle.std.specs.Prelude.{insert, remove, option_map}
 use Rattle.std.specs.List.{AllByRecursion, slice_get}
@@ -9,7 +9,7 @@ use Rattle.ic_laws.proofs.core.KeptBook.{in_body, mentioned, same_definitions}
 use Rattle.ic_laws.proofs.core.Lists.{all_pushed, all_removed, all_updated, removed_seen, updated_seen}
 use Rattle.ic_laws.proofs.core.Named.{IsNamed}
 use Rattle.ic_laws.specs.CoreBook.{CoreBook, Definition, Sheet, greatest_id, scene_of, spelling_of}
-use Rattle.ic_laws.specs.CoreStep.{changed_by, moved, put_back, updated_at, with_new_sheet, with_sheet_name, without_sheet}
+use Rattle.ic_laws.specs.CoreStep.{changed_by, moved, put_back, updated_at, with_definition, with_new_sheet, with_sheet_name, without_definition, without_sheet}
 use Rattle.ic_laws.specs.Greatest.{greatest}
 use Rattle.ic_laws.specs.Keeping.{kept_in_body, same_keys, with_kept}
 use Rattle.ic_laws.specs.Notations.{AreNotations, Notations}
@@ -18,10 +18,10 @@ use Rattle.ic_laws.specs.declared.scene.Scene.{Scene}
 use Rattle.ic_laws.specs.declared.scene.SheetName.{SheetName}
 use Rattle.ic_sheets.specs.Sheet.{BookSheet, IsValidPool, kept_pool, sheet_core}
 use Rattle.ic_book.specs.Book.{Book, core_of, scene_in}
-use Rattle.ic_book.specs.Change.{with_added_sheet, with_kept_pools, with_moved_sheet, with_removed_sheet, with_renamed_sheet}
+use Rattle.ic_book.specs.Change.{with_added_sheet, with_kept_pools, with_moved_sheet, with_name, with_removed_sheet, with_renamed_sheet, without_name}
 use Rattle.ic_sheets.proofs.PoolLemmas.{pools_kept, sheet_cores-kept}
 
--- a change of the sheets of a book, over which all formulas are kept as these notations say
+-- a change of the sheets or the definitions of a book, over which all formulas are kept as these notations say
 abbrev pub changed_in : Notations → (Book → Book) → Book → Book
 changed_in n change book = change (with_kept_pools n (scene_in book) (scene_in (change book)) book)
 
@@ -39,7 +39,7 @@ abbrev ids : List BookSheet → List ℕ
 ids sheets = map (λ (s : Sheet). s.id) (map sheet_core sheets)
 
 module _ (n : Notations) (before after : Scene) where
-  seen-kept : (sheets : List BookSheet) → seen (map (kept_pool n before after) sheets) ≡ seen sheets
+  pub seen-kept : (sheets : List BookSheet) → seen (map (kept_pool n before after) sheets) ≡ seen sheets
   seen-kept [] = refl
   seen-kept (s ∷ sheets) = ap (λ rest. let m : SheetName = record { id = s.id; name = s.name } in m ∷ rest) (seen-kept sheets)
 
@@ -93,20 +93,36 @@ module _ (n : Notations) (before after : Scene) where
       removed (s ∷ sheets) zero = seen-kept sheets
       removed (s ∷ sheets) (suc index) = ap (λ rest. let m : SheetName = record { id = s.id; name = s.name } in m ∷ rest) (removed sheets index)
 
+-- what formulas can mention with a new definition, and without one
+module _ (n : Notations) (before after : Scene) (book : Book) where
+  pub scene-defined : (new : Definition) → scene_in (with_name new (with_kept_pools n before after book)) ≡ scene_in (with_name new book)
+  scene-defined new =
+      ap₂ (λ (ss : List SheetName) (ds : List NameSpelling). let scene : Scene = record { sheets = ss; names = ds } in scene) (seen-kept n before after book.sheets)
+      (map-append spelling_of (map (in_body n before after) book.definitions) (new ∷ [])
+      ∙ ap (λ ds. ds ++ spelling_of new ∷ []) (same_definitions n before after spelling_of (λ d. refl) book.definitions)
+      ∙ sym (map-append spelling_of book.definitions (new ∷ [])))
+
+  pub scene-undefined : (index : ℕ) → scene_in (without_name (Some index) (with_kept_pools n before after book)) ≡ scene_in (without_name (Some index) book)
+  scene-undefined index =
+      ap₂ (λ (ss : List SheetName) (ds : List NameSpelling). let scene : Scene = record { sheets = ss; names = ds } in scene) (seen-kept n before after book.sheets)
+      (removed_seen spelling_of (map (in_body n before after) book.definitions) index
+      ∙ ap (λ ds. remove ds index) (same_definitions n before after spelling_of (λ d. refl) book.definitions)
+      ∙ sym (removed_seen spelling_of book.definitions index))
+
 -- a change of a book, and the same of its core
-pub record IsSheetChange (change : Book → Book) (of_core : CoreBook → CoreBook) : Type 0 where
+pub record IsBookChange (change : Book → Book) (of_core : CoreBook → CoreBook) : Type 0 where
   pub core : (book : Book) → core_of (change book) ≡ of_core (core_of book)
   pub scene : (n : Notations) (before after : Scene) (book : Book) → scene_in (change (with_kept_pools n before after book)) ≡ scene_in (change book)
   pub pools : (n : Notations) (scene : Scene) (book : Book) → AllByRecursion (IsValidPool n scene) book.sheets → AllByRecursion (IsValidPool n scene) (change book).sheets
 
-pub added_change : (name : List ℕ) → IsSheetChange (with_added_sheet name) (with_new_sheet name)
+pub added_change : (name : List ℕ) → IsBookChange (with_added_sheet name) (with_new_sheet name)
 added_change name = record {
   core = λ book. ap (λ (sheets : List Sheet). let core : CoreBook = record { sheets = sheets; definitions = book.definitions; locale = book.locale; language = book.language } in core) (map-append sheet_core book.sheets (record { id = greatest_id (core_of book) + 1; name = name; pool = []; cells = [] } ∷ []));
   scene = λ n before after book. scene-added n before after name book;
   pools = λ n scene book h. all_pushed (IsValidPool n scene) book.sheets (record { id = greatest_id (core_of book) + 1; name = name; pool = []; cells = [] }) h (record { formulas = tt; places = tt });
 }
 
-pub renamed_change : (index : ℕ) (name : List ℕ) → IsSheetChange (with_renamed_sheet index name) (with_sheet_name index name)
+pub renamed_change : (index : ℕ) (name : List ℕ) → IsBookChange (with_renamed_sheet index name) (with_sheet_name index name)
 renamed_change index name = record {
   core = λ book. ap (λ (sheets : List Sheet). let core : CoreBook = record { sheets = sheets; definitions = book.definitions; locale = book.locale; language = book.language } in core)
       (updated_seen sheet_core (λ s. record s { name = name }) (λ s. record s { name = name }) (λ s. refl) index book.sheets);
@@ -114,15 +130,29 @@ renamed_change index name = record {
   pools = λ n scene book h. all_updated (IsValidPool n scene) (λ s. record s { name = name }) (λ s v. record { formulas = v.formulas; places = v.places }) index book.sheets h;
 }
 
-pub removed_change : (index : ℕ) → IsSheetChange (with_removed_sheet index) (without_sheet index)
+pub removed_change : (index : ℕ) → IsBookChange (with_removed_sheet index) (without_sheet index)
 removed_change index = record {
   core = λ book. ap (λ (sheets : List Sheet). let core : CoreBook = record { sheets = sheets; definitions = book.definitions; locale = book.locale; language = book.language } in core) (removed_seen sheet_core book.sheets index);
   scene = λ n before after book. scene-removed n before after index book;
   pools = λ n scene book h. all_removed (IsValidPool n scene) book.sheets index h;
 }
 
+pub defined_change : (new : Definition) → IsBookChange (with_name new) (with_definition new)
+defined_change new = record {
+  core = λ book. refl;
+  scene = λ n before after book. scene-defined n before after book new;
+  pools = λ n scene book h. h;
+}
+
+pub undefined_change : (index : ℕ) → IsBookChange (without_name (Some index)) (without_definition (Some index))
+undefined_change index = record {
+  core = λ book. refl;
+  scene = λ n before after book. scene-undefined n before after book index;
+  pools = λ n scene book h. h;
+}
+
 -- over such a change the book's core is changed as the machine's is
-pub core_of-changed : (n : Notations) (change : Book → Book) (of_core : CoreBook → CoreBook) → IsSheetChange change of_core → (book : Book) → core_of (changed_in n change book) ≡ changed_by n of_core (core_of book)
+pub core_of-changed : (n : Notations) (change : Book → Book) (of_core : CoreBook → CoreBook) → IsBookChange change of_core → (book : Book) → core_of (changed_in n change book) ≡ changed_by n of_core (core_of book)
 core_of-changed n change of_core is book =
     let after : Scene = scene_in (change book) in
     is.core (with_kept_pools n (scene_in book) after book)
@@ -130,7 +160,7 @@ core_of-changed n change of_core is book =
     ∙ ap (λ (core : CoreBook). of_core (with_kept n (scene_in book) (scene_of core) same_keys (core_of book))) (is.core book)
 
 -- and its pools stay valid
-pub pools-changed : (n : Notations) → AreNotations n → (change : Book → Book) (of_core : CoreBook → CoreBook) → IsSheetChange change of_core → (book : Book) → IsNamed (scene_in book) → IsNamed (scene_in (change book)) → AllByRecursion (IsValidPool n (scene_in book)) book.sheets
+pub pools-changed : (n : Notations) → AreNotations n → (change : Book → Book) (of_core : CoreBook → CoreBook) → IsBookChange change of_core → (book : Book) → IsNamed (scene_in book) → IsNamed (scene_in (change book)) → AllByRecursion (IsValidPool n (scene_in book)) book.sheets
     → AllByRecursion (IsValidPool n (scene_in (changed_in n change book))) (changed_in n change book).sheets
 pools-changed n are change of_core is book named named_after h =
     let after : Scene = scene_in (change book) in
@@ -161,5 +191,5 @@ core_of-moved from to book =
     ap (λ (sheets : List Sheet). let core : CoreBook = record { sheets = sheets; definitions = book.definitions; locale = book.locale; language = book.language } in core) (moved-map sheet_core from to book.sheets)
 
 -- what formulas can mention after a change of the machine's book is what they can after that of the book
-pub same_scene_after : (change : Book → Book) (of_core : CoreBook → CoreBook) → IsSheetChange change of_core → (book : Book) → scene_of (of_core (core_of book)) ≡ scene_in (change book)
+pub same_scene_after : (change : Book → Book) (of_core : CoreBook → CoreBook) → IsBookChange change of_core → (book : Book) → scene_of (of_core (core_of book)) ≡ scene_in (change book)
 same_scene_after change of_core is book = ap scene_of (sym (is.core book))

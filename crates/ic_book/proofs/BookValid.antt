@@ -1,20 +1,20 @@
 -- What always holds of a book holds after each call.
-use Rattle.std.proofs.Common.{◌≡◌, ℕ, zero, suc, ℤ, ◌<◌, List, [], ◌∷◌, ◌++◌, Bool, true, false, not, length, codes, Option, Some, None, Ok, refl, sym, ap, subst}
+use Rattle.std.proofs.Common.{◌≡◌, ℕ, zero, suc, ℤ, ◌<◌, List, [], ◌∷◌, ◌++◌, Bool, true, false, not, length, codes, Option, Some, None, Ok, refl, sym, ap, subst, ◌∙◌}
 use Rattle.std.specs.Prelude.{insert, remove}
 use Rattle.std.specs.List.{AllByRecursion, slice_get}
 use Rattle.std.specs.Option.{option_or}
 use Rattle.ic_laws.proofs.core.Lists.{all_removed}
-use Rattle.ic_laws.proofs.core.Named.{IsNamed, added_named, book_named, deleted_named, renamed_named}
+use Rattle.ic_laws.proofs.core.Named.{IsNamed, added_named, book_named, defined_named, deleted_named, renamed_named, undefined_named}
 use Rattle.ic_laws.proofs.core.Steps.{step_keeps}
 use Rattle.ic_laws.proofs.keeping.Accepted.{none_holds}
 use Rattle.ic_laws.proofs.kept.Kept.{bound_is_kept, kept_where_less}
 use Rattle.ic_laws.proofs.kept.Scenes.{kept_where_alike, moved_alike}
 use Rattle.ic_laws.proofs.kept.TreeFacts.{tree_facts}
 use Rattle.ic_laws.specs.Binding.{bound}
-use Rattle.ic_laws.specs.Command.{AddSheet, Command, DeleteSheet, MoveSheet, RenameSheetByIndex, SetLanguage, SetLocale, UpdateCellWithFormula}
-use Rattle.ic_laws.specs.CoreBook.{CoreBook, scene_of}
-use Rattle.ic_laws.specs.CoreStep.{add_sheet_causes, add_sheet_refusal, core_step, delete_refusal, move_refusal, moved, put_back, rename_causes, rename_refusal, update_refusal, with_new_sheet, with_sheet_name, without_sheet}
-use Rattle.ic_laws.specs.FormulaReading.{cell_formula, shown_at, tree_or_raw, without_equals}
+use Rattle.ic_laws.specs.Command.{AddSheet, Command, DeleteDefinedName, DeleteSheet, MoveSheet, NewDefinedName, RenameSheetByIndex, SetLanguage, SetLocale, UpdateCellWithFormula}
+use Rattle.ic_laws.specs.CoreBook.{CoreBook, Definition, scene_of}
+use Rattle.ic_laws.specs.CoreStep.{add_sheet_causes, add_sheet_refusal, changed_by, core_step, delete_name_refusal, delete_refusal, index_of_definition, move_refusal, moved, new_definition, new_name_causes, new_name_refusal, put_back, scope_or_none, with_definition, with_new_name, without_definition, rename_causes, rename_refusal, update_refusal, with_new_sheet, with_sheet_name, without_sheet}
+use Rattle.ic_laws.specs.FormulaReading.{Body, body_of, cell_formula, shown_at, tree_or_raw, without_equals}
 use Rattle.ic_laws.specs.Notations.{AreNotations, IsShownForm, Notations, english_function}
 use Rattle.ic_laws.specs.ReadAs.{read_as}
 use Rattle.ic_laws.specs.Refusal.{InvalidLanguage, InvalidLocale, first_refusal}
@@ -27,10 +27,10 @@ use Rattle.ic_pool.specs.Pool.{IsPlaced}
 use Rattle.ic_sheets.specs.Sheet.{BookSheet, IsValidPool}
 use Rattle.ic_tree.proofs.NotationLaws.{notations_are}
 use Rattle.ic_book.specs.Book.{Book, IsValidBook, core_of, notations_in, scene_in}
-use Rattle.ic_book.specs.Change.{book_changed_by, with_added_sheet, with_language, with_locale, with_moved_sheet, with_removed_sheet, with_renamed_sheet}
+use Rattle.ic_book.specs.Change.{book_changed_by, with_added_sheet, with_language, with_locale, with_moved_sheet, with_name, with_removed_sheet, with_renamed_sheet, without_name}
 use Rattle.ic_book.specs.Written.{with_cell, with_pool}
-use Rattle.ic_book.proofs.Accepted.{add_accepted, delete_accepted, language_accepted, locale_accepted, move_accepted, rename_accepted, update_accepted}
-use Rattle.ic_book.proofs.BookLemmas.{added_change, core_of-changed, core_of-moved, pools-changed, removed_change, renamed_change, same_scene_after}
+use Rattle.ic_book.proofs.Accepted.{add_accepted, delete_accepted, delete_name_accepted, language_accepted, locale_accepted, move_accepted, new_name_accepted, rename_accepted, update_accepted}
+use Rattle.ic_book.proofs.BookLemmas.{added_change, core_of-changed, core_of-moved, defined_change, pools-changed, removed_change, undefined_change, renamed_change, same_scene_after}
 use Rattle.ic_book.proofs.WrittenLemmas.{core_of-cell, core_of-pool, pools-placed, pools-written}
 
 not_false : (b : Bool) → not b ≡ false → b ≡ true
@@ -102,6 +102,32 @@ module _ (book : Book) (valid : IsValidBook book) where
     pools =
         pools-changed n notations (with_removed_sheet index) (without_sheet index) (removed_change index) book named
         (subst IsNamed (same_scene_after (with_removed_sheet index) (without_sheet index) (removed_change index) book) (deleted_named n core valid.core index)) valid.pools;
+    zone = valid.zone;
+    tables = valid.tables;
+  }
+
+  pub defined_valid : (name : List ℕ) (index : Option ℕ) (text : List ℕ) (body : Body) → new_name_refusal n core name index text ≡ None → body_of n core text ≡ Some body
+      → IsValidBook (book_changed_by (with_name (new_definition n core name (scope_or_none core index) body)) book)
+  defined_valid name index text body e typed =
+      let new : Definition = new_definition n core name (scope_or_none core index) body in
+      record {
+        core =
+            subst (IsValidCore n) (sym (core_of-changed n (with_name new) (with_definition new) (defined_change new) book))
+            (step_valid (NewDefinedName name index text) _ (new_name_accepted n core name index text e ∙ ap (λ b. Ok (with_new_name n core name (scope_or_none core index) b, [])) typed));
+        pools =
+            pools-changed n notations (with_name new) (with_definition new) (defined_change new) book named
+            (defined_named n core valid.core new (not_false _ (none_holds (new_name_causes n core name index text) e).0)) valid.pools;
+        zone = valid.zone;
+        tables = valid.tables;
+      }
+
+  pub undefined_valid : (name : List ℕ) (index : Option ℕ) (at : ℕ) → delete_name_refusal core name index ≡ None → index_of_definition core name (scope_or_none core index) ≡ Some at
+      → IsValidBook (book_changed_by (without_name (Some at)) book)
+  undefined_valid name index at e found = record {
+    core =
+        subst (IsValidCore n) (sym (core_of-changed n (without_name (Some at)) (without_definition (Some at)) (undefined_change at) book))
+        (step_valid (DeleteDefinedName name index) _ (delete_name_accepted n core name index e ∙ ap (λ o. Ok (changed_by n (without_definition o) core, [])) found));
+    pools = pools-changed n notations (without_name (Some at)) (without_definition (Some at)) (undefined_change at) book named (undefined_named n core valid.core at) valid.pools;
     zone = valid.zone;
     tables = valid.tables;
   }

@@ -1,6 +1,6 @@
 -- What a model holds, over each change of its sheets and its notation.
-use Rattle.std.proofs.Common.{◌≡◌, ◌≢◌, ◌==◌, ℕ, ℤ, zero, suc, ◌+◌, ◌<◌, ◌≤◌, ◌^◌, IfSome, SomeIff, Result, Ok, Err, IsErr, IsErrAnd, rules, arith, List, [], ◌∷◌, ◌++◌, Bool, true, false, not, Option, Some, None, option_map, map, length, get_or, is_some, append-nil, refl, sym, ap, ap₂, subst, ◌∙◌, nat_lt, if◌then◌else◌}
-use Rattle.std.specs.Prelude.{option_and_then, position, unwrap_or, remove, nat_eq}
+use Rattle.std.proofs.Common.{◌≡◌, ◌≢◌, ◌==◌, ℕ, ℤ, zero, suc, ◌+◌, ◌<◌, ◌≤◌, ◌^◌, IfSome, SomeIff, Result, Ok, Err, IsErr, IsErrAnd, rules, arith, List, [], ◌∷◌, ◌++◌, Bool, true, false, not, Option, Some, None, option_map, map, length, get_or, is_some, refl, sym, ap, ap₂, subst, ◌∙◌, nat_lt, if◌then◌else◌}
+use Rattle.std.specs.Prelude.{max, option_and_then, position, unwrap_or, remove, nat_eq}
 use Rattle.std.specs.Borrow.{Bor}
 use Rattle.std.specs.BTreeMap.{insert_entry}
 use Rattle.std.specs.List.{AllByRecursion, slice_get}
@@ -9,8 +9,8 @@ use Rattle.ic_laws.proofs.keeping.Accepted.{none_holds}
 use Rattle.ic_laws.proofs.keeping.Deletes.{delete_dangles}
 use Rattle.ic_laws.proofs.keeping.Moves.{move_keeps}
 use Rattle.ic_laws.proofs.keeping.Renames.{add_binds, rename_binds, rename_keeps}
-use Rattle.ic_laws.specs.BookTrees.{BookKeepsFound, IsMoved, with_sheet_at_end, with_trees}
-use Rattle.ic_laws.specs.Changes.{changed_tree, sheet_gone, sheet_named}
+use Rattle.ic_laws.specs.BookTrees.{BookKeepsFound, IsMoved, with_body_tree, with_sheet_at_end, with_trees}
+use Rattle.ic_laws.specs.Changes.{changed_tree, name_added, name_gone, sheet_gone, sheet_named}
 use Rattle.ic_laws.specs.CoreBook.{CellPlace, CoreBook, Definition, formula_at, place_cmp, Sheet, fresh_id, greatest_id, has_sheet, scene_of, spelling_of}
 use Rattle.ic_laws.specs.CoreStep.{with_formula, add_sheet_causes, add_sheet_refusal, changed_by, delete_refusal, formula_of, has_other_sheet, update_causes, update_refusal, lacks_sheet, move_refusal, moved, rename_causes, rename_refusal, unless_refused, updated_at, with_new_sheet, with_sheet_name, without_sheet}
 use Rattle.ic_laws.specs.Greatest.{greatest}
@@ -26,6 +26,8 @@ use Rattle.ic_tables.specs.declared.locale.NamedLocale.{NamedLocale}
 use Rattle.ic_tables.proofs.WellFormed.{language_found, locale_found}
 use Rattle.ic_tree.proofs.NotationLaws.{knows_language_is, knows_locale_is, notations_are}
 use Rattle.ic_tree.specs.Notations.{notations_of}
+use Rattle.ic_names.specs.Named.{names_scene, scopes_of}
+use Rattle.ic_sheets.proofs.RewritingLemmas.{read_there}
 use Rattle.ic_sheets.specs.Rewriting.{changed_pool, sheets_of}
 use Rattle.ic_sheets.specs.Sheet as sheets
 use Rattle.ic_sheets.specs.Sheet.{BookSheet, IsValidPool, cells_of, sheet_core, sheet_of}
@@ -39,14 +41,14 @@ use Rattle.ic_book.specs.Written.{pool_at, with_cell, with_pool}
 use Rattle.ic_book.proofs.WrittenLemmas.{core_of-cell, core_of-pool, one_of_all}
 use Rattle.ic_sheets.specs.declared.sheet.Worksheet.{Worksheet}
 use Rattle.ic_book.specs.Book.{Book, IsValidBook, core_of, first_sheet_name_in, new_book, notations_in, scene_in}
-use Rattle.ic_book.specs.Change.{book_changed_by, with_added_sheet, with_moved_sheet, with_removed_sheet, with_renamed_sheet}
+use Rattle.ic_book.specs.Change.{book_changed_by, with_added_sheet, with_moved_sheet, with_name, with_removed_sheet, with_renamed_sheet, without_name}
 use Rattle.ic_book.specs.Inside.{IsHeld, held}
 use Rattle.ic_book.proofs.BookLemmas.{moved-map}
 use Rattle.ic_book.proofs.BookValid.{placed_valid, written_valid}
-use Rattle.ic_book.proofs.ChangeLemmas.{added_is, removed_is, renamed_is}
+use Rattle.ic_book.proofs.ChangeLemmas.{added_is, defined_is, removed_is, renamed_is, undefined_is}
 use Rattle.ic_book.proofs.ModelLemmas.{position-map, scene_is}
 use Rattle.ic_book.specs.Refused.{Refuses, refusal_of}
-use Rattle.ic_book.specs.Scene.{scene_of_sheets}
+use Rattle.ic_book.specs.Scene.{scene_of_parts}
 use Rattle.ic_book.specs.declared.error.BookError.{BookError}
 use Rattle.ic_book.specs.declared.error.BookError.TheVariants as errors
 
@@ -160,6 +162,10 @@ next_is None g h = by_test (nat_lt g 4294967295) refl
 
 -- ---- small facts
 
+greatest_both : (a b : List ℕ) → max (greatest a) (greatest b) ≡ greatest (a ++ b)
+greatest_both [] b = omega arith
+greatest_both (x ∷ a) b = let rest = greatest_both a b in omega (arith, rest)
+
 pub option_map-twice : {A B C : Type 0} (f : A → B) (g : B → C) (o : Option A) → option_map g (option_map f o) ≡ option_map (λ x. g (f x)) o
 option_map-twice f g None = refl
 option_map-twice f g (Some x) = refl
@@ -169,28 +175,33 @@ pub no_memory : (r : Result (Unit {0}) BookError) → IsErr r × IsErrAnd r (λ 
 no_memory (Ok done) h = let no : false ≡ true = h.0 in cc
 no_memory (Err e) h = sym (ap refusal_of h.1)
 
--- what formulas can mention among these sheets
-pub scene_held : (ws : List Worksheet) (book : Book) → map sheet_of ws ≡ book.sheets → book.definitions ≡ [] → scene_of_sheets ws ≡ scene_of (core_of book)
-scene_held ws book same none =
-    ap₂ (λ (ss : List SheetName) (ds : List Definition). let scene : Scene = record { sheets = ss; names = map spelling_of ds } in scene) (scene_is ws ∙ ap (λ sheets. map mentioned (map sheet_core sheets)) same) (sym none)
+-- what formulas can mention among these sheets and definitions
+pub scene_held : (ws : List Worksheet) (book : Book) → map sheet_of ws ≡ book.sheets → scene_of_parts ws book.definitions ≡ scene_of (core_of book)
+scene_held ws book same =
+    ap (λ (ss : List SheetName). let scene : Scene = record { sheets = ss; names = map spelling_of book.definitions } in scene) (scene_is ws ∙ ap (λ sheets. map mentioned (map sheet_core sheets)) same)
 
 -- the sheet at an index of a slice
 pub at_index : (slice ws : List Worksheet) (i : ℕ) (s : Worksheet) → slice ≡ ws → true ≡ nat_lt i (length slice) → s ≡ get_or slice i s → slice_get ws i ≡ Some s
 at_index slice ws i s same within read = subst (λ xs. slice_get xs i ≡ Some s) same (slice_get_read slice (length slice) i s refl (search (rules, arith)) read)
 
+-- and the one that was read there is it
+pub read_is : (slice ws : List Worksheet) (i : ℕ) (s sheet : Worksheet) → slice ≡ ws → i < length ws → s ≡ get_or slice i s → slice_get ws i ≡ Some sheet → s ≡ sheet
+read_is slice ws i s sheet e lt read at = read_there ws i s sheet lt (read ∙ ap (λ (xs : List Worksheet). get_or xs i s) e) at
+
 -- a new book
-pub start_is : (given name : List ℕ) (ws : List Worksheet) (locale : NamedLocale) (language : Language) (locale_id language_id given_zone zone created : List ℕ) (tables : TableSet) → given ≡ name
-    → ws ≡ record { id = 1; name = first_sheet_name_in language.code; pool = record { formulas = []; is_whole = true }; cells = [] } ∷ [] → locale.id ≡ locale_id → language.code ≡ language_id → given_zone ≡ zone
-    → held given ws locale language given_zone created tables ≡ new_book name locale_id zone language_id created tables
-start_is given name ws locale language locale_id language_id given_zone zone created tables one two three four five =
-    ap (λ a. make a (map sheet_of ws) locale.id language.code given_zone) one ∙ ap (λ (xs : List Worksheet). make name (map sheet_of xs) locale.id language.code given_zone) two
-    ∙ ap (λ l. make name (first language.code) l language.code given_zone) three ∙ ap (λ g. make name (first g) locale_id g given_zone) four ∙ ap (λ z. make name (first language_id) locale_id language_id z) five
+pub start_is : (given name : List ℕ) (ws : List Worksheet) (ds : List Definition) (locale : NamedLocale) (language : Language) (locale_id language_id given_zone zone created : List ℕ) (tables : TableSet) → given ≡ name
+    → ws ≡ record { id = 1; name = first_sheet_name_in language.code; pool = record { formulas = []; is_whole = true }; cells = [] } ∷ [] → ds ≡ [] → locale.id ≡ locale_id → language.code ≡ language_id → given_zone ≡ zone
+    → held given ws ds locale language given_zone created tables ≡ new_book name locale_id zone language_id created tables
+start_is given name ws ds locale language locale_id language_id given_zone zone created tables one two none three four five =
+    ap (λ a. make a (map sheet_of ws) ds locale.id language.code given_zone) one ∙ ap (λ (xs : List Worksheet). make name (map sheet_of xs) ds locale.id language.code given_zone) two
+    ∙ ap (λ (xs : List Definition). make name (first language.code) xs locale.id language.code given_zone) none ∙ ap (λ l. make name (first language.code) [] l language.code given_zone) three
+    ∙ ap (λ g. make name (first g) [] locale_id g given_zone) four ∙ ap (λ z. make name (first language_id) [] locale_id language_id z) five
   where
     first : List ℕ → List BookSheet
     first code = record { id = 1; name = first_sheet_name_in code; pool = []; cells = [] } ∷ []
 
-    make : List ℕ → List BookSheet → List ℕ → List ℕ → List ℕ → Book
-    make a ss l g z = record { name = a; sheets = ss; definitions = []; locale = l; language = g; zone = z; created = created; tables = tables }
+    make : List ℕ → List BookSheet → List Definition → List ℕ → List ℕ → List ℕ → Book
+    make a ss ds l g z = record { name = a; sheets = ss; definitions = ds; locale = l; language = g; zone = z; created = created; tables = tables }
 
 pub whole_updated : (f : Worksheet → Worksheet) → ((s : Worksheet) → (f s).pool.is_whole ≡ true) → (i : ℕ) (ws : List Worksheet) → map (λ (s : Worksheet). s.pool.is_whole) (updated_at f i ws) ≡ updated_at (λ b. true) i (map (λ (s : Worksheet). s.pool.is_whole) ws)
 whole_updated f whole i ws = updated_seen (λ (s : Worksheet). s.pool.is_whole) f (λ b. true) whole i ws
@@ -223,12 +234,12 @@ language_unknown tables id none = rw (knows_language_is tables id ∙ ap is_some
 
 -- ---- changes of the sheets
 
-module _ (name : List ℕ) (ws : List Worksheet) (locale : NamedLocale) (language : Language) (zone created : List ℕ) (tables : TableSet) (h : IsHeld name ws locale language zone created tables) where
+module _ (name : List ℕ) (ws : List Worksheet) (ds : List Definition) (locale : NamedLocale) (language : Language) (zone created : List ℕ) (tables : TableSet) (h : IsHeld name ws ds locale language zone created tables) where
   abbrev book : Book
-  book = held name ws locale language zone created tables
+  book = held name ws ds locale language zone created tables
 
-  abbrev pub after : List Worksheet → Book
-  after now = held name now locale language zone created tables
+  abbrev pub after : List Worksheet → List Definition → Book
+  after now nds = held name now nds locale language zone created tables
 
   abbrev n : Notations
   n = notations_in book
@@ -239,39 +250,52 @@ module _ (name : List ℕ) (ws : List Worksheet) (locale : NamedLocale) (languag
   pub notations : AreNotations (notations_in book)
   notations = are
 
-  pub greatest_is : greatest (map (λ (s : Worksheet). s.id) ws) ≡ greatest_id (core_of book)
-  greatest_is = ap greatest (seen_ids ws ∙ sym (append-nil _))
+  pub greatest_is : max (greatest (map (λ (s : Worksheet). s.id) ws)) (greatest (scopes_of ds)) ≡ greatest_id (core_of book)
+  greatest_is = ap (λ ids. max (greatest ids) (greatest (scopes_of ds))) (seen_ids ws) ∙ greatest_both _ (scopes_of ds)
 
   pub fresh_above : (id : ℕ) → fresh_id (core_of book) ≡ Some id → greatest (map (λ (s : Worksheet). s.id) ws) < id
   fresh_above id e = let g = fresh_is _ (greatest_id (core_of book)) id e in let same = greatest_is in omega (arith, g, same)
 
-  -- the same with other sheets
-  pub held_after : (now : List Worksheet) (becomes : Book) → after now ≡ becomes → IsValidBook becomes → IsHeld name now locale language zone created tables
-  held_after now becomes e valid = record { valid = subst IsValidBook (sym e) valid; locale_found = h.locale_found; language_found = h.language_found }
+  -- the same with other sheets and definitions
+  pub held_after : (now : List Worksheet) (nds : List Definition) (becomes : Book) → after now nds ≡ becomes → IsValidBook becomes → IsHeld name now nds locale language zone created tables
+  held_after now nds becomes e valid = record { valid = subst IsValidBook (sym e) valid; locale_found = h.locale_found; language_found = h.language_found }
 
-  of_sheets : (now : List Worksheet) (sheets : List BookSheet) → sheets_of now ≡ sheets → after now ≡ record book { sheets = sheets }
+  of_parts : (now : List Worksheet) (nds : List Definition) (sheets : List BookSheet) (definitions : List Definition) → sheets_of now ≡ sheets → nds ≡ definitions → after now nds ≡ record book { sheets = sheets; definitions = definitions }
+  of_parts now nds sheets definitions e f = ap₂ (λ (sheets : List BookSheet) (definitions : List Definition). let b : Book = record book { sheets = sheets; definitions = definitions } in b) e f
+
+  of_sheets : (now : List Worksheet) (sheets : List BookSheet) → sheets_of now ≡ sheets → after now ds ≡ record book { sheets = sheets }
   of_sheets now sheets e = ap (λ (sheets : List BookSheet). let b : Book = record book { sheets = sheets } in b) e
 
-  module _ (now : List Worksheet) where
+  module _ (now : List Worksheet) (nds : List Definition) where
     pub added : (called : List ℕ) (id : ℕ) → add_sheet_refusal (core_of book) called ≡ None → fresh_id (core_of book) ≡ Some id
-        → sheets_of now ≡ map (changed_pool (sheet_named id called)) (sheets_of ws) ++ record { id = id; name = called; pool = []; cells = [] } ∷ [] → after now ≡ book_changed_by (with_added_sheet called) book
-    added called id none fresh e =
-        of_sheets now _ e
-        ∙ sym (added_is n are book h.valid.core h.valid.pools refl called id (none_holds (add_sheet_causes (core_of book) called) none).1.0 (fresh_is _ (greatest_id (core_of book)) id fresh))
+        → sheets_of now ≡ map (changed_pool (sheet_named id called)) (sheets_of ws) ++ record { id = id; name = called; pool = []; cells = [] } ∷ [] → nds ≡ map (with_body_tree (changed_tree (sheet_named id called))) ds
+        → after now nds ≡ book_changed_by (with_added_sheet called) book
+    added called id none fresh e f =
+        of_parts now nds _ _ e f
+        ∙ sym (added_is n are book h.valid.core h.valid.pools called id (none_holds (add_sheet_causes (core_of book) called) none).1.0 (fresh_is _ (greatest_id (core_of book)) id fresh))
 
     pub renamed : (index : ℕ) (called : List ℕ) (s : Worksheet) → rename_refusal (core_of book) index called ≡ None → slice_get ws index ≡ Some s
-        → sheets_of now ≡ updated_at (λ s. record s { name = called }) index (map (changed_pool (sheet_named s.id called)) (sheets_of ws)) → after now ≡ book_changed_by (with_renamed_sheet index called) book
-    renamed index called s none at e =
-        of_sheets now _ e
-        ∙ sym (renamed_is n are book h.valid.core h.valid.pools refl index called (sheet_of s) (slice_get-map sheet_of ws index ∙ ap (option_map sheet_of) at) (none_holds (rename_causes (core_of book) index called) none).1.0)
+        → sheets_of now ≡ updated_at (λ s. record s { name = called }) index (map (changed_pool (sheet_named s.id called)) (sheets_of ws)) → nds ≡ map (with_body_tree (changed_tree (sheet_named s.id called))) ds
+        → after now nds ≡ book_changed_by (with_renamed_sheet index called) book
+    renamed index called s none at e f =
+        of_parts now nds _ _ e f
+        ∙ sym (renamed_is n are book h.valid.core h.valid.pools index called (sheet_of s) (slice_get-map sheet_of ws index ∙ ap (option_map sheet_of) at) (none_holds (rename_causes (core_of book) index called) none).1.0)
 
-    pub removed : (index : ℕ) (s : Worksheet) → slice_get ws index ≡ Some s → sheets_of now ≡ remove (map (changed_pool (sheet_gone s.id s.name)) (sheets_of ws)) index → after now ≡ book_changed_by (with_removed_sheet index) book
-    removed index s at e =
-        of_sheets now _ e
-        ∙ sym (removed_is n are book h.valid.core h.valid.pools refl index (sheet_of s) (slice_get-map sheet_of ws index ∙ ap (option_map sheet_of) at))
+    pub removed : (index : ℕ) (s : Worksheet) → slice_get ws index ≡ Some s → sheets_of now ≡ remove (map (changed_pool (sheet_gone s.id s.name)) (sheets_of ws)) index → nds ≡ map (with_body_tree (changed_tree (sheet_gone s.id s.name))) ds
+        → after now nds ≡ book_changed_by (with_removed_sheet index) book
+    removed index s at e f =
+        of_parts now nds _ _ e f ∙ sym (removed_is n are book h.valid.core h.valid.pools index (sheet_of s) (slice_get-map sheet_of ws index ∙ ap (option_map sheet_of) at))
 
-    pub put : (from to : ℕ) → now ≡ moved from to ws → after now ≡ with_moved_sheet from to book
-    put from to e = of_sheets now _ (ap sheets_of e ∙ moved-map sheet_of from to ws)
+    pub defined : (new : Definition) → sheets_of now ≡ map (changed_pool (name_added (spelling_of new))) (sheets_of ws) → nds ≡ map (with_body_tree (changed_tree (name_added (spelling_of new)))) ds ++ new ∷ []
+        → after now nds ≡ book_changed_by (with_name new) book
+    defined new e f = of_parts now nds _ _ e f ∙ sym (defined_is n are book h.valid.core h.valid.pools new)
+
+    pub undefined : (index : ℕ) (d : Definition) → slice_get ds index ≡ Some d → sheets_of now ≡ map (changed_pool (name_gone (names_scene (remove ds index)) (spelling_of d))) (sheets_of ws)
+        → nds ≡ remove (map (with_body_tree (changed_tree (name_gone (names_scene (remove ds index)) (spelling_of d)))) ds) index → after now nds ≡ book_changed_by (without_name (Some index)) book
+    undefined index d at e f = of_parts now nds _ _ e f ∙ sym (undefined_is n are book h.valid.core h.valid.pools index d at)
+
+  pub put : (now : List Worksheet) (from to : ℕ) → now ≡ moved from to ws → after now ds ≡ with_moved_sheet from to book
+  put now from to e = of_sheets now _ (ap sheets_of e ∙ moved-map sheet_of from to ws)
 
   pub binds_added : (called : List ℕ) → add_sheet_refusal (core_of book) called ≡ None
       → changed_by n (with_new_sheet called) (core_of book) ≡ with_sheet_at_end (greatest_id (core_of book) + 1) called (with_trees (changed_tree (sheet_named (greatest_id (core_of book) + 1) called)) (core_of book))
@@ -322,18 +346,18 @@ module _ (name : List ℕ) (ws : List Worksheet) (locale : NamedLocale) (languag
   pool_at_is index = ap (λ o. unwrap_or o []) (sym (ap (option_map (λ (s : BookSheet). s.pool)) (slice_get-map sheet_of ws index) ∙ option_map-twice sheet_of (λ (s : BookSheet). s.pool) (slice_get ws index)))
 
   module _ (now : List Worksheet) (index : ℕ) where
-    pub placed : (pool : List Formula) → now ≡ updated_at (λ s. record s { pool = record { formulas = pool; is_whole = true } }) index ws → after now ≡ with_pool index pool book
+    pub placed : (pool : List Formula) → now ≡ updated_at (λ s. record s { pool = record { formulas = pool; is_whole = true } }) index ws → after now ds ≡ with_pool index pool book
     placed pool e = of_sheets now _ (ap sheets_of e ∙ updated_seen sheet_of (λ s. record s { pool = record { formulas = pool; is_whole = true } }) (λ s. record s { pool = pool }) (λ s. refl) index ws)
 
     module _ (s : Worksheet) (at : slice_get ws index ≡ Some s) (formula : Formula) (place : ℕ) (pool : List Formula) (is_placed : IsPlaced formula place (sheets.pool_at ws index) pool) where
       there : IsPlaced formula place s.pool.formulas pool
       there = subst (λ o. IsPlaced formula place (unwrap_or (option_map (λ (s : Worksheet). s.pool.formulas) o) []) pool) at is_placed
 
-      pub placed_core : now ≡ updated_at (λ s. record s { pool = record { formulas = pool; is_whole = true } }) index ws → core_of (after now) ≡ core_of book
+      pub placed_core : now ≡ updated_at (λ s. record s { pool = record { formulas = pool; is_whole = true } }) index ws → core_of (after now ds) ≡ core_of book
       placed_core e = ap core_of (placed pool e) ∙ core_of-pool n book index (sheet_of s) (in_book index s at) formula place pool there h.valid.pools
 
-      pub placed_held : now ≡ updated_at (λ s. record s { pool = record { formulas = pool; is_whole = true } }) index ws → IsPooled n (scene_in book) (Some s.id) formula → IsHeld name now locale language zone created tables
-      placed_held e pooled = held_after now (with_pool index pool book) (placed pool e) (placed_valid book h.valid index (sheet_of s) (in_book index s at) place pool formula there pooled)
+      pub placed_held : now ≡ updated_at (λ s. record s { pool = record { formulas = pool; is_whole = true } }) index ws → IsPooled n (scene_in book) (Some s.id) formula → IsHeld name now ds locale language zone created tables
+      placed_held e pooled = held_after now ds (with_pool index pool book) (placed pool e) (placed_valid book h.valid index (sheet_of s) (in_book index s at) place pool formula there pooled)
 
   pub present : (index : ℕ) (row column : ℤ) (text : List ℕ) → update_refusal (core_of book) index row column text ≡ None → lacks_sheet (core_of book) index ≡ false
   present index row column text none = (none_holds (update_causes (core_of book) index row column text) none).0
@@ -342,7 +366,7 @@ module _ (name : List ℕ) (ws : List Worksheet) (locale : NamedLocale) (languag
       (is_placed : IsPlaced formula place (sheets.pool_at ws index) pool) (is : formula ≡ cell_formula n (core_of book) s.id row column (without_equals text))
       (e : now ≡ updated_at (λ s. record s { pool = record { formulas = pool; is_whole = true }; cells = insert_entry place_cmp s.cells (row, column) place }) index ws)
     where
-      pub written : after now ≡ with_cell index pool row column place book
+      pub written : after now ds ≡ with_cell index pool row column place book
       written =
           of_sheets now _
           (ap sheets_of e
@@ -351,10 +375,10 @@ module _ (name : List ℕ) (ws : List Worksheet) (locale : NamedLocale) (languag
       pub written_there : IsPlaced (cell_formula n (core_of book) s.id row column (without_equals text)) place s.pool.formulas pool
       written_there = subst (λ f. IsPlaced f place s.pool.formulas pool) is (there now index s at formula place pool is_placed)
 
-      pub written_core : core_of (after now) ≡ record (core_of book) { sheets = updated_at (with_formula n (core_of book) row column (without_equals text)) index (core_of book).sheets }
+      pub written_core : core_of (after now ds) ≡ record (core_of book) { sheets = updated_at (with_formula n (core_of book) row column (without_equals text)) index (core_of book).sheets }
       written_core =
           ap core_of written
           ∙ core_of-cell n book index (sheet_of s) (in_book index s at) (cell_formula n (core_of book) s.id row column (without_equals text)) place pool written_there h.valid.pools row column (λ id. cell_formula n (core_of book) id row column (without_equals text)) refl
 
-      pub written_held : update_refusal (core_of book) index row column text ≡ None → IsHeld name now locale language zone created tables
-      written_held none = held_after now (with_cell index pool row column place book) written (written_valid book h.valid index (sheet_of s) (in_book index s at) place pool row column text none written_there)
+      pub written_held : update_refusal (core_of book) index row column text ≡ None → IsHeld name now ds locale language zone created tables
+      written_held none = held_after now ds (with_cell index pool row column place book) written (written_valid book h.valid index (sheet_of s) (in_book index s at) place pool row column text none written_there)

@@ -1,8 +1,14 @@
 pub mod Accepted
+pub mod AddedNames
 pub mod BookLemmas
 pub mod BookValid
 pub mod ChangeLemmas
+pub mod GoneNames
 pub mod HeldLemmas
+pub mod MentionPairs
+pub mod ModelLemmas
+pub mod NameHeld
+pub mod NameLemmas
+pub mod SparedBodies
 pub mod StartLemmas
 pub mod WrittenLemmas
-pub mod ModelLemmas

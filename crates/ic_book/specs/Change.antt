@@ -1,11 +1,14 @@
--- What the commands on sheets do to a whole book: its core is stepped as the machine's, and each formula of each pool is
--- kept at its place.
-use Rattle.std.specs.Prelude.{ℕ, ◌+◌, List, [], ◌∷◌, ◌++◌, map, remove}
-use Rattle.ic_laws.specs.CoreBook.{greatest_id}
+-- What the commands on sheets and definitions do to a whole book: its core is stepped as the machine's, and each formula
+-- of each pool is kept at its place.
+use Rattle.std.specs.Prelude.{ℕ, ◌+◌, List, [], ◌∷◌, ◌++◌, map, remove, Option, None, Some}
+use Rattle.ic_laws.specs.BookTrees.{with_body_tree}
+use Rattle.ic_laws.specs.Changes.{Change, changed_tree}
+use Rattle.ic_laws.specs.CoreBook.{Definition, greatest_id}
 use Rattle.ic_laws.specs.CoreStep.{moved, updated_at}
 use Rattle.ic_laws.specs.Keeping.{kept_in_body, same_keys}
 use Rattle.ic_laws.specs.Notations.{Notations}
 use Rattle.ic_laws.specs.declared.scene.Scene.{Scene}
+use Rattle.ic_sheets.specs.Rewriting.{changed_pool}
 use Rattle.ic_sheets.specs.Sheet.{kept_pool}
 use Rattle.ic_book.specs.Book.{Book, core_of, notations_in, scene_in}
 
@@ -14,7 +17,7 @@ module _ (n : Notations) (before after : Scene) where
   abbrev pub with_kept_pools : Book → Book
   with_kept_pools book = record book { sheets = map (kept_pool n before after) book.sheets; definitions = map (kept_in_body n before after same_keys) book.definitions }
 
--- a change of the sheets of a book: all formulas are kept over it
+-- a change of the sheets or the definitions of a book: all formulas are kept over it
 abbrev pub book_changed_by : (Book → Book) → Book → Book
 book_changed_by change book = change (with_kept_pools (notations_in book) (scene_in book) (scene_in (change book)) book)
 
@@ -33,6 +36,19 @@ with_removed_sheet index book = record book { sheets = remove book.sheets index 
 -- with the sheet at an index put at another
 abbrev pub with_moved_sheet : ℕ → ℕ → Book → Book
 with_moved_sheet from to book = record book { sheets = moved from to book.sheets }
+
+-- with a new definition at its end
+abbrev pub with_name : Definition → Book → Book
+with_name definition book = record book { definitions = book.definitions ++ definition ∷ [] }
+
+-- without the definition at an index; as it is where there is none
+abbrev pub without_name : Option ℕ → Book → Book
+without_name None book = book
+without_name (Some index) book = record book { definitions = remove book.definitions index }
+
+-- a book with each tree replaced by what a change makes of it
+abbrev pub changed_book : Change → Book → Book
+changed_book change book = record book { sheets = map (changed_pool change) book.sheets; definitions = map (with_body_tree (changed_tree change)) book.definitions }
 
 -- in another locale, or another language
 abbrev pub with_locale : List ℕ → Book → Book

@@ -1,19 +1,20 @@
 -- What a model keeps, as contracts see it, and what always holds of that.
-use Rattle.std.specs.Prelude.{◌≡◌, ℕ, List, [], map, Some}
+use Rattle.std.specs.Prelude.{◌≡◌, ℕ, List, map, Some}
 use Rattle.ic_tables.specs.Tables.{TableSet, language_of, locale_of}
 use Rattle.ic_tables.specs.declared.language.Language.{Language}
 use Rattle.ic_tables.specs.declared.locale.NamedLocale.{NamedLocale}
+use Rattle.ic_laws.specs.CoreBook.{Definition}
 use Rattle.ic_sheets.specs.Sheet.{sheet_of}
 use Rattle.ic_sheets.specs.declared.sheet.Worksheet.{Worksheet}
 use Rattle.ic_book.specs.Book.{Book, IsValidBook, ModelState}
 
-module _ (name : List ℕ) (sheets : List Worksheet) (locale : NamedLocale) (language : Language) (zone created : List ℕ) (tables : TableSet) where
-  -- the book that it holds; it has no definitions yet
+module _ (name : List ℕ) (sheets : List Worksheet) (definitions : List Definition) (locale : NamedLocale) (language : Language) (zone created : List ℕ) (tables : TableSet) where
+  -- the book that it holds
   abbrev pub held : Book
   held = record {
     name = name;
     sheets = map sheet_of sheets;
-    definitions = [];
+    definitions = definitions;
     locale = locale.id;
     language = language.code;
     zone = zone;

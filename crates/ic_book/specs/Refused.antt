@@ -1,5 +1,5 @@
 -- What a call's error says of the refusal that holds.
-use Rattle.std.specs.Prelude.{◌≡◌, ℕ, List, Option, Some, None, Result, Ok, Err, codes}
+use Rattle.std.specs.Prelude.{◌≡◌, ◌⊎◌, ℕ, List, Option, Some, None, Result, Ok, Err, codes}
 use Rattle.std.specs.Option.{option_map_or}
 use Rattle.ic_laws.specs.Refusal as core
 use Rattle.ic_laws.specs.Refusal.{Refusal, refusal_name}
@@ -19,6 +19,11 @@ refusal_of errors.SheetExists = Some core.SheetExists
 refusal_of errors.SheetNotFound = Some core.SheetNotFound
 refusal_of errors.OnlySheet = Some core.OnlySheet
 refusal_of errors.IdsUsedUp = Some core.IdsUsedUp
+refusal_of errors.InvalidName = Some core.InvalidName
+refusal_of errors.InvalidScope = Some core.InvalidScope
+refusal_of errors.NameExists = Some core.NameExists
+refusal_of errors.NameNotFound = Some core.NameNotFound
+refusal_of errors.InvalidNameFormula = Some core.InvalidNameFormula
 refusal_of errors.NotAFormula = Some core.NotAFormula
 refusal_of errors.InvalidLocale = Some core.InvalidLocale
 refusal_of errors.InvalidLanguage = Some core.InvalidLanguage
@@ -34,6 +39,11 @@ error_name e = option_map_or refusal_name (refusal_of e) (codes "OutOfMemory")
 abbrev pub Refuses : {T : Type 0} → Result T BookError → Option Refusal → Type 0
 Refuses (Ok value) refusal = refusal ≡ None
 Refuses (Err e) refusal = refusal ≡ refusal_of e
+
+-- The same of a call that needs memory to see whether this one refusal holds: where it does, memory may run out first.
+abbrev pub RefusesOr : Refusal → {T : Type 0} → Result T BookError → Option Refusal → Type 0
+RefusesOr late (Ok value) refusal = refusal ≡ None
+RefusesOr late (Err e) refusal = (refusal ≡ refusal_of e) ⊎ ((refusal ≡ Some late) × (e ≡ errors.OutOfMemory))
 
 -- A call that takes no memory answers Ok exactly where nothing refuses. Its error is the refusal, and never that memory ran
 -- out.

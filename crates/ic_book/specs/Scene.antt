@@ -1,5 +1,6 @@
--- What formulas can mention where these are the sheets, and there are no definitions.
-use Rattle.std.specs.Prelude.{List, [], map}
+-- What formulas can mention where these are the sheets and the definitions.
+use Rattle.std.specs.Prelude.{ℕ, List, [], ◌∷◌, ◌++◌, Option, map}
+use Rattle.ic_laws.specs.CoreBook.{Definition, spelling_of}
 use Rattle.ic_laws.specs.declared.scene.Scene.{Scene}
 use Rattle.ic_laws.specs.declared.scene.SheetName.{SheetName}
 use Rattle.ic_sheets.specs.declared.sheet.Worksheet.{Worksheet}
@@ -7,5 +8,9 @@ use Rattle.ic_sheets.specs.declared.sheet.Worksheet.{Worksheet}
 abbrev pub named : Worksheet → SheetName
 named sheet = record { id = sheet.id; name = sheet.name }
 
-abbrev pub scene_of_sheets : List Worksheet → Scene
-scene_of_sheets sheets = record { sheets = map named sheets; names = [] }
+abbrev pub scene_of_parts : List Worksheet → List Definition → Scene
+scene_of_parts sheets definitions = record { sheets = map named sheets; names = map spelling_of definitions }
+
+-- and one definition more at the end, by its name and the sheet that it is local to
+abbrev pub scene_with : List Worksheet → List Definition → List ℕ → Option ℕ → Scene
+scene_with sheets definitions name scope = record (scene_of_parts sheets definitions) { names = map spelling_of definitions ++ record { name = name; scope = scope } ∷ [] }

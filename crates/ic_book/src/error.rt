@@ -40,6 +40,21 @@ pub enum BookError {
     /// The greatest id in use is the last one, 4,294,967,295.
     #[error("No sheet id is left")]
     IdsUsedUp,
+    /// A definition can't have the name: it is no identifier.
+    #[error("Name: Invalid defined name")]
+    InvalidName,
+    /// No sheet stands at the index of the sheet that a definition is to be local to.
+    #[error("Scope: Invalid sheet index")]
+    InvalidScope,
+    /// A definition of an agreeing name is local to the same sheet, or to none too.
+    #[error("Name: Defined name already exists")]
+    NameExists,
+    /// No definition of an agreeing name is local to that sheet, or to none.
+    #[error("Defined name not found")]
+    NameNotFound,
+    /// The body is neither a reference to a sheet of the book nor a LAMBDA.
+    #[error("Formula: Invalid defined name formula")]
+    InvalidNameFormula,
     /// The text doesn't begin with `=`, or is `=` alone.
     #[error("Not a valid formula")]
     NotAFormula,
@@ -76,6 +91,11 @@ impl BookError {
             BookError::SheetNotFound => "SheetNotFound",
             BookError::OnlySheet => "OnlySheet",
             BookError::IdsUsedUp => "IdsUsedUp",
+            BookError::InvalidName => "InvalidName",
+            BookError::InvalidScope => "InvalidScope",
+            BookError::NameExists => "NameExists",
+            BookError::NameNotFound => "NameNotFound",
+            BookError::InvalidNameFormula => "InvalidNameFormula",
             BookError::NotAFormula => "NotAFormula",
             BookError::InvalidLocale => "InvalidLocale",
             BookError::InvalidLanguage => "InvalidLanguage",

@@ -4,7 +4,7 @@ ghost use Rattle.ic_laws.specs.Binding.{bound};
 ghost use Rattle.ic_laws.specs.Character.{equals};
 ghost use Rattle.ic_laws.specs.CoreBook.{CellPlace, formula_at};
 ghost use Rattle.ic_laws.specs.CoreStep.{formula_of, lacks_sheet, update_refusal, updated_at, with_formula};
-ghost use Rattle.ic_laws.specs.FormulaReading.{cell_formula, cell_tree, is_formula_text, shown_at, shown_formula, without_equals};
+ghost use Rattle.ic_laws.specs.FormulaReading.{cell_formula, cell_tree, is_formula_text, shown_at, shown_body, shown_formula, without_equals};
 ghost use Rattle.ic_laws.specs.Notations.{english_function};
 ghost use Rattle.ic_laws.specs.ReadAs.{read_as};
 ghost use Rattle.ic_laws.specs.Refusal.{InvalidSheet, Refusal, first_refusal};
@@ -17,10 +17,10 @@ ghost use Rattle.ic_book.specs.Book.{IsSameBeside, core_of, notations_in, scene_
 ghost use Rattle.ic_book.specs.Refused.{Refuses, RefusesOnly};
 ghost use Rattle.ic_book.specs.Written.{pool_at, with_cell, with_pool};
 
-use crate::scene::BookScene;
 use crate::{BookError, Model};
 use ic_laws::scan::{first_char, push_char, push_text};
 use ic_laws::{Bound, Dialect, Formula, LAST_COLUMN, LAST_ROW, OutOfMemory, Spelled, Text};
+use ic_names::Definition;
 use ic_pool::Steps;
 use ic_sheets::Worksheet;
 use ic_tree::{Shown, bind, print, read, spell};
@@ -163,17 +163,11 @@ impl<'a> Model<'a> {
         ensures { IfOk result (λ t. t ≡ bound (english_function (notations_in self.now.book)) (scene_in self.now.book) (Some id) tree.now) }
     {
         let english = self.tables.get_default_language();
-        bind(
-            self.alloc,
-            &BookScene::new(&self.sheets),
-            english,
-            Some(id),
-            tree,
-        )
+        bind(self.alloc, &self.scene(), english, Some(id), tree)
     }
 
     /// How formulas are written now, in the cell at a row and a column.
-    fn shown(&self, row: i32, column: i32) -> Shown<'a>
+    pub(crate) fn shown(&self, row: i32, column: i32) -> Shown<'a>
         ensures { ⟦<Shown<'a> as Dialect>⟧.meaning result ≡ shown_at (notations_in self.now.book) (core_of self.now.book) row column }
     {
         Shown::new(self.tables, &self.locale.locale, self.language, row, column)
@@ -183,13 +177,36 @@ impl<'a> Model<'a> {
     fn show(&self, row: i32, column: i32, formula: &Formula) -> Result<String, OutOfMemory>
         ensures { IfOk result (λ text. chars (string_bytes text) ≡ equals ∷ shown_formula (notations_in self.now.book) (core_of self.now.book) row column formula.now) }
     {
+        self.show_after("=", row, column, formula)
+    }
+
+    /// The body of a definition as it is shown, with its equals sign.
+    pub(crate) fn show_body(&self, definition: &Definition) -> Result<String, OutOfMemory>
+        ensures { IfOk result (λ text. chars (string_bytes text) ≡ shown_body (notations_in self.now.book) (core_of self.now.book) definition.now.has_equals definition.now.body) }
+    {
+        if definition.has_equals() {
+            return self.show_after("=", 1, 1, definition.body());
+        }
+        self.show_after("", 1, 1, definition.body())
+    }
+
+    /// A formula as it is shown in the cell at a row and a column, after a sign.
+    fn show_after(
+        &self,
+        sign: &str,
+        row: i32,
+        column: i32,
+        formula: &Formula,
+    ) -> Result<String, OutOfMemory>
+        ensures { IfOk result (λ text. chars (string_bytes text) ≡ chars sign.now ++ shown_formula (notations_in self.now.book) (core_of self.now.book) row column formula.now) }
+    {
         match formula {
             Formula::Tree(tree) => {
-                let spelled = spell(self.alloc, &BookScene::new(&self.sheets), tree)?;
+                let spelled = spell(self.alloc, &self.scene(), tree)?;
                 let text = print(self.alloc, &self.shown(row, column), &spelled)?;
-                after_sign(self.alloc, text.as_str())
+                after_sign(self.alloc, sign, text.as_str())
             }
-            Formula::Raw(text) => after_sign(self.alloc, text.as_str()),
+            Formula::Raw(text) => after_sign(self.alloc, sign, text.as_str()),
         }
     }
 }
@@ -235,12 +252,12 @@ fn formula_at(worksheet: &Worksheet, row: i32, column: i32) -> Option<&Formula>
     worksheet.pool.get(place)
 }
 
-/// A text after `=`.
-fn after_sign(alloc: Global, text: &str) -> Result<String, OutOfMemory>
-    ensures { IfOk result (λ s. chars (string_bytes s) ≡ equals ∷ chars text.now) }
+/// A text after a sign.
+fn after_sign(alloc: Global, sign: &str, text: &str) -> Result<String, OutOfMemory>
+    ensures { IfOk result (λ s. chars (string_bytes s) ≡ chars sign.now ++ chars text.now) }
 {
     let mut out = String::with_capacity(alloc, text.len())?;
-    push_char(&mut out, '=')?;
+    push_text(&mut out, sign)?;
     push_text(&mut out, text)?;
     Ok(out)
 }

@@ -10,6 +10,7 @@
 mod error;
 mod formulas;
 mod model;
+mod names;
 mod notation;
 mod scene;
 mod sheet_changes;

@@ -7,7 +7,9 @@ ghost use Rattle.ic_book.specs.Book.{IsValidBook, core_of, first_sheet_name_in, 
 ghost use Rattle.ic_book.specs.Refused.{Refuses};
 
 use crate::BookError;
-use ic_laws::{Formula, OutOfMemory, Text};
+use crate::scene::BookScene;
+use ic_laws::{Finder, Formula, OutOfMemory, Text};
+use ic_names::Definitions;
 use ic_sheets::Sheets;
 use ic_tables::{Language, NamedLocale, Tables};
 use jiff::Timestamp;
@@ -22,6 +24,7 @@ pub struct Model<'a> {
     pub(crate) tables: &'a Tables,
     name: Text,
     pub(crate) sheets: Sheets,
+    pub(crate) names: Definitions,
     pub(crate) locale: &'a NamedLocale,
     pub(crate) language: &'a Language,
     zone: Text,
@@ -40,9 +43,9 @@ impl<'a> marker::Model for Model<'a> {
 
     ghost coded = { Prim.hlevel (codes, formula.the_row.coded) };
 
-    ghost view = { λ m. held_state m.name m.sheets m.locale.now m.language.now m.zone m.created m.tables.now };
+    ghost view = { λ m. held_state m.name m.sheets m.names m.locale.now m.language.now m.zone m.created m.tables.now };
 
-    ghost invariant = { λ m. IsHeld m.name m.sheets m.locale.now m.language.now m.zone m.created m.tables.now };
+    ghost invariant = { λ m. IsHeld m.name m.sheets m.names m.locale.now m.language.now m.zone m.created m.tables.now };
 }
 
 impl<'a> Model<'a> {
@@ -78,6 +81,7 @@ impl<'a> Model<'a> {
             tables,
             name: Text::from_str(alloc, name)?,
             sheets,
+            names: Definitions::new(alloc),
             locale,
             language,
             zone: Text::from_str(alloc, timezone)?,
@@ -92,13 +96,21 @@ impl<'a> Model<'a> {
         &self.created
     }
 
-    /// The id of the next new sheet: one more than the greatest id in use. None exactly where that is the last
-    /// one, 4,294,967,295.
+    /// The id of the next new sheet: one more than the greatest id in use, of a sheet or of a definition that is local to
+    /// one, also where that sheet is gone. None exactly where that is the last one, 4,294,967,295. It takes no memory.
     pub fn get_new_sheet_id(&self) -> Option<u32>
         ensures fresh { result ≡ fresh_id (core_of self.now.book) }
         ensures unused { IfSome result (λ id. All (λ used. used < id) (used_ids (core_of self.now.book))) }
     {
-        self.sheets.greatest_id().checked_add(1)
+        let greatest = self.sheets.greatest_id().max(self.names.greatest_scope());
+        greatest.checked_add(1)
+    }
+
+    /// What the formulas of the book can mention.
+    pub(crate) fn scene<'b>(&'b self) -> BookScene<'b>
+        ensures { ⟦<BookScene<'b> as Finder>⟧.scene result ≡ scene_in self.now.book }
+    {
+        BookScene::new(&self.sheets, &self.names)
     }
 
     /// The formula at a place of the formulas that the sheet at an index keeps, both from 0. None exactly where there is

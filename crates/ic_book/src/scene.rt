@@ -1,29 +1,36 @@
-ghost use Rattle.std.specs.Prelude.{◌≡◌, None};
+ghost use Rattle.std.specs.Prelude.{◌≡◌, ◌&&◌, IfOk, chars, option_map};
+ghost use Rattle.ic_laws.specs.Name.{agrees, fold};
+ghost use Rattle.ic_laws.specs.Scene.{definition_at, key_of, same_scope};
+ghost use Rattle.ic_book.specs.Scene.{scene_with};
 
-use ic_laws::{Finder, NameKey, OutOfMemory};
+use ic_laws::{Finder, NameKey, OutOfMemory, agree};
+use ic_names::Definitions;
+use ic_pool::{copy_key, same_key, same_scope};
 use ic_sheets::Sheets;
 use std::alloc::Global;
 
-/// What the formulas of a book can mention: its sheets, which are found by their folded names in an ordered map.
+/// What the formulas of a book can mention: its sheets, which are found by their folded names in an ordered map, and its
+/// definitions, which are found so by their keys.
 #[derive(Clone, Copy)]
 pub struct BookScene<'b> {
     sheets: &'b Sheets,
+    names: &'b Definitions,
 }
 
 impl<'b> BookScene<'b> {
-    /// The scene of a book with these sheets.
-    pub fn new(sheets: &'b Sheets) -> BookScene<'b>
-        ensures { result.sheets.now ≡ sheets.now }
+    /// The scene of a book with these sheets and these definitions.
+    pub fn new(sheets: &'b Sheets, names: &'b Definitions) -> BookScene<'b>
+        ensures sheets { result.sheets.now ≡ sheets.now }
+        ensures names { result.names.now ≡ names.now }
     {
-        BookScene { sheets }
+        BookScene { sheets, names }
     }
 }
 
-/// There are no definitions yet.
 impl<'b> Finder for BookScene<'b> {
-    ghost use Rattle.ic_book.specs.Scene.{scene_of_sheets};
+    ghost use Rattle.ic_book.specs.Scene.{scene_of_parts};
 
-    ghost scene = { λ s. scene_of_sheets s.sheets.now };
+    ghost scene = { λ s. scene_of_parts s.sheets.now s.names.now };
 
     fn find_sheet(&self, _alloc: Global, name: &str) -> Result<Option<u32>, OutOfMemory> {
         Ok(self.sheets.find(name))
@@ -32,17 +39,100 @@ impl<'b> Finder for BookScene<'b> {
     fn find_name(
         &self,
         _alloc: Global,
-        _scope: Option<u32>,
-        _word: &str,
+        scope: Option<u32>,
+        word: &str,
     ) -> Result<Option<NameKey>, OutOfMemory> {
-        Ok(None)
+        self.names.find(scope, word)
     }
 
     fn sheet_spelling(&self, id: u32) -> Option<&str> {
         self.sheets.name_of(id)
     }
 
-    fn name_spelling(&self, _key: &NameKey) -> Option<&str> {
+    fn name_spelling(&self, key: &NameKey) -> Option<&str> {
+        self.names.name_of(key)
+    }
+}
+
+/// The same where one definition more stands at the end: the name and the key of that.
+#[derive(Clone, Copy)]
+pub struct SceneWithName<'b> {
+    book: BookScene<'b>,
+    name: &'b str,
+    key: &'b NameKey,
+    ghost own: { key.now.name ≡ fold (chars name.now) },
+}
+
+impl<'b> SceneWithName<'b> {
+    /// The scene of a book with one definition more. The key must be that of the name.
+    pub fn new(book: BookScene<'b>, name: &'b str, key: &'b NameKey) -> SceneWithName<'b>
+        requires { key.now.name ≡ fold (chars name.now) }
+        ensures book { result.book ≡ book.entry }
+        ensures name { result.name.now ≡ name.now }
+        ensures key { result.key.now ≡ key.now }
+    {
+        SceneWithName { book, name, key }
+    }
+
+    /// The key of the definition of an agreeing name that is local to the sheet with this id, or to none.
+    fn key_at(
+        &self,
+        alloc: Global,
+        scope: Option<u32>,
+        word: &str,
+    ) -> Result<Option<NameKey>, OutOfMemory>
+        ensures { IfOk result (λ key. key ≡ option_map key_of (definition_at (scene_with self.now.book.sheets.now self.now.book.names.now (chars self.now.name.now) self.now.key.now.scope) (fold (chars word.now)) scope)) }
+    {
+        if let Some(key) = self.book.names.key_at(scope, word)? {
+            return Ok(Some(key));
+        }
+        if self.is_named(scope, word) {
+            return Ok(Some(copy_key(alloc, self.key)?));
+        }
+        Ok(None)
+    }
+
+    /// Whether the definition at the end has an agreeing name and is local to the sheet with this id, or to none.
+    fn is_named(&self, scope: Option<u32>, word: &str) -> bool
+        ensures { result ≡ (agrees (chars self.now.name.now) (chars word.now) && same_scope self.now.key.now.scope scope) }
+    {
+        agree(self.name, word) && same_scope(self.key.scope, scope)
+    }
+}
+
+impl<'b> Finder for SceneWithName<'b> {
+    ghost use Rattle.std.specs.Prelude.{chars};
+    ghost use Rattle.ic_book.specs.Scene.{scene_with};
+
+    ghost scene = { λ s. scene_with s.book.sheets.now s.book.names.now (chars s.name.now) s.key.now.scope };
+
+    fn find_sheet(&self, alloc: Global, name: &str) -> Result<Option<u32>, OutOfMemory> {
+        self.book.find_sheet(alloc, name)
+    }
+
+    fn find_name(
+        &self,
+        alloc: Global,
+        scope: Option<u32>,
+        word: &str,
+    ) -> Result<Option<NameKey>, OutOfMemory> {
+        match self.key_at(alloc, scope, word)? {
+            Some(key) => Ok(Some(key)),
+            None => self.key_at(alloc, None, word),
+        }
+    }
+
+    fn sheet_spelling(&self, id: u32) -> Option<&str> {
+        self.book.sheet_spelling(id)
+    }
+
+    fn name_spelling(&self, key: &NameKey) -> Option<&str> {
+        if let Some(name) = self.book.name_spelling(key) {
+            return Some(name);
+        }
+        if same_key(self.key, key) {
+            return Some(self.name);
+        }
         None
     }
 }

@@ -8,7 +8,9 @@ ghost use Rattle.ic_book.specs.Book.{core_of, notations_in};
 ghost use Rattle.ic_book.specs.Change.{book_changed_by, with_added_sheet, with_moved_sheet, with_removed_sheet, with_renamed_sheet};
 ghost use Rattle.ic_book.specs.Refused.{Refuses, RefusesOnly, refusal_at};
 
+use crate::names::bodies_without;
 use crate::{BookError, Model};
+use ic_pool::SheetNamed;
 use ic_refs::is_valid_sheet_name;
 
 impl<'a> Model<'a> {
@@ -38,7 +40,13 @@ impl<'a> Model<'a> {
         let Some(id) = self.get_new_sheet_id() else {
             return Err(BookError::IdsUsedUp);
         };
+        let named = SheetNamed {
+            id,
+            name: sheet_name,
+        };
+        let bodies = self.names.rewrites_of_dangling(&named)?;
         self.sheets.add_sheet(id, sheet_name)?;
+        self.names.apply(bodies);
         Ok(())
     }
 
@@ -202,7 +210,13 @@ impl<'a> Model<'a> {
         if index >= self.sheets.len() {
             return Err(BookError::InvalidSheet);
         }
+        let named = SheetNamed {
+            id: self.sheets.as_slice()[index].id,
+            name: new_name,
+        };
+        let bodies = self.names.rewrites_of_dangling(&named)?;
         self.sheets.rename_sheet(index, new_name)?;
+        self.names.apply(bodies);
         Ok(())
     }
 
@@ -221,7 +235,9 @@ impl<'a> Model<'a> {
         if index >= self.sheets.len() {
             return Err(BookError::SheetIndexTooLarge);
         }
+        let bodies = bodies_without(&self.sheets, &self.names, index)?;
         self.sheets.delete_sheet(index)?;
+        self.names.apply(bodies);
         Ok(())
     }
 }

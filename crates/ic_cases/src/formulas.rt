@@ -1,10 +1,11 @@
 //! Formulas: a text is read and its tree printed, in the stored form or as it is shown in a cell.
 use crate::fault::Fault;
 use crate::lookups::put_id_error;
+use crate::references::put_token;
 use crate::words::{int, put_none, put_text, word};
 use ic_laws::{Dialect, Text};
 use ic_tables::{BookIdError, Tables};
-use ic_tree::{Shown, Stored, print, read};
+use ic_tree::{Shown, Stored, print, read, read_reference};
 use std::alloc::Global;
 
 /// Answers the call of this name, if it is one of these.
@@ -20,6 +21,7 @@ pub fn call(
         "read_shown" => read_shown(alloc, tables, words, out)?,
         "shown_to_stored" => shown_to_stored(alloc, tables, words, out)?,
         "stored_to_shown" => stored_to_shown(alloc, tables, words, out)?,
+        "read_reference" => put_reference(alloc, tables, words, out)?,
         _ => return Ok(false),
     }
     Ok(true)
@@ -107,4 +109,20 @@ fn stored_to_shown(
 ) -> Result<(), Fault> {
     let shown = shown_in(tables, words)?;
     put_canonical(alloc, &Stored::new(tables), &shown, word(words, 5)?, out)
+}
+
+/// The reference that a whole text is, as it is shown in the first cell in a locale and a language.
+fn put_reference(
+    alloc: Global,
+    tables: &Tables,
+    words: &[Text],
+    out: &mut String,
+) -> Result<(), Fault> {
+    let Ok(shown) = shown_at(tables, word(words, 1)?, word(words, 2)?, 1, 1) else {
+        return Err(Fault::Row);
+    };
+    match read_reference(alloc, &shown, word(words, 3)?)? {
+        Some(token) => put_token(alloc, out, &token),
+        None => put_none(out),
+    }
 }

@@ -12,6 +12,7 @@ mod books;
 mod broken;
 mod cells;
 mod commands;
+mod definitions;
 mod errors;
 mod fault;
 mod formulas;
@@ -84,6 +85,7 @@ fn book_call<'t>(
 ) -> Result<bool, Fault> {
     Ok(
         books::call(alloc, tables, book, words, out)?
+            || definitions::call(alloc, book, words, out)?
             || commands::call(alloc, book, words, out)?
             || pools::call(alloc, tables, book, words, out)?,
     )

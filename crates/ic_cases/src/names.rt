@@ -5,7 +5,7 @@ use ic_laws::{Text, agree};
 use ic_lines::{escape, unescape};
 use ic_refs::{
     ColumnError, column_to_number, is_valid_a1_identifier, is_valid_column, is_valid_column_number,
-    is_valid_identifier, is_valid_row, is_valid_sheet_name, number_to_column, quote_name,
+    is_valid_identifier, is_valid_row, is_valid_sheet_name, number_to_column, quote_name, trimmed,
 };
 use std::alloc::Global;
 
@@ -52,6 +52,7 @@ fn texts(alloc: Global, name: &str, words: &[Text], out: &mut String) -> Result<
             put_text(alloc, out, escaped.as_str())?;
         }
         "unescape" => put_unescaped(alloc, word(words, 1)?, out)?,
+        "trimmed" => put_text(alloc, out, trimmed(word(words, 1)?))?,
         _ => return Ok(false),
     }
     Ok(true)

@@ -148,13 +148,18 @@ fn put_found(
     let Some((token, length)) = found else {
         return put_none(out);
     };
+    put_token(alloc, out, &token)?;
+    write!(out, "\t{length}")?;
+    Ok(())
+}
+
+/// The fields of a reference: its sheet and its place.
+pub fn put_token(alloc: Global, out: &mut String, token: &RefToken) -> Result<(), Fault> {
     match &token.sheet {
         None => out.push('-')?,
         Some(name) => put_some(alloc, out, name.as_str())?,
     }
-    put_place(out, token.place)?;
-    write!(out, "\t{length}")?;
-    Ok(())
+    put_place(out, token.place)
 }
 
 fn put_spelled_a1(alloc: Global, words: &[Text], out: &mut String) -> Result<(), Fault> {

@@ -1,16 +1,21 @@
 -- A call's answer is a step of the machine.
-use Rattle.std.proofs.Common.{◌≡◌, ℕ, ℤ, List, [], ◌∷◌, ◌++◌, Option, Some, None, Result, Ok, Err, OnErr, OnOk, IfSome, option_map, refl, sym, ap, subst, ◌∙◌}
+use Rattle.std.proofs.Common.{◌≡◌, ◌⊎◌, ℕ, ℤ, List, [], ◌∷◌, ◌++◌, Bool, false, true, String, Global, Option, Some, None, Result, Ok, Err, OnErr, OnOk, IfSome, flat_map, map, option_map, refl, sym, ap, ap₂, subst, ◌∙◌, inl, inr}
+use Rattle.std.proofs.lemmas.List.Concat.{flat_map-append}
 use Rattle.std.specs.Option.{option_to_list}
 use Rattle.ic_laws.specs.Character.{equals}
-use Rattle.ic_laws.specs.Command.{Command, Field, GetCellFormula, TextField}
-use Rattle.ic_laws.specs.CoreBook.{CoreBook}
-use Rattle.ic_laws.specs.CoreStep.{formula_of, lacks_sheet, shown_field, unless_refused}
-use Rattle.ic_laws.specs.FormulaReading.{shown_formula}
+use Rattle.ic_laws.specs.Command.{Command, Field, GetCellFormula, NumberField, TextField}
+use Rattle.ic_laws.specs.CoreBook.{CoreBook, Definition}
+use Rattle.ic_laws.specs.CoreStep.{fields_in_scope, formula_of, lacks_sheet, list_fields, listed_scope, unless_refused}
+use Rattle.ic_laws.specs.FormulaReading.{shown_body, shown_formula}
 use Rattle.ic_laws.specs.Lines.{command_step, outcome_of, reply_bytes, reply_text}
 use Rattle.ic_laws.specs.Refusal.{InvalidSheet, Refusal, SheetNotFound, first_refusal}
 use Rattle.ic_book.specs.Book.{Book, IsSameBeside, ModelState, StepsTo, core_of, notations_in}
-use Rattle.ic_book.specs.Refused.{Refuses, RefusesOnly, refusal_at, refusal_of}
+use Rattle.ic_laws.specs.Notations.{Notations}
+use Rattle.ic_book.specs.Names.{Listed, listed, listed_names}
+use Rattle.ic_book.specs.Refused.{Refuses, RefusesOnly, RefusesOr, refusal_at, refusal_of}
 use Rattle.ic_book.specs.declared.error.BookError.{BookError}
+use Rattle.ic_book.specs.declared.error.BookError.TheVariants as errors
+use Rattle.ic_words.specs.Reply.{name_fields}
 use Rattle.ic_commands.specs.Answered.{IsAnswered, IsLineText, IsTold}
 use Rattle.ic_commands.proofs.ReplyLemmas.{ok_line, refusal_line}
 use Rattle.ic_commands.proofs.StepLemmas.{Done, shows}
@@ -84,7 +89,18 @@ pub set_steps : {T : Type 0} (done : Result T BookError) (old new : ModelState) 
 set_steps (Ok value) old new book is beside = record { core = ap (λ m. core_of m.book) is; beside = beside_same old.book new.book book (ap (λ m. m.book) is) beside }
 set_steps (Err e) old new book is beside = tt
 
--- ---- what is shown of a formula
+-- ---- what is read of a book
+
+-- fields that a reader replies
+pub read : (command : Command) (book : Book) (before after : List ℕ) (refusal : Option Refusal) (fields told : List Field) → Done (notations_in book) (core_of book) command refusal (core_of book) fields → refusal ≡ None → fields ≡ told → IsLineText (reply_text (Ok told))
+    → after ≡ before ++ reply_bytes (Ok told) → IsAnswered command book book before after
+read command book before after refusal fields told step none same is_line replied =
+    let is = step ∙ ap (λ r. outcome_of (core_of book) (unless_refused r (core_of book) fields)) none ∙ ap (λ (fields : List Field). outcome_of (core_of book) (Ok (core_of book, fields))) same in
+    record {
+      book = subst (λ s. StepsTo book book s.0) (sym is) (record { core = refl; beside = record { name = refl; zone = refl; created = refl; tables = refl } });
+      reply = replied ∙ ap (λ s. before ++ reply_bytes s.1) (sym is);
+      line = subst (λ s. IsLineText (reply_text s.1)) (sym is) is_line;
+    }
 
 -- the field with a text that is there
 fields_of : {A : Type 0} (g : A → List ℕ) (o : Option A) (text : Option (List ℕ)) → text ≡ option_map g o → option_to_list (option_map (λ a. TextField (g a)) o) ≡ option_to_list (option_map TextField text)
@@ -97,12 +113,44 @@ pub shown_reply : (book : Book) (sheet : ℕ) (row column : ℤ) (before after :
 shown_reply book sheet row column before after text none shown is_line told =
     let n = notations_in book in
     let core = core_of book in
-    let is =
-    shows n core sheet row column
-    ∙ ap (λ r. outcome_of core (unless_refused r core (option_to_list (option_map (shown_field n core row column) (formula_of core sheet row column))))) none
-    ∙ ap (λ (fields : List Field). outcome_of core (Ok (core, fields))) (fields_of (λ f. equals ∷ shown_formula n core row column f) (formula_of core sheet row column) text shown) in
-    record {
-      book = subst (λ s. StepsTo book book s.0) (sym is) (record { core = refl; beside = record { name = refl; zone = refl; created = refl; tables = refl } });
-      reply = told ∙ ap (λ s. before ++ reply_bytes s.1) (sym is);
-      line = subst (λ s. IsLineText (reply_text s.1)) (sym is) is_line;
-    }
+    read (GetCellFormula sheet row column) book before after _ _ (option_to_list (option_map TextField text)) (shows n core sheet row column) none (fields_of (λ f. equals ∷ shown_formula n core row column f) (formula_of core sheet row column) text shown) is_line told
+
+-- ---- definitions
+
+-- a call that may want memory before it sees a refusal: what it told is what refuses
+pub same_refusal : (late told : Refusal) (e : BookError) (refusal : Option Refusal) → (refusal ≡ refusal_of e) ⊎ ((refusal ≡ Some late) × (e ≡ errors.OutOfMemory)) → refusal_of e ≡ Some told → refusal ≡ refusal_of e
+same_refusal late told e refusal (inl same) is = same
+same_refusal late told e refusal (inr memory) is = absurd (none_is_some (ap refusal_of (sym memory.1) ∙ is))
+  where
+    is_told : Option Refusal → Bool
+    is_told None = false
+    is_told (Some r) = true
+
+    none_is_some : refusal_of errors.OutOfMemory ≡ Some told → ⊥
+    none_is_some f = let no : false ≡ true = ap is_told f in cc
+
+pub refuses_by : (late : Refusal) (done : Result (Unit {0}) BookError) (refusal : Option Refusal) (before after : List ℕ) → RefusesOr late done refusal → IsTold done before after → Refuses done refusal
+refuses_by late (Ok value) refusal before after h told = h
+refuses_by late (Err e) refusal before after h told = same_refusal late told.0 e refusal h told.1
+
+-- the fields of what is listed
+abbrev row_fields : Listed → List Field
+row_fields item = TextField item.0 ∷ NumberField item.1 ∷ TextField item.2 ∷ []
+
+listed_fields : (items : List (String Global × Option ℕ × String Global)) → flat_map name_fields items ≡ flat_map row_fields (map listed items)
+listed_fields [] = refl
+listed_fields (item ∷ items) = ap (λ fields. name_fields item ++ fields) (listed_fields items)
+
+pub list_is : (n : Notations) (core : CoreBook) (items : List (String Global × Option ℕ × String Global)) → map listed items ≡ listed_names n core → list_fields n core ≡ flat_map name_fields items
+list_is n core items e = rows core.definitions ∙ sym (ap (flat_map row_fields) e) ∙ sym (listed_fields items)
+  where
+    row : Definition → Option (Option ℕ) → List Listed
+    row d scope = option_to_list (option_map (λ (s : Option ℕ). (d.name, s, shown_body n core d.has_equals d.body)) scope)
+
+    one : (d : Definition) (scope : Option (Option ℕ)) → fields_in_scope n core d scope ≡ flat_map row_fields (row d scope)
+    one d None = refl
+    one d (Some s) = refl
+
+    rows : (ds : List Definition) → flat_map (λ d. fields_in_scope n core d (listed_scope core d.scope)) ds ≡ flat_map row_fields (flat_map (λ d. row d (listed_scope core d.scope)) ds)
+    rows [] = refl
+    rows (d ∷ ds) = ap₂ ◌++◌ (one d (listed_scope core d.scope)) (rows ds) ∙ sym (flat_map-append row_fields (row d (listed_scope core d.scope)) (flat_map (λ d. row d (listed_scope core d.scope)) ds))

@@ -1,58 +1,23 @@
 -- A reply is a text of one line, and its bytes without the last are that text.
-use Rattle.std.proofs.Common.{◌≡◌, ℕ, zero, suc, ◌-◌, ◌<◌, List, [], ◌∷◌, ◌++◌, ◌==◌, length, take, get_or, true, false, Ok, Err, chars, codes, encode_utf8_all, refl, ap, sym, subst, ◌∙◌, inl, inr, arith, length-append, append-nil, slice_get, unwrap_or}
+use Rattle.std.proofs.Common.{◌≡◌, ℕ, zero, suc, ◌-◌, ◌<◌, List, [], ◌∷◌, ◌++◌, length, take, get_or, true, false, Ok, Err, chars, codes, encode_utf8_all, refl, ap, sym, ◌∙◌, arith, length-append, slice_get, unwrap_or}
 use Rattle.std.specs.List.{AllByRecursion}
-use lib.Utf8.{scalar, scalars}
+use lib.Utf8.{scalars}
 use Rattle.std.proofs.Math.Seq.{get_or-append_seam}
-use Rattle.std.proofs.lemmas.Bool.{and_parts}
-use Rattle.std.proofs.lemmas.Bool.Decides.{eqb_tells}
 use Rattle.std.proofs.lemmas.List.{take_at}
 use Rattle.std.proofs.lemmas.Str.{chars-encodes}
 use Rattle.ic_laws.specs.Command.{TextField}
-use Rattle.ic_laws.specs.Lines.{Reply, escape_of, escaped, reply_bytes, reply_text}
+use Rattle.ic_laws.specs.Lines.{Reply, reply_bytes, reply_text}
 use Rattle.ic_laws.specs.Refusal.{Refusal, refusal_names}
 use Rattle.ic_lines.specs.Reading.{has_line_feed}
+use Rattle.ic_words.proofs.ReplyFacts.{IsPlain, fields_line}
 use Rattle.ic_commands.specs.Answered.{IsLineText}
-
--- characters without a line feed
-abbrev IsPlain : List ℕ → Type 0
-IsPlain cs = (scalars cs ≡ true) × (has_line_feed cs ≡ false)
 
 line_of : (cs : List ℕ) → IsPlain cs → IsLineText cs
 line_of cs plain = (chars-encodes cs plain.0, plain.1)
 
-plain_more : (c : ℕ) (cs : List ℕ) → scalar c ≡ true → (c == 10) ≡ false → IsPlain cs → IsPlain (c ∷ cs)
-plain_more c cs s other plain = (rw s plain.0, rw other plain.1)
-
--- a character as it is written in a word has no line feed
-plain_escape : (c : ℕ) (cs : List ℕ) → scalar c ≡ true → IsPlain cs → IsPlain (escape_of c ++ cs)
-plain_escape c cs s plain =
-    elim (eqb_tells c 92) [
-      | inl p ↦ rw p.1 plain
-      | inr p ↦ elim (eqb_tells c 9) [
-        | inl q ↦ rw q.1 plain
-        | inr q ↦ elim (eqb_tells c 10) [
-          | inl r ↦ rw r.1 plain
-          | inr r ↦ elim (eqb_tells c 13) [
-            | inl t ↦ rw t.1 plain
-            | inr t ↦ let e : escape_of c ≡ c ∷ [] = rw (p.0, q.0, r.0, t.0) refl in
-                subst (λ front. IsPlain (front ++ cs)) (sym e) (plain_more c cs s r.0 plain)
-          ]
-        ]
-      ]
-    ]
-
-plain_escaped : (cs : List ℕ) → scalars cs ≡ true → IsPlain (escaped cs)
-plain_escaped [] s = (refl, refl)
-plain_escaped (c ∷ cs) s =
-    let both = and_parts (scalar c) (scalars cs) s in
-    plain_escape c (escaped cs) both.0 (plain_escaped cs both.1)
-
 -- the reply with a text
 pub text_line : (cs : List ℕ) → scalars cs ≡ true → IsLineText (reply_text (Ok (TextField cs ∷ [])))
-text_line cs s =
-    let plain = plain_escaped cs s in
-    let front : IsPlain (codes "ok" ++ 9 ∷ escaped cs) = (plain.0, plain.1) in
-    line_of _ (subst (λ v. IsPlain (codes "ok" ++ 9 ∷ v)) (sym (append-nil (escaped cs))) front)
+text_line cs s = fields_line (TextField cs ∷ []) (s, tt)
 
 -- the reply without fields
 pub ok_line : IsLineText (reply_text (Ok []))

@@ -1,10 +1,10 @@
 -- What a command leaves and what is replied, by what refuses it.
 use Rattle.std.proofs.Common.{◌≡◌, ℕ, ℤ, List, [], ◌∷◌, not, Option, Some, None, Err, option_map, refl, ap}
 use Rattle.std.specs.Option.{option_to_list}
-use Rattle.ic_laws.specs.Command.{AddSheet, Command, DeleteSheet, DeleteSheetByName, DeleteSheetBySheetId, Field, GetCellFormula, MoveSheet, RenameSheet, RenameSheetByIndex, SetLanguage, SetLocale, UpdateCellWithFormula}
-use Rattle.ic_laws.specs.CoreBook.{CoreBook}
-use Rattle.ic_laws.specs.CoreStep.{add_sheet_refusal, at_found, changed_by, delete_refusal, delete_step, formula_of, index_of_id, index_of_name, lacks_sheet, move_refusal, moved, rename_refusal, rename_step, shown_field, unless_refused, update_refusal, updated_at, with_formula, with_new_sheet, with_sheet_name, without_sheet, core_step}
-use Rattle.ic_laws.specs.FormulaReading.{without_equals}
+use Rattle.ic_laws.specs.Command.{AddSheet, Command, DeleteDefinedName, DeleteSheet, DeleteSheetByName, DeleteSheetBySheetId, Field, GetCellFormula, GetDefinedNameList, GetNewSheetId, IsValidDefinedName, MoveSheet, NewDefinedName, NumberField, RenameSheet, RenameSheetByIndex, SetLanguage, SetLocale, UpdateCellWithFormula}
+use Rattle.ic_laws.specs.CoreBook.{CoreBook, fresh_id}
+use Rattle.ic_laws.specs.CoreStep.{add_sheet_refusal, at_found, changed_by, delete_name_refusal, delete_refusal, delete_step, formula_of, index_of_definition, index_of_id, index_of_name, lacks_sheet, list_fields, move_refusal, moved, new_name_refusal, rename_refusal, rename_step, scope_or_none, shown_field, unless_refused, update_refusal, updated_at, with_formula, with_new_name, with_new_sheet, with_sheet_name, without_definition, without_sheet, core_step}
+use Rattle.ic_laws.specs.FormulaReading.{body_of, without_equals}
 use Rattle.ic_laws.specs.Lines.{command_step, outcome_of}
 use Rattle.ic_laws.specs.Notations.{Notations}
 use Rattle.ic_laws.specs.Refusal.{InvalidLanguage, InvalidLocale, InvalidSheet, Refusal, SheetNotFound, first_refusal}
@@ -29,6 +29,26 @@ module _ (n : Notations) (core : CoreBook) where
   pub deletes_at : (index : ℕ) → Done n core (DeleteSheet index) (delete_refusal core index) (changed_by n (without_sheet index) core) []
   unfolding core_step
   deletes_at index = refl
+
+  pub defines : (name : List ℕ) (index : Option ℕ) (body : List ℕ) → Done n core (NewDefinedName name index body) (new_name_refusal n core name index body) (with_new_name n core name (scope_or_none core index) (body_of n core body)) []
+  unfolding core_step
+  defines name index body = refl
+
+  pub undefines : (name : List ℕ) (index : Option ℕ) → Done n core (DeleteDefinedName name index) (delete_name_refusal core name index) (changed_by n (without_definition (index_of_definition core name (scope_or_none core index))) core) []
+  unfolding core_step
+  undefines name index = refl
+
+  pub validates : (name : List ℕ) (index : Option ℕ) (body : List ℕ) → Done n core (IsValidDefinedName name index body) (new_name_refusal n core name index body) core (NumberField (scope_or_none core index) ∷ [])
+  unfolding core_step
+  validates name index body = refl
+
+  pub lists : Done n core GetDefinedNameList None core (list_fields n core)
+  unfolding core_step
+  lists = refl
+
+  pub tells_id : Done n core GetNewSheetId None core (NumberField (fresh_id core) ∷ [])
+  unfolding core_step
+  tells_id = refl
 
   pub sets_locale : (id : List ℕ) → Done n core (SetLocale id) (first_refusal ((not (n.knows_locale id), InvalidLocale) ∷ [])) (record core { locale = id }) []
   unfolding core_step

@@ -14,7 +14,10 @@ ghost use Rattle.ic_commands.specs.Answered.{IsAnswered, IsLineText, IsTold};
 use ic_book::{BookError, Model};
 use ic_laws::{OutOfMemory, Text};
 use ic_lines::Line;
-use ic_words::{Command, REPLY_ROOM, WordText, command_in, error_reply, ok_reply, text_reply};
+use ic_words::{
+    Command, REPLY_ROOM, WordText, command_in, error_reply, names_reply, number_reply, ok_reply,
+    text_reply,
+};
 use std::alloc::Global;
 
 /// One step of the machine: what a line does to the book, and its reply with the line feed at its end. Where memory
@@ -67,6 +70,17 @@ fn answer(
         Command::DeleteSheet { sheet } => delete_sheet(model, sheet, reply),
         Command::DeleteSheetByName { name } => delete_sheet_by_name(model, name.as_str(), reply),
         Command::DeleteSheetBySheetId { id } => delete_sheet_by_sheet_id(model, id, reply),
+        Command::NewDefinedName { name, scope, body } => {
+            new_defined_name(model, name.as_str(), scope, body.as_str(), reply)
+        }
+        Command::DeleteDefinedName { name, scope } => {
+            delete_defined_name(model, name.as_str(), scope, reply)
+        }
+        Command::IsValidDefinedName { name, scope, body } => {
+            is_valid_defined_name(model, name.as_str(), scope, body.as_str(), reply)
+        }
+        Command::GetDefinedNameList => defined_name_list(model, reply),
+        Command::GetNewSheetId => new_sheet_id(model, reply),
         Command::SetLocale { id } => set_locale(model, id.as_str(), reply),
         Command::SetLanguage { id } => set_language(model, id.as_str(), reply),
         Command::UpdateCellWithFormula {
@@ -165,6 +179,67 @@ fn delete_sheet_by_sheet_id(
 {
     let done = model.delete_sheet_by_sheet_id(id);
     told(done, reply)
+}
+
+fn new_defined_name(
+    model: &mut Model<'_>,
+    name: &str,
+    scope: Option<u32>,
+    body: &str,
+    reply: String,
+) -> Result<String, OutOfMemory>
+    requires { string_len reply + REPLY_ROOM ≤ string_capacity reply }
+    ensures ok { IfOk result (λ text. IsAnswered (command.NewDefinedName (chars name.now) scope (chars body.now)) model.old.book model.new.book (string_bytes reply) (string_bytes text)) }
+    ensures err { OnErr result (model.new.book ≡ model.old.book) }
+{
+    let done = model.new_defined_name(name, scope, body);
+    told(done, reply)
+}
+
+fn delete_defined_name(
+    model: &mut Model<'_>,
+    name: &str,
+    scope: Option<u32>,
+    reply: String,
+) -> Result<String, OutOfMemory>
+    requires { string_len reply + REPLY_ROOM ≤ string_capacity reply }
+    ensures ok { IfOk result (λ text. IsAnswered (command.DeleteDefinedName (chars name.now) scope) model.old.book model.new.book (string_bytes reply) (string_bytes text)) }
+    ensures err { OnErr result (model.new.book ≡ model.old.book) }
+{
+    let done = model.delete_defined_name(name, scope);
+    told(done, reply)
+}
+
+fn is_valid_defined_name(
+    model: &Model<'_>,
+    name: &str,
+    scope: Option<u32>,
+    body: &str,
+    reply: String,
+) -> Result<String, OutOfMemory>
+    requires { string_len reply + REPLY_ROOM ≤ string_capacity reply }
+    ensures { IfOk result (λ text. IsAnswered (command.IsValidDefinedName (chars name.now) scope (chars body.now)) model.now.book model.now.book (string_bytes reply) (string_bytes text)) }
+{
+    match model.is_valid_defined_name(name, scope, body) {
+        Ok(id) => number_reply(reply, id),
+        Err(e) => refused(&e, reply),
+    }
+}
+
+fn defined_name_list(model: &Model<'_>, reply: String) -> Result<String, OutOfMemory>
+    requires { string_len reply + REPLY_ROOM ≤ string_capacity reply }
+    ensures { IfOk result (λ text. IsAnswered command.GetDefinedNameList model.now.book model.now.book (string_bytes reply) (string_bytes text)) }
+{
+    match model.get_defined_name_list() {
+        Ok(names) => names_reply(reply, &names),
+        Err(e) => refused(&e, reply),
+    }
+}
+
+fn new_sheet_id(model: &Model<'_>, reply: String) -> Result<String, OutOfMemory>
+    ensures { IfOk result (λ text. IsAnswered command.GetNewSheetId model.now.book model.now.book (string_bytes reply) (string_bytes text)) }
+{
+    number_reply(reply, model.get_new_sheet_id())
 }
 
 fn set_locale(model: &mut Model<'_>, id: &str, reply: String) -> Result<String, OutOfMemory>

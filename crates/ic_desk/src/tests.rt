@@ -95,6 +95,31 @@ fn formulas_follow_the_sheets(rt: HostRuntime) -> Result<(), Fail> {
     Ok(())
 }
 
+/// A definition, one of an agreeing name for the sheet that it refers to, the sheet gone, and the definitions that are left.
+const NAMES: &[u8] =
+    b"add_sheet\tData\nnew_defined_name\ttax\t-\tdata!A1\nnew_defined_name\tTax\t1\tSheet1!A1\ndelete_sheet\t1\nget_defined_name_list\n";
+
+/// The same of these lines. The next id passes that of the sheet that is gone, since a definition is local to it.
+const NAME_READS: [(usize, u64, Outcome<'static>); 6] = [
+    (1, 118, (Ok(5), 3, "ok\nok\nok\nok\nok\ttax\t-\tData!A1\n")),
+    (4096, 3, (Ok(5), 3, "ok\nok\nok\nok\nok\ttax\t-\tData!A1\n")),
+    (1, 95, (Err(RunError::ReadFault), 3, "ok\nok\nok\nok\n")),
+    (1, 94, (Err(RunError::ReadFault), 3, "ok\nok\nok\n")),
+    (1, 46, (Err(RunError::ReadFault), 3, "ok\n")),
+    (1, 15, (Err(RunError::ReadFault), 2, "")),
+];
+
+#[test]
+fn definitions_come_and_go(rt: HostRuntime) -> Result<(), Fail> {
+    let tables = sample_tables(rt.alloc())?;
+    for (chunk, failing, outcome) in &NAME_READS {
+        let source = MemorySource::new(rt.alloc(), NAMES, (*chunk).max(1), &[*failing])?;
+        let sink = MemorySink::new(rt.alloc(), 1000, &[])?;
+        expect_run(&rt, &tables, source, sink, outcome)?;
+    }
+    Ok(())
+}
+
 /// The room of the sink, and a write that is never made or fails: one write a reply.
 const WRITES: [(usize, u64, Outcome<'static>); 5] = [
     (6, 3, (Ok(2), 4, "ok\nok\n")),

@@ -1,15 +1,14 @@
 -- A look-up that is made from the last formula to the first, and one that is kept up with the formulas.
 use Rattle.std.proofs.Common.{◌≡◌, ◌<◌, ◌+◌, ℕ, suc, List, [], ◌∷◌, ◌++◌, Bool, true, false, cond, Option, Some, None, option_map, refl, sym, ap, ap₂, ◌∙◌, length, drop, get_or, bytes_eq, arith}
-use Rattle.std.proofs.Math.Seq.{drop-cons, drop-length}
-use Rattle.std.specs.BTreeMap.{BTreeMap, Updates, get, IsEmpty}
+use Rattle.std.proofs.Math.Seq.{drop-cons}
+use Rattle.std.specs.BTreeMap.{BTreeMap, Updates, get}
 use Rattle.std.specs.Cmp.Lexicographic.{slice_cmp}
-use Rattle.std.specs.Map.{lookup}
 use Rattle.std.specs.Ordering.{nat_cmp}
 use Rattle.std.proofs.lemmas.Map.Text.{is_eq-slice_cmp}
 use Rattle.ic_laws.specs.declared.tree.Formula.{Formula}
 use Rattle.ic_pool.specs.Code.{code}
-use Rattle.ic_pool.specs.Mentions.{has_dangling_sheet}
-use Rattle.ic_pool.specs.Pool.{IsKept, KeepsPlaces, dangling_from, dangling_places, first_place}
+use Rattle.ic_pool.specs.Mentions.{has_dangling}
+use Rattle.ic_pool.specs.Pool.{IsKept, dangling_from, dangling_places, first_place}
 use Rattle.ic_pool.proofs.KeyLemmas.{bytes_eq-flip}
 use Rattle.ic_pool.proofs.PlacedLemmas.{KeepsPlaces-push}
 
@@ -39,18 +38,18 @@ KeepsFrom-step before after at next formulas x key kept is_next within item same
 
 -- ---- a formula is put at the end
 
-pub dangling_from-push : (at : ℕ) (xs : List Formula) (x : Formula) → dangling_from at (xs ++ x ∷ []) ≡ dangling_from at xs ++ cond (has_dangling_sheet x) ((at + length xs) ∷ []) []
-dangling_from-push at [] x = ap (λ n. cond (has_dangling_sheet x) (n ∷ []) []) (omega arith)
-dangling_from-push at (y ∷ xs) x = after (has_dangling_sheet y) (dangling_from-push (suc at) xs x)
+pub dangling_from-push : (at : ℕ) (xs : List Formula) (x : Formula) → dangling_from at (xs ++ x ∷ []) ≡ dangling_from at xs ++ cond (has_dangling x) ((at + length xs) ∷ []) []
+dangling_from-push at [] x = ap (λ n. cond (has_dangling x) (n ∷ []) []) (omega arith)
+dangling_from-push at (y ∷ xs) x = after (has_dangling y) (dangling_from-push (suc at) xs x)
   where
-    after : (b : Bool) → dangling_from (suc at) (xs ++ x ∷ []) ≡ dangling_from (suc at) xs ++ cond (has_dangling_sheet x) ((suc at + length xs) ∷ []) []
+    after : (b : Bool) → dangling_from (suc at) (xs ++ x ∷ []) ≡ dangling_from (suc at) xs ++ cond (has_dangling x) ((suc at + length xs) ∷ []) []
         → cond b (at ∷ dangling_from (suc at) (xs ++ x ∷ [])) (dangling_from (suc at) (xs ++ x ∷ []))
-        ≡ cond b (at ∷ dangling_from (suc at) xs) (dangling_from (suc at) xs) ++ cond (has_dangling_sheet x) ((at + suc (length xs)) ∷ []) []
-    after true e = ap (λ ps. at ∷ ps) (e ∙ ap (λ n. dangling_from (suc at) xs ++ cond (has_dangling_sheet x) (n ∷ []) []) (let s : suc at + length xs ≡ at + suc (length xs) = omega arith in s))
-    after false e = e ∙ ap (λ n. dangling_from (suc at) xs ++ cond (has_dangling_sheet x) (n ∷ []) []) (let s : suc at + length xs ≡ at + suc (length xs) = omega arith in s)
+        ≡ cond b (at ∷ dangling_from (suc at) xs) (dangling_from (suc at) xs) ++ cond (has_dangling x) ((at + suc (length xs)) ∷ []) []
+    after true e = ap (λ ps. at ∷ ps) (e ∙ ap (λ n. dangling_from (suc at) xs ++ cond (has_dangling x) (n ∷ []) []) (let s : suc at + length xs ≡ at + suc (length xs) = omega arith in s))
+    after false e = e ∙ ap (λ n. dangling_from (suc at) xs ++ cond (has_dangling x) (n ∷ []) []) (let s : suc at + length xs ≡ at + suc (length xs) = omega arith in s)
 
 pub IsKept-push : (before after : Index) (is_whole : Bool) (places more : List ℕ) (xs list : List Formula) (x : Formula) (key : List ℕ) (at : ℕ) → IsKept before is_whole places xs → is_whole ≡ true → first_place key xs ≡ None → key ≡ code x
-    → at ≡ length xs → Updates (slice_cmp nat_cmp) before after key (Some at) → list ≡ xs ++ x ∷ [] → (b : Bool) → has_dangling_sheet x ≡ b → more ≡ places ++ cond b (at ∷ []) [] → IsKept after is_whole more list
+    → at ≡ length xs → Updates (slice_cmp nat_cmp) before after key (Some at) → list ≡ xs ++ x ∷ [] → (b : Bool) → has_dangling x ≡ b → more ≡ places ++ cond b (at ∷ []) [] → IsKept after is_whole more list
 IsKept-push before after is_whole places more xs list x key at kept whole none same end u put b dangles noted = record {
   finds = λ w. KeepsPlaces-push before after xs list x key at (kept.finds whole) (sym (ap (λ k. first_place k xs) same) ∙ none) same end u put;
   dangles = noted ∙ ap₂ (λ ps t. ps ++ t) kept.dangles (ap₂ (λ c n. cond c (n ∷ []) []) (sym dangles) (end ∙ sym (let e : 0 + length xs ≡ length xs = omega arith in e)))

@@ -1,4 +1,5 @@
 pub mod ByteLaws
+pub mod ChangeLemmas
 pub mod CodeLaws
 pub mod CopyLemmas
 pub mod IndexLemmas

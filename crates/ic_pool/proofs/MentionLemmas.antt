@@ -8,18 +8,13 @@ use Rattle.std.specs.List.{AllByRecursion, list_any}
 use Rattle.ic_laws.proofs.binding.Again.{BoundKind, bound_node}
 use Rattle.ic_laws.proofs.binding.Induction.{OfChildren, by_nodes}
 use Rattle.ic_laws.specs.Binding.{BoundPair}
-use Rattle.ic_laws.specs.Changes.{dangles_by}
 use Rattle.ic_laws.specs.Mentions.{some_mention, some_step}
 use Rattle.ic_laws.specs.Tree.{Bound}
-use Rattle.ic_laws.specs.declared.tree.Formula.{Formula}
-use Rattle.ic_laws.specs.declared.tree.Formula.TheVariants as formulas
 use Rattle.ic_laws.specs.declared.tree.LetPair.{fold-roll-LetPair}
 use Rattle.ic_laws.specs.declared.tree.NameMention.{NameMention}
 use Rattle.ic_laws.specs.declared.tree.SheetMention.{SheetMention}
-use Rattle.ic_laws.specs.declared.tree.SheetMention.TheVariants as sheets
 use Rattle.ic_laws.specs.declared.tree.Tree.{fold-roll-Tree, map-Tree}
 use Rattle.ic_laws.specs.declared.tree.Tree.TheOpen as one
-use Rattle.ic_pool.specs.Mentions.{formula_dangles_by, has_dangling_sheet, is_dangling}
 
 -- one that passes is met in a loop
 pub one_passes : {X : Type 0} (test : X → Bool) (xs : List X) (i : ℕ) (x : X) → i < length xs → x ≡ get_or xs i x → test x ≡ true → true ≡ list_any (λ b. b) (map test xs)
@@ -32,59 +27,50 @@ neither : {a b : Bool} → a ≡ false → b ≡ false → (a || b) ≡ false
 neither e f = ap₂ (λ x y. x || y) e f
 
 -- where no mention of a formula passes a test, none passes a narrower one
-module _ (first second : SheetMention → Bool) (word : NameMention → Bool) (fewer : (m : SheetMention) → first m ≡ false → second m ≡ false) where
+module _ (first second : SheetMention → Bool) (word other : NameMention → Bool) (fewer : (m : SheetMention) → first m ≡ false → second m ≡ false) (fewer_words : (m : NameMention) → word m ≡ false → other m ≡ false) where
   abbrev Spared : Bound → Type 0
-  Spared t = some_mention first word t ≡ false → some_mention second word t ≡ false
+  Spared t = some_mention first word t ≡ false → some_mention second other t ≡ false
 
   abbrev SparedPair : BoundPair → Type 0
   SparedPair pair = Spared pair.value
 
-  abbrev some_below : (SheetMention → Bool) → BoundKind → Bool
-  some_below test kind = some_step test word (map-Tree SheetMention NameMention Bound BoundPair Bool Bool (some_mention test word) (λ pair. some_mention test word pair.value) kind)
+  abbrev some_below : (SheetMention → Bool) → (NameMention → Bool) → BoundKind → Bool
+  some_below test of_word kind = some_step test of_word (map-Tree SheetMention NameMention Bound BoundPair Bool Bool (some_mention test of_word) (λ pair. some_mention test of_word pair.value) kind)
 
-  some_node : (test : SheetMention → Bool) (kind : BoundKind) → some_mention test word (bound_node kind) ≡ some_below test kind
-  some_node test kind =
-      fold-roll-Tree SheetMention NameMention Bool Bool (some_step test word) (λ pair. pair.value) kind
-      ∙ ap (λ (g : BoundPair → Bool). some_step test word (map-Tree SheetMention NameMention Bound BoundPair Bool Bool (some_mention test word) g kind))
-      (fun_ext (λ pair. fold-roll-LetPair SheetMention NameMention Bool Bool (some_step test word) (λ p. p.value) (record { variable = pair.variable; value = pair.value })))
+  some_node : (test : SheetMention → Bool) (of_word : NameMention → Bool) (kind : BoundKind) → some_mention test of_word (bound_node kind) ≡ some_below test of_word kind
+  some_node test of_word kind =
+      fold-roll-Tree SheetMention NameMention Bool Bool (some_step test of_word) (λ pair. pair.value) kind
+      ∙ ap (λ (g : BoundPair → Bool). some_step test of_word (map-Tree SheetMention NameMention Bound BoundPair Bool Bool (some_mention test of_word) g kind))
+      (fun_ext (λ pair. fold-roll-LetPair SheetMention NameMention Bool Bool (some_step test of_word) (λ p. p.value) (record { variable = pair.variable; value = pair.value })))
 
-  all_spared : {X : Type 0} (test other : X → Bool) (xs : List X) → AllByRecursion (λ x. test x ≡ false → other x ≡ false) xs → list_any (λ b. b) (map test xs) ≡ false → list_any (λ b. b) (map other xs) ≡ false
-  all_spared test other [] h e = refl
-  all_spared test other (x ∷ xs) h e = let parts = or_parts (test x) _ e in neither (h.0 parts.0) (all_spared test other xs h.1 parts.1)
+  all_spared : {X : Type 0} (test narrow : X → Bool) (xs : List X) → AllByRecursion (λ x. test x ≡ false → narrow x ≡ false) xs → list_any (λ b. b) (map test xs) ≡ false → list_any (λ b. b) (map narrow xs) ≡ false
+  all_spared test narrow [] h e = refl
+  all_spared test narrow (x ∷ xs) h e = let parts = or_parts (test x) _ e in neither (h.0 parts.0) (all_spared test narrow xs h.1 parts.1)
 
-  kind_spared : (kind : BoundKind) → OfChildren Spared SparedPair kind → some_below first kind ≡ false → some_below second kind ≡ false
+  kind_spared : (kind : BoundKind) → OfChildren Spared SparedPair kind → some_below first word kind ≡ false → some_below second other kind ≡ false
   kind_spared (one.Num units) h e = refl
   kind_spared (one.Str text) h e = refl
   kind_spared (one.Bool value) h e = refl
   kind_spared (one.Err code) h e = refl
   kind_spared (one.Reference sheet place) h e = fewer sheet e
-  kind_spared (one.Word name) h e = e
+  kind_spared (one.Word name) h e = fewer_words name e
   kind_spared one.Empty h e = refl
   kind_spared (one.Paren x) h e = h e
   kind_spared (one.Prefix sign x) h e = h e
   kind_spared (one.Percent x) h e = h e
   kind_spared (one.Spill x) h e = h e
   kind_spared (one.Binary sign a b) h e = let parts = or_parts (some_mention first word a) _ e in neither (h.0 parts.0) (h.1 parts.1)
-  kind_spared (one.Fun number arguments) h e = all_spared (some_mention first word) (some_mention second word) arguments h e
-  kind_spared (one.Call name arguments) h e = let parts = or_parts (word name) _ e in neither parts.0 (all_spared (some_mention first word) (some_mention second word) arguments h parts.1)
+  kind_spared (one.Fun number arguments) h e = all_spared (some_mention first word) (some_mention second other) arguments h e
+  kind_spared (one.Call name arguments) h e =
+      let parts = or_parts (word name) _ e in neither (fewer_words name parts.0) (all_spared (some_mention first word) (some_mention second other) arguments h parts.1)
   kind_spared (one.Let pairs body) h e =
       let parts = or_parts _ (some_mention first word body) e in
-      neither (all_spared (λ (pair : BoundPair). some_mention first word pair.value) (λ pair. some_mention second word pair.value) pairs h.0 parts.0) (h.1 parts.1)
+      neither (all_spared (λ (pair : BoundPair). some_mention first word pair.value) (λ pair. some_mention second other pair.value) pairs h.0 parts.0) (h.1 parts.1)
   kind_spared (one.Lambda parameters body) h e = h e
   kind_spared (one.Apply x arguments) h e =
       let parts = or_parts (some_mention first word x) _ e in
-      neither (h.0 parts.0) (all_spared (some_mention first word) (some_mention second word) arguments h.1 parts.1)
+      neither (h.0 parts.0) (all_spared (some_mention first word) (some_mention second other) arguments h.1 parts.1)
   kind_spared (one.Array rows) h e = refl
 
-  pub fewer_pass : (t : Bound) → some_mention first word t ≡ false → some_mention second word t ≡ false
-  fewer_pass = by_nodes Spared SparedPair (λ kind h e. some_node second kind ∙ kind_spared kind h (sym (some_node first kind) ∙ e)) (λ variable value h. h)
-
-dangles_none : (name : List ℕ) (mention : SheetMention) → is_dangling mention ≡ false → dangles_by name mention ≡ false
-dangles_none name sheets.Own e = refl
-dangles_none name (sheets.Sheet id) e = refl
-dangles_none name (sheets.Dangling typed) e = cc
-
--- a formula in which no sheet dangles has none that dangles by a name
-pub none_dangles_by : (name : List ℕ) (formula : Formula) → has_dangling_sheet formula ≡ false → formula_dangles_by name formula ≡ false
-none_dangles_by name (formulas.Tree t) e = fewer_pass is_dangling (dangles_by name) (λ word. false) (dangles_none name) t e
-none_dangles_by name (formulas.Raw text) e = refl
+  pub fewer_pass : (t : Bound) → some_mention first word t ≡ false → some_mention second other t ≡ false
+  fewer_pass = by_nodes Spared SparedPair (λ kind h e. some_node second other kind ∙ kind_spared kind h (sym (some_node first word kind) ∙ e)) (λ variable value h. h)

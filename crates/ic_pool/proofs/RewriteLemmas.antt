@@ -1,17 +1,16 @@
 -- Rewriting the formulas of a pool, one after another.
 use Rattle.std.proofs.Common.{◌≡◌, ◌<◌, ◌≤◌, ◌+◌, ℕ, suc, List, [], ◌∷◌, ◌++◌, Bool, true, false, cond, refl, sym, ap, ap₂, subst, ◌∙◌, map, length, take, drop, get_or, set, arith, append_assoc, append-nil, ◌⊎◌, inl, inr}
 use Rattle.std.proofs.lemmas.List.{drop_all, drop_more, length-drop, length-map, length-take, map_more, set_at, take_all}
-use Rattle.std.proofs.lemmas.List.Elements.{All-from_recursion, All-get_or}
 use Rattle.std.specs.List.{AllByRecursion}
 use Rattle.ic_laws.specs.declared.tree.Formula.{Formula}
-use Rattle.ic_pool.specs.Mentions.{has_dangling_sheet}
+use Rattle.ic_pool.specs.Mentions.{has_dangling}
 use Rattle.ic_pool.specs.Pool.{dangling_from, dangling_places}
 use Rattle.ic_pool.specs.Rewrites.{FitsPool, IsNoted, RewritesState, changed_by, rewritten_by}
-use Rattle.ic_pool.specs.declared.pool.rewrites.Change.{Change}
+use Rattle.ic_pool.specs.declared.pool.rewrites.Replacement.{Replacement}
 use Rattle.ic_pool.proofs.IndexLemmas.{dangling_from-push}
 
 -- a change behind others is made after them
-changed_by-push : (changes : List Change) (change : Change) (formulas : List Formula) → changed_by (changes ++ change ∷ []) formulas ≡ set (changed_by changes formulas) change.at change.formula
+changed_by-push : (changes : List Replacement) (change : Replacement) (formulas : List Formula) → changed_by (changes ++ change ∷ []) formulas ≡ set (changed_by changes formulas) change.at change.formula
 changed_by-push [] change formulas = refl
 changed_by-push (first ∷ changes) change formulas = changed_by-push changes change (set formulas first.at first.formula)
 
@@ -19,11 +18,8 @@ all-push : {X : Type 0} (P : X → Type 0) (xs : List X) (x : X) → AllByRecurs
 all-push P [] x h p = (p, tt)
 all-push P (y ∷ xs) x h p = (h.0, all-push P xs x h.1 p)
 
-pub all_at : {X : Type 0} (P : X → Type 0) (xs : List X) (i : ℕ) (x : X) → AllByRecursion P xs → i < length xs → x ≡ get_or xs i x → P x
-all_at P xs i x h within item = subst P (sym item) (All-get_or P xs i x within (All-from_recursion P xs h))
-
 module _ (f : Formula → Formula) (formulas : List Formula) where
-  abbrev Within : Change → Type 0
+  abbrev Within : Replacement → Type 0
   Within change = change.at < length formulas
 
   -- the formulas before this place are rewritten, the others are as they were
@@ -73,11 +69,11 @@ module _ (f : Formula → Formula) (formulas : List Formula) where
     rewritten_step done noted = record {
       made = step_made done noted.change;
       within = step_within done noted.change;
-      dangles = noted.place ∙ ap₂ (λ places n. places ++ cond (has_dangling_sheet (f x)) (n ∷ []) []) done.dangles (sym (let e : 0 + length front ≡ i = omega (arith, length-front) in e))
+      dangles = noted.place ∙ ap₂ (λ places n. places ++ cond (has_dangling (f x)) (n ∷ []) []) done.dangles (sym (let e : 0 + length front ≡ i = omega (arith, length-front) in e))
           ∙ sym (ap dangling_places more ∙ dangling_from-push 0 front (f x));
     }
 
-  -- ---- where formulas that name no sheet that isn't found stay as they are
+  -- ---- where formulas in which all was found stay as they are
 
   -- up to the next place of the list, and what is left of the list then
   pub record NextPlace (at : ℕ) (places : List ℕ) (s : RewritesState) : Type 0 where
@@ -85,24 +81,24 @@ module _ (f : Formula → Formula) (formulas : List Formula) where
     pub below : at < length formulas
     pub left : dangling_from (suc at) (drop (suc at) formulas) ≡ places
 
-  module _ (Allowed : Formula → Type 0) (allowed : AllByRecursion Allowed formulas) (spares : (x : Formula) → Allowed x → has_dangling_sheet x ≡ false → f x ≡ x) where
+  module _ (spares : (x : Formula) → has_dangling x ≡ false → f x ≡ x) where
     below_end : (i : ℕ) (x : Formula) (xs : List Formula) → drop i formulas ≡ x ∷ xs → i < length formulas
     below_end i x xs e = let counts : length (drop i formulas) ≡ length (x ∷ xs) = ap length e in omega (arith, length-drop i formulas, counts)
 
-    stays : (i : ℕ) (x : Formula) (s : RewritesState) → has_dangling_sheet x ≡ false → f x ≡ x → IsNoted i x (f x) s s
+    stays : (i : ℕ) (x : Formula) (s : RewritesState) → has_dangling x ≡ false → f x ≡ x → IsNoted i x (f x) s s
     stays i x s none same = record {
       change = inl (same, refl);
-      place = sym (append-nil s.dangling) ∙ ap (λ b. s.dangling ++ cond b (i ∷ []) []) (sym (ap has_dangling_sheet same ∙ none));
+      place = sym (append-nil s.dangling) ∙ ap (λ b. s.dangling ++ cond b (i ∷ []) []) (sym (ap has_dangling same ∙ none));
     }
 
     -- past one that stays
-    past_one : (i : ℕ) (x : Formula) (xs : List Formula) (s : RewritesState) → drop i formulas ≡ x ∷ xs → has_dangling_sheet x ≡ false → RewrittenTo i s → RewrittenTo (suc i) s
+    past_one : (i : ℕ) (x : Formula) (xs : List Formula) (s : RewritesState) → drop i formulas ≡ x ∷ xs → has_dangling x ≡ false → RewrittenTo i s → RewrittenTo (suc i) s
     past_one i x xs s e none done =
         let below = below_end i x xs e in
         let parts : x ∷ xs ≡ get_or formulas i x ∷ drop (i + 1) formulas = sym e ∙ drop_more formulas i x below in
         let item : x ≡ get_or formulas i x = cc in
         let is_next : i + 1 ≡ suc i = omega arith in
-        rewritten_step i (suc i) x s s is_next below item done (stays i x s none (spares x (all_at Allowed formulas i x allowed below item) none))
+        rewritten_step i (suc i) x s s is_next below item done (stays i x s none (spares x none))
 
     tail_of : (i : ℕ) (x : Formula) (xs : List Formula) → drop i formulas ≡ x ∷ xs → drop (suc i) formulas ≡ xs
     tail_of i x xs e =
@@ -113,10 +109,10 @@ module _ (f : Formula → Formula) (formulas : List Formula) where
     next_place : (i : ℕ) (xs : List Formula) (at : ℕ) (places : List ℕ) (s : RewritesState) → drop i formulas ≡ xs → dangling_from i xs ≡ at ∷ places → RewrittenTo i s → NextPlace at places s
     next_place i [] at places s e left done = cc
     next_place i (x ∷ xs) at places s e left done =
-        by_test (has_dangling_sheet x) refl left (λ is found. next_place (suc i) xs at places s (tail_of i x xs e) found (past_one i x xs s e is done))
+        by_test (has_dangling x) refl left (λ is found. next_place (suc i) xs at places s (tail_of i x xs e) found (past_one i x xs s e is done))
       where
-        by_test : (b : Bool) → has_dangling_sheet x ≡ b → cond b (i ∷ dangling_from (suc i) xs) (dangling_from (suc i) xs) ≡ at ∷ places
-            → (has_dangling_sheet x ≡ false → dangling_from (suc i) xs ≡ at ∷ places → NextPlace at places s) → NextPlace at places s
+        by_test : (b : Bool) → has_dangling x ≡ b → cond b (i ∷ dangling_from (suc i) xs) (dangling_from (suc i) xs) ≡ at ∷ places
+            → (has_dangling x ≡ false → dangling_from (suc i) xs ≡ at ∷ places → NextPlace at places s) → NextPlace at places s
         by_test true is found further =
             let here : i ≡ at = cc in
             let others : dangling_from (suc i) xs ≡ places = cc in
@@ -128,10 +124,10 @@ module _ (f : Formula → Formula) (formulas : List Formula) where
     no_place : (i : ℕ) (xs : List Formula) (s : RewritesState) → drop i formulas ≡ xs → dangling_from i xs ≡ [] → RewrittenTo i s → (n : ℕ) × (length formulas ≤ n) × RewrittenTo n s
     no_place i [] s e left done = (i, omega (arith, length-drop i formulas, ap length e), done)
     no_place i (x ∷ xs) s e left done =
-        by_test (has_dangling_sheet x) refl left (λ is found. no_place (suc i) xs s (tail_of i x xs e) found (past_one i x xs s e is done))
+        by_test (has_dangling x) refl left (λ is found. no_place (suc i) xs s (tail_of i x xs e) found (past_one i x xs s e is done))
       where
-        by_test : (b : Bool) → has_dangling_sheet x ≡ b → cond b (i ∷ dangling_from (suc i) xs) (dangling_from (suc i) xs) ≡ []
-            → (has_dangling_sheet x ≡ false → dangling_from (suc i) xs ≡ [] → (n : ℕ) × (length formulas ≤ n) × RewrittenTo n s) → (n : ℕ) × (length formulas ≤ n) × RewrittenTo n s
+        by_test : (b : Bool) → has_dangling x ≡ b → cond b (i ∷ dangling_from (suc i) xs) (dangling_from (suc i) xs) ≡ []
+            → (has_dangling x ≡ false → dangling_from (suc i) xs ≡ [] → (n : ℕ) × (length formulas ≤ n) × RewrittenTo n s) → (n : ℕ) × (length formulas ≤ n) × RewrittenTo n s
         by_test true is found further = cc
         by_test false is found further = further is found
 

@@ -17,6 +17,7 @@ use Rattle.ic_laws.specs.declared.tree.Error.TheVariants as errors
 use Rattle.ic_laws.specs.declared.tree.Formula.{Formula}
 use Rattle.ic_laws.specs.declared.tree.Formula.TheVariants as formulas
 use Rattle.ic_laws.specs.declared.tree.LetPair.{fold-LetPair}
+use Rattle.ic_laws.specs.declared.tree.NameKey.{NameKey}
 use Rattle.ic_laws.specs.declared.tree.NameMention.{NameMention}
 use Rattle.ic_laws.specs.declared.tree.NameMention.TheVariants as words
 use Rattle.ic_laws.specs.declared.tree.PrefixSign.{PrefixSign}
@@ -26,7 +27,7 @@ use Rattle.ic_laws.specs.declared.tree.SheetMention.TheVariants as sheets
 use Rattle.ic_laws.specs.declared.tree.Tree.{Tree-F, fold-Tree}
 use Rattle.ic_laws.specs.declared.tree.Tree.TheOpen.{LetPair-F}
 use Rattle.ic_laws.specs.declared.tree.Tree.TheOpen as one
-use Rattle.ic_pool.specs.Bytes.{all_bytes, number_bytes, text_bytes}
+use Rattle.ic_pool.specs.Bytes.{all_bytes, joined, number_bytes, text_bytes}
 
 -- one node of a formula, with these below it
 abbrev pub Node : Type 0 → Type 0 → Type 0
@@ -236,3 +237,14 @@ code (formulas.Raw text) = number_bytes 1 ++ text_bytes text
 -- equal codes are codes of equal formulas
 abbrev pub CodesDetermine : Type 0
 CodesDetermine = (a b : Formula) → code a ≡ code b → a ≡ b
+
+-- ---- the code of a definition's key
+
+-- none, or the sheet with this id
+abbrev pub scope_bytes : Option ℕ → List ℕ
+scope_bytes None = number_bytes 0
+scope_bytes (Some id) = joined number_bytes (1 ∷ id ∷ [])
+
+-- a list of bytes that no other key has
+abbrev pub name_code : NameKey → List ℕ
+name_code key = text_bytes key.name ++ scope_bytes key.scope

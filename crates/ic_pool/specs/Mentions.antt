@@ -1,10 +1,12 @@
 -- What a formula mentions.
-use Rattle.std.specs.Prelude.{ℕ, List, Bool, true, false}
-use Rattle.ic_laws.specs.Changes.{dangles_by, is_of_sheet}
+use Rattle.std.specs.Prelude.{◌≡◌, ℕ, Bool, true, false, Option}
+use Rattle.ic_laws.specs.BookTrees.{with_tree}
+use Rattle.ic_laws.specs.Changes.{Change, changed_tree, changes_sheet, changes_word}
 use Rattle.ic_laws.specs.Mentions.{some_mention}
 use Rattle.ic_laws.specs.declared.tree.Formula.{Formula}
 use Rattle.ic_laws.specs.declared.tree.Formula.TheVariants as formulas
 use Rattle.ic_laws.specs.declared.tree.NameMention.{NameMention}
+use Rattle.ic_laws.specs.declared.tree.NameMention.TheVariants as names
 use Rattle.ic_laws.specs.declared.tree.SheetMention.{SheetMention}
 use Rattle.ic_laws.specs.declared.tree.SheetMention.TheVariants as sheets
 
@@ -13,19 +15,28 @@ abbrev pub is_dangling : SheetMention → Bool
 is_dangling (sheets.Dangling name) = true
 is_dangling mention = false
 
+-- what a word names wasn't found
+abbrev pub is_dangling_word : NameMention → Bool
+is_dangling_word (names.Dangling word) = true
+is_dangling_word mention = false
+
 -- Some mention of a formula passes a test. A text that doesn't read as a formula has no mentions.
 abbrev pub some_in : (SheetMention → Bool) → (NameMention → Bool) → Formula → Bool
 some_in is_sheet is_word (formulas.Tree t) = some_mention is_sheet is_word t
 some_in is_sheet is_word (formulas.Raw text) = false
 
--- some reference of a formula dangles by a sheet name that agrees with this one
-abbrev pub formula_dangles_by : List ℕ → Formula → Bool
-formula_dangles_by name formula = some_in (dangles_by name) (λ word. false) formula
+-- some mention of a formula found nothing
+abbrev pub has_dangling : Formula → Bool
+has_dangling formula = some_in is_dangling is_dangling_word formula
 
--- some reference of a formula is to the sheet with this id
-abbrev pub formula_mentions_sheet : ℕ → Formula → Bool
-formula_mentions_sheet id formula = some_in (is_of_sheet id) (λ word. false) formula
+-- some mention of a formula whose words are looked up from this sheet is one that a change changes
+abbrev pub is_changed_by : Change → Option ℕ → Formula → Bool
+is_changed_by change scope formula = some_in (changes_sheet change) (changes_word change scope) formula
 
--- some reference of a formula names a sheet that wasn't found
-abbrev pub has_dangling_sheet : Formula → Bool
-has_dangling_sheet formula = some_in is_dangling (λ word. false) formula
+-- what a change does to a formula whose words are looked up from this sheet
+abbrev pub formula_after : Change → Option ℕ → Formula → Formula
+formula_after change scope formula = with_tree (changed_tree change scope) formula
+
+-- a change leaves each formula in which all was found
+abbrev pub SparesFound : Change → Option ℕ → Type 0
+SparesFound change scope = (formula : Formula) → has_dangling formula ≡ false → formula_after change scope formula ≡ formula

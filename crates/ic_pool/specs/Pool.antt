@@ -6,7 +6,7 @@ use Rattle.std.specs.List.{slice_get}
 use Rattle.std.specs.Ordering.{nat_cmp}
 use Rattle.ic_laws.specs.declared.tree.Formula.{Formula}
 use Rattle.ic_pool.specs.Code.{code}
-use Rattle.ic_pool.specs.Mentions.{has_dangling_sheet}
+use Rattle.ic_pool.specs.Mentions.{has_dangling}
 
 -- what a pool is to contracts: its formulas in their places, from 0, and whether its look-up knows each of them
 pub record PoolState : Type 0 where
@@ -34,12 +34,12 @@ first_place key (x ∷ xs) = if bytes_eq key (code x) then Some 0 else option_ma
 pub record KeepsPlaces (index : BTreeMap (List ℕ) ℕ) (formulas : List Formula) : Type 0 where
   pub finds : (key : List ℕ) → get (slice_cmp nat_cmp) index key ≡ first_place key formulas
 
--- the places of the formulas that name a sheet that wasn't found, where the first formula stands at this place
+-- the places of the formulas that mention something that wasn't found, where the first formula stands at this place
 abbrev pub dangling_from : ℕ → List Formula → List ℕ
 dangling_from at [] = []
-dangling_from at (x ∷ xs) = if has_dangling_sheet x then at ∷ dangling_from (suc at) xs else dangling_from (suc at) xs
+dangling_from at (x ∷ xs) = if has_dangling x then at ∷ dangling_from (suc at) xs else dangling_from (suc at) xs
 
--- the places of the formulas that name a sheet that wasn't found, in ascending order
+-- the places of the formulas that mention something that wasn't found, in ascending order
 abbrev pub dangling_places : List Formula → List ℕ
 dangling_places formulas = dangling_from 0 formulas
 

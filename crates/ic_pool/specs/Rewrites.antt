@@ -2,17 +2,17 @@
 use Rattle.std.specs.Prelude.{◌≡◌, ◌⊎◌, ◌<◌, ℕ, List, [], ◌∷◌, ◌++◌, Bool, true, false, length, set, if◌then◌else◌}
 use Rattle.std.specs.List.{AllByRecursion}
 use Rattle.ic_laws.specs.declared.tree.Formula.{Formula}
-use Rattle.ic_pool.specs.Mentions.{has_dangling_sheet}
+use Rattle.ic_pool.specs.Mentions.{has_dangling}
 use Rattle.ic_pool.specs.Pool.{dangling_places}
-use Rattle.ic_pool.specs.declared.pool.rewrites.Change.{Change}
+use Rattle.ic_pool.specs.declared.pool.rewrites.Replacement.{Replacement}
 
--- the formulas that become others, and the places of the formulas that will then name a sheet that isn't found
+-- the formulas that become others, and the places of the formulas that will then mention something that isn't found
 pub record RewritesState : Type 0 where
-  pub changes : List Change
+  pub changes : List Replacement
   pub dangling : List ℕ
 
 -- each change puts its formula at its place
-abbrev pub changed_by : List Change → List Formula → List Formula
+abbrev pub changed_by : List Replacement → List Formula → List Formula
 changed_by [] formulas = formulas
 changed_by (change ∷ changes) formulas = changed_by changes (set formulas change.at change.formula)
 
@@ -21,7 +21,7 @@ abbrev pub rewritten_by : RewritesState → List Formula → List Formula
 rewritten_by rewrites formulas = changed_by rewrites.changes formulas
 
 -- there is no change
-abbrev pub is_nothing : List Change → Bool
+abbrev pub is_nothing : List Replacement → Bool
 is_nothing [] = true
 is_nothing (change ∷ changes) = false
 
@@ -35,7 +35,7 @@ pub record FitsPool (rewrites : RewritesState) (formulas : List Formula) : Type 
   pub dangles : rewrites.dangling ≡ dangling_places (rewritten_by rewrites formulas)
 
 -- The formula at this place was looked at. It stays, or its change stands behind the others; and its place does where what
--- it becomes names a sheet that isn't found.
+-- it becomes mentions something that isn't found.
 pub record IsNoted (at : ℕ) (formula becomes : Formula) (before after : RewritesState) : Type 0 where
   pub change : ((becomes ≡ formula) × (after.changes ≡ before.changes)) ⊎ (after.changes ≡ before.changes ++ record { at = at; formula = becomes } ∷ [])
-  pub place : after.dangling ≡ before.dangling ++ (if has_dangling_sheet becomes then at ∷ [] else [])
+  pub place : after.dangling ≡ before.dangling ++ (if has_dangling becomes then at ∷ [] else [])

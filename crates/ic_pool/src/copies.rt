@@ -10,7 +10,7 @@ use ic_laws::{
     Bound, Boxed, Formula, Items, LetPair, NameMention, OutOfMemory, SheetMention, Text, Tree,
 };
 use parts::{copy_rows, copy_texts};
-pub use parts::{copy_sheet, copy_word};
+pub use parts::{copy_key, copy_sheet, copy_word};
 use std::alloc::Global;
 
 /// What mentions become in a copy of a formula.

@@ -6,7 +6,7 @@ use std::alloc::Global;
 use std::cmp::Ordering;
 use std::marker::Model;
 
-/// The code of a formula as a map's key. Contracts see its bytes.
+/// The code of a formula, or of a definition's key, as a key of a map. Contracts see its bytes.
 #[derive(Drop)]
 pub struct Key {
     bytes: Vec<u8>,

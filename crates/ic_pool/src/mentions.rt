@@ -1,13 +1,12 @@
 //! Tests of what a formula mentions. None of them takes memory.
-ghost use Rattle.std.specs.Prelude.{◌≡◌, Bool, chars, map};
+ghost use Rattle.std.specs.Prelude.{◌≡◌, Bool, map};
 ghost use Rattle.std.specs.List.{list_any};
-ghost use Rattle.ic_laws.specs.Changes.{dangles_by, is_of_sheet};
 ghost use Rattle.ic_laws.specs.Mentions.{some_mention};
 ghost use Rattle.ic_laws.specs.declared.tree.NameMention.{NameMention};
 ghost use Rattle.ic_laws.specs.declared.tree.SheetMention.{SheetMention};
-ghost use Rattle.ic_pool.specs.Mentions.{formula_dangles_by, formula_mentions_sheet, has_dangling_sheet, some_in};
+ghost use Rattle.ic_pool.specs.Mentions.{has_dangling, some_in};
 
-use ic_laws::{Bound, Formula, LetPair, NameMention, SheetMention, Tree, agree};
+use ic_laws::{Bound, Formula, LetPair, NameMention, SheetMention, Tree};
 
 /// A test of single mentions.
 pub trait MentionTest {
@@ -78,69 +77,16 @@ fn some_of_values<T: MentionTest>(test: &T, pairs: &[LetPair<SheetMention, NameM
     false
 }
 
-/// A reference that dangles by a sheet name that agrees with this one.
-#[derive(Drop)]
-struct DanglesBy<'t> {
-    name: &'t str,
-}
-
-impl<'t> MentionTest for DanglesBy<'t> {
-    ghost use Rattle.std.specs.Prelude.{chars, false};
-    ghost use Rattle.ic_laws.specs.Changes.{dangles_by};
-
-    ghost is_sheet = { λ test mention. dangles_by (chars test.name.now) mention };
-
-    ghost is_word = { λ test mention. false };
-
-    fn sheet(&self, mention: &SheetMention) -> bool {
-        match mention {
-            SheetMention::Dangling(name) => agree(self.name, name.as_str()),
-            _ => false,
-        }
-    }
-
-    fn word(&self, _mention: &NameMention) -> bool {
-        false
-    }
-}
-
-/// A reference to the sheet with this id.
-#[derive(Drop)]
-struct IsOfSheet {
-    id: u32,
-}
-
-impl MentionTest for IsOfSheet {
-    ghost use Rattle.std.specs.Prelude.{false};
-    ghost use Rattle.ic_laws.specs.Changes.{is_of_sheet};
-
-    ghost is_sheet = { λ test mention. is_of_sheet test.id mention };
-
-    ghost is_word = { λ test mention. false };
-
-    fn sheet(&self, mention: &SheetMention) -> bool {
-        match mention {
-            SheetMention::Sheet(id) => *id == self.id,
-            _ => false,
-        }
-    }
-
-    fn word(&self, _mention: &NameMention) -> bool {
-        false
-    }
-}
-
-/// A reference that names a sheet that wasn't found.
+/// A mention that found nothing.
 #[derive(Drop)]
 struct IsDangling;
 
 impl MentionTest for IsDangling {
-    ghost use Rattle.std.specs.Prelude.{false};
-    ghost use Rattle.ic_pool.specs.Mentions.{is_dangling};
+    ghost use Rattle.ic_pool.specs.Mentions.{is_dangling, is_dangling_word};
 
     ghost is_sheet = { λ test mention. is_dangling mention };
 
-    ghost is_word = { λ test mention. false };
+    ghost is_word = { λ test mention. is_dangling_word mention };
 
     fn sheet(&self, mention: &SheetMention) -> bool {
         match mention {
@@ -149,13 +95,16 @@ impl MentionTest for IsDangling {
         }
     }
 
-    fn word(&self, _mention: &NameMention) -> bool {
-        false
+    fn word(&self, mention: &NameMention) -> bool {
+        match mention {
+            NameMention::Dangling(_) => true,
+            _ => false,
+        }
     }
 }
 
 /// Whether some mention of a formula that reads passes a test; a text that doesn't read has none.
-fn some_in<T: MentionTest>(test: &T, formula: &Formula) -> bool
+pub(crate) fn some_in<T: MentionTest>(test: &T, formula: &Formula) -> bool
     ensures { result ≡ some_in (T.is_sheet test.now) (T.is_word test.now) formula.now }
 {
     match formula {
@@ -164,23 +113,9 @@ fn some_in<T: MentionTest>(test: &T, formula: &Formula) -> bool
     }
 }
 
-/// Whether some reference of a formula dangles by a sheet name that agrees with `name`.
-pub fn dangles_by(formula: &Formula, name: &str) -> bool
-    ensures { result ≡ formula_dangles_by (chars name.now) formula.now }
-{
-    some_in(&DanglesBy { name }, formula)
-}
-
-/// Whether some reference of a formula is to the sheet with this id.
-pub fn mentions_sheet(formula: &Formula, id: u32) -> bool
-    ensures { result ≡ formula_mentions_sheet id formula.now }
-{
-    some_in(&IsOfSheet { id }, formula)
-}
-
-/// Whether some reference of a formula names a sheet that wasn't found.
-pub fn has_dangling_sheet(formula: &Formula) -> bool
-    ensures { result ≡ has_dangling_sheet formula.now }
+/// Whether some mention of a formula found nothing.
+pub fn has_dangling(formula: &Formula) -> bool
+    ensures { result ≡ has_dangling formula.now }
 {
     some_in(&IsDangling, formula)
 }

@@ -1,19 +1,19 @@
 ghost use Rattle.std.specs.Prelude.{◌≡◌, ◌≤◌, ◌+◌, ◌<◌, ◌&&◌, [], None, false, true, length, map, option_map, IfOk, IsOk, OnErr, OnOk};
-ghost use Rattle.std.specs.List.{AllByRecursion, slice_get};
+ghost use Rattle.std.specs.List.{slice_get};
 ghost use Rattle.ic_laws.specs.declared.tree.Formula.{Formula};
 ghost use Rattle.ic_pool.specs.Code.{code};
-ghost use Rattle.ic_pool.specs.Mentions.{has_dangling_sheet};
+ghost use Rattle.ic_pool.specs.Mentions.{SparesFound, formula_after};
 ghost use Rattle.ic_pool.specs.Rewrites.{FitsPool, changes_nothing, rewritten_by};
 ghost use Rattle.ic_pool.specs.Pool.{IsPlaced, dangling_places, first_place};
 
 mod index;
 mod rewrites;
 
-use crate::{Key, Steps, copy_formula, has_dangling_sheet, key_of};
+use crate::{BookChange, Key, Steps, copy_formula, has_dangling, key_of};
 use ic_laws::{Formula, OutOfMemory};
 use index::index_of;
+pub use rewrites::Rewrites;
 use rewrites::{rewrites_at, rewrites_of};
-pub use rewrites::{Rewrites, Rewriting};
 use std::alloc::Global;
 use std::collections::BTreeMap;
 use std::marker::{Brand, Model};
@@ -27,7 +27,7 @@ pub struct Pool {
     /// Where it is whole: for each formula its first place, by its key.
     index: BTreeMap<Key, usize>,
     is_whole: bool,
-    /// The places of the formulas that name a sheet that wasn't found.
+    /// The places of the formulas that mention something that wasn't found.
     dangling: Vec<usize>,
 }
 
@@ -82,7 +82,7 @@ impl Pool {
         self.is_whole
     }
 
-    /// How many formulas name a sheet that wasn't found.
+    /// How many formulas mention something that wasn't found.
     pub fn dangling_count(&self) -> usize
         ensures { result ≡ length (dangling_places self.now.formulas) }
     {
@@ -163,24 +163,30 @@ impl Pool {
         }
     }
 
-    /// What a rewriting will do to its formulas, all prepared before any of them changes.
-    pub fn rewrites<R: Rewriting>(&self, rewriting: &R) -> Result<Rewrites, OutOfMemory>
-        requires { AllByRecursion (R.is_allowed rewriting.now) self.now.formulas }
-        ensures made { IfOk result (λ w. rewritten_by w self.now.formulas ≡ map (R.rewritten rewriting.now) self.now.formulas) }
+    /// What a change will do to its formulas, whose words are looked up from the sheet with this id, or from none; all
+    /// prepared before any of them changes.
+    pub fn rewrites<C: BookChange>(
+        &self,
+        change: &C,
+        scope: Option<u32>,
+    ) -> Result<Rewrites, OutOfMemory>
+        ensures made { IfOk result (λ w. rewritten_by w self.now.formulas ≡ map (formula_after (C.change change.now) scope) self.now.formulas) }
         ensures fits { IfOk result (λ w. FitsPool w self.now.formulas) }
     {
-        rewrites_of(self.alloc, &self.formulas, rewriting)
+        rewrites_of(self.alloc, &self.formulas, change, scope)
     }
 
-    /// The same for a rewriting that leaves each formula which names no sheet that wasn't found: it looks at the others
-    /// alone.
-    pub fn rewrites_of_dangling<R: Rewriting>(&self, rewriting: &R) -> Result<Rewrites, OutOfMemory>
-        requires allowed { AllByRecursion (R.is_allowed rewriting.now) self.now.formulas }
-        requires spares { (f : Formula) → R.is_allowed rewriting.now f → has_dangling_sheet f ≡ false → R.rewritten rewriting.now f ≡ f }
-        ensures made { IfOk result (λ w. rewritten_by w self.now.formulas ≡ map (R.rewritten rewriting.now) self.now.formulas) }
+    /// The same for a change that leaves each formula in which all was found: it looks at the others alone.
+    pub fn rewrites_of_dangling<C: BookChange>(
+        &self,
+        change: &C,
+        scope: Option<u32>,
+    ) -> Result<Rewrites, OutOfMemory>
+        requires { SparesFound (C.change change.now) scope }
+        ensures made { IfOk result (λ w. rewritten_by w self.now.formulas ≡ map (formula_after (C.change change.now) scope) self.now.formulas) }
         ensures fits { IfOk result (λ w. FitsPool w self.now.formulas) }
     {
-        rewrites_at(self.alloc, &self.formulas, &self.dangling, rewriting)
+        rewrites_at(self.alloc, &self.formulas, &self.dangling, change, scope)
     }
 
     /// Rewrites its formulas, each in its place, also where two become equal. Where some formula becomes another the
@@ -216,7 +222,7 @@ impl Pool {
         ensures err { OnErr result (self.new ≡ self.old) }
     {
         let at = self.len();
-        let dangles = has_dangling_sheet(&formula);
+        let dangles = has_dangling(&formula);
         self.formulas.reserve(1)?;
         self.dangling.reserve(usize::from(dangles))?;
         self.index.insert(key, at)?;

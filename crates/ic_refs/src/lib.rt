@@ -36,3 +36,4 @@ pub use name::{is_valid_a1_identifier, is_valid_identifier, is_valid_sheet_name,
 pub use reference::{A1Reference, Area, CellReferenceIndex, ParsedReference};
 pub use stored::read_rc;
 pub use stored_text::spell_rc;
+pub use trim::trimmed;

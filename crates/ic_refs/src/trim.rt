@@ -6,7 +6,7 @@ ghost use Rattle.ic_refs.specs.Trim.{EndsAt};
 use ic_laws::scan::{first_char, front_of};
 
 /// The text without the blanks at both ends: spaces, tabs, line feeds and carriage returns.
-pub(crate) fn trimmed(text: &str) -> &str
+pub fn trimmed(text: &str) -> &str
     ensures { chars result.now ≡ trimmed (chars text.now) }
 {
     let text = past_blanks(text);

@@ -1,93 +1,73 @@
 -- What was prepared for the formulas of all sheets, done in any order of the steps of a change.
-use Rattle.std.proofs.Common.{◌≡◌, ℕ, zero, suc, ◌<◌, List, [], ◌∷◌, ◌++◌, Bool, true, false, cond, ◌&&◌, Option, Some, None, map, length, get_or, slice_set, take, drop, ◌+◌, refl, sym, ap, ap₂, subst, subst₂, ◌∙◌, arith}
+use Rattle.std.proofs.Common.{◌≡◌, ℕ, zero, suc, ◌<◌, List, [], ◌∷◌, ◌++◌, Bool, true, false, cond, ◌&&◌, Option, Some, map, length, get_or, slice_set, take, drop, ◌+◌, refl, sym, ap, ap₂, subst, subst₂, ◌∙◌, arith}
 use Rattle.std.specs.List.{AllByRecursion, remove, slice_get}
 use Rattle.std.proofs.lemmas.Option.{slice_get_read}
 use Rattle.std.proofs.lemmas.List.{map-append, take_at, take_more}
-use Rattle.ic_laws.proofs.core.Lists.{removed_seen}
-use Rattle.ic_laws.proofs.keeping.Kept.{spared_is_same}
-use Rattle.ic_laws.proofs.keeping.Spared.{untouched_is_spared}
-use Rattle.ic_laws.specs.BookTrees.{with_tree}
-use Rattle.ic_laws.specs.Changes.{Change, changed_tree, sheet_gone, sheet_named}
+use Rattle.ic_laws.proofs.core.Lists.{removed_seen, updated_unseen}
+use Rattle.ic_laws.specs.Changes.{Change}
 use Rattle.ic_laws.specs.CoreStep.{updated_at}
-use Rattle.ic_laws.specs.Tree.{Bound}
 use Rattle.ic_laws.specs.declared.tree.Formula.{Formula}
-use Rattle.ic_laws.specs.declared.tree.Formula.TheVariants as formulas
-use Rattle.ic_pool.proofs.MentionLemmas.{none_dangles_by}
-use Rattle.ic_pool.specs.Mentions.{formula_dangles_by, formula_mentions_sheet, has_dangling_sheet}
+use Rattle.ic_pool.specs.Mentions.{SparesFound, formula_after, has_dangling}
 use Rattle.ic_pool.specs.Pool.{PoolState, dangling_from}
 use Rattle.ic_pool.specs.Rewrites.{FitsPool, RewritesState, changes_nothing, rewritten_by}
 use Rattle.ic_sheets.proofs.SearchLemmas.{ids, names}
 use Rattle.ic_sheets.specs.Index.{HasNoDangling}
-use Rattle.ic_sheets.specs.Rewriting.{ArePrepared, FitSheets, IsPrepared, changed_pool, sheets_of, with_all_rewrites, with_rewrites}
+use Rattle.ic_sheets.specs.Rewriting.{ArePrepared, FitSheets, IsPrepared, Makes, changed_pool, sheets_of, with_all_rewrites, with_rewrites}
 use Rattle.ic_sheets.specs.Sheet.{BookSheet, sheet_of}
 use Rattle.ic_sheets.specs.declared.sheet.Worksheet.{Worksheet}
 
 -- ---- formulas that stay
 
-pub naming_spares : (id : ℕ) (name : List ℕ) (scope : Option ℕ) (formula : Formula) → formula_dangles_by name formula ≡ false → with_tree (changed_tree (sheet_named id name) scope) formula ≡ formula
-naming_spares id name scope (formulas.Tree t) e =
-    ap (λ (u : Bound). let f : Formula = formulas.Tree u in f) (spared_is_same (sheet_named id name) scope t (untouched_is_spared (sheet_named id name) scope t e))
-naming_spares id name scope (formulas.Raw text) e = refl
-
-pub going_spares : (id : ℕ) (name : List ℕ) (scope : Option ℕ) (formula : Formula) → formula_mentions_sheet id formula ≡ false → with_tree (changed_tree (sheet_gone id name) scope) formula ≡ formula
-going_spares id name scope (formulas.Tree t) e =
-    ap (λ (u : Bound). let f : Formula = formulas.Tree u in f) (spared_is_same (sheet_gone id name) scope t (untouched_is_spared (sheet_gone id name) scope t e))
-going_spares id name scope (formulas.Raw text) e = refl
-
-pub no_dangling_spares : (id : ℕ) (name : List ℕ) (scope : Option ℕ) (formula : Formula) → has_dangling_sheet formula ≡ false → with_tree (changed_tree (sheet_named id name) scope) formula ≡ formula
-no_dangling_spares id name scope formula e = naming_spares id name scope formula (none_dangles_by name formula e)
-
-pool_spared : (id : ℕ) (name : List ℕ) (scope : Option ℕ) (at : ℕ) (pool : List Formula) → dangling_from at pool ≡ [] → pool ≡ map (with_tree (changed_tree (sheet_named id name) scope)) pool
-pool_spared id name scope at [] e = refl
-pool_spared id name scope at (x ∷ pool) e = by_test (has_dangling_sheet x) refl e (pool_spared id name scope (suc at) pool)
+pool_spared : (change : Change) (scope : Option ℕ) → SparesFound change scope → (at : ℕ) (pool : List Formula) → dangling_from at pool ≡ [] → pool ≡ map (formula_after change scope) pool
+pool_spared change scope spares at [] e = refl
+pool_spared change scope spares at (x ∷ pool) e = by_test (has_dangling x) refl e (pool_spared change scope spares (suc at) pool)
   where
-    by_test : (b : Bool) → has_dangling_sheet x ≡ b → cond b (at ∷ dangling_from (suc at) pool) (dangling_from (suc at) pool) ≡ []
-        → (dangling_from (suc at) pool ≡ [] → pool ≡ map (with_tree (changed_tree (sheet_named id name) scope)) pool) → x ∷ pool ≡ map (with_tree (changed_tree (sheet_named id name) scope)) (x ∷ pool)
+    by_test : (b : Bool) → has_dangling x ≡ b → cond b (at ∷ dangling_from (suc at) pool) (dangling_from (suc at) pool) ≡ []
+        → (dangling_from (suc at) pool ≡ [] → pool ≡ map (formula_after change scope) pool) → x ∷ pool ≡ map (formula_after change scope) (x ∷ pool)
     by_test true is e rest = cc
-    by_test false is e rest = ap₂ ◌∷◌ (sym (no_dangling_spares id name scope x is)) (rest e)
+    by_test false is e rest = ap₂ ◌∷◌ (sym (spares x is)) (rest e)
 
-pub sheets_spared : (id : ℕ) (name : List ℕ) (sheets : List Worksheet) → AllByRecursion HasNoDangling sheets → sheets_of sheets ≡ map (changed_pool (sheet_named id name)) (sheets_of sheets)
-sheets_spared id name [] h = refl
-sheets_spared id name (s ∷ sheets) h =
-    ap₂ ◌∷◌ (ap (λ (pool : List Formula). let one : BookSheet = record (sheet_of s) { pool = pool } in one) (pool_spared id name (Some s.id) 0 s.pool.formulas h.0)) (sheets_spared id name sheets h.1)
+-- nothing is to be done where all was found
+pub nothing_makes : (change : Change) → ((id : ℕ) → SparesFound change (Some id)) → (sheets : List Worksheet) → AllByRecursion HasNoDangling sheets → Makes change [] sheets
+nothing_makes change spares sheets clean = record { fits = tt; made = spared sheets clean }
+  where
+    spared : (sheets : List Worksheet) → AllByRecursion HasNoDangling sheets → sheets_of sheets ≡ map (changed_pool change) (sheets_of sheets)
+    spared [] h = refl
+    spared (s ∷ sheets) h =
+        ap₂ ◌∷◌ (ap (λ (pool : List Formula). let one : BookSheet = record (sheet_of s) { pool = pool } in one) (pool_spared change (Some s.id) (spares s.id) 0 s.pool.formulas h.0)) (spared sheets h.1)
 
 -- ---- what was prepared
 
-pub prepared_push : (becomes : Formula → Formula) (ws : List RewritesState) (w : RewritesState) (sheets : List Worksheet) (s : Worksheet) → ArePrepared becomes ws sheets → IsPrepared becomes w s → ArePrepared becomes (ws ++ w ∷ []) (sheets ++ s ∷ [])
-prepared_push becomes [] w [] s h one = (one, tt)
-prepared_push becomes [] w (x ∷ sheets) s h one = absurd h
-prepared_push becomes (v ∷ ws) w [] s h one = absurd h
-prepared_push becomes (v ∷ ws) w (x ∷ sheets) s h one = (h.0, prepared_push becomes ws w sheets s h.1 one)
+pub prepared_push : (change : Change) (ws : List RewritesState) (w : RewritesState) (sheets : List Worksheet) (s : Worksheet) → ArePrepared change ws sheets → IsPrepared change w s → ArePrepared change (ws ++ w ∷ []) (sheets ++ s ∷ [])
+prepared_push change [] w [] s h one = (one, tt)
+prepared_push change [] w (x ∷ sheets) s h one = absurd h
+prepared_push change (v ∷ ws) w [] s h one = absurd h
+prepared_push change (v ∷ ws) w (x ∷ sheets) s h one = (h.0, prepared_push change ws w sheets s h.1 one)
 
-pub prepared_fits : (becomes : Formula → Formula) (ws : List RewritesState) (sheets : List Worksheet) → ArePrepared becomes ws sheets → FitSheets ws sheets
-prepared_fits becomes [] sheets h = tt
-prepared_fits becomes (w ∷ ws) [] h = absurd h
-prepared_fits becomes (w ∷ ws) (s ∷ sheets) h = (h.0.fits, prepared_fits becomes ws sheets h.1)
+pub prepared_fits : (change : Change) (ws : List RewritesState) (sheets : List Worksheet) → ArePrepared change ws sheets → FitSheets ws sheets
+prepared_fits change [] sheets h = tt
+prepared_fits change (w ∷ ws) [] h = absurd h
+prepared_fits change (w ∷ ws) (s ∷ sheets) h = (h.0.fits, prepared_fits change ws sheets h.1)
 
-pub prepared_length : (becomes : Formula → Formula) (ws : List RewritesState) (sheets : List Worksheet) → ArePrepared becomes ws sheets → length ws ≡ length sheets
-prepared_length becomes [] [] h = refl
-prepared_length becomes [] (s ∷ sheets) h = absurd h
-prepared_length becomes (w ∷ ws) [] h = absurd h
-prepared_length becomes (w ∷ ws) (s ∷ sheets) h = ap suc (prepared_length becomes ws sheets h.1)
+pub prepared_length : (change : Change) (ws : List RewritesState) (sheets : List Worksheet) → ArePrepared change ws sheets → length ws ≡ length sheets
+prepared_length change [] [] h = refl
+prepared_length change [] (s ∷ sheets) h = absurd h
+prepared_length change (w ∷ ws) [] h = absurd h
+prepared_length change (w ∷ ws) (s ∷ sheets) h = ap suc (prepared_length change ws sheets h.1)
 
-pub prepared_more : (becomes : Formula → Formula) (ws more : List RewritesState) (w : RewritesState) (sheets : List Worksheet) (i : ℕ) (s : Worksheet) → i < length sheets → s ≡ get_or sheets i s → more ≡ ws ++ w ∷ [] → ArePrepared becomes ws (take i sheets) → IsPrepared becomes w s → ArePrepared becomes more (take (i + 1) sheets)
-prepared_more becomes ws more w sheets i s within item pushed h one =
-    subst₂ (ArePrepared becomes) (sym pushed) (ap (λ y. take i sheets ++ y ∷ []) item ∙ sym (take_more sheets i s within)) (prepared_push becomes ws w (take i sheets) s h one)
+pub prepared_more : (change : Change) (ws more : List RewritesState) (w : RewritesState) (sheets : List Worksheet) (i : ℕ) (s : Worksheet) → i < length sheets → s ≡ get_or sheets i s → more ≡ ws ++ w ∷ [] → ArePrepared change ws (take i sheets) → IsPrepared change w s → ArePrepared change more (take (i + 1) sheets)
+prepared_more change ws more w sheets i s within item pushed h one =
+    subst₂ (ArePrepared change) (sym pushed) (ap (λ y. take i sheets ++ y ∷ []) item ∙ sym (take_more sheets i s within)) (prepared_push change ws w (take i sheets) s h one)
 
 -- what it makes of the sheets
-pub naming_made : (id : ℕ) (name : List ℕ) (ws : List RewritesState) (sheets : List Worksheet) → ArePrepared (with_tree (changed_tree (sheet_named id name) None)) ws sheets → sheets_of (with_all_rewrites ws sheets) ≡ map (changed_pool (sheet_named id name)) (sheets_of sheets)
-naming_made id name [] [] h = refl
-naming_made id name [] (s ∷ sheets) h = absurd h
-naming_made id name (w ∷ ws) [] h = absurd h
-naming_made id name (w ∷ ws) (s ∷ sheets) h =
-    ap₂ ◌∷◌ (ap (λ (pool : List Formula). let one : BookSheet = record (sheet_of s) { pool = pool } in one) h.0.made) (naming_made id name ws sheets h.1)
-
-pub going_made : (id : ℕ) (name : List ℕ) (ws : List RewritesState) (sheets : List Worksheet) → ArePrepared (with_tree (changed_tree (sheet_gone id name) None)) ws sheets → sheets_of (with_all_rewrites ws sheets) ≡ map (changed_pool (sheet_gone id name)) (sheets_of sheets)
-going_made id name [] [] h = refl
-going_made id name [] (s ∷ sheets) h = absurd h
-going_made id name (w ∷ ws) [] h = absurd h
-going_made id name (w ∷ ws) (s ∷ sheets) h =
-    ap₂ ◌∷◌ (ap (λ (pool : List Formula). let one : BookSheet = record (sheet_of s) { pool = pool } in one) h.0.made) (going_made id name ws sheets h.1)
+pub prepared_makes : (change : Change) (ws : List RewritesState) (sheets : List Worksheet) → ArePrepared change ws sheets → Makes change ws sheets
+prepared_makes change ws sheets h = record { fits = prepared_fits change ws sheets h; made = made ws sheets h }
+  where
+    made : (ws : List RewritesState) (sheets : List Worksheet) → ArePrepared change ws sheets → sheets_of (with_all_rewrites ws sheets) ≡ map (changed_pool change) (sheets_of sheets)
+    made [] [] h = refl
+    made [] (s ∷ sheets) h = absurd h
+    made (w ∷ ws) [] h = absurd h
+    made (w ∷ ws) (s ∷ sheets) h = ap₂ ◌∷◌ (ap (λ (pool : List Formula). let one : BookSheet = record (sheet_of s) { pool = pool } in one) h.0.made) (made ws sheets h.1)
 
 -- ---- done from the last one on
 
@@ -178,19 +158,19 @@ module _ (name : List ℕ) where
   sheets_called zero (s ∷ sheets) = refl
   sheets_called (suc index) (s ∷ sheets) = ap (λ (rest : List BookSheet). sheet_of s ∷ rest) (sheets_called index sheets)
 
-pub fits_removed : (becomes : Formula → Formula) (ws : List RewritesState) (sheets : List Worksheet) (index : ℕ) → ArePrepared becomes ws sheets → FitSheets (remove ws index) (remove sheets index)
-fits_removed becomes [] sheets zero h = tt
-fits_removed becomes [] sheets (suc index) h = tt
-fits_removed becomes (w ∷ ws) [] index h = absurd h
-fits_removed becomes (w ∷ ws) (s ∷ sheets) zero h = prepared_fits becomes ws sheets h.1
-fits_removed becomes (w ∷ ws) (s ∷ sheets) (suc index) h = (h.0.fits, fits_removed becomes ws sheets index h.1)
+pub fits_removed : (change : Change) (ws : List RewritesState) (sheets : List Worksheet) (index : ℕ) → ArePrepared change ws sheets → FitSheets (remove ws index) (remove sheets index)
+fits_removed change [] sheets zero h = tt
+fits_removed change [] sheets (suc index) h = tt
+fits_removed change (w ∷ ws) [] index h = absurd h
+fits_removed change (w ∷ ws) (s ∷ sheets) zero h = prepared_fits change ws sheets h.1
+fits_removed change (w ∷ ws) (s ∷ sheets) (suc index) h = (h.0.fits, fits_removed change ws sheets index h.1)
 
-pub made_removed : (becomes : Formula → Formula) (ws : List RewritesState) (sheets : List Worksheet) (index : ℕ) → ArePrepared becomes ws sheets → with_all_rewrites (remove ws index) (remove sheets index) ≡ remove (with_all_rewrites ws sheets) index
-made_removed becomes [] sheets zero h = refl
-made_removed becomes [] sheets (suc index) h = refl
-made_removed becomes (w ∷ ws) [] index h = absurd h
-made_removed becomes (w ∷ ws) (s ∷ sheets) zero h = refl
-made_removed becomes (w ∷ ws) (s ∷ sheets) (suc index) h = ap (λ (rest : List Worksheet). with_rewrites w s ∷ rest) (made_removed becomes ws sheets index h.1)
+pub made_removed : (change : Change) (ws : List RewritesState) (sheets : List Worksheet) (index : ℕ) → ArePrepared change ws sheets → with_all_rewrites (remove ws index) (remove sheets index) ≡ remove (with_all_rewrites ws sheets) index
+made_removed change [] sheets zero h = refl
+made_removed change [] sheets (suc index) h = refl
+made_removed change (w ∷ ws) [] index h = absurd h
+made_removed change (w ∷ ws) (s ∷ sheets) zero h = refl
+made_removed change (w ∷ ws) (s ∷ sheets) (suc index) h = ap (λ (rest : List Worksheet). with_rewrites w s ∷ rest) (made_removed change ws sheets index h.1)
 
 -- ---- ids and names stay
 
@@ -222,32 +202,20 @@ sheet_there [] index lt = absurd (omega arith)
 sheet_there (s ∷ sheets) zero lt = (s, refl)
 sheet_there (s ∷ sheets) (suc index) lt = sheet_there sheets index (omega arith)
 
-module _ (id : ℕ) (name : List ℕ) (old : List Worksheet) where
-  abbrev Becomes : Formula → Formula
-  Becomes = with_tree (changed_tree (sheet_named id name) None)
+module _ (change : Change) (ws : List RewritesState) (old between new : List Worksheet) (makes : Makes change ws old) where
+  pub added_made : (s : Worksheet) → between ≡ old ++ s ∷ [] → new ≡ with_all_rewrites ws between → sheets_of new ≡ map (changed_pool change) (sheets_of old) ++ sheet_of s ∷ []
+  added_made s pushed done =
+      ap sheets_of (done ∙ ap (with_all_rewrites ws) pushed ∙ made_pushed ws old (s ∷ []) makes.fits) ∙ map-append sheet_of (with_all_rewrites ws old) (s ∷ []) ∙ ap (λ xs. xs ++ sheet_of s ∷ []) makes.made
 
-  pub added_clean : (new : List Worksheet) (s : Worksheet) → AllByRecursion HasNoDangling old → new ≡ old ++ s ∷ [] → sheets_of new ≡ map (changed_pool (sheet_named id name)) (sheets_of old) ++ sheet_of s ∷ []
-  added_clean new s clean pushed = ap sheets_of pushed ∙ map-append sheet_of old (s ∷ []) ∙ ap (λ xs. xs ++ sheet_of s ∷ []) (sheets_spared id name old clean)
+  pub renamed_made : (index : ℕ) (name : List ℕ) → between ≡ updated_at (called name) index old → new ≡ with_all_rewrites ws between → sheets_of new ≡ updated_at (sheet_called name) index (map (changed_pool change) (sheets_of old))
+  renamed_made index name renamed done =
+      ap sheets_of (done ∙ ap (with_all_rewrites ws) renamed ∙ made_called name ws index old) ∙ sheets_called name index (with_all_rewrites ws old) ∙ ap (updated_at (sheet_called name) index) makes.made
 
-  pub added_made : (ws : List RewritesState) (between new : List Worksheet) (s : Worksheet) → ArePrepared Becomes ws old → between ≡ old ++ s ∷ [] → new ≡ with_all_rewrites ws between
-      → sheets_of new ≡ map (changed_pool (sheet_named id name)) (sheets_of old) ++ sheet_of s ∷ []
-  added_made ws between new s prepared pushed done =
-      ap sheets_of (done ∙ ap (with_all_rewrites ws) pushed ∙ made_pushed ws old (s ∷ []) (prepared_fits Becomes ws old prepared)) ∙ map-append sheet_of (with_all_rewrites ws old) (s ∷ [])
-      ∙ ap (λ xs. xs ++ sheet_of s ∷ []) (naming_made id name ws old prepared)
-
-  pub renamed_clean : (new : List Worksheet) (index : ℕ) → AllByRecursion HasNoDangling old → new ≡ updated_at (called name) index old → sheets_of new ≡ updated_at (sheet_called name) index (map (changed_pool (sheet_named id name)) (sheets_of old))
-  renamed_clean new index clean renamed = ap sheets_of renamed ∙ sheets_called name index old ∙ ap (updated_at (sheet_called name) index) (sheets_spared id name old clean)
-
-  pub renamed_made : (ws : List RewritesState) (between new : List Worksheet) (index : ℕ) → ArePrepared Becomes ws old → between ≡ updated_at (called name) index old → new ≡ with_all_rewrites ws between
-      → sheets_of new ≡ updated_at (sheet_called name) index (map (changed_pool (sheet_named id name)) (sheets_of old))
-  renamed_made ws between new index prepared renamed done =
-      ap sheets_of (done ∙ ap (with_all_rewrites ws) renamed ∙ made_called name ws index old) ∙ sheets_called name index (with_all_rewrites ws old) ∙ ap (updated_at (sheet_called name) index) (naming_made id name ws old prepared)
-
-  pub deleted_made : (ws rest : List RewritesState) (between new : List Worksheet) (index : ℕ) → ArePrepared (with_tree (changed_tree (sheet_gone id name) None)) ws old → rest ≡ remove ws index → between ≡ remove old index → new ≡ with_all_rewrites rest between
-      → sheets_of new ≡ remove (map (changed_pool (sheet_gone id name)) (sheets_of old)) index
-  deleted_made ws rest between new index prepared taken removed done =
-      ap sheets_of (done ∙ ap₂ with_all_rewrites taken removed ∙ made_removed _ ws old index prepared) ∙ removed_seen sheet_of (with_all_rewrites ws old) index
-      ∙ ap (λ xs. remove xs index) (going_made id name ws old prepared)
+pub deleted_made : (change : Change) (ws rest : List RewritesState) (old between new : List Worksheet) (index : ℕ) → ArePrepared change ws old → rest ≡ remove ws index → between ≡ remove old index → new ≡ with_all_rewrites rest between
+    → sheets_of new ≡ remove (map (changed_pool change) (sheets_of old)) index
+deleted_made change ws rest old between new index prepared taken removed done =
+    ap sheets_of (done ∙ ap₂ with_all_rewrites taken removed ∙ made_removed change ws old index prepared) ∙ removed_seen sheet_of (with_all_rewrites ws old) index
+    ∙ ap (λ xs. remove xs index) (prepared_makes change ws old prepared).made
 
 same_some : (s sheet : Worksheet) → Some s ≡ Some sheet → s ≡ sheet
 same_some s sheet e = cc
@@ -256,10 +224,19 @@ same_some s sheet e = cc
 pub read_there : (sheets : List Worksheet) (index : ℕ) (s sheet : Worksheet) → index < length sheets → s ≡ get_or sheets index s → slice_get sheets index ≡ Some sheet → s ≡ sheet
 read_there sheets index s sheet lt read at = same_some s sheet (sym (slice_get_read sheets (length sheets) index s refl lt read) ∙ at)
 
-pub named_there : (s sheet : Worksheet) (name : List ℕ) (ws : List RewritesState) (old : List Worksheet) → s ≡ sheet → ArePrepared (with_tree (changed_tree (sheet_named s.id name) None)) ws old → ArePrepared (with_tree (changed_tree (sheet_named sheet.id name) None)) ws old
-named_there s sheet name ws old same h = subst (λ (x : Worksheet). ArePrepared (with_tree (changed_tree (sheet_named x.id name) None)) ws old) same h
+-- a sheet that is changed in place
+pub rewritten_there : (w : RewritesState) (s : Worksheet) (pool : PoolState) (index : ℕ) (sheets : List Worksheet) → s ≡ get_or sheets index s → pool.formulas ≡ rewritten_by w s.pool.formulas → pool.is_whole ≡ (s.pool.is_whole && changes_nothing w)
+    → slice_set sheets index (record s { pool = pool }) ≡ updated_at (with_rewrites w) index sheets
+rewritten_there w s pool index sheets read made whole =
+    ap (slice_set sheets index) (filled w s s pool refl made whole) ∙ set_there index sheets read
+  where
+    set_there : (i : ℕ) (xs : List Worksheet) → s ≡ get_or xs i s → slice_set xs i (with_rewrites w s) ≡ updated_at (with_rewrites w) i xs
+    set_there i [] e = refl
+    set_there zero (x ∷ xs) e = ap (λ (y : Worksheet). with_rewrites w y ∷ xs) e
+    set_there (suc i) (x ∷ xs) e = ap (λ (rest : List Worksheet). x ∷ rest) (set_there i xs e)
 
-pub gone_there : (s sheet : Worksheet) (name : List ℕ) (ws : List RewritesState) (old : List Worksheet) → s ≡ sheet → name ≡ s.name → ArePrepared (with_tree (changed_tree (sheet_gone s.id name) None)) ws old → ArePrepared (with_tree (changed_tree (sheet_gone sheet.id sheet.name) None)) ws old
-gone_there s sheet name ws old same called h =
-    subst (λ (x : Worksheet). ArePrepared (with_tree (changed_tree (sheet_gone x.id x.name) None)) ws old) same
-    (subst (λ n. ArePrepared (with_tree (changed_tree (sheet_gone s.id n) None)) ws old) called h)
+pub names_there : (w : RewritesState) (index : ℕ) (sheets : List Worksheet) → names (updated_at (with_rewrites w) index sheets) ≡ names sheets
+names_there w index sheets = updated_unseen (λ (s : Worksheet). s.name) (with_rewrites w) (λ s. refl) index sheets
+
+pub ids_there : (w : RewritesState) (index : ℕ) (sheets : List Worksheet) → ids (updated_at (with_rewrites w) index sheets) ≡ ids sheets
+ids_there w index sheets = updated_unseen (λ (s : Worksheet). s.id) (with_rewrites w) (λ s. refl) index sheets

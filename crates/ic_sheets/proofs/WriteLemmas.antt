@@ -9,7 +9,7 @@ use Rattle.ic_laws.specs.CoreBook.{CellPlace, place_cmp}
 use Rattle.ic_laws.specs.CoreStep.{updated_at}
 use Rattle.ic_laws.specs.declared.memory.OutOfMemory.{OutOfMemory}
 use Rattle.ic_laws.specs.declared.tree.Formula.{Formula}
-use Rattle.ic_pool.specs.Mentions.{has_dangling_sheet}
+use Rattle.ic_pool.specs.Mentions.{has_dangling}
 use Rattle.ic_pool.specs.Pool.{IsPlaced, dangling_from, dangling_places}
 use Rattle.ic_sheets.proofs.IndexLemmas.{Index, set_updated}
 use Rattle.ic_sheets.proofs.KeptLemmas.{kept_same}
@@ -30,15 +30,15 @@ all_over P (z ∷ xs) (suc place) x y read keeps h = (h.0, all_over P xs place x
 
 -- ---- formulas that name a sheet that wasn't found
 
-none_pushed : (at : ℕ) (xs : List Formula) (x : Formula) → dangling_from at xs ≡ [] → has_dangling_sheet x ≡ false → dangling_from at (xs ++ x ∷ []) ≡ []
+none_pushed : (at : ℕ) (xs : List Formula) (x : Formula) → dangling_from at xs ≡ [] → has_dangling x ≡ false → dangling_from at (xs ++ x ∷ []) ≡ []
 none_pushed at [] x none clean = ap (λ b. cond b (at ∷ []) []) clean
 none_pushed at (y ∷ xs) x none clean =
-    elim (cases_Bool (has_dangling_sheet y)) [
+    elim (cases_Bool (has_dangling y)) [
       | inl t ↦ let no : at ∷ dangling_from (suc at) xs ≡ [] = rw t at none in cc
       | inr f ↦ rw f (none_pushed (suc at) xs x (rw f at none) clean)
     ]
 
-none_placed : (x : Formula) (at : ℕ) (before after : List Formula) → IsPlaced x at before after → has_dangling_sheet x ≡ false → dangling_places before ≡ [] → dangling_places after ≡ []
+none_placed : (x : Formula) (at : ℕ) (before after : List Formula) → IsPlaced x at before after → has_dangling x ≡ false → dangling_places before ≡ [] → dangling_places after ≡ []
 none_placed x at before after placed clean none =
     elim (cases_lt at (length before)) [
       | inl lt ↦ ap dangling_places (placed.found lt) ∙ none
@@ -49,7 +49,7 @@ none_placed x at before after placed clean none =
 pub record IsLike (formula : Formula) (s after : Worksheet) : Type 0 where
   pub id : after.id ≡ s.id
   pub name : after.name ≡ s.name
-  pub clean : has_dangling_sheet formula ≡ false → HasNoDangling s → HasNoDangling after
+  pub clean : has_dangling formula ≡ false → HasNoDangling s → HasNoDangling after
 
 like_same : (formula : Formula) (s after : Worksheet) → sheet_of after ≡ sheet_of s → IsLike formula s after
 like_same formula s after same = record {
@@ -70,7 +70,7 @@ like_written formula cell s after (Ok done) h e = like_placed formula h.0 s afte
 like_written formula cell s after (Err error) h e = like_same formula s after e
 
 pub kept_over : (index : Index) (last : ℕ) (may : Bool) (sheets : List Worksheet) (place : ℕ) (s after : Worksheet) (formula : Formula) (dangles : Bool) → AreKept index last may sheets → s ≡ get_or sheets place s → IsLike formula s after
-    → dangles ≡ has_dangling_sheet formula → AreKept index last (may || dangles) (slice_set sheets place after)
+    → dangles ≡ has_dangling formula → AreKept index last (may || dangles) (slice_set sheets place after)
 kept_over index last may sheets place s after formula dangles kept read like is =
     kept_same index last may (may || dangles) sheets (slice_set sheets place after) kept
     (seen_over (λ (x : Worksheet). x.name) sheets place s after read like.name)

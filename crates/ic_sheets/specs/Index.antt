@@ -14,7 +14,7 @@ pub record IsIndexed (ids : BTreeMap (String Global) ℕ) (sheets : List Workshe
   pub finds : (key : List ℕ) → get_by_text ids (encode_utf8_all key) ≡ id_of key sheets
   pub differ : IsDistinct agrees (map (λ s. s.name) sheets)
 
--- none of a sheet's formulas names a sheet that wasn't found
+-- all that a sheet's formulas mention was found
 abbrev pub HasNoDangling : Worksheet → Type 0
 HasNoDangling sheet = dangling_places sheet.pool.formulas ≡ []
 

@@ -25,7 +25,7 @@ pub struct Sheets {
     ids: BTreeMap<String, u32>,
     /// The greatest id of a sheet, 0 where there is none.
     greatest: u32,
-    /// Where it is false, no formula names a sheet that wasn't found.
+    /// Where it is false, all that the formulas mention was found.
     may_dangle: bool,
 }
 

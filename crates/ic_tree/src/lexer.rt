@@ -11,4 +11,5 @@ mod source;
 mod words;
 
 pub use next::next_token;
+pub(crate) use references::reference_at;
 pub use source::{Lexer, TextEnd};

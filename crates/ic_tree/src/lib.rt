@@ -27,7 +27,7 @@ pub use dynamic::is_dynamic;
 pub use law::{law_language_settled, law_shown_reads, law_tokens_before};
 pub(crate) use measured::Measured;
 pub use printer::print;
-pub use reading::read;
+pub use reading::{read, read_reference};
 pub use shown::Shown;
 pub use spelling::{Spelling, spell, spell_definition, spell_sheet, spell_with};
 pub use stored::Stored;

@@ -3,12 +3,14 @@ ghost use Rattle.ic_laws.specs.Parse.{parsed};
 ghost use Rattle.ic_laws.specs.ReadAs.{read_as};
 ghost use Rattle.ic_laws.specs.Reading.{Reads};
 ghost use Rattle.ic_laws.specs.Tree as trees;
+ghost use Rattle.ic_refs.specs.Formula.{whole_of};
 ghost use Rattle.ic_tree.specs.Lexing.{ends_whole};
 
 use crate::TokenSource;
-use crate::lexer::{Lexer, TextEnd};
+use crate::lexer::{Lexer, TextEnd, reference_at};
 use crate::reader::parse;
-use ic_laws::{Dialect, OutOfMemory, Spelled};
+use ic_laws::scan::is_nothing;
+use ic_laws::{Dialect, OutOfMemory, RefToken, Spelled};
 use std::alloc::Global;
 use std::marker::Brand;
 
@@ -20,6 +22,23 @@ pub fn read<D: Dialect>(alloc: Global, d: &D, text: &str) -> Result<Option<Spell
     ensures none { IfOk result (λ r. MatchOption r ((t : trees.Spelled) → Reads (D.meaning d.now) (chars text.now) t → ⊥) (λ t. Unit {0})) }
 {
     read_text::<D, Brand>(alloc, d, &Unread { text })
+}
+
+/// The reference that a whole text is in a dialect. None exactly where it is none, also where blanks stand around it.
+pub fn read_reference<D: Dialect>(
+    alloc: Global,
+    d: &D,
+    text: &str,
+) -> Result<Option<RefToken>, OutOfMemory>
+    ensures { IfOk result (λ r. r ≡ whole_of ((D.meaning d.now).read_ref (chars text.now))) }
+{
+    let Some((reference, rest)) = reference_at(alloc, d, text)? else {
+        return Ok(None);
+    };
+    if is_nothing(rest) {
+        return Ok(Some(reference));
+    }
+    Ok(None)
 }
 
 /// A text that is still to be read.

@@ -1,6 +1,6 @@
 -- The commands of served names with one to four words.
 use Rattle.std.proofs.Common.{◌≡◌, ℕ, List, [], ◌∷◌, Option, Some, None, option_map, option_and_then, refl, ap, sym, ◌∙◌}
-use Rattle.ic_laws.specs.Command.{AllSaid, Command, OfText, Said, WordForm, said}
+use Rattle.ic_laws.specs.Command.{AllSaid, Command, OfScope, OfText, Said, WordForm, said}
 use Rattle.ic_laws.specs.Lines.{spelled_command, unescaped}
 use Rattle.ic_words.specs.Command.{word_said, words_said}
 use Rattle.ic_words.specs.Served.{served}
@@ -26,6 +26,34 @@ module _ {name : List ℕ} {command : AllSaid (OfText ∷ []) → Command} (row 
 
   pub no_text : o ≡ None → None ≡ spelled_command served (name ∷ words)
   no_text is = command_as_said row words None (ap (option_map (λ text. (characters_of text, tt))) (sym is) ∙ e)
+
+-- a served name with what is said of a definition: its name, its scope and its body
+abbrev definition_forms : List WordForm
+definition_forms = OfText ∷ OfScope ∷ OfText ∷ []
+
+abbrev definition_said : WordText × Option ℕ × WordText → AllSaid definition_forms
+definition_said said = (characters_of said.0, (said.1, (characters_of said.2, tt)))
+
+module _ {name : List ℕ} {command : AllSaid definition_forms → Command} (row : IsRow name definition_forms command) (words : List (List ℕ)) (o : Option (WordText × Option ℕ × WordText)) (e : option_map definition_said o ≡ words_said definition_forms words) where
+  pub one_definition : (said : WordText × Option ℕ × WordText) → o ≡ Some said → Some (command (definition_said said)) ≡ spelled_command served (name ∷ words)
+  one_definition said is = command_as_said row words (Some (definition_said said)) (ap (option_map definition_said) (sym is) ∙ e)
+
+  pub no_definition : o ≡ None → None ≡ spelled_command served (name ∷ words)
+  no_definition is = command_as_said row words None (ap (option_map definition_said) (sym is) ∙ e)
+
+-- what is said of a definition
+module _ {words : List (List ℕ)} {a b c : List ℕ} (e : words ≡ a ∷ b ∷ c ∷ []) where
+  pub definition_there : {x : List ℕ} {y : Option ℕ} {z : List ℕ} → Some x ≡ word_said OfText a → Some y ≡ word_said OfScope b → Some z ≡ word_said OfText c → Some (x, (y, (z, tt))) ≡ words_said definition_forms words
+  definition_there {x} {y} {z} p q r = sym (ap (words_said definition_forms) e ∙ said_first OfText (OfScope ∷ OfText ∷ []) a (b ∷ c ∷ []) x (y, (z, tt)) p (said_first OfScope (OfText ∷ []) b (c ∷ []) y (z, tt) q (said_first OfText [] c [] z tt r refl)))
+
+  pub without_name : None ≡ word_said OfText a → None ≡ words_said definition_forms words
+  without_name p = sym (ap (words_said definition_forms) e ∙ none_first OfText (OfScope ∷ OfText ∷ []) a (b ∷ c ∷ []) p)
+
+  pub without_scope : None ≡ word_said OfScope b → None ≡ words_said definition_forms words
+  without_scope p = sym (ap (words_said definition_forms) e ∙ none_after OfText (OfScope ∷ OfText ∷ []) a (b ∷ c ∷ []) (none_first OfScope (OfText ∷ []) b (c ∷ []) p))
+
+  pub without_body : None ≡ word_said OfText c → None ≡ words_said definition_forms words
+  without_body p = sym (ap (words_said definition_forms) e ∙ none_after OfText (OfScope ∷ OfText ∷ []) a (b ∷ c ∷ []) (none_after OfScope (OfText ∷ []) b (c ∷ []) (none_first OfText [] c [] p)))
 
 -- two words
 module _ {name : List ℕ} {f g : WordForm} {command : AllSaid (f ∷ g ∷ []) → Command} (row : IsRow name (f ∷ g ∷ []) command) {words : List (List ℕ)} {a b : List ℕ} (e : words ≡ a ∷ b ∷ []) where

@@ -10,7 +10,7 @@ use Rattle.ic_laws.specs.Lines.{escape_meaning, unescaped}
 use Rattle.ic_words.proofs.NumberLemmas.{without_digits}
 
 -- a digit or a minus
-abbrev plain : ℕ → Bool
+abbrev pub plain : ℕ → Bool
 plain c = is_ascii_digit c || c == 45
 
 -- a word of them spells itself
@@ -74,7 +74,7 @@ none_of_other read strict None h = refl
 none_of_other read strict (Some text) h = strict text h
 
 -- what reads such words alone reads a word as what the word spells
-as_spelled : {T : Type 0} (read : List ℕ → Option T) → ((text : List ℕ) → list_all plain text ≡ false → read text ≡ None) → (word : List ℕ) → read word ≡ option_and_then read (unescaped word)
+pub as_spelled : {T : Type 0} (read : List ℕ → Option T) → ((text : List ℕ) → list_all plain text ≡ false → read text ≡ None) → (word : List ℕ) → read word ≡ option_and_then read (unescaped word)
 as_spelled read strict word =
     elim (cases_Bool (list_all plain word)) [
       | inl p ↦ sym (ap (option_and_then read) (spells_itself word p))
@@ -92,7 +92,7 @@ not_digits cs h = elim (cases_Bool (all_ascii_digits cs)) [
   | inr p ↦ p
 ]
 
-other_index : (cs : List ℕ) → list_all plain cs ≡ false → index_said cs ≡ None
+pub other_index : (cs : List ℕ) → list_all plain cs ≡ false → index_said cs ≡ None
 other_index cs h = ap (option_and_then (at_most 4294967295)) (without_digits cs (not_digits cs h))
 
 other_position : (cs : List ℕ) → list_all plain cs ≡ false → position_said cs ≡ None

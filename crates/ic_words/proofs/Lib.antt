@@ -2,6 +2,8 @@ pub mod CommandLemmas
 pub mod EscapedNumbers
 pub mod NameLemmas
 pub mod NumberLemmas
+pub mod ReplyFacts
 pub mod ReplyLemmas
 pub mod RowLemmas
+pub mod ScopeLemmas
 pub mod WordLemmas

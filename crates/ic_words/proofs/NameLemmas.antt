@@ -30,12 +30,17 @@ pub no_served_name : (name : List ℕ) (words : List (List ℕ)) → IsUtf8 name
     → name ≢ codes "delete_sheet"
     → name ≢ codes "delete_sheet_by_name"
     → name ≢ codes "delete_sheet_by_sheet_id"
+    → name ≢ codes "new_defined_name"
+    → name ≢ codes "delete_defined_name"
+    → name ≢ codes "is_valid_defined_name"
+    → name ≢ codes "get_defined_name_list"
+    → name ≢ codes "get_new_sheet_id"
     → name ≢ codes "set_locale"
     → name ≢ codes "set_language"
     → name ≢ codes "update_cell_with_formula"
     → name ≢ codes "get_cell_formula"
     → None ≡ spelled_command served (chars name ∷ words)
 unfolding commands served
-no_served_name name words u a b c d e f g h i j k =
+no_served_name name words u a b c d e f g h i j k l m n o p =
     none_spelled served (chars name) (word_texts words) (not_found (chars name) served
-    (other_name (codes "add_sheet") name u refl a, (other_name (codes "rename_sheet") name u refl b, (other_name (codes "rename_sheet_by_index") name u refl c, (other_name (codes "move_sheet") name u refl d, (other_name (codes "delete_sheet") name u refl e, (other_name (codes "delete_sheet_by_name") name u refl f, (other_name (codes "delete_sheet_by_sheet_id") name u refl g, (other_name (codes "set_locale") name u refl h, (other_name (codes "set_language") name u refl i, (other_name (codes "update_cell_with_formula") name u refl j, (other_name (codes "get_cell_formula") name u refl k, tt))))))))))))
+    (other_name (codes "add_sheet") name u refl a, (other_name (codes "rename_sheet") name u refl b, (other_name (codes "rename_sheet_by_index") name u refl c, (other_name (codes "move_sheet") name u refl d, (other_name (codes "delete_sheet") name u refl e, (other_name (codes "delete_sheet_by_name") name u refl f, (other_name (codes "delete_sheet_by_sheet_id") name u refl g, (other_name (codes "new_defined_name") name u refl h, (other_name (codes "delete_defined_name") name u refl i, (other_name (codes "is_valid_defined_name") name u refl j, (other_name (codes "get_defined_name_list") name u refl k, (other_name (codes "get_new_sheet_id") name u refl l, (other_name (codes "set_locale") name u refl m, (other_name (codes "set_language") name u refl n, (other_name (codes "update_cell_with_formula") name u refl o, (other_name (codes "get_cell_formula") name u refl p, tt)))))))))))))))))

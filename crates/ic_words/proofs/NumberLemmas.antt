@@ -15,7 +15,7 @@ use Rattle.ic_laws.specs.Command.{at_most, index_said, number_said, position_sai
 digit_below : (c : ℕ) → is_ascii_digit c ≡ true → c < 128
 digit_below c h = grind (arith, nat_tests)
 
-digits_ascii : (cs : List ℕ) → all_ascii_digits cs ≡ true → IsAscii cs
+pub digits_ascii : (cs : List ℕ) → all_ascii_digits cs ≡ true → IsAscii cs
 digits_ascii [] h = IsAscii-nil
 digits_ascii (c ∷ cs) h =
     let p = and_parts (is_ascii_digit c) (all_ascii_digits cs) h in IsAscii-cons c cs (digit_below c p.0) (digits_ascii cs p.1)

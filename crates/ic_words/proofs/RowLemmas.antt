@@ -1,6 +1,6 @@
 -- What the words after each served name say.
 use Rattle.std.proofs.Common.{◌≡◌, ◌≢◌, ℕ, suc, List, [], ◌∷◌, length, Option, Some, None, option_map, option_and_then, codes, refl, ap, sym, ◌∙◌}
-use Rattle.ic_laws.specs.Command.{AddSheet, AllSaid, Command, DeleteSheet, DeleteSheetByName, DeleteSheetBySheetId, GetCellFormula, MoveSheet, OfIndex, OfPosition, OfText, RenameSheet, RenameSheetByIndex, Said, SetLanguage, SetLocale, UpdateCellWithFormula, WordForm, all_said, commands, named_command, said}
+use Rattle.ic_laws.specs.Command.{AddSheet, AllSaid, Command, DeleteDefinedName, DeleteSheet, DeleteSheetByName, DeleteSheetBySheetId, GetCellFormula, GetDefinedNameList, GetNewSheetId, IsValidDefinedName, MoveSheet, NewDefinedName, OfIndex, OfPosition, OfScope, OfText, RenameSheet, RenameSheetByIndex, Said, SetLanguage, SetLocale, UpdateCellWithFormula, WordForm, all_said, commands, named_command, said}
 use Rattle.ic_laws.specs.Lines.{spelled_command, unescaped, word_texts}
 use Rattle.ic_words.specs.Command.{word_said, words_said}
 use Rattle.ic_words.specs.Served.{served}
@@ -66,6 +66,26 @@ delete_sheet_by_name_row = record { says = λ texts. refl }
 pub delete_sheet_by_sheet_id_row : IsRow (codes "delete_sheet_by_sheet_id") (OfIndex ∷ []) (λ w. DeleteSheetBySheetId w.0)
 unfolding commands served
 delete_sheet_by_sheet_id_row = record { says = λ texts. refl }
+
+pub new_defined_name_row : IsRow (codes "new_defined_name") (OfText ∷ OfScope ∷ OfText ∷ []) (λ w. NewDefinedName w.0 w.1.0 w.1.1.0)
+unfolding commands served
+new_defined_name_row = record { says = λ texts. refl }
+
+pub delete_defined_name_row : IsRow (codes "delete_defined_name") (OfText ∷ OfScope ∷ []) (λ w. DeleteDefinedName w.0 w.1.0)
+unfolding commands served
+delete_defined_name_row = record { says = λ texts. refl }
+
+pub is_valid_defined_name_row : IsRow (codes "is_valid_defined_name") (OfText ∷ OfScope ∷ OfText ∷ []) (λ w. IsValidDefinedName w.0 w.1.0 w.1.1.0)
+unfolding commands served
+is_valid_defined_name_row = record { says = λ texts. refl }
+
+pub get_defined_name_list_row : IsRow (codes "get_defined_name_list") [] (λ w. GetDefinedNameList)
+unfolding commands served
+get_defined_name_list_row = record { says = λ texts. refl }
+
+pub get_new_sheet_id_row : IsRow (codes "get_new_sheet_id") [] (λ w. GetNewSheetId)
+unfolding commands served
+get_new_sheet_id_row = record { says = λ texts. refl }
 
 pub set_locale_row : IsRow (codes "set_locale") (OfText ∷ []) (λ w. SetLocale w.0)
 unfolding commands served

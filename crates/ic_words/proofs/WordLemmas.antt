@@ -44,6 +44,10 @@ word_before bytes split word rest u cut some =
     ∙ ap (map chars) (slice_split_at (λ b. b == 9) word.now 9 rest.now (no_tabs word.now parts.1) refl)
     ∙ ap (λ ws. chars word.now ∷ ws) (sym (words_of-bytes rest.now (after_tab bytes word.now rest.now u parts.0)))
 
+-- where something is left there is a word
+pub some_word : (left : Option (Bor (List ℕ))) (line : Bor (List ℕ)) → left ≡ Some line → length (words_left left) ≢ 0
+some_word left line e none = omega (arith, none, ap length (ap words_left e), length-slice_split (λ c. c == 9) (chars line.now))
+
 -- a word with a tab after it isn't the only one
 pub more_words : (left : Option (Bor (List ℕ))) (line : Bor (List ℕ)) (more : Option (Bor (List ℕ))) (rest : Bor (List ℕ)) (word : List ℕ) → left ≡ Some line → words_of (chars line.now) ≡ word ∷ words_left more → more ≡ Some rest → length (words_left left) ≢ 1
 more_words left line more rest word e w m one =

@@ -1,3 +1,4 @@
 pub mod Command
+pub mod Reply
 pub mod Served
 pub mod Words

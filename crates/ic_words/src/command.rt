@@ -5,13 +5,18 @@ ghost use Rattle.ic_words.specs.Command.{command_meant, words_said};
 ghost use Rattle.ic_words.specs.Served.{served};
 ghost use Rattle.ic_words.specs.Words.{characters_of, words_left};
 
+mod names;
+
 use crate::numbers::{index_of, position_of};
-use crate::words::{WordText, first_word, four_words, one_word, text_of, three_words, two_words};
+use crate::words::{
+    WordText, first_word, four_words, no_words, one_word, text_of, three_words, two_words,
+};
 use ic_laws::OutOfMemory;
+use names::{delete_defined_name, get_defined_name_list, is_valid_defined_name, new_defined_name};
 use std::alloc::Global;
 
 /// A command that is served. Sheets are told by their index from 0 in the order of the book, or by name or id; rows and
-/// columns count from 1.
+/// columns count from 1. The scope of a defined name is the index of a sheet, or None where it is the whole book.
 #[derive(Drop)]
 pub enum Command<'l> {
     AddSheet {
@@ -38,6 +43,22 @@ pub enum Command<'l> {
     DeleteSheetBySheetId {
         id: u32,
     },
+    NewDefinedName {
+        name: WordText<'l>,
+        scope: Option<u32>,
+        body: WordText<'l>,
+    },
+    DeleteDefinedName {
+        name: WordText<'l>,
+        scope: Option<u32>,
+    },
+    IsValidDefinedName {
+        name: WordText<'l>,
+        scope: Option<u32>,
+        body: WordText<'l>,
+    },
+    GetDefinedNameList,
+    GetNewSheetId,
     SetLocale {
         id: WordText<'l>,
     },
@@ -82,6 +103,11 @@ fn command_named<'l>(
         "delete_sheet" => Ok(delete_sheet(rest)),
         "delete_sheet_by_name" => delete_sheet_by_name(alloc, rest),
         "delete_sheet_by_sheet_id" => Ok(delete_sheet_by_sheet_id(rest)),
+        "new_defined_name" => new_defined_name(alloc, rest),
+        "delete_defined_name" => delete_defined_name(alloc, rest),
+        "is_valid_defined_name" => is_valid_defined_name(alloc, rest),
+        "get_defined_name_list" => Ok(get_defined_name_list(rest)),
+        "get_new_sheet_id" => Ok(get_new_sheet_id(rest)),
         "set_locale" => set_locale(alloc, rest),
         "set_language" => set_language(alloc, rest),
         "update_cell_with_formula" => update_cell_with_formula(alloc, rest),
@@ -168,6 +194,13 @@ fn delete_sheet_by_sheet_id<'l>(rest: Option<&'l str>) -> Option<Command<'l>>
 {
     let id = only_index(rest)?;
     Some(Command::DeleteSheetBySheetId { id })
+}
+
+fn get_new_sheet_id<'l>(rest: Option<&'l str>) -> Option<Command<'l>>
+    ensures { option_map command_meant result ≡ spelled_command served (codes "get_new_sheet_id" ∷ words_left rest.entry) }
+{
+    no_words(rest)?;
+    Some(Command::GetNewSheetId)
 }
 
 fn set_locale<'l>(alloc: Global, rest: Option<&'l str>) -> Result<Option<Command<'l>>, OutOfMemory>

@@ -1,8 +1,10 @@
-ghost use Rattle.std.specs.Prelude.{◌≡◌, ◌+◌, ◌++◌, ◌≤◌, ◌∷◌, [], Ok, Err, IfOk, OnOk, chars, codes, length, string_bytes, string_capacity, string_len};
-ghost use Rattle.ic_laws.specs.Character.{line_feed, tab};
-ghost use Rattle.ic_laws.specs.Command.{TextField};
-ghost use Rattle.ic_laws.specs.Lines.{escaped, reply_bytes};
+ghost use Rattle.std.specs.Prelude.{◌≡◌, ◌+◌, ◌++◌, ◌≤◌, ◌∷◌, [], Ok, Err, IfOk, OnOk, chars, codes, flat_map, length, string_bytes, string_capacity, string_len};
+ghost use Rattle.std.specs.Fmt.{decimal};
+ghost use Rattle.ic_laws.specs.Character.{line_feed};
+ghost use Rattle.ic_laws.specs.Command.{NumberField, TextField};
+ghost use Rattle.ic_laws.specs.Lines.{reply_bytes};
 ghost use Rattle.ic_laws.specs.Refusal.{Refusal, refusal_name};
+ghost use Rattle.ic_words.specs.Reply.{field_word, name_fields};
 
 use ic_laws::OutOfMemory;
 use ic_laws::scan::push_char;
@@ -46,12 +48,79 @@ pub fn text_reply(mut reply: String, field: &str) -> Result<String, OutOfMemory>
     Ok(reply)
 }
 
-/// Appends a field: a tab, and the text with its escapes.
+/// The text with the reply `ok` with one number as its field at its end: decimal digits, or `-` for None. It needs no
+/// room; where memory runs out the text is gone.
+pub fn number_reply(mut reply: String, number: Option<u32>) -> Result<String, OutOfMemory>
+    ensures { IfOk result (λ text. string_bytes text ≡ string_bytes reply ++ reply_bytes (Ok (NumberField number ∷ []))) }
+{
+    reply.push_str("ok")?;
+    push_number(&mut reply, number)?;
+    reply.push_str("\n")?;
+    Ok(reply)
+}
+
+/// The text with the reply `ok` that lists defined names at its end, three fields for each in this order: its name, the
+/// index from 0 of the sheet that it is for, or `-` where that is the whole book, and its body. It needs no room; where
+/// memory runs out the text is gone.
+pub fn names_reply(
+    mut reply: String,
+    names: &[(String, Option<u32>, String)],
+) -> Result<String, OutOfMemory>
+    ensures { IfOk result (λ text. string_bytes text ≡ string_bytes reply ++ reply_bytes (Ok (flat_map name_fields names.now))) }
+{
+    reply.push_str("ok")?;
+    push_names(&mut reply, names)?;
+    reply.push_str("\n")?;
+    Ok(reply)
+}
+
+/// Appends the fields of listed names.
+fn push_names(
+    reply: &mut String,
+    names: &[(String, Option<u32>, String)],
+) -> Result<(), OutOfMemory>
+    ensures { OnOk result (chars (string_bytes reply.new) ≡ chars (string_bytes reply.old) ++ flat_map field_word (flat_map name_fields names.now)) }
+{
+    for listed in names {
+        push_name(reply, listed)?;
+    }
+    Ok(())
+}
+
+/// Appends the three fields of a listed name.
+fn push_name(reply: &mut String, listed: &(String, Option<u32>, String)) -> Result<(), OutOfMemory>
+    ensures { OnOk result (chars (string_bytes reply.new) ≡ chars (string_bytes reply.old) ++ flat_map field_word (name_fields listed.now)) }
+{
+    push_field(reply, listed.0.as_str())?;
+    push_number(reply, listed.1)?;
+    push_field(reply, listed.2.as_str())
+}
+
+/// Appends a field that is a text: a tab, and the text with its escapes.
 fn push_field(reply: &mut String, field: &str) -> Result<(), OutOfMemory>
-    ensures { OnOk result (chars (string_bytes reply.new) ≡ chars (string_bytes reply.old) ++ tab ∷ escaped (chars field.now)) }
+    ensures { OnOk result (chars (string_bytes reply.new) ≡ chars (string_bytes reply.old) ++ field_word (TextField (chars field.now))) }
 {
     push_char(reply, '\t')?;
     push_escaped(reply, field)
+}
+
+/// Appends a field that is a number: a tab, and its digits, or a minus where there is none.
+fn push_number(reply: &mut String, number: Option<u32>) -> Result<(), OutOfMemory>
+    ensures { OnOk result (chars (string_bytes reply.new) ≡ chars (string_bytes reply.old) ++ field_word (NumberField number)) }
+{
+    push_char(reply, '\t')?;
+    match number {
+        Some(number) => push_digits(reply, number),
+        None => push_char(reply, '-'),
+    }
+}
+
+/// Appends the decimal digits of a number.
+fn push_digits(reply: &mut String, number: u32) -> Result<(), OutOfMemory>
+    ensures { OnOk result (chars (string_bytes reply.new) ≡ chars (string_bytes reply.old) ++ decimal number) }
+{
+    write!(reply, "{number}")?;
+    Ok(())
 }
 
 /// Appends a piece for which there is room.

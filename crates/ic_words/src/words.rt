@@ -57,6 +57,16 @@ pub(crate) fn first_word(line: &str) -> (&str, Option<&str>)
     }
 }
 
+/// Some exactly where no word is left.
+pub(crate) fn no_words(rest: Option<&str>) -> Option<()>
+    ensures { MatchOption result (length (words_left rest.entry) ≢ 0) (λ _. words_left rest.entry ≡ []) }
+{
+    match rest {
+        None => Some(()),
+        Some(_) => None,
+    }
+}
+
 /// The word that is left, if it is one.
 pub(crate) fn one_word(rest: Option<&str>) -> Option<&str>
     ensures { MatchOption result (length (words_left rest.entry) ≢ 1) (λ word. words_left rest.entry ≡ chars word.now ∷ []) }

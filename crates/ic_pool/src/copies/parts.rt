@@ -22,15 +22,20 @@ pub fn copy_word(alloc: Global, word: &NameMention) -> Result<NameMention, OutOf
 {
     match word {
         NameMention::Var(word) => Ok(NameMention::Var(Text::from_str(alloc, word.as_str())?)),
-        NameMention::Name(key) => {
-            let name = Text::from_str(alloc, key.name.as_str())?;
-            let scope = key.scope;
-            Ok(NameMention::Name(NameKey { name, scope }))
-        }
+        NameMention::Name(key) => Ok(NameMention::Name(copy_key(alloc, key)?)),
         NameMention::Dangling(word) => {
             Ok(NameMention::Dangling(Text::from_str(alloc, word.as_str())?))
         }
     }
+}
+
+/// A copy of the key of a definition.
+pub fn copy_key(alloc: Global, key: &NameKey) -> Result<NameKey, OutOfMemory>
+    ensures { IfOk result (λ copy. copy ≡ key.now) }
+{
+    let name = Text::from_str(alloc, key.name.as_str())?;
+    let scope = key.scope;
+    Ok(NameKey { name, scope })
 }
 
 /// A copy of each text.

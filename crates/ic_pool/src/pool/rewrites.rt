@@ -2,32 +2,18 @@ ghost use Rattle.std.specs.Prelude.{◌≡◌, ◌<◌, ◌++◌, [], ◌∷◌,
 ghost use Rattle.std.specs.List.{AllByRecursion};
 ghost use Rattle.std.specs.Option.{unwrap_or};
 ghost use Rattle.ic_laws.specs.declared.tree.Formula.{Formula};
-ghost use Rattle.ic_pool.specs.Mentions.{has_dangling_sheet};
+ghost use Rattle.ic_pool.specs.Mentions.{SparesFound, formula_after, has_dangling};
 ghost use Rattle.ic_pool.specs.Pool.{dangling_places};
 ghost use Rattle.ic_pool.specs.Rewrites.{FitsPool, IsNoted, changed_by, changes_nothing, rewritten_by};
 
-use crate::has_dangling_sheet;
+use crate::{BookChange, changed_formula, has_dangling};
 use ic_laws::{Formula, OutOfMemory};
 use std::alloc::Global;
 use std::marker::Model;
 
-/// A rewriting of single formulas.
-pub trait Rewriting {
-    /// What it may be asked to rewrite.
-    ghost is_allowed: { Self → Formula → Type 0 };
-
-    /// What each formula becomes.
-    ghost rewritten: { Self → Formula → Formula };
-
-    /// What a formula becomes. None: it stays as it is, and nothing is copied.
-    fn rewrite(&self, alloc: Global, formula: &Formula) -> Result<Option<Formula>, OutOfMemory>
-        requires { is_allowed self.now formula.now }
-        ensures { IfOk result (λ r. rewritten self.now formula.now ≡ unwrap_or r formula.now) };
-}
-
 /// A formula that becomes another: where it stands, from 0, and what it becomes.
 #[derive(Drop)]
-struct Change {
+struct Replacement {
     at: usize,
     formula: Formula,
 }
@@ -35,8 +21,8 @@ struct Change {
 /// What is prepared for a pool before its formulas are rewritten, so that the rewriting itself can't fail.
 #[derive(Drop)]
 pub struct Rewrites {
-    changes: Vec<Change>,
-    /// The places of the formulas that will then name a sheet that isn't found.
+    changes: Vec<Replacement>,
+    /// The places of the formulas that will then mention something that isn't found.
     dangling: Vec<usize>,
 }
 
@@ -61,7 +47,7 @@ impl Rewrites {
         self.changes.is_empty()
     }
 
-    /// Makes the changes, and answers the places of the formulas that then name a sheet that isn't found.
+    /// Makes the changes, and answers the places of the formulas that then mention something that isn't found.
     pub(super) fn put(self, formulas: &mut [Formula]) -> Vec<usize>
         requires { FitsPool self formulas.old }
         ensures formulas { formulas.new ≡ rewritten_by self formulas.old }
@@ -84,17 +70,17 @@ impl Rewrites {
     }
 
     /// Looks at the formula at a place.
-    fn note<R: Rewriting>(
+    fn note<C: BookChange>(
         &mut self,
         alloc: Global,
-        rewriting: &R,
+        change: &C,
+        scope: Option<u32>,
         at: usize,
         formula: &Formula,
     ) -> Result<(), OutOfMemory>
-        requires { R.is_allowed rewriting.now formula.now }
-        ensures { OnOk result (IsNoted at formula.now (R.rewritten rewriting.now formula.now) self.old self.new) }
+        ensures { OnOk result (IsNoted at formula.now (formula_after (C.change change.now) scope formula.now) self.old self.new) }
     {
-        match rewriting.rewrite(alloc, formula)? {
+        match changed_formula(alloc, change, scope, formula)? {
             None => self.note_place(at, formula),
             Some(becomes) => {
                 self.note_place(at, &becomes)?;
@@ -103,11 +89,11 @@ impl Rewrites {
         }
     }
 
-    /// Puts a place behind the others where this formula, which will stand there, names a sheet that isn't found.
+    /// Puts a place behind the others where this formula, which will stand there, mentions something that isn't found.
     fn note_place(&mut self, at: usize, formula: &Formula) -> Result<(), OutOfMemory>
-        ensures { OnOk result (self.new ≡ record self.old { dangling = self.old.dangling ++ (if has_dangling_sheet formula.now then at ∷ [] else []) }) }
+        ensures { OnOk result (self.new ≡ record self.old { dangling = self.old.dangling ++ (if has_dangling formula.now then at ∷ [] else []) }) }
     {
-        if has_dangling_sheet(formula) {
+        if has_dangling(formula) {
             self.dangling.push(at)?;
         }
         Ok(())
@@ -117,50 +103,50 @@ impl Rewrites {
     fn note_change(&mut self, at: usize, formula: Formula) -> Result<(), OutOfMemory>
         ensures { OnOk result (self.new ≡ record self.old { changes = self.old.changes ++ record { at = at; formula = formula } ∷ [] }) }
     {
-        self.changes.push(Change { at, formula })?;
+        self.changes.push(Replacement { at, formula })?;
         Ok(())
     }
 }
 
-/// What a rewriting does to formulas.
-pub fn rewrites_of<R: Rewriting>(
+/// What a change does to formulas whose words are looked up from the sheet with this id, or from none.
+pub fn rewrites_of<C: BookChange>(
     alloc: Global,
     formulas: &[Formula],
-    rewriting: &R,
+    change: &C,
+    scope: Option<u32>,
 ) -> Result<Rewrites, OutOfMemory>
-    requires { AllByRecursion (R.is_allowed rewriting.now) formulas.now }
-    ensures made { IfOk result (λ w. rewritten_by w formulas.now ≡ map (R.rewritten rewriting.now) formulas.now) }
+    ensures made { IfOk result (λ w. rewritten_by w formulas.now ≡ map (formula_after (C.change change.now) scope) formulas.now) }
     ensures fits { IfOk result (λ w. FitsPool w formulas.now) }
 {
     let mut rewrites = Rewrites::new(alloc);
     for (at, formula) in formulas.iter().enumerate() {
-        rewrites.note(alloc, rewriting, at, formula)?;
+        rewrites.note(alloc, change, scope, at, formula)?;
     }
     Ok(rewrites)
 }
 
-/// What a rewriting does to formulas, if it leaves those that stand at no place of the list.
-pub fn rewrites_at<R: Rewriting>(
+/// The same, if it leaves those that stand at no place of the list.
+pub fn rewrites_at<C: BookChange>(
     alloc: Global,
     formulas: &[Formula],
     places: &[usize],
-    rewriting: &R,
+    change: &C,
+    scope: Option<u32>,
 ) -> Result<Rewrites, OutOfMemory>
-    requires allowed { AllByRecursion (R.is_allowed rewriting.now) formulas.now }
-    requires spares { (f : Formula) → R.is_allowed rewriting.now f → has_dangling_sheet f ≡ false → R.rewritten rewriting.now f ≡ f }
+    requires spares { SparesFound (C.change change.now) scope }
     requires places { places.now ≡ dangling_places formulas.now }
-    ensures made { IfOk result (λ w. rewritten_by w formulas.now ≡ map (R.rewritten rewriting.now) formulas.now) }
+    ensures made { IfOk result (λ w. rewritten_by w formulas.now ≡ map (formula_after (C.change change.now) scope) formulas.now) }
     ensures fits { IfOk result (λ w. FitsPool w formulas.now) }
 {
     let mut rewrites = Rewrites::new(alloc);
     for place in places {
-        rewrites.note(alloc, rewriting, *place, &formulas[*place])?;
+        rewrites.note(alloc, change, scope, *place, &formulas[*place])?;
     }
     Ok(rewrites)
 }
 
 /// Puts each changed formula at its place.
-fn put_all(formulas: &mut [Formula], changes: Vec<Change>)
+fn put_all(formulas: &mut [Formula], changes: Vec<Replacement>)
     requires { AllByRecursion (λ change. change.at < length formulas.old) changes.items }
     ensures { formulas.new ≡ changed_by changes.items formulas.old }
 {

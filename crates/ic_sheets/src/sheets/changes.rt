@@ -1,19 +1,20 @@
-//! Sheets come, get other names and go, and the formulas of all sheets with them.
-ghost use Rattle.std.specs.Prelude.{◌≡◌, ◌<◌, ◌++◌, List, [], ◌∷◌, Some, None, IfOk, OnOk, OnErr, chars, false, length, map, remove};
+//! Sheets come, get other names and go, and definitions come and go: what becomes of the formulas of all sheets.
+ghost use Rattle.std.specs.Prelude.{◌≡◌, ◌<◌, ◌++◌, ℕ, List, [], ◌∷◌, Some, IfOk, OnOk, OnErr, chars, false, length, map, remove};
 ghost use Rattle.std.specs.List.{list_any, slice_get};
-ghost use Rattle.ic_laws.specs.BookTrees.{with_tree};
-ghost use Rattle.ic_laws.specs.Changes.{changed_tree, sheet_gone, sheet_named};
+ghost use Rattle.ic_laws.specs.Changes.{sheet_gone, sheet_named};
 ghost use Rattle.ic_laws.specs.CoreStep.{updated_at};
 ghost use Rattle.ic_laws.specs.Greatest.{greatest};
 ghost use Rattle.ic_laws.specs.Name.{agrees};
-ghost use Rattle.ic_sheets.specs.Rewriting.{ArePrepared, FitSheets, changed_pool, sheets_of, with_all_rewrites};
+ghost use Rattle.ic_pool.specs.Mentions.{SparesFound};
+ghost use Rattle.ic_pool.specs.Rewrites.{FitsPool};
+ghost use Rattle.ic_sheets.specs.Rewriting.{ArePrepared, FitSheets, IsPrepared, Makes, changed_pool, sheets_of, with_all_rewrites, with_rewrites};
 ghost use Rattle.ic_sheets.specs.Sheet.{BookSheet};
 ghost use Rattle.ic_sheets.specs.declared.sheet.Worksheet.{Worksheet};
 
 use super::Sheets;
-use super::rewriting::{Gone, Named, apply_all, prepare_going, prepare_naming};
+use super::rewriting::{apply_all, prepare, prepare_dangling};
 use ic_laws::OutOfMemory;
-use ic_pool::Rewrites;
+use ic_pool::{BookChange, Rewrites, SheetGone, SheetNamed};
 
 impl Sheets {
     /// Adds a sheet at the end, which keeps no formulas. References of all sheets that dangle by an agreeing name become
@@ -24,10 +25,7 @@ impl Sheets {
         ensures ok { OnOk result (sheets_of self.new ≡ map (changed_pool (sheet_named id (chars name.now))) (sheets_of self.old) ++ record { id = id; name = chars name.now; pool = []; cells = [] } ∷ []) }
         ensures err { OnErr result (self.new ≡ self.old) }
     {
-        if !self.may_dangle {
-            return self.push(id, name);
-        }
-        let prepared = self.naming(id, name)?;
+        let prepared = self.rewrites_of_dangling(&SheetNamed { id, name })?;
         self.push(id, name)?;
         self.apply(prepared);
         Ok(())
@@ -42,11 +40,8 @@ impl Sheets {
             → sheets_of self.new ≡ updated_at (λ s. record s { name = chars name.now }) index (map (changed_pool (sheet_named sheet.id (chars name.now))) (sheets_of self.old))) }
         ensures err { OnErr result (self.new ≡ self.old) }
     {
-        if !self.may_dangle {
-            return self.rename(index, name);
-        }
         let id = self.list[index].id;
-        let prepared = self.naming(id, name)?;
+        let prepared = self.rewrites_of_dangling(&SheetNamed { id, name })?;
         self.rename(index, name)?;
         self.apply(prepared);
         Ok(())
@@ -61,33 +56,68 @@ impl Sheets {
         ensures err { OnErr result (self.new ≡ self.old) }
     {
         let sheet = &self.list[index];
-        let mut prepared = self.going(sheet.id, sheet.name.as_str())?;
+        let name = sheet.name.as_str();
+        let mut prepared = self.rewrites(&SheetGone { id: sheet.id, name })?;
         self.remove(index)?;
         prepared.remove(index);
         self.apply(prepared);
         Ok(())
     }
 
-    /// What the sheet with this id does to the formulas of each sheet when it gets this name.
-    fn naming(&self, id: u32, name: &str) -> Result<Vec<Rewrites>, OutOfMemory>
-        ensures { IfOk result (λ prepared. ArePrepared (with_tree (changed_tree (sheet_named id (chars name.now)) None)) prepared.items self.now) }
+    /// What a change does to the formulas of each sheet, all prepared before any of them changes.
+    pub fn rewrites<C: BookChange>(&self, change: &C) -> Result<Vec<Rewrites>, OutOfMemory>
+        ensures { IfOk result (λ prepared. ArePrepared (C.change change.now) prepared.items self.now) }
     {
-        prepare_naming(self.alloc, &self.list, &Named { id, name })
+        prepare(self.alloc, &self.list, change)
     }
 
-    /// What the sheet with this id and this name does to the formulas of each sheet when it goes.
-    fn going(&self, id: u32, name: &str) -> Result<Vec<Rewrites>, OutOfMemory>
-        ensures { IfOk result (λ prepared. ArePrepared (with_tree (changed_tree (sheet_gone id (chars name.now)) None)) prepared.items self.now) }
+    /// The same for a change that leaves each formula in which all was found: it looks at the others alone.
+    pub fn rewrites_of_dangling<C: BookChange>(
+        &self,
+        change: &C,
+    ) -> Result<Vec<Rewrites>, OutOfMemory>
+        requires { (id : ℕ) → SparesFound (C.change change.now) (Some id) }
+        ensures { IfOk result (λ prepared. Makes (C.change change.now) prepared.items self.now) }
     {
-        prepare_going(self.alloc, &self.list, &Gone { id, name })
+        if !self.may_dangle {
+            return Ok(Vec::new(self.alloc));
+        }
+        prepare_dangling(self.alloc, &self.list, change)
     }
 
-    /// Does to the formulas of each sheet what was prepared for it.
-    fn apply(&mut self, prepared: Vec<Rewrites>)
+    /// What a change does to the formulas of the sheet at a place, from 0.
+    pub fn rewrites_at<C: BookChange>(
+        &self,
+        index: usize,
+        change: &C,
+    ) -> Result<Rewrites, OutOfMemory>
+        requires { index < length self.now }
+        ensures { IfOk result (λ rewrites. (sheet : Worksheet) → slice_get self.now index ≡ Some sheet → IsPrepared (C.change change.now) rewrites sheet) }
+    {
+        let sheet = &self.list[index];
+        sheet.pool.rewrites(change, Some(sheet.id))
+    }
+
+    /// Does to the formulas of each sheet what was prepared for it. Where nothing was, all stay.
+    pub fn apply(&mut self, prepared: Vec<Rewrites>)
         requires { FitSheets prepared.items self.old }
         ensures { self.new ≡ with_all_rewrites prepared.items self.old }
     {
+        if prepared.is_empty() {
+            return;
+        }
         apply_all(&mut self.list, prepared);
+        self.may_dangle = true;
+    }
+
+    /// Does to the formulas of the sheet at a place, from 0, what was prepared for it.
+    pub fn apply_at(&mut self, index: usize, rewrites: Rewrites)
+        requires within { index < length self.old }
+        requires fits { (sheet : Worksheet) → slice_get self.old index ≡ Some sheet → FitsPool rewrites sheet.pool.formulas }
+        ensures { self.new ≡ updated_at (with_rewrites rewrites) index self.old }
+    {
+        let sheet = &mut self.list[index];
+        sheet.pool.apply(rewrites);
         self.may_dangle = true;
     }
 }

@@ -9,7 +9,7 @@ ghost use Rattle.ic_sheets.specs.Sheet.{pool_at, sheet_of};
 
 use super::Sheets;
 use ic_laws::{Formula, OutOfMemory};
-use ic_pool::{Steps, has_dangling_sheet};
+use ic_pool::{Steps, has_dangling};
 use std::sync::ledger::Ledger;
 
 impl Sheets {
@@ -26,7 +26,7 @@ impl Sheets {
         ensures ok { OnOk result ((pool : List Formula) × (place : ℕ) × IsPlaced formula place (pool_at self.old index) pool × (self.new ≡ updated_at (λ s. record s { pool = record { formulas = pool; is_whole = true }; cells = insert_entry place_cmp s.cells (row, column) place }) index self.old)) }
         ensures err { OnErr result (map sheet_of self.new ≡ map sheet_of self.old) }
     {
-        self.may_dangle |= has_dangling_sheet(&formula);
+        self.may_dangle |= has_dangling(&formula);
         let sheet = &mut self.list[index];
         sheet.write(row, column, formula)
     }
@@ -47,7 +47,7 @@ impl Sheets {
         ensures cost { steps.new ≤ steps.old + length (pool_at self.old index) }
         ensures grows { steps.old ≤ steps.new }
     {
-        self.may_dangle |= has_dangling_sheet(formula);
+        self.may_dangle |= has_dangling(formula);
         let sheet = &mut self.list[index];
         sheet.place_copy(formula, steps)
     }

@@ -10,11 +10,11 @@ use Rattle.ic_book.proofs.model.Model.set_language.Goals as goal
 pub invariant_of-self : goal.invariant_of-self
 invariant_of-self c =
     let none = language_accepted c.self.inside.tables.now (chars c.args.language_id.now) c.in-Ok.language.now c.in-Ok.ensures.found in
-    record { valid = subst (λ i. IsValidBook (record (held c.self.inside.name c.self.inside.sheets c.self.inside.locale.now c.self.inside.language.now c.self.inside.zone c.self.inside.created c.self.inside.tables.now) { language = i })) (sym (language_is c.self.inside.tables.now (chars c.args.language_id.now) c.in-Ok.language.now c.in-Ok.ensures.found).0) (in_language (held c.self.inside.name c.self.inside.sheets c.self.inside.locale.now c.self.inside.language.now c.self.inside.zone c.self.inside.created c.self.inside.tables.now) c.self.invariant.valid (chars c.args.language_id.now) none); locale_found = c.self.invariant.locale_found; language_found = (language_is c.self.inside.tables.now (chars c.args.language_id.now) c.in-Ok.language.now c.in-Ok.ensures.found).1 }
+    record { valid = subst (λ i. IsValidBook (record (held c.self.inside.name c.self.inside.sheets c.self.inside.names c.self.inside.locale.now c.self.inside.language.now c.self.inside.zone c.self.inside.created c.self.inside.tables.now) { language = i })) (sym (language_is c.self.inside.tables.now (chars c.args.language_id.now) c.in-Ok.language.now c.in-Ok.ensures.found).0) (in_language (held c.self.inside.name c.self.inside.sheets c.self.inside.names c.self.inside.locale.now c.self.inside.language.now c.self.inside.zone c.self.inside.created c.self.inside.tables.now) c.self.invariant.valid (chars c.args.language_id.now) none); locale_found = c.self.invariant.locale_found; language_found = (language_is c.self.inside.tables.now (chars c.args.language_id.now) c.in-Ok.language.now c.in-Ok.ensures.found).1 }
 
 pub returns-in-Ok-clause-ok : goal.returns-in-Ok-clause-ok
 returns-in-Ok-clause-ok c =
-    ap (λ i. let m : ModelState = record { book = record (held c.self.inside.name c.self.inside.sheets c.self.inside.locale.now c.self.inside.language.now c.self.inside.zone c.self.inside.created c.self.inside.tables.now) { language = i }; has_all = (held_state c.self.inside.name c.self.inside.sheets c.self.inside.locale.now c.self.inside.language.now c.self.inside.zone c.self.inside.created c.self.inside.tables.now).has_all } in m) (language_is c.self.inside.tables.now (chars c.args.language_id.now) c.in-Ok.language.now c.in-Ok.ensures.found).0
+    ap (λ i. let m : ModelState = record { book = record (held c.self.inside.name c.self.inside.sheets c.self.inside.names c.self.inside.locale.now c.self.inside.language.now c.self.inside.zone c.self.inside.created c.self.inside.tables.now) { language = i }; has_all = (held_state c.self.inside.name c.self.inside.sheets c.self.inside.names c.self.inside.locale.now c.self.inside.language.now c.self.inside.zone c.self.inside.created c.self.inside.tables.now).has_all } in m) (language_is c.self.inside.tables.now (chars c.args.language_id.now) c.in-Ok.language.now c.in-Ok.ensures.found).0
     ∙ ap (λ (m : ModelState). let changed : ModelState = record m { book = with_language (chars c.args.language_id.now) m.book } in changed) c.self.view_is
 
 pub returns-in-Ok-clause-refused : goal.returns-in-Ok-clause-refused

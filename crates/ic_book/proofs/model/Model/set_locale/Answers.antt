@@ -10,11 +10,11 @@ use Rattle.ic_book.proofs.model.Model.set_locale.Goals as goal
 pub invariant_of-self : goal.invariant_of-self
 invariant_of-self c =
     let none = locale_accepted c.self.inside.tables.now (chars c.args.locale_id.now) c.in-Ok.locale.now c.in-Ok.ensures.found in
-    record { valid = subst (λ i. IsValidBook (record (held c.self.inside.name c.self.inside.sheets c.self.inside.locale.now c.self.inside.language.now c.self.inside.zone c.self.inside.created c.self.inside.tables.now) { locale = i })) (sym (locale_is c.self.inside.tables.now (chars c.args.locale_id.now) c.in-Ok.locale.now c.in-Ok.ensures.found).0) (in_locale (held c.self.inside.name c.self.inside.sheets c.self.inside.locale.now c.self.inside.language.now c.self.inside.zone c.self.inside.created c.self.inside.tables.now) c.self.invariant.valid (chars c.args.locale_id.now) none); locale_found = (locale_is c.self.inside.tables.now (chars c.args.locale_id.now) c.in-Ok.locale.now c.in-Ok.ensures.found).1; language_found = c.self.invariant.language_found }
+    record { valid = subst (λ i. IsValidBook (record (held c.self.inside.name c.self.inside.sheets c.self.inside.names c.self.inside.locale.now c.self.inside.language.now c.self.inside.zone c.self.inside.created c.self.inside.tables.now) { locale = i })) (sym (locale_is c.self.inside.tables.now (chars c.args.locale_id.now) c.in-Ok.locale.now c.in-Ok.ensures.found).0) (in_locale (held c.self.inside.name c.self.inside.sheets c.self.inside.names c.self.inside.locale.now c.self.inside.language.now c.self.inside.zone c.self.inside.created c.self.inside.tables.now) c.self.invariant.valid (chars c.args.locale_id.now) none); locale_found = (locale_is c.self.inside.tables.now (chars c.args.locale_id.now) c.in-Ok.locale.now c.in-Ok.ensures.found).1; language_found = c.self.invariant.language_found }
 
 pub returns-in-Ok-clause-ok : goal.returns-in-Ok-clause-ok
 returns-in-Ok-clause-ok c =
-    ap (λ i. let m : ModelState = record { book = record (held c.self.inside.name c.self.inside.sheets c.self.inside.locale.now c.self.inside.language.now c.self.inside.zone c.self.inside.created c.self.inside.tables.now) { locale = i }; has_all = (held_state c.self.inside.name c.self.inside.sheets c.self.inside.locale.now c.self.inside.language.now c.self.inside.zone c.self.inside.created c.self.inside.tables.now).has_all } in m) (locale_is c.self.inside.tables.now (chars c.args.locale_id.now) c.in-Ok.locale.now c.in-Ok.ensures.found).0
+    ap (λ i. let m : ModelState = record { book = record (held c.self.inside.name c.self.inside.sheets c.self.inside.names c.self.inside.locale.now c.self.inside.language.now c.self.inside.zone c.self.inside.created c.self.inside.tables.now) { locale = i }; has_all = (held_state c.self.inside.name c.self.inside.sheets c.self.inside.names c.self.inside.locale.now c.self.inside.language.now c.self.inside.zone c.self.inside.created c.self.inside.tables.now).has_all } in m) (locale_is c.self.inside.tables.now (chars c.args.locale_id.now) c.in-Ok.locale.now c.in-Ok.ensures.found).0
     ∙ ap (λ (m : ModelState). let changed : ModelState = record m { book = with_locale (chars c.args.locale_id.now) m.book } in changed) c.self.view_is
 
 pub returns-in-Ok-clause-refused : goal.returns-in-Ok-clause-refused

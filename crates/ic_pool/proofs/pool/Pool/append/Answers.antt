@@ -1,6 +1,6 @@
 use Rattle.std.proofs.Common.{◌≡◌, ◌∙◌, ◌++◌, ◌∷◌, [], List, None, ap, append-nil, length, sym, true, false}
 use Rattle.ic_laws.specs.declared.tree.Formula.{Formula}
-use Rattle.ic_pool.specs.Mentions.{has_dangling_sheet}
+use Rattle.ic_pool.specs.Mentions.{has_dangling}
 use Rattle.ic_pool.specs.Pool.{PoolState, first_place}
 use Rattle.ic_pool.proofs.IndexLemmas.{IsKept-push}
 use Rattle.ic_pool.proofs.PlacedLemmas.{IsPlaced-pushed}
@@ -15,7 +15,7 @@ invariant_of-self-then-dangles c =
     let put : c.push_reserved.new.self.items ≡ xs ++ c.args.formula ∷ [] = c.push_reserved.ensures.items ∙ ap (λ ys. ys ++ c.args.formula ∷ []) c.reserve.ensures.items in
     let noted : c.push_reserved-then-dangles.new.self.items ≡ c.self.inside.dangling.items ++ c.len-at.result ∷ [] =
     c.push_reserved-then-dangles.ensures.items ∙ ap (λ ys. ys ++ c.len-at.result ∷ []) c.reserve-2.ensures.items in
-    let dangles : has_dangling_sheet c.args.formula ≡ true = sym c.has_dangling_sheet-dangles.ensures ∙ c.if-dangles.true in
+    let dangles : has_dangling c.args.formula ≡ true = sym c.has_dangling-dangles.ensures ∙ c.if-dangles.true in
     IsKept-push c.self.inside.index c.insert.new.self c.self.inside.is_whole c.self.inside.dangling.items _ xs _ c.args.formula c.args.key c.len-at.result c.self.invariant whole fresh c.requires.its
     end c.in_ok-insert.ensures.updates put true dangles noted
 
@@ -27,7 +27,7 @@ invariant_of-self-else-dangles c =
     let end : c.len-at.result ≡ length xs = c.len-at.ensures ∙ sym (ap (λ (s : PoolState). length s.formulas) c.self.view_is) in
     let put : c.push_reserved.new.self.items ≡ xs ++ c.args.formula ∷ [] = c.push_reserved.ensures.items ∙ ap (λ ys. ys ++ c.args.formula ∷ []) c.reserve.ensures.items in
     let noted : c.reserve-2.new.self.items ≡ c.self.inside.dangling.items ++ [] = c.reserve-2.ensures.items ∙ sym (append-nil c.self.inside.dangling.items) in
-    let dangles : has_dangling_sheet c.args.formula ≡ false = sym c.has_dangling_sheet-dangles.ensures ∙ c.if-dangles.false in
+    let dangles : has_dangling c.args.formula ≡ false = sym c.has_dangling-dangles.ensures ∙ c.if-dangles.false in
     IsKept-push c.self.inside.index c.insert.new.self c.self.inside.is_whole c.self.inside.dangling.items _ xs _ c.args.formula c.args.key c.len-at.result c.self.invariant whole fresh c.requires.its
     end c.in_ok-insert.ensures.updates put false dangles noted
 

@@ -7,7 +7,7 @@ pub invariant_of-self : goal.invariant_of-self
 invariant_of-self g c =
     let s = c.index_mut-sheet.result.now in
     kept_over c.self.inside.ids c.self.inside.greatest c.self.inside.may_dangle c.self.inside.list.items c.args.index s c.place_copy.new.self c.args.formula.now _ c.self.invariant c.index_mut-sheet.ensures.value
-    (like_copied c.args.formula.now s c.place_copy.new.self c.place_copy.result c.place_copy.ensures.ok c.place_copy.ensures.err) c.has_dangling_sheet.ensures
+    (like_copied c.args.formula.now s c.place_copy.new.self c.place_copy.result c.place_copy.ensures.ok c.place_copy.ensures.err) c.has_dangling.ensures
 
 pub returns-clause-ok : goal.returns-clause-ok
 returns-clause-ok g c =

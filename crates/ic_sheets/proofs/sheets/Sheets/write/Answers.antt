@@ -7,7 +7,7 @@ pub invariant_of-self : goal.invariant_of-self
 invariant_of-self c =
     let s = c.index_mut-sheet.result.now in
     kept_over c.self.inside.ids c.self.inside.greatest c.self.inside.may_dangle c.self.inside.list.items c.args.index s c.write.new.self c.args.formula _ c.self.invariant c.index_mut-sheet.ensures.value
-    (like_written c.args.formula _ s c.write.new.self c.write.result c.write.ensures.ok c.write.ensures.err) c.has_dangling_sheet.ensures
+    (like_written c.args.formula _ s c.write.new.self c.write.result c.write.ensures.ok c.write.ensures.err) c.has_dangling.ensures
 
 pub returns-clause-ok : goal.returns-clause-ok
 returns-clause-ok c =

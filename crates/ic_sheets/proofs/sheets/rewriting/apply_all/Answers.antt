@@ -1,4 +1,4 @@
-use Rattle.std.proofs.Common.{ap, subst, sym, ◌∙◌, ◌<◌, length, rules, arith}
+use Rattle.std.proofs.Common.{subst, ◌∙◌, ◌<◌, length, rules, arith}
 use Rattle.ic_pool.specs.Rewrites.{FitsPool}
 use Rattle.ic_sheets.proofs.RewritingLemmas.{filled, taken_fits, taken_left, taken_within}
 use Rattle.ic_sheets.specs.declared.sheet.Worksheet.{Worksheet}

@@ -1,0 +1,158 @@
+-- What a model holds where a definition comes, or goes.
+use Rattle.std.proofs.Common.{◌≡◌, ◌<◌, ◌++◌, List, [], ◌∷◌, Option, Some, None, ℕ, zero, suc, arith, false, length, map, option_map, refl, true, sym, ap, subst, ◌∙◌}
+use Rattle.std.specs.Prelude.{position, remove, slice_get, unwrap_or}
+use Rattle.std.specs.List.{AllByRecursion, list_any}
+use Rattle.ic_laws.proofs.keeping.Deletes.{delete_name_dangles, new_name_binds}
+use Rattle.ic_laws.specs.BookTrees.{with_body_tree, with_trees}
+use Rattle.ic_laws.specs.Changes.{changed_tree, name_added, name_gone}
+use Rattle.ic_laws.specs.CoreBook.{CoreBook, Definition, scene_of, spelling_of}
+use Rattle.ic_laws.specs.CoreStep.{changed_by, delete_name_refusal, index_of_definition, is_named, new_definition, new_name_refusal, scope_of, scope_or_none, unless_refused, with_definition, with_new_name, without_definition}
+use Rattle.ic_laws.specs.FormulaReading.{Body, body_of}
+use Rattle.ic_laws.specs.Notations.{Notations}
+use Rattle.ic_names.proofs.NamesFacts.{item_at_position}
+use Rattle.ic_names.specs.Bodies.{StaysWhereFound}
+use Rattle.ic_names.specs.Named.{names_scene}
+use Rattle.ic_sheets.specs.Rewriting.{changed_pool, sheets_of}
+use Rattle.ic_sheets.specs.declared.sheet.Worksheet.{Worksheet}
+use Rattle.ic_tables.specs.Tables.{TableSet}
+use Rattle.ic_tables.specs.declared.language.Language.{Language}
+use Rattle.ic_tables.specs.declared.locale.NamedLocale.{NamedLocale}
+use Rattle.ic_book.specs.Book.{Book, IsValidBook, ModelState, core_of, notations_in}
+use Rattle.ic_book.specs.Change.{book_changed_by, with_name, without_name}
+use Rattle.ic_book.specs.Inside.{IsHeld, held, held_state}
+use Rattle.ic_book.proofs.BookLemmas.{core_of-changed, defined_change, undefined_change}
+use Rattle.ic_book.proofs.BookValid.{defined_valid, notations, undefined_valid}
+use Rattle.ic_book.proofs.HeldLemmas.{defined, held_after, undefined}
+use Rattle.ic_book.proofs.NameLemmas.{index_is, key_free, name_there, scope_is, scope_seen, scope_there}
+use Rattle.ic_book.proofs.SparedBodies.{adding_bodies}
+
+-- the index of a sheet is less than the number of sheets
+inside : (ws : List Worksheet) (i : ℕ) (id : Option ℕ) → option_map (λ (s : Worksheet). let id : Option ℕ = Some s.id in id) (slice_get ws i) ≡ Some id → i < length ws
+inside [] i id e = cc
+inside (s ∷ ws) zero id e = omega arith
+inside (s ∷ ws) (suc i) id e = let lt = inside ws i id e in omega (arith, lt)
+
+some_is : (a b : Body) → Some a ≡ Some b → a ≡ b
+some_is a b e = cc
+
+module _ (name : List ℕ) (ws : List Worksheet) (ds : List Definition) (locale : NamedLocale) (language : Language) (zone created : List ℕ) (tables : TableSet) (h : IsHeld name ws ds locale language zone created tables)
+    (m : ModelState) (is : held_state name ws ds locale language zone created tables ≡ m) (called : List ℕ) (index : Option ℕ) (id : Option ℕ) (scope : scope_of (core_of m.book) index ≡ Some id) where
+  abbrev held_book : Book
+  held_book = held name ws ds locale language zone created tables
+
+  abbrev core : CoreBook
+  core = core_of m.book
+
+  abbrev n : Notations
+  n = notations_in m.book
+
+  valid : IsValidBook m.book
+  valid = subst (λ (k : ModelState). IsValidBook k.book) is h.valid
+
+  its_scope : scope_or_none core index ≡ id
+  its_scope = scope_is core index id scope
+
+  -- ---- one comes
+
+  module _ (text : List ℕ) (typed : Body) (new : Definition) (reads : body_of n core text ≡ Some typed) (none : new_name_refusal n core called index text ≡ None) (made : new ≡ new_definition n core called id typed) where
+    abbrev made_new : Definition
+    made_new = new_definition n core called (scope_or_none core index) typed
+
+    made_again : new ≡ new_definition n core called (scope_or_none core index) typed
+    made_again = made ∙ ap (λ s. new_definition n core called s typed) (sym its_scope)
+
+    scope_here : scope_of (core_of held_book) index ≡ Some id
+    scope_here = ap (λ (k : ModelState). scope_of (core_of k.book) index) is ∙ scope
+
+    none_here : new_name_refusal (notations_in held_book) (core_of held_book) called index text ≡ None
+    none_here = ap (λ (k : ModelState). new_name_refusal (notations_in k.book) (core_of k.book) called index text) is ∙ none
+
+    made_here : new ≡ new_definition (notations_in held_book) (core_of held_book) called (scope_or_none (core_of held_book) index) typed
+    made_here = made_again ∙ ap (λ (k : ModelState). new_definition (notations_in k.book) (core_of k.book) called (scope_or_none (core_of k.book) index) typed) (sym is)
+
+    same_body : (body : Body) → body_of n core text ≡ Some body → typed ≡ body
+    same_body body e = some_is typed body (sym reads ∙ e)
+
+    -- no definition has its key
+    pub is_free : list_any (is_named new.name new.scope) ds ≡ false
+    is_free = ap (λ (d : Definition). list_any (is_named d.name d.scope) ds) made ∙ key_free (notations_in held_book) (core_of held_book) called index text id scope_here none_here
+
+    -- one that is local to none leaves the bodies in which all was found
+    pub it_spares : index ≡ None → AllByRecursion (StaysWhereFound (name_added (spelling_of new))) ds
+    it_spares given =
+        let global : new.scope ≡ None = ap (λ (d : Definition). d.scope) made ∙ sym its_scope ∙ ap (scope_or_none core) given in
+        adding_bodies (core_of held_book) (spelling_of new) global (ap (λ s. list_any (is_named new.name s) ds) (sym global) ∙ is_free) (notations_in held_book) h.valid.core
+
+    -- and one that is local to a sheet is so to one that is there
+    pub it_is_within : (i : ℕ) → index ≡ Some i → i < length ws
+    it_is_within i given = inside ws i id (sym (scope_seen ws i) ∙ ap (scope_of (core_of held_book)) (sym given) ∙ scope_here)
+
+    pub its_sheet : (i : ℕ) → index ≡ Some i → (s : Worksheet) → slice_get ws i ≡ Some s → new.scope ≡ Some s.id
+    its_sheet i given s at = ap (λ (d : Definition). d.scope) made ∙ sym (ap (λ o. unwrap_or o None) (scope_there (core_of held_book) ws index i s refl given at ∙ scope_here))
+
+    module _ (now : List Worksheet) (nds : List Definition) (sheets : sheets_of now ≡ map (changed_pool (name_added (spelling_of new))) (sheets_of ws)) (names : nds ≡ map (with_body_tree (changed_tree (name_added (spelling_of new)))) ds ++ new ∷ []) where
+      left : held name now nds locale language zone created tables ≡ book_changed_by (with_name new) held_book
+      left = defined name ws ds locale language zone created tables h now nds new sheets names
+
+      pub defined_held : IsHeld name now nds locale language zone created tables
+      defined_held =
+          held_after name ws ds locale language zone created tables h now nds (book_changed_by (with_name new) held_book) left
+          (subst (λ (d : Definition). IsValidBook (book_changed_by (with_name d) held_book)) (sym made_here)
+          (defined_valid held_book h.valid called index text typed none_here (ap (λ (k : ModelState). body_of (notations_in k.book) (core_of k.book) text) is ∙ reads)))
+
+      left_there : held name now nds locale language zone created tables ≡ book_changed_by (with_name made_new) m.book
+      left_there = left ∙ ap (λ (k : ModelState). book_changed_by (with_name new) k.book) is ∙ ap (λ (d : Definition). book_changed_by (with_name d) m.book) made_again
+
+      pub defined_book : (body : Body) → body_of n core text ≡ Some body → held name now nds locale language zone created tables ≡ book_changed_by (with_name (new_definition n core called (scope_or_none core index) body)) m.book
+      defined_book body e = left_there ∙ ap (λ b. book_changed_by (with_name (new_definition n core called (scope_or_none core index) b)) m.book) (same_body body e)
+
+      pub defined_core : core_of (held name now nds locale language zone created tables) ≡ with_new_name n core called (scope_or_none core index) (body_of n core text)
+      defined_core = ap core_of left_there ∙ core_of-changed n (with_name made_new) (with_definition made_new) (defined_change made_new) m.book ∙ ap (with_new_name n core called (scope_or_none core index)) (sym reads)
+
+      pub defined_binds : (body : Body) → body_of n core text ≡ Some body → core_of (held name now nds locale language zone created tables)
+          ≡ with_definition (new_definition n core called (scope_or_none core index) body) (with_trees (changed_tree (name_added (record { name = called; scope = scope_or_none core index }))) core)
+      defined_binds body e =
+          defined_core
+          ∙ new_name_binds n core _ called index text body [] (notations m.book valid) valid.core e (ap (λ r. unless_refused r (with_new_name n core called (scope_or_none core index) (body_of n core text)) []) none)
+
+  -- ---- one goes
+
+  module _ (at : ℕ) (found : position (is_named called id) ds ≡ Some at) where
+    there : (d : Definition) × (slice_get ds at ≡ Some d) × (is_named called id d ≡ true)
+    there = item_at_position (is_named called id) ds at found
+
+    found_there : position (is_named called id) core.definitions ≡ Some at
+    found_there = ap (λ (k : ModelState). position (is_named called id) (core_of k.book).definitions) (sym is) ∙ found
+
+    its_index : index_of_definition core called (scope_or_none core index) ≡ Some at
+    its_index = index_is core called index id scope (Some at) found_there
+
+    -- nothing refuses it
+    pub it_goes : delete_name_refusal core called index ≡ None
+    it_goes = name_there core called index id scope at found_there
+
+    module _ (now : List Worksheet) (nds : List Definition) (sheets : (d : Definition) → slice_get ds at ≡ Some d → sheets_of now ≡ map (changed_pool (name_gone (names_scene (remove ds at)) (spelling_of d))) (sheets_of ws))
+        (names : (d : Definition) → slice_get ds at ≡ Some d → nds ≡ remove (map (with_body_tree (changed_tree (name_gone (names_scene (remove ds at)) (spelling_of d)))) ds) at) where
+      remains : held name now nds locale language zone created tables ≡ book_changed_by (without_name (Some at)) held_book
+      remains = undefined name ws ds locale language zone created tables h now nds at there.0 there.1 (sheets there.0 there.1) (names there.0 there.1)
+
+      pub undefined_held : IsHeld name now nds locale language zone created tables
+      undefined_held =
+          held_after name ws ds locale language zone created tables h now nds (book_changed_by (without_name (Some at)) held_book) remains
+          (undefined_valid held_book h.valid called index at (ap (λ (k : ModelState). delete_name_refusal (core_of k.book) called index) is ∙ it_goes)
+          (ap (λ (k : ModelState). index_of_definition (core_of k.book) called (scope_or_none (core_of k.book) index)) is ∙ its_index))
+
+      remains_there : held name now nds locale language zone created tables ≡ book_changed_by (without_name (Some at)) m.book
+      remains_there = remains ∙ ap (λ (k : ModelState). book_changed_by (without_name (Some at)) k.book) is
+
+      pub undefined_book : held name now nds locale language zone created tables ≡ book_changed_by (without_name (index_of_definition core called (scope_or_none core index))) m.book
+      undefined_book = remains_there ∙ ap (λ o. book_changed_by (without_name o) m.book) (sym its_index)
+
+      pub undefined_core : core_of (held name now nds locale language zone created tables) ≡ changed_by n (without_definition (index_of_definition core called (scope_or_none core index))) core
+      undefined_core = ap core_of remains_there ∙ core_of-changed n (without_name (Some at)) (without_definition (Some at)) (undefined_change at) m.book ∙ ap (λ o. changed_by n (without_definition o) core) (sym its_index)
+
+      pub undefined_dangles : (i : ℕ) (d : Definition) → index_of_definition core called (scope_or_none core index) ≡ Some i → slice_get core.definitions i ≡ Some d
+          → core_of (held name now nds locale language zone created tables) ≡ without_definition (Some i) (with_trees (changed_tree (name_gone (scene_of (without_definition (Some i) core)) (spelling_of d))) core)
+      undefined_dangles i d e f =
+          undefined_core
+          ∙ delete_name_dangles n core _ called index i d [] (notations m.book valid) valid.core e f (ap (λ r. unless_refused r (changed_by n (without_definition (index_of_definition core called (scope_or_none core index))) core) []) it_goes)

@@ -1,0 +1,13 @@
+use Rattle.std.proofs.Common.{List, refl, ap, ap₂, ◌∙◌}
+use Rattle.ic_laws.specs.CoreBook.{Definition}
+use Rattle.ic_sheets.specs.declared.sheet.Worksheet.{Worksheet}
+use Rattle.ic_book.specs.Book.{ModelState, scene_in}
+use Rattle.ic_book.specs.Inside.{held}
+use Rattle.ic_book.specs.Scene.{scene_of_parts}
+use Rattle.ic_book.proofs.HeldLemmas.{scene_held}
+use Rattle.ic_book.proofs.model.Model.scene.Goals as goal
+
+pub returns : goal.returns
+returns c =
+    ap₂ (λ (ws : List Worksheet) (ds : List Definition). scene_of_parts ws ds) c.new.ensures.sheets c.new.ensures.names
+    ∙ (scene_held c.self.inside.sheets (held c.self.inside.name c.self.inside.sheets c.self.inside.names c.self.inside.locale.now c.self.inside.language.now c.self.inside.zone c.self.inside.created c.self.inside.tables.now) refl ∙ ap (λ (m : ModelState). scene_in m.book) c.self.view_is)

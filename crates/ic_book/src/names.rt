@@ -1,0 +1,203 @@
+//! Definitions come and go, and are listed.
+ghost use Rattle.std.specs.Prelude.{◌≡◌, ℕ, IfOk, IfSome, None, OnErr, OnOk, Some, chars, map};
+ghost use Rattle.std.specs.List.{slice_get};
+ghost use Rattle.ic_laws.specs.BookTrees.{with_trees};
+ghost use Rattle.ic_laws.specs.Changes.{changed_tree, name_added, name_gone};
+ghost use Rattle.ic_laws.specs.CoreBook.{Definition, scene_of, spelling_of};
+ghost use Rattle.ic_laws.specs.CoreStep.{changed_by, delete_name_refusal, index_of_definition, listed_scope, new_definition, new_name_refusal, scope_of, scope_or_none, with_definition, with_new_name, without_definition};
+ghost use Rattle.ic_laws.specs.FormulaReading.{Body, body_of, shown_body};
+ghost use Rattle.ic_book.specs.Book.{IsSameBeside, core_of, notations_in};
+ghost use Rattle.ic_book.specs.Change.{book_changed_by, with_name, without_name};
+ghost use Rattle.ic_book.specs.Names.{body_of_typed, listed, listed_names};
+ghost use Rattle.ic_laws.specs.Refusal.{InvalidNameFormula};
+ghost use Rattle.ic_book.specs.Refused.{Refuses, RefusesOr};
+
+mod body;
+mod parts;
+
+use crate::{BookError, Model};
+use body::TypedBody;
+use ic_laws::OutOfMemory;
+use ic_laws::scan::push_text;
+use ic_names::Definition;
+use ic_refs::is_valid_identifier;
+pub(crate) use parts::bodies_without;
+use parts::{add_for_all, add_for_sheet, delete_at};
+
+impl<'a> Model<'a> {
+    /// Adds a definition of this name at the end, local to the sheet at an index, from 0, or to none. Its body is a
+    /// reference with the name of a sheet of the book, or a LAMBDA with or without `=` before it, in the notation in force
+    /// or else in English; what it mentions is found for that sheet, the definition itself too. Words that could mean the
+    /// definition do from then on: a local one takes over those of its sheet that meant one of an agreeing name.
+    ///
+    /// `InvalidName`, `InvalidScope`, `NameExists`, `InvalidNameFormula`, in this order, each exactly where it holds;
+    /// `OutOfMemory` only where none of the first three does. An error changes nothing.
+    pub fn new_defined_name(
+        &mut self,
+        name: &str,
+        scope: Option<u32>,
+        formula: &str,
+    ) -> Result<(), BookError>
+        ensures ok { OnOk result ((body : Body) → body_of (notations_in self.old.book) (core_of self.old.book) (chars formula.now) ≡ Some body
+            → self.new.book ≡ book_changed_by (with_name (new_definition (notations_in self.old.book) (core_of self.old.book) (chars name.now) (scope_or_none (core_of self.old.book) scope) body)) self.old.book) }
+
+        // The machine's step.
+        ensures core { OnOk result (core_of self.new.book ≡ with_new_name (notations_in self.old.book) (core_of self.old.book) (chars name.now) (scope_or_none (core_of self.old.book) scope)
+            (body_of (notations_in self.old.book) (core_of self.old.book) (chars formula.now))) }
+
+        // What is bound by it is bound to it, and each other mention is what it was.
+        ensures binds { OnOk result ((body : Body) → body_of (notations_in self.old.book) (core_of self.old.book) (chars formula.now) ≡ Some body
+            → core_of self.new.book ≡ with_definition (new_definition (notations_in self.old.book) (core_of self.old.book) (chars name.now) (scope_or_none (core_of self.old.book) scope) body)
+            (with_trees (changed_tree (name_added (record { name = chars name.now; scope = scope_or_none (core_of self.old.book) scope }))) (core_of self.old.book))) }
+        ensures beside { OnOk result (IsSameBeside self.old.book self.new.book) }
+        ensures refused { RefusesOr InvalidNameFormula result (new_name_refusal (notations_in self.old.book) (core_of self.old.book) (chars name.now) scope (chars formula.now)) }
+        ensures err { OnErr result (self.new ≡ self.old) }
+    {
+        let (id, body) = self.checked_name(name, scope, formula)?;
+        let definition = self.definition_of(name, id, &body)?;
+        match scope {
+            None => add_for_all(&mut self.sheets, &mut self.names, definition)?,
+            Some(index) => {
+                add_for_sheet(
+                    &mut self.sheets,
+                    &mut self.names,
+                    index as usize,
+                    definition,
+                )?;
+            }
+        }
+        Ok(())
+    }
+
+    /// Whether such a definition could be added: the id of the sheet that it would be local to, if there is one.
+    ///
+    /// `InvalidName`, `InvalidScope`, `NameExists`, `InvalidNameFormula`, in this order, each exactly where it holds;
+    /// `OutOfMemory` only where none of the first three does.
+    pub fn is_valid_defined_name(
+        &self,
+        name: &str,
+        scope: Option<u32>,
+        formula: &str,
+    ) -> Result<Option<u32>, BookError>
+        ensures id { IfOk result (λ id. id ≡ scope_or_none (core_of self.now.book) scope) }
+        ensures refused { RefusesOr InvalidNameFormula result (new_name_refusal (notations_in self.now.book) (core_of self.now.book) (chars name.now) scope (chars formula.now)) }
+    {
+        let (id, _) = self.checked_name(name, scope, formula)?;
+        Ok(id)
+    }
+
+    /// Takes the definition of an agreeing name that is local to the sheet at an index, from 0, or to none, out of the book.
+    /// Words that meant it mean the one of an agreeing name that is local to none, where there is one; else they dangle,
+    /// keep its name, and find a definition again when one of an agreeing name comes.
+    ///
+    /// `InvalidSheet` exactly where no sheet stands at the index, then `NameNotFound` where there is no such definition;
+    /// `OutOfMemory` only where neither holds. An error changes nothing.
+    pub fn delete_defined_name(&mut self, name: &str, scope: Option<u32>) -> Result<(), BookError>
+        ensures ok { OnOk result (self.new.book ≡ book_changed_by (without_name (index_of_definition (core_of self.old.book) (chars name.now) (scope_or_none (core_of self.old.book) scope))) self.old.book) }
+
+        // The machine's step.
+        ensures core { OnOk result (core_of self.new.book ≡ changed_by (notations_in self.old.book)
+            (without_definition (index_of_definition (core_of self.old.book) (chars name.now) (scope_or_none (core_of self.old.book) scope))) (core_of self.old.book)) }
+
+        // What meant it means the one for all sheets, or dangles by its name, and each other mention is what it was.
+        ensures dangles { OnOk result ((index : ℕ) (definition : Definition) → index_of_definition (core_of self.old.book) (chars name.now) (scope_or_none (core_of self.old.book) scope) ≡ Some index
+            → slice_get (core_of self.old.book).definitions index ≡ Some definition
+            → core_of self.new.book ≡ without_definition (Some index) (with_trees (changed_tree (name_gone (scene_of (without_definition (Some index) (core_of self.old.book))) (spelling_of definition))) (core_of self.old.book))) }
+        ensures beside { OnOk result (IsSameBeside self.old.book self.new.book) }
+        ensures refused { Refuses result (delete_name_refusal (core_of self.old.book) (chars name.now) scope) }
+        ensures err { OnErr result (self.new ≡ self.old) }
+    {
+        let Some(id) = self.scope_id(scope) else {
+            return Err(BookError::InvalidSheet);
+        };
+        let Some(index) = self.names.index_of(name, id) else {
+            return Err(BookError::NameNotFound);
+        };
+        delete_at(self.alloc, &mut self.sheets, &mut self.names, index)?;
+        Ok(())
+    }
+
+    /// The definitions in their order, but for those that are local to a sheet which is gone: each with its name as it was
+    /// given, the index of the sheet that it is local to, from 0, if there is one, and its body in the notation in force.
+    ///
+    /// Nothing refuses it; `OutOfMemory` is its only error.
+    pub fn get_defined_name_list(&self) -> Result<Vec<(String, Option<u32>, String)>, BookError>
+        ensures list { IfOk result (λ names. map listed names.items ≡ listed_names (notations_in self.now.book) (core_of self.now.book)) }
+        ensures refused { Refuses result None }
+    {
+        let mut names = Vec::new(self.alloc);
+        let definitions = self.names.as_slice();
+        for definition in definitions {
+            if let Some(scope) = self.listed_scope(definition.scope()) {
+                names.push(self.listed(definition, scope)?)?;
+            }
+        }
+        Ok(names)
+    }
+
+    /// The id of the sheet that a new definition is to be local to, and its body.
+    fn checked_name(
+        &self,
+        name: &str,
+        scope: Option<u32>,
+        formula: &str,
+    ) -> Result<(Option<u32>, TypedBody), BookError>
+        ensures id { IfOk result (λ found. scope_of (core_of self.now.book) scope ≡ Some found.0) }
+        ensures body { IfOk result (λ found. body_of (notations_in self.now.book) (core_of self.now.book) (chars formula.now) ≡ Some (body_of_typed found.1)) }
+        ensures refused { RefusesOr InvalidNameFormula result (new_name_refusal (notations_in self.now.book) (core_of self.now.book) (chars name.now) scope (chars formula.now)) }
+    {
+        if !is_valid_identifier(name) {
+            return Err(BookError::InvalidName);
+        }
+        let Some(id) = self.scope_id(scope) else {
+            return Err(BookError::InvalidScope);
+        };
+        if self.names.index_of(name, id).is_some() {
+            return Err(BookError::NameExists);
+        }
+        match self.read_body(formula)? {
+            Some(body) => Ok((id, body)),
+            None => Err(BookError::InvalidNameFormula),
+        }
+    }
+
+    /// The id of the sheet at an index, or none for none. None exactly where no sheet stands at the index.
+    fn scope_id(&self, scope: Option<u32>) -> Option<Option<u32>>
+        ensures { result ≡ scope_of (core_of self.now.book) scope }
+    {
+        match scope {
+            None => Some(None),
+            Some(index) => {
+                let sheet = self.sheets.as_slice().get(index as usize)?;
+                Some(Some(sheet.id))
+            }
+        }
+    }
+
+    /// The index of the sheet with this id, or none for none. None exactly where no sheet has the id.
+    fn listed_scope(&self, scope: Option<u32>) -> Option<Option<u32>>
+        ensures { result ≡ listed_scope (core_of self.now.book) scope }
+    {
+        match scope {
+            None => Some(None),
+            Some(id) => {
+                let index = self.sheets.index_of_id(id)?;
+                Some(Some(index as u32))
+            }
+        }
+    }
+
+    /// A definition as it is listed.
+    fn listed(
+        &self,
+        definition: &Definition,
+        scope: Option<u32>,
+    ) -> Result<(String, Option<u32>, String), OutOfMemory>
+        ensures { IfOk result (λ item. listed item ≡ (definition.now.name, scope, shown_body (notations_in self.now.book) (core_of self.now.book) definition.now.has_equals definition.now.body)) }
+    {
+        let mut name = String::new(self.alloc);
+        push_text(&mut name, definition.name())?;
+        let body = self.show_body(definition)?;
+        Ok((name, scope, body))
+    }
+}

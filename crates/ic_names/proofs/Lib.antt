@@ -1,0 +1,4 @@
+pub mod BodyLemmas
+pub mod FindingLemmas
+pub mod NamedLemmas
+pub mod NamesFacts
