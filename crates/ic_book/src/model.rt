@@ -18,7 +18,6 @@ use std::marker;
 
 /// A workbook. It borrows the tables that it is read and shown by, and their entries of the locale and the language in
 /// force.
-#[derive(Drop)]
 pub struct Model<'a> {
     pub(crate) alloc: Global,
     pub(crate) tables: &'a Tables,
@@ -30,6 +29,28 @@ pub struct Model<'a> {
     zone: Text,
     /// When the book was made, as `Timestamp` displays it.
     created: Text,
+}
+
+impl Drop for Model<'_> {
+    fn drop(self) {
+        let Self {
+            alloc,
+            tables: _,
+            name,
+            sheets,
+            names,
+            locale: _,
+            language: _,
+            zone,
+            created,
+        } = self;
+        drop(alloc);
+        drop(name);
+        drop(sheets);
+        drop(names);
+        drop(zone);
+        drop(created);
+    }
 }
 
 impl<'a> marker::Model for Model<'a> {

@@ -18,7 +18,6 @@ pub enum ArrayKind {
 }
 
 /// A cell, of one of eight kinds. Each has the number of its style, `s`, from 0.
-#[derive(Drop)]
 pub enum Cell {
     EmptyCell {
         s: usize,
@@ -61,6 +60,27 @@ pub enum Cell {
         a: (i32, i32),
         v: SpillValue,
     },
+}
+
+impl Drop for Cell {
+    fn drop(self) {
+        match self {
+            Self::EmptyCell { s: _ } => {}
+            Self::BooleanCell { v: _, s: _ } => {}
+            Self::NumberCell { v: _, s: _ } => {}
+            Self::ErrorCell { ei: _, s: _ } => {}
+            Self::SharedString { si: _, s: _ } => {}
+            Self::CellFormula { f: _, s: _, v } => drop(v),
+            Self::ArrayFormula {
+                f: _,
+                s: _,
+                r: _,
+                kind: _,
+                v,
+            } => drop(v),
+            Self::SpillCell { s: _, a: _, v } => drop(v),
+        }
+    }
 }
 
 impl Cell {

@@ -26,7 +26,6 @@ impl fmt::Display for SheetState {
 }
 
 /// A sheet of a workbook.
-#[derive(Drop)]
 pub struct Worksheet {
     pub name: Text,
     /// At least 1; no other sheet has it.
@@ -50,8 +49,33 @@ pub struct Worksheet {
     pub merged_cells: Items<Merge>,
 }
 
+impl Drop for Worksheet {
+    fn drop(self) {
+        let Self {
+            name,
+            sheet_id: _,
+            state: _,
+            color,
+            frozen_rows: _,
+            frozen_columns: _,
+            show_grid_lines: _,
+            shared_formulas,
+            cells,
+            rows,
+            columns,
+            merged_cells,
+        } = self;
+        drop(name);
+        drop(color);
+        drop(shared_formulas);
+        drop(cells);
+        drop(rows);
+        drop(columns);
+        drop(merged_cells);
+    }
+}
+
 /// What is told of a sheet in a list of them.
-#[derive(Drop)]
 pub struct SheetProperties {
     pub name: Text,
     /// `visible`, `hidden` or `veryHidden`.
@@ -59,4 +83,18 @@ pub struct SheetProperties {
     /// The colour of its tab.
     pub color: Color,
     pub sheet_id: u32,
+}
+
+impl Drop for SheetProperties {
+    fn drop(self) {
+        let Self {
+            name,
+            state,
+            color,
+            sheet_id: _,
+        } = self;
+        drop(name);
+        drop(state);
+        drop(color);
+    }
 }

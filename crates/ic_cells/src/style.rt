@@ -13,7 +13,6 @@ pub enum Color {
 }
 
 /// How a cell looks.
-#[derive(Drop)]
 pub struct Style {
     /// The code by which its number is shown, such as `#,##0.00`.
     pub num_fmt: Text,
@@ -22,6 +21,19 @@ pub struct Style {
     pub bold: bool,
     /// The colour behind its text.
     pub fill: Color,
+}
+
+impl Drop for Style {
+    fn drop(self) {
+        let Self {
+            num_fmt,
+            quote_prefix: _,
+            bold: _,
+            fill,
+        } = self;
+        drop(num_fmt);
+        drop(fill);
+    }
 }
 
 impl Color {

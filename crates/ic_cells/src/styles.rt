@@ -11,11 +11,19 @@ use std::marker::Model;
 
 /// The styles of a workbook, by number from 0. The default one is the first, and no two are equal. Callers see the list;
 /// beside it stands a map from the fields of a style to its number, so that one of many styles is found at once.
-#[derive(Drop)]
 pub struct Styles {
     alloc: Global,
     list: Vec<Style>,
     index: BTreeMap<Key, usize>,
+}
+
+impl Drop for Styles {
+    fn drop(self) {
+        let Self { alloc, list, index } = self;
+        drop(alloc);
+        drop(list);
+        drop(index);
+    }
 }
 
 impl Model for Styles {

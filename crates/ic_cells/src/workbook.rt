@@ -2,7 +2,6 @@ use crate::{Styles, Worksheet};
 use ic_laws::{Items, Text};
 
 /// A name that stands for a formula.
-#[derive(Drop)]
 pub struct DefinedName {
     pub name: Text,
     /// Its formula as it is stored.
@@ -11,8 +10,19 @@ pub struct DefinedName {
     pub sheet_id: Option<u32>,
 }
 
+impl Drop for DefinedName {
+    fn drop(self) {
+        let Self {
+            name,
+            formula,
+            sheet_id: _,
+        } = self;
+        drop(name);
+        drop(formula);
+    }
+}
+
 /// By what a workbook is read and shown.
-#[derive(Drop)]
 pub struct WorkbookSettings {
     /// The name of its time zone, such as `Europe/Berlin`.
     pub tz: Text,
@@ -20,8 +30,15 @@ pub struct WorkbookSettings {
     pub locale: Text,
 }
 
+impl Drop for WorkbookSettings {
+    fn drop(self) {
+        let Self { tz, locale } = self;
+        drop(tz);
+        drop(locale);
+    }
+}
+
 /// Who made a workbook, with what, and when.
-#[derive(Drop)]
 pub struct Metadata {
     pub application: Text,
     pub app_version: Text,
@@ -33,6 +50,25 @@ pub struct Metadata {
     pub last_modified: Text,
 }
 
+impl Drop for Metadata {
+    fn drop(self) {
+        let Self {
+            application,
+            app_version,
+            creator,
+            last_modified_by,
+            created,
+            last_modified,
+        } = self;
+        drop(application);
+        drop(app_version);
+        drop(creator);
+        drop(last_modified_by);
+        drop(created);
+        drop(last_modified);
+    }
+}
+
 /// The theme of a workbook.
 #[derive(Drop)]
 pub struct Theme {
@@ -40,7 +76,6 @@ pub struct Theme {
 }
 
 /// A workbook as plain data.
-#[derive(Drop)]
 pub struct Workbook {
     pub name: Text,
     /// The texts of its cells, by number from 0.
@@ -51,4 +86,27 @@ pub struct Workbook {
     pub settings: WorkbookSettings,
     pub metadata: Metadata,
     pub theme: Theme,
+}
+
+impl Drop for Workbook {
+    fn drop(self) {
+        let Self {
+            name,
+            shared_strings,
+            defined_names,
+            worksheets,
+            styles,
+            settings,
+            metadata,
+            theme,
+        } = self;
+        drop(name);
+        drop(shared_strings);
+        drop(defined_names);
+        drop(worksheets);
+        drop(styles);
+        drop(settings);
+        drop(metadata);
+        drop(theme);
+    }
 }

@@ -17,7 +17,6 @@ use ic_tables::{Language, Locale};
 use std::alloc::Global;
 
 /// What a typed text is.
-#[derive(Drop)]
 pub enum Typed {
     /// No character.
     Empty,
@@ -31,6 +30,18 @@ pub enum Typed {
     Error(Error),
     /// Anything else, as it was typed.
     Text(Text),
+}
+
+impl Drop for Typed {
+    fn drop(self) {
+        match self {
+            Self::Empty | Self::Boolean(_) | Self::Error(_) => {}
+            Self::Quoted(text) => drop(text),
+            Self::Formula(text) => drop(text),
+            Self::Number(_, code) => drop(code),
+            Self::Text(text) => drop(text),
+        }
+    }
 }
 
 /// What a typed text is: the first of these that holds.

@@ -52,7 +52,6 @@ pub enum Constant {
 }
 
 /// A formula as a tree, whose references name a sheet by an `S` and whose words are a `W`.
-#[derive(Drop)]
 #[cycle(tree)]
 pub enum Tree<S, W> {
     Num(Amount),
@@ -81,23 +80,77 @@ pub enum Tree<S, W> {
     Array(Items<Items<Constant>>),
 }
 
+impl<S: Drop, W: Drop> Drop for Tree<S, W> {
+    #[cycle(tree)]
+    fn drop(self) {
+        match self {
+            Self::Num(_) | Self::Bool(_) | Self::Err(_) | Self::Empty => {}
+            Self::Str(text) => drop(text),
+            Self::Reference(sheet, _) => drop(sheet),
+            Self::Word(word) => drop(word),
+            Self::Paren(tree) => drop(tree),
+            Self::Prefix(_, tree) => drop(tree),
+            Self::Percent(tree) => drop(tree),
+            Self::Spill(tree) => drop(tree),
+            Self::Binary(_, left, right) => {
+                drop(left);
+                drop(right);
+            }
+            Self::Fun(_, arguments) => drop(arguments),
+            Self::Call(name, arguments) => {
+                drop(name);
+                drop(arguments);
+            }
+            Self::Let(pairs, body) => {
+                drop(pairs);
+                drop(body);
+            }
+            Self::Lambda(parameters, body) => {
+                drop(parameters);
+                drop(body);
+            }
+            Self::Apply(function, arguments) => {
+                drop(function);
+                drop(arguments);
+            }
+            Self::Array(rows) => drop(rows),
+        }
+    }
+}
+
 /// A variable of LET with its value.
-#[derive(Drop)]
 #[cycle(tree)]
 pub struct LetPair<S, W> {
     pub variable: Text,
     pub value: Tree<S, W>,
 }
 
+impl<S: Drop, W: Drop> Drop for LetPair<S, W> {
+    #[cycle(tree)]
+    fn drop(self) {
+        let Self { variable, value } = self;
+        drop(variable);
+        drop(value);
+    }
+}
+
 /// A formula as its text spells it: a reference has the name of a sheet or none, a word is its text.
 pub type Spelled = Tree<Option<Text>, Text>;
 
 /// The sheet of a reference: the formula's own, one that was found, by its id, or one that wasn't, by its name.
-#[derive(Drop)]
 pub enum SheetMention {
     Own,
     Sheet(u32),
     Dangling(Text),
+}
+
+impl Drop for SheetMention {
+    fn drop(self) {
+        match self {
+            Self::Own | Self::Sheet(_) => {}
+            Self::Dangling(name) => drop(name),
+        }
+    }
 }
 
 /// The key of a definition: its folded name, and the id of the sheet that it is local to, if there is one.
@@ -108,19 +161,36 @@ pub struct NameKey {
 }
 
 /// A word: a variable of LET or LAMBDA, a definition that was found, by its key, or one that wasn't, by its spelling.
-#[derive(Drop)]
 pub enum NameMention {
     Var(Text),
     Name(NameKey),
     Dangling(Text),
 }
 
+impl Drop for NameMention {
+    fn drop(self) {
+        match self {
+            Self::Var(name) => drop(name),
+            Self::Name(key) => drop(key),
+            Self::Dangling(name) => drop(name),
+        }
+    }
+}
+
 /// A formula whose mentions are found or dangling.
 pub type Bound = Tree<SheetMention, NameMention>;
 
 /// What is kept of a formula: a tree, or its text where that doesn't read.
-#[derive(Drop)]
 pub enum Formula {
     Tree(Bound),
     Raw(Text),
+}
+
+impl Drop for Formula {
+    fn drop(self) {
+        match self {
+            Self::Tree(tree) => drop(tree),
+            Self::Raw(text) => drop(text),
+        }
+    }
 }

@@ -8,7 +8,6 @@ use std::alloc::Global;
 use std::marker::Model;
 
 /// A source over bytes in memory. It gives at most `chunk` bytes a read, and fails at the calls that it was told.
-#[derive(Drop)]
 pub struct MemorySource {
     bytes: Vec<u8>,
     at: usize,
@@ -16,6 +15,21 @@ pub struct MemorySource {
     calls: u64,
     failing: Vec<u64>,
     faults: u64,
+}
+
+impl Drop for MemorySource {
+    fn drop(self) {
+        let Self {
+            bytes,
+            at: _,
+            chunk: _,
+            calls: _,
+            failing,
+            faults: _,
+        } = self;
+        drop(bytes);
+        drop(failing);
+    }
 }
 
 impl Model for MemorySource {
@@ -79,13 +93,26 @@ impl Source for MemorySource {
 }
 
 /// A sink into memory of a fixed size. It fails at the calls that it was told, and takes nothing once it is full.
-#[derive(Drop)]
 pub struct MemorySink {
     buffer: Vec<u8>,
     used: usize,
     calls: u64,
     failing: Vec<u64>,
     faults: u64,
+}
+
+impl Drop for MemorySink {
+    fn drop(self) {
+        let Self {
+            buffer,
+            used: _,
+            calls: _,
+            failing,
+            faults: _,
+        } = self;
+        drop(buffer);
+        drop(failing);
+    }
 }
 
 impl Model for MemorySink {

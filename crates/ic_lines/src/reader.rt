@@ -15,7 +15,6 @@ const READ_SIZE: usize = 4096;
 const MOST_TURNS: u64 = 1 << 32;
 
 /// Takes bytes from a source and gives them out as lines.
-#[derive(Drop)]
 pub struct LineReader {
     alloc: Global,
     bytes: Vec<u8>,
@@ -25,6 +24,21 @@ pub struct LineReader {
     scanned: usize,
     ended: bool,
     turns: u64,
+}
+
+impl Drop for LineReader {
+    fn drop(self) {
+        let Self {
+            alloc,
+            bytes,
+            start: _,
+            scanned: _,
+            ended: _,
+            turns: _,
+        } = self;
+        drop(alloc);
+        drop(bytes);
+    }
 }
 
 impl Model for LineReader {

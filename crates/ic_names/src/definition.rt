@@ -10,12 +10,25 @@ use std::marker::Model;
 
 /// A definition: its name as it was given, the id of the sheet that it is local to, if there is one, whether its body was
 /// typed with an equals sign, and the body. It keeps its key, by which it is found.
-#[derive(Drop)]
 pub struct Definition {
     name: Text,
     key: NameKey,
     has_equals: bool,
     body: Formula,
+}
+
+impl Drop for Definition {
+    fn drop(self) {
+        let Self {
+            name,
+            key,
+            has_equals: _,
+            body,
+        } = self;
+        drop(name);
+        drop(key);
+        drop(body);
+    }
 }
 
 impl Model for Definition {

@@ -12,7 +12,6 @@ use std::collections::BTreeMap;
 use std::marker::Model;
 
 /// The definitions of a book in their order. No two have one key.
-#[derive(Drop)]
 pub struct Definitions {
     alloc: Global,
     list: Vec<Definition>,
@@ -22,6 +21,21 @@ pub struct Definitions {
     greatest: u32,
     /// Where it is false, all that the bodies mention was found.
     may_dangle: bool,
+}
+
+impl Drop for Definitions {
+    fn drop(self) {
+        let Self {
+            alloc,
+            list,
+            places,
+            greatest: _,
+            may_dangle: _,
+        } = self;
+        drop(alloc);
+        drop(list);
+        drop(places);
+    }
 }
 
 impl Model for Definitions {

@@ -20,7 +20,6 @@ use std::marker::{Brand, Model};
 use std::sync::ledger::{Blank, Ledger};
 
 /// The formulas of one sheet, each in its place, from 0.
-#[derive(Drop)]
 pub struct Pool {
     alloc: Global,
     formulas: Vec<Formula>,
@@ -29,6 +28,22 @@ pub struct Pool {
     is_whole: bool,
     /// The places of the formulas that mention something that wasn't found.
     dangling: Vec<usize>,
+}
+
+impl Drop for Pool {
+    fn drop(self) {
+        let Self {
+            alloc,
+            formulas,
+            index,
+            is_whole: _,
+            dangling,
+        } = self;
+        drop(alloc);
+        drop(formulas);
+        drop(index);
+        drop(dangling);
+    }
 }
 
 impl Model for Pool {

@@ -12,12 +12,25 @@ use std::alloc::Global;
 use std::sync::ledger::Ledger;
 
 /// A sheet: its id, its name, the formulas that it keeps, and its cells that have one.
-#[derive(Drop)]
 pub struct Worksheet {
     pub id: u32,
     pub name: Text,
     pub pool: Pool,
     pub cells: FormulaCells,
+}
+
+impl Drop for Worksheet {
+    fn drop(self) {
+        let Self {
+            id: _,
+            name,
+            pool,
+            cells,
+        } = self;
+        drop(name);
+        drop(pool);
+        drop(cells);
+    }
 }
 
 impl Worksheet {

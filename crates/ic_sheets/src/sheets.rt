@@ -17,7 +17,6 @@ use std::collections::BTreeMap;
 use std::marker::Model;
 
 /// The sheets of a book in their order. No two have names that agree, and no two have one id.
-#[derive(Drop)]
 pub struct Sheets {
     alloc: Global,
     list: Vec<Worksheet>,
@@ -27,6 +26,21 @@ pub struct Sheets {
     greatest: u32,
     /// Where it is false, all that the formulas mention was found.
     may_dangle: bool,
+}
+
+impl Drop for Sheets {
+    fn drop(self) {
+        let Self {
+            alloc,
+            list,
+            ids,
+            greatest: _,
+            may_dangle: _,
+        } = self;
+        drop(alloc);
+        drop(list);
+        drop(ids);
+    }
 }
 
 impl Model for Sheets {

@@ -1,7 +1,6 @@
 use ic_laws::{Items, Text};
 
 /// A language in which formulas are shown and read.
-#[derive(Drop)]
 pub struct Language {
     /// Its name in that language, as `Español`.
     pub name: Text,
@@ -12,15 +11,41 @@ pub struct Language {
     pub functions: Functions,
 }
 
+impl Drop for Language {
+    fn drop(self) {
+        let Self {
+            name,
+            code,
+            booleans,
+            errors,
+            functions,
+        } = self;
+        drop(name);
+        drop(code);
+        drop(booleans);
+        drop(errors);
+        drop(functions);
+    }
+}
+
 /// The words of the two booleans.
-#[derive(Drop)]
 pub struct Booleans {
     pub true_word: Text,
     pub false_word: Text,
 }
 
+impl Drop for Booleans {
+    fn drop(self) {
+        let Self {
+            true_word,
+            false_word,
+        } = self;
+        drop(true_word);
+        drop(false_word);
+    }
+}
+
 /// The words of the twelve error values.
-#[derive(Drop)]
 pub struct Errors {
     pub ref_word: Text,
     pub name: Text,
@@ -36,8 +61,38 @@ pub struct Errors {
     pub null: Text,
 }
 
+impl Drop for Errors {
+    fn drop(self) {
+        let Self {
+            ref_word,
+            name,
+            value,
+            div,
+            na,
+            num,
+            nimpl,
+            spill,
+            calc,
+            circ,
+            error,
+            null,
+        } = self;
+        drop(ref_word);
+        drop(name);
+        drop(value);
+        drop(div);
+        drop(na);
+        drop(num);
+        drop(nimpl);
+        drop(spill);
+        drop(calc);
+        drop(circ);
+        drop(error);
+        drop(null);
+    }
+}
+
 /// The words of the functions: the word of function n stands at place n, from 0.
-#[derive(Drop)]
 pub struct Functions {
     pub words: Items<Text>,
     /// The number of LET.
@@ -48,6 +103,19 @@ pub struct Functions {
     pub true_fn: usize,
     /// The number of FALSE.
     pub false_fn: usize,
+}
+
+impl Drop for Functions {
+    fn drop(self) {
+        let Self {
+            words,
+            let_fn: _,
+            lambda_fn: _,
+            true_fn: _,
+            false_fn: _,
+        } = self;
+        drop(words);
+    }
 }
 
 /// How a function takes an argument of several cells.

@@ -8,10 +8,17 @@ use std::alloc::Global;
 use std::marker::Model;
 
 /// Languages with the orders of their words, which contracts see as the list of the languages.
-#[derive(Drop)]
 pub struct Languages {
     list: Items<Language>,
     orders: Items<WordOrder>,
+}
+
+impl Drop for Languages {
+    fn drop(self) {
+        let Self { list, orders } = self;
+        drop(list);
+        drop(orders);
+    }
 }
 
 impl Model for Languages {

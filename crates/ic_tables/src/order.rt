@@ -21,11 +21,23 @@ pub struct WordEntry {
 }
 
 /// The words of a language, each kind's in the order of their foldings.
-#[derive(Drop)]
 pub struct WordOrder {
     pub(crate) booleans: Items<WordEntry>,
     pub(crate) errors: Items<WordEntry>,
     pub(crate) functions: Items<WordEntry>,
+}
+
+impl Drop for WordOrder {
+    fn drop(self) {
+        let Self {
+            booleans,
+            errors,
+            functions,
+        } = self;
+        drop(booleans);
+        drop(errors);
+        drop(functions);
+    }
 }
 
 impl WordOrder {

@@ -13,13 +13,29 @@ use std::alloc::Global;
 use std::marker::Model;
 
 /// Languages, locales, zones and function kinds that meet every condition on tables.
-#[derive(Drop)]
 pub struct Tables {
     alloc: Global,
     languages: Languages,
     locales: Items<NamedLocale>,
     zones: Items<Text>,
     kinds: Items<FunctionKind>,
+}
+
+impl Drop for Tables {
+    fn drop(self) {
+        let Self {
+            alloc,
+            languages,
+            locales,
+            zones,
+            kinds,
+        } = self;
+        drop(alloc);
+        drop(languages);
+        drop(locales);
+        drop(zones);
+        drop(kinds);
+    }
 }
 
 impl Model for Tables {

@@ -7,12 +7,20 @@ use ic_lines::unescape;
 use std::alloc::Global;
 
 /// The text that a word spells.
-#[derive(Drop)]
 pub enum WordText<'l> {
     /// A word without an escape is the text itself, where it stands in its line.
     Lent(&'l str),
     /// A word with an escape isn't.
     Owned(Text),
+}
+
+impl Drop for WordText<'_> {
+    fn drop(self) {
+        match self {
+            Self::Lent(_) => {}
+            Self::Owned(text) => drop(text),
+        }
+    }
 }
 
 impl<'l> WordText<'l> {

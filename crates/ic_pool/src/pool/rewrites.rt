@@ -19,11 +19,18 @@ struct Replacement {
 }
 
 /// What is prepared for a pool before its formulas are rewritten, so that the rewriting itself can't fail.
-#[derive(Drop)]
 pub struct Rewrites {
     changes: Vec<Replacement>,
     /// The places of the formulas that will then mention something that isn't found.
     dangling: Vec<usize>,
+}
+
+impl Drop for Rewrites {
+    fn drop(self) {
+        let Self { changes, dangling } = self;
+        drop(changes);
+        drop(dangling);
+    }
 }
 
 impl Model for Rewrites {
