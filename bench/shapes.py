@@ -1,0 +1,162 @@
+"""Command lines by kind, for bench/run. Each function yields so many lines; rows and columns of cells count from 1."""
+
+FUNCTIONS = ["SUM", "AVERAGE", "MIN", "MAX", "COUNT", "IF", "ROUND", "ABS"]
+SHEETS = ["Data", "Sheet1", "Budget", "Next"]
+ROWS = 100_000
+
+
+def put(i, text, sheet=0):
+    """The line that writes the formula of number i into a cell of its own."""
+    return f"update_cell_with_formula\t{sheet}\t{i % ROWS + 1}\t{i // ROWS + 1}\t={text}"
+
+
+def formulas(count):
+    """Different formulas of some 37 characters and ten tokens."""
+    x = 12345
+    for i in range(1, count + 1):
+        x = (x * 1103515245 + 12345) % 2147483648
+        a, b, c = i % 1000 + 1, i // 1000 + 1, x % 97 + 2
+        name, sheet = FUNCTIONS[i % 8], SHEETS[x % 4]
+        yield (
+            f"{name}({sheet}!$A${a}:$B${a + 9})*{i % 100}%+{b}",
+            f"{name}(B{c},'My data'!$C${a},2.5)+{i}",
+            f'IF($A${a}>{i},"yes {b}",$A${b}&"no")',
+            f"{name}({{1,2;3,{i}}},D{c})/$C${a}",
+            f"($A${a}-{sheet}!C{c})^2*{name}({i},0.75)",
+        )[i % 5]
+
+
+def sheets_named(*names):
+    return [f"add_sheet\t{name}" for name in names]
+
+
+def different(count):
+    """Each formula is another, and three of its sheets aren't there."""
+    for i, text in enumerate(formulas(count), 1):
+        yield put(i, text)
+
+
+def found(count):
+    """The same in a book that has all their sheets."""
+    yield from sheets_named("Data", "Budget", "Next", "My data")
+    yield from different(count)
+
+
+def filled_down(count):
+    """One formula with relative references, as filling down a column writes it."""
+    for i in range(1, count + 1):
+        yield put(i, f"SUM(A{i % ROWS + 1}:B{i % ROWS + 1})*2.5%+IF(C{i % ROWS + 1}>1,\"yes\",D{i % ROWS + 1})")
+
+
+def one_text(count):
+    """One formula with absolute references in all cells."""
+    for i in range(1, count + 1):
+        yield put(i, 'SUM(Data!$A$1:$B$9)*2.5%+IF($B$2>1,"yes",$C$3)')
+
+
+def fifty_sheets(count):
+    """Different formulas in 50 sheets, each of which mentions two others."""
+    yield from (f"add_sheet\tPart {n}" for n in range(1, 50))
+    for i in range(1, count + 1):
+        one, other = i % 49 + 1, i * 7 % 49 + 1
+        yield put(i // 50, f"SUM('Part {one}'!$A${i}:$B${i})+'Part {other}'!C{i % 100 + 1}*{i}", i % 50)
+
+
+def wide_names(count):
+    """Different formulas that mention sheets whose names are long and not ASCII."""
+    names = ["Übersicht der Straßenbaukosten", "Данные за отчётный период", "Σύνολο εσόδων και εξόδων", "年間売上高の一覧表"]
+    yield from sheets_named(*names)
+    for i in range(1, count + 1):
+        yield put(i, f"'{names[i % 4]}'!$A${i}*'{names[(i + 1) % 4].upper()}'!B{i % 100 + 1}")
+
+
+def thousand_terms(count):
+    """Formulas of a thousand terms each."""
+    for i in range(1, count + 1):
+        yield put(i, "+".join(f"A{(i + n) % 9999 + 1}" for n in range(1000)))
+
+
+def shown(count):
+    for i in range(1, count + 1):
+        at = (i - 1) % ROWS + 1
+        yield f"get_cell_formula\t0\t{at % ROWS + 1}\t{at // ROWS + 1}"
+
+
+def no_command(count):
+    for i in range(1, count + 1):
+        yield f"update_cell\t0\t{i}\t1\t=1"
+
+
+def definitions(count):
+    """Definitions for all sheets, references and LAMBDAs in turn."""
+    for i in range(1, count + 1):
+        body = f"Data!$A${i}" if i % 2 else f"=LAMBDA(x,x*Sheet1!$B${i})"
+        yield f"new_defined_name\tname_{i}\t-\t{body}"
+
+
+def with_definitions(count):
+    """Formulas that mention two of 10,000 definitions each."""
+    for i in range(1, count + 1):
+        yield put(i, f"name_{i % 5000 * 2 + 1}*{i % 100}+name_{i % 4999 * 2 + 2}({i})")
+
+
+def renames(count):
+    for i in range(1, count + 1):
+        yield f"rename_sheet_by_index\t1\tN{i}"
+
+
+def moves(count):
+    for i in range(1, count + 1):
+        yield f"move_sheet\t0\t{i % 4}"
+
+
+def sheets(count, letter="T"):
+    for i in range(1, count + 1):
+        yield f"add_sheet\t{letter}{i}"
+
+
+def more_definitions(count):
+    for i in range(1, count + 1):
+        yield f"new_defined_name\tmore_{i}\t-\tData!$A${i}"
+
+
+def own_definitions(count):
+    for i in range(1, count + 1):
+        yield f"new_defined_name\town_{i}\t0\tData!$A${i}"
+
+
+def deleted_definitions(count):
+    for i in range(1, count + 1):
+        yield f"delete_defined_name\tname_{i}\t-"
+
+
+def mentioned_first(count):
+    """A sheet is mentioned, then added, and then another formula is written."""
+    for i in range(1, count + 1):
+        yield put(900_000 + 2 * i, f"Late{i}!$A$1")
+        yield f"add_sheet\tLate{i}"
+        yield put(900_001 + 2 * i, f"Late{i}!$A$2+{i}")
+
+
+def dangling(count):
+    """A sheet is mentioned that isn't there and doesn't come, once."""
+    yield put(999_999, "Nowhere!$A$1")
+    yield from sheets(count)
+
+
+def let(count):
+    """A LET with so many variables, each of which mentions the one before."""
+    pairs = ",".join(f"v_{n},v_{n - 1}+1" if n else "v_0,1" for n in range(count))
+    yield put(1, f"LET({pairs},v_{count - 1})")
+
+
+def lambda_used(count):
+    """A LAMBDA with so many parameters, each used once."""
+    names = [f"p_{n}" for n in range(count)]
+    yield put(1, f"LAMBDA({','.join(names)},{'+'.join(names[:1000])})")
+
+
+def shown_of_sheets(count):
+    """Formulas that mention the last of so many sheets, shown again and again."""
+    yield from sheets(count)
+    yield put(1, f"T{count}!$A$1+T{count // 2}!$A$1")
