@@ -17,6 +17,7 @@ pub mod Parts
 pub mod PrintLemmas
 pub mod QuoteLemmas
 pub mod ReadLemmas
+pub mod ScopeLemmas
 pub mod ShownLemmas
 pub mod SightLemmas
 pub mod Signs

@@ -1,5 +1,6 @@
 pub mod Begun
 pub mod Dynamic
+pub mod InScope
 pub mod LanguageWords
 pub mod Lexing
 pub mod Listing

@@ -8,6 +8,7 @@ mod clash;
 mod constant;
 mod copies;
 mod dynamic;
+mod in_scope;
 mod language_words;
 mod law;
 mod lexer;
