@@ -10,6 +10,7 @@ pub mod Shown
 pub mod Sight
 pub mod Spelling
 pub mod Stored
+pub mod StoredText
 pub mod Tokens
 pub mod Turn
 pub mod Turned

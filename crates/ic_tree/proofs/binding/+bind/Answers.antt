@@ -1,4 +1,4 @@
-use Rattle.std.proofs.Common.{◌≡◌, ◌∙◌, ◌++◌, ◌∷◌, [], ℕ, ap, chars, map, sym, subst, List}
+use Rattle.std.proofs.Common.{◌≡◌, ◌∙◌, ◌++◌, ◌∷◌, [], ap, chars, map, sym, subst, List}
 use Rattle.ic_laws.specs.Parse.{Pair}
 use Rattle.ic_laws.specs.Tree.{Spelled}
 use Rattle.ic_laws.specs.declared.tree.Tree as trees
