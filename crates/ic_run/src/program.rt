@@ -1,11 +1,11 @@
 ghost use Rattle.std.specs.Prelude.{◌≡◌, ◌⊎◌, ◌↔◌, ◌+◌, ◌<◌, ◌≤◌, ◌^◌, [], length, option_map, IfSome, IsNone, IsSome, IsSomeAnd};
 ghost use Rattle.ic_lines.specs.Bytes.{IfTold, HasFault};
-ghost use Rattle.ic_desk.specs.Desk.{setting_of, start, start_refusal, start_status, run_status, texts};
-ghost use Rattle.ic_desk.specs.Start.{setting};
-ghost use Rattle.ic_desk.specs.Run.{AppendsReplies};
+ghost use Rattle.ic_run.specs.Desk.{setting_of, start, start_refusal, start_status, run_status, texts};
+ghost use Rattle.ic_run.specs.Start.{setting};
+ghost use Rattle.ic_run.specs.Run.{AppendsReplies};
 ghost use Rattle.ic_tree.specs.Notations.{notations_of};
 
-use crate::run::run;
+use crate::lines::run;
 use ic_book::{BookError, Model};
 use ic_laws::scan::same_text;
 use ic_lines::{RunError, Sink, Source};

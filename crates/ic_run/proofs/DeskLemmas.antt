@@ -8,8 +8,8 @@ use Rattle.ic_lines.specs.declared.error.RunError.TheVariants as run
 use Rattle.ic_lines.proofs.ToldLemmas.{IfTold-weaker}
 use Rattle.ic_lines.specs.Bytes.{IfTold}
 use Rattle.ic_book.specs.Book.{Book}
-use Rattle.ic_desk.specs.Desk.{setting_of, run_status, texts}
-use Rattle.ic_desk.specs.Run.{TakesAll}
+use Rattle.ic_run.specs.Desk.{setting_of, run_status, texts}
+use Rattle.ic_run.specs.Run.{TakesAll}
 
 -- the status 0 is that of Ok
 pub on_ok_at_0 : (r : Result ℕ RunError) (P : Type 0) → OnOk r P → run_status r ≡ 0 → P

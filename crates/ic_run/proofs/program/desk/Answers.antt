@@ -1,11 +1,11 @@
 use Rattle.std.proofs.Common.{◌∙◌, sym, subst, IsSomeAnd}
 use Rattle.ic_lines.specs.Bytes.{IfTold}
 use Rattle.ic_book.specs.Book.{Book, core_of, notations_in}
-use Rattle.ic_desk.specs.Desk.{Setting, start}
-use Rattle.ic_desk.specs.Run.{AppendsReplies}
+use Rattle.ic_run.specs.Desk.{Setting, start}
+use Rattle.ic_run.specs.Run.{AppendsReplies}
 use Rattle.ic_tree.specs.Notations.{notations_of}
-use Rattle.ic_desk.proofs.DeskLemmas.{all_taken, on_ok_at_0}
-use Rattle.ic_desk.proofs.desk.desk.Goals as goal
+use Rattle.ic_run.proofs.DeskLemmas.{all_taken, on_ok_at_0}
+use Rattle.ic_run.proofs.program.desk.Goals as goal
 
 pub returns-in-Ok-clause-taken : goal.returns-in-Ok-clause-taken
 returns-in-Ok-clause-taken g c at_0 =
