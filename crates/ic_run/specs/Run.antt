@@ -30,27 +30,27 @@ pub record IsAfterLines (old new : Book) (count : ℕ) (lines : List (List ℕ))
   pub book : StepsTo old new (after (notations_in old) served (core_of old) (take count lines))
 
 -- the replies to the first so many lines were appended
-abbrev pub HasReplied : Book → ℕ → List (List ℕ) → List ℕ → List ℕ → Type 0
-HasReplied old count lines before now = now ≡ before ++ replies (notations_in old) served (core_of old) (take count lines)
+abbrev pub HasReplied : Notations → CoreBook → ℕ → List (List ℕ) → List ℕ → List ℕ → Type 0
+HasReplied n core count lines before now = now ≡ before ++ replies n served core (take count lines)
 
 -- the replies to the first so many lines were appended, and of the next line's reply a front that isn't all of it
-pub record HasPartlyReplied (old : Book) (count : ℕ) (lines : List (List ℕ)) (before now : List ℕ) : Type 0 where
+pub record HasPartlyReplied (n : Notations) (core : CoreBook) (count : ℕ) (lines : List (List ℕ)) (before now : List ℕ) : Type 0 where
   pub bytes : ℕ
-  pub whole : length (replies (notations_in old) served (core_of old) (take count lines)) ≤ bytes
-  pub part : bytes < length (replies (notations_in old) served (core_of old) (take (count + 1) lines))
-  pub written : now ≡ before ++ take bytes (replies (notations_in old) served (core_of old) (take (count + 1) lines))
+  pub whole : length (replies n served core (take count lines)) ≤ bytes
+  pub part : bytes < length (replies n served core (take (count + 1) lines))
+  pub written : now ≡ before ++ take bytes (replies n served core (take (count + 1) lines))
 
 -- exactly the first so many lines were answered: the book is as they leave it, and their replies were appended
 pub record HasAnswered (old new : Book) (count : ℕ) (bytes left : List ℕ) (before now : Option (List ℕ)) : Type 0 where
   pub read : AreRead count bytes left
   pub book : IsAfterLines old new count (texts_of bytes)
-  pub replied : IfTold before now (HasReplied old count (texts_of bytes))
+  pub replied : IfTold before now (HasReplied (notations_in old) (core_of old) count (texts_of bytes))
 
 -- the same, and one line more, whose reply was appended in part
 pub record HasPartlyAnswered (old new : Book) (count : ℕ) (bytes left : List ℕ) (before now : Option (List ℕ)) : Type 0 where
   pub read : AreRead (count + 1) bytes left
   pub book : IsAfterLines old new (count + 1) (texts_of bytes)
-  pub replied : IfTold before now (HasPartlyReplied old count (texts_of bytes))
+  pub replied : IfTold before now (HasPartlyReplied (notations_in old) (core_of old) count (texts_of bytes))
 
 -- What an error leaves. Where a read failed or there were too many turns, each line whose line feed was read was
 -- answered; where memory ran out, some of the first lines were; where a write failed, the last of them in part.
@@ -59,6 +59,15 @@ Leaves errors.ReadFault old new bytes left before now = (count : ℕ) × HasAnsw
 Leaves errors.TooManyTurns old new bytes left before now = (count : ℕ) × HasAnswered old new count bytes left before now × (count + line_feeds left ≡ line_feeds bytes)
 Leaves errors.OutOfMemory old new bytes left before now = (count : ℕ) × HasAnswered old new count bytes left before now
 Leaves errors.WriteFault old new bytes left before now = (count : ℕ) × HasPartlyAnswered old new count bytes left before now
+
+-- What an error leaves of the replies alone, from a book with this core. Where a read failed or there were too many
+-- turns, each line whose line feed was read has its reply; where memory ran out, some of the first lines have; where a
+-- write failed, the last of them in part.
+abbrev pub LeavesReplies : RunError → Notations → CoreBook → List ℕ → List ℕ → Option (List ℕ) → Option (List ℕ) → Type 0
+LeavesReplies errors.ReadFault n core bytes left before now = (count : ℕ) × (count + line_feeds left ≡ line_feeds bytes) × IfTold before now (HasReplied n core count (texts_of bytes))
+LeavesReplies errors.TooManyTurns n core bytes left before now = (count : ℕ) × (count + line_feeds left ≡ line_feeds bytes) × IfTold before now (HasReplied n core count (texts_of bytes))
+LeavesReplies errors.OutOfMemory n core bytes left before now = (count : ℕ) × AreRead count bytes left × IfTold before now (HasReplied n core count (texts_of bytes))
+LeavesReplies errors.WriteFault n core bytes left before now = (count : ℕ) × AreRead (count + 1) bytes left × IfTold before now (HasPartlyReplied n core count (texts_of bytes))
 
 -- each error has its cause: a fault of the source, a fault of the sink, too many turns; that memory ran out needs none
 abbrev pub HasCause : (read write turns : Type 0) → RunError → Type 0

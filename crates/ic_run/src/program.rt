@@ -1,11 +1,11 @@
-ghost use Rattle.std.specs.Prelude.{◌≡◌, ◌⊎◌, ◌↔◌, ◌+◌, ◌<◌, ◌≤◌, ◌^◌, [], length, option_map, IfSome, IsNone, IsSome, IsSomeAnd};
+ghost use Rattle.std.specs.Prelude.{◌≡◌, ◌⊎◌, ◌↔◌, ◌+◌, ◌<◌, ◌≤◌, ◌^◌, [], Err, length, option_map, IfSome, IsNone, IsSome, IsSomeAnd};
 ghost use Rattle.ic_lines.specs.Bytes.{IfTold, HasFault};
-ghost use Rattle.ic_desk.specs.Desk.{setting_of, start, start_refusal, start_status, run_status, texts};
-ghost use Rattle.ic_desk.specs.Start.{setting};
-ghost use Rattle.ic_desk.specs.Run.{AppendsReplies};
+ghost use Rattle.ic_run.specs.Desk.{setting_of, start, start_refusal, start_status, run_status, texts};
+ghost use Rattle.ic_run.specs.Start.{setting};
+ghost use Rattle.ic_run.specs.Run.{AppendsReplies, LeavesReplies};
 ghost use Rattle.ic_tree.specs.Notations.{notations_of};
 
-use crate::run::run;
+use crate::lines::run;
 use ic_book::{BookError, Model};
 use ic_laws::scan::same_text;
 use ic_lines::{RunError, Sink, Source};
@@ -48,6 +48,12 @@ pub fn desk<S: Source, K: Sink>(
     ensures write_fault { result ≡ 4 → HasFault (K.faults sink.old) (K.faults sink.new) }
     ensures too_many { result ≡ 5 → IfTold (S.left source.old) (S.left source.new) (λ before now. 2 ^ 32 + length now ≤ length before) }
     ensures most { result ≤ 6 }
+
+    // With the status of an error of `run`, the replies are those that this error leaves; none where memory ran out
+    // before there was a book.
+    ensures stopped { (e : RunError) → result ≡ run_status (Err e) → IsSomeAnd (setting_of (texts words.now)) (λ setting.
+        IfTold (S.left source.old) (S.left source.new) (λ bytes left.
+            LeavesReplies e (notations_of tables.now) (start setting) bytes left (K.written sink.old) (K.written sink.new))) }
 
     // Where there is no fault, and the source holds fewer than 2^32 bytes, only that memory runs out is left beside 0.
     ensures completes { IsSomeAnd (setting_of (texts words.now)) (λ setting. IsNone (start_refusal setting tables.now))
@@ -112,7 +118,8 @@ fn status_of(answer: Result<u64, RunError>) -> u8
 
 /// The status where there is no book to begin with.
 fn status_without_book(e: &BookError) -> u8
-    ensures { result ≡ start_status e.now }
+    ensures status { result ≡ start_status e.now }
+    ensures which { (result ≡ 2) ⊎ (result ≡ 6) }
 {
     match e {
         BookError::OutOfMemory => 6,

@@ -1,7 +1,7 @@
 use Rattle.std.proofs.Common.{◌∙◌, sym, ap}
-use Rattle.ic_desk.specs.Desk.{setting_of, texts}
-use Rattle.ic_desk.proofs.DeskLemmas.{empty_list, no_words, other_name, run_words}
-use Rattle.ic_desk.proofs.desk.start_named.Goals as goal
+use Rattle.ic_run.specs.Desk.{setting_of, texts}
+use Rattle.ic_run.proofs.DeskLemmas.{empty_list, no_words, other_name, run_words}
+use Rattle.ic_run.proofs.program.start_named.Goals as goal
 
 pub returns-then-is_empty : goal.returns-then-is_empty
 returns-then-is_empty c = no_words ∙ ap (λ ws. setting_of (texts ws)) (sym (empty_list c.args.words.now (sym c.is_empty.ensures ∙ c.if-is_empty.true)))

@@ -14,8 +14,8 @@ use Rattle.ic_lines.proofs.ToldLemmas.{IfTold-join, IfTold-weaker}
 use Rattle.ic_book.specs.Book.{Book, IsSameBeside, StepsTo, core_of, notations_in}
 use Rattle.ic_words.specs.Served.{served}
 use Rattle.ic_tree.specs.Notations.{notations_of}
-use Rattle.ic_desk.specs.Run.{AppendsReplies, AreRead, HasAnswered, HasPartlyAnswered, HasPartlyReplied, HasReplied, IsAfterLines, Leaves, TakesAll}
-use Rattle.ic_desk.proofs.RunLemmas.{after-append, next_rest, next_taken, next_within, replies-append}
+use Rattle.ic_run.specs.Run.{AppendsReplies, AreRead, HasAnswered, HasPartlyAnswered, HasPartlyReplied, HasReplied, IsAfterLines, Leaves, TakesAll}
+use Rattle.ic_run.proofs.RunLemmas.{after-append, next_rest, next_taken, next_within, replies-append}
 
 -- what stays beside two steps
 pub same_beside_again : (old mid new : Book) → IsSameBeside old mid → IsSameBeside mid new → IsSameBeside old new
@@ -25,7 +25,7 @@ same_beside_again old mid new p q = record { name = q.name ∙ p.name; zone = q.
 pub record Progress (old new : Book) (count : ℕ) (reader : Reading) (before now : Option (List ℕ)) (bytes left : List ℕ) : Type 0 where
   pub book : IsAfterLines old new count (texts_of bytes)
   pub rest : texts_of (unread reader left) ≡ drop count (texts_of bytes)
-  pub replied : IfTold before now (HasReplied old count (texts_of bytes))
+  pub replied : IfTold before now (HasReplied (notations_in old) (core_of old) count (texts_of bytes))
   pub ends : reader.ended ≡ true → left ≡ []
   pub feeds : reader.ended ≡ false → count + line_feeds (reader.held ++ left) ≡ line_feeds bytes
 
@@ -126,7 +126,7 @@ module _ (old mid : Book) (count : ℕ) (reader new_reader : Reading) (before no
   Progress-step new written step reply = record {
     book = book_after new step;
     rest = next_rest (texts_of bytes) count line (texts_of (unread new_reader b)) next;
-    replied = IfTold-join before now written (HasReplied old count (texts_of bytes)) (λ x y. y ≡ x ++ reply_bytes (line_step (notations_in mid) served (core_of mid) line).1) (HasReplied old (count + 1) (texts_of bytes))
+    replied = IfTold-join before now written (HasReplied (notations_in old) (core_of old) count (texts_of bytes)) (λ x y. y ≡ x ++ reply_bytes (line_step (notations_in mid) served (core_of mid) line).1) (HasReplied (notations_in old) (core_of old) (count + 1) (texts_of bytes))
         (λ w x y q r. r ∙ ap (λ v. v ++ reply_bytes (line_step (notations_in mid) served (core_of mid) line).1) q
         ∙ append_assoc w (replies (notations_in old) served (core_of old) (take count (texts_of bytes))) (reply_bytes (line_step (notations_in mid) served (core_of mid) line).1)
         ∙ ap (λ v. w ++ v) (sym replies_after)) p.replied reply;
@@ -144,7 +144,7 @@ module _ (old mid : Book) (count : ℕ) (reader new_reader : Reading) (before no
   leaves_write_fault new written step part = record {
     read = read_after;
     book = book_after new step;
-    replied = IfTold-join before now written (HasReplied old count (texts_of bytes)) (AppendsFront (reply_bytes (line_step (notations_in mid) served (core_of mid) line).1)) (HasPartlyReplied old count (texts_of bytes))
+    replied = IfTold-join before now written (HasReplied (notations_in old) (core_of old) count (texts_of bytes)) (AppendsFront (reply_bytes (line_step (notations_in mid) served (core_of mid) line).1)) (HasPartlyReplied (notations_in old) (core_of old) count (texts_of bytes))
         (λ w x y q r.
         let done : List ℕ = replies (notations_in old) served (core_of old) (take count (texts_of bytes)) in
         let reply : List ℕ = reply_bytes (line_step (notations_in mid) served (core_of mid) line).1 in
@@ -246,7 +246,7 @@ module _ (old new : Book) (count : ℕ) (reader asked new_reader : Reading) (bef
 
   all_replied : IfTold before now (AppendsReplies (notations_in old) (core_of old) bytes)
   all_replied =
-      IfTold-weaker before now (HasReplied old count (texts_of bytes)) (AppendsReplies (notations_in old) (core_of old) bytes)
+      IfTold-weaker before now (HasReplied (notations_in old) (core_of old) count (texts_of bytes)) (AppendsReplies (notations_in old) (core_of old) bytes)
       (λ x y q. q ∙ ap (λ v. x ++ replies (notations_in old) served (core_of old) v) all_taken) p.replied
 
 -- the end, over a source that tells its bytes

@@ -3,7 +3,7 @@ ghost use Rattle.ic_laws.specs.Lines.{line_step, reply_bytes};
 ghost use Rattle.ic_lines.specs.Bytes.{AppendsFront, HasFault, IfTold};
 ghost use Rattle.ic_book.specs.Book.{StepsTo, core_of, notations_in};
 ghost use Rattle.ic_words.specs.Served.{served};
-ghost use Rattle.ic_desk.specs.Run.{AppendsReplies, HasCause, Leaves, TakesAll};
+ghost use Rattle.ic_run.specs.Run.{AppendsReplies, HasCause, Leaves, TakesAll};
 
 use ic_book::Model;
 use ic_commands::reply_to;

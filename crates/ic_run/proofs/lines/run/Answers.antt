@@ -2,10 +2,10 @@ use Rattle.std.proofs.Common.{◌+◌, ◌≤◌, length, Some, Err, subst, ap, 
 use Rattle.ic_lines.specs.Bytes.{IfTold}
 use Rattle.ic_lines.specs.Reading.{GivesHeld, GivesLine, unread}
 use Rattle.ic_lines.proofs.ToldLemmas.{IfTold-join}
-use Rattle.ic_desk.specs.Run.{Leaves}
-use Rattle.ic_desk.proofs.ProgressLemmas.{Next, Progress, Progress-step, all_replied_told, leaves_at_line, leaves_at_reader, next_told, takes_all_told}
-use Rattle.ic_desk.proofs.RunLemmas.{IfErr-given, IsSome-is}
-use Rattle.ic_desk.proofs.run.run.Goals as goal
+use Rattle.ic_run.specs.Run.{Leaves}
+use Rattle.ic_run.proofs.ProgressLemmas.{Next, Progress, Progress-step, all_replied_told, leaves_at_line, leaves_at_reader, next_told, takes_all_told}
+use Rattle.ic_run.proofs.RunLemmas.{IfErr-given, IsSome-is}
+use Rattle.ic_run.proofs.lines.run.Goals as goal
 
 pub returns-in_err-line-clause-front : goal.returns-in_err-line-clause-front
 returns-in_err-line-clause-front g c =

@@ -1,8 +1,8 @@
 use Rattle.std.proofs.Common.{◌≡◌, ◌+◌, ◌*◌, ◌≤◌, length}
 use Rattle.ic_lines.specs.Bytes.{IfTold}
 use Rattle.ic_lines.specs.Reading.{budget}
-use Rattle.ic_desk.proofs.ProgressLemmas.{Progress}
-use Rattle.ic_desk.proofs.run.run.Given as goal
+use Rattle.ic_run.proofs.ProgressLemmas.{Progress}
+use Rattle.ic_run.proofs.lines.run.Given as goal
 
 -- some of the first lines are answered, and the others are still to be given; no fault was counted
 abbrev pub invariant-lines : goal.invariant-lines
