@@ -1,5 +1,5 @@
 -- The program's words, its start and its statuses.
-use Rattle.std.proofs.Common.{String, ◌≡◌, ℕ, ◌+◌, ◌≤◌, ◌⊎◌, List, [], ◌∷◌, get_or, Option, Some, None, Result, Ok, Err, IfOk, IfErr, OnOk, inl, inr, append-nil, bytes_eq, codes, string_bytes, refl, arith, length, ◌==◌, true, false, sym, ◌∙◌, ap}
+use Rattle.std.proofs.Common.{String, ◌≡◌, ℕ, List, [], ◌∷◌, get_or, Option, Some, None, Result, Ok, Err, IfOk, IfErr, OnOk, bytes_eq, codes, string_bytes, refl, arith, length, ◌==◌, true, false, sym, ◌∙◌, ap}
 use Rattle.std.proofs.lemmas.Bool.{eqb-true}
 use Rattle.std.specs.Str.{chars}
 use Rattle.std.specs.declared.alloc.Global.{Global}
@@ -9,12 +9,7 @@ use Rattle.ic_lines.proofs.ToldLemmas.{IfTold-weaker}
 use Rattle.ic_lines.specs.Bytes.{IfTold}
 use Rattle.ic_book.specs.Book.{Book, core_of, notations_in}
 use Rattle.ic_run.specs.Desk.{setting_of, run_status, texts}
-use Rattle.ic_laws.specs.CoreBook.{CoreBook}
-use Rattle.ic_laws.specs.Lines.{replies, texts_of}
-use Rattle.ic_laws.specs.Notations.{Notations}
-use Rattle.ic_lines.specs.Reading.{line_feeds}
-use Rattle.ic_words.specs.Served.{served}
-use Rattle.ic_run.specs.Run.{AreRead, HasReplied, Leaves, LeavesReplies, TakesAll}
+use Rattle.ic_run.specs.Run.{Leaves, LeavesReplies, TakesAll}
 
 -- the status 0 is that of Ok
 pub on_ok_at_0 : (r : Result ℕ RunError) (P : Type 0) → OnOk r P → run_status r ≡ 0 → P
@@ -81,13 +76,6 @@ pub all_taken : (r : Result ℕ RunError) (old new : Book) (before now : Option 
 all_taken (Ok n) old new before now h = IfTold-weaker before now (TakesAll old new n) (λ bytes left. left ≡ []) (λ bytes left t. t.all) h
 all_taken (Err e) old new before now h = tt
 
--- no error of a run has the status 1 or 2
-pub other_status : (e : RunError) (T : Type 0) (n : ℕ) → n ≤ 2 → n ≡ run_status (Err e) → T
-other_status run.ReadFault T n few same = absurd (omega (arith, few, same))
-other_status run.WriteFault T n few same = absurd (omega (arith, few, same))
-other_status run.TooManyTurns T n few same = absurd (omega (arith, few, same))
-other_status run.OutOfMemory T n few same = absurd (omega (arith, few, same))
-
 -- the status tells the error
 pub at_error_status : (r : Result ℕ RunError) (e : RunError) (P : RunError → Type 0) → run_status r ≡ run_status (Err e) → IfErr r P → P e
 at_error_status (Ok n) run.ReadFault P same h = absurd (omega (arith, same))
@@ -114,8 +102,8 @@ at_error_status (Err run.OutOfMemory) run.OutOfMemory P same h = h
 -- what an error leaves of the replies alone
 leaves_replies : (e : RunError) (old new : Book) (bytes left : List ℕ) (before now : Option (List ℕ)) → Leaves e old new bytes left before now
     → LeavesReplies e (notations_in old) (core_of old) bytes left before now
-leaves_replies run.ReadFault old new bytes left before now h = (h.0, h.1.1, h.1.0.replied)
-leaves_replies run.TooManyTurns old new bytes left before now h = (h.0, h.1.1, h.1.0.replied)
+leaves_replies run.ReadFault old new bytes left before now h = (h.0, h.2, h.1.replied)
+leaves_replies run.TooManyTurns old new bytes left before now h = (h.0, h.2, h.1.replied)
 leaves_replies run.OutOfMemory old new bytes left before now h = (h.0, h.1.read, h.1.replied)
 leaves_replies run.WriteFault old new bytes left before now h = (h.0, h.1.read, h.1.replied)
 
@@ -126,21 +114,3 @@ leaves_replies_told r e old new source left before now same h =
     IfTold-weaker source left (λ bytes rest. Leaves e old new bytes rest before now) (λ bytes rest. LeavesReplies e (notations_in old) (core_of old) bytes rest before now)
     (λ bytes rest p. leaves_replies e old new bytes rest before now p)
     (at_error_status r e (λ x. IfTold source left (λ bytes rest. Leaves x old new bytes rest before now)) same h)
-
--- where nothing was read and nothing was written, none of the lines has a reply
-none_replied : (n : Notations) (core : CoreBook) (lines : List (List ℕ)) (written : Option (List ℕ)) → IfTold written written (HasReplied n core 0 lines)
-none_replied n core lines None = tt
-none_replied n core lines (Some written) = sym (append-nil written)
-
-pub leaves_none : (n : Notations) (core : CoreBook) (source written : Option (List ℕ))
-    → IfTold source source (λ bytes left. LeavesReplies run.OutOfMemory n core bytes left written written)
-leaves_none n core None written = tt
-leaves_none n core (Some bytes) written = (0, inr (omega (arith)), none_replied n core (texts_of bytes) written)
-
--- where there was no book to begin with, only that memory ran out has the status of an error of a run
-pub leaves_without_book : (status : ℕ) (e : RunError) (n : Notations) (core : CoreBook) (source written : Option (List ℕ)) → (status ≡ 2) ⊎ (status ≡ 6) → status ≡ run_status (Err e)
-    → IfTold source source (λ bytes left. LeavesReplies e n core bytes left written written)
-leaves_without_book status run.OutOfMemory n core source written which same = leaves_none n core source written
-leaves_without_book status run.ReadFault n core source written which same = absurd (elim which [ inl p ↦ omega (arith, p, same) | inr p ↦ omega (arith, p, same) ])
-leaves_without_book status run.TooManyTurns n core source written which same = absurd (elim which [ inl p ↦ omega (arith, p, same) | inr p ↦ omega (arith, p, same) ])
-leaves_without_book status run.WriteFault n core source written which same = absurd (elim which [ inl p ↦ omega (arith, p, same) | inr p ↦ omega (arith, p, same) ])

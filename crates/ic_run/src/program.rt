@@ -53,7 +53,7 @@ pub fn desk<S: Source, K: Sink>(
     // before there was a book.
     ensures stopped { (e : RunError) → result ≡ run_status (Err e) → IsSomeAnd (setting_of (texts words.now)) (λ setting.
         IfTold (S.left source.old) (S.left source.new) (λ bytes left.
-            LeavesReplies e (notations_of tables.now) (start setting) bytes left (K.written sink.old) (K.written sink.new))) }
+        LeavesReplies e (notations_of tables.now) (start setting) bytes left (K.written sink.old) (K.written sink.new))) }
 
     // Where there is no fault, and the source holds fewer than 2^32 bytes, only that memory runs out is left beside 0.
     ensures completes { IsSomeAnd (setting_of (texts words.now)) (λ setting. IsNone (start_refusal setting tables.now))

@@ -4,7 +4,7 @@ use Rattle.ic_book.specs.Book.{Book, core_of, notations_in}
 use Rattle.ic_run.specs.Desk.{Setting, start}
 use Rattle.ic_run.specs.Run.{AppendsReplies, LeavesReplies}
 use Rattle.ic_tree.specs.Notations.{notations_of}
-use Rattle.ic_run.proofs.DeskLemmas.{all_taken, leaves_replies_told, leaves_without_book, on_ok_at_0, other_status}
+use Rattle.ic_run.proofs.DeskLemmas.{all_taken, leaves_replies_told, on_ok_at_0}
 use Rattle.ic_run.proofs.program.desk.Goals as goal
 
 pub returns-in-Ok-clause-taken : goal.returns-in-Ok-clause-taken
