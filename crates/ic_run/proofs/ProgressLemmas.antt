@@ -4,17 +4,18 @@ use Rattle.std.proofs.Math.Seq.{take-append-add}
 use Rattle.std.proofs.lemmas.Bool.{cases_Bool}
 use Rattle.std.proofs.lemmas.Bool.Decides.{eqb_tells}
 use Rattle.std.proofs.lemmas.List.{take-append-drop}
-use Rattle.ic_laws.specs.Lines.{after, replies, line_step, reply_bytes, texts_of}
+use Rattle.ic_laws.specs.Lines.{after, command_of, replies, line_step, reply_bytes, texts_of}
 use Rattle.ic_lines.specs.Bytes.{AppendsFront, IfTold}
 use Rattle.ic_lines.specs.Reading.{GivesHeld, GivesLine, HasToAsk, Reading, TakesLine, has_line_feed, line_feeds, unread}
 use Rattle.ic_lines.specs.declared.error.RunError.{RunError}
 use Rattle.ic_lines.specs.declared.error.RunError.TheVariants as errors
 use Rattle.ic_lines.proofs.FeedLemmas.{line_feeds-append, line_feeds-next}
 use Rattle.ic_lines.proofs.ToldLemmas.{IfTold-join, IfTold-weaker}
-use Rattle.ic_book.specs.Book.{Book, IsSameBeside, StepsTo, core_of, notations_in}
+use Rattle.ic_book.specs.Book.{Book, IsSameBeside, ModelState, StepsTo, core_of, notations_in}
 use Rattle.ic_words.specs.Served.{served}
+use Rattle.ic_commands.specs.Effect.{LineDoes}
 use Rattle.ic_tree.specs.Notations.{notations_of}
-use Rattle.ic_run.specs.Run.{AppendsReplies, AreRead, HasAnswered, HasPartlyAnswered, HasPartlyReplied, HasReplied, IsAfterLines, Leaves, TakesAll}
+use Rattle.ic_run.specs.Run.{AppendsReplies, AreRead, HasAnswered, HasPartlyAnswered, HasPartlyReplied, HasReplied, IsAfterLines, Leaves, LinesDo, TakesAll}
 use Rattle.ic_run.proofs.RunLemmas.{after-append, next_rest, next_taken, next_within, replies-append}
 
 -- what stays beside two steps
@@ -264,3 +265,37 @@ module _ (old new : Book) (count : ℕ) (reader asked new_reader : Reading) (bef
   pub all_replied_told : IfTold first b (λ bytes _. IfTold before now (AppendsReplies (notations_in old) (core_of old) bytes))
   all_replied_told = IfTold-join first a b (Progress old new count reader before now) End (λ bytes _. IfTold before now (AppendsReplies (notations_in old) (core_of old) bytes))
       (λ bytes x y q h. all_replied old new count reader asked new_reader before now bytes x y q (t.front ++ t.last) h.0.0 (h.1 tt)) p end_told
+
+-- what lines do to the whole model ----
+
+-- one line after others
+lines_do-append : (lines : List (List ℕ)) (line : List ℕ) (old mid new : ModelState) → LinesDo lines old mid → LineDoes (command_of served line) mid new → LinesDo (lines ++ line ∷ []) old new
+lines_do-append [] line old mid new did does = (new, subst (λ m. LineDoes (command_of served line) m new) did does, refl)
+lines_do-append (first ∷ lines) line old mid new did does = (did.0, did.1, lines_do-append lines line did.0 mid new did.2 does)
+
+-- the first so many lines of the bytes did
+abbrev pub Did : ModelState → ModelState → ℕ → List ℕ → List ℕ → Type 0
+Did old new count bytes left = LinesDo (take count (texts_of bytes)) old new
+
+pub none_did : (a : Option (List ℕ)) (m : ModelState) → IfTold a a (Did m m 0)
+none_did None m = tt
+none_did (Some bytes) m = refl
+
+module _ (old mid : ModelState) (count : ℕ) (reader : Reading) (before now : Option (List ℕ)) (first a b : Option (List ℕ)) (p : IfTold first a (Progress old.book mid.book count reader before now)) (did : IfTold first a (Did old mid count)) where
+  both : IfTold first a (λ x y. Progress old.book mid.book count reader before now x y × (Unit {0} → Did old mid count x y))
+  both = IfTold-and first a (Progress old.book mid.book count reader before now) (Did old mid count) (Unit {0}) p (λ _. did)
+
+  -- and the next line
+  pub did_next : (new_reader : Reading) (line : List ℕ) (new : ModelState) → IfTold a b (Next line reader new_reader) → LineDoes (command_of served line) mid new → IfTold first b (Did old new (count + 1))
+  did_next new_reader line new n does =
+      IfTold-join first a b (λ x y. Progress old.book mid.book count reader before now x y × (Unit {0} → Did old mid count x y)) (Next line reader new_reader) (Did old new (count + 1))
+      (λ bytes x y q k.
+      subst (λ ls. LinesDo ls old new) (sym (next_taken (texts_of bytes) count line (texts_of (unread new_reader y)) (sym q.0.rest ∙ k.gives)))
+      (lines_do-append (take count (texts_of bytes)) line old mid new (q.1 tt) does)) both n
+
+  -- and at the end all of them
+  pub all_did : (asked new_reader : Reading) → TakesLine reader asked a b → IfTold a b (λ x y. GivesLine None (unread reader x) (unread new_reader y)) → IfTold first b (λ bytes _. LinesDo (texts_of bytes) old mid)
+  all_did asked new_reader t gives =
+      IfTold-join first a b (λ x y. Progress old.book mid.book count reader before now x y × (Unit {0} → Did old mid count x y)) (λ x y. GivesLine None (unread reader x) (unread new_reader y) × (Unit {0} → x ≡ (t.front ++ t.last) ++ y)) (λ bytes _. LinesDo (texts_of bytes) old mid)
+      (λ bytes x y q h. subst (λ ls. LinesDo ls old mid) (all_taken old.book mid.book count reader asked new_reader before now bytes x y q.0 (t.front ++ t.last) h.0.0 (h.1 tt)) (q.1 tt))
+      both (IfTold-and a b (λ x y. GivesLine None (unread reader x) (unread new_reader y)) (λ x y. x ≡ (t.front ++ t.last) ++ y) (Unit {0}) gives (λ _. t.taken.told))

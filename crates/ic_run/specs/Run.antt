@@ -1,20 +1,26 @@
 -- What a run of lines leaves and writes, at its end and after an error.
-use Rattle.std.specs.Prelude.{◌≡◌, ℕ, ◌+◌, ◌<◌, ◌≤◌, ◌⊎◌, List, [], ◌++◌, length, take, Option}
+use Rattle.std.specs.Prelude.{◌≡◌, ℕ, ◌+◌, ◌<◌, ◌≤◌, ◌⊎◌, List, [], ◌∷◌, ◌++◌, length, take, Option}
 use Rattle.ic_laws.specs.CoreBook.{CoreBook}
-use Rattle.ic_laws.specs.Lines.{texts_of, after, replies}
+use Rattle.ic_laws.specs.Lines.{texts_of, after, command_of, replies}
 use Rattle.ic_laws.specs.Notations.{Notations}
 use Rattle.ic_lines.specs.Bytes.{IfTold}
 use Rattle.ic_lines.specs.Reading.{line_feeds}
 use Rattle.ic_lines.specs.declared.error.RunError.{RunError}
 use Rattle.ic_lines.specs.declared.error.RunError.TheVariants as errors
-use Rattle.ic_book.specs.Book.{Book, StepsTo, core_of, notations_in}
+use Rattle.ic_book.specs.Book.{Book, ModelState, StepsTo, core_of, notations_in}
 use Rattle.ic_words.specs.Served.{served}
+use Rattle.ic_commands.specs.Effect.{LineDoes}
 
 -- a whole run: nothing is left of the bytes, their lines are counted, and the book is the one that the machine leaves
 pub record TakesAll (old new : Book) (lines : ℕ) (bytes left : List ℕ) : Type 0 where
   pub all : left ≡ []
   pub count : lines ≡ length (texts_of bytes)
   pub book : StepsTo old new (after (notations_in old) served (core_of old) (texts_of bytes))
+
+-- lines one after another, each of which does to all that contracts see of a model what its command does
+abbrev pub LinesDo : List (List ℕ) → ModelState → ModelState → Type 0
+LinesDo [] old new = new ≡ old
+LinesDo (line ∷ lines) old new = (mid : ModelState) × LineDoes (command_of served line) old mid × LinesDo lines mid new
 
 -- the machine's replies to the lines of the bytes stand after what was written before
 abbrev pub AppendsReplies : Notations → CoreBook → List ℕ → List ℕ → List ℕ → Type 0

@@ -3,7 +3,7 @@ use Rattle.ic_lines.specs.Bytes.{IfTold}
 use Rattle.ic_lines.specs.Reading.{GivesHeld, GivesLine, unread}
 use Rattle.ic_lines.proofs.ToldLemmas.{IfTold-join}
 use Rattle.ic_run.specs.Run.{Leaves}
-use Rattle.ic_run.proofs.ProgressLemmas.{Next, Progress, Progress-step, all_replied_told, leaves_at_line, leaves_at_reader, next_told, takes_all_told}
+use Rattle.ic_run.proofs.ProgressLemmas.{Next, Progress, Progress-step, all_did, all_replied_told, did_next, leaves_at_line, leaves_at_reader, next_told, takes_all_told}
 use Rattle.ic_run.proofs.RunLemmas.{IfErr-given, IsSome-is}
 use Rattle.ic_run.proofs.lines.run.Goals as goal
 
@@ -66,6 +66,7 @@ lines-preserved g c =
           (Progress old new (c.lines.count + 1) after (written c.args.sink.now) (written c.answer_to.new.sink))
           (λ bytes a b p n. Progress-step old mid c.lines.count before after _ _ bytes a b line p n new _ c.in_ok-answer_to.ensures.book c.in_ok-answer_to.ensures.reply)
           i.done (next_told line before t.0 after _ _ t.1 held gives e.ends);
+      did = did_next c.args.model.now c.lines.model c.lines.count before (written c.args.sink.now) (written c.lines.sink) _ _ _ i.done i.did after line c.answer_to.new.model (next_told line before t.0 after _ _ t.1 held gives e.ends) c.in_ok-answer_to.ensures.does;
       turns = IfTold-join _ _ _ (λ bytes a. before.turns + length a ≤ length bytes) (λ a b. after.turns + length b ≤ before.turns + length a) (λ bytes b. after.turns + length b ≤ length bytes)
           (λ bytes a b p q. omega (arith, p, q)) i.turns e.turns;
       few = omega (arith, i.few, e.progress (IsSome-is _ line c.in-Some.is));
@@ -89,4 +90,13 @@ returns-clause-replies g c =
     let after = c.next_line.new.self in
     let h = c.in_ok-line.ensures in
     all_replied_told c.args.model.now.book c.lines.model.book c.lines.count before h.taken.0 after (g.K.Sink.written c.args.sink.now) (g.K.Sink.written c.lines.sink) _ _ _ c.lines.invariant.done h.taken.1
+    (subst (λ o. IfTold (left c.lines.source) (left c.next_line.new.source) (λ a b. GivesLine o (unread before a) (unread after b))) c.in_default.is h.line)
+
+pub returns-clause-does : goal.returns-clause-does
+returns-clause-does g c =
+    let left = g.S.Source.left in
+    let before = c.lines.reader in
+    let after = c.next_line.new.self in
+    let h = c.in_ok-line.ensures in
+    all_did c.args.model.now c.lines.model c.lines.count before (g.K.Sink.written c.args.sink.now) (g.K.Sink.written c.lines.sink) _ _ _ c.lines.invariant.done c.lines.invariant.did h.taken.0 after h.taken.1
     (subst (λ o. IfTold (left c.lines.source) (left c.next_line.new.source) (λ a b. GivesLine o (unread before a) (unread after b))) c.in_default.is h.line)
