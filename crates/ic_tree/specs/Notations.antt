@@ -42,3 +42,7 @@ notations_of tables = record {
   shown = λ locale language. shown_in (language_of tables language) (language_of tables english) (locale_of tables locale);
   stored = stored_in (language_of tables english);
 }
+
+-- how a formula is written in English in the cell at a row and a column, whatever the notation in force
+abbrev pub in_english : TableSet → ℤ → ℤ → DialectMeaning
+in_english tables row column = (notations_of tables).shown english english row column
