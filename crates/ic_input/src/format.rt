@@ -11,7 +11,7 @@ ghost use Rattle.ic_input.specs.Group.{in_threes};
 
 use crate::amount::amount_text;
 use crate::code::{NumberCode, is_date_code, is_percent, number_code};
-use crate::convention::{group_of};
+use crate::convention::group_of;
 use crate::date::{civil_of, push_day};
 use crate::push::{push_digit, push_number, push_two_digits};
 use ic_laws::scan::{push_char, push_text};

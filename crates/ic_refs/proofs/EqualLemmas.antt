@@ -30,7 +30,7 @@ cells_Decides a b =
     let rest = both (int_eq a.row b.row) (int_eq a.column b.column) (a.row ≡ b.row) (a.column ≡ b.column) (signed_Decides a.row b.row) (signed_Decides a.column b.column) in
     let d = both (a.sheet == b.sheet) (int_eq a.row b.row && int_eq a.column b.column) (a.sheet ≡ b.sheet) ((a.row ≡ b.row) × (a.column ≡ b.column)) (unsigned_Decides a.sheet b.sheet) rest in (
       λ e. let p = d.0 e in
-        ap (λ x. cell x a.row a.column) p.0 ∙ ap (λ x. cell b.sheet x a.column) p.1.0 ∙ ap (λ x. cell b.sheet b.row x) p.1.1,
+          ap (λ x. cell x a.row a.column) p.0 ∙ ap (λ x. cell b.sheet x a.column) p.1.0 ∙ ap (λ x. cell b.sheet b.row x) p.1.1,
       λ e. d.1 (ap (λ (c : CellReferenceIndex). c.sheet) e, (ap (λ (c : CellReferenceIndex). c.row) e, ap (λ (c : CellReferenceIndex). c.column) e)),
     )
 
@@ -41,11 +41,11 @@ written row column absolute_row absolute_column = record { row = row; column = c
 pub written_Decides : (a b : A1Reference) → Decides (written_equality.ghosts.eq a b) (a ≡ b)
 written_Decides a b =
     let d = four (int_eq a.row b.row) (int_eq a.column b.column) (beq a.absolute_row b.absolute_row) (beq a.absolute_column b.absolute_column)
-        (a.row ≡ b.row) (a.column ≡ b.column) (a.absolute_row ≡ b.absolute_row) (a.absolute_column ≡ b.absolute_column)
-        (signed_Decides a.row b.row) (signed_Decides a.column b.column) (booleans_Decides a.absolute_row b.absolute_row) (booleans_Decides a.absolute_column b.absolute_column) in (
+    (a.row ≡ b.row) (a.column ≡ b.column) (a.absolute_row ≡ b.absolute_row) (a.absolute_column ≡ b.absolute_column)
+    (signed_Decides a.row b.row) (signed_Decides a.column b.column) (booleans_Decides a.absolute_row b.absolute_row) (booleans_Decides a.absolute_column b.absolute_column) in (
       λ e. let p = d.0 e in
-        ap (λ x. written x a.column a.absolute_row a.absolute_column) p.0 ∙ ap (λ x. written b.row x a.absolute_row a.absolute_column) p.1.0
-        ∙ ap (λ x. written b.row b.column x a.absolute_column) p.1.1.0 ∙ ap (λ x. written b.row b.column b.absolute_row x) p.1.1.1,
+          ap (λ x. written x a.column a.absolute_row a.absolute_column) p.0 ∙ ap (λ x. written b.row x a.absolute_row a.absolute_column) p.1.0
+          ∙ ap (λ x. written b.row b.column x a.absolute_column) p.1.1.0 ∙ ap (λ x. written b.row b.column b.absolute_row x) p.1.1.1,
       λ e. d.1 (
         ap (λ (r : A1Reference). r.row) e,
         (ap (λ (r : A1Reference). r.column) e, (ap (λ (r : A1Reference). r.absolute_row) e, ap (λ (r : A1Reference). r.absolute_column) e)),

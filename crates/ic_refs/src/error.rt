@@ -51,15 +51,19 @@ impl fmt::Display for ReferenceError {
             }
             ReferenceError::OneToken => "Invalid reference. Expected only one token.",
             ReferenceError::NotReference => "Invalid reference. First token is not a reference.",
-            ReferenceError::NoSheetKnown => "Reference doesn't contain sheet name and relative cell is not known.",
+            ReferenceError::NoSheetKnown =>
+                "Reference doesn't contain sheet name and relative cell is not known.",
             ReferenceError::ExpectedNumber => "Invalid reference. Expected a number.",
             ReferenceError::ExpectedBracket => "Invalid reference. Expected ']'.",
-            ReferenceError::OffsetTooLarge => "Invalid reference. The offset is larger than the sheet.",
+            ReferenceError::OffsetTooLarge =>
+                "Invalid reference. The offset is larger than the sheet.",
             ReferenceError::OutsideSheet => "Invalid reference. It is outside of the sheet.",
             ReferenceError::ExpectedLetter => "Invalid reference. Expected 'R' or 'C'.",
             ReferenceError::ExpectedEnd => "Invalid reference. Expected end of reference.",
-            ReferenceError::MixedEnds => "Invalid reference. The two ends of the range are of different kind.",
-            ReferenceError::NameNotClosed => "Invalid reference. The name of the sheet is not closed.",
+            ReferenceError::MixedEnds =>
+                "Invalid reference. The two ends of the range are of different kind.",
+            ReferenceError::NameNotClosed =>
+                "Invalid reference. The name of the sheet is not closed.",
             ReferenceError::ExpectedBang => "Invalid reference. Expected '!' after the sheet name.",
             ReferenceError::OutOfMemory => "Out of memory",
         };
