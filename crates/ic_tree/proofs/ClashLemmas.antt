@@ -25,7 +25,8 @@ use Rattle.ic_tree.proofs.EnglishLemmas.{english_free}
 use Rattle.ic_tree.proofs.NotationLaws.{knows_language_is, notations_are}
 use Rattle.ic_tree.specs.LanguageWords.{boolean_of, function_of, is_boolean_word, is_function_word}
 use Rattle.ic_tree.specs.Notations.{notations_of, shown_in, stored_in}
-use Rattle.ic_tree.specs.Shown.{decimal_separator, list_separator, shown_meaning}
+use Rattle.ic_tables.specs.Formats.{decimal_separator}
+use Rattle.ic_tree.specs.Shown.{list_separator, shown_meaning}
 use Rattle.ic_tree.specs.Stored.{stored_meaning}
 use Rattle.ic_tree.specs.laws.LanguageLaws.{law_finds_agreeing}
 

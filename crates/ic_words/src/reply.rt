@@ -14,7 +14,10 @@ use ic_lines::push_escaped;
 /// its reply can't fail.
 pub const REPLY_ROOM: usize = 512;
 
-const _: () = prove!(REPLY_ROOM == 512);
+/// The room is 512 bytes.
+pub fn law_reply_room()
+    ensures { REPLY_ROOM ≡ reply_room }
+{}
 
 /// The text with the reply `ok` without a field at its end. A reply ends with a line feed.
 pub fn ok_reply(mut reply: String) -> String
