@@ -6,70 +6,79 @@ use thiserror::Error;
 
 /// Why a call of the workbook was refused.
 #[derive(Debug, Drop, Error)]
+#[error("{}", self.text())]
 pub enum BookError {
     /// A line that is no command. Only a reply tells it.
-    #[error("Invalid line")]
     BadLine,
     /// No sheet stands at the index, which counts from 0.
-    #[error("Invalid sheet index")]
     InvalidSheet,
     /// The row isn't 1 to 1,048,576.
-    #[error("Invalid row")]
     InvalidRow,
     /// The column isn't 1 to 16,384.
-    #[error("Invalid column")]
     InvalidColumn,
     /// No sheet stands at the index of the sheet that is to be moved or deleted.
-    #[error("Sheet index too large")]
     SheetIndexTooLarge,
     /// No sheet stands at the index that a sheet is to be moved to.
-    #[error("Target sheet index too large")]
     TargetTooLarge,
     /// The name is empty, has more than 31 characters, or has one of `\ / * ? : [ ]`.
-    #[error("Invalid name for a sheet")]
     InvalidSheetName,
     /// Another sheet's name agrees with it.
-    #[error("A worksheet already exists with that name")]
     SheetExists,
     /// No sheet's name agrees, or none has the id.
-    #[error("Sheet not found")]
     SheetNotFound,
     /// There is no other sheet.
-    #[error("Cannot delete only sheet")]
     OnlySheet,
     /// The greatest id in use is the last one, 4,294,967,295.
-    #[error("No sheet id is left")]
     IdsUsedUp,
     /// A definition can't have the name: it is no identifier.
-    #[error("Name: Invalid defined name")]
     InvalidName,
     /// No sheet stands at the index of the sheet that a definition is to be local to.
-    #[error("Scope: Invalid sheet index")]
     InvalidScope,
     /// A definition of an agreeing name is local to the same sheet, or to none too.
-    #[error("Name: Defined name already exists")]
     NameExists,
     /// No definition of an agreeing name is local to that sheet, or to none.
-    #[error("Defined name not found")]
     NameNotFound,
     /// The body is neither a reference to a sheet of the book nor a LAMBDA.
-    #[error("Formula: Invalid defined name formula")]
     InvalidNameFormula,
     /// The text doesn't begin with `=`, or is `=` alone.
-    #[error("Not a valid formula")]
     NotAFormula,
     /// No locale of the tables has the id.
-    #[error("Invalid locale")]
     InvalidLocale,
     /// No language of the tables has the code.
-    #[error("Invalid language")]
     InvalidLanguage,
     /// The tables list no such zone.
-    #[error("Invalid timezone")]
     InvalidTimezone,
     /// Memory ran out.
-    #[error("Out of memory")]
     OutOfMemory,
+}
+
+impl BookError {
+    // What it says of itself.
+    fn text(&self) -> &'static str {
+        match self {
+            BookError::BadLine => "Invalid line",
+            BookError::InvalidSheet => "Invalid sheet index",
+            BookError::InvalidRow => "Invalid row",
+            BookError::InvalidColumn => "Invalid column",
+            BookError::SheetIndexTooLarge => "Sheet index too large",
+            BookError::TargetTooLarge => "Target sheet index too large",
+            BookError::InvalidSheetName => "Invalid name for a sheet",
+            BookError::SheetExists => "A worksheet already exists with that name",
+            BookError::SheetNotFound => "Sheet not found",
+            BookError::OnlySheet => "Cannot delete only sheet",
+            BookError::IdsUsedUp => "No sheet id is left",
+            BookError::InvalidName => "Name: Invalid defined name",
+            BookError::InvalidScope => "Scope: Invalid sheet index",
+            BookError::NameExists => "Name: Defined name already exists",
+            BookError::NameNotFound => "Defined name not found",
+            BookError::InvalidNameFormula => "Formula: Invalid defined name formula",
+            BookError::NotAFormula => "Not a valid formula",
+            BookError::InvalidLocale => "Invalid locale",
+            BookError::InvalidLanguage => "Invalid language",
+            BookError::InvalidTimezone => "Invalid timezone",
+            BookError::OutOfMemory => "Out of memory",
+        }
+    }
 }
 
 impl BookError {

@@ -1,42 +1,50 @@
 //! Amounts and their texts.
-use crate::fault::Fault;
-use crate::words::{character, put_none, put_text, word};
-use ic_laws::{Amount, Text, amount_spelling, unsigned_amount};
-use std::alloc::Global;
+use crate::row::Row;
+use ic_laws::{Amount, amount_spelling, unsigned_amount};
 
-/// Answers the call of this name, if it is one of these.
-pub fn call(alloc: Global, name: &str, words: &[Text], out: &mut String) -> Result<bool, Fault> {
-    match name {
-        "Amount::from_units" => put_units(Amount::from_units(units(words, 1)?), out)?,
-        "amount_spelling" => put_spelling(alloc, words, out)?,
-        "unsigned_amount" => {
-            put_units(unsigned_amount(word(words, 1)?, character(words, 2)?), out)?
-        }
-        _ => return Ok(false),
+/// Answers the call, if it is one of these.
+pub fn call(row: &mut Row<'_>) {
+    match row.word(0) {
+        "Amount::from_units" => put_of_units(row),
+        "amount_spelling" => put_spelling(row),
+        "unsigned_amount" => put_unsigned(row),
+        _ => {}
     }
-    Ok(true)
 }
 
-fn units(words: &[Text], at: usize) -> Result<i128, Fault> {
-    let Ok(n) = word(words, at)?.parse::<i128>() else {
-        return Err(Fault::Row);
-    };
-    Ok(n)
+/// The amount of the units in the first word.
+fn amount_in(row: &mut Row<'_>) -> Option<Amount> {
+    match row.word(1).parse::<i128>() {
+        Ok(units) => Amount::from_units(units),
+        Err(_) => {
+            row.bad();
+            None
+        }
+    }
 }
 
-fn put_units(amount: Option<Amount>, out: &mut String) -> Result<(), Fault> {
-    let Some(amount) = amount else {
-        return put_none(out);
-    };
-    let units = amount.units();
-    write!(out, "{units}")?;
-    Ok(())
+/// The units of an amount.
+pub fn put_units(row: &mut Row<'_>, amount: Option<Amount>) {
+    match amount {
+        Some(amount) => row.put_number(amount.units()),
+        None => row.none(),
+    }
 }
 
-fn put_spelling(alloc: Global, words: &[Text], out: &mut String) -> Result<(), Fault> {
-    let Some(amount) = Amount::from_units(units(words, 1)?) else {
-        return put_none(out);
-    };
-    let spelled = amount_spelling(alloc, amount, character(words, 2)?)?;
-    put_text(alloc, out, spelled.as_str())
+fn put_of_units(row: &mut Row<'_>) {
+    let amount = amount_in(row);
+    put_units(row, amount);
+}
+
+fn put_unsigned(row: &mut Row<'_>) {
+    let decimal = row.character(2);
+    put_units(row, unsigned_amount(row.word(1), decimal));
+}
+
+fn put_spelling(row: &mut Row<'_>) {
+    let decimal = row.character(2);
+    match amount_in(row) {
+        Some(amount) => row.put_made(amount_spelling(row.alloc, amount, decimal)),
+        None => row.none(),
+    }
 }

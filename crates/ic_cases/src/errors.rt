@@ -1,97 +1,115 @@
 //! Lines, words of lines, and the texts of errors.
-use crate::fault::Fault;
-use crate::words::{put_text, word};
+use crate::row::{Lack, Row};
 use ic_book::BookError;
 use ic_laws::Text;
-use ic_lines::{Failed, LineReader, MemorySource, RunError, words_of};
+use ic_lines::{Failed, Line, LineReader, MemorySource, RunError, words_of};
 use std::alloc::Global;
 
-/// Answers the call of this name, if it is one of these.
-pub fn call(alloc: Global, name: &str, words: &[Text], out: &mut String) -> Result<bool, Fault> {
-    match name {
-        "lines" => put_lines(alloc, word(words, 1)?, out)?,
-        "words_of" => put_words(alloc, word(words, 1)?, out)?,
-        "failed" => {
-            let text = Failed.to_string(alloc)?;
-            out.push_str(text.as_str())?;
-        }
-        "run_error" => {
-            let text = run_error(word(words, 1)?)?.to_string(alloc)?;
-            out.push_str(text.as_str())?;
-        }
-        "book_error" => {
-            let text = book_error(word(words, 1)?)?.to_string(alloc)?;
-            out.push_str(text.as_str())?;
-        }
-        _ => return Ok(false),
+/// Answers the call, if it is one of these.
+pub fn call(row: &mut Row<'_>) {
+    match row.word(0) {
+        "lines" => put_lines(row),
+        "words_of" => put_words(row),
+        "failed" => row.put_shown(Failed.to_string(row.alloc)),
+        "run_error" => put_run_error(row),
+        "book_error" => put_book_error(row),
+        _ => {}
     }
-    Ok(true)
 }
 
 /// How many lines a text has, and each of them.
-fn put_lines(alloc: Global, text: &str, out: &mut String) -> Result<(), Fault> {
+fn put_lines(row: &mut Row<'_>) {
+    match lines_in(row.alloc, row.word(1)) {
+        Ok(lines) => {
+            row.put_number(lines.len() as i128);
+            for line in &lines {
+                row.tab();
+                row.put_text(line.text().as_str());
+            }
+        }
+        Err(lack) => row.fail(lack),
+    }
+}
+
+fn lines_in(alloc: Global, text: &str) -> Result<Vec<Line>, Lack> {
     let mut source = MemorySource::new(alloc, text.as_bytes(), 3, &[])?;
     let mut reader = LineReader::new(alloc);
-    let mut fields = String::new(alloc);
-    let mut count = 0u64;
+    let mut lines = Vec::new(alloc);
     for _ in 0..u64::MAX {
-        let Some(line) = reader.next_line(&mut source)? else {
-            break;
-        };
-        count = count.saturating_add(1);
-        fields.push('\t')?;
-        put_text(alloc, &mut fields, line.text().as_str())?;
+        match reader.next_line(&mut source)? {
+            Some(line) => lines.push(line)?,
+            None => break,
+        }
     }
-    write!(out, "{count}")?;
-    out.push_str(fields.as_str())?;
-    Ok(())
+    Ok(lines)
 }
 
 /// How many words a line has, and each of them.
-fn put_words(alloc: Global, line: &str, out: &mut String) -> Result<(), Fault> {
-    let found = words_of(alloc, line)?;
-    let count = found.len();
-    write!(out, "{count}")?;
-    for text in found {
-        out.push('\t')?;
-        put_text(alloc, out, text)?;
-    }
-    Ok(())
-}
-
-fn run_error(name: &str) -> Result<RunError, Fault> {
-    match name {
-        "ReadFault" => Ok(RunError::ReadFault),
-        "WriteFault" => Ok(RunError::WriteFault),
-        "TooManyTurns" => Ok(RunError::TooManyTurns),
-        "OutOfMemory" => Ok(RunError::OutOfMemory),
-        _ => Err(Fault::Row),
+fn put_words(row: &mut Row<'_>) {
+    match words_of(row.alloc, row.word(1)) {
+        Ok(words) => put_all(row, words.as_slice()),
+        Err(_) => row.no_memory(),
     }
 }
 
-fn book_error(name: &str) -> Result<BookError, Fault> {
-    match name {
-        "BadLine" => Ok(BookError::BadLine),
-        "InvalidSheet" => Ok(BookError::InvalidSheet),
-        "InvalidRow" => Ok(BookError::InvalidRow),
-        "InvalidColumn" => Ok(BookError::InvalidColumn),
-        "SheetIndexTooLarge" => Ok(BookError::SheetIndexTooLarge),
-        "TargetTooLarge" => Ok(BookError::TargetTooLarge),
-        "InvalidSheetName" => Ok(BookError::InvalidSheetName),
-        "SheetExists" => Ok(BookError::SheetExists),
-        "SheetNotFound" => Ok(BookError::SheetNotFound),
-        "OnlySheet" => Ok(BookError::OnlySheet),
-        "IdsUsedUp" => Ok(BookError::IdsUsedUp),
-        "InvalidName" => Ok(BookError::InvalidName),
-        "InvalidScope" => Ok(BookError::InvalidScope),
-        "NameExists" => Ok(BookError::NameExists),
-        "NameNotFound" => Ok(BookError::NameNotFound),
-        "InvalidNameFormula" => Ok(BookError::InvalidNameFormula),
-        "NotAFormula" => Ok(BookError::NotAFormula),
-        "InvalidLocale" => Ok(BookError::InvalidLocale),
-        "InvalidLanguage" => Ok(BookError::InvalidLanguage),
-        "InvalidTimezone" => Ok(BookError::InvalidTimezone),
-        "OutOfMemory" => Ok(BookError::OutOfMemory),
-        _ => Err(Fault::Row),
+fn put_all(row: &mut Row<'_>, words: &[&str]) {
+    row.put_number(words.len() as i128);
+    for word in words {
+        row.tab();
+        row.put_text(word);
+    }
+}
+
+/// The text of an error of a run, which is its name.
+fn put_run_error(row: &mut Row<'_>) {
+    for e in [
+        RunError::ReadFault,
+        RunError::WriteFault,
+        RunError::TooManyTurns,
+        RunError::OutOfMemory,
+    ] {
+        put_if_named(row, &e);
+    }
+}
+
+fn put_if_named(row: &mut Row<'_>, e: &RunError) {
+    match e.to_string(row.alloc) {
+        Ok(text) => {
+            if text.as_str() == row.word(1) {
+                row.put(text.as_str());
+            }
+        }
+        Err(_) => row.no_memory(),
+    }
+}
+
+/// The text of an error of the book.
+fn put_book_error(row: &mut Row<'_>) {
+    for e in [
+        BookError::BadLine,
+        BookError::InvalidSheet,
+        BookError::InvalidRow,
+        BookError::InvalidColumn,
+        BookError::SheetIndexTooLarge,
+        BookError::TargetTooLarge,
+        BookError::InvalidSheetName,
+        BookError::SheetExists,
+        BookError::SheetNotFound,
+        BookError::OnlySheet,
+        BookError::IdsUsedUp,
+        BookError::InvalidName,
+        BookError::InvalidScope,
+        BookError::NameExists,
+        BookError::NameNotFound,
+        BookError::InvalidNameFormula,
+        BookError::NotAFormula,
+        BookError::InvalidLocale,
+        BookError::InvalidLanguage,
+        BookError::InvalidTimezone,
+        BookError::OutOfMemory,
+    ] {
+        if e.name() == row.word(1) {
+            row.put_shown(e.to_string(row.alloc));
+        }
     }
 }

@@ -1,57 +1,61 @@
 //! Formulas: a text is read and its tree printed, in the stored form or as it is shown in a cell.
-use crate::fault::Fault;
 use crate::lookups::put_id_error;
-use crate::references::put_token;
-use crate::words::{int, put_none, put_text, word};
-use ic_laws::{Dialect, Text};
+use crate::places::put_token;
+use crate::row::Row;
+use ic_laws::{Dialect, OutOfMemory};
 use ic_tables::{BookIdError, Tables};
 use ic_tree::{Shown, Stored, print, read, read_reference};
 use std::alloc::Global;
 
-/// Answers the call of this name, if it is one of these.
-pub fn call(
-    alloc: Global,
-    tables: &Tables,
-    name: &str,
-    words: &[Text],
-    out: &mut String,
-) -> Result<bool, Fault> {
-    match name {
-        "read_stored" => read_stored(alloc, tables, words, out)?,
-        "read_shown" => read_shown(alloc, tables, words, out)?,
-        "shown_to_stored" => shown_to_stored(alloc, tables, words, out)?,
-        "stored_to_shown" => stored_to_shown(alloc, tables, words, out)?,
-        "read_reference" => put_reference(alloc, tables, words, out)?,
-        _ => return Ok(false),
+/// Answers the call, if it is one of these.
+pub fn call(row: &mut Row<'_>) {
+    match row.word(0) {
+        "read_stored" => put_stored(row),
+        "read_shown" => put_shown(row, Way::Shown),
+        "shown_to_stored" => put_shown(row, Way::ToStored),
+        "stored_to_shown" => put_shown(row, Way::FromStored),
+        "read_reference" => put_reference(row),
+        _ => {}
     }
-    Ok(true)
 }
 
-/// A formula is read in the one form and printed in the other: `=` and its canonical text there, `none` where the text
-/// is no formula.
-fn put_canonical<A: Dialect, B: Dialect>(
+/// From which form a text is read, and in which it is printed.
+#[derive(Clone, Copy)]
+enum Way {
+    Shown,
+    ToStored,
+    FromStored,
+}
+
+/// A formula is read in the one form and printed in the other: its canonical text there, None where the text is no
+/// formula.
+fn canonical<A: Dialect, B: Dialect>(
     alloc: Global,
     from: &A,
     to: &B,
     text: &str,
-    out: &mut String,
-) -> Result<(), Fault> {
-    let Some(tree) = read(alloc, from, text)? else {
-        return put_none(out);
-    };
-    let printed = print(alloc, to, &tree)?;
-    out.push('=')?;
-    put_text(alloc, out, printed.as_str())
+) -> Result<Option<String>, OutOfMemory> {
+    match read(alloc, from, text)? {
+        Some(tree) => Ok(Some(print(alloc, to, &tree)?)),
+        None => Ok(None),
+    }
 }
 
-fn read_stored(
-    alloc: Global,
-    tables: &Tables,
-    words: &[Text],
-    out: &mut String,
-) -> Result<(), Fault> {
-    let stored = Stored::new(tables);
-    put_canonical(alloc, &stored, &stored, word(words, 1)?, out)
+/// `=` and the canonical text, or `none`.
+fn put_canonical(row: &mut Row<'_>, text: Result<Option<String>, OutOfMemory>) {
+    match text {
+        Ok(Some(text)) => {
+            row.put("=");
+            row.put_text(text.as_str());
+        }
+        Ok(None) => row.none(),
+        Err(_) => row.no_memory(),
+    }
+}
+
+fn put_stored(row: &mut Row<'_>) {
+    let stored = Stored::new(row.tables);
+    put_canonical(row, canonical(row.alloc, &stored, &stored, row.word(1)));
 }
 
 /// The shown form in a locale and a language of the tables, by their ids, at a cell.
@@ -67,62 +71,44 @@ pub fn shown_at<'t>(
     Ok(Shown::new(tables, locale, language, row, column))
 }
 
-fn read_shown(
-    alloc: Global,
-    tables: &Tables,
-    words: &[Text],
-    out: &mut String,
-) -> Result<(), Fault> {
-    let row = int(words, 3)?;
-    let column = int(words, 4)?;
-    match shown_at(tables, word(words, 1)?, word(words, 2)?, row, column) {
-        Ok(shown) => put_canonical(alloc, &shown, &shown, word(words, 5)?, out),
-        Err(e) => put_id_error(alloc, out, &e),
+/// A locale, a language, a row, a column and a text.
+fn put_shown(row: &mut Row<'_>, way: Way) {
+    let number = row.int(3);
+    let column = row.int(4);
+    match shown_at(row.tables, row.word(1), row.word(2), number, column) {
+        Ok(shown) => put_way(row, &shown, way),
+        Err(e) => match way {
+            Way::Shown => put_id_error(row, e),
+            _ => row.bad(),
+        },
     }
 }
 
-/// The shown form of a row's locale, language, row and column, which the tables have.
-fn shown_in<'t>(tables: &'t Tables, words: &[Text]) -> Result<Shown<'t>, Fault> {
-    let row = int(words, 3)?;
-    let column = int(words, 4)?;
-    match shown_at(tables, word(words, 1)?, word(words, 2)?, row, column) {
-        Ok(shown) => Ok(shown),
-        Err(_) => Err(Fault::Row),
-    }
-}
-
-fn shown_to_stored(
-    alloc: Global,
-    tables: &Tables,
-    words: &[Text],
-    out: &mut String,
-) -> Result<(), Fault> {
-    let shown = shown_in(tables, words)?;
-    put_canonical(alloc, &shown, &Stored::new(tables), word(words, 5)?, out)
-}
-
-fn stored_to_shown(
-    alloc: Global,
-    tables: &Tables,
-    words: &[Text],
-    out: &mut String,
-) -> Result<(), Fault> {
-    let shown = shown_in(tables, words)?;
-    put_canonical(alloc, &Stored::new(tables), &shown, word(words, 5)?, out)
+fn put_way(row: &mut Row<'_>, shown: &Shown<'_>, way: Way) {
+    let stored = Stored::new(row.tables);
+    let text = row.word(5);
+    put_canonical(
+        row,
+        match way {
+            Way::Shown => canonical(row.alloc, shown, shown, text),
+            Way::ToStored => canonical(row.alloc, shown, &stored, text),
+            Way::FromStored => canonical(row.alloc, &stored, shown, text),
+        },
+    );
 }
 
 /// The reference that a whole text is, as it is shown in the first cell in a locale and a language.
-fn put_reference(
-    alloc: Global,
-    tables: &Tables,
-    words: &[Text],
-    out: &mut String,
-) -> Result<(), Fault> {
-    let Ok(shown) = shown_at(tables, word(words, 1)?, word(words, 2)?, 1, 1) else {
-        return Err(Fault::Row);
-    };
-    match read_reference(alloc, &shown, word(words, 3)?)? {
-        Some(token) => put_token(alloc, out, &token),
-        None => put_none(out),
+fn put_reference(row: &mut Row<'_>) {
+    match shown_at(row.tables, row.word(1), row.word(2), 1, 1) {
+        Ok(shown) => put_reference_of(row, &shown),
+        Err(_) => row.bad(),
+    }
+}
+
+fn put_reference_of(row: &mut Row<'_>, shown: &Shown<'_>) {
+    match read_reference(row.alloc, shown, row.word(3)) {
+        Ok(Some(token)) => put_token(row, &token),
+        Ok(None) => row.none(),
+        Err(_) => row.no_memory(),
     }
 }

@@ -1,191 +1,155 @@
 //! What is typed, and how amounts are shown by format codes.
-use crate::fault::Fault;
-use crate::words::{character, put_bool, put_none, put_some, put_text, word};
+use crate::amounts::put_units;
+use crate::row::Row;
 use ic_input::{
     Typed, amount_text, classify, format_amount, formula_without_prefix, is_date_code, read_amount,
     value_needs_quoting,
 };
 use ic_laws::{Amount, Error, Text};
-use ic_tables::{Language, Locale, Tables};
-use std::alloc::Global;
+use ic_tables::{Language, Locale};
 
-/// Answers the call of this name, if it is one of these.
-pub fn call(
-    alloc: Global,
-    tables: &Tables,
-    name: &str,
-    words: &[Text],
-    out: &mut String,
-) -> Result<bool, Fault> {
-    match name {
-        "classify" => put_typed(alloc, tables, words, out)?,
-        "formula_without_prefix" => put_formula(alloc, tables, words, out)?,
-        "value_needs_quoting" => put_quoting(alloc, tables, words, out)?,
-        "format_amount" => put_formatted(alloc, tables, words, out)?,
-        "is_date_code" => put_bool(out, is_date_code(word(words, 1)?))?,
-        "amount_text" => put_amount_text(alloc, words, out)?,
-        "read_amount" => put_read(out, read_amount(word(words, 1)?, character(words, 2)?))?,
-        _ => return Ok(false),
+/// Answers the call, if it is one of these.
+pub fn call(row: &mut Row<'_>) {
+    match row.word(0) {
+        "classify" => in_place(row),
+        "value_needs_quoting" => in_place(row),
+        "formula_without_prefix" => in_locale(row),
+        "format_amount" => in_locale(row),
+        "is_date_code" => row.put_bool(is_date_code(row.word(1))),
+        "amount_text" => put_amount_text(row),
+        "read_amount" => put_read(row),
+        _ => {}
     }
-    Ok(true)
 }
 
-/// A locale and a language of the tables.
-#[derive(Drop)]
-struct Place<'t> {
-    locale: &'t Locale,
-    language: &'t Language,
+/// The calls over a locale and a language of the tables.
+fn in_place(row: &mut Row<'_>) {
+    match row.tables.get_locale(row.word(1)) {
+        Ok(locale) => match row.tables.get_language(row.word(2)) {
+            Ok(language) => put_in_place(row, locale, language),
+            Err(_) => row.bad(),
+        },
+        Err(_) => row.bad(),
+    }
 }
 
-fn place_of<'t>(tables: &'t Tables, words: &[Text]) -> Result<Place<'t>, Fault> {
-    let Ok(locale) = tables.get_locale(word(words, 1)?) else {
-        return Err(Fault::Row);
-    };
-    let Ok(language) = tables.get_language(word(words, 2)?) else {
-        return Err(Fault::Row);
-    };
-    Ok(Place { locale, language })
+fn put_in_place(row: &mut Row<'_>, locale: &Locale, language: &Language) {
+    if row.word(0) == "classify" {
+        put_classified(row, locale, language);
+    } else {
+        put_quoting(row, locale, language);
+    }
 }
 
 /// What a text is in a locale and a language.
-fn put_typed(
-    alloc: Global,
-    tables: &Tables,
-    words: &[Text],
-    out: &mut String,
-) -> Result<(), Fault> {
-    let place = place_of(tables, words)?;
-    let english = tables.get_default_language();
-    let typed = classify(
-        alloc,
-        word(words, 3)?,
-        place.locale,
-        place.language,
-        english,
-    )?;
-    match &typed {
-        Typed::Empty => out.push_str("Empty")?,
-        Typed::Quoted(text) => put_named(alloc, out, "Quoted", text)?,
-        Typed::Formula(text) => put_named(alloc, out, "Formula", text)?,
-        Typed::Number(v, code) => put_number(alloc, out, *v, code.as_ref())?,
-        Typed::Boolean(b) => {
-            out.push_str("Boolean\t")?;
-            put_bool(out, *b)?;
-        }
-        Typed::Error(e) => put_error_word(out, *e)?,
-        Typed::Text(text) => put_named(alloc, out, "Text", text)?,
+fn put_classified(row: &mut Row<'_>, locale: &Locale, language: &Language) {
+    let english = row.tables.get_default_language();
+    match classify(row.alloc, row.word(3), locale, language, english) {
+        Ok(typed) => put_typed(row, &typed),
+        Err(_) => row.no_memory(),
     }
-    Ok(())
 }
 
-fn put_named(alloc: Global, out: &mut String, name: &str, text: &Text) -> Result<(), Fault> {
-    out.push_str(name)?;
-    out.push('\t')?;
-    put_text(alloc, out, text.as_str())
+fn put_typed(row: &mut Row<'_>, typed: &Typed) {
+    match typed {
+        Typed::Empty => row.put("Empty"),
+        Typed::Quoted(text) => put_named(row, "Quoted\t", text),
+        Typed::Formula(text) => put_named(row, "Formula\t", text),
+        Typed::Number(v, code) => put_number(row, *v, code.as_ref()),
+        Typed::Boolean(b) => {
+            row.put("Boolean\t");
+            row.put_bool(*b);
+        }
+        Typed::Error(e) => put_error_word(row, *e),
+        Typed::Text(text) => put_named(row, "Text\t", text),
+    }
+}
+
+fn put_named(row: &mut Row<'_>, name: &str, text: &Text) {
+    row.put(name);
+    row.put_text(text.as_str());
 }
 
 /// A number with `.`, and its code, if it has one.
-fn put_number(
-    alloc: Global,
-    out: &mut String,
-    v: Amount,
-    code: Option<&Text>,
-) -> Result<(), Fault> {
-    out.push_str("Number\t")?;
-    let text = amount_text(alloc, v, '.')?;
-    put_text(alloc, out, text.as_str())?;
+fn put_number(row: &mut Row<'_>, v: Amount, code: Option<&Text>) {
+    row.put("Number\t");
+    row.put_made(amount_text(row.alloc, v, '.'));
     if let Some(code) = code {
-        out.push('\t')?;
-        put_text(alloc, out, code.as_str())?;
+        row.tab();
+        row.put_text(code.as_str());
     }
-    Ok(())
 }
 
 /// An error by its name.
-fn put_error_word(out: &mut String, e: Error) -> Result<(), Fault> {
-    let name = match e {
-        Error::REF => "REF",
-        Error::NAME => "NAME",
-        Error::VALUE => "VALUE",
-        Error::DIV => "DIV",
-        Error::NA => "NA",
-        Error::NUM => "NUM",
-        Error::NIMPL => "NIMPL",
-        Error::SPILL => "SPILL",
-        Error::CALC => "CALC",
-        Error::CIRC => "CIRC",
-        Error::ERROR => "ERROR",
-        Error::NULL => "NULL",
-    };
-    out.push_str("Error\t")?;
-    out.push_str(name)?;
-    Ok(())
-}
-
-/// The formula of a text in a locale.
-fn put_formula(
-    alloc: Global,
-    tables: &Tables,
-    words: &[Text],
-    out: &mut String,
-) -> Result<(), Fault> {
-    let Ok(locale) = tables.get_locale(word(words, 1)?) else {
-        return Err(Fault::Row);
-    };
-    match formula_without_prefix(word(words, 2)?, locale) {
-        Some(formula) => put_some(alloc, out, formula),
-        None => put_none(out),
-    }
+fn put_error_word(row: &mut Row<'_>, e: Error) {
+    row.put(match e {
+        Error::REF => "Error\tREF",
+        Error::NAME => "Error\tNAME",
+        Error::VALUE => "Error\tVALUE",
+        Error::DIV => "Error\tDIV",
+        Error::NA => "Error\tNA",
+        Error::NUM => "Error\tNUM",
+        Error::NIMPL => "Error\tNIMPL",
+        Error::SPILL => "Error\tSPILL",
+        Error::CALC => "Error\tCALC",
+        Error::CIRC => "Error\tCIRC",
+        Error::ERROR => "Error\tERROR",
+        Error::NULL => "Error\tNULL",
+    });
 }
 
 /// Whether a text needs a quote before it.
-fn put_quoting(
-    alloc: Global,
-    tables: &Tables,
-    words: &[Text],
-    out: &mut String,
-) -> Result<(), Fault> {
-    let place = place_of(tables, words)?;
-    let english = tables.get_default_language();
-    let text = word(words, 3)?;
-    put_bool(
-        out,
-        value_needs_quoting(alloc, text, place.locale, place.language, english)?,
-    )
+fn put_quoting(row: &mut Row<'_>, locale: &Locale, language: &Language) {
+    let english = row.tables.get_default_language();
+    match value_needs_quoting(row.alloc, row.word(3), locale, language, english) {
+        Ok(needs) => row.put_bool(needs),
+        Err(_) => row.no_memory(),
+    }
 }
 
-/// An amount, written with `.`, by a code in a locale.
-fn put_formatted(
-    alloc: Global,
-    tables: &Tables,
-    words: &[Text],
-    out: &mut String,
-) -> Result<(), Fault> {
-    let Ok(locale) = tables.get_locale(word(words, 1)?) else {
-        return Err(Fault::Row);
-    };
-    let Some(v) = read_amount(word(words, 3)?, '.') else {
-        return Err(Fault::Row);
-    };
-    let text = format_amount(alloc, v, word(words, 2)?, locale)?;
-    put_text(alloc, out, text.as_str())
+/// The calls over a locale of the tables.
+fn in_locale(row: &mut Row<'_>) {
+    match row.tables.get_locale(row.word(1)) {
+        Ok(locale) => put_in_locale(row, locale),
+        Err(_) => row.bad(),
+    }
+}
+
+fn put_in_locale(row: &mut Row<'_>, locale: &Locale) {
+    if row.word(0) == "format_amount" {
+        put_formatted(row, locale);
+    } else {
+        put_formula(row, locale);
+    }
+}
+
+/// The formula of a text.
+fn put_formula(row: &mut Row<'_>, locale: &Locale) {
+    match formula_without_prefix(row.word(2), locale) {
+        Some(formula) => row.put_some(formula),
+        None => row.none(),
+    }
+}
+
+/// An amount, written with `.`, by a code.
+fn put_formatted(row: &mut Row<'_>, locale: &Locale) {
+    match read_amount(row.word(3), '.') {
+        Some(v) => row.put_made(format_amount(row.alloc, v, row.word(2), locale)),
+        None => row.bad(),
+    }
 }
 
 /// An amount, written with `.`, with another separator.
-fn put_amount_text(alloc: Global, words: &[Text], out: &mut String) -> Result<(), Fault> {
-    let Some(v) = read_amount(word(words, 1)?, '.') else {
-        return Err(Fault::Row);
-    };
-    let text = amount_text(alloc, v, character(words, 2)?)?;
-    put_text(alloc, out, text.as_str())
+fn put_amount_text(row: &mut Row<'_>) {
+    let decimal = row.character(2);
+    match read_amount(row.word(1), '.') {
+        Some(v) => row.put_made(amount_text(row.alloc, v, decimal)),
+        None => row.bad(),
+    }
 }
 
 /// The units of what was read.
-fn put_read(out: &mut String, amount: Option<Amount>) -> Result<(), Fault> {
-    let Some(amount) = amount else {
-        return put_none(out);
-    };
-    let units = amount.units();
-    write!(out, "{units}")?;
-    Ok(())
+fn put_read(row: &mut Row<'_>) {
+    let decimal = row.character(2);
+    put_units(row, read_amount(row.word(1), decimal));
 }

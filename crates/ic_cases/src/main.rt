@@ -1,20 +1,21 @@
-//! Answers one call a line, for every public call that a row can show: the name of the call and its words, each after a
-//! tab and escaped as in command lines. The answer is one line: `none` for None, `error`, the variant's name and its
-//! text for an error, otherwise the fields of what is answered, each after a tab. A line that is no such call is
-//! answered `bad`.
+//! Answers one call a line, for what a row can show: the name of the call and its words, each after a tab and escaped as
+//! in command lines. The answer is one line: `none` for None, `error`, the variant's name and its text for an error,
+//! otherwise the fields of what is answered, each after a tab. A line that is no such call is answered `bad`. A line that
+//! begins with `#` is answered by itself, so that rows can stand under a heading.
 //!
-//! `stdin` holds the rows and `stdout` their answers. No contract speaks of this program: its rows are the cases of the
-//! crates that it calls.
+//! `new_empty` begins a book, and `line` answers a command line on it. What no command line reaches has a call of its
+//! own. `stdin` holds the rows and `stdout` their answers. No contract speaks of this program: its rows are the cases of
+//! the crates that it calls.
+//!
+//! A call takes the row, and puts its answer there. It has nothing large of its own where it can end: what fails is told
+//! to the row, which goes on.
 #![tactic(auto)]
 
 mod amounts;
 mod books;
 mod broken;
 mod cells;
-mod commands;
-mod definitions;
 mod errors;
-mod fault;
 mod formulas;
 mod inputs;
 mod keeps;
@@ -23,134 +24,130 @@ mod names;
 mod places;
 mod pools;
 mod references;
+mod row;
+mod runs;
 mod scans;
 mod scenes;
 mod styles;
-mod words;
+mod values;
 
-use fault::Fault;
-use ic_book::Model;
+use books::Books;
 use ic_laws::Text;
-use ic_lines::{Line, LineReader, StdSource, unescape};
+use ic_lines::{LineReader, StdSink, StdSource, unescape, write_all};
 use ic_tables::{Tables, sample_tables};
+use row::{Lack, Row};
 use std::alloc::Global;
-use std::io;
-use std::io::{BufWriter, Write};
-use words::name_of;
+use std::process::ExitCode;
 
-/// The words of a line as texts; None where one has a wrong escape.
-fn words_in(alloc: Global, line: &str) -> Result<Option<Vec<Text>>, Fault> {
-    let mut words = Vec::new(alloc);
+/// Answers a call, if it is one.
+fn call(row: &mut Row<'_>, books: &mut Books<'_>) {
+    names::call(row);
+    scans::call(row);
+    amounts::call(row);
+    references::call(row);
+    lookups::call(row);
+    formulas::call(row);
+    scenes::call(row);
+    keeps::call(row);
+    inputs::call(row);
+    values::call(row);
+    cells::call(row);
+    styles::call(row);
+    errors::call(row);
+    broken::call(row);
+    runs::call(row);
+    books::call(row, books);
+    pools::call(row, books);
+}
+
+/// Puts the next word of a line behind the others.
+fn add_word(alloc: Global, word: &str, words: &mut Vec<Text>) -> Result<(), Lack> {
+    match unescape(alloc, word)? {
+        Some(text) => Ok(words.push(text)?),
+        None => Err(Lack::Row),
+    }
+}
+
+/// The words of a line, put into a list.
+fn take_words(alloc: Global, line: &str, words: &mut Vec<Text>) -> Result<(), Lack> {
     for word in line.split('\t') {
-        let Some(text) = unescape(alloc, word)? else {
-            return Ok(None);
-        };
-        words.push(text)?;
+        add_word(alloc, word, words)?;
     }
-    Ok(Some(words))
-}
-
-/// Answers a call that needs no book, if it is one.
-fn call(
-    alloc: Global,
-    tables: &Tables,
-    name: &str,
-    words: &[Text],
-    out: &mut String,
-) -> Result<bool, Fault> {
-    Ok(
-        formulas::call(alloc, tables, name, words, out)?
-            || names::call(alloc, name, words, out)?
-            || amounts::call(alloc, name, words, out)?
-            || references::call(alloc, name, words, out)?
-            || lookups::call(alloc, tables, name, words, out)?
-            || scans::call(alloc, name, words, out)?
-            || broken::call(alloc, name, words, out)?
-            || scenes::call(alloc, tables, name, words, out)?
-            || keeps::call(alloc, tables, name, words, out)?
-            || errors::call(alloc, name, words, out)?
-            || inputs::call(alloc, tables, name, words, out)?
-            || cells::call(alloc, tables, name, words, out)?
-            || styles::call(alloc, name, words, out)?,
-    )
-}
-
-/// Answers a call that acts on the book of the last `new_empty`, if it is one.
-fn book_call<'t>(
-    alloc: Global,
-    tables: &'t Tables,
-    book: &mut Option<Model<'t>>,
-    words: &[Text],
-    out: &mut String,
-) -> Result<bool, Fault> {
-    Ok(
-        books::call(alloc, tables, book, words, out)?
-            || definitions::call(alloc, book, words, out)?
-            || commands::call(alloc, book, words, out)?
-            || pools::call(alloc, tables, book, words, out)?,
-    )
-}
-
-/// Appends the answer to a line.
-fn answer<'t>(
-    alloc: Global,
-    tables: &'t Tables,
-    book: &mut Option<Model<'t>>,
-    line: &Line,
-    out: &mut String,
-) -> Result<(), Fault> {
-    let Some(words) = words_in(alloc, line.text().as_str())? else {
-        return Err(Fault::Row);
-    };
-    let words = words.as_slice();
-    if call(alloc, tables, name_of(words), words, out)?
-        || book_call(alloc, tables, book, words, out)?
-    {
-        return Ok(());
-    }
-    Err(Fault::Row)
-}
-
-/// Appends the answer to a line and a line feed; `bad` where the line is no call.
-fn answer_whole<'t>(
-    alloc: Global,
-    tables: &'t Tables,
-    book: &mut Option<Model<'t>>,
-    line: &Line,
-    out: &mut String,
-) -> Result<(), Fault> {
-    match answer(alloc, tables, book, line, out) {
-        Ok(()) => {}
-        Err(Fault::Row) => {
-            out.clear();
-            out.push_str("bad")?;
-        }
-        Err(fault) => return Err(fault),
-    }
-    out.push('\n')?;
     Ok(())
 }
 
-fn serve(rt: &HostRuntime) -> Result<(), Fault> {
+/// Appends the answer to a line; `bad` where it is no call.
+fn answer(
+    alloc: Global,
+    tables: &Tables,
+    books: &mut Books<'_>,
+    line: &str,
+    out: &mut String,
+) -> Result<(), Lack> {
+    if line.starts_with('#') {
+        out.push_str(line)?;
+        return Ok(());
+    }
+    let mut words = Vec::new(alloc);
+    match take_words(alloc, line, &mut words) {
+        Ok(()) => answer_words(alloc, tables, books, words.as_slice(), out),
+        Err(lack) => answer_lack(lack, out),
+    }
+}
+
+fn answer_words(
+    alloc: Global,
+    tables: &Tables,
+    books: &mut Books<'_>,
+    words: &[Text],
+    out: &mut String,
+) -> Result<(), Lack> {
+    let mut row = Row::new(alloc, tables, words);
+    call(&mut row, books);
+    match row.lack() {
+        None => Ok(out.push_str(row.answer())?),
+        Some(lack) => answer_lack(lack, out),
+    }
+}
+
+fn answer_lack(lack: Lack, out: &mut String) -> Result<(), Lack> {
+    match lack {
+        Lack::Row => Ok(out.push_str("bad")?),
+        lack => Err(lack),
+    }
+}
+
+/// The bytes of answers that are gathered for one write.
+const GATHERED: usize = 60_000;
+
+/// Answers all lines.
+fn serve(rt: &HostRuntime, tables: &Tables) -> Result<(), Lack> {
     let alloc = rt.alloc();
-    let tables = sample_tables(alloc)?;
     let mut source = StdSource::new(rt.reader());
+    let mut sink = StdSink::new(rt.stdout());
     let mut reader = LineReader::new(alloc);
-    let mut writer = BufWriter::new(alloc, io::writer(rt))?;
-    let mut book = None;
+    let mut books = Books::new(tables);
     let mut out = String::new(alloc);
     for _ in 0..u64::MAX {
         let Some(line) = reader.next_line(&mut source)? else {
             break;
         };
-        out.clear();
-        answer_whole(alloc, &tables, &mut book, &line, &mut out)?;
-        writer.write_all(out.as_bytes())?;
+        answer(alloc, tables, &mut books, line.text().as_str(), &mut out)?;
+        out.push('\n')?;
+        if out.len() > GATHERED {
+            write_all(&mut sink, out.as_bytes())?;
+            out.clear();
+        }
     }
-    writer.flush()?;
-    Ok(())
+    Ok(write_all(&mut sink, out.as_bytes())?)
 }
 
-fn main(rt: HostRuntime) -> Result<(), Fault> {
-    serve(&rt)
+fn main(rt: HostRuntime) -> ExitCode {
+    let Ok(tables) = sample_tables(rt.alloc()) else {
+        return ExitCode::from(2);
+    };
+    match serve(&rt, &tables) {
+        Ok(()) => ExitCode::from(0),
+        Err(_) => ExitCode::from(1),
+    }
 }

@@ -1,82 +1,81 @@
 //! References in rows: a sheet as `-` or its name after a quote, then `cell` with a row and a column, or `range` with
 //! those of two corners. An absolute row or column has a `$` before its number, a relative one is the distance.
-use crate::fault::Fault;
-use crate::words::word;
+use crate::row::{Lack, Row, word};
 use ic_laws::{Place, Position, RefPart, RefToken, Text};
 use std::alloc::Global;
 
-fn position(words: &[Text], at: usize) -> Result<Position, Fault> {
-    let text = word(words, at)?;
-    let (absolute, digits) = match text.strip_prefix('$') {
-        Some(digits) => (true, digits),
-        None => (false, text),
-    };
-    let Ok(n) = digits.parse::<i32>() else {
-        return Err(Fault::Row);
-    };
-    Ok(if absolute {
-        Position::Abs(n)
-    } else {
-        Position::Rel(n)
-    })
+fn number(text: &str) -> Result<i32, Lack> {
+    text.parse::<i32>().map_err(|_| Lack::Row)
 }
 
-fn part(words: &[Text], at: usize) -> Result<RefPart, Fault> {
+fn position(words: &[Text], at: usize) -> Result<Position, Lack> {
+    let text = word(words, at);
+    match text.strip_prefix('$') {
+        Some(digits) => Ok(Position::Abs(number(digits)?)),
+        None => Ok(Position::Rel(number(text)?)),
+    }
+}
+
+fn part(words: &[Text], at: usize) -> Result<RefPart, Lack> {
     Ok(RefPart {
         row: position(words, at)?,
         column: position(words, at.saturating_add(1))?,
     })
 }
 
-fn place(words: &[Text], at: usize) -> Result<Place, Fault> {
+fn place(words: &[Text], at: usize) -> Result<Place, Lack> {
     let first = part(words, at.saturating_add(1))?;
-    match word(words, at)? {
+    match word(words, at) {
         "cell" => Ok(Place::Cell(first)),
         "range" => Ok(Place::Range(first, part(words, at.saturating_add(3))?)),
-        _ => Err(Fault::Row),
-    }
-}
-
-fn sheet(alloc: Global, words: &[Text], at: usize) -> Result<Option<Text>, Fault> {
-    match word(words, at)?.strip_prefix('\'') {
-        Some(name) => Ok(Some(Text::from_str(alloc, name)?)),
-        None => Ok(None),
+        _ => Err(Lack::Row),
     }
 }
 
 /// The reference that the words from a place on spell.
-pub fn reference(alloc: Global, words: &[Text], at: usize) -> Result<RefToken, Fault> {
+pub fn reference(alloc: Global, words: &[Text], at: usize) -> Result<RefToken, Lack> {
     let place = place(words, at.saturating_add(1))?;
-    Ok(RefToken {
-        sheet: sheet(alloc, words, at)?,
-        place,
-    })
+    let sheet = match word(words, at).strip_prefix('\'') {
+        Some(name) => Some(Text::from_str(alloc, name)?),
+        None => None,
+    };
+    Ok(RefToken { sheet, place })
 }
 
-fn put_position(out: &mut String, position: Position) -> Result<(), Fault> {
+fn put_position(row: &mut Row<'_>, position: Position) {
     match position {
-        Position::Abs(n) => write!(out, "\t${n}")?,
-        Position::Rel(k) => write!(out, "\t{k}")?,
+        Position::Abs(n) => {
+            row.put("\t$");
+            row.put_number(i128::from(n));
+        }
+        Position::Rel(k) => row.put_field(k),
     }
-    Ok(())
 }
 
-fn put_part(out: &mut String, part: RefPart) -> Result<(), Fault> {
-    put_position(out, part.row)?;
-    put_position(out, part.column)
+fn put_part(row: &mut Row<'_>, part: RefPart) {
+    put_position(row, part.row);
+    put_position(row, part.column);
 }
 
-/// The fields of a place.
-pub fn put_place(out: &mut String, place: Place) -> Result<(), Fault> {
+fn put_place(row: &mut Row<'_>, place: Place) {
     match place {
         Place::Cell(part) => {
-            out.push_str("\tcell")?;
-            put_part(out, part)
+            row.put("\tcell");
+            put_part(row, part);
         }
         Place::Range(first, last) => {
-            out.push_str("\trange")?;
-            put_part(out, first)?;
-            put_part(out, last)
+            row.put("\trange");
+            put_part(row, first);
+            put_part(row, last);
         }
     }
+}
+
+/// The fields of a reference: its sheet and its place.
+pub fn put_token(row: &mut Row<'_>, token: &RefToken) {
+    match &token.sheet {
+        None => row.put("-"),
+        Some(name) => row.put_some(name.as_str()),
+    }
+    put_place(row, token.place);
 }

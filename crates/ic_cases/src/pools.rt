@@ -4,14 +4,13 @@ ghost use Rattle.std.specs.List.{slice_get};
 ghost use Rattle.ic_laws.specs.ValidCore.{IsPooled};
 ghost use Rattle.ic_book.specs.Book.{notations_in, scene_in};
 
-use crate::books::put_book_error;
-use crate::fault::Fault;
-use crate::words::{index, put_none, put_text, size, word};
+use crate::books::{Books, put_book_error};
+use crate::row::{Lack, Row};
+use crate::scenes::spelled;
 use ic_book::{BookError, Model, Steps};
 use ic_laws::{Bound, Formula, Items, Scene, Text};
 use ic_pool::copy_formula;
-use ic_tables::Tables;
-use ic_tree::{Stored, print, spell};
+use ic_tree::Stored;
 use std::alloc::Global;
 use std::marker::Brand;
 use std::sync::ledger::{Blank, Ledger};
@@ -19,99 +18,87 @@ use std::sync::ledger::{Blank, Ledger};
 /// `parsed_formula`, a sheet and a place: `raw` and the text, or `tree` and the formula in the stored form, in which a
 /// sheet of the book is written by its id. `shared_formula_index`, a sheet and a text that doesn't read: its place.
 /// `place_of_copy`, a sheet and a place: where a copy of the formula at that place is found.
-pub fn call(
-    alloc: Global,
-    tables: &Tables,
-    book: &mut Option<Model<'_>>,
-    words: &[Text],
-    out: &mut String,
-) -> Result<bool, Fault> {
-    match word(words, 0)? {
-        "parsed_formula" => put_parsed(alloc, tables, book, words, out)?,
-        "shared_formula_index" => put_shared(alloc, book, words, out)?,
-        "place_of_copy" => put_place_of_copy(alloc, book, words, out)?,
-        _ => return Ok(false),
+pub fn call(row: &mut Row<'_>, books: &mut Books<'_>) {
+    match row.word(0) {
+        "parsed_formula" => put_parsed(row, books),
+        "shared_formula_index" => put_shared(row, books),
+        "place_of_copy" => put_place_of_copy(row, books),
+        _ => {}
     }
-    Ok(true)
 }
 
-fn put_parsed(
-    alloc: Global,
-    tables: &Tables,
-    book: &Option<Model<'_>>,
-    words: &[Text],
-    out: &mut String,
-) -> Result<(), Fault> {
-    let Some(model) = book else {
-        return Err(Fault::Row);
-    };
-    match model.parsed_formula(index(words, 1)?, size(words, 2)?) {
-        None => put_none(out),
-        Some(Formula::Tree(tree)) => put_tree(alloc, tables, tree, out),
+fn put_parsed(row: &mut Row<'_>, books: &Books<'_>) {
+    let sheet = row.index(1);
+    let place = row.size(2);
+    match books.book() {
+        Some(model) => put_formula(row, model.parsed_formula(sheet, place)),
+        None => row.bad(),
+    }
+}
+
+fn put_formula(row: &mut Row<'_>, formula: Option<&Formula>) {
+    match formula {
+        None => row.none(),
+        Some(Formula::Tree(tree)) => put_tree(row, tree),
         Some(Formula::Raw(text)) => {
-            out.push_str("raw\t")?;
-            put_text(alloc, out, text.as_str())
+            row.put("raw\t");
+            row.put_text(text.as_str());
         }
     }
 }
 
 /// The stored form in a scene without sheets and names.
-fn put_tree(alloc: Global, tables: &Tables, tree: &Bound, out: &mut String) -> Result<(), Fault> {
+fn put_tree(row: &mut Row<'_>, tree: &Bound) {
     let scene = Scene {
-        sheets: Items::from(Vec::new(alloc)),
-        names: Items::from(Vec::new(alloc)),
+        sheets: Items::from(Vec::new(row.alloc)),
+        names: Items::from(Vec::new(row.alloc)),
     };
-    let spelled = spell(alloc, &scene, tree)?;
-    let printed = print(alloc, &Stored::new(tables), &spelled)?;
-    out.push_str("tree\t")?;
-    put_text(alloc, out, printed.as_str())
+    row.put("tree\t");
+    row.put_made(spelled(row.alloc, &Stored::new(row.tables), &scene, tree));
 }
 
-fn put_shared(
-    alloc: Global,
-    book: &mut Option<Model<'_>>,
-    words: &[Text],
-    out: &mut String,
-) -> Result<(), Fault> {
-    let Some(model) = book else {
-        return Err(Fault::Row);
-    };
-    let sheet = index(words, 1)?;
-    let formula = Formula::Raw(Text::from_str(alloc, word(words, 2)?)?);
-    let place = place_of(model, sheet, &formula);
-    put_place(alloc, out, place)
+/// Where a formula is found, if the row and the book say one.
+type Found = Result<Option<Result<usize, BookError>>, Lack>;
+
+fn put_found(row: &mut Row<'_>, found: Found) {
+    match found {
+        Ok(Some(Ok(place))) => row.put_number(place as i128),
+        Ok(Some(Err(e))) => put_book_error(row, &e),
+        Ok(None) => row.none(),
+        Err(lack) => row.fail(lack),
+    }
 }
 
-fn put_place_of_copy(
-    alloc: Global,
-    book: &mut Option<Model<'_>>,
-    words: &[Text],
-    out: &mut String,
-) -> Result<(), Fault> {
-    let Some(model) = book else {
-        return Err(Fault::Row);
+fn put_shared(row: &mut Row<'_>, books: &mut Books<'_>) {
+    let sheet = row.index(1);
+    let found = match books.book_mut() {
+        Some(model) => place_of_raw(row.alloc, model, sheet, row.word(2)),
+        None => Err(Lack::Row),
     };
-    let sheet = index(words, 1)?;
-    let Some(formula) = model.parsed_formula(sheet, size(words, 2)?) else {
-        return put_none(out);
+    put_found(row, found);
+}
+
+fn place_of_raw(alloc: Global, model: &mut Model<'_>, sheet: u32, text: &str) -> Found {
+    let formula = Formula::Raw(Text::from_str(alloc, text)?);
+    Ok(Some(place_of(model, sheet, &formula)))
+}
+
+fn put_place_of_copy(row: &mut Row<'_>, books: &mut Books<'_>) {
+    let sheet = row.index(1);
+    let place = row.size(2);
+    let found = match books.book_mut() {
+        Some(model) => place_of_copy(row.alloc, model, sheet, place),
+        None => Err(Lack::Row),
+    };
+    put_found(row, found);
+}
+
+fn place_of_copy(alloc: Global, model: &mut Model<'_>, sheet: u32, place: usize) -> Found {
+    let Some(formula) = model.parsed_formula(sheet, place) else {
+        return Ok(None);
     };
     let copy = copy_formula(alloc, formula)?;
-    let place = place_of(model, sheet, &copy);
-    put_place(alloc, out, place)
-}
-
-fn put_place(
-    alloc: Global,
-    out: &mut String,
-    place: Result<usize, BookError>,
-) -> Result<(), Fault> {
-    match place {
-        Ok(place) => {
-            write!(out, "{place}")?;
-            Ok(())
-        }
-        Err(e) => put_book_error(alloc, out, &e),
-    }
+    Ok(Some(place_of(model, sheet, &copy)))
 }
 
 /// The place of a formula that is settled in its sheet, by a count of its own.

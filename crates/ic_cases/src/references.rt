@@ -1,39 +1,24 @@
 //! References in the A1 form, the stored form and the R1C1 form.
-use crate::fault::Fault;
-use crate::places::{put_place, reference};
-use crate::words::{index, int, put_error, put_none, put_some, put_text, size, word};
-use ic_laws::{RefToken, Text};
+use crate::places::{put_token, reference};
+use crate::row::Row;
+use ic_laws::{OutOfMemory, RefToken};
 use ic_refs::{
     A1Reference, CellReferenceIndex, ParsedReference, ReferenceError, is_valid_column_number,
     is_valid_row, parse_reference_a1, read_a1, read_rc, spell_a1, spell_rc,
 };
-use std::alloc::Global;
 
-/// Answers the call of this name, if it is one of these.
-pub fn call(alloc: Global, name: &str, words: &[Text], out: &mut String) -> Result<bool, Fault> {
-    match name {
-        "parse_reference_a1" => put_a1(out, parse_reference_a1(word(words, 1)?))?,
-        "parse_reference_formula" => parse_formula(alloc, words, out)?,
-        "parse_r1c1_reference" => parse_r1c1(alloc, words, out)?,
-        "read_a1" => {
-            let found = read_a1(
-                alloc,
-                word(words, 4)?,
-                size(words, 3)?,
-                int(words, 1)?,
-                int(words, 2)?,
-            )?;
-            put_found(alloc, out, found)?;
-        }
-        "read_rc" => {
-            let found = read_rc(alloc, word(words, 2)?, size(words, 1)?)?;
-            put_found(alloc, out, found)?;
-        }
-        "spell_a1" => put_spelled_a1(alloc, words, out)?,
-        "spell_rc" => put_spelled_rc(alloc, words, out)?,
-        _ => return Ok(false),
+/// Answers the call, if it is one of these.
+pub fn call(row: &mut Row<'_>) {
+    match row.word(0) {
+        "parse_reference_a1" => put_a1(row),
+        "parse_reference_formula" => parse_formula(row),
+        "parse_r1c1_reference" => parse_r1c1(row),
+        "read_a1" => put_read_a1(row),
+        "read_rc" => put_read_rc(row),
+        "spell_a1" => put_spelled_a1(row),
+        "spell_rc" => put_spelled_rc(row),
+        _ => {}
     }
-    Ok(true)
 }
 
 /// The sheets that rows on whole references know, by index.
@@ -47,77 +32,82 @@ fn sheet_index(name: &str) -> Option<u32> {
     }
 }
 
-fn put_a1(out: &mut String, found: Option<A1Reference>) -> Result<(), Fault> {
-    let Some(cell) = found else {
-        return put_none(out);
-    };
-    put_number(out, cell.absolute_row, cell.row)?;
-    out.push('\t')?;
-    put_number(out, cell.absolute_column, cell.column)
-}
-
-fn put_number(out: &mut String, absolute: bool, n: i32) -> Result<(), Fault> {
-    if absolute {
-        out.push('$')?;
+fn put_a1(row: &mut Row<'_>) {
+    match parse_reference_a1(row.word(1)) {
+        Some(cell) => put_cell_of_a1(row, &cell),
+        None => row.none(),
     }
-    write!(out, "{n}")?;
-    Ok(())
 }
 
-fn parse_formula(alloc: Global, words: &[Text], out: &mut String) -> Result<(), Fault> {
-    let context = match word(words, 1)? {
-        "-" => None,
-        _ => Some(index(words, 1)?),
+fn put_cell_of_a1(row: &mut Row<'_>, cell: &A1Reference) {
+    put_number(row, cell.absolute_row, cell.row);
+    row.tab();
+    put_number(row, cell.absolute_column, cell.column);
+}
+
+fn put_number(row: &mut Row<'_>, absolute: bool, n: i32) {
+    row.put(if absolute { "$" } else { "" });
+    row.put_number(i128::from(n));
+}
+
+fn parse_formula(row: &mut Row<'_>) {
+    let context = if row.word(1) == "-" {
+        None
+    } else {
+        Some(row.index(1))
     };
     let parsed = ParsedReference::parse_reference_formula(
-        alloc,
+        row.alloc,
         context,
-        word(words, 2)?,
+        row.word(2),
         sheet_index,
     );
-    put_parsed(alloc, out, parsed)
+    put_parsed(row, parsed);
 }
 
-fn parse_r1c1(alloc: Global, words: &[Text], out: &mut String) -> Result<(), Fault> {
-    let row = int(words, 2)?;
-    let column = int(words, 3)?;
-    if !is_valid_row(row) || !is_valid_column_number(column) {
-        return Err(Fault::Row);
+fn parse_r1c1(row: &mut Row<'_>) {
+    let sheet = row.index(1);
+    let number = row.int(2);
+    let column = row.int(3);
+    if !is_valid_row(number) || !is_valid_column_number(column) {
+        row.bad();
+        return;
     }
     let cell = CellReferenceIndex {
-        sheet: index(words, 1)?,
-        row,
+        sheet,
+        row: number,
         column,
     };
-    let parsed = ParsedReference::parse_r1c1_reference(alloc, cell, word(words, 4)?, sheet_index);
-    put_parsed(alloc, out, parsed)
+    let parsed = ParsedReference::parse_r1c1_reference(row.alloc, cell, row.word(4), sheet_index);
+    put_parsed(row, parsed);
 }
 
-fn put_cell(out: &mut String, cell: CellReferenceIndex) -> Result<(), Fault> {
-    let CellReferenceIndex { sheet, row, column } = cell;
-    write!(out, "\t{sheet}\t{row}\t{column}")?;
-    Ok(())
+fn put_cell(row: &mut Row<'_>, cell: CellReferenceIndex) {
+    row.tab();
+    row.put_number(i128::from(cell.sheet));
+    row.put_field(cell.row);
+    row.put_field(cell.column);
 }
 
-fn put_parsed(
-    alloc: Global,
-    out: &mut String,
-    parsed: Result<ParsedReference, ReferenceError>,
-) -> Result<(), Fault> {
+fn put_parsed(row: &mut Row<'_>, parsed: Result<ParsedReference, ReferenceError>) {
     match parsed {
         Ok(ParsedReference::CellReference(cell)) => {
-            out.push_str("cell")?;
-            put_cell(out, cell)
+            row.put("cell");
+            put_cell(row, cell);
         }
         Ok(ParsedReference::Range(first, last)) => {
-            out.push_str("range")?;
-            put_cell(out, first)?;
-            put_cell(out, last)
+            row.put("range");
+            put_cell(row, first);
+            put_cell(row, last);
         }
-        Err(e) => {
-            let text = e.to_string(alloc)?;
-            put_error(alloc, out, error_name(&e), text.as_str())
-        }
+        Err(e) => put_refused(row, &e),
+    }
+}
+
+fn put_refused(row: &mut Row<'_>, e: &ReferenceError) {
+    match e.to_string(row.alloc) {
+        Ok(text) => row.put_error(error_name(e), text.as_str()),
+        Err(_) => row.no_memory(),
     }
 }
 
@@ -140,38 +130,44 @@ fn error_name(e: &ReferenceError) -> &'static str {
     }
 }
 
-fn put_found(
-    alloc: Global,
-    out: &mut String,
-    found: Option<(RefToken, usize)>,
-) -> Result<(), Fault> {
-    let Some((token, length)) = found else {
-        return put_none(out);
-    };
-    put_token(alloc, out, &token)?;
-    write!(out, "\t{length}")?;
-    Ok(())
+fn put_read_a1(row: &mut Row<'_>) {
+    let number = row.int(1);
+    let column = row.int(2);
+    let at = row.size(3);
+    let found = read_a1(row.alloc, row.word(4), at, number, column);
+    put_found(row, found);
 }
 
-/// The fields of a reference: its sheet and its place.
-pub fn put_token(alloc: Global, out: &mut String, token: &RefToken) -> Result<(), Fault> {
-    match &token.sheet {
-        None => out.push('-')?,
-        Some(name) => put_some(alloc, out, name.as_str())?,
-    }
-    put_place(out, token.place)
+fn put_read_rc(row: &mut Row<'_>) {
+    let at = row.size(1);
+    let found = read_rc(row.alloc, row.word(2), at);
+    put_found(row, found);
 }
 
-fn put_spelled_a1(alloc: Global, words: &[Text], out: &mut String) -> Result<(), Fault> {
-    let token = reference(alloc, words, 3)?;
-    match spell_a1(alloc, &token, int(words, 1)?, int(words, 2)?)? {
-        Some(text) => put_text(alloc, out, text.as_str()),
-        None => put_none(out),
+fn put_found(row: &mut Row<'_>, found: Result<Option<(RefToken, usize)>, OutOfMemory>) {
+    match found {
+        Ok(Some(found)) => {
+            put_token(row, &found.0);
+            row.tab();
+            row.put_number(found.1 as i128);
+        }
+        Ok(None) => row.none(),
+        Err(_) => row.no_memory(),
     }
 }
 
-fn put_spelled_rc(alloc: Global, words: &[Text], out: &mut String) -> Result<(), Fault> {
-    let token = reference(alloc, words, 1)?;
-    let text = spell_rc(alloc, &token)?;
-    put_text(alloc, out, text.as_str())
+fn put_spelled_a1(row: &mut Row<'_>) {
+    let number = row.int(1);
+    let column = row.int(2);
+    match reference(row.alloc, row.words(), 3) {
+        Ok(token) => row.put_found(spell_a1(row.alloc, &token, number, column)),
+        Err(lack) => row.fail(lack),
+    }
+}
+
+fn put_spelled_rc(row: &mut Row<'_>) {
+    match reference(row.alloc, row.words(), 1) {
+        Ok(token) => row.put_made(spell_rc(row.alloc, &token)),
+        Err(lack) => row.fail(lack),
+    }
 }

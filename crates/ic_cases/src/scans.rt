@@ -1,6 +1,5 @@
 //! Characters, the runs at the front of a text, and what a text may be.
-use crate::fault::Fault;
-use crate::words::{character, put_bool, put_none, put_text, word};
+use crate::row::Row;
 use ic_laws::scan::{
     are_digits, begins_with_digit, begins_with_letter, begins_word, has_word_characters,
     is_a1_cell, is_ascii_letter, is_lone, is_nothing, is_plain, is_variable_form,
@@ -8,89 +7,95 @@ use ic_laws::scan::{
     past_dollar, past_letters, past_plain, plain_run,
 };
 use ic_laws::{OutOfMemory, Text};
-use std::alloc::Global;
 
-/// Answers the call of this name, if it is one of these.
-pub fn call(alloc: Global, name: &str, words: &[Text], out: &mut String) -> Result<bool, Fault> {
-    Ok(
-        texts(alloc, name, words, out)?
-            || of_characters(name, words, out)?
-            || of_texts(name, words, out)?
-            || runs(alloc, name, words, out)?,
-    )
-}
-
-fn texts(alloc: Global, name: &str, words: &[Text], out: &mut String) -> Result<bool, Fault> {
-    match name {
-        "Text::from_str" => {
-            let text = Text::from_str(alloc, word(words, 1)?)?;
-            put_text(alloc, out, text.as_str())?;
-        }
-        "Text::is" => {
-            let text = Text::from_str(alloc, word(words, 1)?)?;
-            put_bool(out, text.is(word(words, 2)?))?;
-        }
-        "OutOfMemory" => {
-            let text = OutOfMemory.to_string(alloc)?;
-            out.push_str(text.as_str())?;
-        }
-        _ => return Ok(false),
+/// Answers the call, if it is one of these.
+pub fn call(row: &mut Row<'_>) {
+    if let Some(holds) = of_texts(row.word(0), row.word(1)) {
+        row.put_bool(holds);
     }
-    Ok(true)
+    if let Some(run) = runs(row.word(0), row.word(1)) {
+        row.put_text(run);
+    }
+    of_characters(row);
+    texts(row);
 }
 
-fn of_characters(name: &str, words: &[Text], out: &mut String) -> Result<bool, Fault> {
-    let holds = match name {
-        "is_plain" => is_plain(character(words, 1)?),
-        "is_word_character" => is_word_character(character(words, 1)?),
-        "begins_word" => begins_word(character(words, 1)?),
-        "is_ascii_letter" => is_ascii_letter(character(words, 1)?),
-        "letter_number" => {
-            put_letter_number(words, out)?;
-            return Ok(true);
-        }
-        _ => return Ok(false),
-    };
-    put_bool(out, holds)?;
-    Ok(true)
+fn texts(row: &mut Row<'_>) {
+    match row.word(0) {
+        "Text::from_str" => put_copy(row),
+        "Text::is" => put_is(row),
+        "OutOfMemory" => row.put_shown(OutOfMemory.to_string(row.alloc)),
+        _ => {}
+    }
 }
 
-fn put_letter_number(words: &[Text], out: &mut String) -> Result<(), Fault> {
-    let Some(n) = letter_number(character(words, 1)?) else {
-        return put_none(out);
-    };
-    write!(out, "{n}")?;
-    Ok(())
+fn put_copy(row: &mut Row<'_>) {
+    match Text::from_str(row.alloc, row.word(1)) {
+        Ok(text) => row.put_text(text.as_str()),
+        Err(_) => row.no_memory(),
+    }
 }
 
-fn of_texts(name: &str, words: &[Text], out: &mut String) -> Result<bool, Fault> {
-    let holds = match name {
-        "is_nothing" => is_nothing(word(words, 1)?),
-        "is_variable_form" => is_variable_form(word(words, 1)?),
-        "begins_with_digit" => begins_with_digit(word(words, 1)?),
-        "begins_with_letter" => begins_with_letter(word(words, 1)?),
-        "has_word_characters" => has_word_characters(word(words, 1)?),
-        "is_lone" => is_lone(word(words, 1)?),
-        "names_column" => names_column(word(words, 1)?),
-        "names_row" => names_row(word(words, 1)?),
-        "is_a1_cell" => is_a1_cell(word(words, 1)?),
-        "are_digits" => are_digits(word(words, 1)?),
-        _ => return Ok(false),
-    };
-    put_bool(out, holds)?;
-    Ok(true)
+fn put_is(row: &mut Row<'_>) {
+    match Text::from_str(row.alloc, row.word(1)) {
+        Ok(text) => row.put_bool(text.is(row.word(2))),
+        Err(_) => row.no_memory(),
+    }
 }
 
-fn runs(alloc: Global, name: &str, words: &[Text], out: &mut String) -> Result<bool, Fault> {
-    let text = match name {
-        "past_plain" => past_plain(word(words, 1)?),
-        "past_letters" => past_letters(word(words, 1)?),
-        "past_digits" => past_digits(word(words, 1)?),
-        "past_dollar" => past_dollar(word(words, 1)?),
-        "plain_run" => plain_run(word(words, 1)?),
-        "letters_run" => letters_run(word(words, 1)?),
-        _ => return Ok(false),
+fn of_characters(row: &mut Row<'_>) {
+    let Some(c) = row.word(1).chars().next() else {
+        return;
     };
-    put_text(alloc, out, text)?;
-    Ok(true)
+    if let Some(holds) = of_character(row.word(0), c) {
+        row.put_bool(holds);
+    }
+    if row.word(0) == "letter_number" {
+        put_letter_number(row, c);
+    }
+}
+
+fn of_character(name: &str, c: char) -> Option<bool> {
+    match name {
+        "is_plain" => Some(is_plain(c)),
+        "is_word_character" => Some(is_word_character(c)),
+        "begins_word" => Some(begins_word(c)),
+        "is_ascii_letter" => Some(is_ascii_letter(c)),
+        _ => None,
+    }
+}
+
+fn put_letter_number(row: &mut Row<'_>, c: char) {
+    match letter_number(c) {
+        Some(n) => row.put_number(i128::from(n)),
+        None => row.none(),
+    }
+}
+
+fn of_texts(name: &str, text: &str) -> Option<bool> {
+    match name {
+        "is_nothing" => Some(is_nothing(text)),
+        "is_variable_form" => Some(is_variable_form(text)),
+        "begins_with_digit" => Some(begins_with_digit(text)),
+        "begins_with_letter" => Some(begins_with_letter(text)),
+        "has_word_characters" => Some(has_word_characters(text)),
+        "is_lone" => Some(is_lone(text)),
+        "names_column" => Some(names_column(text)),
+        "names_row" => Some(names_row(text)),
+        "is_a1_cell" => Some(is_a1_cell(text)),
+        "are_digits" => Some(are_digits(text)),
+        _ => None,
+    }
+}
+
+fn runs<'t>(name: &str, text: &'t str) -> Option<&'t str> {
+    match name {
+        "past_plain" => Some(past_plain(text)),
+        "past_letters" => Some(past_letters(text)),
+        "past_digits" => Some(past_digits(text)),
+        "past_dollar" => Some(past_dollar(text)),
+        "plain_run" => Some(plain_run(text)),
+        "letters_run" => Some(letters_run(text)),
+        _ => None,
+    }
 }

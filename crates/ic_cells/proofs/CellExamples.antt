@@ -11,7 +11,8 @@ use Rattle.ic_tables.specs.WordList.{words_in}
 use Rattle.ic_tables.specs.declared.language.Language.{Language}
 use Rattle.ic_cells.specs.Cell.{formula_of, type_of, value_of}
 use Rattle.ic_cells.specs.Style.{default_style, is_style, style_number, with_format, with_quote_prefix, with_style_in}
-use Rattle.ic_cells.specs.Value.{decimal_of, error_word, shown_text}
+use Rattle.ic_cells.specs.Value.{error_word, shown_text}
+use Rattle.ic_tables.specs.Formats.{decimal_separator}
 use Rattle.ic_cells.specs.declared.cell.ArrayKind.TheVariants as kinds
 use Rattle.ic_cells.specs.declared.cell.Cell.{Cell}
 use Rattle.ic_cells.specs.declared.cell.Cell.TheVariants as cells
@@ -25,7 +26,7 @@ use Rattle.ic_cells.specs.declared.value.SpillValue.TheVariants as spills
 abbrev one_and_a_half : Cell
 one_and_a_half = cells.NumberCell (pos 1500000000) 0
 
-french_decimal : decimal_of (european (codes "fr") (codes " ")).locale ≡ 44
+french_decimal : decimal_separator (european (codes "fr") (codes " ")).locale ≡ 44
 unfolding numbers symbols
 french_decimal = refl
 

@@ -75,15 +75,6 @@ FitsType (values.Number n) t = t ≡ types.Number
 FitsType (values.Boolean b) t = t ≡ types.LogicalValue
 FitsType (values.String s) t = t ≢ types.LogicalValue
 
--- the first character of a text
-abbrev pub first_character : List ℕ → ℕ
-first_character [] = 0
-first_character (c ∷ cs) = c
-
--- the decimal separator of a locale
-abbrev pub decimal_of : Locale → ℕ
-decimal_of l = first_character l.numbers.symbols.decimal
-
 -- what a value shows, by a decimal separator and in a language
 abbrev pub shown_text : ℕ → Language → CellValue → List ℕ
 shown_text decimal l values.None = []

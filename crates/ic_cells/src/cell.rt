@@ -1,8 +1,9 @@
 ghost use Rattle.std.specs.Prelude.{◌≡◌, List, ℕ, Some, Ok, IfOk, chars, is_some, string_bytes};
 ghost use Rattle.ic_cells.specs.Cell.{formula_of, style_of, type_of, value_of, with_style};
-ghost use Rattle.ic_cells.specs.Value.{AsShown, FitsType, decimal_of, shown_text};
+ghost use Rattle.ic_cells.specs.Value.{AsShown, FitsType, shown_text};
+ghost use Rattle.ic_tables.specs.Formats.{decimal_separator};
 
-use crate::lent::{LentValue, boolean_word, decimal_of, lent_from};
+use crate::lent::{LentValue, boolean_word, lent_from};
 use crate::{CellType, CellValue, FormulaValue, SpillValue};
 use ic_laws::{Amount, Error, Items, OutOfMemory, Text, amount_spelling};
 use ic_tables::{Language, Locale};
@@ -218,12 +219,12 @@ impl Cell {
         locale: &Locale,
         language: &Language,
     ) -> Result<String, OutOfMemory>
-        ensures { IfOk result (λ s. chars (string_bytes s) ≡ shown_text (decimal_of locale.now) language.now (value_of shared_strings.now language.now self.now)) }
+        ensures { IfOk result (λ s. chars (string_bytes s) ≡ shown_text (decimal_separator locale.now) language.now (value_of shared_strings.now language.now self.now)) }
     {
         match lent_from(self, shared_strings.as_slice(), language) {
             LentValue::Nothing => Ok(String::new(alloc)),
             LentValue::Text(text) => Ok(String::from_str(alloc, text)?),
-            LentValue::Number(amount) => amount_spelling(alloc, amount, decimal_of(locale)),
+            LentValue::Number(amount) => amount_spelling(alloc, amount, locale.decimal_separator()),
             LentValue::Boolean(truth) => Ok(String::from_str(
                 alloc,
                 boolean_word(language, truth),

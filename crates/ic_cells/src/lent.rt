@@ -2,7 +2,7 @@
 ghost use Rattle.std.specs.Prelude.{◌≡◌, IfOk, chars};
 ghost use Rattle.ic_cells.specs.Cell.{string_at, value_of};
 ghost use Rattle.ic_cells.specs.Lent.{value_lent};
-ghost use Rattle.ic_cells.specs.Value.{boolean_word, decimal_of, error_word, formula_type, formula_value, spill_type, spill_value};
+ghost use Rattle.ic_cells.specs.Value.{boolean_word, error_word, formula_type, formula_value, spill_type, spill_value};
 
 use crate::{Cell, CellType, CellValue, FormulaValue, SpillValue};
 use ic_laws::scan::first_char;
@@ -117,16 +117,6 @@ pub fn boolean_word(language: &Language, truth: bool) -> &str
         language.booleans.true_word.as_str()
     } else {
         language.booleans.false_word.as_str()
-    }
-}
-
-/// The decimal separator of a locale.
-pub fn decimal_of(locale: &Locale) -> char
-    ensures { result ≡ decimal_of locale.now }
-{
-    match first_char(locale.numbers.symbols.decimal.as_str()) {
-        Some((c, _)) => c,
-        None => '\0',
     }
 }
 

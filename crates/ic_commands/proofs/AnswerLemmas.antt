@@ -17,6 +17,7 @@ use Rattle.ic_book.specs.declared.error.BookError.{BookError}
 use Rattle.ic_book.specs.declared.error.BookError.TheVariants as errors
 use Rattle.ic_words.specs.Reply.{name_fields}
 use Rattle.ic_commands.specs.Answered.{IsAnswered, IsLineText, IsTold}
+use Rattle.ic_commands.specs.Effect.{Does, DoesBy}
 use Rattle.ic_commands.proofs.ReplyLemmas.{ok_line, refusal_line}
 use Rattle.ic_commands.proofs.StepLemmas.{Done, shows}
 
@@ -33,34 +34,53 @@ pub as_before : {T E U : Type 0} (X : Type 0) (result : Result T E) (done : Resu
 as_before X (Ok value) done e h x = tt
 as_before X (Err none) done e h x = subst (λ d. OnErr d X) h x
 
-module _ (command : Command) (old new : Book) (before text : List ℕ) where
-  refused : (refusal : Refusal) → command_step (notations_in old) (core_of old) (Some command) ≡ (core_of old, Err refusal) → new ≡ old → text ≡ before ++ reply_bytes (Err refusal) → IsAnswered command old new before text
+none_is_some : (told : Refusal) → None ≡ Some told → ⊥
+none_is_some told e = let no : false ≡ true = ap is_told e in cc
+  where
+    is_told : Option Refusal → Bool
+    is_told None = false
+    is_told (Some r) = true
+
+-- where an error leaves all as it was, a refusal does
+pub same_by : {T : Type 0} {X : Type 0} (done : Result T BookError) (refusal : Option Refusal) → Refuses done refusal → OnErr done X → (told : Refusal) → refusal ≡ Some told → X
+same_by (Ok value) refusal none err told some = absurd (none_is_some told (sym none ∙ some))
+same_by (Err e) refusal refuses err told some = err
+
+module _ (command : Command) (old new : ModelState) (before text : List ℕ) where
+  refused : (refusal : Refusal) → command_step (notations_in old.book) (core_of old.book) (Some command) ≡ (core_of old.book, Err refusal) → new ≡ old → text ≡ before ++ reply_bytes (Err refusal) → IsAnswered command old new before text
   refused refusal step same told = record {
-    book = subst (λ s. StepsTo old new s.0) (sym step) (record { core = ap core_of same; beside = beside_same old new old same (record { name = refl; zone = refl; created = refl; tables = refl }) });
+    book = subst (λ s. StepsTo old.book new.book s.0) (sym step) (record { core = ap (λ m. core_of m.book) same; beside = beside_same old.book new.book old.book (ap (λ m. m.book) same) (record { name = refl; zone = refl; created = refl; tables = refl }) });
     reply = told ∙ ap (λ s. before ++ reply_bytes s.1) (sym step);
     line = subst (λ s. IsLineText (reply_text s.1)) (sym step) (refusal_line refusal);
+    does = subst (λ s. DoesBy s.1 command old new) (sym step) same;
   }
 
   -- by an error that a call tells
-  pub refused_by : (refusal : Option Refusal) (after : CoreBook) (fields : List Field) (e : BookError) → Done (notations_in old) (core_of old) command refusal after fields → refusal ≡ refusal_of e → new ≡ old → IsTold (Err e) before text → IsAnswered command old new before text
-  refused_by refusal after fields e step some same told = refused told.0 (step ∙ ap (λ r. outcome_of (core_of old) (unless_refused r after fields)) (some ∙ told.1)) same told.2
+  pub refused_by : (refusal : Option Refusal) (after : CoreBook) (fields : List Field) (e : BookError) → Done (notations_in old.book) (core_of old.book) command refusal after fields → refusal ≡ refusal_of e
+      → ((told : Refusal) → refusal ≡ Some told → new ≡ old) → IsTold (Err e) before text → IsAnswered command old new before text
+  refused_by refusal after fields e step some same told = refused told.0 (step ∙ ap (λ r. outcome_of (core_of old.book) (unless_refused r after fields)) (some ∙ told.1)) (same told.0 (some ∙ told.1)) told.2
 
   -- by what may refuse the command
-  pub answered : (refusal : Option Refusal) (after : CoreBook) (done : Result (Unit {0}) BookError) → Done (notations_in old) (core_of old) command refusal after [] → Refuses done refusal → OnOk done (StepsTo old new after) → OnErr done (new ≡ old)
-      → IsTold done before text → IsAnswered command old new before text
-  answered refusal after (Ok value) step none ok err told =
-      let is = step ∙ ap (λ r. outcome_of (core_of old) (unless_refused r after [])) none in
-      record { book = subst (λ s. StepsTo old new s.0) (sym is) ok; reply = told ∙ ap (λ s. before ++ reply_bytes s.1) (sym is); line = subst (λ s. IsLineText (reply_text s.1)) (sym is) ok_line }
-  answered refusal after (Err e) step some ok err told = refused_by refusal after [] e step some err told
+  pub answered : (refusal : Option Refusal) (after : CoreBook) (done : Result (Unit {0}) BookError) → Done (notations_in old.book) (core_of old.book) command refusal after [] → Refuses done refusal → OnOk done (StepsTo old.book new.book after) → OnOk done (Does command old new)
+      → ((told : Refusal) → refusal ≡ Some told → new ≡ old) → IsTold done before text → IsAnswered command old new before text
+  answered refusal after (Ok value) step none ok does same told =
+      let is = step ∙ ap (λ r. outcome_of (core_of old.book) (unless_refused r after [])) none in
+      record {
+        book = subst (λ s. StepsTo old.book new.book s.0) (sym is) ok;
+        reply = told ∙ ap (λ s. before ++ reply_bytes s.1) (sym is);
+        line = subst (λ s. IsLineText (reply_text s.1)) (sym is) ok_line;
+        does = subst (λ s. DoesBy s.1 command old new) (sym is) does;
+      }
+  answered refusal after (Err e) step some ok does same told = refused_by refusal after [] e step some same told
 
   -- and where the sheet is looked up first
   pub answered_at : (o : Option ℕ) (refusal : ℕ → Option Refusal) (after : ℕ → CoreBook) (done : Result (Unit {0}) BookError)
-      → ((index : ℕ) → o ≡ Some index → Done (notations_in old) (core_of old) command (refusal index) (after index) [])
-      → (o ≡ None → command_step (notations_in old) (core_of old) (Some command) ≡ (core_of old, Err SheetNotFound))
-      → Refuses done (refusal_at o refusal) → ((index : ℕ) → o ≡ Some index → OnOk done (StepsTo old new (after index))) → OnErr done (new ≡ old) → IsTold done before text → IsAnswered command old new before text
-  answered_at (Some index) refusal after done found none refuses ok err told = answered (refusal index) (after index) done (found index refl) refuses (ok index refl) err told
-  answered_at None refusal after (Ok value) found none refuses ok err told = cc
-  answered_at None refusal after (Err e) found none refuses ok err told = refused SheetNotFound (none refl) err (told.2 ∙ ap (λ r. before ++ reply_bytes (Err r)) (same_told (sym told.1 ∙ sym refuses)))
+      → ((index : ℕ) → o ≡ Some index → Done (notations_in old.book) (core_of old.book) command (refusal index) (after index) [])
+      → (o ≡ None → command_step (notations_in old.book) (core_of old.book) (Some command) ≡ (core_of old.book, Err SheetNotFound))
+      → Refuses done (refusal_at o refusal) → ((index : ℕ) → o ≡ Some index → OnOk done (StepsTo old.book new.book (after index))) → OnOk done (Does command old new) → OnErr done (new ≡ old) → IsTold done before text → IsAnswered command old new before text
+  answered_at (Some index) refusal after done found none refuses ok does err told = answered (refusal index) (after index) done (found index refl) refuses (ok index refl) does (same_by done (refusal index) refuses err) told
+  answered_at None refusal after (Ok value) found none refuses ok does err told = cc
+  answered_at None refusal after (Err e) found none refuses ok does err told = refused SheetNotFound (none refl) err (told.2 ∙ ap (λ r. before ++ reply_bytes (Err r)) (same_told (sym told.1 ∙ sym refuses)))
     where
       same_told : {a b : Refusal} → Some a ≡ Some b → a ≡ b
       same_told e = cc
@@ -81,10 +101,6 @@ pub steps_core : {T : Type 0} (done : Result T BookError) (old new : Book) (afte
 steps_core (Ok value) old new after core beside = record { core = core; beside = beside }
 steps_core (Err e) old new after core beside = tt
 
-pub book_kept : {T : Type 0} (done : Result T BookError) (old new : ModelState) → OnErr done (new ≡ old) → OnErr done (new.book ≡ old.book)
-book_kept (Ok value) old new same = tt
-book_kept (Err e) old new same = ap (λ m. m.book) same
-
 pub set_steps : {T : Type 0} (done : Result T BookError) (old new : ModelState) (book : Book) → OnOk done (new ≡ record old { book = book }) → IsSameBeside old.book book → OnOk done (StepsTo old.book new.book (core_of book))
 set_steps (Ok value) old new book is beside = record { core = ap (λ m. core_of m.book) is; beside = beside_same old.book new.book book (ap (λ m. m.book) is) beside }
 set_steps (Err e) old new book is beside = tt
@@ -92,14 +108,16 @@ set_steps (Err e) old new book is beside = tt
 -- ---- what is read of a book
 
 -- fields that a reader replies
-pub read : (command : Command) (book : Book) (before after : List ℕ) (refusal : Option Refusal) (fields told : List Field) → Done (notations_in book) (core_of book) command refusal (core_of book) fields → refusal ≡ None → fields ≡ told → IsLineText (reply_text (Ok told))
-    → after ≡ before ++ reply_bytes (Ok told) → IsAnswered command book book before after
-read command book before after refusal fields told step none same is_line replied =
-    let is = step ∙ ap (λ r. outcome_of (core_of book) (unless_refused r (core_of book) fields)) none ∙ ap (λ (fields : List Field). outcome_of (core_of book) (Ok (core_of book, fields))) same in
+pub read : (command : Command) (state : ModelState) (before after : List ℕ) (refusal : Option Refusal) (fields told : List Field) → Done (notations_in state.book) (core_of state.book) command refusal (core_of state.book) fields → refusal ≡ None → fields ≡ told → IsLineText (reply_text (Ok told))
+    → Does command state state → after ≡ before ++ reply_bytes (Ok told) → IsAnswered command state state before after
+read command state before after refusal fields told step none same is_line does replied =
+    let core = core_of state.book in
+    let is = step ∙ ap (λ r. outcome_of core (unless_refused r core fields)) none ∙ ap (λ (fields : List Field). outcome_of core (Ok (core, fields))) same in
     record {
-      book = subst (λ s. StepsTo book book s.0) (sym is) (record { core = refl; beside = record { name = refl; zone = refl; created = refl; tables = refl } });
+      book = subst (λ s. StepsTo state.book state.book s.0) (sym is) (record { core = refl; beside = record { name = refl; zone = refl; created = refl; tables = refl } });
       reply = replied ∙ ap (λ s. before ++ reply_bytes s.1) (sym is);
       line = subst (λ s. IsLineText (reply_text s.1)) (sym is) is_line;
+      does = subst (λ s. DoesBy s.1 command state state) (sym is) does;
     }
 
 -- the field with a text that is there
@@ -107,13 +125,13 @@ fields_of : {A : Type 0} (g : A → List ℕ) (o : Option A) (text : Option (Lis
 fields_of g None text e = ap (λ t. option_to_list (option_map TextField t)) (sym e)
 fields_of g (Some a) text e = ap (λ t. option_to_list (option_map TextField t)) (sym e)
 
-pub shown_reply : (book : Book) (sheet : ℕ) (row column : ℤ) (before after : List ℕ) (text : Option (List ℕ)) → first_refusal ((lacks_sheet (core_of book) sheet, InvalidSheet) ∷ []) ≡ None
-    → text ≡ option_map (λ f. equals ∷ shown_formula (notations_in book) (core_of book) row column f) (formula_of (core_of book) sheet row column)
-    → IsLineText (reply_text (Ok (option_to_list (option_map TextField text)))) → after ≡ before ++ reply_bytes (Ok (option_to_list (option_map TextField text))) → IsAnswered (GetCellFormula sheet row column) book book before after
-shown_reply book sheet row column before after text none shown is_line told =
-    let n = notations_in book in
-    let core = core_of book in
-    read (GetCellFormula sheet row column) book before after _ _ (option_to_list (option_map TextField text)) (shows n core sheet row column) none (fields_of (λ f. equals ∷ shown_formula n core row column f) (formula_of core sheet row column) text shown) is_line told
+pub shown_reply : (state : ModelState) (sheet : ℕ) (row column : ℤ) (before after : List ℕ) (text : Option (List ℕ)) → first_refusal ((lacks_sheet (core_of state.book) sheet, InvalidSheet) ∷ []) ≡ None
+    → text ≡ option_map (λ f. equals ∷ shown_formula (notations_in state.book) (core_of state.book) row column f) (formula_of (core_of state.book) sheet row column)
+    → IsLineText (reply_text (Ok (option_to_list (option_map TextField text)))) → after ≡ before ++ reply_bytes (Ok (option_to_list (option_map TextField text))) → IsAnswered (GetCellFormula sheet row column) state state before after
+shown_reply state sheet row column before after text none shown is_line told =
+    let n = notations_in state.book in
+    let core = core_of state.book in
+    read (GetCellFormula sheet row column) state before after _ _ (option_to_list (option_map TextField text)) (shows n core sheet row column) none (fields_of (λ f. equals ∷ shown_formula n core row column f) (formula_of core sheet row column) text shown) is_line refl told
 
 -- ---- definitions
 

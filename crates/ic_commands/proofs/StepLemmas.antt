@@ -1,4 +1,4 @@
--- What a command leaves and what is replied, by what refuses it.
+-- What a command does and what is replied, by what refuses it.
 use Rattle.std.proofs.Common.{◌≡◌, ℕ, ℤ, List, [], ◌∷◌, not, Option, Some, None, Err, option_map, refl, ap}
 use Rattle.std.specs.Option.{option_to_list}
 use Rattle.ic_laws.specs.Command.{AddSheet, Command, DeleteDefinedName, DeleteSheet, DeleteSheetByName, DeleteSheetBySheetId, Field, GetCellFormula, GetDefinedNameList, GetNewSheetId, IsValidDefinedName, MoveSheet, NewDefinedName, NumberField, RenameSheet, RenameSheetByIndex, SetLanguage, SetLocale, UpdateCellWithFormula}

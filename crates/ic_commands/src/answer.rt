@@ -1,6 +1,6 @@
 ghost use Rattle.std.specs.Prelude.{◌≡◌, ◌+◌, ◌++◌, ◌≤◌, Err, chars, IfOk, OnErr, OnOk, Some, false, string_bytes, string_capacity, string_len};
 ghost use Rattle.ic_laws.specs.Command as command;
-ghost use Rattle.ic_laws.specs.Lines.{line_step, reply_bytes, reply_text};
+ghost use Rattle.ic_laws.specs.Lines.{command_of, line_step, reply_bytes, reply_text};
 ghost use Rattle.ic_laws.specs.Refusal.{Refusal};
 ghost use Rattle.ic_lines.specs.Reading.{has_line_feed};
 ghost use Rattle.ic_book.specs.Book.{StepsTo, core_of, notations_in};
@@ -9,7 +9,8 @@ ghost use Rattle.ic_book.specs.declared.error.BookError.TheVariants as errors;
 ghost use Rattle.ic_words.specs.Command.{command_meant};
 ghost use Rattle.ic_words.specs.Served.{served};
 ghost use Rattle.ic_words.specs.Words.{characters_of};
-ghost use Rattle.ic_commands.specs.Answered.{IsAnswered, IsLineText, IsTold};
+ghost use Rattle.ic_commands.specs.Answered.{Answers, IsLineText, IsTold};
+ghost use Rattle.ic_commands.specs.Effect.{LineDoes};
 
 use ic_book::{BookError, Model};
 use ic_laws::{OutOfMemory, Text};
@@ -20,12 +21,14 @@ use ic_words::{
 };
 use std::alloc::Global;
 
-/// One step of the machine: what a line does to the book, and its reply with the line feed at its end. Where memory
-/// runs out the book is as it was.
+/// One step of the machine: what a line does to the book, and its reply with the line feed at its end. A line that is no
+/// command, is refused or only asks leaves all that a model is, the formulas that sheets keep and their look-ups too; for
+/// the others the whole book is as the command leaves it. Where memory runs out the book is as it was.
 pub fn reply_to(alloc: Global, model: &mut Model<'_>, line: &Line) -> Result<String, OutOfMemory>
     ensures reply { IfOk result (λ reply. string_bytes reply ≡ reply_bytes (line_step (notations_in model.old.book) served (core_of model.old.book) line.now).1) }
     ensures line { IfOk result (λ _. IsLineText (reply_text (line_step (notations_in model.old.book) served (core_of model.old.book) line.now).1)) }
     ensures book { OnOk result (StepsTo model.old.book model.new.book (line_step (notations_in model.old.book) served (core_of model.old.book) line.now).0) }
+    ensures does { OnOk result (LineDoes (command_of served line.now) model.old model.new) }
     ensures err { OnErr result (model.new.book ≡ model.old.book) }
 {
     let command = command_in(alloc, line.text().as_str())?;
@@ -40,6 +43,7 @@ pub fn reply_to(alloc: Global, model: &mut Model<'_>, line: &Line) -> Result<Str
 pub fn answer_line(alloc: Global, model: &mut Model<'_>, line: &Line) -> Result<Line, OutOfMemory>
     ensures reply { IfOk result (λ reply. reply ≡ reply_text (line_step (notations_in model.old.book) served (core_of model.old.book) line.now).1) }
     ensures book { OnOk result (StepsTo model.old.book model.new.book (line_step (notations_in model.old.book) served (core_of model.old.book) line.now).0) }
+    ensures does { OnOk result (LineDoes (command_of served line.now) model.old model.new) }
     ensures err { OnErr result (model.new.book ≡ model.old.book) }
 {
     let mut reply = reply_to(alloc, model, line)?;
@@ -55,7 +59,7 @@ fn answer(
     reply: String,
 ) -> Result<String, OutOfMemory>
     requires { string_len reply + REPLY_ROOM ≤ string_capacity reply }
-    ensures ok { IfOk result (λ text. IsAnswered (command_meant command.entry) model.old.book model.new.book (string_bytes reply) (string_bytes text)) }
+    ensures ok { IfOk result (Answers (command_meant command.entry) model.old model.new reply) }
     ensures err { OnErr result (model.new.book ≡ model.old.book) }
 {
     match command {
@@ -97,8 +101,9 @@ fn answer(
 
 fn add_sheet(model: &mut Model<'_>, name: &str, reply: String) -> Result<String, OutOfMemory>
     requires { string_len reply + REPLY_ROOM ≤ string_capacity reply }
-    ensures ok { IfOk result (λ text. IsAnswered (command.AddSheet (chars name.now)) model.old.book model.new.book (string_bytes reply) (string_bytes text)) }
-    ensures err { OnErr result (model.new.book ≡ model.old.book) }
+    ensures ok { IfOk result (Answers (command.AddSheet (chars name.now))
+        model.old model.new reply) }
+    ensures err { OnErr result (model.new ≡ model.old) }
 {
     let done = model.add_sheet(name);
     told(done, reply)
@@ -111,8 +116,9 @@ fn rename_sheet(
     reply: String,
 ) -> Result<String, OutOfMemory>
     requires { string_len reply + REPLY_ROOM ≤ string_capacity reply }
-    ensures ok { IfOk result (λ text. IsAnswered (command.RenameSheet (chars old.now) (chars new.now)) model.old.book model.new.book (string_bytes reply) (string_bytes text)) }
-    ensures err { OnErr result (model.new.book ≡ model.old.book) }
+    ensures ok { IfOk result (Answers (command.RenameSheet (chars old.now) (chars new.now))
+        model.old model.new reply) }
+    ensures err { OnErr result (model.new ≡ model.old) }
 {
     let done = model.rename_sheet(old, new);
     told(done, reply)
@@ -125,8 +131,9 @@ fn rename_sheet_by_index(
     reply: String,
 ) -> Result<String, OutOfMemory>
     requires { string_len reply + REPLY_ROOM ≤ string_capacity reply }
-    ensures ok { IfOk result (λ text. IsAnswered (command.RenameSheetByIndex sheet (chars name.now)) model.old.book model.new.book (string_bytes reply) (string_bytes text)) }
-    ensures err { OnErr result (model.new.book ≡ model.old.book) }
+    ensures ok { IfOk result (Answers (command.RenameSheetByIndex sheet (chars name.now))
+        model.old model.new reply) }
+    ensures err { OnErr result (model.new ≡ model.old) }
 {
     let done = model.rename_sheet_by_index(sheet, name);
     told(done, reply)
@@ -139,8 +146,8 @@ fn move_sheet(
     reply: String,
 ) -> Result<String, OutOfMemory>
     requires { string_len reply + REPLY_ROOM ≤ string_capacity reply }
-    ensures ok { IfOk result (λ text. IsAnswered (command.MoveSheet sheet to) model.old.book model.new.book (string_bytes reply) (string_bytes text)) }
-    ensures err { OnErr result (model.new.book ≡ model.old.book) }
+    ensures ok { IfOk result (Answers (command.MoveSheet sheet to) model.old model.new reply) }
+    ensures err { OnErr result (model.new ≡ model.old) }
 {
     let done = model.move_sheet(sheet, to);
     told(done, reply)
@@ -148,8 +155,8 @@ fn move_sheet(
 
 fn delete_sheet(model: &mut Model<'_>, sheet: u32, reply: String) -> Result<String, OutOfMemory>
     requires { string_len reply + REPLY_ROOM ≤ string_capacity reply }
-    ensures ok { IfOk result (λ text. IsAnswered (command.DeleteSheet sheet) model.old.book model.new.book (string_bytes reply) (string_bytes text)) }
-    ensures err { OnErr result (model.new.book ≡ model.old.book) }
+    ensures ok { IfOk result (Answers (command.DeleteSheet sheet) model.old model.new reply) }
+    ensures err { OnErr result (model.new ≡ model.old) }
 {
     let done = model.delete_sheet(sheet);
     told(done, reply)
@@ -161,8 +168,9 @@ fn delete_sheet_by_name(
     reply: String,
 ) -> Result<String, OutOfMemory>
     requires { string_len reply + REPLY_ROOM ≤ string_capacity reply }
-    ensures ok { IfOk result (λ text. IsAnswered (command.DeleteSheetByName (chars name.now)) model.old.book model.new.book (string_bytes reply) (string_bytes text)) }
-    ensures err { OnErr result (model.new.book ≡ model.old.book) }
+    ensures ok { IfOk result (Answers (command.DeleteSheetByName (chars name.now))
+        model.old model.new reply) }
+    ensures err { OnErr result (model.new ≡ model.old) }
 {
     let done = model.delete_sheet_by_name(name);
     told(done, reply)
@@ -174,8 +182,8 @@ fn delete_sheet_by_sheet_id(
     reply: String,
 ) -> Result<String, OutOfMemory>
     requires { string_len reply + REPLY_ROOM ≤ string_capacity reply }
-    ensures ok { IfOk result (λ text. IsAnswered (command.DeleteSheetBySheetId id) model.old.book model.new.book (string_bytes reply) (string_bytes text)) }
-    ensures err { OnErr result (model.new.book ≡ model.old.book) }
+    ensures ok { IfOk result (Answers (command.DeleteSheetBySheetId id) model.old model.new reply) }
+    ensures err { OnErr result (model.new ≡ model.old) }
 {
     let done = model.delete_sheet_by_sheet_id(id);
     told(done, reply)
@@ -189,8 +197,9 @@ fn new_defined_name(
     reply: String,
 ) -> Result<String, OutOfMemory>
     requires { string_len reply + REPLY_ROOM ≤ string_capacity reply }
-    ensures ok { IfOk result (λ text. IsAnswered (command.NewDefinedName (chars name.now) scope (chars body.now)) model.old.book model.new.book (string_bytes reply) (string_bytes text)) }
-    ensures err { OnErr result (model.new.book ≡ model.old.book) }
+    ensures ok { IfOk result (Answers (command.NewDefinedName (chars name.now) scope (chars body.now))
+        model.old model.new reply) }
+    ensures err { OnErr result (model.new ≡ model.old) }
 {
     let done = model.new_defined_name(name, scope, body);
     told(done, reply)
@@ -203,8 +212,9 @@ fn delete_defined_name(
     reply: String,
 ) -> Result<String, OutOfMemory>
     requires { string_len reply + REPLY_ROOM ≤ string_capacity reply }
-    ensures ok { IfOk result (λ text. IsAnswered (command.DeleteDefinedName (chars name.now) scope) model.old.book model.new.book (string_bytes reply) (string_bytes text)) }
-    ensures err { OnErr result (model.new.book ≡ model.old.book) }
+    ensures ok { IfOk result (Answers (command.DeleteDefinedName (chars name.now) scope)
+        model.old model.new reply) }
+    ensures err { OnErr result (model.new ≡ model.old) }
 {
     let done = model.delete_defined_name(name, scope);
     told(done, reply)
@@ -218,7 +228,8 @@ fn is_valid_defined_name(
     reply: String,
 ) -> Result<String, OutOfMemory>
     requires { string_len reply + REPLY_ROOM ≤ string_capacity reply }
-    ensures { IfOk result (λ text. IsAnswered (command.IsValidDefinedName (chars name.now) scope (chars body.now)) model.now.book model.now.book (string_bytes reply) (string_bytes text)) }
+    ensures { IfOk result (Answers (command.IsValidDefinedName (chars name.now) scope (chars body.now))
+        model.now model.now reply) }
 {
     match model.is_valid_defined_name(name, scope, body) {
         Ok(id) => number_reply(reply, id),
@@ -228,7 +239,7 @@ fn is_valid_defined_name(
 
 fn defined_name_list(model: &Model<'_>, reply: String) -> Result<String, OutOfMemory>
     requires { string_len reply + REPLY_ROOM ≤ string_capacity reply }
-    ensures { IfOk result (λ text. IsAnswered command.GetDefinedNameList model.now.book model.now.book (string_bytes reply) (string_bytes text)) }
+    ensures { IfOk result (Answers command.GetDefinedNameList model.now model.now reply) }
 {
     match model.get_defined_name_list() {
         Ok(names) => names_reply(reply, &names),
@@ -237,15 +248,16 @@ fn defined_name_list(model: &Model<'_>, reply: String) -> Result<String, OutOfMe
 }
 
 fn new_sheet_id(model: &Model<'_>, reply: String) -> Result<String, OutOfMemory>
-    ensures { IfOk result (λ text. IsAnswered command.GetNewSheetId model.now.book model.now.book (string_bytes reply) (string_bytes text)) }
+    ensures { IfOk result (Answers command.GetNewSheetId model.now model.now reply) }
 {
     number_reply(reply, model.get_new_sheet_id())
 }
 
 fn set_locale(model: &mut Model<'_>, id: &str, reply: String) -> Result<String, OutOfMemory>
     requires { string_len reply + REPLY_ROOM ≤ string_capacity reply }
-    ensures ok { IfOk result (λ text. IsAnswered (command.SetLocale (chars id.now)) model.old.book model.new.book (string_bytes reply) (string_bytes text)) }
-    ensures err { OnErr result (model.new.book ≡ model.old.book) }
+    ensures ok { IfOk result (Answers (command.SetLocale (chars id.now))
+        model.old model.new reply) }
+    ensures err { OnErr result (model.new ≡ model.old) }
 {
     let done = model.set_locale(id);
     told(done, reply)
@@ -253,8 +265,9 @@ fn set_locale(model: &mut Model<'_>, id: &str, reply: String) -> Result<String, 
 
 fn set_language(model: &mut Model<'_>, id: &str, reply: String) -> Result<String, OutOfMemory>
     requires { string_len reply + REPLY_ROOM ≤ string_capacity reply }
-    ensures ok { IfOk result (λ text. IsAnswered (command.SetLanguage (chars id.now)) model.old.book model.new.book (string_bytes reply) (string_bytes text)) }
-    ensures err { OnErr result (model.new.book ≡ model.old.book) }
+    ensures ok { IfOk result (Answers (command.SetLanguage (chars id.now))
+        model.old model.new reply) }
+    ensures err { OnErr result (model.new ≡ model.old) }
 {
     let done = model.set_language(id);
     told(done, reply)
@@ -270,7 +283,8 @@ fn update_cell(
     reply: String,
 ) -> Result<String, OutOfMemory>
     requires { string_len reply + REPLY_ROOM ≤ string_capacity reply }
-    ensures ok { IfOk result (λ out. IsAnswered (command.UpdateCellWithFormula sheet row column (characters_of text.entry)) model.old.book model.new.book (string_bytes reply) (string_bytes out)) }
+    ensures ok { IfOk result (Answers (command.UpdateCellWithFormula sheet row column (characters_of text.entry))
+        model.old model.new reply) }
     ensures err { OnErr result (model.new.book ≡ model.old.book) }
 {
     let text = text.into_string(alloc)?;
@@ -286,7 +300,8 @@ fn cell_formula(
     reply: String,
 ) -> Result<String, OutOfMemory>
     requires { string_len reply + REPLY_ROOM ≤ string_capacity reply }
-    ensures { IfOk result (λ text. IsAnswered (command.GetCellFormula sheet row column) model.now.book model.now.book (string_bytes reply) (string_bytes text)) }
+    ensures { IfOk result (Answers (command.GetCellFormula sheet row column)
+        model.now model.now reply) }
 {
     match model.get_cell_formula(sheet, row, column) {
         Ok(Some(formula)) => text_reply(reply, formula.as_str()),

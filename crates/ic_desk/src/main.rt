@@ -1,15 +1,11 @@
-//! The program: command lines in, one reply a line out.
-//!
-//! `run` carries the main promise: where it answers Ok, the replies that it appended are those of the identity
-//! machine of `ic_laws`, and the book is the one that the machine leaves. `desk` gives that for the program's words.
+//! The program: command lines in, one reply a line out. `desk` of `ic_run` says what it does with its words.
 #![tactic(auto)]
 
-mod desk;
-mod run;
 #[cfg(test)]
 mod tests;
 
 use ic_lines::{StdSink, StdSource};
+use ic_run::desk;
 use ic_tables::sample_tables;
 use jiff::Timestamp;
 use std::process::ExitCode;
@@ -29,15 +25,16 @@ fn main(rt: HostRuntime) -> ExitCode {
 /// Runs `desk` over the standard streams with the words that the program was given.
 fn status(rt: &HostRuntime) -> u8 {
     let alloc = rt.alloc();
-    let Ok(words) = words_given(rt) else {
-        return USAGE;
+    let words = match words_given(rt) {
+        Ok(words) => words,
+        Err(e) => return status_without_words(e.kind()),
     };
     let Ok(tables) = sample_tables(alloc) else {
         return NO_MEMORY;
     };
     let mut source = StdSource::new(rt.stdin());
     let mut sink = StdSink::new(rt.stdout());
-    desk::desk(
+    desk(
         alloc,
         words.as_slice(),
         &tables,
@@ -54,6 +51,15 @@ fn words_given(rt: &HostRuntime) -> io::Result<Vec<String>> {
         words.push(word)?;
     }
     Ok(words)
+}
+
+/// The status where the words weren't read: memory ran out, or one of them isn't UTF-8.
+fn status_without_words(kind: io::ErrorKind) -> u8 {
+    if kind == io::ErrorKind::OutOfMemory {
+        NO_MEMORY
+    } else {
+        USAGE
+    }
 }
 
 /// The moment by the clock, or the Unix epoch where there is none.

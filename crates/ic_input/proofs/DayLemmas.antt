@@ -7,7 +7,7 @@ use Rattle.jiff_core.proofs.DateLemmas.{days_from_civil-max}
 use Rattle.jiff_core.proofs.SignedLemmas.{signed_arith}
 use Rattle.ic_laws.specs.Amount.{amount_text, units_of_one}
 use Rattle.ic_tables.specs.declared.locale.Locale.{Locale}
-use Rattle.ic_input.specs.Convention.{decimal_of}
+use Rattle.ic_tables.specs.Formats.{decimal_separator}
 use Rattle.ic_input.specs.Date.{IsDay, IsShownDay}
 use Rattle.ic_input.specs.Formatted.{IsDateShown, IsFormatted, IsNoDate, number_text}
 use Rattle.ic_input.proofs.CodeLaws.{code_complete}
@@ -109,7 +109,7 @@ formatted_once l code v t u (inl h) (inr k) = absurd (k.0 h.0 h.1.0)
 formatted_once l code v t u (inr h) (inl k) = absurd (h.0 k.0 k.1.0)
 formatted_once l code v t u (inr h) (inr k) = other h.1 k.1
   where
-    other : (IsDateShown code v t) ⊎ ((IsNoDate code v) × (t ≡ amount_text (decimal_of l) v)) → (IsDateShown code v u) ⊎ ((IsNoDate code v) × (u ≡ amount_text (decimal_of l) v)) → t ≡ u
+    other : (IsDateShown code v t) ⊎ ((IsNoDate code v) × (t ≡ amount_text (decimal_separator l) v)) → (IsDateShown code v u) ⊎ ((IsNoDate code v) × (u ≡ amount_text (decimal_separator l) v)) → t ≡ u
     other (inl a) (inl b) = date_once code v t u a b
     other (inl a) (inr b) = absurd (no_date code v t a b.0)
     other (inr a) (inl b) = absurd (no_date code v u b a.0)

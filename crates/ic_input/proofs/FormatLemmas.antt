@@ -9,12 +9,13 @@ use Rattle.jiff_core.proofs.CalendarLemmas.{day_count-lt_year, days_from_civil-d
 use Rattle.jiff_core.proofs.SignedLemmas.{signed_arith}
 use Rattle.ic_tables.specs.declared.locale.Locale.{Locale}
 use Rattle.ic_input.specs.Code.{CodeParts}
-use Rattle.ic_input.specs.Convention.{decimal_of, group_of}
+use Rattle.ic_input.specs.Convention.{group_of}
+use Rattle.ic_tables.specs.Formats.{decimal_separator}
 use Rattle.ic_input.specs.Date.{IsDay, last_day}
 use Rattle.ic_input.specs.Formatted.{digits_text, last_places, number_text, sign_text}
 use Rattle.ic_input.proofs.DateSteps.{day-from_parts, from_epoch}
 
-pub shown_whole : (l : Locale) (c : CodeParts) (v : ℤ) (places : ℕ) (start signed begun digits whole : List ℕ) → start ≡ [] → signed ≡ start ++ sign_text v places → begun ≡ signed ++ c.before → digits ≡ begun ++ digits_text (group_of l) (decimal_of l) c.decimals places → whole ≡ digits ++ c.after → places ≡ last_places c v → whole ≡ number_text l c v
+pub shown_whole : (l : Locale) (c : CodeParts) (v : ℤ) (places : ℕ) (start signed begun digits whole : List ℕ) → start ≡ [] → signed ≡ start ++ sign_text v places → begun ≡ signed ++ c.before → digits ≡ begun ++ digits_text (group_of l) (decimal_separator l) c.decimals places → whole ≡ digits ++ c.after → places ≡ last_places c v → whole ≡ number_text l c v
 shown_whole l c v places start signed begun digits whole e0 e1 e2 e3 e4 ep =
     e4 ∙ rw (e3, e2, e1, e0) (simp append_assoc (rw ep refl))
 

@@ -10,24 +10,25 @@ use Rattle.ic_tables.specs.Formats.{are_up_to, has_group, has_separators, has_sy
 use Rattle.ic_tables.specs.Tables.{HasGoodFormats, TableSet}
 use Rattle.ic_tables.specs.declared.language.Language.{Language}
 use Rattle.ic_tables.specs.declared.locale.Locale.{Locale}
-use Rattle.ic_input.specs.Convention.{decimal_of, euro, first_or, group_of, is_currency, is_dollar_or_euro, is_nothing}
+use Rattle.ic_input.specs.Convention.{euro, first_or, group_of, is_currency, is_dollar_or_euro, is_nothing}
+use Rattle.ic_tables.specs.Formats.{decimal_separator}
 use Rattle.ic_input.proofs.RunSteps.{can_stand, not-false}
 
 -- What the signs of a locale are.
 pub record TellsSigns (l : Locale) : Type 0 where
   pub group_digit : is_digit (group_of l) ≡ false
-  pub group_decimal : (decimal_of l == group_of l) ≡ false
+  pub group_decimal : (decimal_separator l == group_of l) ≡ false
   pub symbol : list_all may_stand_in_symbol l.currency.symbol ≡ true
 
 -- the decimal separator is a comma or a dot, whatever the locale is
-pub decimal_cases : (l : Locale) (P : ℕ → Type 0) → P comma → P dot → P (decimal_of l)
+pub decimal_cases : (l : Locale) (P : ℕ → Type 0) → P comma → P dot → P (decimal_separator l)
 decimal_cases l P c d = elim (cases_Bool (bytes_eq l.numbers.symbols.decimal (codes ","))) [ inl e ↦ rw e c | inr e ↦ rw e d ]
 
-pub decimal_digit : (l : Locale) → is_digit (decimal_of l) ≡ false
+pub decimal_digit : (l : Locale) → is_digit (decimal_separator l) ≡ false
 decimal_digit l = decimal_cases l (λ c. is_digit c ≡ false) refl refl
 
 -- no character of a symbol is the decimal separator
-pub decimal_apart : (l : Locale) (c : ℕ) → may_stand_in_symbol c ≡ true → (c == decimal_of l) ≡ false
+pub decimal_apart : (l : Locale) (c : ℕ) → may_stand_in_symbol c ≡ true → (c == decimal_separator l) ≡ false
 decimal_apart l c h = decimal_cases l (λ d. (c == d) ≡ false) (can_stand c h).comma (can_stand c h).dot
 
 group_digit-of : (c : ℕ) → may_group c ≡ true → is_digit c ≡ false
@@ -75,7 +76,7 @@ either true false false d h e = h
 either false false true d h e = sym e ∙ h
 either false false false d h e = h
 
-decimal_group : (l : Locale) → has_separators l ≡ true → bytes_eq l.numbers.symbols.decimal (group_of l ∷ []) ≡ false → (decimal_of l == group_of l) ≡ false
+decimal_group : (l : Locale) → has_separators l ≡ true → bytes_eq l.numbers.symbols.decimal (group_of l ∷ []) ≡ false → (decimal_separator l == group_of l) ≡ false
 unfolding has_separators
 decimal_group l h apart =
     elim (cases_Bool (bytes_eq l.numbers.symbols.decimal (codes ","))) [

@@ -11,7 +11,8 @@ use Rattle.ic_laws.proofs.AmountTexts.{run_of-front}
 use Rattle.ic_tables.specs.Formats.{may_stand_in_symbol}
 use Rattle.ic_tables.specs.declared.locale.Locale.{Locale}
 use Rattle.ic_input.specs.Code.{is_percent, stands_beside}
-use Rattle.ic_input.specs.Convention.{decimal_of, group_of, is_currency, is_nothing, percent}
+use Rattle.ic_input.specs.Convention.{group_of, is_currency, is_nothing, percent}
+use Rattle.ic_tables.specs.Formats.{decimal_separator}
 use Rattle.ic_input.specs.Group.{in_threes, past_threes, threes}
 use Rattle.ic_input.specs.Number.{IsUnsigned, IsWhole, code_for, decimals_at, fraction_of, fraction_text, from_digits, is_first_group, most_decimals, past_decimals, stands_before, unsigned_number, with_decimals}
 use Rattle.ic_input.specs.declared.number.Number.{Number}
@@ -21,21 +22,21 @@ use Rattle.ic_input.proofs.RunSteps.{all_weaker, can_stand, run_until}
 use Rattle.ic_input.proofs.TripleLemmas.{IsTriples, ReadsGroups, groups_read, in_threes-groups, separated, split}
 
 -- no digit and no decimal separator stands in a symbol
-symbol_before : (l : Locale) (c : ℕ) → may_stand_in_symbol c ≡ true → stands_before (decimal_of l) c ≡ true
+symbol_before : (l : Locale) (c : ℕ) → may_stand_in_symbol c ≡ true → stands_before (decimal_separator l) c ≡ true
 symbol_before l c h = rw ((can_stand c h).digit, decimal_apart l c h) refl
 
-percent_before : (l : Locale) → stands_before (decimal_of l) percent ≡ true
+percent_before : (l : Locale) → stands_before (decimal_separator l) percent ≡ true
 percent_before l = decimal_cases l (λ d. stands_before d percent ≡ true) refl refl
 
-currency_before : (l : Locale) → TellsSigns l → (text : List ℕ) → is_currency l text ≡ true → list_all (stands_before (decimal_of l)) text ≡ true
-currency_before l signs text h = all_weaker may_stand_in_symbol (stands_before (decimal_of l)) (symbol_before l) text (currency_all l signs text h)
+currency_before : (l : Locale) → TellsSigns l → (text : List ℕ) → is_currency l text ≡ true → list_all (stands_before (decimal_separator l)) text ≡ true
+currency_before l signs text h = all_weaker may_stand_in_symbol (stands_before (decimal_separator l)) (symbol_before l) text (currency_all l signs text h)
 
 -- nor in what stands beside digits
-before_all : (l : Locale) → TellsSigns l → (before after : List ℕ) → stands_beside (is_currency l) before after ≡ true → list_all (stands_before (decimal_of l)) before ≡ true
+before_all : (l : Locale) → TellsSigns l → (before after : List ℕ) → stands_beside (is_currency l) before after ≡ true → list_all (stands_before (decimal_separator l)) before ≡ true
 before_all l signs [] after h = refl
 before_all l signs (c ∷ cs) after h = currency_before l signs (c ∷ cs) (and_parts (is_nothing after) (is_currency l (c ∷ cs)) h).1
 
-after_all : (l : Locale) → TellsSigns l → (before after : List ℕ) → stands_beside (is_currency l) before after ≡ true → list_all (stands_before (decimal_of l)) after ≡ true
+after_all : (l : Locale) → TellsSigns l → (before after : List ℕ) → stands_beside (is_currency l) before after ≡ true → list_all (stands_before (decimal_separator l)) after ≡ true
 after_all l signs (b ∷ bs) after h = rw (nothing-is after (and_parts (is_nothing after) (is_currency l (b ∷ bs)) h).0) refl
 after_all l signs [] [] h = refl
 after_all l signs [] (c ∷ cs) h =
@@ -85,10 +86,10 @@ no_groups_after group s (a ∷ b ∷ c ∷ rest) h = record { groups = rw h refl
 
 -- What is read of the decimals and what stands after them.
 record ReadsTail (l : Locale) (fraction : Option (List ℕ)) (after : List ℕ) : Type 0 where
-  no_digit : first_is is_digit (fraction_text (decimal_of l) fraction ++ after) ≡ false
-  no_groups : ReadsGroups (group_of l) (fraction_text (decimal_of l) fraction ++ after) [] (fraction_text (decimal_of l) fraction ++ after)
-  decimals : decimals_at (decimal_of l) (fraction_text (decimal_of l) fraction ++ after) ≡ fraction_of fraction
-  rest : past_decimals (decimal_of l) (fraction_text (decimal_of l) fraction ++ after) ≡ after
+  no_digit : first_is is_digit (fraction_text (decimal_separator l) fraction ++ after) ≡ false
+  no_groups : ReadsGroups (group_of l) (fraction_text (decimal_separator l) fraction ++ after) [] (fraction_text (decimal_separator l) fraction ++ after)
+  decimals : decimals_at (decimal_separator l) (fraction_text (decimal_separator l) fraction ++ after) ≡ fraction_of fraction
+  rest : past_decimals (decimal_separator l) (fraction_text (decimal_separator l) fraction ++ after) ≡ after
 
 first_apart : (d : ℕ) (text : List ℕ) → list_all (stands_before d) text ≡ true → first_is is_digit text ≡ false
 first_apart d [] h = refl
@@ -98,21 +99,21 @@ no_decimals : (d : ℕ) (text : List ℕ) → list_all (stands_before d) text �
 no_decimals d [] h = (refl, refl)
 no_decimals d (c ∷ cs) h = let e = (apart d c (and_parts (stands_before d c) _ h).0).decimal in (rw e refl, rw e refl)
 
-tail_read : (l : Locale) → TellsSigns l → (fraction : Option (List ℕ)) (after : List ℕ) → all_ascii_digits (fraction_of fraction) ≡ true → list_all (stands_before (decimal_of l)) after ≡ true → ReadsTail l fraction after
+tail_read : (l : Locale) → TellsSigns l → (fraction : Option (List ℕ)) (after : List ℕ) → all_ascii_digits (fraction_of fraction) ≡ true → list_all (stands_before (decimal_separator l)) after ≡ true → ReadsTail l fraction after
 tail_read l signs None after d h =
-    let none = no_decimals (decimal_of l) after h in
+    let none = no_decimals (decimal_separator l) after h in
     record {
-      no_digit = first_apart (decimal_of l) after h;
-      no_groups = no_groups (group_of l) (decimal_of l) after h;
+      no_digit = first_apart (decimal_separator l) after h;
+      no_groups = no_groups (group_of l) (decimal_separator l) after h;
       decimals = none.0;
       rest = none.1;
     }
 tail_read l signs (Some ds) after d h =
-    let same : (decimal_of l == decimal_of l) ≡ true = grind (arith, nat_tests) in
-    let run = run_of-front ds after d (first_apart (decimal_of l) after h) in
+    let same : (decimal_separator l == decimal_separator l) ≡ true = grind (arith, nat_tests) in
+    let run = run_of-front ds after d (first_apart (decimal_separator l) after h) in
     record {
       no_digit = decimal_digit l;
-      no_groups = no_groups_after (group_of l) (decimal_of l) (ds ++ after) signs.group_decimal;
+      no_groups = no_groups_after (group_of l) (decimal_separator l) (ds ++ after) signs.group_decimal;
       decimals = rw (same, run.0) refl;
       rest = rw (same, run.1) refl;
     }
@@ -185,11 +186,11 @@ finished l before grouped whole count fraction after n beside some few small amo
     rw (beside, lt-ltb _ _ some, le-leb _ _ few, lt-ltb _ _ small) (ap₂ (λ a c. Some (record { amount = a; code = c })) (sym amount) (sym code))
 
 -- the body of a number, from its digits on
-pub body_first : (l : Locale) (grouped : Bool) (whole text : List ℕ) (fraction : Option (List ℕ)) (after : List ℕ) → all_ascii_digits whole ≡ true → IsWhole (group_of l) grouped whole text → 0 < length whole + length (fraction_of fraction) → first_is (stands_before (decimal_of l)) (text ++ (fraction_text (decimal_of l) fraction ++ after)) ≡ false
+pub body_first : (l : Locale) (grouped : Bool) (whole text : List ℕ) (fraction : Option (List ℕ)) (after : List ℕ) → all_ascii_digits whole ≡ true → IsWhole (group_of l) grouped whole text → 0 < length whole + length (fraction_of fraction) → first_is (stands_before (decimal_separator l)) (text ++ (fraction_text (decimal_separator l) fraction ++ after)) ≡ false
 body_first l true [] text fraction after d w some = absurd (omega (arith, w.0))
 body_first l false [] text None after d w some = absurd (omega arith)
 body_first l false [] text (Some ds) after d w some =
-    let same : (decimal_of l == decimal_of l) ≡ true = grind (arith, nat_tests) in
+    let same : (decimal_separator l == decimal_separator l) ≡ true = grind (arith, nat_tests) in
     rw (w, decimal_digit l, same) refl
 body_first l false (c ∷ cs) text fraction after d w some = let p = and_parts (is_digit c) _ d in rw (w, p.0) refl
 body_first l true (c ∷ cs) text fraction after d w some = let p = and_parts (is_digit c) _ d in rw (w.1, p.0) refl
@@ -201,12 +202,12 @@ enough (suc a) b f g h = omega (arith, g (omega arith))
 pub unsigned_complete : (l : Locale) → TellsSigns l → (text : List ℕ) (n : Number) → IsUnsigned l text n → unsigned_number l text ≡ Some n
 unfolding unsigned_number from_digits
 unsigned_complete l signs text n h =
-    let d = decimal_of l in
+    let d = decimal_separator l in
     let after = after_all l signs h.before h.after h.beside in
     let t = tail_read l signs h.fraction h.after h.fraction_digits after in
-    let tail = fraction_text (decimal_of l) h.fraction ++ h.after in
+    let tail = fraction_text (decimal_separator l) h.fraction ++ h.after in
     let w = whole_read l signs h.grouped h.whole h.whole_text tail h.whole_digits h.written t.no_digit t.no_groups in
-    let start = run_until (stands_before (decimal_of l)) h.before (h.whole_text ++ tail) (before_all l signs h.before h.after h.beside) (body_first l h.grouped h.whole h.whole_text h.fraction h.after h.whole_digits h.written h.some) in
+    let start = run_until (stands_before (decimal_separator l)) h.before (h.whole_text ++ tail) (before_all l signs h.before h.after h.beside) (body_first l h.grouped h.whole h.whole_text h.fraction h.after h.whole_digits h.written h.some) in
     let value : digits_value_after 10 (digits_value 10 w.first) w.more ≡ digits_value 10 h.whole = sym (value-append 0 w.first w.more) ∙ ap (digits_value 10) (sym w.joined) in
     rw (h.spelled, start.0, start.1, w.run, w.groups, w.rest, w.fits, w.told, t.decimals, t.rest)
     (finished l h.before h.grouped (digits_value_after 10 (digits_value 10 w.first) w.more) (length w.first) (fraction_of h.fraction) h.after n h.beside (enough (length h.whole) (length w.first) (length (fraction_of h.fraction)) w.some h.some) h.few (rw value h.small) (rw value h.value) h.code)

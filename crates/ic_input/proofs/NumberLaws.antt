@@ -10,7 +10,8 @@ use Rattle.ic_laws.specs.Scan.{is_digit, past_run, run_of}
 use Rattle.ic_laws.proofs.RunLemmas.{run_and_rest}
 use Rattle.ic_tables.specs.declared.locale.Locale.{Locale}
 use Rattle.ic_input.specs.Code.{stands_beside}
-use Rattle.ic_input.specs.Convention.{decimal_of, group_of, is_currency, is_nothing}
+use Rattle.ic_input.specs.Convention.{group_of, is_currency, is_nothing}
+use Rattle.ic_tables.specs.Formats.{decimal_separator}
 use Rattle.ic_input.specs.Group.{past_threes, threes}
 use Rattle.ic_input.specs.Number.{IsUnsigned, IsWhole, code_for, decimals_at, fraction_of, fraction_text, from_digits, is_first_group, most_decimals, past_decimals, stands_before, units_if, unsigned_number, with_after, with_code, with_groups}
 use Rattle.ic_input.specs.declared.number.Number.{Number}
@@ -35,13 +36,13 @@ value-append n (c ∷ cs) b = value-append (n * 10 + digit_value c) cs b
 -- ---- what the function answers is in the relation
 
 -- the decimals and what stands after them, as they are typed
-decimals_typed : (l : Locale) (rest : List ℕ) → (fraction : Option (List ℕ)) × ((fraction_of fraction ≡ decimals_at (decimal_of l) rest) × (rest ≡ fraction_text (decimal_of l) fraction ++ past_decimals (decimal_of l) rest))
+decimals_typed : (l : Locale) (rest : List ℕ) → (fraction : Option (List ℕ)) × ((fraction_of fraction ≡ decimals_at (decimal_separator l) rest) × (rest ≡ fraction_text (decimal_separator l) fraction ++ past_decimals (decimal_separator l) rest))
 decimals_typed l [] = (None, (refl, refl))
 decimals_typed l (c ∷ cs) =
-    elim (cases_Bool (c == decimal_of l)) [
+    elim (cases_Bool (c == decimal_separator l)) [
       | inl e ↦
-          let same : c ≡ decimal_of l = eqb-true c (decimal_of l) e in
-          (Some (run_of is_digit cs), (rw e refl, rw e (rw same (ap (λ t. decimal_of l ∷ t) (run_and_rest is_digit cs)))))
+          let same : c ≡ decimal_separator l = eqb-true c (decimal_separator l) e in
+          (Some (run_of is_digit cs), (rw e refl, rw e (rw same (ap (λ t. decimal_separator l ∷ t) (run_and_rest is_digit cs)))))
       | inr e ↦ (None, (rw e refl, rw e refl))
     ]
 
@@ -126,12 +127,12 @@ parts_sound l before first rest n digits h =
             grouped = not (is_nothing (threes (group_of l) rest));
             whole_text = first ++ separated (group_of l) (threes (group_of l) rest);
             fraction = d.0;
-            after = past_decimals (decimal_of l) (past_threes (group_of l) rest);
-            spelled = ap (λ x. before ++ x) (ap (λ x. first ++ x) (t.whole ∙ ap (λ x. separated (group_of l) (threes (group_of l) rest) ++ x) d.1.1) ∙ sym (append_assoc first (separated (group_of l) (threes (group_of l) rest)) (fraction_text (decimal_of l) d.0 ++ past_decimals (decimal_of l) (past_threes (group_of l) rest))));
+            after = past_decimals (decimal_separator l) (past_threes (group_of l) rest);
+            spelled = ap (λ x. before ++ x) (ap (λ x. first ++ x) (t.whole ∙ ap (λ x. separated (group_of l) (threes (group_of l) rest) ++ x) d.1.1) ∙ sym (append_assoc first (separated (group_of l) (threes (group_of l) rest)) (fraction_text (decimal_separator l) d.0 ++ past_decimals (decimal_separator l) (past_threes (group_of l) rest))));
             beside = m.beside;
             whole_digits = digits-append first (threes (group_of l) rest) digits t.digits;
             written = whole_typed l first rest e;
-            fraction_digits = rw d.1.0 (decimals-digits (decimal_of l) (past_threes (group_of l) rest));
+            fraction_digits = rw d.1.0 (decimals-digits (decimal_separator l) (past_threes (group_of l) rest));
             some = rw d.1.0 (omega (arith, u.some, length-append first (threes (group_of l) rest)));
             few = rw d.1.0 u.few;
             value = rw d.1.0 (m.amount ∙ rw value refl);
@@ -143,8 +144,8 @@ parts_sound l before first rest n digits h =
 pub unsigned_sound : (l : Locale) (text : List ℕ) (n : Number) → unsigned_number l text ≡ Some n → IsUnsigned l text n
 unfolding unsigned_number from_digits
 unsigned_sound l text n h =
-    let body = past_run (stands_before (decimal_of l)) text in
-    let found = parts_sound l (run_of (stands_before (decimal_of l)) text) (run_of is_digit body) (past_run is_digit body) n (run-digits body) h in
-    let whole : text ≡ run_of (stands_before (decimal_of l)) text ++ (run_of is_digit body ++ past_run is_digit body) =
-    run_and_rest (stands_before (decimal_of l)) text ∙ ap (λ x. run_of (stands_before (decimal_of l)) text ++ x) (run_and_rest is_digit body) in
+    let body = past_run (stands_before (decimal_separator l)) text in
+    let found = parts_sound l (run_of (stands_before (decimal_separator l)) text) (run_of is_digit body) (past_run is_digit body) n (run-digits body) h in
+    let whole : text ≡ run_of (stands_before (decimal_separator l)) text ++ (run_of is_digit body ++ past_run is_digit body) =
+    run_and_rest (stands_before (decimal_separator l)) text ∙ ap (λ x. run_of (stands_before (decimal_separator l)) text ++ x) (run_and_rest is_digit body) in
     subst (λ t. IsUnsigned l t n) (sym whole) found

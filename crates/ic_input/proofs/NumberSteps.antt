@@ -9,7 +9,8 @@ use Rattle.std.proofs.lemmas.Str.Parse.{digits_value_short}
 use Rattle.ic_laws.specs.Scan.{is_digit, past_run, run_of}
 use Rattle.ic_laws.proofs.AmountLemmas.{numerals}
 use Rattle.ic_tables.specs.declared.locale.Locale.{Locale}
-use Rattle.ic_input.specs.Convention.{decimal_of, group_of, is_currency, is_nothing}
+use Rattle.ic_input.specs.Convention.{group_of, is_currency, is_nothing}
+use Rattle.ic_tables.specs.Formats.{decimal_separator}
 use Rattle.ic_input.specs.Code.{is_percent, stands_beside}
 use Rattle.ic_input.specs.Group.{past_threes, threes}
 use Rattle.ic_input.specs.Number.{decimals_at, from_digits, is_first_group, most_decimals, past_decimals, stands_before, units_if, unsigned_number, with_after, with_code, code_for}
@@ -70,13 +71,13 @@ unfolding from_digits
 refused l before body h = rw h refl
 
 -- what each part is, put together
-pub assembled : (l : Locale) (before body : List ℕ) (some : Bool) (v k f kf : ℕ) (after : List ℕ) → is_first_group (first_in body) (groups_in l body) ≡ true → some ≡ not (is_nothing (groups_in l body)) → v ≡ min (digits_value_after 10 (min (digits_value 10 (first_in body)) (10 ^ 20)) (groups_in l body)) (10 ^ 20) → k ≡ length (first_in body) → f ≡ min (digits_value 10 (decimals_at (decimal_of l) (rest_in l body))) (10 ^ 20) → kf ≡ length (decimals_at (decimal_of l) (rest_in l body)) → after ≡ past_decimals (decimal_of l) (rest_in l body) → with_after l before some v k f kf after ≡ from_digits l before body
+pub assembled : (l : Locale) (before body : List ℕ) (some : Bool) (v k f kf : ℕ) (after : List ℕ) → is_first_group (first_in body) (groups_in l body) ≡ true → some ≡ not (is_nothing (groups_in l body)) → v ≡ min (digits_value_after 10 (min (digits_value 10 (first_in body)) (10 ^ 20)) (groups_in l body)) (10 ^ 20) → k ≡ length (first_in body) → f ≡ min (digits_value 10 (decimals_at (decimal_separator l) (rest_in l body))) (10 ^ 20) → kf ≡ length (decimals_at (decimal_separator l) (rest_in l body)) → after ≡ past_decimals (decimal_separator l) (rest_in l body) → with_after l before some v k f kf after ≡ from_digits l before body
 unfolding from_digits
 assembled l before body some v k f kf after grouped es ev ek ef ekf ea =
     let whole : v ≡ min (digits_value_after 10 (digits_value 10 (first_in body)) (groups_in l body)) (10 ^ 20) = ev ∙ capped _ (10 ^ 20) (groups_in l body) in
     rw (grouped, es, whole, ek, ef, ekf, ea)
-    (ap (λ u. cond (stands_beside (is_currency l) before (past_decimals (decimal_of l) (rest_in l body))) (with_code (code_for (not (is_nothing (groups_in l body))) before (past_decimals (decimal_of l) (rest_in l body)) (nat_lt 0 (length (decimals_at (decimal_of l) (rest_in l body))))) u) None)
-    (units_capped (most_decimals (past_decimals (decimal_of l) (rest_in l body))) _ _ (decimals_at (decimal_of l) (rest_in l body)) (low (past_decimals (decimal_of l) (rest_in l body))) (high (past_decimals (decimal_of l) (rest_in l body))) (decimals-digits (decimal_of l) (rest_in l body))))
+    (ap (λ u. cond (stands_beside (is_currency l) before (past_decimals (decimal_separator l) (rest_in l body))) (with_code (code_for (not (is_nothing (groups_in l body))) before (past_decimals (decimal_separator l) (rest_in l body)) (nat_lt 0 (length (decimals_at (decimal_separator l) (rest_in l body))))) u) None)
+    (units_capped (most_decimals (past_decimals (decimal_separator l) (rest_in l body))) _ _ (decimals_at (decimal_separator l) (rest_in l body)) (low (past_decimals (decimal_separator l) (rest_in l body))) (high (past_decimals (decimal_separator l) (rest_in l body))) (decimals-digits (decimal_separator l) (rest_in l body))))
   where
     low : (after : List ℕ) → 7 ≤ most_decimals after
     low after = elim (cases_Bool (is_percent after)) [ inl e ↦ rw e (omega arith) | inr e ↦ rw e (omega arith) ]
@@ -84,7 +85,7 @@ assembled l before body some v k f kf after grouped es ev ek ef ekf ea =
     high : (after : List ℕ) → most_decimals after ≤ 9
     high after = elim (cases_Bool (is_percent after)) [ inl e ↦ rw e (omega arith) | inr e ↦ rw e (omega arith) ]
 
-pub from_start : (l : Locale) (text before body : List ℕ) (d : ℕ) → d ≡ decimal_of l → before ≡ run_of (stands_before d) text → body ≡ past_run (stands_before d) text → from_digits l before body ≡ unsigned_number l text
+pub from_start : (l : Locale) (text before body : List ℕ) (d : ℕ) → d ≡ decimal_separator l → before ≡ run_of (stands_before d) text → body ≡ past_run (stands_before d) text → from_digits l before body ≡ unsigned_number l text
 unfolding unsigned_number
 from_start l text before body d e b r = rw (b, r, e) refl
 
@@ -104,15 +105,15 @@ groups_is l body first groups g eg ev er v s r =
     }
 
 pub record AreDecimals (l : Locale) (body : List ℕ) (decimals : Digits) : Type 0 where
-  pub value : decimals.value ≡ min (digits_value 10 (decimals_at (decimal_of l) (rest_in l body))) (10 ^ 20)
-  pub count : decimals.count ≡ length (decimals_at (decimal_of l) (rest_in l body))
-  pub after : chars decimals.rest.now ≡ past_decimals (decimal_of l) (rest_in l body)
+  pub value : decimals.value ≡ min (digits_value 10 (decimals_at (decimal_separator l) (rest_in l body))) (10 ^ 20)
+  pub count : decimals.count ≡ length (decimals_at (decimal_separator l) (rest_in l body))
+  pub after : chars decimals.rest.now ≡ past_decimals (decimal_separator l) (rest_in l body)
 
-pub decimals_is : (l : Locale) (body : List ℕ) (groups : Groups) (decimals : Digits) (d : ℕ) → d ≡ decimal_of l → chars groups.rest.now ≡ rest_in l body → decimals.value ≡ min (digits_value 10 (decimals_at d (chars groups.rest.now))) (10 ^ 20) → decimals.count ≡ length (decimals_at d (chars groups.rest.now)) → chars decimals.rest.now ≡ past_decimals d (chars groups.rest.now) → AreDecimals l body decimals
+pub decimals_is : (l : Locale) (body : List ℕ) (groups : Groups) (decimals : Digits) (d : ℕ) → d ≡ decimal_separator l → chars groups.rest.now ≡ rest_in l body → decimals.value ≡ min (digits_value 10 (decimals_at d (chars groups.rest.now))) (10 ^ 20) → decimals.count ≡ length (decimals_at d (chars groups.rest.now)) → chars decimals.rest.now ≡ past_decimals d (chars groups.rest.now) → AreDecimals l body decimals
 decimals_is l body groups decimals d ed er v n r =
-    let same : decimals_at d (chars groups.rest.now) ≡ decimals_at (decimal_of l) (rest_in l body) = rw (ed, er) refl in
+    let same : decimals_at d (chars groups.rest.now) ≡ decimals_at (decimal_separator l) (rest_in l body) = rw (ed, er) refl in
     record {
       value = v ∙ ap (λ ds. min (digits_value 10 ds) (10 ^ 20)) same;
       count = n ∙ ap length same;
-      after = r ∙ ap (λ t. past_decimals t (chars groups.rest.now)) ed ∙ ap (past_decimals (decimal_of l)) er;
+      after = r ∙ ap (λ t. past_decimals t (chars groups.rest.now)) ed ∙ ap (past_decimals (decimal_separator l)) er;
     }

@@ -11,7 +11,8 @@ use Rattle.ic_tables.specs.Formats.{has_dates, is_american_date, is_short_date, 
 use Rattle.ic_tables.specs.Tables.{HasGoodFormats, TableSet}
 use Rattle.ic_tables.specs.declared.locale.Locale.{Locale}
 use Rattle.ic_input.specs.Code.{stands_beside}
-use Rattle.ic_input.specs.Convention.{decimal_of, group_of, is_currency, is_nothing, plus, short_date, slash}
+use Rattle.ic_input.specs.Convention.{group_of, is_currency, is_nothing, plus, short_date, slash}
+use Rattle.ic_tables.specs.Formats.{decimal_separator}
 use Rattle.ic_input.specs.Date.{IsTypedDate, iso_date, joined}
 use Rattle.ic_input.specs.Group.{past_threes, threes}
 use Rattle.ic_input.specs.Number.{IsUnsigned, fraction_text, stands_before, from_digits, unsigned_number}
@@ -39,7 +40,7 @@ tells_texts t l h = record { signs = tells_signs t l h; short = short_apart (sho
 
 -- A mark, with which no number and no date begins.
 pub record IsMark (l : Locale) (c : ℕ) : Type 0 where
-  pub before : stands_before (decimal_of l) c ≡ true
+  pub before : stands_before (decimal_separator l) c ≡ true
   pub symbol : may_stand_in_symbol c ≡ false
   pub digit : is_digit c ≡ false
 
@@ -59,9 +60,9 @@ pub mark_no_number : (l : Locale) → TellsSigns l → (c : ℕ) (cs : List ℕ)
 mark_no_number l signs c cs n m h = go h.before h.beside h.spelled
   where
     tail : List ℕ
-    tail = fraction_text (decimal_of l) h.fraction ++ h.after
+    tail = fraction_text (decimal_separator l) h.fraction ++ h.after
 
-    first-of : (text : List ℕ) → c ∷ cs ≡ text → first_is (stands_before (decimal_of l)) text ≡ true
+    first-of : (text : List ℕ) → c ∷ cs ≡ text → first_is (stands_before (decimal_separator l)) text ≡ true
     first-of text e = rw (← e) m.before
 
     go : (before : List ℕ) → stands_beside (is_currency l) before h.after ≡ true → c ∷ cs ≡ before ++ (h.whole_text ++ tail) → ⊥
@@ -121,7 +122,7 @@ date_first l text n code h =
 -- What the marks of dates are.
 record IsDateMark (l : Locale) (mark : ℕ) : Type 0 where
   digit : is_digit mark ≡ false
-  decimal : (mark == decimal_of l) ≡ false
+  decimal : (mark == decimal_separator l) ≡ false
   percent : (mark == 37) ≡ false
 
 date_mark : (l : Locale) (mark : ℕ) → (mark ≡ minus) ⊎ (mark ≡ slash) → IsDateMark l mark
@@ -164,13 +165,13 @@ date_no_number l signs text n code h =
     let m = date_mark l f.mark f.is in
     let rest = f.b ++ f.mark ∷ f.c in
     let digit = first_digit f.a (f.mark ∷ rest) f.some_a f.digits_a in
-    let start = run_until (stands_before (decimal_of l)) [] (f.a ++ f.mark ∷ rest) refl (no_start l (f.a ++ f.mark ∷ rest) digit) in
+    let start = run_until (stands_before (decimal_separator l)) [] (f.a ++ f.mark ∷ rest) refl (no_start l (f.a ++ f.mark ∷ rest) digit) in
     let run = run_of-front f.a (f.mark ∷ rest) f.digits_a m.digit in
     let groups = no_date_groups (group_of l) f.mark f.b f.c m.digit f.some_b f.few_b in
     let symbol = no_date_symbol l signs f.mark f.b f.c f.some_b f.digits_b in
     rw (f.spelled, start.0, start.1, run.0, run.1, groups.0, groups.1, m.decimal, m.percent, symbol) refl
   where
-    no_start : (l : Locale) (text : List ℕ) → first_is is_digit text ≡ true → first_is (stands_before (decimal_of l)) text ≡ false
+    no_start : (l : Locale) (text : List ℕ) → first_is is_digit text ≡ true → first_is (stands_before (decimal_separator l)) text ≡ false
     no_start l [] e = refl
     no_start l (c ∷ cs) e = rw e refl
 

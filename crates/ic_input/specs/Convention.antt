@@ -3,10 +3,6 @@ use Rattle.std.specs.Prelude.{ℕ, List, [], ◌∷◌, Bool, true, false, ◌&&
 use Rattle.ic_laws.specs.Character.{blank, comma, dollar, dot, minus}
 use Rattle.ic_tables.specs.declared.locale.Locale.{Locale}
 
--- decimals stand after a comma or a dot
-abbrev pub decimal_of : Locale → ℕ
-decimal_of l = if bytes_eq l.numbers.symbols.decimal (codes ",") then comma else dot
-
 abbrev pub first_or : ℕ → List ℕ → ℕ
 first_or c [] = c
 first_or c (d ∷ ds) = d

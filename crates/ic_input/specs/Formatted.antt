@@ -5,7 +5,8 @@ use Rattle.ic_laws.specs.Amount.{amount_text, units_of_one}
 use Rattle.ic_laws.specs.Character.{minus}
 use Rattle.ic_tables.specs.declared.locale.Locale.{Locale}
 use Rattle.ic_input.specs.Code.{CodeParts, IsNumberCode, is_date_code, is_percent}
-use Rattle.ic_input.specs.Convention.{decimal_of, group_of}
+use Rattle.ic_input.specs.Convention.{group_of}
+use Rattle.ic_tables.specs.Formats.{decimal_separator}
 use Rattle.ic_input.specs.Date.{IsShownDay, last_day, two_digits}
 use Rattle.ic_input.specs.Group.{in_threes}
 
@@ -34,7 +35,7 @@ sign_text (negsuc n) places = if places == 0 then [] else minus ∷ []
 abbrev pub number_text : Locale → CodeParts → ℤ → List ℕ
 number_text l c v =
     sign_text v (last_places c v)
-    ++ (c.before ++ (digits_text (group_of l) (decimal_of l) c.decimals (last_places c v) ++ c.after))
+    ++ (c.before ++ (digits_text (group_of l) (decimal_separator l) c.decimals (last_places c v) ++ c.after))
 
 -- the amount is the whole day number n
 abbrev pub IsWholeDay : ℤ → ℕ → Type 0
@@ -53,4 +54,4 @@ IsNoDate code v = (is_date_code code ≡ false) ⊎ ((n : ℕ) → ¬ (IsWholeDa
 abbrev pub IsFormatted : Locale → List ℕ → ℤ → List ℕ → Type 0
 IsFormatted l code v text =
     ((c : CodeParts) × ((IsNumberCode code c) × (text ≡ number_text l c v)))
-    ⊎ (((c : CodeParts) → ¬ (IsNumberCode code c)) × ((IsDateShown code v text) ⊎ ((IsNoDate code v) × (text ≡ amount_text (decimal_of l) v))))
+    ⊎ (((c : CodeParts) → ¬ (IsNumberCode code c)) × ((IsDateShown code v text) ⊎ ((IsNoDate code v) × (text ≡ amount_text (decimal_separator l) v))))

@@ -6,7 +6,8 @@ use Rattle.std.specs.Str.Parse.{digits_value, digits_value_after}
 use Rattle.ic_laws.specs.Scan.{is_digit, past_run, run_of}
 use Rattle.ic_tables.specs.declared.locale.Locale.{Locale}
 use Rattle.ic_input.specs.Code.{CodeParts, is_percent, stands_beside}
-use Rattle.ic_input.specs.Convention.{decimal_of, group_of, is_currency, is_nothing}
+use Rattle.ic_input.specs.Convention.{group_of, is_currency, is_nothing}
+use Rattle.ic_tables.specs.Formats.{decimal_separator}
 use Rattle.ic_input.specs.declared.number.Number.{Number}
 use Rattle.ic_input.specs.Group.{in_threes, past_threes, threes}
 
@@ -47,7 +48,7 @@ pub record IsUnsigned (l : Locale) (text : List ℕ) (n : Number) : Type 0 where
   pub whole_text : List ℕ
   pub fraction : Option (List ℕ)
   pub after : List ℕ
-  pub spelled : text ≡ before ++ (whole_text ++ (fraction_text (decimal_of l) fraction ++ after))
+  pub spelled : text ≡ before ++ (whole_text ++ (fraction_text (decimal_separator l) fraction ++ after))
   pub beside : stands_beside (is_currency l) before after ≡ true
   pub whole_digits : all_ascii_digits whole ≡ true
   pub written : IsWhole (group_of l) grouped whole whole_text
@@ -108,7 +109,7 @@ is_first_group first groups = is_nothing groups || nat_lt 0 (length first) && na
 abbrev pub with_groups : Locale → List ℕ → List ℕ → List ℕ → List ℕ → Option Number
 with_groups l before first groups rest =
     if is_first_group first groups
-    then with_decimals l before (not (is_nothing groups)) (digits_value_after 10 (digits_value 10 first) groups) (length first) (decimals_at (decimal_of l) rest) (past_decimals (decimal_of l) rest)
+    then with_decimals l before (not (is_nothing groups)) (digits_value_after 10 (digits_value 10 first) groups) (length first) (decimals_at (decimal_separator l) rest) (past_decimals (decimal_separator l) rest)
     else None
 
 abbrev pub with_first : Locale → List ℕ → List ℕ → List ℕ → Option Number
@@ -118,4 +119,4 @@ unfoldable pub from_digits : Locale → List ℕ → List ℕ → Option Number
 from_digits l before body = with_first l before (run_of is_digit body) (past_run is_digit body)
 
 unfoldable pub unsigned_number : Locale → List ℕ → Option Number
-unsigned_number l text = from_digits l (run_of (stands_before (decimal_of l)) text) (past_run (stands_before (decimal_of l)) text)
+unsigned_number l text = from_digits l (run_of (stands_before (decimal_separator l)) text) (past_run (stands_before (decimal_separator l)) text)

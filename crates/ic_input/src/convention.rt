@@ -1,6 +1,6 @@
 //! What of a locale tells how numbers are typed and shown.
 ghost use Rattle.std.specs.Prelude.{◌≡◌, chars};
-ghost use Rattle.ic_input.specs.Convention.{decimal_of, group_of, is_currency, is_dollar_or_euro, is_nothing};
+ghost use Rattle.ic_input.specs.Convention.{group_of, is_currency, is_dollar_or_euro, is_nothing};
 
 use ic_laws::scan::first_char;
 use ic_tables::Locale;
@@ -10,18 +10,6 @@ pub(crate) fn is_nothing(text: &str) -> bool
     ensures { result ≡ is_nothing (chars text.now) }
 {
     first_char(text).is_none()
-}
-
-/// The separator before decimals.
-#[tactic(auto, using(crate::proofs::LiteralLemmas::literals))]
-pub(crate) fn decimal_of(locale: &Locale) -> char
-    ensures { result ≡ decimal_of locale.now }
-{
-    if locale.numbers.symbols.decimal.is(",") {
-        ','
-    } else {
-        '.'
-    }
 }
 
 /// The separator between groups of digits.

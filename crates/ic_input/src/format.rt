@@ -4,13 +4,14 @@ ghost use Rattle.std.specs.Fmt.{decimal};
 ghost use Rattle.ic_laws.specs.Amount.{amount_text, is_amount};
 ghost use Rattle.ic_input.specs.Code.{is_date_code};
 ghost use Rattle.ic_input.specs.Convention as conventions;
+ghost use Rattle.ic_tables.specs.Formats as formats;
 ghost use Rattle.ic_input.specs.Date.{IsShownDay, last_day, two_digits};
 ghost use Rattle.ic_input.specs.Formatted.{IsDateShown, IsFormatted, IsNoDate, IsWholeDay, digits_text, nearest, number_text, sign_text, step_of};
 ghost use Rattle.ic_input.specs.Group.{in_threes};
 
 use crate::amount::amount_text;
 use crate::code::{NumberCode, is_date_code, is_percent, number_code};
-use crate::convention::{decimal_of, group_of};
+use crate::convention::group_of;
 use crate::date::{civil_of, push_day};
 use crate::push::{push_digit, push_number, push_two_digits};
 use ic_laws::scan::{push_char, push_text};
@@ -48,11 +49,11 @@ fn formatted(alloc: Global, v: Amount, code: &str, locale: &Locale) -> Result<St
 
 // The text of an amount by a code that isn't one of numbers.
 fn other_text(alloc: Global, v: Amount, code: &str, locale: &Locale) -> Result<String, OutOfMemory>
-    ensures { IfOk result (λ s. (IsDateShown (chars code.now) v (chars (string_bytes s))) ⊎ ((IsNoDate (chars code.now) v) × (chars (string_bytes s) ≡ amount_text (conventions.decimal_of locale.now) v))) }
+    ensures { IfOk result (λ s. (IsDateShown (chars code.now) v (chars (string_bytes s))) ⊎ ((IsNoDate (chars code.now) v) × (chars (string_bytes s) ≡ amount_text (formats.decimal_separator locale.now) v))) }
 {
     match day_by(code, v.units()) {
         Some(n) => day_text(alloc, code, n),
-        None => amount_text(alloc, v, decimal_of(locale)),
+        None => amount_text(alloc, v, locale.decimal_separator()),
     }
 }
 
@@ -149,13 +150,13 @@ fn push_digits(
     places: u128,
 ) -> Result<(), OutOfMemory>
     requires { places < 10 ^ 30 }
-    ensures { OnOk result (chars (string_bytes text.new) ≡ chars (string_bytes text.old) ++ digits_text (conventions.group_of locale.now) (conventions.decimal_of locale.now) decimals places) }
+    ensures { OnOk result (chars (string_bytes text.new) ≡ chars (string_bytes text.old) ++ digits_text (conventions.group_of locale.now) (formats.decimal_separator locale.now) decimals places) }
 {
     if !decimals {
         return push_grouped(text, places, group_of(locale));
     }
     push_grouped(text, places / 100, group_of(locale))?;
-    push_char(text, decimal_of(locale))?;
+    push_char(text, locale.decimal_separator())?;
     push_two_digits(text, (places % 100) as u32)
 }
 

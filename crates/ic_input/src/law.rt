@@ -3,14 +3,15 @@ ghost use Rattle.ic_laws.specs.Amount.{amount_text, is_amount};
 ghost use Rattle.ic_tables.specs.Tables.{HasGoodFormats, TableSet};
 ghost use Rattle.ic_tables.specs.declared.language.Language.{Language};
 ghost use Rattle.ic_tables.specs.declared.locale.Locale.{Locale};
-ghost use Rattle.ic_input.specs.Convention.{decimal_of, short_date};
+ghost use Rattle.ic_input.specs.Convention.{short_date};
+ghost use Rattle.ic_tables.specs.Formats.{decimal_separator};
 ghost use Rattle.ic_input.specs.Date.{IsShownDay, iso_date};
 ghost use Rattle.ic_input.specs.Typed.{amount_of_day, typed};
 ghost use Rattle.ic_input.specs.declared.input.Typed.TheVariants as kinds;
 
 /// An amount's text, by the decimal separator of a locale of tables, is typed there as that amount, in any language.
 pub fn law_amount_typed_again()
-    ensures { (tables : TableSet) (l : Locale) (language english : Language) (v : ℤ) → HasGoodFormats tables l → is_amount v ≡ true → typed l language english (amount_text (decimal_of l) v) ≡ kinds.Number v None }
+    ensures { (tables : TableSet) (l : Locale) (language english : Language) (v : ℤ) → HasGoodFormats tables l → is_amount v ≡ true → typed l language english (amount_text (decimal_separator l) v) ≡ kinds.Number v None }
 {}
 
 /// What is shown of a day by `yyyy-mm-dd`, or by the code of the short dates of a locale of tables, is typed there as that

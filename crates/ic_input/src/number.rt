@@ -7,7 +7,7 @@ ghost use Rattle.ic_input.specs.Convention.{is_currency};
 ghost use Rattle.ic_input.specs.Number.{code_for, decimals_at, from_digits, most_decimals, past_decimals, stands_before, units_if, unsigned_number, with_after};
 
 use crate::code::{NumberCode, is_percent};
-use crate::convention::{decimal_of, group_of, is_currency, is_nothing};
+use crate::convention::{group_of, is_currency, is_nothing};
 use crate::digits::{Digits, Groups, digits_at, groups_at};
 use ic_laws::Amount;
 use ic_laws::scan::{first_char, front_of};
@@ -25,7 +25,7 @@ pub(crate) struct Number<'t> {
 pub(crate) fn unsigned_number<'t>(text: &'t str, locale: &Locale) -> Option<Number<'t>>
     ensures value { result ≡ unsigned_number locale.now (chars text.entry.now) }
 {
-    let body = past_other(text, decimal_of(locale));
+    let body = past_other(text, locale.decimal_separator());
     from_digits(front_of(text, body), body, locale)
 }
 
@@ -52,7 +52,7 @@ fn from_digits<'t>(before: &'t str, body: &'t str, locale: &Locale) -> Option<Nu
     if !may_stand_before_groups(first.count, groups.are_some) {
         return None;
     }
-    let decimals = decimals_at(groups.rest, decimal_of(locale));
+    let decimals = decimals_at(groups.rest, locale.decimal_separator());
     with_after(locale, before, &groups, first.count, &decimals)
 }
 

@@ -1,7 +1,7 @@
 -- Command lines: how bytes fall into lines, a line into words and words into texts, and what a run of lines
 -- leaves and answers.
-use Rattle.std.specs.Prelude.{ℕ, List, [], ◌∷◌, ◌++◌, Bool, false, ◌&&◌, ◌==◌, map, flat_map, Option, Some, None, option_map, option_and_then, Result, Ok, Err, if◌then◌else◌, codes, chars, encode_utf8_all}
-use Rattle.std.specs.List.{onto_first, slice_split}
+use Rattle.std.specs.Prelude.{◌≡◌, ◌⊎◌, ℕ, List, [], ◌∷◌, ◌++◌, Bool, false, ◌&&◌, ◌==◌, map, flat_map, Option, Some, None, option_map, option_and_then, Result, Ok, Err, if◌then◌else◌, codes, chars, encode_utf8_all}
+use Rattle.std.specs.List.{list_any, onto_first, slice_split}
 use Rattle.std.specs.Str.{is_utf8}
 use Rattle.ic_laws.specs.Character.{backslash, carriage_return, line_feed, lower_n, lower_r, lower_t, tab}
 use Rattle.ic_laws.specs.Command.{Command, Field, CommandRow, field_text, named_command}
@@ -20,6 +20,35 @@ at_line_feed (b ∷ bs) = b == line_feed
 abbrev pub lines_of : List ℕ → List (List ℕ)
 lines_of [] = []
 lines_of (b ∷ bs) = if b == line_feed then [] ∷ lines_of bs else if b == carriage_return && at_line_feed bs then lines_of bs else onto_first b (lines_of bs)
+
+-- no byte is a line feed
+abbrev pub HoldsNoLineFeed : List ℕ → Type 0
+HoldsNoLineFeed bytes = list_any (λ b. b == line_feed) bytes ≡ false
+
+-- What stands before a line feed is the line and one carriage return. It is the line alone where it doesn't end with one.
+abbrev pub StandsBeforeFeed : List ℕ → List ℕ → Type 0
+StandsBeforeFeed piece line =
+    (piece ≡ line ++ carriage_return ∷ []) ⊎ ((piece ≡ line) × ((front : List ℕ) → ¬ (line ≡ front ++ carriage_return ∷ [])))
+
+-- the bytes begin with this line and its line feed, and this is what comes after it
+pub record BeginsWithLine (bytes line rest : List ℕ) : Type 0 where
+  pub piece : List ℕ
+  pub within : HoldsNoLineFeed piece
+  pub stands : StandsBeforeFeed piece line
+  pub whole : bytes ≡ piece ++ line_feed ∷ rest
+
+-- the bytes are one line without a line feed
+pub record IsLastLine (bytes line : List ℕ) (others : List (List ℕ)) : Type 0 where
+  pub within : HoldsNoLineFeed line
+  pub some : ¬ (line ≡ [])
+  pub same : bytes ≡ line
+  pub alone : others ≡ []
+
+-- The same as a relation: the lines joined by line feeds are the bytes, except for one carriage return directly before
+-- each line feed.
+abbrev pub FallsIntoLines : List ℕ → List (List ℕ) → Type 0
+FallsIntoLines bytes [] = bytes ≡ []
+FallsIntoLines bytes (line ∷ lines) = ((rest : List ℕ) × BeginsWithLine bytes line rest × FallsIntoLines rest lines) ⊎ IsLastLine bytes line lines
 
 -- the text of a line's bytes; a line that isn't UTF-8 counts as the empty line, which is no command either
 abbrev pub line_text : List ℕ → List ℕ

@@ -35,6 +35,7 @@ mod amount;
 mod book_law;
 mod boxed;
 mod dialect;
+mod equality;
 mod items;
 mod law;
 mod memory;
@@ -53,6 +54,7 @@ pub use book_law::{
 };
 pub use boxed::Boxed;
 pub use dialect::{Dialect, WordKind};
+pub use equality::law_equality;
 pub use items::Items;
 pub use law::{
     law_binding_settled, law_lex_print, law_lexes_unique, law_read_as, law_read_print,

@@ -1,4 +1,5 @@
 pub mod EscapeLemmas
+pub mod FallLemmas
 pub mod FeedLemmas
 pub mod HeldLemmas
 pub mod LineLemmas

@@ -1,14 +1,15 @@
 -- What a source and a sink do to the bytes that they tell, and how their faults are seen.
-use Rattle.std.specs.Prelude.{◌≡◌, ℕ, ◌<◌, ◌≤◌, ◌⊎◌, List, [], ◌++◌, length, take, drop, Option, Some, None, Result, Ok, Err}
+use Rattle.std.specs.Prelude.{◌≡◌, ℕ, ◌+◌, ◌<◌, ◌≤◌, ◌⊎◌, List, [], ◌++◌, length, take, drop, Option, Some, None, Result, Ok, Err}
 use Rattle.ic_lines.specs.declared.error.Failed.{Failed}
 
 -- where a counter stands still
 abbrev pub last_count : ℕ
 last_count = 18446744073709551615
 
--- A call met a fault: the count of faults rose in it, or stands at its end, where one more doesn't show.
+-- A call met a fault, and one alone: the count of faults rose by one in it, or stood at its end, where one more doesn't
+-- show, and stands there.
 abbrev pub HasFault : ℕ → ℕ → Type 0
-HasFault before now = (before < now) ⊎ (now ≡ last_count)
+HasFault before now = (now ≡ before + 1) ⊎ ((before ≡ last_count) × (now ≡ last_count))
 
 -- Where the bytes were told before a call, they are told after it too, and both are so related.
 abbrev pub IfTold : Option (List ℕ) → Option (List ℕ) → (List ℕ → List ℕ → Type 0) → Type 0

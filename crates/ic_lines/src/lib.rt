@@ -7,6 +7,7 @@
 
 mod error;
 mod escapes;
+mod law;
 mod line;
 mod memory;
 mod reader;
@@ -17,6 +18,7 @@ mod words;
 
 pub use error::{Failed, RunError};
 pub use escapes::{escape, push_escaped, unescape};
+pub use law::law_lines;
 pub use line::Line;
 pub use memory::{MemorySink, MemorySource};
 pub use reader::LineReader;

@@ -14,7 +14,7 @@ use Rattle.ic_laws.specs.declared.tree.NameMention.{NameMention}
 use Rattle.ic_laws.specs.declared.tree.NameMention.TheVariants as names
 use Rattle.ic_laws.specs.declared.tree.SheetMention.{SheetMention}
 use Rattle.ic_laws.specs.declared.tree.SheetMention.TheVariants as sheets
-use Rattle.ic_pool.specs.Mentions.{SparesFound, formula_after, is_dangling, is_dangling_word, some_in}
+use Rattle.ic_pool.specs.Mentions.{SparesFound, formula_after, has_dangling, is_changed_by, is_dangling, is_dangling_word, some_in}
 use Rattle.ic_pool.proofs.MentionLemmas.{fewer_pass}
 
 -- one with no mention that it changes
@@ -23,10 +23,14 @@ untouched_stays change scope (formulas.Tree t) e =
     ap (λ (u : Bound). let f : Formula = formulas.Tree u in f) (spared_is_same change scope t (untouched_is_spared change scope t e))
 untouched_stays change scope (formulas.Raw text) e = refl
 
+-- so a formula in which all was found
+pub spared_stays : (change : Change) (scope : Option ℕ) → SparesFound change scope → (formula : Formula) → has_dangling formula ≡ false → (formula_after change scope formula ≡ formula) × (is_changed_by change scope formula ≡ false)
+spared_stays change scope spares formula none = (untouched_stays change scope formula (spares formula none), spares formula none)
+
 -- a change of mentions that found nothing leaves each formula in which all was found
 pub spares_found : (change : Change) (scope : Option ℕ) → ((m : SheetMention) → is_dangling m ≡ false → changes_sheet change m ≡ false) → ((m : NameMention) → is_dangling_word m ≡ false → changes_word change scope m ≡ false) → SparesFound change scope
 spares_found change scope sheet word (formulas.Tree t) e =
-    untouched_stays change scope (formulas.Tree t) (fewer_pass is_dangling (changes_sheet change) is_dangling_word (changes_word change scope) sheet word t e)
+    fewer_pass is_dangling (changes_sheet change) is_dangling_word (changes_word change scope) sheet word t e
 spares_found change scope sheet word (formulas.Raw text) e = refl
 
 -- as that of a sheet which gets a name

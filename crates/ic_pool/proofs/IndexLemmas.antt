@@ -8,8 +8,9 @@ use Rattle.std.proofs.lemmas.Map.Text.{is_eq-slice_cmp}
 use Rattle.ic_laws.specs.declared.tree.Formula.{Formula}
 use Rattle.ic_pool.specs.Code.{code}
 use Rattle.ic_pool.specs.Mentions.{has_dangling}
-use Rattle.ic_pool.specs.Pool.{IsKept, dangling_from, dangling_places, first_place}
+use Rattle.ic_pool.specs.Pool.{IsKept, KeepsPlaces, dangling_places, first_place, places_from}
 use Rattle.ic_pool.proofs.KeyLemmas.{bytes_eq-flip}
+use Rattle.ic_pool.proofs.LateLemmas.{whole_knows}
 use Rattle.ic_pool.proofs.PlacedLemmas.{KeepsPlaces-push}
 
 abbrev pub Index : Type 0
@@ -38,20 +39,23 @@ KeepsFrom-step before after at next formulas x key kept is_next within item same
 
 -- ---- a formula is put at the end
 
-pub dangling_from-push : (at : ℕ) (xs : List Formula) (x : Formula) → dangling_from at (xs ++ x ∷ []) ≡ dangling_from at xs ++ cond (has_dangling x) ((at + length xs) ∷ []) []
-dangling_from-push at [] x = ap (λ n. cond (has_dangling x) (n ∷ []) []) (omega arith)
-dangling_from-push at (y ∷ xs) x = after (has_dangling y) (dangling_from-push (suc at) xs x)
+pub places_from-push : (test : Formula → Bool) (at : ℕ) (xs : List Formula) (x : Formula) → places_from test at (xs ++ x ∷ []) ≡ places_from test at xs ++ cond (test x) ((at + length xs) ∷ []) []
+places_from-push test at [] x = ap (λ n. cond (test x) (n ∷ []) []) (omega arith)
+places_from-push test at (y ∷ xs) x = after (test y) (places_from-push test (suc at) xs x)
   where
-    after : (b : Bool) → dangling_from (suc at) (xs ++ x ∷ []) ≡ dangling_from (suc at) xs ++ cond (has_dangling x) ((suc at + length xs) ∷ []) []
-        → cond b (at ∷ dangling_from (suc at) (xs ++ x ∷ [])) (dangling_from (suc at) (xs ++ x ∷ []))
-        ≡ cond b (at ∷ dangling_from (suc at) xs) (dangling_from (suc at) xs) ++ cond (has_dangling x) ((at + suc (length xs)) ∷ []) []
-    after true e = ap (λ ps. at ∷ ps) (e ∙ ap (λ n. dangling_from (suc at) xs ++ cond (has_dangling x) (n ∷ []) []) (let s : suc at + length xs ≡ at + suc (length xs) = omega arith in s))
-    after false e = e ∙ ap (λ n. dangling_from (suc at) xs ++ cond (has_dangling x) (n ∷ []) []) (let s : suc at + length xs ≡ at + suc (length xs) = omega arith in s)
+    after : (b : Bool) → places_from test (suc at) (xs ++ x ∷ []) ≡ places_from test (suc at) xs ++ cond (test x) ((suc at + length xs) ∷ []) []
+        → cond b (at ∷ places_from test (suc at) (xs ++ x ∷ [])) (places_from test (suc at) (xs ++ x ∷ []))
+        ≡ cond b (at ∷ places_from test (suc at) xs) (places_from test (suc at) xs) ++ cond (test x) ((at + suc (length xs)) ∷ []) []
+    after true e = ap (λ ps. at ∷ ps) (e ∙ ap (λ n. places_from test (suc at) xs ++ cond (test x) (n ∷ []) []) (let s : suc at + length xs ≡ at + suc (length xs) = omega arith in s))
+    after false e = e ∙ ap (λ n. places_from test (suc at) xs ++ cond (test x) (n ∷ []) []) (let s : suc at + length xs ≡ at + suc (length xs) = omega arith in s)
 
-pub IsKept-push : (before after : Index) (is_whole : Bool) (places more : List ℕ) (xs list : List Formula) (x : Formula) (key : List ℕ) (at : ℕ) → IsKept before is_whole places xs → is_whole ≡ true → first_place key xs ≡ None → key ≡ code x
-    → at ≡ length xs → Updates (slice_cmp nat_cmp) before after key (Some at) → list ≡ xs ++ x ∷ [] → (b : Bool) → has_dangling x ≡ b → more ≡ places ++ cond b (at ∷ []) [] → IsKept after is_whole more list
-IsKept-push before after is_whole places more xs list x key at kept whole none same end u put b dangles noted = record {
-  finds = λ w. KeepsPlaces-push before after xs list x key at (kept.finds whole) (sym (ap (λ k. first_place k xs) same) ∙ none) same end u put;
-  dangles = noted ∙ ap₂ (λ ps t. ps ++ t) kept.dangles (ap₂ (λ c n. cond c (n ∷ []) []) (sym dangles) (end ∙ sym (let e : 0 + length xs ≡ length xs = omega arith in e)))
-      ∙ sym (ap dangling_places put ∙ dangling_from-push 0 xs x);
-}
+pub IsKept-push : (before after : Index) (is_whole knows_rest : Bool) (late places more : List ℕ) (xs list : List Formula) (x : Formula) (key : List ℕ) (at : ℕ) → IsKept before is_whole knows_rest late places xs → is_whole ≡ true → first_place key xs ≡ None → key ≡ code x
+    → at ≡ length xs → Updates (slice_cmp nat_cmp) before after key (Some at) → list ≡ xs ++ x ∷ [] → (b : Bool) → has_dangling x ≡ b → more ≡ places ++ cond b (at ∷ []) [] → IsKept after is_whole knows_rest late more list
+IsKept-push before after is_whole knows_rest late places more xs list x key at kept whole none same end u put b dangles noted =
+    let found : KeepsPlaces after list = KeepsPlaces-push before after xs list x key at (kept.finds whole) (sym (ap (λ k. first_place k xs) same) ∙ none) same end u put in
+    record {
+      finds = λ w. found;
+      rest = λ k. whole_knows after late list found;
+      dangles = noted ∙ ap₂ (λ ps t. ps ++ t) kept.dangles (ap₂ (λ c n. cond c (n ∷ []) []) (sym dangles) (end ∙ sym (let e : 0 + length xs ≡ length xs = omega arith in e)))
+          ∙ sym (ap dangling_places put ∙ places_from-push has_dangling 0 xs x);
+    }

@@ -4,6 +4,8 @@ pub mod CodeLaws
 pub mod CopyLemmas
 pub mod IndexLemmas
 pub mod KeyLemmas
+pub mod LateLemmas
+pub mod ListedLemmas
 pub mod MentionLemmas
 pub mod PlacedLemmas
 pub mod Rebuilt

@@ -1,13 +1,15 @@
 -- Rewriting the formulas of a pool, one after another.
 use Rattle.std.proofs.Common.{◌≡◌, ◌<◌, ◌≤◌, ◌+◌, ℕ, suc, List, [], ◌∷◌, ◌++◌, Bool, true, false, cond, refl, sym, ap, ap₂, subst, ◌∙◌, map, length, take, drop, get_or, set, arith, append_assoc, append-nil, ◌⊎◌, inl, inr}
-use Rattle.std.proofs.lemmas.List.{drop_all, drop_more, length-drop, length-map, length-take, map_more, set_at, take_all}
+use Rattle.std.proofs.lemmas.List.{drop_all, drop_more, length-drop, length-map, length-take, map-append, map_more, set_at, take_all, take_more}
 use Rattle.std.specs.List.{AllByRecursion}
 use Rattle.ic_laws.specs.declared.tree.Formula.{Formula}
+use Rattle.ic_pool.specs.Code.{code}
 use Rattle.ic_pool.specs.Mentions.{has_dangling}
-use Rattle.ic_pool.specs.Pool.{dangling_from, dangling_places}
-use Rattle.ic_pool.specs.Rewrites.{FitsPool, IsNoted, RewritesState, changed_by, rewritten_by}
+use Rattle.ic_pool.specs.Pool.{dangling_from, dangling_places, is_among, places_where}
+use Rattle.ic_pool.specs.Rewrites.{FitsPool, IsNoted, RewritesState, changed_by, is_key_among, old_keys, places_of, rewritten_by}
 use Rattle.ic_pool.specs.declared.pool.rewrites.Replacement.{Replacement}
-use Rattle.ic_pool.proofs.IndexLemmas.{dangling_from-push}
+use Rattle.ic_pool.proofs.IndexLemmas.{places_from-push}
+use Rattle.ic_pool.proofs.ListedLemmas.{key_passes, keys_where, keys_where-push, passes_there}
 
 -- a change behind others is made after them
 changed_by-push : (changes : List Replacement) (change : Replacement) (formulas : List Formula) → changed_by (changes ++ change ∷ []) formulas ≡ set (changed_by changes formulas) change.at change.formula
@@ -18,7 +20,7 @@ all-push : {X : Type 0} (P : X → Type 0) (xs : List X) (x : X) → AllByRecurs
 all-push P [] x h p = (p, tt)
 all-push P (y ∷ xs) x h p = (h.0, all-push P xs x h.1 p)
 
-module _ (f : Formula → Formula) (formulas : List Formula) where
+module _ (f : Formula → Formula) (test : Formula → Bool) (formulas : List Formula) where
   abbrev Within : Replacement → Type 0
   Within change = change.at < length formulas
 
@@ -27,13 +29,33 @@ module _ (f : Formula → Formula) (formulas : List Formula) where
     pub made : rewritten_by s formulas ≡ map f (take i formulas) ++ drop i formulas
     pub within : AllByRecursion Within s.changes
     pub dangles : s.dangling ≡ dangling_places (map f (take i formulas))
+    pub listed : places_of s.changes ≡ places_where test (take i formulas)
+    pub keys : old_keys s.changes ≡ keys_where test (take i formulas)
+    pub places : s.places ≡ places_of s.changes
 
-  pub rewritten_end : (i : ℕ) (s : RewritesState) → RewrittenTo i s → length formulas ≤ i → (rewritten_by s formulas ≡ map f formulas) × FitsPool s formulas
+  -- all are rewritten, and the places are those of the ones that pass
+  pub record Rewritten (s : RewritesState) : Type 0 where
+    pub made : rewritten_by s formulas ≡ map f formulas
+    pub listed : places_of s.changes ≡ places_where test formulas
+    pub fits : FitsPool s formulas
+
+  pub rewritten_end : (i : ℕ) (s : RewritesState) → RewrittenTo i s → length formulas ≤ i → Rewritten s
   rewritten_end i s done end =
       let all : take i formulas ≡ formulas = take_all i formulas end in
       let made : rewritten_by s formulas ≡ map f formulas =
       done.made ∙ ap₂ (λ a b. map f a ++ b) all (drop_all i formulas end) ∙ append-nil (map f formulas) in
-      (made, record { within = done.within; dangles = done.dangles ∙ ap (λ xs. dangling_places (map f xs)) all ∙ ap dangling_places (sym made) })
+      let listed : places_of s.changes ≡ places_where test formulas = done.listed ∙ ap (places_where test) all in
+      let keys : old_keys s.changes ≡ keys_where test formulas = done.keys ∙ ap (keys_where test) all in
+      record {
+        made = made;
+        listed = listed;
+        fits = record {
+          within = done.within;
+          dangles = done.dangles ∙ ap (λ xs. dangling_places (map f xs)) all ∙ ap dangling_places (sym made);
+          places = done.places;
+          together = λ at x e. ap (is_key_among (code x)) keys ∙ key_passes test formulas at x e ∙ sym (ap (is_among at) listed ∙ passes_there test formulas at x e);
+        };
+      }
 
   module _ (i next : ℕ) (x : Formula) (s t : RewritesState) (is_next : i + 1 ≡ next) (below : i < length formulas) (item : x ≡ get_or formulas i x) where
     front : List Formula
@@ -53,24 +75,52 @@ module _ (f : Formula → Formula) (formulas : List Formula) where
     seam : front ++ f x ∷ drop next formulas ≡ map f (take next formulas) ++ drop next formulas
     seam = sym (append_assoc front (f x ∷ []) (drop next formulas)) ∙ ap (λ xs. xs ++ drop next formulas) (sym more)
 
-    step_made : RewrittenTo i s → ((f x ≡ x) × (t.changes ≡ s.changes)) ⊎ (t.changes ≡ s.changes ++ record { at = i; formula = f x } ∷ []) → rewritten_by t formulas ≡ map f (take next formulas) ++ drop next formulas
+    step_made : RewrittenTo i s → ((f x ≡ x) × (t.changes ≡ s.changes)) ⊎ (t.changes ≡ s.changes ++ record { at = i; formula = f x; old_key = code x } ∷ []) → rewritten_by t formulas ≡ map f (take next formulas) ++ drop next formulas
     unfolding front
     step_made done (inl same) = ap (λ changes. changed_by changes formulas) same.1 ∙ done.made ∙ ap (λ xs. front ++ xs) (rest ∙ ap (λ y. y ∷ drop next formulas) (sym same.0)) ∙ seam
     step_made done (inr put) =
-        ap (λ changes. changed_by changes formulas) put ∙ changed_by-push s.changes (record { at = i; formula = f x }) formulas
+        ap (λ changes. changed_by changes formulas) put ∙ changed_by-push s.changes (record { at = i; formula = f x; old_key = code x }) formulas
         ∙ ap (λ xs. set xs i (f x)) (done.made ∙ ap (λ xs. front ++ xs) rest) ∙ set_at front x (drop next formulas) (f x) i length-front ∙ seam
 
-    step_within : RewrittenTo i s → ((f x ≡ x) × (t.changes ≡ s.changes)) ⊎ (t.changes ≡ s.changes ++ record { at = i; formula = f x } ∷ []) → AllByRecursion Within t.changes
+    step_within : RewrittenTo i s → ((f x ≡ x) × (t.changes ≡ s.changes)) ⊎ (t.changes ≡ s.changes ++ record { at = i; formula = f x; old_key = code x } ∷ []) → AllByRecursion Within t.changes
     step_within done (inl same) = subst (AllByRecursion Within) (sym same.1) done.within
-    step_within done (inr put) = subst (AllByRecursion Within) (sym put) (all-push Within s.changes (record { at = i; formula = f x }) done.within below)
+    step_within done (inr put) = subst (AllByRecursion Within) (sym put) (all-push Within s.changes (record { at = i; formula = f x; old_key = code x }) done.within below)
 
-    pub rewritten_step : RewrittenTo i s → IsNoted i x (f x) s t → RewrittenTo next t
+    one_more : take next formulas ≡ take i formulas ++ x ∷ []
+    one_more = ap (λ n. take n formulas) (sym is_next) ∙ take_more formulas i x below ∙ ap (λ y. take i formulas ++ y ∷ []) (sym item)
+
+    length-before : length (take i formulas) ≡ i
+    length-before = omega (arith, length-take i formulas)
+
+    -- it stays, or its change stands behind the others
+    either : IsNoted i x (f x) (test x) s t → (b : Bool) → test x ≡ b → ((f x ≡ x) × (t.changes ≡ s.changes)) ⊎ (t.changes ≡ s.changes ++ record { at = i; formula = f x; old_key = code x } ∷ [])
+    either noted true passes = inr (noted.change ∙ ap (λ b. s.changes ++ cond b (record { at = i; formula = f x; old_key = code x } ∷ []) []) passes)
+    either noted false fails = inl (noted.same fails, noted.change ∙ ap (λ b. s.changes ++ cond b (record { at = i; formula = f x; old_key = code x } ∷ []) []) fails ∙ append-nil s.changes)
+
+    seen_at : (b : Bool) → places_of (cond b (record { at = i; formula = f x; old_key = code x } ∷ []) []) ≡ cond b (i ∷ []) []
+    seen_at true = refl
+    seen_at false = refl
+
+    seen_key : (b : Bool) → old_keys (cond b (record { at = i; formula = f x; old_key = code x } ∷ []) []) ≡ cond b (code x ∷ []) []
+    seen_key true = refl
+    seen_key false = refl
+
+    new_places : IsNoted i x (f x) (test x) s t → places_of t.changes ≡ places_of s.changes ++ cond (test x) (i ∷ []) []
+    new_places noted =
+        ap places_of noted.change ∙ map-append (λ (c : Replacement). c.at) s.changes (cond (test x) (record { at = i; formula = f x; old_key = code x } ∷ []) []) ∙ ap (λ ps. places_of s.changes ++ ps) (seen_at (test x))
+
+    pub rewritten_step : RewrittenTo i s → IsNoted i x (f x) (test x) s t → RewrittenTo next t
     unfolding front
     rewritten_step done noted = record {
-      made = step_made done noted.change;
-      within = step_within done noted.change;
+      made = step_made done (either noted (test x) refl);
+      within = step_within done (either noted (test x) refl);
       dangles = noted.place ∙ ap₂ (λ places n. places ++ cond (has_dangling (f x)) (n ∷ []) []) done.dangles (sym (let e : 0 + length front ≡ i = omega (arith, length-front) in e))
-          ∙ sym (ap dangling_places more ∙ dangling_from-push 0 front (f x));
+          ∙ sym (ap dangling_places more ∙ places_from-push has_dangling 0 front (f x));
+      listed = new_places noted ∙ ap₂ (λ ps n. ps ++ cond (test x) (n ∷ []) []) done.listed (sym (let e : 0 + length (take i formulas) ≡ i = omega (arith, length-before) in e))
+          ∙ sym (ap (places_where test) one_more ∙ places_from-push test 0 (take i formulas) x);
+      keys = ap old_keys noted.change ∙ map-append (λ (c : Replacement). c.old_key) s.changes (cond (test x) (record { at = i; formula = f x; old_key = code x } ∷ []) [])
+          ∙ ap₂ (λ ks more. ks ++ more) done.keys (seen_key (test x)) ∙ sym (ap (keys_where test) one_more ∙ keys_where-push test (take i formulas) x);
+      places = noted.listed ∙ ap (λ ps. ps ++ cond (test x) (i ∷ []) []) done.places ∙ sym (new_places noted);
     }
 
   -- ---- where formulas in which all was found stay as they are
@@ -81,13 +131,15 @@ module _ (f : Formula → Formula) (formulas : List Formula) where
     pub below : at < length formulas
     pub left : dangling_from (suc at) (drop (suc at) formulas) ≡ places
 
-  module _ (spares : (x : Formula) → has_dangling x ≡ false → f x ≡ x) where
+  module _ (spares : (x : Formula) → has_dangling x ≡ false → (f x ≡ x) × (test x ≡ false)) where
     below_end : (i : ℕ) (x : Formula) (xs : List Formula) → drop i formulas ≡ x ∷ xs → i < length formulas
     below_end i x xs e = let counts : length (drop i formulas) ≡ length (x ∷ xs) = ap length e in omega (arith, length-drop i formulas, counts)
 
-    stays : (i : ℕ) (x : Formula) (s : RewritesState) → has_dangling x ≡ false → f x ≡ x → IsNoted i x (f x) s s
-    stays i x s none same = record {
-      change = inl (same, refl);
+    stays : (i : ℕ) (x : Formula) (s : RewritesState) → has_dangling x ≡ false → f x ≡ x → test x ≡ false → IsNoted i x (f x) (test x) s s
+    stays i x s none same fails = record {
+      same = λ e. same;
+      change = sym (append-nil s.changes) ∙ ap (λ b. s.changes ++ cond b (record { at = i; formula = f x; old_key = code x } ∷ []) []) (sym fails);
+      listed = sym (append-nil s.places) ∙ ap (λ b. s.places ++ cond b (i ∷ []) []) (sym fails);
       place = sym (append-nil s.dangling) ∙ ap (λ b. s.dangling ++ cond b (i ∷ []) []) (sym (ap has_dangling same ∙ none));
     }
 
@@ -98,7 +150,7 @@ module _ (f : Formula → Formula) (formulas : List Formula) where
         let parts : x ∷ xs ≡ get_or formulas i x ∷ drop (i + 1) formulas = sym e ∙ drop_more formulas i x below in
         let item : x ≡ get_or formulas i x = cc in
         let is_next : i + 1 ≡ suc i = omega arith in
-        rewritten_step i (suc i) x s s is_next below item done (stays i x s none (spares x none))
+        rewritten_step i (suc i) x s s is_next below item done (stays i x s none (spares x none).0 (spares x none).1)
 
     tail_of : (i : ℕ) (x : Formula) (xs : List Formula) → drop i formulas ≡ x ∷ xs → drop (suc i) formulas ≡ xs
     tail_of i x xs e =
@@ -136,7 +188,7 @@ module _ (f : Formula → Formula) (formulas : List Formula) where
     place_is_next i k at places s done left below item =
         next_place i (drop i formulas) at (drop (k + 1) places) s refl (left ∙ drop_more places k 0 below ∙ ap (λ n. n ∷ drop (k + 1) places) (sym item)) done
 
-    pub places_end : (i k : ℕ) (places : List ℕ) (s : RewritesState) → RewrittenTo i s → dangling_from i (drop i formulas) ≡ drop k places → length places ≤ k → (rewritten_by s formulas ≡ map f formulas) × FitsPool s formulas
+    pub places_end : (i k : ℕ) (places : List ℕ) (s : RewritesState) → RewrittenTo i s → dangling_from i (drop i formulas) ≡ drop k places → length places ≤ k → Rewritten s
     places_end i k places s done left end =
         let last = no_place i (drop i formulas) s refl (left ∙ drop_all k places end) done in
         rewritten_end last.0 s last.2 last.1

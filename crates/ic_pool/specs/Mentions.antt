@@ -37,6 +37,6 @@ is_changed_by change scope formula = some_in (changes_sheet change) (changes_wor
 abbrev pub formula_after : Change → Option ℕ → Formula → Formula
 formula_after change scope formula = with_tree (changed_tree change scope) formula
 
--- a change leaves each formula in which all was found
+-- a change changes no mention of a formula in which all was found
 abbrev pub SparesFound : Change → Option ℕ → Type 0
-SparesFound change scope = (formula : Formula) → has_dangling formula ≡ false → formula_after change scope formula ≡ formula
+SparesFound change scope = (formula : Formula) → has_dangling formula ≡ false → is_changed_by change scope formula ≡ false

@@ -1,8 +1,8 @@
 -- The formulas of a sheet, each at its place, and where each stands first.
-use Rattle.std.specs.Prelude.{◌≡◌, ◌≢◌, ℕ, suc, ◌<◌, ◌≤◌, List, [], ◌∷◌, ◌++◌, Bool, true, Option, Some, None, length, option_map, bytes_eq, if◌then◌else◌}
+use Rattle.std.specs.Prelude.{◌≡◌, ◌≢◌, ℕ, suc, ◌<◌, ◌≤◌, List, [], ◌∷◌, ◌++◌, Bool, true, false, Option, Some, None, length, option_map, bytes_eq, nat_eq, if◌then◌else◌}
 use Rattle.std.specs.BTreeMap.{BTreeMap, get}
 use Rattle.std.specs.Cmp.Lexicographic.{slice_cmp}
-use Rattle.std.specs.List.{slice_get}
+use Rattle.std.specs.List.{list_any, slice_get}
 use Rattle.std.specs.Ordering.{nat_cmp}
 use Rattle.ic_laws.specs.declared.tree.Formula.{Formula}
 use Rattle.ic_pool.specs.Code.{code}
@@ -34,16 +34,36 @@ first_place key (x ∷ xs) = if bytes_eq key (code x) then Some 0 else option_ma
 pub record KeepsPlaces (index : BTreeMap (List ℕ) ℕ) (formulas : List Formula) : Type 0 where
   pub finds : (key : List ℕ) → get (slice_cmp nat_cmp) index key ≡ first_place key formulas
 
--- the places of the formulas that mention something that wasn't found, where the first formula stands at this place
+-- a place is one of these
+abbrev pub is_among : ℕ → List ℕ → Bool
+is_among at places = list_any (nat_eq at) places
+
+-- What the look-up has is true; and it has each formula that stands at none of the late places, there or at a place before.
+pub record KnowsRest (index : BTreeMap (List ℕ) ℕ) (late : List ℕ) (formulas : List Formula) : Type 0 where
+  pub is_true : (key : List ℕ) (at : ℕ) → get (slice_cmp nat_cmp) index key ≡ Some at → option_map code (slice_get formulas at) ≡ Some key
+  pub has_rest : (at : ℕ) (formula : Formula) → slice_get formulas at ≡ Some formula → is_among at late ≡ false
+      → (first : ℕ) × (first ≤ at) × (get (slice_cmp nat_cmp) index (code formula) ≡ Some first)
+
+-- the places of the formulas that pass a test, where the first formula stands at this place
+abbrev pub places_from : (Formula → Bool) → ℕ → List Formula → List ℕ
+places_from test at [] = []
+places_from test at (x ∷ xs) = if test x then at ∷ places_from test (suc at) xs else places_from test (suc at) xs
+
+-- the places of the formulas that pass a test, in ascending order
+abbrev pub places_where : (Formula → Bool) → List Formula → List ℕ
+places_where test formulas = places_from test 0 formulas
+
+-- those of the formulas that mention something that wasn't found, where the first formula stands at this place
 abbrev pub dangling_from : ℕ → List Formula → List ℕ
-dangling_from at [] = []
-dangling_from at (x ∷ xs) = if has_dangling x then at ∷ dangling_from (suc at) xs else dangling_from (suc at) xs
+dangling_from at formulas = places_from has_dangling at formulas
 
 -- the places of the formulas that mention something that wasn't found, in ascending order
 abbrev pub dangling_places : List Formula → List ℕ
 dangling_places formulas = dangling_from 0 formulas
 
--- What a pool keeps beside its formulas is true of them: a look-up that is whole, and the list of places.
-pub record IsKept (index : BTreeMap (List ℕ) ℕ) (is_whole : Bool) (dangling : List ℕ) (formulas : List Formula) : Type 0 where
+-- What a pool keeps beside its formulas is true of them: a look-up that is whole, or knows all but those at the late
+-- places; and the list of places.
+pub record IsKept (index : BTreeMap (List ℕ) ℕ) (is_whole knows_rest : Bool) (late dangling : List ℕ) (formulas : List Formula) : Type 0 where
   pub finds : is_whole ≡ true → KeepsPlaces index formulas
+  pub rest : knows_rest ≡ true → KnowsRest index late formulas
   pub dangles : dangling ≡ dangling_places formulas

@@ -3,7 +3,7 @@ ghost use Rattle.std.specs.List.{slice_get};
 ghost use Rattle.ic_laws.specs.declared.tree.Formula.{Formula};
 ghost use Rattle.ic_pool.specs.Code.{code};
 ghost use Rattle.ic_pool.specs.Mentions.{SparesFound, formula_after};
-ghost use Rattle.ic_pool.specs.Rewrites.{FitsPool, changes_nothing, rewritten_by};
+ghost use Rattle.ic_pool.specs.Rewrites.{FitsPool, ListsChanged, changes_nothing, rewritten_by};
 ghost use Rattle.ic_pool.specs.Pool.{IsPlaced, dangling_places, first_place};
 
 mod index;
@@ -11,11 +11,11 @@ mod rewrites;
 
 use crate::{BookChange, Key, Steps, copy_formula, has_dangling, key_of};
 use ic_laws::{Formula, OutOfMemory};
-use index::index_of;
+use index::{index_of, put_late};
 pub use rewrites::Rewrites;
 use rewrites::{rewrites_at, rewrites_of};
 use std::alloc::Global;
-use std::collections::BTreeMap;
+use std::collections::{BTreeMap, LinkedList};
 use std::marker::{Brand, Model};
 use std::sync::ledger::{Blank, Ledger};
 
@@ -23,9 +23,13 @@ use std::sync::ledger::{Blank, Ledger};
 pub struct Pool {
     alloc: Global,
     formulas: Vec<Formula>,
-    /// Where it is whole: for each formula its first place, by its key.
+    /// Where it is whole: for each formula its first place, by its key. Where it isn't, a change has taken keys out, and
+    /// the places of the formulas that it made are late: the next write puts their keys in.
     index: BTreeMap<Key, usize>,
     is_whole: bool,
+    /// Whether the look-up has all formulas but those at the late places.
+    knows_rest: bool,
+    late: LinkedList<usize>,
     /// The places of the formulas that mention something that wasn't found.
     dangling: Vec<usize>,
 }
@@ -37,11 +41,14 @@ impl Drop for Pool {
             formulas,
             index,
             is_whole: _,
+            knows_rest: _,
+            late,
             dangling,
         } = self;
         drop(alloc);
         drop(formulas);
         drop(index);
+        drop(late);
         drop(dangling);
     }
 }
@@ -58,7 +65,7 @@ impl Model for Pool {
 
     ghost view = { λ p. record { formulas = p.formulas.items; is_whole = p.is_whole } };
 
-    ghost invariant = { λ p. IsKept p.index p.is_whole p.dangling.items p.formulas.items };
+    ghost invariant = { λ p. IsKept p.index p.is_whole p.knows_rest p.late p.dangling.items p.formulas.items };
 }
 
 impl Pool {
@@ -72,6 +79,8 @@ impl Pool {
             formulas: Vec::new(alloc),
             index: BTreeMap::new(alloc),
             is_whole: true,
+            knows_rest: true,
+            late: LinkedList::new(alloc),
             dangling: Vec::new(alloc),
         }
     }
@@ -104,8 +113,8 @@ impl Pool {
         self.dangling.len()
     }
 
-    /// Makes its look-up whole, in one step for each formula; where it is whole already, in none and without memory.
-    /// `OutOfMemory` leaves it as it was.
+    /// Makes its look-up whole, in one step for each formula that it lacks, at most one for each formula; where it is whole
+    /// already, in none and without memory. `OutOfMemory` leaves it as it was.
     pub fn make_whole<L: Ledger>(&mut self, steps: &mut Steps<L>) -> Result<(), OutOfMemory>
         ensures ok { OnOk result (self.new ≡ record self.old { is_whole = true }) }
         ensures err { OnErr result (self.new ≡ self.old) }
@@ -117,7 +126,30 @@ impl Pool {
         if self.is_whole {
             return Ok(());
         }
+        if self.knows_rest && self.late.len() <= self.formulas.len() {
+            put_late(
+                self.alloc,
+                &self.formulas,
+                &mut self.index,
+                &mut self.late,
+                steps,
+            )?;
+            self.is_whole = true;
+            return Ok(());
+        }
+        self.make_anew(steps)
+    }
+
+    /// Makes its look-up whole from nothing, in one step for each formula. `OutOfMemory` leaves it as it was.
+    fn make_anew<L: Ledger>(&mut self, steps: &mut Steps<L>) -> Result<(), OutOfMemory>
+        ensures ok { OnOk result (self.new ≡ record self.old { is_whole = true }) }
+        ensures err { OnErr result (self.new ≡ self.old) }
+        ensures cost { steps.new ≤ steps.old + length self.old.formulas }
+        ensures grows { steps.old ≤ steps.new }
+    {
         self.index = index_of(self.alloc, &self.formulas, steps)?;
+        self.late.clear();
+        self.knows_rest = true;
         self.is_whole = true;
         Ok(())
     }
@@ -186,6 +218,7 @@ impl Pool {
         scope: Option<u32>,
     ) -> Result<Rewrites, OutOfMemory>
         ensures made { IfOk result (λ w. rewritten_by w self.now.formulas ≡ map (formula_after (C.change change.now) scope) self.now.formulas) }
+        ensures listed { IfOk result (ListsChanged (C.change change.now) scope self.now.formulas) }
         ensures fits { IfOk result (λ w. FitsPool w self.now.formulas) }
     {
         rewrites_of(self.alloc, &self.formulas, change, scope)
@@ -199,22 +232,36 @@ impl Pool {
     ) -> Result<Rewrites, OutOfMemory>
         requires { SparesFound (C.change change.now) scope }
         ensures made { IfOk result (λ w. rewritten_by w self.now.formulas ≡ map (formula_after (C.change change.now) scope) self.now.formulas) }
+        ensures listed { IfOk result (ListsChanged (C.change change.now) scope self.now.formulas) }
         ensures fits { IfOk result (λ w. FitsPool w self.now.formulas) }
     {
         rewrites_at(self.alloc, &self.formulas, &self.dangling, change, scope)
     }
 
     /// Rewrites its formulas, each in its place, also where two become equal. Where some formula becomes another the
-    /// look-up is whole no more, until `make_whole` is called; else it stays.
+    /// look-up lacks those that did, until `make_whole` is called; else it stays. It takes no memory.
     pub fn apply(&mut self, rewrites: Rewrites)
         requires { FitsPool rewrites self.old.formulas }
         ensures formulas { self.new.formulas ≡ rewritten_by rewrites self.old.formulas }
         ensures whole { self.new.is_whole ≡ (self.old.is_whole && changes_nothing rewrites) }
     {
-        if !rewrites.is_empty() {
-            self.index.clear();
-            self.is_whole = false;
+        if rewrites.is_empty() {
+            self.dangling = rewrites.put(&mut self.formulas);
+        } else {
+            self.rewrite(rewrites);
         }
+    }
+
+    /// The same where some formula becomes another: its key goes out of the look-up, and its place is late.
+    fn rewrite(&mut self, mut rewrites: Rewrites)
+        requires fits { FitsPool rewrites self.old.formulas }
+        requires some { changes_nothing rewrites ≡ false }
+        ensures formulas { self.new.formulas ≡ rewritten_by rewrites self.old.formulas }
+        ensures whole { self.new.is_whole ≡ (self.old.is_whole && changes_nothing rewrites) }
+    {
+        rewrites.take_out(&mut self.index);
+        self.knows_rest &= rewrites.move_places(&mut self.late);
+        self.is_whole = false;
         self.dangling = rewrites.put(&mut self.formulas);
     }
 

@@ -11,6 +11,7 @@ pub mod ColumnNamedLemmas
 pub mod ColumnNumberLemmas
 pub mod DigitsDecimalLemmas
 pub mod DigitsLemmas
+pub mod EqualLemmas
 pub mod FormulaCellLemmas
 pub mod FormulaFormLemmas
 pub mod FormulaTrimLemmas

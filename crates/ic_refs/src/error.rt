@@ -1,5 +1,6 @@
 use ic_laws::{OutOfMemory, Text};
 use std::alloc::{AllocError, AllocFailed};
+use std::fmt;
 use thiserror::Error;
 
 /// Why a text names no column. The first that holds, in this order, is told.
@@ -18,43 +19,59 @@ pub enum ColumnError {
 }
 
 /// Why a text is no reference.
-#[derive(Debug, Drop, Error)]
+#[derive(Debug, Drop)]
 pub enum ReferenceError {
     /// It has other characters than those of words, and is no reference.
-    #[error("Invalid reference. Expected only one token.")]
     OneToken,
     /// It is empty or a word, and no reference.
-    #[error("Invalid reference. First token is not a reference.")]
     NotReference,
     /// It has no sheet name, and no sheet was given.
-    #[error("Reference doesn't contain sheet name and relative cell is not known.")]
     NoSheetKnown,
     /// No sheet of this name was found.
-    #[error("Invalid reference. Sheet \"{0}\" could not be found.")]
     SheetUnknown(Text),
     /// A number is missing, or doesn't fit `i32`.
-    #[error("Invalid reference. Expected a number.")]
     ExpectedNumber,
-    #[error("Invalid reference. Expected ']'.")]
     ExpectedBracket,
-    #[error("Invalid reference. The offset is larger than the sheet.")]
     OffsetTooLarge,
-    #[error("Invalid reference. It is outside of the sheet.")]
     OutsideSheet,
-    #[error("Invalid reference. Expected 'R' or 'C'.")]
     ExpectedLetter,
-    #[error("Invalid reference. Expected end of reference.")]
     ExpectedEnd,
     /// One end of a range is a cell, a row or a column and the other isn't.
-    #[error("Invalid reference. The two ends of the range are of different kind.")]
     MixedEnds,
-    #[error("Invalid reference. The name of the sheet is not closed.")]
     NameNotClosed,
-    #[error("Invalid reference. Expected '!' after the sheet name.")]
     ExpectedBang,
-    #[error("Out of memory")]
     OutOfMemory,
 }
+
+impl fmt::Display for ReferenceError {
+    fn fmt<W: fmt::Write>(&self, f: &mut fmt::Formatter<W>) -> fmt::Result {
+        let text = match self {
+            ReferenceError::SheetUnknown(name) => {
+                return write!(f, "Invalid reference. Sheet \"{name}\" could not be found.");
+            }
+            ReferenceError::OneToken => "Invalid reference. Expected only one token.",
+            ReferenceError::NotReference => "Invalid reference. First token is not a reference.",
+            ReferenceError::NoSheetKnown =>
+                "Reference doesn't contain sheet name and relative cell is not known.",
+            ReferenceError::ExpectedNumber => "Invalid reference. Expected a number.",
+            ReferenceError::ExpectedBracket => "Invalid reference. Expected ']'.",
+            ReferenceError::OffsetTooLarge =>
+                "Invalid reference. The offset is larger than the sheet.",
+            ReferenceError::OutsideSheet => "Invalid reference. It is outside of the sheet.",
+            ReferenceError::ExpectedLetter => "Invalid reference. Expected 'R' or 'C'.",
+            ReferenceError::ExpectedEnd => "Invalid reference. Expected end of reference.",
+            ReferenceError::MixedEnds =>
+                "Invalid reference. The two ends of the range are of different kind.",
+            ReferenceError::NameNotClosed =>
+                "Invalid reference. The name of the sheet is not closed.",
+            ReferenceError::ExpectedBang => "Invalid reference. Expected '!' after the sheet name.",
+            ReferenceError::OutOfMemory => "Out of memory",
+        };
+        f.write_str(text)
+    }
+}
+
+impl std::error::Error for ReferenceError {}
 
 impl From<OutOfMemory> for ReferenceError {
     ghost use Rattle.std.specs.Prelude.{◌≡◌};

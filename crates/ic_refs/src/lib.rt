@@ -10,6 +10,7 @@ mod a1;
 mod a1_reference;
 mod a1_text;
 mod column;
+mod equality;
 mod error;
 mod find;
 mod formula;
@@ -30,6 +31,7 @@ pub use a1_reference::{read_a1, spell_a1};
 pub use column::{
     column_to_number, is_valid_column, is_valid_column_number, is_valid_row, number_to_column,
 };
+pub use equality::law_equal_references;
 pub use error::{ColumnError, ReferenceError};
 pub use formula::parse_reference_a1;
 pub use name::{is_valid_a1_identifier, is_valid_identifier, is_valid_sheet_name, quote_name};

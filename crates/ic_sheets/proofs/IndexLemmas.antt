@@ -239,3 +239,9 @@ keyed before after new_bytes old_bytes new old w u e f q =
     u bytes
     ∙ ap (λ b. cond b w (cond (bytes_eq old_bytes bytes) None (get_by_text before bytes))) (ap (λ x. bytes_eq x bytes) e ∙ same_encoded new q)
     ∙ ap (λ b. cond (bytes_eq new q) w (cond b None (get_by_text before bytes))) (ap (λ x. bytes_eq x bytes) f ∙ same_encoded old q)
+
+-- the same for one change
+pub put_by_name : (before after : Index) (bytes name : List ℕ) (w : Option ℕ) → ((q : List ℕ) → get_by_text after q ≡ cond (bytes_eq bytes q) w (get_by_text before q)) → bytes ≡ encode_utf8_all name
+    → (q : List ℕ) → get_by_text after (encode_utf8_all q) ≡ cond (bytes_eq name q) w (get_by_text before (encode_utf8_all q))
+put_by_name before after bytes name w u e q =
+    u (encode_utf8_all q) ∙ ap (λ b. cond b w (get_by_text before (encode_utf8_all q))) (ap (λ x. bytes_eq x (encode_utf8_all q)) e ∙ same_encoded name q)

@@ -1,6 +1,7 @@
 -- What the sheets keep beside them stays true when sheets come, go, get other names or places, and when their formulas change.
-use Rattle.std.proofs.Common.{◌≡◌, ℕ, suc, ◌<◌, List, [], ◌∷◌, ◌++◌, Bool, false, cond, Some, None, max, length, take, drop, get_or, slice_set, encode_utf8_all, bytes_eq, nat_eq, refl, sym, ap, subst, ◌∙◌, arith}
-use Rattle.std.proofs.lemmas.List.{map-append, take-append-drop}
+use Rattle.std.proofs.Common.{◌≡◌, ℕ, suc, ◌<◌, List, [], ◌∷◌, ◌++◌, Bool, false, cond, Some, None, max, length, take, drop, get_or, slice_set, encode_utf8_all, bytes_eq, nat_eq, nat_lt, ◌≤◌, ◌+◌, refl, sym, ap, subst, ◌∙◌, arith}
+use Rattle.std.proofs.lemmas.Bool.{ltb-false}
+use Rattle.std.proofs.lemmas.List.{map-append, take-append-drop, take_all, take_more}
 use Rattle.std.proofs.lemmas.List.Sorted.{IsPermutation-map}
 use Rattle.std.proofs.lemmas.Map.Keys.{IsDistinct-IsPermutation, IsDistinct-push}
 use Rattle.std.proofs.lemmas.Option.{slice_get_read}
@@ -13,6 +14,7 @@ use Rattle.ic_laws.proofs.core.SheetMoved.{moved_permutes}
 use Rattle.ic_laws.specs.CoreStep.{moved, put_back, updated_at}
 use Rattle.ic_laws.specs.Greatest.{greatest}
 use Rattle.ic_laws.specs.Name.{agrees, fold}
+use Rattle.ic_pool.specs.Pool.{dangling_places}
 use Rattle.ic_sheets.proofs.IndexLemmas.{Index, IsIndexed-add, IsIndexed-empty, IsIndexed-move, IsIndexed-remove_at, IsIndexed-rename_at, IsIndexed-same, none_agrees, set_updated, split_at}
 use Rattle.ic_sheets.proofs.SearchLemmas.{ids, names}
 use Rattle.ic_sheets.specs.Index.{AreKept, HasNoDangling, IsIndexed}
@@ -127,3 +129,29 @@ kept_same index last may may_now sheets list kept same_names same_ids clean = re
   greatest = kept.greatest ∙ sym (ap greatest same_ids);
   dangles = clean;
 }
+
+-- another look-up that finds the same
+pub kept_indexed : (before after : Index) (last : ℕ) (may : Bool) (sheets list : List Worksheet) → AreKept before last may sheets → ((q : List ℕ) → get_by_text after q ≡ get_by_text before q) → list ≡ sheets → AreKept after last may list
+kept_indexed before after last may sheets list kept found same =
+    subst (AreKept after last may) (sym same)
+    (record {
+      names = record { finds = λ key. found (encode_utf8_all key) ∙ kept.names.finds key; differ = kept.names.differ };
+      ids_differ = kept.ids_differ;
+      greatest = kept.greatest;
+      dangles = kept.dangles;
+    })
+
+-- ---- all was found
+
+no_places : (places : List ℕ) → nat_lt 0 (length places) ≡ false → places ≡ []
+no_places [] e = refl
+no_places (p ∷ places) e = let past : suc (length places) ≤ 0 = ltb-false 0 (suc (length places)) e in absurd (omega (arith, past))
+
+pub clean_more : (sheets : List Worksheet) (i : ℕ) (s : Worksheet) → i < length sheets → s ≡ get_or sheets i s → nat_lt 0 (length (dangling_places s.pool.formulas)) ≡ false → AllByRecursion HasNoDangling (take i sheets)
+    → AllByRecursion HasNoDangling (take (i + 1) sheets)
+clean_more sheets i s within item none h =
+    subst (AllByRecursion HasNoDangling) (sym (take_more sheets i s within ∙ ap (λ y. take i sheets ++ y ∷ []) (sym item)))
+    (all_pushed HasNoDangling (take i sheets) s h (no_places (dangling_places s.pool.formulas) none))
+
+pub all_clean : (sheets : List Worksheet) (i : ℕ) → length sheets ≤ i → AllByRecursion HasNoDangling (take i sheets) → AllByRecursion HasNoDangling sheets
+all_clean sheets i end h = subst (AllByRecursion HasNoDangling) (take_all i sheets end) h

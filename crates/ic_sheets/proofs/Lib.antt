@@ -1,6 +1,7 @@
 pub mod CellLemmas
 pub mod IndexLemmas
 pub mod KeptLemmas
+pub mod PlaceLemmas
 pub mod PoolLemmas
 pub mod RewritingLemmas
 pub mod SearchLemmas

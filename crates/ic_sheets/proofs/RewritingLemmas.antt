@@ -1,18 +1,21 @@
 -- What was prepared for the formulas of all sheets, done in any order of the steps of a change.
-use Rattle.std.proofs.Common.{◌≡◌, ℕ, zero, suc, ◌<◌, List, [], ◌∷◌, ◌++◌, Bool, true, false, cond, ◌&&◌, Option, Some, map, length, get_or, slice_set, take, drop, ◌+◌, refl, sym, ap, ap₂, subst, subst₂, ◌∙◌, arith}
-use Rattle.std.specs.List.{AllByRecursion, remove, slice_get}
+use Rattle.std.proofs.Common.{◌≡◌, ℕ, zero, suc, ◌<◌, List, [], ◌∷◌, ◌++◌, Bool, true, false, cond, ◌&&◌, ◌||◌, Option, Some, map, length, get_or, slice_set, take, drop, ◌+◌, refl, sym, ap, ap₂, subst, subst₂, ◌∙◌, arith}
+use Rattle.std.specs.List.{AllByRecursion, list_any, remove, slice_get}
+use Rattle.std.specs.Prelude.{not}
 use Rattle.std.proofs.lemmas.Option.{slice_get_read}
 use Rattle.std.proofs.lemmas.List.{map-append, take_at, take_more}
 use Rattle.ic_laws.proofs.core.Lists.{removed_seen, updated_unseen}
 use Rattle.ic_laws.specs.Changes.{Change}
 use Rattle.ic_laws.specs.CoreStep.{updated_at}
 use Rattle.ic_laws.specs.declared.tree.Formula.{Formula}
-use Rattle.ic_pool.specs.Mentions.{SparesFound, formula_after, has_dangling}
-use Rattle.ic_pool.specs.Pool.{PoolState, dangling_from}
-use Rattle.ic_pool.specs.Rewrites.{FitsPool, RewritesState, changes_nothing, rewritten_by}
+use Rattle.ic_pool.specs.Mentions.{SparesFound, formula_after, has_dangling, is_changed_by}
+use Rattle.ic_pool.specs.Pool.{PoolState, dangling_from, places_from, places_where}
+use Rattle.ic_pool.specs.Rewrites.{FitsPool, ListsChanged, RewritesState, changes_nothing, is_nothing, places_of, rewritten_by}
+use Rattle.ic_pool.specs.declared.pool.rewrites.Replacement.{Replacement}
+use Rattle.ic_pool.proofs.ChangeLemmas.{spared_stays}
 use Rattle.ic_sheets.proofs.SearchLemmas.{ids, names}
 use Rattle.ic_sheets.specs.Index.{HasNoDangling}
-use Rattle.ic_sheets.specs.Rewriting.{ArePrepared, FitSheets, IsPrepared, Makes, changed_pool, sheets_of, with_all_rewrites, with_rewrites}
+use Rattle.ic_sheets.specs.Rewriting.{AreListed, ArePrepared, FitSheets, IsPrepared, Makes, changed_pool, look_ups, looks_up_after, sheets_of, with_all_rewrites, with_rewrites}
 use Rattle.ic_sheets.specs.Sheet.{BookSheet, sheet_of}
 use Rattle.ic_sheets.specs.declared.sheet.Worksheet.{Worksheet}
 
@@ -25,12 +28,53 @@ pool_spared change scope spares at (x ∷ pool) e = by_test (has_dangling x) ref
     by_test : (b : Bool) → has_dangling x ≡ b → cond b (at ∷ dangling_from (suc at) pool) (dangling_from (suc at) pool) ≡ []
         → (dangling_from (suc at) pool ≡ [] → pool ≡ map (formula_after change scope) pool) → x ∷ pool ≡ map (formula_after change scope) (x ∷ pool)
     by_test true is e rest = cc
-    by_test false is e rest = ap₂ ◌∷◌ (sym (spares x is)) (rest e)
+    by_test false is e rest = ap₂ ◌∷◌ (sym (spared_stays change scope spares x is).0) (rest e)
+
+pool_untouched : (change : Change) (scope : Option ℕ) → SparesFound change scope → (at : ℕ) (pool : List Formula) → dangling_from at pool ≡ [] → list_any (is_changed_by change scope) pool ≡ false
+pool_untouched change scope spares at [] e = refl
+pool_untouched change scope spares at (x ∷ pool) e = by_test (has_dangling x) refl e (pool_untouched change scope spares (suc at) pool)
+  where
+    by_test : (b : Bool) → has_dangling x ≡ b → cond b (at ∷ dangling_from (suc at) pool) (dangling_from (suc at) pool) ≡ []
+        → (dangling_from (suc at) pool ≡ [] → list_any (is_changed_by change scope) pool ≡ false) → list_any (is_changed_by change scope) (x ∷ pool) ≡ false
+    by_test true is e rest = cc
+    by_test false is e rest = ap₂ (λ a b. a || b) (spares x is) (rest e)
+
+and_true : (b : Bool) → b ≡ (b && true)
+and_true true = refl
+and_true false = refl
+
+-- ---- what is listed
+
+none_listed : (test : Formula → Bool) (at : ℕ) (pool : List Formula) (changes : List Replacement) → places_of changes ≡ places_from test at pool → is_nothing changes ≡ not (list_any test pool)
+none_listed test at [] [] e = refl
+none_listed test at [] (c ∷ changes) e = cc
+none_listed test at (x ∷ pool) changes e = by_test (test x) e (none_listed test (suc at) pool changes)
+  where
+    by_test : (b : Bool) → places_of changes ≡ cond b (at ∷ places_from test (suc at) pool) (places_from test (suc at) pool)
+        → (places_of changes ≡ places_from test (suc at) pool → is_nothing changes ≡ not (list_any test pool)) → is_nothing changes ≡ not (b || list_any test pool)
+    by_test true e rest = some_listed changes e
+      where
+        some_listed : (changes : List Replacement) → places_of changes ≡ at ∷ places_from test (suc at) pool → is_nothing changes ≡ false
+        some_listed [] e = cc
+        some_listed (c ∷ changes) e = refl
+    by_test false e rest = rest e
+
+looked_up : (change : Change) (w : RewritesState) (s : Worksheet) → IsPrepared change w s → (s.pool.is_whole && changes_nothing w) ≡ looks_up_after change s
+looked_up change w s h = ap (λ b. s.pool.is_whole && b) (none_listed (is_changed_by change (Some s.id)) 0 s.pool.formulas w.changes h.listed)
 
 -- nothing is to be done where all was found
 pub nothing_makes : (change : Change) → ((id : ℕ) → SparesFound change (Some id)) → (sheets : List Worksheet) → AllByRecursion HasNoDangling sheets → Makes change [] sheets
-nothing_makes change spares sheets clean = record { fits = tt; made = spared sheets clean }
+nothing_makes change spares sheets clean = record { fits = tt; made = spared sheets clean; listed = none sheets clean; looks_up = left sheets clean }
   where
+    none : (sheets : List Worksheet) → AllByRecursion HasNoDangling sheets → AreListed change [] sheets
+    none [] h = tt
+    none (s ∷ sheets) h = (pool_untouched change (Some s.id) (spares s.id) 0 s.pool.formulas h.0, none sheets h.1)
+
+    left : (sheets : List Worksheet) → AllByRecursion HasNoDangling sheets → look_ups sheets ≡ map (looks_up_after change) sheets
+    left [] h = refl
+    left (s ∷ sheets) h =
+        ap₂ ◌∷◌ (and_true s.pool.is_whole ∙ ap (λ b. s.pool.is_whole && not b) (sym (pool_untouched change (Some s.id) (spares s.id) 0 s.pool.formulas h.0))) (left sheets h.1)
+
     spared : (sheets : List Worksheet) → AllByRecursion HasNoDangling sheets → sheets_of sheets ≡ map (changed_pool change) (sheets_of sheets)
     spared [] h = refl
     spared (s ∷ sheets) h =
@@ -61,8 +105,20 @@ prepared_more change ws more w sheets i s within item pushed h one =
 
 -- what it makes of the sheets
 pub prepared_makes : (change : Change) (ws : List RewritesState) (sheets : List Worksheet) → ArePrepared change ws sheets → Makes change ws sheets
-prepared_makes change ws sheets h = record { fits = prepared_fits change ws sheets h; made = made ws sheets h }
+prepared_makes change ws sheets h = record { fits = prepared_fits change ws sheets h; made = made ws sheets h; listed = listed ws sheets h; looks_up = kept ws sheets h }
   where
+    listed : (ws : List RewritesState) (sheets : List Worksheet) → ArePrepared change ws sheets → AreListed change ws sheets
+    listed [] [] h = tt
+    listed [] (s ∷ sheets) h = absurd h
+    listed (w ∷ ws) [] h = absurd h
+    listed (w ∷ ws) (s ∷ sheets) h = (h.0.listed, listed ws sheets h.1)
+
+    kept : (ws : List RewritesState) (sheets : List Worksheet) → ArePrepared change ws sheets → look_ups (with_all_rewrites ws sheets) ≡ map (looks_up_after change) sheets
+    kept [] [] h = refl
+    kept [] (s ∷ sheets) h = absurd h
+    kept (w ∷ ws) [] h = absurd h
+    kept (w ∷ ws) (s ∷ sheets) h = ap₂ ◌∷◌ (looked_up change w s h.0) (kept ws sheets h.1)
+
     made : (ws : List RewritesState) (sheets : List Worksheet) → ArePrepared change ws sheets → sheets_of (with_all_rewrites ws sheets) ≡ map (changed_pool change) (sheets_of sheets)
     made [] [] h = refl
     made [] (s ∷ sheets) h = absurd h
@@ -207,6 +263,16 @@ module _ (change : Change) (ws : List RewritesState) (old between new : List Wor
   added_made s pushed done =
       ap sheets_of (done ∙ ap (with_all_rewrites ws) pushed ∙ made_pushed ws old (s ∷ []) makes.fits) ∙ map-append sheet_of (with_all_rewrites ws old) (s ∷ []) ∙ ap (λ xs. xs ++ sheet_of s ∷ []) makes.made
 
+  pub added_looks_up : (s : Worksheet) → s.pool.is_whole ≡ true → between ≡ old ++ s ∷ [] → new ≡ with_all_rewrites ws between → look_ups new ≡ map (looks_up_after change) old ++ true ∷ []
+  added_looks_up s whole pushed done =
+      ap look_ups (done ∙ ap (with_all_rewrites ws) pushed ∙ made_pushed ws old (s ∷ []) makes.fits) ∙ map-append (λ (x : Worksheet). x.pool.is_whole) (with_all_rewrites ws old) (s ∷ [])
+      ∙ ap₂ (λ bs b. bs ++ b ∷ []) makes.looks_up whole
+
+  pub renamed_looks_up : (index : ℕ) (name : List ℕ) → between ≡ updated_at (called name) index old → new ≡ with_all_rewrites ws between → look_ups new ≡ map (looks_up_after change) old
+  renamed_looks_up index name renamed done =
+      ap look_ups (done ∙ ap (with_all_rewrites ws) renamed ∙ made_called name ws index old)
+      ∙ updated_unseen (λ (x : Worksheet). x.pool.is_whole) (called name) (λ x. refl) index (with_all_rewrites ws old) ∙ makes.looks_up
+
   pub renamed_made : (index : ℕ) (name : List ℕ) → between ≡ updated_at (called name) index old → new ≡ with_all_rewrites ws between → sheets_of new ≡ updated_at (sheet_called name) index (map (changed_pool change) (sheets_of old))
   renamed_made index name renamed done =
       ap sheets_of (done ∙ ap (with_all_rewrites ws) renamed ∙ made_called name ws index old) ∙ sheets_called name index (with_all_rewrites ws old) ∙ ap (updated_at (sheet_called name) index) makes.made
@@ -216,6 +282,12 @@ pub deleted_made : (change : Change) (ws rest : List RewritesState) (old between
 deleted_made change ws rest old between new index prepared taken removed done =
     ap sheets_of (done ∙ ap₂ with_all_rewrites taken removed ∙ made_removed change ws old index prepared) ∙ removed_seen sheet_of (with_all_rewrites ws old) index
     ∙ ap (λ xs. remove xs index) (prepared_makes change ws old prepared).made
+
+pub deleted_looks_up : (change : Change) (ws rest : List RewritesState) (old between new : List Worksheet) (index : ℕ) → ArePrepared change ws old → rest ≡ remove ws index → between ≡ remove old index → new ≡ with_all_rewrites rest between
+    → look_ups new ≡ remove (map (looks_up_after change) old) index
+deleted_looks_up change ws rest old between new index prepared taken removed done =
+    ap look_ups (done ∙ ap₂ with_all_rewrites taken removed ∙ made_removed change ws old index prepared) ∙ removed_seen (λ (x : Worksheet). x.pool.is_whole) (with_all_rewrites ws old) index
+    ∙ ap (λ xs. remove xs index) (prepared_makes change ws old prepared).looks_up
 
 same_some : (s sheet : Worksheet) → Some s ≡ Some sheet → s ≡ sheet
 same_some s sheet e = cc

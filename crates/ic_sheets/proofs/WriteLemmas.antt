@@ -10,15 +10,15 @@ use Rattle.ic_laws.specs.CoreStep.{updated_at}
 use Rattle.ic_laws.specs.declared.memory.OutOfMemory.{OutOfMemory}
 use Rattle.ic_laws.specs.declared.tree.Formula.{Formula}
 use Rattle.ic_pool.specs.Mentions.{has_dangling}
-use Rattle.ic_pool.specs.Pool.{IsPlaced, dangling_from, dangling_places}
+use Rattle.ic_pool.specs.Pool.{IsPlaced, PoolState, dangling_from, dangling_places}
 use Rattle.ic_sheets.proofs.IndexLemmas.{Index, set_updated}
 use Rattle.ic_sheets.proofs.KeptLemmas.{kept_same}
 use Rattle.ic_sheets.specs.Index.{AreKept, HasNoDangling}
-use Rattle.ic_sheets.specs.Sheet.{BookSheet, IsWritten, pool_at, sheet_of}
+use Rattle.ic_sheets.specs.Sheet.{AreSameOrLookUp, BookSheet, IsSameOrLooksUp, IsWritten, looking_up, pool_at, sheet_of}
 use Rattle.ic_sheets.specs.declared.sheet.Worksheet.{Worksheet}
 
 -- an item written over by one that is seen alike
-seen_over : {X Y : Type 0} (g : X → Y) (xs : List X) (place : ℕ) (x y : X) → x ≡ get_or xs place x → g y ≡ g x → map g (slice_set xs place y) ≡ map g xs
+pub seen_over : {X Y : Type 0} (g : X → Y) (xs : List X) (place : ℕ) (x y : X) → x ≡ get_or xs place x → g y ≡ g x → map g (slice_set xs place y) ≡ map g xs
 seen_over g [] place x y read same = refl
 seen_over g (z ∷ xs) zero x y read same = ap (λ e. e ∷ map g xs) (same ∙ ap g read)
 seen_over g (z ∷ xs) (suc place) x y read same = ap (λ es. g z ∷ es) (seen_over g xs place x y read same)
@@ -129,3 +129,29 @@ pub whole_at : (sheets now_sheets : List Worksheet) (place : ℕ) (s : Worksheet
 whole_at sheets now_sheets place s is lt read e =
     let at : Some s.pool.is_whole ≡ Some true = sym (ap (option_map (λ (x : Worksheet). x.pool.is_whole)) (slice_get_read now_sheets (length now_sheets) place s refl lt (read ∙ ap (λ xs. get_or xs place s) is))) ∙ e in
     cc
+
+-- ---- after want of memory
+
+-- what holds anyway holds at an error
+pub at_err : {T E : Type 0} (r : Result T E) (P : Type 0) → P → OnErr r P
+at_err (Ok x) P p = tt
+at_err (Err e) P p = p
+
+-- what is left where the look-up could be made, and nothing after it
+pub looked_up : (s : Worksheet) (between after : PoolState) → between ≡ record s.pool { is_whole = true } → after ≡ between → IsSameOrLooksUp s (record s { pool = after })
+looked_up s between after made same = inr (ap (λ (p : PoolState). let t : Worksheet = record s { pool = p } in t) (same ∙ made))
+
+pub looked_up_whole : (s after : Worksheet) (between : PoolState) → between ≡ record s.pool { is_whole = true } → after ≡ record s { pool = between } → IsSameOrLooksUp s after
+looked_up_whole s after between made same = inr (same ∙ ap (λ (p : PoolState). let t : Worksheet = record s { pool = p } in t) made)
+
+pub not_looked_up : (s : Worksheet) (after : PoolState) → after ≡ s.pool → IsSameOrLooksUp s (record s { pool = after })
+not_looked_up s after same = inl (ap (λ (p : PoolState). let t : Worksheet = record s { pool = p } in t) same)
+
+set_same : (xs : List Worksheet) (place : ℕ) (x : Worksheet) → x ≡ get_or xs place x → slice_set xs place x ≡ xs
+set_same [] place x e = refl
+set_same (y ∷ xs) zero x e = ap (λ z. z ∷ xs) e
+set_same (y ∷ xs) (suc place) x e = ap (λ ys. y ∷ ys) (set_same xs place x e)
+
+pub looked_up_at : (sheets now_sheets : List Worksheet) (place : ℕ) (s after : Worksheet) → sheets ≡ now_sheets → s ≡ get_or sheets place s → IsSameOrLooksUp s after → AreSameOrLookUp place now_sheets (slice_set sheets place after)
+looked_up_at sheets now_sheets place s after is read (inl e) = inl (ap (slice_set sheets place) e ∙ set_same sheets place s read ∙ is)
+looked_up_at sheets now_sheets place s after is read (inr e) = inr (ap (slice_set sheets place) e ∙ set_updated looking_up sheets place s read ∙ ap (updated_at looking_up place) is)

@@ -1,5 +1,5 @@
--- The plain search for a sheet by its folded name.
-use Rattle.std.specs.Prelude.{ℕ, List, [], ◌∷◌, Option, Some, None, bytes_eq, if◌then◌else◌}
+-- The plain search for a sheet, by its folded name or by its id.
+use Rattle.std.specs.Prelude.{ℕ, suc, List, [], ◌∷◌, Option, Some, None, bytes_eq, nat_eq, option_map, if◌then◌else◌}
 use Rattle.ic_laws.specs.Name.{fold}
 use Rattle.ic_sheets.specs.declared.sheet.Worksheet.{Worksheet}
 
@@ -7,3 +7,8 @@ use Rattle.ic_sheets.specs.declared.sheet.Worksheet.{Worksheet}
 abbrev pub id_of : List ℕ → List Worksheet → Option ℕ
 id_of key [] = None
 id_of key (s ∷ sheets) = if bytes_eq key (fold s.name) then Some s.id else id_of key sheets
+
+-- the place of the first sheet with this id, from 0
+abbrev pub place_of : ℕ → List Worksheet → Option ℕ
+place_of id [] = None
+place_of id (s ∷ sheets) = if nat_eq s.id id then Some 0 else option_map suc (place_of id sheets)

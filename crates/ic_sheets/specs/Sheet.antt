@@ -1,8 +1,9 @@
 -- A sheet of a book: its formulas in their places, and the place of each cell's formula.
-use Rattle.std.specs.Prelude.{◌≡◌, ℕ, ◌<◌, List, [], map, length, true, Some, option_map, unwrap_or}
+use Rattle.std.specs.Prelude.{◌≡◌, ◌⊎◌, ℕ, ◌<◌, List, [], map, length, true, Some, option_map, unwrap_or}
 use Rattle.std.specs.BTreeMap.{insert_entry}
 use Rattle.std.specs.List.{AllByRecursion, slice_get}
 use Rattle.ic_laws.specs.CoreBook.{CellPlace, Cells, Sheet, place_cmp}
+use Rattle.ic_laws.specs.CoreStep.{updated_at}
 use Rattle.ic_laws.specs.Keeping.{kept_formula, same_keys}
 use Rattle.ic_laws.specs.Notations.{Notations, english_function}
 use Rattle.ic_laws.specs.ValidCore.{IsPooled}
@@ -32,6 +33,18 @@ abbrev pub IsWritten : Formula → CellPlace → Worksheet → Worksheet → Typ
 IsWritten formula cell before after =
     (place : ℕ) × IsPlaced formula place before.pool.formulas after.pool.formulas
     × (after ≡ record before { pool = record { formulas = after.pool.formulas; is_whole = true }; cells = insert_entry place_cmp before.cells cell place })
+
+-- a sheet whose look-up has all of its formulas
+abbrev pub looking_up : Worksheet → Worksheet
+looking_up sheet = record sheet { pool = record sheet.pool { is_whole = true } }
+
+-- A sheet is as it was, but that its look-up may have all of its formulas now.
+abbrev pub IsSameOrLooksUp : Worksheet → Worksheet → Type 0
+IsSameOrLooksUp before after = (after ≡ before) ⊎ (after ≡ looking_up before)
+
+-- Sheets are as they were, but that the look-up of the one at this index, from 0, may have all of its formulas now.
+abbrev pub AreSameOrLookUp : ℕ → List Worksheet → List Worksheet → Type 0
+AreSameOrLookUp index before after = (after ≡ before) ⊎ (after ≡ updated_at looking_up index before)
 
 -- the formula at a place; past the end, an empty text
 abbrev pub formula_in : List Formula → ℕ → Formula

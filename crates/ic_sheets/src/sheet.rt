@@ -3,7 +3,7 @@ ghost use Rattle.std.specs.BTreeMap.{is_at};
 ghost use Rattle.std.specs.Map.{lookup};
 ghost use Rattle.ic_laws.specs.CoreBook.{place_cmp};
 ghost use Rattle.ic_pool.specs.Pool.{IsPlaced};
-ghost use Rattle.ic_sheets.specs.Sheet.{IsWritten, sheet_of};
+ghost use Rattle.ic_sheets.specs.Sheet.{IsSameOrLooksUp, IsWritten, sheet_of};
 
 use crate::FormulaCells;
 use ic_laws::{Formula, OutOfMemory, Text};
@@ -51,6 +51,7 @@ impl Worksheet {
     pub fn write(&mut self, row: i32, column: i32, formula: Formula) -> Result<(), OutOfMemory>
         ensures ok { OnOk result (IsWritten formula (row, column) self.old self.new) }
         ensures err { OnErr result (sheet_of self.new ≡ sheet_of self.old) }
+        ensures looks_up { OnErr result (IsSameOrLooksUp self.old self.new) }
     {
         self.pool.make_whole_uncounted()?;
         match self.cells.place_at(row, column) {
@@ -86,6 +87,7 @@ impl Worksheet {
             }
         }
     }
+
     /// The place, from 0, of an equal formula among those that the sheet keeps; where there is none, a copy gets one. What
     /// formulas are found by is made first, in as many steps as there are formulas, or in none where it is there.
     /// `OutOfMemory` changes nothing but that.
@@ -96,6 +98,7 @@ impl Worksheet {
     ) -> Result<usize, OutOfMemory>
         ensures ok { IfOk result (λ at. IsPlaced formula.now at self.old.pool.formulas self.new.pool.formulas × (self.new ≡ record self.old { pool = record { formulas = self.new.pool.formulas; is_whole = true } })) }
         ensures err { OnErr result (sheet_of self.new ≡ sheet_of self.old) }
+        ensures looks_up { OnErr result (IsSameOrLooksUp self.old self.new) }
         ensures still { self.old.pool.is_whole ≡ true → steps.new ≡ steps.old }
         ensures cost { steps.new ≤ steps.old + length self.old.pool.formulas }
         ensures grows { steps.old ≤ steps.new }

@@ -1,5 +1,7 @@
 ghost use Rattle.std.specs.Prelude.{◌≡◌, [], chars, encode_utf8_all, find, length, map, nat_eq, option_map, position, remove, slice_get, string_bytes, IfOk};
+ghost use Rattle.std.specs.BTreeMap.{get};
 ghost use Rattle.std.specs.List.{IsDistinct, list_any};
+ghost use Rattle.std.specs.Ordering.{nat_cmp};
 ghost use Rattle.ic_laws.specs.Greatest.{greatest};
 ghost use Rattle.ic_laws.specs.Name.{agrees, fold};
 ghost use Rattle.ic_sheets.specs.Search.{id_of};
@@ -22,6 +24,8 @@ pub struct Sheets {
     list: Vec<Worksheet>,
     /// The id of each sheet, by its folded name.
     ids: BTreeMap<String, u32>,
+    /// The place of each sheet, from 0, by its id.
+    places: BTreeMap<u32, usize>,
     /// The greatest id of a sheet, 0 where there is none.
     greatest: u32,
     /// Where it is false, all that the formulas mention was found.
@@ -34,19 +38,21 @@ impl Drop for Sheets {
             alloc,
             list,
             ids,
+            places,
             greatest: _,
             may_dangle: _,
         } = self;
         drop(alloc);
         drop(list);
         drop(ids);
+        drop(places);
     }
 }
 
 impl Model for Sheets {
     ghost use Rattle.std.specs.Prelude.{List};
     ghost use Rattle.std.specs.Coded.{codes};
-    ghost use Rattle.ic_sheets.specs.Index.{AreKept};
+    ghost use Rattle.ic_sheets.specs.Index.{AreKept, ArePlaced};
     ghost use Rattle.ic_sheets.specs.contracts.sheet.Worksheet as worksheet;
     ghost use Rattle.ic_sheets.specs.declared.sheet.Worksheet.{Worksheet};
 
@@ -56,7 +62,7 @@ impl Model for Sheets {
 
     ghost view = { λ s. s.list.items };
 
-    ghost invariant = { λ s. AreKept s.ids s.greatest s.may_dangle s.list.items };
+    ghost invariant = { λ s. AreKept s.ids s.greatest s.may_dangle s.list.items × ArePlaced s.places s.list.items };
 }
 
 /// The key of a name.
@@ -77,11 +83,11 @@ fn first_named(sheets: &[Worksheet], name: &str) -> Option<u32>
     Some(sheet.id)
 }
 
-/// The place of the sheet with this id.
-fn place_of(sheets: &[Worksheet], id: u32) -> Option<usize>
-    ensures { result ≡ position (λ s. nat_eq s.id id) sheets.now }
+/// What a look-up of places has at an id.
+fn place_in(places: &BTreeMap<u32, usize>, id: u32) -> Option<usize>
+    ensures { result ≡ get nat_cmp places.now id }
 {
-    sheets.iter().position(|sheet| sheet.id == id)
+    places.get(&id).copied()
 }
 
 /// The sheet at a place, from 0. None past the end.
@@ -100,6 +106,7 @@ impl Sheets {
             alloc,
             list: Vec::new(alloc),
             ids: BTreeMap::new(alloc),
+            places: BTreeMap::new(alloc),
             greatest: 0,
             may_dangle: false,
         }
@@ -151,7 +158,7 @@ impl Sheets {
     pub fn index_of_id(&self, id: u32) -> Option<usize>
         ensures { result ≡ position (λ s. nat_eq s.id id) self.now }
     {
-        place_of(&self.list, id)
+        place_in(&self.places, id)
     }
 
     /// The place of the sheet whose name agrees with this one, from 0. None exactly where there is none.
@@ -159,15 +166,25 @@ impl Sheets {
         ensures { result ≡ position (λ s. agrees s.name (chars name.now)) self.now }
     {
         let id = self.find(name)?;
-        place_of(&self.list, id)
+        place_in(&self.places, id)
     }
 
     /// The name of the sheet with this id. None exactly where no sheet has it.
     pub fn name_of(&self, id: u32) -> Option<&str>
         ensures { option_map (λ name. chars name.now) result ≡ option_map (λ s. s.name) (find (λ s. nat_eq s.id id) self.now) }
     {
-        let sheet = self.list.iter().find(|sheet| sheet.id == id)?;
+        let sheet = self.with_id(id)?;
         Some(sheet.name.as_str())
+    }
+
+    /// The sheet with this id.
+    fn with_id(&self, id: u32) -> Option<&Worksheet>
+        ensures { option_map (λ s. s.now) result ≡ find (λ s. nat_eq s.id id) self.now }
+    {
+        match self.index_of_id(id) {
+            Some(index) => sheet_at(&self.list, index),
+            None => None,
+        }
     }
 
     /// Whether the name of a sheet agrees with this one.

@@ -1,6 +1,7 @@
 -- The formats of a locale: which separators, symbols and dates can be told apart when numbers are read and shown.
-use Rattle.std.specs.Prelude.{ℕ, ◌-◌, List, [], ◌∷◌, Bool, true, false, not, ◌&&◌, ◌||◌, ◌==◌, nat_eq, nat_lt, length, codes, bytes_eq}
+use Rattle.std.specs.Prelude.{ℕ, ◌-◌, List, [], ◌∷◌, Bool, true, false, not, ◌&&◌, ◌||◌, ◌==◌, nat_eq, nat_lt, length, codes, bytes_eq, if◌then◌else◌}
 use Rattle.std.specs.List.{list_any}
+use Rattle.ic_laws.specs.Character.{comma, dot}
 use Rattle.ic_laws.specs.Scan.{first_is, is_blank, is_digit, is_letter}
 use Rattle.ic_tables.specs.Words.{boolean_words}
 use Rattle.ic_tables.specs.declared.language.Language.{Language}
@@ -14,6 +15,10 @@ are_separators s =
 
 unfoldable pub has_separators : Locale → Bool
 has_separators l = are_separators l.numbers.symbols
+
+-- the character before decimals: a comma, or a dot, which is the only other one that tables have
+abbrev pub decimal_separator : Locale → ℕ
+decimal_separator l = if bytes_eq l.numbers.symbols.decimal (codes ",") then comma else dot
 
 -- a character that may part groups of digits: no letter, no digit, no sign of a number and no quote
 abbrev pub may_group : ℕ → Bool

@@ -2,7 +2,7 @@
 ghost use Rattle.std.specs.Prelude.{◌≡◌, ◌==◌, chars, codes};
 ghost use Rattle.std.specs.List.{list_any};
 ghost use Rattle.ic_laws.specs.Scan.{first_is, is_blank};
-ghost use Rattle.ic_tables.specs.Formats.{are_separators, are_up_to, begins_boolean, has_dates, has_group, has_separators, has_symbol, is_date, is_only, is_short_date, is_symbol, may_group, may_stand_in_symbol, parts_groups};
+ghost use Rattle.ic_tables.specs.Formats.{are_separators, are_up_to, begins_boolean, decimal_separator, has_dates, has_group, has_separators, has_symbol, is_date, is_only, is_short_date, is_symbol, may_group, may_stand_in_symbol, parts_groups};
 ghost use Rattle.ic_tables.specs.Words.{words_of_booleans};
 
 use crate::{Booleans, Language, Locale, NumbersSymbols};
@@ -24,6 +24,21 @@ fn are_separators(symbols: &NumbersSymbols) -> bool
 {
     symbols.list.is(",") && symbols.decimal.is(".")
         || symbols.list.is(";") && symbols.decimal.is(",")
+}
+
+impl Locale {
+    /// The character before decimals: a comma where the locale's text is one, else a dot, which is the only other one that
+    /// tables have.
+    #[tactic(auto, using(crate::proofs::LiteralLemmas::literals))]
+    pub fn decimal_separator(&self) -> char
+        ensures { result ≡ decimal_separator self.now }
+    {
+        if self.numbers.symbols.decimal.is(",") {
+            ','
+        } else {
+            '.'
+        }
+    }
 }
 
 /// Whether groups of digits are parted by one character that can't be taken for another part of a number.

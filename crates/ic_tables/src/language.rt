@@ -2,7 +2,7 @@ use ic_laws::{Items, Text};
 
 /// A language in which formulas are shown and read.
 pub struct Language {
-    /// Its name in that language, as `Español`.
+    /// Its name, as `Spanish`.
     pub name: Text,
     /// Its code, as `es`.
     pub code: Text,

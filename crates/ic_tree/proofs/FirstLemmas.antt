@@ -7,7 +7,7 @@ use Rattle.ic_laws.specs.AmountFront.{number_in_one_pass}
 use Rattle.ic_laws.specs.Dialect.{DialectMeaning, IsLawful, begins_reference}
 use Rattle.ic_laws.specs.Scan.{EndsWith, begins_word, is_digit, is_letter}
 use Rattle.ic_laws.specs.Split.{FindsBest, longer, or_else}
-use Rattle.ic_laws.specs.Token.{Token, Hash, Str, Spells}
+use Rattle.ic_laws.specs.Token.{Token, Close, Hash, Str, Spells}
 use Rattle.ic_laws.specs.TokenKinds.{OfKind, closed, error_at, head_at, is_number, one_at, reference_at, text_at, token_by_kinds, two_at, word_at}
 use Rattle.ic_laws.specs.declared.reference.RefToken.{RefToken}
 use Rattle.ic_laws.proofs.tokens.Kinds.{by_kinds, error_best}
@@ -42,6 +42,12 @@ pub quote_kinds : (d : DialectMeaning) → IsLawful d → (cs : List ℕ) → to
 quote_kinds d n cs =
     plain_first d n 34 cs (mark_first 34 (mark_begins_none 34 (omega arith) refl))
     ∙ rw (no_number d 34 cs refl (not_decimal d n 34 refl refl), no_error_first d n 34 cs refl, two_none 34 cs refl refl, quote_no_sign d n cs) (longer_none (text_at (34 ∷ cs)))
+
+-- a closing bracket
+pub close_kinds : (d : DialectMeaning) → IsLawful d → (cs : List ℕ) → token_by_kinds d (41 ∷ cs) ≡ Some (found Close cs)
+close_kinds d n cs =
+    plain_first d n 41 cs (mark_first 41 (mark_begins_none 41 (omega arith) refl))
+    ∙ rw (no_number d 41 cs refl (not_decimal d n 41 refl refl), no_error_first d n 41 cs refl, two_none 41 cs refl refl) refl
 
 -- every token takes a character at least
 begins_some : (front : List ℕ) → Begins front → 1 ≤ length front

@@ -1,9 +1,11 @@
 pub mod AnyLemmas
 pub mod BindLemmas
 pub mod Binders
+pub mod BodyReference
 pub mod ClashLemmas
 pub mod CutLemmas
 pub mod DigitLemmas
+pub mod EnglishLemmas
 pub mod ErrorLemmas
 pub mod FirstLemmas
 pub mod Heights
@@ -17,9 +19,11 @@ pub mod Parts
 pub mod PrintLemmas
 pub mod QuoteLemmas
 pub mod ReadLemmas
+pub mod ScopeLemmas
 pub mod ShownLemmas
 pub mod SightLemmas
 pub mod Signs
+pub mod StoredLemmas
 pub mod Turning
 pub mod WordLemmas
 mod machine

@@ -20,7 +20,7 @@ use Rattle.ic_laws.specs.declared.reference.Position.TheVariants as at
 use Rattle.ic_laws.specs.declared.reference.RefPart.{RefPart}
 use Rattle.ic_laws.specs.declared.reference.RefToken.{RefToken}
 use Rattle.ic_refs.specs.A1.{is_spellable}
-use Rattle.ic_tables.specs.Formats.{has_separators}
+use Rattle.ic_tables.specs.Formats.{decimal_separator, has_separators}
 use Rattle.ic_tables.specs.Tables.{HasGoodWords, IsWellFormed, TableSet, language_of, locale_of}
 use Rattle.ic_tables.specs.Words.{boolean_words, first_agreeing}
 use Rattle.ic_tables.specs.declared.language.Language.{Language}
@@ -32,7 +32,7 @@ use Rattle.ic_tables.proofs.WordLemmas.{found_at}
 use Rattle.ic_tree.proofs.ShownLemmas.{separators_told}
 use Rattle.ic_tree.specs.LanguageWords.{function_of}
 use Rattle.ic_tree.specs.Notations.{notations_of, shown_in, stored_in}
-use Rattle.ic_tree.specs.Shown.{AreSeparators, SpeaksBeside, decimal_separator, list_of, list_separator, shown_meaning}
+use Rattle.ic_tree.specs.Shown.{AreSeparators, SpeaksBeside, list_of, list_separator, shown_meaning}
 use Rattle.ic_tree.specs.Stored.{SpeaksWell, stored_meaning}
 use Rattle.ic_tree.specs.laws.LanguageLaws.{found_is_word, some_at}
 use Rattle.ic_tree.specs.laws.ShownLaws.{separators_of, shown_laws, shown_spells, speaks_beside}

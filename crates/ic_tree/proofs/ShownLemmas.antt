@@ -7,8 +7,8 @@ use Rattle.ic_refs.specs.Sheet.{or_else}
 use Rattle.ic_tables.specs.Order.{BeginsWithFound, BeginsWithNone}
 use Rattle.ic_tables.specs.declared.locale.Locale.{Locale}
 use Rattle.ic_tables.specs.declared.language.Language.{Language}
-use Rattle.ic_tables.specs.Formats.{has_separators}
-use Rattle.ic_tree.specs.Shown.{SpeaksBeside, decimal_of, decimal_separator, found_in, list_of, list_separator, only_character, shown_meaning}
+use Rattle.ic_tables.specs.Formats.{decimal_separator, has_separators}
+use Rattle.ic_tree.specs.Shown.{SpeaksBeside, decimal_of, found_in, list_of, list_separator, only_character, shown_meaning}
 use Rattle.ic_tree.specs.laws.ShownLaws.{found_below_either}
 
 -- ---- two ways to find, one after the other
@@ -39,16 +39,17 @@ of_text text other h = (bytes_eq-Decides text other).0 h
 pub separators_told : (l : Locale) → has_separators l ≡ true → (list_of (bytes_eq l.numbers.symbols.decimal (codes ",")) ≡ list_separator l) × (decimal_of (bytes_eq l.numbers.symbols.decimal (codes ",")) ≡ decimal_separator l)
 unfolding has_separators
 separators_told l h =
-    let s = l.numbers.symbols in
-    elim (or_cases (bytes_eq s.list (codes ",") && bytes_eq s.decimal (codes ".")) (bytes_eq s.list (codes ";") && bytes_eq s.decimal (codes ",")) h) [
-      | inl a ↦ told s.list s.decimal (codes ",") (codes ".") (and_parts (bytes_eq s.list (codes ",")) (bytes_eq s.decimal (codes ".")) a) refl refl
-      | inr b ↦ told s.list s.decimal (codes ";") (codes ",") (and_parts (bytes_eq s.list (codes ";")) (bytes_eq s.decimal (codes ",")) b) refl refl
-    ]
+    let s = l.numbers.symbols in (
+      elim (or_cases (bytes_eq s.list (codes ",") && bytes_eq s.decimal (codes ".")) (bytes_eq s.list (codes ";") && bytes_eq s.decimal (codes ",")) h) [
+        | inl a ↦ told s.list s.decimal (codes ",") (codes ".") (and_parts (bytes_eq s.list (codes ",")) (bytes_eq s.decimal (codes ".")) a) refl
+        | inr b ↦ told s.list s.decimal (codes ";") (codes ",") (and_parts (bytes_eq s.list (codes ";")) (bytes_eq s.decimal (codes ",")) b) refl
+      ],
+      refl,
+    )
   where
     told : (list decimal a b : List ℕ) → (bytes_eq list a ≡ true) × (bytes_eq decimal b ≡ true)
-        → list_of (bytes_eq b (codes ",")) ≡ only_character a → decimal_of (bytes_eq b (codes ",")) ≡ only_character b
-        → (list_of (bytes_eq decimal (codes ",")) ≡ only_character list) × (decimal_of (bytes_eq decimal (codes ",")) ≡ only_character decimal)
-    told list decimal a b h x y = rw (of_text list a h.0, of_text decimal b h.1) (x, y)
+        → list_of (bytes_eq b (codes ",")) ≡ only_character a → list_of (bytes_eq decimal (codes ",")) ≡ only_character list
+    told list decimal a b h x = rw (of_text list a h.0, of_text decimal b h.1) x
 
 -- what the shown form that was made means
 pub meaning_told : (o : Option Language) (given l english : Language) (locale : Locale) (is_comma : Bool) (row column at_row at_column : ℤ) → at_row ≡ row → at_column ≡ column → o ≡ Some english → Some given ≡ Some l → has_separators locale ≡ true

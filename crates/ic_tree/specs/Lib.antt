@@ -1,5 +1,6 @@
 pub mod Begun
 pub mod Dynamic
+pub mod InScope
 pub mod LanguageWords
 pub mod Lexing
 pub mod Listing
@@ -9,6 +10,7 @@ pub mod Shown
 pub mod Sight
 pub mod Spelling
 pub mod Stored
+pub mod StoredText
 pub mod Tokens
 pub mod Turn
 pub mod Turned

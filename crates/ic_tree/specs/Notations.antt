@@ -6,7 +6,8 @@ use Rattle.ic_laws.specs.Notations.{Notations, english}
 use Rattle.ic_tables.specs.Tables.{TableSet, language_of, locale_of}
 use Rattle.ic_tables.specs.declared.language.Language.{Language}
 use Rattle.ic_tables.specs.declared.locale.NamedLocale.{NamedLocale}
-use Rattle.ic_tree.specs.Shown.{decimal_separator, list_separator, shown_meaning}
+use Rattle.ic_tables.specs.Formats.{decimal_separator}
+use Rattle.ic_tree.specs.Shown.{list_separator, shown_meaning}
 use Rattle.ic_tree.specs.Stored.{stored_meaning}
 
 -- a form without words and without references: what stands for an id that the tables lack; nothing is asked of it
@@ -41,3 +42,7 @@ notations_of tables = record {
   shown = λ locale language. shown_in (language_of tables language) (language_of tables english) (locale_of tables locale);
   stored = stored_in (language_of tables english);
 }
+
+-- how a formula is written in English in the cell at a row and a column, whatever the notation in force
+abbrev pub in_english : TableSet → ℤ → ℤ → DialectMeaning
+in_english tables row column = (notations_of tables).shown english english row column

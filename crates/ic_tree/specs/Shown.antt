@@ -72,9 +72,6 @@ abbrev pub only_character : List ℕ → ℕ
 only_character [] = 0
 only_character (c ∷ cs) = c
 
--- the separators of a locale
+-- the separator of arguments of a locale
 abbrev pub list_separator : Locale → ℕ
 list_separator locale = only_character locale.numbers.symbols.list
-
-abbrev pub decimal_separator : Locale → ℕ
-decimal_separator locale = only_character locale.numbers.symbols.decimal

@@ -1,8 +1,9 @@
-ghost use Rattle.std.specs.Prelude.{◌≡◌, IfOk, chars, map};
-ghost use Rattle.ic_laws.specs.Binding.{all_bound, bound, bound_sheet, bound_under, bound_word, is_bound_by, pair_binds, pairs_bound, with_variables};
+ghost use Rattle.std.specs.Prelude.{◌≡◌, IfOk, OnOk, map};
+ghost use Rattle.ic_laws.specs.Binding.{all_bound, bound, bound_sheet, bound_under, bound_word, pair_binds, pairs_bound, with_variables};
 ghost use Rattle.ic_tree.specs.LanguageWords.{function_of};
 
-use crate::copies::{copy_rows, copy_texts, joined_texts};
+use crate::copies::{copy_rows, copy_texts};
+use crate::in_scope::Binders;
 use crate::language_words::function_of;
 use ic_laws::{
     Bound, Boxed, Finder, Items, LetPair, NameMention, OutOfMemory, SheetMention, Spelled, Text,
@@ -24,7 +25,8 @@ pub fn bind<N: Finder>(
 ) -> Result<Bound, OutOfMemory>
     ensures { IfOk result (λ r. r ≡ bound (function_of english.now) (N.scene names.now) scope tree.now) }
 {
-    bind_under(alloc, names, english, scope, &[], tree)
+    let mut seen = Binders::new(alloc);
+    bind_under(alloc, names, english, scope, &mut seen, tree)
 }
 
 /// The sheet of a reference.
@@ -44,24 +46,17 @@ fn bind_sheet<N: Finder>(
     }
 }
 
-/// Whether a variable of this name is seen.
-fn is_seen(seen: &[Text], word: &str) -> bool
-    ensures { result ≡ is_bound_by seen.now (chars word.now) }
-{
-    seen.iter().any(|variable| agree(variable.as_str(), word))
-}
-
 /// What a word means.
 fn bind_word<N: Finder>(
     alloc: Global,
     names: &N,
     scope: Option<u32>,
-    seen: &[Text],
+    seen: &Binders,
     word: &Text,
 ) -> Result<NameMention, OutOfMemory>
     ensures { IfOk result (λ r. r ≡ bound_word (N.scene names.now) scope seen.now word.now) }
 {
-    if is_seen(seen, word.as_str()) {
+    if seen.has(word.as_str())? {
         return Ok(NameMention::Var(Text::from_str(alloc, word.as_str())?));
     }
     match names.find_name(alloc, scope, word.as_str())? {
@@ -70,17 +65,18 @@ fn bind_word<N: Finder>(
     }
 }
 
-/// A formula that stands where these variables are seen.
+/// A formula that stands where these variables are seen. They are the same after an Ok.
 #[cycle(bind)]
 fn bind_under<N: Finder>(
     alloc: Global,
     names: &N,
     english: &Language,
     scope: Option<u32>,
-    seen: &[Text],
+    seen: &mut Binders,
     tree: &Spelled,
 ) -> Result<Bound, OutOfMemory>
-    ensures { IfOk result (λ r. r ≡ bound_under (function_of english.now) (N.scene names.now) scope tree.now seen.now) }
+    ensures bound { IfOk result (λ r. r ≡ bound_under (function_of english.now) (N.scene names.now) scope tree.now seen.old) }
+    ensures seen { OnOk result (seen.new ≡ seen.old) }
 {
     match tree {
         Tree::Num(amount) => Ok(Tree::Num(*amount)),
@@ -94,26 +90,25 @@ fn bind_under<N: Finder>(
         Tree::Word(word) => Ok(Tree::Word(bind_word(alloc, names, scope, seen, word)?)),
         Tree::Empty => Ok(Tree::Empty),
         Tree::Paren(x) => {
-            let x = bind_under(alloc, names, english, scope, seen, x.as_ref())?;
-            Ok(Tree::Paren(Boxed::from(Box::new(alloc, x)?)))
+            let x = bind_boxed(alloc, names, english, scope, seen, x)?;
+            Ok(Tree::Paren(x))
         }
         Tree::Prefix(sign, x) => {
-            let x = bind_under(alloc, names, english, scope, seen, x.as_ref())?;
-            Ok(Tree::Prefix(*sign, Boxed::from(Box::new(alloc, x)?)))
+            let x = bind_boxed(alloc, names, english, scope, seen, x)?;
+            Ok(Tree::Prefix(*sign, x))
         }
         Tree::Percent(x) => {
-            let x = bind_under(alloc, names, english, scope, seen, x.as_ref())?;
-            Ok(Tree::Percent(Boxed::from(Box::new(alloc, x)?)))
+            let x = bind_boxed(alloc, names, english, scope, seen, x)?;
+            Ok(Tree::Percent(x))
         }
         Tree::Spill(x) => {
-            let x = bind_under(alloc, names, english, scope, seen, x.as_ref())?;
-            Ok(Tree::Spill(Boxed::from(Box::new(alloc, x)?)))
+            let x = bind_boxed(alloc, names, english, scope, seen, x)?;
+            Ok(Tree::Spill(x))
         }
         Tree::Binary(sign, a, b) => {
-            let a = bind_under(alloc, names, english, scope, seen, a.as_ref())?;
-            let a = Boxed::from(Box::new(alloc, a)?);
-            let b = bind_under(alloc, names, english, scope, seen, b.as_ref())?;
-            Ok(Tree::Binary(*sign, a, Boxed::from(Box::new(alloc, b)?)))
+            let a = bind_boxed(alloc, names, english, scope, seen, a)?;
+            let b = bind_boxed(alloc, names, english, scope, seen, b)?;
+            Ok(Tree::Binary(*sign, a, b))
         }
         Tree::Fun(number, arguments) => {
             let arguments = bind_all(alloc, names, english, scope, seen, arguments.as_slice())?;
@@ -128,34 +123,47 @@ fn bind_under<N: Finder>(
             }
         }
         Tree::Let(pairs, body) => {
-            let mut inner = copy_texts(alloc, seen)?;
-            let pairs = bind_pairs(alloc, names, english, scope, &mut inner, pairs.as_slice())?;
-            let body = bind_under(
-                alloc,
-                names,
-                english,
-                scope,
-                inner.as_slice(),
-                body.as_ref(),
-            )?;
-            Ok(Tree::Let(Items::from(pairs), Boxed::from(Box::new(alloc, body)?)))
+            let count = seen.len();
+            let pairs = bind_pairs(alloc, names, english, scope, seen, pairs.as_slice())?;
+            let body = bind_boxed(alloc, names, english, scope, seen, body)?;
+            seen.leave(count)?;
+            Ok(Tree::Let(Items::from(pairs), body))
         }
         Tree::Lambda(parameters, body) => {
-            let both = joined_texts(alloc, seen, parameters.as_slice())?;
-            let body = bind_under(alloc, names, english, scope, both.as_slice(), body.as_ref())?;
+            let count = seen.len();
+            seen.push_all(parameters.as_slice())?;
+            let body = bind_boxed(alloc, names, english, scope, seen, body)?;
+            seen.leave(count)?;
             let parameters = copy_texts(alloc, parameters.as_slice())?;
-            Ok(Tree::Lambda(Items::from(parameters), Boxed::from(Box::new(alloc, body)?)))
+            Ok(Tree::Lambda(Items::from(parameters), body))
         }
         Tree::Apply(x, arguments) => {
-            let x = bind_under(alloc, names, english, scope, seen, x.as_ref())?;
+            let x = bind_boxed(alloc, names, english, scope, seen, x)?;
             let arguments = bind_all(alloc, names, english, scope, seen, arguments.as_slice())?;
-            Ok(Tree::Apply(Boxed::from(Box::new(alloc, x)?), Items::from(arguments)))
+            Ok(Tree::Apply(x, Items::from(arguments)))
         }
         Tree::Array(rows) => {
             let rows = copy_rows(alloc, rows.as_slice())?;
             Ok(Tree::Array(Items::from(rows)))
         }
     }
+}
+
+/// The same of a part of a formula.
+#[cycle(bind)]
+fn bind_boxed<N: Finder>(
+    alloc: Global,
+    names: &N,
+    english: &Language,
+    scope: Option<u32>,
+    seen: &mut Binders,
+    tree: &Boxed<Spelled>,
+) -> Result<Boxed<Bound>, OutOfMemory>
+    ensures bound { IfOk result (λ r. r ≡ bound_under (function_of english.now) (N.scene names.now) scope tree.now seen.old) }
+    ensures seen { OnOk result (seen.new ≡ seen.old) }
+{
+    let bound = bind_under(alloc, names, english, scope, seen, tree.as_ref())?;
+    Ok(Boxed::from(Box::new(alloc, bound)?))
 }
 
 /// Formulas that stand where these variables are seen.
@@ -165,10 +173,11 @@ fn bind_all<N: Finder>(
     names: &N,
     english: &Language,
     scope: Option<u32>,
-    seen: &[Text],
+    seen: &mut Binders,
     ts: &[Spelled],
 ) -> Result<Vec<Bound>, OutOfMemory>
-    ensures { IfOk result (λ r. r.items ≡ all_bound (map (bound_under (function_of english.now) (N.scene names.now) scope) ts.now) seen.now) }
+    ensures bound { IfOk result (λ r. r.items ≡ all_bound (map (bound_under (function_of english.now) (N.scene names.now) scope) ts.now) seen.old) }
+    ensures seen { OnOk result (seen.new ≡ seen.old) }
 {
     let mut out = Vec::new(alloc);
     for t in ts {
@@ -185,18 +194,18 @@ fn bind_pairs<N: Finder>(
     names: &N,
     english: &Language,
     scope: Option<u32>,
-    seen: &mut Vec<Text>,
+    seen: &mut Binders,
     pairs: &[LetPair<Option<Text>, Text>],
 ) -> Result<Vec<LetPair<SheetMention, NameMention>>, OutOfMemory>
-    ensures values { IfOk result (λ r. r.items ≡ pairs_bound (map (pair_binds (function_of english.now) (N.scene names.now) scope) pairs.now) seen.old.items) }
-    ensures variables { IfOk result (λ r. seen.new.items ≡ with_variables (map (pair_binds (function_of english.now) (N.scene names.now) scope) pairs.now) seen.old.items) }
+    ensures values { IfOk result (λ r. r.items ≡ pairs_bound (map (pair_binds (function_of english.now) (N.scene names.now) scope) pairs.now) seen.old) }
+    ensures variables { OnOk result (seen.new ≡ with_variables (map (pair_binds (function_of english.now) (N.scene names.now) scope) pairs.now) seen.old) }
 {
     let mut out = Vec::new(alloc);
     for pair in pairs {
-        let value = bind_under(alloc, names, english, scope, seen.as_slice(), &pair.value)?;
+        let value = bind_under(alloc, names, english, scope, seen, &pair.value)?;
         let variable = Text::from_str(alloc, pair.variable.as_str())?;
         out.push(LetPair { variable, value })?;
-        seen.push(Text::from_str(alloc, pair.variable.as_str())?)?;
+        seen.push(pair.variable.as_str())?;
     }
     Ok(out)
 }

@@ -1,4 +1,4 @@
-ghost use Rattle.std.specs.Prelude.{◌≡◌, ◌++◌, IfOk, OnOk};
+ghost use Rattle.std.specs.Prelude.{◌≡◌, IfOk};
 
 use ic_laws::{Constant, Items, OutOfMemory, Text};
 use std::alloc::Global;
@@ -54,24 +54,5 @@ pub fn copy_rows(
         let copy = copy_row(alloc, row.as_slice())?;
         out.push(Items::from(copy))?;
     }
-    Ok(out)
-}
-
-/// Puts a copy of each text after those that are there.
-pub fn push_texts(alloc: Global, to: &mut Vec<Text>, texts: &[Text]) -> Result<(), OutOfMemory>
-    ensures { OnOk result (to.new.items ≡ to.old.items ++ texts.now) }
-{
-    for text in texts {
-        to.push(Text::from_str(alloc, text.as_str())?)?;
-    }
-    Ok(())
-}
-
-/// A copy of the texts of both lists, the first list's before the other's.
-pub fn joined_texts(alloc: Global, first: &[Text], then: &[Text]) -> Result<Vec<Text>, OutOfMemory>
-    ensures { IfOk result (λ r. r.items ≡ first.now ++ then.now) }
-{
-    let mut out = copy_texts(alloc, first)?;
-    push_texts(alloc, &mut out, then)?;
     Ok(out)
 }

@@ -8,6 +8,7 @@ mod clash;
 mod constant;
 mod copies;
 mod dynamic;
+mod in_scope;
 mod language_words;
 mod law;
 mod lexer;
@@ -24,7 +25,10 @@ mod token;
 pub use binding::bind;
 pub use clash::clashes;
 pub use dynamic::is_dynamic;
-pub use law::{law_language_settled, law_shown_reads, law_tokens_before};
+pub use law::{
+    law_body_reference, law_english_reads, law_language_settled, law_shown_reads,
+    law_stored_formula, law_tokens_before,
+};
 pub(crate) use measured::Measured;
 pub use printer::print;
 pub use reading::{read, read_reference};

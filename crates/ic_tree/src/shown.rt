@@ -28,7 +28,8 @@ impl<'t> Shown<'t> {
     ghost use Rattle.std.specs.Prelude.{codes};
     ghost use Rattle.ic_tables.specs.Tables.{language_of};
     ghost use Rattle.ic_tables.specs.Tables.{HasGoodFormats};
-    ghost use Rattle.ic_tree.specs.Shown.{decimal_separator, list_separator, shown_meaning};
+    ghost use Rattle.ic_tables.specs.Formats.{decimal_separator};
+    ghost use Rattle.ic_tree.specs.Shown.{list_separator, shown_meaning};
 
     /// The shown form in a language and a locale, in the cell at this row and column, both from 1. Where the cell lies
     /// outside the sheet no reference is read, and each is spelled as the error word of `Error::REF`.

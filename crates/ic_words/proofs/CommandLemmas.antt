@@ -1,11 +1,13 @@
 -- The commands of served names with one to four words.
-use Rattle.std.proofs.Common.{◌≡◌, ℕ, List, [], ◌∷◌, Option, Some, None, option_map, option_and_then, refl, ap, sym, ◌∙◌}
+use Rattle.std.proofs.Common.{◌≡◌, ℕ, List, [], ◌∷◌, Option, Some, None, Result, IsErr, Bor, option_map, option_and_then, refl, ap, sym, ◌∙◌}
 use Rattle.ic_laws.specs.Command.{AllSaid, Command, OfScope, OfText, Said, WordForm, said}
 use Rattle.ic_laws.specs.Lines.{spelled_command, unescaped}
-use Rattle.ic_words.specs.Command.{word_said, words_said}
+use Rattle.ic_words.specs.Command.{ReadsCommand, command_meant, word_said, words_said}
 use Rattle.ic_words.specs.Served.{served}
-use Rattle.ic_words.specs.Words.{characters_of}
+use Rattle.ic_words.specs.Words.{HaveEscape, characters_of, words_left}
+use Rattle.ic_words.specs.declared.command.Command as code
 use Rattle.ic_words.specs.declared.words.WordText.{WordText}
+use Rattle.ic_words.proofs.WordLemmas.{memory_wanted}
 use Rattle.ic_words.proofs.RowLemmas.{IsRow, command_as_said, command_said, none_after, none_first, nothing_said, said_first}
 
 -- a text says itself
@@ -28,10 +30,10 @@ module _ {name : List ℕ} {command : AllSaid (OfText ∷ []) → Command} (row 
   no_text is = command_as_said row words None (ap (option_map (λ text. (characters_of text, tt))) (sym is) ∙ e)
 
 -- a served name with what is said of a definition: its name, its scope and its body
-abbrev definition_forms : List WordForm
+abbrev pub definition_forms : List WordForm
 definition_forms = OfText ∷ OfScope ∷ OfText ∷ []
 
-abbrev definition_said : WordText × Option ℕ × WordText → AllSaid definition_forms
+abbrev pub definition_said : WordText × Option ℕ × WordText → AllSaid definition_forms
 definition_said said = (characters_of said.0, (said.1, (characters_of said.2, tt)))
 
 module _ {name : List ℕ} {command : AllSaid definition_forms → Command} (row : IsRow name definition_forms command) (words : List (List ℕ)) (o : Option (WordText × Option ℕ × WordText)) (e : option_map definition_said o ≡ words_said definition_forms words) where
@@ -96,3 +98,7 @@ module _ {name : List ℕ} {f g h k : WordForm} {command : AllSaid (f ∷ g ∷ 
 
   pub four_without_fourth : None ≡ word_said k d → None ≡ spelled_command served (name ∷ words)
   four_without_fourth p = nothing_said row words (a ∷ b ∷ c ∷ d ∷ []) e (none_after f (g ∷ h ∷ k ∷ []) a (b ∷ c ∷ d ∷ []) (none_after g (h ∷ k ∷ []) b (c ∷ d ∷ []) (none_after h (k ∷ []) c (d ∷ []) (none_first k [] d [] p))))
+
+-- memory was wanted where a word of the command has an escape
+pub command_wanting : {E : Type 0} (name : List ℕ) (rest : Option (Bor (List ℕ))) (r : Result (Option code.Command) E) → IsErr r → HaveEscape (words_left rest) → ReadsCommand name rest r
+command_wanting name rest r is h = memory_wanted (words_left rest) r (λ command. option_map command_meant command ≡ spelled_command served (name ∷ words_left rest)) is h

@@ -1,18 +1,17 @@
--- The first word of a line, and words without an escape.
-use Rattle.std.proofs.Common.{◌≡◌, ◌≢◌, ℕ, ◌+◌, ◌<◌, List, [], ◌∷◌, ◌++◌, ◌==◌, length, map, drop, get_or, false, Option, None, Some, lit<, Bor, chars, IsUtf8, All, option_map, refl, ap, sym, subst, ◌∙◌, arith, length-append, append_assoc, inl, inr}
-use Rattle.std.specs.List.{slice_split}
-use Rattle.std.specs.Str.{NoCharPasses, NonePass}
+-- The first word of a line, and words with an escape and without.
+use Rattle.std.proofs.Common.{◌≡◌, ◌≢◌, ℕ, ◌+◌, ◌<◌, List, [], ◌∷◌, ◌++◌, ◌==◌, length, map, drop, get_or, Bool, true, false, ◌||◌, Option, None, Some, Result, Ok, Err, IsErr, lit<, Bor, chars, IsUtf8, All, option_map, refl, ap, sym, subst, ◌∙◌, arith, length-append, append_assoc, inl, inr}
+use Rattle.std.specs.List.{list_any, slice_split}
 use Rattle.std.proofs.lemmas.Bool.Decides.{eqb_tells}
 use Rattle.std.proofs.lemmas.List.{drop_at}
 use Rattle.std.proofs.lemmas.List.Elements.{All-from_get_or}
 use Rattle.std.proofs.lemmas.List.Splits.{length-slice_split, slice_split_at, slice_split_none}
 use Rattle.std.proofs.lemmas.Option.{MatchOption-at_none, MatchOption-at_some}
 use Rattle.std.proofs.lemmas.Str.Pattern.{IsSplitOnceResult, split_parts}
-use Rattle.std.proofs.lemmas.Str.{IsCharBoundary-after_ascii, IsUtf8-drop, chars_from_encodes, encodes-chars, scalars-chars}
+use Rattle.std.proofs.lemmas.Str.{IsCharBoundary-after_ascii, IsUtf8-drop, encodes-chars, scalars-chars}
 use Rattle.std.proofs.Math.Seq.{get_or-append_seam}
 use Rattle.ic_laws.specs.Lines.{unescaped, words_of}
 use Rattle.ic_lines.proofs.WordLemmas.{pieces}
-use Rattle.ic_words.specs.Words.{words_left}
+use Rattle.ic_words.specs.Words.{HasEscape, HaveEscape, UnlessEscape, has_escape, words_left}
 
 -- what stands after a tab is text
 after_tab : (bytes word rest : List ℕ) → IsUtf8 bytes → bytes ≡ word ++ 9 ∷ rest → IsUtf8 rest
@@ -54,13 +53,47 @@ more_words left line more rest word e w m one =
     let all : words_left left ≡ word ∷ words_of (chars rest.now) = ap words_left e ∙ w ∙ ap (λ ws. word ∷ words_left ws) m in
     omega (arith, one, ap length all, length-slice_split (λ c. c == 9) (chars rest.now))
 
--- a word without a backslash spells itself
-plain : (cs : List ℕ) → NonePass (λ c. c == 92) cs → unescaped cs ≡ Some cs
-plain [] h = refl
-plain (c ∷ []) h = rw h.0 refl
-plain (c ∷ d ∷ cs) h = rw h.0 (ap (option_map (λ t. c ∷ t)) (plain (d ∷ cs) h.1))
+-- neither of two tests
+neither : (a b : Bool) → (a || b) ≡ false → (a ≡ false) × (b ≡ false)
+neither true b h = cc
+neither false b h = (refl, h)
 
-pub spells_itself : (bytes : List ℕ) → IsUtf8 bytes → NoCharPasses (λ c. c == 92) bytes → unescaped (chars bytes) ≡ Some (chars bytes)
-spells_itself bytes u h =
-    let same : h.0 ≡ chars bytes = chars_from_encodes h.0 bytes u h.1 in
-    subst (λ cs. unescaped cs ≡ Some cs) same (plain h.0 h.2)
+-- a word without an escape spells itself
+pub spells_itself : (cs : List ℕ) → has_escape cs ≡ false → unescaped cs ≡ Some cs
+spells_itself [] h = refl
+spells_itself (c ∷ []) h = rw (neither (c == 92) false h).0 refl
+spells_itself (c ∷ d ∷ cs) h =
+    let n = neither (c == 92) (has_escape (d ∷ cs)) h in
+    rw n.0 (ap (option_map (λ t. c ∷ t)) (spells_itself (d ∷ cs) n.1))
+
+-- one of two tests
+either : (a b : Bool) → b ≡ true → (a || b) ≡ true
+either true b h = refl
+either false b h = h
+
+-- the first word has an escape
+pub escape_first : {words more : List (List ℕ)} {a : List ℕ} → words ≡ a ∷ more → HasEscape a → HaveEscape words
+escape_first e h = ap (list_any has_escape) e ∙ rw h refl
+
+-- words after the first have an escape
+pub escape_behind : {words more : List (List ℕ)} {a : List ℕ} → words ≡ a ∷ more → HaveEscape more → HaveEscape words
+escape_behind {words} {more} {a} e h = ap (list_any has_escape) e ∙ either (has_escape a) (list_any has_escape more) h
+
+pub escape_second : {words more : List (List ℕ)} {a b : List ℕ} → words ≡ a ∷ b ∷ more → HasEscape b → HaveEscape words
+escape_second {words} {more} {a} {b} e h = escape_behind e (escape_first {words = b ∷ more} refl h)
+
+pub escape_third : {words more : List (List ℕ)} {a b c : List ℕ} → words ≡ a ∷ b ∷ c ∷ more → HasEscape c → HaveEscape words
+escape_third {words} {more} {a} {b} {c} e h = escape_behind e (escape_second {words = b ∷ c ∷ more} refl h)
+
+pub escape_fourth : {words more : List (List ℕ)} {a b c d : List ℕ} → words ≡ a ∷ b ∷ c ∷ d ∷ more → HasEscape d → HaveEscape words
+escape_fourth {words} {more} {a} {b} {c} {d} e h = escape_behind e (escape_third {words = b ∷ c ∷ d ∷ more} refl h)
+
+-- what was read of the words after a name was read of all words
+pub read_behind : {X E : Type 0} (name : List ℕ) (more : List (List ℕ)) (r : Result X E) (P : X → Type 0) → UnlessEscape more r P → UnlessEscape (name ∷ more) r P
+read_behind name more (Ok x) P h = h
+read_behind name more (Err e) P h = escape_behind {words = name ∷ more} refl h
+
+-- memory was wanted where a word has an escape
+pub memory_wanted : {X E : Type 0} (words : List (List ℕ)) (r : Result X E) (P : X → Type 0) → IsErr r → HaveEscape words → UnlessEscape words r P
+memory_wanted words (Ok x) P is h = let e : false ≡ true = is in absurd (cc)
+memory_wanted words (Err e) P is h = h

@@ -1,9 +1,11 @@
 -- Commands as the code has them, and what words say.
-use Rattle.std.specs.Prelude.{ℕ, List, [], ◌∷◌, Option, Some, None, option_and_then, option_map}
+use Rattle.std.specs.Prelude.{◌≡◌, ℕ, List, [], ◌∷◌, Option, Some, None, Result, option_and_then, option_map}
+use Rattle.std.specs.Borrow.{Bor}
 use Rattle.ic_laws.specs.Command as laws
 use Rattle.ic_laws.specs.Command.{AllSaid, Said, WordForm, said}
-use Rattle.ic_laws.specs.Lines.{unescaped}
-use Rattle.ic_words.specs.Words.{characters_of}
+use Rattle.ic_laws.specs.Lines.{spelled_command, unescaped}
+use Rattle.ic_words.specs.Served.{served}
+use Rattle.ic_words.specs.Words.{UnlessEscape, characters_of, words_left}
 use Rattle.ic_words.specs.declared.command.Command.{Command}
 use Rattle.ic_words.specs.declared.command.Command.TheVariants as commands
 
@@ -36,3 +38,9 @@ words_said [] [] = Some tt
 words_said [] (word ∷ words) = None
 words_said (form ∷ forms) [] = None
 words_said (form ∷ forms) (word ∷ words) = option_and_then (λ first. option_map (λ others. (first, others)) (words_said forms words)) (word_said form word)
+
+-- What is read is the served command of this name with the words that are left, if they spell one. Memory is wanted only
+-- where a word has an escape.
+abbrev pub ReadsCommand : {E : Type 0} → List ℕ → Option (Bor (List ℕ)) → Result (Option Command) E → Type 0
+ReadsCommand name rest result =
+    UnlessEscape (words_left rest) result (λ command. option_map command_meant command ≡ spelled_command served (name ∷ words_left rest))

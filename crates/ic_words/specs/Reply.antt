@@ -5,6 +5,10 @@ use Rattle.ic_laws.specs.Character.{tab}
 use Rattle.ic_laws.specs.Command.{Field, NumberField, TextField, field_text}
 use Rattle.ic_laws.specs.Lines.{escaped}
 
+-- the bytes for which there is room before a reply without a field is written
+abbrev pub reply_room : ℕ
+reply_room = 512
+
 -- a field as it is written: a tab, and its text with escapes
 abbrev pub field_word : Field → List ℕ
 field_word field = tab ∷ escaped (field_text field)

@@ -1,6 +1,8 @@
 -- The words that are still to be read of a line, and the texts that words spell.
-use Rattle.std.specs.Prelude.{ℕ, List, [], Option, Some, None, chars}
+use Rattle.std.specs.Prelude.{◌≡◌, ℕ, List, [], Bool, true, ◌==◌, Option, Some, None, Result, Ok, Err, chars}
+use Rattle.std.specs.List.{list_any}
 use Rattle.std.specs.Borrow.{Bor}
+use Rattle.ic_laws.specs.Character.{backslash}
 use Rattle.ic_laws.specs.Lines.{words_of}
 use Rattle.ic_words.specs.declared.words.WordText.{WordText}
 use Rattle.ic_words.specs.declared.words.WordText.TheVariants as texts
@@ -14,3 +16,19 @@ characters_of (texts.Owned text) = text
 abbrev pub words_left : Option (Bor (List ℕ)) → List (List ℕ)
 words_left None = []
 words_left (Some rest) = words_of (chars rest.now)
+
+-- a word has a backslash, which begins each escape
+abbrev pub has_escape : List ℕ → Bool
+has_escape word = list_any (λ c. c == backslash) word
+
+abbrev pub HasEscape : List ℕ → Type 0
+HasEscape word = has_escape word ≡ true
+
+-- a word of these has an escape
+abbrev pub HaveEscape : List (List ℕ) → Type 0
+HaveEscape words = list_any has_escape words ≡ true
+
+-- What was read of words is so. Memory is wanted only where one of them has an escape.
+abbrev pub UnlessEscape : {X E : Type 0} → List (List ℕ) → Result X E → (X → Type 0) → Type 0
+UnlessEscape words (Ok x) P = P x
+UnlessEscape words (Err e) P = HaveEscape words

@@ -1,9 +1,9 @@
-ghost use Rattle.std.specs.Prelude.{◌≡◌, ◌∷◌, [], IfOk, chars, codes, option_map};
+ghost use Rattle.std.specs.Prelude.{◌≡◌, ◌∷◌, [], chars, codes, option_map};
 ghost use Rattle.ic_laws.specs.Command.{OfIndex, OfText};
-ghost use Rattle.ic_laws.specs.Lines.{command_of, spelled_command};
-ghost use Rattle.ic_words.specs.Command.{command_meant, words_said};
+ghost use Rattle.ic_laws.specs.Lines.{command_of, spelled_command, words_of};
+ghost use Rattle.ic_words.specs.Command.{ReadsCommand, command_meant, words_said};
 ghost use Rattle.ic_words.specs.Served.{served};
-ghost use Rattle.ic_words.specs.Words.{characters_of, words_left};
+ghost use Rattle.ic_words.specs.Words.{UnlessEscape, characters_of, words_left};
 
 mod names;
 
@@ -81,7 +81,8 @@ pub enum Command<'l> {
 /// The command that a line is; None where it is none that is served: another name, fewer or more words, a number that
 /// isn't one of its type, or a wrong escape. Memory is asked for only for a text with an escape.
 pub fn command_in<'l>(alloc: Global, line: &'l str) -> Result<Option<Command<'l>>, OutOfMemory>
-    ensures { IfOk result (λ command. option_map command_meant command ≡ command_of served (chars line.now)) }
+    ensures { UnlessEscape (words_of (chars line.now)) result
+        (λ command. option_map command_meant command ≡ command_of served (chars line.now)) }
 {
     let (name, rest) = first_word(line);
     command_named(alloc, name, rest)
@@ -93,7 +94,7 @@ fn command_named<'l>(
     name: &str,
     rest: Option<&'l str>,
 ) -> Result<Option<Command<'l>>, OutOfMemory>
-    ensures { IfOk result (λ command. option_map command_meant command ≡ spelled_command served (chars name.now ∷ words_left rest.entry)) }
+    ensures { ReadsCommand (chars name.now) rest.entry result }
 {
     match name {
         "add_sheet" => add_sheet(alloc, rest),
@@ -117,7 +118,7 @@ fn command_named<'l>(
 }
 
 fn add_sheet<'l>(alloc: Global, rest: Option<&'l str>) -> Result<Option<Command<'l>>, OutOfMemory>
-    ensures { IfOk result (λ command. option_map command_meant command ≡ spelled_command served (codes "add_sheet" ∷ words_left rest.entry)) }
+    ensures { ReadsCommand (codes "add_sheet") rest.entry result }
 {
     let Some(name) = only_text(alloc, rest)? else {
         return Ok(None);
@@ -129,7 +130,7 @@ fn rename_sheet<'l>(
     alloc: Global,
     rest: Option<&'l str>,
 ) -> Result<Option<Command<'l>>, OutOfMemory>
-    ensures { IfOk result (λ command. option_map command_meant command ≡ spelled_command served (codes "rename_sheet" ∷ words_left rest.entry)) }
+    ensures { ReadsCommand (codes "rename_sheet") rest.entry result }
 {
     let Some((old, new)) = two_words(rest) else {
         return Ok(None);
@@ -147,7 +148,7 @@ fn rename_sheet_by_index<'l>(
     alloc: Global,
     rest: Option<&'l str>,
 ) -> Result<Option<Command<'l>>, OutOfMemory>
-    ensures { IfOk result (λ command. option_map command_meant command ≡ spelled_command served (codes "rename_sheet_by_index" ∷ words_left rest.entry)) }
+    ensures { ReadsCommand (codes "rename_sheet_by_index") rest.entry result }
 {
     let Some((sheet, name)) = two_words(rest) else {
         return Ok(None);
@@ -181,7 +182,7 @@ fn delete_sheet_by_name<'l>(
     alloc: Global,
     rest: Option<&'l str>,
 ) -> Result<Option<Command<'l>>, OutOfMemory>
-    ensures { IfOk result (λ command. option_map command_meant command ≡ spelled_command served (codes "delete_sheet_by_name" ∷ words_left rest.entry)) }
+    ensures { ReadsCommand (codes "delete_sheet_by_name") rest.entry result }
 {
     let Some(name) = only_text(alloc, rest)? else {
         return Ok(None);
@@ -204,7 +205,7 @@ fn get_new_sheet_id<'l>(rest: Option<&'l str>) -> Option<Command<'l>>
 }
 
 fn set_locale<'l>(alloc: Global, rest: Option<&'l str>) -> Result<Option<Command<'l>>, OutOfMemory>
-    ensures { IfOk result (λ command. option_map command_meant command ≡ spelled_command served (codes "set_locale" ∷ words_left rest.entry)) }
+    ensures { ReadsCommand (codes "set_locale") rest.entry result }
 {
     let Some(id) = only_text(alloc, rest)? else {
         return Ok(None);
@@ -216,7 +217,7 @@ fn set_language<'l>(
     alloc: Global,
     rest: Option<&'l str>,
 ) -> Result<Option<Command<'l>>, OutOfMemory>
-    ensures { IfOk result (λ command. option_map command_meant command ≡ spelled_command served (codes "set_language" ∷ words_left rest.entry)) }
+    ensures { ReadsCommand (codes "set_language") rest.entry result }
 {
     let Some(id) = only_text(alloc, rest)? else {
         return Ok(None);
@@ -228,7 +229,7 @@ fn update_cell_with_formula<'l>(
     alloc: Global,
     rest: Option<&'l str>,
 ) -> Result<Option<Command<'l>>, OutOfMemory>
-    ensures { IfOk result (λ command. option_map command_meant command ≡ spelled_command served (codes "update_cell_with_formula" ∷ words_left rest.entry)) }
+    ensures { ReadsCommand (codes "update_cell_with_formula") rest.entry result }
 {
     let Some((sheet, row, column, text)) = four_words(rest) else {
         return Ok(None);
@@ -265,7 +266,8 @@ fn get_cell_formula<'l>(rest: Option<&'l str>) -> Option<Command<'l>>
 
 /// The text of the word that is left, if it is one.
 fn only_text<'l>(alloc: Global, rest: Option<&'l str>) -> Result<Option<WordText<'l>>, OutOfMemory>
-    ensures { IfOk result (λ text. option_map (λ text. (characters_of text, tt)) text ≡ words_said (OfText ∷ []) (words_left rest.entry)) }
+    ensures { UnlessEscape (words_left rest.entry) result
+        (λ text. option_map (λ text. (characters_of text, tt)) text ≡ words_said (OfText ∷ []) (words_left rest.entry)) }
 {
     let Some(word) = one_word(rest) else {
         return Ok(None);

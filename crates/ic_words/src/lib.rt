@@ -11,5 +11,7 @@ mod words;
 
 pub use command::{Command, command_in};
 pub use numbers::{index_of, position_of, scope_of};
-pub use reply::{REPLY_ROOM, error_reply, names_reply, number_reply, ok_reply, text_reply};
+pub use reply::{
+    REPLY_ROOM, error_reply, law_reply_room, names_reply, number_reply, ok_reply, text_reply,
+};
 pub use words::{WordText, text_of};

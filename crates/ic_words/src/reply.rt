@@ -4,7 +4,7 @@ ghost use Rattle.ic_laws.specs.Character.{line_feed};
 ghost use Rattle.ic_laws.specs.Command.{NumberField, TextField};
 ghost use Rattle.ic_laws.specs.Lines.{reply_bytes};
 ghost use Rattle.ic_laws.specs.Refusal.{Refusal, refusal_name};
-ghost use Rattle.ic_words.specs.Reply.{field_word, name_fields};
+ghost use Rattle.ic_words.specs.Reply.{field_word, name_fields, reply_room};
 
 use ic_laws::OutOfMemory;
 use ic_laws::scan::push_char;
@@ -14,9 +14,14 @@ use ic_lines::push_escaped;
 /// its reply can't fail.
 pub const REPLY_ROOM: usize = 512;
 
+/// The room is 512 bytes.
+pub fn law_reply_room()
+    ensures { REPLY_ROOM ≡ reply_room }
+{}
+
 /// The text with the reply `ok` without a field at its end. A reply ends with a line feed.
 pub fn ok_reply(mut reply: String) -> String
-    requires { string_len reply + REPLY_ROOM ≤ string_capacity reply }
+    requires { string_len reply + reply_room ≤ string_capacity reply }
     ensures { string_bytes result ≡ string_bytes reply ++ reply_bytes (Ok []) }
 {
     append(&mut reply, "ok\n");
@@ -25,7 +30,7 @@ pub fn ok_reply(mut reply: String) -> String
 
 /// The text with the reply that tells an error at its end, by the error's name.
 pub fn error_reply(mut reply: String, name: &str) -> String
-    requires room { string_len reply + REPLY_ROOM ≤ string_capacity reply }
+    requires room { string_len reply + reply_room ≤ string_capacity reply }
     requires short { length name.now ≤ 32 }
     ensures exact { string_bytes result ≡ string_bytes reply ++ (codes "error\t" ++ name.now ++ line_feed ∷ []) }
     ensures refusal { (refusal : Refusal) → name.now ≡ refusal_name refusal → string_bytes result ≡ string_bytes reply ++ reply_bytes (Err refusal) }

@@ -1,6 +1,6 @@
-ghost use Rattle.std.specs.Prelude.{◌≡◌, ◌≢◌, ◌∷◌, [], IfOk, MatchOption, chars, length, option_map, string_bytes};
+ghost use Rattle.std.specs.Prelude.{◌≡◌, ◌≢◌, ◌∷◌, [], false, Ok, Some, IfOk, MatchOption, MatchResult, chars, length, option_map, string_bytes};
 ghost use Rattle.ic_laws.specs.Lines.{unescaped, words_of};
-ghost use Rattle.ic_words.specs.Words.{characters_of, words_left};
+ghost use Rattle.ic_words.specs.Words.{HasEscape, characters_of, has_escape, words_left};
 
 use ic_laws::{OutOfMemory, Text};
 use ic_lines::unescape;
@@ -42,17 +42,28 @@ impl<'l> WordText<'l> {
     }
 }
 
-/// The text that a word spells; None where it has a wrong escape. Memory is asked for only where it has an escape.
+/// The text that a word spells; None where it has a wrong escape. A word without an escape is lent, and memory is asked
+/// for only where it has one.
 pub fn text_of<'l>(alloc: Global, word: &'l str) -> Result<Option<WordText<'l>>, OutOfMemory>
-    ensures { IfOk result (λ text. option_map characters_of text ≡ unescaped (chars word.now)) }
+    ensures exact { MatchResult result
+        (λ text. option_map characters_of text ≡ unescaped (chars word.now))
+        (λ e. HasEscape (chars word.now)) }
+    ensures lent { has_escape (chars word.now) ≡ false → result ≡ Ok (Some (WordText.Lent word.entry)) }
 {
-    if !word.contains('\\') {
+    if !has_escape(word) {
         return Ok(Some(WordText::Lent(word)));
     }
     let Some(text) = unescape(alloc, word)? else {
         return Ok(None);
     };
     Ok(Some(WordText::Owned(text)))
+}
+
+// Whether a word has a backslash, which begins each escape.
+fn has_escape(word: &str) -> bool
+    ensures { result ≡ has_escape (chars word.now) }
+{
+    word.chars().any(|c| c == '\\')
 }
 
 /// The first word of a line, and what is left of the line after the tab; None where no tab stands after the word.

@@ -1,10 +1,14 @@
-ghost use Rattle.std.specs.Prelude.{◌≡◌, ◌≤◌, ◌+◌, length, IfOk, OnOk};
-ghost use Rattle.ic_pool.specs.Pool.{KeepsPlaces};
+ghost use Rattle.std.specs.Prelude.{◌≡◌, ◌≤◌, ◌+◌, ℕ, List, [], ◌∷◌, false, true, length, option_map, IfOk, MatchOption, OnErr, OnOk};
+ghost use Rattle.std.specs.BTreeMap.{get};
+ghost use Rattle.std.specs.Cmp.Lexicographic.{slice_cmp};
+ghost use Rattle.std.specs.List.{slice_get};
+ghost use Rattle.std.specs.Ordering.{nat_cmp};
+ghost use Rattle.ic_pool.specs.Pool.{KeepsPlaces, KnowsRest};
 
 use crate::{Key, Steps, key_of};
 use ic_laws::{Formula, OutOfMemory};
 use std::alloc::Global;
-use std::collections::BTreeMap;
+use std::collections::{BTreeMap, LinkedList};
 use std::sync::ledger::Ledger;
 
 /// The first place of each formula, by its key, in one step for each. It goes from the last to the first, so that the
@@ -27,4 +31,66 @@ pub fn index_of<L: Ledger>(
         index.insert(key, at)?;
     }
     Ok(index)
+}
+
+/// Puts the formulas at the late places into a look-up that has the others, in one step for each. Where there is no memory
+/// left, those that it didn't come to stay late.
+pub fn put_late<L: Ledger>(
+    alloc: Global,
+    formulas: &[Formula],
+    index: &mut BTreeMap<Key, usize>,
+    late: &mut LinkedList<usize>,
+    steps: &mut Steps<L>,
+) -> Result<(), OutOfMemory>
+    requires { KnowsRest index.old late.old formulas.now }
+    ensures knows { KnowsRest index.new late.new formulas.now }
+    ensures done { OnOk result (late.new ≡ []) }
+    ensures cost { steps.new ≤ steps.old + length late.old }
+    ensures grows { steps.old ≤ steps.new }
+{
+    while let Some(at) = late.front().copied() {
+        steps.tick();
+        put_place(alloc, formulas, index, at)?;
+        late.pop_front();
+    }
+    Ok(())
+}
+
+/// Puts the formula at a place, from 0, into a look-up, where no equal one is found at a place before; past the end there
+/// is none.
+fn put_place(
+    alloc: Global,
+    formulas: &[Formula],
+    index: &mut BTreeMap<Key, usize>,
+    at: usize,
+) -> Result<(), OutOfMemory>
+    ensures ok { OnOk result ((late : List ℕ) → KnowsRest index.old (at ∷ late) formulas.now → KnowsRest index.new late formulas.now) }
+    ensures err { OnErr result (index.new.entries ≡ index.old.entries) }
+{
+    let Some(formula) = formula_in(formulas, at) else {
+        return Ok(());
+    };
+    let key = key_of(alloc, formula)?;
+    if is_before(index, &key, at) {
+        return Ok(());
+    }
+    index.insert(key, at)?;
+    Ok(())
+}
+
+/// The formula at a place, from 0. None past the end.
+fn formula_in(formulas: &[Formula], at: usize) -> Option<&Formula>
+    ensures { option_map (λ f. f.now) result ≡ slice_get formulas.now at }
+{
+    formulas.get(at)
+}
+
+/// Whether a look-up has a key at this place or before.
+fn is_before(index: &BTreeMap<Key, usize>, key: &Key, at: usize) -> bool
+    ensures { MatchOption (get (slice_cmp nat_cmp) index.now key.now) (result ≡ false) (λ first. (result ≡ true → first ≤ at) × (result ≡ false → at ≤ first)) }
+{
+    match index.get(key).copied() {
+        Some(first) => first <= at,
+        None => false,
+    }
 }

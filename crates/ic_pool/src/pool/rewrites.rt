@@ -1,34 +1,74 @@
-ghost use Rattle.std.specs.Prelude.{◌≡◌, ◌<◌, ◌++◌, [], ◌∷◌, List, false, length, map, IfOk, OnOk, if◌then◌else◌};
+ghost use Rattle.std.specs.Prelude.{◌≡◌, ◌<◌, ◌++◌, [], ◌∷◌, ℕ, List, None, cond, false, true, length, map, set, IfOk, OnOk, if◌then◌else◌};
+ghost use Rattle.std.specs.BTreeMap.{get};
+ghost use Rattle.std.specs.Cmp.Lexicographic.{slice_cmp};
 ghost use Rattle.std.specs.List.{AllByRecursion};
 ghost use Rattle.std.specs.Option.{unwrap_or};
+ghost use Rattle.std.specs.Ordering.{nat_cmp};
 ghost use Rattle.ic_laws.specs.declared.tree.Formula.{Formula};
-ghost use Rattle.ic_pool.specs.Mentions.{SparesFound, formula_after, has_dangling};
+ghost use Rattle.ic_pool.specs.Code.{code};
+ghost use Rattle.ic_pool.specs.Mentions.{SparesFound, formula_after, has_dangling, is_changed_by};
 ghost use Rattle.ic_pool.specs.Pool.{dangling_places};
-ghost use Rattle.ic_pool.specs.Rewrites.{FitsPool, IsNoted, changed_by, changes_nothing, rewritten_by};
+ghost use Rattle.ic_pool.specs.Rewrites.{FitsPool, IsNoted, ListsChanged, changed_by, changes_nothing, is_key_among, old_keys, rewritten_by};
 
-use crate::{BookChange, changed_formula, has_dangling};
+use crate::{BookChange, Key, changed_formula, has_dangling, key_of};
 use ic_laws::{Formula, OutOfMemory};
 use std::alloc::Global;
+use std::collections::{BTreeMap, LinkedList};
 use std::marker::Model;
 
-/// A formula that becomes another: where it stands, from 0, and what it becomes.
-#[derive(Drop)]
+/// A formula that becomes another: where it stands, from 0, what it becomes, and the key that it had.
 struct Replacement {
     at: usize,
     formula: Formula,
+    old_key: Key,
+}
+
+impl Drop for Replacement {
+    fn drop(self) {
+        let Self {
+            at: _,
+            formula,
+            old_key,
+        } = self;
+        drop(formula);
+        drop(old_key);
+    }
+}
+
+impl Replacement {
+    /// Puts the formula at its place.
+    fn put(self, formulas: &mut [Formula])
+        requires { self.at < length formulas.old }
+        ensures { formulas.new ≡ set formulas.old self.at self.formula }
+    {
+        let Self {
+            at,
+            formula,
+            old_key,
+        } = self;
+        drop(old_key);
+        formulas[at] = formula;
+    }
 }
 
 /// What is prepared for a pool before its formulas are rewritten, so that the rewriting itself can't fail.
 pub struct Rewrites {
     changes: Vec<Replacement>,
+    /// Their places, as a list that a pool takes over without memory.
+    places: LinkedList<usize>,
     /// The places of the formulas that will then mention something that isn't found.
     dangling: Vec<usize>,
 }
 
 impl Drop for Rewrites {
     fn drop(self) {
-        let Self { changes, dangling } = self;
+        let Self {
+            changes,
+            places,
+            dangling,
+        } = self;
         drop(changes);
+        drop(places);
         drop(dangling);
     }
 }
@@ -43,7 +83,7 @@ impl Model for Rewrites {
 
     ghost coded = { Prim.hlevel (codes, formula.the_row.coded) };
 
-    ghost view = { λ w. record { changes = w.changes.items; dangling = w.dangling.items } };
+    ghost view = { λ w. record { changes = w.changes.items; places = w.places; dangling = w.dangling.items } };
 }
 
 impl Rewrites {
@@ -54,13 +94,36 @@ impl Rewrites {
         self.changes.is_empty()
     }
 
+    /// Takes the keys that the changed formulas have out of a look-up.
+    pub(super) fn take_out(&self, index: &mut BTreeMap<Key, usize>)
+        ensures { (key : List ℕ) → get (slice_cmp nat_cmp) index.new key ≡ cond (is_key_among key (old_keys self.now.changes)) None (get (slice_cmp nat_cmp) index.old key) }
+    {
+        remove_keys(&self.changes, index);
+    }
+
+    /// Puts the places of the changed formulas behind these, and answers whether it did. It takes no memory, and does so
+    /// for lists of fewer than 2^63 places.
+    pub(super) fn move_places(&mut self, late: &mut LinkedList<usize>) -> bool
+        ensures changes { self.new.changes ≡ self.old.changes }
+        ensures dangling { self.new.dangling ≡ self.old.dangling }
+        ensures moved { result ≡ true → late.new ≡ late.old ++ self.old.places }
+    {
+        late.append(&mut self.places).is_ok()
+    }
+
     /// Makes the changes, and answers the places of the formulas that then mention something that isn't found.
     pub(super) fn put(self, formulas: &mut [Formula]) -> Vec<usize>
-        requires { FitsPool self formulas.old }
+        requires within { AllByRecursion (λ change. change.at < length formulas.old) self.changes }
+        requires dangles { self.dangling ≡ dangling_places (rewritten_by self formulas.old) }
         ensures formulas { formulas.new ≡ rewritten_by self formulas.old }
         ensures places { result.items ≡ dangling_places formulas.new }
     {
-        let Rewrites { changes, dangling } = self;
+        let Rewrites {
+            changes,
+            places,
+            dangling,
+        } = self;
+        drop(places);
         put_all(formulas, changes);
         dangling
     }
@@ -68,10 +131,12 @@ impl Rewrites {
     /// No change.
     fn new(alloc: Global) -> Rewrites
         ensures changes { result.changes ≡ [] }
+        ensures places { result.places ≡ [] }
         ensures dangling { result.dangling ≡ [] }
     {
         Rewrites {
             changes: Vec::new(alloc),
+            places: LinkedList::new(alloc),
             dangling: Vec::new(alloc),
         }
     }
@@ -85,13 +150,14 @@ impl Rewrites {
         at: usize,
         formula: &Formula,
     ) -> Result<(), OutOfMemory>
-        ensures { OnOk result (IsNoted at formula.now (formula_after (C.change change.now) scope formula.now) self.old self.new) }
+        ensures { OnOk result (IsNoted at formula.now (formula_after (C.change change.now) scope formula.now) (is_changed_by (C.change change.now) scope formula.now) self.old self.new) }
     {
         match changed_formula(alloc, change, scope, formula)? {
             None => self.note_place(at, formula),
             Some(becomes) => {
                 self.note_place(at, &becomes)?;
-                self.note_change(at, becomes)
+                let old_key = key_of(alloc, formula)?;
+                self.note_change(at, becomes, old_key)
             }
         }
     }
@@ -107,10 +173,15 @@ impl Rewrites {
     }
 
     /// Puts a change behind the others.
-    fn note_change(&mut self, at: usize, formula: Formula) -> Result<(), OutOfMemory>
-        ensures { OnOk result (self.new ≡ record self.old { changes = self.old.changes ++ record { at = at; formula = formula } ∷ [] }) }
+    fn note_change(&mut self, at: usize, formula: Formula, old_key: Key) -> Result<(), OutOfMemory>
+        ensures { OnOk result (self.new ≡ record self.old { changes = self.old.changes ++ record { at = at; formula = formula; old_key = old_key } ∷ []; places = self.old.places ++ at ∷ [] }) }
     {
-        self.changes.push(Replacement { at, formula })?;
+        self.places.push_back(at)?;
+        self.changes.push(Replacement {
+            at,
+            formula,
+            old_key,
+        })?;
         Ok(())
     }
 }
@@ -123,6 +194,7 @@ pub fn rewrites_of<C: BookChange>(
     scope: Option<u32>,
 ) -> Result<Rewrites, OutOfMemory>
     ensures made { IfOk result (λ w. rewritten_by w formulas.now ≡ map (formula_after (C.change change.now) scope) formulas.now) }
+    ensures listed { IfOk result (ListsChanged (C.change change.now) scope formulas.now) }
     ensures fits { IfOk result (λ w. FitsPool w formulas.now) }
 {
     let mut rewrites = Rewrites::new(alloc);
@@ -143,6 +215,7 @@ pub fn rewrites_at<C: BookChange>(
     requires spares { SparesFound (C.change change.now) scope }
     requires places { places.now ≡ dangling_places formulas.now }
     ensures made { IfOk result (λ w. rewritten_by w formulas.now ≡ map (formula_after (C.change change.now) scope) formulas.now) }
+    ensures listed { IfOk result (ListsChanged (C.change change.now) scope formulas.now) }
     ensures fits { IfOk result (λ w. FitsPool w formulas.now) }
 {
     let mut rewrites = Rewrites::new(alloc);
@@ -152,12 +225,21 @@ pub fn rewrites_at<C: BookChange>(
     Ok(rewrites)
 }
 
+/// Takes the keys that these formulas have out of a look-up.
+fn remove_keys(changes: &[Replacement], index: &mut BTreeMap<Key, usize>)
+    ensures { (key : List ℕ) → get (slice_cmp nat_cmp) index.new key ≡ cond (is_key_among key (old_keys changes.now)) None (get (slice_cmp nat_cmp) index.old key) }
+{
+    for change in changes {
+        index.remove(&change.old_key);
+    }
+}
+
 /// Puts each changed formula at its place.
 fn put_all(formulas: &mut [Formula], changes: Vec<Replacement>)
     requires { AllByRecursion (λ change. change.at < length formulas.old) changes.items }
     ensures { formulas.new ≡ changed_by changes.items formulas.old }
 {
     for change in changes {
-        formulas[change.at] = change.formula;
+        change.put(formulas);
     }
 }

@@ -1,5 +1,5 @@
 //! Sheets come, get other names and go, and definitions come and go: what becomes of the formulas of all sheets.
-ghost use Rattle.std.specs.Prelude.{◌≡◌, ◌<◌, ◌++◌, ℕ, List, [], ◌∷◌, Some, IfOk, OnOk, OnErr, chars, false, length, map, remove};
+ghost use Rattle.std.specs.Prelude.{◌≡◌, ◌<◌, ◌++◌, ℕ, List, [], ◌∷◌, Some, IfOk, OnOk, OnErr, chars, false, true, length, map, remove};
 ghost use Rattle.std.specs.List.{list_any, slice_get};
 ghost use Rattle.ic_laws.specs.Changes.{sheet_gone, sheet_named};
 ghost use Rattle.ic_laws.specs.CoreStep.{updated_at};
@@ -7,12 +7,12 @@ ghost use Rattle.ic_laws.specs.Greatest.{greatest};
 ghost use Rattle.ic_laws.specs.Name.{agrees};
 ghost use Rattle.ic_pool.specs.Mentions.{SparesFound};
 ghost use Rattle.ic_pool.specs.Rewrites.{FitsPool};
-ghost use Rattle.ic_sheets.specs.Rewriting.{ArePrepared, FitSheets, IsPrepared, Makes, changed_pool, sheets_of, with_all_rewrites, with_rewrites};
+ghost use Rattle.ic_sheets.specs.Rewriting.{ArePrepared, FitSheets, IsPrepared, Makes, changed_pool, look_ups, looks_up_after, sheets_of, with_all_rewrites, with_rewrites};
 ghost use Rattle.ic_sheets.specs.Sheet.{BookSheet};
 ghost use Rattle.ic_sheets.specs.declared.sheet.Worksheet.{Worksheet};
 
 use super::Sheets;
-use super::rewriting::{apply_all, prepare, prepare_dangling};
+use super::rewriting::{apply_all, prepare, prepare_dangling, some_dangle};
 use ic_laws::OutOfMemory;
 use ic_pool::{BookChange, Rewrites, SheetGone, SheetNamed};
 
@@ -23,6 +23,7 @@ impl Sheets {
         requires free { list_any (agrees (chars name.now)) (map (λ s. s.name) self.old) ≡ false }
         requires fresh { greatest (map (λ s. s.id) self.old) < id }
         ensures ok { OnOk result (sheets_of self.new ≡ map (changed_pool (sheet_named id (chars name.now))) (sheets_of self.old) ++ record { id = id; name = chars name.now; pool = []; cells = [] } ∷ []) }
+        ensures looks_up { OnOk result (look_ups self.new ≡ map (looks_up_after (sheet_named id (chars name.now))) self.old ++ true ∷ []) }
         ensures err { OnErr result (self.new ≡ self.old) }
     {
         let prepared = self.rewrites_of_dangling(&SheetNamed { id, name })?;
@@ -38,6 +39,7 @@ impl Sheets {
         requires free { list_any (agrees (chars name.now)) (remove (map (λ s. s.name) self.old) index) ≡ false }
         ensures ok { OnOk result ((sheet : Worksheet) → slice_get self.old index ≡ Some sheet
             → sheets_of self.new ≡ updated_at (λ s. record s { name = chars name.now }) index (map (changed_pool (sheet_named sheet.id (chars name.now))) (sheets_of self.old))) }
+        ensures looks_up { OnOk result ((sheet : Worksheet) → slice_get self.old index ≡ Some sheet → look_ups self.new ≡ map (looks_up_after (sheet_named sheet.id (chars name.now))) self.old) }
         ensures err { OnErr result (self.new ≡ self.old) }
     {
         let id = self.list[index].id;
@@ -53,6 +55,7 @@ impl Sheets {
         requires { index < length self.old }
         ensures ok { OnOk result ((sheet : Worksheet) → slice_get self.old index ≡ Some sheet
             → sheets_of self.new ≡ remove (map (changed_pool (sheet_gone sheet.id sheet.name)) (sheets_of self.old)) index) }
+        ensures looks_up { OnOk result ((sheet : Worksheet) → slice_get self.old index ≡ Some sheet → look_ups self.new ≡ remove (map (looks_up_after (sheet_gone sheet.id sheet.name)) self.old) index) }
         ensures err { OnErr result (self.new ≡ self.old) }
     {
         let sheet = &self.list[index];
@@ -107,7 +110,7 @@ impl Sheets {
             return;
         }
         apply_all(&mut self.list, prepared);
-        self.may_dangle = true;
+        self.may_dangle = some_dangle(&self.list);
     }
 
     /// Does to the formulas of the sheet at a place, from 0, what was prepared for it.

@@ -1,10 +1,12 @@
 //! Sheets come, go, get other names and stand at other places.
-ghost use Rattle.std.specs.Prelude.{◌≡◌, ◌<◌, ◌++◌, ℕ, List, [], ◌∷◌, Some, None, OnOk, OnErr, bytes_eq, chars, cond, false, true, length, map, remove, string_bytes};
-ghost use Rattle.std.specs.BTreeMap.{get_by_text};
+ghost use Rattle.std.specs.Prelude.{◌≡◌, ◌<◌, ◌++◌, ℕ, List, [], ◌∷◌, Some, None, OnOk, OnErr, bytes_eq, chars, cond, false, true, length, map, option_map, remove, string_bytes};
+ghost use Rattle.std.specs.BTreeMap.{get, get_by_text};
 ghost use Rattle.std.specs.List.{list_any};
+ghost use Rattle.std.specs.Ordering.{nat_cmp};
 ghost use Rattle.ic_laws.specs.CoreStep.{moved, updated_at};
 ghost use Rattle.ic_laws.specs.Greatest.{greatest};
 ghost use Rattle.ic_laws.specs.Name.{agrees};
+ghost use Rattle.ic_sheets.specs.Index.{lowered, moved_place};
 
 use super::{Sheets, folded, greatest_of};
 use crate::Worksheet;
@@ -23,11 +25,20 @@ impl Sheets {
         let key = folded(self.alloc, name)?;
         let name = Text::from_str(self.alloc, name)?;
         self.list.reserve(1)?;
-        self.ids.insert(key, id)?;
-        self.list
-            .push_reserved(Worksheet::new(self.alloc, id, name));
-        self.greatest = id;
-        Ok(())
+        let place = self.list.len();
+        self.places.insert(id, place)?;
+        match put_id(&mut self.ids, key, id) {
+            Ok(()) => {
+                self.list
+                    .push_reserved(Worksheet::new(self.alloc, id, name));
+                self.greatest = id;
+                Ok(())
+            }
+            Err(error) => {
+                self.places.remove(&id);
+                Err(error)
+            }
+        }
     }
 
     /// Gives the sheet at a place, from 0, another name, and leaves all formulas. `OutOfMemory` changes nothing.
@@ -56,7 +67,10 @@ impl Sheets {
     {
         let sheet = &self.list[index];
         let old_key = folded(self.alloc, sheet.name.as_str())?;
+        let id = sheet.id;
         self.ids.remove(old_key.as_str());
+        self.places.remove(&id);
+        lower_places(&mut self.places, index);
         self.list.remove(index);
         self.greatest = greatest_of(&self.list);
         Ok(())
@@ -68,10 +82,60 @@ impl Sheets {
         requires to { to < length self.old }
         ensures { self.new ≡ moved from to self.old }
     {
+        move_places(&mut self.places, from, to);
         let sheet = self.list.remove(from);
         // There is room for it, where it was.
         let _ = self.list.insert(to, sheet);
     }
+}
+
+/// Puts a key and an id in. `OutOfMemory` changes nothing.
+fn put_id(ids: &mut BTreeMap<String, u32>, key: String, id: u32) -> Result<(), OutOfMemory>
+    ensures ok { OnOk result ((q : List ℕ) → get_by_text ids.new q ≡ cond (bytes_eq (string_bytes key) q) (Some id) (get_by_text ids.old q)) }
+    ensures err { OnErr result ((q : List ℕ) → get_by_text ids.new q ≡ get_by_text ids.old q) }
+{
+    ids.insert(key, id)?;
+    Ok(())
+}
+
+/// The places after the one that is taken away are lowered by one.
+fn lower_places(places: &mut BTreeMap<u32, usize>, index: usize)
+    ensures { (id : ℕ) → get nat_cmp places.new id ≡ option_map (lowered index) (get nat_cmp places.old id) }
+{
+    places.retain(|_, place| {
+        *place = lowered(*place, index);
+        true
+    });
+}
+
+/// The places follow the sheet that is put from one to another.
+fn move_places(places: &mut BTreeMap<u32, usize>, from: usize, to: usize)
+    ensures { (id : ℕ) → get nat_cmp places.new id ≡ option_map (moved_place from to) (get nat_cmp places.old id) }
+{
+    places.retain(|_, place| {
+        *place = moved_place(*place, from, to);
+        true
+    });
+}
+
+/// A place, lowered by one where it is past this one.
+fn lowered(place: usize, index: usize) -> usize
+    ensures { result ≡ lowered index place }
+{
+    if place > index { place - 1 } else { place }
+}
+
+/// Where the sheet at a place stands after the one at `from` was put to `to`.
+fn moved_place(place: usize, from: usize, to: usize) -> usize
+    ensures { result ≡ moved_place from to place }
+{
+    if place == from {
+        return to;
+    }
+    if place > from {
+        return if place - 1 < to { place - 1 } else { place };
+    }
+    if place < to { place } else { place + 1 }
 }
 
 /// Takes a key out and puts another in, which may be the same.

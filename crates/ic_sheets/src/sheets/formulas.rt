@@ -5,7 +5,7 @@ ghost use Rattle.ic_laws.specs.CoreBook.{place_cmp};
 ghost use Rattle.ic_laws.specs.CoreStep.{updated_at};
 ghost use Rattle.ic_laws.specs.declared.tree.Formula.{Formula};
 ghost use Rattle.ic_pool.specs.Pool.{IsPlaced};
-ghost use Rattle.ic_sheets.specs.Sheet.{pool_at, sheet_of};
+ghost use Rattle.ic_sheets.specs.Sheet.{AreSameOrLookUp, pool_at, sheet_of};
 
 use super::Sheets;
 use ic_laws::{Formula, OutOfMemory};
@@ -25,6 +25,7 @@ impl Sheets {
         requires { index < length self.old }
         ensures ok { OnOk result ((pool : List Formula) × (place : ℕ) × IsPlaced formula place (pool_at self.old index) pool × (self.new ≡ updated_at (λ s. record s { pool = record { formulas = pool; is_whole = true }; cells = insert_entry place_cmp s.cells (row, column) place }) index self.old)) }
         ensures err { OnErr result (map sheet_of self.new ≡ map sheet_of self.old) }
+        ensures looks_up { OnErr result (AreSameOrLookUp index self.old self.new) }
     {
         self.may_dangle |= has_dangling(&formula);
         let sheet = &mut self.list[index];
@@ -43,6 +44,7 @@ impl Sheets {
         requires { index < length self.old }
         ensures ok { IfOk result (λ at. (pool : List Formula) × IsPlaced formula.now at (pool_at self.old index) pool × (self.new ≡ updated_at (λ s. record s { pool = record { formulas = pool; is_whole = true } }) index self.old)) }
         ensures err { OnErr result (map sheet_of self.new ≡ map sheet_of self.old) }
+        ensures looks_up { OnErr result (AreSameOrLookUp index self.old self.new) }
         ensures still { option_map (λ s. s.pool.is_whole) (slice_get self.old index) ≡ Some true → steps.new ≡ steps.old }
         ensures cost { steps.new ≤ steps.old + length (pool_at self.old index) }
         ensures grows { steps.old ≤ steps.new }

@@ -1,7 +1,10 @@
 //! What a change of the sheets or the definitions does to the formulas of all sheets. It is prepared before anything
 //! changes.
-ghost use Rattle.std.specs.Prelude.{◌≡◌, ℕ, IfOk, Some};
+ghost use Rattle.std.specs.Prelude.{◌≡◌, ℕ, IfOk, Some, false, length, nat_lt};
+ghost use Rattle.std.specs.List.{AllByRecursion};
 ghost use Rattle.ic_pool.specs.Mentions.{SparesFound};
+ghost use Rattle.ic_pool.specs.Pool.{dangling_places};
+ghost use Rattle.ic_sheets.specs.Index.{HasNoDangling};
 ghost use Rattle.ic_sheets.specs.Rewriting.{ArePrepared, FitSheets, with_all_rewrites};
 
 use crate::Worksheet;
@@ -49,4 +52,23 @@ pub fn apply_all(sheets: &mut [Worksheet], mut prepared: Vec<Rewrites>)
         let sheet = &mut sheets[prepared.len()];
         sheet.pool.apply(rewrites);
     }
+}
+
+/// Whether some formula of these sheets mentions something that wasn't found.
+pub fn some_dangle(sheets: &[Worksheet]) -> bool
+    ensures { result ≡ false → AllByRecursion HasNoDangling sheets.now }
+{
+    for sheet in sheets {
+        if dangles(sheet) {
+            return true;
+        }
+    }
+    false
+}
+
+/// Whether some formula of a sheet mentions something that wasn't found.
+fn dangles(sheet: &Worksheet) -> bool
+    ensures { result ≡ nat_lt 0 (length (dangling_places sheet.now.pool.formulas)) }
+{
+    sheet.pool.dangling_count() > 0
 }

@@ -8,7 +8,7 @@ use std::alloc::Global;
 
 pub const CODE: &str = "fr";
 
-pub const NAME: &str = "Français";
+pub const NAME: &str = "French";
 
 pub const BOOLEANS: &str = "VRAI FAUX";
 

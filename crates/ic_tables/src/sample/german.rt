@@ -8,7 +8,7 @@ use std::alloc::Global;
 
 pub const CODE: &str = "de";
 
-pub const NAME: &str = "Deutsch";
+pub const NAME: &str = "German";
 
 pub const BOOLEANS: &str = "WAHR FALSCH";
 

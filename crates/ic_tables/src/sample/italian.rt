@@ -8,7 +8,7 @@ use std::alloc::Global;
 
 pub const CODE: &str = "it";
 
-pub const NAME: &str = "Italiano";
+pub const NAME: &str = "Italian";
 
 pub const BOOLEANS: &str = "VERO FALSO";
 

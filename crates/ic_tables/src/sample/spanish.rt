@@ -8,7 +8,7 @@ use std::alloc::Global;
 
 pub const CODE: &str = "es";
 
-pub const NAME: &str = "Español";
+pub const NAME: &str = "Spanish";
 
 pub const BOOLEANS: &str = "VERDADERO FALSO";
 

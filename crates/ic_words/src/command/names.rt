@@ -1,10 +1,10 @@
 //! The commands on defined names.
-ghost use Rattle.std.specs.Prelude.{◌≡◌, ◌∷◌, [], IfOk, codes, option_map};
+ghost use Rattle.std.specs.Prelude.{◌≡◌, ◌∷◌, [], codes, option_map};
 ghost use Rattle.ic_laws.specs.Command.{OfScope, OfText};
 ghost use Rattle.ic_laws.specs.Lines.{spelled_command};
-ghost use Rattle.ic_words.specs.Command.{command_meant, words_said};
+ghost use Rattle.ic_words.specs.Command.{ReadsCommand, command_meant, words_said};
 ghost use Rattle.ic_words.specs.Served.{served};
-ghost use Rattle.ic_words.specs.Words.{characters_of, words_left};
+ghost use Rattle.ic_words.specs.Words.{UnlessEscape, characters_of, words_left};
 
 use crate::command::Command;
 use crate::numbers::scope_of;
@@ -16,7 +16,7 @@ pub(crate) fn new_defined_name<'l>(
     alloc: Global,
     rest: Option<&'l str>,
 ) -> Result<Option<Command<'l>>, OutOfMemory>
-    ensures { IfOk result (λ command. option_map command_meant command ≡ spelled_command served (codes "new_defined_name" ∷ words_left rest.entry)) }
+    ensures { ReadsCommand (codes "new_defined_name") rest.entry result }
 {
     let Some((name, scope, body)) = definition_of(alloc, rest)? else {
         return Ok(None);
@@ -28,7 +28,7 @@ pub(crate) fn delete_defined_name<'l>(
     alloc: Global,
     rest: Option<&'l str>,
 ) -> Result<Option<Command<'l>>, OutOfMemory>
-    ensures { IfOk result (λ command. option_map command_meant command ≡ spelled_command served (codes "delete_defined_name" ∷ words_left rest.entry)) }
+    ensures { ReadsCommand (codes "delete_defined_name") rest.entry result }
 {
     let Some((name, scope)) = two_words(rest) else {
         return Ok(None);
@@ -46,7 +46,7 @@ pub(crate) fn is_valid_defined_name<'l>(
     alloc: Global,
     rest: Option<&'l str>,
 ) -> Result<Option<Command<'l>>, OutOfMemory>
-    ensures { IfOk result (λ command. option_map command_meant command ≡ spelled_command served (codes "is_valid_defined_name" ∷ words_left rest.entry)) }
+    ensures { ReadsCommand (codes "is_valid_defined_name") rest.entry result }
 {
     let Some((name, scope, body)) = definition_of(alloc, rest)? else {
         return Ok(None);
@@ -66,7 +66,8 @@ fn definition_of<'l>(
     alloc: Global,
     rest: Option<&'l str>,
 ) -> Result<Option<(WordText<'l>, Option<u32>, WordText<'l>)>, OutOfMemory>
-    ensures { IfOk result (λ said. option_map (λ said. (characters_of said.0, (said.1, (characters_of said.2, tt)))) said ≡ words_said (OfText ∷ OfScope ∷ OfText ∷ []) (words_left rest.entry)) }
+    ensures { UnlessEscape (words_left rest.entry) result
+        (λ said. option_map (λ said. (characters_of said.0, (said.1, (characters_of said.2, tt)))) said ≡ words_said (OfText ∷ OfScope ∷ OfText ∷ []) (words_left rest.entry)) }
 {
     let Some((name, scope, body)) = three_words(rest) else {
         return Ok(None);

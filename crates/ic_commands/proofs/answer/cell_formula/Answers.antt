@@ -15,22 +15,25 @@ use Rattle.ic_commands.proofs.answer.cell_formula.Goals as goal
 
 pub returns-in-Ok-Some : goal.returns-in-Ok-Some
 returns-in-Ok-Some c =
-    let book = c.args.model.now.book in
+    let state = c.args.model.now in
+    let book = state.book in
     let text = chars c.as_str.result.now in
     let shown = subst (λ (p : CellPlace). Some (chars (string_bytes c.in-Ok-Some.formula)) ≡ option_map (λ f. equals ∷ shown_formula (notations_in book) (core_of book) p.0 p.1 f) (formula_of (core_of book) c.args.sheet p.0 p.1)) (stored_pair c.args.row c.args.column c.ranges.row c.ranges.column) (ap (option_map (λ s. chars (string_bytes s))) (sym c.in-Ok-Some.field-0-is) ∙ c.in-Ok-Some.ensures.shown) in
     IfOk-weaker c.text_reply.result _ _
-    (λ after told. shown_reply book c.args.sheet c.args.row c.args.column (string_bytes c.args.reply) (string_bytes after) (Some text) c.in-Ok-Some.ensures.refused (ap (λ bytes. Some (chars bytes)) c.as_str.ensures.value ∙ shown) (text_line text (scalars-chars c.as_str.result.now c.as_str.utf8)) told)
+    (λ after told. shown_reply state c.args.sheet c.args.row c.args.column (string_bytes c.args.reply) (string_bytes after) (Some text) c.in-Ok-Some.ensures.refused (ap (λ bytes. Some (chars bytes)) c.as_str.ensures.value ∙ shown) (text_line text (scalars-chars c.as_str.result.now c.as_str.utf8)) told)
     c.text_reply.ensures
 
 pub returns-in-Ok-None : goal.returns-in-Ok-None
 returns-in-Ok-None c =
-    let book = c.args.model.now.book in
+    let state = c.args.model.now in
+    let book = state.book in
     let shown = subst (λ (p : CellPlace). None ≡ option_map (λ f. equals ∷ shown_formula (notations_in book) (core_of book) p.0 p.1 f) (formula_of (core_of book) c.args.sheet p.0 p.1)) (stored_pair c.args.row c.args.column c.ranges.row c.ranges.column) (ap (option_map (λ s. chars (string_bytes s))) (sym c.in-Ok-None.field-0-is) ∙ c.in-Ok-None.ensures.shown) in
-    shown_reply book c.args.sheet c.args.row c.args.column (string_bytes c.args.reply) (string_bytes c.ok_reply.result) None c.in-Ok-None.ensures.refused shown ok_line c.ok_reply.ensures
+    shown_reply state c.args.sheet c.args.row c.args.column (string_bytes c.args.reply) (string_bytes c.ok_reply.result) None c.in-Ok-None.ensures.refused shown ok_line c.ok_reply.ensures
 
 pub returns-in-Err : goal.returns-in-Err
 returns-in-Err c =
-    let book = c.args.model.now.book in
+    let state = c.args.model.now in
+    let book = state.book in
     IfOk-weaker c.refused.result _ _
-    (λ after told. refused_by (GetCellFormula c.args.sheet c.args.row c.args.column) book book (string_bytes c.args.reply) (string_bytes after) _ _ _ c.in-Err.e (shows (notations_in book) (core_of book) c.args.sheet c.args.row c.args.column) c.in-Err.ensures.refused refl told)
+    (λ after told. refused_by (GetCellFormula c.args.sheet c.args.row c.args.column) state state (string_bytes c.args.reply) (string_bytes after) _ _ _ c.in-Err.e (shows (notations_in book) (core_of book) c.args.sheet c.args.row c.args.column) c.in-Err.ensures.refused (λ _ _. refl) told)
     c.refused.ensures.ok

@@ -10,16 +10,18 @@ use Rattle.ic_commands.proofs.answer.defined_name_list.Goals as goal
 
 pub returns-in-Ok : goal.returns-in-Ok
 returns-in-Ok c =
-    let book = c.args.model.now.book in
+    let state = c.args.model.now in
+    let book = state.book in
     IfOk-weaker c.names_reply.result _ _
     (λ after told.
-    read GetDefinedNameList book (string_bytes c.args.reply) (string_bytes after) _ _ (flat_map name_fields c.deref.result.now) (lists (notations_in book) (core_of book)) refl
-    (list_is (notations_in book) (core_of book) c.in-Ok.names.items c.in-Ok.ensures.list ∙ ap (flat_map name_fields) (sym c.deref.ensures.value)) (names_line c.deref.result.now) told)
+    read GetDefinedNameList state (string_bytes c.args.reply) (string_bytes after) _ _ (flat_map name_fields c.deref.result.now) (lists (notations_in book) (core_of book)) refl
+    (list_is (notations_in book) (core_of book) c.in-Ok.names.items c.in-Ok.ensures.list ∙ ap (flat_map name_fields) (sym c.deref.ensures.value)) (names_line c.deref.result.now) refl told)
     c.names_reply.ensures
 
 pub returns-in-Err : goal.returns-in-Err
 returns-in-Err c =
-    let book = c.args.model.now.book in
+    let state = c.args.model.now in
+    let book = state.book in
     IfOk-weaker c.refused.result _ _
-    (λ after told. refused_by GetDefinedNameList book book (string_bytes c.args.reply) (string_bytes after) _ _ _ c.in-Err.e (lists (notations_in book) (core_of book)) c.in-Err.ensures.refused refl told)
+    (λ after told. refused_by GetDefinedNameList state state (string_bytes c.args.reply) (string_bytes after) _ _ _ c.in-Err.e (lists (notations_in book) (core_of book)) c.in-Err.ensures.refused (λ _ _. refl) told)
     c.refused.ensures.ok

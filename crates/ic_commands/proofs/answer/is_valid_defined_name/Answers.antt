@@ -10,22 +10,24 @@ use Rattle.ic_commands.proofs.answer.is_valid_defined_name.Goals as goal
 
 pub returns-in-Ok : goal.returns-in-Ok
 returns-in-Ok c =
-    let book = c.args.model.now.book in
+    let state = c.args.model.now in
+    let book = state.book in
     let name = chars c.args.name.now in
     let body = chars c.args.body.now in
     IfOk-weaker c.number_reply.result _ _
     (λ after told.
-    read (IsValidDefinedName name c.args.scope body) book (string_bytes c.args.reply) (string_bytes after) _ _ (NumberField c.in-Ok.id ∷ []) (validates (notations_in book) (core_of book) name c.args.scope body) c.in-Ok.ensures.refused
-    (ap (λ id. NumberField id ∷ []) (sym c.in-Ok.ensures.id)) (number_line c.in-Ok.id) told)
+    read (IsValidDefinedName name c.args.scope body) state (string_bytes c.args.reply) (string_bytes after) _ _ (NumberField c.in-Ok.id ∷ []) (validates (notations_in book) (core_of book) name c.args.scope body) c.in-Ok.ensures.refused
+    (ap (λ id. NumberField id ∷ []) (sym c.in-Ok.ensures.id)) (number_line c.in-Ok.id) refl told)
     c.number_reply.ensures
 
 pub returns-in-Err : goal.returns-in-Err
 returns-in-Err c =
-    let book = c.args.model.now.book in
+    let state = c.args.model.now in
+    let book = state.book in
     let name = chars c.args.name.now in
     let body = chars c.args.body.now in
     IfOk-weaker c.refused.result _ _
     (λ after told.
-    refused_by (IsValidDefinedName name c.args.scope body) book book (string_bytes c.args.reply) (string_bytes after) _ _ _ c.in-Err.e (validates (notations_in book) (core_of book) name c.args.scope body)
-    (same_refusal InvalidNameFormula told.0 c.in-Err.e _ c.in-Err.ensures.refused told.1) refl told)
+    refused_by (IsValidDefinedName name c.args.scope body) state state (string_bytes c.args.reply) (string_bytes after) _ _ _ c.in-Err.e (validates (notations_in book) (core_of book) name c.args.scope body)
+    (same_refusal InvalidNameFormula told.0 c.in-Err.e _ c.in-Err.ensures.refused told.1) (λ _ _. refl) told)
     c.refused.ensures.ok

@@ -5,9 +5,9 @@ use Rattle.ic_input.proofs.NumberSteps.{from_start}
 use Rattle.ic_input.proofs.number.unsigned_number.Goals as goal
 
 pub front_of-requires : goal.front_of-requires
-front_of-requires c = ends_with_rest (stands_before c.decimal_of.result) (chars c.args.text.now) (chars c.past_other-body.result.now) c.past_other-body.ensures
+front_of-requires c = ends_with_rest (stands_before c.decimal_separator.result) (chars c.args.text.now) (chars c.past_other-body.result.now) c.past_other-body.ensures
 
 pub returns : goal.returns
 returns c =
-    let before = run_before_rest (stands_before c.decimal_of.result) (chars c.args.text.now) (chars c.front_of.result.now) (chars c.past_other-body.result.now) c.past_other-body.ensures c.front_of.ensures in
-    record { value = c.from_digits.ensures ∙ from_start c.args.locale.now (chars c.args.text.now) _ _ c.decimal_of.result c.decimal_of.ensures before c.past_other-body.ensures }
+    let before = run_before_rest (stands_before c.decimal_separator.result) (chars c.args.text.now) (chars c.front_of.result.now) (chars c.past_other-body.result.now) c.past_other-body.ensures c.front_of.ensures in
+    record { value = c.from_digits.ensures ∙ from_start c.args.locale.now (chars c.args.text.now) _ _ c.decimal_separator.result c.decimal_separator.ensures before c.past_other-body.ensures }

@@ -5,9 +5,10 @@ use Rattle.ic_tree.proofs.binding.+bind.Given as goal
 
 abbrev pub invariant-bind_all-loop-t : goal.invariant-bind_all-loop-t
 invariant-bind_all-loop-t g l =
-    l.out.items ≡ all_bound (map (bound_under (function_of l.english) (g.N.Finder.scene l.names) l.scope) (take l.t-index l.ts)) l.seen
+    (l.out.items ≡ all_bound (map (bound_under (function_of l.english) (g.N.Finder.scene l.names) l.scope) (take l.t-index l.ts)) l.initial.seen)
+    × (l.seen ≡ l.initial.seen)
 
 abbrev pub invariant-bind_pairs-loop-pair : goal.invariant-bind_pairs-loop-pair
 invariant-bind_pairs-loop-pair g l =
-    (l.out.items ≡ pairs_bound (map (pair_binds (function_of l.english) (g.N.Finder.scene l.names) l.scope) (take l.pair-index l.pairs)) l.initial.seen.items)
-    × (l.seen.items ≡ with_variables (map (pair_binds (function_of l.english) (g.N.Finder.scene l.names) l.scope) (take l.pair-index l.pairs)) l.initial.seen.items)
+    (l.out.items ≡ pairs_bound (map (pair_binds (function_of l.english) (g.N.Finder.scene l.names) l.scope) (take l.pair-index l.pairs)) l.initial.seen)
+    × (l.seen ≡ with_variables (map (pair_binds (function_of l.english) (g.N.Finder.scene l.names) l.scope) (take l.pair-index l.pairs)) l.initial.seen)

@@ -1,6 +1,8 @@
-use Rattle.std.proofs.Common.{sym}
+use Rattle.std.proofs.Common.{◌≡◌, chars, false, sym}
+use Rattle.ic_words.specs.Words.{has_escape}
 use Rattle.ic_words.proofs.WordLemmas.{spells_itself}
 use Rattle.ic_words.proofs.words.text_of.Goals as goal
 
-pub returns-then-not-contains : goal.returns-then-not-contains
-returns-then-not-contains c = sym (spells_itself c.args.word.now c.utf8.word c.if-not-contains.ensures.cases)
+pub returns-then-not-has_escape-clause-exact : goal.returns-then-not-has_escape-clause-exact
+returns-then-not-has_escape-clause-exact c =
+    let none : has_escape (chars c.args.word.now) ≡ false = cc in sym (spells_itself (chars c.args.word.now) none)

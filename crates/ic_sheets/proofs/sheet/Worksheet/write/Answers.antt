@@ -1,5 +1,6 @@
-use Rattle.std.proofs.lemmas.Result.{on_ok_weaker}
+use Rattle.std.proofs.lemmas.Result.{on_err_weaker, on_ok_weaker}
 use Rattle.ic_sheets.proofs.CellLemmas.{stored_pair, written_whole}
+use Rattle.ic_sheets.proofs.WriteLemmas.{at_err, looked_up_whole, not_looked_up}
 use Rattle.ic_sheets.proofs.sheet.Worksheet.write.Goals as goal
 
 pub returns-in-Some-clause-ok : goal.returns-in-Some-clause-ok
@@ -13,3 +14,14 @@ returns-in-None-clause-ok c =
     on_ok_weaker c.write_new.result
     (written_whole c.args.formula _ _ c.args.self.now c.write_new.new.self c.make_whole_uncounted.new.self (stored_pair c.args.row c.args.column c.ranges.row c.ranges.column) c.in_ok-make_whole_uncounted.ensures.ok)
     c.write_new.ensures.ok
+
+pub returns-in-Some-clause-looks_up : goal.returns-in-Some-clause-looks_up
+returns-in-Some-clause-looks_up c =
+    on_err_weaker c.write_over.result (looked_up_whole c.args.self.now c.write_over.new.self c.make_whole_uncounted.new.self c.in_ok-make_whole_uncounted.ensures.ok) c.write_over.ensures.err
+
+pub returns-in-None-clause-looks_up : goal.returns-in-None-clause-looks_up
+returns-in-None-clause-looks_up c =
+    on_err_weaker c.write_new.result (looked_up_whole c.args.self.now c.write_new.new.self c.make_whole_uncounted.new.self c.in_ok-make_whole_uncounted.ensures.ok) c.write_new.ensures.err
+
+pub returns-in_err-make_whole_uncounted-clause-looks_up : goal.returns-in_err-make_whole_uncounted-clause-looks_up
+returns-in_err-make_whole_uncounted-clause-looks_up c = at_err c.from_residual.result _ (not_looked_up c.args.self.now c.make_whole_uncounted.new.self c.in_err-make_whole_uncounted.ensures.err)

@@ -5,6 +5,7 @@ use Rattle.ic_laws.specs.CoreStep.{updated_at}
 use Rattle.ic_sheets.specs.Rewriting.{with_rewrites}
 use Rattle.ic_sheets.specs.declared.sheet.Worksheet.{Worksheet}
 use Rattle.ic_sheets.proofs.KeptLemmas.{kept_same}
+use Rattle.ic_sheets.proofs.PlaceLemmas.{placed_same}
 use Rattle.ic_sheets.proofs.RewritingLemmas.{ids_there, names_there, rewritten_there}
 use Rattle.ic_sheets.proofs.SearchLemmas.{ids, names}
 use Rattle.ic_sheets.proofs.sheets.Sheets.apply_at.Goals as goal
@@ -19,8 +20,11 @@ apply-requires c =
 pub invariant_of-self : goal.invariant_of-self
 invariant_of-self c =
     let there = rewritten_there c.args.rewrites c.index_mut-sheet.result.now c.apply.new.self c.args.index c.self.inside.list.items c.index_mut-sheet.ensures.value c.apply.ensures.formulas c.apply.ensures.whole in
-    kept_same c.self.inside.ids c.self.inside.greatest c.self.inside.may_dangle _ c.self.inside.list.items _ c.self.invariant (ap names there ∙ names_there c.args.rewrites c.args.index c.self.inside.list.items)
-    (ap ids there ∙ ids_there c.args.rewrites c.args.index c.self.inside.list.items) (λ e. cc)
+    let same_ids = ap ids there ∙ ids_there c.args.rewrites c.args.index c.self.inside.list.items in (
+      kept_same c.self.inside.ids c.self.inside.greatest c.self.inside.may_dangle _ c.self.inside.list.items _ c.self.invariant.0 (ap names there ∙ names_there c.args.rewrites c.args.index c.self.inside.list.items)
+          same_ids (λ e. cc),
+      placed_same c.self.inside.places c.self.inside.list.items _ c.self.invariant.1 same_ids,
+    )
 
 pub returns : goal.returns
 returns c =

@@ -1,13 +1,18 @@
 use Rattle.std.proofs.Common.{ap, arith, length}
 use Rattle.std.proofs.lemmas.Result.{IfOk-weaker, on_err_weaker}
-use Rattle.ic_sheets.proofs.WriteLemmas.{copies_at, kept_over, like_copied, pool_is, sheets_as_before, whole_at}
+use Rattle.ic_sheets.proofs.PlaceLemmas.{placed_same}
+use Rattle.ic_sheets.specs.declared.sheet.Worksheet.{Worksheet}
+use Rattle.ic_sheets.proofs.WriteLemmas.{copies_at, kept_over, like_copied, pool_is, seen_over, looked_up_at, sheets_as_before, whole_at}
 use Rattle.ic_sheets.proofs.sheets.Sheets.place_copy.Goals as goal
 
 pub invariant_of-self : goal.invariant_of-self
 invariant_of-self g c =
     let s = c.index_mut-sheet.result.now in
-    kept_over c.self.inside.ids c.self.inside.greatest c.self.inside.may_dangle c.self.inside.list.items c.args.index s c.place_copy.new.self c.args.formula.now _ c.self.invariant c.index_mut-sheet.ensures.value
-    (like_copied c.args.formula.now s c.place_copy.new.self c.place_copy.result c.place_copy.ensures.ok c.place_copy.ensures.err) c.has_dangling.ensures
+    let like = like_copied c.args.formula.now s c.place_copy.new.self c.place_copy.result c.place_copy.ensures.ok c.place_copy.ensures.err in (
+      kept_over c.self.inside.ids c.self.inside.greatest c.self.inside.may_dangle c.self.inside.list.items c.args.index s c.place_copy.new.self c.args.formula.now _ c.self.invariant.0 c.index_mut-sheet.ensures.value
+          like c.has_dangling.ensures,
+      placed_same c.self.inside.places c.self.inside.list.items _ c.self.invariant.1 (seen_over (λ (x : Worksheet). x.id) c.self.inside.list.items c.args.index s c.place_copy.new.self c.index_mut-sheet.ensures.value like.id),
+    )
 
 pub returns-clause-ok : goal.returns-clause-ok
 returns-clause-ok g c =
@@ -29,3 +34,9 @@ pub returns-clause-cost : goal.returns-clause-cost
 returns-clause-cost g c =
     let same = ap length (pool_is c.self.inside.list.items c.args.self.now c.args.index c.index_mut-sheet.result.now c.self.view_is c.requires c.index_mut-sheet.ensures.value) in
     omega (arith, same, c.place_copy.ensures.cost)
+
+pub returns-clause-looks_up : goal.returns-clause-looks_up
+returns-clause-looks_up g c =
+    on_err_weaker c.place_copy.result
+    (looked_up_at c.self.inside.list.items c.args.self.now c.args.index c.index_mut-sheet.result.now c.place_copy.new.self c.self.view_is c.index_mut-sheet.ensures.value)
+    c.place_copy.ensures.looks_up

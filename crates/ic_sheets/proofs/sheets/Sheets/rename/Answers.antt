@@ -1,11 +1,13 @@
-use Rattle.std.proofs.Common.{◌≡◌, ◌<◌, ◌∙◌, ap, sym, subst, cond, bytes_eq, slice_set, false, Some, None, chars, length, encode_utf8_all, string_bytes}
+use Rattle.std.proofs.Common.{◌≡◌, ◌<◌, ◌∙◌, ap, sym, subst, refl, cond, bytes_eq, slice_set, false, Some, None, chars, length, encode_utf8_all, string_bytes}
 use Rattle.std.specs.BTreeMap.{get_by_text}
 use Rattle.std.specs.List.{list_any, remove}
+use Rattle.ic_laws.proofs.core.Lists.{updated_unseen}
 use Rattle.ic_laws.specs.CoreStep.{updated_at}
 use Rattle.ic_laws.specs.Name.{agrees, fold}
 use Rattle.ic_sheets.proofs.IndexLemmas.{keyed, same_read, set_updated}
 use Rattle.ic_sheets.proofs.KeptLemmas.{kept_renamed}
-use Rattle.ic_sheets.proofs.SearchLemmas.{names}
+use Rattle.ic_sheets.proofs.PlaceLemmas.{placed_same}
+use Rattle.ic_sheets.proofs.SearchLemmas.{ids, names}
 use Rattle.ic_sheets.specs.declared.sheet.Worksheet.{Worksheet}
 use Rattle.ic_sheets.proofs.sheets.Sheets.rename.Goals as goal
 
@@ -24,8 +26,11 @@ invariant_of-self-2 c =
     let old_key : c.as_str-2.result.now ≡ encode_utf8_all (fold s.name) =
     c.as_str-2.ensures.value ∙ c.in_ok-old_key.ensures ∙ ap (λ n. encode_utf8_all (fold n)) c.as_str.ensures.characters ∙ ap (λ (x : Worksheet). encode_utf8_all (fold x.name)) read in
     let change = keyed c.self.inside.ids c.rekey.new.ids _ _ (fold name) (fold s.name) (Some c.index-sheet.result.now.id) c.in_ok-rekey.ensures.ok new_key old_key in
-    kept_renamed c.self.inside.ids c.rekey.new.ids c.self.inside.greatest c.self.inside.may_dangle sheets index s name c.self.invariant lt c.index_mut-sheet.ensures.value free
-    (λ q. change q ∙ ap (λ (x : Worksheet). cond (bytes_eq (fold name) q) (Some x.id) (cond (bytes_eq (fold s.name) q) None (get_by_text c.self.inside.ids (encode_utf8_all q)))) read)
+    let called : Worksheet → Worksheet = λ x. record x { name = name } in (
+      kept_renamed c.self.inside.ids c.rekey.new.ids c.self.inside.greatest c.self.inside.may_dangle sheets index s name c.self.invariant.0 lt c.index_mut-sheet.ensures.value free
+          (λ q. change q ∙ ap (λ (x : Worksheet). cond (bytes_eq (fold name) q) (Some x.id) (cond (bytes_eq (fold s.name) q) None (get_by_text c.self.inside.ids (encode_utf8_all q)))) read),
+      placed_same c.self.inside.places sheets _ c.self.invariant.1 (ap ids (set_updated called sheets index s c.index_mut-sheet.ensures.value) ∙ updated_unseen (λ (x : Worksheet). x.id) called (λ x. refl) index sheets),
+    )
 
 pub returns-clause-ok : goal.returns-clause-ok
 returns-clause-ok c =

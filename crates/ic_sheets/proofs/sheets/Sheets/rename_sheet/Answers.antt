@@ -1,7 +1,7 @@
 use Rattle.std.proofs.Common.{Some, chars, sym, subst, ap, get_or, ◌∙◌}
 use Rattle.ic_laws.specs.Changes.{sheet_named}
 use Rattle.ic_pool.proofs.ChangeLemmas.{naming_spares_found}
-use Rattle.ic_sheets.proofs.RewritingLemmas.{fits_called, read_there, renamed_made}
+use Rattle.ic_sheets.proofs.RewritingLemmas.{fits_called, read_there, renamed_looks_up, renamed_made}
 use Rattle.ic_sheets.specs.Rewriting.{FitSheets, Makes}
 use Rattle.ic_sheets.specs.declared.sheet.Worksheet.{Worksheet}
 use Rattle.ic_sheets.proofs.sheets.Sheets.rename_sheet.Goals as goal
@@ -16,6 +16,13 @@ apply-requires c =
 pub returns-clause-ok : goal.returns-clause-ok
 returns-clause-ok c = λ sheet at.
     renamed_made (sheet_named sheet.id (chars c.args.name.now)) c.in_ok-prepared.prepared.items c.args.self.now c.rename.new.self c.apply.new.self
+    (subst (λ (s : Worksheet). Makes (sheet_named s.id (chars c.args.name.now)) c.in_ok-prepared.prepared.items c.args.self.now)
+    (read_there c.args.self.now c.args.index c.index.result.now sheet c.requires.within (c.index.ensures ∙ ap (λ xs. get_or xs c.args.index c.index.result.now) c.self.view_is) at) c.in_ok-prepared.ensures)
+    c.args.index (chars c.args.name.now) c.in_ok-rename.ensures.ok c.apply.ensures
+
+pub returns-clause-looks_up : goal.returns-clause-looks_up
+returns-clause-looks_up c = λ sheet at.
+    renamed_looks_up (sheet_named sheet.id (chars c.args.name.now)) c.in_ok-prepared.prepared.items c.args.self.now c.rename.new.self c.apply.new.self
     (subst (λ (s : Worksheet). Makes (sheet_named s.id (chars c.args.name.now)) c.in_ok-prepared.prepared.items c.args.self.now)
     (read_there c.args.self.now c.args.index c.index.result.now sheet c.requires.within (c.index.ensures ∙ ap (λ xs. get_or xs c.args.index c.index.result.now) c.self.view_is) at) c.in_ok-prepared.ensures)
     c.args.index (chars c.args.name.now) c.in_ok-rename.ensures.ok c.apply.ensures

@@ -9,7 +9,7 @@ use Rattle.ic_sheets.proofs.sheets.Sheets.rewrites_of_dangling.Goals as goal
 pub returns-then-not-self : goal.returns-then-not-self
 returns-then-not-self g c =
     subst₂ (λ (ws : List RewritesState) (sheets : List Worksheet). Makes (g.C.BookChange.change c.args.change.now) ws sheets) (sym c.new.ensures.items) c.self.view_is
-    (nothing_makes (g.C.BookChange.change c.args.change.now) c.requires c.self.inside.list.items (c.self.invariant.dangles c.if-not-self.true))
+    (nothing_makes (g.C.BookChange.change c.args.change.now) c.requires c.self.inside.list.items (c.self.invariant.0.dangles c.if-not-self.true))
 
 pub returns : goal.returns
 returns g c =

@@ -4,4 +4,4 @@ use Rattle.ic_sheets.proofs.sheets.rewriting.prepare_dangling.Goals as goal
 pub loop-sheet-preserved : goal.loop-sheet-preserved
 loop-sheet-preserved g c =
     prepared_more (g.C.BookChange.change c.args.change.now) c.loop-sheet.prepared.items c.push.new.self.items c.in_ok-rewrites_of_dangling.field-0 c.args.sheets.now c.loop-sheet.sheet-index c.sheet-item.result
-    c.loop-sheet-test.true c.sheet-item.is c.in_ok-push.ensures.items c.loop-sheet.invariant (record { made = c.in_ok-rewrites_of_dangling.ensures.made; fits = c.in_ok-rewrites_of_dangling.ensures.fits })
+    c.loop-sheet-test.true c.sheet-item.is c.in_ok-push.ensures.items c.loop-sheet.invariant (record { made = c.in_ok-rewrites_of_dangling.ensures.made; listed = c.in_ok-rewrites_of_dangling.ensures.listed; fits = c.in_ok-rewrites_of_dangling.ensures.fits })

@@ -1,0 +1,302 @@
+-- A look-up that lacks the formulas at some places.
+use Rattle.std.proofs.Common.{◌≡◌, ◌≢◌, ℕ, zero, suc, ◌<◌, ◌≤◌, ◌+◌, List, [], ◌∷◌, ◌++◌, Bool, true, false, cond, ◌||◌, Option, Some, None, option_map, refl, sym, ap, ap₂, subst, ◌∙◌, bytes_eq, map, set, length, take, drop, get_or, ◌&&◌, arith}
+use Rattle.std.specs.Prelude.{MatchOption, nat_eq}
+use Rattle.std.specs.BTreeMap.{BTreeMap, Updates, get}
+use Rattle.std.specs.Cmp.Lexicographic.{slice_cmp}
+use Rattle.std.specs.List.{list_any, slice_get}
+use Rattle.std.specs.Map.{lookup}
+use Rattle.std.specs.Ordering.{nat_cmp}
+use Rattle.std.proofs.lemmas.Bool.{eq-eqb, eqb-true, or_parts}
+use Rattle.std.proofs.lemmas.List.{map_more, take_all, take_at}
+use Rattle.std.proofs.lemmas.List.Folds.{list_any-append}
+use Rattle.std.proofs.lemmas.Map.Text.{is_eq-slice_cmp}
+use Rattle.std.proofs.lemmas.Slice.Eq.{bytes_eq-Decides}
+use Rattle.ic_laws.specs.declared.tree.Formula.{Formula}
+use Rattle.ic_pool.specs.Code.{code}
+use Rattle.ic_pool.specs.Pool.{IsKept, KeepsPlaces, KnowsRest, dangling_places, first_place, is_among}
+use Rattle.ic_pool.specs.Rewrites.{FitsPool, RewritesState, changed_by, is_key_among, old_keys, places_of, rewritten_by}
+use Rattle.ic_pool.specs.declared.pool.rewrites.Replacement.{Replacement}
+use Rattle.ic_pool.proofs.KeyLemmas.{bytes_eq-flip, clash}
+
+abbrev Index : Type 0
+Index = BTreeMap (List ℕ) ℕ
+
+abbrev at_key : Index → List ℕ → Option ℕ
+at_key index key = get (slice_cmp nat_cmp) index key
+
+-- ---- first places
+
+first_is_there : (key : List ℕ) (xs : List Formula) (at : ℕ) → first_place key xs ≡ Some at → option_map code (slice_get xs at) ≡ Some key
+first_is_there key [] at e = cc
+first_is_there key (x ∷ xs) at e = by_test (bytes_eq key (code x)) refl e (λ n f. first_is_there key xs n f)
+  where
+    further : (o : Option ℕ) → first_place key xs ≡ o → option_map suc o ≡ Some at → ((n : ℕ) → first_place key xs ≡ Some n → option_map code (slice_get xs n) ≡ Some key) → option_map code (slice_get (x ∷ xs) at) ≡ Some key
+    further None f g rest = cc
+    further (Some n) f g rest = let next : suc n ≡ at = cc in subst (λ k. option_map code (slice_get (x ∷ xs) k) ≡ Some key) next (rest n f)
+
+    by_test : (b : Bool) → bytes_eq key (code x) ≡ b → cond b (Some 0) (option_map suc (first_place key xs)) ≡ Some at → ((n : ℕ) → first_place key xs ≡ Some n → option_map code (slice_get xs n) ≡ Some key) → option_map code (slice_get (x ∷ xs) at) ≡ Some key
+    by_test true same f rest =
+        let here : zero ≡ at = cc in
+        subst (λ k. option_map code (slice_get (x ∷ xs) k) ≡ Some key) here (ap (λ k. Some k) (sym ((bytes_eq-Decides key (code x)).0 same)))
+    by_test false other f rest = further (first_place key xs) refl f rest
+
+first_up_to : (xs : List Formula) (at : ℕ) (x : Formula) → slice_get xs at ≡ Some x → (first : ℕ) × (first ≤ at) × (first_place (code x) xs ≡ Some first)
+first_up_to [] at x e = cc
+first_up_to (y ∷ xs) zero x e =
+    let same : y ≡ x = cc in
+    (zero, omega arith, ap (λ b. cond b (Some 0) (option_map suc (first_place (code x) xs))) ((bytes_eq-Decides (code x) (code y)).1 (ap code (sym same))))
+first_up_to (y ∷ xs) (suc at) x e = by_test (bytes_eq (code x) (code y)) (first_up_to xs at x e)
+  where
+    by_test : (b : Bool) → (first : ℕ) × (first ≤ at) × (first_place (code x) xs ≡ Some first) → (first : ℕ) × (first ≤ suc at) × (cond b (Some 0) (option_map suc (first_place (code x) xs)) ≡ Some first)
+    by_test true rest = (zero, omega arith, refl)
+    by_test false rest = (suc rest.0, omega (arith, rest.1), ap (option_map suc) rest.2)
+
+-- ---- whole or not
+
+pub whole_knows : (index : Index) (late : List ℕ) (xs : List Formula) → KeepsPlaces index xs → KnowsRest index late xs
+whole_knows index late xs kept = record {
+  is_true = λ key at e. first_is_there key xs at (sym (kept.finds key) ∙ e);
+  has_rest = λ at x e l. let first = first_up_to xs at x e in (first.0, first.1, kept.finds (code x) ∙ first.2);
+}
+
+there : (o : Option Formula) (key : List ℕ) → option_map code o ≡ Some key → (x : Formula) × (o ≡ Some x) × (code x ≡ key)
+there None key e = cc
+there (Some x) key e = (x, refl, cc)
+
+pub knows_whole : (index : Index) (xs : List Formula) → KnowsRest index [] xs → KeepsPlaces index xs
+knows_whole index xs knows = record { finds = λ key. same key (at_key index key) refl (first_place key xs) refl }
+  where
+    -- a formula that is there with this key is found
+    found : (key : List ℕ) (x : Formula) (k : ℕ) → slice_get xs k ≡ Some x → code x ≡ key → (f : ℕ) × (f ≤ k) × (at_key index key ≡ Some f)
+    found key x k e is = let has = knows.has_rest k x e refl in (has.0, has.1, ap (at_key index) (sym is) ∙ has.2)
+
+    same : (key : List ℕ) (o : Option ℕ) → at_key index key ≡ o → (p : Option ℕ) → first_place key xs ≡ p → at_key index key ≡ first_place key xs
+    same key None e None f = e ∙ sym f
+    same key None e (Some j) f =
+        let x = there (slice_get xs j) key (first_is_there key xs j f) in
+        let has = found key x.0 j x.1 x.2 in
+        let no : None ≡ Some has.0 = sym e ∙ has.2 in cc
+    same key (Some k) e None f =
+        let x = there (slice_get xs k) key (knows.is_true key k e) in
+        let first = first_up_to xs k x.0 x.1 in
+        let no : None ≡ Some first.0 = sym f ∙ ap (λ q. first_place q xs) (sym x.2) ∙ first.2 in cc
+    same key (Some k) e (Some j) f =
+        let x = there (slice_get xs k) key (knows.is_true key k e) in
+        let first = first_up_to xs k x.0 x.1 in
+        let y = there (slice_get xs j) key (first_is_there key xs j f) in
+        let has = found key y.0 j y.1 y.2 in
+        let one : Some k ≡ Some has.0 = sym e ∙ has.2 in
+        let two : Some j ≡ Some first.0 = sym f ∙ ap (λ q. first_place q xs) (sym x.2) ∙ first.2 in
+        let k_is : k ≡ has.0 = cc in
+        let j_is : j ≡ first.0 = cc in
+        let equal : k ≡ j = omega (arith, has.1, first.1, k_is, j_is) in
+        e ∙ ap (λ n. Some n) equal ∙ sym f
+
+pub same_entries : (before after : Index) (late : List ℕ) (xs : List Formula) → after.entries ≡ before.entries → KnowsRest before late xs → KnowsRest after late xs
+same_entries before after late xs e knows = record {
+  is_true = λ key at f. knows.is_true key at (sym (ap (lookup _) e) ∙ f);
+  has_rest = λ at x f l. let has = knows.has_rest at x f l in (has.0, has.1, ap (lookup _) e ∙ has.2);
+}
+
+-- ---- a late place is put in
+
+module _ (before : Index) (at : ℕ) (xs : List Formula) (late : List ℕ) (knows : KnowsRest before (at ∷ late) xs) where
+  past : (k : ℕ) (y : Formula) → slice_get xs k ≡ Some y → is_among k late ≡ false → nat_eq k at ≡ false → (first : ℕ) × (first ≤ k) × (at_key before (code y) ≡ Some first)
+  past k y e l other = knows.has_rest k y e (ap₂ (λ a b. a || b) other l)
+
+  -- past the end there is nothing to put in
+  pub put_nothing : slice_get xs at ≡ None → KnowsRest before late xs
+  put_nothing none = record { is_true = knows.is_true; has_rest = λ k y e l. by_test k y e l (nat_eq k at) refl }
+    where
+      by_test : (k : ℕ) (y : Formula) → slice_get xs k ≡ Some y → is_among k late ≡ false → (b : Bool) → nat_eq k at ≡ b → (first : ℕ) × (first ≤ k) × (at_key before (code y) ≡ Some first)
+      by_test k y e l true same = let no : None ≡ Some y = sym none ∙ ap (slice_get xs) (sym (eqb-true k at same)) ∙ e in cc
+      by_test k y e l false other = past k y e l other
+
+  module _ (x : Formula) (is : slice_get xs at ≡ Some x) where
+    same_item : (k : ℕ) (y : Formula) → slice_get xs k ≡ Some y → k ≡ at → y ≡ x
+    same_item k y e same = let two : Some y ≡ Some x = sym e ∙ ap (slice_get xs) same ∙ is in cc
+
+    -- an equal formula is found there or before
+    pub put_before : (first : ℕ) → at_key before (code x) ≡ Some first → first ≤ at → KnowsRest before late xs
+    put_before first found le = record { is_true = knows.is_true; has_rest = λ k y e l. by_test k y e l (nat_eq k at) refl }
+      where
+        by_test : (k : ℕ) (y : Formula) → slice_get xs k ≡ Some y → is_among k late ≡ false → (b : Bool) → nat_eq k at ≡ b → (first : ℕ) × (first ≤ k) × (at_key before (code y) ≡ Some first)
+        by_test k y e l true same =
+            let here = eqb-true k at same in
+            (first, omega (arith, le, here), ap (λ z. at_key before (code z)) (same_item k y e here) ∙ found)
+        by_test k y e l false other = past k y e l other
+
+    -- none is, or one after it
+    pub put_here : (after : Index) (key : List ℕ) → key ≡ code x → ((first : ℕ) → at_key before key ≡ Some first → at ≤ first) → Updates (slice_cmp nat_cmp) before after key (Some at) → KnowsRest after late xs
+    put_here after key is_key earlier u = record {
+      is_true = λ q k e. true_by_test q k e (bytes_eq key q) refl;
+      has_rest = λ k y e l. rest_by_test k y e l (bytes_eq key (code y)) refl;
+    }
+      where
+        now_at : (q : List ℕ) → at_key after q ≡ cond (bytes_eq key q) (Some at) (at_key before q)
+        now_at q = u.0 q ∙ ap (λ b. cond b (Some at) (at_key before q)) (is_eq-slice_cmp key q)
+
+        true_by_test : (q : List ℕ) (k : ℕ) → at_key after q ≡ Some k → (b : Bool) → bytes_eq key q ≡ b → option_map code (slice_get xs k) ≡ Some q
+        true_by_test q k e true same =
+            let here : Some at ≡ Some k = sym (now_at q ∙ ap (λ b. cond b (Some at) (at_key before q)) same) ∙ e in
+            let place : at ≡ k = cc in
+            ap (λ n. option_map code (slice_get xs n)) (sym place) ∙ ap (option_map code) is ∙ ap (λ c. Some c) (sym is_key ∙ (bytes_eq-Decides key q).0 same)
+        true_by_test q k e false other = knows.is_true q k (sym (now_at q ∙ ap (λ b. cond b (Some at) (at_key before q)) other) ∙ e)
+
+        up_to : (k : ℕ) (y : Formula) → slice_get xs k ≡ Some y → is_among k late ≡ false → bytes_eq key (code y) ≡ true → (b : Bool) → nat_eq k at ≡ b → at ≤ k
+        up_to k y e l same true here = let place = eqb-true k at here in omega (arith, place)
+        up_to k y e l same false other =
+            let has = past k y e l other in
+            let le = earlier has.0 (ap (at_key before) ((bytes_eq-Decides key (code y)).0 same) ∙ has.2) in
+            omega (arith, has.1, le)
+
+        not_here : (k : ℕ) (y : Formula) → slice_get xs k ≡ Some y → bytes_eq key (code y) ≡ false → (b : Bool) → nat_eq k at ≡ b → nat_eq k at ≡ false
+        not_here k y e other true here =
+            absurd (clash (bytes_eq key (code y)) ((bytes_eq-Decides key (code y)).1 (is_key ∙ ap code (sym (same_item k y e (eqb-true k at here))))) other)
+        not_here k y e other false here = here
+
+        rest_by_test : (k : ℕ) (y : Formula) → slice_get xs k ≡ Some y → is_among k late ≡ false → (b : Bool) → bytes_eq key (code y) ≡ b → (first : ℕ) × (first ≤ k) × (at_key after (code y) ≡ Some first)
+        rest_by_test k y e l true same = (at, up_to k y e l same (nat_eq k at) refl, now_at (code y) ∙ ap (λ b. cond b (Some at) (at_key before (code y))) same)
+        rest_by_test k y e l false other =
+            let has = past k y e l (not_here k y e other (nat_eq k at) refl) in
+            (has.0, has.1, now_at (code y) ∙ ap (λ b. cond b (Some at) (at_key before (code y))) other ∙ has.2)
+
+-- ---- formulas become others, whose keys were taken out
+
+set_other : (xs : List Formula) (at : ℕ) (y : Formula) (k : ℕ) → nat_eq k at ≡ false → slice_get (set xs at y) k ≡ slice_get xs k
+set_other [] at y k e = refl
+set_other (x ∷ xs) zero y zero e = absurd (clash (nat_eq zero zero) (eq-eqb zero zero refl) e)
+set_other (x ∷ xs) zero y (suc k) e = refl
+set_other (x ∷ xs) (suc at) y zero e = refl
+set_other (x ∷ xs) (suc at) y (suc k) e = set_other xs at y k (apart (nat_eq k at) refl)
+  where
+    apart : (b : Bool) → nat_eq k at ≡ b → nat_eq k at ≡ false
+    apart true same = absurd (clash (nat_eq (suc k) (suc at)) (eq-eqb (suc k) (suc at) (ap suc (eqb-true k at same))) e)
+    apart false other = other
+
+stays : (changes : List Replacement) (xs : List Formula) (k : ℕ) → is_among k (places_of changes) ≡ false → slice_get (changed_by changes xs) k ≡ slice_get xs k
+stays [] xs k e = refl
+stays (c ∷ changes) xs k e =
+    let parts = or_parts (nat_eq k c.at) (is_among k (places_of changes)) e in
+    stays changes (set xs c.at c.formula) k parts.1 ∙ set_other xs c.at c.formula k parts.0
+
+-- whether an equal formula is found at a place up to this one, as a test answers
+abbrev Tells : Index → List ℕ → ℕ → Bool → Type 0
+Tells index key at r = MatchOption (at_key index key) (r ≡ false) (λ first. (r ≡ true → first ≤ at) × (r ≡ false → at ≤ first))
+
+module _ (before : Index) (at : ℕ) (xs : List Formula) (late : List ℕ) (knows : KnowsRest before (at ∷ late) xs) (x : Formula) (is : slice_get xs at ≡ Some x) (key : List ℕ) (is_key : key ≡ code x) (r : Bool) (tells : Tells before key at r) where
+  pub put_before_it : r ≡ true → KnowsRest before late xs
+  put_before_it e = by_option (at_key before key) refl tells
+    where
+      by_option : (o : Option ℕ) → at_key before key ≡ o → MatchOption o (r ≡ false) (λ first. (r ≡ true → first ≤ at) × (r ≡ false → at ≤ first)) → KnowsRest before late xs
+      by_option None f t = absurd (clash r e t)
+      by_option (Some first) f t = put_before before at xs late knows x is first (ap (at_key before) (sym is_key) ∙ f) (t.0 e)
+
+  pub put_in_place : r ≡ false → (after : Index) → Updates (slice_cmp nat_cmp) before after key (Some at) → KnowsRest after late xs
+  put_in_place e after u = put_here before at xs late knows x is after key is_key (λ first f. by_option (at_key before key) refl tells first f) u
+    where
+      by_option : (o : Option ℕ) → at_key before key ≡ o → MatchOption o (r ≡ false) (λ first. (r ≡ true → first ≤ at) × (r ≡ false → at ≤ first)) → (first : ℕ) → at_key before key ≡ Some first → at ≤ first
+      by_option None f t first g = cc
+      by_option (Some found) f t first g =
+          let same : Some found ≡ Some first = sym f ∙ g in
+          let equal : found ≡ first = cc in
+          let le : at ≤ found = t.1 e in omega (arith, le, equal)
+
+-- ---- keys that are taken out one after another
+
+old_keys_more : (changes : List Replacement) (i : ℕ) (x : Replacement) → i < length changes → x ≡ get_or changes i x → old_keys (take (i + 1) changes) ≡ old_keys (take i changes) ++ x.old_key ∷ []
+old_keys_more changes i x within item =
+    map_more (λ (c : Replacement). c.old_key) changes i x within ∙ ap (λ (c : Replacement). old_keys (take i changes) ++ c.old_key ∷ []) (sym item)
+
+one_more_out : (a b : Bool) (o : Option ℕ) → cond b None (cond a None o) ≡ cond (a || (b || false)) None o
+one_more_out true true o = refl
+one_more_out true false o = refl
+one_more_out false true o = refl
+one_more_out false false o = refl
+
+pub removed_more : (old before after : Index) (changes : List Replacement) (i : ℕ) (x : Replacement) → i < length changes → x ≡ get_or changes i x
+    → ((key : List ℕ) → at_key before key ≡ cond (is_key_among key (old_keys (take i changes))) None (at_key old key)) → Updates (slice_cmp nat_cmp) before after x.old_key None
+    → (key : List ℕ) → at_key after key ≡ cond (is_key_among key (old_keys (take (i + 1) changes))) None (at_key old key)
+removed_more old before after changes i x within item done u key =
+    u.0 key ∙ ap₂ (λ b o. cond b None o) (is_eq-slice_cmp x.old_key key ∙ bytes_eq-flip x.old_key key) (done key)
+    ∙ one_more_out (is_key_among key (old_keys (take i changes))) (bytes_eq key x.old_key) (at_key old key)
+    ∙ ap (λ b. cond b None (at_key old key))
+    (sym (ap (is_key_among key) (old_keys_more changes i x within item) ∙ list_any-append (bytes_eq key) (old_keys (take i changes)) (x.old_key ∷ [])))
+
+pub removed_all : (old now : Index) (changes : List Replacement) (i : ℕ) → length changes ≤ i
+    → ((key : List ℕ) → at_key now key ≡ cond (is_key_among key (old_keys (take i changes))) None (at_key old key)) → (key : List ℕ) → at_key now key ≡ cond (is_key_among key (old_keys changes)) None (at_key old key)
+removed_all old now changes i end done key = done key ∙ ap (λ cs. cond (is_key_among key (old_keys cs)) None (at_key old key)) (take_all i changes end)
+
+-- ---- and in their place others are late
+
+not_taken : {X : Type 0} (b : Bool) (o : Option X) (x : X) → cond b None o ≡ Some x → (b ≡ false) × (o ≡ Some x)
+not_taken true o x e = cc
+not_taken false o x e = (refl, e)
+
+pub taken_knows : (before after : Index) (late more : List ℕ) (w : RewritesState) (xs : List Formula) → KnowsRest before late xs → FitsPool w xs
+    → ((key : List ℕ) → at_key after key ≡ cond (is_key_among key (old_keys w.changes)) None (at_key before key)) → more ≡ late ++ w.places → KnowsRest after more (rewritten_by w xs)
+taken_knows before after late more w xs knows fits taken moved = record {
+  is_true = λ key at e.
+      let parts = not_taken (is_key_among key (old_keys w.changes)) (at_key before key) at (sym (taken key) ∙ e) in
+      let x = there (slice_get xs at) key (knows.is_true key at parts.1) in
+      let left : is_among at (places_of w.changes) ≡ false = sym (fits.together at x.0 x.1) ∙ ap (λ k. is_key_among k (old_keys w.changes)) x.2 ∙ parts.0 in
+      ap (option_map code) (stays w.changes xs at left) ∙ knows.is_true key at parts.1;
+  has_rest = λ at y e l.
+      let parts = or_parts (is_among at late) (is_among at w.places) (sym (list_any-append (nat_eq at) late w.places) ∙ ap (is_among at) (sym moved) ∙ l) in
+      let left : is_among at (places_of w.changes) ≡ false = ap (is_among at) (sym fits.places) ∙ parts.1 in
+      let is = sym (stays w.changes xs at left) ∙ e in
+      let has = knows.has_rest at y is parts.0 in
+      (has.0, has.1, taken (code y) ∙ ap (λ b. cond b None (at_key before (code y))) (fits.together at y is ∙ left) ∙ has.2);
+}
+
+-- ---- what a pool keeps
+
+length_set : (xs : List Formula) (at : ℕ) (y : Formula) → length (set xs at y) ≡ length xs
+length_set [] at y = refl
+length_set (x ∷ xs) zero y = refl
+length_set (x ∷ xs) (suc at) y = ap suc (length_set xs at y)
+
+length_changed : (changes : List Replacement) (xs : List Formula) → length (changed_by changes xs) ≡ length xs
+length_changed [] xs = refl
+length_changed (c ∷ changes) xs = length_changed changes (set xs c.at c.formula) ∙ length_set xs c.at c.formula
+
+-- a vector whose formulas were rewritten through a slice
+pub written_back : (n : ℕ) (changes : List Replacement) (new xs : List Formula) → new ≡ changed_by changes xs → n ≡ length xs → take n (new ++ drop (length new) xs) ≡ changed_by changes xs
+written_back n changes new xs made counted =
+    ap (λ k. take k (new ++ drop (length new) xs)) (counted ∙ sym (ap length made ∙ length_changed changes xs)) ∙ take_at new (drop (length new) xs) (length new) refl ∙ made
+
+both_true : (a b : Bool) → (a && b) ≡ true → (a ≡ true) × (b ≡ true)
+both_true true b e = (refl, e)
+both_true false b e = (e, cc)
+
+pub kept_taken : (before after : Index) (late more : List ℕ) (w : RewritesState) (knows moved : Bool) (places : List ℕ) (xs list : List Formula) → (knows ≡ true → KnowsRest before late xs) → FitsPool w xs
+    → ((key : List ℕ) → at_key after key ≡ cond (is_key_among key (old_keys w.changes)) None (at_key before key)) → (moved ≡ true → more ≡ late ++ w.places) → list ≡ rewritten_by w xs → places ≡ dangling_places list
+    → IsKept after false (knows && moved) more places list
+kept_taken before after late more w knows moved places xs list rest fits taken put made dangles = record {
+  finds = λ e. cc;
+  rest = λ e.
+      let both = both_true knows moved e in
+      subst (KnowsRest after more) (sym made) (taken_knows before after late more w xs (rest both.0) fits taken (put both.1));
+  dangles = dangles;
+}
+
+pub kept_late : (index : Index) (knows : Bool) (late places : List ℕ) (xs list : List Formula) → KnowsRest index late xs → late ≡ [] → places ≡ dangling_places xs → list ≡ xs → IsKept index true knows late places list
+kept_late index knows late places xs list rest none dangles same = record {
+  finds = λ e. subst (KeepsPlaces index) (sym same) (knows_whole index xs (subst (λ l. KnowsRest index l xs) none rest));
+  rest = λ e. subst (KnowsRest index late) (sym same) rest;
+  dangles = dangles ∙ ap dangling_places (sym same);
+}
+
+pub kept_anew : (index : Index) (knows : Bool) (late places : List ℕ) (xs list : List Formula) → KeepsPlaces index xs → places ≡ dangling_places xs → list ≡ xs → IsKept index true knows late places list
+kept_anew index knows late places xs list found dangles same = record {
+  finds = λ e. subst (KeepsPlaces index) (sym same) found;
+  rest = λ e. subst (KnowsRest index late) (sym same) (whole_knows index late xs found);
+  dangles = dangles ∙ ap dangling_places (sym same);
+}
+
+pub kept_entries : (before after : Index) (is_whole knows : Bool) (late places more : List ℕ) (xs list : List Formula) → IsKept before is_whole knows late places xs → after.entries ≡ before.entries → more ≡ places → list ≡ xs → IsKept after is_whole knows late more list
+kept_entries before after is_whole knows late places more xs list kept e same_places same = record {
+  finds = λ w. subst (KeepsPlaces after) (sym same) (record { finds = λ key. ap (lookup _) e ∙ (kept.finds w).finds key });
+  rest = λ k. subst (KnowsRest after late) (sym same) (same_entries before after late xs e (kept.rest k));
+  dangles = same_places ∙ kept.dangles ∙ ap dangling_places (sym same);
+}

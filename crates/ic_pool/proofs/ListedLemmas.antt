@@ -1,0 +1,95 @@
+-- The formulas of a pool that pass a test, by their places and by their keys.
+use Rattle.std.proofs.Common.{◌≡◌, ℕ, zero, suc, ◌<◌, ◌+◌, List, [], ◌∷◌, ◌++◌, Bool, true, false, cond, ◌||◌, Some, refl, sym, ap, ap₂, ◌∙◌, bytes_eq, arith}
+use Rattle.std.specs.Prelude.{nat_eq, if◌then◌else◌}
+use Rattle.std.specs.List.{slice_get}
+use Rattle.std.proofs.lemmas.Bool.{eq-eqb, eqb-true}
+use Rattle.std.proofs.lemmas.Slice.Eq.{bytes_eq-Decides}
+use Rattle.ic_laws.specs.declared.tree.Formula.{Formula}
+use Rattle.ic_pool.specs.Code.{code}
+use Rattle.ic_pool.specs.Pool.{is_among, places_from, places_where}
+use Rattle.ic_pool.specs.Rewrites.{is_key_among}
+use Rattle.ic_pool.proofs.CodeLaws.{code_determines}
+
+module _ (test : Formula → Bool) where
+  -- the keys of those that pass
+  abbrev pub keys_where : List Formula → List (List ℕ)
+  keys_where [] = []
+  keys_where (x ∷ xs) = if test x then code x ∷ keys_where xs else keys_where xs
+
+  pub keys_where-push : (xs : List Formula) (x : Formula) → keys_where (xs ++ x ∷ []) ≡ keys_where xs ++ cond (test x) (code x ∷ []) []
+  keys_where-push [] x = refl
+  keys_where-push (y ∷ xs) x = after (test y) (keys_where-push xs x)
+    where
+      after : (b : Bool) → keys_where (xs ++ x ∷ []) ≡ keys_where xs ++ cond (test x) (code x ∷ []) [] → cond b (code y ∷ keys_where (xs ++ x ∷ [])) (keys_where (xs ++ x ∷ [])) ≡ cond b (code y ∷ keys_where xs) (keys_where xs) ++ cond (test x) (code x ∷ []) []
+      after true rest = ap (λ ks. code y ∷ ks) rest
+      after false rest = rest
+
+  apart : (n at : ℕ) → n < at → (b : Bool) → nat_eq n at ≡ b → nat_eq n at ≡ false
+  apart n at lt true e = let same = eqb-true n at e in absurd (omega arith)
+  apart n at lt false e = e
+
+  above : (n at : ℕ) → at < n → (b : Bool) → nat_eq n at ≡ b → nat_eq n at ≡ false
+  above n at lt true e = let same = eqb-true n at e in absurd (omega arith)
+  above n at lt false e = e
+
+  none_below : (n at : ℕ) (xs : List Formula) → n < at → is_among n (places_from test at xs) ≡ false
+  none_below n at [] lt = refl
+  none_below n at (x ∷ xs) lt = after (test x) (none_below n (suc at) xs (omega arith))
+    where
+      after : (b : Bool) → is_among n (places_from test (suc at) xs) ≡ false → is_among n (cond b (at ∷ places_from test (suc at) xs) (places_from test (suc at) xs)) ≡ false
+      after true rest = ap₂ (λ a b. a || b) (apart n at lt (nat_eq n at) refl) rest
+      after false rest = rest
+
+  passes_from : (at : ℕ) (xs : List Formula) (k n : ℕ) (x : Formula) → at + k ≡ n → slice_get xs k ≡ Some x → is_among n (places_from test at xs) ≡ test x
+  passes_from at [] k n x is e = cc
+  passes_from at (y ∷ xs) zero n x is e = after (test y) ∙ ap test (let same : y ≡ x = cc in same)
+    where
+      after : (b : Bool) → is_among n (cond b (at ∷ places_from test (suc at) xs) (places_from test (suc at) xs)) ≡ b
+      after true = ap (λ c. c || is_among n (places_from test (suc at) xs)) (eq-eqb n at (omega arith))
+      after false = none_below n (suc at) xs (omega arith)
+  passes_from at (y ∷ xs) (suc k) n x is e = after (test y) (passes_from (suc at) xs k n x (omega arith) e)
+    where
+      after : (b : Bool) → is_among n (places_from test (suc at) xs) ≡ test x → is_among n (cond b (at ∷ places_from test (suc at) xs) (places_from test (suc at) xs)) ≡ test x
+      after true rest = ap (λ c. c || is_among n (places_from test (suc at) xs)) (above n at (omega arith) (nat_eq n at) refl) ∙ rest
+      after false rest = rest
+
+  -- a formula is at one of the places exactly where it passes
+  pub passes_there : (xs : List Formula) (k : ℕ) (x : Formula) → slice_get xs k ≡ Some x → is_among k (places_where test xs) ≡ test x
+  passes_there xs k x e = passes_from 0 xs k k x (omega arith) e
+
+  only_passing : (xs : List Formula) (x : Formula) → is_key_among (code x) (keys_where xs) ≡ true → test x ≡ true
+  only_passing [] x e = cc
+  only_passing (y ∷ xs) x e = by_test (test y) refl e (λ f. only_passing xs x f)
+    where
+      by_head : (b : Bool) → bytes_eq (code x) (code y) ≡ b → test y ≡ true → (b || is_key_among (code x) (keys_where xs)) ≡ true → (is_key_among (code x) (keys_where xs) ≡ true → test x ≡ true) → test x ≡ true
+      by_head true same passes e rest = ap test (code_determines x y ((bytes_eq-Decides (code x) (code y)).0 same)) ∙ passes
+      by_head false other passes e rest = rest e
+
+      by_test : (b : Bool) → test y ≡ b → is_key_among (code x) (cond b (code y ∷ keys_where xs) (keys_where xs)) ≡ true → (is_key_among (code x) (keys_where xs) ≡ true → test x ≡ true) → test x ≡ true
+      by_test true passes e rest = by_head (bytes_eq (code x) (code y)) refl passes e rest
+      by_test false fails e rest = rest e
+
+  or_true : (b : Bool) → (b || true) ≡ true
+  or_true true = refl
+  or_true false = refl
+
+  all_passing : (xs : List Formula) (k : ℕ) (x : Formula) → slice_get xs k ≡ Some x → test x ≡ true → is_key_among (code x) (keys_where xs) ≡ true
+  all_passing [] k x e passes = cc
+  all_passing (y ∷ xs) zero x e passes =
+      let same : y ≡ x = cc in
+      ap (λ b. is_key_among (code x) (cond b (code y ∷ keys_where xs) (keys_where xs))) (ap test same ∙ passes)
+      ∙ ap (λ b. b || is_key_among (code x) (keys_where xs)) ((bytes_eq-Decides (code x) (code y)).1 (ap code (sym same)))
+  all_passing (y ∷ xs) (suc k) x e passes = after (test y) (all_passing xs k x e passes)
+    where
+      after : (b : Bool) → is_key_among (code x) (keys_where xs) ≡ true → is_key_among (code x) (cond b (code y ∷ keys_where xs) (keys_where xs)) ≡ true
+      after true e = ap (λ c. bytes_eq (code x) (code y) || c) e ∙ or_true (bytes_eq (code x) (code y))
+      after false e = e
+
+  -- its key is one of the keys exactly there
+  pub key_passes : (xs : List Formula) (k : ℕ) (x : Formula) → slice_get xs k ≡ Some x → is_key_among (code x) (keys_where xs) ≡ test x
+  key_passes xs k x e = by_test (test x) refl (is_key_among (code x) (keys_where xs)) refl
+    where
+      by_test : (b : Bool) → test x ≡ b → (c : Bool) → is_key_among (code x) (keys_where xs) ≡ c → is_key_among (code x) (keys_where xs) ≡ test x
+      by_test true passes c found = all_passing xs k x e passes ∙ sym passes
+      by_test false fails true found = let no : true ≡ false = sym (only_passing xs x found) ∙ fails in cc
+      by_test false fails false found = found ∙ sym fails

@@ -1,0 +1,116 @@
+-- The program's words, its start and its statuses.
+use Rattle.std.proofs.Common.{String, ◌≡◌, ℕ, List, [], ◌∷◌, get_or, Option, Some, None, Result, Ok, Err, IfOk, IfErr, OnOk, bytes_eq, codes, string_bytes, refl, arith, length, ◌==◌, true, false, sym, ◌∙◌, ap}
+use Rattle.std.proofs.lemmas.Bool.{eqb-true}
+use Rattle.std.specs.Str.{chars}
+use Rattle.std.specs.declared.alloc.Global.{Global}
+use Rattle.ic_lines.specs.declared.error.RunError.{RunError}
+use Rattle.ic_lines.specs.declared.error.RunError.TheVariants as run
+use Rattle.ic_lines.proofs.ToldLemmas.{IfTold-weaker}
+use Rattle.ic_lines.specs.Bytes.{IfTold}
+use Rattle.ic_book.specs.Book.{Book, core_of, notations_in}
+use Rattle.ic_run.specs.Desk.{setting_of, run_status, texts}
+use Rattle.ic_run.specs.Run.{Leaves, LeavesReplies, TakesAll}
+
+-- the status 0 is that of Ok
+pub on_ok_at_0 : (r : Result ℕ RunError) (P : Type 0) → OnOk r P → run_status r ≡ 0 → P
+on_ok_at_0 (Ok n) P h e = h
+on_ok_at_0 (Err run.ReadFault) P h e = absurd (omega (arith, e))
+on_ok_at_0 (Err run.WriteFault) P h e = absurd (omega (arith, e))
+on_ok_at_0 (Err run.TooManyTurns) P h e = absurd (omega (arith, e))
+on_ok_at_0 (Err run.OutOfMemory) P h e = absurd (omega (arith, e))
+
+pub empty_list : {X : Type 0} (xs : List X) → (length xs == 0) ≡ true → xs ≡ []
+empty_list [] h = refl
+empty_list (x ∷ xs) h = absurd (omega (arith, eqb-true (length (x ∷ xs)) 0 h))
+
+-- without words the setting is en, en and UTC
+pub no_words : Some (record { locale = chars (codes "en"); language = chars (codes "en"); zone = chars (codes "UTC") }) ≡ setting_of []
+unfolding chars
+no_words = refl
+
+run_chars : codes "run" ≡ chars (codes "run")
+unfolding chars
+run_chars = refl
+
+-- four words are taken apart
+four_words : {X : Type 0} (words : List X) → length words ≡ 4 → (a : X) × (b : X) × (c : X) × (d : X) × (words ≡ a ∷ b ∷ c ∷ d ∷ [])
+four_words [] h = absurd (omega (arith, h))
+four_words (a ∷ []) h = absurd (omega (arith, h))
+four_words (a ∷ b ∷ []) h = absurd (omega (arith, h))
+four_words (a ∷ b ∷ c ∷ []) h = absurd (omega (arith, h))
+four_words (a ∷ b ∷ c ∷ d ∷ []) h = (a, b, c, d, refl)
+four_words (a ∷ b ∷ c ∷ d ∷ e ∷ words) h = absurd (omega (arith, h))
+
+-- a word at a place of them, and its text
+word_text : (words : List (String Global)) (i : ℕ) (w at : String Global) (t : List ℕ) → t ≡ string_bytes w → w ≡ get_or words i w → ((x : String Global) → get_or words i x ≡ at) → chars t ≡ chars (string_bytes at)
+word_text words i w at t e is there = ap chars (e ∙ ap string_bytes (is ∙ there w))
+
+-- words that don't begin with run name nothing
+pub other_name : (words : List (String Global)) (w : String Global) (t : List ℕ) → length words ≡ 4 → w ≡ get_or words 0 w → t ≡ string_bytes w → bytes_eq (chars t) (chars (codes "run")) ≡ false → None ≡ setting_of (texts words)
+other_name words w t four is e other =
+    let p = four_words words four in
+    let first : chars t ≡ chars (string_bytes p.0) = word_text words 0 w p.0 t e is (λ x. ap (λ v. get_or v 0 x) p.4) in
+    let no : bytes_eq (chars (string_bytes p.0)) (codes "run") ≡ false = ap (λ v. bytes_eq v (codes "run")) (sym first) ∙ ap (bytes_eq (chars t)) run_chars ∙ other in
+    let at : setting_of (texts (p.0 ∷ p.1 ∷ p.2 ∷ p.3 ∷ [])) ≡ None = rw no refl in
+    sym (ap (λ v. setting_of (texts v)) p.4 ∙ at)
+
+-- words that do name what follows it
+pub run_words : (words : List (String Global)) (w wl wg wz : String Global) (t l g z : List ℕ) → length words ≡ 4 → w ≡ get_or words 0 w → wl ≡ get_or words 1 wl → wg ≡ get_or words 2 wg → wz ≡ get_or words 3 wz
+    → t ≡ string_bytes w → l ≡ string_bytes wl → g ≡ string_bytes wg → z ≡ string_bytes wz → bytes_eq (chars t) (chars (codes "run")) ≡ true
+    → Some (record { locale = chars l; language = chars g; zone = chars z }) ≡ setting_of (texts words)
+run_words words w wl wg wz t l g z four is is_l is_g is_z e e_l e_g e_z named =
+    let p = four_words words four in
+    let first : chars t ≡ chars (string_bytes p.0) = word_text words 0 w p.0 t e is (λ x. ap (λ v. get_or v 0 x) p.4) in
+    let locale : chars l ≡ chars (string_bytes p.1) = word_text words 1 wl p.1 l e_l is_l (λ x. ap (λ v. get_or v 1 x) p.4) in
+    let language : chars g ≡ chars (string_bytes p.2) = word_text words 2 wg p.2 g e_g is_g (λ x. ap (λ v. get_or v 2 x) p.4) in
+    let zone : chars z ≡ chars (string_bytes p.3) = word_text words 3 wz p.3 z e_z is_z (λ x. ap (λ v. get_or v 3 x) p.4) in
+    let run : bytes_eq (chars (string_bytes p.0)) (codes "run") ≡ true = ap (λ v. bytes_eq v (codes "run")) (sym first) ∙ ap (bytes_eq (chars t)) run_chars ∙ named in
+    let at : setting_of (texts (p.0 ∷ p.1 ∷ p.2 ∷ p.3 ∷ [])) ≡ Some (record { locale = chars (string_bytes p.1); language = chars (string_bytes p.2); zone = chars (string_bytes p.3) }) = rw run refl in
+    ap (λ v. Some (record { locale = v; language = chars g; zone = chars z })) locale
+    ∙ ap (λ v. Some (record { locale = chars (string_bytes p.1); language = v; zone = chars z })) language
+    ∙ ap (λ v. Some (record { locale = chars (string_bytes p.1); language = chars (string_bytes p.2); zone = v })) zone
+    ∙ sym (ap (λ v. setting_of (texts v)) p.4 ∙ at)
+
+-- a whole run leaves nothing of the source
+pub all_taken : (r : Result ℕ RunError) (old new : Book) (before now : Option (List ℕ)) → IfOk r (λ count. IfTold before now (TakesAll old new count)) → OnOk r (IfTold before now (λ bytes left. left ≡ []))
+all_taken (Ok n) old new before now h = IfTold-weaker before now (TakesAll old new n) (λ bytes left. left ≡ []) (λ bytes left t. t.all) h
+all_taken (Err e) old new before now h = tt
+
+-- the status tells the error
+pub at_error_status : (r : Result ℕ RunError) (e : RunError) (P : RunError → Type 0) → run_status r ≡ run_status (Err e) → IfErr r P → P e
+at_error_status (Ok n) run.ReadFault P same h = absurd (omega (arith, same))
+at_error_status (Ok n) run.WriteFault P same h = absurd (omega (arith, same))
+at_error_status (Ok n) run.TooManyTurns P same h = absurd (omega (arith, same))
+at_error_status (Ok n) run.OutOfMemory P same h = absurd (omega (arith, same))
+at_error_status (Err run.ReadFault) run.ReadFault P same h = h
+at_error_status (Err run.ReadFault) run.WriteFault P same h = absurd (omega (arith, same))
+at_error_status (Err run.ReadFault) run.TooManyTurns P same h = absurd (omega (arith, same))
+at_error_status (Err run.ReadFault) run.OutOfMemory P same h = absurd (omega (arith, same))
+at_error_status (Err run.WriteFault) run.ReadFault P same h = absurd (omega (arith, same))
+at_error_status (Err run.WriteFault) run.WriteFault P same h = h
+at_error_status (Err run.WriteFault) run.TooManyTurns P same h = absurd (omega (arith, same))
+at_error_status (Err run.WriteFault) run.OutOfMemory P same h = absurd (omega (arith, same))
+at_error_status (Err run.TooManyTurns) run.ReadFault P same h = absurd (omega (arith, same))
+at_error_status (Err run.TooManyTurns) run.WriteFault P same h = absurd (omega (arith, same))
+at_error_status (Err run.TooManyTurns) run.TooManyTurns P same h = h
+at_error_status (Err run.TooManyTurns) run.OutOfMemory P same h = absurd (omega (arith, same))
+at_error_status (Err run.OutOfMemory) run.ReadFault P same h = absurd (omega (arith, same))
+at_error_status (Err run.OutOfMemory) run.WriteFault P same h = absurd (omega (arith, same))
+at_error_status (Err run.OutOfMemory) run.TooManyTurns P same h = absurd (omega (arith, same))
+at_error_status (Err run.OutOfMemory) run.OutOfMemory P same h = h
+
+-- what an error leaves of the replies alone
+leaves_replies : (e : RunError) (old new : Book) (bytes left : List ℕ) (before now : Option (List ℕ)) → Leaves e old new bytes left before now
+    → LeavesReplies e (notations_in old) (core_of old) bytes left before now
+leaves_replies run.ReadFault old new bytes left before now h = (h.0, h.2, h.1.replied)
+leaves_replies run.TooManyTurns old new bytes left before now h = (h.0, h.2, h.1.replied)
+leaves_replies run.OutOfMemory old new bytes left before now h = (h.0, h.1.read, h.1.replied)
+leaves_replies run.WriteFault old new bytes left before now h = (h.0, h.1.read, h.1.replied)
+
+pub leaves_replies_told : (r : Result ℕ RunError) (e : RunError) (old new : Book) (source left before now : Option (List ℕ)) → run_status r ≡ run_status (Err e)
+    → IfErr r (λ x. IfTold source left (λ bytes rest. Leaves x old new bytes rest before now))
+    → IfTold source left (λ bytes rest. LeavesReplies e (notations_in old) (core_of old) bytes rest before now)
+leaves_replies_told r e old new source left before now same h =
+    IfTold-weaker source left (λ bytes rest. Leaves e old new bytes rest before now) (λ bytes rest. LeavesReplies e (notations_in old) (core_of old) bytes rest before now)
+    (λ bytes rest p. leaves_replies e old new bytes rest before now p)
+    (at_error_status r e (λ x. IfTold source left (λ bytes rest. Leaves x old new bytes rest before now)) same h)

@@ -1,0 +1,23 @@
+use Rattle.std.proofs.Common.{◌≡◌, ◌+◌, ◌*◌, ◌≤◌, length}
+use Rattle.ic_lines.specs.Bytes.{IfTold}
+use Rattle.ic_lines.specs.Reading.{budget}
+use Rattle.ic_run.proofs.ProgressLemmas.{Did, Progress}
+use Rattle.ic_run.proofs.lines.run.Given as goal
+
+-- some of the first lines are answered, and the others are still to be given; no fault was counted
+abbrev pub invariant-lines : goal.invariant-lines
+invariant-lines g l =
+    let source = g.S.Source in
+    let sink = g.K.Sink in
+    record {
+      done : IfTold (source.left l.fn.source) (source.left l.source) (Progress l.fn.model.book l.model.book l.count l.reader (sink.written l.fn.sink) (sink.written l.sink));
+      did : IfTold (source.left l.fn.source) (source.left l.source) (Did l.fn.model l.model l.count);
+      turns : IfTold (source.left l.fn.source) (source.left l.source) (λ bytes left. l.reader.turns + length left ≤ length bytes);
+      few : l.count + budget l.reader ≤ 4096 * 4294967296;
+      source_quiet : source.faults l.source ≡ source.faults l.fn.source;
+      sink_quiet : sink.faults l.sink ≡ sink.faults l.fn.sink;
+    }
+
+-- the bytes that the reader can still give
+abbrev pub decreases-lines : goal.decreases-lines
+decreases-lines g l = budget l.reader

@@ -1,0 +1,11 @@
+//! Runs of command lines: each line of a source answered into a sink, and all that the program does with its words.
+//!
+//! `run` carries the main promise: where it answers Ok, the replies that it appended are those of the identity
+//! machine of `ic_laws`, and the book is the one that the machine leaves. `desk` gives that for the program's words.
+#![tactic(auto)]
+
+mod lines;
+mod program;
+
+pub use lines::run;
+pub use program::desk;

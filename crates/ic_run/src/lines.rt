@@ -1,0 +1,85 @@
+ghost use Rattle.std.specs.Prelude.{◌≡◌, ◌⊎◌, ◌+◌, ◌++◌, ◌<◌, ◌≤◌, ◌^◌, Err, length, IfOk, IfErr, IsSomeAnd, OnOk};
+ghost use Rattle.ic_laws.specs.Lines.{command_of, line_step, reply_bytes, texts_of};
+ghost use Rattle.ic_lines.specs.Bytes.{AppendsFront, HasFault, IfTold};
+ghost use Rattle.ic_book.specs.Book.{StepsTo, core_of, notations_in};
+ghost use Rattle.ic_words.specs.Served.{served};
+ghost use Rattle.ic_commands.specs.Effect.{LineDoes};
+ghost use Rattle.ic_run.specs.Run.{AppendsReplies, HasCause, Leaves, LinesDo, TakesAll};
+
+use ic_book::Model;
+use ic_commands::reply_to;
+use ic_lines::{Line, LineReader, RunError, Sink, Source, write_all};
+use std::alloc::Global;
+
+/// Answers the lines of a source, one reply a line, and answers their number. It answers every whole line that it
+/// has before it reads again.
+///
+/// `ReadFault` and `WriteFault` where the source or the sink had a fault, `TooManyTurns` after 2^32 reads that each
+/// gave a byte, `OutOfMemory`, after which the book is as before the line that met it, and that line has no reply.
+pub fn run<S: Source, K: Sink>(
+    alloc: Global,
+    model: &mut Model<'_>,
+    source: &mut S,
+    sink: &mut K,
+) -> Result<u64, RunError>
+    // The identity theorem: all bytes were taken, their lines counted, the machine's replies appended, and its book
+    // left.
+    ensures book { IfOk result (λ count. IfTold (S.left source.old) (S.left source.new) (TakesAll model.old.book model.new.book count)) }
+    ensures replies { OnOk result (IfTold (S.left source.old) (S.left source.new) (λ bytes _.
+        IfTold (K.written sink.old) (K.written sink.new) (AppendsReplies (notations_in model.old.book) (core_of model.old.book) bytes))) }
+
+    // Each line did to the whole model, its formulas and their look-ups too, what its command does; one that is no
+    // command, is refused or only asks left all as it was.
+    ensures does { OnOk result (IfTold (S.left source.old) (S.left source.new)
+        (λ bytes _. LinesDo (texts_of bytes) model.old model.new)) }
+
+    // Each error has its cause, and no fault is passed over.
+    ensures cause { IfErr result (HasCause
+        (HasFault (S.faults source.old) (S.faults source.new))
+        (HasFault (K.faults sink.old) (K.faults sink.new))
+        (IfTold (S.left source.old) (S.left source.new) (λ before now. 2 ^ 32 + length now ≤ length before))) }
+    ensures quiet { OnOk result ((S.faults source.new ≡ S.faults source.old) × (K.faults sink.new ≡ K.faults sink.old)) }
+
+    // After an error the book is as some of the first lines leave it, and their replies were appended.
+    ensures front { IfErr result (λ e. IfTold (S.left source.old) (S.left source.new)
+        (λ bytes left. Leaves e model.old.book model.new.book bytes left (K.written sink.old) (K.written sink.new))) }
+
+    ensures source_counted { S.faults source.old ≤ S.faults source.new }
+    ensures sink_counted { K.faults sink.old ≤ K.faults sink.new }
+
+    // Where there is no fault, and the source holds fewer than 2^32 bytes, only that memory runs out is left.
+    ensures completes { IsSomeAnd (S.left source.old) (λ bytes. length bytes < 2 ^ 32)
+        → ¬ HasFault (S.faults source.old) (S.faults source.new) → ¬ HasFault (K.faults sink.old) (K.faults sink.new)
+        → IfErr result (λ e. e ≡ RunError.OutOfMemory) }
+{
+    let mut reader = LineReader::new(alloc);
+    let mut count = 0;
+    'lines: while let Some(line) = reader.next_line(source)? {
+        answer_to(alloc, model, &line, sink)?;
+        count += 1;
+    }
+    Ok(count)
+}
+
+/// Answers one line into the sink, in one write.
+fn answer_to<K: Sink>(
+    alloc: Global,
+    model: &mut Model<'_>,
+    line: &Line,
+    sink: &mut K,
+) -> Result<(), RunError>
+    ensures book { OnOk result (StepsTo model.old.book model.new.book (line_step (notations_in model.old.book) served (core_of model.old.book) line.now).0) }
+    ensures reply { OnOk result (IfTold (K.written sink.old) (K.written sink.new)
+        (λ before now. now ≡ before ++ reply_bytes (line_step (notations_in model.old.book) served (core_of model.old.book) line.now).1)) }
+    ensures does { OnOk result (LineDoes (command_of served line.now) model.old model.new) }
+    ensures which { IfErr result (λ e. (e ≡ RunError.OutOfMemory) ⊎ (e ≡ RunError.WriteFault)) }
+    ensures no_memory { result ≡ Err RunError.OutOfMemory → (model.new.book ≡ model.old.book) × (sink.new ≡ sink.old) }
+    ensures write_fault { result ≡ Err RunError.WriteFault → HasFault (K.faults sink.old) (K.faults sink.new)
+        × (StepsTo model.old.book model.new.book (line_step (notations_in model.old.book) served (core_of model.old.book) line.now).0)
+        × IfTold (K.written sink.old) (K.written sink.new) (AppendsFront (reply_bytes (line_step (notations_in model.old.book) served (core_of model.old.book) line.now).1)) }
+    ensures counted { K.faults sink.old ≤ K.faults sink.new }
+    ensures quiet { OnOk result (K.faults sink.new ≡ K.faults sink.old) }
+{
+    let reply = reply_to(alloc, model, line)?;
+    write_all(sink, reply.as_bytes())
+}

@@ -1,0 +1,253 @@
+-- Where the sheets stand by their ids, as sheets come, go and move, and that a look-up keeps up with it.
+use Rattle.std.proofs.Common.{◌≡◌, ℕ, zero, suc, ◌<◌, ◌≤◌, ◌+◌, List, [], ◌∷◌, ◌++◌, map, Bool, true, false, cond, ◌||◌, Option, Some, None, option_map, refl, sym, ap, ap₂, subst, ◌∙◌, length, take, drop, get_or, nat_eq, nat_lt, remove, arith}
+use Rattle.std.specs.BTreeMap.{BTreeMap, IsEmpty, Updates, get}
+use Rattle.std.specs.Cmp.{nat_eq_equiv}
+use Rattle.std.specs.List.{AllByRecursion, IsDistinct, find, insert, list_any, position, position_from, slice_get}
+use Rattle.std.specs.List.Sorted.{IsPermutation}
+use Rattle.std.specs.Map.{lookup}
+use Rattle.std.specs.Option.{option_and_then}
+use Rattle.std.specs.Ordering.{is_eq, nat_cmp}
+use Rattle.std.specs.declared.cmp.Ordering.TheVariants.{Less, Equal, Greater}
+use Rattle.std.proofs.lemmas.Bool.{eq-eqb, eqb-true, ltb-true, or_parts}
+use Rattle.std.proofs.lemmas.Iterator.Adapters.{position_from-zero}
+use Rattle.std.proofs.lemmas.List.{length-take, take-append-drop}
+use Rattle.std.proofs.lemmas.List.Sorted.{IsPermutation-map, IsPermutation-middle}
+use Rattle.std.proofs.lemmas.Map.Keys.{IsDistinct-IsPermutation, IsDistinct-head}
+use Rattle.ic_laws.proofs.CoreLemmas.{above_greatest}
+use Rattle.ic_laws.specs.Greatest.{greatest}
+use Rattle.ic_sheets.specs.Index.{ArePlaced, lowered, moved_place, raised}
+use Rattle.ic_sheets.specs.Search.{place_of}
+use Rattle.ic_sheets.specs.declared.sheet.Worksheet.{Worksheet}
+use Rattle.ic_sheets.proofs.IndexLemmas.{clash, split_at}
+use Rattle.ic_sheets.proofs.SearchLemmas.{ids}
+
+abbrev pub Places : Type 0
+Places = BTreeMap ℕ ℕ
+
+-- ---- the plain search
+
+counted_later : {X : Type 0} (p : X → Bool) (at : ℕ) (xs : List X) → position_from p (at + 1) xs ≡ option_map suc (position_from p at xs)
+counted_later p at [] = refl
+counted_later {X} p at (x ∷ xs) = step (p x) (counted_later p (at + 1) xs)
+  where
+    step : (b : Bool) → position_from p (at + 1 + 1) xs ≡ option_map suc (position_from p (at + 1) xs) → cond b (Some (at + 1)) (position_from p (at + 1 + 1) xs) ≡ option_map suc (cond b (Some at) (position_from p (at + 1) xs))
+    step true e = ap (λ n. Some n) (let next : at + 1 ≡ suc at = omega arith in next)
+    step false e = e
+
+abbrev has_id : ℕ → Worksheet → Bool
+has_id id s = nat_eq s.id id
+
+position_step : (id : ℕ) (s : Worksheet) (sheets : List Worksheet) → position (has_id id) (s ∷ sheets) ≡ cond (nat_eq s.id id) (Some 0) (option_map suc (position (has_id id) sheets))
+position_step id s sheets =
+    position_from-zero (has_id id) (s ∷ sheets) ∙ ap (cond (nat_eq s.id id) (Some 0)) (counted_later (has_id id) 0 sheets ∙ ap (option_map suc) (sym (position_from-zero (has_id id) sheets)))
+
+pub place_is : (id : ℕ) (sheets : List Worksheet) → place_of id sheets ≡ position (λ s. nat_eq s.id id) sheets
+place_is id [] = refl
+place_is id (s ∷ sheets) = ap (λ o. cond (nat_eq s.id id) (Some 0) (option_map suc o)) (place_is id sheets) ∙ sym (position_step id s sheets)
+
+first_there : (id : ℕ) (sheets : List Worksheet) → option_and_then (slice_get sheets) (place_of id sheets) ≡ find (λ s. nat_eq s.id id) sheets
+first_there id [] = refl
+first_there id (s ∷ sheets) = step (nat_eq s.id id) (place_of id sheets) (first_there id sheets)
+  where
+    step : (b : Bool) (place : Option ℕ) → option_and_then (slice_get sheets) place ≡ find (has_id id) sheets → option_and_then (slice_get (s ∷ sheets)) (cond b (Some 0) (option_map suc place)) ≡ cond b (Some s) (find (has_id id) sheets)
+    step true place e = refl
+    step false None e = e
+    step false (Some n) e = e
+
+-- the sheet at the place that was found is the one with the id
+pub first_at : (id : ℕ) (sheets : List Worksheet) (place : Option ℕ) → place ≡ position (λ s. nat_eq s.id id) sheets → option_and_then (slice_get sheets) place ≡ find (λ s. nat_eq s.id id) sheets
+first_at id sheets place e = ap (option_and_then (slice_get sheets)) (e ∙ sym (place_is id sheets)) ∙ first_there id sheets
+
+-- ---- the look-up
+
+same_number : (k q : ℕ) → is_eq (nat_cmp k q) ≡ nat_eq k q
+same_number k q = step (nat_lt k q) refl (nat_eq k q) refl
+  where
+    step : (b : Bool) → nat_lt k q ≡ b → (c : Bool) → nat_eq k q ≡ c → is_eq (cond b Less (cond c Equal Greater)) ≡ c
+    step true lt true e = absurd (omega (arith, ltb-true k q lt, eqb-true k q e))
+    step true lt false e = refl
+    step false lt true e = refl
+    step false lt false e = refl
+
+updated : (before after : Places) (key : ℕ) (w : Option ℕ) → Updates nat_cmp before after key w → (q : ℕ) → get nat_cmp after q ≡ cond (nat_eq key q) w (get nat_cmp before q)
+updated before after key w u q = u.0 q ∙ ap (λ b. cond b w (get nat_cmp before q)) (same_number key q)
+
+pub placed_empty : (places : Places) (sheets : List Worksheet) → IsEmpty places → sheets ≡ [] → ArePlaced places sheets
+placed_empty places sheets empty none = subst (ArePlaced places) (sym none) (record { finds = λ id. ap (lookup _) empty })
+
+-- other formulas and names
+same_place : (xs ys : List Worksheet) → ids xs ≡ ids ys → (id : ℕ) → place_of id xs ≡ place_of id ys
+same_place [] [] e id = refl
+same_place [] (y ∷ ys) e id = cc
+same_place (x ∷ xs) [] e id = cc
+same_place (x ∷ xs) (y ∷ ys) e id =
+    let first : x.id ≡ y.id = cc in
+    let others : ids xs ≡ ids ys = cc in
+    ap₂ (λ k place. cond (nat_eq k id) (Some 0) (option_map suc place)) first (same_place xs ys others id)
+
+pub placed_same : (places : Places) (sheets list : List Worksheet) → ArePlaced places sheets → ids list ≡ ids sheets → ArePlaced places list
+placed_same places sheets list placed same = record { finds = λ id. placed.finds id ∙ sym (same_place list sheets same id) }
+
+-- ---- a sheet comes
+
+no_place : (id : ℕ) (sheets : List Worksheet) → list_any (nat_eq id) (ids sheets) ≡ false → place_of id sheets ≡ None
+no_place id [] e = refl
+no_place id (s ∷ sheets) e =
+    let parts = or_parts (nat_eq id s.id) (list_any (nat_eq id) (ids sheets)) e in
+    ap₂ (λ b place. cond b (Some 0) (option_map suc place)) (nat_eq_equiv.symm s.id id ∙ parts.0) (no_place id sheets parts.1)
+
+either_first : (b c : Bool) (n : ℕ) (place : Option ℕ) → (b ≡ true → c ≡ true → ⊥) → cond b (Some 0) (option_map suc (cond c (Some n) place)) ≡ cond c (Some (suc n)) (cond b (Some 0) (option_map suc place))
+either_first true true n place h = absurd (h refl refl)
+either_first true false n place h = refl
+either_first false true n place h = refl
+either_first false false n place h = refl
+
+place_pushed : (s : Worksheet) (sheets : List Worksheet) → list_any (nat_eq s.id) (ids sheets) ≡ false → (q : ℕ) → place_of q (sheets ++ s ∷ []) ≡ cond (nat_eq s.id q) (Some (length sheets)) (place_of q sheets)
+place_pushed s [] free q = refl
+place_pushed s (x ∷ sheets) free q =
+    let parts = or_parts (nat_eq s.id x.id) (list_any (nat_eq s.id) (ids sheets)) free in
+    ap (λ place. cond (nat_eq x.id q) (Some 0) (option_map suc place)) (place_pushed s sheets parts.1 q)
+    ∙ either_first (nat_eq x.id q) (nat_eq s.id q) (length sheets) (place_of q sheets)
+    (λ t u. clash (nat_eq s.id x.id) (eq-eqb s.id x.id (eqb-true s.id q u ∙ sym (eqb-true x.id q t))) parts.0)
+
+pub placed_pushed : (before after : Places) (sheets list : List Worksheet) (s : Worksheet) (at : ℕ) → ArePlaced before sheets → greatest (ids sheets) < s.id → at ≡ length sheets → Updates nat_cmp before after s.id (Some at) → list ≡ sheets ++ s ∷ [] → ArePlaced after list
+placed_pushed before after sheets list s at placed fresh end u pushed =
+    subst (ArePlaced after) (sym pushed)
+    (record {
+      finds = λ q.
+          updated before after s.id (Some at) u q ∙ ap₂ (λ n o. cond (nat_eq s.id q) (Some n) o) end (placed.finds q)
+          ∙ sym (place_pushed s sheets (above_greatest s.id (ids sheets) fresh) q);
+    })
+
+-- a place that was put in, and taken out again
+pub placed_undone : (before between after : Places) (sheets list : List Worksheet) (id : ℕ) (at : Option ℕ) → ArePlaced before sheets → greatest (ids sheets) < id → Updates nat_cmp before between id at → Updates nat_cmp between after id None → list ≡ sheets → ArePlaced after list
+placed_undone before between after sheets list id at placed fresh u v same =
+    subst (ArePlaced after) (sym same)
+    (record {
+      finds = λ q.
+          updated between after id None v q ∙ ap (cond (nat_eq id q) None) (updated before between id at u q ∙ ap (cond (nat_eq id q) at) (placed.finds q))
+          ∙ step q (nat_eq id q) refl;
+    })
+  where
+    step : (q : ℕ) (b : Bool) → nat_eq id q ≡ b → cond b None (cond b at (place_of q sheets)) ≡ place_of q sheets
+    step q true e = sym (ap (λ k. place_of k sheets) (sym (eqb-true id q e)) ∙ no_place id sheets (above_greatest id (ids sheets) fresh))
+    step q false e = refl
+
+-- ---- a sheet among others
+
+raised_first : (o : Option ℕ) → option_map suc o ≡ option_map (raised 0) o
+raised_first None = refl
+raised_first (Some n) = ap (λ k. Some k) (more n)
+  where
+    more : (n : ℕ) → suc n ≡ raised 0 n
+    more n = grind arith
+
+raised_later : (at : ℕ) (o : Option ℕ) → option_map suc (option_map (raised at) o) ≡ option_map (raised (suc at)) (option_map suc o)
+raised_later at None = refl
+raised_later at (Some n) = ap (λ k. Some k) (more at n)
+  where
+    more : (at n : ℕ) → suc (raised at n) ≡ raised (suc at) (suc n)
+    more at n = grind arith
+
+first_stays : (at : ℕ) → raised (suc at) 0 ≡ 0
+first_stays at = grind arith
+
+place_middle : (front back : List Worksheet) (s : Worksheet) → list_any (nat_eq s.id) (ids (front ++ back)) ≡ false → (q : ℕ) → place_of q (front ++ s ∷ back) ≡ cond (nat_eq s.id q) (Some (length front)) (option_map (raised (length front)) (place_of q (front ++ back)))
+place_middle [] back s free q = ap (cond (nat_eq s.id q) (Some 0)) (raised_first (place_of q back))
+place_middle (x ∷ front) back s free q =
+    let parts = or_parts (nat_eq s.id x.id) (list_any (nat_eq s.id) (ids (front ++ back))) free in
+    ap (λ place. cond (nat_eq x.id q) (Some 0) (option_map suc place)) (place_middle front back s parts.1 q)
+    ∙ either_first (nat_eq x.id q) (nat_eq s.id q) (length front) (option_map (raised (length front)) (place_of q (front ++ back)))
+    (λ t u. clash (nat_eq s.id x.id) (eq-eqb s.id x.id (eqb-true s.id q u ∙ sym (eqb-true x.id q t))) parts.0)
+    ∙ ap (cond (nat_eq s.id q) (Some (suc (length front)))) (inner (nat_eq x.id q) (length front) (place_of q (front ++ back)))
+  where
+    inner : (b : Bool) (at : ℕ) (o : Option ℕ) → cond b (Some 0) (option_map suc (option_map (raised at) o)) ≡ option_map (raised (suc at)) (cond b (Some 0) (option_map suc o))
+    inner true at o = ap (λ k. Some k) (sym (first_stays at))
+    inner false at o = raised_later at o
+
+some_apart : (id : ℕ) (ns : List ℕ) → AllByRecursion (λ y. nat_eq id y ≡ false) ns → list_any (nat_eq id) ns ≡ false
+some_apart id [] h = refl
+some_apart id (n ∷ ns) h = ap₂ ◌||◌ h.0 (some_apart id ns h.1)
+
+pub alone : (front back : List Worksheet) (s : Worksheet) → IsDistinct nat_eq (ids (front ++ s ∷ back)) → list_any (nat_eq s.id) (ids (front ++ back)) ≡ false
+alone front back s d =
+    some_apart s.id (ids (front ++ back))
+    (IsDistinct-head nat_eq s.id (ids (front ++ back))
+    (IsDistinct-IsPermutation nat_eq nat_eq_equiv.symm _ _ (IsPermutation-map (λ (x : Worksheet). x.id) (front ++ s ∷ back) (s ∷ (front ++ back)) (IsPermutation-middle front s back)) d))
+
+back_again : (at k : ℕ) → lowered at (raised at k) ≡ k
+back_again at k = grind arith
+
+-- ---- a sheet goes
+
+longer : (s : Worksheet) (xs ys : List Worksheet) → length (xs ++ s ∷ ys) ≡ suc (length (xs ++ ys))
+longer s [] ys = refl
+longer s (x ∷ xs) ys = ap suc (longer s xs ys)
+
+goes_there : (from to : ℕ) → moved_place from to from ≡ to
+goes_there from to = ap (λ b. cond b to (raised to (lowered from from))) (eq-eqb from from refl)
+
+others_follow : (from to k : ℕ) → moved_place from to (raised from k) ≡ raised to k
+others_follow from to k =
+    ap (λ b. cond b to (raised to (lowered from (raised from k)))) (apart (nat_eq (raised from k) from) refl) ∙ ap (raised to) (back_again from k)
+  where
+    never : (from k : ℕ) → raised from k ≡ from → ⊥
+    never from k e = grind (arith, e)
+
+    apart : (b : Bool) → nat_eq (raised from k) from ≡ b → nat_eq (raised from k) from ≡ false
+    apart true e = absurd (never from k (eqb-true (raised from k) from e))
+    apart false e = e
+
+module _ (sheets : List Worksheet) (at : ℕ) (s : Worksheet) (differ : IsDistinct nat_eq (ids sheets)) (lt : at < length sheets) (read : s ≡ get_or sheets at s) where
+  abbrev front : List Worksheet
+  front = take at sheets
+
+  abbrev back : List Worksheet
+  back = drop (suc at) sheets
+
+  parts : sheets ≡ front ++ s ∷ back
+  parts = split_at sheets at s lt read
+
+  free : list_any (nat_eq s.id) (ids (front ++ back)) ≡ false
+  free = alone front back s (subst (λ xs. IsDistinct nat_eq (ids xs)) parts differ)
+
+  counted : length front ≡ at
+  counted = omega (arith, length-take at sheets)
+
+  -- the sheet itself, or one of the others
+  there : (q : ℕ) → place_of q sheets ≡ cond (nat_eq s.id q) (Some at) (option_map (raised at) (place_of q (front ++ back)))
+  there q = ap (place_of q) parts ∙ place_middle front back s free q ∙ ap (λ n. cond (nat_eq s.id q) (Some n) (option_map (raised n) (place_of q (front ++ back)))) counted
+
+  left : (q : ℕ) (b : Bool) → nat_eq s.id q ≡ b → (o : Option ℕ) → place_of q (front ++ back) ≡ o → option_map (lowered at) (cond b None (cond b (Some at) (option_map (raised at) o))) ≡ o
+  left q true e o f = sym (ap (λ k. place_of k (front ++ back)) (sym (eqb-true s.id q e)) ∙ no_place s.id (front ++ back) free) ∙ f
+  left q false e None f = refl
+  left q false e (Some k) f = ap (λ n. Some n) (back_again at k)
+
+  pub placed_removed : (before between after : Places) (list : List Worksheet) → ArePlaced before sheets → list ≡ remove sheets at → Updates nat_cmp before between s.id None → ((q : ℕ) → get nat_cmp after q ≡ option_map (lowered at) (get nat_cmp between q)) → ArePlaced after list
+  placed_removed before between after list placed removed u low =
+      subst (ArePlaced after) (sym removed)
+      (record {
+        finds = λ q.
+            low q ∙ ap (option_map (lowered at)) (updated before between s.id None u q ∙ ap (cond (nat_eq s.id q) None) (placed.finds q ∙ there q))
+            ∙ left q (nat_eq s.id q) refl (place_of q (front ++ back)) refl;
+      })
+
+  follows : (to : ℕ) (b : Bool) (o : Option ℕ) → option_map (moved_place at to) (cond b (Some at) (option_map (raised at) o)) ≡ cond b (Some to) (option_map (raised to) o)
+  follows to true o = ap (λ n. Some n) (goes_there at to)
+  follows to false None = refl
+  follows to false (Some k) = ap (λ n. Some n) (others_follow at to k)
+
+  pub placed_moved : (before after : Places) (list : List Worksheet) (to : ℕ) → ArePlaced before sheets → to < length sheets → list ≡ insert (remove sheets at) to s → ((q : ℕ) → get nat_cmp after q ≡ option_map (moved_place at to) (get nat_cmp before q)) → ArePlaced after list
+  placed_moved before after list to placed within put moves =
+      let first : List Worksheet = take to (front ++ back) in
+      let rest : List Worksheet = drop to (front ++ back) in
+      let same : first ++ rest ≡ front ++ back = take-append-drop to (front ++ back) in
+      let free_too : list_any (nat_eq s.id) (ids (first ++ rest)) ≡ false = ap (λ xs. list_any (nat_eq s.id) (ids xs)) same ∙ free in
+      let all : length sheets ≡ suc (length (front ++ back)) = ap length parts ∙ longer s front back in
+      let counted_too : length first ≡ to = omega (arith, length-take to (front ++ back), all) in
+      subst (ArePlaced after) (sym put)
+      (record {
+        finds = λ q.
+            moves q ∙ ap (option_map (moved_place at to)) (placed.finds q ∙ there q) ∙ follows to (nat_eq s.id q) (place_of q (front ++ back))
+            ∙ sym (place_middle first rest s free_too q ∙ ap₂ (λ n xs. cond (nat_eq s.id q) (Some n) (option_map (raised n) (place_of q xs))) counted_too same);
+      })
