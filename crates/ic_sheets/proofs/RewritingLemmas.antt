@@ -1,5 +1,5 @@
 -- What was prepared for the formulas of all sheets, done in any order of the steps of a change.
-use Rattle.std.proofs.Common.{◌≡◌, ℕ, zero, suc, ◌<◌, List, [], ◌∷◌, ◌++◌, Bool, true, false, cond, ◌&&◌, ◌||◌, Option, Some, map, length, get_or, slice_set, take, drop, ◌+◌, refl, sym, ap, ap₂, subst, subst₂, ◌∙◌, arith}
+use Rattle.std.proofs.Common.{◌≡◌, ℕ, zero, suc, ◌<◌, List, [], ◌∷◌, ◌++◌, Bool, true, false, cond, ◌&&◌, ◌||◌, Option, Some, map, length, get_or, slice_set, take, drop, max, ◌≤◌, ◌+◌, refl, sym, ap, ap₂, subst, subst₂, ◌∙◌, arith}
 use Rattle.std.specs.List.{AllByRecursion, list_any, remove, slice_get}
 use Rattle.std.specs.Prelude.{not}
 use Rattle.std.proofs.lemmas.Option.{slice_get_read}
@@ -13,6 +13,7 @@ use Rattle.ic_pool.specs.Pool.{PoolState, dangling_from, places_from, places_whe
 use Rattle.ic_pool.specs.Rewrites.{FitsPool, ListsChanged, RewritesState, changes_nothing, is_nothing, places_of, rewritten_by}
 use Rattle.ic_pool.specs.declared.pool.rewrites.Replacement.{Replacement}
 use Rattle.ic_pool.proofs.ChangeLemmas.{spared_stays}
+use Rattle.ic_sheets.proofs.KeptLemmas.{from_later}
 use Rattle.ic_sheets.proofs.SearchLemmas.{ids, names}
 use Rattle.ic_sheets.specs.Index.{HasNoDangling}
 use Rattle.ic_sheets.specs.Rewriting.{AreListed, ArePrepared, FitSheets, IsPrepared, Makes, changed_pool, look_ups, looks_up_after, sheets_of, with_all_rewrites, with_rewrites}
@@ -312,3 +313,33 @@ names_there w index sheets = updated_unseen (λ (s : Worksheet). s.name) (with_r
 
 pub ids_there : (w : RewritesState) (index : ℕ) (sheets : List Worksheet) → ids (updated_at (with_rewrites w) index sheets) ≡ ids sheets
 ids_there w index sheets = updated_unseen (λ (s : Worksheet). s.id) (with_rewrites w) (λ s. refl) index sheets
+
+-- ---- sheets past the end of what was prepared
+
+listed_more : (change : Change) (ws : List RewritesState) (front back : List Worksheet) → AreListed change ws front → AreListed change [] back → AreListed change ws (front ++ back)
+listed_more change [] [] back h more = more
+listed_more change [] (s ∷ front) back h more = (h.0, listed_more change [] front back h.1 more)
+listed_more change (w ∷ ws) [] back h more = absurd h
+listed_more change (w ∷ ws) (s ∷ front) back h more = (h.0, listed_more change ws front back h.1 more)
+
+pub makes_more : (change : Change) → ((id : ℕ) → SparesFound change (Some id)) → (ws : List RewritesState) (front back : List Worksheet) → Makes change ws front → AllByRecursion HasNoDangling back → Makes change ws (front ++ back)
+makes_more change spares ws front back makes clean =
+    let rest = nothing_makes change spares back clean in
+    let done = made_pushed ws front back makes.fits in
+    record {
+      fits = fits_pushed ws front back makes.fits;
+      made = ap sheets_of done ∙ map-append sheet_of (with_all_rewrites ws front) back ∙ ap₂ ◌++◌ makes.made rest.made
+          ∙ sym (ap (map (changed_pool change)) (map-append sheet_of front back) ∙ map-append (changed_pool change) (sheets_of front) (sheets_of back));
+      listed = listed_more change ws front back makes.listed rest.listed;
+      looks_up = ap look_ups done ∙ map-append (λ (x : Worksheet). x.pool.is_whole) (with_all_rewrites ws front) back ∙ ap₂ ◌++◌ makes.looks_up rest.looks_up
+          ∙ sym (map-append (looks_up_after change) front back);
+    }
+
+from_rewritten : (n : ℕ) (ws : List RewritesState) (sheets : List Worksheet) → length ws ≤ n → AllByRecursion HasNoDangling (drop n sheets) → AllByRecursion HasNoDangling (drop n (with_all_rewrites ws sheets))
+from_rewritten n [] sheets le h = h
+from_rewritten n (w ∷ ws) [] le h = h
+from_rewritten zero (w ∷ ws) (s ∷ sheets) le h = absurd (omega arith)
+from_rewritten (suc n) (w ∷ ws) (s ∷ sheets) le h = from_rewritten n ws sheets (omega arith) h
+
+pub bound_rewritten : (bound count more : ℕ) (ws : List RewritesState) (sheets : List Worksheet) → count ≡ length ws → more ≡ max bound count → AllByRecursion HasNoDangling (drop bound sheets) → AllByRecursion HasNoDangling (drop more (with_all_rewrites ws sheets))
+bound_rewritten bound count more ws sheets counted e h = from_rewritten more ws sheets (omega (arith, counted, e)) (from_later HasNoDangling bound more sheets (omega (arith, e)) h)

@@ -1,5 +1,5 @@
 -- What the sheets keep beside them stays true when a formula gets its place in one of them.
-use Rattle.std.proofs.Common.{◌≡◌, ℕ, zero, suc, ◌<◌, List, [], ◌∷◌, ◌++◌, Bool, true, false, ◌||◌, cond, Some, Result, Ok, Err, map, length, get_or, slice_set, refl, sym, ap, subst, ◌∙◌, inl, inr}
+use Rattle.std.proofs.Common.{◌≡◌, ℕ, zero, suc, ◌<◌, List, [], ◌∷◌, ◌++◌, Bool, true, false, ◌||◌, cond, Some, Result, Ok, Err, map, length, get_or, slice_set, drop, max, ◌+◌, arith, refl, sym, ap, subst, ◌∙◌, inl, inr}
 use Rattle.std.proofs.lemmas.Bool.{cases_Bool, cases_lt, or_parts}
 use Rattle.std.proofs.lemmas.Option.{slice_get_read}
 use Rattle.std.specs.BTreeMap.{insert_entry}
@@ -12,7 +12,7 @@ use Rattle.ic_laws.specs.declared.tree.Formula.{Formula}
 use Rattle.ic_pool.specs.Mentions.{has_dangling}
 use Rattle.ic_pool.specs.Pool.{IsPlaced, PoolState, dangling_from, dangling_places}
 use Rattle.ic_sheets.proofs.IndexLemmas.{Index, set_updated}
-use Rattle.ic_sheets.proofs.KeptLemmas.{kept_same}
+use Rattle.ic_sheets.proofs.KeptLemmas.{from_later, kept_same}
 use Rattle.ic_sheets.specs.Index.{AreKept, HasNoDangling}
 use Rattle.ic_sheets.specs.Sheet.{AreSameOrLookUp, BookSheet, IsSameOrLooksUp, IsWritten, looking_up, pool_at, sheet_of}
 use Rattle.ic_sheets.specs.declared.sheet.Worksheet.{Worksheet}
@@ -69,13 +69,35 @@ pub like_written : (formula : Formula) (cell : CellPlace) (s after : Worksheet) 
 like_written formula cell s after (Ok done) h e = like_placed formula h.0 s after h.1 (ap (λ (x : Worksheet). x.id) h.2) (ap (λ (x : Worksheet). x.name) h.2)
 like_written formula cell s after (Err error) h e = like_same formula s after e
 
-pub kept_over : (index : Index) (last : ℕ) (may : Bool) (sheets : List Worksheet) (place : ℕ) (s after : Worksheet) (formula : Formula) (dangles : Bool) → AreKept index last may sheets → s ≡ get_or sheets place s → IsLike formula s after
-    → dangles ≡ has_dangling formula → AreKept index last (may || dangles) (slice_set sheets place after)
-kept_over index last may sheets place s after formula dangles kept read like is =
-    kept_same index last may (may || dangles) sheets (slice_set sheets place after) kept
+over_before : (n : ℕ) (xs : List Worksheet) (place : ℕ) (y : Worksheet) → place < n → AllByRecursion HasNoDangling (drop n xs) → AllByRecursion HasNoDangling (drop n (slice_set xs place y))
+over_before n [] place y lt h = h
+over_before zero (x ∷ xs) place y lt h = absurd (omega arith)
+over_before (suc n) (x ∷ xs) zero y lt h = h
+over_before (suc n) (x ∷ xs) (suc place) y lt h = over_before n xs place y (omega arith) h
+
+over_clean : (n : ℕ) (xs : List Worksheet) (place : ℕ) (x y : Worksheet) → x ≡ get_or xs place x → (HasNoDangling x → HasNoDangling y) → AllByRecursion HasNoDangling (drop n xs) → AllByRecursion HasNoDangling (drop n (slice_set xs place y))
+over_clean zero xs place x y read keeps h = all_over HasNoDangling xs place x y read keeps h
+over_clean (suc n) [] place x y read keeps h = tt
+over_clean (suc n) (z ∷ xs) zero x y read keeps h = h
+over_clean (suc n) (z ∷ xs) (suc place) x y read keeps h = over_clean n xs place x y read keeps h
+
+pub over_bound : (bound : ℕ) (xs : List Worksheet) (place : ℕ) (y : Worksheet) → AllByRecursion HasNoDangling (drop bound xs) → AllByRecursion HasNoDangling (drop (max bound (place + 1)) (slice_set xs place y))
+over_bound bound xs place y h = over_before (max bound (place + 1)) xs place y (omega arith) (from_later HasNoDangling bound (max bound (place + 1)) xs (omega arith) h)
+
+pub over_bound_is : (bound more : ℕ) (xs : List Worksheet) (place : ℕ) (y : Worksheet) → more ≡ max bound (place + 1) → AllByRecursion HasNoDangling (drop bound xs) → AllByRecursion HasNoDangling (drop more (slice_set xs place y))
+over_bound_is bound more xs place y e h = subst (λ n. AllByRecursion HasNoDangling (drop n (slice_set xs place y))) (sym e) (over_bound bound xs place y h)
+
+pub kept_over : (index : Index) (last bound after_bound : ℕ) (sheets : List Worksheet) (place : ℕ) (s after : Worksheet) (formula : Formula) (dangles : Bool) → AreKept index last bound sheets → s ≡ get_or sheets place s → IsLike formula s after
+    → dangles ≡ has_dangling formula → after_bound ≡ cond dangles (max bound (place + 1)) bound → AreKept index last after_bound (slice_set sheets place after)
+kept_over index last bound after_bound sheets place s after formula dangles kept read like is bounded =
+    kept_same index last bound after_bound sheets (slice_set sheets place after) kept
     (seen_over (λ (x : Worksheet). x.name) sheets place s after read like.name)
     (seen_over (λ (x : Worksheet). x.id) sheets place s after read like.id)
-    (λ e. let parts = or_parts may dangles e in all_over HasNoDangling sheets place s after read (like.clean (sym is ∙ parts.1)) (kept.dangles parts.0))
+    (subst (λ n. AllByRecursion HasNoDangling (drop n (slice_set sheets place after))) (sym bounded) (by_test dangles (sym is)))
+  where
+    by_test : (b : Bool) → has_dangling formula ≡ b → AllByRecursion HasNoDangling (drop (cond b (max bound (place + 1)) bound) (slice_set sheets place after))
+    by_test true e = over_bound bound sheets place after kept.dangles
+    by_test false e = over_clean bound sheets place s after read (like.clean e) kept.dangles
 
 -- ---- what the sheets are then
 

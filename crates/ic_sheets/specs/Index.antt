@@ -1,5 +1,5 @@
 -- What the sheets of a book keep beside them, and when it is true of them.
-use Rattle.std.specs.Prelude.{◌≡◌, ℕ, ◌+◌, ◌-◌, List, [], map, Bool, false, nat_eq, nat_lt, encode_utf8_all, String, if◌then◌else◌}
+use Rattle.std.specs.Prelude.{◌≡◌, ℕ, ◌+◌, ◌-◌, List, [], map, drop, nat_eq, nat_lt, encode_utf8_all, String, if◌then◌else◌}
 use Rattle.std.specs.BTreeMap.{BTreeMap, get, get_by_text}
 use Rattle.std.specs.List.{AllByRecursion, IsDistinct}
 use Rattle.std.specs.Ordering.{nat_cmp}
@@ -35,9 +35,10 @@ moved_place from to place = if nat_eq place from then to else raised to (lowered
 abbrev pub HasNoDangling : Worksheet → Type 0
 HasNoDangling sheet = dangling_places sheet.pool.formulas ≡ []
 
--- The look-up and the greatest id are true of the sheets, no two ids are equal, and where no formula may dangle none does.
-pub record AreKept (ids : BTreeMap (String Global) ℕ) (last : ℕ) (may_dangle : Bool) (sheets : List Worksheet) : Type 0 where
+-- The look-up and the greatest id are true of the sheets, no two ids are equal, and from
+-- the bound on no formula dangles.
+pub record AreKept (ids : BTreeMap (String Global) ℕ) (last bound : ℕ) (sheets : List Worksheet) : Type 0 where
   pub names : IsIndexed ids sheets
   pub ids_differ : IsDistinct nat_eq (map (λ s. s.id) sheets)
   pub greatest : last ≡ greatest (map (λ s. s.id) sheets)
-  pub dangles : may_dangle ≡ false → AllByRecursion HasNoDangling sheets
+  pub dangles : AllByRecursion HasNoDangling (drop bound sheets)

@@ -28,8 +28,8 @@ pub struct Sheets {
     places: BTreeMap<u32, usize>,
     /// The greatest id of a sheet, 0 where there is none.
     greatest: u32,
-    /// Where it is false, all that the formulas mention was found.
-    may_dangle: bool,
+    /// In the sheets from this place on, from 0, all that the formulas mention was found.
+    bound: usize,
 }
 
 impl Drop for Sheets {
@@ -40,7 +40,7 @@ impl Drop for Sheets {
             ids,
             places,
             greatest: _,
-            may_dangle: _,
+            bound: _,
         } = self;
         drop(alloc);
         drop(list);
@@ -62,7 +62,7 @@ impl Model for Sheets {
 
     ghost view = { λ s. s.list.items };
 
-    ghost invariant = { λ s. AreKept s.ids s.greatest s.may_dangle s.list.items × ArePlaced s.places s.list.items };
+    ghost invariant = { λ s. AreKept s.ids s.greatest s.bound s.list.items × ArePlaced s.places s.list.items };
 }
 
 /// The key of a name.
@@ -108,7 +108,7 @@ impl Sheets {
             ids: BTreeMap::new(alloc),
             places: BTreeMap::new(alloc),
             greatest: 0,
-            may_dangle: false,
+            bound: 0,
         }
     }
 

@@ -12,7 +12,7 @@ ghost use Rattle.ic_sheets.specs.Sheet.{BookSheet};
 ghost use Rattle.ic_sheets.specs.declared.sheet.Worksheet.{Worksheet};
 
 use super::Sheets;
-use super::rewriting::{apply_all, prepare, prepare_dangling, some_dangle};
+use super::rewriting::{apply_all, bound_of, bound_with, first_sheets, prepare, prepare_dangling};
 use ic_laws::OutOfMemory;
 use ic_pool::{BookChange, Rewrites, SheetGone, SheetNamed};
 
@@ -82,10 +82,7 @@ impl Sheets {
         requires { (id : ℕ) → SparesFound (C.change change.now) (Some id) }
         ensures { IfOk result (λ prepared. Makes (C.change change.now) prepared.items self.now) }
     {
-        if !self.may_dangle {
-            return Ok(Vec::new(self.alloc));
-        }
-        prepare_dangling(self.alloc, &self.list, change)
+        prepare_dangling(self.alloc, first_sheets(&self.list, self.bound), change)
     }
 
     /// What a change does to the formulas of the sheet at a place, from 0.
@@ -109,8 +106,9 @@ impl Sheets {
         if prepared.is_empty() {
             return;
         }
+        let count = prepared.len();
         apply_all(&mut self.list, prepared);
-        self.may_dangle = some_dangle(&self.list);
+        self.bound = bound_of(&self.list, self.bound.max(count));
     }
 
     /// Does to the formulas of the sheet at a place, from 0, what was prepared for it.
@@ -121,6 +119,6 @@ impl Sheets {
     {
         let sheet = &mut self.list[index];
         sheet.pool.apply(rewrites);
-        self.may_dangle = true;
+        self.bound = bound_with(self.bound, index, true);
     }
 }

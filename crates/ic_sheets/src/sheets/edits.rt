@@ -83,6 +83,7 @@ impl Sheets {
         ensures { self.new ≡ moved from to self.old }
     {
         move_places(&mut self.places, from, to);
+        self.bound = self.bound.max(from + 1).max(to + 1);
         let sheet = self.list.remove(from);
         // There is room for it, where it was.
         let _ = self.list.insert(to, sheet);

@@ -8,6 +8,7 @@ ghost use Rattle.ic_pool.specs.Pool.{IsPlaced};
 ghost use Rattle.ic_sheets.specs.Sheet.{AreSameOrLookUp, pool_at, sheet_of};
 
 use super::Sheets;
+use super::rewriting::bound_with;
 use ic_laws::{Formula, OutOfMemory};
 use ic_pool::{Steps, has_dangling};
 use std::sync::ledger::Ledger;
@@ -27,7 +28,7 @@ impl Sheets {
         ensures err { OnErr result (map sheet_of self.new ≡ map sheet_of self.old) }
         ensures looks_up { OnErr result (AreSameOrLookUp index self.old self.new) }
     {
-        self.may_dangle |= has_dangling(&formula);
+        self.bound = bound_with(self.bound, index, has_dangling(&formula));
         let sheet = &mut self.list[index];
         sheet.write(row, column, formula)
     }
@@ -49,7 +50,7 @@ impl Sheets {
         ensures cost { steps.new ≤ steps.old + length (pool_at self.old index) }
         ensures grows { steps.old ≤ steps.new }
     {
-        self.may_dangle |= has_dangling(formula);
+        self.bound = bound_with(self.bound, index, has_dangling(formula));
         let sheet = &mut self.list[index];
         sheet.place_copy(formula, steps)
     }

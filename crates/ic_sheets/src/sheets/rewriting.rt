@@ -1,6 +1,6 @@
 //! What a change of the sheets or the definitions does to the formulas of all sheets. It is prepared before anything
 //! changes.
-ghost use Rattle.std.specs.Prelude.{◌≡◌, ℕ, IfOk, Some, false, length, nat_lt};
+ghost use Rattle.std.specs.Prelude.{◌≡◌, ◌<◌, ◌+◌, ◌^◌, ℕ, IfOk, Some, drop, length, max, nat_lt, take, if◌then◌else◌};
 ghost use Rattle.std.specs.List.{AllByRecursion};
 ghost use Rattle.ic_pool.specs.Mentions.{SparesFound};
 ghost use Rattle.ic_pool.specs.Pool.{dangling_places};
@@ -54,16 +54,38 @@ pub fn apply_all(sheets: &mut [Worksheet], mut prepared: Vec<Rewrites>)
     }
 }
 
-/// Whether some formula of these sheets mentions something that wasn't found.
-pub fn some_dangle(sheets: &[Worksheet]) -> bool
-    ensures { result ≡ false → AllByRecursion HasNoDangling sheets.now }
+/// The first sheets, this many of them, or all where there are fewer.
+pub fn first_sheets(sheets: &[Worksheet], count: usize) -> &[Worksheet]
+    ensures { result.now ≡ take count sheets.now }
 {
-    for sheet in sheets {
-        if dangles(sheet) {
-            return true;
-        }
+    match sheets.get(..count) {
+        Some(first) => first,
+        None => sheets,
     }
-    false
+}
+
+/// The place from which on no formula of these sheets mentions something that wasn't found, where that holds from this
+/// bound on.
+pub fn bound_of(sheets: &[Worksheet], bound: usize) -> usize
+    ensures { AllByRecursion HasNoDangling (drop bound sheets.now) → AllByRecursion HasNoDangling (drop result sheets.now) }
+{
+    let mut end = bound.min(sheets.len());
+    while end > 0 {
+        let last = end - 1;
+        if dangles(&sheets[last]) {
+            return end;
+        }
+        end = last;
+    }
+    end
+}
+
+/// The bound where a formula that mentions something that wasn't found may stand in the sheet at this place too.
+pub fn bound_with(bound: usize, index: usize, dangles: bool) -> usize
+    requires { index < 2 ^ 63 }
+    ensures { result ≡ (if dangles then max bound (index + 1) else bound) }
+{
+    if dangles { bound.max(index + 1) } else { bound }
 }
 
 /// Whether some formula of a sheet mentions something that wasn't found.

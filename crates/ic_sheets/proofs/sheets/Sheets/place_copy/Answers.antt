@@ -9,8 +9,8 @@ pub invariant_of-self : goal.invariant_of-self
 invariant_of-self g c =
     let s = c.index_mut-sheet.result.now in
     let like = like_copied c.args.formula.now s c.place_copy.new.self c.place_copy.result c.place_copy.ensures.ok c.place_copy.ensures.err in (
-      kept_over c.self.inside.ids c.self.inside.greatest c.self.inside.may_dangle c.self.inside.list.items c.args.index s c.place_copy.new.self c.args.formula.now _ c.self.invariant.0 c.index_mut-sheet.ensures.value
-          like c.has_dangling.ensures,
+      kept_over c.self.inside.ids c.self.inside.greatest c.self.inside.bound _ c.self.inside.list.items c.args.index s c.place_copy.new.self c.args.formula.now _ c.self.invariant.0 c.index_mut-sheet.ensures.value
+          like c.has_dangling.ensures c.bound_with-self-inside.ensures,
       placed_same c.self.inside.places c.self.inside.list.items _ c.self.invariant.1 (seen_over (λ (x : Worksheet). x.id) c.self.inside.list.items c.args.index s c.place_copy.new.self c.index_mut-sheet.ensures.value like.id),
     )
 

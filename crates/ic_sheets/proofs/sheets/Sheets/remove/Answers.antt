@@ -14,7 +14,7 @@ invariant_of-self c =
     let lt : c.args.index < length sheets = subst (λ xs. c.args.index < length xs) (sym c.self.view_is) c.requires in
     let key : c.as_str-2.result.now ≡ encode_utf8_all (fold s.name) =
     c.as_str-2.ensures.value ∙ c.in_ok-old_key.ensures ∙ ap (λ n. encode_utf8_all (fold n)) c.as_str.ensures.characters in (
-      kept_removed c.self.inside.ids c.remove.new.self c.self.inside.greatest c.greatest_of-self-inside.result c.self.inside.may_dangle sheets c.remove-3.new.self.items c.args.index s c.self.invariant.0 lt c.index-sheet.ensures c.remove-3.ensures.items
+      kept_removed c.self.inside.ids c.remove.new.self c.self.inside.greatest c.greatest_of-self-inside.result c.self.inside.bound sheets c.remove-3.new.self.items c.args.index s c.self.invariant.0 lt c.index-sheet.ensures c.remove-3.ensures.items
           (updated c.self.inside.ids c.remove.new.self _ (fold s.name) None c.remove.ensures.updates key)
           (c.greatest_of-self-inside.ensures ∙ ap (λ xs. greatest (ids xs)) c.deref.ensures.value),
       placed_removed sheets c.args.index s c.self.invariant.0.ids_differ lt c.index-sheet.ensures c.self.inside.places c.remove-2.new.self c.lower_places.new.places c.remove-3.new.self.items c.self.invariant.1 c.remove-3.ensures.items

@@ -27,7 +27,7 @@ invariant_of-self-2 c =
     c.as_str-2.ensures.value ∙ c.in_ok-old_key.ensures ∙ ap (λ n. encode_utf8_all (fold n)) c.as_str.ensures.characters ∙ ap (λ (x : Worksheet). encode_utf8_all (fold x.name)) read in
     let change = keyed c.self.inside.ids c.rekey.new.ids _ _ (fold name) (fold s.name) (Some c.index-sheet.result.now.id) c.in_ok-rekey.ensures.ok new_key old_key in
     let called : Worksheet → Worksheet = λ x. record x { name = name } in (
-      kept_renamed c.self.inside.ids c.rekey.new.ids c.self.inside.greatest c.self.inside.may_dangle sheets index s name c.self.invariant.0 lt c.index_mut-sheet.ensures.value free
+      kept_renamed c.self.inside.ids c.rekey.new.ids c.self.inside.greatest c.self.inside.bound sheets index s name c.self.invariant.0 lt c.index_mut-sheet.ensures.value free
           (λ q. change q ∙ ap (λ (x : Worksheet). cond (bytes_eq (fold name) q) (Some x.id) (cond (bytes_eq (fold s.name) q) None (get_by_text c.self.inside.ids (encode_utf8_all q)))) read),
       placed_same c.self.inside.places sheets _ c.self.invariant.1 (ap ids (set_updated called sheets index s c.index_mut-sheet.ensures.value) ∙ updated_unseen (λ (x : Worksheet). x.id) called (λ x. refl) index sheets),
     )

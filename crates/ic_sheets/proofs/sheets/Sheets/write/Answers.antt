@@ -9,8 +9,8 @@ pub invariant_of-self : goal.invariant_of-self
 invariant_of-self c =
     let s = c.index_mut-sheet.result.now in
     let like = like_written c.args.formula _ s c.write.new.self c.write.result c.write.ensures.ok c.write.ensures.err in (
-      kept_over c.self.inside.ids c.self.inside.greatest c.self.inside.may_dangle c.self.inside.list.items c.args.index s c.write.new.self c.args.formula _ c.self.invariant.0 c.index_mut-sheet.ensures.value
-          like c.has_dangling.ensures,
+      kept_over c.self.inside.ids c.self.inside.greatest c.self.inside.bound _ c.self.inside.list.items c.args.index s c.write.new.self c.args.formula _ c.self.invariant.0 c.index_mut-sheet.ensures.value
+          like c.has_dangling.ensures c.bound_with-self-inside.ensures,
       placed_same c.self.inside.places c.self.inside.list.items _ c.self.invariant.1 (seen_over (λ (x : Worksheet). x.id) c.self.inside.list.items c.args.index s c.write.new.self c.index_mut-sheet.ensures.value like.id),
     )
 
