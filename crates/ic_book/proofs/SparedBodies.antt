@@ -31,7 +31,7 @@ use Rattle.ic_laws.specs.declared.tree.NameMention.TheVariants as names
 use Rattle.ic_laws.specs.declared.tree.SheetMention.{SheetMention}
 use Rattle.ic_laws.specs.declared.tree.Tree.TheOpen as one
 use Rattle.ic_names.specs.Bodies.{StaysWhereFound}
-use Rattle.ic_pool.proofs.ChangeLemmas.{naming_spares_found}
+use Rattle.ic_pool.proofs.ChangeLemmas.{naming_spares_found, spared_stays}
 use Rattle.ic_pool.specs.Mentions.{formula_after, has_dangling, is_dangling, is_dangling_word}
 use Rattle.ic_pool.specs.Rewrites.{RewritesState, rewritten_by}
 use Rattle.ic_sheets.proofs.SearchLemmas.{ids}
@@ -55,7 +55,7 @@ nothing_is_found e = let no : false ≡ true = ap is_there e in cc
 -- a sheet that gets a name leaves bodies in which all was found
 pub naming_bodies : (id : ℕ) (name : List ℕ) (ds : List Definition) → AllByRecursion (StaysWhereFound (sheet_named id name)) ds
 naming_bodies id name [] = tt
-naming_bodies id name (d ∷ ds) = (λ found. ap (λ (body : Formula). let e : Definition = record d { body = body } in e) (naming_spares_found id name d.scope d.body found), naming_bodies id name ds)
+naming_bodies id name (d ∷ ds) = (λ found. ap (λ (body : Formula). let e : Definition = record d { body = body } in e) (spared_stays (sheet_named id name) d.scope (naming_spares_found id name d.scope) d.body found).0, naming_bodies id name ds)
 
 -- ---- a definition that is local to none
 
