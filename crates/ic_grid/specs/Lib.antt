@@ -1,0 +1,11 @@
+pub mod Arrays
+pub mod Block
+pub mod Clear
+pub mod Conditions
+pub mod Contents
+pub mod Merges
+pub mod Prepare
+pub mod Shape
+pub mod Spill
+pub mod Style
+pub mod Value
