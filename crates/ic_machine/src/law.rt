@@ -1,0 +1,27 @@
+ghost use Rattle.std.specs.Prelude.{Err, List, None, Option, Some, ℕ, ◌≡◌};
+ghost use Rattle.ic_laws.specs.Command as core;
+ghost use Rattle.ic_laws.specs.CoreBook.{CoreBook};
+ghost use Rattle.ic_laws.specs.Lines as lines;
+ghost use Rattle.ic_laws.specs.Notations.{Notations};
+ghost use Rattle.ic_machine.specs.Book.{Book};
+ghost use Rattle.ic_machine.specs.Command.{Command, command_in};
+ghost use Rattle.ic_machine.specs.Refusal.{BadLine, Refusal};
+ghost use Rattle.ic_machine.specs.Row.{Row};
+ghost use Rattle.ic_machine.specs.Run.{after, replies};
+ghost use Rattle.ic_machine.specs.Step.{core_machine, line_step, step};
+
+/// A line that is no command of a table changes nothing, and is answered by `BadLine`.
+pub fn law_bad_line_stays()
+    ensures { (rows : List (Row Command)) (book : Book) (line : List ℕ) → command_in rows line ≡ None → line_step rows book line ≡ (book, Err BadLine) }
+{}
+
+/// A command that is refused changes nothing, and is answered by its refusal.
+pub fn law_refused_stays()
+    ensures { (rows : List (Row Command)) (book : Book) (line : List ℕ) (command : Command) (refusal : Refusal) → command_in rows line ≡ Some command → step book command ≡ Err refusal → line_step rows book line ≡ (book, Err refusal) }
+{}
+
+/// A run of lines by the core machine is a run over any machine, that of the core: what is left, and the replies.
+pub fn law_runs_shared()
+    ensures left { (n : Notations) (table : List core.CommandRow) (book : CoreBook) (all : List (List ℕ)) → after (core_machine n table) book all ≡ lines.after n table book all }
+    ensures told { (n : Notations) (table : List core.CommandRow) (book : CoreBook) (all : List (List ℕ)) → replies (core_machine n table) book all ≡ lines.replies n table book all }
+{}
