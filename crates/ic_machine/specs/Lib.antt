@@ -3,6 +3,7 @@ pub mod Capture
 pub mod Changed
 pub mod Command
 pub mod Content
+pub mod Core
 pub mod Format
 pub mod InForce
 pub mod Line

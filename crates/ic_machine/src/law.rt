@@ -5,6 +5,7 @@ ghost use Rattle.ic_laws.specs.Lines as lines;
 ghost use Rattle.ic_laws.specs.Notations.{Notations};
 ghost use Rattle.ic_machine.specs.Book.{Book};
 ghost use Rattle.ic_machine.specs.Command.{Command, command_in};
+ghost use Rattle.ic_machine.specs.Core.{IsSteppedAs, core_command};
 ghost use Rattle.ic_machine.specs.Refusal.{BadLine, Refusal};
 ghost use Rattle.ic_machine.specs.Row.{Row};
 ghost use Rattle.ic_machine.specs.Run.{after, replies};
@@ -18,6 +19,12 @@ pub fn law_bad_line_stays()
 /// A command that is refused changes nothing, and is answered by its refusal.
 pub fn law_refused_stays()
     ensures { (rows : List (Row Command)) (book : Book) (line : List ℕ) (command : Command) (refusal : Refusal) → command_in rows line ≡ Some command → step book command ≡ Err refusal → line_step rows book line ≡ (book, Err refusal) }
+{}
+
+/// Seen by its core, a step of the whole machine is that of the core machine, for each command that this has, but for one
+/// that writes a formula: the same core is left and the same fields are answered, or the same refusal.
+pub fn law_core_is_stepped()
+    ensures { (book : Book) (command : Command) → IsSteppedAs book command (core_command command) }
 {}
 
 /// A run of lines by the core machine is a run over any machine, that of the core: what is left, and the replies.
