@@ -1,2 +1,3 @@
 mod CoreLemmas
+mod ReaderLemmas
 mod SteppedLemmas

@@ -9,6 +9,7 @@ pub mod InForce
 pub mod Line
 pub mod Parsed
 pub mod Placed
+pub mod Readers
 pub mod Refusal
 pub mod Reply
 pub mod Row

@@ -6,6 +6,7 @@ ghost use Rattle.ic_laws.specs.Notations.{Notations};
 ghost use Rattle.ic_machine.specs.Book.{Book};
 ghost use Rattle.ic_machine.specs.Command.{Command, command_in};
 ghost use Rattle.ic_machine.specs.Core.{IsSteppedAs, core_command};
+ghost use Rattle.ic_machine.specs.Readers.{LeavesIf, is_reader};
 ghost use Rattle.ic_machine.specs.Refusal.{BadLine, Refusal};
 ghost use Rattle.ic_machine.specs.Row.{Row};
 ghost use Rattle.ic_machine.specs.Run.{after, replies};
@@ -19,6 +20,11 @@ pub fn law_bad_line_stays()
 /// A command that is refused changes nothing, and is answered by its refusal.
 pub fn law_refused_stays()
     ensures { (rows : List (Row Command)) (book : Book) (line : List ℕ) (command : Command) (refusal : Refusal) → command_in rows line ≡ Some command → step book command ≡ Err refusal → line_step rows book line ≡ (book, Err refusal) }
+{}
+
+/// A command that only reads leaves the book as it was.
+pub fn law_readers_change_nothing()
+    ensures { (book : Book) (command : Command) → LeavesIf (is_reader command) book (step book command) }
 {}
 
 /// Seen by its core, a step of the whole machine is that of the core machine, for each command that this has, but for one

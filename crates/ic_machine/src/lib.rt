@@ -11,4 +11,7 @@
 
 mod law;
 
-pub use law::{law_bad_line_stays, law_core_is_stepped, law_refused_stays, law_runs_shared};
+pub use law::{
+    law_bad_line_stays, law_core_is_stepped, law_readers_change_nothing, law_refused_stays,
+    law_runs_shared,
+};
