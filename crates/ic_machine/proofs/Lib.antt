@@ -1,3 +1,6 @@
 mod CoreLemmas
+mod NumberLemmas
 mod ReaderLemmas
+mod SceneLemmas
 mod SteppedLemmas
+mod examples

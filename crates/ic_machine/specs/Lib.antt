@@ -14,6 +14,7 @@ pub mod Refusal
 pub mod Reply
 pub mod Row
 pub mod Run
+pub mod Scene
 pub mod Step
 pub mod Styling
 pub mod Valid

@@ -1,4 +1,4 @@
-ghost use Rattle.std.specs.Prelude.{Err, List, None, Option, Some, ℕ, ◌≡◌};
+ghost use Rattle.std.specs.Prelude.{Err, List, None, Option, Some, length, ℕ, ◌+◌, ◌≡◌, ◌≤◌};
 ghost use Rattle.ic_laws.specs.Command as core;
 ghost use Rattle.ic_laws.specs.CoreBook.{CoreBook};
 ghost use Rattle.ic_laws.specs.Lines as lines;
@@ -10,7 +10,9 @@ ghost use Rattle.ic_machine.specs.Readers.{LeavesIf, is_reader};
 ghost use Rattle.ic_machine.specs.Refusal.{BadLine, Refusal};
 ghost use Rattle.ic_machine.specs.Row.{Row};
 ghost use Rattle.ic_machine.specs.Run.{after, replies};
+ghost use Rattle.ic_machine.specs.Scene.{KeepsSceneIf, leaves_names};
 ghost use Rattle.ic_machine.specs.Step.{core_machine, line_step, step};
+ghost use Rattle.ic_machine.specs.subjects.Sheets.{free_number};
 
 /// A line that is no command of a table changes nothing, and is answered by `BadLine`.
 pub fn law_bad_line_stays()
@@ -25,6 +27,16 @@ pub fn law_refused_stays()
 /// A command that only reads leaves the book as it was.
 pub fn law_readers_change_nothing()
     ensures { (book : Book) (command : Command) → LeavesIf (is_reader command) book (step book command) }
+{}
+
+/// A command on the notation, on the cells, the styles, the layout or the tab of a sheet leaves what formulas can mention.
+pub fn law_cells_leave_names()
+    ensures { (book : Book) (command : Command) → KeepsSceneIf (leaves_names command) book (step book command) }
+{}
+
+/// The number in the name that a new sheet or a copy gets is at most one more than there are sheets.
+pub fn law_numbers_are_small()
+    ensures { (book : Book) (name : ℕ → List ℕ) → free_number book name ≤ length book.sheets + 1 }
 {}
 
 /// Seen by its core, a step of the whole machine is that of the core machine, for each command that this has, but for one

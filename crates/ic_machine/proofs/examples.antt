@@ -1,0 +1,5 @@
+mod LayoutExamples
+mod Session
+mod SheetExamples
+mod Small
+mod TableExamples
