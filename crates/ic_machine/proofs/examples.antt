@@ -1,3 +1,5 @@
+mod CellExamples
+mod DefinitionExamples
 mod LayoutExamples
 mod Session
 mod SheetExamples
