@@ -1,3 +1,4 @@
+mod AlikeLemmas
 mod CoreLemmas
 mod NumberLemmas
 mod ReaderLemmas

@@ -43,9 +43,6 @@ served_names =
 unfoldable pub served : List (Row Command)
 served = rows_named served_names commands
 
--- the command that a line is by a table, if it is one
-abbrev pub command_in : List (Row Command) → List ℕ → Option Command
-command_in rows line = spelled rows (lines.words_of line)
-
-abbrev pub command_of : List ℕ → Option Command
-command_of line = command_in commands line
+-- the command that a line is by a table, if it is one, by the English words of the error values
+abbrev pub command_in : List (List ℕ) → List (Row Command) → List ℕ → Option Command
+command_in english rows line = spelled english rows (lines.words_of line)

@@ -1,3 +1,4 @@
+pub mod Alike
 pub mod Book
 pub mod Capture
 pub mod Changed

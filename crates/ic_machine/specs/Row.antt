@@ -17,16 +17,18 @@ row_in subject row = record { name = row.name; words = row.words; command = λ s
 abbrev pub rows_named : {C : Type 0} → List (List ℕ) → List (Row C) → List (Row C)
 rows_named names rows = filter (λ row. list_any (bytes_eq row.name) names) rows
 
--- what words after a name are by a table: none where the table lacks the name, and inside that, none where the words don't
--- fit it
-abbrev pub named : {C : Type 0} → List (Row C) → List ℕ → List (List ℕ) → Option (Option C)
-named rows name words = option_map (λ row. option_map row.command (words_said row.words words)) (find (λ row. bytes_eq row.name name) rows)
-
 abbrev pub joined : {C : Type 0} → Option (Option C) → Option C
 joined None = None
 joined (Some said) = said
 
--- the command that the words of a line are
-abbrev pub spelled : {C : Type 0} → List (Row C) → List (List ℕ) → Option C
-spelled rows [] = None
-spelled rows (name ∷ words) = joined (named rows name words)
+-- by the English words of the error values
+module _ (english : List (List ℕ)) {C : Type 0} where
+  -- what words after a name are by a table: none where the table lacks the name, and inside that, none where the words
+  -- don't fit it
+  abbrev pub named : List (Row C) → List ℕ → List (List ℕ) → Option (Option C)
+  named rows name words = option_map (λ row. option_map row.command (words_said english row.words words)) (find (λ row. bytes_eq row.name name) rows)
+
+  -- the command that the words of a line are
+  abbrev pub spelled : List (Row C) → List (List ℕ) → Option C
+  spelled rows [] = None
+  spelled rows (name ∷ words) = joined (named rows name words)

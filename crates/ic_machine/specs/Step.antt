@@ -4,6 +4,7 @@ use Rattle.ic_laws.specs.Notations.{Notations}
 use Rattle.ic_laws.specs.Command as core
 use Rattle.ic_laws.specs.CoreBook.{CoreBook}
 use Rattle.ic_laws.specs.Lines as lines
+use Rattle.ic_tables.specs.Tables.{english, error_words_in}
 use Rattle.ic_machine.specs.Book.{Book, Stepped}
 use Rattle.ic_machine.specs.Command.{Command, OnArrays, OnDefinitions, OnExtending, OnLayout, OnNotation, OnReading, OnSheets, OnStyles, OnTabs, OnWriting, command_in}
 use Rattle.ic_machine.specs.Refusal.{BadLine}
@@ -43,9 +44,13 @@ abbrev pub command_step : Book → Option Command → Book × Reply
 command_step book (Some command) = outcome_of book (step book command)
 command_step book None = (book, Err BadLine)
 
+-- the English words of the error values, by the tables of a book
+abbrev pub english_errors : Book → List (List ℕ)
+english_errors book = error_words_in (english book.tables.languages)
+
 -- what a line leaves, by the commands of a table, and its reply
 abbrev pub line_step : List (Row Command) → Book → List ℕ → Book × Reply
-line_step rows book line = command_step book (command_in rows line)
+line_step rows book line = command_step book (command_in (english_errors book) rows line)
 
 -- the whole machine, with the commands of a table
 abbrev pub machine : List (Row Command) → Machine Book

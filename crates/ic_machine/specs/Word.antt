@@ -4,10 +4,9 @@ use Rattle.std.specs.List.{find}
 use Rattle.ic_laws.specs.Character.{colon, dot}
 use Rattle.ic_laws.specs.Command.{index_said, position_said, scope_said}
 use Rattle.ic_laws.specs.Lines.{word_texts}
-use Rattle.ic_laws.specs.Name.{agrees}
 use Rattle.ic_laws.specs.Scene.{past_front}
-use Rattle.ic_laws.specs.declared.tree.Error.{Error}
-use Rattle.ic_laws.specs.declared.tree.Error.TheVariants as errors
+use Rattle.ic_tables.specs.Words.{first_agreeing}
+use Rattle.ic_cells.specs.Sheet.{state_word}
 use Rattle.ic_cells.specs.declared.sheet.SheetState.{SheetState}
 use Rattle.ic_cells.specs.declared.sheet.SheetState.TheVariants as states
 use Rattle.ic_cells.specs.declared.style.Color.{Color}
@@ -17,6 +16,7 @@ use Rattle.ic_cells.specs.declared.value.FormulaValue.TheVariants as fvalues
 use Rattle.ic_cells.specs.declared.value.SpillValue.{SpillValue}
 use Rattle.ic_cells.specs.declared.value.SpillValue.TheVariants as spills
 use Rattle.ic_input.specs.Amount.{signed_amount}
+use Rattle.ic_input.specs.Typed.{error_in}
 
 -- a text; an index, an id or a width, an unsigned number of 32 bits; a row, a column, a count or the side of an area, a
 -- signed one; an amount; true or false; an index or an id, or a minus for none; the value of a formula; that of a cell of
@@ -58,61 +58,22 @@ bool_said text = word_in ((codes "true", true) ∷ (codes "false", false) ∷ []
 abbrev pub flag_said : List ℕ → Option Bool
 flag_said text = word_in ((codes "1", true) ∷ (codes "0", false) ∷ []) text
 
+abbrev pub all_states : List SheetState
+all_states = states.Visible ∷ states.Hidden ∷ states.VeryHidden ∷ []
+
 abbrev pub state_said : List ℕ → Option SheetState
-state_said text =
-    word_in ((codes "visible", states.Visible) ∷ (codes "hidden", states.Hidden) ∷ (codes "veryHidden", states.VeryHidden) ∷ []) text
+state_said text = find (λ state. bytes_eq (state_word state) text) all_states
 
 -- each text is a color but a minus, which is none
 abbrev pub color_said : List ℕ → Color
 color_said text = if bytes_eq text (codes "-") then colors.None else colors.Rgb text
 
--- the English words of the error values
-abbrev pub english_errors : List (List ℕ × Error)
-english_errors =
-    (codes "#REF!", errors.REF) ∷ (codes "#NAME?", errors.NAME) ∷ (codes "#VALUE!", errors.VALUE) ∷ (codes "#DIV/0!", errors.DIV) ∷ (codes "#N/A", errors.NA)
-    ∷ (codes "#NUM!", errors.NUM) ∷ (codes "#N/IMPL!", errors.NIMPL) ∷ (codes "#SPILL!", errors.SPILL) ∷ (codes "#CALC!", errors.CALC)
-    ∷ (codes "#CIRC!", errors.CIRC) ∷ (codes "#ERROR!", errors.ERROR) ∷ (codes "#NULL!", errors.NULL) ∷ []
-
--- by a word that agrees with one of them
-abbrev pub error_said : List ℕ → Option Error
-error_said text = option_map (λ w. w.1) (find (λ w. agrees w.0 text) english_errors)
-
--- what stands after `n:`, `b:`, `t:` or `e:` is an amount, a boolean, a text or an error value
-abbrev pub value_said_by : ℕ → List ℕ → Option SpillValue
-value_said_by kind text =
-    if bytes_eq (kind ∷ []) (codes "n") then option_map spills.Number (signed_amount dot text)
-    else if bytes_eq (kind ∷ []) (codes "b") then option_map spills.Boolean (bool_said text)
-    else if bytes_eq (kind ∷ []) (codes "t") then Some (spills.Text text)
-    else if bytes_eq (kind ∷ []) (codes "e") then option_map spills.Error (error_said text) else None
-
-abbrev pub spill_said : List ℕ → Option SpillValue
-spill_said [] = None
-spill_said (kind ∷ text) = option_and_then (value_said_by kind) (past_front (colon ∷ []) text)
-
--- the same as the value of a formula; an error value has empty texts
+-- the value of a spill's cell as that of a formula; an error value has empty texts
 abbrev pub formula_valued : SpillValue → FormulaValue
 formula_valued (spills.Boolean b) = fvalues.Boolean b
 formula_valued (spills.Number n) = fvalues.Number n
 formula_valued (spills.Text t) = fvalues.Text t
 formula_valued (spills.Error e) = fvalues.Error e [] []
-
--- `u` is a formula without a value
-abbrev pub value_said : List ℕ → Option FormulaValue
-value_said text = if bytes_eq text (codes "u") then Some fvalues.Unevaluated else option_map formula_valued (spill_said text)
-
--- what a text says as a word of this form, if it is one
-abbrev pub said : (form : WordForm) → List ℕ → Option (Said form)
-said OfText text = Some text
-said OfIndex text = index_said text
-said OfPosition text = position_said text
-said OfAmount text = signed_amount dot text
-said OfBool text = bool_said text
-said OfScope text = scope_said text
-said OfValue text = value_said text
-said OfSpill text = spill_said text
-said OfFlag text = flag_said text
-said OfColor text = Some (color_said text)
-said OfState text = state_said text
 
 -- the words of a command: none more; one of a form, and then others; one or more of a form, up to the end
 pub data Words : Type 0 where
@@ -126,26 +87,58 @@ AllSaid Done = Unit {0}
 AllSaid (Then form others) = Said form × AllSaid others
 AllSaid (Many form) = List (Said form)
 
--- what each of these texts says
-abbrev pub each_said : (form : WordForm) → List (List ℕ) → Option (List (Said form))
-each_said form [] = Some []
-each_said form (text ∷ texts) = option_and_then (λ first. option_map (λ others. first ∷ others) (each_said form texts)) (said form text)
+-- the English words of the error values are those of the tables, in the order of their numbers
+module _ (english : List (List ℕ)) where
+  -- what stands after `n:`, `b:`, `t:` or `e:` is an amount, a boolean, a text or an error value by its English word
+  abbrev pub value_said_by : ℕ → List ℕ → Option SpillValue
+  value_said_by kind text =
+      if bytes_eq (kind ∷ []) (codes "n") then option_map spills.Number (signed_amount dot text)
+      else if bytes_eq (kind ∷ []) (codes "b") then option_map spills.Boolean (bool_said text)
+      else if bytes_eq (kind ∷ []) (codes "t") then Some (spills.Text text)
+      else if bytes_eq (kind ∷ []) (codes "e") then option_map spills.Error (error_in (first_agreeing english text)) else None
 
-abbrev pub some_said : (form : WordForm) → List (List ℕ) → Option (List (Said form))
-some_said form [] = None
-some_said form (text ∷ texts) = each_said form (text ∷ texts)
+  abbrev pub spill_said : List ℕ → Option SpillValue
+  spill_said [] = None
+  spill_said (kind ∷ text) = option_and_then (value_said_by kind) (past_front (colon ∷ []) text)
 
--- what texts say as such words; none where there are more or fewer, or one isn't of its form
-abbrev pub all_said : (words : Words) → List (List ℕ) → Option (AllSaid words)
-all_said Done [] = Some tt
-all_said Done (text ∷ texts) = None
-all_said (Then form others) [] = None
-all_said (Then form others) (text ∷ texts) = option_and_then (λ first. option_map (λ rest. (first, rest)) (all_said others texts)) (said form text)
-all_said (Many form) texts = some_said form texts
+  -- `u` is a formula without a value
+  abbrev pub value_said : List ℕ → Option FormulaValue
+  value_said text = if bytes_eq text (codes "u") then Some fvalues.Unevaluated else option_map formula_valued (spill_said text)
 
--- by the texts that they spell
-abbrev pub words_said : (words : Words) → List (List ℕ) → Option (AllSaid words)
-words_said words spelled = option_and_then (all_said words) (word_texts spelled)
+  -- what a text says as a word of this form, if it is one
+  abbrev pub said : (form : WordForm) → List ℕ → Option (Said form)
+  said OfText text = Some text
+  said OfIndex text = index_said text
+  said OfPosition text = position_said text
+  said OfAmount text = signed_amount dot text
+  said OfBool text = bool_said text
+  said OfScope text = scope_said text
+  said OfValue text = value_said text
+  said OfSpill text = spill_said text
+  said OfFlag text = flag_said text
+  said OfColor text = Some (color_said text)
+  said OfState text = state_said text
+
+  -- what each of these texts says
+  abbrev pub each_said : (form : WordForm) → List (List ℕ) → Option (List (Said form))
+  each_said form [] = Some []
+  each_said form (text ∷ texts) = option_and_then (λ first. option_map (λ others. first ∷ others) (each_said form texts)) (said form text)
+
+  abbrev pub some_said : (form : WordForm) → List (List ℕ) → Option (List (Said form))
+  some_said form [] = None
+  some_said form (text ∷ texts) = each_said form (text ∷ texts)
+
+  -- what texts say as such words; none where there are more or fewer, or one isn't of its form
+  abbrev pub all_said : (words : Words) → List (List ℕ) → Option (AllSaid words)
+  all_said Done [] = Some tt
+  all_said Done (text ∷ texts) = None
+  all_said (Then form others) [] = None
+  all_said (Then form others) (text ∷ texts) = option_and_then (λ first. option_map (λ rest. (first, rest)) (all_said others texts)) (said form text)
+  all_said (Many form) texts = some_said form texts
+
+  -- by the texts that they spell
+  abbrev pub words_said : (words : Words) → List (List ℕ) → Option (AllSaid words)
+  words_said words spelled = option_and_then (all_said words) (word_texts spelled)
 
 -- words of these forms and none more
 abbrev pub words_of : List WordForm → Words
