@@ -1,5 +1,5 @@
 -- The core of a book over a change of its sheets or its definitions: it is changed as the core machine's is.
-use Rattle.std.proofs.Common.{◌≡◌, ℕ, zero, suc, ◌+◌, List, [], ◌∷◌, ◌++◌, map, flat_map, length, Option, Some, None, refl, sym, ap, ap₂, ◌∙◌}
+use Rattle.std.proofs.Common.{◌≡◌, ℕ, zero, suc, ◌+◌, List, [], ◌∷◌, ◌++◌, map, length, Option, Some, None, refl, sym, ap, ap₂, ◌∙◌}
 use Rattle.std.specs.FinMap as finite
 use Rattle.std.specs.Prelude.{insert, remove, option_map}
 use Rattle.std.specs.List.{slice_get}
@@ -10,7 +10,7 @@ use Rattle.ic_laws.proofs.core.Lists.{removed_seen, updated_seen}
 use Rattle.ic_laws.specs.CoreBook.{CellPlace, Cells, CoreBook, Definition, Sheet, greatest_id, scene_of}
 use Rattle.ic_laws.specs.CoreStep as core
 use Rattle.ic_laws.specs.CoreStep.{moved, put_back}
-use Rattle.ic_laws.specs.Keeping.{KeyChange, kept_formula, kept_in_body, kept_on_sheet, mapped_cells, same_keys, with_kept}
+use Rattle.ic_laws.specs.Keeping.{kept_formula, kept_in_body, kept_on_sheet, mapped_cells, same_keys, with_kept}
 use Rattle.ic_laws.specs.Notations.{Notations, english_function}
 use Rattle.ic_laws.specs.declared.scene.Scene.{Scene}
 use Rattle.ic_laws.specs.declared.tree.Formula.{Formula}

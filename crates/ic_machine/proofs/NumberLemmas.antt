@@ -1,5 +1,5 @@
 -- The number in the name of a new sheet.
-use Rattle.std.proofs.Common.{◌≡◌, ℕ, zero, suc, ◌+◌, ◌<◌, ◌≤◌, List, length, Bool, true, false, cond, Option, Some, None, arith}
+use Rattle.std.proofs.Common.{ℕ, zero, suc, ◌+◌, ◌<◌, ◌≤◌, List, length, Bool, true, false, cond, Option, Some, arith}
 use Rattle.std.specs.List.{find, range_with_len}
 use Rattle.std.specs.Prelude.{not, unwrap_or}
 use Rattle.ic_laws.specs.CoreBook.{has_sheet}

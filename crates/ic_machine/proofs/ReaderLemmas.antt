@@ -3,8 +3,8 @@ use Rattle.std.proofs.Common.{◌≡◌, ℕ, zero, suc, List, [], ◌∷◌, Op
 use Rattle.std.specs.FinMap as finite
 use Rattle.std.specs.Prelude.{option_map, slice_get}
 use Rattle.ic_cells.specs.Layout.{height_of, width_of}
-use Rattle.ic_laws.specs.CoreStep.{Outcome, core_step, updated_at}
-use Rattle.ic_machine.specs.Book.{Book, Grid, Sheet, Stepped, Tab, as_core, at_sheet, found_or, on_grid, on_tab, put_in, unless, unless_refused, with_sheet}
+use Rattle.ic_laws.specs.CoreStep.{Outcome, updated_at}
+use Rattle.ic_machine.specs.Book.{Book, Grid, Sheet, Tab, as_core, found_or, on_grid, on_tab, put_in, unless, unless_refused, with_sheet}
 use Rattle.ic_machine.specs.Command.{Command, OnArrays, OnDefinitions, OnExtending, OnLayout, OnNotation, OnReading, OnSheets, OnStyles, OnTabs, OnWriting}
 use Rattle.ic_machine.specs.Line.{column_causes, column_of, row_causes, row_of}
 use Rattle.ic_machine.specs.Readers.{Leaves, LeavesIf, is_reader}

@@ -1,14 +1,14 @@
 -- What formulas can mention stays where one sheet gets other cells, another layout or another tab.
-use Rattle.std.proofs.Common.{◌≡◌, ℕ, zero, suc, List, [], ◌∷◌, ◌++◌, map, Option, Some, None, Ok, Err, refl, sym, ap, ap₂, ◌∙◌}
+use Rattle.std.proofs.Common.{◌≡◌, ℕ, zero, suc, List, [], ◌∷◌, map, Option, Some, None, Ok, Err, refl, sym, ap, ◌∙◌}
 use Rattle.std.specs.Prelude.{option_map, slice_get}
 use Rattle.ic_laws.specs.CoreBook.{spelling_of}
-use Rattle.ic_laws.specs.CoreStep.{Outcome, core_step, updated_at}
+use Rattle.ic_laws.specs.CoreStep.{Outcome, updated_at}
 use Rattle.ic_laws.specs.declared.scene.Scene.{Scene}
 use Rattle.ic_laws.specs.declared.scene.SheetName.{SheetName}
-use Rattle.ic_machine.specs.Book.{Book, Grid, Sheet, Stepped, Tab, as_core, core_sheet, found_or, on_grid, on_tab, put_in, scene_in, unless, unless_refused, with_sheet}
+use Rattle.ic_machine.specs.Book.{Book, Grid, Sheet, Stepped, Tab, as_core, core_sheet, found_or, on_grid, on_tab, put_in, scene_in, unless, with_sheet}
 use Rattle.ic_machine.specs.Command.{Command, OnArrays, OnDefinitions, OnExtending, OnLayout, OnNotation, OnReading, OnSheets, OnStyles, OnTabs, OnWriting}
 use Rattle.ic_machine.specs.Readers.{Leaves}
-use Rattle.ic_machine.specs.Refusal.{Causes, InvalidSheet, Refusal, first_refusal}
+use Rattle.ic_machine.specs.Refusal.{InvalidSheet, Refusal}
 use Rattle.ic_machine.specs.Reply.{Field}
 use Rattle.ic_machine.specs.Scene.{KeepsScene, KeepsSceneIf, leaves_names}
 use Rattle.ic_machine.specs.Step.{step}

@@ -1,5 +1,5 @@
 -- Each command that the core machine has: seen by the core, a step of the whole machine is the core machine's.
-use Rattle.std.proofs.Common.{◌≡◌, ℕ, List, [], ◌∷◌, Option, Some, None, Ok, Err, refl, ap}
+use Rattle.std.proofs.Common.{◌≡◌, ℕ, List, [], ◌∷◌, Option, Some, None, Ok, refl, ap}
 use Rattle.std.specs.Prelude.{not, unwrap_or}
 use Rattle.ic_laws.specs.Command as commands
 use Rattle.ic_laws.specs.CoreBook.{CoreBook}

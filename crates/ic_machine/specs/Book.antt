@@ -1,5 +1,5 @@
 -- The whole book: what it holds, how its core is seen, and how a step on a part of it is one on the whole.
-use Rattle.std.specs.Prelude.{ℕ, ℤ, pos, List, [], ◌∷◌, ◌++◌, flat_map, map, Bool, true, false, not, Option, Some, None, option_map, option_to_list, option_and_then, Result, Ok, Err, nat_lt, length, slice_get}
+use Rattle.std.specs.Prelude.{ℕ, ℤ, pos, List, [], flat_map, map, Bool, true, not, Option, Some, None, option_map, option_to_list, Result, Ok, Err, nat_lt, length, slice_get}
 use Rattle.std.specs.FinMap as finite
 use Rattle.ic_laws.specs.CoreBook as core
 use Rattle.ic_laws.specs.CoreBook.{CellPlace, CoreBook, Definition, scene_of}

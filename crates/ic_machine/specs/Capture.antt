@@ -1,6 +1,6 @@
 -- What an update of a definition captures: a word that meant a definition before it, and doesn't mean the same definition
 -- after it.
-use Rattle.std.specs.Prelude.{ℕ, List, [], ◌∷◌, ◌++◌, flat_map, map, Bool, true, false, not, Option, Some, None, if◌then◌else◌}
+use Rattle.std.specs.Prelude.{ℕ, List, [], ◌∷◌, ◌++◌, flat_map, Bool, true, false, not, Option, Some, None, if◌then◌else◌}
 use Rattle.std.specs.FinMap as finite
 use Rattle.std.specs.List.{list_any, zip}
 use Rattle.ic_laws.specs.CoreBook.{CellPlace, Definition, spelling_of}

@@ -1,6 +1,6 @@
 -- What becomes of all formulas when the sheets or the definitions of a book change: each is kept, in the pools and in the
 -- bodies of definitions.
-use Rattle.std.specs.Prelude.{ℕ, ◌+◌, List, [], ◌∷◌, ◌++◌, map, remove, Option, None, Some}
+use Rattle.std.specs.Prelude.{ℕ, List, [], ◌∷◌, ◌++◌, map, remove, Option, None, Some}
 use Rattle.ic_laws.specs.CoreBook.{Definition}
 use Rattle.ic_laws.specs.CoreStep.{moved, updated_at}
 use Rattle.ic_laws.specs.Keeping.{KeyChange, kept_formula, kept_in_body, same_keys}

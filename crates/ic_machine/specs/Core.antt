@@ -1,5 +1,5 @@
 -- The commands that the core machine has, too, and how a step of the whole machine is seen by it.
-use Rattle.std.specs.Prelude.{◌≡◌, List, Option, Some, None, option_and_then, Result, Ok, Err}
+use Rattle.std.specs.Prelude.{◌≡◌, List, Option, Some, None, Result, Ok, Err}
 use Rattle.ic_laws.specs.Command as core
 use Rattle.ic_laws.specs.CoreBook.{CoreBook}
 use Rattle.ic_laws.specs.CoreStep.{Outcome, core_step}

@@ -1,7 +1,6 @@
 -- What was set for a row or a column of a sheet, and how that is changed.
-use Rattle.std.specs.Prelude.{ℕ, ℤ, List, [], ◌∷◌, Bool, false, not, Option, Some, None, option_map, unwrap_or}
+use Rattle.std.specs.Prelude.{ℤ, [], ◌∷◌, false, not, Option, Some, None, unwrap_or}
 use Rattle.std.specs.FinMap as finite
-use Rattle.std.specs.Ordering.{int_cmp}
 use Rattle.ic_laws.specs.Position.{is_column, is_row}
 use Rattle.ic_cells.specs.declared.layout.ColumnProps.{ColumnProps}
 use Rattle.ic_cells.specs.declared.layout.RowProps.{RowProps}

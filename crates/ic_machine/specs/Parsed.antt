@@ -1,6 +1,6 @@
 -- A cell that a text names by its sheet, its column and its row: what stands before the first exclamation mark is the
 -- sheet's name as it is, without quotes.
-use Rattle.std.specs.Prelude.{ℕ, ℤ, pos, List, [], ◌∷◌, Bool, not, ◌&&◌, ◌==◌, Option, Some, None, option_and_then, option_map, Result, Ok, Err, if◌then◌else◌}
+use Rattle.std.specs.Prelude.{ℕ, ℤ, pos, List, [], ◌∷◌, Bool, not, ◌==◌, Option, Some, None, option_and_then, option_map, Result, Ok, Err, if◌then◌else◌}
 use Rattle.ic_laws.specs.Character.{bang}
 use Rattle.ic_laws.specs.Command.{number_said}
 use Rattle.ic_laws.specs.CoreBook.{CoreBook}

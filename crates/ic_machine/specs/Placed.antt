@@ -1,5 +1,5 @@
 -- The index of a formula in a sheet's pool: that of the first equal one, or a new one at the end.
-use Rattle.std.specs.Prelude.{ℕ, List, [], ◌∷◌, ◌++◌, length, Bool, false, Option, Some, None, is_some, unwrap_or, if◌then◌else◌}
+use Rattle.std.specs.Prelude.{ℕ, List, [], ◌∷◌, ◌++◌, length, Bool, false, is_some, unwrap_or, if◌then◌else◌}
 use Rattle.ic_laws.specs.declared.tree.Formula.{Formula}
 use Rattle.ic_laws.specs.declared.tree.Formula.TheVariants as formulas
 use Rattle.ic_tables.specs.declared.language.FunctionKind.{FunctionKind}

@@ -1,7 +1,7 @@
 -- The commands that touch the cells, the layout or the tab of one sheet, or none: what formulas can mention stays.
-use Rattle.std.specs.Prelude.{◌≡◌, Bool, true, false, List, Result, Ok, Err}
+use Rattle.std.specs.Prelude.{◌≡◌, Bool, true, false, Ok, Err}
 use Rattle.ic_machine.specs.Book.{Book, Stepped, scene_in}
-use Rattle.ic_machine.specs.Command.{Command, OnArrays, OnDefinitions, OnExtending, OnLayout, OnNotation, OnReading, OnSheets, OnStyles, OnTabs, OnWriting}
+use Rattle.ic_machine.specs.Command.{Command, OnDefinitions, OnSheets}
 
 -- all subjects but those on sheets and on definitions
 abbrev pub leaves_names : Command → Bool

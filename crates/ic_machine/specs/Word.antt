@@ -1,5 +1,5 @@
 -- What the words of command lines are, and what they say.
-use Rattle.std.specs.Prelude.{ℕ, ℤ, List, [], ◌∷◌, Bool, true, false, bytes_eq, Option, Some, None, option_map, option_and_then, if◌then◌else◌, codes, length}
+use Rattle.std.specs.Prelude.{ℕ, ℤ, List, [], ◌∷◌, Bool, true, false, bytes_eq, Option, Some, None, option_map, option_and_then, if◌then◌else◌, codes}
 use Rattle.std.specs.List.{find}
 use Rattle.ic_laws.specs.Character.{colon, dot}
 use Rattle.ic_laws.specs.Command.{index_said, position_said, scope_said}
@@ -15,6 +15,7 @@ use Rattle.ic_cells.specs.declared.value.FormulaValue.{FormulaValue}
 use Rattle.ic_cells.specs.declared.value.FormulaValue.TheVariants as fvalues
 use Rattle.ic_cells.specs.declared.value.SpillValue.{SpillValue}
 use Rattle.ic_cells.specs.declared.value.SpillValue.TheVariants as spills
+use Rattle.ic_grid.specs.Shape.{gathered}
 use Rattle.ic_input.specs.Amount.{signed_amount}
 use Rattle.ic_input.specs.Typed.{error_in}
 
@@ -68,13 +69,6 @@ state_said text = find (λ state. bytes_eq (state_word state) text) all_states
 abbrev pub color_said : List ℕ → Color
 color_said text = if bytes_eq text (codes "-") then colors.None else colors.Rgb text
 
--- the value of a spill's cell as that of a formula; an error value has empty texts
-abbrev pub formula_valued : SpillValue → FormulaValue
-formula_valued (spills.Boolean b) = fvalues.Boolean b
-formula_valued (spills.Number n) = fvalues.Number n
-formula_valued (spills.Text t) = fvalues.Text t
-formula_valued (spills.Error e) = fvalues.Error e [] []
-
 -- the words of a command: none more; one of a form, and then others; one or more of a form, up to the end
 pub data Words : Type 0 where
   Done : Words
@@ -103,7 +97,7 @@ module _ (english : List (List ℕ)) where
 
   -- `u` is a formula without a value
   abbrev pub value_said : List ℕ → Option FormulaValue
-  value_said text = if bytes_eq text (codes "u") then Some fvalues.Unevaluated else option_map formula_valued (spill_said text)
+  value_said text = if bytes_eq text (codes "u") then Some fvalues.Unevaluated else option_map gathered (spill_said text)
 
   -- what a text says as a word of this form, if it is one
   abbrev pub said : (form : WordForm) → List ℕ → Option (Said form)

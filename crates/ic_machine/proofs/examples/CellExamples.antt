@@ -1,11 +1,9 @@
 -- Cells by example: which can't be written, and what a place that holds nothing answers.
-use Rattle.std.proofs.Common.{◌≡◌, ℕ, pos, List, [], ◌∷◌, true, Some, None, Ok, Err, codes, refl}
+use Rattle.std.proofs.Common.{◌≡◌, pos, [], ◌∷◌, true, Err, codes, refl}
 use Rattle.std.specs.FinMap as finite
-use Rattle.ic_cells.specs.declared.cell.ArrayKind.TheVariants as kinds
 use Rattle.ic_cells.specs.declared.value.FormulaValue.TheVariants as values
-use Rattle.ic_machine.specs.Book.{Book, Grid, Sheet, empty_grid, empty_sheet}
+use Rattle.ic_machine.specs.Book.{Book, empty_grid, empty_sheet}
 use Rattle.ic_machine.specs.Command.{commands}
-use Rattle.ic_machine.specs.Content.{FormulaContent, NumContent}
 use Rattle.ic_machine.specs.Refusal.{BadArea, NoFormulaCell}
 use Rattle.ic_machine.specs.subjects.Arrays.{clear_step, put_value_step}
 use Rattle.ic_machine.specs.subjects.Writing.{bool_step, number_step}

@@ -1,5 +1,5 @@
 -- Definitions by example: what refuses them, ids in use, and one whose sheet is gone.
-use Rattle.std.proofs.Common.{◌≡◌, ℕ, List, [], ◌∷◌, codes, refl}
+use Rattle.std.proofs.Common.{◌≡◌, [], ◌∷◌, codes, refl}
 use Rattle.std.specs.Fmt.{digits}
 use Rattle.caseless.proofs.Computing.{caseless}
 use Rattle.ucd_derived.proofs.Computing.{ucd_derived}

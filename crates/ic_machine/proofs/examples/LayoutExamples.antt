@@ -1,5 +1,5 @@
 -- Widths of columns and what stays in sight, by example.
-use Rattle.std.proofs.Common.{◌≡◌, ℕ, pos, List, [], ◌∷◌, false, Some, None, Ok, Err, codes, refl}
+use Rattle.std.proofs.Common.{◌≡◌, pos, [], ◌∷◌, false, Some, None, Ok, Err, codes, refl}
 use Rattle.std.specs.Fmt.{digits}
 use Rattle.std.specs.FinMap as finite
 use Rattle.ic_machine.specs.Book.{Grid, empty_grid, on_tab, style_number_at}

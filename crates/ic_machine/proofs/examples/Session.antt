@@ -1,5 +1,5 @@
 -- Sessions by example: lines and their replies.
-use Rattle.std.proofs.Common.{◌≡◌, ℕ, List, [], ◌∷◌, refl}
+use Rattle.std.proofs.Common.{ℕ, List, [], ◌∷◌}
 use Rattle.ic_machine.specs.Book.{Book}
 use Rattle.ic_machine.specs.Command.{commands}
 use Rattle.ic_machine.specs.Reply.{reply_text}

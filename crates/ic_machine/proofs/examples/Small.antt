@@ -1,6 +1,5 @@
 -- Small tables for examples, with English and Spanish, and a new book.
-use Rattle.std.proofs.Common.{◌≡◌, ℕ, pos, List, [], ◌∷◌, false, None, codes}
-use Rattle.std.specs.FinMap as finite
+use Rattle.std.proofs.Common.{ℕ, List, [], ◌∷◌, None, codes}
 use Rattle.ic_tables.specs.Tables.{TableSet}
 use Rattle.ic_tables.specs.declared.language.Errors.{Errors}
 use Rattle.ic_tables.specs.declared.language.FunctionKind.TheVariants as how

@@ -1,5 +1,5 @@
 -- The table of commands: how many there are, and which are served.
-use Rattle.std.proofs.Common.{◌≡◌, ℕ, List, [], ◌∷◌, map, length, codes, refl}
+use Rattle.std.proofs.Common.{◌≡◌, [], ◌∷◌, map, length, codes, refl}
 use Rattle.ic_machine.specs.Command.{commands, served}
 
 counted : length commands ≡ 73

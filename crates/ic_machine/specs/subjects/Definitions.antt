@@ -1,10 +1,10 @@
 -- The commands on definitions.
-use Rattle.std.specs.Prelude.{ℕ, ℤ, pos, List, [], ◌∷◌, ◌++◌, Bool, true, false, not, ◌&&◌, ◌==◌, Option, Some, None, is_none, option_map, unwrap_or, codes}
+use Rattle.std.specs.Prelude.{ℕ, pos, List, [], ◌∷◌, ◌++◌, Bool, false, not, ◌&&◌, ◌==◌, Option, Some, None, is_none, option_map, codes}
 use Rattle.std.specs.Option.{option_or}
 use Rattle.ic_laws.specs.Binding.{bound}
 use Rattle.ic_laws.specs.Character.{equals}
 use Rattle.ic_laws.specs.Command as core
-use Rattle.ic_laws.specs.CoreBook.{CoreBook, Definition}
+use Rattle.ic_laws.specs.CoreBook.{CoreBook}
 use Rattle.ic_laws.specs.CoreStep.{core_step, has_definition, index_of_definition, new_definition, scope_of, scope_or_none, updated_at}
 use Rattle.ic_laws.specs.FormulaReading.{Body, body_of, shown_at, trimmed, without_equals}
 use Rattle.ic_laws.specs.Keeping.{KeyChange, changed_key}

@@ -1,5 +1,5 @@
 -- The commands that write a formula out for another cell, and the one that reads the name of a cell.
-use Rattle.std.specs.Prelude.{ℕ, ℤ, List, [], ◌∷◌, ◌++◌, Bool, true, false, not, Option, Some, None, is_none, option_map, option_and_then, slice_get, codes}
+use Rattle.std.specs.Prelude.{ℕ, ℤ, List, [], ◌∷◌, Bool, false, not, Option, Some, None, is_none, option_map, slice_get, codes}
 use Rattle.std.specs.Option.{option_map_or, option_or}
 use Rattle.ic_laws.specs.Binding.{bound, spelled}
 use Rattle.ic_laws.specs.Character.{equals}

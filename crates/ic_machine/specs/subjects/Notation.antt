@@ -1,5 +1,5 @@
 -- The commands on the locale, the language, the zone, and the formats that they give.
-use Rattle.std.specs.Prelude.{ℕ, ℤ, pos, ◌*◌, ◌^◌, List, [], ◌∷◌, ◌++◌, flat_map, Bool, not, ◌==◌, Option, Some, None, codes, if◌then◌else◌}
+use Rattle.std.specs.Prelude.{ℕ, ℤ, pos, ◌*◌, ◌^◌, List, [], ◌∷◌, ◌++◌, flat_map, not, ◌==◌, codes, if◌then◌else◌}
 use Rattle.ic_laws.specs.Amount.{units_of_one}
 use Rattle.ic_laws.specs.Character.{blank, double_quote}
 use Rattle.ic_laws.specs.Command as core

@@ -1,9 +1,9 @@
 -- The commands that read cells.
-use Rattle.std.specs.Prelude.{ℕ, ℤ, pos, max, nat_abs, List, [], ◌∷◌, ◌++◌, flat_map, map, Bool, true, not, Option, Some, None, is_none, option_and_then, option_map, option_to_list, slice_get, codes, if◌then◌else◌}
+use Rattle.std.specs.Prelude.{ℕ, ℤ, pos, max, nat_abs, List, [], ◌∷◌, ◌++◌, flat_map, map, Bool, true, Some, is_none, option_to_list, slice_get, codes, if◌then◌else◌}
 use Rattle.std.specs.FinMap as finite
 use Rattle.std.specs.List.{enumerate_from, join_by, range_with_len}
 use Rattle.std.specs.Option.{option_map_or}
-use Rattle.ic_laws.specs.Character.{bang, equals, line_feed}
+use Rattle.ic_laws.specs.Character.{equals, line_feed}
 use Rattle.ic_laws.specs.Command as core
 use Rattle.ic_laws.specs.CoreBook.{CellPlace}
 use Rattle.ic_laws.specs.CoreStep.{core_step}
@@ -11,7 +11,6 @@ use Rattle.ic_laws.specs.FormulaReading.{shown_formula}
 use Rattle.ic_laws.specs.Greatest.{greatest}
 use Rattle.ic_laws.specs.declared.tree.Formula.{Formula}
 use Rattle.ic_cells.specs.Style.{style_at}
-use Rattle.ic_cells.specs.declared.style.Style.{Style}
 use Rattle.ic_cells.specs.declared.value.CellType.{CellType}
 use Rattle.ic_cells.specs.declared.value.CellType.TheVariants as types
 use Rattle.ic_cells.specs.declared.value.CellValue.{CellValue}
@@ -20,7 +19,7 @@ use Rattle.ic_cells.specs.declared.value.SpillValue.{SpillValue}
 use Rattle.ic_cells.specs.declared.value.SpillValue.TheVariants as spills
 use Rattle.ic_grid.specs.Shape.{is_empty}
 use Rattle.ic_machine.specs.Book.{Book, Entry, Sheet, Stepped, as_core, at_sheet, content_at, core_of, formula_held, notations_in, style_number_at, unless_refused}
-use Rattle.ic_machine.specs.Content.{AnchorContent, BoolContent, Content, EmptyContent, ErrContent, FormulaContent, NumContent, SpillContent, TextContent, shape_of, style_of, type_of}
+use Rattle.ic_machine.specs.Content.{BoolContent, Content, EmptyContent, ErrContent, NumContent, SpillContent, TextContent, shape_of, style_of, type_of}
 use Rattle.ic_machine.specs.InForce.{boolean_in, error_in, formatted_in, shown_number, shown_words, value_in}
 use Rattle.ic_machine.specs.Parsed.{Parsed, parsed_reference}
 use Rattle.ic_machine.specs.Refusal.{BadReference}

@@ -1,5 +1,5 @@
 -- The commands on the list of sheets.
-use Rattle.std.specs.Prelude.{ℕ, suc, ◌+◌, ◌-◌, List, [], ◌∷◌, ◌++◌, map, flat_map, find, filter, insert, length, take, Bool, false, not, ◌&&◌, ◌||◌, Option, Some, None, is_none, option_map, option_to_list, unwrap_or, nat_eq, nat_lt, bytes_eq, codes, slice_get, if◌then◌else◌}
+use Rattle.std.specs.Prelude.{ℕ, suc, ◌+◌, ◌-◌, List, [], ◌∷◌, ◌++◌, map, flat_map, find, filter, insert, length, take, Bool, false, not, ◌&&◌, ◌||◌, Option, Some, None, is_none, option_map, unwrap_or, nat_eq, nat_lt, bytes_eq, codes, slice_get, if◌then◌else◌}
 use Rattle.std.specs.Fmt.{decimal}
 use Rattle.std.specs.List.{list_any, range_with_len}
 use Rattle.ic_laws.specs.Binding.{bound, spelled_with}
@@ -15,7 +15,7 @@ use Rattle.ic_laws.specs.declared.scene.Scene.{Scene}
 use Rattle.ic_laws.specs.declared.tree.Formula.{Formula}
 use Rattle.ic_laws.specs.declared.tree.Formula.TheVariants as formulas
 use Rattle.ic_cells.specs.Sheet.{state_word}
-use Rattle.ic_machine.specs.Book.{Book, Sheet, Stepped, as_core, core_of, empty_sheet, found_or, lacks_sheet, notations_in, scene_in, unless_refused}
+use Rattle.ic_machine.specs.Book.{Book, Sheet, Stepped, as_core, core_of, empty_sheet, found_or, notations_in, scene_in, unless_refused}
 use Rattle.ic_machine.specs.Changed.{changed_by, with_moved_sheet, with_removed_sheet, with_renamed_sheet}
 use Rattle.ic_machine.specs.Refusal.{Causes, IdLive, IdsUsedUp, InvalidSheet, InvalidSheetName, OutOfRange, SheetExists}
 use Rattle.ic_machine.specs.Reply.{Field, NumberField, TextField}
