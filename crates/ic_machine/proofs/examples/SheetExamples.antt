@@ -10,8 +10,8 @@ use Rattle.ic_machine.proofs.examples.Small.{start}
 
 -- a sheet with an id that is asked for; after the last id there is none
 inserted : answers start
-    (codes "insert_sheet\tA\t0\t0" ∷ codes "insert_sheet\tA\t9\t-" ∷ codes "insert_sheet\tA\t0\t4294967295" ∷ codes "add_sheet\tB" ∷ codes "get_new_sheet_id" ∷ [])
-    ≡ codes "error\tIdLive" ∷ codes "error\tOutOfRange" ∷ codes "ok" ∷ codes "error\tIdsUsedUp" ∷ codes "ok\t-" ∷ []
+    (codes "insert_sheet\tA\t0\t0" ∷ codes "insert_sheet\tA\t9\t-" ∷ codes "insert_sheet\tA\t9\t0" ∷ codes "insert_sheet\tA\t0\t4294967295" ∷ codes "add_sheet\tB" ∷ codes "get_new_sheet_id" ∷ [])
+    ≡ codes "error\tIdLive" ∷ codes "error\tOutOfRange" ∷ codes "error\tOutOfRange" ∷ codes "ok" ∷ codes "error\tIdsUsedUp" ∷ codes "ok\t-" ∷ []
 unfolding commands caseless core_step add_sheet_step insert_sheet_step new_sheet_id_step
 inserted = refl
 
