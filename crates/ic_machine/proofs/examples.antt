@@ -1,3 +1,5 @@
+mod ArrayExamples
+mod CaptureExamples
 mod CellExamples
 mod DefinitionExamples
 mod LayoutExamples
