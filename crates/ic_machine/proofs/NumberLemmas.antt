@@ -22,5 +22,5 @@ found_below p a (suc k) d h =
 pub small : (b : Book) (name : ℕ → List ℕ) → free_number b name ≤ length b.sheets + 1
 small b name =
     let found : unwrap_or (find (λ n. not (has_sheet (core_of b) (name n))) (range_with_len 1 (suc (length b.sheets)))) (suc (length b.sheets)) < 1 + suc (length b.sheets) =
-        found_below (λ n. not (has_sheet (core_of b) (name n))) 1 (suc (length b.sheets)) (suc (length b.sheets)) (omega (arith)) in
+    found_below (λ n. not (has_sheet (core_of b) (name n))) 1 (suc (length b.sheets)) (suc (length b.sheets)) (omega (arith)) in
     omega (arith, found)

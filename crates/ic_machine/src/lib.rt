@@ -6,7 +6,8 @@
 //! sheets or definitions change), `Capture` (what an update of a definition captures), `InForce` and `Format` (what the
 //! notation in force makes of texts and amounts), `Placed`, `Styling`, `Line` and `Parsed` (indexes of formulas, numbers of
 //! styles, rows and columns, names of cells), `subjects` (ten subjects: the commands of each with their words, refusals and
-//! steps), `Command` and `Step` (one table and one step of all subjects), `Run` (runs of lines over any machine).
+//! steps), `Command` and `Step` (one table and one step of all subjects), `Run` (runs of lines over any machine), `Core`,
+//! `Readers`, `Scene`, `Alike` and `Laws` (what the laws say).
 #![tactic(auto)]
 
 mod law;
