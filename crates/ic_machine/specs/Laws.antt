@@ -1,5 +1,5 @@
 -- What the laws of the machine say.
-use Rattle.std.specs.Prelude.{◌≡◌, ℕ, ◌+◌, ◌≤◌, List, length, Option, Some, None, Err}
+use Rattle.std.specs.Prelude.{◌≡◌, ℕ, ◌+◌, ◌≤◌, List, length, Some, None, Err}
 use Rattle.ic_laws.specs.Command as core
 use Rattle.ic_laws.specs.CoreBook.{CoreBook}
 use Rattle.ic_laws.specs.Lines as lines
