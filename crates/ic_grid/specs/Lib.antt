@@ -1,5 +1,6 @@
 pub mod Arrays
 pub mod Block
+pub mod Calls
 pub mod Clear
 pub mod Conditions
 pub mod Contents

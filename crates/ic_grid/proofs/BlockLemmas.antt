@@ -1,0 +1,69 @@
+-- Which numbers and places blocks hold, as they grow by a column or a row.
+use Rattle.std.proofs.Common.{◌≡◌, ◌∙◌, refl, sym, ap, ap₂, Bool, true, false, cond, not, ◌&&◌, ◌||◌, ℤ, pos, arith}
+use Rattle.std.proofs.lemmas.Bool.{and_parts, and_from}
+use Rattle.std.proofs.lemmas.Int.{ints}
+use Rattle.std.specs.Prelude.{int_le, int_lt, ◌+ℤ◌, ◌≤ℤ◌, ◌<ℤ◌}
+use Rattle.std.specs.Ordering.{int_cmp, int_eq, is_eq, ordering_then}
+use Rattle.std.specs.declared.cmp.Ordering.{Ordering}
+use Rattle.std.specs.declared.cmp.Ordering.TheVariants.{Less, Equal, Greater}
+use Rattle.ic_grid.specs.Block.{Place, is_between, is_in_lines, same_place}
+
+-- one more number
+pub between_more : (first last n : ℤ) → first ≤ℤ last → is_between first (last +ℤ pos 1) n ≡ (is_between first last n || int_eq n last)
+unfolding is_between
+between_more first last n h = grind (arith, ints)
+
+-- none yet
+pub between_none : (first n : ℤ) → is_between first first n ≡ false
+unfolding is_between
+between_none first n = grind (arith, ints)
+
+-- one alone
+pub between_one : (first n : ℤ) → is_between first (first +ℤ pos 1) n ≡ int_eq n first
+unfolding is_between
+between_one first n = grind (arith, ints)
+
+by_parts : (r s : Ordering) → is_eq (ordering_then r s) ≡ (is_eq r && is_eq s)
+by_parts Less s = refl
+by_parts Equal s = refl
+by_parts Greater s = refl
+
+-- a place is another where both numbers are
+pub same_by_parts : (p q : Place) → same_place p q ≡ (int_eq p.0 q.0 && int_eq p.1 q.1)
+same_by_parts p q = by_parts (int_cmp p.0 q.0) (int_cmp p.1 q.1)
+
+spread_and : (a b c : Bool) → (a && (b || c)) ≡ ((a && b) || (a && c))
+spread_and true b c = refl
+spread_and false b c = refl
+
+and_spread : (a b c : Bool) → ((a || b) && c) ≡ ((a && c) || (b && c))
+and_spread true true true = refl
+and_spread true true false = refl
+and_spread true false true = refl
+and_spread true false false = refl
+and_spread false b c = refl
+
+right_false : (a b : Bool) → b ≡ false → (a && b) ≡ false
+right_false true b e = e
+right_false false b e = refl
+
+-- no columns yet, and no rows
+pub no_columns : (row last_row column : ℤ) (q : Place) → is_in_lines row last_row column column q ≡ false
+no_columns row last_row column q = right_false _ _ (between_none column q.1)
+
+pub no_rows : (row column last_column : ℤ) (q : Place) → is_in_lines row row column last_column q ≡ false
+no_rows row column last_column q = ap (λ b. b && is_between column last_column q.1) (between_none row q.0)
+
+-- one more column of a row, and one more row
+pub column_more : (row column last : ℤ) (q : Place) → column ≤ℤ last
+    → is_in_lines row (row +ℤ pos 1) column (last +ℤ pos 1) q ≡ (is_in_lines row (row +ℤ pos 1) column last q || same_place q (row, last))
+column_more row column last q h =
+    ap (λ b. is_between row (row +ℤ pos 1) q.0 && b) (between_more column last q.1 h) ∙ spread_and _ _ _
+    ∙ ap (λ b. is_in_lines row (row +ℤ pos 1) column last q || (b && int_eq q.1 last)) (between_one row q.0)
+    ∙ ap (λ b. is_in_lines row (row +ℤ pos 1) column last q || b) (sym (same_by_parts q (row, last)))
+
+pub row_more : (row last column last_column : ℤ) (q : Place) → row ≤ℤ last
+    → is_in_lines row (last +ℤ pos 1) column last_column q ≡ (is_in_lines row last column last_column q || is_in_lines last (last +ℤ pos 1) column last_column q)
+row_more row last column last_column q h =
+    ap (λ b. b && is_between column last_column q.1) (between_more row last q.0 h) ∙ and_spread _ _ _
+    ∙ ap (λ b. is_in_lines row last column last_column q || (b && is_between column last_column q.1)) (sym (between_one last q.0))

@@ -1,0 +1,66 @@
+//! Which array a place belongs to.
+ghost use Rattle.std.specs.Prelude.{◌≡◌};
+ghost use Rattle.ic_grid.specs.Arrays.{anchor_at, array_at, array_of, is_cut_by, is_fixed, is_fixed_at, reaches};
+ghost use Rattle.ic_grid.specs.Shape.{celled};
+
+use crate::{Array, Block};
+use ic_cells::{ArrayKind, Cell, PlaceMap};
+
+/// Where the formula stands of the array that a place belongs to.
+pub fn anchor_at(cells: &PlaceMap<Cell>, row: i32, column: i32) -> Option<(i32, i32)>
+    ensures { result ≡ anchor_at celled cells.now (row, column) }
+{
+    match cells.get(row, column) {
+        Some(Cell::ArrayFormula { .. }) => Some((row, column)),
+        Some(Cell::SpillCell { a, .. }) => Some(*a),
+        _ => None,
+    }
+}
+
+/// The array of the formula at a place.
+pub fn array_of(cells: &PlaceMap<Cell>, row: i32, column: i32) -> Option<Array>
+    ensures { result ≡ array_of celled cells.now (row, column) }
+{
+    match cells.get(row, column) {
+        Some(Cell::ArrayFormula { r, kind, .. }) => Some(Array {
+            block: Block {
+                row,
+                column,
+                width: r.0,
+                height: r.1,
+            },
+            kind: *kind,
+        }),
+        _ => None,
+    }
+}
+
+/// The array that a place belongs to.
+pub fn array_at(cells: &PlaceMap<Cell>, row: i32, column: i32) -> Option<Array>
+    ensures { result ≡ array_at celled cells.now (row, column) }
+{
+    match anchor_at(cells, row, column) {
+        Some((row, column)) => array_of(cells, row, column),
+        None => None,
+    }
+}
+
+/// Whether it is a Cse array of more than one cell.
+fn is_fixed(array: &Option<Array>) -> bool
+    ensures { result ≡ is_fixed array.now }
+{
+    match array {
+        Some(Array {
+            block,
+            kind: ArrayKind::Cse,
+        }) => !block.is_single(),
+        _ => false,
+    }
+}
+
+/// Whether a place belongs to a Cse array of more than one cell.
+pub fn is_fixed_at(cells: &PlaceMap<Cell>, row: i32, column: i32) -> bool
+    ensures { result ≡ is_fixed_at celled cells.now (row, column) }
+{
+    is_fixed(&array_at(cells, row, column))
+}
