@@ -6,7 +6,9 @@ use Rattle.std.specs.Prelude.{int_le, int_lt, ◌+ℤ◌, ◌≤ℤ◌, ◌<ℤ�
 use Rattle.std.specs.Ordering.{int_cmp, int_eq, is_eq, ordering_then}
 use Rattle.std.specs.declared.cmp.Ordering.{Ordering}
 use Rattle.std.specs.declared.cmp.Ordering.TheVariants.{Less, Equal, Greater}
-use Rattle.ic_grid.specs.Block.{Place, is_between, is_in_lines, same_place}
+use Rattle.ic_laws.specs.declared.reference.TheConstants.{LAST_COLUMN, LAST_ROW}
+use Rattle.ic_grid.specs.Block.{Place, is_area, is_between, is_block_within, has_places, is_in_lines, is_span_within, same_place, whole_sheet}
+use Rattle.ic_grid.specs.declared.block.Block.{Block}
 
 -- one more number
 pub between_more : (first last n : ℤ) → first ≤ℤ last → is_between first (last +ℤ pos 1) n ≡ (is_between first last n || int_eq n last)
@@ -58,12 +60,38 @@ no_rows row column last_column q = ap (λ b. b && is_between column last_column 
 pub column_more : (row column last : ℤ) (q : Place) → column ≤ℤ last
     → is_in_lines row (row +ℤ pos 1) column (last +ℤ pos 1) q ≡ (is_in_lines row (row +ℤ pos 1) column last q || same_place q (row, last))
 column_more row column last q h =
-    ap (λ b. is_between row (row +ℤ pos 1) q.0 && b) (between_more column last q.1 h) ∙ spread_and _ _ _
+    ap (λ b. is_between row (row +ℤ pos 1) q.0 && b) (between_more column last q.1 h) ∙ spread_and (is_between row (row +ℤ pos 1) q.0) (is_between column last q.1) (int_eq q.1 last)
     ∙ ap (λ b. is_in_lines row (row +ℤ pos 1) column last q || (b && int_eq q.1 last)) (between_one row q.0)
     ∙ ap (λ b. is_in_lines row (row +ℤ pos 1) column last q || b) (sym (same_by_parts q (row, last)))
 
 pub row_more : (row last column last_column : ℤ) (q : Place) → row ≤ℤ last
     → is_in_lines row (last +ℤ pos 1) column last_column q ≡ (is_in_lines row last column last_column q || is_in_lines last (last +ℤ pos 1) column last_column q)
 row_more row last column last_column q h =
-    ap (λ b. b && is_between column last_column q.1) (between_more row last q.0 h) ∙ and_spread _ _ _
+    ap (λ b. b && is_between column last_column q.1) (between_more row last q.0 h) ∙ and_spread (is_between row last q.0) (int_eq q.0 last) (is_between column last_column q.1)
     ∙ ap (λ b. is_in_lines row last column last_column q || (b && is_between column last_column q.1)) (sym (between_one last q.0))
+
+-- the bounds of an area: it has a row and a column, and lies in the sheet
+pub record Bounds (b : Block) : Type 0 where
+  pub wide : pos 1 ≤ℤ b.width
+  pub high : pos 1 ≤ℤ b.height
+  pub row : pos 1 ≤ℤ b.row
+  pub column : pos 1 ≤ℤ b.column
+  pub last_row : (b.row +ℤ b.height) ≤ℤ pos 1048577
+  pub last_column : (b.column +ℤ b.width) ≤ℤ pos 16385
+
+pub area_bounds : (b : Block) → is_area b ≡ true → Bounds b
+unfolding is_span_within
+area_bounds b e =
+    let one = and_parts (has_places b) (is_block_within b whole_sheet) e in
+    let sizes = and_parts (int_le (pos 1) b.width) (int_le (pos 1) b.height) one.0 in
+    let spans = and_parts (is_span_within b.row b.height whole_sheet.row whole_sheet.height) (is_span_within b.column b.width whole_sheet.column whole_sheet.width) one.1 in
+    let rows = and_parts (int_le (pos 1) b.row) (int_le (b.row +ℤ b.height) (pos 1 +ℤ LAST_ROW)) spans.0 in
+    let columns = and_parts (int_le (pos 1) b.column) (int_le (b.column +ℤ b.width) (pos 1 +ℤ LAST_COLUMN)) spans.1 in
+    record {
+      wide = grind (arith, ints, sizes.0);
+      high = grind (arith, ints, sizes.1);
+      row = grind (arith, ints, rows.0);
+      column = grind (arith, ints, columns.0);
+      last_row = grind (arith, ints, rows.1);
+      last_column = grind (arith, ints, columns.1);
+    }

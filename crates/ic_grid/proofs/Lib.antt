@@ -1,2 +1,3 @@
+pub mod BlockLemmas
 pub mod ContentsLemmas
 pub mod ReleaseLemmas

@@ -4,7 +4,7 @@ use Rattle.std.specs.FinMap as finite
 use Rattle.ic_grid.specs.Arrays.{anchor_at}
 use Rattle.ic_grid.specs.Block.{Place, next_place, same_place}
 use Rattle.ic_grid.specs.Contents.{Contents, changed_where, remade}
-use Rattle.ic_grid.specs.Shape.{Holding, emptied, is_spill_of, reset}
+use Rattle.ic_grid.specs.Shape.{Holding, emptied, is_anchor, is_spill_of, reset}
 use Rattle.ic_grid.specs.declared.block.Block.{Block}
 
 module _ {X : Type 0} (h : Holding X) where
@@ -15,6 +15,10 @@ module _ {X : Type 0} (h : Holding X) where
   -- each cell of its spill is emptied
   abbrev pub without_spill : Place → Contents X → Contents X
   without_spill a m = changed_where (λ q. true) (unspilled a) m
+
+  -- the formula of an array is reset; anything else stays
+  abbrev pub anchor_reset : X → X
+  anchor_reset x = if is_anchor (h.shape x) then reset h x else x
 
   -- what becomes of something when the array of the formula at this place is released: the formula has no value and is
   -- for its own cell alone, and the cells of its spill are emptied

@@ -3,6 +3,7 @@
 
 mod arrays;
 mod block;
+mod changes;
 mod error;
 mod grid;
 mod lines;
