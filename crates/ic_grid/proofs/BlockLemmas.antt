@@ -1,13 +1,15 @@
 -- Which numbers and places blocks hold, as they grow by a column or a row.
 use Rattle.std.proofs.Common.{◌≡◌, ◌∙◌, refl, sym, ap, ap₂, Bool, true, false, cond, not, ◌&&◌, ◌||◌, ℤ, pos, arith}
 use Rattle.std.proofs.lemmas.Bool.{and_parts, and_from}
+use Rattle.std.proofs.lemmas.Bool.Decides.{Decides-int_eq}
 use Rattle.std.proofs.lemmas.Int.{ints}
 use Rattle.std.specs.Prelude.{int_le, int_lt, ◌+ℤ◌, ◌≤ℤ◌, ◌<ℤ◌}
 use Rattle.std.specs.Ordering.{int_cmp, int_eq, is_eq, ordering_then}
 use Rattle.std.specs.declared.cmp.Ordering.{Ordering}
 use Rattle.std.specs.declared.cmp.Ordering.TheVariants.{Less, Equal, Greater}
+use Rattle.ic_laws.specs.Position.{is_column, is_row}
 use Rattle.ic_laws.specs.declared.reference.TheConstants.{LAST_COLUMN, LAST_ROW}
-use Rattle.ic_grid.specs.Block.{Place, is_area, is_between, is_block_within, has_places, is_in_lines, is_span_within, same_place, whole_sheet}
+use Rattle.ic_grid.specs.Block.{Place, is_area, is_between, is_block_within, has_places, block_at, is_in_block, is_in_lines, is_in_sheet, is_span_within, same_place, whole_sheet}
 use Rattle.ic_grid.specs.declared.block.Block.{Block}
 
 -- one more number
@@ -95,3 +97,35 @@ area_bounds b e =
       last_row = grind (arith, ints, rows.1);
       last_column = grind (arith, ints, columns.1);
     }
+
+-- a width and a height of 1
+one_by_one : (w t : ℤ) → (int_eq w (pos 1) && int_eq t (pos 1)) ≡ true → (w ≡ pos 1) × (t ≡ pos 1)
+one_by_one w t e =
+    let both = and_parts (int_eq w (pos 1)) (int_eq t (pos 1)) e in
+    ((Decides-int_eq w (pos 1)).0 both.0, (Decides-int_eq t (pos 1)).0 both.1)
+
+place_within : (n last : ℤ) → (int_le (pos 1) n && int_le n last) ≡ true → (int_le (pos 1) n && int_le (n +ℤ pos 1) (pos 1 +ℤ last)) ≡ true
+place_within n last e =
+    let both = and_parts (int_le (pos 1) n) (int_le n last) e in
+    and_from (int_le (pos 1) n) (int_le (n +ℤ pos 1) (pos 1 +ℤ last)) both.0 (grind (arith, ints, both.1))
+
+-- a block of one place of the sheet is an area, and has no other place
+one_area : (a : Place) → is_in_sheet a ≡ true → is_area (block_at a (pos 1) (pos 1)) ≡ true
+unfolding is_span_within
+one_area a e =
+    let both = and_parts (is_row a.0) (is_column a.1) e in
+    and_from _ _ (place_within a.0 LAST_ROW both.0) (place_within a.1 LAST_COLUMN both.1)
+
+pub one_is_area : (a : Place) (w t : ℤ) → (int_eq w (pos 1) && int_eq t (pos 1)) ≡ true → is_in_sheet a ≡ true → is_area (block_at a w t) ≡ true
+one_is_area a w t e inside =
+    let one = one_by_one w t e in
+    ap (λ n. is_area (block_at a n t)) one.0 ∙ ap (λ n. is_area (block_at a (pos 1) n)) one.1 ∙ one_area a inside
+
+only_one : (a p : Place) → is_in_block (block_at a (pos 1) (pos 1)) p ≡ true → same_place p a ≡ true
+only_one a p e =
+    same_by_parts p a ∙ sym (ap₂ (λ b c. b && c) (between_one a.0 p.0) (between_one a.1 p.1)) ∙ e
+
+pub block_of_one : (a p : Place) (w t : ℤ) → (int_eq w (pos 1) && int_eq t (pos 1)) ≡ true → is_in_block (block_at a w t) p ≡ true → same_place p a ≡ true
+block_of_one a p w t e inside =
+    let one = one_by_one w t e in
+    only_one a p (ap (λ n. is_in_block (block_at a (pos 1) n) p) (sym one.1) ∙ ap (λ n. is_in_block (block_at a n t) p) (sym one.0) ∙ inside)

@@ -1,5 +1,6 @@
 -- What stands at each place of contents that were remade, and when two contents are one.
 use Rattle.std.proofs.Common.{◌≡◌, ◌∙◌, refl, sym, ap, Bool, true, false, cond, List, [], ◌∷◌, Option, Some, None}
+use Rattle.std.specs.Cmp.{eq_by_cmp_equiv}
 use Rattle.std.specs.FinMap as finite
 use Rattle.std.specs.Option.{option_and_then}
 use Rattle.std.specs.Ordering.{eq_by_cmp, is_eq}
@@ -15,7 +16,13 @@ equal Less e = cc
 equal Equal e = refl
 equal Greater e = cc
 
--- two places that are told to be one are one; and a place is itself
+-- two places that are told to be one are one, whichever is named first; and a place is itself
+pub same_turned : (p q : Place) → same_place p q ≡ same_place q p
+same_turned p q = (eq_by_cmp_equiv place_cmp_total).symm p q
+
+pub same_itself : (p : Place) → same_place p p ≡ true
+same_itself p = (eq_by_cmp_equiv place_cmp_total).refl p
+
 pub same_is : (p q : Place) → same_place p q ≡ true → p ≡ q
 same_is p q e = place_tied p q (equal (place_cmp p q) e)
 
@@ -43,7 +50,7 @@ module _ {X : Type 0} where
   pub same_contents : (m n : Contents X) → ((q : Place) → finite.get m q ≡ finite.get n q) → m ≡ n
   same_contents m n h = finite.same_map place_cmp_total place_tied m n h
 
-  both_made : (f g : X → Option X) (o : Option X) → option_and_then g (option_and_then f o) ≡ option_and_then (λ x. option_and_then g (f x)) o
+  pub both_made : (f g : X → Option X) (o : Option X) → option_and_then g (option_and_then f o) ≡ option_and_then (λ x. option_and_then g (f x)) o
   both_made f g None = refl
   both_made f g (Some x) = refl
 

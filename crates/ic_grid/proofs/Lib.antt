@@ -1,3 +1,6 @@
+pub mod ArrayLemmas
 pub mod BlockLemmas
 pub mod ContentsLemmas
+pub mod LoosenLemmas
 pub mod ReleaseLemmas
+pub mod WriteLemmas

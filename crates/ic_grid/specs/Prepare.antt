@@ -3,7 +3,7 @@ use Rattle.std.specs.Prelude.{ℕ, zero, suc, true, Option, Some, None, if◌the
 use Rattle.std.specs.FinMap as finite
 use Rattle.ic_grid.specs.Arrays.{anchor_at}
 use Rattle.ic_grid.specs.Block.{Place, next_place, same_place}
-use Rattle.ic_grid.specs.Contents.{Contents, changed_where, remade}
+use Rattle.ic_grid.specs.Contents.{Contents, changed_where}
 use Rattle.ic_grid.specs.Shape.{Holding, emptied, is_anchor, is_spill_of, reset}
 use Rattle.ic_grid.specs.declared.block.Block.{Block}
 
@@ -20,13 +20,10 @@ module _ {X : Type 0} (h : Holding X) where
   abbrev pub anchor_reset : X → X
   anchor_reset x = if is_anchor (h.shape x) then reset h x else x
 
-  -- what becomes of something when the array of the formula at this place is released: the formula has no value and is
-  -- for its own cell alone, and the cells of its spill are emptied
-  abbrev pub released_cell : Place → Place → X → X
-  released_cell a q x = if same_place q a then reset h x else unspilled a x
-
+  -- the array of the formula at this place is released: the formula has no value and is for its own cell alone, and the
+  -- cells of its spill are emptied
   abbrev pub released : Place → Contents X → Contents X
-  released a m = remade (λ q x. Some (released_cell a q x)) m
+  released a m = changed_where (λ q. same_place q a) anchor_reset (without_spill a m)
 
   abbrev pub released_if : Option Place → Contents X → Contents X
   released_if None m = m

@@ -1,6 +1,7 @@
 -- What a place of a sheet holds, by its shape; and how it is emptied and reset. The rules on arrays, spills and clearing
 -- look at nothing else, so they hold for cells and for whatever else a place holds.
-use Rattle.std.specs.Prelude.{ℕ, ℤ, pos, Bool, true, false, List, [], Option, Some, None}
+use Rattle.std.specs.Ordering.{int_eq}
+use Rattle.std.specs.Prelude.{ℕ, ℤ, pos, Bool, ◌&&◌, true, false, List, [], Option, Some, None}
 use Rattle.ic_laws.specs.declared.tree.Error.TheVariants as errors
 use Rattle.ic_cells.specs.Cell.{style_of}
 use Rattle.ic_cells.specs.declared.cell.ArrayKind.{ArrayKind}
@@ -57,6 +58,12 @@ is_empty shape = false
 abbrev pub is_anchor : Shape → Bool
 is_anchor (Anchor width height kind) = true
 is_anchor shape = false
+
+-- neither a spill's cell nor the formula of an array of more than one cell
+abbrev pub is_loose : Shape → Bool
+is_loose (Anchor width height kind) = int_eq width (pos 1) && int_eq height (pos 1)
+is_loose (SpillOf a) = false
+is_loose shape = true
 
 -- a formula, of an array or not
 abbrev pub is_formula : Shape → Bool

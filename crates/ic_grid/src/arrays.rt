@@ -7,25 +7,25 @@ use crate::{Array, Block};
 use ic_cells::{ArrayKind, Cell, PlaceMap};
 
 /// Where the formula stands of the array that a place belongs to.
-pub fn anchor_at(cells: &PlaceMap<Cell>, row: i32, column: i32) -> Option<(i32, i32)>
-    ensures { result ≡ anchor_at celled cells.now (row, column) }
+pub fn anchor_at(cells: &PlaceMap<Cell>, place: (i32, i32)) -> Option<(i32, i32)>
+    ensures { result ≡ anchor_at celled cells.now place }
 {
-    match cells.get(row, column) {
-        Some(Cell::ArrayFormula { .. }) => Some((row, column)),
+    match cells.get(place.0, place.1) {
+        Some(Cell::ArrayFormula { .. }) => Some(place),
         Some(Cell::SpillCell { a, .. }) => Some(*a),
         _ => None,
     }
 }
 
 /// The array of the formula at a place.
-pub fn array_of(cells: &PlaceMap<Cell>, row: i32, column: i32) -> Option<Array>
-    ensures { result ≡ array_of celled cells.now (row, column) }
+pub fn array_of(cells: &PlaceMap<Cell>, place: (i32, i32)) -> Option<Array>
+    ensures { result ≡ array_of celled cells.now place }
 {
-    match cells.get(row, column) {
+    match cells.get(place.0, place.1) {
         Some(Cell::ArrayFormula { r, kind, .. }) => Some(Array {
             block: Block {
-                row,
-                column,
+                row: place.0,
+                column: place.1,
                 width: r.0,
                 height: r.1,
             },
@@ -36,11 +36,11 @@ pub fn array_of(cells: &PlaceMap<Cell>, row: i32, column: i32) -> Option<Array>
 }
 
 /// The array that a place belongs to.
-pub fn array_at(cells: &PlaceMap<Cell>, row: i32, column: i32) -> Option<Array>
-    ensures { result ≡ array_at celled cells.now (row, column) }
+pub fn array_at(cells: &PlaceMap<Cell>, place: (i32, i32)) -> Option<Array>
+    ensures { result ≡ array_at celled cells.now place }
 {
-    match anchor_at(cells, row, column) {
-        Some((row, column)) => array_of(cells, row, column),
+    match anchor_at(cells, place) {
+        Some(anchor) => array_of(cells, anchor),
         None => None,
     }
 }
@@ -59,8 +59,8 @@ fn is_fixed(array: &Option<Array>) -> bool
 }
 
 /// Whether a place belongs to a Cse array of more than one cell.
-pub fn is_fixed_at(cells: &PlaceMap<Cell>, row: i32, column: i32) -> bool
-    ensures { result ≡ is_fixed_at celled cells.now (row, column) }
+pub fn is_fixed_at(cells: &PlaceMap<Cell>, place: (i32, i32)) -> bool
+    ensures { result ≡ is_fixed_at celled cells.now place }
 {
-    is_fixed(&array_at(cells, row, column))
+    is_fixed(&array_at(cells, place))
 }

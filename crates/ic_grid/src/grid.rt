@@ -59,7 +59,7 @@ impl Grid {
         if is_covered(self.merged_cells.as_slice(), row, column) {
             return Err(GridError::MergedPart);
         }
-        if is_fixed_at(&self.cells, row, column) {
+        if is_fixed_at(&self.cells, (row, column)) {
             return Err(GridError::ArrayPart);
         }
         Ok(())

@@ -8,6 +8,8 @@ mod error;
 mod grid;
 mod lines;
 mod merges;
+mod prepare;
+mod write;
 
 pub use block::{Array, Block};
 pub use error::GridError;
