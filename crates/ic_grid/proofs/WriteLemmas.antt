@@ -129,7 +129,8 @@ module _ (m : Contents Cell) where
 
   there_if : (o : Option Place) (q : Place) → is_some (finite.get (released_if celled o m) q) ≡ is_some (finite.get m q)
   there_if None q = refl
-  there_if (Some a) q = changed_there _ _ _ q ∙ changed_there _ _ m q
+  there_if (Some a) q =
+      changed_there (λ p. same_place p a) (anchor_reset celled) (changed_where (λ p. true) (unspilled celled a) m) q ∙ changed_there (λ p. true) (unspilled celled a) m q
 
   module _ (p : Place) where
     -- a place of nothing needs no preparing; and where something stood, something still does
