@@ -38,8 +38,8 @@ anchor_shape a Formula array e = cc
 anchor_shape a (SpillOf b) array e = cc
 anchor_shape a (Anchor w t k) array e = (w, t, k, refl, one e)
   where
-  one : Some (record { block = block_at a w t; kind = k }) ≡ Some array → array_with a w t k ≡ array
-  one e = cc
+    one : Some (record { block = block_at a w t; kind = k }) ≡ Some array → array_with a w t k ≡ array
+    one e = cc
 
 anchor_is : (p a : Place) (s : Shape) → anchor_of p s ≡ Some a → ((w : ℤ) × (t : ℤ) × (k : ArrayKind) × (s ≡ Anchor w t k) × (p ≡ a)) ⊎ (s ≡ SpillOf a)
 anchor_is p a Empty e = cc
@@ -114,14 +114,14 @@ module _ {X : Type 0} (h : Holding X) (m : Contents X) where
     pub whole_spill : (a : Place) (w t : ℤ) (k : ArrayKind) → Has h m a (Anchor w t k) → changed_where (is_in_block (block_at a w t)) (unspilled h a) m ≡ changed_where (λ q. true) (unspilled h a) m
     whole_spill a w t k has =
         remade_alike _ _ m (λ q x e.
-          ap Some (inside (is_in_block (block_at a w t) q) x (unspilled h a x) (λ out.
-            outside (is_spill_of a (h.shape x)) x (emptied h x) (λ spilt.
-              both_ways (is_in_block (block_at a w t) q) out (in_area a q w t k has (x, e, spill_shape a (h.shape x) spilt))))))
+        ap Some (inside (is_in_block (block_at a w t) q) x (unspilled h a x) (λ out.
+        outside (is_spill_of a (h.shape x)) x (emptied h x) (λ spilt.
+        both_ways (is_in_block (block_at a w t) q) out (in_area a q w t k has (x, e, spill_shape a (h.shape x) spilt))))))
 
     pub whole_release : (a : Place) (array : Array) → array_of h m a ≡ Some array → (between after : Contents X) → between ≡ changed_where (is_in_block array.block) (unspilled h (first_place array.block)) m
         → after ≡ changed_where (λ q. same_place q a) (anchor_reset h) between → after ≡ released h a m
     whole_release a array e between after one two =
         let has = array_there a array e in
         two ∙ ap (changed_where (λ q. same_place q a) (anchor_reset h)) (
-          one ∙ ap (λ (b : Array). changed_where (is_in_block b.block) (unspilled h (first_place b.block)) m) (sym has.4)
-          ∙ whole_spill a has.0 has.1 has.2 has.3)
+        one ∙ ap (λ (b : Array). changed_where (is_in_block b.block) (unspilled h (first_place b.block)) m) (sym has.4)
+        ∙ whole_spill a has.0 has.1 has.2 has.3)

@@ -62,8 +62,8 @@ module _ {X : Type 0} where
   pub remade_twice : (f g k : Place → X → Option X) (m : Contents X) → ((q : Place) (x : X) → finite.get m q ≡ Some x → option_and_then (g q) (f q x) ≡ k q x) → remade g (remade f m) ≡ remade k m
   remade_twice f g k m h =
       same_contents _ _ (λ q.
-        get-remade g (remade f m) q ∙ ap (option_and_then (g q)) (get-remade f m q) ∙ both_made (f q) (g q) (finite.get m q)
-        ∙ same_made (λ x. option_and_then (g q) (f q x)) (k q) (finite.get m q) (h q) ∙ sym (get-remade k m q))
+      get-remade g (remade f m) q ∙ ap (option_and_then (g q)) (get-remade f m q) ∙ both_made (f q) (g q) (finite.get m q)
+      ∙ same_made (λ x. option_and_then (g q) (f q x)) (k q) (finite.get m q) (h q) ∙ sym (get-remade k m q))
 
   -- remade in two ways that agree on what stands there
   pub remade_alike : (f g : Place → X → Option X) (m : Contents X) → ((q : Place) (x : X) → finite.get m q ≡ Some x → f q x ≡ g q x) → remade f m ≡ remade g m

@@ -54,9 +54,9 @@ module _ {X : Type 0} where
   pub one_changed : (m : Contents X) (p : Place) (f : X → X) (x : X) → finite.get m p ≡ Some x → finite.insert m p (f x) ≡ changed_where (λ q. same_place q p) f m
   one_changed m p f x here =
       same_contents _ _ (λ q.
-        finite.get-insert place_cmp_total m p (f x) q
-        ∙ at_one (finite.get m q) (same_place q p) f x (λ t. ap (finite.get m) (same_is q p t) ∙ here)
-        ∙ sym (get-remade _ m q))
+      finite.get-insert place_cmp_total m p (f x) q
+      ∙ at_one (finite.get m q) (same_place q p) f x (λ t. ap (finite.get m) (same_is q p t) ∙ here)
+      ∙ sym (get-remade _ m q))
 
   stays : (b : Bool) (f : X → X) (x : X) → (b ≡ true → f x ≡ x) → cond b (f x) x ≡ x
   stays true f x h = h refl
@@ -147,9 +147,9 @@ module _ (m : Contents Cell) (p : Place) where
   of_another a b s e t =
       let here = spill_is (finite.get m p) s b e in
       one_kept m p (unspilled celled a) (λ x is.
-        let same : Some x ≡ Some (cells.SpillCell s b here.0) = sym is ∙ here.1 in
-        let one : x ≡ cells.SpillCell s b here.0 = cc in
-        subst (λ (y : Cell). unspilled celled a y ≡ y) (sym one) (failed (same_place a b) (cells.EmptyCell s) (cells.SpillCell s b here.0) t))
+      let same : Some x ≡ Some (cells.SpillCell s b here.0) = sym is ∙ here.1 in
+      let one : x ≡ cells.SpillCell s b here.0 = cc in
+      subst (λ (y : Cell). unspilled celled a y ≡ y) (sym one) (failed (same_place a b) (cells.EmptyCell s) (cells.SpillCell s b here.0) t))
 
   pub none_there : (a : Place) → spill_of (finite.get m p) ≡ None → m ≡ changed_where (λ q. same_place q p) (unspilled celled a) m
   none_there a e = one_kept m p (unspilled celled a) (λ x is. no_spill x a (ap spill_of (sym is) ∙ e))
@@ -188,7 +188,7 @@ module _ (m : Contents Cell) (a : Place) where
   rows_begun row column last at e =
       nowhere _ (unspilled celled a) m (λ q. ap (λ n. is_in_lines row n column last q) e ∙ no_rows row column last q)
 
-  pub rows_more : (row column last at next k l r : ℤ) (now after : Contents Cell) → row ≤ℤ at → next ≡ at +ℤ pos 1 → k ≡ column → l ≡ last → r ≡ a.0 
+  pub rows_more : (row column last at next k l r : ℤ) (now after : Contents Cell) → row ≤ℤ at → next ≡ at +ℤ pos 1 → k ≡ column → l ≡ last → r ≡ a.0
       → now ≡ changed_where (is_in_lines row at column last) (unspilled celled a) m → after ≡ changed_where (is_in_lines at (at +ℤ pos 1) k l) (unspilled celled (r, k)) now
       → a.1 ≡ column → after ≡ changed_where (is_in_lines row next column last) (unspilled celled a) m
   rows_more row column last at next k l r now after least e f g i h j z =

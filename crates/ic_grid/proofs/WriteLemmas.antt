@@ -1,9 +1,11 @@
 -- A cell is written: what stands where then, and that all that holds of a sheet still does.
-use Rattle.std.proofs.Common.{◌≡◌, ◌∙◌, refl, sym, ap, subst, ℤ, Bool, true, false, cond, Option, Some, None, is_some, IsSome}
+use Rattle.std.proofs.Common.{◌≡◌, ◌∙◌, refl, sym, ap, subst, ℤ, Bool, true, false, cond, Option, Some, None, is_some, IsSome, List, [], arith}
 use Rattle.std.proofs.lemmas.Bool.{both_ways}
 use Rattle.std.specs.FinMap as finite
 use Rattle.std.specs.Option.{option_and_then}
+use Rattle.ic_cells.specs.Maps.{place_cmp}
 use Rattle.ic_cells.specs.declared.cell.Cell.{Cell}
+use Rattle.ic_cells.specs.declared.layout.Merge.{Merge}
 use Rattle.ic_cells.specs.declared.cell.Cell.TheVariants as cells
 use Rattle.ic_laws.proofs.core.CellWritten.{place_cmp_total}
 use Rattle.ic_grid.proofs.ArrayLemmas.{there}
@@ -11,7 +13,7 @@ use Rattle.ic_grid.proofs.ContentsLemmas.{both_made, get-remade, same_is, same_i
 use Rattle.ic_grid.proofs.LoosenLemmas.{Loosens, loosened_arrays, loosened_merges}
 use Rattle.ic_grid.specs.Arrays.{anchor_at, anchor_of}
 use Rattle.ic_grid.specs.Block.{Place, is_in_sheet, same_place}
-use Rattle.ic_grid.specs.Conditions.{AreArrays, AreInSheet}
+use Rattle.ic_grid.specs.Conditions.{AreArrays, AreInSheet, AreMerges}
 use Rattle.ic_grid.specs.Contents.{Contents, changed_where}
 use Rattle.ic_grid.specs.Prepare.{anchor_reset, prepared, released, released_if, unspilled, written}
 use Rattle.ic_grid.specs.Shape.{celled, emptied, is_loose, reset, shape_of}
@@ -67,7 +69,7 @@ kept_cell a q (cells.ArrayFormula f s r k v) b e t =
 kept_cell a q (cells.SpillCell s d v) b e t =
     let one : d ≡ b = cc in
     let same : unspilled celled a (cells.SpillCell s d v) ≡ cells.SpillCell s d v =
-      second_of_two (same_place a d) (cells.EmptyCell s) (cells.SpillCell s d v) (same_turned a d ∙ ap (λ p. same_place p a) one ∙ t) in
+    second_of_two (same_place a d) (cells.EmptyCell s) (cells.SpillCell s d v) (same_turned a d ∙ ap (λ p. same_place p a) one ∙ t) in
     ap (λ y. cond (same_place q a) (anchor_reset celled y) y) same ∙ either (same_place q a) (cells.SpillCell s d v)
 
 loose_either : (t : Bool) (x : Cell) → IsLooseCell x → IsLooseCell (cond t x x)
@@ -85,7 +87,7 @@ loose_cell a q (cells.ArrayFormula f s r k v) h =
     ap (λ y. is_loose (shape_of y)) (first_of_two (same_place q a) (reset celled (cells.ArrayFormula f s r k v)) (cells.ArrayFormula f s r k v) (h q refl)) ∙ refl
 loose_cell a q (cells.SpillCell s d v) h =
     let same : unspilled celled a (cells.SpillCell s d v) ≡ cells.EmptyCell s =
-      first_of_two (same_place a d) (cells.EmptyCell s) (cells.SpillCell s d v) (same_turned a d ∙ h d refl) in
+    first_of_two (same_place a d) (cells.EmptyCell s) (cells.SpillCell s d v) (same_turned a d ∙ h d refl) in
     ap (λ y. is_loose (shape_of (cond (same_place q a) (anchor_reset celled y) y))) same ∙ loose_either (same_place q a) (cells.EmptyCell s) refl
 
 -- a cell of no array is loose
@@ -150,33 +152,34 @@ module _ (m : Contents Cell) where
       pub written_loosens : IsLooseCell x → Loosens celled m (written celled p x m) (begins_at (anchor_at celled m p))
       written_loosens loose = record { kept = kept; loose = left }
         where
-        kept : (q b : Place) → anchor_at celled m q ≡ Some b → begins_at (anchor_at celled m p) b ≡ false → finite.get (written celled p x m) q ≡ finite.get m q
-        kept q b e t = by_place (same_place q p) refl
-          where
-          by_place : (s : Bool) → same_place q p ≡ s → finite.get (written celled p x m) q ≡ finite.get m q
-          by_place true s = absurd (both_ways (begins_at (anchor_at celled m p) b) t (at_itself q b (same_is q p s) e))
-          by_place false s =
-              written_at q ∙ second_of_two (same_place q p) (Some x) (finite.get (prepared celled p m) q) s ∙ kept_if (anchor_at celled m p) q b e t
-        left : (q : Place) → ((b : Place) → anchor_at celled m q ≡ Some b → begins_at (anchor_at celled m p) b ≡ true) → (y : Cell) → finite.get (written celled p x m) q ≡ Some y → IsLooseCell y
-        left q h y e = by_place (same_place q p) refl
-          where
-          by_place : (s : Bool) → same_place q p ≡ s → IsLooseCell y
-          by_place true s =
-              let some : Some x ≡ Some y = sym (first_of_two (same_place q p) (Some x) (finite.get (prepared celled p m) q) s) ∙ sym (written_at q) ∙ e in
-              let same : x ≡ y = cc in
-              ap (λ z. is_loose (shape_of z)) (sym same) ∙ loose
-          by_place false s =
-              loose_if (anchor_at celled m p) q h y (sym (second_of_two (same_place q p) (Some x) (finite.get (prepared celled p m) q) s) ∙ sym (written_at q) ∙ e)
+          kept : (q b : Place) → anchor_at celled m q ≡ Some b → begins_at (anchor_at celled m p) b ≡ false → finite.get (written celled p x m) q ≡ finite.get m q
+          kept q b e t = by_place (same_place q p) refl
+            where
+              by_place : (s : Bool) → same_place q p ≡ s → finite.get (written celled p x m) q ≡ finite.get m q
+              by_place true s = absurd (both_ways (begins_at (anchor_at celled m p) b) t (at_itself q b (same_is q p s) e))
+              by_place false s =
+                  written_at q ∙ second_of_two (same_place q p) (Some x) (finite.get (prepared celled p m) q) s ∙ kept_if (anchor_at celled m p) q b e t
+
+          left : (q : Place) → ((b : Place) → anchor_at celled m q ≡ Some b → begins_at (anchor_at celled m p) b ≡ true) → (y : Cell) → finite.get (written celled p x m) q ≡ Some y → IsLooseCell y
+          left q h y e = by_place (same_place q p) refl
+            where
+              by_place : (s : Bool) → same_place q p ≡ s → IsLooseCell y
+              by_place true s =
+                  let some : Some x ≡ Some y = sym (first_of_two (same_place q p) (Some x) (finite.get (prepared celled p m) q) s) ∙ sym (written_at q) ∙ e in
+                  let same : x ≡ y = cc in
+                  ap (λ z. is_loose (shape_of z)) (sym same) ∙ loose
+              by_place false s =
+                  loose_if (anchor_at celled m p) q h y (sym (second_of_two (same_place q p) (Some x) (finite.get (prepared celled p m) q) s) ∙ sym (written_at q) ∙ e)
 
       pub written_inside : AreInSheet celled m → is_in_sheet p ≡ true → AreInSheet celled (written celled p x m)
       written_inside inside here q y e = by_place (same_place q p) refl
         where
-        by_place : (s : Bool) → same_place q p ≡ s → is_in_sheet q ≡ true
-        by_place true s = ap is_in_sheet (same_is q p s) ∙ here
-        by_place false s =
-            let now : finite.get (prepared celled p m) q ≡ Some y = sym (second_of_two (same_place q p) (Some x) (finite.get (prepared celled p m) q) s) ∙ sym (written_at q) ∙ e in
-            let was = some_there (finite.get m q) (sym (there_if (anchor_at celled m p) q) ∙ ap is_some now) in
-            inside q was.0 was.1
+          by_place : (s : Bool) → same_place q p ≡ s → is_in_sheet q ≡ true
+          by_place true s = ap is_in_sheet (same_is q p s) ∙ here
+          by_place false s =
+              let now : finite.get (prepared celled p m) q ≡ Some y = sym (second_of_two (same_place q p) (Some x) (finite.get (prepared celled p m) q) s) ∙ sym (written_at q) ∙ e in
+              let was = some_there (finite.get m q) (sym (there_if (anchor_at celled m p) q) ∙ ap is_some now) in
+              inside q was.0 was.1
 
 -- a sheet in which a cell was written
 pub written_whole : (grid : Grid) (p : Place) (x : Cell) → IsGrid grid → is_in_sheet p ≡ true → is_loose (shape_of x) ≡ true → (after : Grid) → after ≡ record grid { cells = written celled p x grid.cells } → IsGrid after
@@ -188,3 +191,24 @@ written_whole grid p x ok here loose after e =
       arrays = loosened_arrays celled grid.cells (written celled p x grid.cells) _ l ok.arrays inside;
       merges = loosened_merges celled grid.cells (written celled p x grid.cells) _ l grid.merged_cells ok.merges;
     })
+
+nothing : (m : Contents Cell) → m ≡ finite.empty → (p : Place) (x : Cell) {P : Type 0} → finite.get m p ≡ Some x → P
+nothing m e p x f =
+    let never : None ≡ Some x = sym (finite.get-empty place_cmp p) ∙ ap (λ (n : Contents Cell). finite.get n p) (sym e) ∙ f in
+    cc
+
+-- all that holds of a sheet holds of an empty one
+pub empty_whole : (grid : Grid) → grid.cells ≡ finite.empty → grid.merged_cells ≡ [] → IsGrid grid
+empty_whole grid e f = record {
+  inside = λ p x h. nothing grid.cells e p x h;
+  arrays = record {
+    areas = λ a w t k has. nothing grid.cells e a has.0 has.1;
+    filled = λ a p w t k has within other. nothing grid.cells e a has.0 has.1;
+    owned = λ a p has. nothing grid.cells e p has.0 has.1;
+  };
+  merges = subst (λ (merges : List Merge). AreMerges celled grid.cells merges) (sym f) (record {
+    areas = λ k d less. absurd (omega arith);
+    apart = λ i j one other less here later. let never : None ≡ Some one = here in cc;
+    arrays = λ a array has many. refl;
+  });
+}

@@ -1,10 +1,15 @@
 //! Which array a place belongs to.
-ghost use Rattle.std.specs.Prelude.{◌≡◌};
-ghost use Rattle.ic_grid.specs.Arrays.{anchor_at, array_at, array_of, is_cut_by, is_fixed, is_fixed_at, reaches};
+ghost use Rattle.std.specs.Prelude.{◌≡◌, ◌&&◌};
+ghost use Rattle.std.specs.BTreeMap as tree;
+ghost use Rattle.std.specs.List.{list_any};
+ghost use Rattle.ic_cells.specs.Maps.{place_cmp};
+ghost use Rattle.ic_grid.specs.Arrays.{anchor_at, array_at, array_of, has_fixed, is_fixed, is_fixed_at};
+ghost use Rattle.ic_grid.specs.Block.{is_in_block};
 ghost use Rattle.ic_grid.specs.Shape.{celled};
 
 use crate::{Array, Block};
 use ic_cells::{ArrayKind, Cell, PlaceMap};
+use std::collections::BTreeMap;
 
 /// Where the formula stands of the array that a place belongs to.
 pub fn anchor_at(cells: &PlaceMap<Cell>, place: (i32, i32)) -> Option<(i32, i32)>
@@ -50,10 +55,12 @@ fn is_fixed(array: &Option<Array>) -> bool
     ensures { result ≡ is_fixed array.now }
 {
     match array {
-        Some(Array {
-            block,
-            kind: ArrayKind::Cse,
-        }) => !block.is_single(),
+        Some(
+            Array {
+                block,
+                kind: ArrayKind::Cse,
+            },
+        ) => !block.is_single(),
         _ => false,
     }
 }
@@ -63,4 +70,19 @@ pub fn is_fixed_at(cells: &PlaceMap<Cell>, place: (i32, i32)) -> bool
     ensures { result ≡ is_fixed_at celled cells.now place }
 {
     is_fixed(&array_at(cells, place))
+}
+
+/// Whether some place of a map in a block belongs to such an array.
+fn some_fixed(map: &BTreeMap<(i32, i32), Cell>, cells: &PlaceMap<Cell>, block: &Block) -> bool
+    ensures some { result ≡ list_any (λ p. is_in_block block.now p && is_fixed_at celled cells.now p) (tree.keys map.now) }
+    ensures ordered { tree.IsOrdered place_cmp map.now }
+{
+    map.keys().any(|place| block.contains(place.0, place.1) && is_fixed_at(cells, *place))
+}
+
+/// Whether some place of a block does. It looks at each cell that there is.
+pub fn has_fixed(cells: &PlaceMap<Cell>, block: &Block) -> bool
+    ensures { result ≡ has_fixed celled cells.now block.now }
+{
+    some_fixed(cells.as_map(), cells, block)
 }

@@ -1,11 +1,12 @@
-ghost use Rattle.std.specs.Prelude.{◌≡◌, Result};
-ghost use Rattle.ic_grid.specs.Calls.{can_write};
+ghost use Rattle.std.specs.Prelude.{◌≡◌};
+ghost use Rattle.ic_grid.specs.Block.{block_at};
+ghost use Rattle.ic_grid.specs.Calls.{can_write, can_write_array};
 ghost use Rattle.ic_grid.specs.Shape.{celled};
 ghost use Rattle.ic_grid.specs.Style.{style_at};
 
-use crate::GridError;
-use crate::arrays::is_fixed_at;
-use crate::merges::is_covered;
+use crate::arrays::{has_fixed, is_fixed_at};
+use crate::merges::{is_covered, meets_merge};
+use crate::{Block, GridError};
 use ic_cells::{Cell, ColumnProps, LineMap, Merge, PlaceMap, RowProps};
 use ic_laws::Items;
 
@@ -60,6 +61,33 @@ impl Grid {
             return Err(GridError::MergedPart);
         }
         if is_fixed_at(&self.cells, (row, column)) {
+            return Err(GridError::ArrayPart);
+        }
+        Ok(())
+    }
+
+    /// Whether an array can be written into a block of the sheet, from a place on: Ok, or why it can't. `MergedPart` comes
+    /// exactly where the block meets merged cells, and then `ArrayPart` exactly where one of its places belongs to a Cse
+    /// array of more than one cell. No memory is taken.
+    pub fn can_write_array(
+        &self,
+        row: i32,
+        column: i32,
+        width: i32,
+        height: i32,
+    ) -> Result<(), GridError>
+        ensures { result ≡ can_write_array celled self.now.merged_cells self.now.cells (block_at (row, column) width height) }
+    {
+        let block = Block {
+            row,
+            column,
+            width,
+            height,
+        };
+        if meets_merge(self.merged_cells.as_slice(), &block) {
+            return Err(GridError::MergedPart);
+        }
+        if has_fixed(&self.cells, &block) {
             return Err(GridError::ArrayPart);
         }
         Ok(())

@@ -9,6 +9,7 @@ mod grid;
 mod lines;
 mod merges;
 mod prepare;
+mod start;
 mod write;
 
 pub use block::{Array, Block};

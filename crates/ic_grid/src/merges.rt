@@ -1,6 +1,6 @@
 //! Merged cells.
 ghost use Rattle.std.specs.Prelude.{◌≡◌};
-ghost use Rattle.ic_grid.specs.Merges.{covers, is_covered, is_merged, meets_merge, merged_block};
+ghost use Rattle.ic_grid.specs.Merges.{covers, is_covered, meets_merge, merged_block};
 
 use crate::Block;
 use crate::block::is_same;
@@ -30,13 +30,6 @@ pub fn is_covered(merges: &[Merge], row: i32, column: i32) -> bool
     ensures { result ≡ is_covered merges.now (row, column) }
 {
     merges.iter().any(|merge| covers(merge, row, column))
-}
-
-/// Whether a place is one of merged cells.
-pub fn is_merged(merges: &[Merge], row: i32, column: i32) -> bool
-    ensures { result ≡ is_merged merges.now (row, column) }
-{
-    merges.iter().any(|merge| merged_block(merge).contains(row, column))
 }
 
 /// Whether a block meets merged cells.

@@ -31,11 +31,7 @@ fn put(cells: &mut PlaceMap<Cell>, place: (i32, i32), cell: Cell) -> Result<(), 
 }
 
 /// Writes a cell at a place that was prepared for it.
-fn write_at(
-    cells: &mut PlaceMap<Cell>,
-    place: (i32, i32),
-    cell: Cell,
-) -> Result<(), OutOfMemory>
+fn write_at(cells: &mut PlaceMap<Cell>, place: (i32, i32), cell: Cell) -> Result<(), OutOfMemory>
     requires { AreArrays celled cells.old }
     ensures ok { OnOk result (cells.new ≡ written celled place cell cells.old) }
     ensures err { OnErr result (cells.new ≡ cells.old) }

@@ -30,10 +30,10 @@ loop-row-preserved c =
       least = omega (arith, ints);
       most = omega (arith, ints);
       done =
-        rows_more c.args.cells.now (first_place c.args.block.now) c.args.block.now.row c.args.block.now.column (c.args.block.now.column +ℤ c.args.block.now.width) (to_z w32 c.loop-row.row-bits)
-        (to_z w32 (of_z w32 (to_z w32 c.loop-row.row-bits +ℤ pos 1))) (to_z w32 (of_z w32 c.args.block.now.column)) (to_z w32 (of_z w32 (to_z w32 (of_z w32 c.args.block.now.column) +ℤ to_z w32 (of_z w32 c.args.block.now.width))))
-        (to_z w32 (of_z w32 c.args.block.now.row))
-        c.loop-row.cells c.unspill_row.new.cells c.loop-row.invariant.least (omega (arith, ints)) (omega (arith, ints)) (omega (arith, ints)) (omega (arith, ints)) c.loop-row.invariant.done c.unspill_row.ensures refl;
+          rows_more c.args.cells.now (first_place c.args.block.now) c.args.block.now.row c.args.block.now.column (c.args.block.now.column +ℤ c.args.block.now.width) (to_z w32 c.loop-row.row-bits)
+          (to_z w32 (of_z w32 (to_z w32 c.loop-row.row-bits +ℤ pos 1))) (to_z w32 (of_z w32 c.args.block.now.column)) (to_z w32 (of_z w32 (to_z w32 (of_z w32 c.args.block.now.column) +ℤ to_z w32 (of_z w32 c.args.block.now.width))))
+          (to_z w32 (of_z w32 c.args.block.now.row))
+          c.loop-row.cells c.unspill_row.new.cells c.loop-row.invariant.least (omega (arith, ints)) (omega (arith, ints)) (omega (arith, ints)) (omega (arith, ints)) c.loop-row.invariant.done c.unspill_row.ensures refl;
     }
 
 pub returns : goal.returns

@@ -15,8 +15,8 @@ loop-at-preserved c = record {
   least = omega (arith, ints);
   most = omega (arith, ints);
   done =
-    columns_more c.args.cells.now c.args.anchor (to_z w32 (of_z w32 c.args.row)) (to_z w32 (of_z w32 c.args.column)) (to_z w32 c.loop-at.at-bits) (to_z w32 (of_z w32 (to_z w32 c.loop-at.at-bits +ℤ pos 1)))
-    c.loop-at.cells c.unspill.new.cells c.loop-at.invariant.least (omega (arith, ints)) c.loop-at.invariant.done c.unspill.ensures;
+      columns_more c.args.cells.now c.args.anchor (to_z w32 (of_z w32 c.args.row)) (to_z w32 (of_z w32 c.args.column)) (to_z w32 c.loop-at.at-bits) (to_z w32 (of_z w32 (to_z w32 c.loop-at.at-bits +ℤ pos 1)))
+      c.loop-at.cells c.unspill.new.cells c.loop-at.invariant.least (omega (arith, ints)) c.loop-at.invariant.done c.unspill.ensures;
 }
 
 pub returns : goal.returns
