@@ -4,16 +4,14 @@ use Rattle.std.proofs.lemmas.Bool.{both_ways}
 use Rattle.std.specs.FinMap as finite
 use Rattle.std.specs.Option.{option_and_then}
 use Rattle.ic_cells.specs.declared.cell.ArrayKind.{ArrayKind}
-use Rattle.ic_cells.specs.declared.cell.Cell.{Cell}
 use Rattle.ic_grid.proofs.ContentsLemmas.{remade_alike, same_is}
 use Rattle.ic_grid.specs.Arrays.{anchor_at, anchor_of, array_from, array_of}
 use Rattle.ic_grid.specs.Block.{Place, block_at, first_place, is_area, is_in_block, same_place}
 use Rattle.ic_grid.specs.Conditions.{AreArrays, Has}
 use Rattle.ic_grid.specs.Contents.{Contents, changed_where}
 use Rattle.ic_grid.specs.Prepare.{anchor_reset, released, unspilled}
-use Rattle.ic_grid.specs.Shape.{Holding, Shape, Empty, Value, Formula, Anchor, SpillOf, celled, emptied, is_spill_of}
+use Rattle.ic_grid.specs.Shape.{Holding, Shape, Empty, Value, Formula, Anchor, SpillOf, emptied, is_spill_of}
 use Rattle.ic_grid.specs.declared.block.Array.{Array}
-use Rattle.ic_grid.specs.declared.block.Block.{Block}
 
 -- what answers something has something to answer it for
 pub there : {A B : Type 0} (f : A → Option B) (o : Option A) (b : B) → option_and_then f o ≡ Some b → (x : A) × (o ≡ Some x) × (f x ≡ Some b)

@@ -1,9 +1,9 @@
 -- Which numbers and places blocks hold, as they grow by a column or a row.
-use Rattle.std.proofs.Common.{◌≡◌, ◌∙◌, refl, sym, ap, ap₂, Bool, true, false, cond, not, ◌&&◌, ◌||◌, ℤ, pos, arith}
+use Rattle.std.proofs.Common.{◌≡◌, ◌∙◌, refl, sym, ap, ap₂, Bool, true, false, ◌&&◌, ◌||◌, ℤ, pos, arith}
 use Rattle.std.proofs.lemmas.Bool.{and_parts, and_from}
 use Rattle.std.proofs.lemmas.Bool.Decides.{Decides-int_eq}
 use Rattle.std.proofs.lemmas.Int.{ints}
-use Rattle.std.specs.Prelude.{int_le, int_lt, ◌+ℤ◌, ◌≤ℤ◌, ◌<ℤ◌}
+use Rattle.std.specs.Prelude.{int_le, ◌+ℤ◌, ◌≤ℤ◌}
 use Rattle.std.specs.Ordering.{int_cmp, int_eq, is_eq, ordering_then}
 use Rattle.std.specs.declared.cmp.Ordering.{Ordering}
 use Rattle.std.specs.declared.cmp.Ordering.TheVariants.{Less, Equal, Greater}

@@ -1,18 +1,16 @@
 -- Some arrays of a sheet are loosened: none of their cells is one of an array of more than one cell any more. The others
 -- stay as they are. What holds of all arrays still does.
-use Rattle.std.proofs.Common.{◌≡◌, ◌∙◌, ◌⊎◌, inl, inr, refl, sym, ap, ap₂, subst, ℤ, pos, Bool, true, false, cond, ◌&&◌, not, List, Option, Some, None, arith}
-use Rattle.std.proofs.lemmas.Bool.{and_parts, both_ways, cases_Bool}
-use Rattle.std.proofs.lemmas.Int.{ints}
+use Rattle.std.proofs.Common.{◌≡◌, ◌∙◌, ◌⊎◌, inl, inr, refl, sym, ap, ℤ, pos, Bool, true, false, ◌&&◌, List, Option, Some, None}
+use Rattle.std.proofs.lemmas.Bool.{both_ways}
 use Rattle.std.specs.FinMap as finite
 use Rattle.std.specs.Option.{option_and_then}
 use Rattle.std.specs.Ordering.{int_eq}
-use Rattle.std.specs.Prelude.{◌+ℤ◌}
 use Rattle.ic_cells.specs.declared.cell.ArrayKind.{ArrayKind}
 use Rattle.ic_cells.specs.declared.layout.Merge.{Merge}
 use Rattle.ic_grid.proofs.ArrayLemmas.{anchor_at_of, array_there, array_with}
 use Rattle.ic_grid.proofs.BlockLemmas.{block_of_one, one_is_area}
 use Rattle.ic_grid.specs.Arrays.{anchor_at, array_from, array_of}
-use Rattle.ic_grid.specs.Block.{Place, block_at, is_area, is_in_block, is_in_sheet, is_single, same_place}
+use Rattle.ic_grid.specs.Block.{Place, block_at, is_area, is_in_block, is_single, same_place}
 use Rattle.ic_grid.specs.Conditions.{AreArrays, AreInSheet, AreMerges, Has}
 use Rattle.ic_grid.specs.Contents.{Contents}
 use Rattle.ic_grid.specs.Merges.{meets_merge}

@@ -4,12 +4,12 @@ use Rattle.std.specs.FinMap as finite
 use Rattle.std.specs.Option.{option_and_then}
 use Rattle.std.specs.Prelude.{◌+ℤ◌, ◌≤ℤ◌}
 use Rattle.ic_laws.proofs.core.CellWritten.{place_cmp_total}
-use Rattle.ic_grid.proofs.ContentsLemmas.{get-remade, remade_alike, remade_twice, same_contents, same_is}
+use Rattle.ic_grid.proofs.ContentsLemmas.{get-remade, remade_twice, same_contents, same_is}
 use Rattle.ic_grid.proofs.BlockLemmas.{column_more, no_columns, no_rows, row_more}
 use Rattle.ic_grid.specs.Block.{Place, is_in_lines, same_place}
-use Rattle.ic_grid.specs.Contents.{Contents, changed_where, remade}
+use Rattle.ic_grid.specs.Contents.{Contents, changed_where}
 use Rattle.ic_grid.specs.Prepare.{anchor_reset, unspilled}
-use Rattle.ic_grid.specs.Shape.{array_formula_of, celled, is_spill_of, shape_of, spill_of}
+use Rattle.ic_grid.specs.Shape.{array_formula_of, celled, spill_of}
 use Rattle.ic_cells.specs.declared.cell.ArrayKind.{ArrayKind}
 use Rattle.ic_cells.specs.declared.value.FormulaValue.TheVariants as formulas
 use Rattle.ic_cells.specs.declared.value.FormulaValue.{FormulaValue}

@@ -1,5 +1,5 @@
 -- A cell is written: what stands where then, and that all that holds of a sheet still does.
-use Rattle.std.proofs.Common.{◌≡◌, ◌∙◌, refl, sym, ap, subst, ℤ, Bool, true, false, cond, Option, Some, None, is_some, IsSome, List, [], arith}
+use Rattle.std.proofs.Common.{◌≡◌, ◌∙◌, refl, sym, ap, subst, Bool, true, false, cond, Option, Some, None, is_some, IsSome, List, [], arith}
 use Rattle.std.proofs.lemmas.Bool.{both_ways}
 use Rattle.std.specs.FinMap as finite
 use Rattle.std.specs.Option.{option_and_then}
@@ -13,10 +13,10 @@ use Rattle.ic_grid.proofs.ContentsLemmas.{both_made, get-remade, same_is, same_i
 use Rattle.ic_grid.proofs.LoosenLemmas.{Loosens, loosened_arrays, loosened_merges}
 use Rattle.ic_grid.specs.Arrays.{anchor_at, anchor_of}
 use Rattle.ic_grid.specs.Block.{Place, is_in_sheet, same_place}
-use Rattle.ic_grid.specs.Conditions.{AreArrays, AreInSheet, AreMerges}
+use Rattle.ic_grid.specs.Conditions.{AreInSheet, AreMerges}
 use Rattle.ic_grid.specs.Contents.{Contents, changed_where}
 use Rattle.ic_grid.specs.Prepare.{anchor_reset, prepared, released, released_if, unspilled, written}
-use Rattle.ic_grid.specs.Shape.{celled, emptied, is_loose, reset, shape_of}
+use Rattle.ic_grid.specs.Shape.{celled, is_loose, reset, shape_of}
 use Rattle.ic_grid.specs.Whole.{IsGrid}
 use Rattle.ic_grid.specs.declared.grid.Grid.{Grid}
 

@@ -1,5 +1,5 @@
 -- Blocks of places: which places they hold, whether they meet, and the order by rows.
-use Rattle.std.specs.Prelude.{ℕ, ℤ, pos, ◌+ℤ◌, Bool, ◌&&◌, int_le, int_lt, if◌then◌else◌}
+use Rattle.std.specs.Prelude.{ℤ, pos, ◌+ℤ◌, Bool, ◌&&◌, int_le, int_lt, if◌then◌else◌}
 use Rattle.std.specs.Ordering.{eq_by_cmp, int_eq}
 use Rattle.ic_laws.specs.Position.{is_column, is_row}
 use Rattle.ic_laws.specs.declared.reference.TheConstants.{LAST_COLUMN, LAST_ROW}

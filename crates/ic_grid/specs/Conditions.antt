@@ -1,5 +1,5 @@
 -- What holds of a sheet's cells and merges between calls.
-use Rattle.std.specs.Prelude.{◌≡◌, ◌<◌, ℕ, ℤ, Bool, true, false, List, Some, length}
+use Rattle.std.specs.Prelude.{◌≡◌, ◌<◌, ℕ, ℤ, true, false, List, Some}
 use Rattle.std.specs.FinMap as finite
 use Rattle.std.specs.List.{All, slice_get}
 use Rattle.ic_cells.specs.declared.cell.ArrayKind.{ArrayKind}

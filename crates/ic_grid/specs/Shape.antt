@@ -1,7 +1,7 @@
 -- What a place of a sheet holds, by its shape; and how it is emptied and reset. The rules on arrays, spills and clearing
 -- look at nothing else, so they hold for cells and for whatever else a place holds.
 use Rattle.std.specs.Ordering.{int_eq}
-use Rattle.std.specs.Prelude.{ℕ, ℤ, pos, Bool, ◌&&◌, true, false, List, [], Option, Some, None}
+use Rattle.std.specs.Prelude.{ℕ, ℤ, pos, Bool, ◌&&◌, true, false, [], Option, Some, None}
 use Rattle.ic_laws.specs.declared.tree.Error.TheVariants as errors
 use Rattle.ic_cells.specs.Cell.{style_of}
 use Rattle.ic_cells.specs.declared.cell.ArrayKind.{ArrayKind}

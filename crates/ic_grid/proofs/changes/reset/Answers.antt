@@ -1,7 +1,5 @@
-use Rattle.std.proofs.Common.{◌≡◌, ◌∙◌, sym, Some}
-use Rattle.std.specs.FinMap as finite
+use Rattle.std.proofs.Common.{◌∙◌, sym}
 use Rattle.ic_grid.proofs.ReleaseLemmas.{is_reset, none_to_reset}
-use Rattle.ic_grid.specs.Shape.{array_formula_of}
 use Rattle.ic_grid.proofs.changes.reset.Goals as goal
 
 pub returns-in-Some : goal.returns-in-Some

@@ -1,4 +1,4 @@
-use Rattle.std.proofs.Common.{◌≡◌, ◌∙◌, sym, Some}
+use Rattle.std.proofs.Common.{◌∙◌, sym}
 use Rattle.ic_grid.proofs.ReleaseLemmas.{is_unspilled, none_there, of_another}
 use Rattle.ic_grid.proofs.changes.unspill.Goals as goal
 

@@ -1,5 +1,5 @@
-use Rattle.std.proofs.Common.{◌≡◌, ◌∙◌, refl, sym, ap, arith, to_z, of_z, w32, ◌+ℤ◌, pos, SFits}
-use Rattle.std.proofs.lemmas.Int.{ints, to_z-of_z}
+use Rattle.std.proofs.Common.{refl, arith, to_z, of_z, w32, ◌+ℤ◌, pos}
+use Rattle.std.proofs.lemmas.Int.{ints}
 use Rattle.ic_grid.proofs.BlockLemmas.{area_bounds}
 use Rattle.ic_grid.proofs.ReleaseLemmas.{rows_begun, rows_done, rows_more}
 use Rattle.ic_grid.specs.Block.{first_place}

@@ -1,4 +1,4 @@
-use Rattle.std.proofs.Common.{◌≡◌, ◌∙◌, sym, ap}
+use Rattle.std.proofs.Common.{◌∙◌, sym, ap}
 use Rattle.ic_grid.proofs.ArrayLemmas.{anchored}
 use Rattle.ic_grid.specs.Prepare.{released_if}
 use Rattle.ic_grid.specs.Shape.{celled}

@@ -1,4 +1,4 @@
-use Rattle.std.proofs.Common.{◌≡◌, ◌∙◌, ap, ap₂, ℤ, w32, to_z, of_z}
+use Rattle.std.proofs.Common.{◌∙◌, ap, ap₂, ℤ, w32}
 use Rattle.std.proofs.lemmas.Int.{to_z-of_z}
 use Rattle.ic_grid.proofs.WriteLemmas.{written_whole}
 use Rattle.ic_grid.specs.Contents.{Contents}
