@@ -74,7 +74,9 @@ pub fn is_fixed_at(cells: &PlaceMap<Cell>, place: (i32, i32)) -> bool
 
 /// Whether some place of a map in a block belongs to such an array.
 fn some_fixed(map: &BTreeMap<(i32, i32), Cell>, cells: &PlaceMap<Cell>, block: &Block) -> bool
-    ensures some { result ≡ list_any (λ p. is_in_block block.now p && is_fixed_at celled cells.now p) (tree.keys map.now) }
+    ensures some { result
+        ≡ list_any (λ p. is_in_block block.now p && is_fixed_at celled cells.now p)
+        (tree.keys map.now) }
     ensures ordered { tree.IsOrdered place_cmp map.now }
 {
     map.keys().any(|place| block.contains(place.0, place.1) && is_fixed_at(cells, *place))

@@ -43,7 +43,8 @@ fn formula_at(cells: &PlaceMap<Cell>, place: (i32, i32)) -> Option<(usize, usize
 
 /// Empties a cell, if it is one of the spill of the formula at a place.
 fn unspill(cells: &mut PlaceMap<Cell>, place: (i32, i32), anchor: (i32, i32))
-    ensures { cells.new ≡ changed_where (λ q. same_place q place) (unspilled celled anchor) cells.old }
+    ensures { cells.new
+        ≡ changed_where (λ q. same_place q place) (unspilled celled anchor) cells.old }
 {
     if let Some((s, a)) = spill_at(cells, place) {
         if is_same(anchor, a) {
@@ -61,7 +62,8 @@ fn unspill_row(
     anchor: (i32, i32),
 )
     requires { column ≤ℤ last_column }
-    ensures { cells.new ≡ changed_where (is_in_lines row (row +ℤ pos 1) column last_column) (unspilled celled anchor) cells.old }
+    ensures { cells.new ≡ changed_where (is_in_lines row (row +ℤ pos 1) column last_column)
+        (unspilled celled anchor) cells.old }
 {
     for at in column..last_column {
         unspill(cells, (row, at), anchor);
@@ -71,7 +73,8 @@ fn unspill_row(
 /// Empties the cells of the spill in a block of the formula at its first place.
 pub fn unspill_block(cells: &mut PlaceMap<Cell>, block: &Block)
     requires { is_area block.now ≡ true }
-    ensures { cells.new ≡ changed_where (is_in_block block.now) (unspilled celled (first_place block.now)) cells.old }
+    ensures { cells.new ≡ changed_where (is_in_block block.now)
+        (unspilled celled (first_place block.now)) cells.old }
 {
     let last_column = block.column + block.width;
     let anchor = (block.row, block.column);

@@ -40,7 +40,8 @@ impl Grid {
     /// The number of the style that a place shows: its cell's, else its row's, else its column's, else 0. The place may lie
     /// outside of the sheet. No memory is taken.
     pub fn style_at(&self, row: i32, column: i32) -> usize
-        ensures { result ≡ style_at celled self.now.cells self.now.rows self.now.columns (row, column) }
+        ensures { result
+            ≡ style_at celled self.now.cells self.now.rows self.now.columns (row, column) }
     {
         if let Some(cell) = self.cells.get(row, column) {
             return cell.get_style();
@@ -76,7 +77,9 @@ impl Grid {
         width: i32,
         height: i32,
     ) -> Result<(), GridError>
-        ensures { result ≡ can_write_array celled self.now.merged_cells self.now.cells (block_at (row, column) width height) }
+        ensures { result
+            ≡ can_write_array celled self.now.merged_cells self.now.cells
+            (block_at (row, column) width height) }
     {
         let block = Block {
             row,

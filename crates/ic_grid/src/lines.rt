@@ -25,7 +25,8 @@ impl Grid {
 
     /// Puts what is set for a row.
     fn put_row(&mut self, row: i32, props: RowProps) -> Result<(), OutOfMemory>
-        ensures ok { OnOk result (self.new ≡ record self.old { rows = finite.insert self.old.rows row props }) }
+        ensures ok { OnOk result (self.new
+            ≡ record self.old { rows = finite.insert self.old.rows row props }) }
         ensures err { OnErr result (self.new ≡ self.old) }
     {
         self.rows.insert(row, props)?;
@@ -58,7 +59,8 @@ impl Grid {
 
     /// Gives a row a height, in hundredths. Only memory can be missing, and then nothing has changed.
     pub fn set_row_height(&mut self, row: i32, height: u32) -> Result<(), OutOfMemory>
-        ensures ok { OnOk result (self.new ≡ record self.old { rows = with_row_height row height self.old.rows }) }
+        ensures ok { OnOk result (self.new
+            ≡ record self.old { rows = with_row_height row height self.old.rows }) }
         ensures err { OnErr result (self.new ≡ self.old) }
     {
         let mut props = self.row_props(row);
@@ -68,7 +70,8 @@ impl Grid {
 
     /// Hides a row, or shows it. Only memory can be missing, and then nothing has changed.
     pub fn set_row_hidden(&mut self, row: i32, hidden: bool) -> Result<(), OutOfMemory>
-        ensures ok { OnOk result (self.new ≡ record self.old { rows = with_row_hidden row hidden self.old.rows }) }
+        ensures ok { OnOk result (self.new
+            ≡ record self.old { rows = with_row_hidden row hidden self.old.rows }) }
         ensures err { OnErr result (self.new ≡ self.old) }
     {
         let mut props = self.row_props(row);
@@ -78,7 +81,8 @@ impl Grid {
 
     /// Gives a row the style with this number. Only memory can be missing, and then nothing has changed.
     pub fn set_row_style(&mut self, row: i32, style: usize) -> Result<(), OutOfMemory>
-        ensures ok { OnOk result (self.new ≡ record self.old { rows = with_row_style row (Some style) self.old.rows }) }
+        ensures ok { OnOk result (self.new
+            ≡ record self.old { rows = with_row_style row (Some style) self.old.rows }) }
         ensures err { OnErr result (self.new ≡ self.old) }
     {
         let mut props = self.row_props(row);
@@ -104,7 +108,8 @@ impl Grid {
 
     /// Puts what is set for a column.
     fn put_column(&mut self, column: i32, props: ColumnProps) -> Result<(), OutOfMemory>
-        ensures ok { OnOk result (self.new ≡ record self.old { columns = finite.insert self.old.columns column props }) }
+        ensures ok { OnOk result (self.new
+            ≡ record self.old { columns = finite.insert self.old.columns column props }) }
         ensures err { OnErr result (self.new ≡ self.old) }
     {
         self.columns.insert(column, props)?;
@@ -127,7 +132,8 @@ impl Grid {
 
     /// The number of the style that was set for a column. None exactly where none was.
     pub fn column_style(&self, column: i32) -> Option<usize>
-        ensures { result ≡ option_and_then (λ props. props.style) (finite.get self.now.columns column) }
+        ensures { result
+            ≡ option_and_then (λ props. props.style) (finite.get self.now.columns column) }
     {
         match self.columns.get(column) {
             Some(props) => props.style,
@@ -137,7 +143,8 @@ impl Grid {
 
     /// Gives a column a width, in hundredths. Only memory can be missing, and then nothing has changed.
     pub fn set_column_width(&mut self, column: i32, width: u32) -> Result<(), OutOfMemory>
-        ensures ok { OnOk result (self.new ≡ record self.old { columns = with_column_width column width self.old.columns }) }
+        ensures ok { OnOk result (self.new
+            ≡ record self.old { columns = with_column_width column width self.old.columns }) }
         ensures err { OnErr result (self.new ≡ self.old) }
     {
         let mut props = self.column_props(column);
@@ -147,7 +154,8 @@ impl Grid {
 
     /// Hides a column, or shows it. Only memory can be missing, and then nothing has changed.
     pub fn set_column_hidden(&mut self, column: i32, hidden: bool) -> Result<(), OutOfMemory>
-        ensures ok { OnOk result (self.new ≡ record self.old { columns = with_column_hidden column hidden self.old.columns }) }
+        ensures ok { OnOk result (self.new
+            ≡ record self.old { columns = with_column_hidden column hidden self.old.columns }) }
         ensures err { OnErr result (self.new ≡ self.old) }
     {
         let mut props = self.column_props(column);
@@ -157,7 +165,10 @@ impl Grid {
 
     /// Gives a column the style with this number. Only memory can be missing, and then nothing has changed.
     pub fn set_column_style(&mut self, column: i32, style: usize) -> Result<(), OutOfMemory>
-        ensures ok { OnOk result (self.new ≡ record self.old { columns = with_column_style column (Some style) self.old.columns }) }
+        ensures ok { OnOk result (self.new
+            ≡ record self.old {
+              columns = with_column_style column (Some style) self.old.columns;
+            }) }
         ensures err { OnErr result (self.new ≡ self.old) }
     {
         let mut props = self.column_props(column);

@@ -54,9 +54,12 @@ impl Grid {
         requires whole { IsGrid self.old }
         requires place { is_in_sheet (row, column) ≡ true }
         requires cell { is_loose (shape_of cell) ≡ true }
-        ensures allowed { OnOk result (can_write celled self.old.merged_cells self.old.cells (row, column) ≡ Ok tt) }
-        ensures ok { OnOk result (self.new ≡ record self.old { cells = written celled (row, column) cell self.old.cells }) }
-        ensures err { IfErr result (IsRefusal (can_write celled self.old.merged_cells self.old.cells (row, column))) }
+        ensures allowed { OnOk result
+            (can_write celled self.old.merged_cells self.old.cells (row, column) ≡ Ok tt) }
+        ensures ok { OnOk result (self.new
+            ≡ record self.old { cells = written celled (row, column) cell self.old.cells }) }
+        ensures err { IfErr result
+            (IsRefusal (can_write celled self.old.merged_cells self.old.cells (row, column))) }
         ensures kept { OnErr result (self.new ≡ self.old) }
         ensures whole { IsGrid self.new }
     {
