@@ -1,17 +1,12 @@
 -- Arrays: which one a place belongs to, and those whose area doesn't change.
-use Rattle.std.specs.Prelude.{ℤ, Bool, false, not, ◌&&◌, Option, Some, None, option_and_then}
+use Rattle.std.specs.Prelude.{Bool, false, not, ◌&&◌, Option, Some, None, option_and_then}
 use Rattle.std.specs.FinMap as finite
 use Rattle.std.specs.List.{list_any}
-use Rattle.ic_cells.specs.declared.cell.ArrayKind.{ArrayKind}
 use Rattle.ic_grid.specs.Block.{Place, block_at, blocks_meet, is_block_within, is_in_block, is_single}
 use Rattle.ic_grid.specs.Contents.{Contents}
-use Rattle.ic_grid.specs.Shape.{Holding, Shape, Empty, Value, Formula, Anchor, SpillOf, is_cse}
+use Rattle.ic_grid.specs.Shape.{Holding, Shape, Anchor, SpillOf, is_cse}
+use Rattle.ic_grid.specs.declared.block.Array.{Array}
 use Rattle.ic_grid.specs.declared.block.Block.{Block}
-
--- the area of an array formula and its kind
-pub record Array : Type 0 where
-  pub block : Block
-  pub kind : ArrayKind
 
 -- where the formula stands of the array that something at this place belongs to: there itself, or where a spill's cell says
 abbrev pub anchor_of : Place → Shape → Option Place

@@ -1,5 +1,5 @@
 -- Blocks of places: which places they hold, whether they meet, and the order by rows.
-use Rattle.std.specs.Prelude.{ℕ, ℤ, pos, ◌+ℤ◌, Bool, ◌&&◌, int_le, int_lt, if◌then◌else◌}
+use Rattle.std.specs.Prelude.{ℤ, pos, ◌+ℤ◌, Bool, ◌&&◌, int_le, int_lt, if◌then◌else◌}
 use Rattle.std.specs.Ordering.{eq_by_cmp, int_eq}
 use Rattle.ic_laws.specs.Position.{is_column, is_row}
 use Rattle.ic_laws.specs.declared.reference.TheConstants.{LAST_COLUMN, LAST_ROW}
@@ -18,22 +18,30 @@ same_place = eq_by_cmp place_cmp
 abbrev pub is_in_sheet : Place → Bool
 is_in_sheet p = is_row p.0 && is_column p.1
 
--- the numbers from one on, so many
+-- a number is one of those from the first on, up to the last, which is left out
+unfoldable pub is_between : ℤ → ℤ → ℤ → Bool
+is_between first last n = int_le first n && int_lt n last
+
+-- a number is one of so many from the first on
 abbrev pub is_in_span : ℤ → ℤ → ℤ → Bool
-is_in_span first count n = int_le first n && int_lt n (first +ℤ count)
+is_in_span first count n = is_between first (first +ℤ count) n
+
+-- a place lies in rows and columns from the first on, up to the last, which are left out
+abbrev pub is_in_lines : ℤ → ℤ → ℤ → ℤ → Place → Bool
+is_in_lines row last_row column last_column p = is_between row last_row p.0 && is_between column last_column p.1
 
 -- a place is one of a block
 abbrev pub is_in_block : Block → Place → Bool
 is_in_block b p = is_in_span b.row b.height p.0 && is_in_span b.column b.width p.1
 
-abbrev pub spans_meet : ℤ → ℤ → ℤ → ℤ → Bool
+unfoldable pub spans_meet : ℤ → ℤ → ℤ → ℤ → Bool
 spans_meet first count other many = int_lt first (other +ℤ many) && int_lt other (first +ℤ count)
 
 -- two blocks, each with a place at least, have a place in common
 abbrev pub blocks_meet : Block → Block → Bool
 blocks_meet b c = spans_meet b.row b.height c.row c.height && spans_meet b.column b.width c.column c.width
 
-abbrev pub is_span_within : ℤ → ℤ → ℤ → ℤ → Bool
+unfoldable pub is_span_within : ℤ → ℤ → ℤ → ℤ → Bool
 is_span_within first count other many = int_le other first && int_le (first +ℤ count) (other +ℤ many)
 
 -- each place of the first block is one of the second

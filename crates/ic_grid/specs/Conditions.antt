@@ -1,13 +1,14 @@
 -- What holds of a sheet's cells and merges between calls.
-use Rattle.std.specs.Prelude.{◌≡◌, ◌<◌, ℕ, ℤ, Bool, true, false, List, Some, length}
+use Rattle.std.specs.Prelude.{◌≡◌, ◌<◌, ℕ, ℤ, true, false, List, Some}
 use Rattle.std.specs.FinMap as finite
 use Rattle.std.specs.List.{All, slice_get}
 use Rattle.ic_cells.specs.declared.cell.ArrayKind.{ArrayKind}
 use Rattle.ic_cells.specs.declared.layout.Merge.{Merge}
-use Rattle.ic_grid.specs.Arrays.{Array, array_of}
+use Rattle.ic_grid.specs.Arrays.{array_of}
 use Rattle.ic_grid.specs.Block.{Place, block_at, blocks_meet, is_area, is_in_block, is_in_sheet, is_single, same_place}
 use Rattle.ic_grid.specs.Contents.{Contents}
 use Rattle.ic_grid.specs.Merges.{merged_block, meets_merge}
+use Rattle.ic_grid.specs.declared.block.Array.{Array}
 use Rattle.ic_grid.specs.Shape.{Holding, Shape, Anchor, SpillOf}
 
 module _ {X : Type 0} (h : Holding X) (m : Contents X) where

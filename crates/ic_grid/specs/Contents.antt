@@ -1,5 +1,5 @@
 -- What the places of a sheet hold, as a finite map; and that each is made into another, or taken away.
-use Rattle.std.specs.Prelude.{Option, Some, None, List, [], ◌∷◌}
+use Rattle.std.specs.Prelude.{Bool, Option, Some, None, List, [], ◌∷◌, if◌then◌else◌}
 use Rattle.std.specs.FinMap as finite
 use Rattle.ic_cells.specs.Maps.{place_cmp}
 use Rattle.ic_grid.specs.Block.{Place}
@@ -21,3 +21,7 @@ module _ {X : Type 0} where
   -- what stands at each place is made into something else, or taken away
   unfoldable pub remade : (Place → X → Option X) → Contents X → Contents X
   remade f m = remade_entries f (finite.entries m)
+
+  -- what stands at the places that pass a test is changed
+  abbrev pub changed_where : (Place → Bool) → (X → X) → Contents X → Contents X
+  changed_where test change m = remade (λ q x. Some (if test q then change x else x)) m

@@ -1,6 +1,7 @@
 -- What a place of a sheet holds, by its shape; and how it is emptied and reset. The rules on arrays, spills and clearing
 -- look at nothing else, so they hold for cells and for whatever else a place holds.
-use Rattle.std.specs.Prelude.{ℕ, ℤ, pos, Bool, true, false, List, []}
+use Rattle.std.specs.Ordering.{int_eq}
+use Rattle.std.specs.Prelude.{ℕ, ℤ, pos, Bool, ◌&&◌, true, false, [], Option, Some, None}
 use Rattle.ic_laws.specs.declared.tree.Error.TheVariants as errors
 use Rattle.ic_cells.specs.Cell.{style_of}
 use Rattle.ic_cells.specs.declared.cell.ArrayKind.{ArrayKind}
@@ -58,6 +59,12 @@ abbrev pub is_anchor : Shape → Bool
 is_anchor (Anchor width height kind) = true
 is_anchor shape = false
 
+-- neither a spill's cell nor the formula of an array of more than one cell
+abbrev pub is_loose : Shape → Bool
+is_loose (Anchor width height kind) = int_eq width (pos 1) && int_eq height (pos 1)
+is_loose (SpillOf a) = false
+is_loose shape = true
+
 -- a formula, of an array or not
 abbrev pub is_formula : Shape → Bool
 is_formula Formula = true
@@ -106,6 +113,16 @@ with_cell_value value cell = cell
 abbrev pub with_cell_area : ℤ → ℤ → Cell → Cell
 with_cell_area width height (cells.ArrayFormula f s r kind v) = cells.ArrayFormula f s (width, height) kind v
 with_cell_area width height cell = cell
+
+-- the style and the anchor of a spill's cell
+abbrev pub spill_of : Option Cell → Option (ℕ × Place)
+spill_of (Some (cells.SpillCell s a v)) = Some (s, a)
+spill_of cell = None
+
+-- the place of the formula, the style and the kind of an array formula
+abbrev pub array_formula_of : Option Cell → Option (ℕ × ℕ × ArrayKind)
+array_formula_of (Some (cells.ArrayFormula f s r kind v)) = Some (f, s, kind)
+array_formula_of cell = None
 
 -- how cells are held
 abbrev pub celled : Holding Cell

@@ -1,5 +1,5 @@
 -- What becomes of a sheet when an array is written or gets its values, and which cell blocks a spill.
-use Rattle.std.specs.Prelude.{ℕ, zero, suc, ℤ, pos, ◌*ℤ◌, Bool, true, false, not, ◌&&◌, ◌||◌, List, [], ◌∷◌, Option, Some, None, option_map, if◌then◌else◌}
+use Rattle.std.specs.Prelude.{ℕ, zero, suc, ℤ, pos, ◌*ℤ◌, Bool, false, not, ◌&&◌, ◌||◌, List, [], ◌∷◌, Option, Some, None, if◌then◌else◌}
 use Rattle.std.specs.FinMap as finite
 use Rattle.std.specs.Ordering.{int_eq}
 use Rattle.ic_cells.specs.Style as styling
@@ -12,7 +12,7 @@ use Rattle.ic_grid.specs.Block.{Place, first_place, has_places, is_in_sheet, is_
 use Rattle.ic_grid.specs.Contents.{Contents}
 use Rattle.ic_grid.specs.Merges.{is_merged}
 use Rattle.ic_grid.specs.Prepare.{all_prepared, without_spill}
-use Rattle.ic_grid.specs.Shape.{Holding, Shape, Empty, Value, Formula, Anchor, SpillOf, gathered, is_cse, is_empty, is_spill_of}
+use Rattle.ic_grid.specs.Shape.{Holding, Shape, Anchor, gathered, is_empty, is_spill_of}
 use Rattle.ic_grid.specs.Style.{Columns, Rows, style_at}
 use Rattle.ic_grid.specs.Value.{is_cse_anchor, shape_at}
 use Rattle.ic_grid.specs.declared.block.Block.{Block}

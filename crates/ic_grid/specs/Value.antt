@@ -1,11 +1,11 @@
 -- What becomes of a sheet when a formula gets a value.
-use Rattle.std.specs.Prelude.{pos, Option, Some, None, Bool, false, option_map, if◌then◌else◌}
+use Rattle.std.specs.Prelude.{pos, Some, Bool, false, option_map, if◌then◌else◌}
 use Rattle.std.specs.FinMap as finite
 use Rattle.std.specs.Option.{unwrap_or}
 use Rattle.ic_cells.specs.declared.value.FormulaValue.{FormulaValue}
 use Rattle.ic_grid.specs.Block.{Place, same_place}
 use Rattle.ic_grid.specs.Contents.{Contents, remade}
-use Rattle.ic_grid.specs.Shape.{Holding, Shape, Empty, Value, Formula, Anchor, SpillOf, emptied, is_cse, is_formula, is_spill_of, spread}
+use Rattle.ic_grid.specs.Shape.{Holding, Shape, Empty, Anchor, emptied, is_cse, is_spill_of, spread}
 
 -- the formula at this place is that of a Cse array
 abbrev pub is_cse_anchor : Shape → Bool
