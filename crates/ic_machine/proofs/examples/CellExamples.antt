@@ -2,6 +2,7 @@
 use Rattle.std.proofs.Common.{◌≡◌, pos, [], ◌∷◌, true, Err, codes, refl}
 use Rattle.std.specs.FinMap as finite
 use Rattle.ic_cells.specs.declared.value.FormulaValue.TheVariants as values
+use Rattle.ic_grid.specs.Block.{is_between}
 use Rattle.ic_machine.specs.Book.{Book, empty_grid, empty_sheet}
 use Rattle.ic_machine.specs.Command.{commands}
 use Rattle.ic_machine.specs.Refusal.{BadArea, NoFormulaCell}
@@ -18,7 +19,7 @@ merged = record start { sheets = record (empty_sheet 1 (codes "Sheet1")) { grid 
 covered : answers merged
     (codes "update_cell_with_bool\t0\t2\t2\ttrue" ∷ codes "update_cell_with_bool\t0\t0\t0\ttrue" ∷ codes "update_cell_with_number\t0\t1\t16385\t1.5" ∷ codes "update_cell_with_number\t3\t0\t0\t1" ∷ codes "update_cell_with_number\t0\t1\t1\tx" ∷ [])
     ≡ codes "error\tMergedPart" ∷ codes "error\tInvalidRow" ∷ codes "error\tInvalidColumn" ∷ codes "error\tInvalidSheet" ∷ codes "error\tBadLine" ∷ []
-unfolding commands bool_step number_step
+unfolding commands bool_step number_step is_between
 covered = refl
 
 -- a value needs a formula
