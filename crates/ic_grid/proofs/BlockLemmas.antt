@@ -1,0 +1,131 @@
+-- Which numbers and places blocks hold, as they grow by a column or a row.
+use Rattle.std.proofs.Common.{◌≡◌, ◌∙◌, refl, sym, ap, ap₂, Bool, true, false, ◌&&◌, ◌||◌, ℤ, pos, arith}
+use Rattle.std.proofs.lemmas.Bool.{and_parts, and_from}
+use Rattle.std.proofs.lemmas.Bool.Decides.{Decides-int_eq}
+use Rattle.std.proofs.lemmas.Int.{ints}
+use Rattle.std.specs.Prelude.{int_le, ◌+ℤ◌, ◌≤ℤ◌}
+use Rattle.std.specs.Ordering.{int_cmp, int_eq, is_eq, ordering_then}
+use Rattle.std.specs.declared.cmp.Ordering.{Ordering}
+use Rattle.std.specs.declared.cmp.Ordering.TheVariants.{Less, Equal, Greater}
+use Rattle.ic_laws.specs.Position.{is_column, is_row}
+use Rattle.ic_laws.specs.declared.reference.TheConstants.{LAST_COLUMN, LAST_ROW}
+use Rattle.ic_grid.specs.Block.{Place, is_area, is_between, is_block_within, has_places, block_at, is_in_block, is_in_lines, is_in_sheet, is_span_within, same_place, whole_sheet}
+use Rattle.ic_grid.specs.declared.block.Block.{Block}
+
+-- one more number
+pub between_more : (first last n : ℤ) → first ≤ℤ last → is_between first (last +ℤ pos 1) n ≡ (is_between first last n || int_eq n last)
+unfolding is_between
+between_more first last n h = grind (arith, ints)
+
+-- none yet
+pub between_none : (first n : ℤ) → is_between first first n ≡ false
+unfolding is_between
+between_none first n = grind (arith, ints)
+
+-- one alone
+pub between_one : (first n : ℤ) → is_between first (first +ℤ pos 1) n ≡ int_eq n first
+unfolding is_between
+between_one first n = grind (arith, ints)
+
+by_parts : (r s : Ordering) → is_eq (ordering_then r s) ≡ (is_eq r && is_eq s)
+by_parts Less s = refl
+by_parts Equal s = refl
+by_parts Greater s = refl
+
+-- a place is another where both numbers are
+pub same_by_parts : (p q : Place) → same_place p q ≡ (int_eq p.0 q.0 && int_eq p.1 q.1)
+same_by_parts p q = by_parts (int_cmp p.0 q.0) (int_cmp p.1 q.1)
+
+spread_and : (a b c : Bool) → (a && (b || c)) ≡ ((a && b) || (a && c))
+spread_and true b c = refl
+spread_and false b c = refl
+
+and_spread : (a b c : Bool) → ((a || b) && c) ≡ ((a && c) || (b && c))
+and_spread true true true = refl
+and_spread true true false = refl
+and_spread true false true = refl
+and_spread true false false = refl
+and_spread false b c = refl
+
+right_false : (a b : Bool) → b ≡ false → (a && b) ≡ false
+right_false true b e = e
+right_false false b e = refl
+
+-- no columns yet, and no rows
+pub no_columns : (row last_row column : ℤ) (q : Place) → is_in_lines row last_row column column q ≡ false
+no_columns row last_row column q = right_false _ _ (between_none column q.1)
+
+pub no_rows : (row column last_column : ℤ) (q : Place) → is_in_lines row row column last_column q ≡ false
+no_rows row column last_column q = ap (λ b. b && is_between column last_column q.1) (between_none row q.0)
+
+-- one more column of a row, and one more row
+pub column_more : (row column last : ℤ) (q : Place) → column ≤ℤ last
+    → is_in_lines row (row +ℤ pos 1) column (last +ℤ pos 1) q ≡ (is_in_lines row (row +ℤ pos 1) column last q || same_place q (row, last))
+column_more row column last q h =
+    ap (λ b. is_between row (row +ℤ pos 1) q.0 && b) (between_more column last q.1 h) ∙ spread_and (is_between row (row +ℤ pos 1) q.0) (is_between column last q.1) (int_eq q.1 last)
+    ∙ ap (λ b. is_in_lines row (row +ℤ pos 1) column last q || (b && int_eq q.1 last)) (between_one row q.0)
+    ∙ ap (λ b. is_in_lines row (row +ℤ pos 1) column last q || b) (sym (same_by_parts q (row, last)))
+
+pub row_more : (row last column last_column : ℤ) (q : Place) → row ≤ℤ last
+    → is_in_lines row (last +ℤ pos 1) column last_column q ≡ (is_in_lines row last column last_column q || is_in_lines last (last +ℤ pos 1) column last_column q)
+row_more row last column last_column q h =
+    ap (λ b. b && is_between column last_column q.1) (between_more row last q.0 h) ∙ and_spread (is_between row last q.0) (int_eq q.0 last) (is_between column last_column q.1)
+    ∙ ap (λ b. is_in_lines row last column last_column q || (b && is_between column last_column q.1)) (sym (between_one last q.0))
+
+-- the bounds of an area: it has a row and a column, and lies in the sheet
+pub record Bounds (b : Block) : Type 0 where
+  pub wide : pos 1 ≤ℤ b.width
+  pub high : pos 1 ≤ℤ b.height
+  pub row : pos 1 ≤ℤ b.row
+  pub column : pos 1 ≤ℤ b.column
+  pub last_row : (b.row +ℤ b.height) ≤ℤ pos 1048577
+  pub last_column : (b.column +ℤ b.width) ≤ℤ pos 16385
+
+pub area_bounds : (b : Block) → is_area b ≡ true → Bounds b
+unfolding is_span_within
+area_bounds b e =
+    let one = and_parts (has_places b) (is_block_within b whole_sheet) e in
+    let sizes = and_parts (int_le (pos 1) b.width) (int_le (pos 1) b.height) one.0 in
+    let spans = and_parts (is_span_within b.row b.height whole_sheet.row whole_sheet.height) (is_span_within b.column b.width whole_sheet.column whole_sheet.width) one.1 in
+    let rows = and_parts (int_le (pos 1) b.row) (int_le (b.row +ℤ b.height) (pos 1 +ℤ LAST_ROW)) spans.0 in
+    let columns = and_parts (int_le (pos 1) b.column) (int_le (b.column +ℤ b.width) (pos 1 +ℤ LAST_COLUMN)) spans.1 in
+    record {
+      wide = grind (arith, ints, sizes.0);
+      high = grind (arith, ints, sizes.1);
+      row = grind (arith, ints, rows.0);
+      column = grind (arith, ints, columns.0);
+      last_row = grind (arith, ints, rows.1);
+      last_column = grind (arith, ints, columns.1);
+    }
+
+-- a width and a height of 1
+one_by_one : (w t : ℤ) → (int_eq w (pos 1) && int_eq t (pos 1)) ≡ true → (w ≡ pos 1) × (t ≡ pos 1)
+one_by_one w t e =
+    let both = and_parts (int_eq w (pos 1)) (int_eq t (pos 1)) e in
+    ((Decides-int_eq w (pos 1)).0 both.0, (Decides-int_eq t (pos 1)).0 both.1)
+
+place_within : (n last : ℤ) → (int_le (pos 1) n && int_le n last) ≡ true → (int_le (pos 1) n && int_le (n +ℤ pos 1) (pos 1 +ℤ last)) ≡ true
+place_within n last e =
+    let both = and_parts (int_le (pos 1) n) (int_le n last) e in
+    and_from (int_le (pos 1) n) (int_le (n +ℤ pos 1) (pos 1 +ℤ last)) both.0 (grind (arith, ints, both.1))
+
+-- a block of one place of the sheet is an area, and has no other place
+one_area : (a : Place) → is_in_sheet a ≡ true → is_area (block_at a (pos 1) (pos 1)) ≡ true
+unfolding is_span_within
+one_area a e =
+    let both = and_parts (is_row a.0) (is_column a.1) e in
+    and_from _ _ (place_within a.0 LAST_ROW both.0) (place_within a.1 LAST_COLUMN both.1)
+
+pub one_is_area : (a : Place) (w t : ℤ) → (int_eq w (pos 1) && int_eq t (pos 1)) ≡ true → is_in_sheet a ≡ true → is_area (block_at a w t) ≡ true
+one_is_area a w t e inside =
+    let one = one_by_one w t e in
+    ap (λ n. is_area (block_at a n t)) one.0 ∙ ap (λ n. is_area (block_at a (pos 1) n)) one.1 ∙ one_area a inside
+
+only_one : (a p : Place) → is_in_block (block_at a (pos 1) (pos 1)) p ≡ true → same_place p a ≡ true
+only_one a p e =
+    same_by_parts p a ∙ sym (ap₂ (λ b c. b && c) (between_one a.0 p.0) (between_one a.1 p.1)) ∙ e
+
+pub block_of_one : (a p : Place) (w t : ℤ) → (int_eq w (pos 1) && int_eq t (pos 1)) ≡ true → is_in_block (block_at a w t) p ≡ true → same_place p a ≡ true
+block_of_one a p w t e inside =
+    let one = one_by_one w t e in
+    only_one a p (ap (λ n. is_in_block (block_at a (pos 1) n) p) (sym one.1) ∙ ap (λ n. is_in_block (block_at a n t) p) (sym one.0) ∙ inside)

@@ -1,0 +1,40 @@
+-- The places of an ordered map are those of the finite map, in the same order.
+use Rattle.std.proofs.Common.{◌≡◌, ◌∙◌, sym, ap, subst, Bool, true, false, T, ◌&&◌, List, [], ◌∷◌, map}
+use Rattle.std.specs.BTreeMap as tree
+use Rattle.std.specs.BTreeMap.{BTreeMap}
+use Rattle.std.specs.FinMap as finite
+use Rattle.std.specs.FinMap.{is_sorted}
+use Rattle.std.specs.FinMap.Entries.{below_all}
+use Rattle.std.specs.List.{AllByRecursion, list_any}
+use Rattle.std.specs.List.Sorted.{IsStrictlySortedBy}
+use Rattle.std.specs.Ordering.{is_lt}
+use Rattle.std.specs.declared.cmp.Ordering.TheVariants.{Less}
+use Rattle.ic_cells.specs.Maps.{place_cmp}
+use Rattle.ic_laws.proofs.core.CellWritten.{place_cmp_total, place_tied}
+use Rattle.ic_grid.specs.Block.{Place}
+use Rattle.ic_grid.specs.Contents.{Contents}
+
+two : (a b : Bool) → T a → T b → T (a && b)
+two true b p q = q
+two false b p q = p
+
+module _ {X : Type 0} where
+  below : (x : Place) (es : List (Place × X)) → AllByRecursion (λ y. place_cmp x y ≡ Less) (map (λ (e : Place × X). e.0) es) → T (below_all place_cmp x es)
+  below x [] h = tt
+  below x (e ∷ es) h = two (is_lt (place_cmp x e.0)) (below_all place_cmp x es) (subst (λ r. T (is_lt r)) (sym h.0) tt) (below x es h.1)
+
+  sorted_entries : (es : List (Place × X)) → IsStrictlySortedBy place_cmp (map (λ (e : Place × X). e.0) es) → T (is_sorted place_cmp es)
+  unfolding IsStrictlySortedBy
+  sorted_entries [] h = tt
+  sorted_entries (e ∷ es) h = two (below_all place_cmp e.0 es) (is_sorted place_cmp es) (below e.0 es h.0) (sorted_entries es h.1)
+
+  entries_back : (es : List (Place × X)) → IsStrictlySortedBy place_cmp (map (λ (e : Place × X). e.0) es) → finite.entries (finite.from_entries {R = place_cmp} es) ≡ es
+  entries_back es h =
+      ap finite.entries (finite.same_map place_cmp_total place_tied (finite.from_entries {R = place_cmp} es) (finite.from_sorted {R = place_cmp} es)
+      (λ q. finite.get-from_entries place_cmp_total es q ∙ sym (finite.get-from_sorted place_cmp es q (sorted_entries es h))))
+      ∙ finite.entries-from_sorted place_cmp es (sorted_entries es h)
+
+  -- so some place passes a test in both or in none
+  pub any_place : (m : BTreeMap Place X) (v : Contents X) (test : Place → Bool) → tree.IsOrdered place_cmp m → finite.from_entries m.entries ≡ v → list_any test (tree.keys m) ≡ list_any test (finite.keys v)
+  any_place m v test ordered e =
+      ap (λ es. list_any test (map (λ (e : Place × X). e.0) es)) (sym (entries_back m.entries ordered) ∙ ap finite.entries e)

@@ -1,0 +1,205 @@
+-- What stands at places is changed, place by place; and the cells of a spill are emptied so.
+use Rattle.std.proofs.Common.{◌≡◌, ◌∙◌, refl, sym, ap, subst, ℕ, ℤ, pos, ap₂, Bool, true, false, cond, ◌||◌, Option, Some, None}
+use Rattle.std.specs.FinMap as finite
+use Rattle.std.specs.Option.{option_and_then}
+use Rattle.std.specs.Prelude.{◌+ℤ◌, ◌≤ℤ◌}
+use Rattle.ic_laws.proofs.core.CellWritten.{place_cmp_total}
+use Rattle.ic_grid.proofs.ContentsLemmas.{get-remade, remade_twice, same_contents, same_is}
+use Rattle.ic_grid.proofs.BlockLemmas.{column_more, no_columns, no_rows, row_more}
+use Rattle.ic_grid.specs.Block.{Place, is_in_lines, same_place}
+use Rattle.ic_grid.specs.Contents.{Contents, changed_where}
+use Rattle.ic_grid.specs.Prepare.{anchor_reset, unspilled}
+use Rattle.ic_grid.specs.Shape.{array_formula_of, celled, spill_of}
+use Rattle.ic_cells.specs.declared.cell.ArrayKind.{ArrayKind}
+use Rattle.ic_cells.specs.declared.value.FormulaValue.TheVariants as formulas
+use Rattle.ic_cells.specs.declared.value.FormulaValue.{FormulaValue}
+use Rattle.ic_cells.specs.declared.value.SpillValue.{SpillValue}
+use Rattle.ic_cells.specs.declared.cell.Cell.{Cell}
+use Rattle.ic_cells.specs.declared.cell.Cell.TheVariants as cells
+
+module _ {X : Type 0} where
+  kept : (o : Option X) (g : X → X) → ((x : X) → o ≡ Some x → g x ≡ x) → option_and_then (λ x. Some (g x)) o ≡ o
+  kept None g h = refl
+  kept (Some x) g h = ap Some (h x refl)
+
+  -- where the change leaves all as it is, all stays
+  pub none_changed : (t : Place → Bool) (f : X → X) (m : Contents X) → ((q : Place) (x : X) → finite.get m q ≡ Some x → cond (t q) (f x) x ≡ x) → changed_where t f m ≡ m
+  none_changed t f m h = same_contents _ _ (λ q. get-remade _ m q ∙ kept (finite.get m q) (λ x. cond (t q) (f x) x) (h q))
+
+  unpassed : (b : Bool) (x y : X) → b ≡ false → cond b x y ≡ y
+  unpassed true x y e = cc
+  unpassed false x y e = refl
+
+  pub nowhere : (t : Place → Bool) (f : X → X) (m : Contents X) → ((q : Place) → t q ≡ false) → m ≡ changed_where t f m
+  nowhere t f m none = sym (none_changed t f m (λ q x e. unpassed (t q) (f x) x (none q)))
+
+  twice : (a b : Bool) (f : X → X) (x : X) → ((y : X) → f (f y) ≡ f y) → cond b (f (cond a (f x) x)) (cond a (f x) x) ≡ cond (a || b) (f x) x
+  twice true true f x same = same x
+  twice true false f x same = refl
+  twice false true f x same = refl
+  twice false false f x same = refl
+
+  -- changed at some places and then at others, it is changed at both; a change made twice is one
+  pub changed_more : (t u v : Place → Bool) (f : X → X) (m : Contents X) → ((y : X) → f (f y) ≡ f y) → ((q : Place) → v q ≡ (t q || u q)) → changed_where u f (changed_where t f m) ≡ changed_where v f m
+  changed_more t u v f m same both =
+      remade_twice _ _ _ m (λ q x e. ap Some (twice (t q) (u q) f x same ∙ ap (λ b. cond b (f x) x) (sym (both q))))
+
+  at_one : (o : Option X) (b : Bool) (f : X → X) (x : X) → (b ≡ true → o ≡ Some x) → cond b (Some (f x)) o ≡ option_and_then (λ y. Some (cond b (f y) y)) o
+  at_one None true f x h = let no : None ≡ Some x = h refl in cc
+  at_one None false f x h = refl
+  at_one (Some y) true f x h = let e : Some y ≡ Some x = h refl in let same : y ≡ x = cc in ap (λ z. Some (f z)) (sym same)
+  at_one (Some y) false f x h = refl
+
+  -- what stands at one place is changed
+  pub one_changed : (m : Contents X) (p : Place) (f : X → X) (x : X) → finite.get m p ≡ Some x → finite.insert m p (f x) ≡ changed_where (λ q. same_place q p) f m
+  one_changed m p f x here =
+      same_contents _ _ (λ q.
+      finite.get-insert place_cmp_total m p (f x) q
+      ∙ at_one (finite.get m q) (same_place q p) f x (λ t. ap (finite.get m) (same_is q p t) ∙ here)
+      ∙ sym (get-remade _ m q))
+
+  stays : (b : Bool) (f : X → X) (x : X) → (b ≡ true → f x ≡ x) → cond b (f x) x ≡ x
+  stays true f x h = h refl
+  stays false f x h = refl
+
+  pub one_kept : (m : Contents X) (p : Place) (f : X → X) → ((x : X) → finite.get m p ≡ Some x → f x ≡ x) → m ≡ changed_where (λ q. same_place q p) f m
+  one_kept m p f h =
+      sym (none_changed _ f m (λ q x e. stays (same_place q p) f x (λ t. h x (ap (finite.get m) (sym (same_is q p t)) ∙ e))))
+
+-- a cell of a spill that was emptied is none
+settled : {X : Type 0} (t : Bool) (f : X → X) (x y : X) → f x ≡ cond t y x → f y ≡ y → f (f x) ≡ f x
+settled true f x y one two = ap f one ∙ two ∙ sym one
+settled false f x y one two = ap f one
+
+pub unspilled_twice : (a : Place) (x : Cell) → unspilled celled a (unspilled celled a x) ≡ unspilled celled a x
+unspilled_twice a (cells.EmptyCell s) = refl
+unspilled_twice a (cells.BooleanCell v s) = refl
+unspilled_twice a (cells.NumberCell v s) = refl
+unspilled_twice a (cells.ErrorCell e s) = refl
+unspilled_twice a (cells.SharedString i s) = refl
+unspilled_twice a (cells.CellFormula f s v) = refl
+unspilled_twice a (cells.ArrayFormula f s r kind v) = refl
+unspilled_twice a (cells.SpillCell s b v) = settled (same_place a b) (unspilled celled a) (cells.SpillCell s b v) (cells.EmptyCell s) refl refl
+
+-- what a spill's cell is, and that nothing else is emptied
+spill_is : (o : Option Cell) (s : ℕ) (a : Place) → spill_of o ≡ Some (s, a) → (v : SpillValue) × (o ≡ Some (cells.SpillCell s a v))
+spill_is None s a e = cc
+spill_is (Some (cells.EmptyCell n)) s a e = cc
+spill_is (Some (cells.BooleanCell v n)) s a e = cc
+spill_is (Some (cells.NumberCell v n)) s a e = cc
+spill_is (Some (cells.ErrorCell v n)) s a e = cc
+spill_is (Some (cells.SharedString v n)) s a e = cc
+spill_is (Some (cells.CellFormula f n v)) s a e = cc
+spill_is (Some (cells.ArrayFormula f n r kind v)) s a e = cc
+spill_is (Some (cells.SpillCell n b v)) s a e =
+    let p : ◌≡◌ {A = ℕ × Place} (n, b) (s, a) = cc in
+    (v, ap₂ (λ (k : ℕ) (c : Place). Some (cells.SpillCell k c v)) (ap (λ (z : ℕ × Place). z.0) p) (ap (λ (z : ℕ × Place). z.1) p))
+
+no_spill : (x : Cell) (a : Place) → spill_of (Some x) ≡ None → unspilled celled a x ≡ x
+no_spill (cells.EmptyCell n) a e = refl
+no_spill (cells.BooleanCell v n) a e = refl
+no_spill (cells.NumberCell v n) a e = refl
+no_spill (cells.ErrorCell v n) a e = refl
+no_spill (cells.SharedString v n) a e = refl
+no_spill (cells.CellFormula f n v) a e = refl
+no_spill (cells.ArrayFormula f n r kind v) a e = refl
+no_spill (cells.SpillCell n b v) a e = cc
+
+anchor_is : (o : Option Cell) (f s : ℕ) (k : ArrayKind) → array_formula_of o ≡ Some (f, s, k) → (r : ℤ × ℤ) × (v : FormulaValue) × (o ≡ Some (cells.ArrayFormula f s r k v))
+anchor_is None f s k e = cc
+anchor_is (Some (cells.EmptyCell n)) f s k e = cc
+anchor_is (Some (cells.BooleanCell v n)) f s k e = cc
+anchor_is (Some (cells.NumberCell v n)) f s k e = cc
+anchor_is (Some (cells.ErrorCell v n)) f s k e = cc
+anchor_is (Some (cells.SharedString v n)) f s k e = cc
+anchor_is (Some (cells.CellFormula g n v)) f s k e = cc
+anchor_is (Some (cells.SpillCell n b v)) f s k e = cc
+anchor_is (Some (cells.ArrayFormula g n r kind v)) f s k e =
+    let p : ◌≡◌ {A = ℕ × ℕ × ArrayKind} (g, n, kind) (f, s, k) = cc in
+    (r, v, ap₂ (λ (i : ℕ) (rest : ℕ × ArrayKind). Some (cells.ArrayFormula i rest.0 r rest.1 v)) (ap (λ (z : ℕ × ℕ × ArrayKind). z.0) p) (ap (λ (z : ℕ × ℕ × ArrayKind). let two : ℕ × ArrayKind = (z.1, z.2) in two) p))
+
+no_anchor : (x : Cell) → array_formula_of (Some x) ≡ None → anchor_reset celled x ≡ x
+no_anchor (cells.EmptyCell n) e = refl
+no_anchor (cells.BooleanCell v n) e = refl
+no_anchor (cells.NumberCell v n) e = refl
+no_anchor (cells.ErrorCell v n) e = refl
+no_anchor (cells.SharedString v n) e = refl
+no_anchor (cells.CellFormula f n v) e = refl
+no_anchor (cells.SpillCell n b v) e = refl
+no_anchor (cells.ArrayFormula f n r kind v) e = cc
+
+passed : (t : Bool) (x y : Cell) → t ≡ true → x ≡ cond t x y
+passed true x y e = refl
+passed false x y e = cc
+
+failed : (t : Bool) (x y : Cell) → t ≡ false → cond t x y ≡ y
+failed true x y e = cc
+failed false x y e = refl
+
+module _ (m : Contents Cell) (p : Place) where
+  -- a place of which one cell, if any, was emptied
+  pub is_unspilled : (a b : Place) (s : ℕ) → spill_of (finite.get m p) ≡ Some (s, b) → same_place a b ≡ true → finite.insert m p (cells.EmptyCell s) ≡ changed_where (λ q. same_place q p) (unspilled celled a) m
+  is_unspilled a b s e t =
+      let here = spill_is (finite.get m p) s b e in
+      ap (finite.insert m p) (passed (same_place a b) (cells.EmptyCell s) (cells.SpillCell s b here.0) t) ∙ one_changed m p (unspilled celled a) (cells.SpillCell s b here.0) here.1
+
+  pub of_another : (a b : Place) (s : ℕ) → spill_of (finite.get m p) ≡ Some (s, b) → same_place a b ≡ false → m ≡ changed_where (λ q. same_place q p) (unspilled celled a) m
+  of_another a b s e t =
+      let here = spill_is (finite.get m p) s b e in
+      one_kept m p (unspilled celled a) (λ x is.
+      let same : Some x ≡ Some (cells.SpillCell s b here.0) = sym is ∙ here.1 in
+      let one : x ≡ cells.SpillCell s b here.0 = cc in
+      subst (λ (y : Cell). unspilled celled a y ≡ y) (sym one) (failed (same_place a b) (cells.EmptyCell s) (cells.SpillCell s b here.0) t))
+
+  pub none_there : (a : Place) → spill_of (finite.get m p) ≡ None → m ≡ changed_where (λ q. same_place q p) (unspilled celled a) m
+  none_there a e = one_kept m p (unspilled celled a) (λ x is. no_spill x a (ap spill_of (sym is) ∙ e))
+
+  -- an array formula that was reset, if any
+  pub is_reset : (f s : ℕ) (k : ArrayKind) → array_formula_of (finite.get m p) ≡ Some (f, s, k) → finite.insert m p (cells.ArrayFormula f s (pos 1, pos 1) k formulas.Unevaluated) ≡ changed_where (λ q. same_place q p) (anchor_reset celled) m
+  is_reset f s k e =
+      let here = anchor_is (finite.get m p) f s k e in
+      one_changed m p (anchor_reset celled) (cells.ArrayFormula f s here.0 k here.1) here.2
+
+  pub none_to_reset : array_formula_of (finite.get m p) ≡ None → m ≡ changed_where (λ q. same_place q p) (anchor_reset celled) m
+  none_to_reset e = one_kept m p (anchor_reset celled) (λ x is. no_anchor x (ap array_formula_of (sym is) ∙ e))
+
+-- a row of a spill is emptied column by column, and a block of it row by row
+module _ (m : Contents Cell) (a : Place) where
+  pub columns_begun : (row column at : ℤ) → at ≡ column → m ≡ changed_where (is_in_lines row (row +ℤ pos 1) column at) (unspilled celled a) m
+  columns_begun row column at e =
+      nowhere _ (unspilled celled a) m (λ q. ap (λ n. is_in_lines row (row +ℤ pos 1) column n q) e ∙ no_columns row (row +ℤ pos 1) column q)
+
+  pub columns_more : (row column at next : ℤ) (now after : Contents Cell) → column ≤ℤ at → next ≡ at +ℤ pos 1
+      → now ≡ changed_where (is_in_lines row (row +ℤ pos 1) column at) (unspilled celled a) m → after ≡ changed_where (λ q. same_place q (row, at)) (unspilled celled a) now
+      → after ≡ changed_where (is_in_lines row (row +ℤ pos 1) column next) (unspilled celled a) m
+  columns_more row column at next now after least e h k =
+      k ∙ ap (changed_where (λ q. same_place q (row, at)) (unspilled celled a)) h
+      ∙ changed_more _ _ (is_in_lines row (row +ℤ pos 1) column (at +ℤ pos 1)) (unspilled celled a) m (unspilled_twice a) (λ q. column_more row column at q least)
+      ∙ ap (λ n. changed_where (is_in_lines row (row +ℤ pos 1) column n) (unspilled celled a) m) (sym e)
+
+  pub columns_done : (row column last r k at : ℤ) (now : Contents Cell) → r ≡ row → k ≡ column → at ≡ last
+      → now ≡ changed_where (is_in_lines r (r +ℤ pos 1) k at) (unspilled celled a) m → now ≡ changed_where (is_in_lines row (row +ℤ pos 1) column last) (unspilled celled a) m
+  columns_done row column last r k at now d e f h =
+      h ∙ ap (λ n. changed_where (is_in_lines n (n +ℤ pos 1) k at) (unspilled celled a) m) d
+      ∙ ap (λ n. changed_where (is_in_lines row (row +ℤ pos 1) n at) (unspilled celled a) m) e
+      ∙ ap (λ n. changed_where (is_in_lines row (row +ℤ pos 1) column n) (unspilled celled a) m) f
+
+  pub rows_begun : (row column last at : ℤ) → at ≡ row → m ≡ changed_where (is_in_lines row at column last) (unspilled celled a) m
+  rows_begun row column last at e =
+      nowhere _ (unspilled celled a) m (λ q. ap (λ n. is_in_lines row n column last q) e ∙ no_rows row column last q)
+
+  pub rows_more : (row column last at next k l r : ℤ) (now after : Contents Cell) → row ≤ℤ at → next ≡ at +ℤ pos 1 → k ≡ column → l ≡ last → r ≡ a.0
+      → now ≡ changed_where (is_in_lines row at column last) (unspilled celled a) m → after ≡ changed_where (is_in_lines at (at +ℤ pos 1) k l) (unspilled celled (r, k)) now
+      → a.1 ≡ column → after ≡ changed_where (is_in_lines row next column last) (unspilled celled a) m
+  rows_more row column last at next k l r now after least e f g i h j z =
+      j ∙ ap (λ n. changed_where (is_in_lines at (at +ℤ pos 1) k l) (unspilled celled (n, k)) now) i
+      ∙ ap (λ n. changed_where (is_in_lines at (at +ℤ pos 1) k n) (unspilled celled (a.0, k)) now) g
+      ∙ ap (λ n. changed_where (is_in_lines at (at +ℤ pos 1) n last) (unspilled celled (a.0, n)) now) f
+      ∙ ap (λ n. changed_where (is_in_lines at (at +ℤ pos 1) column last) (unspilled celled (a.0, n)) now) (sym z)
+      ∙ ap (changed_where (is_in_lines at (at +ℤ pos 1) column last) (unspilled celled a)) h
+      ∙ changed_more _ _ (is_in_lines row (at +ℤ pos 1) column last) (unspilled celled a) m (unspilled_twice a) (λ q. row_more row at column last q least)
+      ∙ ap (λ n. changed_where (is_in_lines row n column last) (unspilled celled a) m) (sym e)
+
+  pub rows_done : (row column last last_row at : ℤ) (now : Contents Cell) → at ≡ last_row
+      → now ≡ changed_where (is_in_lines row at column last) (unspilled celled a) m → now ≡ changed_where (is_in_lines row last_row column last) (unspilled celled a) m
+  rows_done row column last last_row at now e h = h ∙ ap (λ n. changed_where (is_in_lines row n column last) (unspilled celled a) m) e

@@ -1,0 +1,32 @@
+-- What the calls on a sheet's cells answer, by their refusals in order.
+use Rattle.std.specs.Prelude.{◌≡◌, ◌⊎◌, Bool, List, Result, Ok, Err, if◌then◌else◌}
+use Rattle.ic_cells.specs.declared.layout.Merge.{Merge}
+use Rattle.ic_grid.specs.Arrays.{has_fixed, is_fixed_at}
+use Rattle.ic_grid.specs.Block.{Place}
+use Rattle.ic_grid.specs.Contents.{Contents}
+use Rattle.ic_grid.specs.Merges.{is_covered, meets_merge}
+use Rattle.ic_grid.specs.Shape.{Holding}
+use Rattle.ic_grid.specs.declared.block.Block.{Block}
+use Rattle.ic_grid.specs.declared.error.GridError.{GridError}
+use Rattle.ic_grid.specs.declared.error.GridError.TheVariants as errors
+
+-- nothing refuses, or this does
+abbrev pub Answer : Type 0
+Answer = Result (Unit {0}) GridError
+
+-- the first of two causes that holds refuses
+abbrev pub refused_by : Bool → GridError → Answer → Answer
+refused_by cause error answer = if cause then Err error else answer
+
+-- why a call that may want memory didn't do what it was to: a cause refused it, or memory ran out where none did
+abbrev pub IsRefusal : Answer → GridError → Type 0
+IsRefusal answer error = (answer ≡ Err error) ⊎ ((answer ≡ Ok tt) × (error ≡ errors.OutOfMemory))
+
+module _ {X : Type 0} (h : Holding X) (merges : List Merge) (m : Contents X) where
+  -- whether a cell can be written at a place
+  abbrev pub can_write : Place → Answer
+  can_write p = refused_by (is_covered merges p) errors.MergedPart (refused_by (is_fixed_at h m p) errors.ArrayPart (Ok tt))
+
+  -- whether an array can be written into a block
+  abbrev pub can_write_array : Block → Answer
+  can_write_array b = refused_by (meets_merge merges b) errors.MergedPart (refused_by (has_fixed h m b) errors.ArrayPart (Ok tt))

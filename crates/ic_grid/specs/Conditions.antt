@@ -1,0 +1,35 @@
+-- What holds of a sheet's cells and merges between calls.
+use Rattle.std.specs.Prelude.{◌≡◌, ◌<◌, ℕ, ℤ, true, false, List, Some}
+use Rattle.std.specs.FinMap as finite
+use Rattle.std.specs.List.{All, slice_get}
+use Rattle.ic_cells.specs.declared.cell.ArrayKind.{ArrayKind}
+use Rattle.ic_cells.specs.declared.layout.Merge.{Merge}
+use Rattle.ic_grid.specs.Arrays.{array_of}
+use Rattle.ic_grid.specs.Block.{Place, block_at, blocks_meet, is_area, is_in_block, is_in_sheet, is_single, same_place}
+use Rattle.ic_grid.specs.Contents.{Contents}
+use Rattle.ic_grid.specs.Merges.{merged_block, meets_merge}
+use Rattle.ic_grid.specs.declared.block.Array.{Array}
+use Rattle.ic_grid.specs.Shape.{Holding, Shape, Anchor, SpillOf}
+
+module _ {X : Type 0} (h : Holding X) (m : Contents X) where
+  -- something of this shape stands at a place
+  abbrev pub Has : Place → Shape → Type 0
+  Has p shape = (x : X) × (finite.get m p ≡ Some x) × (h.shape x ≡ shape)
+
+  -- each cell lies in the sheet
+  abbrev pub AreInSheet : Type 0
+  AreInSheet = (p : Place) (x : X) → finite.get m p ≡ Some x → is_in_sheet p ≡ true
+
+  -- The area of each array is at least one place, and lies in the sheet. Each place of it other than the formula's is a
+  -- cell of its spill, and each cell of a spill lies in the area of the array whose formula it tells.
+  pub record AreArrays : Type 0 where
+    pub areas : (a : Place) (w t : ℤ) (kind : ArrayKind) → Has a (Anchor w t kind) → is_area (block_at a w t) ≡ true
+    pub filled : (a p : Place) (w t : ℤ) (kind : ArrayKind) → Has a (Anchor w t kind) → is_in_block (block_at a w t) p ≡ true → same_place p a ≡ false → Has p (SpillOf a)
+    pub owned : (a p : Place) → Has p (SpillOf a) → (w : ℤ) × (t : ℤ) × (kind : ArrayKind) × Has a (Anchor w t kind) × (is_in_block (block_at a w t) p ≡ true)
+
+  -- Merged cells are at least one place, lie in the sheet, have no place in common with others, and none with an array of
+  -- more than one cell.
+  pub record AreMerges (merges : List Merge) : Type 0 where
+    pub areas : All (λ merge. is_area (merged_block merge) ≡ true) merges
+    pub apart : (i j : ℕ) (one other : Merge) → i < j → slice_get merges i ≡ Some one → slice_get merges j ≡ Some other → blocks_meet (merged_block one) (merged_block other) ≡ false
+    pub arrays : (a : Place) (array : Array) → array_of h m a ≡ Some array → is_single array.block ≡ false → meets_merge merges array.block ≡ false

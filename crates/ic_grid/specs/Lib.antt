@@ -1,0 +1,14 @@
+pub mod Arrays
+pub mod Block
+pub mod Calls
+pub mod Clear
+pub mod Conditions
+pub mod Contents
+pub mod Lines
+pub mod Merges
+pub mod Prepare
+pub mod Shape
+pub mod Spill
+pub mod Style
+pub mod Value
+pub mod Whole

@@ -1,0 +1,39 @@
+use ic_laws::OutOfMemory;
+use thiserror::Error;
+
+/// Why a call on the cells of a sheet was refused. After each of them the sheet is as before.
+#[derive(Clone, Copy, Debug, Error)]
+pub enum GridError {
+    /// Merged cells cover the place, or the block of an array meets some.
+    #[error("Cannot edit a cell that is part of a merged cell")]
+    MergedPart,
+    /// A cell to be written belongs to a Cse array of more than one cell.
+    #[error("Cannot write in a cell that is part of an array formula")]
+    ArrayPart,
+    /// A Cse array of more than one cell lies partly in the block to be cleared.
+    #[error("Cannot clear the range because it contains array formulas")]
+    ClearArray,
+    /// The place has no formula; for a spill, no array formula.
+    #[error("No formula cell")]
+    NoFormulaCell,
+    /// The width or the height is below 1, the number of values isn't their product, or a Cse array has another area.
+    #[error("Invalid area")]
+    BadArea,
+    /// This is the first cell, by rows, that keeps the array from spilling. Rows and columns count from 1.
+    #[error("Cannot spill array result")]
+    SpillBlocked { row: i32, column: i32 },
+    /// Memory ran out.
+    #[error("Out of memory")]
+    OutOfMemory,
+}
+
+impl From<OutOfMemory> for GridError {
+    ghost use Rattle.std.specs.Prelude.{◌≡◌};
+    ghost use Rattle.ic_grid.specs.declared.error.GridError.TheVariants as errors;
+
+    ghost from_gives = { λ _ e. e ≡ errors.OutOfMemory };
+
+    fn from(_: OutOfMemory) -> GridError {
+        GridError::OutOfMemory
+    }
+}

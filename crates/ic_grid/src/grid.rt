@@ -1,0 +1,98 @@
+ghost use Rattle.std.specs.Prelude.{◌≡◌};
+ghost use Rattle.ic_grid.specs.Block.{block_at};
+ghost use Rattle.ic_grid.specs.Calls.{can_write, can_write_array};
+ghost use Rattle.ic_grid.specs.Shape.{celled};
+ghost use Rattle.ic_grid.specs.Style.{style_at};
+
+use crate::arrays::{has_fixed, is_fixed_at};
+use crate::merges::{is_covered, meets_merge};
+use crate::{Block, GridError};
+use ic_cells::{Cell, ColumnProps, LineMap, Merge, PlaceMap, RowProps};
+use ic_laws::Items;
+
+/// The cells of a sheet, what was set for its rows and columns, and its merged cells.
+pub struct Grid {
+    /// By row and column, from 1.
+    pub cells: PlaceMap<Cell>,
+    /// By number, from 1.
+    pub rows: LineMap<RowProps>,
+    /// By number, from 1.
+    pub columns: LineMap<ColumnProps>,
+    pub merged_cells: Items<Merge>,
+}
+
+impl Drop for Grid {
+    fn drop(self) {
+        let Self {
+            cells,
+            rows,
+            columns,
+            merged_cells,
+        } = self;
+        drop(cells);
+        drop(rows);
+        drop(columns);
+        drop(merged_cells);
+    }
+}
+
+impl Grid {
+    /// The number of the style that a place shows: its cell's, else its row's, else its column's, else 0. The place may lie
+    /// outside of the sheet. No memory is taken.
+    pub fn style_at(&self, row: i32, column: i32) -> usize
+        ensures { result
+            ≡ style_at celled self.now.cells self.now.rows self.now.columns (row, column) }
+    {
+        if let Some(cell) = self.cells.get(row, column) {
+            return cell.get_style();
+        }
+        match (self.row_style(row), self.column_style(column)) {
+            (Some(style), _) => style,
+            (None, Some(style)) => style,
+            (None, None) => 0,
+        }
+    }
+
+    /// Whether a cell can be written: Ok, or why it can't. `MergedPart` comes exactly where merged cells cover the place, and
+    /// then `ArrayPart` exactly where it belongs to a Cse array of more than one cell. No memory is taken.
+    pub fn can_write(&self, row: i32, column: i32) -> Result<(), GridError>
+        ensures { result ≡ can_write celled self.now.merged_cells self.now.cells (row, column) }
+    {
+        if is_covered(self.merged_cells.as_slice(), row, column) {
+            return Err(GridError::MergedPart);
+        }
+        if is_fixed_at(&self.cells, (row, column)) {
+            return Err(GridError::ArrayPart);
+        }
+        Ok(())
+    }
+
+    /// Whether an array can be written into a block of the sheet, from a place on: Ok, or why it can't. `MergedPart` comes
+    /// exactly where the block meets merged cells, and then `ArrayPart` exactly where one of its places belongs to a Cse
+    /// array of more than one cell. No memory is taken.
+    pub fn can_write_array(
+        &self,
+        row: i32,
+        column: i32,
+        width: i32,
+        height: i32,
+    ) -> Result<(), GridError>
+        ensures { result
+            ≡ can_write_array celled self.now.merged_cells self.now.cells
+            (block_at (row, column) width height) }
+    {
+        let block = Block {
+            row,
+            column,
+            width,
+            height,
+        };
+        if meets_merge(self.merged_cells.as_slice(), &block) {
+            return Err(GridError::MergedPart);
+        }
+        if has_fixed(&self.cells, &block) {
+            return Err(GridError::ArrayPart);
+        }
+        Ok(())
+    }
+}

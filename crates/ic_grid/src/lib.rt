@@ -1,0 +1,17 @@
+//! The cells of one sheet, with its rows, columns and merges: preparing a place for writing, arrays, spills, clearing.
+#![tactic(auto)]
+
+mod arrays;
+mod block;
+mod changes;
+mod error;
+mod grid;
+mod lines;
+mod merges;
+mod prepare;
+mod start;
+mod write;
+
+pub use block::{Array, Block};
+pub use error::GridError;
+pub use grid::Grid;

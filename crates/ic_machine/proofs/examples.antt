@@ -1,0 +1,9 @@
+mod ArrayExamples
+mod CaptureExamples
+mod CellExamples
+mod DefinitionExamples
+mod LayoutExamples
+mod Session
+mod SheetExamples
+mod Small
+mod TableExamples

@@ -1,0 +1,5 @@
+use Rattle.ic_machine.proofs.SceneLemmas.{scene_stays}
+use Rattle.ic_machine.proofs.law.law_cells_leave_names.Goals as goal
+
+pub returns : goal.returns
+returns c = scene_stays

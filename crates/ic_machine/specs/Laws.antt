@@ -1,0 +1,37 @@
+-- What the laws of the machine say.
+use Rattle.std.specs.Prelude.{◌≡◌, ℕ, ◌+◌, ◌≤◌, List, length, Some, None, Err}
+use Rattle.ic_laws.specs.Command as core
+use Rattle.ic_laws.specs.CoreBook.{CoreBook}
+use Rattle.ic_laws.specs.Lines as lines
+use Rattle.ic_laws.specs.Notations.{Notations}
+use Rattle.ic_machine.specs.Book.{Book}
+use Rattle.ic_machine.specs.Command.{Command, command_in}
+use Rattle.ic_machine.specs.Refusal.{BadLine, Refusal}
+use Rattle.ic_machine.specs.Row.{Row}
+use Rattle.ic_machine.specs.Run.{after, replies}
+use Rattle.ic_machine.specs.Step.{core_machine, english_errors, line_step, step}
+use Rattle.ic_machine.specs.subjects.Sheets.{free_number}
+
+-- a line that is no command of a table leaves the book, and is bad
+abbrev pub BadLineStays : Type 0
+BadLineStays =
+    (rows : List (Row Command)) (book : Book) (line : List ℕ) → command_in (english_errors book) rows line ≡ None → line_step rows book line ≡ (book, Err BadLine)
+
+-- a line whose command is refused leaves the book, and is answered by the refusal
+abbrev pub RefusedStays : Type 0
+RefusedStays =
+    (rows : List (Row Command)) (book : Book) (line : List ℕ) (command : Command) (refusal : Refusal) → command_in (english_errors book) rows line ≡ Some command
+    → step book command ≡ Err refusal → line_step rows book line ≡ (book, Err refusal)
+
+-- what a run of lines leaves, and what it replies, by the core machine as one of any machines, is what the core's run does
+abbrev pub RunsLeaveSame : Type 0
+RunsLeaveSame =
+    (n : Notations) (table : List core.CommandRow) (book : CoreBook) (all : List (List ℕ)) → after (core_machine n table) book all ≡ lines.after n table book all
+
+abbrev pub RunsTellSame : Type 0
+RunsTellSame =
+    (n : Notations) (table : List core.CommandRow) (book : CoreBook) (all : List (List ℕ)) → replies (core_machine n table) book all ≡ lines.replies n table book all
+
+-- the number of a free name is at most one more than there are sheets
+abbrev pub NumbersAreSmall : Type 0
+NumbersAreSmall = (book : Book) (name : ℕ → List ℕ) → free_number book name ≤ length book.sheets + 1

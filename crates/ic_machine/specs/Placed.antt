@@ -1,0 +1,20 @@
+-- The index of a formula in a sheet's pool: that of the first equal one, or a new one at the end.
+use Rattle.std.specs.Prelude.{ℕ, List, [], ◌∷◌, ◌++◌, length, Bool, false, is_some, unwrap_or, if◌then◌else◌}
+use Rattle.ic_laws.specs.declared.tree.Formula.{Formula}
+use Rattle.ic_laws.specs.declared.tree.Formula.TheVariants as formulas
+use Rattle.ic_tables.specs.declared.language.FunctionKind.{FunctionKind}
+use Rattle.ic_tree.specs.Dynamic.{dynamic_with}
+use Rattle.ic_pool.specs.Code.{code}
+use Rattle.ic_pool.specs.Pool.{first_place}
+
+-- formulas are told apart by their codes, which no two have
+abbrev pub index_in_pool : Formula → List Formula → ℕ
+index_in_pool formula pool = unwrap_or (first_place (code formula) pool) (length pool)
+
+abbrev pub pool_with : Formula → List Formula → List Formula
+pool_with formula pool = if is_some (first_place (code formula) pool) then pool else pool ++ formula ∷ []
+
+-- what a formula gives may spill; a text that doesn't read gives one value
+abbrev pub is_dynamic : List FunctionKind → Formula → Bool
+is_dynamic kinds (formulas.Tree t) = dynamic_with kinds t
+is_dynamic kinds (formulas.Raw text) = false

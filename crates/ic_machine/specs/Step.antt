@@ -1,0 +1,61 @@
+-- One step of the whole machine, by subjects; and what a line leaves and answers.
+use Rattle.std.specs.Prelude.{ℕ, List, Option, Some, None, Ok, Err}
+use Rattle.ic_laws.specs.Notations.{Notations}
+use Rattle.ic_laws.specs.Command as core
+use Rattle.ic_laws.specs.CoreBook.{CoreBook}
+use Rattle.ic_laws.specs.Lines as lines
+use Rattle.ic_tables.specs.Tables.{english, error_words_in}
+use Rattle.ic_machine.specs.Book.{Book, Stepped}
+use Rattle.ic_machine.specs.Command.{Command, OnArrays, OnDefinitions, OnExtending, OnLayout, OnNotation, OnReading, OnSheets, OnStyles, OnTabs, OnWriting, command_in}
+use Rattle.ic_machine.specs.Refusal.{BadLine}
+use Rattle.ic_machine.specs.Reply.{Reply, reply_bytes}
+use Rattle.ic_machine.specs.Row.{Row}
+use Rattle.ic_machine.specs.Run.{Machine}
+use Rattle.ic_machine.specs.subjects.Arrays.{arrays_step}
+use Rattle.ic_machine.specs.subjects.Definitions.{definition_step}
+use Rattle.ic_machine.specs.subjects.Extending.{extending_step}
+use Rattle.ic_machine.specs.subjects.Layout.{layout_step}
+use Rattle.ic_machine.specs.subjects.Notation.{notation_step}
+use Rattle.ic_machine.specs.subjects.Reading.{reading_step}
+use Rattle.ic_machine.specs.subjects.Sheets.{sheet_step}
+use Rattle.ic_machine.specs.subjects.Styles.{style_step}
+use Rattle.ic_machine.specs.subjects.Tabs.{tab_step}
+use Rattle.ic_machine.specs.subjects.Writing.{writing_step}
+
+abbrev pub step : Book → Command → Stepped Book
+step book (OnSheets command) = sheet_step book command
+step book (OnDefinitions command) = definition_step book command
+step book (OnNotation command) = notation_step book command
+step book (OnWriting command) = writing_step book command
+step book (OnReading command) = reading_step book command
+step book (OnExtending command) = extending_step book command
+step book (OnStyles command) = style_step book command
+step book (OnLayout command) = layout_step book command
+step book (OnTabs command) = tab_step book command
+step book (OnArrays command) = arrays_step book command
+
+-- a refused command changes nothing
+abbrev pub outcome_of : Book → Stepped Book → Book × Reply
+outcome_of book (Ok done) = (done.0, Ok done.1)
+outcome_of book (Err refusal) = (book, Err refusal)
+
+-- what a command leaves, and its reply; without one the line is bad
+abbrev pub command_step : Book → Option Command → Book × Reply
+command_step book (Some command) = outcome_of book (step book command)
+command_step book None = (book, Err BadLine)
+
+-- the English words of the error values, by the tables of a book
+abbrev pub english_errors : Book → List (List ℕ)
+english_errors book = error_words_in (english book.tables.languages)
+
+-- what a line leaves, by the commands of a table, and its reply
+abbrev pub line_step : List (Row Command) → Book → List ℕ → Book × Reply
+line_step rows book line = command_step book (command_in (english_errors book) rows line)
+
+-- the whole machine, with the commands of a table
+abbrev pub machine : List (Row Command) → Machine Book
+machine rows book line = ((line_step rows book line).0, reply_bytes (line_step rows book line).1)
+
+-- the core machine, with a table of its commands
+abbrev pub core_machine : Notations → List core.CommandRow → Machine CoreBook
+core_machine n rows book line = ((lines.line_step n rows book line).0, lines.reply_bytes (lines.line_step n rows book line).1)

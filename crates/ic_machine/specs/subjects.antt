@@ -1,0 +1,10 @@
+pub mod Arrays
+pub mod Definitions
+pub mod Extending
+pub mod Layout
+pub mod Notation
+pub mod Reading
+pub mod Sheets
+pub mod Styles
+pub mod Tabs
+pub mod Writing

@@ -1,0 +1,57 @@
+ghost use Rattle.std.specs.Prelude.{List, ℕ};
+ghost use Rattle.ic_grid.specs.Shape.{celled};
+ghost use Rattle.ic_machine.specs.Alike.{HoldsAlike};
+ghost use Rattle.ic_machine.specs.Book.{Book};
+ghost use Rattle.ic_machine.specs.Command.{Command};
+ghost use Rattle.ic_machine.specs.Content.{content_of, held};
+ghost use Rattle.ic_machine.specs.Core.{IsSteppedAs, core_command};
+ghost use Rattle.ic_machine.specs.Laws.{BadLineStays, NumbersAreSmall, RefusedStays};
+ghost use Rattle.ic_machine.specs.Laws.{RunsLeaveSame, RunsTellSame};
+ghost use Rattle.ic_machine.specs.Readers.{LeavesIf, is_reader};
+ghost use Rattle.ic_machine.specs.Scene.{KeepsSceneIf, leaves_names};
+ghost use Rattle.ic_machine.specs.Step.{step};
+
+/// A line that is no command of a table changes nothing, and is answered by `BadLine`.
+pub fn law_bad_line_stays()
+    ensures { BadLineStays }
+{}
+
+/// A command that is refused changes nothing, and is answered by its refusal.
+pub fn law_refused_stays()
+    ensures { RefusedStays }
+{}
+
+/// A command that only reads leaves the book as it was.
+pub fn law_readers_change_nothing()
+    ensures { (book : Book) (command : Command)
+        → LeavesIf (is_reader command) book (step book command) }
+{}
+
+/// A command on the notation, on the cells, the styles, the layout or the tab of a sheet leaves what formulas can mention.
+pub fn law_cells_leave_names()
+    ensures { (book : Book) (command : Command)
+        → KeepsSceneIf (leaves_names command) book (step book command) }
+{}
+
+/// The number in the name that a new sheet or a copy gets is at most one more than there are sheets.
+pub fn law_numbers_are_small()
+    ensures { NumbersAreSmall }
+{}
+
+/// A cell, with the texts of the shared strings, is a content: of the same shape and style, and emptied, with another value
+/// or area, as a cell of a spill and as the formula of an array it is the content that was so changed or made.
+pub fn law_cells_are_contents()
+    ensures { (strings : List (List ℕ)) → HoldsAlike (content_of strings) celled held }
+{}
+
+/// Seen by its core, a step of the whole machine is that of the core machine, for each command that this has, except one
+/// that writes a formula: the same core is left and the same fields are answered, or the same refusal.
+pub fn law_core_is_stepped()
+    ensures { (book : Book) (command : Command) → IsSteppedAs book command (core_command command) }
+{}
+
+/// A run of lines by the core machine is a run over any machine, that of the core: what is left, and the replies.
+pub fn law_runs_shared()
+    ensures left { RunsLeaveSame }
+    ensures told { RunsTellSame }
+{}

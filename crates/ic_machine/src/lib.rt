@@ -1,0 +1,18 @@
+//! The whole machine, definitions and laws alone: what a book is, the 73 commands by subject, what refuses each, what each
+//! leaves and what it replies.
+//!
+//! In `specs/`: `Book` and `Content` (what a book and a cell hold), `Valid` (what always holds of a book), `Word` and `Row`
+//! (the words of command lines, and tables of commands), `Refusal` and `Reply`, `Changed` (what becomes of all formulas when
+//! sheets or definitions change), `Capture` (what an update of a definition captures), `InForce` and `Format` (what the
+//! notation in force makes of texts and amounts), `Placed`, `Styling`, `Line` and `Parsed` (indexes of formulas, numbers of
+//! styles, rows and columns, names of cells), `subjects` (ten subjects: the commands of each with their words, refusals and
+//! steps), `Command` and `Step` (one table and one step of all subjects), `Run` (runs of lines over any machine), `Core`,
+//! `Readers`, `Scene`, `Alike` and `Laws` (what the laws say).
+#![tactic(auto)]
+
+mod law;
+
+pub use law::{
+    law_bad_line_stays, law_cells_are_contents, law_cells_leave_names, law_core_is_stepped,
+    law_numbers_are_small, law_readers_change_nothing, law_refused_stays, law_runs_shared,
+};
