@@ -1,105 +1,146 @@
-//! One sheet's cells in sessions: one line is a list of calls on a new grid, one after another, and the answers stand in one
-//! line.
-ghost use Rattle.std.specs.Prelude.{◌≡◌, true, IfOk};
+//! One sheet's cells in sessions: one row is a list of calls on a new grid, one after another, and the answers stand in one
+//! row.
+ghost use Rattle.std.specs.Prelude.{◌≡◌, true, IfSome};
 ghost use Rattle.ic_grid.specs.Shape.{is_loose, shape_of};
 ghost use Rattle.ic_grid.specs.Whole.{IsGrid};
 
 use crate::cells::cell_at;
-use crate::fault::Fault;
-use crate::words::{index, int, put_bool, put_none, size, word};
-use ic_cells::{ArrayKind, Cell, FormulaValue, Merge};
+use crate::row::{Lack, Row};
+use ic_cells::{ArrayKind, Cell, FormulaValue, Merge, SpillValue};
 use ic_grid::{Grid, GridError};
-use ic_laws::{Amount, Items, Text};
+use ic_laws::{Items, OutOfMemory};
 use ic_refs::{is_valid_column_number, is_valid_row};
-use std::alloc::Global;
 
-/// Answers the call of this name, if it is one of these.
-pub fn call(alloc: Global, name: &str, words: &[Text], out: &mut String) -> Result<bool, Fault> {
-    match name {
-        "Grid" => session(alloc, words, out)?,
-        "Grid::write" => writes(alloc, words, out)?,
-        _ => return Ok(false),
+/// Answers the call, if it is one of these.
+pub fn call(row: &mut Row<'_>) {
+    match row.word(0) {
+        "Grid" => session(row),
+        "Grid::write" => writes(row),
+        _ => {}
     }
-    Ok(true)
 }
 
-/// Calls that look at a grid of any cells and merges, and set rows and columns. Each takes five words.
-fn session(alloc: Global, words: &[Text], out: &mut String) -> Result<(), Fault> {
-    let mut grid = Grid::new(alloc);
-    let mut at = 1;
-    for turn in 0..words.len() {
-        let Some(rest) = words.get(at..) else {
-            break;
-        };
-        if rest.is_empty() {
-            break;
+/// Calls that look at a grid of any cells and merges, and set rows and columns. Each has a name and five words, of which
+/// those that it doesn't need are `-`.
+fn session(row: &mut Row<'_>) {
+    let mut grid = Grid::new(row.alloc);
+    let mut at: usize = 1;
+    for _ in 0..row.words().len() / 6 {
+        if at > 1 {
+            row.tab();
         }
-        if turn > 0 {
-            out.push('\t')?;
-        }
-        made(alloc, &mut grid, rest, out)?;
+        made(row, &mut grid, at);
         at = at.saturating_add(6);
     }
-    Ok(())
 }
 
-/// Makes one call: its name and five words, of which those that it doesn't need are `-`.
-fn made(alloc: Global, grid: &mut Grid, rest: &[Text], out: &mut String) -> Result<(), Fault> {
-    match word(rest, 0)? {
-        "put" => put(alloc, grid, rest, out),
-        "merge" => merge(alloc, grid, rest, out),
-        "set_row_height" => put_done(grid.set_row_height(int(rest, 1)?, index(rest, 2)?)?, out),
-        "set_row_style" => put_done(grid.set_row_style(int(rest, 1)?, size(rest, 2)?)?, out),
-        "set_row_hidden" => put_done(
-            grid.set_row_hidden(int(rest, 1)?, word(rest, 2)? == "true")?,
-            out,
-        ),
-        "set_column_width" => put_done(grid.set_column_width(int(rest, 1)?, index(rest, 2)?)?, out),
-        "set_column_style" => put_done(grid.set_column_style(int(rest, 1)?, size(rest, 2)?)?, out),
-        "set_column_hidden" => put_done(
-            grid.set_column_hidden(int(rest, 1)?, word(rest, 2)? == "true")?,
-            out,
-        ),
-        _ => told(grid, rest, out),
+/// A number of a call, by its place behind the name.
+fn int(row: &mut Row<'_>, at: usize, place: usize) -> i32 {
+    row.int(at.saturating_add(place))
+}
+
+fn index(row: &mut Row<'_>, at: usize) -> u32 {
+    row.index(at.saturating_add(2))
+}
+
+fn size(row: &mut Row<'_>, at: usize) -> usize {
+    row.size(at.saturating_add(2))
+}
+
+fn is_true(row: &Row<'_>, at: usize) -> bool {
+    row.word(at.saturating_add(2)) == "true"
+}
+
+/// Makes one call.
+fn made(row: &mut Row<'_>, grid: &mut Grid, at: usize) {
+    match row.word(at) {
+        "put" => put(row, grid, at),
+        "merge" => merge(row, grid, at),
+        "can_write" => put_can_write(row, grid, at),
+        "can_write_array" => put_can_write_array(row, grid, at),
+        "style_at" => put_style_at(row, grid, at),
+        _ => lines(row, grid, at),
     }
 }
 
-/// Makes one call that only looks.
-fn told(grid: &Grid, rest: &[Text], out: &mut String) -> Result<(), Fault> {
-    match word(rest, 0)? {
-        "can_write" => put_answer(grid.can_write(int(rest, 1)?, int(rest, 2)?), out),
-        "can_write_array" => {
-            let answer =
-                grid.can_write_array(int(rest, 1)?, int(rest, 2)?, int(rest, 3)?, int(rest, 4)?);
-            put_answer(answer, out)
-        }
-        "style_at" => put_number(grid.style_at(int(rest, 1)?, int(rest, 2)?), out),
-        "row_height" => put_size(grid.row_height(int(rest, 1)?), out),
-        "row_style" => put_style(grid.row_style(int(rest, 1)?), out),
-        "is_row_hidden" => put_bool(out, grid.is_row_hidden(int(rest, 1)?)),
-        "column_width" => put_size(grid.column_width(int(rest, 1)?), out),
-        "column_style" => put_style(grid.column_style(int(rest, 1)?), out),
-        "is_column_hidden" => put_bool(out, grid.is_column_hidden(int(rest, 1)?)),
-        _ => Err(Fault::Row),
+/// Makes a call on a row or a column.
+fn lines(row: &mut Row<'_>, grid: &mut Grid, at: usize) {
+    let number = int(row, at, 1);
+    match row.word(at) {
+        "row_height" => row.put_number(i128::from(grid.row_height(number))),
+        "row_style" => row.put_count(grid.row_style(number)),
+        "is_row_hidden" => row.put_bool(grid.is_row_hidden(number)),
+        "column_width" => row.put_number(i128::from(grid.column_width(number))),
+        "column_style" => row.put_count(grid.column_style(number)),
+        "is_column_hidden" => row.put_bool(grid.is_column_hidden(number)),
+        _ => setters(row, grid, at, number),
     }
+}
+
+fn setters(row: &mut Row<'_>, grid: &mut Grid, at: usize, number: i32) {
+    let done = match row.word(at) {
+        "set_row_height" => grid.set_row_height(number, index(row, at)),
+        "set_row_style" => grid.set_row_style(number, size(row, at)),
+        "set_row_hidden" => grid.set_row_hidden(number, is_true(row, at)),
+        "set_column_width" => grid.set_column_width(number, index(row, at)),
+        "set_column_style" => grid.set_column_style(number, size(row, at)),
+        "set_column_hidden" => grid.set_column_hidden(number, is_true(row, at)),
+        _ => return row.bad(),
+    };
+    put_done(row, done);
+}
+
+fn put_done(row: &mut Row<'_>, done: Result<(), OutOfMemory>) {
+    match done {
+        Ok(()) => row.put("ok"),
+        Err(_) => row.no_memory(),
+    }
+}
+
+fn put_can_write(row: &mut Row<'_>, grid: &Grid, at: usize) {
+    let (line, column) = (int(row, at, 1), int(row, at, 2));
+    put_answer(row, grid.can_write(line, column));
+}
+
+fn put_can_write_array(row: &mut Row<'_>, grid: &Grid, at: usize) {
+    let (line, column) = (int(row, at, 1), int(row, at, 2));
+    let (width, height) = (int(row, at, 3), int(row, at, 4));
+    put_answer(row, grid.can_write_array(line, column, width, height));
+}
+
+fn put_style_at(row: &mut Row<'_>, grid: &Grid, at: usize) {
+    let (line, column) = (int(row, at, 1), int(row, at, 2));
+    row.put_number(grid.style_at(line, column) as i128);
 }
 
 /// Puts a cell of any kind: its place, and its words as in the rows of cells, of which an array formula and a spill's cell
-/// are `array` with its width and height, `cse` with them, and `spill` with its anchor.
-fn put(alloc: Global, grid: &mut Grid, rest: &[Text], out: &mut String) -> Result<(), Fault> {
-    let (row, column) = (int(rest, 1)?, int(rest, 2)?);
-    let cell = match word(rest, 3)? {
-        "dynamic" => array(ArrayKind::Dynamic, int(rest, 4)?, int(rest, 5)?),
-        "cse" => array(ArrayKind::Cse, int(rest, 4)?, int(rest, 5)?),
-        "spill" => Cell::SpillCell {
+/// are `dynamic` or `cse` with a width and a height, and `spill` with its anchor.
+fn put(row: &mut Row<'_>, grid: &mut Grid, at: usize) {
+    let (line, column) = (int(row, at, 1), int(row, at, 2));
+    match cell_of(row, at) {
+        Ok(cell) => put_cell(row, grid, (line, column), cell),
+        Err(lack) => row.fail(lack),
+    }
+}
+
+fn put_cell(row: &mut Row<'_>, grid: &mut Grid, place: (i32, i32), cell: Cell) {
+    match grid.cells.insert(place.0, place.1, cell) {
+        Ok(_) => row.put("ok"),
+        Err(_) => row.no_memory(),
+    }
+}
+
+fn cell_of(row: &mut Row<'_>, at: usize) -> Result<Cell, Lack> {
+    match row.word(at.saturating_add(3)) {
+        "dynamic" => Ok(array(ArrayKind::Dynamic, int(row, at, 4), int(row, at, 5))),
+        "cse" => Ok(array(ArrayKind::Cse, int(row, at, 4), int(row, at, 5))),
+        "spill" => Ok(Cell::SpillCell {
             s: 0,
-            a: (int(rest, 4)?, int(rest, 5)?),
-            v: ic_cells::SpillValue::Boolean(true),
-        },
-        _ => cell_at(alloc, rest, 3)?,
-    };
-    let _before = grid.cells.insert(row, column, cell)?;
-    put_done((), out)
+            a: (int(row, at, 4), int(row, at, 5)),
+            v: SpillValue::Boolean(true),
+        }),
+        _ => cell_at(row.alloc, row.words(), at.saturating_add(3)),
+    }
 }
 
 fn array(kind: ArrayKind, width: i32, height: i32) -> Cell {
@@ -113,98 +154,104 @@ fn array(kind: ArrayKind, width: i32, height: i32) -> Cell {
 }
 
 /// Adds merged cells.
-fn merge(alloc: Global, grid: &mut Grid, rest: &[Text], out: &mut String) -> Result<(), Fault> {
-    let mut merges = Vec::new(alloc);
+fn merge(row: &mut Row<'_>, grid: &mut Grid, at: usize) {
+    let merge = Merge {
+        row: int(row, at, 1),
+        column: int(row, at, 2),
+        width: int(row, at, 3),
+        height: int(row, at, 4),
+    };
+    match merges_with(row, grid, merge) {
+        Ok(merges) => {
+            grid.merged_cells = merges;
+            row.put("ok");
+        }
+        Err(lack) => row.fail(lack),
+    }
+}
+
+fn merges_with(row: &Row<'_>, grid: &Grid, merge: Merge) -> Result<Items<Merge>, Lack> {
+    let mut merges = Vec::new(row.alloc);
     for merge in grid.merged_cells.as_slice() {
         merges.push(*merge)?;
     }
-    merges.push(Merge {
-        row: int(rest, 1)?,
-        column: int(rest, 2)?,
-        width: int(rest, 3)?,
-        height: int(rest, 4)?,
-    })?;
-    grid.merged_cells = Items::from(merges);
-    put_done((), out)
+    merges.push(merge)?;
+    Ok(Items::from(merges))
 }
 
-/// Writes into an empty grid: a place, a kind (`number`, `empty` or `dynamic`) and a style each. Then the cells stand, each
-/// with its place and whether it has a formula.
-fn writes(alloc: Global, words: &[Text], out: &mut String) -> Result<(), Fault> {
-    let mut grid = Grid::new(alloc);
-    let mut at = 1;
-    'calls: for _ in 0..words.len() {
-        let Some(rest) = words.get(at..) else {
-            break;
-        };
-        if rest.is_empty() {
-            break;
-        }
-        write(&mut grid, rest, out)?;
-        out.push('\t')?;
+/// Writes into an empty grid: a place, a kind (`boolean`, `empty` or `dynamic`) and a style each. Then the cells stand, each
+/// with its place, its style and whether it has a formula.
+fn writes(row: &mut Row<'_>) {
+    let mut grid = Grid::new(row.alloc);
+    let mut at: usize = 1;
+    'calls: for _ in 0..row.words().len() / 4 {
+        write(row, &mut grid, at);
+        row.tab();
         at = at.saturating_add(4);
     }
-    for ((row, column), cell) in grid.cells.as_map().iter() {
-        write!(out, "{row},{column},{},{} ", cell.get_style(), cell.has_formula())?;
+    for ((line, column), cell) in grid.cells.as_map().iter() {
+        put_place(row, *line, *column, cell);
     }
-    Ok(())
 }
 
-fn write(grid: &mut Grid, rest: &[Text], out: &mut String) -> Result<(), Fault>
+fn put_place(row: &mut Row<'_>, line: i32, column: i32, cell: &Cell) {
+    row.put_number(i128::from(line));
+    row.put(",");
+    row.put_number(i128::from(column));
+    row.put(",");
+    row.put_number(cell.get_style() as i128);
+    row.put(",");
+    row.put_bool(cell.has_formula());
+    row.put(" ");
+}
+
+fn write(row: &mut Row<'_>, grid: &mut Grid, at: usize)
     requires { IsGrid grid.old }
     ensures { IsGrid grid.new }
 {
-    let (row, column) = (int(rest, 0)?, int(rest, 1)?);
-    if !is_valid_row(row) || !is_valid_column_number(column) {
-        return Err(Fault::Row);
+    let (line, column) = (int(row, at, 0), int(row, at, 1));
+    if !is_valid_row(line) || !is_valid_column_number(column) {
+        return row.bad();
     }
-    let cell = loose_cell(word(rest, 2)?, size(rest, 3)?)?;
-    put_answer(grid.write(row, column, cell), out)
+    let style = row.size(at.saturating_add(3));
+    match loose_cell(row.word(at.saturating_add(2)), style) {
+        Some(cell) => put_answer(row, grid.write(line, column, cell)),
+        None => row.bad(),
+    }
 }
 
-fn loose_cell(kind: &str, s: usize) -> Result<Cell, Fault>
-    ensures { IfOk result (λ cell. is_loose (shape_of cell) ≡ true) }
+fn loose_cell(kind: &str, s: usize) -> Option<Cell>
+    ensures { IfSome result (λ cell. is_loose (shape_of cell) ≡ true) }
 {
     match kind {
-        "empty" => Ok(Cell::EmptyCell { s }),
-        "boolean" => Ok(Cell::new_boolean(true, s)),
-        "dynamic" => Ok(Cell::ArrayFormula {
+        "empty" => Some(Cell::EmptyCell { s }),
+        "boolean" => Some(Cell::new_boolean(true, s)),
+        "dynamic" => Some(Cell::ArrayFormula {
             f: 0,
             s,
             r: (1, 1),
             kind: ArrayKind::Dynamic,
             v: FormulaValue::Unevaluated,
         }),
-        _ => Err(Fault::Row),
+        _ => None,
     }
 }
 
-fn put_done(_: (), out: &mut String) -> Result<(), Fault> {
-    out.push_str("ok")?;
-    Ok(())
-}
-
-fn put_answer(answer: Result<(), GridError>, out: &mut String) -> Result<(), Fault> {
+fn put_answer(row: &mut Row<'_>, answer: Result<(), GridError>) {
     match answer {
-        Ok(()) => out.push_str("ok")?,
-        Err(error) => write!(out, "error {error:?}")?,
+        Ok(()) => row.put("ok"),
+        Err(error) => row.put(name_of(error)),
     }
-    Ok(())
 }
 
-fn put_number(n: usize, out: &mut String) -> Result<(), Fault> {
-    write!(out, "{n}")?;
-    Ok(())
-}
-
-fn put_size(n: u32, out: &mut String) -> Result<(), Fault> {
-    write!(out, "{n}")?;
-    Ok(())
-}
-
-fn put_style(style: Option<usize>, out: &mut String) -> Result<(), Fault> {
-    match style {
-        Some(n) => put_number(n, out),
-        None => put_none(out),
+fn name_of(error: GridError) -> &'static str {
+    match error {
+        GridError::MergedPart => "error MergedPart",
+        GridError::ArrayPart => "error ArrayPart",
+        GridError::ClearArray => "error ClearArray",
+        GridError::NoFormulaCell => "error NoFormulaCell",
+        GridError::BadArea => "error BadArea",
+        GridError::SpillBlocked { .. } => "error SpillBlocked",
+        GridError::OutOfMemory => "error OutOfMemory",
     }
 }

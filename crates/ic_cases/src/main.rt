@@ -17,6 +17,7 @@ mod broken;
 mod cells;
 mod errors;
 mod formulas;
+mod grid;
 mod inputs;
 mod keeps;
 mod lookups;
@@ -52,6 +53,7 @@ fn call(row: &mut Row<'_>, books: &mut Books<'_>) {
     inputs::call(row);
     values::call(row);
     cells::call(row);
+    grid::call(row);
     styles::call(row);
     errors::call(row);
     broken::call(row);
