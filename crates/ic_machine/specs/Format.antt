@@ -4,7 +4,7 @@ use Rattle.jiff_core.specs.Calendar.{days_in_month, days_in_year}
 use Rattle.ic_laws.specs.Amount.{amount_text, units_of_one}
 use Rattle.ic_tables.specs.declared.locale.Locale.{Locale}
 use Rattle.ic_input.specs.Code.{CodeParts, is_date_code, number_code}
-use Rattle.ic_input.specs.Convention.{decimal_of}
+use Rattle.ic_tables.specs.Formats.{decimal_separator}
 use Rattle.ic_input.specs.Date.{date_text, last_day}
 use Rattle.ic_input.specs.Formatted.{number_text}
 
@@ -44,12 +44,12 @@ dated code date = date_text code date.year date.month date.day
 -- by a code of dates, where the amount is a day
 abbrev pub shown_as_date : Locale → List ℕ → ℤ → Option ℕ → List ℕ
 shown_as_date l code v (Some n) = dated code (date_of_day n)
-shown_as_date l code v None = amount_text (decimal_of l) v
+shown_as_date l code v None = amount_text (decimal_separator l) v
 
 -- by the code of a number; or else by that of a date; otherwise as the amount's text
 abbrev pub shown_by : Locale → List ℕ → ℤ → Option CodeParts → List ℕ
 shown_by l code v (Some parts) = number_text l parts v
-shown_by l code v None = if is_date_code code then shown_as_date l code v (whole_day v) else amount_text (decimal_of l) v
+shown_by l code v None = if is_date_code code then shown_as_date l code v (whole_day v) else amount_text (decimal_separator l) v
 
 unfoldable pub formatted : Locale → List ℕ → ℤ → List ℕ
 formatted l code v = shown_by l code v (number_code code)

@@ -13,7 +13,7 @@ use Rattle.ic_cells.specs.Value.{boolean_word, error_word}
 use Rattle.ic_cells.specs.declared.value.CellValue.{CellValue}
 use Rattle.ic_cells.specs.declared.value.CellValue.TheVariants as values
 use Rattle.ic_input.specs.Code.{is_date_code}
-use Rattle.ic_input.specs.Convention.{decimal_of}
+use Rattle.ic_tables.specs.Formats.{decimal_separator}
 use Rattle.ic_input.specs.Typed.{formula_of, typed}
 use Rattle.ic_input.specs.declared.input.Typed.{Typed}
 use Rattle.ic_input.specs.declared.input.Typed.TheVariants as kinds
@@ -48,7 +48,7 @@ formula_typed book text = by_notation None (λ f. formula_of f.locale text) (in_
 
 -- the decimal separator
 abbrev pub decimal_in : Book → ℕ
-decimal_in book = by_notation dot (λ f. decimal_of f.locale) (in_force book)
+decimal_in book = by_notation dot (λ f. decimal_separator f.locale) (in_force book)
 
 -- the words of a boolean and of an error value
 abbrev pub boolean_in : Book → Bool → List ℕ
