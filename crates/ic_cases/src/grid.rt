@@ -73,6 +73,14 @@ fn lines(row: &mut Row<'_>, grid: &mut Grid, at: usize) {
         "column_width" => row.put_number(i128::from(grid.column_width(number))),
         "column_style" => row.put_count(grid.column_style(number)),
         "is_column_hidden" => row.put_bool(grid.is_column_hidden(number)),
+        "delete_row_style" => {
+            grid.delete_row_style(number);
+            row.put("ok");
+        }
+        "delete_column_style" => {
+            grid.delete_column_style(number);
+            row.put("ok");
+        }
         _ => setters(row, grid, at, number),
     }
 }

@@ -1,8 +1,8 @@
 //! What is set for rows and columns: heights and widths in hundredths, whether they are hidden, and styles.
-ghost use Rattle.std.specs.Prelude.{◌≡◌, OnErr, OnOk, Some, option_and_then};
+ghost use Rattle.std.specs.Prelude.{◌≡◌, IsSome, OnErr, OnOk, Some, option_and_then};
 ghost use Rattle.std.specs.FinMap as finite;
 ghost use Rattle.ic_cells.specs.Layout.{height_of, width_of};
-ghost use Rattle.ic_grid.specs.Lines.{column_at, row_at, with_column_hidden, with_column_style, with_column_width, with_row_height, with_row_hidden, with_row_style};
+ghost use Rattle.ic_grid.specs.Lines.{column_at, row_at, with_column_hidden, with_column_style, with_column_width, with_row_height, with_row_hidden, with_row_style, without_column_style, without_row_style};
 
 use crate::Grid;
 use ic_cells::{ColumnProps, RowProps, column_width, row_height};
@@ -89,6 +89,36 @@ impl Grid {
         props.style = Some(style);
         self.put_row(row, props)
     }
+
+    /// What is set for a row. None exactly where nothing was.
+    fn row_set(&self, row: i32) -> Option<RowProps>
+        ensures { result ≡ finite.get self.now.rows row }
+    {
+        self.rows.get(row).copied()
+    }
+
+    /// Puts what is set for a row where something is. No memory is taken.
+    fn replace_row(&mut self, row: i32, props: RowProps)
+        requires { IsSome (finite.get self.old.rows row) }
+        ensures { self.new
+            ≡ record self.old { rows = finite.insert self.old.rows row props } }
+    {
+        match self.rows.insert(row, props) {
+            Ok(_) => {}
+            Err(_) => {}
+        }
+    }
+
+    /// Takes the style of a row away, and leaves what else is set for it. No memory is taken.
+    pub fn delete_row_style(&mut self, row: i32)
+        ensures { self.new
+            ≡ record self.old { rows = without_row_style row self.old.rows } }
+    {
+        if let Some(mut props) = self.row_set(row) {
+            props.style = None;
+            self.replace_row(row, props);
+        }
+    }
 }
 
 impl Grid {
@@ -174,5 +204,35 @@ impl Grid {
         let mut props = self.column_props(column);
         props.style = Some(style);
         self.put_column(column, props)
+    }
+
+    /// What is set for a column. None exactly where nothing was.
+    fn column_set(&self, column: i32) -> Option<ColumnProps>
+        ensures { result ≡ finite.get self.now.columns column }
+    {
+        self.columns.get(column).copied()
+    }
+
+    /// Puts what is set for a column where something is. No memory is taken.
+    fn replace_column(&mut self, column: i32, props: ColumnProps)
+        requires { IsSome (finite.get self.old.columns column) }
+        ensures { self.new
+            ≡ record self.old { columns = finite.insert self.old.columns column props } }
+    {
+        match self.columns.insert(column, props) {
+            Ok(_) => {}
+            Err(_) => {}
+        }
+    }
+
+    /// Takes the style of a column away, and leaves what else is set for it. No memory is taken.
+    pub fn delete_column_style(&mut self, column: i32)
+        ensures { self.new
+            ≡ record self.old { columns = without_column_style column self.old.columns } }
+    {
+        if let Some(mut props) = self.column_set(column) {
+            props.style = None;
+            self.replace_column(column, props);
+        }
     }
 }
