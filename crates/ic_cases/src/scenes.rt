@@ -206,15 +206,17 @@ fn put_shown_by(row: &mut Row<'_>, scene: &Scene, shown: &Shown<'_>) {
 /// The languages whose words the formula clashes with.
 fn put_clashes(row: &mut Row<'_>, bound: &Bound) {
     row.put("\tclashes\t");
-    let mut before = "";
+    let mut some = false;
     for code in &["en", "es", "fr", "de", "it"] {
         if clashes_with(row.tables, bound, code) {
-            row.put(before);
+            if some {
+                row.put(",");
+            }
             row.put(code);
-            before = ",";
+            some = true;
         }
     }
-    if before.is_empty() {
+    if !some {
         row.none();
     }
 }
