@@ -5,6 +5,7 @@ pub mod BookValid
 pub mod ChangeLemmas
 pub mod GoneNames
 pub mod HeldLemmas
+pub mod LookUpLemmas
 pub mod MentionPairs
 pub mod ModelLemmas
 pub mod NameHeld
