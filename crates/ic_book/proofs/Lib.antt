@@ -10,6 +10,7 @@ pub mod MentionPairs
 pub mod ModelLemmas
 pub mod NameHeld
 pub mod NameLemmas
+pub mod NeverMentioned
 pub mod SparedBodies
 pub mod StartLemmas
 pub mod WrittenLemmas
