@@ -77,7 +77,8 @@ impl<'a> Model<'a> {
             → core_of self.new.book ≡ with_sheet_name sheet_index (chars new_name.now) (with_trees (changed_tree (sheet_named sheet.id (chars new_name.now))) (core_of self.old.book))) }
 
         // A sheet's look-up of formulas is there as before where no mention of its formulas changed.
-        ensures looks_up { OnOk result (LooksUpNamed sheet_index (chars new_name.now) self.old self.new) }
+        ensures looks_up { OnOk result
+            (LooksUpNamed sheet_index (chars new_name.now) self.old self.new) }
         ensures refused { Refuses result (rename_refusal (core_of self.old.book) sheet_index (chars new_name.now)) }
         ensures err { OnErr result (self.new ≡ self.old) }
     {
@@ -102,7 +103,8 @@ impl<'a> Model<'a> {
             → core_of self.new.book ≡ with_sheet_name index (chars new_name.now) (with_trees (changed_tree (sheet_named sheet.id (chars new_name.now))) (core_of self.old.book)))) }
 
         // A sheet's look-up of formulas is there as before where no mention of its formulas changed.
-        ensures looks_up { OnOk result (IfSome (index_of_name (core_of self.old.book) (chars old_name.now))
+        ensures looks_up { OnOk result
+            (IfSome (index_of_name (core_of self.old.book) (chars old_name.now))
             (λ index. LooksUpNamed index (chars new_name.now) self.old self.new)) }
         ensures refused { Refuses result (refusal_at (index_of_name (core_of self.old.book) (chars old_name.now)) (λ index. rename_refusal (core_of self.old.book) index (chars new_name.now))) }
         ensures err { OnErr result (self.new ≡ self.old) }
@@ -176,7 +178,8 @@ impl<'a> Model<'a> {
             → core_of self.new.book ≡ without_sheet index (with_trees (changed_tree (sheet_gone sheet.id sheet.name)) (core_of self.old.book)))) }
 
         // A sheet's look-up of formulas is there as before where no mention of its formulas changed.
-        ensures looks_up { OnOk result (IfSome (index_of_name (core_of self.old.book) (chars name.now))
+        ensures looks_up { OnOk result
+            (IfSome (index_of_name (core_of self.old.book) (chars name.now))
             (λ index. LooksUpWithout index self.old self.new)) }
         ensures refused { Refuses result (refusal_at (index_of_name (core_of self.old.book) (chars name.now)) (delete_refusal (core_of self.old.book))) }
         ensures err { OnErr result (self.new ≡ self.old) }
@@ -202,7 +205,8 @@ impl<'a> Model<'a> {
             → core_of self.new.book ≡ without_sheet index (with_trees (changed_tree (sheet_gone sheet.id sheet.name)) (core_of self.old.book)))) }
 
         // A sheet's look-up of formulas is there as before where no mention of its formulas changed.
-        ensures looks_up { OnOk result (IfSome (index_of_id (core_of self.old.book) sheet_id)
+        ensures looks_up { OnOk result
+            (IfSome (index_of_id (core_of self.old.book) sheet_id)
             (λ index. LooksUpWithout index self.old self.new)) }
         ensures refused { Refuses result (refusal_at (index_of_id (core_of self.old.book) sheet_id) (delete_refusal (core_of self.old.book))) }
         ensures err { OnErr result (self.new ≡ self.old) }

@@ -81,8 +81,8 @@ pub fn delete_at(
     ensures sheets { OnOk result ((d : core.Definition) → slice_get names.old index ≡ Some d
         → sheets_of sheets.new ≡ map (changed_pool (name_gone (names_scene (remove names.old index)) (spelling_of d))) (sheets_of sheets.old)) }
     ensures looks_up { OnOk result ((d : core.Definition) → slice_get names.old index ≡ Some d
-        → look_ups sheets.new
-            ≡ map (looks_up_after (name_gone (names_scene (remove names.old index)) (spelling_of d))) sheets.old) }
+        → look_ups sheets.new ≡ map (looks_up_after
+        (name_gone (names_scene (remove names.old index)) (spelling_of d))) sheets.old) }
     ensures names { OnOk result ((d : core.Definition) → slice_get names.old index ≡ Some d
         → names.new ≡ remove (map (with_body_tree (changed_tree (name_gone (names_scene (remove names.old index)) (spelling_of d)))) names.old) index) }
     ensures err { OnErr result ((sheets.new ≡ sheets.old) × (names.new ≡ names.old)) }

@@ -1,4 +1,4 @@
-use Rattle.std.proofs.Common.{◌≡◌, ◌+◌, ◌++◌, ◌∷◌, [], List, Bool, true, ℕ, Some, None, chars, sym, ap, subst, ◌∙◌}
+use Rattle.std.proofs.Common.{◌≡◌, ◌+◌, ◌++◌, ◌∷◌, [], true, Some, None, chars, sym, ap, subst, ◌∙◌}
 use Rattle.std.specs.List.{list_any}
 use Rattle.ic_laws.specs.BookTrees.{with_sheet_at_end, with_trees}
 use Rattle.ic_laws.specs.Changes.{changed_tree, sheet_named}
@@ -8,7 +8,6 @@ use Rattle.ic_laws.specs.Name.{agrees}
 use Rattle.ic_laws.specs.Refusal.{IdsUsedUp, SheetExists}
 use Rattle.ic_book.specs.Book.{ModelState, core_of, notations_in}
 use Rattle.ic_book.specs.Change.{book_changed_by, with_added_sheet}
-use Rattle.ic_sheets.specs.Rewriting.{looks_up_after}
 use Rattle.ic_book.specs.Inside.{held, held_state}
 use Rattle.ic_book.specs.LookUps.{LooksUpAdded, looks_up_in}
 use Rattle.ic_book.specs.Refused.{Refuses}
