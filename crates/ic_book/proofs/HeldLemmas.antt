@@ -98,7 +98,7 @@ update_accepts core index row column text there in_rows in_columns is = rw there
 pub not_a_formula : (core : CoreBook) (index : ℕ) (row column : ℤ) (text : List ℕ) → lacks_sheet core index ≡ false → is_row row ≡ true → is_column column ≡ true → is_formula_text text ≡ false → update_refusal core index row column text ≡ Some NotAFormula
 not_a_formula core index row column text there in_rows in_columns is = rw there (rw in_rows (rw in_columns (rw is refl)))
 
-fresh_is : (b : Bool) (g id : ℕ) → (if b then Some (g + 1) else None) ≡ Some id → id ≡ g + 1
+pub fresh_is : (b : Bool) (g id : ℕ) → (if b then Some (g + 1) else None) ≡ Some id → id ≡ g + 1
 fresh_is true g id e = cc
 fresh_is false g id e = cc
 

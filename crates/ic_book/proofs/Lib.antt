@@ -5,10 +5,12 @@ pub mod BookValid
 pub mod ChangeLemmas
 pub mod GoneNames
 pub mod HeldLemmas
+pub mod LookUpLemmas
 pub mod MentionPairs
 pub mod ModelLemmas
 pub mod NameHeld
 pub mod NameLemmas
+pub mod NeverMentioned
 pub mod SparedBodies
 pub mod StartLemmas
 pub mod WrittenLemmas

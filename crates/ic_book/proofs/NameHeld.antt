@@ -1,5 +1,5 @@
 -- What a model holds where a definition comes, or goes.
-use Rattle.std.proofs.Common.{◌≡◌, ◌<◌, ◌++◌, List, [], ◌∷◌, Option, Some, None, ℕ, zero, suc, arith, false, length, map, option_map, refl, true, sym, ap, subst, ◌∙◌}
+use Rattle.std.proofs.Common.{◌≡◌, ◌<◌, ◌++◌, List, [], ◌∷◌, Option, IfSome, Some, None, ℕ, zero, suc, arith, false, length, map, option_map, refl, true, sym, ap, subst, ◌∙◌}
 use Rattle.std.specs.Prelude.{position, remove, slice_get, unwrap_or}
 use Rattle.std.specs.List.{AllByRecursion, list_any}
 use Rattle.ic_laws.proofs.keeping.Deletes.{delete_name_dangles, new_name_binds}
@@ -12,7 +12,7 @@ use Rattle.ic_laws.specs.Notations.{Notations}
 use Rattle.ic_names.proofs.NamesFacts.{item_at_position}
 use Rattle.ic_names.specs.Bodies.{StaysWhereFound}
 use Rattle.ic_names.specs.Named.{names_scene}
-use Rattle.ic_sheets.specs.Rewriting.{changed_pool, sheets_of}
+use Rattle.ic_sheets.specs.Rewriting.{changed_pool, look_ups, looks_up_after, sheets_of}
 use Rattle.ic_sheets.specs.declared.sheet.Worksheet.{Worksheet}
 use Rattle.ic_tables.specs.Tables.{TableSet}
 use Rattle.ic_tables.specs.declared.language.Language.{Language}
@@ -20,9 +20,11 @@ use Rattle.ic_tables.specs.declared.locale.NamedLocale.{NamedLocale}
 use Rattle.ic_book.specs.Book.{Book, IsValidBook, ModelState, core_of, notations_in}
 use Rattle.ic_book.specs.Change.{book_changed_by, with_name, without_name}
 use Rattle.ic_book.specs.Inside.{IsHeld, held, held_state}
+use Rattle.ic_book.specs.LookUps.{looks_up_in}
 use Rattle.ic_book.proofs.BookLemmas.{core_of-changed, defined_change, undefined_change}
 use Rattle.ic_book.proofs.BookValid.{defined_valid, notations, undefined_valid}
 use Rattle.ic_book.proofs.HeldLemmas.{defined, held_after, undefined}
+use Rattle.ic_book.proofs.LookUpLemmas.{looks_up_is}
 use Rattle.ic_book.proofs.NameLemmas.{index_is, key_free, name_there, scope_is, scope_seen, scope_there}
 use Rattle.ic_book.proofs.SparedBodies.{adding_bodies}
 
@@ -90,6 +92,12 @@ module _ (name : List ℕ) (ws : List Worksheet) (ds : List Definition) (locale 
     pub its_sheet : (i : ℕ) → index ≡ Some i → (s : Worksheet) → slice_get ws i ≡ Some s → new.scope ≡ Some s.id
     its_sheet i given s at = ap (λ (d : Definition). d.scope) made ∙ sym (ap (λ o. unwrap_or o None) (scope_there (core_of held_book) ws index i s refl given at ∙ scope_here))
 
+    -- the look-ups that it leaves
+    pub defined_looks_up : (now : List Worksheet) → look_ups now ≡ map (looks_up_after (name_added (spelling_of new))) ws
+        → look_ups now ≡ looks_up_in (name_added (record { name = called; scope = scope_or_none core index })) m
+    defined_looks_up now e =
+        e ∙ sym (looks_up_is (name_added (spelling_of new)) ws) ∙ ap (looks_up_in (name_added (spelling_of new))) is ∙ ap (λ (d : Definition). looks_up_in (name_added (spelling_of d)) m) made_again
+
     module _ (now : List Worksheet) (nds : List Definition) (sheets : sheets_of now ≡ map (changed_pool (name_added (spelling_of new))) (sheets_of ws)) (names : nds ≡ map (with_body_tree (changed_tree (name_added (spelling_of new)))) ds ++ new ∷ []) where
       left : held name now nds locale language zone created tables ≡ book_changed_by (with_name new) held_book
       left = defined name ws ds locale language zone created tables h now nds new sheets names
@@ -130,6 +138,16 @@ module _ (name : List ℕ) (ws : List Worksheet) (ds : List Definition) (locale 
     -- nothing refuses it
     pub it_goes : delete_name_refusal core called index ≡ None
     it_goes = name_there core called index id scope at found_there
+
+    -- the look-ups that it leaves
+    pub undefined_looks_up : (now : List Worksheet) → ((d : Definition) → slice_get ds at ≡ Some d → look_ups now ≡ map (looks_up_after (name_gone (names_scene (remove ds at)) (spelling_of d))) ws)
+        → IfSome (index_of_definition core called (scope_or_none core index)) (λ i. IfSome (slice_get m.book.definitions i)
+        (λ d. look_ups now ≡ looks_up_in (name_gone (scene_of (without_definition (Some i) core)) (spelling_of d)) m))
+    undefined_looks_up now e =
+        subst (λ o. IfSome o (λ i. IfSome (slice_get m.book.definitions i) (λ (d : Definition). look_ups now ≡ looks_up_in (name_gone (scene_of (without_definition (Some i) core)) (spelling_of d)) m))) (sym its_index)
+        (subst (λ (k : ModelState). IfSome (slice_get k.book.definitions at) (λ (d : Definition). look_ups now ≡ looks_up_in (name_gone (scene_of (without_definition (Some at) (core_of k.book))) (spelling_of d)) k)) is
+        (subst (λ o. IfSome o (λ (d : Definition). look_ups now ≡ looks_up_in (name_gone (scene_of (without_definition (Some at) (core_of held_book))) (spelling_of d)) (held_state name ws ds locale language zone created tables))) (sym there.1)
+        (e there.0 there.1 ∙ sym (looks_up_is (name_gone (names_scene (remove ds at)) (spelling_of there.0)) ws))))
 
     module _ (now : List Worksheet) (nds : List Definition) (sheets : (d : Definition) → slice_get ds at ≡ Some d → sheets_of now ≡ map (changed_pool (name_gone (names_scene (remove ds at)) (spelling_of d))) (sheets_of ws))
         (names : (d : Definition) → slice_get ds at ≡ Some d → nds ≡ remove (map (with_body_tree (changed_tree (name_gone (names_scene (remove ds at)) (spelling_of d)))) ds) at) where

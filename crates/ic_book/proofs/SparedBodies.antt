@@ -1,5 +1,5 @@
 -- Formulas that a new definition leaves: bodies in which all was found, and formulas of other sheets.
-use Rattle.std.proofs.Common.{◌≡◌, ℕ, zero, suc, List, [], ◌∷◌, map, Bool, true, false, ◌&&◌, ◌||◌, cond, Option, Some, None, refl, sym, ap, ap₂, subst, ◌∙◌, nat_eq}
+use Rattle.std.proofs.Common.{◌≡◌, ◌++◌, ℕ, zero, suc, List, [], ◌∷◌, map, not, Bool, true, false, ◌&&◌, ◌||◌, cond, Option, Some, None, refl, sym, ap, ap₂, subst, ◌∙◌, nat_eq}
 use Rattle.std.specs.Prelude.{bytes_eq, option_map, slice_get}
 use Rattle.std.specs.Cmp.{nat_eq_equiv}
 use Rattle.std.specs.List.{AllByRecursion, IsDistinct, find, list_any}
@@ -32,13 +32,15 @@ use Rattle.ic_laws.specs.declared.tree.SheetMention.{SheetMention}
 use Rattle.ic_laws.specs.declared.tree.Tree.TheOpen as one
 use Rattle.ic_names.specs.Bodies.{StaysWhereFound}
 use Rattle.ic_pool.proofs.ChangeLemmas.{naming_spares_found, spared_stays}
-use Rattle.ic_pool.specs.Mentions.{formula_after, has_dangling, is_dangling, is_dangling_word}
+use Rattle.ic_pool.specs.Mentions.{formula_after, has_dangling, is_changed_by, is_dangling, is_dangling_word}
 use Rattle.ic_pool.specs.Rewrites.{RewritesState, rewritten_by}
+use Rattle.ic_sheets.proofs.RewritingLemmas.{prepared_makes}
 use Rattle.ic_sheets.proofs.SearchLemmas.{ids}
-use Rattle.ic_sheets.specs.Rewriting.{changed_pool, sheets_of, with_rewrites}
+use Rattle.ic_sheets.specs.Rewriting.{IsPrepared, changed_pool, look_ups, looks_up_after, sheets_of, with_rewrites}
 use Rattle.ic_sheets.specs.Sheet.{BookSheet, sheet_of}
 use Rattle.ic_sheets.specs.declared.sheet.Worksheet.{Worksheet}
 use Rattle.ic_book.proofs.MentionPairs.{mentions_both}
+use Rattle.ic_book.proofs.NeverMentioned.{never_mentioned}
 
 and_false : (a : Bool) → (a && false) ≡ false
 and_false true = refl
@@ -163,3 +165,37 @@ module _ (d : NameSpelling) (id : ℕ) (local : d.scope ≡ Some id) where
   local_made w (x ∷ ws) (suc index) s at its differ made =
       let apart : nat_eq x.id id ≡ false = subst (λ k. nat_eq x.id k ≡ false) its (apart_from x.id ws index s at (IsDistinct-head nat_eq x.id (ids ws) differ)) in
       ap₂ ◌∷◌ (sheet_stays x (flip x.id id apart)) (local_made w ws index s at its (IsDistinct-tail nat_eq x.id (ids ws) differ) made)
+
+  -- ---- and their look-ups
+
+  and_true : (b : Bool) → b ≡ (b && true)
+  and_true true = refl
+  and_true false = refl
+
+  none_changes : (other : ℕ) → nat_eq id other ≡ false → (f : Formula) → is_changed_by (name_added d) (Some other) f ≡ false
+  none_changes other apart (formulas.Raw text) = refl
+  none_changes other apart (formulas.Tree t) = never_mentioned (changes_sheet (name_added d)) (changes_word (name_added d) (Some other)) (λ m. refl) (never other apart) t
+
+  pool_unchanged : (other : ℕ) → nat_eq id other ≡ false → (pool : List Formula) → list_any (is_changed_by (name_added d) (Some other)) pool ≡ false
+  pool_unchanged other apart [] = refl
+  pool_unchanged other apart (f ∷ pool) = ap₂ (λ a b. a || b) (none_changes other apart f) (pool_unchanged other apart pool)
+
+  look_up_stays : (s : Worksheet) → nat_eq id s.id ≡ false → s.pool.is_whole ≡ looks_up_after (name_added d) s
+  look_up_stays s apart = and_true s.pool.is_whole ∙ ap (λ b. s.pool.is_whole && not b) (sym (pool_unchanged s.id apart s.pool.formulas))
+
+  look_ups_stay : (ws : List Worksheet) → AllByRecursion (λ y. nat_eq id y ≡ false) (ids ws) → look_ups ws ≡ map (looks_up_after (name_added d)) ws
+  look_ups_stay [] h = refl
+  look_ups_stay (s ∷ ws) h = ap₂ ◌∷◌ (look_up_stays s h.0) (look_ups_stay ws h.1)
+
+  -- so it leaves the look-ups that the change does
+  pub local_looks_up : (w : RewritesState) (ws : List Worksheet) (index : ℕ) (s : Worksheet) → slice_get ws index ≡ Some s → s.id ≡ id → IsDistinct nat_eq (ids ws) → IsPrepared (name_added d) w s
+      → look_ups (updated_at (with_rewrites w) index ws) ≡ map (looks_up_after (name_added d)) ws
+  local_looks_up w [] index s at its differ prepared = cc
+  local_looks_up w (x ∷ ws) zero s at its differ prepared =
+      let same : s ≡ x = cc in
+      let its_x : x.id ≡ id = ap (λ (y : Worksheet). y.id) (sym same) ∙ its in
+      ap₂ ◌++◌ (prepared_makes (name_added d) (w ∷ []) (x ∷ []) (subst (IsPrepared (name_added d) w) same prepared, tt)).looks_up
+      (look_ups_stay ws (subst (λ k. AllByRecursion (λ y. nat_eq k y ≡ false) (ids ws)) its_x (IsDistinct-head nat_eq x.id (ids ws) differ)))
+  local_looks_up w (x ∷ ws) (suc index) s at its differ prepared =
+      let apart : nat_eq x.id id ≡ false = subst (λ k. nat_eq x.id k ≡ false) its (apart_from x.id ws index s at (IsDistinct-head nat_eq x.id (ids ws) differ)) in
+      ap₂ ◌∷◌ (look_up_stays x (flip x.id id apart)) (local_looks_up w ws index s at its (IsDistinct-tail nat_eq x.id (ids ws) differ) prepared)

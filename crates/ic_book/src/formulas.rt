@@ -14,6 +14,7 @@ ghost use Rattle.ic_laws.specs.declared.tree.Formula as kept;
 ghost use Rattle.ic_pool.specs.Pool.{IsPlaced};
 ghost use Rattle.ic_sheets.specs.Sheet.{cells_of};
 ghost use Rattle.ic_book.specs.Book.{IsSameBeside, core_of, notations_in, scene_in};
+ghost use Rattle.ic_book.specs.LookUps.{LooksUpAsBefore};
 ghost use Rattle.ic_book.specs.Refused.{Refuses, RefusesOnly};
 ghost use Rattle.ic_book.specs.Written.{pool_at, with_cell, with_pool};
 
@@ -58,6 +59,9 @@ impl<'a> Model<'a> {
         ensures refused { Refuses result (update_refusal (core_of self.old.book) sheet row column (chars (string_bytes formula))) }
         ensures untouched { (refusal : Refusal) → update_refusal (core_of self.old.book) sheet row column (chars (string_bytes formula)) ≡ Some refusal → self.new ≡ self.old }
         ensures err { OnErr result (self.new.book ≡ self.old.book) }
+
+        // After an error the look-up of this sheet may be there; the others are as before.
+        ensures left { OnErr result (LooksUpAsBefore sheet self.old self.new) }
     {
         let body = self.body_to_write(sheet, row, column, formula.as_str())?;
         let id = self.sheets.as_slice()[sheet as usize].id;
@@ -115,6 +119,9 @@ impl<'a> Model<'a> {
         ensures refused { Refuses result (first_refusal ((lacks_sheet (core_of self.old.book) sheet, InvalidSheet) ∷ [])) }
         ensures untouched { (refusal : Refusal) → first_refusal ((lacks_sheet (core_of self.old.book) sheet, InvalidSheet) ∷ []) ≡ Some refusal → self.new ≡ self.old }
         ensures err { OnErr result (self.new.book ≡ self.old.book) }
+
+        // After an error the look-up of this sheet may be there; the others are as before.
+        ensures left { OnErr result (LooksUpAsBefore sheet self.old self.new) }
     {
         if sheet as usize >= self.sheets.len() {
             return Err(BookError::InvalidSheet);

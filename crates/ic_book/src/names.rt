@@ -8,6 +8,7 @@ ghost use Rattle.ic_laws.specs.CoreStep.{changed_by, delete_name_refusal, index_
 ghost use Rattle.ic_laws.specs.FormulaReading.{Body, body_of, shown_body};
 ghost use Rattle.ic_book.specs.Book.{IsSameBeside, core_of, notations_in};
 ghost use Rattle.ic_book.specs.Change.{book_changed_by, with_name, without_name};
+ghost use Rattle.ic_book.specs.LookUps.{LooksUpDefined, LooksUpUndefined};
 ghost use Rattle.ic_book.specs.Names.{body_of_typed, listed, listed_names};
 ghost use Rattle.ic_laws.specs.Refusal.{InvalidNameFormula};
 ghost use Rattle.ic_book.specs.Refused.{Refuses, RefusesOr};
@@ -50,6 +51,9 @@ impl<'a> Model<'a> {
             → core_of self.new.book ≡ with_definition (new_definition (notations_in self.old.book) (core_of self.old.book) (chars name.now) (scope_or_none (core_of self.old.book) scope) body)
             (with_trees (changed_tree (name_added (record { name = chars name.now; scope = scope_or_none (core_of self.old.book) scope }))) (core_of self.old.book))) }
         ensures beside { OnOk result (IsSameBeside self.old.book self.new.book) }
+
+        // A sheet's look-up of formulas is there as before where no mention of its formulas changed.
+        ensures looks_up { OnOk result (LooksUpDefined (chars name.now) scope self.old self.new) }
         ensures refused { RefusesOr InvalidNameFormula result (new_name_refusal (notations_in self.old.book) (core_of self.old.book) (chars name.now) scope (chars formula.now)) }
         ensures err { OnErr result (self.new ≡ self.old) }
     {
@@ -104,6 +108,9 @@ impl<'a> Model<'a> {
             → slice_get (core_of self.old.book).definitions index ≡ Some definition
             → core_of self.new.book ≡ without_definition (Some index) (with_trees (changed_tree (name_gone (scene_of (without_definition (Some index) (core_of self.old.book))) (spelling_of definition))) (core_of self.old.book))) }
         ensures beside { OnOk result (IsSameBeside self.old.book self.new.book) }
+
+        // A sheet's look-up of formulas is there as before where no mention of its formulas changed.
+        ensures looks_up { OnOk result (LooksUpUndefined (chars name.now) scope self.old self.new) }
         ensures refused { Refuses result (delete_name_refusal (core_of self.old.book) (chars name.now) scope) }
         ensures err { OnErr result (self.new ≡ self.old) }
     {

@@ -6,6 +6,7 @@ ghost use Rattle.ic_laws.specs.CoreBook.{Sheet, greatest_id};
 ghost use Rattle.ic_laws.specs.CoreStep.{add_sheet_refusal, changed_by, delete_refusal, index_of_id, index_of_name, move_refusal, moved, rename_refusal, with_new_sheet, with_sheet_name, without_sheet};
 ghost use Rattle.ic_book.specs.Book.{core_of, notations_in};
 ghost use Rattle.ic_book.specs.Change.{book_changed_by, with_added_sheet, with_moved_sheet, with_removed_sheet, with_renamed_sheet};
+ghost use Rattle.ic_book.specs.LookUps.{LooksUpAdded, LooksUpNamed, LooksUpWithout};
 ghost use Rattle.ic_book.specs.Refused.{Refuses, RefusesOnly, refusal_at};
 
 use crate::names::bodies_without;
@@ -28,6 +29,9 @@ impl<'a> Model<'a> {
         // What is bound by it is bound to it, and each other mention is what it was.
         ensures binds { OnOk result (core_of self.new.book ≡ with_sheet_at_end (greatest_id (core_of self.old.book) + 1) (chars sheet_name.now)
             (with_trees (changed_tree (sheet_named (greatest_id (core_of self.old.book) + 1) (chars sheet_name.now))) (core_of self.old.book))) }
+
+        // A sheet's look-up of formulas is there as before where no mention of its formulas changed.
+        ensures looks_up { OnOk result (LooksUpAdded (chars sheet_name.now) self.old self.new) }
         ensures refused { Refuses result (add_sheet_refusal (core_of self.old.book) (chars sheet_name.now)) }
         ensures err { OnErr result (self.new ≡ self.old) }
     {
@@ -71,6 +75,10 @@ impl<'a> Model<'a> {
         // What is bound by it is bound to that sheet, and each other mention is what it was.
         ensures binds { OnOk result ((sheet : Sheet) → slice_get (core_of self.old.book).sheets sheet_index ≡ Some sheet
             → core_of self.new.book ≡ with_sheet_name sheet_index (chars new_name.now) (with_trees (changed_tree (sheet_named sheet.id (chars new_name.now))) (core_of self.old.book))) }
+
+        // A sheet's look-up of formulas is there as before where no mention of its formulas changed.
+        ensures looks_up { OnOk result
+            (LooksUpNamed sheet_index (chars new_name.now) self.old self.new) }
         ensures refused { Refuses result (rename_refusal (core_of self.old.book) sheet_index (chars new_name.now)) }
         ensures err { OnErr result (self.new ≡ self.old) }
     {
@@ -93,6 +101,11 @@ impl<'a> Model<'a> {
         // What is bound by it is bound to that sheet, and each other mention is what it was.
         ensures binds { OnOk result (IfSome (index_of_name (core_of self.old.book) (chars old_name.now)) (λ index. (sheet : Sheet) → slice_get (core_of self.old.book).sheets index ≡ Some sheet
             → core_of self.new.book ≡ with_sheet_name index (chars new_name.now) (with_trees (changed_tree (sheet_named sheet.id (chars new_name.now))) (core_of self.old.book)))) }
+
+        // A sheet's look-up of formulas is there as before where no mention of its formulas changed.
+        ensures looks_up { OnOk result
+            (IfSome (index_of_name (core_of self.old.book) (chars old_name.now))
+            (λ index. LooksUpNamed index (chars new_name.now) self.old self.new)) }
         ensures refused { Refuses result (refusal_at (index_of_name (core_of self.old.book) (chars old_name.now)) (λ index. rename_refusal (core_of self.old.book) index (chars new_name.now))) }
         ensures err { OnErr result (self.new ≡ self.old) }
     {
@@ -141,6 +154,9 @@ impl<'a> Model<'a> {
         // What meant it dangles by its name, and each other mention is what it was.
         ensures dangles { OnOk result ((sheet : Sheet) → slice_get (core_of self.old.book).sheets sheet_index ≡ Some sheet
             → core_of self.new.book ≡ without_sheet sheet_index (with_trees (changed_tree (sheet_gone sheet.id sheet.name)) (core_of self.old.book))) }
+
+        // A sheet's look-up of formulas is there as before where no mention of its formulas changed.
+        ensures looks_up { OnOk result (LooksUpWithout sheet_index self.old self.new) }
         ensures refused { Refuses result (delete_refusal (core_of self.old.book) sheet_index) }
         ensures err { OnErr result (self.new ≡ self.old) }
     {
@@ -160,6 +176,11 @@ impl<'a> Model<'a> {
         // What meant it dangles by its name, and each other mention is what it was.
         ensures dangles { OnOk result (IfSome (index_of_name (core_of self.old.book) (chars name.now)) (λ index. (sheet : Sheet) → slice_get (core_of self.old.book).sheets index ≡ Some sheet
             → core_of self.new.book ≡ without_sheet index (with_trees (changed_tree (sheet_gone sheet.id sheet.name)) (core_of self.old.book)))) }
+
+        // A sheet's look-up of formulas is there as before where no mention of its formulas changed.
+        ensures looks_up { OnOk result
+            (IfSome (index_of_name (core_of self.old.book) (chars name.now))
+            (λ index. LooksUpWithout index self.old self.new)) }
         ensures refused { Refuses result (refusal_at (index_of_name (core_of self.old.book) (chars name.now)) (delete_refusal (core_of self.old.book))) }
         ensures err { OnErr result (self.new ≡ self.old) }
     {
@@ -182,6 +203,11 @@ impl<'a> Model<'a> {
         // What meant it dangles by its name, and each other mention is what it was.
         ensures dangles { OnOk result (IfSome (index_of_id (core_of self.old.book) sheet_id) (λ index. (sheet : Sheet) → slice_get (core_of self.old.book).sheets index ≡ Some sheet
             → core_of self.new.book ≡ without_sheet index (with_trees (changed_tree (sheet_gone sheet.id sheet.name)) (core_of self.old.book)))) }
+
+        // A sheet's look-up of formulas is there as before where no mention of its formulas changed.
+        ensures looks_up { OnOk result
+            (IfSome (index_of_id (core_of self.old.book) sheet_id)
+            (λ index. LooksUpWithout index self.old self.new)) }
         ensures refused { Refuses result (refusal_at (index_of_id (core_of self.old.book) sheet_id) (delete_refusal (core_of self.old.book))) }
         ensures err { OnErr result (self.new ≡ self.old) }
     {
@@ -198,6 +224,7 @@ impl<'a> Model<'a> {
         ensures found { OnOk result (BookKeepsFound (core_of self.old.book) (core_of self.new.book)) }
         ensures binds { OnOk result ((sheet : Sheet) → slice_get (core_of self.old.book).sheets index ≡ Some sheet
             → core_of self.new.book ≡ with_sheet_name index (chars new_name.now) (with_trees (changed_tree (sheet_named sheet.id (chars new_name.now))) (core_of self.old.book))) }
+        ensures looks_up { OnOk result (LooksUpNamed index (chars new_name.now) self.old self.new) }
         ensures refused { Refuses result (rename_refusal (core_of self.old.book) index (chars new_name.now)) }
         ensures err { OnErr result (self.new ≡ self.old) }
     {
@@ -226,6 +253,7 @@ impl<'a> Model<'a> {
         ensures core { OnOk result (core_of self.new.book ≡ changed_by (notations_in self.old.book) (without_sheet index) (core_of self.old.book)) }
         ensures dangles { OnOk result ((sheet : Sheet) → slice_get (core_of self.old.book).sheets index ≡ Some sheet
             → core_of self.new.book ≡ without_sheet index (with_trees (changed_tree (sheet_gone sheet.id sheet.name)) (core_of self.old.book))) }
+        ensures looks_up { OnOk result (LooksUpWithout index self.old self.new) }
         ensures refused { Refuses result (delete_refusal (core_of self.old.book) index) }
         ensures err { OnErr result (self.new ≡ self.old) }
     {

@@ -11,7 +11,7 @@ ghost use Rattle.ic_laws.specs.CoreStep.{is_named};
 ghost use Rattle.ic_laws.specs.Scene.{found_name, same_key};
 ghost use Rattle.ic_names.specs.Bodies.{FitsBodies, StaysWhereFound, with_bodies};
 ghost use Rattle.ic_names.specs.Named.{key_in, names_scene};
-ghost use Rattle.ic_sheets.specs.Rewriting.{changed_pool, sheets_of};
+ghost use Rattle.ic_sheets.specs.Rewriting.{changed_pool, look_ups, looks_up_after, sheets_of};
 ghost use Rattle.ic_sheets.specs.declared.sheet.Worksheet.{Worksheet};
 
 use ic_laws::{NameKey, NameMention, OutOfMemory, Text};
@@ -30,6 +30,8 @@ pub fn add_for_all(
     requires scope { definition.scope ≡ None }
     requires spares { AllByRecursion (StaysWhereFound (name_added (spelling_of definition))) names.old }
     ensures sheets { OnOk result (sheets_of sheets.new ≡ map (changed_pool (name_added (spelling_of definition))) (sheets_of sheets.old)) }
+    ensures looks_up { OnOk result (look_ups sheets.new
+        ≡ map (looks_up_after (name_added (spelling_of definition))) sheets.old) }
     ensures names { OnOk result (names.new ≡ map (with_body_tree (changed_tree (name_added (spelling_of definition)))) names.old ++ definition ∷ []) }
     ensures err { OnErr result ((sheets.new ≡ sheets.old) × (names.new ≡ names.old)) }
 {
@@ -53,6 +55,8 @@ pub fn add_for_sheet(
     requires ids { IsDistinct nat_eq (map (λ s. s.id) sheets.old) }
     requires scope { (sheet : Worksheet) → slice_get sheets.old index ≡ Some sheet → definition.scope ≡ Some sheet.id }
     ensures sheets { OnOk result (sheets_of sheets.new ≡ map (changed_pool (name_added (spelling_of definition))) (sheets_of sheets.old)) }
+    ensures looks_up { OnOk result (look_ups sheets.new
+        ≡ map (looks_up_after (name_added (spelling_of definition))) sheets.old) }
     ensures names { OnOk result (names.new ≡ map (with_body_tree (changed_tree (name_added (spelling_of definition)))) names.old ++ definition ∷ []) }
     ensures err { OnErr result ((sheets.new ≡ sheets.old) × (names.new ≡ names.old)) }
 {
@@ -76,6 +80,9 @@ pub fn delete_at(
     requires differ { IsDistinct same_key (map key_in names.old) }
     ensures sheets { OnOk result ((d : core.Definition) → slice_get names.old index ≡ Some d
         → sheets_of sheets.new ≡ map (changed_pool (name_gone (names_scene (remove names.old index)) (spelling_of d))) (sheets_of sheets.old)) }
+    ensures looks_up { OnOk result ((d : core.Definition) → slice_get names.old index ≡ Some d
+        → look_ups sheets.new ≡ map (looks_up_after
+        (name_gone (names_scene (remove names.old index)) (spelling_of d))) sheets.old) }
     ensures names { OnOk result ((d : core.Definition) → slice_get names.old index ≡ Some d
         → names.new ≡ remove (map (with_body_tree (changed_tree (name_gone (names_scene (remove names.old index)) (spelling_of d)))) names.old) index) }
     ensures err { OnErr result ((sheets.new ≡ sheets.old) × (names.new ≡ names.old)) }

@@ -1,4 +1,4 @@
-use Rattle.std.proofs.Common.{◌≡◌, ◌+◌, Some, None, chars, sym, ap, subst, ◌∙◌}
+use Rattle.std.proofs.Common.{◌≡◌, ◌+◌, ◌++◌, ◌∷◌, [], true, Some, None, chars, sym, ap, subst, ◌∙◌}
 use Rattle.std.specs.List.{list_any}
 use Rattle.ic_laws.specs.BookTrees.{with_sheet_at_end, with_trees}
 use Rattle.ic_laws.specs.Changes.{changed_tree, sheet_named}
@@ -8,12 +8,14 @@ use Rattle.ic_laws.specs.Name.{agrees}
 use Rattle.ic_laws.specs.Refusal.{IdsUsedUp, SheetExists}
 use Rattle.ic_book.specs.Book.{ModelState, core_of, notations_in}
 use Rattle.ic_book.specs.Change.{book_changed_by, with_added_sheet}
-use Rattle.ic_book.specs.Inside.{held}
+use Rattle.ic_book.specs.Inside.{held, held_state}
+use Rattle.ic_book.specs.LookUps.{LooksUpAdded, looks_up_in}
 use Rattle.ic_book.specs.Refused.{Refuses}
 use Rattle.ic_book.proofs.BookLemmas.{added_change, core_of-changed}
 use Rattle.ic_book.proofs.BookValid.{added_valid}
-use Rattle.ic_book.proofs.HeldLemmas.{no_memory, add_accepts, add_taken, add_used_up, added, binds_added, fresh_above, held_after, seen_names}
+use Rattle.ic_book.proofs.HeldLemmas.{no_memory, add_accepts, add_taken, add_used_up, added, binds_added, fresh_above, fresh_is, held_after, seen_names}
 use Rattle.ic_book.proofs.SparedBodies.{naming_bodies}
+use Rattle.ic_book.proofs.LookUpLemmas.{looks_up_is}
 use Rattle.ic_book.proofs.model.Model.add_sheet.Goals as goal
 
 pub returns-then-is_taken-clause-refused : goal.returns-then-is_taken-clause-refused
@@ -71,3 +73,13 @@ pub returns-clause-refused : goal.returns-clause-refused
 returns-clause-refused c =
     let name = chars c.args.sheet_name.now in
     subst (λ (m : ModelState). add_sheet_refusal (core_of m.book) name ≡ None) c.self.view_is (add_accepts (core_of (held c.self.inside.name c.self.inside.sheets c.self.inside.names c.self.inside.locale.now c.self.inside.language.now c.self.inside.zone c.self.inside.created c.self.inside.tables.now)) name c.in-Some.id (sym c.is_valid_sheet_name.ensures ∙ c.if-not-is_valid_sheet_name.false) (ap (list_any (agrees name)) (sym (seen_names c.self.inside.sheets)) ∙ sym c.is_taken.ensures ∙ c.if-is_taken.false) (ap (λ (m : ModelState). fresh_id (core_of m.book)) c.self.view_is ∙ sym c.in-Some.ensures.fresh))
+
+pub returns-clause-looks_up : goal.returns-clause-looks_up
+returns-clause-looks_up c =
+    let name = chars c.args.sheet_name.now in
+    let state = held_state c.self.inside.name c.self.inside.sheets c.self.inside.names c.self.inside.locale.now c.self.inside.language.now c.self.inside.zone c.self.inside.created c.self.inside.tables.now in
+    let new = held_state c.self.inside.name c.add_sheet.new.self c.apply.new.self c.self.inside.locale.now c.self.inside.language.now c.self.inside.zone c.self.inside.created c.self.inside.tables.now in
+    let id : c.in-Some.id ≡ greatest_id (core_of state.book) + 1 =
+    fresh_is _ (greatest_id (core_of state.book)) c.in-Some.id (ap (λ (m : ModelState). fresh_id (core_of m.book)) c.self.view_is ∙ sym c.in-Some.ensures.fresh) in
+    subst (λ (m : ModelState). LooksUpAdded name m new) c.self.view_is
+    (c.in_ok-add_sheet.ensures.looks_up ∙ ap (λ had. had ++ true ∷ []) (sym (looks_up_is (sheet_named c.in-Some.id name) c.self.inside.sheets)) ∙ ap (λ k. looks_up_in (sheet_named k name) state ++ true ∷ []) id)

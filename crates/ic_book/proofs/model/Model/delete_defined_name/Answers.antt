@@ -3,7 +3,7 @@ use Rattle.ic_laws.specs.CoreStep.{is_named}
 use Rattle.ic_book.specs.Book.{ModelState, core_of}
 use Rattle.ic_book.specs.Refused.{Refuses}
 use Rattle.ic_book.proofs.HeldLemmas.{no_memory}
-use Rattle.ic_book.proofs.NameHeld.{it_goes, undefined_book, undefined_core, undefined_dangles, undefined_held}
+use Rattle.ic_book.proofs.NameHeld.{it_goes, undefined_book, undefined_core, undefined_dangles, undefined_held, undefined_looks_up}
 use Rattle.ic_book.proofs.NameLemmas.{no_name}
 use Rattle.ic_book.proofs.model.Model.delete_defined_name.Goals as goal
 
@@ -30,3 +30,6 @@ returns-clause-dangles c = undefined_dangles c.self.inside.name c.self.inside.sh
 
 pub returns-clause-refused : goal.returns-clause-refused
 returns-clause-refused c = it_goes c.self.inside.name c.self.inside.sheets c.self.inside.names c.self.inside.locale.now c.self.inside.language.now c.self.inside.zone c.self.inside.created c.self.inside.tables.now c.self.invariant c.args.self.now c.self.view_is (chars c.args.name.now) c.args.scope c.in-Some.id (sym c.scope_id.ensures ∙ c.in-Some.is) c.in-Some-index_of.index (sym c.index_of.ensures ∙ c.in-Some-index_of.is)
+
+pub returns-clause-looks_up : goal.returns-clause-looks_up
+returns-clause-looks_up c = undefined_looks_up c.self.inside.name c.self.inside.sheets c.self.inside.names c.self.inside.locale.now c.self.inside.language.now c.self.inside.zone c.self.inside.created c.self.inside.tables.now c.self.invariant c.args.self.now c.self.view_is (chars c.args.name.now) c.args.scope c.in-Some.id (sym c.scope_id.ensures ∙ c.in-Some.is) c.in-Some-index_of.index (sym c.index_of.ensures ∙ c.in-Some-index_of.is) c.delete_at.new.sheets c.in_ok-delete_at.ensures.looks_up

@@ -4,7 +4,7 @@ use Rattle.std.specs.Prelude.{nat_eq}
 use Rattle.ic_book.specs.Book.{ModelState, core_of}
 use Rattle.ic_book.specs.Names.{body_of_typed}
 use Rattle.ic_book.proofs.HeldLemmas.{seen_ids}
-use Rattle.ic_book.proofs.NameHeld.{defined_binds, defined_book, defined_core, defined_held, is_free, it_is_within, it_spares, its_sheet}
+use Rattle.ic_book.proofs.NameHeld.{defined_binds, defined_book, defined_core, defined_held, defined_looks_up, is_free, it_is_within, it_spares, its_sheet}
 use Rattle.ic_book.proofs.model.Model.new_defined_name.Goals as goal
 use Rattle.ic_book.proofs.model.Model.new_defined_name.Goals.{in-None+in_ok-add_for_all-in-None, in-Some+in_ok-add_for_sheet-in-Some}
 
@@ -51,4 +51,11 @@ returns-clause-binds c = λ body typed.
     elim c.match-scope.branch [
       | in-None+in_ok-add_for_all-in-None w ↦ ap (λ (m : ModelState). core_of m.book) w.self-is ∙ defined_binds c.self.inside.name c.self.inside.sheets c.self.inside.names c.self.inside.locale.now c.self.inside.language.now c.self.inside.zone c.self.inside.created c.self.inside.tables.now c.self.invariant c.args.self.now c.self.view_is (chars c.args.name.now) c.args.scope c.in_ok-id.id c.in_ok-id.ensures.id (chars c.args.formula.now) (body_of_typed c.in_ok-id.body) c.in_ok-definition.definition c.in_ok-id.ensures.body c.in_ok-id.ensures.refused c.in_ok-definition.ensures w.add_for_all.new.sheets w.add_for_all.new.names w.in_ok-add_for_all-in-None.ensures.sheets w.in_ok-add_for_all-in-None.ensures.names body typed
       | in-Some+in_ok-add_for_sheet-in-Some w ↦ ap (λ (m : ModelState). core_of m.book) w.self-is ∙ defined_binds c.self.inside.name c.self.inside.sheets c.self.inside.names c.self.inside.locale.now c.self.inside.language.now c.self.inside.zone c.self.inside.created c.self.inside.tables.now c.self.invariant c.args.self.now c.self.view_is (chars c.args.name.now) c.args.scope c.in_ok-id.id c.in_ok-id.ensures.id (chars c.args.formula.now) (body_of_typed c.in_ok-id.body) c.in_ok-definition.definition c.in_ok-id.ensures.body c.in_ok-id.ensures.refused c.in_ok-definition.ensures w.add_for_sheet.new.sheets w.add_for_sheet.new.names w.in_ok-add_for_sheet-in-Some.ensures.sheets w.in_ok-add_for_sheet-in-Some.ensures.names body typed
+    ]
+
+pub returns-clause-looks_up : goal.returns-clause-looks_up
+returns-clause-looks_up c =
+    elim c.match-scope.branch [
+      | in-None+in_ok-add_for_all-in-None w ↦ ap (λ (m : ModelState). m.has_all) w.self-is ∙ defined_looks_up c.self.inside.name c.self.inside.sheets c.self.inside.names c.self.inside.locale.now c.self.inside.language.now c.self.inside.zone c.self.inside.created c.self.inside.tables.now c.self.invariant c.args.self.now c.self.view_is (chars c.args.name.now) c.args.scope c.in_ok-id.id c.in_ok-id.ensures.id (chars c.args.formula.now) (body_of_typed c.in_ok-id.body) c.in_ok-definition.definition c.in_ok-id.ensures.body c.in_ok-id.ensures.refused c.in_ok-definition.ensures w.add_for_all.new.sheets w.in_ok-add_for_all-in-None.ensures.looks_up
+      | in-Some+in_ok-add_for_sheet-in-Some w ↦ ap (λ (m : ModelState). m.has_all) w.self-is ∙ defined_looks_up c.self.inside.name c.self.inside.sheets c.self.inside.names c.self.inside.locale.now c.self.inside.language.now c.self.inside.zone c.self.inside.created c.self.inside.tables.now c.self.invariant c.args.self.now c.self.view_is (chars c.args.name.now) c.args.scope c.in_ok-id.id c.in_ok-id.ensures.id (chars c.args.formula.now) (body_of_typed c.in_ok-id.body) c.in_ok-definition.definition c.in_ok-id.ensures.body c.in_ok-id.ensures.refused c.in_ok-definition.ensures w.add_for_sheet.new.sheets w.in_ok-add_for_sheet-in-Some.ensures.looks_up
     ]

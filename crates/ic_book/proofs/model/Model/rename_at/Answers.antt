@@ -1,4 +1,4 @@
-use Rattle.std.proofs.Common.{◌≡◌, Some, None, chars, map, sym, ap, subst, ◌∙◌}
+use Rattle.std.proofs.Common.{◌≡◌, List, Bool, Some, None, chars, map, sym, ap, subst, ◌∙◌}
 use Rattle.std.specs.Prelude.{remove}
 use Rattle.std.specs.List.{list_any, slice_get}
 use Rattle.ic_laws.specs.BookTrees.{BookKeepsFound, with_body_tree, with_trees}
@@ -7,15 +7,19 @@ use Rattle.ic_laws.specs.CoreStep.{changed_by, rename_refusal, with_sheet_name}
 use Rattle.ic_laws.specs.Name.{agrees}
 use Rattle.ic_laws.specs.Refusal.{InvalidSheet, SheetExists}
 use Rattle.ic_sheets.proofs.RewritingLemmas.{sheet_there}
+use Rattle.ic_sheets.specs.Rewriting.{look_ups}
+use Rattle.ic_sheets.specs.Sheet.{BookSheet}
 use Rattle.ic_sheets.specs.declared.sheet.Worksheet.{Worksheet}
 use Rattle.ic_book.specs.Book.{ModelState, core_of, notations_in}
 use Rattle.ic_book.specs.Change.{book_changed_by, with_renamed_sheet}
-use Rattle.ic_book.specs.Inside.{held}
+use Rattle.ic_book.specs.Inside.{held, held_state}
+use Rattle.ic_book.specs.LookUps.{LooksUpNamed}
 use Rattle.ic_book.specs.Refused.{Refuses}
 use Rattle.ic_book.proofs.BookLemmas.{core_of-changed, renamed_change}
 use Rattle.ic_book.proofs.BookValid.{renamed_valid}
 use Rattle.ic_book.proofs.HeldLemmas.{no_memory, binds_renamed, held_after, keeps_renamed, lacks_is, past_of, read_is, rename_accepts, rename_lacks, rename_taken, renamed, seen_names, there_is, within_of}
 use Rattle.ic_book.proofs.SparedBodies.{naming_bodies}
+use Rattle.ic_book.proofs.LookUpLemmas.{looks_up_at}
 use Rattle.ic_book.proofs.model.Model.rename_at.Goals as goal
 
 pub returns-then-is_taken_by_other-clause-refused : goal.returns-then-is_taken_by_other-clause-refused
@@ -79,3 +83,11 @@ pub returns-clause-refused : goal.returns-clause-refused
 returns-clause-refused c =
     let name = chars c.args.new_name.now in
     subst (λ (m : ModelState). rename_refusal (core_of m.book) c.args.index name ≡ None) c.self.view_is (rename_accepts (core_of (held c.self.inside.name c.self.inside.sheets c.self.inside.names c.self.inside.locale.now c.self.inside.language.now c.self.inside.zone c.self.inside.created c.self.inside.tables.now)) c.args.index name (sym c.is_valid_sheet_name.ensures ∙ c.if-not-is_valid_sheet_name.false) (ap (λ xs. list_any (agrees name) (remove xs c.args.index)) (sym (seen_names c.self.inside.sheets)) ∙ sym c.is_taken_by_other.ensures ∙ c.if-is_taken_by_other.false) (there_is c.self.inside.sheets c.args.index (within_of c.self.inside.sheets c.len.result c.args.index c.len.ensures c.if-index-len.false)))
+
+pub returns-clause-looks_up : goal.returns-clause-looks_up
+returns-clause-looks_up c =
+    let name = chars c.args.new_name.now in
+    let at = sheet_there c.self.inside.sheets c.args.index (within_of c.self.inside.sheets c.len.result c.args.index c.len.ensures c.if-index-len.false) in
+    let new = held_state c.self.inside.name c.rename_sheet.new.self c.apply.new.self c.self.inside.locale.now c.self.inside.language.now c.self.inside.zone c.self.inside.created c.self.inside.tables.now in
+    subst (λ (m : ModelState). LooksUpNamed c.args.index name m new) c.self.view_is
+    (looks_up_at (λ (s : BookSheet). sheet_named s.id name) (λ (had : List Bool). had) c.self.inside.sheets c.args.index at.0 at.1 (look_ups c.rename_sheet.new.self) (c.in_ok-rename_sheet.ensures.looks_up at.0 at.1))

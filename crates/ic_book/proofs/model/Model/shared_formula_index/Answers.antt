@@ -5,13 +5,16 @@ use Rattle.ic_laws.specs.CoreStep.{updated_at}
 use Rattle.ic_laws.specs.ValidCore.{IsPooled}
 use Rattle.ic_pool.specs.Pool.{IsPlaced}
 use Rattle.ic_sheets.proofs.RewritingLemmas.{sheet_there}
+use Rattle.ic_sheets.proofs.WriteLemmas.{at_err}
 use Rattle.ic_sheets.specs.Sheet as sheets
 use Rattle.ic_sheets.specs.Sheet.{BookSheet}
 use Rattle.ic_sheets.specs.declared.sheet.Worksheet.{Worksheet}
 use Rattle.ic_book.specs.Book.{ModelState, core_of, notations_in, scene_in}
-use Rattle.ic_book.specs.Inside.{held}
+use Rattle.ic_book.specs.Inside.{held, held_state}
+use Rattle.ic_book.specs.LookUps.{LooksUpAsBefore}
 use Rattle.ic_book.specs.Written.{pool_at, with_pool}
 use Rattle.ic_book.proofs.HeldLemmas.{placed, placed_core, placed_held, pool_at_is, whole_at, whole_updated, within_of}
+use Rattle.ic_book.proofs.LookUpLemmas.{look_ups_left}
 use Rattle.ic_book.proofs.model.Model.shared_formula_index.Goals as goal
 
 pub invariant_of-self-2 : goal.invariant_of-self-2
@@ -46,3 +49,9 @@ pub returns-clause-whole : goal.returns-clause-whole
 returns-clause-whole g c =
     let at = sheet_there c.self.inside.sheets c.args.sheet (within_of c.self.inside.sheets c.len.result c.args.sheet c.len.ensures c.if-sheet-len.false) in
     ap (λ (ws : List Worksheet). slice_get (map (λ (s : Worksheet). s.pool.is_whole) ws) c.args.sheet) c.in_ok-place_copy.ensures.ok.2 ∙ whole_at _ (λ s. refl) c.args.sheet c.self.inside.sheets at.0 at.1
+
+pub returns-in_err-place_copy-clause-left : goal.returns-in_err-place_copy-clause-left
+returns-in_err-place_copy-clause-left g c =
+    at_err c.from_residual.result _
+    (subst (λ (m : ModelState). LooksUpAsBefore c.args.sheet m (held_state c.self.inside.name c.place_copy.new.self c.self.inside.names c.self.inside.locale.now c.self.inside.language.now c.self.inside.zone c.self.inside.created c.self.inside.tables.now)) c.self.view_is
+    (look_ups_left c.args.sheet c.self.inside.sheets c.place_copy.new.self c.in_err-place_copy.ensures.looks_up))

@@ -1,4 +1,4 @@
-use Rattle.std.proofs.Common.{w32, to_z, of_z, ◌≡◌, ℕ, List, IfSome, true, chars, map, option_map, refl, string_bytes, sym, ap, subst, ◌∙◌}
+use Rattle.std.proofs.Common.{w32, to_z, of_z, ◌≡◌, ℕ, List, IfSome, true, chars, map, option_map, refl, string_bytes, sym, ap, subst, ◌∙◌, inl}
 use Rattle.std.specs.BTreeMap.{insert_entry}
 use Rattle.std.specs.List.{slice_get}
 use Rattle.std.proofs.lemmas.Option.{slice_get-map}
@@ -8,12 +8,15 @@ use Rattle.ic_laws.specs.FormulaReading.{cell_formula, without_equals}
 use Rattle.ic_laws.specs.declared.tree.Formula.{Formula}
 use Rattle.ic_pool.specs.Pool.{IsPlaced}
 use Rattle.ic_sheets.proofs.CellLemmas.{stored_pair}
+use Rattle.ic_sheets.proofs.WriteLemmas.{at_err}
 use Rattle.ic_sheets.specs.Sheet.{BookSheet, sheet_of}
 use Rattle.ic_sheets.specs.declared.sheet.Worksheet.{Worksheet}
 use Rattle.ic_book.specs.Book.{IsSameBeside, ModelState, core_of, notations_in}
-use Rattle.ic_book.specs.Inside.{held}
+use Rattle.ic_book.specs.Inside.{held, held_state}
+use Rattle.ic_book.specs.LookUps.{LooksUpAsBefore}
 use Rattle.ic_book.specs.Written.{with_cell}
 use Rattle.ic_book.proofs.HeldLemmas.{at_index, present, there_of, whole_at, whole_updated, written, written_core, written_held, written_there}
+use Rattle.ic_book.proofs.LookUpLemmas.{look_ups_left}
 use Rattle.ic_book.proofs.model.Model.update_cell_with_formula.Goals as goal
 
 pub invariant_of-self-2 : goal.invariant_of-self-2
@@ -126,3 +129,15 @@ returns-clause-whole c =
     ∙ c.in_ok-body.ensures.refused in
     let there = at_index c.as_slice.result.now c.self.inside.sheets sheet entry c.as_slice.ensures.sheets (there_of c.self.inside.sheets c.as_slice.result.now sheet c.as_slice.ensures.sheets (present c.self.inside.name c.self.inside.sheets c.self.inside.names c.self.inside.locale.now c.self.inside.language.now c.self.inside.zone c.self.inside.created c.self.inside.tables.now c.self.invariant sheet row column text none)) c.index-as_slice-sheet.is in
     ap (λ (ws : List Worksheet). slice_get (map (λ (s : Worksheet). s.pool.is_whole) ws) sheet) c.in_ok-write.ensures.ok.3 ∙ whole_at _ (λ s. refl) sheet c.self.inside.sheets entry there
+
+pub returns-in_err-body-clause-left : goal.returns-in_err-body-clause-left
+returns-in_err-body-clause-left c = at_err c.from_residual.result _ (inl refl)
+
+pub returns-in_err-formula-clause-left : goal.returns-in_err-formula-clause-left
+returns-in_err-formula-clause-left c = at_err c.from_residual-in_err-formula.result _ (inl refl)
+
+pub returns-in_err-write-clause-left : goal.returns-in_err-write-clause-left
+returns-in_err-write-clause-left c =
+    at_err c.from_residual-in_err-write.result _
+    (subst (λ (m : ModelState). LooksUpAsBefore c.args.sheet m (held_state c.self.inside.name c.write.new.self c.self.inside.names c.self.inside.locale.now c.self.inside.language.now c.self.inside.zone c.self.inside.created c.self.inside.tables.now)) c.self.view_is
+    (look_ups_left c.args.sheet c.self.inside.sheets c.write.new.self c.in_err-write.ensures.looks_up))

@@ -5,7 +5,7 @@ use Rattle.ic_laws.specs.BookTrees.{with_body_tree}
 use Rattle.ic_laws.specs.Changes.{Change, changed_tree}
 use Rattle.ic_laws.specs.CoreBook.{Definition}
 use Rattle.ic_sheets.proofs.RewritingLemmas.{prepared_makes}
-use Rattle.ic_sheets.specs.Rewriting.{changed_pool, sheets_of}
+use Rattle.ic_sheets.specs.Rewriting.{changed_pool, look_ups, looks_up_after, sheets_of}
 use Rattle.ic_book.proofs.GoneNames.{change_is}
 use Rattle.ic_book.proofs.names.parts.delete_at.Goals as goal
 
@@ -27,3 +27,11 @@ returns-clause-names c = λ d at.
     (c.index-as_slice-index.is ∙ ap (λ (ds : List Definition). get_or ds c.args.index c.index-as_slice-index.result) c.as_slice.ensures) in
     c.in_ok-delete.ensures.ok
     ∙ ap (λ (ds : List Definition). remove ds c.args.index) (c.in_ok-bodies.ensures.made ∙ ap (λ (change : Change). map (with_body_tree (changed_tree change)) c.args.names.now) (change_is c.args.names.now c.args.index d at c.index-as_slice-index.result c.key.result.now c.in_ok-becomes.becomes there c.key.ensures (c.in_ok-becomes.ensures c.args.index c.requires.differ there)))
+
+pub returns-clause-looks_up : goal.returns-clause-looks_up
+returns-clause-looks_up c = λ d at.
+    let there : slice_get c.args.names.now c.args.index ≡ Some c.index-as_slice-index.result =
+    slice_get_read c.args.names.now (length c.args.names.now) c.args.index c.index-as_slice-index.result refl c.requires.within
+    (c.index-as_slice-index.is ∙ ap (λ (ds : List Definition). get_or ds c.args.index c.index-as_slice-index.result) c.as_slice.ensures) in
+    ap look_ups c.apply.ensures ∙ (prepared_makes _ c.in_ok-formulas.formulas.items c.args.sheets.now c.in_ok-formulas.ensures).looks_up
+    ∙ ap (λ (change : Change). map (looks_up_after change) c.args.sheets.now) (change_is c.args.names.now c.args.index d at c.index-as_slice-index.result c.key.result.now c.in_ok-becomes.becomes there c.key.ensures (c.in_ok-becomes.ensures c.args.index c.requires.differ there))
