@@ -138,10 +138,10 @@ def mentioned_first(count):
         yield put(900_001 + 2 * i, f"Late{i}!$A$2+{i}")
 
 
-def dangling(count):
-    """A sheet is mentioned that isn't there and doesn't come, once."""
-    yield put(999_999, "Nowhere!$A$1")
+def dangling(count, sheet):
+    """So many sheets, one of which mentions a sheet that isn't there and doesn't come."""
     yield from sheets(count)
+    yield put(999_999, "Nowhere!$A$1", sheet)
 
 
 def let(count):
