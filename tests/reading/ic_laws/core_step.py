@@ -3,8 +3,9 @@
 An outcome is ("Err", refusal) or ("Ok", fields). What a command leaves of the core is not told here: the whole machine says it of
 the whole book."""
 from .core_book import fresh_id, has_sheet
-from .formula_reading import body_of, shown_body, shown_formula
+from .formula_reading import body_of, is_formula_text, shown_body, shown_formula
 from .name import agrees, is_identifier, is_sheet_name
+from .position import is_column, is_row
 from .scene import same_scope
 
 
@@ -123,6 +124,11 @@ def list_fields(n, book):
     return [field for d in book.definitions for field in fields_in_scope(n, book, d, listed_scope(book, d.scope))]
 
 
+def update_causes(book, index, row, column, text):
+    return [(lacks_sheet(book, index), "InvalidSheet"), (not is_row(row), "InvalidRow"), (not is_column(column), "InvalidColumn"),
+            (not is_formula_text(text), "NotAFormula")]
+
+
 def formula_step(n, book, index, row, column):
     outcome = unless_refused([(lacks_sheet(book, index), "InvalidSheet")], [])
     if outcome[0] == "Err":
@@ -161,6 +167,8 @@ def core_step(n, book, command):
         return unless_refused([(not n.knows_locale(words[0]), "InvalidLocale")], [])
     if kind == "SetLanguage":
         return unless_refused([(not n.knows_language(words[0]), "InvalidLanguage")], [])
+    if kind == "UpdateCellWithFormula":
+        return unless_refused(update_causes(book, *words), [])
     if kind == "GetCellFormula":
         return formula_step(n, book, *words)
     raise ValueError(kind)
