@@ -8,7 +8,6 @@ ghost use Rattle.ic_book.specs.Refused.{refusal_of};
 ghost use Rattle.ic_book.specs.declared.error.BookError.TheVariants as errors;
 ghost use Rattle.ic_words.specs.Command.{command_meant};
 ghost use Rattle.ic_words.specs.Served.{served};
-ghost use Rattle.ic_words.specs.Words.{characters_of};
 ghost use Rattle.ic_commands.specs.Answered.{Answers, IsLineText, IsTold};
 ghost use Rattle.ic_commands.specs.Effect.{LineDoes};
 
@@ -283,7 +282,7 @@ fn update_cell(
     reply: String,
 ) -> Result<String, OutOfMemory>
     requires { string_len reply + REPLY_ROOM ≤ string_capacity reply }
-    ensures ok { IfOk result (Answers (command.UpdateCellWithFormula sheet row column (characters_of text.entry))
+    ensures ok { IfOk result (Answers (command.UpdateCellWithFormula sheet row column text.entry)
         model.old model.new reply) }
     ensures err { OnErr result (model.new.book ≡ model.old.book) }
 {

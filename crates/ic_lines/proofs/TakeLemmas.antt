@@ -1,7 +1,8 @@
 -- What a call of a reader takes, read by read.
-use Rattle.std.proofs.Common.{◌≡◌, ℕ, List, [], ◌++◌, false, Option, refl, sym, subst, ◌∙◌, ap, inl, inr, arith, append_assoc}
+use Rattle.std.proofs.Common.{◌≡◌, ℕ, List, [], ◌++◌, Bool, true, false, Option, refl, sym, subst, ◌∙◌, ap, inl, inr, arith, append_assoc}
+use Rattle.std.proofs.lemmas.Bool.{cases_Bool}
 use Rattle.std.proofs.lemmas.List.{append-nil}
-use Rattle.ic_lines.specs.Reading.{Reading, TakesLine, TakesRead, has_line_feed}
+use Rattle.ic_lines.specs.Reading.{Reading, SeesEnd, TakesLine, TakesRead, has_line_feed}
 use Rattle.ic_lines.proofs.LineLemmas.{no_line_feed-Contains}
 use Rattle.ic_lines.proofs.ToldLemmas.{IfTold-join, IfTold-same}
 
@@ -35,3 +36,24 @@ TakesLine-step old mid new a b c t none still r =
         | inr ended ↦ let e = sym (ap (λ (r : Reading). r.ended) (t.unasked (inr ended)) ∙ ended) ∙ still in absurd (cc)
       ];
     }
+
+-- What is seen of the end ----
+
+pub SeesEnd-start : (seen shown : Bool) → SeesEnd seen seen shown shown
+SeesEnd-start seen shown = record { stays = λ h. h; seen = λ h k. let e = sym h ∙ k in absurd (cc); unseen = λ _. refl }
+
+-- one call after another
+pub SeesEnd-join : (a b c x y z : Bool) → SeesEnd a b x y → SeesEnd b c y z → SeesEnd a c x z
+SeesEnd-join a false c x y z p q = record {
+  stays = λ h. q.stays (p.stays h);
+  seen = λ _ k. q.seen refl k;
+  unseen = λ e. elim (cases_Bool c) [
+    | inl is ↦ let now = p.stays (sym e ∙ is) in absurd (cc)
+    | inr is ↦ q.unseen is ∙ p.unseen (sym is ∙ e)
+  ];
+}
+SeesEnd-join a true c x y z p q = record {
+  stays = λ h. q.stays (p.stays h);
+  seen = λ h k. q.unseen k ∙ p.seen h refl;
+  unseen = λ e. q.unseen (q.stays refl) ∙ p.unseen (sym (q.stays refl) ∙ e);
+}

@@ -1,5 +1,5 @@
 -- What a source and a sink do to the bytes that they tell, and how their faults are seen.
-use Rattle.std.specs.Prelude.{◌≡◌, ℕ, ◌+◌, ◌<◌, ◌≤◌, ◌⊎◌, List, [], ◌++◌, length, take, drop, Option, Some, None, Result, Ok, Err}
+use Rattle.std.specs.Prelude.{◌≡◌, ℕ, ◌+◌, ◌<◌, ◌≤◌, ◌⊎◌, nat_lt, ◌==◌, ◌&&◌, ◌||◌, Bool, List, [], ◌++◌, length, take, drop, Option, Some, None, Result, Ok, Err}
 use Rattle.ic_lines.specs.declared.error.Failed.{Failed}
 
 -- where a counter stands still
@@ -38,3 +38,8 @@ AppendsFront piece before now = (n : ℕ) × (n < length piece) × (now ≡ befo
 abbrev pub MovesWritten : Option (List ℕ) → Option (List ℕ) → Result ℕ Failed → List ℕ → Type 0
 MovesWritten before now (Ok n) piece = IfTold before now (λ old new. new ≡ old ++ take n piece)
 MovesWritten before now (Err failed) piece = IfTold before now (λ old new. new ≡ old)
+
+-- whether the end was shown before a read into this much room and after it: a read of nothing into some room shows it
+abbrev pub ShowsEnd : {E : Type 0} → Bool → Bool → Result ℕ E → ℕ → Type 0
+ShowsEnd before now (Ok n) room = now ≡ (before || n == 0 && nat_lt 0 room)
+ShowsEnd before now (Err e) room = now ≡ before

@@ -1,5 +1,5 @@
 -- What a source and a sink in memory do at each call.
-use Rattle.std.specs.Prelude.{ℕ, ◌+◌, ◌-◌, min, List, length, take, drop, ◌++◌, Bool, ◌==◌, ◌&&◌, nat_lt, Result, Ok, Err, if◌then◌else◌}
+use Rattle.std.specs.Prelude.{ℕ, ◌+◌, ◌-◌, min, List, length, take, drop, ◌++◌, Bool, ◌==◌, ◌&&◌, ◌||◌, nat_lt, Result, Ok, Err, if◌then◌else◌}
 use Rattle.std.specs.List.{list_any}
 use Rattle.ic_lines.specs.Bytes.{last_count}
 use Rattle.ic_lines.specs.declared.error.Failed.{Failed}
@@ -9,15 +9,17 @@ abbrev pub counted : ℕ → ℕ
 counted n = min (n + 1) last_count
 
 -- a source in memory: the bytes that are left, the most bytes of one read, how many reads there were, the numbers
--- of those that fail, and how many failed
+-- of those that fail, how many failed, and whether one showed the end
 pub record SourceState : Type 0 where
   pub left : List ℕ
   pub chunk : ℕ
   pub calls : ℕ
   pub failing : List ℕ
   pub faults : ℕ
+  pub ended : Bool
 
--- a sink in memory: what was written, how many bytes there is room for, and the rest as of a source
+-- a sink in memory: what was written, how many bytes there is room for, how many writes there were, the numbers of
+-- those that fail, and how many failed
 pub record SinkState : Type 0 where
   pub written : List ℕ
   pub size : ℕ
@@ -38,7 +40,14 @@ abbrev pub after_read : SourceState → ℕ → Result ℕ Failed × SourceState
 after_read source room =
     if fails_next source.calls source.failing
     then (Err (record {}), record source { calls = counted source.calls; faults = counted source.faults })
-    else (Ok (read_len source room), record source { calls = counted source.calls; left = drop (read_len source room) source.left })
+    else (
+      Ok (read_len source room),
+      record source {
+        calls = counted source.calls;
+        left = drop (read_len source room) source.left;
+        ended = source.ended || read_len source room == 0 && nat_lt 0 room;
+      },
+    )
 
 -- how many bytes of a piece still fit
 abbrev pub write_len : SinkState → List ℕ → ℕ

@@ -28,6 +28,13 @@ unread reader left = reader.held ++ (if reader.ended then [] else left)
 abbrev pub budget : Reading → ℕ
 budget reader = length reader.held + read_room * (most_turns - reader.turns)
 
+-- Whether a reader saw the end before and after a call, and whether its source had shown it: the source showed it in the
+-- call exactly where the reader came to see it there, which it never unlearns.
+pub record SeesEnd (old new : Bool) (before now : Bool) : Type 0 where
+  pub stays : old ≡ true → new ≡ true
+  pub seen : old ≡ false → new ≡ true → now ≡ true
+  pub unseen : new ≡ old → now ≡ before
+
 -- a line is the first of those that were to come; at the end none comes
 abbrev pub GivesLine : Option (List ℕ) → List ℕ → List ℕ → Type 0
 GivesLine (Some line) before now = texts_of before ≡ line ∷ texts_of now

@@ -1,5 +1,5 @@
-ghost use Rattle.std.specs.Prelude.{◌≡◌, ◌+◌, ◌++◌, ◌≤◌, Some, drop, length, take, vec_len, IfOk, OnOk, OnErr, [], ◌<◌, ◌⊎◌};
-ghost use Rattle.ic_lines.specs.Bytes.{MovesRead, MovesWritten, HasFault};
+ghost use Rattle.std.specs.Prelude.{◌≡◌, ◌+◌, ◌++◌, ◌≤◌, Some, drop, length, take, vec_len, IfOk, OnOk, OnErr, [], ◌<◌, ◌⊎◌, false};
+ghost use Rattle.ic_lines.specs.Bytes.{MovesRead, MovesWritten, HasFault, ShowsEnd};
 ghost use Rattle.ic_lines.specs.Memory.{after_read, after_write};
 
 use crate::{Failed, Sink, Source};
@@ -15,6 +15,7 @@ pub struct MemorySource {
     calls: u64,
     failing: Vec<u64>,
     faults: u64,
+    ended: bool,
 }
 
 impl Drop for MemorySource {
@@ -26,6 +27,7 @@ impl Drop for MemorySource {
             calls: _,
             failing,
             faults: _,
+            ended: _,
         } = self;
         drop(bytes);
         drop(failing);
@@ -38,7 +40,7 @@ impl Model for MemorySource {
 
     ghost Value = { SourceState };
 
-    ghost view = { λ s. record { left = drop s.at s.bytes.items; chunk = s.chunk; calls = s.calls; failing = s.failing.items; faults = s.faults } };
+    ghost view = { λ s. record { left = drop s.at s.bytes.items; chunk = s.chunk; calls = s.calls; failing = s.failing.items; faults = s.faults; ended = s.ended } };
 
     ghost invariant = { λ s. (s.at ≤ vec_len s.bytes) × (1 ≤ s.chunk) };
 }
@@ -53,7 +55,7 @@ impl MemorySource {
         failing: &[u64],
     ) -> Result<MemorySource, OutOfMemory>
         requires { 1 ≤ chunk }
-        ensures { IfOk result (λ s. s ≡ record { left = bytes.now; chunk = chunk; calls = 0; failing = failing.now; faults = 0 }) }
+        ensures { IfOk result (λ s. s ≡ record { left = bytes.now; chunk = chunk; calls = 0; failing = failing.now; faults = 0; ended = false }) }
     {
         Ok(MemorySource {
             bytes: Vec::from_slice(alloc, bytes)?,
@@ -62,6 +64,7 @@ impl MemorySource {
             calls: 0,
             failing: Vec::from_slice(alloc, failing)?,
             faults: 0,
+            ended: false,
         })
     }
 }
@@ -71,12 +74,15 @@ impl Source for MemorySource {
 
     ghost faults = { λ s. s.faults };
 
+    ghost ended = { λ s. s.ended };
+
     fn read(&mut self, buf: &mut [u8]) -> Result<usize, Failed>
         ensures within { IfOk result (λ n. n ≤ length buf.new) }
         ensures moved { MovesRead (Some self.old.left) (Some self.new.left) result buf.new }
         ensures counted { self.old.faults ≤ self.new.faults }
         ensures cause { OnErr result (HasFault self.old.faults self.new.faults) }
         ensures quiet { OnOk result (self.new.faults ≡ self.old.faults) }
+        ensures end { ShowsEnd self.old.ended self.new.ended result (length buf.new) }
         ensures exact { (result, self.new) ≡ after_read self.old (length buf.new) }
     {
         self.calls = self.calls.saturating_add(1);
@@ -88,6 +94,9 @@ impl Source for MemorySource {
         let taken = self.chunk.min(buf.len()).min(rest.len());
         buf[..taken].copy_from_slice(&rest[..taken]);
         self.at += taken;
+        if taken == 0 && !buf.is_empty() {
+            self.ended = true;
+        }
         Ok(taken)
     }
 }

@@ -1,7 +1,7 @@
 ghost use Rattle.std.specs.Prelude.{◌≡◌, ◌≢◌, ◌==◌, ◌⊎◌, ℕ, ◌+◌, ◌++◌, ◌<◌, ◌≤◌, [], true, false, None, Some, Err, IsSome, chars, take, drop, length, vec_len, position, Contains, IfOk, IfErr, OnOk, OnErr, MatchOption, MatchResult};
 ghost use Rattle.ic_laws.specs.Lines.{line_text};
-ghost use Rattle.ic_lines.specs.Bytes.{IfTold, HasFault};
-ghost use Rattle.ic_lines.specs.Reading.{GivesHeld, GivesLine, GoesOn, HasToAsk, IsFirstLineFeed, Reading, TakesAfter, TakesLine, TakesRead, budget, has_line_feed, most_turns, unread, without_return};
+ghost use Rattle.ic_lines.specs.Bytes.{IfTold, HasFault, ShowsEnd};
+ghost use Rattle.ic_lines.specs.Reading.{GivesHeld, GivesLine, GoesOn, HasToAsk, IsFirstLineFeed, Reading, SeesEnd, TakesAfter, TakesLine, TakesRead, budget, has_line_feed, most_turns, unread, without_return};
 
 use crate::{Line, RunError, Source};
 use ic_laws::{OutOfMemory, Text};
@@ -82,6 +82,9 @@ impl LineReader {
         // It sees the end where the source has nothing left.
         ensures ends { self.old.ended ≡ false → IfTold (S.left source.old) (S.left source.new)
             (λ before now. self.new.ended ≡ true → now ≡ []) }
+
+        // It saw the end in this call exactly where a read of this call showed it.
+        ensures shown { SeesEnd self.old.ended self.new.ended (S.ended source.old) (S.ended source.new) }
 
         // It asks the source only where it has to, and no more once a line came; then it gives the line, or None at
         // the end, of what it holds, also where the source tells nothing.
@@ -170,6 +173,7 @@ impl LineReader {
         ensures turns { IfTold (S.left source.old) (S.left source.new)
             (λ before now. self.new.turns + length now ≤ self.old.turns + length before) }
         ensures ends { IfTold (S.left source.old) (S.left source.new) (λ before now. self.new.ended ≡ true → now ≡ []) }
+        ensures shown { SeesEnd self.old.ended self.new.ended (S.ended source.old) (S.ended source.new) }
         ensures taken { TakesRead self.old self.new (S.left source.old) (S.left source.new) }
         ensures goes_on { OnOk result (GoesOn self.old self.new) }
         ensures err { OnErr result ((self.new.held ≡ self.old.held) × (self.new.ended ≡ false)) }
@@ -262,6 +266,7 @@ fn read_more<S: Source>(source: &mut S, bytes: &mut Vec<u8>) -> Result<usize, Ru
     ensures read_fault { result ≡ Err RunError.ReadFault → HasFault (S.faults source.old) (S.faults source.new) }
     ensures counted { S.faults source.old ≤ S.faults source.new }
     ensures quiet { OnOk result (S.faults source.new ≡ S.faults source.old) }
+    ensures shown { ShowsEnd (S.ended source.old) (S.ended source.new) result READ_SIZE }
 {
     let held = bytes.len();
     make_room(bytes)?;

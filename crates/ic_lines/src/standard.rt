@@ -1,4 +1,4 @@
-ghost use Rattle.std.specs.Prelude.{◌≡◌, None};
+ghost use Rattle.std.specs.Prelude.{◌≡◌, None, false};
 
 use crate::{Failed, Sink, Source};
 use std::io::{Read, Write};
@@ -8,14 +8,20 @@ use std::io::{Read, Write};
 pub struct StdSource<R> {
     inner: R,
     faults: u64,
+    ended: bool,
 }
 
 impl<R: Read> StdSource<R> {
-    /// A source over this reader, with no fault yet.
+    /// A source over this reader, with no fault yet, whose end no read has shown.
     pub fn new(inner: R) -> StdSource<R>
-        ensures { ⟦<StdSource<R> as Source>⟧.faults result ≡ 0 }
+        ensures faults { ⟦<StdSource<R> as Source>⟧.faults result ≡ 0 }
+        ensures ended { ⟦<StdSource<R> as Source>⟧.ended result ≡ false }
     {
-        StdSource { inner, faults: 0 }
+        StdSource {
+            inner,
+            faults: 0,
+            ended: false,
+        }
     }
 }
 
@@ -24,11 +30,16 @@ impl<R: Read> Source for StdSource<R> {
 
     ghost faults = { λ s. s.faults };
 
+    ghost ended = { λ s. s.ended };
+
     fn read(&mut self, buf: &mut [u8]) -> Result<usize, Failed> {
         let Ok(taken) = self.inner.read(buf) else {
             self.faults = self.faults.saturating_add(1);
             return Err(Failed);
         };
+        if taken == 0 && !buf.is_empty() {
+            self.ended = true;
+        }
         Ok(taken)
     }
 }

@@ -1,4 +1,4 @@
-ghost use Rattle.std.specs.Prelude.{◌≡◌, ◌⊎◌, ◌+◌, ◌++◌, ◌<◌, ◌≤◌, ◌^◌, Err, length, IfOk, IfErr, IsSomeAnd, OnOk};
+ghost use Rattle.std.specs.Prelude.{◌≡◌, ◌⊎◌, ◌+◌, ◌++◌, ◌<◌, ◌≤◌, ◌^◌, true, Err, length, IfOk, IfErr, IsSomeAnd, OnOk};
 ghost use Rattle.ic_laws.specs.Lines.{command_of, line_step, reply_bytes, texts_of};
 ghost use Rattle.ic_lines.specs.Bytes.{AppendsFront, HasFault, IfTold};
 ghost use Rattle.ic_book.specs.Book.{StepsTo, core_of, notations_in};
@@ -15,7 +15,7 @@ use std::alloc::Global;
 /// has before it reads again.
 ///
 /// `ReadFault` and `WriteFault` where the source or the sink had a fault, `TooManyTurns` after 2^32 reads that each
-/// gave a byte, `OutOfMemory`, after which the book is as before the line that met it, and that line has no reply.
+/// gave a byte, where none showed the end, `OutOfMemory`, after which the book is as before the line that met it, and that line has no reply.
 pub fn run<S: Source, K: Sink>(
     alloc: Global,
     model: &mut Model<'_>,
@@ -39,6 +39,10 @@ pub fn run<S: Source, K: Sink>(
         (HasFault (K.faults sink.old) (K.faults sink.new))
         (IfTold (S.left source.old) (S.left source.new) (λ before now. 2 ^ 32 + length now ≤ length before))) }
     ensures quiet { OnOk result ((S.faults source.new ≡ S.faults source.old) × (K.faults sink.new ≡ K.faults sink.old)) }
+
+    // It answers Ok only where a read showed the end of the source, and finds too many turns only where none did.
+    ensures end { OnOk result (S.ended source.new ≡ true) }
+    ensures unseen { result ≡ Err RunError.TooManyTurns → S.ended source.new ≡ S.ended source.old }
 
     // After an error the book is as some of the first lines leave it, and their replies were appended.
     ensures front { IfErr result (λ e. IfTold (S.left source.old) (S.left source.new)

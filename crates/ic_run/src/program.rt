@@ -1,4 +1,4 @@
-ghost use Rattle.std.specs.Prelude.{◌≡◌, ◌⊎◌, ◌↔◌, ◌+◌, ◌<◌, ◌≤◌, ◌^◌, [], Err, length, option_map, IfSome, IsNone, IsSome, IsSomeAnd};
+ghost use Rattle.std.specs.Prelude.{◌≡◌, ◌⊎◌, ◌↔◌, ◌+◌, ◌<◌, ◌≤◌, ◌^◌, [], true, Err, length, option_map, IfSome, IsNone, IsSome, IsSomeAnd};
 ghost use Rattle.ic_lines.specs.Bytes.{IfTold, HasFault};
 ghost use Rattle.ic_run.specs.Desk.{setting_of, start, start_refusal, start_status, run_status, texts};
 ghost use Rattle.ic_run.specs.Start.{setting};
@@ -35,7 +35,8 @@ pub fn desk<S: Source, K: Sink>(
     source: &mut S,
     sink: &mut K,
 ) -> u8
-    // With 0 all bytes were taken, and the machine's replies from the start were appended.
+    // With 0 a read showed the end, all bytes were taken, and the machine's replies from the start were appended.
+    ensures end { result ≡ 0 → S.ended source.new ≡ true }
     ensures taken { result ≡ 0 → IfTold (S.left source.old) (S.left source.new) (λ bytes left. left ≡ []) }
     ensures replies { result ≡ 0 → IsSomeAnd (setting_of (texts words.now)) (λ setting. IfTold (S.left source.old) (S.left source.new) (λ bytes _.
         IfTold (K.written sink.old) (K.written sink.new) (AppendsReplies (notations_of tables.now) (start setting) bytes))) }
@@ -47,6 +48,7 @@ pub fn desk<S: Source, K: Sink>(
     ensures read_fault { result ≡ 3 → HasFault (S.faults source.old) (S.faults source.new) }
     ensures write_fault { result ≡ 4 → HasFault (K.faults sink.old) (K.faults sink.new) }
     ensures too_many { result ≡ 5 → IfTold (S.left source.old) (S.left source.new) (λ before now. 2 ^ 32 + length now ≤ length before) }
+    ensures unseen { result ≡ 5 → S.ended source.new ≡ S.ended source.old }
     ensures most { result ≤ 6 }
 
     // With the status of an error of `run`, the replies are those that this error leaves; none where memory ran out

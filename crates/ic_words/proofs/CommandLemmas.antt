@@ -4,9 +4,8 @@ use Rattle.ic_laws.specs.Command.{AllSaid, Command, OfScope, OfText, Said, WordF
 use Rattle.ic_laws.specs.Lines.{spelled_command, unescaped}
 use Rattle.ic_words.specs.Command.{ReadsCommand, command_meant, word_said, words_said}
 use Rattle.ic_words.specs.Served.{served}
-use Rattle.ic_words.specs.Words.{HaveEscape, characters_of, words_left}
+use Rattle.ic_words.specs.Words.{HaveEscape, words_left}
 use Rattle.ic_words.specs.declared.command.Command as code
-use Rattle.ic_words.specs.declared.words.WordText.{WordText}
 use Rattle.ic_words.proofs.WordLemmas.{memory_wanted}
 use Rattle.ic_words.proofs.RowLemmas.{IsRow, command_as_said, command_said, none_after, none_first, nothing_said, said_first}
 
@@ -15,29 +14,29 @@ text_said : (o : Option (List ℕ)) → o ≡ option_and_then (said OfText) o
 text_said None = refl
 text_said (Some t) = refl
 
-pub text_there : (word : List ℕ) {o : Option WordText} {text : WordText} → o ≡ Some text → option_map characters_of o ≡ unescaped word → Some (characters_of text) ≡ word_said OfText word
-text_there word is e = ap (option_map characters_of) (sym is) ∙ e ∙ text_said (unescaped word)
+pub text_there : (word : List ℕ) {o : Option (List ℕ)} {text : List ℕ} → o ≡ Some text → o ≡ unescaped word → Some text ≡ word_said OfText word
+text_there word is e = sym is ∙ e ∙ text_said (unescaped word)
 
-pub text_missing : (word : List ℕ) {o : Option WordText} → o ≡ None → option_map characters_of o ≡ unescaped word → None ≡ word_said OfText word
-text_missing word is e = ap (option_map characters_of) (sym is) ∙ e ∙ text_said (unescaped word)
+pub text_missing : (word : List ℕ) {o : Option (List ℕ)} → o ≡ None → o ≡ unescaped word → None ≡ word_said OfText word
+text_missing word is e = sym is ∙ e ∙ text_said (unescaped word)
 
 -- a served name with one text
-module _ {name : List ℕ} {command : AllSaid (OfText ∷ []) → Command} (row : IsRow name (OfText ∷ []) command) (words : List (List ℕ)) (o : Option WordText) (e : option_map (λ text. (characters_of text, tt)) o ≡ words_said (OfText ∷ []) words) where
-  pub one_text : (text : WordText) → o ≡ Some text → Some (command (characters_of text, tt)) ≡ spelled_command served (name ∷ words)
-  one_text text is = command_as_said row words (Some (characters_of text, tt)) (ap (option_map (λ text. (characters_of text, tt))) (sym is) ∙ e)
+module _ {name : List ℕ} {command : AllSaid (OfText ∷ []) → Command} (row : IsRow name (OfText ∷ []) command) (words : List (List ℕ)) (o : Option (List ℕ)) (e : option_map (λ text. (text, tt)) o ≡ words_said (OfText ∷ []) words) where
+  pub one_text : (text : List ℕ) → o ≡ Some text → Some (command (text, tt)) ≡ spelled_command served (name ∷ words)
+  one_text text is = command_as_said row words (Some (text, tt)) (ap (option_map (λ text. (text, tt))) (sym is) ∙ e)
 
   pub no_text : o ≡ None → None ≡ spelled_command served (name ∷ words)
-  no_text is = command_as_said row words None (ap (option_map (λ text. (characters_of text, tt))) (sym is) ∙ e)
+  no_text is = command_as_said row words None (ap (option_map (λ text. (text, tt))) (sym is) ∙ e)
 
 -- a served name with what is said of a definition: its name, its scope and its body
 abbrev pub definition_forms : List WordForm
 definition_forms = OfText ∷ OfScope ∷ OfText ∷ []
 
-abbrev pub definition_said : WordText × Option ℕ × WordText → AllSaid definition_forms
-definition_said said = (characters_of said.0, (said.1, (characters_of said.2, tt)))
+abbrev pub definition_said : List ℕ × Option ℕ × List ℕ → AllSaid definition_forms
+definition_said said = (said.0, (said.1, (said.2, tt)))
 
-module _ {name : List ℕ} {command : AllSaid definition_forms → Command} (row : IsRow name definition_forms command) (words : List (List ℕ)) (o : Option (WordText × Option ℕ × WordText)) (e : option_map definition_said o ≡ words_said definition_forms words) where
-  pub one_definition : (said : WordText × Option ℕ × WordText) → o ≡ Some said → Some (command (definition_said said)) ≡ spelled_command served (name ∷ words)
+module _ {name : List ℕ} {command : AllSaid definition_forms → Command} (row : IsRow name definition_forms command) (words : List (List ℕ)) (o : Option (List ℕ × Option ℕ × List ℕ)) (e : option_map definition_said o ≡ words_said definition_forms words) where
+  pub one_definition : (said : List ℕ × Option ℕ × List ℕ) → o ≡ Some said → Some (command (definition_said said)) ≡ spelled_command served (name ∷ words)
   one_definition said is = command_as_said row words (Some (definition_said said)) (ap (option_map definition_said) (sym is) ∙ e)
 
   pub no_definition : o ≡ None → None ≡ spelled_command served (name ∷ words)

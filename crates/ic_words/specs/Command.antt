@@ -5,27 +5,27 @@ use Rattle.ic_laws.specs.Command as laws
 use Rattle.ic_laws.specs.Command.{AllSaid, Said, WordForm, said}
 use Rattle.ic_laws.specs.Lines.{spelled_command, unescaped}
 use Rattle.ic_words.specs.Served.{served}
-use Rattle.ic_words.specs.Words.{UnlessEscape, characters_of, words_left}
+use Rattle.ic_words.specs.Words.{UnlessEscape, words_left}
 use Rattle.ic_words.specs.declared.command.Command.{Command}
 use Rattle.ic_words.specs.declared.command.Command.TheVariants as commands
 
 -- the command that is meant
 abbrev pub command_meant : Command → laws.Command
-command_meant (commands.AddSheet name) = laws.AddSheet (characters_of name)
-command_meant (commands.RenameSheet old new) = laws.RenameSheet (characters_of old) (characters_of new)
-command_meant (commands.RenameSheetByIndex sheet name) = laws.RenameSheetByIndex sheet (characters_of name)
+command_meant (commands.AddSheet name) = laws.AddSheet name
+command_meant (commands.RenameSheet old new) = laws.RenameSheet old new
+command_meant (commands.RenameSheetByIndex sheet name) = laws.RenameSheetByIndex sheet name
 command_meant (commands.MoveSheet sheet to) = laws.MoveSheet sheet to
 command_meant (commands.DeleteSheet sheet) = laws.DeleteSheet sheet
-command_meant (commands.DeleteSheetByName name) = laws.DeleteSheetByName (characters_of name)
+command_meant (commands.DeleteSheetByName name) = laws.DeleteSheetByName name
 command_meant (commands.DeleteSheetBySheetId id) = laws.DeleteSheetBySheetId id
-command_meant (commands.NewDefinedName name scope body) = laws.NewDefinedName (characters_of name) scope (characters_of body)
-command_meant (commands.DeleteDefinedName name scope) = laws.DeleteDefinedName (characters_of name) scope
-command_meant (commands.IsValidDefinedName name scope body) = laws.IsValidDefinedName (characters_of name) scope (characters_of body)
+command_meant (commands.NewDefinedName name scope body) = laws.NewDefinedName name scope body
+command_meant (commands.DeleteDefinedName name scope) = laws.DeleteDefinedName name scope
+command_meant (commands.IsValidDefinedName name scope body) = laws.IsValidDefinedName name scope body
 command_meant commands.GetDefinedNameList = laws.GetDefinedNameList
 command_meant commands.GetNewSheetId = laws.GetNewSheetId
-command_meant (commands.SetLocale id) = laws.SetLocale (characters_of id)
-command_meant (commands.SetLanguage id) = laws.SetLanguage (characters_of id)
-command_meant (commands.UpdateCellWithFormula sheet row column text) = laws.UpdateCellWithFormula sheet row column (characters_of text)
+command_meant (commands.SetLocale id) = laws.SetLocale id
+command_meant (commands.SetLanguage id) = laws.SetLanguage id
+command_meant (commands.UpdateCellWithFormula sheet row column text) = laws.UpdateCellWithFormula sheet row column text
 command_meant (commands.GetCellFormula sheet row column) = laws.GetCellFormula sheet row column
 
 -- what a word of this form says, by the text that it spells

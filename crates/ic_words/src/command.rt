@@ -3,7 +3,7 @@ ghost use Rattle.ic_laws.specs.Command.{OfIndex, OfText};
 ghost use Rattle.ic_laws.specs.Lines.{command_of, spelled_command, words_of};
 ghost use Rattle.ic_words.specs.Command.{ReadsCommand, command_meant, words_said};
 ghost use Rattle.ic_words.specs.Served.{served};
-ghost use Rattle.ic_words.specs.Words.{UnlessEscape, characters_of, words_left};
+ghost use Rattle.ic_words.specs.Words.{UnlessEscape, words_left};
 
 mod names;
 
@@ -267,7 +267,7 @@ fn get_cell_formula<'l>(rest: Option<&'l str>) -> Option<Command<'l>>
 /// The text of the word that is left, if it is one.
 fn only_text<'l>(alloc: Global, rest: Option<&'l str>) -> Result<Option<WordText<'l>>, OutOfMemory>
     ensures { UnlessEscape (words_left rest.entry) result
-        (λ text. option_map (λ text. (characters_of text, tt)) text ≡ words_said (OfText ∷ []) (words_left rest.entry)) }
+        (λ text. option_map (λ text. (text, tt)) text ≡ words_said (OfText ∷ []) (words_left rest.entry)) }
 {
     let Some(word) = one_word(rest) else {
         return Ok(None);

@@ -1,62 +1,72 @@
-ghost use Rattle.std.specs.Prelude.{◌≡◌, ◌≢◌, ◌∷◌, [], false, Ok, Some, IfOk, MatchOption, MatchResult, chars, length, option_map, string_bytes};
+ghost use Rattle.std.specs.Prelude.{◌≡◌, ◌≢◌, ◌∷◌, [], IfOk, MatchOption, MatchResult, chars, length, string_bytes};
 ghost use Rattle.ic_laws.specs.Lines.{unescaped, words_of};
-ghost use Rattle.ic_words.specs.Words.{HasEscape, characters_of, has_escape, words_left};
+ghost use Rattle.ic_words.specs.Words.{HasEscape, has_escape, words_left};
 
 use ic_laws::{OutOfMemory, Text};
 use ic_lines::unescape;
 use std::alloc::Global;
+use std::marker::Model;
 
-/// The text that a word spells.
-pub enum WordText<'l> {
-    /// A word without an escape is the text itself, where it stands in its line.
-    Lent(&'l str),
-    /// A word with an escape isn't.
-    Owned(Text),
+/// The text that a word spells. It is copied exactly where the word has an escape; a word without one is the text
+/// itself, where it stands in its line.
+pub struct WordText<'l> {
+    word: &'l str,
+    copy: Option<Text>,
 }
 
 impl Drop for WordText<'_> {
     fn drop(self) {
-        match self {
-            Self::Lent(_) => {}
-            Self::Owned(text) => drop(text),
-        }
+        let Self { word: _, copy } = self;
+        drop(copy);
     }
+}
+
+impl<'l> Model for WordText<'l> {
+    ghost use Rattle.std.specs.Prelude.{List, ℕ, chars};
+    ghost use Rattle.ic_words.specs.Words.{SpellsIn, spelled_in};
+
+    ghost Value = { List ℕ };
+
+    ghost view = { λ t. spelled_in (chars t.word.now) t.copy };
+
+    ghost invariant = { λ t. SpellsIn (chars t.word.now) t.copy };
 }
 
 impl<'l> WordText<'l> {
     /// The text itself.
     pub fn as_str(&self) -> &str
-        ensures { chars result.now ≡ characters_of self.now }
+        ensures { chars result.now ≡ self.now }
     {
-        match self {
-            WordText::Lent(text) => text,
-            WordText::Owned(text) => text.as_str(),
+        match &self.copy {
+            None => self.word,
+            Some(text) => text.as_str(),
         }
     }
 
     /// The text as a string of its own.
     pub fn into_string(self, alloc: Global) -> Result<String, OutOfMemory>
-        ensures { IfOk result (λ text. chars (string_bytes text) ≡ characters_of self.entry) }
+        ensures { IfOk result (λ text. chars (string_bytes text) ≡ self.entry) }
     {
         Ok(String::from_str(alloc, self.as_str())?)
     }
 }
 
-/// The text that a word spells; None where it has a wrong escape. A word without an escape is lent, and memory is asked
-/// for only where it has one.
+/// The text that a word spells; None where it has a wrong escape. Memory is asked for only where it has one.
 pub fn text_of<'l>(alloc: Global, word: &'l str) -> Result<Option<WordText<'l>>, OutOfMemory>
-    ensures exact { MatchResult result
-        (λ text. option_map characters_of text ≡ unescaped (chars word.now))
+    ensures { MatchResult result
+        (λ text. text ≡ unescaped (chars word.now))
         (λ e. HasEscape (chars word.now)) }
-    ensures lent { has_escape (chars word.now) ≡ false → result ≡ Ok (Some (WordText.Lent word.entry)) }
 {
     if !has_escape(word) {
-        return Ok(Some(WordText::Lent(word)));
+        return Ok(Some(WordText { word, copy: None }));
     }
     let Some(text) = unescape(alloc, word)? else {
         return Ok(None);
     };
-    Ok(Some(WordText::Owned(text)))
+    Ok(Some(WordText {
+        word,
+        copy: Some(text),
+    }))
 }
 
 // Whether a word has a backslash, which begins each escape.

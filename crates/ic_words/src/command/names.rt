@@ -4,7 +4,7 @@ ghost use Rattle.ic_laws.specs.Command.{OfScope, OfText};
 ghost use Rattle.ic_laws.specs.Lines.{spelled_command};
 ghost use Rattle.ic_words.specs.Command.{ReadsCommand, command_meant, words_said};
 ghost use Rattle.ic_words.specs.Served.{served};
-ghost use Rattle.ic_words.specs.Words.{UnlessEscape, characters_of, words_left};
+ghost use Rattle.ic_words.specs.Words.{UnlessEscape, words_left};
 
 use crate::command::Command;
 use crate::numbers::scope_of;
@@ -67,7 +67,7 @@ fn definition_of<'l>(
     rest: Option<&'l str>,
 ) -> Result<Option<(WordText<'l>, Option<u32>, WordText<'l>)>, OutOfMemory>
     ensures { UnlessEscape (words_left rest.entry) result
-        (λ said. option_map (λ said. (characters_of said.0, (said.1, (characters_of said.2, tt)))) said ≡ words_said (OfText ∷ OfScope ∷ OfText ∷ []) (words_left rest.entry)) }
+        (λ said. option_map (λ said. (said.0, (said.1, (said.2, tt)))) said ≡ words_said (OfText ∷ OfScope ∷ OfText ∷ []) (words_left rest.entry)) }
 {
     let Some((name, scope, body)) = three_words(rest) else {
         return Ok(None);

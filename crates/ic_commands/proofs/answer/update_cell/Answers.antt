@@ -8,7 +8,6 @@ use Rattle.ic_sheets.proofs.CellLemmas.{stored_pair}
 use Rattle.ic_book.specs.Book.{core_of, notations_in}
 use Rattle.ic_book.specs.Refused.{Refuses}
 use Rattle.ic_laws.specs.Refusal.{Refusal}
-use Rattle.ic_words.specs.Words.{characters_of}
 use Rattle.ic_commands.specs.Effect.{Writes}
 use Rattle.ic_commands.proofs.AnswerLemmas.{answered, steps_core}
 use Rattle.ic_commands.proofs.StepLemmas.{writes}
@@ -23,7 +22,7 @@ returns-clause-ok c =
     let n = notations_in old in
     let core = core_of old in
     let sheet = c.args.sheet in
-    let text = characters_of c.args.text in
+    let text = c.args.text in
     let done = c.update_cell_with_formula-done.result in
     let call = c.update_cell_with_formula-done.ensures in
     let cell = stored_pair c.args.row c.args.column c.ranges.row c.ranges.column in

@@ -1,6 +1,7 @@
 use Rattle.std.proofs.Common.{◌+◌, ◌≤◌, length, Some, Err, subst, ap, ◌∙◌, arith, inl, inr}
 use Rattle.ic_lines.specs.Bytes.{IfTold}
 use Rattle.ic_lines.specs.Reading.{GivesHeld, GivesLine, unread}
+use Rattle.ic_lines.proofs.TakeLemmas.{SeesEnd-join}
 use Rattle.ic_lines.proofs.ToldLemmas.{IfTold-join}
 use Rattle.ic_run.specs.Run.{Leaves}
 use Rattle.ic_run.proofs.ProgressLemmas.{Next, Progress, Progress-step, all_did, all_replied_told, did_next, leaves_at_line, leaves_at_reader, next_told, takes_all_told}
@@ -70,6 +71,7 @@ lines-preserved g c =
       turns = IfTold-join _ _ _ (λ bytes a. before.turns + length a ≤ length bytes) (λ a b. after.turns + length b ≤ before.turns + length a) (λ bytes b. after.turns + length b ≤ length bytes)
           (λ bytes a b p q. omega (arith, p, q)) i.turns e.turns;
       few = omega (arith, i.few, e.progress (IsSome-is _ line c.in-Some.is));
+      shown = SeesEnd-join _ _ _ _ _ _ i.shown e.shown;
       source_quiet = e.quiet ∙ i.source_quiet;
       sink_quiet = c.in_ok-answer_to.ensures.quiet ∙ i.sink_quiet;
     }

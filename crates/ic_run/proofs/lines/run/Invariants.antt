@@ -1,6 +1,6 @@
-use Rattle.std.proofs.Common.{◌≡◌, ◌+◌, ◌*◌, ◌≤◌, length}
+use Rattle.std.proofs.Common.{◌≡◌, ◌+◌, ◌*◌, ◌≤◌, false, length}
 use Rattle.ic_lines.specs.Bytes.{IfTold}
-use Rattle.ic_lines.specs.Reading.{budget}
+use Rattle.ic_lines.specs.Reading.{SeesEnd, budget}
 use Rattle.ic_run.proofs.ProgressLemmas.{Did, Progress}
 use Rattle.ic_run.proofs.lines.run.Given as goal
 
@@ -14,6 +14,7 @@ invariant-lines g l =
       did : IfTold (source.left l.fn.source) (source.left l.source) (Did l.fn.model l.model l.count);
       turns : IfTold (source.left l.fn.source) (source.left l.source) (λ bytes left. l.reader.turns + length left ≤ length bytes);
       few : l.count + budget l.reader ≤ 4096 * 4294967296;
+      shown : SeesEnd false l.reader.ended (source.ended l.fn.source) (source.ended l.source);
       source_quiet : source.faults l.source ≡ source.faults l.fn.source;
       sink_quiet : sink.faults l.sink ≡ sink.faults l.fn.sink;
     }

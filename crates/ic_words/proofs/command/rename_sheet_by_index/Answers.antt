@@ -12,10 +12,10 @@ pub returns-in_default-index_of : goal.returns-in_default-index_of
 returns-in_default-index_of c = two_without_first rename_sheet_by_index_row c.in-Some.ensures c.in_default-index_of.ensures.spelled
 
 pub returns-in_default-2 : goal.returns-in_default-2
-returns-in_default-2 c = two_without_second rename_sheet_by_index_row c.in-Some.ensures (text_missing (chars c.in-Some.name.now) c.in_default-2.is c.in_ok-name.ensures.exact)
+returns-in_default-2 c = two_without_second rename_sheet_by_index_row c.in-Some.ensures (text_missing (chars c.in-Some.name.now) c.in_default-2.is c.in_ok-name.ensures)
 
 pub returns : goal.returns
-returns c = two_said rename_sheet_by_index_row c.in-Some.ensures c.in-Some-index_of.ensures.spelled (text_there (chars c.in-Some.name.now) c.in-Some-2.is c.in_ok-name.ensures.exact)
+returns c = two_said rename_sheet_by_index_row c.in-Some.ensures c.in-Some-index_of.ensures.spelled (text_there (chars c.in-Some.name.now) c.in-Some-2.is c.in_ok-name.ensures)
 
 pub returns-in_err-name : goal.returns-in_err-name
-returns-in_err-name c = command_wanting (codes "rename_sheet_by_index") c.args.rest c.from_residual.result c.from_residual.ensures.0 (escape_second c.in-Some.ensures c.in_err-name.ensures.exact)
+returns-in_err-name c = command_wanting (codes "rename_sheet_by_index") c.args.rest c.from_residual.result c.from_residual.ensures.0 (escape_second c.in-Some.ensures c.in_err-name.ensures)

@@ -21,13 +21,13 @@ pub returns-in_default-position_of-2 : goal.returns-in_default-position_of-2
 returns-in_default-position_of-2 c = four_without_third update_cell_with_formula_row c.in-Some.ensures c.in_default-position_of-2.ensures.spelled
 
 pub returns-in_default-2 : goal.returns-in_default-2
-returns-in_default-2 c = four_without_fourth update_cell_with_formula_row c.in-Some.ensures (text_missing (chars c.in-Some.text.now) c.in_default-2.is c.in_ok-text.ensures.exact)
+returns-in_default-2 c = four_without_fourth update_cell_with_formula_row c.in-Some.ensures (text_missing (chars c.in-Some.text.now) c.in_default-2.is c.in_ok-text.ensures)
 
 pub returns : goal.returns
 returns c =
     let row : SFits w32 c.in-Some-position_of.row = search rules in
     let column : SFits w32 c.in-Some-position_of-2.column = search rules in
-    simp to_z-of_z (four_said update_cell_with_formula_row c.in-Some.ensures c.in-Some-index_of.ensures.spelled c.in-Some-position_of.ensures.spelled c.in-Some-position_of-2.ensures.spelled (text_there (chars c.in-Some.text.now) c.in-Some-2.is c.in_ok-text.ensures.exact))
+    simp to_z-of_z (four_said update_cell_with_formula_row c.in-Some.ensures c.in-Some-index_of.ensures.spelled c.in-Some-position_of.ensures.spelled c.in-Some-position_of-2.ensures.spelled (text_there (chars c.in-Some.text.now) c.in-Some-2.is c.in_ok-text.ensures))
 
 pub returns-in_err-text : goal.returns-in_err-text
-returns-in_err-text c = command_wanting (codes "update_cell_with_formula") c.args.rest c.from_residual.result c.from_residual.ensures.0 (escape_fourth c.in-Some.ensures c.in_err-text.ensures.exact)
+returns-in_err-text c = command_wanting (codes "update_cell_with_formula") c.args.rest c.from_residual.result c.from_residual.ensures.0 (escape_fourth c.in-Some.ensures c.in_err-text.ensures)

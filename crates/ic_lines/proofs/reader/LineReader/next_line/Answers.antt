@@ -1,7 +1,7 @@
 use Rattle.std.proofs.Common.{◌≡◌, ◌+◌, ◌≤◌, length, true, false, [], refl, sym, ap, subst, ◌∙◌, inl, inr, arith, rules}
-use Rattle.ic_lines.specs.Reading.{budget, has_line_feed, Reading, TakesRead, unread}
+use Rattle.ic_lines.specs.Reading.{SeesEnd, budget, has_line_feed, Reading, TakesRead, unread}
 use Rattle.ic_lines.proofs.LineLemmas.{no_line_feed-Contains}
-use Rattle.ic_lines.proofs.TakeLemmas.{TakesLine-start, TakesLine-step}
+use Rattle.ic_lines.proofs.TakeLemmas.{SeesEnd-join, SeesEnd-start, TakesLine-start, TakesLine-step}
 use Rattle.ic_lines.proofs.ToldLemmas.{IfTold-join, IfTold-same}
 use Rattle.ic_lines.proofs.reader.LineReader.next_line.Goals as goal
 
@@ -12,6 +12,7 @@ reads-init g c = record {
   turns = IfTold-same _ (λ x y. c.args.self.now.turns + length y ≤ c.args.self.now.turns + length x) (λ x. omega arith);
   quiet = refl;
   taken = TakesLine-start c.args.self.now _;
+  shown = SeesEnd-start c.args.self.now.ended _;
   room = omega arith;
   unasked = λ asked. (refl, refl);
 }
@@ -46,6 +47,7 @@ reads-preserved g c =
           (λ x y z p q. omega (arith, p, q, turns_same)) i.turns more.turns;
       quiet = more.quiet ∙ i.quiet;
       taken = TakesLine-step first old new _ _ _ i.taken c.in_default.ensures.found open_still (subst (λ r. TakesRead r new (g.S.Source.left c.reads.source) (g.S.Source.left c.fill.new.source)) same more.taken);
+      shown = SeesEnd-join _ _ _ _ _ _ i.shown (subst (λ (r : Reading). SeesEnd r.ended new.ended (g.S.Source.ended c.reads.source) (g.S.Source.ended c.fill.new.source)) same more.shown);
       room = omega (arith, i.room, more.room, ap budget same);
       unasked = λ asked.
           let s = i.unasked asked in

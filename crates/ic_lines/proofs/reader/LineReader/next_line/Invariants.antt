@@ -1,6 +1,6 @@
 use Rattle.std.proofs.Common.{◌≡◌, ◌⊎◌, ◌+◌, ◌-◌, ◌≤◌, [], true, false, length, Contains, if◌then◌else◌}
 use Rattle.ic_lines.specs.Bytes.{IfTold}
-use Rattle.ic_lines.specs.Reading.{TakesLine, budget, most_turns, unread}
+use Rattle.ic_lines.specs.Reading.{SeesEnd, TakesLine, budget, most_turns, unread}
 use Rattle.ic_lines.proofs.reader.LineReader.next_line.Given as goal
 
 -- what is still to be given stays, no fault was counted, and each read but the last brought no line feed; as long as
@@ -14,6 +14,7 @@ invariant-reads g l =
       turns : IfTold (source.left l.fn.source) (source.left l.source) (λ before now. l.self.turns + length now ≤ l.fn.self.turns + length before);
       quiet : source.faults l.source ≡ source.faults l.fn.source;
       taken : TakesLine l.fn.self l.self (source.left l.fn.source) (source.left l.source);
+      shown : SeesEnd l.fn.self.ended l.self.ended (source.ended l.fn.source) (source.ended l.source);
       room : budget l.self ≤ budget l.fn.self;
       unasked : Contains l.fn.self.held 10 ⊎ (l.fn.self.ended ≡ true) → (l.self ≡ l.fn.self) × (l.source ≡ l.fn.source);
     }
