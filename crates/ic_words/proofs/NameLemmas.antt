@@ -4,7 +4,7 @@ use Rattle.std.specs.List.{AllByRecursion, find}
 use Rattle.std.proofs.lemmas.Bool.{false_from_ne_true}
 use Rattle.std.proofs.lemmas.Slice.Eq.{bytes_eq-Decides}
 use Rattle.ic_machine.specs.Command.{served_names}
-use Rattle.ic_machine.specs.Row.{Row, named, rows_named}
+use Rattle.ic_machine.specs.Row.{Row, rows_named}
 use Rattle.ic_words.specs.Served.{served_in}
 
 not_found : {C : Type 0} (name : List ℕ) (rows : List (Row C)) → AllByRecursion (λ (row : Row C). name ≢ row.name) rows → find (λ (row : Row C). bytes_eq row.name name) rows ≡ None

@@ -1,11 +1,11 @@
 -- The table of all served commands, one subject after another.
 use Rattle.std.proofs.Common.{◌≡◌, ℕ, List, [], ◌∷◌, ◌++◌, Bool, true, false, ◌&&◌, map, Option, Some, None, IsUtf8, bytes_eq, chars, ltb, option_map, option_and_then, refl, ap, sym, ◌∙◌, inl, inr}
-use Rattle.std.specs.List.{filter, find, list_all, list_any}
+use Rattle.std.specs.List.{find, list_all}
 use Rattle.std.proofs.lemmas.Bool.{and_parts, cases_Bool}
 use Rattle.ic_laws.specs.Lines.{word_texts, words_of}
 use Rattle.ic_machine.specs.Command.{Command, OnDefinitions, OnNotation, OnReading, OnSheets, OnWriting, command_in, commands, served, served_names}
 use Rattle.ic_machine.specs.Row.{Row, joined, named, row_in, rows_named, spelled}
-use Rattle.ic_machine.specs.Word.{AllSaid, Done, Many, OfAmount, OfBool, OfColor, OfFlag, OfIndex, OfPosition, OfScope, OfSpill, OfState, OfText, OfValue, Said, Then, WordForm, Words, all_said, each_said, said, some_said, words_said}
+use Rattle.ic_machine.specs.Word.{Done, Many, OfAmount, OfBool, OfColor, OfFlag, OfIndex, OfPosition, OfScope, OfSpill, OfState, OfText, OfValue, Then, WordForm, Words, all_said, each_said, said, some_said, words_said}
 use Rattle.ic_machine.specs.subjects.Definitions.{definition_rows}
 use Rattle.ic_machine.specs.subjects.Notation.{notation_rows}
 use Rattle.ic_machine.specs.subjects.Reading.{reading_rows}

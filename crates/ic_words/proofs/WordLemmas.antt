@@ -1,5 +1,5 @@
 -- The first word of a line, and words with an escape and without.
-use Rattle.std.proofs.Common.{◌≡◌, ◌≢◌, ℕ, ◌+◌, ◌<◌, List, [], ◌∷◌, ◌++◌, ◌==◌, length, map, drop, get_or, Bool, true, false, ◌||◌, Option, None, Some, Result, Ok, Err, IsErr, lit<, Bor, chars, IsUtf8, All, option_map, refl, ap, sym, subst, ◌∙◌, arith, length-append, append_assoc, inl, inr}
+use Rattle.std.proofs.Common.{◌≡◌, ◌≢◌, ℕ, ◌+◌, ◌<◌, List, [], ◌∷◌, ◌++◌, ◌==◌, length, map, drop, get_or, Bool, true, false, ◌||◌, Option, None, Some, lit<, Bor, chars, IsUtf8, All, option_map, refl, ap, sym, subst, ◌∙◌, arith, length-append, append_assoc, inl, inr}
 use Rattle.std.specs.List.{list_any, slice_split}
 use Rattle.std.proofs.lemmas.Bool.Decides.{eqb_tells}
 use Rattle.std.proofs.lemmas.List.{drop_at}

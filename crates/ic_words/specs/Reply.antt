@@ -1,10 +1,10 @@
 -- The room for replies, and the fields and the text of a reply.
-use Rattle.std.specs.Prelude.{◌≡◌, ℕ, List, [], ◌∷◌, Bool, false, true, Option, Some, None, String, chars, encode_utf8_all, flat_map, string_bytes}
+use Rattle.std.specs.Prelude.{◌≡◌, ℕ, List, [], ◌∷◌, false, true, Option, Some, None, String, chars, encode_utf8_all, flat_map, string_bytes}
 use Rattle.std.specs.List.{AllByRecursion}
 use Rattle.std.specs.declared.alloc.Global.{Global}
 use lib.Utf8.{scalars}
 use Rattle.ic_lines.specs.Reading.{has_line_feed}
-use Rattle.ic_machine.specs.Reply.{Field, NumberField, TextField, field_text, optional_text_field}
+use Rattle.ic_machine.specs.Reply.{Field, NumberField, TextField, field_text}
 
 -- the bytes for which there is room before a reply without a field is written
 abbrev pub reply_room : ℕ

@@ -4,11 +4,6 @@ use Rattle.ic_laws.specs.Command as core
 use Rattle.ic_machine.specs.Command.{served_names}
 use Rattle.ic_machine.specs.Row as rows
 use Rattle.ic_machine.specs.Row.{Row, rows_named}
-use Rattle.ic_machine.specs.subjects.Definitions.{Definitions, definition_rows}
-use Rattle.ic_machine.specs.subjects.Notation.{Notation, notation_rows}
-use Rattle.ic_machine.specs.subjects.Reading.{Reading, reading_rows}
-use Rattle.ic_machine.specs.subjects.Sheets.{Sheets, sheet_rows}
-use Rattle.ic_machine.specs.subjects.Writing.{Writing, writing_rows}
 
 -- the rows of the core machine's table with the names of those that are served
 unfoldable pub served : List core.CommandRow

@@ -2,7 +2,6 @@ use Rattle.std.proofs.Common.{chars, ◌∙◌}
 use Rattle.std.proofs.lemmas.Result.{IfOk-weaker}
 use Rattle.ic_words.specs.Words.{words_left}
 use Rattle.ic_words.proofs.SubjectLemmas.{line_same}
-use Rattle.ic_words.proofs.WordLemmas.{escape_behind}
 use Rattle.ic_words.proofs.command.command_in.Goals as goal
 
 pub returns-clause-exact : goal.returns-clause-exact

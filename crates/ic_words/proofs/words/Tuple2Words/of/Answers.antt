@@ -1,6 +1,6 @@
 use Rattle.std.proofs.Common.{chars}
 use Rattle.ic_words.specs.Words.{words_left}
-use Rattle.ic_words.proofs.WordsLemmas.{all_there, always, first_has_escape, others_have_escape, without_first, without_others}
+use Rattle.ic_words.proofs.WordsLemmas.{all_there, always, others_have_escape, without_first, without_others}
 use Rattle.ic_words.proofs.words.Tuple2Words.of.Goals as goal
 
 pub returns-in_default-2-clause-exact : goal.returns-in_default-2-clause-exact
