@@ -1,9 +1,9 @@
-pub mod CommandLemmas
+pub mod AsciiLemmas
 pub mod EscapedNumbers
 pub mod NameLemmas
 pub mod NumberLemmas
-pub mod ReplyFacts
 pub mod ReplyLemmas
-pub mod RowLemmas
 pub mod ScopeLemmas
+pub mod SubjectLemmas
 pub mod WordLemmas
+pub mod WordsLemmas

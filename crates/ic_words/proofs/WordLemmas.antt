@@ -1,5 +1,5 @@
 -- The first word of a line, and words with an escape and without.
-use Rattle.std.proofs.Common.{◌≡◌, ◌≢◌, ℕ, ◌+◌, ◌<◌, List, [], ◌∷◌, ◌++◌, ◌==◌, length, map, drop, get_or, Bool, true, false, ◌||◌, Option, None, Some, Result, Ok, Err, IsErr, lit<, Bor, chars, IsUtf8, All, option_map, refl, ap, sym, subst, ◌∙◌, arith, length-append, append_assoc, inl, inr}
+use Rattle.std.proofs.Common.{◌≡◌, ◌≢◌, ℕ, ◌+◌, ◌<◌, List, [], ◌∷◌, ◌++◌, ◌==◌, length, map, drop, get_or, Bool, true, false, ◌||◌, Option, None, Some, lit<, Bor, chars, IsUtf8, All, option_map, refl, ap, sym, subst, ◌∙◌, arith, length-append, append_assoc, inl, inr}
 use Rattle.std.specs.List.{list_any, slice_split}
 use Rattle.std.proofs.lemmas.Bool.Decides.{eqb_tells}
 use Rattle.std.proofs.lemmas.List.{drop_at}
@@ -11,7 +11,7 @@ use Rattle.std.proofs.lemmas.Str.{IsCharBoundary-after_ascii, IsUtf8-drop, encod
 use Rattle.std.proofs.Math.Seq.{get_or-append_seam}
 use Rattle.ic_laws.specs.Lines.{unescaped, words_of}
 use Rattle.ic_lines.proofs.WordLemmas.{pieces}
-use Rattle.ic_words.specs.Words.{HasEscape, HaveEscape, UnlessEscape, has_escape, words_left}
+use Rattle.ic_words.specs.Words.{HasEscape, HaveEscape, has_escape, words_left}
 
 -- what stands after a tab is text
 after_tab : (bytes word rest : List ℕ) → IsUtf8 bytes → bytes ≡ word ++ 9 ∷ rest → IsUtf8 rest
@@ -47,12 +47,6 @@ word_before bytes split word rest u cut some =
 pub some_word : (left : Option (Bor (List ℕ))) (line : Bor (List ℕ)) → left ≡ Some line → length (words_left left) ≢ 0
 some_word left line e none = omega (arith, none, ap length (ap words_left e), length-slice_split (λ c. c == 9) (chars line.now))
 
--- a word with a tab after it isn't the only one
-pub more_words : (left : Option (Bor (List ℕ))) (line : Bor (List ℕ)) (more : Option (Bor (List ℕ))) (rest : Bor (List ℕ)) (word : List ℕ) → left ≡ Some line → words_of (chars line.now) ≡ word ∷ words_left more → more ≡ Some rest → length (words_left left) ≢ 1
-more_words left line more rest word e w m one =
-    let all : words_left left ≡ word ∷ words_of (chars rest.now) = ap words_left e ∙ w ∙ ap (λ ws. word ∷ words_left ws) m in
-    omega (arith, one, ap length all, length-slice_split (λ c. c == 9) (chars rest.now))
-
 -- neither of two tests
 neither : (a b : Bool) → (a || b) ≡ false → (a ≡ false) × (b ≡ false)
 neither true b h = cc
@@ -78,22 +72,3 @@ escape_first e h = ap (list_any has_escape) e ∙ rw h refl
 -- words after the first have an escape
 pub escape_behind : {words more : List (List ℕ)} {a : List ℕ} → words ≡ a ∷ more → HaveEscape more → HaveEscape words
 escape_behind {words} {more} {a} e h = ap (list_any has_escape) e ∙ either (has_escape a) (list_any has_escape more) h
-
-pub escape_second : {words more : List (List ℕ)} {a b : List ℕ} → words ≡ a ∷ b ∷ more → HasEscape b → HaveEscape words
-escape_second {words} {more} {a} {b} e h = escape_behind e (escape_first {words = b ∷ more} refl h)
-
-pub escape_third : {words more : List (List ℕ)} {a b c : List ℕ} → words ≡ a ∷ b ∷ c ∷ more → HasEscape c → HaveEscape words
-escape_third {words} {more} {a} {b} {c} e h = escape_behind e (escape_second {words = b ∷ c ∷ more} refl h)
-
-pub escape_fourth : {words more : List (List ℕ)} {a b c d : List ℕ} → words ≡ a ∷ b ∷ c ∷ d ∷ more → HasEscape d → HaveEscape words
-escape_fourth {words} {more} {a} {b} {c} {d} e h = escape_behind e (escape_third {words = b ∷ c ∷ d ∷ more} refl h)
-
--- what was read of the words after a name was read of all words
-pub read_behind : {X E : Type 0} (name : List ℕ) (more : List (List ℕ)) (r : Result X E) (P : X → Type 0) → UnlessEscape more r P → UnlessEscape (name ∷ more) r P
-read_behind name more (Ok x) P h = h
-read_behind name more (Err e) P h = escape_behind {words = name ∷ more} refl h
-
--- memory was wanted where a word has an escape
-pub memory_wanted : {X E : Type 0} (words : List (List ℕ)) (r : Result X E) (P : X → Type 0) → IsErr r → HaveEscape words → UnlessEscape words r P
-memory_wanted words (Ok x) P is h = let e : false ≡ true = is in absurd (cc)
-memory_wanted words (Err e) P is h = h

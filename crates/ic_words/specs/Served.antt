@@ -1,10 +1,14 @@
--- The commands that are served.
-use Rattle.std.specs.Prelude.{List, [], ◌∷◌, codes}
-use Rattle.ic_laws.specs.Command.{CommandRow, rows_named}
+-- The commands that are served, by subjects.
+use Rattle.std.specs.Prelude.{ℕ, List, [], Option}
+use Rattle.ic_laws.specs.Command as core
+use Rattle.ic_machine.specs.Command.{served_names}
+use Rattle.ic_machine.specs.Row as rows
+use Rattle.ic_machine.specs.Row.{Row, rows_named}
 
--- the rows of the table with these names
-unfoldable pub served : List CommandRow
-served =
-    rows_named (codes "add_sheet" ∷ codes "rename_sheet" ∷ codes "rename_sheet_by_index" ∷ codes "move_sheet" ∷ codes "delete_sheet" ∷ codes "delete_sheet_by_name"
-    ∷ codes "delete_sheet_by_sheet_id" ∷ codes "new_defined_name" ∷ codes "delete_defined_name" ∷ codes "is_valid_defined_name" ∷ codes "get_defined_name_list"
-    ∷ codes "get_new_sheet_id" ∷ codes "set_locale" ∷ codes "set_language" ∷ codes "update_cell_with_formula" ∷ codes "get_cell_formula" ∷ [])
+-- the rows of the core machine's table with the names of those that are served
+unfoldable pub served : List core.CommandRow
+served = core.rows_named served_names
+
+-- what words after a name are by the served rows of a subject
+abbrev pub served_in : {C : Type 0} → List (Row C) → List ℕ → List (List ℕ) → Option (Option C)
+served_in all name words = rows.named [] (rows_named served_names all) name words

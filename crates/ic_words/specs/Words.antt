@@ -1,10 +1,12 @@
 -- The words that are still to be read of a line, and the texts that words spell.
-use Rattle.std.specs.Prelude.{◌≡◌, ℕ, List, [], Bool, true, ◌==◌, Option, Some, None, Result, Ok, Err, chars}
+use Rattle.std.specs.Prelude.{◌≡◌, ℕ, List, [], Bool, true, ◌==◌, Option, Some, None, chars, option_and_then}
 use Rattle.std.specs.List.{list_any}
 use Rattle.std.specs.Option.{is_some}
 use Rattle.std.specs.Borrow.{Bor}
 use Rattle.ic_laws.specs.Character.{backslash}
 use Rattle.ic_laws.specs.Lines.{unescaped, words_of}
+use Rattle.ic_machine.specs.Word as machine
+use Rattle.ic_machine.specs.Word.{AllSaid, Said, WordForm, Words}
 
 -- the words of what is left of a line; where nothing is left after the last tab there is none
 abbrev pub words_left : Option (Bor (List ℕ)) → List (List ℕ)
@@ -22,11 +24,6 @@ HasEscape word = has_escape word ≡ true
 abbrev pub HaveEscape : List (List ℕ) → Type 0
 HaveEscape words = list_any has_escape words ≡ true
 
--- What was read of words is so. Memory is wanted only where one of them has an escape.
-abbrev pub UnlessEscape : {X E : Type 0} → List (List ℕ) → Result X E → (X → Type 0) → Type 0
-UnlessEscape words (Ok x) P = P x
-UnlessEscape words (Err e) P = HaveEscape words
-
 -- the text of a word: its copy, or the word itself
 abbrev pub spelled_in : List ℕ → Option (List ℕ) → List ℕ
 spelled_in word None = word
@@ -36,3 +33,12 @@ spelled_in word (Some copy) = copy
 pub record SpellsIn (word : List ℕ) (copy : Option (List ℕ)) : Type 0 where
   pub spelled : unescaped word ≡ Some (spelled_in word copy)
   pub copied : is_some copy ≡ has_escape word
+
+-- what a word of this form says, by the text that it spells; by the English words of no error values, since no form that
+-- is read here needs them
+abbrev pub word_said : (form : WordForm) → List ℕ → Option (Said form)
+word_said form word = option_and_then (machine.said [] form) (unescaped word)
+
+-- and what words of these forms say
+abbrev pub words_said : (forms : Words) → List (List ℕ) → Option (AllSaid forms)
+words_said forms words = machine.words_said [] forms words

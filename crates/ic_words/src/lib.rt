@@ -1,17 +1,27 @@
 //! Command lines read into commands, and replies written: what the program and the book share.
 //!
-//! A word is taken where it stands in its line, and only a text with an escape is copied. What each reader answers is the
-//! definition of `ic_laws/specs/Command` and `Lines`, both ways.
+//! A line of words a command: its name, the shape of its words and what they make; words are read and fields are written
+//! by one function each. A word is taken where it stands in its line, and only a text with an escape is copied. What each
+//! reader answers is by the table of `ic_machine/specs/Command`, both ways.
 #![tactic(auto)]
 
 mod command;
+mod fields;
 mod numbers;
 mod reply;
+mod text;
+mod word;
 mod words;
 
+pub use command::definitions::Definitions;
+pub use command::notation::Notation;
+pub use command::reading::Reading;
+pub use command::sheets::Sheets;
+pub use command::writing::Writing;
 pub use command::{Command, command_in};
+pub use fields::Fields;
 pub use numbers::{index_of, position_of, scope_of};
-pub use reply::{
-    REPLY_ROOM, error_reply, law_reply_room, names_reply, number_reply, ok_reply, text_reply,
-};
-pub use words::{WordText, text_of};
+pub use reply::{REPLY_ROOM, error_reply, law_reply_room, ok_reply};
+pub use text::{WordText, text_of};
+pub use word::Word;
+pub use words::Words;

@@ -1,79 +1,57 @@
-ghost use Rattle.std.specs.Prelude.{◌≡◌, ◌≢◌, ◌∷◌, [], IfOk, MatchOption, MatchResult, chars, length, string_bytes};
-ghost use Rattle.ic_laws.specs.Lines.{unescaped, words_of};
-ghost use Rattle.ic_words.specs.Words.{HasEscape, has_escape, words_left};
+//! Words one after another: each shape is `()`, or a word and the shape of those after it.
+ghost use Rattle.std.specs.Prelude.{◌≡◌, ◌∷◌, IfOk, OnErr, chars, option_map};
+ghost use Rattle.ic_laws.specs.Lines.{words_of};
+ghost use Rattle.ic_machine.specs.Word as machine;
+ghost use Rattle.ic_words.specs.Words.{HaveEscape, words_left, words_said};
 
-use ic_laws::{OutOfMemory, Text};
-use ic_lines::unescape;
+use crate::word::Word;
+use ic_laws::OutOfMemory;
 use std::alloc::Global;
-use std::marker::Model;
 
-/// The text that a word spells. It is copied exactly where the word has an escape; a word without one is the text
-/// itself, where it stands in its line.
-pub struct WordText<'l> {
-    word: &'l str,
-    copy: Option<Text>,
+/// The values that the words of a command say.
+pub trait Words<'l>: Drop {
+    ghost forms: { machine.Words };
+
+    ghost says: { Self → machine.AllSaid forms };
+
+    /// What the words that are left say; None where they are more or fewer, or one isn't of its form. Memory is asked for
+    /// only where one of them has an escape.
+    fn of(alloc: Global, rest: Option<&'l str>) -> Result<Option<Self>, OutOfMemory>
+        ensures exact { IfOk result (λ values. option_map says values ≡ words_said forms (words_left rest.entry)) }
+        ensures memory { OnErr result (HaveEscape (words_left rest.entry)) };
 }
 
-impl Drop for WordText<'_> {
-    fn drop(self) {
-        let Self { word: _, copy } = self;
-        drop(copy);
-    }
-}
+impl<'l> Words<'l> for () {
+    ghost forms = { machine.Done };
 
-impl<'l> Model for WordText<'l> {
-    ghost use Rattle.std.specs.Prelude.{List, ℕ, chars};
-    ghost use Rattle.ic_words.specs.Words.{SpellsIn, spelled_in};
+    ghost says = { λ nothing. tt };
 
-    ghost Value = { List ℕ };
-
-    ghost view = { λ t. spelled_in (chars t.word.now) t.copy };
-
-    ghost invariant = { λ t. SpellsIn (chars t.word.now) t.copy };
-}
-
-impl<'l> WordText<'l> {
-    /// The text itself.
-    pub fn as_str(&self) -> &str
-        ensures { chars result.now ≡ self.now }
-    {
-        match &self.copy {
-            None => self.word,
-            Some(text) => text.as_str(),
+    fn of(_: Global, rest: Option<&'l str>) -> Result<Option<()>, OutOfMemory> {
+        match rest {
+            None => Ok(Some(())),
+            Some(_) => Ok(None),
         }
     }
-
-    /// The text as a string of its own.
-    pub fn into_string(self, alloc: Global) -> Result<String, OutOfMemory>
-        ensures { IfOk result (λ text. chars (string_bytes text) ≡ self.entry) }
-    {
-        Ok(String::from_str(alloc, self.as_str())?)
-    }
 }
 
-/// The text that a word spells; None where it has a wrong escape. Memory is asked for only where it has one.
-pub fn text_of<'l>(alloc: Global, word: &'l str) -> Result<Option<WordText<'l>>, OutOfMemory>
-    ensures { MatchResult result
-        (λ text. text ≡ unescaped (chars word.now))
-        (λ e. HasEscape (chars word.now)) }
-{
-    if !has_escape(word) {
-        return Ok(Some(WordText { word, copy: None }));
-    }
-    let Some(text) = unescape(alloc, word)? else {
-        return Ok(None);
-    };
-    Ok(Some(WordText {
-        word,
-        copy: Some(text),
-    }))
-}
+impl<'l, A: Word<'l>, B: Words<'l>> Words<'l> for (A, B) {
+    ghost forms = { machine.Then A.form B.forms };
 
-// Whether a word has a backslash, which begins each escape.
-fn has_escape(word: &str) -> bool
-    ensures { result ≡ has_escape (chars word.now) }
-{
-    word.chars().any(|c| c == '\\')
+    ghost says = { λ words. (A.says words.0, B.says words.1) };
+
+    fn of(alloc: Global, rest: Option<&'l str>) -> Result<Option<(A, B)>, OutOfMemory> {
+        let Some(line) = rest else {
+            return Ok(None);
+        };
+        let (word, rest) = first_word(line);
+        let Some(first) = A::of(alloc, word)? else {
+            return Ok(None);
+        };
+        let Some(others) = B::of(alloc, rest)? else {
+            return Ok(None);
+        };
+        Ok(Some((first, others)))
+    }
 }
 
 /// The first word of a line, and what is left of the line after the tab; None where no tab stands after the word.
@@ -84,50 +62,4 @@ pub(crate) fn first_word(line: &str) -> (&str, Option<&str>)
         Some((word, rest)) => (word, Some(rest)),
         None => (line, None),
     }
-}
-
-/// Some exactly where no word is left.
-pub(crate) fn no_words(rest: Option<&str>) -> Option<()>
-    ensures { MatchOption result (length (words_left rest.entry) ≢ 0) (λ _. words_left rest.entry ≡ []) }
-{
-    match rest {
-        None => Some(()),
-        Some(_) => None,
-    }
-}
-
-/// The word that is left, if it is one.
-pub(crate) fn one_word(rest: Option<&str>) -> Option<&str>
-    ensures { MatchOption result (length (words_left rest.entry) ≢ 1) (λ word. words_left rest.entry ≡ chars word.now ∷ []) }
-{
-    match first_word(rest?) {
-        (word, None) => Some(word),
-        (_, Some(_)) => None,
-    }
-}
-
-/// The words that are left, if they are two.
-pub(crate) fn two_words(rest: Option<&str>) -> Option<(&str, &str)>
-    ensures { MatchOption result (length (words_left rest.entry) ≢ 2) (λ words. words_left rest.entry ≡ chars words.0.now ∷ chars words.1.now ∷ []) }
-{
-    let (first, rest) = first_word(rest?);
-    Some((first, one_word(rest)?))
-}
-
-/// The words that are left, if they are three.
-pub(crate) fn three_words(rest: Option<&str>) -> Option<(&str, &str, &str)>
-    ensures { MatchOption result (length (words_left rest.entry) ≢ 3) (λ words. words_left rest.entry ≡ chars words.0.now ∷ chars words.1.now ∷ chars words.2.now ∷ []) }
-{
-    let (first, rest) = first_word(rest?);
-    let (second, third) = two_words(rest)?;
-    Some((first, second, third))
-}
-
-/// The words that are left, if they are four.
-pub(crate) fn four_words(rest: Option<&str>) -> Option<(&str, &str, &str, &str)>
-    ensures { MatchOption result (length (words_left rest.entry) ≢ 4) (λ words. words_left rest.entry ≡ chars words.0.now ∷ chars words.1.now ∷ chars words.2.now ∷ chars words.3.now ∷ []) }
-{
-    let (first, rest) = first_word(rest?);
-    let (second, third, fourth) = three_words(rest)?;
-    Some((first, second, third, fourth))
 }

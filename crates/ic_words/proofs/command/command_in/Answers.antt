@@ -1,14 +1,11 @@
-use Rattle.std.proofs.Common.{◌≡◌, List, ◌∷◌, ℕ, chars, option_map, subst, sym}
-use Rattle.ic_laws.specs.Lines.{spelled_command}
-use Rattle.ic_words.specs.Command.{command_meant}
-use Rattle.ic_words.specs.Served.{served}
-use Rattle.ic_words.specs.Words.{UnlessEscape, words_left}
-use Rattle.ic_words.proofs.WordLemmas.{read_behind}
+use Rattle.std.proofs.Common.{chars, ◌∙◌}
+use Rattle.std.proofs.lemmas.Result.{IfOk-weaker}
+use Rattle.ic_words.specs.Words.{words_left}
+use Rattle.ic_words.proofs.SubjectLemmas.{line_same}
 use Rattle.ic_words.proofs.command.command_in.Goals as goal
 
-pub returns : goal.returns
-returns c =
-    let r = c.command_named.result in
-    subst (λ (words : List (List ℕ)). UnlessEscape words r (λ command. option_map command_meant command ≡ spelled_command served words)) (sym c.first_word.ensures)
-    (read_behind (chars c.first_word.result.0.now) (words_left c.first_word.result.1) r
-    (λ command. option_map command_meant command ≡ spelled_command served (chars c.first_word.result.0.now ∷ words_left c.first_word.result.1)) c.command_named.ensures)
+pub returns-clause-exact : goal.returns-clause-exact
+returns-clause-exact c =
+    IfOk-weaker c.command_named.result _ _
+    (λ command e. λ english. e ∙ line_same english (chars c.first_word.result.0.now) (words_left c.first_word.result.1) (chars c.args.line.now) c.first_word.ensures)
+    c.command_named.ensures.exact

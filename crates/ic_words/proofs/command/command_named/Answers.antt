@@ -1,71 +1,129 @@
-use Rattle.std.specs.Str.{chars}
+use Rattle.std.proofs.Common.{[], None, chars, ap, sym}
+use Rattle.ic_machine.specs.Command.{OnDefinitions, OnNotation, OnReading, OnSheets, OnWriting, served}
+use Rattle.ic_machine.specs.Row.{joined, named}
+use Rattle.ic_machine.specs.subjects.Definitions.{definition_rows}
+use Rattle.ic_machine.specs.subjects.Notation.{notation_rows}
+use Rattle.ic_machine.specs.subjects.Reading.{reading_rows}
+use Rattle.ic_machine.specs.subjects.Sheets.{sheet_rows}
+use Rattle.ic_machine.specs.subjects.Writing.{writing_rows}
+use Rattle.ic_words.specs.Served.{served_in}
 use Rattle.ic_words.specs.Words.{words_left}
-use Rattle.ic_words.proofs.NameLemmas.{no_served_name}
+use Rattle.ic_words.specs.subjects.Definitions.{definitions_meant}
+use Rattle.ic_words.specs.subjects.Notation.{notation_meant}
+use Rattle.ic_words.specs.subjects.Reading.{reading_meant}
+use Rattle.ic_words.specs.subjects.Sheets.{sheets_meant}
+use Rattle.ic_words.specs.subjects.Writing.{writing_meant}
+use Rattle.ic_words.proofs.SubjectLemmas.{by_subjects, later_definitions, later_notation, later_reading, later_writing, nothing, one, past}
 use Rattle.ic_words.proofs.command.command_named.Goals as goal
 
-pub returns-in-add_sheet : goal.returns-in-add_sheet
-unfolding chars
-returns-in-add_sheet c = rw c.in-add_sheet.is c.add_sheet.ensures
+pub returns-in_default-said-clause-exact : goal.returns-in_default-said-clause-exact
+returns-in_default-said-clause-exact c =
+    let n = c.args.name.now in
+    let w = words_left c.args.rest in
+    let table = named [] served (chars n) w in
+    let chain1 = by_subjects n w c.utf8.name in
+    nothing OnSheets sheets_meant c.in_ok-said.field-0 (served_in sheet_rows n w) table (later_definitions n w) chain1 c.in_ok-said.ensures.exact c.in-Some.said c.in-Some.is c.in_default-said.is
 
-pub returns-in-rename_sheet : goal.returns-in-rename_sheet
-unfolding chars
-returns-in-rename_sheet c = rw c.in-rename_sheet.is c.rename_sheet.ensures
+pub returns-in-Some-clause-exact : goal.returns-in-Some-clause-exact
+returns-in-Some-clause-exact c =
+    let n = c.args.name.now in
+    let w = words_left c.args.rest in
+    let table = named [] served (chars n) w in
+    let chain1 = by_subjects n w c.utf8.name in
+    one OnSheets sheets_meant c.in_ok-said.field-0 (served_in sheet_rows n w) table (later_definitions n w) chain1 c.in_ok-said.ensures.exact c.in-Some.said c.in-Some-said.command c.in-Some.is c.in-Some-said.is
 
-pub returns-in-rename_sheet_by_index : goal.returns-in-rename_sheet_by_index
-unfolding chars
-returns-in-rename_sheet_by_index c = rw c.in-rename_sheet_by_index.is c.rename_sheet_by_index.ensures
+pub returns-in_default-said-2-clause-exact : goal.returns-in_default-said-2-clause-exact
+returns-in_default-said-2-clause-exact c =
+    let n = c.args.name.now in
+    let w = words_left c.args.rest in
+    let table = named [] served (chars n) w in
+    let chain1 = by_subjects n w c.utf8.name in
+    let chain2 = past OnSheets sheets_meant c.in_ok-said.field-0 (served_in sheet_rows n w) table (later_definitions n w) chain1 c.in_ok-said.ensures.exact c.in_default.is in
+    nothing OnDefinitions definitions_meant c.in_ok-said-2.field-0 (served_in definition_rows n w) table (later_notation n w) chain2 c.in_ok-said-2.ensures.exact c.in-Some-2.said c.in-Some-2.is c.in_default-said-2.is
 
-pub returns-in-move_sheet : goal.returns-in-move_sheet
-unfolding chars
-returns-in-move_sheet c = rw c.in-move_sheet.is c.move_sheet.ensures
+pub returns-in-Some-2-clause-exact : goal.returns-in-Some-2-clause-exact
+returns-in-Some-2-clause-exact c =
+    let n = c.args.name.now in
+    let w = words_left c.args.rest in
+    let table = named [] served (chars n) w in
+    let chain1 = by_subjects n w c.utf8.name in
+    let chain2 = past OnSheets sheets_meant c.in_ok-said.field-0 (served_in sheet_rows n w) table (later_definitions n w) chain1 c.in_ok-said.ensures.exact c.in_default.is in
+    one OnDefinitions definitions_meant c.in_ok-said-2.field-0 (served_in definition_rows n w) table (later_notation n w) chain2 c.in_ok-said-2.ensures.exact c.in-Some-2.said c.in-Some-said-2.command c.in-Some-2.is c.in-Some-said-2.is
 
-pub returns-in-delete_sheet : goal.returns-in-delete_sheet
-unfolding chars
-returns-in-delete_sheet c = rw c.in-delete_sheet.is c.delete_sheet.ensures
+pub returns-in_default-said-3-clause-exact : goal.returns-in_default-said-3-clause-exact
+returns-in_default-said-3-clause-exact c =
+    let n = c.args.name.now in
+    let w = words_left c.args.rest in
+    let table = named [] served (chars n) w in
+    let chain1 = by_subjects n w c.utf8.name in
+    let chain2 = past OnSheets sheets_meant c.in_ok-said.field-0 (served_in sheet_rows n w) table (later_definitions n w) chain1 c.in_ok-said.ensures.exact c.in_default.is in
+    let chain3 = past OnDefinitions definitions_meant c.in_ok-said-2.field-0 (served_in definition_rows n w) table (later_notation n w) chain2 c.in_ok-said-2.ensures.exact c.in_default-2.is in
+    nothing OnNotation notation_meant c.in_ok-said-3.field-0 (served_in notation_rows n w) table (later_writing n w) chain3 c.in_ok-said-3.ensures.exact c.in-Some-3.said c.in-Some-3.is c.in_default-said-3.is
 
-pub returns-in-delete_sheet_by_name : goal.returns-in-delete_sheet_by_name
-unfolding chars
-returns-in-delete_sheet_by_name c = rw c.in-delete_sheet_by_name.is c.delete_sheet_by_name.ensures
+pub returns-in-Some-3-clause-exact : goal.returns-in-Some-3-clause-exact
+returns-in-Some-3-clause-exact c =
+    let n = c.args.name.now in
+    let w = words_left c.args.rest in
+    let table = named [] served (chars n) w in
+    let chain1 = by_subjects n w c.utf8.name in
+    let chain2 = past OnSheets sheets_meant c.in_ok-said.field-0 (served_in sheet_rows n w) table (later_definitions n w) chain1 c.in_ok-said.ensures.exact c.in_default.is in
+    let chain3 = past OnDefinitions definitions_meant c.in_ok-said-2.field-0 (served_in definition_rows n w) table (later_notation n w) chain2 c.in_ok-said-2.ensures.exact c.in_default-2.is in
+    one OnNotation notation_meant c.in_ok-said-3.field-0 (served_in notation_rows n w) table (later_writing n w) chain3 c.in_ok-said-3.ensures.exact c.in-Some-3.said c.in-Some-said-3.command c.in-Some-3.is c.in-Some-said-3.is
 
-pub returns-in-delete_sheet_by_sheet_id : goal.returns-in-delete_sheet_by_sheet_id
-unfolding chars
-returns-in-delete_sheet_by_sheet_id c = rw c.in-delete_sheet_by_sheet_id.is c.delete_sheet_by_sheet_id.ensures
+pub returns-in_default-said-4-clause-exact : goal.returns-in_default-said-4-clause-exact
+returns-in_default-said-4-clause-exact c =
+    let n = c.args.name.now in
+    let w = words_left c.args.rest in
+    let table = named [] served (chars n) w in
+    let chain1 = by_subjects n w c.utf8.name in
+    let chain2 = past OnSheets sheets_meant c.in_ok-said.field-0 (served_in sheet_rows n w) table (later_definitions n w) chain1 c.in_ok-said.ensures.exact c.in_default.is in
+    let chain3 = past OnDefinitions definitions_meant c.in_ok-said-2.field-0 (served_in definition_rows n w) table (later_notation n w) chain2 c.in_ok-said-2.ensures.exact c.in_default-2.is in
+    let chain4 = past OnNotation notation_meant c.in_ok-said-3.field-0 (served_in notation_rows n w) table (later_writing n w) chain3 c.in_ok-said-3.ensures.exact c.in_default-3.is in
+    nothing OnWriting writing_meant c.in_ok-said-4.field-0 (served_in writing_rows n w) table (later_reading n w) chain4 c.in_ok-said-4.ensures.exact c.in-Some-4.said c.in-Some-4.is c.in_default-said-4.is
 
-pub returns-in-new_defined_name : goal.returns-in-new_defined_name
-unfolding chars
-returns-in-new_defined_name c = rw c.in-new_defined_name.is c.new_defined_name.ensures
+pub returns-in-Some-4-clause-exact : goal.returns-in-Some-4-clause-exact
+returns-in-Some-4-clause-exact c =
+    let n = c.args.name.now in
+    let w = words_left c.args.rest in
+    let table = named [] served (chars n) w in
+    let chain1 = by_subjects n w c.utf8.name in
+    let chain2 = past OnSheets sheets_meant c.in_ok-said.field-0 (served_in sheet_rows n w) table (later_definitions n w) chain1 c.in_ok-said.ensures.exact c.in_default.is in
+    let chain3 = past OnDefinitions definitions_meant c.in_ok-said-2.field-0 (served_in definition_rows n w) table (later_notation n w) chain2 c.in_ok-said-2.ensures.exact c.in_default-2.is in
+    let chain4 = past OnNotation notation_meant c.in_ok-said-3.field-0 (served_in notation_rows n w) table (later_writing n w) chain3 c.in_ok-said-3.ensures.exact c.in_default-3.is in
+    one OnWriting writing_meant c.in_ok-said-4.field-0 (served_in writing_rows n w) table (later_reading n w) chain4 c.in_ok-said-4.ensures.exact c.in-Some-4.said c.in-Some-said-4.command c.in-Some-4.is c.in-Some-said-4.is
 
-pub returns-in-delete_defined_name : goal.returns-in-delete_defined_name
-unfolding chars
-returns-in-delete_defined_name c = rw c.in-delete_defined_name.is c.delete_defined_name.ensures
+pub returns-in_default-said-5-clause-exact : goal.returns-in_default-said-5-clause-exact
+returns-in_default-said-5-clause-exact c =
+    let n = c.args.name.now in
+    let w = words_left c.args.rest in
+    let table = named [] served (chars n) w in
+    let chain1 = by_subjects n w c.utf8.name in
+    let chain2 = past OnSheets sheets_meant c.in_ok-said.field-0 (served_in sheet_rows n w) table (later_definitions n w) chain1 c.in_ok-said.ensures.exact c.in_default.is in
+    let chain3 = past OnDefinitions definitions_meant c.in_ok-said-2.field-0 (served_in definition_rows n w) table (later_notation n w) chain2 c.in_ok-said-2.ensures.exact c.in_default-2.is in
+    let chain4 = past OnNotation notation_meant c.in_ok-said-3.field-0 (served_in notation_rows n w) table (later_writing n w) chain3 c.in_ok-said-3.ensures.exact c.in_default-3.is in
+    let chain5 = past OnWriting writing_meant c.in_ok-said-4.field-0 (served_in writing_rows n w) table (later_reading n w) chain4 c.in_ok-said-4.ensures.exact c.in_default-4.is in
+    nothing OnReading reading_meant c.in_ok-said-5.field-0 (served_in reading_rows n w) table None chain5 c.in_ok-said-5.ensures.exact c.in-Some-5.said c.in-Some-5.is c.in_default-said-5.is
 
-pub returns-in-is_valid_defined_name : goal.returns-in-is_valid_defined_name
-unfolding chars
-returns-in-is_valid_defined_name c = rw c.in-is_valid_defined_name.is c.is_valid_defined_name.ensures
+pub returns-in-Some-5-clause-exact : goal.returns-in-Some-5-clause-exact
+returns-in-Some-5-clause-exact c =
+    let n = c.args.name.now in
+    let w = words_left c.args.rest in
+    let table = named [] served (chars n) w in
+    let chain1 = by_subjects n w c.utf8.name in
+    let chain2 = past OnSheets sheets_meant c.in_ok-said.field-0 (served_in sheet_rows n w) table (later_definitions n w) chain1 c.in_ok-said.ensures.exact c.in_default.is in
+    let chain3 = past OnDefinitions definitions_meant c.in_ok-said-2.field-0 (served_in definition_rows n w) table (later_notation n w) chain2 c.in_ok-said-2.ensures.exact c.in_default-2.is in
+    let chain4 = past OnNotation notation_meant c.in_ok-said-3.field-0 (served_in notation_rows n w) table (later_writing n w) chain3 c.in_ok-said-3.ensures.exact c.in_default-3.is in
+    let chain5 = past OnWriting writing_meant c.in_ok-said-4.field-0 (served_in writing_rows n w) table (later_reading n w) chain4 c.in_ok-said-4.ensures.exact c.in_default-4.is in
+    one OnReading reading_meant c.in_ok-said-5.field-0 (served_in reading_rows n w) table None chain5 c.in_ok-said-5.ensures.exact c.in-Some-5.said c.in-Some-said-5.command c.in-Some-5.is c.in-Some-said-5.is
 
-pub returns-in-get_defined_name_list : goal.returns-in-get_defined_name_list
-unfolding chars
-returns-in-get_defined_name_list c = rw c.in-get_defined_name_list.is c.get_defined_name_list.ensures
-
-pub returns-in-get_new_sheet_id : goal.returns-in-get_new_sheet_id
-unfolding chars
-returns-in-get_new_sheet_id c = rw c.in-get_new_sheet_id.is c.get_new_sheet_id.ensures
-
-pub returns-in-set_locale : goal.returns-in-set_locale
-unfolding chars
-returns-in-set_locale c = rw c.in-set_locale.is c.set_locale.ensures
-
-pub returns-in-set_language : goal.returns-in-set_language
-unfolding chars
-returns-in-set_language c = rw c.in-set_language.is c.set_language.ensures
-
-pub returns-in-update_cell_with_formula : goal.returns-in-update_cell_with_formula
-unfolding chars
-returns-in-update_cell_with_formula c = rw c.in-update_cell_with_formula.is c.update_cell_with_formula.ensures
-
-pub returns-in-get_cell_formula : goal.returns-in-get_cell_formula
-unfolding chars
-returns-in-get_cell_formula c = rw c.in-get_cell_formula.is c.get_cell_formula.ensures
-
-pub returns-in_default : goal.returns-in_default
-returns-in_default c = no_served_name c.args.name.now (words_left c.args.rest) c.utf8.name c.in_default.not-add_sheet c.in_default.not-rename_sheet c.in_default.not-rename_sheet_by_index c.in_default.not-move_sheet c.in_default.not-delete_sheet c.in_default.not-delete_sheet_by_name c.in_default.not-delete_sheet_by_sheet_id c.in_default.not-new_defined_name c.in_default.not-delete_defined_name c.in_default.not-is_valid_defined_name c.in_default.not-get_defined_name_list c.in_default.not-get_new_sheet_id c.in_default.not-set_locale c.in_default.not-set_language c.in_default.not-update_cell_with_formula c.in_default.not-get_cell_formula
+pub returns-clause-exact : goal.returns-clause-exact
+returns-clause-exact c =
+    let n = c.args.name.now in
+    let w = words_left c.args.rest in
+    let table = named [] served (chars n) w in
+    let chain1 = by_subjects n w c.utf8.name in
+    let chain2 = past OnSheets sheets_meant c.in_ok-said.field-0 (served_in sheet_rows n w) table (later_definitions n w) chain1 c.in_ok-said.ensures.exact c.in_default.is in
+    let chain3 = past OnDefinitions definitions_meant c.in_ok-said-2.field-0 (served_in definition_rows n w) table (later_notation n w) chain2 c.in_ok-said-2.ensures.exact c.in_default-2.is in
+    let chain4 = past OnNotation notation_meant c.in_ok-said-3.field-0 (served_in notation_rows n w) table (later_writing n w) chain3 c.in_ok-said-3.ensures.exact c.in_default-3.is in
+    let chain5 = past OnWriting writing_meant c.in_ok-said-4.field-0 (served_in writing_rows n w) table (later_reading n w) chain4 c.in_ok-said-4.ensures.exact c.in_default-4.is in
+    ap joined (sym (past OnReading reading_meant c.in_ok-said-5.field-0 (served_in reading_rows n w) table None chain5 c.in_ok-said-5.ensures.exact c.in_default-5.is))

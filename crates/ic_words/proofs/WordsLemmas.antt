@@ -1,0 +1,62 @@
+-- What words say, one after another.
+use Rattle.std.proofs.Common.{◌≡◌, ◌≢◌, ℕ, List, [], ◌∷◌, length, Option, Some, None, Result, Ok, Err, OnErr, Bor, chars, option_map, option_and_then, refl, ap, sym, ◌∙◌}
+use Rattle.ic_laws.specs.Lines.{unescaped, word_texts, words_of}
+use Rattle.ic_machine.specs.Word.{AllSaid, Done, Said, Then, WordForm, Words, all_said, said}
+use Rattle.ic_words.specs.Words.{HasEscape, HaveEscape, word_said, words_left, words_said}
+use Rattle.ic_words.proofs.WordLemmas.{escape_behind, escape_first, some_word}
+
+pub nowhere : {A B C : Type 0} (g : A → B → C) (o : Option A) → option_and_then (λ x. option_map (g x) None) o ≡ None
+nowhere g None = refl
+nowhere g (Some x) = refl
+
+-- one form and the others, where the texts of the words may be missing
+form_said : (form : WordForm) (others : Words) (text : Option (List ℕ)) (texts : Option (List (List ℕ)))
+    → option_and_then (all_said [] (Then form others)) (option_and_then (λ t. option_map (λ ts. t ∷ ts) texts) text)
+    ≡ option_and_then (λ first. option_map (λ rest. (first, rest)) (option_and_then (all_said [] others) texts)) (option_and_then (said [] form) text)
+form_said form others None texts = refl
+form_said form others (Some t) (Some ts) = refl
+form_said form others (Some t) None = sym (nowhere (λ (first : Said form) (rest : AllSaid others). (first, rest)) (said [] form t))
+
+no_form : (text : Option (List ℕ)) (texts : Option (List (List ℕ))) → None ≡ option_and_then (all_said [] Done) (option_and_then (λ t. option_map (λ ts. t ∷ ts) texts) text)
+no_form None texts = refl
+no_form (Some t) None = refl
+no_form (Some t) (Some ts) = refl
+
+none_of_more : (words : List (List ℕ)) → length words ≢ 0 → None ≡ words_said Done words
+none_of_more [] h = absurd (h refl)
+none_of_more (w ∷ ws) h = no_form (unescaped w) (word_texts ws)
+
+-- where something is left, no words are too few
+pub too_many : (left : Option (Bor (List ℕ))) (line : Bor (List ℕ)) → left ≡ Some line → None ≡ words_said Done (words_left left)
+too_many left line is = none_of_more (words_left left) (some_word left line is)
+
+-- A line that is cut behind its first word says what that word says, and what the others say. ----
+
+module _ (form : WordForm) (others : Words) {A B : Type 0} (says : A → Said form) (others_say : B → AllSaid others) (left : Option (Bor (List ℕ))) (line : Bor (List ℕ)) (word : List ℕ) (after : List (List ℕ)) (is : left ≡ Some line) (cut : words_of (chars line.now) ≡ word ∷ after) where
+  cut_said : words_said (Then form others) (words_left left) ≡ option_and_then (λ first. option_map (λ rest. (first, rest)) (words_said others after)) (word_said form word)
+  cut_said = ap (λ l. words_said (Then form others) (words_left l)) is ∙ ap (words_said (Then form others)) cut ∙ form_said form others (unescaped word) (word_texts after)
+
+  pub without_first : (o : Option A) → o ≡ None → option_map says o ≡ word_said form word → None ≡ words_said (Then form others) (words_left left)
+  without_first o none e = sym (cut_said ∙ ap (option_and_then (λ first. option_map (λ rest. (first, rest)) (words_said others after))) (sym e ∙ ap (option_map says) none))
+
+  pub without_others : (p : Option B) → p ≡ None → option_map others_say p ≡ words_said others after → None ≡ words_said (Then form others) (words_left left)
+  without_others p none e =
+      sym (cut_said ∙ ap (λ o. option_and_then (λ first. option_map (λ rest. (first, rest)) o) (word_said form word)) (sym e ∙ ap (option_map others_say) none)
+      ∙ nowhere (λ (first : Said form) (rest : AllSaid others). (first, rest)) (word_said form word))
+
+  pub all_there : (o : Option A) (p : Option B) (a : A) (b : B) → o ≡ Some a → p ≡ Some b → option_map says o ≡ word_said form word → option_map others_say p ≡ words_said others after → Some (says a, others_say b) ≡ words_said (Then form others) (words_left left)
+  all_there o p a b first rest e f =
+      sym (cut_said ∙ ap (λ o. option_and_then (λ first. option_map (λ rest. (first, rest)) (words_said others after)) o) (sym e ∙ ap (option_map says) first)
+      ∙ ap (option_map (λ rest. (says a, rest))) (sym f ∙ ap (option_map others_say) rest))
+
+-- the words that are left have an escape where the first one has, or where one of the others has
+module _ (left : Option (Bor (List ℕ))) (line : Bor (List ℕ)) (word : List ℕ) (after : List (List ℕ)) (is : left ≡ Some line) (cut : words_of (chars line.now) ≡ word ∷ after) where
+  pub first_has_escape : HasEscape word → HaveEscape (words_left left)
+  first_has_escape h = escape_first (ap words_left is ∙ cut) h
+
+  pub others_have_escape : HaveEscape after → HaveEscape (words_left left)
+  others_have_escape h = escape_behind (ap words_left is ∙ cut) h
+
+pub always : {T E X : Type 0} (result : Result T E) → X → OnErr result X
+always (Ok value) x = tt
+always (Err e) x = x

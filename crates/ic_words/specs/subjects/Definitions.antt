@@ -1,0 +1,10 @@
+-- The served commands on definitions, as the code has them.
+use Rattle.ic_machine.specs.subjects.Definitions as laws
+use Rattle.ic_words.specs.declared.command.definitions.Definitions.{Definitions}
+use Rattle.ic_words.specs.declared.command.definitions.Definitions.TheVariants as commands
+
+abbrev pub definitions_meant : Definitions → laws.Definitions
+definitions_meant (commands.NewDefinedName name scope body) = laws.NewDefinedName name scope body
+definitions_meant (commands.DeleteDefinedName name scope) = laws.DeleteDefinedName name scope
+definitions_meant (commands.IsValidDefinedName name scope body) = laws.IsValidDefinedName name scope body
+definitions_meant commands.GetDefinedNameList = laws.GetDefinedNameList

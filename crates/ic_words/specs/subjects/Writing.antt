@@ -1,0 +1,7 @@
+-- The served commands that write a cell, as the code has them.
+use Rattle.ic_machine.specs.subjects.Writing as laws
+use Rattle.ic_words.specs.declared.command.writing.Writing.{Writing}
+use Rattle.ic_words.specs.declared.command.writing.Writing.TheVariants as commands
+
+abbrev pub writing_meant : Writing → laws.Writing
+writing_meant (commands.UpdateCellWithFormula sheet row column text) = laws.UpdateCellWithFormula sheet row column text

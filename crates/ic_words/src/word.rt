@@ -1,0 +1,61 @@
+//! One word, by its form.
+ghost use Rattle.std.specs.Prelude.{◌≡◌, IfOk, OnErr, chars, option_map};
+ghost use Rattle.ic_machine.specs.Word.{OfIndex, OfPosition, OfScope, OfText, Said, WordForm};
+ghost use Rattle.ic_words.specs.Words.{HasEscape, word_said};
+
+use crate::numbers::{index_of, position_of, scope_of};
+use crate::text::{WordText, text_of};
+use ic_laws::OutOfMemory;
+use std::alloc::Global;
+
+/// A value that a word of one form says.
+pub trait Word<'l>: Drop {
+    ghost form: { WordForm };
+
+    ghost says: { Self → Said form };
+
+    /// The value that a word says; None where the word isn't of the form. Memory is asked for only where it has an escape.
+    fn of(alloc: Global, word: &'l str) -> Result<Option<Self>, OutOfMemory>
+        ensures exact { IfOk result (λ value. option_map says value ≡ word_said form (chars word.now)) }
+        ensures memory { OnErr result (HasEscape (chars word.now)) };
+}
+
+impl<'l> Word<'l> for WordText<'l> {
+    ghost form = { OfText };
+
+    ghost says = { λ text. text };
+
+    fn of(alloc: Global, word: &'l str) -> Result<Option<WordText<'l>>, OutOfMemory> {
+        text_of(alloc, word)
+    }
+}
+
+impl<'l> Word<'l> for u32 {
+    ghost form = { OfIndex };
+
+    ghost says = { λ index. index };
+
+    fn of(_: Global, word: &'l str) -> Result<Option<u32>, OutOfMemory> {
+        Ok(index_of(word))
+    }
+}
+
+impl<'l> Word<'l> for i32 {
+    ghost form = { OfPosition };
+
+    ghost says = { λ position. position };
+
+    fn of(_: Global, word: &'l str) -> Result<Option<i32>, OutOfMemory> {
+        Ok(position_of(word))
+    }
+}
+
+impl<'l> Word<'l> for Option<u32> {
+    ghost form = { OfScope };
+
+    ghost says = { λ scope. scope };
+
+    fn of(_: Global, word: &'l str) -> Result<Option<Option<u32>>, OutOfMemory> {
+        Ok(scope_of(word))
+    }
+}
