@@ -149,8 +149,14 @@ def kept_over_update(before, after, update):
                 yield "an update took a word away", site, a, b
 
 
-def is_core(command):
-    return command[1][0] in ("AddSheet", "RenameSheet", "RenameSheetByIndex", "MoveSheet", "DeleteSheet", "NewDefinedName")
+def found_stays(before, after):
+    """What meant a sheet or a definition means it still, at its place."""
+    new = dict(formulas(after))
+    for site, formula in formulas(before):
+        if formula[0] == "Tree":
+            for a, b in zip(mentions(formula[1]), mentions(new[site][1])):
+                if a is not None and a[0] in ("Sheet", "Name") and a != b:
+                    yield "a mention doesn't stay", site, a, b
 
 
 def asked(book, command, stepped):
@@ -168,6 +174,8 @@ def asked(book, command, stepped):
     if command[1][0] in ("AddSheet", "InsertSheet", "NewSheet", "DuplicateSheet", "RenameSheet", "RenameSheetByIndex", "NewDefinedName",
                          "UpdateDefinedName", "DeleteDefinedName"):
         yield from bound_anew(book, left)
+    if command[1][0] in ("RenameSheet", "RenameSheetByIndex", "MoveSheet", "SetLocale", "SetLanguage"):
+        yield from found_stays(book, left)
     if command[1][0] == "UpdateDefinedName":
         yield from kept_over_update(book, left, command[1][1])
 
