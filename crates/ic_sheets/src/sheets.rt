@@ -65,7 +65,8 @@ impl Model for Sheets {
     ghost view = { λ s. s.list.items };
 
     ghost invariant = { λ s. AreKept s.ids s.greatest s.list.items × ArePlaced s.places s.list.items
-        × AreDangling s.dangling.items s.list.items × (length s.list.items ≤ vec_capacity s.dangling) };
+        × AreDangling s.dangling.items s.list.items
+        × (length s.list.items ≤ vec_capacity s.dangling) };
 }
 
 /// The key of a name.

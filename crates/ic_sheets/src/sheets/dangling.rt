@@ -20,7 +20,8 @@ pub fn settle(ids: &mut Vec<u32>, id: u32, was: bool, now: bool)
     requires was { is_listed id ids.old.items ≡ was }
     requires differ { IsDistinct nat_eq ids.old.items }
     requires room { was ≡ false → vec_len ids.old < vec_capacity ids.old }
-    ensures finds { (q : ℕ) → is_listed q ids.new.items ≡ (if nat_eq q id then now else is_listed q ids.old.items) }
+    ensures finds { (q : ℕ) → is_listed q ids.new.items
+        ≡ (if nat_eq q id then now else is_listed q ids.old.items) }
     ensures differ { IsDistinct nat_eq ids.new.items }
     ensures capacity { vec_capacity ids.new ≡ vec_capacity ids.old }
 {
@@ -65,7 +66,8 @@ pub fn keep_dangling(ids: &mut Vec<u32>, sheets: &[Worksheet], places: &BTreeMap
 
 /// Whether something dangles in the sheet with this id.
 fn dangles_with(sheets: &[Worksheet], places: &BTreeMap<u32, usize>, id: u32) -> bool
-    ensures { ArePlaced places.now sheets.now → IsDistinct nat_eq (map (λ s. s.id) sheets.now) → result ≡ dangles_at id sheets.now }
+    ensures { ArePlaced places.now sheets.now → IsDistinct nat_eq (map (λ s. s.id) sheets.now)
+        → result ≡ dangles_at id sheets.now }
 {
     match sheet_with(sheets, places, id) {
         Some(sheet) => dangles(sheet),
@@ -79,7 +81,8 @@ pub fn sheet_with<'s>(
     places: &BTreeMap<u32, usize>,
     id: u32,
 ) -> Option<&'s Worksheet>
-    ensures { ArePlaced places.now sheets.now → option_map (λ s. s.now) result ≡ find (λ s. nat_eq s.id id) sheets.now }
+    ensures { ArePlaced places.now sheets.now
+        → option_map (λ s. s.now) result ≡ find (λ s. nat_eq s.id id) sheets.now }
 {
     match place_in(places, id) {
         Some(index) => sheet_at(sheets, index),

@@ -41,7 +41,8 @@ pub fn prepare_dangling<C: BookChange>(
     requires spares { (id : ℕ) → SparesFound (C.change change.now) (Some id) }
     requires placed { ArePlaced places.now sheets.now }
     requires ids { AreDangling ids.now sheets.now }
-    ensures { IfOk result (λ prepared. PreparesEach (C.change change.now) prepared.items ids.now sheets.now) }
+    ensures { IfOk result (λ prepared.
+        PreparesEach (C.change change.now) prepared.items ids.now sheets.now) }
 {
     let mut prepared = Vec::new(alloc);
     for id in ids {
