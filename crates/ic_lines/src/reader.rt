@@ -69,7 +69,8 @@ impl LineReader {
     }
 
     /// The next line; None exactly at the end, and from then on. It reads only where it holds no whole line, each
-    /// time into 4,096 bytes, and not again once it saw the end. A line that isn't UTF-8 is given as the empty line.
+    /// time into 4,096 bytes, and in no later call once it saw the end. A line that isn't UTF-8 is given as the
+    /// empty line.
     ///
     /// `ReadFault` where a read failed, `TooManyTurns` after 2^32 reads of this reader that each gave a byte, both
     /// only where no whole line is held and no end was seen; `OutOfMemory`. After an error every byte that was taken
@@ -84,7 +85,8 @@ impl LineReader {
             (λ before now. self.new.ended ≡ true → now ≡ []) }
 
         // It saw the end in this call exactly where a read of this call showed it.
-        ensures shown { SeesEnd self.old.ended self.new.ended (S.ended source.old) (S.ended source.new) }
+        ensures shown { SeesEnd self.old.ended self.new.ended
+            (S.ended source.old) (S.ended source.new) }
 
         // It asks the source only where it has to, and no more once a line came; then it gives the line, or None at
         // the end, of what it holds, also where the source tells nothing.
@@ -173,7 +175,8 @@ impl LineReader {
         ensures turns { IfTold (S.left source.old) (S.left source.new)
             (λ before now. self.new.turns + length now ≤ self.old.turns + length before) }
         ensures ends { IfTold (S.left source.old) (S.left source.new) (λ before now. self.new.ended ≡ true → now ≡ []) }
-        ensures shown { SeesEnd self.old.ended self.new.ended (S.ended source.old) (S.ended source.new) }
+        ensures shown { SeesEnd self.old.ended self.new.ended
+            (S.ended source.old) (S.ended source.new) }
         ensures taken { TakesRead self.old self.new (S.left source.old) (S.left source.new) }
         ensures goes_on { OnOk result (GoesOn self.old self.new) }
         ensures err { OnErr result ((self.new.held ≡ self.old.held) × (self.new.ended ≡ false)) }

@@ -15,7 +15,8 @@ use std::alloc::Global;
 /// has before it reads again.
 ///
 /// `ReadFault` and `WriteFault` where the source or the sink had a fault, `TooManyTurns` after 2^32 reads that each
-/// gave a byte, where none showed the end, `OutOfMemory`, after which the book is as before the line that met it, and that line has no reply.
+/// gave a byte, where none showed the end, `OutOfMemory`, after which the book is as before the line that met it, and
+/// that line has no reply.
 pub fn run<S: Source, K: Sink>(
     alloc: Global,
     model: &mut Model<'_>,

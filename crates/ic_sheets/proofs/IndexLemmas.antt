@@ -161,7 +161,7 @@ module _ {X : Type 0} where
   split_at (y ∷ xs) zero x lt e = ap (λ z. z ∷ xs) (sym e)
   split_at (y ∷ xs) (suc place) x lt e = ap (λ ys. y ∷ ys) (split_at xs place x (omega arith) e)
 
-  set_parts : (xs : List X) (place : ℕ) (x : X) → place < length xs → slice_set xs place x ≡ take place xs ++ x ∷ drop (suc place) xs
+  pub set_parts : (xs : List X) (place : ℕ) (x : X) → place < length xs → slice_set xs place x ≡ take place xs ++ x ∷ drop (suc place) xs
   set_parts [] place x lt = absurd (omega arith)
   set_parts (y ∷ xs) zero x lt = refl
   set_parts (y ∷ xs) (suc place) x lt = ap (λ ys. y ∷ ys) (set_parts xs place x (omega arith))

@@ -1,6 +1,8 @@
 pub mod CellLemmas
+pub mod DanglingLemmas
 pub mod IndexLemmas
 pub mod KeptLemmas
+pub mod OwnLemmas
 pub mod PlaceLemmas
 pub mod PoolLemmas
 pub mod RewritingLemmas

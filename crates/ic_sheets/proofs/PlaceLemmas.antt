@@ -1,9 +1,8 @@
 -- Where the sheets stand by their ids, as sheets come, go and move, and that a look-up keeps up with it.
-use Rattle.std.proofs.Common.{◌≡◌, ℕ, zero, suc, ◌<◌, ◌≤◌, ◌+◌, List, [], ◌∷◌, ◌++◌, map, Bool, true, false, cond, ◌||◌, Option, Some, None, option_map, refl, sym, ap, ap₂, subst, ◌∙◌, length, take, drop, get_or, nat_eq, nat_lt, remove, arith}
+use Rattle.std.proofs.Common.{◌≡◌, ℕ, suc, ◌<◌, ◌+◌, List, [], ◌∷◌, ◌++◌, Bool, true, false, cond, ◌||◌, Option, Some, None, option_map, refl, sym, ap, ap₂, subst, ◌∙◌, length, take, drop, get_or, nat_eq, nat_lt, remove, arith}
 use Rattle.std.specs.BTreeMap.{BTreeMap, IsEmpty, Updates, get}
 use Rattle.std.specs.Cmp.{nat_eq_equiv}
 use Rattle.std.specs.List.{AllByRecursion, IsDistinct, find, insert, list_any, position, position_from, slice_get}
-use Rattle.std.specs.List.Sorted.{IsPermutation}
 use Rattle.std.specs.Map.{lookup}
 use Rattle.std.specs.Option.{option_and_then}
 use Rattle.std.specs.Ordering.{is_eq, nat_cmp}
@@ -165,7 +164,7 @@ place_middle (x ∷ front) back s free q =
     inner true at o = ap (λ k. Some k) (sym (first_stays at))
     inner false at o = raised_later at o
 
-some_apart : (id : ℕ) (ns : List ℕ) → AllByRecursion (λ y. nat_eq id y ≡ false) ns → list_any (nat_eq id) ns ≡ false
+pub some_apart : (id : ℕ) (ns : List ℕ) → AllByRecursion (λ y. nat_eq id y ≡ false) ns → list_any (nat_eq id) ns ≡ false
 some_apart id [] h = refl
 some_apart id (n ∷ ns) h = ap₂ ◌||◌ h.0 (some_apart id ns h.1)
 

@@ -1,28 +1,26 @@
 -- What was prepared for the formulas of all sheets, done in any order of the steps of a change.
-use Rattle.std.proofs.Common.{◌≡◌, ℕ, zero, suc, ◌<◌, List, [], ◌∷◌, ◌++◌, Bool, true, false, cond, ◌&&◌, ◌||◌, Option, Some, map, length, get_or, slice_set, take, drop, max, ◌≤◌, ◌+◌, refl, sym, ap, ap₂, subst, subst₂, ◌∙◌, arith}
-use Rattle.std.specs.List.{AllByRecursion, list_any, remove, slice_get}
+use Rattle.std.proofs.Common.{◌≡◌, ℕ, zero, suc, ◌<◌, List, [], ◌∷◌, ◌++◌, Bool, true, false, cond, ◌&&◌, ◌||◌, Option, Some, map, length, get_or, slice_set, take, drop, ◌+◌, refl, sym, ap, ap₂, subst, subst₂, ◌∙◌, arith}
+use Rattle.std.specs.List.{list_any, remove, slice_get}
 use Rattle.std.specs.Prelude.{not}
 use Rattle.std.proofs.lemmas.Option.{slice_get_read}
-use Rattle.std.proofs.lemmas.List.{map-append, take_at, take_more}
+use Rattle.std.proofs.lemmas.List.{take_at, take_more}
 use Rattle.ic_laws.proofs.core.Lists.{removed_seen, updated_unseen}
 use Rattle.ic_laws.specs.Changes.{Change}
 use Rattle.ic_laws.specs.CoreStep.{updated_at}
 use Rattle.ic_laws.specs.declared.tree.Formula.{Formula}
 use Rattle.ic_pool.specs.Mentions.{SparesFound, formula_after, has_dangling, is_changed_by}
-use Rattle.ic_pool.specs.Pool.{PoolState, dangling_from, places_from, places_where}
-use Rattle.ic_pool.specs.Rewrites.{FitsPool, ListsChanged, RewritesState, changes_nothing, is_nothing, places_of, rewritten_by}
+use Rattle.ic_pool.specs.Pool.{PoolState, dangling_from, places_from}
+use Rattle.ic_pool.specs.Rewrites.{FitsPool, RewritesState, changes_nothing, is_nothing, places_of, rewritten_by}
 use Rattle.ic_pool.specs.declared.pool.rewrites.Replacement.{Replacement}
 use Rattle.ic_pool.proofs.ChangeLemmas.{spared_stays}
-use Rattle.ic_sheets.proofs.KeptLemmas.{from_later}
 use Rattle.ic_sheets.proofs.SearchLemmas.{ids, names}
-use Rattle.ic_sheets.specs.Index.{HasNoDangling}
-use Rattle.ic_sheets.specs.Rewriting.{AreListed, ArePrepared, FitSheets, IsPrepared, Makes, changed_pool, look_ups, looks_up_after, sheets_of, with_all_rewrites, with_rewrites}
+use Rattle.ic_sheets.specs.Rewriting.{ArePrepared, FitSheets, IsPrepared, changed_pool, look_ups, looks_up_after, sheets_of, with_all_rewrites, with_rewrites}
 use Rattle.ic_sheets.specs.Sheet.{BookSheet, sheet_of}
 use Rattle.ic_sheets.specs.declared.sheet.Worksheet.{Worksheet}
 
 -- ---- formulas that stay
 
-pool_spared : (change : Change) (scope : Option ℕ) → SparesFound change scope → (at : ℕ) (pool : List Formula) → dangling_from at pool ≡ [] → pool ≡ map (formula_after change scope) pool
+pub pool_spared : (change : Change) (scope : Option ℕ) → SparesFound change scope → (at : ℕ) (pool : List Formula) → dangling_from at pool ≡ [] → pool ≡ map (formula_after change scope) pool
 pool_spared change scope spares at [] e = refl
 pool_spared change scope spares at (x ∷ pool) e = by_test (has_dangling x) refl e (pool_spared change scope spares (suc at) pool)
   where
@@ -31,7 +29,7 @@ pool_spared change scope spares at (x ∷ pool) e = by_test (has_dangling x) ref
     by_test true is e rest = cc
     by_test false is e rest = ap₂ ◌∷◌ (sym (spared_stays change scope spares x is).0) (rest e)
 
-pool_untouched : (change : Change) (scope : Option ℕ) → SparesFound change scope → (at : ℕ) (pool : List Formula) → dangling_from at pool ≡ [] → list_any (is_changed_by change scope) pool ≡ false
+pub pool_untouched : (change : Change) (scope : Option ℕ) → SparesFound change scope → (at : ℕ) (pool : List Formula) → dangling_from at pool ≡ [] → list_any (is_changed_by change scope) pool ≡ false
 pool_untouched change scope spares at [] e = refl
 pool_untouched change scope spares at (x ∷ pool) e = by_test (has_dangling x) refl e (pool_untouched change scope spares (suc at) pool)
   where
@@ -40,7 +38,7 @@ pool_untouched change scope spares at (x ∷ pool) e = by_test (has_dangling x) 
     by_test true is e rest = cc
     by_test false is e rest = ap₂ (λ a b. a || b) (spares x is) (rest e)
 
-and_true : (b : Bool) → b ≡ (b && true)
+pub and_true : (b : Bool) → b ≡ (b && true)
 and_true true = refl
 and_true false = refl
 
@@ -60,26 +58,8 @@ none_listed test at (x ∷ pool) changes e = by_test (test x) e (none_listed tes
         some_listed (c ∷ changes) e = refl
     by_test false e rest = rest e
 
-looked_up : (change : Change) (w : RewritesState) (s : Worksheet) → IsPrepared change w s → (s.pool.is_whole && changes_nothing w) ≡ looks_up_after change s
+pub looked_up : (change : Change) (w : RewritesState) (s : Worksheet) → IsPrepared change w s → (s.pool.is_whole && changes_nothing w) ≡ looks_up_after change s
 looked_up change w s h = ap (λ b. s.pool.is_whole && b) (none_listed (is_changed_by change (Some s.id)) 0 s.pool.formulas w.changes h.listed)
-
--- nothing is to be done where all was found
-pub nothing_makes : (change : Change) → ((id : ℕ) → SparesFound change (Some id)) → (sheets : List Worksheet) → AllByRecursion HasNoDangling sheets → Makes change [] sheets
-nothing_makes change spares sheets clean = record { fits = tt; made = spared sheets clean; listed = none sheets clean; looks_up = left sheets clean }
-  where
-    none : (sheets : List Worksheet) → AllByRecursion HasNoDangling sheets → AreListed change [] sheets
-    none [] h = tt
-    none (s ∷ sheets) h = (pool_untouched change (Some s.id) (spares s.id) 0 s.pool.formulas h.0, none sheets h.1)
-
-    left : (sheets : List Worksheet) → AllByRecursion HasNoDangling sheets → look_ups sheets ≡ map (looks_up_after change) sheets
-    left [] h = refl
-    left (s ∷ sheets) h =
-        ap₂ ◌∷◌ (and_true s.pool.is_whole ∙ ap (λ b. s.pool.is_whole && not b) (sym (pool_untouched change (Some s.id) (spares s.id) 0 s.pool.formulas h.0))) (left sheets h.1)
-
-    spared : (sheets : List Worksheet) → AllByRecursion HasNoDangling sheets → sheets_of sheets ≡ map (changed_pool change) (sheets_of sheets)
-    spared [] h = refl
-    spared (s ∷ sheets) h =
-        ap₂ ◌∷◌ (ap (λ (pool : List Formula). let one : BookSheet = record (sheet_of s) { pool = pool } in one) (pool_spared change (Some s.id) (spares s.id) 0 s.pool.formulas h.0)) (spared sheets h.1)
 
 -- ---- what was prepared
 
@@ -105,15 +85,13 @@ prepared_more change ws more w sheets i s within item pushed h one =
     subst₂ (ArePrepared change) (sym pushed) (ap (λ y. take i sheets ++ y ∷ []) item ∙ sym (take_more sheets i s within)) (prepared_push change ws w (take i sheets) s h one)
 
 -- what it makes of the sheets
-pub prepared_makes : (change : Change) (ws : List RewritesState) (sheets : List Worksheet) → ArePrepared change ws sheets → Makes change ws sheets
-prepared_makes change ws sheets h = record { fits = prepared_fits change ws sheets h; made = made ws sheets h; listed = listed ws sheets h; looks_up = kept ws sheets h }
-  where
-    listed : (ws : List RewritesState) (sheets : List Worksheet) → ArePrepared change ws sheets → AreListed change ws sheets
-    listed [] [] h = tt
-    listed [] (s ∷ sheets) h = absurd h
-    listed (w ∷ ws) [] h = absurd h
-    listed (w ∷ ws) (s ∷ sheets) h = (h.0.listed, listed ws sheets h.1)
+pub record MakesAll (change : Change) (ws : List RewritesState) (sheets : List Worksheet) : Type 0 where
+  pub made : sheets_of (with_all_rewrites ws sheets) ≡ map (changed_pool change) (sheets_of sheets)
+  pub looks_up : look_ups (with_all_rewrites ws sheets) ≡ map (looks_up_after change) sheets
 
+pub prepared_makes : (change : Change) (ws : List RewritesState) (sheets : List Worksheet) → ArePrepared change ws sheets → MakesAll change ws sheets
+prepared_makes change ws sheets h = record { made = made ws sheets h; looks_up = kept ws sheets h }
+  where
     kept : (ws : List RewritesState) (sheets : List Worksheet) → ArePrepared change ws sheets → look_ups (with_all_rewrites ws sheets) ≡ map (looks_up_after change) sheets
     kept [] [] h = refl
     kept [] (s ∷ sheets) h = absurd h
@@ -179,17 +157,7 @@ module _ (all ws : List RewritesState) (w : RewritesState) (sheets : List Worksh
       subst (λ k. FitSheets ws (slice_set sheets k t)) (sym counted) (rest_fits ws w sheets t AllFit),
     )
 
--- ---- done after a sheet came, got another name or went
-
-pub fits_pushed : (ws : List RewritesState) (sheets more : List Worksheet) → FitSheets ws sheets → FitSheets ws (sheets ++ more)
-fits_pushed [] sheets more h = tt
-fits_pushed (w ∷ ws) [] more h = absurd h
-fits_pushed (w ∷ ws) (s ∷ sheets) more h = (h.0, fits_pushed ws sheets more h.1)
-
-pub made_pushed : (ws : List RewritesState) (sheets more : List Worksheet) → FitSheets ws sheets → with_all_rewrites ws (sheets ++ more) ≡ with_all_rewrites ws sheets ++ more
-made_pushed [] sheets more h = refl
-made_pushed (w ∷ ws) [] more h = absurd h
-made_pushed (w ∷ ws) (s ∷ sheets) more h = ap (λ (rest : List Worksheet). with_rewrites w s ∷ rest) (made_pushed ws sheets more h.1)
+-- ---- done after a sheet got another name or went
 
 module _ (name : List ℕ) where
   abbrev pub called : Worksheet → Worksheet
@@ -197,18 +165,6 @@ module _ (name : List ℕ) where
 
   abbrev pub sheet_called : BookSheet → BookSheet
   sheet_called s = record s { name = name }
-
-  pub fits_called : (ws : List RewritesState) (index : ℕ) (sheets : List Worksheet) → FitSheets ws sheets → FitSheets ws (updated_at called index sheets)
-  fits_called [] index sheets h = tt
-  fits_called (w ∷ ws) index [] h = absurd h
-  fits_called (w ∷ ws) zero (s ∷ sheets) h = h
-  fits_called (w ∷ ws) (suc index) (s ∷ sheets) h = (h.0, fits_called ws index sheets h.1)
-
-  pub made_called : (ws : List RewritesState) (index : ℕ) (sheets : List Worksheet) → with_all_rewrites ws (updated_at called index sheets) ≡ updated_at called index (with_all_rewrites ws sheets)
-  made_called [] index sheets = refl
-  made_called (w ∷ ws) index [] = refl
-  made_called (w ∷ ws) zero (s ∷ sheets) = refl
-  made_called (w ∷ ws) (suc index) (s ∷ sheets) = ap (λ (rest : List Worksheet). with_rewrites w s ∷ rest) (made_called ws index sheets)
 
   pub sheets_called : (index : ℕ) (sheets : List Worksheet) → sheets_of (updated_at called index sheets) ≡ updated_at sheet_called index (sheets_of sheets)
   sheets_called index [] = refl
@@ -241,7 +197,7 @@ ids_rewritten [] sheets = refl
 ids_rewritten (w ∷ ws) [] = refl
 ids_rewritten (w ∷ ws) (s ∷ sheets) = ap (λ (rest : List ℕ). s.id ∷ rest) (ids_rewritten ws sheets)
 
-length_rewritten : (ws : List RewritesState) (sheets : List Worksheet) → length (with_all_rewrites ws sheets) ≡ length sheets
+pub length_rewritten : (ws : List RewritesState) (sheets : List Worksheet) → length (with_all_rewrites ws sheets) ≡ length sheets
 length_rewritten [] sheets = refl
 length_rewritten (w ∷ ws) [] = refl
 length_rewritten (w ∷ ws) (s ∷ sheets) = ap suc (length_rewritten ws sheets)
@@ -258,25 +214,6 @@ pub sheet_there : (sheets : List Worksheet) (index : ℕ) → index < length she
 sheet_there [] index lt = absurd (omega arith)
 sheet_there (s ∷ sheets) zero lt = (s, refl)
 sheet_there (s ∷ sheets) (suc index) lt = sheet_there sheets index (omega arith)
-
-module _ (change : Change) (ws : List RewritesState) (old between new : List Worksheet) (makes : Makes change ws old) where
-  pub added_made : (s : Worksheet) → between ≡ old ++ s ∷ [] → new ≡ with_all_rewrites ws between → sheets_of new ≡ map (changed_pool change) (sheets_of old) ++ sheet_of s ∷ []
-  added_made s pushed done =
-      ap sheets_of (done ∙ ap (with_all_rewrites ws) pushed ∙ made_pushed ws old (s ∷ []) makes.fits) ∙ map-append sheet_of (with_all_rewrites ws old) (s ∷ []) ∙ ap (λ xs. xs ++ sheet_of s ∷ []) makes.made
-
-  pub added_looks_up : (s : Worksheet) → s.pool.is_whole ≡ true → between ≡ old ++ s ∷ [] → new ≡ with_all_rewrites ws between → look_ups new ≡ map (looks_up_after change) old ++ true ∷ []
-  added_looks_up s whole pushed done =
-      ap look_ups (done ∙ ap (with_all_rewrites ws) pushed ∙ made_pushed ws old (s ∷ []) makes.fits) ∙ map-append (λ (x : Worksheet). x.pool.is_whole) (with_all_rewrites ws old) (s ∷ [])
-      ∙ ap₂ (λ bs b. bs ++ b ∷ []) makes.looks_up whole
-
-  pub renamed_looks_up : (index : ℕ) (name : List ℕ) → between ≡ updated_at (called name) index old → new ≡ with_all_rewrites ws between → look_ups new ≡ map (looks_up_after change) old
-  renamed_looks_up index name renamed done =
-      ap look_ups (done ∙ ap (with_all_rewrites ws) renamed ∙ made_called name ws index old)
-      ∙ updated_unseen (λ (x : Worksheet). x.pool.is_whole) (called name) (λ x. refl) index (with_all_rewrites ws old) ∙ makes.looks_up
-
-  pub renamed_made : (index : ℕ) (name : List ℕ) → between ≡ updated_at (called name) index old → new ≡ with_all_rewrites ws between → sheets_of new ≡ updated_at (sheet_called name) index (map (changed_pool change) (sheets_of old))
-  renamed_made index name renamed done =
-      ap sheets_of (done ∙ ap (with_all_rewrites ws) renamed ∙ made_called name ws index old) ∙ sheets_called name index (with_all_rewrites ws old) ∙ ap (updated_at (sheet_called name) index) makes.made
 
 pub deleted_made : (change : Change) (ws rest : List RewritesState) (old between new : List Worksheet) (index : ℕ) → ArePrepared change ws old → rest ≡ remove ws index → between ≡ remove old index → new ≡ with_all_rewrites rest between
     → sheets_of new ≡ remove (map (changed_pool change) (sheets_of old)) index
@@ -313,33 +250,3 @@ names_there w index sheets = updated_unseen (λ (s : Worksheet). s.name) (with_r
 
 pub ids_there : (w : RewritesState) (index : ℕ) (sheets : List Worksheet) → ids (updated_at (with_rewrites w) index sheets) ≡ ids sheets
 ids_there w index sheets = updated_unseen (λ (s : Worksheet). s.id) (with_rewrites w) (λ s. refl) index sheets
-
--- ---- sheets past the end of what was prepared
-
-listed_more : (change : Change) (ws : List RewritesState) (front back : List Worksheet) → AreListed change ws front → AreListed change [] back → AreListed change ws (front ++ back)
-listed_more change [] [] back h more = more
-listed_more change [] (s ∷ front) back h more = (h.0, listed_more change [] front back h.1 more)
-listed_more change (w ∷ ws) [] back h more = absurd h
-listed_more change (w ∷ ws) (s ∷ front) back h more = (h.0, listed_more change ws front back h.1 more)
-
-pub makes_more : (change : Change) → ((id : ℕ) → SparesFound change (Some id)) → (ws : List RewritesState) (front back : List Worksheet) → Makes change ws front → AllByRecursion HasNoDangling back → Makes change ws (front ++ back)
-makes_more change spares ws front back makes clean =
-    let rest = nothing_makes change spares back clean in
-    let done = made_pushed ws front back makes.fits in
-    record {
-      fits = fits_pushed ws front back makes.fits;
-      made = ap sheets_of done ∙ map-append sheet_of (with_all_rewrites ws front) back ∙ ap₂ ◌++◌ makes.made rest.made
-          ∙ sym (ap (map (changed_pool change)) (map-append sheet_of front back) ∙ map-append (changed_pool change) (sheets_of front) (sheets_of back));
-      listed = listed_more change ws front back makes.listed rest.listed;
-      looks_up = ap look_ups done ∙ map-append (λ (x : Worksheet). x.pool.is_whole) (with_all_rewrites ws front) back ∙ ap₂ ◌++◌ makes.looks_up rest.looks_up
-          ∙ sym (map-append (looks_up_after change) front back);
-    }
-
-from_rewritten : (n : ℕ) (ws : List RewritesState) (sheets : List Worksheet) → length ws ≤ n → AllByRecursion HasNoDangling (drop n sheets) → AllByRecursion HasNoDangling (drop n (with_all_rewrites ws sheets))
-from_rewritten n [] sheets le h = h
-from_rewritten n (w ∷ ws) [] le h = h
-from_rewritten zero (w ∷ ws) (s ∷ sheets) le h = absurd (omega arith)
-from_rewritten (suc n) (w ∷ ws) (s ∷ sheets) le h = from_rewritten n ws sheets (omega arith) h
-
-pub bound_rewritten : (bound count more : ℕ) (ws : List RewritesState) (sheets : List Worksheet) → count ≡ length ws → more ≡ max bound count → AllByRecursion HasNoDangling (drop bound sheets) → AllByRecursion HasNoDangling (drop more (with_all_rewrites ws sheets))
-bound_rewritten bound count more ws sheets counted e h = from_rewritten more ws sheets (omega (arith, counted, e)) (from_later HasNoDangling bound more sheets (omega (arith, e)) h)

@@ -1,7 +1,7 @@
 -- What the sheets of a book keep beside them, and when it is true of them.
-use Rattle.std.specs.Prelude.{◌≡◌, ℕ, ◌+◌, ◌-◌, List, [], map, drop, nat_eq, nat_lt, encode_utf8_all, String, if◌then◌else◌}
+use Rattle.std.specs.Prelude.{◌≡◌, ℕ, ◌+◌, ◌-◌, List, [], ◌∷◌, Bool, ◌&&◌, length, map, nat_eq, nat_lt, encode_utf8_all, String, if◌then◌else◌}
 use Rattle.std.specs.BTreeMap.{BTreeMap, get, get_by_text}
-use Rattle.std.specs.List.{AllByRecursion, IsDistinct}
+use Rattle.std.specs.List.{IsDistinct, list_any}
 use Rattle.std.specs.Ordering.{nat_cmp}
 use Rattle.std.specs.declared.alloc.Global.{Global}
 use Rattle.ic_laws.specs.Greatest.{greatest}
@@ -31,14 +31,30 @@ raised index place = if nat_lt place index then place else place + 1
 abbrev pub moved_place : ℕ → ℕ → ℕ → ℕ
 moved_place from to place = if nat_eq place from then to else raised to (lowered from place)
 
--- all that a sheet's formulas mention was found
-abbrev pub HasNoDangling : Worksheet → Type 0
-HasNoDangling sheet = dangling_places sheet.pool.formulas ≡ []
+-- some formula of a sheet mentions something that wasn't found
+abbrev pub dangles : Worksheet → Bool
+dangles sheet = nat_lt 0 (length (dangling_places sheet.pool.formulas))
 
--- The look-up and the greatest id are true of the sheets, no two ids are equal, and from
--- the bound on no formula dangles.
-pub record AreKept (ids : BTreeMap (String Global) ℕ) (last bound : ℕ) (sheets : List Worksheet) : Type 0 where
+-- the sheet with this id is one of those in which something dangles
+abbrev pub dangles_at : ℕ → List Worksheet → Bool
+dangles_at id sheets = list_any (λ s. nat_eq id s.id && dangles s) sheets
+
+-- an id is one of these
+abbrev pub is_listed : ℕ → List ℕ → Bool
+is_listed id ids = list_any (nat_eq id) ids
+
+-- These are the ids of the sheets in which something dangles, each once.
+pub record AreDangling (ids : List ℕ) (sheets : List Worksheet) : Type 0 where
+  pub finds : (id : ℕ) → is_listed id ids ≡ dangles_at id sheets
+  pub differ : IsDistinct nat_eq ids
+
+-- the same in the order of the sheets
+abbrev pub dangling_ids : List Worksheet → List ℕ
+dangling_ids [] = []
+dangling_ids (s ∷ sheets) = if dangles s then s.id ∷ dangling_ids sheets else dangling_ids sheets
+
+-- The look-up and the greatest id are true of the sheets, and no two ids are equal.
+pub record AreKept (ids : BTreeMap (String Global) ℕ) (last : ℕ) (sheets : List Worksheet) : Type 0 where
   pub names : IsIndexed ids sheets
   pub ids_differ : IsDistinct nat_eq (map (λ s. s.id) sheets)
   pub greatest : last ≡ greatest (map (λ s. s.id) sheets)
-  pub dangles : AllByRecursion HasNoDangling (drop bound sheets)

@@ -1,9 +1,10 @@
 -- What becomes of the formulas of all sheets over a change of the sheets or the definitions.
-use Rattle.std.specs.Prelude.{◌≡◌, List, [], ◌∷◌, ◌&&◌, Bool, false, map, not, Some}
-use Rattle.std.specs.List.{list_any}
+use Rattle.std.specs.Prelude.{◌≡◌, ℕ, List, [], ◌∷◌, ◌&&◌, Bool, true, false, map, not, Option, Some, None, find, nat_eq, if◌then◌else◌}
+use Rattle.std.specs.List.{AllByRecursion, IsDistinct, list_any}
 use Rattle.ic_laws.specs.Changes.{Change}
 use Rattle.ic_pool.specs.Mentions.{formula_after, is_changed_by}
 use Rattle.ic_pool.specs.Rewrites.{FitsPool, ListsChanged, RewritesState, changes_nothing, rewritten_by}
+use Rattle.ic_sheets.specs.Index.{dangles}
 use Rattle.ic_sheets.specs.Sheet.{BookSheet, sheet_of}
 use Rattle.ic_sheets.specs.declared.sheet.Worksheet.{Worksheet}
 
@@ -52,16 +53,49 @@ ArePrepared change [] (sheet ∷ sheets) = ⊥
 ArePrepared change (rewrites ∷ more) [] = ⊥
 ArePrepared change (rewrites ∷ more) (sheet ∷ sheets) = IsPrepared change rewrites sheet × ArePrepared change more sheets
 
--- In each sheet a formula becomes another exactly where one of its mentions changes; past the end none does.
-abbrev pub AreListed : Change → List RewritesState → List Worksheet → Type 0
-AreListed change [] [] = Unit {0}
-AreListed change [] (sheet ∷ sheets) = (list_any (is_changed_by change (Some sheet.id)) sheet.pool.formulas ≡ false) × AreListed change [] sheets
-AreListed change (rewrites ∷ more) [] = ⊥
-AreListed change (rewrites ∷ more) (sheet ∷ sheets) = ListsChanged change (Some sheet.id) sheet.pool.formulas rewrites × AreListed change more sheets
+-- what was prepared for the sheet with this id, if anything was
+abbrev pub own_rewrites : ℕ → List (ℕ × RewritesState) → Option RewritesState
+own_rewrites id [] = None
+own_rewrites id (first ∷ more) = if nat_eq id first.0 then Some first.1 else own_rewrites id more
+
+-- a worksheet by this, if anything was prepared for it; else it stays
+abbrev pub rewritten_if : Option RewritesState → Worksheet → Worksheet
+rewritten_if None sheet = sheet
+rewritten_if (Some rewrites) sheet = with_rewrites rewrites sheet
+
+-- each sheet by what was prepared for its id; those for which nothing was stay
+abbrev pub with_own_rewrites : List (ℕ × RewritesState) → List Worksheet → List Worksheet
+with_own_rewrites prepared sheets = map (λ s. rewritten_if (own_rewrites s.id prepared) s) sheets
+
+-- these were prepared for the sheets with these ids, one for each, over whose formulas a change is to go
+pub record PreparesEach (change : Change) (prepared : List (ℕ × RewritesState)) (ids : List ℕ) (sheets : List Worksheet) : Type 0 where
+  pub each : map (λ p. p.0) prepared ≡ ids
+  pub made : (id : ℕ) (rewrites : RewritesState) (sheet : Worksheet) → own_rewrites id prepared ≡ Some rewrites → find (λ s. nat_eq s.id id) sheets ≡ Some sheet
+      → IsPrepared change rewrites sheet
+
+-- What was prepared for a sheet, if anything was, fits its pool, and something dangles there.
+abbrev pub FitsSheet : Option RewritesState → Worksheet → Type 0
+FitsSheet None sheet = Unit {0}
+FitsSheet (Some rewrites) sheet = FitsPool rewrites sheet.pool.formulas × (dangles sheet ≡ true)
+
+-- an id is that of one of these sheets
+abbrev pub is_id : ℕ → List Worksheet → Bool
+is_id id sheets = list_any (nat_eq id) (map (λ s. s.id) sheets)
+
+-- It was prepared for some of these sheets, once for each, in which something dangles, and fits.
+pub record FitOwn (prepared : List (ℕ × RewritesState)) (sheets : List Worksheet) : Type 0 where
+  pub known : AllByRecursion (λ p. is_id p.0 sheets ≡ true) prepared
+  pub differ : IsDistinct nat_eq (map (λ p. p.0) prepared)
+  pub fits : AllByRecursion (λ s. FitsSheet (own_rewrites s.id prepared) s) sheets
+
+-- In a sheet a formula becomes another exactly where one of its mentions changes; where nothing was prepared none does.
+abbrev pub ListsIf : Change → Option RewritesState → Worksheet → Type 0
+ListsIf change None sheet = list_any (is_changed_by change (Some sheet.id)) sheet.pool.formulas ≡ false
+ListsIf change (Some rewrites) sheet = ListsChanged change (Some sheet.id) sheet.pool.formulas rewrites
 
 -- what was prepared fits, and makes of the formulas of all sheets what the change does
-pub record Makes (change : Change) (prepared : List RewritesState) (sheets : List Worksheet) : Type 0 where
-  pub fits : FitSheets prepared sheets
-  pub made : sheets_of (with_all_rewrites prepared sheets) ≡ map (changed_pool change) (sheets_of sheets)
-  pub listed : AreListed change prepared sheets
-  pub looks_up : look_ups (with_all_rewrites prepared sheets) ≡ map (looks_up_after change) sheets
+pub record Makes (change : Change) (prepared : List (ℕ × RewritesState)) (sheets : List Worksheet) : Type 0 where
+  pub fits : FitOwn prepared sheets
+  pub made : sheets_of (with_own_rewrites prepared sheets) ≡ map (changed_pool change) (sheets_of sheets)
+  pub listed : AllByRecursion (λ s. ListsIf change (own_rewrites s.id prepared) s) sheets
+  pub looks_up : look_ups (with_own_rewrites prepared sheets) ≡ map (looks_up_after change) sheets

@@ -7,6 +7,7 @@ ghost use Rattle.ic_laws.specs.Name.{agrees, fold};
 ghost use Rattle.ic_sheets.specs.Search.{id_of};
 
 mod changes;
+mod dangling;
 mod edits;
 mod formulas;
 mod rewriting;
@@ -28,8 +29,8 @@ pub struct Sheets {
     places: BTreeMap<u32, usize>,
     /// The greatest id of a sheet, 0 where there is none.
     greatest: u32,
-    /// In the sheets from this place on, from 0, all that the formulas mention was found.
-    bound: usize,
+    /// The ids of the sheets in which something dangles, each once, with room for those of all sheets.
+    dangling: Vec<u32>,
 }
 
 impl Drop for Sheets {
@@ -40,19 +41,20 @@ impl Drop for Sheets {
             ids,
             places,
             greatest: _,
-            bound: _,
+            dangling,
         } = self;
         drop(alloc);
         drop(list);
         drop(ids);
         drop(places);
+        drop(dangling);
     }
 }
 
 impl Model for Sheets {
-    ghost use Rattle.std.specs.Prelude.{List};
+    ghost use Rattle.std.specs.Prelude.{◌≤◌, List, length, vec_capacity};
     ghost use Rattle.std.specs.Coded.{codes};
-    ghost use Rattle.ic_sheets.specs.Index.{AreKept, ArePlaced};
+    ghost use Rattle.ic_sheets.specs.Index.{AreDangling, AreKept, ArePlaced};
     ghost use Rattle.ic_sheets.specs.contracts.sheet.Worksheet as worksheet;
     ghost use Rattle.ic_sheets.specs.declared.sheet.Worksheet.{Worksheet};
 
@@ -62,7 +64,9 @@ impl Model for Sheets {
 
     ghost view = { λ s. s.list.items };
 
-    ghost invariant = { λ s. AreKept s.ids s.greatest s.bound s.list.items × ArePlaced s.places s.list.items };
+    ghost invariant = { λ s. AreKept s.ids s.greatest s.list.items × ArePlaced s.places s.list.items
+        × AreDangling s.dangling.items s.list.items
+        × (length s.list.items ≤ vec_capacity s.dangling) };
 }
 
 /// The key of a name.
@@ -108,7 +112,7 @@ impl Sheets {
             ids: BTreeMap::new(alloc),
             places: BTreeMap::new(alloc),
             greatest: 0,
-            bound: 0,
+            dangling: Vec::new(alloc),
         }
     }
 

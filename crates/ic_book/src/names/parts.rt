@@ -39,7 +39,7 @@ pub fn add_for_all(
     let formulas = sheets.rewrites_of_dangling(&added)?;
     let bodies = names.rewrites_of_dangling(&added)?;
     names.add(definition, bodies)?;
-    sheets.apply(formulas);
+    sheets.apply_own(formulas);
     Ok(())
 }
 

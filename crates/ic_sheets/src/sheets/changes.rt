@@ -7,12 +7,13 @@ ghost use Rattle.ic_laws.specs.Greatest.{greatest};
 ghost use Rattle.ic_laws.specs.Name.{agrees};
 ghost use Rattle.ic_pool.specs.Mentions.{SparesFound};
 ghost use Rattle.ic_pool.specs.Rewrites.{FitsPool};
-ghost use Rattle.ic_sheets.specs.Rewriting.{ArePrepared, FitSheets, IsPrepared, Makes, changed_pool, look_ups, looks_up_after, sheets_of, with_all_rewrites, with_rewrites};
+ghost use Rattle.ic_sheets.specs.Rewriting.{ArePrepared, FitOwn, FitSheets, IsPrepared, Makes, changed_pool, look_ups, looks_up_after, sheets_of, with_all_rewrites, with_own_rewrites, with_rewrites};
 ghost use Rattle.ic_sheets.specs.Sheet.{BookSheet};
 ghost use Rattle.ic_sheets.specs.declared.sheet.Worksheet.{Worksheet};
 
 use super::Sheets;
-use super::rewriting::{apply_all, bound_of, bound_with, first_sheets, prepare, prepare_dangling};
+use super::dangling::{dangles, keep_dangling, note_dangling, settle};
+use super::rewriting::{apply_all, apply_own, prepare, prepare_dangling};
 use ic_laws::OutOfMemory;
 use ic_pool::{BookChange, Rewrites, SheetGone, SheetNamed};
 
@@ -28,7 +29,7 @@ impl Sheets {
     {
         let prepared = self.rewrites_of_dangling(&SheetNamed { id, name })?;
         self.push(id, name)?;
-        self.apply(prepared);
+        self.apply_own(prepared);
         Ok(())
     }
 
@@ -45,7 +46,7 @@ impl Sheets {
         let id = self.list[index].id;
         let prepared = self.rewrites_of_dangling(&SheetNamed { id, name })?;
         self.rename(index, name)?;
-        self.apply(prepared);
+        self.apply_own(prepared);
         Ok(())
     }
 
@@ -74,15 +75,16 @@ impl Sheets {
         prepare(self.alloc, &self.list, change)
     }
 
-    /// The same for a change that leaves each formula in which all was found: it looks at the others alone.
+    /// The same for a change that leaves each formula in which all was found: it looks at the sheets with others alone, and
+    /// tells for each its id.
     pub fn rewrites_of_dangling<C: BookChange>(
         &self,
         change: &C,
-    ) -> Result<Vec<Rewrites>, OutOfMemory>
+    ) -> Result<Vec<(u32, Rewrites)>, OutOfMemory>
         requires { (id : ℕ) → SparesFound (C.change change.now) (Some id) }
         ensures { IfOk result (λ prepared. Makes (C.change change.now) prepared.items self.now) }
     {
-        prepare_dangling(self.alloc, first_sheets(&self.list, self.bound), change)
+        prepare_dangling(self.alloc, &self.list, &self.places, &self.dangling, change)
     }
 
     /// What a change does to the formulas of the sheet at a place, from 0.
@@ -106,9 +108,17 @@ impl Sheets {
         if prepared.is_empty() {
             return;
         }
-        let count = prepared.len();
         apply_all(&mut self.list, prepared);
-        self.bound = bound_of(&self.list, self.bound.max(count));
+        note_dangling(&mut self.dangling, &self.list);
+    }
+
+    /// Does to the formulas of each sheet what was prepared for its id; the others stay.
+    pub fn apply_own(&mut self, prepared: Vec<(u32, Rewrites)>)
+        requires { FitOwn prepared.items self.old }
+        ensures { self.new ≡ with_own_rewrites prepared.items self.old }
+    {
+        apply_own(&mut self.list, &self.places, prepared);
+        keep_dangling(&mut self.dangling, &self.list, &self.places);
     }
 
     /// Does to the formulas of the sheet at a place, from 0, what was prepared for it.
@@ -118,7 +128,8 @@ impl Sheets {
         ensures { self.new ≡ updated_at (with_rewrites rewrites) index self.old }
     {
         let sheet = &mut self.list[index];
+        let was = dangles(sheet);
         sheet.pool.apply(rewrites);
-        self.bound = bound_with(self.bound, index, true);
+        settle(&mut self.dangling, sheet.id, was, dangles(sheet));
     }
 }

@@ -8,6 +8,7 @@ ghost use Rattle.ic_laws.specs.Greatest.{greatest};
 ghost use Rattle.ic_laws.specs.Name.{agrees};
 ghost use Rattle.ic_sheets.specs.Index.{lowered, moved_place};
 
+use super::dangling::{dangles, settle};
 use super::{Sheets, folded, greatest_of};
 use crate::Worksheet;
 use ic_laws::{OutOfMemory, Text};
@@ -26,6 +27,7 @@ impl Sheets {
         let name = Text::from_str(self.alloc, name)?;
         self.list.reserve(1)?;
         let place = self.list.len();
+        self.dangling.reserve(place + 1)?;
         self.places.insert(id, place)?;
         match put_id(&mut self.ids, key, id) {
             Ok(()) => {
@@ -68,6 +70,7 @@ impl Sheets {
         let sheet = &self.list[index];
         let old_key = folded(self.alloc, sheet.name.as_str())?;
         let id = sheet.id;
+        settle(&mut self.dangling, id, dangles(sheet), false);
         self.ids.remove(old_key.as_str());
         self.places.remove(&id);
         lower_places(&mut self.places, index);
@@ -83,7 +86,6 @@ impl Sheets {
         ensures { self.new ≡ moved from to self.old }
     {
         move_places(&mut self.places, from, to);
-        self.bound = self.bound.max(from + 1).max(to + 1);
         let sheet = self.list.remove(from);
         // There is room for it, where it was.
         let _ = self.list.insert(to, sheet);

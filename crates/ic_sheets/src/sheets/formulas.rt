@@ -8,9 +8,9 @@ ghost use Rattle.ic_pool.specs.Pool.{IsPlaced};
 ghost use Rattle.ic_sheets.specs.Sheet.{AreSameOrLookUp, pool_at, sheet_of};
 
 use super::Sheets;
-use super::rewriting::bound_with;
+use super::dangling::{dangles, settle};
 use ic_laws::{Formula, OutOfMemory};
-use ic_pool::{Steps, has_dangling};
+use ic_pool::Steps;
 use std::sync::ledger::Ledger;
 
 impl Sheets {
@@ -28,9 +28,11 @@ impl Sheets {
         ensures err { OnErr result (map sheet_of self.new ≡ map sheet_of self.old) }
         ensures looks_up { OnErr result (AreSameOrLookUp index self.old self.new) }
     {
-        self.bound = bound_with(self.bound, index, has_dangling(&formula));
         let sheet = &mut self.list[index];
-        sheet.write(row, column, formula)
+        let was = dangles(sheet);
+        let written = sheet.write(row, column, formula);
+        settle(&mut self.dangling, sheet.id, was, dangles(sheet));
+        written
     }
 
     /// The place, from 0, of an equal formula among those that the sheet at a place, from 0, keeps; where there is none, a
@@ -50,8 +52,10 @@ impl Sheets {
         ensures cost { steps.new ≤ steps.old + length (pool_at self.old index) }
         ensures grows { steps.old ≤ steps.new }
     {
-        self.bound = bound_with(self.bound, index, has_dangling(formula));
         let sheet = &mut self.list[index];
-        sheet.place_copy(formula, steps)
+        let was = dangles(sheet);
+        let placed = sheet.place_copy(formula, steps);
+        settle(&mut self.dangling, sheet.id, was, dangles(sheet));
+        placed
     }
 }

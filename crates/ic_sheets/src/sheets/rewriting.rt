@@ -1,16 +1,18 @@
 //! What a change of the sheets or the definitions does to the formulas of all sheets. It is prepared before anything
 //! changes.
-ghost use Rattle.std.specs.Prelude.{◌≡◌, ◌<◌, ◌+◌, ◌^◌, ℕ, IfOk, Some, drop, length, max, nat_lt, take, if◌then◌else◌};
-ghost use Rattle.std.specs.List.{AllByRecursion};
+ghost use Rattle.std.specs.Prelude.{◌≡◌, ℕ, IfOk, Some, map, nat_eq};
+ghost use Rattle.std.specs.List.{IsDistinct};
 ghost use Rattle.ic_pool.specs.Mentions.{SparesFound};
-ghost use Rattle.ic_pool.specs.Pool.{dangling_places};
-ghost use Rattle.ic_sheets.specs.Index.{HasNoDangling};
-ghost use Rattle.ic_sheets.specs.Rewriting.{ArePrepared, FitSheets, with_all_rewrites};
+ghost use Rattle.ic_sheets.specs.Index.{AreDangling, ArePlaced};
+ghost use Rattle.ic_sheets.specs.Rewriting.{ArePrepared, FitOwn, FitSheets, PreparesEach, with_all_rewrites, with_own_rewrites};
 
+use super::dangling::sheet_with;
+use super::place_in;
 use crate::Worksheet;
 use ic_laws::OutOfMemory;
 use ic_pool::{BookChange, Rewrites};
 use std::alloc::Global;
+use std::collections::BTreeMap;
 
 /// What a change does to the formulas of each sheet.
 pub fn prepare<C: BookChange>(
@@ -27,18 +29,28 @@ pub fn prepare<C: BookChange>(
     Ok(prepared)
 }
 
-/// The same for a change that leaves each formula in which all was found: it looks at the others alone.
+/// The same for a change that leaves each formula in which all was found: it looks at the sheets with these ids alone, and
+/// tells for each its id.
 pub fn prepare_dangling<C: BookChange>(
     alloc: Global,
     sheets: &[Worksheet],
+    places: &BTreeMap<u32, usize>,
+    ids: &[u32],
     change: &C,
-) -> Result<Vec<Rewrites>, OutOfMemory>
-    requires { (id : ℕ) → SparesFound (C.change change.now) (Some id) }
-    ensures { IfOk result (λ prepared. ArePrepared (C.change change.now) prepared.items sheets.now) }
+) -> Result<Vec<(u32, Rewrites)>, OutOfMemory>
+    requires spares { (id : ℕ) → SparesFound (C.change change.now) (Some id) }
+    requires placed { ArePlaced places.now sheets.now }
+    requires ids { AreDangling ids.now sheets.now }
+    ensures { IfOk result (λ prepared.
+        PreparesEach (C.change change.now) prepared.items ids.now sheets.now) }
 {
     let mut prepared = Vec::new(alloc);
-    for sheet in sheets {
-        prepared.push(sheet.pool.rewrites_of_dangling(change, Some(sheet.id))?)?;
+    for id in ids {
+        // Each of them is the id of a sheet.
+        if let Some(sheet) = sheet_with(sheets, places, *id) {
+            let rewrites = sheet.pool.rewrites_of_dangling(change, Some(sheet.id))?;
+            prepared.push((*id, rewrites))?;
+        }
     }
     Ok(prepared)
 }
@@ -54,43 +66,21 @@ pub fn apply_all(sheets: &mut [Worksheet], mut prepared: Vec<Rewrites>)
     }
 }
 
-/// The first sheets, this many of them, or all where there are fewer.
-pub fn first_sheets(sheets: &[Worksheet], count: usize) -> &[Worksheet]
-    ensures { result.now ≡ take count sheets.now }
+/// Does to the formulas of each sheet what was prepared for its id, from the last one on. The others stay.
+pub fn apply_own(
+    sheets: &mut [Worksheet],
+    places: &BTreeMap<u32, usize>,
+    mut prepared: Vec<(u32, Rewrites)>,
+)
+    requires placed { ArePlaced places.now sheets.old }
+    requires differ { IsDistinct nat_eq (map (λ s. s.id) sheets.old) }
+    requires fits { FitOwn prepared.items sheets.old }
+    ensures { sheets.new ≡ with_own_rewrites prepared.items sheets.old }
 {
-    match sheets.get(..count) {
-        Some(first) => first,
-        None => sheets,
-    }
-}
-
-/// The place from which on no formula of these sheets mentions something that wasn't found, where that holds from this
-/// bound on.
-pub fn bound_of(sheets: &[Worksheet], bound: usize) -> usize
-    ensures { AllByRecursion HasNoDangling (drop bound sheets.now) → AllByRecursion HasNoDangling (drop result sheets.now) }
-{
-    let mut end = bound.min(sheets.len());
-    while end > 0 {
-        let last = end - 1;
-        if dangles(&sheets[last]) {
-            return end;
+    while let Some((id, rewrites)) = prepared.pop() {
+        if let Some(index) = place_in(places, id) {
+            let sheet = &mut sheets[index];
+            sheet.pool.apply(rewrites);
         }
-        end = last;
     }
-    end
-}
-
-/// The bound where a formula that mentions something that wasn't found may stand in the sheet at this place too.
-pub fn bound_with(bound: usize, index: usize, dangles: bool) -> usize
-    requires { index < 2 ^ 63 }
-    ensures { result ≡ (if dangles then max bound (index + 1) else bound) }
-{
-    if dangles { bound.max(index + 1) } else { bound }
-}
-
-/// Whether some formula of a sheet mentions something that wasn't found.
-fn dangles(sheet: &Worksheet) -> bool
-    ensures { result ≡ nat_lt 0 (length (dangling_places sheet.now.pool.formulas)) }
-{
-    sheet.pool.dangling_count() > 0
 }

@@ -1,12 +1,10 @@
-use Rattle.std.proofs.Common.{◌≡◌, ◌<◌, List, Some, ap, drop, length, refl, subst, sym, ◌∙◌}
+use Rattle.std.proofs.Common.{◌≡◌, ◌<◌, List, Some, ap, arith, length, refl, subst, sym, vec_capacity, ◌∙◌}
 use Rattle.std.proofs.lemmas.Option.{slice_get_read}
 use Rattle.std.specs.List.{slice_get}
 use Rattle.ic_laws.specs.CoreStep.{updated_at}
 use Rattle.ic_sheets.specs.Rewriting.{with_rewrites}
 use Rattle.ic_sheets.specs.declared.sheet.Worksheet.{Worksheet}
-use Rattle.std.specs.List.{AllByRecursion}
-use Rattle.ic_sheets.specs.Index.{HasNoDangling}
-use Rattle.ic_sheets.proofs.WriteLemmas.{over_bound_is}
+use Rattle.ic_sheets.proofs.DanglingLemmas.{dangling_over, length_over, listed_at, room_at}
 use Rattle.ic_sheets.proofs.KeptLemmas.{kept_same}
 use Rattle.ic_sheets.proofs.PlaceLemmas.{placed_same}
 use Rattle.ic_sheets.proofs.RewritingLemmas.{ids_there, names_there, rewritten_there}
@@ -22,13 +20,32 @@ apply-requires c =
 
 pub invariant_of-self : goal.invariant_of-self
 invariant_of-self c =
-    let there = rewritten_there c.args.rewrites c.index_mut-sheet.result.now c.apply.new.self c.args.index c.self.inside.list.items c.index_mut-sheet.ensures.value c.apply.ensures.formulas c.apply.ensures.whole in
-    let y : Worksheet = record c.index_mut-sheet.result.now { pool = c.apply.new.self } in
-    let same_ids = ap ids there ∙ ids_there c.args.rewrites c.args.index c.self.inside.list.items in (
-      kept_same c.self.inside.ids c.self.inside.greatest c.self.inside.bound _ c.self.inside.list.items _ c.self.invariant.0 (ap names there ∙ names_there c.args.rewrites c.args.index c.self.inside.list.items)
-          same_ids (over_bound_is c.self.inside.bound c.bound_with-self-inside.result c.self.inside.list.items c.args.index y c.bound_with-self-inside.ensures c.self.invariant.0.dangles),
-      placed_same c.self.inside.places c.self.inside.list.items _ c.self.invariant.1 same_ids,
+    let s = c.index_mut-sheet.result.now in
+    let sheets = c.self.inside.list.items in
+    let lt : c.args.index < length sheets = subst (λ xs. c.args.index < length xs) (sym c.self.view_is) c.requires.within in
+    let there = rewritten_there c.args.rewrites s c.apply.new.self c.args.index sheets c.index_mut-sheet.ensures.value c.apply.ensures.formulas c.apply.ensures.whole in
+    let y : Worksheet = record s { pool = c.apply.new.self } in
+    let same_ids = ap ids there ∙ ids_there c.args.rewrites c.args.index sheets in (
+      kept_same c.self.inside.ids c.self.inside.greatest sheets _ c.self.invariant.0 (ap names there ∙ names_there c.args.rewrites c.args.index sheets) same_ids,
+      placed_same c.self.inside.places sheets _ c.self.invariant.1 same_ids,
+      dangling_over c.self.inside.dangling.items sheets c.args.index s c.self.invariant.2 c.self.invariant.0.ids_differ lt c.index_mut-sheet.ensures.value c.settle.new.ids.items c.dangles.result
+          c.settle.ensures.finds c.settle.ensures.differ y refl c.dangles.ensures,
+      omega (arith, c.settle.ensures.capacity, c.self.invariant.3, length_over sheets c.args.index y),
     )
+
+pub settle-requires-clause-was : goal.settle-requires-clause-was
+settle-requires-clause-was c =
+    let s = c.index_mut-sheet.result.now in
+    let sheets = c.self.inside.list.items in
+    let lt : c.args.index < length sheets = subst (λ xs. c.args.index < length xs) (sym c.self.view_is) c.requires.within in
+    listed_at c.self.inside.dangling.items sheets c.args.index s c.self.invariant.2 c.self.invariant.0.ids_differ lt c.index_mut-sheet.ensures.value ∙ sym c.dangles-was.ensures
+
+pub settle-requires-clause-room : goal.settle-requires-clause-room
+settle-requires-clause-room c clean =
+    let sheets = c.self.inside.list.items in
+    let lt : c.args.index < length sheets = subst (λ xs. c.args.index < length xs) (sym c.self.view_is) c.requires.within in
+    subst (λ n. n < vec_capacity c.self.inside.dangling) (sym c.self.inside.dangling.ok.0)
+    (room_at c.self.inside.dangling.items sheets c.args.index c.index_mut-sheet.result.now c.self.invariant.2 c.self.invariant.0.ids_differ lt c.index_mut-sheet.ensures.value (vec_capacity c.self.inside.dangling) c.self.invariant.3 (sym c.dangles-was.ensures ∙ clean))
 
 pub returns : goal.returns
 returns c =

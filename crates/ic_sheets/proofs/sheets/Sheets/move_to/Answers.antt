@@ -1,7 +1,8 @@
-use Rattle.std.proofs.Common.{ℕ, suc, ◌-◌, ◌≡◌, ◌<◌, ◌∙◌, ap, sym, subst, arith, length, if◌then◌else◌}
+use Rattle.std.proofs.Common.{◌≡◌, ◌<◌, ◌∙◌, ap, sym, subst, arith, length, if◌then◌else◌}
+use Rattle.std.proofs.lemmas.List.Edits.{length-insert, length-remove}
 use Rattle.std.specs.List.{insert, remove}
 use Rattle.ic_laws.specs.CoreStep.{moved}
-use Rattle.ic_sheets.specs.Index.{AreKept}
+use Rattle.ic_sheets.proofs.DanglingLemmas.{dangling_moved}
 use Rattle.ic_sheets.proofs.KeptLemmas.{kept_moved, moved_is}
 use Rattle.ic_sheets.proofs.PlaceLemmas.{placed_moved}
 use Rattle.ic_sheets.proofs.sheets.Sheets.move_to.Goals as goal
@@ -19,13 +20,11 @@ pub invariant_of-self : goal.invariant_of-self
 invariant_of-self c =
     let sheets = c.self.inside.list.items in
     let lt : c.args.from < length sheets = subst (λ xs. c.args.from < length xs) (sym c.self.view_is) c.requires.from in
-    let now : ℕ = c.max-self-inside.result in
-    let e : now ≡ suc (now - 1) = omega (arith, c.max-self-inside.ensures, c.max.ensures) in
     let within : c.args.to < length sheets = subst (λ xs. c.args.to < length xs) (sym c.self.view_is) c.requires.to in (
-      subst (λ n. AreKept c.self.inside.ids c.self.inside.greatest n c.insert.new.self.items) (sym e)
-          (kept_moved c.self.inside.ids c.self.inside.greatest c.self.inside.bound (now - 1) sheets c.insert.new.self.items c.args.from c.args.to c.remove-sheet.result c.self.invariant.0 lt c.remove-sheet.ensures.value within
-          (omega (arith, c.max-self-inside.ensures, c.max.ensures)) (omega (arith, c.max-self-inside.ensures, c.max.ensures)) (omega (arith, c.max-self-inside.ensures, c.max.ensures)) (put c)),
+      kept_moved c.self.inside.ids c.self.inside.greatest sheets c.insert.new.self.items c.args.from c.args.to c.remove-sheet.result c.self.invariant.0 lt c.remove-sheet.ensures.value (put c),
       placed_moved sheets c.args.from c.remove-sheet.result c.self.invariant.0.ids_differ lt c.remove-sheet.ensures.value c.self.inside.places c.move_places.new.places c.insert.new.self.items c.args.to c.self.invariant.1 within (put c) c.move_places.ensures,
+      dangling_moved c.self.inside.dangling.items sheets c.args.from c.remove-sheet.result c.self.invariant.2 c.self.invariant.0.ids_differ lt c.remove-sheet.ensures.value c.insert.new.self.items c.args.to (put c),
+      omega (arith, c.self.invariant.3, ap length (put c), length-insert (remove sheets c.args.from) c.args.to c.remove-sheet.result, length-remove sheets c.args.from lt),
     )
 
 pub returns : goal.returns

@@ -1,9 +1,10 @@
-use Rattle.std.proofs.Common.{◌≡◌, ◌<◌, ◌∙◌, ap, sym, subst, refl, cond, bytes_eq, slice_set, false, Some, None, chars, length, encode_utf8_all, string_bytes}
+use Rattle.std.proofs.Common.{◌≡◌, ◌<◌, ◌≤◌, ◌∙◌, ap, sym, subst, refl, cond, bytes_eq, slice_set, vec_capacity, false, Some, None, chars, length, encode_utf8_all, string_bytes}
 use Rattle.std.specs.BTreeMap.{get_by_text}
 use Rattle.std.specs.List.{list_any, remove}
 use Rattle.ic_laws.proofs.core.Lists.{updated_unseen}
 use Rattle.ic_laws.specs.CoreStep.{updated_at}
 use Rattle.ic_laws.specs.Name.{agrees, fold}
+use Rattle.ic_sheets.proofs.DanglingLemmas.{dangling_renamed, length_over}
 use Rattle.ic_sheets.proofs.IndexLemmas.{keyed, same_read, set_updated}
 use Rattle.ic_sheets.proofs.KeptLemmas.{kept_renamed}
 use Rattle.ic_sheets.proofs.PlaceLemmas.{placed_same}
@@ -27,9 +28,11 @@ invariant_of-self-2 c =
     c.as_str-2.ensures.value ∙ c.in_ok-old_key.ensures ∙ ap (λ n. encode_utf8_all (fold n)) c.as_str.ensures.characters ∙ ap (λ (x : Worksheet). encode_utf8_all (fold x.name)) read in
     let change = keyed c.self.inside.ids c.rekey.new.ids _ _ (fold name) (fold s.name) (Some c.index-sheet.result.now.id) c.in_ok-rekey.ensures.ok new_key old_key in
     let called : Worksheet → Worksheet = λ x. record x { name = name } in (
-      kept_renamed c.self.inside.ids c.rekey.new.ids c.self.inside.greatest c.self.inside.bound sheets index s name c.self.invariant.0 lt c.index_mut-sheet.ensures.value free
+      kept_renamed c.self.inside.ids c.rekey.new.ids c.self.inside.greatest sheets index s name c.self.invariant.0 lt c.index_mut-sheet.ensures.value free
           (λ q. change q ∙ ap (λ (x : Worksheet). cond (bytes_eq (fold name) q) (Some x.id) (cond (bytes_eq (fold s.name) q) None (get_by_text c.self.inside.ids (encode_utf8_all q)))) read),
       placed_same c.self.inside.places sheets _ c.self.invariant.1 (ap ids (set_updated called sheets index s c.index_mut-sheet.ensures.value) ∙ updated_unseen (λ (x : Worksheet). x.id) called (λ x. refl) index sheets),
+      dangling_renamed c.self.inside.dangling.items sheets index s c.self.invariant.2 c.self.invariant.0.ids_differ lt c.index_mut-sheet.ensures.value (called s) refl refl,
+      subst (λ n. n ≤ vec_capacity c.self.inside.dangling) (sym (length_over sheets index (called s))) c.self.invariant.3,
     )
 
 pub returns-clause-ok : goal.returns-clause-ok

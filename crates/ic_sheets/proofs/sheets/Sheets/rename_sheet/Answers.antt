@@ -1,28 +1,29 @@
 use Rattle.std.proofs.Common.{Some, chars, sym, subst, ap, get_or, ◌∙◌}
 use Rattle.ic_laws.specs.Changes.{sheet_named}
 use Rattle.ic_pool.proofs.ChangeLemmas.{naming_spares_found}
-use Rattle.ic_sheets.proofs.RewritingLemmas.{fits_called, read_there, renamed_looks_up, renamed_made}
-use Rattle.ic_sheets.specs.Rewriting.{FitSheets, Makes}
+use Rattle.ic_sheets.proofs.OwnLemmas.{own_fits_called, renamed_looks_up, renamed_made}
+use Rattle.ic_sheets.proofs.RewritingLemmas.{read_there}
+use Rattle.ic_sheets.specs.Rewriting.{FitOwn, Makes}
 use Rattle.ic_sheets.specs.declared.sheet.Worksheet.{Worksheet}
 use Rattle.ic_sheets.proofs.sheets.Sheets.rename_sheet.Goals as goal
 
 pub rewrites_of_dangling-requires : goal.rewrites_of_dangling-requires
 rewrites_of_dangling-requires c = λ id. naming_spares_found c.index.result.now.id (chars c.args.name.now) (Some id)
 
-pub apply-requires : goal.apply-requires
-apply-requires c =
-    subst (FitSheets c.in_ok-prepared.prepared.items) (sym c.in_ok-rename.ensures.ok) (fits_called (chars c.args.name.now) c.in_ok-prepared.prepared.items c.args.index c.args.self.now c.in_ok-prepared.ensures.fits)
+pub apply_own-requires : goal.apply_own-requires
+apply_own-requires c =
+    subst (FitOwn c.in_ok-prepared.prepared.items) (sym c.in_ok-rename.ensures.ok) (own_fits_called _ c.in_ok-prepared.prepared.items c.args.self.now c.in_ok-prepared.ensures c.args.index (chars c.args.name.now))
 
 pub returns-clause-ok : goal.returns-clause-ok
 returns-clause-ok c = λ sheet at.
-    renamed_made (sheet_named sheet.id (chars c.args.name.now)) c.in_ok-prepared.prepared.items c.args.self.now c.rename.new.self c.apply.new.self
+    renamed_made (sheet_named sheet.id (chars c.args.name.now)) c.in_ok-prepared.prepared.items c.args.self.now
     (subst (λ (s : Worksheet). Makes (sheet_named s.id (chars c.args.name.now)) c.in_ok-prepared.prepared.items c.args.self.now)
     (read_there c.args.self.now c.args.index c.index.result.now sheet c.requires.within (c.index.ensures ∙ ap (λ xs. get_or xs c.args.index c.index.result.now) c.self.view_is) at) c.in_ok-prepared.ensures)
-    c.args.index (chars c.args.name.now) c.in_ok-rename.ensures.ok c.apply.ensures
+    c.args.index (chars c.args.name.now) c.rename.new.self c.apply_own.new.self c.in_ok-rename.ensures.ok c.apply_own.ensures
 
 pub returns-clause-looks_up : goal.returns-clause-looks_up
 returns-clause-looks_up c = λ sheet at.
-    renamed_looks_up (sheet_named sheet.id (chars c.args.name.now)) c.in_ok-prepared.prepared.items c.args.self.now c.rename.new.self c.apply.new.self
+    renamed_looks_up (sheet_named sheet.id (chars c.args.name.now)) c.in_ok-prepared.prepared.items c.args.self.now
     (subst (λ (s : Worksheet). Makes (sheet_named s.id (chars c.args.name.now)) c.in_ok-prepared.prepared.items c.args.self.now)
     (read_there c.args.self.now c.args.index c.index.result.now sheet c.requires.within (c.index.ensures ∙ ap (λ xs. get_or xs c.args.index c.index.result.now) c.self.view_is) at) c.in_ok-prepared.ensures)
-    c.args.index (chars c.args.name.now) c.in_ok-rename.ensures.ok c.apply.ensures
+    c.args.index (chars c.args.name.now) c.rename.new.self c.apply_own.new.self c.in_ok-rename.ensures.ok c.apply_own.ensures

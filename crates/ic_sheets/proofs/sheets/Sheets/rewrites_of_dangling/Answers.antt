@@ -1,17 +1,23 @@
-use Rattle.std.proofs.Common.{List, ap, drop, subst, sym, take, ◌∙◌}
-use Rattle.std.proofs.lemmas.List.{take-append-drop}
+use Rattle.std.proofs.Common.{subst, subst₂, sym, ◌∙◌}
 use Rattle.std.proofs.lemmas.Result.{IfOk-weaker}
-use Rattle.ic_sheets.specs.Rewriting.{ArePrepared, Makes}
-use Rattle.ic_sheets.specs.declared.sheet.Worksheet.{Worksheet}
-use Rattle.ic_sheets.proofs.RewritingLemmas.{makes_more, prepared_makes}
+use Rattle.std.specs.List.{IsDistinct}
+use Rattle.std.specs.Prelude.{nat_eq}
+use Rattle.ic_sheets.proofs.OwnLemmas.{each_makes}
+use Rattle.ic_sheets.proofs.SearchLemmas.{ids}
+use Rattle.ic_sheets.specs.Index.{AreDangling, ArePlaced}
+use Rattle.ic_sheets.specs.Rewriting.{Makes}
 use Rattle.ic_sheets.proofs.sheets.Sheets.rewrites_of_dangling.Goals as goal
+
+pub prepare_dangling-requires-clause-placed : goal.prepare_dangling-requires-clause-placed
+prepare_dangling-requires-clause-placed g c = subst (ArePlaced c.self.inside.places) (sym c.deref.ensures.value) c.self.invariant.1
+
+pub prepare_dangling-requires-clause-ids : goal.prepare_dangling-requires-clause-ids
+prepare_dangling-requires-clause-ids g c = subst₂ AreDangling (sym c.deref-2.ensures.value) (sym c.deref.ensures.value) c.self.invariant.2
 
 pub returns : goal.returns
 returns g c =
     let change = g.C.BookChange.change c.args.change.now in
-    let sheets : List Worksheet = c.self.inside.list.items in
-    let n = c.self.inside.bound in
     IfOk-weaker c.prepare_dangling.result _ _
-    (λ prepared h. subst (Makes change prepared.items) (take-append-drop n sheets ∙ c.self.view_is)
-    (makes_more change c.requires prepared.items (take n sheets) (drop n sheets)
-    (prepared_makes change prepared.items (take n sheets) (subst (λ (ws : List Worksheet). ArePrepared change prepared.items ws) (c.first_sheets.ensures ∙ ap (take n) c.deref.ensures.value) h)) c.self.invariant.0.dangles)) c.prepare_dangling.ensures
+    (λ prepared h. subst (Makes change prepared.items) (c.deref.ensures.value ∙ c.self.view_is)
+    (each_makes change c.deref-2.result.now prepared.items c.deref.result.now h (subst₂ AreDangling (sym c.deref-2.ensures.value) (sym c.deref.ensures.value) c.self.invariant.2)
+    (subst (λ xs. IsDistinct nat_eq (ids xs)) (sym c.deref.ensures.value) c.self.invariant.0.ids_differ) c.requires)) c.prepare_dangling.ensures

@@ -1,7 +1,19 @@
-use Rattle.ic_sheets.proofs.RewritingLemmas.{prepared_more}
+use Rattle.std.proofs.Common.{ap, get_or, option_map, refl, sym, Vec, Global, ℕ, ◌∙◌}
+use Rattle.ic_pool.specs.declared.pool.rewrites.Rewrites.{Rewrites}
+use Rattle.ic_sheets.proofs.OwnLemmas.{each_more, some_sheet}
 use Rattle.ic_sheets.proofs.sheets.rewriting.prepare_dangling.Goals as goal
+use Rattle.ic_sheets.proofs.sheets.rewriting.prepare_dangling.Goals.{in-Some+in_ok-rewrites+in_ok-push, in_default}
 
-pub loop-sheet-preserved : goal.loop-sheet-preserved
-loop-sheet-preserved g c =
-    prepared_more (g.C.BookChange.change c.args.change.now) c.loop-sheet.prepared.items c.push.new.self.items c.in_ok-rewrites_of_dangling.field-0 c.args.sheets.now c.loop-sheet.sheet-index c.sheet-item.result
-    c.loop-sheet-test.true c.sheet-item.is c.in_ok-push.ensures.items c.loop-sheet.invariant (record { made = c.in_ok-rewrites_of_dangling.ensures.made; listed = c.in_ok-rewrites_of_dangling.ensures.listed; fits = c.in_ok-rewrites_of_dangling.ensures.fits })
+pub loop-id-preserved : goal.loop-id-preserved
+loop-id-preserved g c =
+    let id = get_or c.args.ids.now c.loop-id.id-index 0 in
+    let found = sym (c.sheet_with.ensures c.requires.placed) in
+    elim c.match-sheet_with.branch [
+      | in-Some+in_ok-rewrites+in_ok-push w ↦
+          each_more (g.C.BookChange.change c.args.change.now) c.loop-id.prepared.items id w.in_ok-rewrites.rewrites c.args.sheets.now w.in-Some.sheet.now
+          (found ∙ ap (option_map (λ s. s.now)) w.in-Some.is)
+          (record { made = w.in_ok-rewrites.ensures.made; listed = w.in_ok-rewrites.ensures.listed; fits = w.in_ok-rewrites.ensures.fits })
+          c.match-sheet_with.prepared.items c.args.ids.now c.loop-id.id-index c.loop-id.invariant c.loop-id-test.true refl
+          (ap (λ (v : Vec (ℕ × Rewrites) Global). v.items) w.prepared-is ∙ w.in_ok-push.ensures.items)
+      | in_default w ↦ absurd (some_sheet c.args.ids.now c.loop-id.id-index id c.args.sheets.now c.requires.ids c.loop-id-test.true refl (found ∙ ap (option_map (λ s. s.now)) w.in_default.is))
+    ]

@@ -1,6 +1,7 @@
 use Rattle.std.proofs.Common.{take}
-use Rattle.ic_sheets.specs.Rewriting.{ArePrepared}
+use Rattle.ic_sheets.specs.Rewriting.{PreparesEach}
 use Rattle.ic_sheets.proofs.sheets.rewriting.prepare_dangling.Given as goal
 
-abbrev pub invariant-loop-sheet : goal.invariant-loop-sheet
-invariant-loop-sheet g l = ArePrepared (g.C.BookChange.change l.change) l.prepared.items (take l.sheet-index l.sheets)
+-- the first so many ids have what was prepared for their sheets
+abbrev pub invariant-loop-id : goal.invariant-loop-id
+invariant-loop-id g l = PreparesEach (g.C.BookChange.change l.change) l.prepared.items (take l.id-index l.ids) l.sheets

@@ -1,0 +1,516 @@
+-- What was prepared for the sheets in which something dangles, done by their ids after a sheet came or got another name.
+use Rattle.std.proofs.Common.{◌≡◌, ℕ, zero, suc, ◌+◌, ◌<◌, ◌≤◌, inl, inr, option_map, List, [], ◌∷◌, ◌++◌, Bool, true, false, cond, ◌&&◌, ◌||◌, not, Option, Some, None, map, length, get_or, slice_set, take, drop, nat_eq, nat_lt, refl, sym, ap, ap₂, subst, ◌∙◌, arith, append_assoc}
+use Rattle.std.proofs.lemmas.Bool.{cases_Bool, eqb-true, ltb-false, or_parts}
+use Rattle.std.proofs.lemmas.List.{append-nil, length-map, map-append, take_at, take_more}
+use Rattle.std.proofs.lemmas.List.Folds.{list_any-append}
+use Rattle.std.proofs.lemmas.List.Sorted.{IsPermutation-middle}
+use Rattle.std.proofs.lemmas.Map.Keys.{IsDistinct-IsPermutation, IsDistinct-head, IsDistinct-tail}
+use Rattle.std.specs.Cmp.{nat_eq_equiv}
+use Rattle.std.specs.List.{AllByRecursion, IsDistinct, find, list_any}
+use Rattle.ic_laws.proofs.CoreLemmas.{above_greatest}
+use Rattle.ic_laws.proofs.core.Lists.{all_pushed, updated_unseen}
+use Rattle.ic_laws.specs.Changes.{Change}
+use Rattle.ic_laws.specs.CoreStep.{updated_at}
+use Rattle.ic_laws.specs.Greatest.{greatest}
+use Rattle.ic_laws.specs.declared.tree.Formula.{Formula}
+use Rattle.ic_pool.specs.Mentions.{SparesFound}
+use Rattle.ic_pool.specs.Pool.{dangling_places}
+use Rattle.ic_pool.specs.Rewrites.{FitsPool, RewritesState}
+use Rattle.ic_sheets.proofs.DanglingLemmas.{absent, listed_here, or_false, or_true}
+use Rattle.ic_sheets.proofs.IndexLemmas.{clash, set_parts, split_at}
+use Rattle.ic_sheets.proofs.PlaceLemmas.{alone, some_apart}
+use Rattle.ic_sheets.proofs.RewritingLemmas.{and_true, called, looked_up, pool_spared, pool_untouched, sheet_called, sheets_called}
+use Rattle.ic_sheets.proofs.SearchLemmas.{ids}
+use Rattle.ic_sheets.specs.Index.{AreDangling, dangles, dangles_at, is_listed}
+use Rattle.ic_sheets.specs.Rewriting.{FitOwn, FitsSheet, IsPrepared, ListsIf, Makes, PreparesEach, changed_pool, is_id, look_ups, looks_up_after, own_rewrites, rewritten_if, sheets_of, with_own_rewrites, with_rewrites}
+use Rattle.ic_sheets.specs.Search.{place_of}
+use Rattle.ic_sheets.specs.Sheet.{BookSheet, sheet_of}
+use Rattle.ic_sheets.specs.declared.sheet.Worksheet.{Worksheet}
+
+abbrev pub Own : Type 0
+Own = List (ℕ × RewritesState)
+
+abbrev pub own_ids : Own → List ℕ
+own_ids ps = map (λ p. p.0) ps
+
+-- ---- what was prepared for an id
+
+none_own : (q : ℕ) (ps : Own) → own_rewrites q ps ≡ None → is_listed q (own_ids ps) ≡ false
+none_own q [] e = refl
+none_own q (p ∷ ps) e = step (nat_eq q p.0) e (none_own q ps)
+  where
+    step : (b : Bool) → cond b (Some p.1) (own_rewrites q ps) ≡ None → (own_rewrites q ps ≡ None → is_listed q (own_ids ps) ≡ false) → (b || is_listed q (own_ids ps)) ≡ false
+    step true e rest = cc
+    step false e rest = rest e
+
+some_own : (q : ℕ) (ps : Own) (w : RewritesState) → own_rewrites q ps ≡ Some w → is_listed q (own_ids ps) ≡ true
+some_own q [] w e = cc
+some_own q (p ∷ ps) w e = step (nat_eq q p.0) e (some_own q ps w)
+  where
+    step : (b : Bool) → cond b (Some p.1) (own_rewrites q ps) ≡ Some w → (own_rewrites q ps ≡ Some w → is_listed q (own_ids ps) ≡ true) → (b || is_listed q (own_ids ps)) ≡ true
+    step true e rest = refl
+    step false e rest = rest e
+
+own_none : (q : ℕ) (ps : Own) → is_listed q (own_ids ps) ≡ false → own_rewrites q ps ≡ None
+own_none q [] e = refl
+own_none q (p ∷ ps) e =
+    let parts = or_parts (nat_eq q p.0) (is_listed q (own_ids ps)) e in
+    ap₂ (λ b o. cond b (Some p.1) o) parts.0 (own_none q ps parts.1)
+
+own_kept : (q : ℕ) (ps more : Own) (w : RewritesState) → own_rewrites q ps ≡ Some w → own_rewrites q (ps ++ more) ≡ Some w
+own_kept q [] more w e = cc
+own_kept q (p ∷ ps) more w e = step (nat_eq q p.0) e (own_kept q ps more w)
+  where
+    step : (b : Bool) → cond b (Some p.1) (own_rewrites q ps) ≡ Some w → (own_rewrites q ps ≡ Some w → own_rewrites q (ps ++ more) ≡ Some w) → cond b (Some p.1) (own_rewrites q (ps ++ more)) ≡ Some w
+    step true e rest = e
+    step false e rest = rest e
+
+own_new : (q : ℕ) (ps more : Own) → own_rewrites q ps ≡ None → own_rewrites q (ps ++ more) ≡ own_rewrites q more
+own_new q [] more e = refl
+own_new q (p ∷ ps) more e = step (nat_eq q p.0) e (own_new q ps more)
+  where
+    step : (b : Bool) → cond b (Some p.1) (own_rewrites q ps) ≡ None → (own_rewrites q ps ≡ None → own_rewrites q (ps ++ more) ≡ own_rewrites q more) → cond b (Some p.1) (own_rewrites q (ps ++ more)) ≡ own_rewrites q more
+    step true e rest = cc
+    step false e rest = rest e
+
+own_other : (q id : ℕ) (w : RewritesState) (ps : Own) → nat_eq q id ≡ false → own_rewrites q (ps ++ (id, w) ∷ []) ≡ own_rewrites q ps
+own_other q id w [] e = ap (λ b. cond b (Some w) None) e
+own_other q id w (p ∷ ps) e = ap (cond (nat_eq q p.0) (Some p.1)) (own_other q id w ps e)
+
+-- ---- prepared one after another
+
+module _ (change : Change) (ps : Own) (id : ℕ) (w : RewritesState) (sheets : List Worksheet) (s : Worksheet) (found : find (λ x. nat_eq x.id id) sheets ≡ Some s) (prepared : IsPrepared change w s) where
+  last_made : (q : ℕ) (v : RewritesState) (t : Worksheet) (b : Bool) → nat_eq q id ≡ b → cond b (Some w) None ≡ Some v → find (λ x. nat_eq x.id q) sheets ≡ Some t → IsPrepared change v t
+  last_made q v t true e is at =
+      let same : w ≡ v = cc in
+      let here : Some s ≡ Some t = sym found ∙ ap (λ k. find (λ (x : Worksheet). nat_eq x.id k) sheets) (sym (eqb-true q id e)) ∙ at in
+      let one : s ≡ t = cc in
+      subst (λ v. IsPrepared change v t) same (subst (IsPrepared change w) one prepared)
+  last_made q v t false e is at = cc
+
+  each_made : (now : List ℕ) → PreparesEach change ps now sheets → (q : ℕ) (v : RewritesState) (t : Worksheet) (o : Option RewritesState) → own_rewrites q ps ≡ o → own_rewrites q (ps ++ (id, w) ∷ []) ≡ Some v
+      → find (λ x. nat_eq x.id q) sheets ≡ Some t → IsPrepared change v t
+  each_made now each q v t (Some u) e is at =
+      let both : Some u ≡ Some v = sym (own_kept q ps ((id, w) ∷ []) u e) ∙ is in
+      each.made q v t (e ∙ both) at
+  each_made now each q v t None e is at = last_made q v t (nat_eq q id) refl (sym (own_new q ps ((id, w) ∷ []) e) ∙ is) at
+
+  pub each_more : (more : Own) (now : List ℕ) (i : ℕ) → PreparesEach change ps (take i now) sheets → i < length now → id ≡ get_or now i 0 → more ≡ ps ++ (id, w) ∷ [] → PreparesEach change more (take (i + 1) now) sheets
+  each_more more now i each lt read pushed =
+      subst (λ ps. PreparesEach change ps (take (i + 1) now) sheets) (sym pushed)
+      (record {
+        each = map-append (λ (p : ℕ × RewritesState). p.0) ps ((id, w) ∷ []) ∙ ap (λ xs. xs ++ id ∷ []) each.each ∙ ap (λ k. take i now ++ k ∷ []) read ∙ sym (take_more now i 0 lt);
+        made = λ q v t is at. each_made (take i now) each q v t (own_rewrites q ps) refl is at;
+      })
+
+listed_there : (id : ℕ) (xs : List ℕ) (i : ℕ) → i < length xs → id ≡ get_or xs i 0 → is_listed id xs ≡ true
+listed_there id [] i lt e = absurd (omega arith)
+listed_there id (x ∷ xs) zero lt e = ap (λ b. b || is_listed id xs) (ap (nat_eq id) (sym e) ∙ nat_eq_equiv.refl id)
+listed_there id (x ∷ xs) (suc i) lt e = ap (λ b. nat_eq id x || b) (listed_there id xs i (omega arith) e) ∙ or_true (nat_eq id x)
+
+dangles_nowhere : (id : ℕ) (xs : List Worksheet) → find (λ s. nat_eq s.id id) xs ≡ None → dangles_at id xs ≡ false
+dangles_nowhere id [] e = refl
+dangles_nowhere id (x ∷ xs) e = step (nat_eq x.id id) refl e (dangles_nowhere id xs)
+  where
+    step : (b : Bool) → nat_eq x.id id ≡ b → cond b (Some x) (find (λ s. nat_eq s.id id) xs) ≡ None → (find (λ s. nat_eq s.id id) xs ≡ None → dangles_at id xs ≡ false) → (nat_eq id x.id && dangles x || dangles_at id xs) ≡ false
+    step true is e rest = cc
+    step false is e rest = ap₂ (λ a b. a && dangles x || b) (nat_eq_equiv.symm id x.id ∙ is) (rest e)
+
+-- each of the ids is that of a sheet
+pub some_sheet : (now : List ℕ) (i id : ℕ) (sheets : List Worksheet) → AreDangling now sheets → i < length now → id ≡ get_or now i 0 → find (λ s. nat_eq s.id id) sheets ≡ None → ⊥
+some_sheet now i id sheets d lt read none = clash (dangles_at id sheets) (sym (d.finds id) ∙ listed_there id now i lt read) (dangles_nowhere id sheets none)
+
+-- whether something dangles in the sheet that was found
+pub dangles_found : (id : ℕ) (xs : List Worksheet) (s : Worksheet) → IsDistinct nat_eq (ids xs) → find (λ x. nat_eq x.id id) xs ≡ Some s → dangles s ≡ dangles_at id xs
+dangles_found id [] s d e = cc
+dangles_found id (x ∷ xs) s d e = step (nat_eq x.id id) refl e (dangles_found id xs s (IsDistinct-tail nat_eq x.id (ids xs) d))
+  where
+    alone_here : nat_eq x.id id ≡ true → dangles_at id xs ≡ false
+    alone_here is = absent id xs (subst (λ k. list_any (nat_eq k) (ids xs) ≡ false) (eqb-true x.id id is) (some_apart x.id (ids xs) (IsDistinct-head nat_eq x.id (ids xs) d)))
+
+    step : (b : Bool) → nat_eq x.id id ≡ b → cond b (Some x) (find (λ x. nat_eq x.id id) xs) ≡ Some s → (find (λ x. nat_eq x.id id) xs ≡ Some s → dangles s ≡ dangles_at id xs) → dangles s ≡ (nat_eq id x.id && dangles x || dangles_at id xs)
+    step true is e rest =
+        let same : x ≡ s = cc in
+        ap dangles (sym same) ∙ sym (ap₂ (λ a b. a && dangles x || b) (nat_eq_equiv.symm id x.id ∙ is) (alone_here is) ∙ or_false (dangles x))
+    step false is e rest = rest e ∙ sym (ap (λ a. a && dangles x || dangles_at id xs) (nat_eq_equiv.symm id x.id ∙ is))
+
+pub dangles_not_found : (id : ℕ) (xs : List Worksheet) → find (λ s. nat_eq s.id id) xs ≡ None → false ≡ dangles_at id xs
+dangles_not_found id xs e = sym (dangles_nowhere id xs e)
+
+-- ---- what it makes of all sheets
+
+no_places : (places : List ℕ) → nat_lt 0 (length places) ≡ false → places ≡ []
+no_places [] e = refl
+no_places (p ∷ places) e = let past : suc (length places) ≤ 0 = ltb-false 0 (suc (length places)) e in absurd (omega (arith, past))
+
+-- what is known of a sheet by what was prepared for it
+abbrev IsOwn : Change → Option RewritesState → Worksheet → Type 0
+IsOwn change None s = dangling_places s.pool.formulas ≡ []
+IsOwn change (Some w) s = IsPrepared change w s × (dangles s ≡ true)
+
+found_here : (front back : List Worksheet) (s : Worksheet) → list_any (nat_eq s.id) (ids (front ++ back)) ≡ false → find (λ x. nat_eq x.id s.id) (front ++ s ∷ back) ≡ Some s
+found_here [] back s free = ap (λ b. cond b (Some s) (find (λ x. nat_eq x.id s.id) back)) (nat_eq_equiv.refl s.id)
+found_here (x ∷ front) back s free =
+    let parts = or_parts (nat_eq s.id x.id) (list_any (nat_eq s.id) (ids (front ++ back))) free in
+    ap (λ b. cond b (Some x) (find (λ y. nat_eq y.id s.id) (front ++ s ∷ back))) (nat_eq_equiv.symm x.id s.id ∙ parts.0) ∙ found_here front back s parts.1
+
+module _ (change : Change) (now : List ℕ) (ps : Own) (sheets : List Worksheet) (each : PreparesEach change ps now sheets) (d : AreDangling now sheets) (differ : IsDistinct nat_eq (ids sheets)) where
+  one_own : (front back : List Worksheet) (s : Worksheet) → sheets ≡ front ++ s ∷ back → (o : Option RewritesState) → own_rewrites s.id ps ≡ o → IsOwn change o s
+  one_own front back s e o is = step o is
+    where
+      listed : is_listed s.id now ≡ dangles s
+      listed = listed_here now front back s (subst (AreDangling now) e d) (subst (λ xs. IsDistinct nat_eq (ids xs)) e differ)
+
+      step : (o : Option RewritesState) → own_rewrites s.id ps ≡ o → IsOwn change o s
+      step None is = no_places (dangling_places s.pool.formulas) (sym listed ∙ ap (is_listed s.id) (sym each.each) ∙ none_own s.id ps is)
+      step (Some w) is = (
+        each.made s.id w s is (ap (find (λ x. nat_eq x.id s.id)) e ∙ found_here front back s (alone front back s (subst (λ xs. IsDistinct nat_eq (ids xs)) e differ))),
+        sym listed ∙ ap (is_listed s.id) (sym each.each) ∙ some_own s.id ps w is,
+      )
+
+  all_own : (front xs : List Worksheet) → sheets ≡ front ++ xs → AllByRecursion (λ s. IsOwn change (own_rewrites s.id ps) s) xs
+  all_own front [] e = tt
+  all_own front (s ∷ back) e = (one_own front back s e (own_rewrites s.id ps) refl, all_own (front ++ s ∷ []) back (e ∙ sym (append_assoc front (s ∷ []) back)))
+
+  all_known : (ns : List ℕ) → ((q : ℕ) → is_listed q ns ≡ true → is_id q sheets ≡ true) → (ps : Own) → own_ids ps ≡ ns → AllByRecursion (λ p. is_id p.0 sheets ≡ true) ps
+  all_known ns known [] e = tt
+  all_known [] known (p ∷ ps) e = cc
+  all_known (n ∷ ns) known (p ∷ ps) e =
+      let first : p.0 ≡ n = cc in
+      let rest : own_ids ps ≡ ns = cc in (
+        known p.0 (ap (λ k. nat_eq p.0 k || is_listed p.0 ns) (sym first) ∙ ap (λ b. b || is_listed p.0 ns) (nat_eq_equiv.refl p.0)),
+        all_known ns (λ q h. known q (ap (λ b. nat_eq q n || b) h ∙ or_true (nat_eq q n))) ps rest,
+      )
+
+  is_known : (q : ℕ) (xs : List Worksheet) → dangles_at q xs ≡ true → is_id q xs ≡ true
+  is_known q [] e = e
+  is_known q (x ∷ xs) e = step (nat_eq q x.id) (dangles x) e (is_known q xs)
+    where
+      step : (a b : Bool) → (a && b || dangles_at q xs) ≡ true → (dangles_at q xs ≡ true → is_id q xs ≡ true) → (a || is_id q xs) ≡ true
+      step true b e rest = refl
+      step false b e rest = rest e
+
+  pub each_makes : ((id : ℕ) → SparesFound change (Some id)) → Makes change ps sheets
+  each_makes spares = record {
+    fits = record {
+      known = all_known now (λ q h. is_known q sheets (sym (d.finds q) ∙ h)) ps each.each;
+      differ = subst (IsDistinct nat_eq) (sym each.each) d.differ;
+      fits = fits sheets own;
+    };
+    made = made sheets own;
+    listed = listed sheets own;
+    looks_up = kept sheets own;
+  }
+    where
+      own : AllByRecursion (λ s. IsOwn change (own_rewrites s.id ps) s) sheets
+      own = all_own [] sheets refl
+
+      fits : (xs : List Worksheet) → AllByRecursion (λ s. IsOwn change (own_rewrites s.id ps) s) xs → AllByRecursion (λ s. FitsSheet (own_rewrites s.id ps) s) xs
+      fits [] h = tt
+      fits (s ∷ xs) h = (step (own_rewrites s.id ps) h.0, fits xs h.1)
+        where
+          step : (o : Option RewritesState) → IsOwn change o s → FitsSheet o s
+          step None i = tt
+          step (Some w) i = (i.0.fits, i.1)
+
+      listed : (xs : List Worksheet) → AllByRecursion (λ s. IsOwn change (own_rewrites s.id ps) s) xs → AllByRecursion (λ s. ListsIf change (own_rewrites s.id ps) s) xs
+      listed [] h = tt
+      listed (s ∷ xs) h = (step (own_rewrites s.id ps) h.0, listed xs h.1)
+        where
+          step : (o : Option RewritesState) → IsOwn change o s → ListsIf change o s
+          step None i = pool_untouched change (Some s.id) (spares s.id) 0 s.pool.formulas i
+          step (Some w) i = i.0.listed
+
+      made : (xs : List Worksheet) → AllByRecursion (λ s. IsOwn change (own_rewrites s.id ps) s) xs → sheets_of (with_own_rewrites ps xs) ≡ map (changed_pool change) (sheets_of xs)
+      made [] h = refl
+      made (s ∷ xs) h = ap₂ ◌∷◌ (step (own_rewrites s.id ps) h.0) (made xs h.1)
+        where
+          filled : (pool : List Formula) → BookSheet
+          filled pool = record (sheet_of s) { pool = pool }
+
+          step : (o : Option RewritesState) → IsOwn change o s → sheet_of (rewritten_if o s) ≡ changed_pool change (sheet_of s)
+          step None i = ap filled (pool_spared change (Some s.id) (spares s.id) 0 s.pool.formulas i)
+          step (Some w) i = ap filled i.0.made
+
+      kept : (xs : List Worksheet) → AllByRecursion (λ s. IsOwn change (own_rewrites s.id ps) s) xs → look_ups (with_own_rewrites ps xs) ≡ map (looks_up_after change) xs
+      kept [] h = refl
+      kept (s ∷ xs) h = ap₂ ◌∷◌ (step (own_rewrites s.id ps) h.0) (kept xs h.1)
+        where
+          step : (o : Option RewritesState) → IsOwn change o s → (rewritten_if o s).pool.is_whole ≡ looks_up_after change s
+          step None i = and_true s.pool.is_whole ∙ ap (λ b. s.pool.is_whole && not b) (sym (pool_untouched change (Some s.id) (spares s.id) 0 s.pool.formulas i))
+          step (Some w) i = looked_up change w s i.0
+
+-- ---- done from the last one on
+
+pub same_ids : (ps : Own) (sheets : List Worksheet) → ids (with_own_rewrites ps sheets) ≡ ids sheets
+same_ids ps [] = refl
+same_ids ps (s ∷ sheets) = ap₂ ◌∷◌ (step (own_rewrites s.id ps)) (same_ids ps sheets)
+  where
+    step : (o : Option RewritesState) → (rewritten_if o s).id ≡ s.id
+    step None = refl
+    step (Some w) = refl
+
+pub same_names : (ps : Own) (sheets : List Worksheet) → map (λ (s : Worksheet). s.name) (with_own_rewrites ps sheets) ≡ map (λ (s : Worksheet). s.name) sheets
+same_names ps [] = refl
+same_names ps (s ∷ sheets) = ap₂ ◌∷◌ (step (own_rewrites s.id ps)) (same_names ps sheets)
+  where
+    step : (o : Option RewritesState) → (rewritten_if o s).name ≡ s.name
+    step None = refl
+    step (Some w) = refl
+
+either_dangles : (a b c r t : Bool) → (b ≡ true → c ≡ true) → (r ≡ true → t ≡ true) → (a && b || r) ≡ true → (a && c || t) ≡ true
+either_dangles true true c r t one more e = ap (λ x. x || t) (one refl)
+either_dangles true false true r t one more e = refl
+either_dangles true false false r t one more e = more e
+either_dangles false b c r t one more e = more e
+
+-- where something dangles after it, something did before
+pub fewer_dangle : (ps : Own) (q : ℕ) (xs : List Worksheet) → AllByRecursion (λ s. FitsSheet (own_rewrites s.id ps) s) xs → dangles_at q (with_own_rewrites ps xs) ≡ true → dangles_at q xs ≡ true
+fewer_dangle ps q [] f e = e
+fewer_dangle ps q (s ∷ xs) f e = step (own_rewrites s.id ps) f.0 e (fewer_dangle ps q xs f.1)
+  where
+    step : (o : Option RewritesState) → FitsSheet o s → (nat_eq q (rewritten_if o s).id && dangles (rewritten_if o s) || dangles_at q (with_own_rewrites ps xs)) ≡ true
+        → (dangles_at q (with_own_rewrites ps xs) ≡ true → dangles_at q xs ≡ true) → (nat_eq q s.id && dangles s || dangles_at q xs) ≡ true
+    step None i e rest = either_dangles (nat_eq q s.id) (dangles s) (dangles s) _ _ (λ h. h) rest e
+    step (Some w) i e rest = either_dangles (nat_eq q s.id) (dangles (with_rewrites w s)) (dangles s) _ _ (λ h. i.1) rest e
+
+distinct_init : (xs : List ℕ) (y : ℕ) → IsDistinct nat_eq (xs ++ y ∷ []) → IsDistinct nat_eq xs × (list_any (nat_eq y) xs ≡ false)
+distinct_init xs y d =
+    let turned : IsDistinct nat_eq (y ∷ (xs ++ [])) = IsDistinct-IsPermutation nat_eq nat_eq_equiv.symm (xs ++ y ∷ []) (y ∷ (xs ++ [])) (IsPermutation-middle xs y []) d in
+    let first : IsDistinct nat_eq (y ∷ xs) = subst (λ ys. IsDistinct nat_eq (y ∷ ys)) (append-nil xs) turned in
+    (IsDistinct-tail nat_eq y xs first, some_apart y xs (IsDistinct-head nat_eq y xs first))
+
+known_init : (P : ℕ × RewritesState → Type 0) (ps more : Own) → AllByRecursion P (ps ++ more) → AllByRecursion P ps
+known_init P [] more h = tt
+known_init P (p ∷ ps) more h = (h.0, known_init P ps more h.1)
+
+-- a sheet that was found by its id
+place_within : (id : ℕ) (sheets : List Worksheet) (i : ℕ) → place_of id sheets ≡ Some i → (i < length sheets) × ((s : Worksheet) → s ≡ get_or sheets i s → s.id ≡ id)
+place_within id [] i e = cc
+place_within id (x ∷ sheets) i e = step (nat_eq x.id id) refl (place_of id sheets) refl e (place_within id sheets)
+  where
+    step : (b : Bool) → nat_eq x.id id ≡ b → (o : Option ℕ) → place_of id sheets ≡ o → cond b (Some 0) (option_map suc o) ≡ Some i
+        → ((k : ℕ) → place_of id sheets ≡ Some k → (k < length sheets) × ((s : Worksheet) → s ≡ get_or sheets k s → s.id ≡ id)) → (i < length (x ∷ sheets)) × ((s : Worksheet) → s ≡ get_or (x ∷ sheets) i s → s.id ≡ id)
+    step true is o at e rest =
+        let first : 0 ≡ i = cc in
+        subst (λ i. (i < length (x ∷ sheets)) × ((s : Worksheet) → s ≡ get_or (x ∷ sheets) i s → s.id ≡ id)) first (omega arith, λ s r. ap (λ (y : Worksheet). y.id) r ∙ eqb-true x.id id is)
+    step false is None at e rest = cc
+    step false is (Some k) at e rest =
+        let next : suc k ≡ i = cc in
+        let later = rest k at in
+        subst (λ i. (i < length (x ∷ sheets)) × ((s : Worksheet) → s ≡ get_or (x ∷ sheets) i s → s.id ≡ id)) next (omega (arith, later.0), later.1)
+
+pub no_sheet : (id : ℕ) (sheets : List Worksheet) → place_of id sheets ≡ None → list_any (nat_eq id) (ids sheets) ≡ false
+no_sheet id [] e = refl
+no_sheet id (x ∷ sheets) e = step (nat_eq x.id id) refl (place_of id sheets) refl e (no_sheet id sheets)
+  where
+    step : (b : Bool) → nat_eq x.id id ≡ b → (o : Option ℕ) → place_of id sheets ≡ o → cond b (Some 0) (option_map suc o) ≡ None → (place_of id sheets ≡ None → list_any (nat_eq id) (ids sheets) ≡ false) → (nat_eq id x.id || list_any (nat_eq id) (ids sheets)) ≡ false
+    step true is o at e rest = cc
+    step false is None at e rest = ap₂ ◌||◌ (nat_eq_equiv.symm id x.id ∙ is) (rest at)
+    step false is (Some k) at e rest = cc
+
+-- nothing is left to be done
+pub nothing_left : (ps : Own) (sheets : List Worksheet) → length ps ≡ 0 → with_own_rewrites ps sheets ≡ sheets
+nothing_left (p ∷ ps) sheets e = absurd (omega (arith, e))
+nothing_left [] [] e = refl
+nothing_left [] (s ∷ sheets) e = ap (λ (xs : List Worksheet). s ∷ xs) (nothing_left [] sheets e)
+
+-- the last of them is taken
+module _ (all ps : Own) (id : ℕ) (w : RewritesState) (sheets : List Worksheet) (popped : all ≡ ps ++ (id, w) ∷ []) (fits : FitOwn all sheets) where
+  abbrev both : Own
+  both = ps ++ (id, w) ∷ []
+
+  fit_both : FitOwn both sheets
+  fit_both = subst (λ ps. FitOwn ps sheets) popped fits
+
+  init : IsDistinct nat_eq (own_ids ps) × (list_any (nat_eq id) (own_ids ps) ≡ false)
+  init = distinct_init (own_ids ps) id (subst (IsDistinct nat_eq) (map-append (λ p. p.0) ps ((id, w) ∷ [])) fit_both.differ)
+
+  own_last : own_rewrites id both ≡ Some w
+  own_last = own_new id ps ((id, w) ∷ []) (own_none id ps init.1) ∙ ap (λ b. cond b (Some w) None) (nat_eq_equiv.refl id)
+
+  -- sheets with other ids
+  others_left : (xs : List Worksheet) → list_any (nat_eq id) (ids xs) ≡ false → with_own_rewrites ps xs ≡ with_own_rewrites both xs
+  others_left [] e = refl
+  others_left (x ∷ xs) e =
+      let parts = or_parts (nat_eq id x.id) (list_any (nat_eq id) (ids xs)) e in
+      ap₂ ◌∷◌ (ap (λ o. rewritten_if o x) (sym (own_other x.id id w ps (nat_eq_equiv.symm x.id id ∙ parts.0)))) (others_left xs parts.1)
+
+  others_fit : (xs : List Worksheet) → list_any (nat_eq id) (ids xs) ≡ false → AllByRecursion (λ s. FitsSheet (own_rewrites s.id both) s) xs → AllByRecursion (λ s. FitsSheet (own_rewrites s.id ps) s) xs
+  others_fit [] e h = tt
+  others_fit (x ∷ xs) e h =
+      let parts = or_parts (nat_eq id x.id) (list_any (nat_eq id) (ids xs)) e in
+      (subst (λ o. FitsSheet o x) (own_other x.id id w ps (nat_eq_equiv.symm x.id id ∙ parts.0)) h.0, others_fit xs parts.1 h.1)
+
+  -- no sheet has the id
+  pub missed : place_of id sheets ≡ None → (with_own_rewrites ps sheets ≡ with_own_rewrites all sheets) × FitOwn ps sheets
+  missed none =
+      let free = no_sheet id sheets none in (
+        others_left sheets free ∙ ap (λ ps. with_own_rewrites ps sheets) (sym popped),
+        record { known = known_init _ ps ((id, w) ∷ []) fit_both.known; differ = init.0; fits = others_fit sheets free fit_both.fits },
+      )
+
+  -- a sheet has it
+  module _ (at : ℕ) (placed : place_of id sheets ≡ Some at) where
+    pub own_within : at < length sheets
+    own_within = (place_within id sheets at placed).0
+
+    module _ (s : Worksheet) (read : s ≡ get_or sheets at s) where
+      its_id : s.id ≡ id
+      its_id = (place_within id sheets at placed).1 s read
+
+      abbrev front : List Worksheet
+      front = take at sheets
+
+      abbrev back : List Worksheet
+      back = drop (suc at) sheets
+
+      parts : sheets ≡ front ++ s ∷ back
+      parts = split_at sheets at s own_within read
+
+      own_of_it : own_rewrites s.id both ≡ Some w
+      own_of_it = ap (λ k. own_rewrites k both) its_id ∙ own_last
+
+      fit_parts : AllByRecursion (λ x. FitsSheet (own_rewrites x.id both) x) (front ++ s ∷ back)
+      fit_parts = subst (AllByRecursion (λ x. FitsSheet (own_rewrites x.id both) x)) parts fit_both.fits
+
+      pub own_fits : FitsPool w s.pool.formulas
+      own_fits = (subst (λ o. FitsSheet o s) own_of_it (inside front fit_parts)).0
+        where
+          inside : (xs : List Worksheet) → AllByRecursion (λ x. FitsSheet (own_rewrites x.id both) x) (xs ++ s ∷ back) → FitsSheet (own_rewrites s.id both) s
+          inside [] h = h.0
+          inside (x ∷ xs) h = inside xs h.1
+
+      pub own_done : IsDistinct nat_eq (ids sheets) → (t : Worksheet) → t ≡ with_rewrites w s
+          → (with_own_rewrites ps (slice_set sheets at t) ≡ with_own_rewrites all sheets) × FitOwn ps (slice_set sheets at t) × (ids (slice_set sheets at t) ≡ ids sheets)
+      own_done differ t done = (
+        ap (with_own_rewrites ps) set ∙ left front free ∙ sym (ap₂ with_own_rewrites popped parts),
+        record {
+          known = subst (λ ns. AllByRecursion (λ (p : ℕ × RewritesState). list_any (nat_eq p.0) ns ≡ true) ps) (sym ids_same) (known_init _ ps ((id, w) ∷ []) fit_both.known);
+          differ = init.0;
+          fits = subst (AllByRecursion (λ x. FitsSheet (own_rewrites x.id ps) x)) (sym set) (fit front free fit_parts);
+        },
+        ids_same,
+      )
+        where
+          set : slice_set sheets at t ≡ front ++ t ∷ back
+          set = set_parts sheets at t own_within
+
+          id_same : t.id ≡ s.id
+          id_same = ap (λ (x : Worksheet). x.id) done
+
+          ids_same : ids (slice_set sheets at t) ≡ ids sheets
+          ids_same = ap ids set ∙ go front ∙ sym (ap ids parts)
+            where
+              go : (xs : List Worksheet) → ids (xs ++ t ∷ back) ≡ ids (xs ++ s ∷ back)
+              go [] = ap (λ n. n ∷ ids back) id_same
+              go (x ∷ xs) = ap (λ ns. x.id ∷ ns) (go xs)
+
+          free : list_any (nat_eq id) (ids (front ++ back)) ≡ false
+          free = subst (λ k. list_any (nat_eq k) (ids (front ++ back)) ≡ false) its_id (alone front back s (subst (λ xs. IsDistinct nat_eq (ids xs)) parts differ))
+
+          none_left : own_rewrites t.id ps ≡ None
+          none_left = ap (λ k. own_rewrites k ps) (id_same ∙ its_id) ∙ own_none id ps init.1
+
+          left : (xs : List Worksheet) → list_any (nat_eq id) (ids (xs ++ back)) ≡ false → with_own_rewrites ps (xs ++ t ∷ back) ≡ with_own_rewrites both (xs ++ s ∷ back)
+          left [] e = ap₂ ◌∷◌ (ap (λ o. rewritten_if o t) none_left ∙ done ∙ sym (ap (λ o. rewritten_if o s) own_of_it)) (others_left back e)
+          left (x ∷ xs) e =
+              let parts = or_parts (nat_eq id x.id) (list_any (nat_eq id) (ids (xs ++ back))) e in
+              ap₂ ◌∷◌ (ap (λ o. rewritten_if o x) (sym (own_other x.id id w ps (nat_eq_equiv.symm x.id id ∙ parts.0)))) (left xs parts.1)
+
+          fit : (xs : List Worksheet) → list_any (nat_eq id) (ids (xs ++ back)) ≡ false → AllByRecursion (λ x. FitsSheet (own_rewrites x.id both) x) (xs ++ s ∷ back) → AllByRecursion (λ x. FitsSheet (own_rewrites x.id ps) x) (xs ++ t ∷ back)
+          fit [] e h = (subst (λ o. FitsSheet o t) (sym none_left) tt, others_fit back e h.1)
+          fit (x ∷ xs) e h =
+              let parts = or_parts (nat_eq id x.id) (list_any (nat_eq id) (ids (xs ++ back))) e in
+              (subst (λ o. FitsSheet o x) (own_other x.id id w ps (nat_eq_equiv.symm x.id id ∙ parts.0)) h.0, fit xs parts.1 h.1)
+
+-- a vector whose elements were rewritten through a slice
+pub own_back : (n : ℕ) (ps : Own) (old now new : List Worksheet) → new ≡ with_own_rewrites ps now → now ≡ old → n ≡ length old → take n (new ++ drop (length new) old) ≡ with_own_rewrites ps old
+own_back n ps old now new made same counted =
+    let is : new ≡ with_own_rewrites ps old = made ∙ ap (with_own_rewrites ps) same in
+    ap (λ k. take k (new ++ drop (length new) old)) (counted ∙ sym (ap length is ∙ length-map old (λ s. rewritten_if (own_rewrites s.id ps) s))) ∙ take_at new (drop (length new) old) (length new) refl ∙ is
+
+-- ---- whole changes
+
+module _ (change : Change) (ps : Own) (old : List Worksheet) (makes : Makes change ps old) where
+  -- a new id
+  fresh_own : (q : ℕ) → greatest (ids old) < q → own_rewrites q ps ≡ None
+  fresh_own q lt = own_none q ps (go ps makes.fits.known)
+    where
+      go : (ps : Own) → AllByRecursion (λ p. is_id p.0 old ≡ true) ps → is_listed q (own_ids ps) ≡ false
+      go [] h = refl
+      go (p ∷ ps) h =
+          let other : nat_eq q p.0 ≡ false =
+          elim (cases_Bool (nat_eq q p.0)) [
+            | inl same ↦ absurd (clash (is_id p.0 old) h.0 (ap (λ k. is_id k old) (sym (eqb-true q p.0 same)) ∙ above_greatest q (ids old) lt))
+            | inr other ↦ other
+          ] in
+          ap₂ ◌||◌ other (go ps h.1)
+
+  module _ (s : Worksheet) (fresh : greatest (ids old) < s.id) where
+    pub own_fits_pushed : FitOwn ps (old ++ s ∷ [])
+    own_fits_pushed = record {
+      known = more ps makes.fits.known;
+      differ = makes.fits.differ;
+      fits = all_pushed (λ x. FitsSheet (own_rewrites x.id ps) x) old s makes.fits.fits (subst (λ o. FitsSheet o s) (sym (fresh_own s.id fresh)) tt);
+    }
+      where
+        more : (ps : Own) → AllByRecursion (λ p. is_id p.0 old ≡ true) ps → AllByRecursion (λ p. is_id p.0 (old ++ s ∷ []) ≡ true) ps
+        more [] h = tt
+        more (p ∷ ps) h = (
+          ap (list_any (nat_eq p.0)) (map-append (λ (x : Worksheet). x.id) old (s ∷ [])) ∙ list_any-append (nat_eq p.0) (ids old) (s.id ∷ []) ∙ ap (λ b. b || (nat_eq p.0 s.id || false)) h.0,
+          more ps h.1,
+        )
+
+    own_pushed : with_own_rewrites ps (old ++ s ∷ []) ≡ with_own_rewrites ps old ++ s ∷ []
+    own_pushed = map-append (λ x. rewritten_if (own_rewrites x.id ps) x) old (s ∷ []) ∙ ap (λ o. with_own_rewrites ps old ++ rewritten_if o s ∷ []) (fresh_own s.id fresh)
+
+    module _ (between new : List Worksheet) (pushed : between ≡ old ++ s ∷ []) (done : new ≡ with_own_rewrites ps between) where
+      all_done : new ≡ with_own_rewrites ps old ++ s ∷ []
+      all_done = done ∙ ap (with_own_rewrites ps) pushed ∙ own_pushed
+
+      pub added_made : sheets_of new ≡ map (changed_pool change) (sheets_of old) ++ sheet_of s ∷ []
+      added_made = ap sheets_of all_done ∙ map-append sheet_of (with_own_rewrites ps old) (s ∷ []) ∙ ap (λ xs. xs ++ sheet_of s ∷ []) makes.made
+
+      pub added_looks_up : s.pool.is_whole ≡ true → look_ups new ≡ map (looks_up_after change) old ++ true ∷ []
+      added_looks_up whole =
+          ap look_ups all_done ∙ map-append (λ (x : Worksheet). x.pool.is_whole) (with_own_rewrites ps old) (s ∷ []) ∙ ap₂ (λ bs b. bs ++ b ∷ []) makes.looks_up whole
+
+  module _ (index : ℕ) (name : List ℕ) where
+    ids_called : ids (updated_at (called name) index old) ≡ ids old
+    ids_called = updated_unseen (λ (x : Worksheet). x.id) (called name) (λ x. refl) index old
+
+    pub own_fits_called : FitOwn ps (updated_at (called name) index old)
+    own_fits_called = record {
+      known = subst (λ ns. AllByRecursion (λ (p : ℕ × RewritesState). list_any (nat_eq p.0) ns ≡ true) ps) (sym ids_called) makes.fits.known;
+      differ = makes.fits.differ;
+      fits = go index old makes.fits.fits;
+    }
+      where
+        one : (o : Option RewritesState) (x : Worksheet) → FitsSheet o x → FitsSheet o (called name x)
+        one None x h = tt
+        one (Some w) x h = h
+
+        go : (i : ℕ) (xs : List Worksheet) → AllByRecursion (λ x. FitsSheet (own_rewrites x.id ps) x) xs → AllByRecursion (λ x. FitsSheet (own_rewrites x.id ps) x) (updated_at (called name) i xs)
+        go i [] h = tt
+        go zero (x ∷ xs) h = (one (own_rewrites x.id ps) x h.0, h.1)
+        go (suc i) (x ∷ xs) h = (h.0, go i xs h.1)
+
+    own_called : (i : ℕ) (xs : List Worksheet) → with_own_rewrites ps (updated_at (called name) i xs) ≡ updated_at (called name) i (with_own_rewrites ps xs)
+    own_called i [] = refl
+    own_called zero (x ∷ xs) = ap (λ (y : Worksheet). y ∷ with_own_rewrites ps xs) (one (own_rewrites x.id ps))
+      where
+        one : (o : Option RewritesState) → rewritten_if o (called name x) ≡ called name (rewritten_if o x)
+        one None = refl
+        one (Some w) = refl
+    own_called (suc i) (x ∷ xs) = ap (λ ys. rewritten_if (own_rewrites x.id ps) x ∷ ys) (own_called i xs)
+
+    module _ (between new : List Worksheet) (renamed : between ≡ updated_at (called name) index old) (done : new ≡ with_own_rewrites ps between) where
+      both_done : new ≡ updated_at (called name) index (with_own_rewrites ps old)
+      both_done = done ∙ ap (with_own_rewrites ps) renamed ∙ own_called index old
+
+      pub renamed_made : sheets_of new ≡ updated_at (sheet_called name) index (map (changed_pool change) (sheets_of old))
+      renamed_made = ap sheets_of both_done ∙ sheets_called name index (with_own_rewrites ps old) ∙ ap (updated_at (sheet_called name) index) makes.made
+
+      pub renamed_looks_up : look_ups new ≡ map (looks_up_after change) old
+      renamed_looks_up = ap look_ups both_done ∙ updated_unseen (λ (x : Worksheet). x.pool.is_whole) (called name) (λ x. refl) index (with_own_rewrites ps old) ∙ makes.looks_up

@@ -1,0 +1,91 @@
+//! Which sheets have formulas that mention something that wasn't found, told by their ids.
+ghost use Rattle.std.specs.Prelude.{◌≡◌, ◌<◌, ◌≤◌, ℕ, false, filter, find, length, map, nat_eq, not, option_map, vec_capacity, vec_len, if◌then◌else◌};
+ghost use Rattle.std.specs.List.{IsDistinct};
+ghost use Rattle.ic_sheets.specs.Index.{ArePlaced, dangles, dangles_at, dangling_ids, is_listed};
+
+use super::{place_in, sheet_at};
+use crate::Worksheet;
+use std::collections::BTreeMap;
+
+/// Whether some formula of a sheet mentions something that wasn't found.
+pub fn dangles(sheet: &Worksheet) -> bool
+    ensures { result ≡ dangles sheet.now }
+{
+    sheet.pool.dangling_count() > 0
+}
+
+/// Puts an id in or takes it out, where it was among these or not and is to be or not. It takes no memory: there is room
+/// for one that comes.
+pub fn settle(ids: &mut Vec<u32>, id: u32, was: bool, now: bool)
+    requires was { is_listed id ids.old.items ≡ was }
+    requires differ { IsDistinct nat_eq ids.old.items }
+    requires room { was ≡ false → vec_len ids.old < vec_capacity ids.old }
+    ensures finds { (q : ℕ) → is_listed q ids.new.items
+        ≡ (if nat_eq q id then now else is_listed q ids.old.items) }
+    ensures differ { IsDistinct nat_eq ids.new.items }
+    ensures capacity { vec_capacity ids.new ≡ vec_capacity ids.old }
+{
+    match (was, now) {
+        (false, true) => ids.push_reserved(id),
+        (true, false) => take_out(ids, id),
+        _ => {}
+    }
+}
+
+/// Takes an id out.
+fn take_out(ids: &mut Vec<u32>, id: u32)
+    ensures ids { ids.new.items ≡ filter (λ q. not (nat_eq q id)) ids.old.items }
+    ensures capacity { vec_capacity ids.new ≡ vec_capacity ids.old }
+{
+    ids.retain(|q| *q != id);
+}
+
+/// Makes these the ids of the sheets in which something dangles. It takes no memory.
+pub fn note_dangling(ids: &mut Vec<u32>, sheets: &[Worksheet])
+    requires { length sheets.now ≤ vec_capacity ids.old }
+    ensures ids { ids.new.items ≡ dangling_ids sheets.now }
+    ensures capacity { vec_capacity ids.new ≡ vec_capacity ids.old }
+{
+    ids.clear();
+    for sheet in sheets {
+        if dangles(sheet) {
+            ids.push_reserved(sheet.id);
+        }
+    }
+}
+
+/// Leaves those of the ids alone whose sheet has something that dangles.
+pub fn keep_dangling(ids: &mut Vec<u32>, sheets: &[Worksheet], places: &BTreeMap<u32, usize>)
+    requires placed { ArePlaced places.now sheets.now }
+    requires differ { IsDistinct nat_eq (map (λ s. s.id) sheets.now) }
+    ensures ids { ids.new.items ≡ filter (λ id. dangles_at id sheets.now) ids.old.items }
+    ensures capacity { vec_capacity ids.new ≡ vec_capacity ids.old }
+{
+    ids.retain(|id| dangles_with(sheets, places, *id));
+}
+
+/// Whether something dangles in the sheet with this id.
+fn dangles_with(sheets: &[Worksheet], places: &BTreeMap<u32, usize>, id: u32) -> bool
+    ensures { ArePlaced places.now sheets.now → IsDistinct nat_eq (map (λ s. s.id) sheets.now)
+        → result ≡ dangles_at id sheets.now }
+{
+    match sheet_with(sheets, places, id) {
+        Some(sheet) => dangles(sheet),
+        None => false,
+    }
+}
+
+/// The sheet with this id.
+pub fn sheet_with<'s>(
+    sheets: &'s [Worksheet],
+    places: &BTreeMap<u32, usize>,
+    id: u32,
+) -> Option<&'s Worksheet>
+    ensures { ArePlaced places.now sheets.now
+        → option_map (λ s. s.now) result ≡ find (λ s. nat_eq s.id id) sheets.now }
+{
+    match place_in(places, id) {
+        Some(index) => sheet_at(sheets, index),
+        None => None,
+    }
+}
