@@ -1,8 +1,10 @@
 mod AlikeLemmas
 mod CoreLemmas
+pub mod FormulaLemmas
+pub mod FormulaStepped
 mod NumberLemmas
 mod ReaderLemmas
 mod SceneLemmas
-mod ServedLemmas
+pub mod ServedLemmas
 mod SteppedLemmas
 mod examples

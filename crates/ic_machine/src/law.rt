@@ -4,7 +4,7 @@ ghost use Rattle.ic_machine.specs.Alike.{HoldsAlike};
 ghost use Rattle.ic_machine.specs.Book.{Book};
 ghost use Rattle.ic_machine.specs.Command.{Command};
 ghost use Rattle.ic_machine.specs.Content.{content_of, held};
-ghost use Rattle.ic_machine.specs.Core.{IsSteppedAs, core_command};
+ghost use Rattle.ic_machine.specs.Core.{FormulaIsStepped, IsSteppedAs, core_command};
 ghost use Rattle.ic_machine.specs.Laws.{BadLineStays, CounterpartsAreBack, NumbersAreSmall};
 ghost use Rattle.ic_machine.specs.Laws.{RefusedStays, ServedIsCore};
 ghost use Rattle.ic_machine.specs.Laws.{RunsLeaveSame, RunsTellSame};
@@ -61,4 +61,9 @@ pub fn law_runs_shared()
 pub fn law_served_is_core()
     ensures served { ServedIsCore }
     ensures back { CounterpartsAreBack }
+{}
+
+/// So is one that writes a formula, where merged cells and arrays don't forbid it and no sign begins its text.
+pub fn law_formula_is_stepped()
+    ensures { FormulaIsStepped }
 {}
