@@ -1,10 +1,10 @@
-mod AlikeLemmas
-mod CoreLemmas
+pub mod AlikeLemmas
+pub mod CoreLemmas
 pub mod FormulaLemmas
 pub mod FormulaStepped
-mod NumberLemmas
-mod ReaderLemmas
-mod SceneLemmas
+pub mod NumberLemmas
+pub mod ReaderLemmas
+pub mod SceneLemmas
 pub mod ServedLemmas
-mod SteppedLemmas
+pub mod SteppedLemmas
 mod examples
