@@ -184,7 +184,7 @@ found_in f pool (Some index) e = ap (λ (x : Option Formula). unwrap_or x (formu
 pub formula_placed : (f : Formula) (pool : List Formula) → formula_in (pool_with f pool) (index_in_pool f pool) ≡ f
 formula_placed f pool = found_in f pool (first_place (code f) pool) refl
 
-in_front : {A : Type 0} (xs ys : List A) (i : ℕ) → i < length xs → slice_get (xs ++ ys) i ≡ slice_get xs i
+pub in_front : {A : Type 0} (xs ys : List A) (i : ℕ) → i < length xs → slice_get (xs ++ ys) i ≡ slice_get xs i
 in_front [] ys i lt = absurd (omega (arith, lt))
 in_front (x ∷ xs) ys zero lt = refl
 in_front (x ∷ xs) ys (suc i) lt = in_front xs ys i (omega (arith, lt))

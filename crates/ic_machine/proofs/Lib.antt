@@ -7,4 +7,7 @@ pub mod ReaderLemmas
 pub mod SceneLemmas
 pub mod ServedLemmas
 pub mod SteppedLemmas
+pub mod StylesStay
+pub mod SubjectsStay
+pub mod ValidLemmas
 mod examples
