@@ -27,12 +27,12 @@ use Rattle.ic_tree.specs.Notations.{notations_of}
 use Rattle.ic_machine.specs.Capture.{captured, captured_at, captured_body, captured_cells, captured_sites, has_sites, words_in, words_step}
 use Rattle.ic_cells.specs.declared.value.FormulaValue.TheVariants as values
 use Rattle.ic_laws.proofs.core.CellWritten.{place_cmp_total}
-use Rattle.ic_laws.specs.CoreBook.{CellPlace}
+use Rattle.ic_laws.specs.CoreBook.{CellPlace, Definition}
 use Rattle.ic_laws.specs.declared.tree.Formula.TheVariants as formulas
 use Rattle.ic_cells.specs.Maps.{place_cmp}
 use Rattle.ic_machine.specs.Book.{Book, Entry, Sheet, Stepped, core_of, empty_grid, empty_sheet, notations_in, unless_refused}
 use Rattle.ic_machine.specs.Content.{Content, FormulaContent, formula_index}
-use Rattle.ic_machine.specs.Refusal.{CellSite, InvalidFormula, InvalidName, InvalidScope, NameExists, NameNotFound, Site, WouldCapture}
+use Rattle.ic_machine.specs.Refusal.{CellSite, DefinitionSite, InvalidFormula, InvalidName, InvalidScope, NameExists, NameNotFound, Site, WouldCapture}
 use Rattle.ic_machine.specs.Reply.{bool_field}
 use Rattle.ic_machine.specs.subjects.Definitions.{Update, keys_of_update, meets_other, old_key, update_body, update_name_step, update_of, with_body, would_capture_step}
 use Rattle.ic_machine.proofs.CoreLemmas.{no_cells}
@@ -183,3 +183,13 @@ module _ (text : List ℕ) (body : Body) where
     done_by_z : update_name_step (to (codes "z") text) book ≡ Ok (with_body book (to (codes "z") text) (Some body), [])
     unfolding caseless ucd_derived update_name_step
     done_by_z = ap (λ (o : Option Body). updated (codes "z") o (sites_by (codes "z") o)) read ∙ ap (λ (sites : List Site). updated (codes "z") (Some body) sites) sites_of_z
+
+-- The body of a definition is captured too, also where the sheet that this is local to is gone. ----
+
+abbrev local_body : Bound → Definition
+local_body t = record { name = codes "w"; scope = Some 9; has_equals = false; body = formulas.Tree t }
+
+body_captured : captured_body (changed_key (key (codes "x")) (key (codes "y"))) (key (codes "x")) (local_body (formula (names.Name (key (codes "x")))), local_body (formula (names.Var (codes "y"))))
+    ≡ DefinitionSite (record { name = codes "w"; scope = Some 9 }) ∷ []
+unfolding caseless
+body_captured = ap (λ (b : Bool). cond b (DefinitionSite (record { name = codes "w"; scope = Some 9 }) ∷ []) []) is_captured
