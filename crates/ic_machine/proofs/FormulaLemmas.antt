@@ -28,11 +28,11 @@ use Rattle.ic_machine.specs.Placed.{index_in_pool, pool_with}
 
 -- Entries with some values taken out, and the others made into something else. ----
 
-first_of_two : (a b : Bool) → T (a && b) → T a
+pub first_of_two : (a b : Bool) → T (a && b) → T a
 first_of_two true b p = tt
 first_of_two false b p = p
 
-second_of_two : (a b : Bool) → T (a && b) → T b
+pub second_of_two : (a b : Bool) → T (a && b) → T b
 second_of_two true b p = p
 second_of_two false b p = absurd p
 
@@ -40,24 +40,24 @@ both_of_two : (a b : Bool) → T a → T b → T (a && b)
 both_of_two true b p q = q
 both_of_two false b p q = p
 
-is_less : (r : Ordering) → T (is_lt r) → r ≡ Less
+pub is_less : (r : Ordering) → T (is_lt r) → r ≡ Less
 is_less Less p = refl
 is_less Equal p = absurd p
 is_less Greater p = absurd p
 
-is_equal : (r : Ordering) → is_eq r ≡ true → r ≡ Equal
+pub is_equal : (r : Ordering) → is_eq r ≡ true → r ≡ Equal
 is_equal Less p = absurd (true≢false (sym p))
 is_equal Equal p = refl
 is_equal Greater p = absurd (true≢false (sym p))
 
 module _ {K Y : Type 0} (R : K → K → Ordering) where
-  find_below : (q : K) (es : List (K × Y)) → T (entries.below_all R q es) → finite.find R q es ≡ None
+  pub find_below : (q : K) (es : List (K × Y)) → T (entries.below_all R q es) → finite.find R q es ≡ None
   find_below q [] p = refl
   find_below q (e ∷ es) p =
       ap (λ r. cond (is_eq r) (Some e.1) (finite.find R q es)) (is_less (R q e.0) (first_of_two (is_lt (R q e.0)) (entries.below_all R q es) p))
       ∙ find_below q es (second_of_two (is_lt (R q e.0)) (entries.below_all R q es) p)
 
-  below_tied : IsTotalOrder R → (x y : K) (es : List (K × Y)) → R x y ≡ Equal → T (entries.below_all R y es) → T (entries.below_all R x es)
+  pub below_tied : IsTotalOrder R → (x y : K) (es : List (K × Y)) → R x y ≡ Equal → T (entries.below_all R y es) → T (entries.below_all R x es)
   below_tied o x y [] p h = tt
   below_tied o x y (e ∷ es) p h =
       both_of_two (is_lt (R x e.0)) (entries.below_all R x es)
@@ -94,7 +94,7 @@ module _ {K X Z Y : Type 0} (R : K → K → Ordering) (g : X → Option Z) (h :
   sorted_one k None rest p q = q
   sorted_one k (Some z) rest p q = both_of_two (entries.below_all R k rest) (finite.is_sorted R rest) p q
 
-  sorted_made : (es : List (K × X)) → T (finite.is_sorted R es) → T (finite.is_sorted R (all_made es))
+  pub sorted_made : (es : List (K × X)) → T (finite.is_sorted R es) → T (finite.is_sorted R (all_made es))
   sorted_made [] p = tt
   sorted_made (e ∷ es) p =
       sorted_one e.0 (g e.1) (all_made es) (below_made e.0 es (first_of_two (entries.below_all R e.0 es) (finite.is_sorted R es) p))

@@ -1,5 +1,6 @@
 pub mod AlikeLemmas
 pub mod CoreLemmas
+pub mod CoreValid
 pub mod FormulaLemmas
 pub mod FormulaStepped
 pub mod NumberLemmas

@@ -5,7 +5,7 @@ ghost use Rattle.ic_machine.specs.Book.{Book};
 ghost use Rattle.ic_machine.specs.Command.{Command};
 ghost use Rattle.ic_machine.specs.Content.{content_of, held};
 ghost use Rattle.ic_machine.specs.Core.{FormulaIsStepped, IsSteppedAs, core_command};
-ghost use Rattle.ic_machine.specs.Kept.{KeepsValid};
+ghost use Rattle.ic_machine.specs.Kept.{CoreIsValid, CoreStaysValid, KeepsValid};
 ghost use Rattle.ic_machine.specs.Laws.{BadLineStays, CounterpartsAreBack, NumbersAreSmall};
 ghost use Rattle.ic_machine.specs.Laws.{RefusedStays, ServedIsCore};
 ghost use Rattle.ic_machine.specs.Laws.{RunsLeaveSame, RunsTellSame};
@@ -84,4 +84,12 @@ pub fn law_book_stays_valid()
     ensures styles { KeepsValid style_step }
     ensures layout { KeepsValid layout_step }
     ensures tabs { KeepsValid tab_step }
+{}
+
+/// The core of a valid book is a valid book of the core machine; and so is that of the book which an accepted command leaves
+/// that the core machine has, too, and that writes no formula: its sheets, its definitions and all formulas of its cells
+/// are as they must be.
+pub fn law_core_stays_valid()
+    ensures core { CoreIsValid }
+    ensures stays { CoreStaysValid }
 {}
