@@ -1,6 +1,5 @@
 -- The core of a valid book is a valid core book, and stays one.
-use Rattle.std.proofs.Common.{◌≡◌, ℕ, ℤ, ◌<◌, ◌≤◌, List, [], ◌∷◌, ◌++◌, map, length, Bool, true, false, cond, Option, Some, None, Result, Ok, Err, refl, sym, ap, subst, ◌∙◌, arith, inl, inr, T}
-use mathlib.Core.Bool.{true≢false}
+use Rattle.std.proofs.Common.{◌≡◌, ℕ, ◌<◌, ◌≤◌, List, [], ◌∷◌, ◌++◌, map, Bool, true, cond, Option, Some, None, Ok, Err, refl, sym, ap, subst, ◌∙◌, inl, inr, T}
 use Rattle.std.proofs.lemmas.Bool.{cases_Bool}
 use Rattle.std.proofs.lemmas.List.{length-map}
 use Rattle.std.specs.Cmp.{IsTotalOrder, eq_by_cmp_equiv}
@@ -12,7 +11,7 @@ use Rattle.std.specs.Ordering.{eq_by_cmp, is_lt}
 use Rattle.std.specs.Option.{option_to_list}
 use Rattle.std.specs.Prelude.{nat_eq, option_map}
 use Rattle.std.specs.declared.cmp.Ordering.{Ordering}
-use Rattle.std.specs.declared.cmp.Ordering.TheVariants.{Less, Equal, Greater}
+use Rattle.std.specs.declared.cmp.Ordering.TheVariants.{Less}
 use Rattle.ic_laws.proofs.core.CellWritten.{place_cmp_total}
 use Rattle.ic_laws.proofs.core.Steps.{step_keeps}
 use Rattle.ic_laws.proofs.kept.TreeFacts.{tree_facts}
@@ -22,13 +21,12 @@ use Rattle.ic_laws.specs.CoreBook.{CellPlace, Cells, CoreBook, Definition, IsId,
 use Rattle.ic_laws.specs.CoreStep.{Outcome, core_step}
 use Rattle.ic_laws.specs.Name.{agrees, is_identifier, is_sheet_name}
 use Rattle.ic_laws.specs.Notations.{Notations}
-use Rattle.ic_laws.specs.ValidCore.{IsKeptBody, IsKeptCell, IsKeptFormula, IsScope, IsValidCore, IsValidDefinition, IsValidSheet}
+use Rattle.ic_laws.specs.ValidCore.{IsKeptBody, IsKeptCell, IsScope, IsValidCore, IsValidDefinition, IsValidSheet}
 use Rattle.ic_laws.specs.declared.scene.Scene.{Scene}
-use Rattle.ic_laws.specs.declared.tree.Formula.{Formula}
 use Rattle.ic_tree.proofs.NotationLaws.{notations_are}
 use Rattle.ic_grid.specs.Block.{is_in_sheet}
 use Rattle.ic_grid.specs.Conditions.{AreInSheet}
-use Rattle.ic_machine.specs.Book.{Book, Entry, Sheet, Stepped, core_cells, core_entry, core_of, core_sheet, notations_in, scene_in}
+use Rattle.ic_machine.specs.Book.{Book, Entry, Sheet, Stepped, core_cells, core_of, core_sheet, notations_in, scene_in}
 use Rattle.ic_machine.specs.Command.{Command}
 use Rattle.ic_machine.specs.Content.{Content, formula_in, formula_index, held}
 use Rattle.ic_machine.specs.Core.{IsSteppedAs, core_command, told_by, told_by_core}
@@ -43,9 +41,10 @@ use Rattle.ic_machine.proofs.SteppedLemmas.{stepped}
 module _ {K X : Type 0} (R : K → K → Ordering) (o : IsTotalOrder R) (P : K → X → Type 0) where
   each_found : (es : List (K × X)) → T (finite.is_sorted R es) → ((k : K) (x : X) → finite.find R k es ≡ Some x → P k x) → AllByRecursion (λ (e : K × X). P e.0 e.1) es
   each_found [] sorted h = tt
-  each_found (e ∷ es) sorted h =
-      (h e.0 e.1 (ap (λ (t : Bool). cond t (Some e.1) (finite.find R e.0 es)) (tied e.0)),
-      each_found es (second_of_two (entries.below_all R e.0 es) (finite.is_sorted R es) sorted) (λ k x f. h k x (later k x f)))
+  each_found (e ∷ es) sorted h = (
+    h e.0 e.1 (ap (λ (t : Bool). cond t (Some e.1) (finite.find R e.0 es)) (tied e.0)),
+    each_found es (second_of_two (entries.below_all R e.0 es) (finite.is_sorted R es) sorted) (λ k x f. h k x (later k x f)),
+  )
     where
       tied : (k : K) → eq_by_cmp R k k ≡ true
       tied k = (eq_by_cmp_equiv o).refl k
@@ -88,8 +87,8 @@ module _ (n : Notations) (scene : Scene) (s : Sheet) where
     name = name;
     ordered = in_order place_cmp (core_cells s.pool (finite.entries s.grid.contents)) (sorted_made place_cmp formula_index (formula_in s.pool) (finite.entries s.grid.contents) (finite.entries_sorted s.grid.contents));
     cells = all_cells (finite.entries s.grid.contents)
-    (each_found place_cmp place_cmp_total IsCell (finite.entries s.grid.contents) (finite.entries_sorted s.grid.contents)
-    (λ place content f. let at = finite.get-entries s.grid.contents place ∙ f in (inside place content at, formulas place content at)));
+        (each_found place_cmp place_cmp_total IsCell (finite.entries s.grid.contents) (finite.entries_sorted s.grid.contents)
+        (λ place content f. let at = finite.get-entries s.grid.contents place ∙ f in (inside place content at, formulas place content at)));
   }
 
 all_sheets : (n : Notations) (scene : Scene) (sheets : List Sheet) → AllByRecursion (λ (s : Sheet). IsId s.id) sheets → AllByRecursion (λ (s : Sheet). is_sheet_name s.name ≡ true) sheets

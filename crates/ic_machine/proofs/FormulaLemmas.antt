@@ -125,7 +125,7 @@ module _ {K X Z Y : Type 0} (R : K → K → Ordering) (g : X → Option Z) (h :
 
 -- A place that is prepared: no formula changes. ----
 
-unspilled_formula : (a : CellPlace) (x : Content) → formula_index (unspilled held a x) ≡ formula_index x
+pub unspilled_formula : (a : CellPlace) (x : Content) → formula_index (unspilled held a x) ≡ formula_index x
 unspilled_formula a (EmptyContent style) = refl
 unspilled_formula a (BoolContent truth style) = refl
 unspilled_formula a (NumContent amount style) = refl
@@ -139,7 +139,7 @@ unspilled_formula a (SpillContent anchor value style) = no_formula (eq_by_cmp pl
     no_formula true = refl
     no_formula false = refl
 
-reset_formula : (x : Content) → formula_index (anchor_reset held x) ≡ formula_index x
+pub reset_formula : (x : Content) → formula_index (anchor_reset held x) ≡ formula_index x
 reset_formula (EmptyContent style) = refl
 reset_formula (BoolContent truth style) = refl
 reset_formula (NumContent amount style) = refl

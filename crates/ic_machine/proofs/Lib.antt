@@ -11,4 +11,6 @@ pub mod SteppedLemmas
 pub mod StylesStay
 pub mod SubjectsStay
 pub mod ValidLemmas
+pub mod WritingStays
+pub mod WritingSteps
 mod examples

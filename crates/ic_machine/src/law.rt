@@ -18,6 +18,7 @@ ghost use Rattle.ic_machine.specs.subjects.Notation.{notation_step};
 ghost use Rattle.ic_machine.specs.subjects.Reading.{reading_step};
 ghost use Rattle.ic_machine.specs.subjects.Styles.{style_step};
 ghost use Rattle.ic_machine.specs.subjects.Tabs.{tab_step};
+ghost use Rattle.ic_machine.specs.subjects.Writing.{writing_step};
 
 /// A line that is no command of a table changes nothing, and is answered by `BadLine`.
 pub fn law_bad_line_stays()
@@ -75,10 +76,11 @@ pub fn law_formula_is_stepped()
     ensures { FormulaIsStepped }
 {}
 
-/// A command on the notation, a reader of cells, one that writes a formula out for another place, one on styles, on the
-/// layout, on tabs or on the theme keeps what always holds of a book.
+/// A command on the notation, one that writes a cell, a reader of cells, one that writes a formula out for another place,
+/// one on styles, on the layout, on tabs or on the theme keeps what always holds of a book.
 pub fn law_book_stays_valid()
     ensures notation { KeepsValid notation_step }
+    ensures writing { KeepsValid writing_step }
     ensures reading { KeepsValid reading_step }
     ensures extending { KeepsValid extending_step }
     ensures styles { KeepsValid style_step }
