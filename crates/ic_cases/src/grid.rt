@@ -7,7 +7,7 @@ ghost use Rattle.ic_grid.specs.Whole.{IsGrid};
 use crate::cells::cell_at;
 use crate::row::{Lack, Row};
 use ic_cells::{ArrayKind, Cell, FormulaValue, Merge, SpillValue};
-use ic_grid::{Grid, GridError};
+use ic_grid::{Block, Grid, GridError};
 use ic_laws::{Items, OutOfMemory};
 use ic_refs::{is_valid_column_number, is_valid_row};
 
@@ -113,6 +113,9 @@ fn put_can_write(row: &mut Row<'_>, grid: &Grid, at: usize) {
 fn put_can_write_array(row: &mut Row<'_>, grid: &Grid, at: usize) {
     let (line, column) = (int(row, at, 1), int(row, at, 2));
     let (width, height) = (int(row, at, 3), int(row, at, 4));
+    if !Block::at((line, column), width, height).is_area() {
+        return row.bad();
+    }
     put_answer(row, grid.can_write_array(line, column, width, height));
 }
 

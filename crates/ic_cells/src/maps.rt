@@ -10,6 +10,7 @@ use std::marker::Model;
 /// A map from places, each a row and a column from 1, by row and then by column. Contracts see the finite map.
 #[derive(Drop)]
 pub struct PlaceMap<T> {
+    alloc: Global,
     inner: BTreeMap<(i32, i32), T>,
 }
 
@@ -31,8 +32,21 @@ impl<T: Drop> PlaceMap<T> {
         ensures { result ≡ map.empty }
     {
         PlaceMap {
+            alloc,
             inner: BTreeMap::new(alloc),
         }
+    }
+
+    /// What a map is that was made by hand. The memory is the one that it was made with.
+    pub fn of_map(alloc: Global, inner: BTreeMap<(i32, i32), T>) -> PlaceMap<T>
+        ensures { result ≡ map.from_entries inner.entries }
+    {
+        PlaceMap { alloc, inner }
+    }
+
+    /// Where its memory comes from.
+    pub fn alloc(&self) -> Global {
+        self.alloc
     }
 
     /// What stands at a place. None exactly where nothing does.
@@ -66,17 +80,6 @@ impl<T: Drop> PlaceMap<T> {
         ensures { map.from_entries result.now.entries ≡ self.now }
     {
         &self.inner
-    }
-}
-
-impl<T> From<BTreeMap<(i32, i32), T>> for PlaceMap<T> {
-    ghost use Rattle.std.specs.Prelude.{◌≡◌};
-    ghost use Rattle.std.specs.FinMap as map;
-
-    ghost from_gives = { λ m p. p ≡ map.from_entries m.entries };
-
-    fn from(inner: BTreeMap<(i32, i32), T>) -> PlaceMap<T> {
-        PlaceMap { inner }
     }
 }
 

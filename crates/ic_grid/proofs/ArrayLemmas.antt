@@ -4,6 +4,7 @@ use Rattle.std.proofs.lemmas.Bool.{both_ways}
 use Rattle.std.specs.FinMap as finite
 use Rattle.std.specs.Option.{option_and_then}
 use Rattle.ic_cells.specs.declared.cell.ArrayKind.{ArrayKind}
+use Rattle.ic_grid.proofs.BlockLemmas.{first_in}
 use Rattle.ic_grid.proofs.ContentsLemmas.{remade_alike, same_is}
 use Rattle.ic_grid.specs.Arrays.{anchor_at, anchor_of, array_from, array_of}
 use Rattle.ic_grid.specs.Block.{Place, block_at, first_place, is_area, is_in_block, same_place}
@@ -99,6 +100,14 @@ module _ {X : Type 0} (h : Holding X) (m : Contents X) where
         let wide : o.0 ≡ w = cc in
         let high : o.1 ≡ t = cc in
         ap (λ n. is_in_block (block_at a n t) q) (sym wide) ∙ ap (λ n. is_in_block (block_at a o.0 n) q) (sym high) ∙ o.4
+
+    -- a place of an array is in its area
+    pub place_in_area : (p a : Place) → anchor_at h m p ≡ Some a → (w t : ℤ) (k : ArrayKind) → Has h m a (Anchor w t k) → is_in_block (block_at a w t) p ≡ true
+    place_in_area p a anchor w t k has = of_case (anchor_there p a anchor)
+      where
+        of_case : ((n : ℤ) × (l : ℤ) × (j : ArrayKind) × Has h m p (Anchor n l j) × (p ≡ a)) ⊎ Has h m p (SpillOf a) → is_in_block (block_at a w t) p ≡ true
+        of_case (inl i) = ap (is_in_block (block_at a w t)) i.4 ∙ first_in a w t (ok.areas a w t k has)
+        of_case (inr i) = in_area a p w t k has i
 
     inside : (b : Bool) (x y : X) → (b ≡ false → x ≡ y) → cond b y x ≡ y
     inside true x y e = refl

@@ -3,13 +3,13 @@ use Rattle.std.proofs.Common.{◌≡◌, ◌∙◌, refl, sym, ap, ap₂, Bool, 
 use Rattle.std.proofs.lemmas.Bool.{and_parts, and_from}
 use Rattle.std.proofs.lemmas.Bool.Decides.{Decides-int_eq}
 use Rattle.std.proofs.lemmas.Int.{ints}
-use Rattle.std.specs.Prelude.{int_le, ◌+ℤ◌, ◌≤ℤ◌}
+use Rattle.std.specs.Prelude.{int_le, int_lt, ◌+ℤ◌, ◌≤ℤ◌}
 use Rattle.std.specs.Ordering.{int_cmp, int_eq, is_eq, ordering_then}
 use Rattle.std.specs.declared.cmp.Ordering.{Ordering}
 use Rattle.std.specs.declared.cmp.Ordering.TheVariants.{Less, Equal, Greater}
 use Rattle.ic_laws.specs.Position.{is_column, is_row}
 use Rattle.ic_laws.specs.declared.reference.TheConstants.{LAST_COLUMN, LAST_ROW}
-use Rattle.ic_grid.specs.Block.{Place, is_area, is_between, is_block_within, has_places, block_at, is_in_block, is_in_lines, is_in_sheet, is_span_within, same_place, whole_sheet}
+use Rattle.ic_grid.specs.Block.{Place, blocks_meet, is_area, is_between, is_in_span, spans_meet, is_block_within, has_places, block_at, is_in_block, is_in_lines, is_in_sheet, is_span_within, same_place, whole_sheet}
 use Rattle.ic_grid.specs.declared.block.Block.{Block}
 
 -- one more number
@@ -129,3 +129,44 @@ pub block_of_one : (a p : Place) (w t : ℤ) → (int_eq w (pos 1) && int_eq t (
 block_of_one a p w t e inside =
     let one = one_by_one w t e in
     only_one a p (ap (λ n. is_in_block (block_at a (pos 1) n) p) (sym one.1) ∙ ap (λ n. is_in_block (block_at a n t) p) (sym one.0) ∙ inside)
+
+-- two blocks with a place in common meet, and two that meet have one
+spans_at : (f n g k at : ℤ) → is_between f (f +ℤ n) at ≡ true → is_between g (g +ℤ k) at ≡ true → spans_meet f n g k ≡ true
+unfolding is_between spans_meet
+spans_at f n g k at e h = grind (arith, ints, e, h)
+
+pub meets_at : (b c : Block) (p : Place) → is_in_block b p ≡ true → is_in_block c p ≡ true → blocks_meet b c ≡ true
+meets_at b c p e h =
+    let one = and_parts (is_in_span b.row b.height p.0) (is_in_span b.column b.width p.1) e in
+    let two = and_parts (is_in_span c.row c.height p.0) (is_in_span c.column c.width p.1) h in
+    and_from _ _ (spans_at b.row b.height c.row c.height p.0 one.0 two.0) (spans_at b.column b.width c.column c.width p.1 one.1 two.1)
+
+span_common : (f n g k : ℤ) → pos 1 ≤ℤ n → pos 1 ≤ℤ k → spans_meet f n g k ≡ true → (at : ℤ) × (is_between f (f +ℤ n) at ≡ true) × (is_between g (g +ℤ k) at ≡ true)
+unfolding is_between spans_meet
+span_common f n g k many more e = by_order (int_le f g) refl
+  where
+    by_order : (t : Bool) → int_le f g ≡ t → (at : ℤ) × ((int_le f at && int_lt at (f +ℤ n)) ≡ true) × ((int_le g at && int_lt at (g +ℤ k)) ≡ true)
+    by_order true t = (g, grind (arith, ints, t, e, many, more), grind (arith, ints, t, e, many, more))
+    by_order false t = (f, grind (arith, ints, t, e, many, more), grind (arith, ints, t, e, many, more))
+
+pub common : (b c : Block) → has_places b ≡ true → has_places c ≡ true → blocks_meet b c ≡ true → (p : Place) × (is_in_block b p ≡ true) × (is_in_block c p ≡ true)
+common b c some more e =
+    let sizes = and_parts (int_le (pos 1) b.width) (int_le (pos 1) b.height) some in
+    let others = and_parts (int_le (pos 1) c.width) (int_le (pos 1) c.height) more in
+    let both = and_parts (spans_meet b.row b.height c.row c.height) (spans_meet b.column b.width c.column c.width) e in
+    let rows = span_common b.row b.height c.row c.height (grind (arith, ints, sizes.1)) (grind (arith, ints, others.1)) both.0 in
+    let columns = span_common b.column b.width c.column c.width (grind (arith, ints, sizes.0)) (grind (arith, ints, others.0)) both.1 in
+    ((rows.0, columns.0), and_from _ _ rows.1 columns.1, and_from _ _ rows.2 columns.2)
+
+-- the first place of a block is one of it
+span_first : (f n : ℤ) → pos 1 ≤ℤ n → is_between f (f +ℤ n) f ≡ true
+unfolding is_between
+span_first f n h = grind (arith, ints, h)
+
+pub first_in : (a : Place) (w t : ℤ) → is_area (block_at a w t) ≡ true → is_in_block (block_at a w t) a ≡ true
+first_in a w t area =
+    let b = area_bounds (block_at a w t) area in
+    and_from _ _ (span_first a.0 t b.high) (span_first a.1 w b.wide)
+
+pub area_places : (b : Block) → is_area b ≡ true → has_places b ≡ true
+area_places b e = (and_parts (has_places b) (is_block_within b whole_sheet) e).0

@@ -1,7 +1,16 @@
 pub mod ArrayLemmas
 pub mod BlockLemmas
+pub mod ChangeLemmas
+pub mod ClearLemmas
 pub mod ContentsLemmas
 pub mod KeyLemmas
 pub mod LoosenLemmas
+pub mod PrepareLemmas
 pub mod ReleaseLemmas
+pub mod RowLemmas
+pub mod SoughtLemmas
+pub mod SpreadLemmas
+pub mod ValueLemmas
+pub mod ValueWhole
+pub mod WalkLemmas
 pub mod WriteLemmas

@@ -32,11 +32,11 @@ none_there : {X : Type 0} (o : Option X) → is_some o ≡ false → o ≡ None
 none_there None e = refl
 none_there (Some x) e = cc
 
-some_there : {X : Type 0} (o : Option X) → is_some o ≡ true → (x : X) × (o ≡ Some x)
+pub some_there : {X : Type 0} (o : Option X) → is_some o ≡ true → (x : X) × (o ≡ Some x)
 some_there None e = cc
 some_there (Some x) e = (x, refl)
 
-either : (t : Bool) (x : Cell) → cond t x x ≡ x
+pub either : (t : Bool) (x : Cell) → cond t x x ≡ x
 either true x = refl
 either false x = refl
 
@@ -49,10 +49,10 @@ second_of_two true x y e = cc
 second_of_two false x y e = refl
 
 -- what becomes of the cell at a place, q, when the array of the formula at another, a, is released
-abbrev after_release : Place → Place → Cell → Cell
+abbrev pub after_release : Place → Place → Cell → Cell
 after_release a q x = cond (same_place q a) (anchor_reset celled (unspilled celled a x)) (unspilled celled a x)
 
-abbrev IsLooseCell : Cell → Type 0
+abbrev pub IsLooseCell : Cell → Type 0
 IsLooseCell x = is_loose (shape_of x) ≡ true
 
 -- a cell of another array stays
@@ -91,7 +91,7 @@ loose_cell a q (cells.SpillCell s d v) h =
     ap (λ y. is_loose (shape_of (cond (same_place q a) (anchor_reset celled y) y))) same ∙ loose_either (same_place q a) (cells.EmptyCell s) refl
 
 -- a cell of no array is loose
-free_cell : (q : Place) (x : Cell) → ((b : Place) → anchor_of q (shape_of x) ≡ Some b → false ≡ true) → IsLooseCell x
+pub free_cell : (q : Place) (x : Cell) → ((b : Place) → anchor_of q (shape_of x) ≡ Some b → false ≡ true) → IsLooseCell x
 free_cell q (cells.EmptyCell s) h = refl
 free_cell q (cells.BooleanCell v s) h = refl
 free_cell q (cells.NumberCell v s) h = refl
@@ -110,7 +110,7 @@ module _ (m : Contents Cell) where
   anchor_there : (q : Place) (x : Cell) → finite.get m q ≡ Some x → anchor_at celled m q ≡ anchor_of q (shape_of x)
   anchor_there q x e = ap (option_and_then (λ y. anchor_of q (shape_of y))) e
 
-  released_at : (a q : Place) → finite.get (released celled a m) q ≡ option_and_then (λ x. Some (after_release a q x)) (finite.get m q)
+  pub released_at : (a q : Place) → finite.get (released celled a m) q ≡ option_and_then (λ x. Some (after_release a q x)) (finite.get m q)
   released_at a q =
       get-remade _ _ q ∙ ap (option_and_then (λ y. Some (cond (same_place q a) (anchor_reset celled y) y))) (get-remade _ m q)
       ∙ both_made (λ x. Some (unspilled celled a x)) (λ y. Some (cond (same_place q a) (anchor_reset celled y) y)) (finite.get m q)

@@ -5,6 +5,8 @@ use Rattle.std.specs.List.{list_any}
 use Rattle.ic_grid.specs.Block.{Place, block_at, blocks_meet, is_block_within, is_in_block, is_single}
 use Rattle.ic_grid.specs.Contents.{Contents}
 use Rattle.ic_grid.specs.Shape.{Holding, Shape, Anchor, SpillOf, is_cse}
+use Rattle.ic_grid.specs.declared.arrays.Sought.{Sought}
+use Rattle.ic_grid.specs.declared.arrays.Sought.TheVariants as sought
 use Rattle.ic_grid.specs.declared.block.Array.{Array}
 use Rattle.ic_grid.specs.declared.block.Block.{Block}
 
@@ -28,6 +30,11 @@ is_fixed (Some array) = is_cse array.kind && not (is_single array.block)
 abbrev pub is_cut_by : Block → Option Array → Bool
 is_cut_by b None = false
 is_cut_by b (Some array) = is_fixed (Some array) && not (is_block_within array.block b)
+
+-- an array is one of those that are looked for: each that is fixed, or those that a block cuts
+abbrev pub is_sought : Sought → Block → Option Array → Bool
+is_sought sought.Fixed b array = is_fixed array
+is_sought sought.Cut b array = is_cut_by b array
 
 -- an array has a cell in a block
 abbrev pub reaches : Block → Option Array → Bool
@@ -54,6 +61,10 @@ module _ {X : Type 0} (h : Holding X) (m : Contents X) where
   -- some place of a block does
   abbrev pub has_fixed : Block → Bool
   has_fixed b = list_any (λ p. is_in_block b p && is_fixed_at p) (finite.keys m)
+
+  -- some place of a block belongs to an array that is looked for
+  abbrev pub has_sought : Sought → Block → Bool
+  has_sought kind b = list_any (λ p. is_in_block b p && is_sought kind b (array_at p)) (finite.keys m)
 
   -- such an array lies partly in a block
   abbrev pub has_cut : Block → Bool

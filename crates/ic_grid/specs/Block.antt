@@ -68,10 +68,18 @@ is_single b = int_eq b.width (pos 1) && int_eq b.height (pos 1)
 abbrev pub block_at : Place → ℤ → ℤ → Block
 block_at p width height = record { row = p.0; column = p.1; width = width; height = height }
 
+-- how many columns and rows it has
+abbrev pub area_of : Block → ℤ × ℤ
+area_of b = (b.width, b.height)
+
 -- its first place
 abbrev pub first_place : Block → Place
 first_place b = (b.row, b.column)
 
+-- a block has a column to the right of a place
+abbrev pub has_next_column : Block → Place → Bool
+has_next_column b p = int_lt (p.1 +ℤ pos 1) (b.column +ℤ b.width)
+
 -- the place after one of a block, by rows: the next one to the right, or the first of the next row
 abbrev pub next_place : Block → Place → Place
-next_place b p = if int_lt (p.1 +ℤ pos 1) (b.column +ℤ b.width) then (p.0, p.1 +ℤ pos 1) else (p.0 +ℤ pos 1, b.column)
+next_place b p = if has_next_column b p then (p.0, p.1 +ℤ pos 1) else (p.0 +ℤ pos 1, b.column)

@@ -1,11 +1,12 @@
 -- What the calls on a sheet's cells answer, by their refusals in order.
-use Rattle.std.specs.Prelude.{◌≡◌, ◌⊎◌, Bool, List, Result, Ok, Err, if◌then◌else◌}
+use Rattle.std.specs.Prelude.{◌≡◌, ◌⊎◌, Bool, not, List, Result, Ok, Err, if◌then◌else◌}
 use Rattle.ic_cells.specs.declared.layout.Merge.{Merge}
-use Rattle.ic_grid.specs.Arrays.{has_fixed, is_fixed_at}
+use Rattle.ic_grid.specs.Arrays.{has_cut, has_fixed, is_fixed_at}
 use Rattle.ic_grid.specs.Block.{Place}
 use Rattle.ic_grid.specs.Contents.{Contents}
 use Rattle.ic_grid.specs.Merges.{is_covered, meets_merge}
-use Rattle.ic_grid.specs.Shape.{Holding}
+use Rattle.ic_grid.specs.Shape.{Holding, is_formula}
+use Rattle.ic_grid.specs.Value.{shape_at}
 use Rattle.ic_grid.specs.declared.block.Block.{Block}
 use Rattle.ic_grid.specs.declared.error.GridError.{GridError}
 use Rattle.ic_grid.specs.declared.error.GridError.TheVariants as errors
@@ -30,3 +31,12 @@ module _ {X : Type 0} (h : Holding X) (merges : List Merge) (m : Contents X) whe
   -- whether an array can be written into a block
   abbrev pub can_write_array : Block → Answer
   can_write_array b = refused_by (meets_merge merges b) errors.MergedPart (refused_by (has_fixed h m b) errors.ArrayPart (Ok tt))
+
+module _ {X : Type 0} (h : Holding X) (m : Contents X) where
+  -- whether a block can be cleared
+  abbrev pub can_clear : Block → Answer
+  can_clear b = refused_by (has_cut h m b) errors.ClearArray (Ok tt)
+
+  -- whether a formula at a place can get a value
+  abbrev pub can_write_value : Place → Answer
+  can_write_value p = refused_by (not (is_formula (shape_at h m p))) errors.NoFormulaCell (Ok tt)

@@ -1,14 +1,17 @@
 pub mod Arrays
 pub mod Block
 pub mod Calls
+pub mod Change
 pub mod Clear
 pub mod Conditions
 pub mod Contents
 pub mod Lines
 pub mod Merges
 pub mod Prepare
+pub mod Rows
 pub mod Shape
 pub mod Spill
 pub mod Style
 pub mod Value
+pub mod Walk
 pub mod Whole

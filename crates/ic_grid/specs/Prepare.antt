@@ -1,9 +1,9 @@
 -- What becomes of a sheet when a cell is written: the array that the place belongs to is released first.
 use Rattle.std.specs.Prelude.{ℕ, zero, suc, true, Option, Some, None, if◌then◌else◌}
 use Rattle.std.specs.FinMap as finite
-use Rattle.ic_grid.specs.Arrays.{anchor_at}
+use Rattle.ic_grid.specs.Arrays.{anchor_at, array_at, reaches}
 use Rattle.ic_grid.specs.Block.{Place, next_place, same_place}
-use Rattle.ic_grid.specs.Contents.{Contents, changed_where}
+use Rattle.ic_grid.specs.Contents.{Contents, changed_where, remade}
 use Rattle.ic_grid.specs.Shape.{Holding, emptied, is_anchor, is_spill_of, reset}
 use Rattle.ic_grid.specs.declared.block.Block.{Block}
 
@@ -37,6 +37,14 @@ module _ {X : Type 0} (h : Holding X) where
   abbrev pub all_prepared : Block → ℕ → Place → Contents X → Contents X
   all_prepared b zero p m = m
   all_prepared b (suc n) p m = all_prepared b n (next_place b p) (prepared p m)
+
+  -- what becomes of a cell of an array that is released: the formula is reset, a cell of the spill emptied
+  abbrev pub loosened : X → X
+  loosened x = if is_anchor (h.shape x) then reset h x else emptied h x
+
+  -- each array with a cell in a block is released
+  abbrev pub loosened_in : Block → Contents X → Contents X
+  loosened_in b m = remade (λ q x. Some (if reaches b (array_at h m q) then loosened x else x)) m
 
   -- a cell is written
   abbrev pub written : Place → X → Contents X → Contents X

@@ -124,6 +124,11 @@ abbrev pub array_formula_of : Option Cell → Option (ℕ × ℕ × ArrayKind)
 array_formula_of (Some (cells.ArrayFormula f s r kind v)) = Some (f, s, kind)
 array_formula_of cell = None
 
+-- the place of the formula and the style of a formula with one value
+abbrev pub formula_of : Option Cell → Option (ℕ × ℕ)
+formula_of (Some (cells.CellFormula f s v)) = Some (f, s)
+formula_of cell = None
+
 -- how cells are held
 abbrev pub celled : Holding Cell
 celled = record {

@@ -1,9 +1,12 @@
 -- What becomes of a sheet when a formula gets a value.
-use Rattle.std.specs.Prelude.{pos, Some, Bool, false, option_map, if◌then◌else◌}
+use Rattle.std.specs.Prelude.{◌≡◌, ℕ, pos, Option, None, Some, Bool, false, option_map, if◌then◌else◌}
 use Rattle.std.specs.FinMap as finite
 use Rattle.std.specs.Option.{unwrap_or}
+use Rattle.ic_cells.specs.declared.cell.Cell.{Cell}
+use Rattle.ic_cells.specs.declared.cell.Cell.TheVariants as cells
+use Rattle.ic_grid.specs.declared.block.Array.{Array}
 use Rattle.ic_cells.specs.declared.value.FormulaValue.{FormulaValue}
-use Rattle.ic_grid.specs.Block.{Place, same_place}
+use Rattle.ic_grid.specs.Block.{Place, block_at, first_place, same_place}
 use Rattle.ic_grid.specs.Contents.{Contents, remade}
 use Rattle.ic_grid.specs.Shape.{Holding, Shape, Empty, Anchor, emptied, is_cse, is_spill_of, spread}
 
@@ -28,3 +31,12 @@ module _ {X : Type 0} (h : Holding X) where
   -- the formula at a place gets a value
   abbrev pub valued : Place → FormulaValue → Contents X → Contents X
   valued a value m = remade (λ q x. Some (valued_cell (is_cse_anchor (shape_at m a)) value a q x)) m
+
+-- the formula, the style and the array of an array formula at a place
+abbrev pub formula_array : Place → Option Cell → Option (ℕ × ℕ × Array)
+formula_array p (Some (cells.ArrayFormula f s r kind v)) = Some (f, s, record { block = block_at p r.0 r.1; kind = kind })
+formula_array p cell = None
+
+-- such a formula stands at the first place of its array
+abbrev pub IsArrayThere : Contents Cell → ℕ → ℕ → Array → Type 0
+IsArrayThere m f s array = formula_array (first_place array.block) (finite.get m (first_place array.block)) ≡ Some (f, s, array)

@@ -1,15 +1,13 @@
 //! Which array a place belongs to.
-ghost use Rattle.std.specs.Prelude.{◌≡◌, ◌&&◌};
-ghost use Rattle.std.specs.BTreeMap as tree;
-ghost use Rattle.std.specs.List.{list_any};
-ghost use Rattle.ic_cells.specs.Maps.{place_cmp};
-ghost use Rattle.ic_grid.specs.Arrays.{anchor_at, array_at, array_of, has_fixed, is_fixed, is_fixed_at};
-ghost use Rattle.ic_grid.specs.Block.{is_in_block};
+ghost use Rattle.std.specs.Prelude.{◌≡◌, true};
+ghost use Rattle.ic_grid.specs.Arrays.{anchor_at, array_at, array_of, has_sought, is_cut_by, is_fixed, is_fixed_at, is_sought};
+ghost use Rattle.ic_grid.specs.Block.{is_area};
 ghost use Rattle.ic_grid.specs.Shape.{celled};
 
+use crate::changes::right_of;
+use crate::walk::next_in;
 use crate::{Array, Block};
 use ic_cells::{ArrayKind, Cell, PlaceMap};
-use std::collections::BTreeMap;
 
 /// Where the formula stands of the array that a place belongs to.
 pub fn anchor_at(cells: &PlaceMap<Cell>, place: (i32, i32)) -> Option<(i32, i32)>
@@ -72,19 +70,46 @@ pub fn is_fixed_at(cells: &PlaceMap<Cell>, place: (i32, i32)) -> bool
     is_fixed(&array_at(cells, place))
 }
 
-/// Whether some place of a map in a block belongs to such an array.
-fn some_fixed(map: &BTreeMap<(i32, i32), Cell>, cells: &PlaceMap<Cell>, block: &Block) -> bool
-    ensures some { result
-        ≡ list_any (λ p. is_in_block block.now p && is_fixed_at celled cells.now p)
-        (tree.keys map.now) }
-    ensures ordered { tree.IsOrdered place_cmp map.now }
+/// Whether it is such an array, of which some cell is outside of a block.
+fn is_cut_by(block: &Block, array: &Option<Array>) -> bool
+    ensures { result ≡ is_cut_by block.now array.now }
 {
-    map.keys().any(|place| block.contains(place.0, place.1) && is_fixed_at(cells, *place))
+    match array {
+        Some(found) => is_fixed(array) && !found.block.is_within(block),
+        None => false,
+    }
 }
 
-/// Whether some place of a block does. It looks at each cell that there is.
-pub fn has_fixed(cells: &PlaceMap<Cell>, block: &Block) -> bool
-    ensures { result ≡ has_fixed celled cells.now block.now }
+/// Which Cse arrays of more than one cell are looked for in a block.
+#[derive(Clone, Copy)]
+pub enum Sought {
+    /// Each of them.
+    Fixed,
+    /// Those that have a cell outside of the block too.
+    Cut,
+}
+
+/// Whether an array is one of those that are looked for.
+fn is_sought(sought: Sought, block: &Block, array: &Option<Array>) -> bool
+    ensures { result ≡ is_sought sought block.now array.now }
 {
-    some_fixed(cells.as_map(), cells, block)
+    match sought {
+        Sought::Fixed => is_fixed(array),
+        Sought::Cut => is_cut_by(block, array),
+    }
+}
+
+/// Whether some place of a block belongs to such an array. It looks at the cells of the block that are there alone.
+pub fn has_sought(sought: Sought, cells: &PlaceMap<Cell>, block: &Block) -> bool
+    requires { is_area block.now ≡ true }
+    ensures { result ≡ has_sought celled cells.now sought block.now }
+{
+    let mut at = block.first();
+    while let Some(place) = next_in(cells, block, at) {
+        if is_sought(sought, block, &array_at(cells, place)) {
+            return true;
+        }
+        at = right_of(place);
+    }
+    false
 }

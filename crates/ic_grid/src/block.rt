@@ -1,7 +1,16 @@
 ghost use Rattle.std.specs.Prelude.{◌≡◌, ◌+ℤ◌};
-ghost use Rattle.ic_grid.specs.Block.{blocks_meet, is_block_within, is_in_block, is_in_span, is_single, is_span_within, same_place, spans_meet};
+ghost use Rattle.ic_grid.specs.Block.{area_of, block_at, blocks_meet, is_area, first_place, is_block_within, is_in_block, is_in_span, is_single, is_span_within, same_place, spans_meet};
 
 use ic_cells::ArrayKind;
+use ic_laws::{LAST_COLUMN, LAST_ROW};
+
+/// The whole sheet.
+const WHOLE_SHEET: Block = Block {
+    row: 1,
+    column: 1,
+    width: LAST_COLUMN,
+    height: LAST_ROW,
+};
 
 /// A block of places of a sheet: the row and the column of the first, from 1, and how many columns and rows it has.
 #[derive(Clone, Copy)]
@@ -58,11 +67,58 @@ pub fn is_same(place: (i32, i32), other: (i32, i32)) -> bool
 }
 
 impl Block {
+    /// The block of so many columns and rows from a place on.
+    pub fn at(place: (i32, i32), width: i32, height: i32) -> Block
+        ensures { result ≡ block_at place width height }
+    {
+        Block {
+            row: place.0,
+            column: place.1,
+            width,
+            height,
+        }
+    }
+
+    /// Whether it has a place at least, and lies in the sheet.
+    pub fn is_area(&self) -> bool
+        ensures { result ≡ is_area self.now }
+    {
+        self.width >= 1 && self.height >= 1 && self.is_within(&WHOLE_SHEET)
+    }
+
     /// Whether it has the place at a row and a column.
     pub fn contains(&self, row: i32, column: i32) -> bool
         ensures { result ≡ is_in_block self.now (row, column) }
     {
         is_in_span(self.row, self.height, row) && is_in_span(self.column, self.width, column)
+    }
+
+    /// Its first place.
+    pub fn first(&self) -> (i32, i32)
+        ensures { result ≡ first_place self.now }
+    {
+        (self.row, self.column)
+    }
+
+    /// How many columns and rows it has.
+    pub fn area(&self) -> (i32, i32)
+        ensures { result ≡ area_of self.now }
+    {
+        (self.width, self.height)
+    }
+
+    /// The number after its last column.
+    pub fn end_column(&self) -> i64
+        ensures { result ≡ self.now.column +ℤ self.now.width }
+    {
+        end(self.column, self.width)
+    }
+
+    /// Whether a place is one of it.
+    pub fn has(&self, place: (i32, i32)) -> bool
+        ensures { result ≡ is_in_block self.now place }
+    {
+        self.contains(place.0, place.1)
     }
 
     /// Whether it has a place in common with another block. Both have a place at least.

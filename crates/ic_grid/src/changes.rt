@@ -1,13 +1,20 @@
 //! Changes of cells that are there. They take no memory.
-ghost use Rattle.std.specs.Prelude.{◌≡◌, ◌≤ℤ◌, ◌+ℤ◌, pos, true, IsSome};
+ghost use Rattle.std.specs.Prelude.{◌≡◌, ◌≤ℤ◌, ◌<ℤ◌, ◌+ℤ◌, pos, true, false, IsSome, length, option_map};
 ghost use Rattle.std.specs.FinMap as finite;
-ghost use Rattle.ic_grid.specs.Block.{first_place, is_area, is_in_block, is_in_lines, same_place};
+ghost use Rattle.ic_grid.specs.Block.{first_place, has_next_column, is_area, is_in_block, is_in_lines, next_place, same_place};
+ghost use Rattle.ic_grid.specs.Change.{changed_at, changed_in, is_placeholder};
+ghost use Rattle.ic_grid.specs.declared.changes.Change.TheVariants as changes;
+ghost use Rattle.ic_grid.specs.Walk.{right_of};
+ghost use Rattle.ic_cells.specs.Cell.{style_of};
+ghost use Rattle.std.specs.Option.{unwrap_or};
 ghost use Rattle.ic_grid.specs.Contents.{changed_where};
 ghost use Rattle.ic_grid.specs.Prepare.{anchor_reset, unspilled};
+ghost use Rattle.ic_grid.specs.Rows.{IsFull, place_count, placed, style_or_zero};
 ghost use Rattle.ic_grid.specs.Shape.{array_formula_of, celled, spill_of};
 
 use crate::Block;
 use crate::block::is_same;
+use crate::walk::next_in;
 use ic_cells::{ArrayKind, Cell, FormulaValue, PlaceMap};
 
 /// Puts a cell where one stands.
@@ -96,5 +103,143 @@ pub fn reset(cells: &mut PlaceMap<Cell>, place: (i32, i32))
             v: FormulaValue::Unevaluated,
         };
         replace(cells, place, cell);
+    }
+}
+
+/// What a cell can be made into.
+#[derive(Clone, Copy)]
+pub enum Change {
+    /// It is taken away.
+    Take,
+    /// It is emptied.
+    Empty,
+    /// A placeholder is taken away; another cell stays.
+    TakePlaceholder,
+    /// A placeholder is emptied; another cell stays.
+    EmptyPlaceholder,
+}
+
+/// The number of the style of the cell at a place, if one stands there.
+fn style_there(cells: &PlaceMap<Cell>, place: (i32, i32)) -> Option<usize>
+    ensures { result ≡ option_map style_of (finite.get cells.now place) }
+{
+    match cells.get(place.0, place.1) {
+        Some(cell) => Some(cell.get_style()),
+        None => None,
+    }
+}
+
+/// The same, 0 where no cell stands.
+pub fn style_or_zero(cells: &PlaceMap<Cell>, place: (i32, i32)) -> usize
+    ensures { result ≡ style_or_zero cells.now place }
+{
+    style_there(cells, place).unwrap_or(0)
+}
+
+/// Whether a placeholder stands at a place.
+fn is_placeholder_at(cells: &PlaceMap<Cell>, place: (i32, i32)) -> bool
+    ensures { result ≡ unwrap_or (option_map is_placeholder (finite.get cells.now place)) false }
+{
+    match spill_at(cells, place) {
+        Some((_, anchor)) => is_same((0, 0), anchor),
+        None => false,
+    }
+}
+
+/// Takes away what stands at a place.
+fn remove(cells: &mut PlaceMap<Cell>, place: (i32, i32))
+    ensures { cells.new ≡ finite.remove cells.old place }
+{
+    cells.remove(place.0, place.1);
+}
+
+/// Takes the cell at a place away.
+fn take(cells: &mut PlaceMap<Cell>, place: (i32, i32))
+    ensures { cells.new ≡ changed_at place changes.Take cells.old }
+{
+    remove(cells, place);
+}
+
+/// Empties the cell at a place.
+fn empty(cells: &mut PlaceMap<Cell>, place: (i32, i32))
+    ensures { cells.new ≡ changed_at place changes.Empty cells.old }
+{
+    if let Some(s) = style_there(cells, place) {
+        replace(cells, place, Cell::EmptyCell { s });
+    }
+}
+
+/// Changes the cell at a place.
+fn change_at(cells: &mut PlaceMap<Cell>, place: (i32, i32), change: Change)
+    ensures { cells.new ≡ changed_at place change cells.old }
+{
+    match change {
+        Change::Take => take(cells, place),
+        Change::Empty => empty(cells, place),
+        Change::TakePlaceholder => {
+            if is_placeholder_at(cells, place) {
+                take(cells, place);
+            }
+        }
+        Change::EmptyPlaceholder => {
+            if is_placeholder_at(cells, place) {
+                empty(cells, place);
+            }
+        }
+    }
+}
+
+/// The place to the right of another.
+pub fn right_of(place: (i32, i32)) -> (i32, i32)
+    requires { place.1 <ℤ pos 2147483647 }
+    ensures { result ≡ right_of place }
+{
+    (place.0, place.1 + 1)
+}
+
+/// Changes each cell of a block. It looks at the cells that are there alone.
+pub fn change_block(cells: &mut PlaceMap<Cell>, block: &Block, change: Change)
+    requires { is_area block.now ≡ true }
+    ensures { cells.new ≡ changed_in block.now change cells.old }
+{
+    let mut at = block.first();
+    while let Some(place) = next_in(cells, block, at) {
+        change_at(cells, place, change);
+        at = right_of(place);
+    }
+}
+
+/// Whether a block has a column to the right of a place.
+fn has_next_column(block: &Block, place: (i32, i32)) -> bool
+    ensures { result ≡ has_next_column block.now place }
+{
+    i64::from(place.1) + 1 < block.end_column()
+}
+
+/// The place after one of a block, by rows.
+pub fn next_place(block: &Block, place: (i32, i32)) -> (i32, i32)
+    requires row { place.0 <ℤ pos 2147483647 }
+    requires column { place.1 <ℤ pos 2147483647 }
+    ensures { result ≡ next_place block.now place }
+{
+    if has_next_column(block, place) {
+        (place.0, place.1 + 1)
+    } else {
+        (place.0 + 1, block.column)
+    }
+}
+
+/// Puts items at the places of a block, by rows, at each of which a cell stands. No memory is taken.
+pub fn put_all(cells: &mut PlaceMap<Cell>, block: &Block, items: Vec<Cell>)
+    requires area { is_area block.now ≡ true }
+    requires full { IsFull block.now cells.old }
+    requires count { length items.items ≡ place_count block.now }
+    ensures { cells.new ≡ placed block.now (first_place block.now) items.items cells.old }
+{
+    let mut at = block.first();
+    let mut rest = items.into_iter();
+    while let Some(item) = rest.next() {
+        replace(cells, at, item);
+        at = next_place(block, at);
     }
 }

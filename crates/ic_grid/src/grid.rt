@@ -1,10 +1,10 @@
-ghost use Rattle.std.specs.Prelude.{◌≡◌};
-ghost use Rattle.ic_grid.specs.Block.{block_at};
+ghost use Rattle.std.specs.Prelude.{◌≡◌, true};
+ghost use Rattle.ic_grid.specs.Block.{block_at, is_area};
 ghost use Rattle.ic_grid.specs.Calls.{can_write, can_write_array};
 ghost use Rattle.ic_grid.specs.Shape.{celled};
 ghost use Rattle.ic_grid.specs.Style.{style_at};
 
-use crate::arrays::{has_fixed, is_fixed_at};
+use crate::arrays::{Sought, has_sought, is_fixed_at};
 use crate::merges::{is_covered, meets_merge};
 use crate::{Block, GridError};
 use ic_cells::{Cell, ColumnProps, LineMap, Merge, PlaceMap, RowProps};
@@ -77,20 +77,16 @@ impl Grid {
         width: i32,
         height: i32,
     ) -> Result<(), GridError>
+        requires { is_area (block_at (row, column) width height) ≡ true }
         ensures { result
             ≡ can_write_array celled self.now.merged_cells self.now.cells
             (block_at (row, column) width height) }
     {
-        let block = Block {
-            row,
-            column,
-            width,
-            height,
-        };
+        let block = Block::at((row, column), width, height);
         if meets_merge(self.merged_cells.as_slice(), &block) {
             return Err(GridError::MergedPart);
         }
-        if has_fixed(&self.cells, &block) {
+        if has_sought(Sought::Fixed, &self.cells, &block) {
             return Err(GridError::ArrayPart);
         }
         Ok(())

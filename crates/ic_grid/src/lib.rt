@@ -4,12 +4,15 @@
 mod arrays;
 mod block;
 mod changes;
+mod clear;
 mod error;
 mod grid;
 mod lines;
 mod merges;
 mod prepare;
 mod start;
+mod value;
+mod walk;
 mod write;
 
 pub use block::{Array, Block};

@@ -1,0 +1,230 @@
+-- The order of places by rows, and the first of them at which something stands.
+use Rattle.std.proofs.Common.{◌≡◌, ◌∙◌, refl, sym, ap, subst, ℤ, pos, Bool, true, false, cond, not, ◌&&◌, ◌||◌, ◌⊎◌, inl, inr, Option, Some, None, IsSome, is_some, List, [], ◌∷◌, arith}
+use Rattle.std.proofs.lemmas.Bool.{and_parts, both_ways}
+use Rattle.std.proofs.lemmas.Int.{ints}
+use Rattle.std.specs.BTreeMap as tree
+use Rattle.std.specs.BTreeMap.{BTreeMap, is_at}
+use Rattle.std.specs.Map.{lookup}
+use Rattle.ic_laws.proofs.core.CellWritten.{place_cmp_total}
+use Rattle.std.specs.BTreeMap.Range.{IsEntryInRange, IsLeBy, IsRangeOf}
+use Rattle.std.specs.List.{slice_get}
+use Rattle.std.specs.Option.{IfNone, IfSome}
+use Rattle.std.specs.declared.ops.Bound.TheVariants.{Included, Unbounded}
+use Rattle.std.specs.FinMap as finite
+use Rattle.std.specs.Prelude.{int_le, int_lt, ◌+ℤ◌, ◌≤ℤ◌, ◌<ℤ◌}
+use Rattle.std.specs.Ordering.{is_eq, is_gt, ordering_then}
+use Rattle.std.specs.declared.cmp.Ordering.TheVariants.{Less, Equal, Greater}
+use Rattle.ic_cells.specs.Maps.{place_cmp}
+use Rattle.ic_grid.specs.Block.{Place, is_between, is_in_block, is_in_span}
+use Rattle.ic_grid.specs.Contents.{Contents}
+use Rattle.ic_grid.specs.Walk.{HasNone, HasNoneIn, IsFirst, IsFirstIn, is_from, is_left, row_behind}
+use Rattle.ic_grid.specs.declared.block.Block.{Block}
+
+by_tests : (l g l2 g2 le : Bool) → le ≡ not g2 → (l2 ≡ true → g2 ≡ false) → is_gt (ordering_then (cond l Less (cond g Greater Equal)) (cond l2 Less (cond g2 Greater Equal))) ≡ not (l || (is_eq (cond l Less (cond g Greater Equal)) && le))
+by_tests true g l2 g2 le e h = refl
+by_tests false true l2 g2 le e h = refl
+by_tests false false true true le e h = let no : true ≡ false = h refl in cc
+by_tests false false true false le e h = ap not (sym e)
+by_tests false false false true le e h = ap not (sym e)
+by_tests false false false false le e h = ap not (sym e)
+
+le_turned : (x y : ℤ) → int_le x y ≡ not (int_lt y x)
+le_turned x y = grind (arith, ints)
+
+lt_not : (x y : ℤ) → int_lt x y ≡ true → int_lt y x ≡ false
+lt_not x y e = grind (arith, ints, e)
+
+-- the order of places as it is told by tests on numbers
+pub from_is : (p q : Place) → is_gt (place_cmp p q) ≡ not (is_from p q)
+unfolding is_from
+from_is p q = by_tests (int_lt p.0 q.0) (int_lt q.0 p.0) (int_lt p.1 q.1) (int_lt q.1 p.1) (int_le p.1 q.1) (le_turned p.1 q.1) (lt_not p.1 q.1)
+
+pub from_when : (p q : Place) → is_gt (place_cmp p q) ≡ false → is_from p q ≡ true
+from_when p q e = flipped (is_from p q) (sym (from_is p q) ∙ e)
+  where
+    flipped : (b : Bool) → not b ≡ false → b ≡ true
+    flipped true e = refl
+    flipped false e = cc
+
+pub from_means : (p q : Place) → is_from p q ≡ true → is_gt (place_cmp p q) ≡ false
+from_means p q e = from_is p q ∙ ap not e
+
+-- what an ordered map's part from a place on says
+module _ {X : Type 0} (m : BTreeMap Place X) (from : Place) (r : List (Place × X)) (range : IsRangeOf place_cmp (Included from) Unbounded m r) where
+  pub first_at : (p : Place) (x : X) (rest : List (Place × X)) → r ≡ (p, x) ∷ rest → IsFirst (tree.get place_cmp m) from p
+  first_at p x rest e =
+      let here = subst (λ (l : List (Place × X)). IfSome (slice_get l 0) (IsEntryInRange place_cmp (Included from) Unbounded m)) e range.1 in
+      record { there = ap is_some here.1; behind = from_when from p here.0.0; first = first }
+    where
+      none_of : (q : Place) (o : Option X) → is_from p q ≡ false → (IsSome o → is_gt (place_cmp p q) ≡ false) → o ≡ None
+      none_of q None out h = refl
+      none_of q (Some y) out h = absurd (both_ways (is_from p q) out (from_when p q (h refl)))
+
+      first : (q : Place) → is_from from q ≡ true → is_from p q ≡ false → tree.get place_cmp m q ≡ None
+      first q f out =
+          none_of q (tree.get place_cmp m q) out (λ some.
+          subst (λ (l : List (Place × X)). IfSome (slice_get l 0) (λ e. IsLeBy place_cmp e.0 q)) e (range.2 q (from_means from q f, tt) some))
+
+  pub none_at : r ≡ [] → HasNone (tree.get place_cmp m) from
+  none_at e q f = range.5 e q (from_means from q f, tt)
+
+-- the same of the finite map
+pub first_as : {X : Type 0} (f g : Place → Option X) (from p : Place) → ((q : Place) → f q ≡ g q) → IsFirst f from p → IsFirst g from p
+first_as f g from p e h = record {
+  there = subst (λ o. IsSome o) (e p) h.there;
+  behind = h.behind;
+  first = λ q a b. sym (e q) ∙ h.first q a b;
+}
+
+pub none_as : {X : Type 0} (f g : Place → Option X) (from : Place) → ((q : Place) → f q ≡ g q) → HasNone f from → HasNone g from
+none_as f g from e h q a = sym (e q) ∙ h q a
+
+pub some_first : {X : Type 0} (f g : Place → Option X) (from : Place) (o : Option Place) → ((q : Place) → f q ≡ g q) → IfSome o (IsFirst f from) → IfSome o (IsFirst g from)
+some_first f g from None e h = h
+some_first f g from (Some p) e h = first_as f g from p e h
+
+pub none_first : {X : Type 0} (f g : Place → Option X) (from : Place) (o : Option Place) → ((q : Place) → f q ≡ g q) → IfNone o (HasNone f from) → IfNone o (HasNone g from)
+none_first f g from None e h = none_as f g from e h
+none_first f g from (Some p) e h = h
+
+-- a place of a lower row comes before
+pub row_before : (p q : Place) → q.0 <ℤ p.0 → is_from p q ≡ false
+unfolding is_from
+row_before p q less = grind (arith, ints)
+
+-- what a number among others is
+between_is : (first last n : ℤ) → is_between first last n ≡ true → (first ≤ℤ n) × (n <ℤ last)
+unfolding is_between
+between_is first last n e =
+    let both = and_parts (int_le first n) (int_lt n last) e in
+    (grind (arith, ints, both.0), grind (arith, ints, both.1))
+
+between_not : (first last n : ℤ) → is_between first last n ≡ false → first ≤ℤ n → last ≤ℤ n
+unfolding is_between
+between_not first last n e h = grind (arith, ints)
+
+pub record InBlock (b : Block) (q : Place) : Type 0 where
+  pub top : b.row ≤ℤ q.0
+  pub bottom : q.0 <ℤ (b.row +ℤ b.height)
+  pub left : b.column ≤ℤ q.1
+  pub right : q.1 <ℤ (b.column +ℤ b.width)
+
+pub in_block : (b : Block) (q : Place) → is_in_block b q ≡ true → InBlock b q
+in_block b q e =
+    let both = and_parts (is_in_span b.row b.height q.0) (is_in_span b.column b.width q.1) e in
+    let rows = between_is b.row (b.row +ℤ b.height) q.0 both.0 in
+    let columns = between_is b.column (b.column +ℤ b.width) q.1 both.1 in
+    record { top = rows.0; bottom = rows.1; left = columns.0; right = columns.1 }
+
+-- a place that isn't before another is in its row or below
+pub from_row : (p q : Place) → is_from p q ≡ true → p.0 ≤ℤ q.0
+unfolding is_from
+from_row p q e = grind (arith, ints)
+
+pub not_from : (p q : Place) → is_from p q ≡ false → (q.0 ≤ℤ p.0)
+unfolding is_from
+not_from p q e = grind (arith, ints)
+
+find_is : {X : Type 0} (es : List (Place × X)) (q : Place) → finite.find place_cmp q es ≡ lookup (is_at (place_cmp q)) es
+find_is [] q = refl
+find_is (e ∷ es) q = ap (cond (is_at (place_cmp q) e.0) (Some e.1)) (find_is es q)
+
+-- what an ordered map has is what the finite map has
+pub map_get : {X : Type 0} (m : BTreeMap Place X) (v : Contents X) → finite.from_entries m.entries ≡ v → (q : Place) → tree.get place_cmp m q ≡ finite.get v q
+map_get {X = X} m v e q = sym (ap (λ (w : Contents X). finite.get w q) (sym e) ∙ finite.get-from_entries place_cmp_total m.entries q ∙ find_is m.entries q)
+
+-- in an order, each is before itself, and before what is behind what it is before
+pub from_itself : (p : Place) → is_from p p ≡ true
+unfolding is_from
+from_itself p = grind (arith, ints)
+
+pub from_far : (p q r : Place) → is_from p q ≡ true → is_from q r ≡ true → is_from p r ≡ true
+unfolding is_from
+from_far p q r e f = grind (arith, ints, e, f)
+
+pub by_side : {P : Type 0} (t : Bool) → (t ≡ true → P) → (t ≡ false → P) → P
+by_side true f g = f refl
+by_side false f g = g refl
+
+-- a row of a block is left for the next
+abbrev start_of : Block → Place → Bool → Place
+start_of b p true = (p.0, b.column)
+start_of b p false = (p.0 +ℤ pos 1, b.column)
+
+module _ (b : Block) (p : Place) where
+  start_is : (t : Bool) → int_lt p.1 b.column ≡ t → row_behind b p ≡ start_of b p t
+  start_is true e = ap (λ t. let at : Place = cond t (p.0, b.column) (p.0 +ℤ pos 1, b.column) in at) e
+  start_is false e = ap (λ t. let at : Place = cond t (p.0, b.column) (p.0 +ℤ pos 1, b.column) in at) e
+
+  module _ (at : Place) (after : is_from at p ≡ true) (left : b.column ≤ℤ at.1) where
+    behind_more : (t : Bool) → int_lt p.1 b.column ≡ t → (at.0 +ℤ pos 1) ≤ℤ (start_of b p t).0
+    unfolding is_from
+    behind_more true e = grind (arith, ints, after, e)
+    behind_more false e = grind (arith, ints, after, e)
+
+    pub next_row : (next : Place) → next ≡ row_behind b p → (at.0 +ℤ pos 1) ≤ℤ next.0
+    next_row next is =
+        by_side (int_lt p.1 b.column)
+        (λ t. subst (λ (n : Place). (at.0 +ℤ pos 1) ≤ℤ n.0) (sym (is ∙ start_is true t)) (behind_more true t))
+        (λ t. subst (λ (n : Place). (at.0 +ℤ pos 1) ≤ℤ n.0) (sym (is ∙ start_is false t)) (behind_more false t))
+
+    pub next_from : (next : Place) → next ≡ row_behind b p → is_from at next ≡ true
+    unfolding is_from
+    next_from next is = let more = next_row next is in grind (arith, ints, more)
+
+  pub next_column : (next : Place) → next ≡ row_behind b p → b.column ≤ℤ next.1
+  next_column next is =
+      by_side (int_lt p.1 b.column)
+      (λ t. subst (λ (n : Place). b.column ≤ℤ n.1) (sym (is ∙ start_is true t)) (omega (arith, ints)))
+      (λ t. subst (λ (n : Place). b.column ≤ℤ n.1) (sym (is ∙ start_is false t)) (omega (arith, ints)))
+
+  -- no place of the block lies between
+  between_rows : (q : Place) → InBlock b q → ((b.column +ℤ b.width) ≤ℤ p.1) ⊎ (p.1 <ℤ b.column) → (t : Bool) → int_lt p.1 b.column ≡ t → is_from (start_of b p t) q ≡ false → is_from p q ≡ false
+  unfolding is_from
+  between_rows q i side true e out = grind (arith, ints, out, e, i.left, i.right)
+  between_rows q i (inl side) false e out = grind (arith, ints, out, e, i.left, i.right, side)
+  between_rows q i (inr side) false e out = grind (arith, ints, out, e, side)
+
+  outside : is_in_block b p ≡ false → b.row ≤ℤ p.0 → p.0 <ℤ (b.row +ℤ b.height) → ((b.column +ℤ b.width) ≤ℤ p.1) ⊎ (p.1 <ℤ b.column)
+  unfolding is_between
+  outside out top bottom = by_side (int_lt p.1 b.column) (λ t. inr (grind (arith, ints, t))) (λ t. inl (grind (arith, ints, t, out)))
+
+  skipped : is_in_block b p ≡ false → b.row ≤ℤ p.0 → p.0 <ℤ (b.row +ℤ b.height) → (next : Place) → next ≡ row_behind b p → (q : Place) → is_in_block b q ≡ true → is_from next q ≡ false → is_from p q ≡ false
+  skipped out top bottom next is q inside before =
+      by_side (int_lt p.1 b.column)
+      (λ t. between_rows q (in_block b q inside) (outside out top bottom) true t (ap (λ (n : Place). is_from n q) (sym (is ∙ start_is true t)) ∙ before))
+      (λ t. between_rows q (in_block b q inside) (outside out top bottom) false t (ap (λ (n : Place). is_from n q) (sym (is ∙ start_is false t)) ∙ before))
+
+module _ {X : Type 0} (m : Contents X) (b : Block) (from : Place) where
+  -- no cell of the block stands before this place
+  abbrev pub Passed : Place → Type 0
+  Passed at = (q : Place) → is_left b from q ≡ true → is_from at q ≡ false → finite.get m q ≡ None
+
+  pub none_left : (at : Place) → Passed at → HasNone (finite.get m) at → HasNoneIn m b from
+  none_left at passed none q left = by_side (is_from at q) (none q) (passed q left)
+
+  inside : (q : Place) → is_left b from q ≡ true → is_in_block b q ≡ true
+  inside q left = (and_parts (is_in_block b q) (is_from from q) left).0
+
+  module _ (at : Place) (passed : Passed at) where
+    pub found : is_from from at ≡ true → (p : Place) → IsFirst (finite.get m) at p → is_in_block b p ≡ true → IsFirstIn m b from p
+    found behind p f within = record {
+      there = f.there;
+      within = within;
+      behind = from_far from at p behind f.behind;
+      first = λ q left before. by_side (is_from at q) (λ t. f.first q t before) (passed q left);
+    }
+
+    pub below : (p : Place) → IsFirst (finite.get m) at p → (b.row +ℤ b.height) ≤ℤ p.0 → HasNoneIn m b from
+    below p f low q left =
+        let i = in_block b q (inside q left) in
+        by_side (is_from at q) (λ t. f.first q t (row_before p q (omega (arith, ints, i.bottom, low)))) (passed q left)
+
+    pub done : (b.row +ℤ b.height) ≤ℤ at.0 → HasNoneIn m b from
+    done low q left =
+        let i = in_block b q (inside q left) in
+        passed q left (row_before at q (omega (arith, ints, i.bottom, low)))
+
+    pub passed_more : (p : Place) → IsFirst (finite.get m) at p → is_in_block b p ≡ false → b.row ≤ℤ at.0 → p.0 <ℤ (b.row +ℤ b.height) → (next : Place) → next ≡ row_behind b p → Passed next
+    passed_more p f out top bottom next is q left before =
+        by_side (is_from at q) (λ t. f.first q t (skipped b p out (omega (arith, ints, from_row at p f.behind, top)) bottom next is q (inside q left) before)) (passed q left)
