@@ -4,10 +4,16 @@ use ic_laws::{Amount, amount_spelling, unsigned_amount};
 
 /// Answers the call, if it is one of these.
 pub fn call(row: &mut Row<'_>) {
-    match row.word(0) {
-        "Amount::from_units" => put_of_units(row),
+    match row.name {
+        "Amount::from_units" => {
+            let amount = amount_in(row);
+            put_units(row, amount);
+        }
         "amount_spelling" => put_spelling(row),
-        "unsigned_amount" => put_unsigned(row),
+        "unsigned_amount" => {
+            let decimal = row.character(2);
+            put_units(row, unsigned_amount(row.word(1), decimal));
+        }
         _ => {}
     }
 }
@@ -29,16 +35,6 @@ pub fn put_units(row: &mut Row<'_>, amount: Option<Amount>) {
         Some(amount) => row.put_number(amount.units()),
         None => row.none(),
     }
-}
-
-fn put_of_units(row: &mut Row<'_>) {
-    let amount = amount_in(row);
-    put_units(row, amount);
-}
-
-fn put_unsigned(row: &mut Row<'_>) {
-    let decimal = row.character(2);
-    put_units(row, unsigned_amount(row.word(1), decimal));
 }
 
 fn put_spelling(row: &mut Row<'_>) {

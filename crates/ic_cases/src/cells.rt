@@ -1,74 +1,77 @@
 //! Cells: each kind with its value, its type and what it shows.
 use crate::lookups::put_id_error;
-use crate::row::{Lack, Row, int, size, texts, word};
-use crate::values::put_value;
+use crate::row::Row;
+use crate::values::put_result;
 use ic_cells::{ArrayKind, Cell, CellType, FormulaValue, SpillValue};
-use ic_laws::{Amount, Error, Items, Text, amount_spelling, unsigned_amount};
+use ic_input::read_amount;
+use ic_laws::{Amount, Error, Items, Text, amount_spelling};
 use ic_tables::Language;
-use std::alloc::Global;
 
 /// Answers the call, if it is one of these.
 pub fn call(row: &mut Row<'_>) {
     makers(row);
-    match row.word(0) {
+    match row.name {
         "Cell::set_style" => put_restyled(row),
-        "Cell::get_formula" => put_read(row),
-        "Cell::has_formula" => put_read(row),
-        "Cell::get_style" => put_read(row),
-        "Cell::get_type" => put_read(row),
-        "Cell::value" => put_shown(row),
-        "Cell::get_localized_text" => put_shown(row),
-        "Cell::formatted_value" => put_shown(row),
+        "Cell::get_formula" | "Cell::has_formula" | "Cell::get_style" | "Cell::get_type" => {
+            put_read(row)
+        }
+        "Cell::value" | "Cell::get_localized_text" | "Cell::formatted_value" => put_shown(row),
         _ => {}
     }
 }
 
 /// The calls that make a cell; the cell is answered in words.
 fn makers(row: &mut Row<'_>) {
-    match made(row.word(0), row.words()) {
-        Ok(Some(cell)) => put_cell(row, &cell),
-        Ok(None) => {}
-        Err(lack) => row.fail(lack),
+    let style = match row.name {
+        "Cell::new_string"
+        | "Cell::new_number"
+        | "Cell::new_boolean"
+        | "Cell::new_error"
+        | "Cell::new_formula" => row.size(2),
+        _ => return,
+    };
+    let cell = made(row, style);
+    put_cell(row, &cell);
+}
+
+fn made(row: &mut Row<'_>, style: usize) -> Cell {
+    match row.name {
+        "Cell::new_string" => Cell::new_string(row.size(1), style),
+        "Cell::new_number" => number_cell(row, 1, style),
+        "Cell::new_boolean" => Cell::new_boolean(row.is_true(row.word(1)), style),
+        "Cell::new_error" => Cell::new_error(error(row, row.word(1)), style),
+        _ => Cell::new_formula(row.size(1), style),
     }
 }
 
-fn made(name: &str, words: &[Text]) -> Result<Option<Cell>, Lack> {
-    Ok(Some(match name {
-        "Cell::new_string" => Cell::new_string(size(words, 1)?, size(words, 2)?),
-        "Cell::new_number" => Cell::new_number(amount(word(words, 1))?, size(words, 2)?),
-        "Cell::new_boolean" => Cell::new_boolean(truth(word(words, 1))?, size(words, 2)?),
-        "Cell::new_error" => Cell::new_error(error(word(words, 1))?, size(words, 2)?),
-        "Cell::new_formula" => Cell::new_formula(size(words, 1)?, size(words, 2)?),
-        _ => return Ok(None),
-    }))
+fn number_cell(row: &mut Row<'_>, at: usize, style: usize) -> Cell {
+    match read_amount(row.word(at), '.') {
+        Some(v) => Cell::new_number(v, style),
+        None => {
+            row.bad();
+            Cell::EmptyCell { s: style }
+        }
+    }
 }
 
 /// The cell from the second word on with the style of the first.
 fn put_restyled(row: &mut Row<'_>) {
     let style = row.size(1);
-    match cell_at(row.alloc, row.words(), 2) {
-        Ok(mut cell) => {
-            cell.set_style(style);
-            put_cell(row, &cell);
-        }
-        Err(lack) => row.fail(lack),
-    }
+    row.skip(2);
+    let mut cell = cell(row);
+    cell.set_style(style);
+    put_cell(row, &cell);
 }
 
 /// The calls that read a cell and need no memory.
 fn put_read(row: &mut Row<'_>) {
-    match cell_at(row.alloc, row.words(), 1) {
-        Ok(cell) => put_read_of(row, &cell),
-        Err(lack) => row.fail(lack),
-    }
-}
-
-fn put_read_of(row: &mut Row<'_>, cell: &Cell) {
-    match row.word(0) {
+    row.skip(1);
+    let cell = cell(row);
+    match row.name {
         "Cell::get_formula" => row.put_count(cell.get_formula()),
         "Cell::has_formula" => row.put_bool(cell.has_formula()),
         "Cell::get_style" => row.put_number(cell.get_style() as i128),
-        _ => put_type(row, cell.get_type()),
+        _ => row.put(type_name(cell.get_type())),
     }
 }
 
@@ -82,36 +85,38 @@ fn put_shown(row: &mut Row<'_>) {
 
 /// The shared strings stand in one word, with `|` between two; the cell's words are the last.
 fn put_in_language(row: &mut Row<'_>, language: &Language) {
-    match cell_at(row.alloc, row.words(), 4) {
-        Ok(cell) => put_cell_in(row, language, &cell),
-        Err(lack) => row.fail(lack),
+    let place = row.word(2);
+    let decimal = row.character(2);
+    let strings = texts(row, row.word(3));
+    row.skip(4);
+    let cell = cell(row);
+    match row.name {
+        "Cell::value" => put_result(row, cell.value(row.alloc, &strings, language)),
+        "Cell::get_localized_text" => put_localized(row, language, place, &cell, &strings),
+        _ => put_formatted(row, decimal, language, &cell, &strings),
     }
 }
 
-fn put_cell_in(row: &mut Row<'_>, language: &Language, cell: &Cell) {
-    match texts(row.alloc, row.word(3)) {
-        Ok(strings) => put_with(row, language, cell, &strings),
-        Err(lack) => row.fail(lack),
+/// The texts that stand in a word, with a sign between two.
+fn texts(row: &mut Row<'_>, word: &str) -> Items<Text> {
+    let mut texts = Vec::new(row.alloc);
+    for text in word.split('|') {
+        let text = row.text(text);
+        if texts.push(text).is_err() {
+            row.bad();
+        }
     }
+    Items::from(texts)
 }
 
-fn put_with(row: &mut Row<'_>, language: &Language, cell: &Cell, strings: &Items<Text>) {
-    match row.word(0) {
-        "Cell::value" => put_value_of(row, language, cell, strings),
-        "Cell::get_localized_text" => put_localized(row, language, cell, strings),
-        _ => put_formatted(row, language, cell, strings),
-    }
-}
-
-fn put_value_of(row: &mut Row<'_>, language: &Language, cell: &Cell, strings: &Items<Text>) {
-    match cell.value(row.alloc, strings, language) {
-        Ok(value) => put_value(row, &value),
-        Err(_) => row.no_memory(),
-    }
-}
-
-fn put_localized(row: &mut Row<'_>, language: &Language, cell: &Cell, strings: &Items<Text>) {
-    match row.tables.get_locale(row.word(2)) {
+fn put_localized(
+    row: &mut Row<'_>,
+    language: &Language,
+    place: &str,
+    cell: &Cell,
+    strings: &Items<Text>,
+) {
+    match row.tables.get_locale(place) {
         Ok(locale) => {
             row.put_made(cell.get_localized_text(row.alloc, strings, locale, language))
         }
@@ -120,39 +125,17 @@ fn put_localized(row: &mut Row<'_>, language: &Language, cell: &Cell, strings: &
 }
 
 /// A number is formatted as its amount text with the separator of the second word.
-fn put_formatted(row: &mut Row<'_>, language: &Language, cell: &Cell, strings: &Items<Text>) {
+fn put_formatted(
+    row: &mut Row<'_>,
+    decimal: char,
+    language: &Language,
+    cell: &Cell,
+    strings: &Items<Text>,
+) {
     let alloc = row.alloc;
-    let decimal = row.character(2);
     row.put_made(cell.formatted_value(alloc, strings, language, |v| {
         amount_spelling(alloc, v, decimal)
     }));
-}
-
-/// An amount with `.`, and a minus where it is below 0.
-pub fn amount(text: &str) -> Result<Amount, Lack> {
-    match text.strip_prefix('-') {
-        Some(digits) => match unsigned_amount(digits, '.') {
-            Some(v) => negated(v),
-            None => Err(Lack::Row),
-        },
-        None => unsigned_amount(text, '.').ok_or(Lack::Row),
-    }
-}
-
-fn negated(v: Amount) -> Result<Amount, Lack> {
-    match v.units().checked_neg() {
-        Some(units) => Amount::from_units(units).ok_or(Lack::Row),
-        None => Err(Lack::Row),
-    }
-}
-
-/// `true` or `false`.
-pub fn truth(text: &str) -> Result<bool, Lack> {
-    match text {
-        "true" => Ok(true),
-        "false" => Ok(false),
-        _ => Err(Lack::Row),
-    }
 }
 
 /// The errors by their English words.
@@ -172,132 +155,164 @@ const ERRORS: [(&str, Error); 12] = [
 ];
 
 /// An error by its English word.
-fn error(text: &str) -> Result<Error, Lack> {
+fn error(row: &mut Row<'_>, text: &str) -> Error {
     for (word, error) in &ERRORS {
         if *word == text {
-            return Ok(*error);
+            return *error;
         }
     }
-    Err(Lack::Row)
+    row.bad();
+    Error::REF
 }
 
 /// The word of a value: `u` for none, or a letter, `:` and what it is.
-fn formula_value(alloc: Global, text: &str) -> Result<FormulaValue, Lack> {
+fn formula_value(row: &mut Row<'_>, text: &str) -> FormulaValue {
     if text == "u" {
-        return Ok(FormulaValue::Unevaluated);
+        return FormulaValue::Unevaluated;
     }
-    match spill_value(alloc, text)? {
-        SpillValue::Boolean(b) => Ok(FormulaValue::Boolean(b)),
-        SpillValue::Number(v) => Ok(FormulaValue::Number(v)),
-        SpillValue::Text(t) => Ok(FormulaValue::Text(t)),
-        SpillValue::Error(ei) => error_value(alloc, ei),
+    match spill_value(row, text) {
+        SpillValue::Boolean(b) => FormulaValue::Boolean(b),
+        SpillValue::Number(v) => FormulaValue::Number(v),
+        SpillValue::Text(t) => FormulaValue::Text(t),
+        SpillValue::Error(ei) => FormulaValue::Error {
+            ei,
+            o: row.text("Sheet1!A1"),
+            m: row.text("not shown"),
+        },
     }
-}
-
-fn error_value(alloc: Global, ei: Error) -> Result<FormulaValue, Lack> {
-    let o = Text::from_str(alloc, "Sheet1!A1")?;
-    let m = Text::from_str(alloc, "not shown")?;
-    Ok(FormulaValue::Error { ei, o, m })
 }
 
 /// The value of a word that has one.
-pub fn spill_value(alloc: Global, text: &str) -> Result<SpillValue, Lack> {
+pub fn spill_value(row: &mut Row<'_>, text: &str) -> SpillValue {
     match text.split_once(':') {
-        Some(("b", rest)) => Ok(SpillValue::Boolean(truth(rest)?)),
-        Some(("n", rest)) => Ok(SpillValue::Number(amount(rest)?)),
-        Some(("t", rest)) => Ok(SpillValue::Text(Text::from_str(alloc, rest)?)),
-        Some(("e", rest)) => Ok(SpillValue::Error(error(rest)?)),
-        _ => Err(Lack::Row),
+        Some((letter, rest)) => value_of(row, letter, rest),
+        None => {
+            row.bad();
+            SpillValue::Boolean(false)
+        }
     }
 }
 
-/// The cell that these words describe: its kind, its style, and what else it has.
-pub fn cell_at(alloc: Global, words: &[Text], at: usize) -> Result<Cell, Lack> {
-    match words.get(at..) {
-        Some(rest) => cell_of(alloc, rest, size(rest, 1)?),
-        None => Err(Lack::Row),
+fn value_of(row: &mut Row<'_>, letter: &str, text: &str) -> SpillValue {
+    match letter {
+        "n" => number_value(row, text),
+        "t" => SpillValue::Text(row.text(text)),
+        "e" => SpillValue::Error(error(row, text)),
+        "b" => SpillValue::Boolean(row.is_true(text)),
+        _ => {
+            row.bad();
+            SpillValue::Boolean(false)
+        }
     }
 }
 
-fn cell_of(alloc: Global, words: &[Text], s: usize) -> Result<Cell, Lack> {
-    match word(words, 0) {
-        "empty" => Ok(Cell::EmptyCell { s }),
-        "boolean" => Ok(Cell::new_boolean(truth(word(words, 2))?, s)),
-        "number" => Ok(Cell::new_number(amount(word(words, 2))?, s)),
-        "error" => Ok(Cell::new_error(error(word(words, 2))?, s)),
-        "string" => Ok(Cell::new_string(size(words, 2)?, s)),
-        "formula" => formula_cell(alloc, words, s),
-        "array" => array_cell(alloc, words, s),
-        "spill" => spill_cell(alloc, words, s),
-        _ => Err(Lack::Row),
+fn number_value(row: &mut Row<'_>, text: &str) -> SpillValue {
+    match read_amount(text, '.') {
+        Some(v) => SpillValue::Number(v),
+        None => {
+            row.bad();
+            SpillValue::Boolean(false)
+        }
     }
 }
 
-fn formula_cell(alloc: Global, words: &[Text], s: usize) -> Result<Cell, Lack> {
-    let f = size(words, 2)?;
-    let v = formula_value(alloc, word(words, 3))?;
-    Ok(Cell::CellFormula { f, s, v })
+/// The cell that the words of a row describe: its kind, its style, and what else it has.
+pub fn cell(row: &mut Row<'_>) -> Cell {
+    let s = row.size(1);
+    match row.word(0) {
+        "empty" => Cell::EmptyCell { s },
+        "boolean" => Cell::new_boolean(row.is_true(row.word(2)), s),
+        "number" => number_cell(row, 2, s),
+        "error" => Cell::new_error(error(row, row.word(2)), s),
+        "string" => Cell::new_string(row.size(2), s),
+        _ => formula_cell(row, s),
+    }
 }
 
-fn array_cell(alloc: Global, words: &[Text], s: usize) -> Result<Cell, Lack> {
-    let f = size(words, 2)?;
-    let r = (int(words, 4)?, int(words, 5)?);
-    let kind = kind(word(words, 6))?;
-    let v = formula_value(alloc, word(words, 3))?;
-    Ok(Cell::ArrayFormula { f, s, r, kind, v })
+/// The cell of a formula, or one that has a value of a formula's area.
+fn formula_cell(row: &mut Row<'_>, s: usize) -> Cell {
+    match row.word(0) {
+        "formula" => Cell::CellFormula {
+            f: row.size(2),
+            s,
+            v: formula_value(row, row.word(3)),
+        },
+        "array" => Cell::ArrayFormula {
+            f: row.size(2),
+            s,
+            r: (row.int(4), row.int(5)),
+            kind: kind(row),
+            v: formula_value(row, row.word(3)),
+        },
+        "spill" => Cell::SpillCell {
+            s,
+            a: (row.int(2), row.int(3)),
+            v: spill_value(row, row.word(4)),
+        },
+        _ => {
+            row.bad();
+            Cell::EmptyCell { s }
+        }
+    }
 }
 
-fn spill_cell(alloc: Global, words: &[Text], s: usize) -> Result<Cell, Lack> {
-    let a = (int(words, 2)?, int(words, 3)?);
-    let v = spill_value(alloc, word(words, 4))?;
-    Ok(Cell::SpillCell { s, a, v })
-}
-
-fn kind(text: &str) -> Result<ArrayKind, Lack> {
-    match text {
-        "dynamic" => Ok(ArrayKind::Dynamic),
-        "cse" => Ok(ArrayKind::Cse),
-        _ => Err(Lack::Row),
+fn kind(row: &mut Row<'_>) -> ArrayKind {
+    match row.word(6) {
+        "dynamic" => ArrayKind::Dynamic,
+        "cse" => ArrayKind::Cse,
+        _ => {
+            row.bad();
+            ArrayKind::Cse
+        }
     }
 }
 
 /// A cell in words: its kind, its style, and its place, if it has one.
 fn put_cell(row: &mut Row<'_>, cell: &Cell) {
     row.put(kind_name(cell));
-    row.tab();
     row.put_number(cell.get_style() as i128);
-    put_rest(row, cell);
+    match cell {
+        Cell::EmptyCell { .. } => {}
+        Cell::BooleanCell { v, .. } => row.put(if *v { "\ttrue" } else { "\tfalse" }),
+        Cell::NumberCell { v, .. } => put_amount(row, *v),
+        Cell::ErrorCell { ei, .. } => put_error_name(row, *ei),
+        Cell::SharedString { si, .. } => put_index(row, *si),
+        Cell::CellFormula { f, .. } => put_index(row, *f),
+        Cell::ArrayFormula { f, r, .. } => {
+            put_index(row, *f);
+            put_pair(row, *r);
+        }
+        Cell::SpillCell { a, .. } => put_pair(row, *a),
+    }
+}
+
+fn put_index(row: &mut Row<'_>, n: usize) {
+    row.tab();
+    row.put_number(n as i128);
+}
+
+/// A tab and an amount.
+fn put_amount(row: &mut Row<'_>, v: Amount) {
+    row.tab();
+    row.put_made(amount_spelling(row.alloc, v, '.'));
+}
+
+/// A tab and the name of an error.
+pub fn put_error_name(row: &mut Row<'_>, e: Error) {
+    row.tab();
+    row.put_shown(format!(in row.alloc; "{e:?}"));
 }
 
 fn kind_name(cell: &Cell) -> &'static str {
     match cell {
-        Cell::EmptyCell { .. } => "empty",
-        Cell::BooleanCell { .. } => "boolean",
-        Cell::NumberCell { .. } => "number",
-        Cell::ErrorCell { .. } => "error",
-        Cell::SharedString { .. } => "string",
-        Cell::CellFormula { .. } => "formula",
-        Cell::ArrayFormula { .. } => "array",
-        Cell::SpillCell { .. } => "spill",
-    }
-}
-
-fn put_rest(row: &mut Row<'_>, cell: &Cell) {
-    if !matches!(cell, Cell::EmptyCell { .. } | Cell::SpillCell { .. }) {
-        row.tab();
-    }
-    match cell {
-        Cell::EmptyCell { .. } => {}
-        Cell::BooleanCell { v, .. } => row.put_bool(*v),
-        Cell::NumberCell { v, .. } => row.put_made(amount_spelling(row.alloc, *v, '.')),
-        Cell::ErrorCell { ei, .. } => row.put_shown(format!(in row.alloc; "{ei:?}")),
-        Cell::SharedString { si, .. } => row.put_number(*si as i128),
-        Cell::CellFormula { f, .. } => row.put_number(*f as i128),
-        Cell::ArrayFormula { f, r, .. } => {
-            row.put_number(*f as i128);
-            put_pair(row, *r);
-        }
-        Cell::SpillCell { a, .. } => put_pair(row, *a),
+        Cell::EmptyCell { .. } => "empty\t",
+        Cell::BooleanCell { .. } => "boolean\t",
+        Cell::NumberCell { .. } => "number\t",
+        Cell::ErrorCell { .. } => "error\t",
+        Cell::SharedString { .. } => "string\t",
+        Cell::CellFormula { .. } => "formula\t",
+        Cell::ArrayFormula { .. } => "array\t",
+        Cell::SpillCell { .. } => "spill\t",
     }
 }
 
@@ -306,11 +321,11 @@ fn put_pair(row: &mut Row<'_>, pair: (i32, i32)) {
     row.put_field(pair.1);
 }
 
-fn put_type(row: &mut Row<'_>, kind: CellType) {
-    row.put(match kind {
+fn type_name(kind: CellType) -> &'static str {
+    match kind {
         CellType::Number => "Number",
         CellType::Text => "Text",
         CellType::LogicalValue => "LogicalValue",
         CellType::ErrorValue => "ErrorValue",
-    });
+    }
 }

@@ -1,13 +1,11 @@
 //! Lines, words of lines, and the texts of errors.
-use crate::row::{Lack, Row};
+use crate::row::Row;
 use ic_book::BookError;
-use ic_laws::Text;
-use ic_lines::{Failed, Line, LineReader, MemorySource, RunError, words_of};
-use std::alloc::Global;
+use ic_lines::{Failed, LineReader, MemorySource, RunError, words_of};
 
 /// Answers the call, if it is one of these.
 pub fn call(row: &mut Row<'_>) {
-    match row.word(0) {
+    match row.name {
         "lines" => put_lines(row),
         "words_of" => put_words(row),
         "failed" => row.put_shown(Failed.to_string(row.alloc)),
@@ -17,99 +15,88 @@ pub fn call(row: &mut Row<'_>) {
     }
 }
 
-/// How many lines a text has, and each of them.
+/// Each line of a text, and how many there are.
 fn put_lines(row: &mut Row<'_>) {
-    match lines_in(row.alloc, row.word(1)) {
-        Ok(lines) => {
-            row.put_number(lines.len() as i128);
-            for line in &lines {
-                row.tab();
-                row.put_text(line.text().as_str());
-            }
-        }
-        Err(lack) => row.fail(lack),
+    match MemorySource::new(row.alloc, row.word(1).as_bytes(), 3, &[]) {
+        Ok(mut source) => put_lines_of(row, &mut source),
+        Err(_) => row.bad(),
     }
 }
 
-fn lines_in(alloc: Global, text: &str) -> Result<Vec<Line>, Lack> {
-    let mut source = MemorySource::new(alloc, text.as_bytes(), 3, &[])?;
-    let mut reader = LineReader::new(alloc);
-    let mut lines = Vec::new(alloc);
+fn put_lines_of(row: &mut Row<'_>, source: &mut MemorySource) {
+    let mut reader = LineReader::new(row.alloc);
+    let mut count: u64 = 0;
     for _ in 0..u64::MAX {
-        match reader.next_line(&mut source)? {
-            Some(line) => lines.push(line)?,
-            None => break,
+        match reader.next_line(source) {
+            Ok(Some(line)) => row.put_text(line.text().as_str()),
+            Ok(None) => break,
+            Err(_) => {
+                row.bad();
+                break;
+            }
         }
+        row.tab();
+        count = count.saturating_add(1);
     }
-    Ok(lines)
+    row.put_number(i128::from(count));
 }
 
 /// How many words a line has, and each of them.
 fn put_words(row: &mut Row<'_>) {
     match words_of(row.alloc, row.word(1)) {
-        Ok(words) => put_all(row, words.as_slice()),
-        Err(_) => row.no_memory(),
-    }
-}
-
-fn put_all(row: &mut Row<'_>, words: &[&str]) {
-    row.put_number(words.len() as i128);
-    for word in words {
-        row.tab();
-        row.put_text(word);
+        Ok(words) => {
+            row.put_number(words.len() as i128);
+            for word in words.as_slice() {
+                row.tab();
+                row.put_text(word);
+            }
+        }
+        Err(_) => row.bad(),
     }
 }
 
 /// The text of an error of a run, which is its name.
 fn put_run_error(row: &mut Row<'_>) {
-    for e in [
-        RunError::ReadFault,
-        RunError::WriteFault,
-        RunError::TooManyTurns,
-        RunError::OutOfMemory,
-    ] {
-        put_if_named(row, &e);
-    }
+    let error = match row.word(1) {
+        "ReadFault" => RunError::ReadFault,
+        "WriteFault" => RunError::WriteFault,
+        "TooManyTurns" => RunError::TooManyTurns,
+        "OutOfMemory" => RunError::OutOfMemory,
+        _ => return,
+    };
+    row.put_shown(error.to_string(row.alloc));
 }
 
-fn put_if_named(row: &mut Row<'_>, e: &RunError) {
-    match e.to_string(row.alloc) {
-        Ok(text) => {
-            if text.as_str() == row.word(1) {
-                row.put(text.as_str());
-            }
-        }
-        Err(_) => row.no_memory(),
-    }
-}
+/// The errors of the book.
+const BOOK_ERRORS: [BookError; 21] = [
+    BookError::BadLine,
+    BookError::InvalidSheet,
+    BookError::InvalidRow,
+    BookError::InvalidColumn,
+    BookError::SheetIndexTooLarge,
+    BookError::TargetTooLarge,
+    BookError::InvalidSheetName,
+    BookError::SheetExists,
+    BookError::SheetNotFound,
+    BookError::OnlySheet,
+    BookError::IdsUsedUp,
+    BookError::InvalidName,
+    BookError::InvalidScope,
+    BookError::NameExists,
+    BookError::NameNotFound,
+    BookError::InvalidNameFormula,
+    BookError::NotAFormula,
+    BookError::InvalidLocale,
+    BookError::InvalidLanguage,
+    BookError::InvalidTimezone,
+    BookError::OutOfMemory,
+];
 
 /// The text of an error of the book.
 fn put_book_error(row: &mut Row<'_>) {
-    for e in [
-        BookError::BadLine,
-        BookError::InvalidSheet,
-        BookError::InvalidRow,
-        BookError::InvalidColumn,
-        BookError::SheetIndexTooLarge,
-        BookError::TargetTooLarge,
-        BookError::InvalidSheetName,
-        BookError::SheetExists,
-        BookError::SheetNotFound,
-        BookError::OnlySheet,
-        BookError::IdsUsedUp,
-        BookError::InvalidName,
-        BookError::InvalidScope,
-        BookError::NameExists,
-        BookError::NameNotFound,
-        BookError::InvalidNameFormula,
-        BookError::NotAFormula,
-        BookError::InvalidLocale,
-        BookError::InvalidLanguage,
-        BookError::InvalidTimezone,
-        BookError::OutOfMemory,
-    ] {
-        if e.name() == row.word(1) {
-            row.put_shown(e.to_string(row.alloc));
+    for error in &BOOK_ERRORS {
+        if error.name() == row.word(1) {
+            row.put_shown(error.to_string(row.alloc));
         }
     }
 }

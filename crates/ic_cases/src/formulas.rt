@@ -9,7 +9,7 @@ use std::alloc::Global;
 
 /// Answers the call, if it is one of these.
 pub fn call(row: &mut Row<'_>) {
-    match row.word(0) {
+    match row.name {
         "read_stored" => put_stored(row),
         "read_shown" => put_shown(row, Way::Shown),
         "shown_to_stored" => put_shown(row, Way::ToStored),
@@ -49,7 +49,7 @@ fn put_canonical(row: &mut Row<'_>, text: Result<Option<String>, OutOfMemory>) {
             row.put_text(text.as_str());
         }
         Ok(None) => row.none(),
-        Err(_) => row.no_memory(),
+        Err(_) => row.bad(),
     }
 }
 
@@ -109,6 +109,6 @@ fn put_reference_of(row: &mut Row<'_>, shown: &Shown<'_>) {
     match read_reference(row.alloc, shown, row.word(3)) {
         Ok(Some(token)) => put_token(row, &token),
         Ok(None) => row.none(),
-        Err(_) => row.no_memory(),
+        Err(_) => row.bad(),
     }
 }

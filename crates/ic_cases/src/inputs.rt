@@ -1,43 +1,50 @@
 //! What is typed, and how amounts are shown by format codes.
 use crate::amounts::put_units;
+use crate::cells::put_error_name;
 use crate::row::Row;
 use ic_input::{
     Typed, amount_text, classify, format_amount, formula_without_prefix, is_date_code, read_amount,
     value_needs_quoting,
 };
-use ic_laws::{Amount, Error, Text};
+use ic_laws::{Amount, Text};
 use ic_tables::{Language, Locale};
 
 /// Answers the call, if it is one of these.
 pub fn call(row: &mut Row<'_>) {
-    match row.word(0) {
-        "classify" => in_place(row),
-        "value_needs_quoting" => in_place(row),
-        "formula_without_prefix" => in_locale(row),
-        "format_amount" => in_locale(row),
+    match row.name {
+        "classify" | "value_needs_quoting" | "formula_without_prefix" | "format_amount" => {
+            in_locale(row)
+        }
         "is_date_code" => row.put_bool(is_date_code(row.word(1))),
         "amount_text" => put_amount_text(row),
-        "read_amount" => put_read(row),
+        "read_amount" => {
+            let decimal = row.character(2);
+            put_units(row, read_amount(row.word(1), decimal));
+        }
         _ => {}
     }
 }
 
-/// The calls over a locale and a language of the tables.
-fn in_place(row: &mut Row<'_>) {
+/// The calls over a locale of the tables.
+fn in_locale(row: &mut Row<'_>) {
     match row.tables.get_locale(row.word(1)) {
-        Ok(locale) => match row.tables.get_language(row.word(2)) {
-            Ok(language) => put_in_place(row, locale, language),
-            Err(_) => row.bad(),
+        Ok(locale) => match row.name {
+            "format_amount" => put_formatted(row, locale),
+            "formula_without_prefix" => put_formula(row, locale),
+            _ => in_language(row, locale),
         },
         Err(_) => row.bad(),
     }
 }
 
-fn put_in_place(row: &mut Row<'_>, locale: &Locale, language: &Language) {
-    if row.word(0) == "classify" {
-        put_classified(row, locale, language);
-    } else {
-        put_quoting(row, locale, language);
+/// The calls over a locale and a language of the tables.
+fn in_language(row: &mut Row<'_>, locale: &Locale) {
+    match row.tables.get_language(row.word(2)) {
+        Ok(language) => match row.name {
+            "classify" => put_classified(row, locale, language),
+            _ => put_quoting(row, locale, language),
+        },
+        Err(_) => row.bad(),
     }
 }
 
@@ -46,7 +53,7 @@ fn put_classified(row: &mut Row<'_>, locale: &Locale, language: &Language) {
     let english = row.tables.get_default_language();
     match classify(row.alloc, row.word(3), locale, language, english) {
         Ok(typed) => put_typed(row, &typed),
-        Err(_) => row.no_memory(),
+        Err(_) => row.bad(),
     }
 }
 
@@ -56,11 +63,15 @@ fn put_typed(row: &mut Row<'_>, typed: &Typed) {
         Typed::Quoted(text) => put_named(row, "Quoted\t", text),
         Typed::Formula(text) => put_named(row, "Formula\t", text),
         Typed::Number(v, code) => put_number(row, *v, code.as_ref()),
-        Typed::Boolean(b) => {
-            row.put("Boolean\t");
-            row.put_bool(*b);
+        Typed::Boolean(b) => row.put(if *b {
+            "Boolean\ttrue"
+        } else {
+            "Boolean\tfalse"
+        }),
+        Typed::Error(e) => {
+            row.put("Error");
+            put_error_name(row, *e);
         }
-        Typed::Error(e) => put_error_word(row, *e),
         Typed::Text(text) => put_named(row, "Text\t", text),
     }
 }
@@ -80,53 +91,22 @@ fn put_number(row: &mut Row<'_>, v: Amount, code: Option<&Text>) {
     }
 }
 
-/// An error by its name.
-fn put_error_word(row: &mut Row<'_>, e: Error) {
-    row.put(match e {
-        Error::REF => "Error\tREF",
-        Error::NAME => "Error\tNAME",
-        Error::VALUE => "Error\tVALUE",
-        Error::DIV => "Error\tDIV",
-        Error::NA => "Error\tNA",
-        Error::NUM => "Error\tNUM",
-        Error::NIMPL => "Error\tNIMPL",
-        Error::SPILL => "Error\tSPILL",
-        Error::CALC => "Error\tCALC",
-        Error::CIRC => "Error\tCIRC",
-        Error::ERROR => "Error\tERROR",
-        Error::NULL => "Error\tNULL",
-    });
-}
-
 /// Whether a text needs a quote before it.
 fn put_quoting(row: &mut Row<'_>, locale: &Locale, language: &Language) {
     let english = row.tables.get_default_language();
     match value_needs_quoting(row.alloc, row.word(3), locale, language, english) {
         Ok(needs) => row.put_bool(needs),
-        Err(_) => row.no_memory(),
-    }
-}
-
-/// The calls over a locale of the tables.
-fn in_locale(row: &mut Row<'_>) {
-    match row.tables.get_locale(row.word(1)) {
-        Ok(locale) => put_in_locale(row, locale),
         Err(_) => row.bad(),
-    }
-}
-
-fn put_in_locale(row: &mut Row<'_>, locale: &Locale) {
-    if row.word(0) == "format_amount" {
-        put_formatted(row, locale);
-    } else {
-        put_formula(row, locale);
     }
 }
 
 /// The formula of a text.
 fn put_formula(row: &mut Row<'_>, locale: &Locale) {
     match formula_without_prefix(row.word(2), locale) {
-        Some(formula) => row.put_some(formula),
+        Some(formula) => {
+            row.put("'");
+            row.put_text(formula);
+        }
         None => row.none(),
     }
 }
@@ -146,10 +126,4 @@ fn put_amount_text(row: &mut Row<'_>) {
         Some(v) => row.put_made(amount_text(row.alloc, v, decimal)),
         None => row.bad(),
     }
-}
-
-/// The units of what was read.
-fn put_read(row: &mut Row<'_>) {
-    let decimal = row.character(2);
-    put_units(row, read_amount(row.word(1), decimal));
 }

@@ -1,11 +1,11 @@
 //! Look-ups in the sample tables.
 use crate::row::Row;
-use ic_laws::{OutOfMemory, WordKind};
+use ic_laws::{OutOfMemory, Text, WordKind};
 use ic_tables::{BookIdError, FunctionKind, Language, Locale, Words, find_word};
 
 /// Answers the call, if it is one of these.
 pub fn call(row: &mut Row<'_>) {
-    match row.word(0) {
+    match row.name {
         "find_word" => put_found(row),
         "word" => put_word(row),
         "has_zone" => row.put_bool(row.tables.has_zone(row.word(1))),
@@ -32,10 +32,7 @@ pub fn put_id_error(row: &mut Row<'_>, e: BookIdError) {
         BookIdError::InvalidLanguage => "InvalidLanguage",
         BookIdError::InvalidLocale => "InvalidLocale",
     };
-    match e.to_string(row.alloc) {
-        Ok(text) => row.put_error(name, text.as_str()),
-        Err(_) => row.no_memory(),
-    }
+    row.put_error(name, e.to_string(row.alloc));
 }
 
 fn put_found(row: &mut Row<'_>) {
@@ -47,35 +44,33 @@ fn put_found(row: &mut Row<'_>) {
 
 /// The number of a word, by the order of the language's words; the plain search has to agree.
 fn put_found_in(row: &mut Row<'_>, vocabulary: &Words<'_>) {
-    let Some(kind) = kind(row) else {
-        row.bad();
-        return;
-    };
-    let text = row.word(3);
-    let found = vocabulary.find(kind, text);
-    if found != find_word(vocabulary.language, kind, text) {
-        row.bad();
-        return;
+    match kind(row) {
+        Some(kind) => {
+            let found = vocabulary.find(kind, row.word(3));
+            if found != find_word(vocabulary.language, kind, row.word(3)) {
+                row.bad();
+            }
+            row.put_count(found);
+        }
+        None => row.bad(),
     }
-    row.put_count(found);
 }
 
 fn put_word(row: &mut Row<'_>) {
+    let n = row.size(3);
     match row.tables.get_language(row.word(1)) {
-        Ok(language) => put_word_of(row, language),
+        Ok(language) => put_word_of(row, language, n),
         Err(e) => put_id_error(row, e),
     }
 }
 
-fn put_word_of(row: &mut Row<'_>, language: &Language) {
-    let n = row.size(3);
-    let Some(kind) = kind(row) else {
-        row.bad();
-        return;
-    };
-    match ic_tables::word(language, kind, n) {
-        Some(text) => row.put_text(text),
-        None => row.none(),
+fn put_word_of(row: &mut Row<'_>, language: &Language, n: usize) {
+    match kind(row) {
+        Some(kind) => match ic_tables::word(language, kind, n) {
+            Some(text) => row.put_text(text),
+            None => row.none(),
+        },
+        None => row.bad(),
     }
 }
 
@@ -90,7 +85,7 @@ fn put_kind(row: &mut Row<'_>) {
 }
 
 fn languages(row: &mut Row<'_>) {
-    match row.word(0) {
+    match row.name {
         "get_language" => put_language(row),
         "get_default_language" => row.put_text(row.tables.get_default_language().name.as_str()),
         _ => {}
@@ -105,62 +100,69 @@ fn put_language(row: &mut Row<'_>) {
 }
 
 fn locales(row: &mut Row<'_>) {
-    match row.word(0) {
-        "get_locale" => put_of_locale(row, false),
-        "get_locale_signs" => put_of_locale(row, true),
+    match row.name {
+        "get_locale" => match row.tables.get_locale(row.word(1)) {
+            Ok(locale) => put_locale(row, locale),
+            Err(e) => put_id_error(row, e),
+        },
+        "get_locale_signs" => match row.tables.get_locale(row.word(1)) {
+            Ok(locale) => put_signs(row, locale),
+            Err(e) => put_id_error(row, e),
+        },
         "get_default_locale" => put_locale(row, row.tables.get_default_locale()),
         _ => {}
     }
 }
 
-fn put_of_locale(row: &mut Row<'_>, signs: bool) {
-    match row.tables.get_locale(row.word(1)) {
-        Ok(locale) => {
-            if signs {
-                put_signs(row, locale);
-            } else {
-                put_locale(row, locale);
-            }
-        }
-        Err(e) => put_id_error(row, e),
-    }
-}
-
-/// A text and a tab.
-fn put_before(row: &mut Row<'_>, text: &str) {
-    row.put_text(text);
-    row.tab();
-}
-
 /// Its separators, its currency and its formats.
 fn put_locale(row: &mut Row<'_>, locale: &Locale) {
-    put_before(row, locale.numbers.symbols.decimal.as_str());
-    put_before(row, locale.numbers.symbols.group.as_str());
-    put_before(row, locale.numbers.symbols.list.as_str());
-    put_before(row, locale.currency.iso.as_str());
-    put_before(row, locale.currency.symbol.as_str());
-    put_before(row, locale.numbers.currency_formats.standard.as_str());
-    put_before(row, locale.dates.date_formats.short.as_str());
-    row.put_text(locale.dates.date_formats.long.as_str());
+    put_texts(
+        row,
+        &[
+            &locale.numbers.symbols.decimal,
+            &locale.numbers.symbols.group,
+            &locale.numbers.symbols.list,
+            &locale.currency.iso,
+            &locale.currency.symbol,
+            &locale.numbers.currency_formats.standard,
+            &locale.dates.date_formats.short,
+            &locale.dates.date_formats.long,
+        ],
+    );
 }
 
 /// The signs that all locales share.
 fn put_signs(row: &mut Row<'_>, locale: &Locale) {
     let symbols = &locale.numbers.symbols;
-    put_before(row, symbols.percent_sign.as_str());
-    put_before(row, symbols.plus_sign.as_str());
-    put_before(row, symbols.minus_sign.as_str());
-    put_before(row, symbols.approximately_sign.as_str());
-    put_before(row, symbols.exponential.as_str());
-    put_before(row, symbols.superscripting_exponent.as_str());
-    put_before(row, symbols.per_mille.as_str());
-    put_before(row, symbols.infinity.as_str());
-    put_before(row, symbols.nan.as_str());
-    row.put_text(symbols.time_separator.as_str());
+    put_texts(
+        row,
+        &[
+            &symbols.percent_sign,
+            &symbols.plus_sign,
+            &symbols.minus_sign,
+            &symbols.approximately_sign,
+            &symbols.exponential,
+            &symbols.superscripting_exponent,
+            &symbols.per_mille,
+            &symbols.infinity,
+            &symbols.nan,
+            &symbols.time_separator,
+        ],
+    );
+}
+
+/// Texts, with a tab between two.
+fn put_texts(row: &mut Row<'_>, texts: &[&Text]) {
+    let mut first = true;
+    for text in texts {
+        row.put(if first { "" } else { "\t" });
+        first = false;
+        row.put_text(text.as_str());
+    }
 }
 
 fn lists(row: &mut Row<'_>) {
-    match row.word(0) {
+    match row.name {
         "get_supported_locales" => put_strings(row, row.tables.get_supported_locales()),
         "get_all_timezones" => put_strings(row, row.tables.get_all_timezones()),
         _ => {}
@@ -169,16 +171,14 @@ fn lists(row: &mut Row<'_>) {
 
 fn put_strings(row: &mut Row<'_>, texts: Result<Vec<String>, OutOfMemory>) {
     match texts {
-        Ok(texts) => put_list(row, texts.as_slice()),
-        Err(_) => row.no_memory(),
-    }
-}
-
-fn put_list(row: &mut Row<'_>, texts: &[String]) {
-    let mut first = true;
-    for text in texts {
-        row.put(if first { "" } else { "\t" });
-        first = false;
-        row.put_text(text.as_str());
+        Ok(texts) => {
+            let mut first = true;
+            for text in texts.as_slice() {
+                row.put(if first { "" } else { "\t" });
+                first = false;
+                row.put_text(text.as_str());
+            }
+        }
+        Err(_) => row.bad(),
     }
 }

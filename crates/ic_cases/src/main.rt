@@ -1,14 +1,14 @@
 //! Answers one call a line, for what a row can show: the name of the call and its words, each after a tab and escaped as
 //! in command lines. The answer is one line: `none` for None, `error`, the variant's name and its text for an error,
-//! otherwise the fields of what is answered, each after a tab. A line that is no such call is answered `bad`. A line that
-//! begins with `#` is answered by itself, so that rows can stand under a heading.
+//! otherwise the fields of what is answered, each after a tab. A line that is no such call is answered `bad`, also one for
+//! which there is no memory. A line that begins with `#` is answered by itself, so that rows can stand under a heading.
 //!
 //! `new_empty` begins a book, and `line` answers a command line on it. What no command line reaches has a call of its
 //! own. `stdin` holds the rows and `stdout` their answers. No contract speaks of this program: its rows are the cases of
 //! the crates that it calls.
 //!
-//! A call takes the row, and puts its answer there. It has nothing large of its own where it can end: what fails is told
-//! to the row, which goes on.
+//! A call takes the row, and puts its answer there. What fails is told to the row, which goes on with another value: no
+//! call has an error to hand on, and none ends early over what it owns.
 #![tactic(auto)]
 
 mod amounts;
@@ -34,9 +34,9 @@ mod values;
 
 use books::Books;
 use ic_laws::Text;
-use ic_lines::{LineReader, StdSink, StdSource, unescape, write_all};
+use ic_lines::{LineReader, RunError, StdSink, StdSource, unescape, write_all};
 use ic_tables::{Tables, sample_tables};
-use row::{Lack, Row};
+use row::Row;
 use std::alloc::Global;
 use std::process::ExitCode;
 
@@ -62,38 +62,34 @@ fn call(row: &mut Row<'_>, books: &mut Books<'_>) {
     pools::call(row, books);
 }
 
-/// Puts the next word of a line behind the others.
-fn add_word(alloc: Global, word: &str, words: &mut Vec<Text>) -> Result<(), Lack> {
-    match unescape(alloc, word)? {
-        Some(text) => Ok(words.push(text)?),
-        None => Err(Lack::Row),
+/// Puts the next word of a line behind the others, if it is one.
+fn is_added(alloc: Global, word: &str, words: &mut Vec<Text>) -> bool {
+    match unescape(alloc, word) {
+        Ok(Some(text)) => words.push(text).is_ok(),
+        _ => false,
     }
 }
 
-/// The words of a line, put into a list.
-fn take_words(alloc: Global, line: &str, words: &mut Vec<Text>) -> Result<(), Lack> {
-    for word in line.split('\t') {
-        add_word(alloc, word, words)?;
-    }
-    Ok(())
-}
-
-/// Appends the answer to a line; `bad` where it is no call.
+/// Appends the answer to a line, as far as there is memory.
 fn answer(
     alloc: Global,
     tables: &Tables,
     books: &mut Books<'_>,
     line: &str,
     out: &mut String,
-) -> Result<(), Lack> {
+) -> bool {
     if line.starts_with('#') {
-        out.push_str(line)?;
-        return Ok(());
+        return out.push_str(line).is_ok();
     }
     let mut words = Vec::new(alloc);
-    match take_words(alloc, line, &mut words) {
-        Ok(()) => answer_words(alloc, tables, books, words.as_slice(), out),
-        Err(lack) => answer_lack(lack, out),
+    let mut all = true;
+    for word in line.split('\t') {
+        all = is_added(alloc, word, &mut words) && all;
+    }
+    if all {
+        answer_words(alloc, tables, books, words.as_slice(), out)
+    } else {
+        out.push_str("bad").is_ok()
     }
 }
 
@@ -103,27 +99,17 @@ fn answer_words(
     books: &mut Books<'_>,
     words: &[Text],
     out: &mut String,
-) -> Result<(), Lack> {
+) -> bool {
     let mut row = Row::new(alloc, tables, words);
     call(&mut row, books);
-    match row.lack() {
-        None => Ok(out.push_str(row.answer())?),
-        Some(lack) => answer_lack(lack, out),
-    }
-}
-
-fn answer_lack(lack: Lack, out: &mut String) -> Result<(), Lack> {
-    match lack {
-        Lack::Row => Ok(out.push_str("bad")?),
-        lack => Err(lack),
-    }
+    out.push_str(row.answer()).is_ok()
 }
 
 /// The bytes of answers that are gathered for one write.
 const GATHERED: usize = 60_000;
 
 /// Answers all lines.
-fn serve(rt: &HostRuntime, tables: &Tables) -> Result<(), Lack> {
+fn serve(rt: &HostRuntime, tables: &Tables) -> Result<(), RunError> {
     let alloc = rt.alloc();
     let mut source = StdSource::new(rt.reader());
     let mut sink = StdSink::new(rt.stdout());
@@ -134,14 +120,17 @@ fn serve(rt: &HostRuntime, tables: &Tables) -> Result<(), Lack> {
         let Some(line) = reader.next_line(&mut source)? else {
             break;
         };
-        answer(alloc, tables, &mut books, line.text().as_str(), &mut out)?;
-        out.push('\n')?;
+        if !answer(alloc, tables, &mut books, line.text().as_str(), &mut out)
+            || out.push('\n').is_err()
+        {
+            return Err(RunError::OutOfMemory);
+        }
         if out.len() > GATHERED {
             write_all(&mut sink, out.as_bytes())?;
             out.clear();
         }
     }
-    Ok(write_all(&mut sink, out.as_bytes())?)
+    write_all(&mut sink, out.as_bytes())
 }
 
 fn main(rt: HostRuntime) -> ExitCode {

@@ -9,85 +9,59 @@ use ic_refs::{
 
 /// Answers the call, if it is one of these.
 pub fn call(row: &mut Row<'_>) {
-    if let Some(holds) = holds(row.word(0), row.word(1), row.word(2)) {
-        row.put_bool(holds);
+    let text = row.word(1);
+    match row.name {
+        "is_valid_column" => row.put_bool(is_valid_column(text)),
+        "is_valid_sheet_name" => row.put_bool(is_valid_sheet_name(text)),
+        "is_valid_identifier" => row.put_bool(is_valid_identifier(text)),
+        "is_valid_a1_identifier" => row.put_bool(is_valid_a1_identifier(text)),
+        "agree" => row.put_bool(agree(text, row.word(2))),
+        "trimmed" => row.put_text(trimmed(text)),
+        "quote_name" => row.put_made(quote_name(row.alloc, text)),
+        _ => {}
     }
     columns(row);
     texts(row);
 }
 
-fn holds(name: &str, text: &str, other: &str) -> Option<bool> {
-    match name {
-        "is_valid_column" => Some(is_valid_column(text)),
-        "is_valid_sheet_name" => Some(is_valid_sheet_name(text)),
-        "is_valid_identifier" => Some(is_valid_identifier(text)),
-        "is_valid_a1_identifier" => Some(is_valid_a1_identifier(text)),
-        "agree" => Some(agree(text, other)),
-        _ => None,
-    }
-}
-
 fn columns(row: &mut Row<'_>) {
-    match row.word(0) {
+    match row.name {
         "column_to_number" => put_number(row),
-        "number_to_column" => put_column(row),
-        "is_valid_column_number" => put_column_number(row),
-        "is_valid_row" => put_row_number(row),
+        "number_to_column" => {
+            let column = row.int(1);
+            row.put_found(number_to_column(row.alloc, column));
+        }
+        "is_valid_column_number" => {
+            let column = row.int(1);
+            row.put_bool(is_valid_column_number(column));
+        }
+        "is_valid_row" => {
+            let number = row.int(1);
+            row.put_bool(is_valid_row(number));
+        }
         _ => {}
     }
-}
-
-fn put_column(row: &mut Row<'_>) {
-    let column = row.int(1);
-    row.put_found(number_to_column(row.alloc, column));
-}
-
-fn put_column_number(row: &mut Row<'_>) {
-    let column = row.int(1);
-    row.put_bool(is_valid_column_number(column));
-}
-
-fn put_row_number(row: &mut Row<'_>) {
-    let number = row.int(1);
-    row.put_bool(is_valid_row(number));
 }
 
 fn texts(row: &mut Row<'_>) {
-    match row.word(0) {
-        "quote_name" => row.put_made(quote_name(row.alloc, row.word(1))),
-        "escape" => put_escaped(row),
-        "unescape" => put_unescaped(row),
-        "trimmed" => row.put_text(trimmed(row.word(1))),
+    match row.name {
+        "escape" => match escape(row.alloc, row.word(1)) {
+            Ok(text) => row.put_text(text.as_str()),
+            Err(_) => row.bad(),
+        },
+        "unescape" => match unescape(row.alloc, row.word(1)) {
+            Ok(Some(meant)) => row.put_text(meant.as_str()),
+            Ok(None) => row.none(),
+            Err(_) => row.bad(),
+        },
         _ => {}
-    }
-}
-
-fn put_escaped(row: &mut Row<'_>) {
-    match escape(row.alloc, row.word(1)) {
-        Ok(text) => row.put_text(text.as_str()),
-        Err(_) => row.no_memory(),
-    }
-}
-
-fn put_unescaped(row: &mut Row<'_>) {
-    match unescape(row.alloc, row.word(1)) {
-        Ok(Some(meant)) => row.put_text(meant.as_str()),
-        Ok(None) => row.none(),
-        Err(_) => row.no_memory(),
     }
 }
 
 fn put_number(row: &mut Row<'_>) {
     match column_to_number(row.word(1)) {
         Ok(n) => row.put_number(i128::from(n)),
-        Err(e) => put_column_error(row, &e),
-    }
-}
-
-fn put_column_error(row: &mut Row<'_>, e: &ColumnError) {
-    match e.to_string(row.alloc) {
-        Ok(text) => row.put_error(column_error_name(e), text.as_str()),
-        Err(_) => row.no_memory(),
+        Err(e) => row.put_error(column_error_name(&e), e.to_string(row.alloc)),
     }
 }
 

@@ -1,14 +1,14 @@
 //! The formulas that a sheet of the book keeps, each in its place.
-ghost use Rattle.std.specs.Prelude.{◌≡◌, ◌<◌, IfSome, Some};
+ghost use Rattle.std.specs.Prelude.{◌≡◌, ◌<◌, IfOk, IfSome, Some};
 ghost use Rattle.std.specs.List.{slice_get};
 ghost use Rattle.ic_laws.specs.ValidCore.{IsPooled};
 ghost use Rattle.ic_book.specs.Book.{notations_in, scene_in};
 
 use crate::books::{Books, put_book_error};
-use crate::row::{Lack, Row};
+use crate::row::Row;
 use crate::scenes::spelled;
 use ic_book::{BookError, Model, Steps};
-use ic_laws::{Bound, Formula, Items, Scene, Text};
+use ic_laws::{Bound, Formula, Items, OutOfMemory, Scene};
 use ic_pool::copy_formula;
 use ic_tree::Stored;
 use std::alloc::Global;
@@ -19,7 +19,7 @@ use std::sync::ledger::{Blank, Ledger};
 /// sheet of the book is written by its id. `shared_formula_index`, a sheet and a text that doesn't read: its place.
 /// `place_of_copy`, a sheet and a place: where a copy of the formula at that place is found.
 pub fn call(row: &mut Row<'_>, books: &mut Books<'_>) {
-    match row.word(0) {
+    match row.name {
         "parsed_formula" => put_parsed(row, books),
         "shared_formula_index" => put_shared(row, books),
         "place_of_copy" => put_place_of_copy(row, books),
@@ -30,7 +30,7 @@ pub fn call(row: &mut Row<'_>, books: &mut Books<'_>) {
 fn put_parsed(row: &mut Row<'_>, books: &Books<'_>) {
     let sheet = row.index(1);
     let place = row.size(2);
-    match books.book() {
+    match &books.book {
         Some(model) => put_formula(row, model.parsed_formula(sheet, place)),
         None => row.bad(),
     }
@@ -57,48 +57,57 @@ fn put_tree(row: &mut Row<'_>, tree: &Bound) {
     row.put_made(spelled(row.alloc, &Stored::new(row.tables), &scene, tree));
 }
 
-/// Where a formula is found, if the row and the book say one.
-type Found = Result<Option<Result<usize, BookError>>, Lack>;
-
-fn put_found(row: &mut Row<'_>, found: Found) {
-    match found {
-        Ok(Some(Ok(place))) => row.put_number(place as i128),
-        Ok(Some(Err(e))) => put_book_error(row, &e),
-        Ok(None) => row.none(),
-        Err(lack) => row.fail(lack),
+fn put_shared(row: &mut Row<'_>, books: &mut Books<'_>) {
+    match &mut books.book {
+        Some(model) => put_place_of_raw(row, model),
+        None => row.bad(),
     }
 }
 
-fn put_shared(row: &mut Row<'_>, books: &mut Books<'_>) {
+fn put_place_of_raw(row: &mut Row<'_>, model: &mut Model<'_>) {
     let sheet = row.index(1);
-    let found = match books.book_mut() {
-        Some(model) => place_of_raw(row.alloc, model, sheet, row.word(2)),
-        None => Err(Lack::Row),
-    };
-    put_found(row, found);
+    let formula = Formula::Raw(row.text(row.word(2)));
+    put_place(row, place_of(model, sheet, &formula));
 }
 
-fn place_of_raw(alloc: Global, model: &mut Model<'_>, sheet: u32, text: &str) -> Found {
-    let formula = Formula::Raw(Text::from_str(alloc, text)?);
-    Ok(Some(place_of(model, sheet, &formula)))
+/// Where a formula is found.
+fn put_place(row: &mut Row<'_>, found: Result<usize, BookError>) {
+    match found {
+        Ok(place) => row.put_number(place as i128),
+        Err(e) => put_book_error(row, &e),
+    }
 }
 
 fn put_place_of_copy(row: &mut Row<'_>, books: &mut Books<'_>) {
-    let sheet = row.index(1);
-    let place = row.size(2);
-    let found = match books.book_mut() {
-        Some(model) => place_of_copy(row.alloc, model, sheet, place),
-        None => Err(Lack::Row),
-    };
-    put_found(row, found);
+    match &mut books.book {
+        Some(model) => put_place_of_copied(row, model),
+        None => row.bad(),
+    }
 }
 
-fn place_of_copy(alloc: Global, model: &mut Model<'_>, sheet: u32, place: usize) -> Found {
-    let Some(formula) = model.parsed_formula(sheet, place) else {
-        return Ok(None);
-    };
-    let copy = copy_formula(alloc, formula)?;
-    Ok(Some(place_of(model, sheet, &copy)))
+fn put_place_of_copied(row: &mut Row<'_>, model: &mut Model<'_>) {
+    let sheet = row.index(1);
+    let place = row.size(2);
+    match copied(row.alloc, model, sheet, place) {
+        Ok(Some(copy)) => put_place(row, place_of(model, sheet, &copy)),
+        Ok(None) => row.none(),
+        Err(_) => row.bad(),
+    }
+}
+
+/// A copy of a formula of the book.
+fn copied(
+    alloc: Global,
+    model: &Model<'_>,
+    sheet: u32,
+    place: usize,
+) -> Result<Option<Formula>, OutOfMemory>
+    ensures { IfOk result (λ found. IfSome found (λ copy. IfSome (slice_get model.now.book.sheets sheet) (λ s. IsPooled (notations_in model.now.book) (scene_in model.now.book) (Some s.id) copy))) }
+{
+    match model.parsed_formula(sheet, place) {
+        Some(formula) => Ok(Some(copy_formula(alloc, formula)?)),
+        None => Ok(None),
+    }
 }
 
 /// The place of a formula that is settled in its sheet, by a count of its own.

@@ -3,20 +3,31 @@ use crate::places::{put_token, reference};
 use crate::row::Row;
 use ic_laws::{OutOfMemory, RefToken};
 use ic_refs::{
-    A1Reference, CellReferenceIndex, ParsedReference, ReferenceError, is_valid_column_number,
-    is_valid_row, parse_reference_a1, read_a1, read_rc, spell_a1, spell_rc,
+    CellReferenceIndex, ParsedReference, ReferenceError, is_valid_column_number, is_valid_row,
+    parse_reference_a1, read_a1, read_rc, spell_a1, spell_rc,
 };
 
 /// Answers the call, if it is one of these.
 pub fn call(row: &mut Row<'_>) {
-    match row.word(0) {
+    match row.name {
         "parse_reference_a1" => put_a1(row),
         "parse_reference_formula" => parse_formula(row),
         "parse_r1c1_reference" => parse_r1c1(row),
-        "read_a1" => put_read_a1(row),
-        "read_rc" => put_read_rc(row),
+        "read_a1" => {
+            let number = row.int(1);
+            let column = row.int(2);
+            let at = row.size(3);
+            put_found(row, read_a1(row.alloc, row.word(4), at, number, column));
+        }
+        "read_rc" => {
+            let at = row.size(1);
+            put_found(row, read_rc(row.alloc, row.word(2), at));
+        }
         "spell_a1" => put_spelled_a1(row),
-        "spell_rc" => put_spelled_rc(row),
+        "spell_rc" => {
+            let token = reference(row);
+            row.put_made(spell_rc(row.alloc, &token));
+        }
         _ => {}
     }
 }
@@ -34,20 +45,14 @@ fn sheet_index(name: &str) -> Option<u32> {
 
 fn put_a1(row: &mut Row<'_>) {
     match parse_reference_a1(row.word(1)) {
-        Some(cell) => put_cell_of_a1(row, &cell),
+        Some(cell) => {
+            row.put(if cell.absolute_row { "$" } else { "" });
+            row.put_number(i128::from(cell.row));
+            row.put(if cell.absolute_column { "\t$" } else { "\t" });
+            row.put_number(i128::from(cell.column));
+        }
         None => row.none(),
     }
-}
-
-fn put_cell_of_a1(row: &mut Row<'_>, cell: &A1Reference) {
-    put_number(row, cell.absolute_row, cell.row);
-    row.tab();
-    put_number(row, cell.absolute_column, cell.column);
-}
-
-fn put_number(row: &mut Row<'_>, absolute: bool, n: i32) {
-    row.put(if absolute { "$" } else { "" });
-    row.put_number(i128::from(n));
 }
 
 fn parse_formula(row: &mut Row<'_>) {
@@ -100,14 +105,7 @@ fn put_parsed(row: &mut Row<'_>, parsed: Result<ParsedReference, ReferenceError>
             put_cell(row, first);
             put_cell(row, last);
         }
-        Err(e) => put_refused(row, &e),
-    }
-}
-
-fn put_refused(row: &mut Row<'_>, e: &ReferenceError) {
-    match e.to_string(row.alloc) {
-        Ok(text) => row.put_error(error_name(e), text.as_str()),
-        Err(_) => row.no_memory(),
+        Err(e) => row.put_error(error_name(&e), e.to_string(row.alloc)),
     }
 }
 
@@ -130,20 +128,6 @@ fn error_name(e: &ReferenceError) -> &'static str {
     }
 }
 
-fn put_read_a1(row: &mut Row<'_>) {
-    let number = row.int(1);
-    let column = row.int(2);
-    let at = row.size(3);
-    let found = read_a1(row.alloc, row.word(4), at, number, column);
-    put_found(row, found);
-}
-
-fn put_read_rc(row: &mut Row<'_>) {
-    let at = row.size(1);
-    let found = read_rc(row.alloc, row.word(2), at);
-    put_found(row, found);
-}
-
 fn put_found(row: &mut Row<'_>, found: Result<Option<(RefToken, usize)>, OutOfMemory>) {
     match found {
         Ok(Some(found)) => {
@@ -152,22 +136,14 @@ fn put_found(row: &mut Row<'_>, found: Result<Option<(RefToken, usize)>, OutOfMe
             row.put_number(found.1 as i128);
         }
         Ok(None) => row.none(),
-        Err(_) => row.no_memory(),
+        Err(_) => row.bad(),
     }
 }
 
 fn put_spelled_a1(row: &mut Row<'_>) {
     let number = row.int(1);
     let column = row.int(2);
-    match reference(row.alloc, row.words(), 3) {
-        Ok(token) => row.put_found(spell_a1(row.alloc, &token, number, column)),
-        Err(lack) => row.fail(lack),
-    }
-}
-
-fn put_spelled_rc(row: &mut Row<'_>) {
-    match reference(row.alloc, row.words(), 1) {
-        Ok(token) => row.put_made(spell_rc(row.alloc, &token)),
-        Err(lack) => row.fail(lack),
-    }
+    row.skip(2);
+    let token = reference(row);
+    row.put_found(spell_a1(row.alloc, &token, number, column));
 }

@@ -1,55 +1,22 @@
 //! One row: its words, and its answer, which comes piece by piece.
-use ic_laws::{Items, OutOfMemory, Text};
-use ic_lines::{RunError, escape};
+use ic_laws::{OutOfMemory, Text};
+use ic_lines::escape;
 use ic_tables::Tables;
-use std::alloc::{AllocError, AllocFailed, Global};
+use std::alloc::{AllocError, Global};
 
-/// Why a row has no answer.
-#[derive(Clone, Copy)]
-pub enum Lack {
-    /// It is no call with its words.
-    Row,
-    Memory,
-    /// A read or a write failed.
-    Io,
-}
-
-impl From<RunError> for Lack {
-    fn from(error: RunError) -> Lack {
-        match error {
-            RunError::OutOfMemory => Lack::Memory,
-            _ => Lack::Io,
-        }
-    }
-}
-
-impl From<OutOfMemory> for Lack {
-    fn from(_: OutOfMemory) -> Lack {
-        Lack::Memory
-    }
-}
-
-impl From<AllocError> for Lack {
-    fn from(_: AllocError) -> Lack {
-        Lack::Memory
-    }
-}
-
-impl<T: Drop> From<AllocFailed<T>> for Lack {
-    fn from(_: AllocFailed<T>) -> Lack {
-        Lack::Memory
-    }
-}
-
-/// A row that is being answered. What is put goes behind what was put before; where something lacks, the row goes on,
-/// and has no answer at its end. So a call has no error to hand on.
+/// A row that is being answered. What is put goes behind what was put before. Where a word is not what a call asks for,
+/// or memory runs out, the row fails: it goes on with another value, and its answer is `bad` in the end. So a call has no
+/// error to hand on.
 pub struct Row<'w> {
     pub alloc: Global,
     pub tables: &'w Tables,
-    words: &'w [Text],
+    /// The name of the call, its first word.
+    pub name: &'w str,
+    /// Its words; the name stands at 0, until words are left out.
+    pub words: &'w [Text],
     out: String,
     answered: bool,
-    lack: Option<Lack>,
+    failed: bool,
 }
 
 impl Drop for Row<'_> {
@@ -57,81 +24,73 @@ impl Drop for Row<'_> {
         let Self {
             alloc: _,
             tables: _,
+            name: _,
             words: _,
             out,
             answered: _,
-            lack: _,
+            failed: _,
         } = self;
         drop(out);
     }
 }
 
-/// The word at a place; the empty text where there is none.
-pub fn word(words: &[Text], at: usize) -> &str {
-    match words.get(at) {
-        Some(text) => text.as_str(),
-        None => "",
-    }
-}
-
-/// The number at a place.
-pub fn size(words: &[Text], at: usize) -> Result<usize, Lack> {
-    word(words, at).parse::<usize>().map_err(|_| Lack::Row)
-}
-
-/// The number at a place, with a sign or without.
-pub fn int(words: &[Text], at: usize) -> Result<i32, Lack> {
-    word(words, at).parse::<i32>().map_err(|_| Lack::Row)
-}
-
-/// The number of 32 bits at a place.
-pub fn index(words: &[Text], at: usize) -> Result<u32, Lack> {
-    word(words, at).parse::<u32>().map_err(|_| Lack::Row)
-}
-
-/// The id of a sheet, or `none`.
-pub fn scope(words: &[Text], at: usize) -> Result<Option<u32>, Lack> {
-    if word(words, at) == "none" {
-        return Ok(None);
-    }
-    Ok(Some(index(words, at)?))
-}
-
 impl<'w> Row<'w> {
     /// A row that isn't answered yet.
     pub fn new(alloc: Global, tables: &'w Tables, words: &'w [Text]) -> Row<'w> {
+        let name = match words.first() {
+            Some(name) => name.as_str(),
+            None => "",
+        };
         Row {
             alloc,
             tables,
+            name,
             words,
             out: String::new(alloc),
             answered: false,
-            lack: None,
+            failed: false,
         }
     }
 
-    /// The answer so far.
+    /// The answer.
     pub fn answer(&self) -> &str {
-        self.out.as_str()
-    }
-
-    /// Why it has no answer, if it hasn't.
-    pub fn lack(&self) -> Option<Lack> {
-        if self.answered {
-            self.lack
+        if self.answered && !self.failed {
+            self.out.as_str()
         } else {
-            Some(Lack::Row)
+            "bad"
         }
     }
 
-    /// Its words; the name of the call stands at 0.
-    pub fn words(&self) -> &'w [Text] {
-        self.words
+    /// It is no call with its words, or memory ran out.
+    pub fn bad(&mut self) {
+        self.failed = true;
+    }
+
+    /// Leaves its first words out from here on.
+    pub fn skip(&mut self, count: usize) {
+        match self.words.get(count..) {
+            Some(rest) => self.words = rest,
+            None => self.bad(),
+        }
     }
 
     /// The word at a place; the empty text where there is none.
     pub fn word(&self, at: usize) -> &'w str {
-        word(self.words, at)
+        match self.words.get(at) {
+            Some(text) => text.as_str(),
+            None => "",
+        }
+    }
+
+    /// A copy of a text.
+    pub fn text(&mut self, text: &str) -> Text {
+        match Text::from_str(self.alloc, text) {
+            Ok(text) => text,
+            Err(_) => {
+                self.bad();
+                Text::from(String::new(self.alloc))
+            }
+        }
     }
 
     /// The first character of a word.
@@ -139,18 +98,30 @@ impl<'w> Row<'w> {
         match self.word(at).chars().next() {
             Some(c) => c,
             None => {
-                self.fail(Lack::Row);
+                self.bad();
                 ' '
+            }
+        }
+    }
+
+    /// Whether a text is `true` and not `false`.
+    pub fn is_true(&mut self, text: &str) -> bool {
+        match text {
+            "true" => true,
+            "false" => false,
+            _ => {
+                self.bad();
+                false
             }
         }
     }
 
     /// The number at a place.
     pub fn size(&mut self, at: usize) -> usize {
-        match size(self.words, at) {
+        match self.word(at).parse::<usize>() {
             Ok(n) => n,
-            Err(lack) => {
-                self.fail(lack);
+            Err(_) => {
+                self.bad();
                 0
             }
         }
@@ -158,10 +129,10 @@ impl<'w> Row<'w> {
 
     /// The number at a place, with a sign or without.
     pub fn int(&mut self, at: usize) -> i32 {
-        match int(self.words, at) {
+        match self.word(at).parse::<i32>() {
             Ok(n) => n,
-            Err(lack) => {
-                self.fail(lack);
+            Err(_) => {
+                self.bad();
                 0
             }
         }
@@ -169,10 +140,10 @@ impl<'w> Row<'w> {
 
     /// The number of 32 bits at a place.
     pub fn index(&mut self, at: usize) -> u32 {
-        match index(self.words, at) {
+        match self.word(at).parse::<u32>() {
             Ok(n) => n,
-            Err(lack) => {
-                self.fail(lack);
+            Err(_) => {
+                self.bad();
                 0
             }
         }
@@ -180,36 +151,18 @@ impl<'w> Row<'w> {
 
     /// The id of a sheet, or `none`.
     pub fn scope(&mut self, at: usize) -> Option<u32> {
-        match scope(self.words, at) {
-            Ok(scope) => scope,
-            Err(lack) => {
-                self.fail(lack);
-                None
-            }
+        if self.word(at) == "none" {
+            None
+        } else {
+            Some(self.index(at))
         }
-    }
-
-    /// It has no answer.
-    pub fn fail(&mut self, lack: Lack) {
-        self.answered = true;
-        self.lack = Some(lack);
-    }
-
-    /// It is no call with its words.
-    pub fn bad(&mut self) {
-        self.fail(Lack::Row);
-    }
-
-    /// Memory ran out.
-    pub fn no_memory(&mut self) {
-        self.fail(Lack::Memory);
     }
 
     /// A text as it is.
     pub fn put(&mut self, text: &str) {
         self.answered = true;
         if self.out.push_str(text).is_err() {
-            self.no_memory();
+            self.bad();
         }
     }
 
@@ -227,21 +180,15 @@ impl<'w> Row<'w> {
     pub fn put_text(&mut self, text: &str) {
         match escape(self.alloc, text) {
             Ok(word) => self.put(word.as_str()),
-            Err(_) => self.no_memory(),
+            Err(_) => self.bad(),
         }
-    }
-
-    /// A text with a quote before it, so that it can't be taken for `none`.
-    pub fn put_some(&mut self, text: &str) {
-        self.put("'");
-        self.put_text(text);
     }
 
     /// A text that took memory.
     pub fn put_made(&mut self, text: Result<String, OutOfMemory>) {
         match text {
             Ok(text) => self.put_text(text.as_str()),
-            Err(_) => self.no_memory(),
+            Err(_) => self.bad(),
         }
     }
 
@@ -249,7 +196,7 @@ impl<'w> Row<'w> {
     pub fn put_shown(&mut self, text: Result<String, AllocError>) {
         match text {
             Ok(text) => self.put(text.as_str()),
-            Err(_) => self.no_memory(),
+            Err(_) => self.bad(),
         }
     }
 
@@ -258,7 +205,7 @@ impl<'w> Row<'w> {
         match text {
             Ok(Some(text)) => self.put_text(text.as_str()),
             Ok(None) => self.none(),
-            Err(_) => self.no_memory(),
+            Err(_) => self.bad(),
         }
     }
 
@@ -271,7 +218,7 @@ impl<'w> Row<'w> {
     pub fn put_number(&mut self, n: i128) {
         self.answered = true;
         if write!(self.out, "{n}").is_err() {
-            self.no_memory();
+            self.bad();
         }
     }
 
@@ -283,6 +230,14 @@ impl<'w> Row<'w> {
         }
     }
 
+    /// A number that took memory.
+    pub fn put_place(&mut self, n: Result<usize, OutOfMemory>) {
+        match n {
+            Ok(n) => self.put_number(n as i128),
+            Err(_) => self.bad(),
+        }
+    }
+
     /// A tab and a number.
     pub fn put_field(&mut self, n: i32) {
         self.tab();
@@ -290,19 +245,13 @@ impl<'w> Row<'w> {
     }
 
     /// An error: its variant and its text.
-    pub fn put_error(&mut self, name: &str, text: &str) {
+    pub fn put_error(&mut self, name: &str, text: Result<String, AllocError>) {
         self.put("error\t");
         self.put(name);
         self.tab();
-        self.put_text(text);
+        match text {
+            Ok(text) => self.put_text(text.as_str()),
+            Err(_) => self.bad(),
+        }
     }
-}
-
-/// The texts that stand in a word, with a sign between two.
-pub fn texts(alloc: Global, word: &str) -> Result<Items<Text>, Lack> {
-    let mut texts = Vec::new(alloc);
-    for text in word.split('|') {
-        texts.push(Text::from_str(alloc, text)?)?;
-    }
-    Ok(Items::from(texts))
 }

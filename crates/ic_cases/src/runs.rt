@@ -1,8 +1,9 @@
 //! Whole runs over bytes in memory: the program's, by its words, and that of a new book.
 use crate::books::reply_of;
-use crate::row::{Lack, Row};
+use crate::row::Row;
 use ic_book::Model;
-use ic_lines::{MemorySink, MemorySource, RunError};
+use ic_laws::OutOfMemory;
+use ic_lines::{MemorySink, MemorySource};
 use ic_run::{desk, run};
 use jiff::Timestamp;
 use std::alloc::Global;
@@ -12,9 +13,16 @@ use std::alloc::Global;
 /// `run`, the same without words, and then command lines: `ok` and the number of lines or the error, what was written,
 /// and what the book that was left replies to each of them.
 pub fn call(row: &mut Row<'_>) {
-    match row.word(0) {
-        "desk" => put_desk(row),
-        "run" => put_run(row),
+    match row.name {
+        "desk" => {
+            let words = words_in(row, row.word(1));
+            row.skip(2);
+            put_desk(row, words.as_slice());
+        }
+        "run" => {
+            row.skip(1);
+            put_run(row);
+        }
         _ => {}
     }
 }
@@ -33,51 +41,58 @@ impl Drop for Ends {
     }
 }
 
-/// The ends that stand in a row from a place on.
-fn ends_at(row: &mut Row<'_>, at: usize) -> Result<Ends, Lack> {
-    let chunk = row.size(at.saturating_add(1)).max(1);
-    let read = u64::from(row.index(at.saturating_add(2)));
-    let room = row.size(at.saturating_add(3));
-    let write = u64::from(row.index(at.saturating_add(4)));
-    let sink = MemorySink::new(row.alloc, room, &[write])?;
-    let source = MemorySource::new(row.alloc, row.word(at).as_bytes(), chunk, &[read])?;
-    Ok(Ends { source, sink })
+/// The ends that stand at the front of a row.
+fn ends_in(row: &mut Row<'_>) -> Option<Ends> {
+    let (chunk, read) = (row.size(1), u64::from(row.index(2)));
+    let (room, write) = (row.size(3), u64::from(row.index(4)));
+    match MemorySource::new(row.alloc, row.word(0).as_bytes(), chunk.max(1), &[read]) {
+        Ok(source) => with_sink(source, MemorySink::new(row.alloc, room, &[write])),
+        Err(_) => None,
+    }
+}
+
+fn with_sink(source: MemorySource, sink: Result<MemorySink, OutOfMemory>) -> Option<Ends> {
+    match sink {
+        Ok(sink) => Some(Ends { source, sink }),
+        Err(_) => None,
+    }
 }
 
 /// The program's words.
-fn words_in(alloc: Global, text: &str) -> Result<Vec<String>, Lack> {
-    let mut words = Vec::new(alloc);
-    if text.is_empty() {
-        return Ok(words);
+fn words_in(row: &mut Row<'_>, text: &str) -> Vec<String> {
+    let mut words = Vec::new(row.alloc);
+    if !text.is_empty() {
+        for word in text.split('|') {
+            if !is_added(row.alloc, word, &mut words) {
+                row.bad();
+            }
+        }
     }
-    for word in text.split('|') {
-        words.push(String::from_str(alloc, word)?)?;
-    }
-    Ok(words)
+    words
 }
 
-fn put_desk(row: &mut Row<'_>) {
-    match ends_at(row, 2) {
-        Ok(mut ends) => put_status(row, &mut ends),
-        Err(lack) => row.fail(lack),
+fn is_added(alloc: Global, word: &str, words: &mut Vec<String>) -> bool {
+    match String::from_str(alloc, word) {
+        Ok(word) => words.push(word).is_ok(),
+        Err(_) => false,
     }
 }
 
-fn put_status(row: &mut Row<'_>, ends: &mut Ends) {
-    match words_in(row.alloc, row.word(1)) {
-        Ok(words) => {
+fn put_desk(row: &mut Row<'_>, words: &[String]) {
+    match ends_in(row) {
+        Some(mut ends) => {
             let status = desk(
                 row.alloc,
-                words.as_slice(),
+                words,
                 row.tables,
                 Timestamp::UNIX_EPOCH,
                 &mut ends.source,
                 &mut ends.sink,
             );
             row.put_number(i128::from(status));
-            put_written(row, ends);
+            put_written(row, &ends);
         }
-        Err(lack) => row.fail(lack),
+        None => row.bad(),
     }
 }
 
@@ -91,9 +106,9 @@ fn put_written(row: &mut Row<'_>, ends: &Ends) {
 }
 
 fn put_run(row: &mut Row<'_>) {
-    match ends_at(row, 1) {
-        Ok(mut ends) => put_run_of(row, &mut ends),
-        Err(lack) => row.fail(lack),
+    match ends_in(row) {
+        Some(mut ends) => put_run_of(row, &mut ends),
+        None => row.bad(),
     }
 }
 
@@ -112,7 +127,7 @@ fn put_run_of(row: &mut Row<'_>, ends: &mut Ends) {
             put_written(row, ends);
             put_replies(row, &mut model);
         }
-        Err(_) => row.no_memory(),
+        Err(_) => row.bad(),
     }
 }
 
@@ -123,22 +138,20 @@ fn put_answered(row: &mut Row<'_>, model: &mut Model<'_>, ends: &mut Ends) {
             row.put("ok\t");
             row.put_number(i128::from(count));
         }
-        Err(e) => row.put(match e {
-            RunError::ReadFault => "error\tReadFault",
-            RunError::WriteFault => "error\tWriteFault",
-            RunError::TooManyTurns => "error\tTooManyTurns",
-            RunError::OutOfMemory => "error\tOutOfMemory",
-        }),
+        Err(e) => {
+            row.put("error\t");
+            row.put_shown(e.to_string(row.alloc));
+        }
     }
 }
 
 /// What the book that was left replies to the lines that the row asks.
 fn put_replies(row: &mut Row<'_>, model: &mut Model<'_>) {
-    for at in 6..row.words().len() {
+    for at in 5..row.words.len() {
         row.tab();
         match reply_of(row.alloc, model, row.word(at)) {
-            Ok(reply) => row.put_text(reply.text().as_str()),
-            Err(lack) => row.fail(lack),
+            Some(reply) => row.put_text(reply.text().as_str()),
+            None => row.bad(),
         }
     }
 }

@@ -1,17 +1,15 @@
 //! Styles and maps in sessions: one line is a list of calls, one after another, and the answers stand in one line.
-use crate::cells::cell_at;
-use crate::row::{Lack, Row, index, size, word};
+use crate::cells::cell;
+use crate::row::Row;
 use ic_cells::{
     Cell, Color, ColumnProps, LineMap, PlaceMap, RowProps, SheetState, Style, Styles, column_width,
     row_height,
 };
-use ic_laws::{OutOfMemory, Text};
-use std::alloc::Global;
 use std::collections::BTreeMap;
 
 /// Answers the call, if it is one of these.
 pub fn call(row: &mut Row<'_>) {
-    match row.word(0) {
+    match row.name {
         "Styles" => put_session(row),
         "PlaceMap" => put_places(row),
         "LineMap" => put_lines(row),
@@ -25,21 +23,19 @@ pub fn call(row: &mut Row<'_>) {
 fn put_session(row: &mut Row<'_>) {
     match Styles::new(row.alloc) {
         Ok(mut styles) => put_calls(row, &mut styles),
-        Err(_) => row.no_memory(),
+        Err(_) => row.bad(),
     }
 }
 
 fn put_calls(row: &mut Row<'_>, styles: &mut Styles) {
-    let words = row.words();
-    let mut at = 1;
-    for turn in 0..words.len() {
-        if at >= words.len() {
+    row.skip(1);
+    for turn in 0..row.words.len() {
+        if row.words.is_empty() {
             break;
         }
         row.put(if turn > 0 { "\t" } else { "" });
-        let rest = words.get(at..).unwrap_or(words);
-        put_call(row, styles, rest);
-        at = at.saturating_add(taken_by(word(rest, 0)));
+        put_call(row, styles);
+        row.skip(taken_by(row.word(0)));
     }
 }
 
@@ -54,54 +50,37 @@ fn taken_by(name: &str) -> usize {
 }
 
 /// Makes one call.
-fn put_call(row: &mut Row<'_>, styles: &mut Styles, words: &[Text]) {
-    match word(words, 0) {
-        "create" => put_place(row, created(row.alloc, styles, words)),
-        "style" => put_style_at(row, styles, words),
+fn put_call(row: &mut Row<'_>, styles: &mut Styles) {
+    match row.word(0) {
+        "create" => {
+            let style = style(row);
+            row.put_place(styles.get_style_index_or_create(&style));
+        }
+        "style" => put_style_at(row, styles),
         "len" => row.put_number(styles.len() as i128),
-        "truncate" => put_truncated(row, styles, words),
-        _ => put_changed(row, styles, words),
+        "truncate" => put_truncated(row, styles),
+        _ => put_changed(row, styles),
     }
-}
-
-/// Where a style is found from then on.
-fn put_place(row: &mut Row<'_>, place: Result<usize, Lack>) {
-    match place {
-        Ok(n) => row.put_number(n as i128),
-        Err(lack) => row.fail(lack),
-    }
-}
-
-fn created(alloc: Global, styles: &mut Styles, words: &[Text]) -> Result<usize, Lack> {
-    let style = style_in(alloc, words)?;
-    Ok(styles.get_style_index_or_create(&style)?)
 }
 
 /// The calls on a style that is there.
-fn put_changed(row: &mut Row<'_>, styles: &mut Styles, words: &[Text]) {
-    let n = size(words, 1).unwrap_or(usize::MAX);
+fn put_changed(row: &mut Row<'_>, styles: &mut Styles) {
+    let n = row.size(1);
     if n >= styles.len() {
         row.bad();
         return;
     }
-    match word(words, 0) {
-        "format" => put_number(row, styles.get_style_with_format(n, word(words, 2))),
-        "quote" => put_number(row, styles.get_style_with_quote_prefix(n)),
-        "unquote" => put_number(row, styles.get_style_without_quote_prefix(n)),
+    match row.word(0) {
+        "format" => row.put_place(styles.get_style_with_format(n, row.word(2))),
+        "quote" => row.put_place(styles.get_style_with_quote_prefix(n)),
+        "unquote" => row.put_place(styles.get_style_without_quote_prefix(n)),
         "is_quote" => row.put_bool(styles.style_is_quote_prefix(n)),
         _ => row.bad(),
     }
 }
 
-fn put_number(row: &mut Row<'_>, n: Result<usize, OutOfMemory>) {
-    match n {
-        Ok(n) => row.put_number(n as i128),
-        Err(_) => row.no_memory(),
-    }
-}
-
-fn put_truncated(row: &mut Row<'_>, styles: &mut Styles, words: &[Text]) {
-    let len = size(words, 1).unwrap_or(0);
+fn put_truncated(row: &mut Row<'_>, styles: &mut Styles) {
+    let len = row.size(1);
     if len == 0 {
         row.bad();
         return;
@@ -111,34 +90,38 @@ fn put_truncated(row: &mut Row<'_>, styles: &mut Styles, words: &[Text]) {
 }
 
 /// A style in four words: its code, its flags for quote and bold, and its colour or `-`.
-fn style_in(alloc: Global, words: &[Text]) -> Result<Style, Lack> {
-    let fill = match word(words, 4) {
-        "-" => Color::None,
-        text => Color::Rgb(Text::from_str(alloc, text)?),
-    };
-    let num_fmt = Text::from_str(alloc, word(words, 1))?;
-    Ok(Style {
-        num_fmt,
-        quote_prefix: word(words, 2) == "1",
-        bold: word(words, 3) == "1",
-        fill,
-    })
+fn style(row: &mut Row<'_>) -> Style {
+    Style {
+        num_fmt: row.text(row.word(1)),
+        quote_prefix: row.word(2) == "1",
+        bold: row.word(3) == "1",
+        fill: color(row, row.word(4)),
+    }
 }
 
-fn put_style_at(row: &mut Row<'_>, styles: &Styles, words: &[Text]) {
-    match size(words, 1) {
-        Ok(n) => match styles.get_style(n) {
-            Some(style) => put_style(row, style),
-            None => row.none(),
-        },
-        Err(lack) => row.fail(lack),
+fn color(row: &mut Row<'_>, text: &str) -> Color {
+    if text == "-" {
+        Color::None
+    } else {
+        Color::Rgb(row.text(text))
+    }
+}
+
+fn put_style_at(row: &mut Row<'_>, styles: &Styles) {
+    match styles.get_style(row.size(1)) {
+        Some(style) => put_style(row, style),
+        None => row.none(),
     }
 }
 
 fn put_style(row: &mut Row<'_>, style: &Style) {
     row.put_text(style.num_fmt.as_str());
-    row.put(if style.quote_prefix { "\t1" } else { "\t0" });
-    row.put(if style.bold { "\t1\t" } else { "\t0\t" });
+    row.put(match (style.quote_prefix, style.bold) {
+        (true, true) => "\t1\t1\t",
+        (true, false) => "\t1\t0\t",
+        (false, true) => "\t0\t1\t",
+        (false, false) => "\t0\t0\t",
+    });
     match &style.fill {
         Color::None => row.put("-"),
         Color::Rgb(text) => row.put_text(text.as_str()),
@@ -149,43 +132,40 @@ fn put_style(row: &mut Row<'_>, style: &Style) {
 fn put_places(row: &mut Row<'_>) {
     let number = row.int(1);
     let column = row.int(2);
+    row.skip(3);
     let mut cells = PlaceMap::<Cell>::new(row.alloc);
-    let before = cell_at(row.alloc, row.words(), 3);
-    let first = was_there(&mut cells, number, column, before);
-    put_was_there(row, first);
-    row.tab();
-    let second = was_there(&mut cells, number, column, Ok(Cell::new_boolean(true, 0)));
-    put_was_there(row, second);
-    row.tab();
+    let first = cell(row);
+    put_was_there(row, &mut cells, number, column, first);
+    put_was_there(row, &mut cells, number, column, Cell::new_boolean(true, 0));
     row.put_bool(cells.get(number, column).is_some());
     row.tab();
     row.put_bool(cells.get(column, number).is_some());
     put_all_places(row, &cells);
-    row.tab();
-    row.put_bool(was_taken(&mut cells, number, column));
-    row.tab();
-    row.put_bool(was_taken(&mut cells, number, column));
+    put_was_taken(row, &mut cells, number, column);
+    put_was_taken(row, &mut cells, number, column);
 }
 
-/// Whether a cell was there before this one.
-fn was_there(
+/// Whether a cell was there before this one, and a tab.
+fn put_was_there(
+    row: &mut Row<'_>,
     cells: &mut PlaceMap<Cell>,
-    row: i32,
+    number: i32,
     column: i32,
-    cell: Result<Cell, Lack>,
-) -> Result<bool, Lack> {
-    Ok(cells.insert(row, column, cell?)?.is_some())
-}
-
-fn put_was_there(row: &mut Row<'_>, was: Result<bool, Lack>) {
-    match was {
-        Ok(was) => row.put_bool(was),
-        Err(lack) => row.fail(lack),
+    cell: Cell,
+) {
+    match cells.insert(number, column, cell) {
+        Ok(before) => row.put(if before.is_some() {
+            "true\t"
+        } else {
+            "false\t"
+        }),
+        Err(_) => row.bad(),
     }
 }
 
-fn was_taken(cells: &mut PlaceMap<Cell>, row: i32, column: i32) -> bool {
-    cells.remove(row, column).is_some()
+fn put_was_taken(row: &mut Row<'_>, cells: &mut PlaceMap<Cell>, number: i32, column: i32) {
+    row.tab();
+    row.put_bool(cells.remove(number, column).is_some());
 }
 
 fn put_all_places(row: &mut Row<'_>, cells: &PlaceMap<Cell>) {
@@ -205,7 +185,7 @@ fn put_lines(row: &mut Row<'_>) {
     };
     let mut columns = LineMap::from(BTreeMap::new(row.alloc));
     if columns.insert(number, props).is_err() {
-        row.no_memory();
+        row.bad();
     }
     put_width(row, &columns, number);
     row.tab();
@@ -224,7 +204,7 @@ fn put_height(row: &mut Row<'_>) {
     let height = match row.word(1) {
         "" => row_height(None),
         "-" => height_of(None),
-        _ => height_of(index(row.words(), 1).ok()),
+        _ => height_of(Some(row.index(1))),
     };
     row.put_number(i128::from(height));
 }
