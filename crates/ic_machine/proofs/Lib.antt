@@ -3,5 +3,6 @@ mod CoreLemmas
 mod NumberLemmas
 mod ReaderLemmas
 mod SceneLemmas
+mod ServedLemmas
 mod SteppedLemmas
 mod examples

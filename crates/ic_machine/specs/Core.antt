@@ -4,7 +4,7 @@ use Rattle.ic_laws.specs.Command as core
 use Rattle.ic_laws.specs.CoreBook.{CoreBook}
 use Rattle.ic_laws.specs.CoreStep.{Outcome, core_step}
 use Rattle.ic_machine.specs.Book.{Book, Stepped, core_of, notations_in}
-use Rattle.ic_machine.specs.Command.{Command, OnDefinitions, OnNotation, OnReading, OnSheets}
+use Rattle.ic_machine.specs.Command.{Command, OnDefinitions, OnNotation, OnReading, OnSheets, OnWriting}
 use Rattle.ic_machine.specs.Refusal.{OfCore, Refusal}
 use Rattle.ic_machine.specs.Reply.{Field, of_core_fields}
 use Rattle.ic_machine.specs.Step.{step}
@@ -16,6 +16,8 @@ use Rattle.ic_machine.specs.subjects.Reading as reading
 use Rattle.ic_machine.specs.subjects.Reading.{Reading}
 use Rattle.ic_machine.specs.subjects.Sheets as sheets
 use Rattle.ic_machine.specs.subjects.Sheets.{Sheets}
+use Rattle.ic_machine.specs.subjects.Writing as writing
+use Rattle.ic_machine.specs.subjects.Writing.{Writing}
 
 -- by subjects; a formula that is written needs a premise of its own, and isn't here
 abbrev pub core_sheets : Sheets → Option core.Command
@@ -52,6 +54,34 @@ core_command (OnDefinitions command) = core_definitions command
 core_command (OnNotation command) = core_notation command
 core_command (OnReading command) = core_reading command
 core_command command = None
+
+-- the same with the command that writes a formula
+abbrev pub core_writing : Writing → Option core.Command
+core_writing (writing.UpdateCellWithFormula sheet row column text) = Some (core.UpdateCellWithFormula sheet row column text)
+core_writing command = None
+
+abbrev pub counterpart : Command → Option core.Command
+counterpart (OnWriting command) = core_writing command
+counterpart command = core_command command
+
+-- the other way: the command that one of the core machine is
+abbrev pub whole_command : core.Command → Command
+whole_command (core.AddSheet name) = OnSheets (sheets.AddSheet name)
+whole_command (core.RenameSheet old new) = OnSheets (sheets.RenameSheet old new)
+whole_command (core.RenameSheetByIndex sheet name) = OnSheets (sheets.RenameSheetByIndex sheet name)
+whole_command (core.MoveSheet sheet to) = OnSheets (sheets.MoveSheet sheet to)
+whole_command (core.DeleteSheet sheet) = OnSheets (sheets.DeleteSheet sheet)
+whole_command (core.DeleteSheetByName name) = OnSheets (sheets.DeleteSheetByName name)
+whole_command (core.DeleteSheetBySheetId id) = OnSheets (sheets.DeleteSheetBySheetId id)
+whole_command (core.NewDefinedName name scope body) = OnDefinitions (definitions.NewDefinedName name scope body)
+whole_command (core.DeleteDefinedName name scope) = OnDefinitions (definitions.DeleteDefinedName name scope)
+whole_command (core.IsValidDefinedName name scope body) = OnDefinitions (definitions.IsValidDefinedName name scope body)
+whole_command core.GetDefinedNameList = OnDefinitions definitions.GetDefinedNameList
+whole_command core.GetNewSheetId = OnSheets sheets.GetNewSheetId
+whole_command (core.SetLocale id) = OnNotation (notation.SetLocale id)
+whole_command (core.SetLanguage id) = OnNotation (notation.SetLanguage id)
+whole_command (core.UpdateCellWithFormula sheet row column text) = OnWriting (writing.UpdateCellWithFormula sheet row column text)
+whole_command (core.GetCellFormula sheet row column) = OnReading (reading.GetCellFormula sheet row column)
 
 -- the core that is left and the fields of the reply, or the refusal: of a step of the whole machine, and of the core's
 abbrev pub Told : Type 0

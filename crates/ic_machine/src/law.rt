@@ -5,7 +5,8 @@ ghost use Rattle.ic_machine.specs.Book.{Book};
 ghost use Rattle.ic_machine.specs.Command.{Command};
 ghost use Rattle.ic_machine.specs.Content.{content_of, held};
 ghost use Rattle.ic_machine.specs.Core.{IsSteppedAs, core_command};
-ghost use Rattle.ic_machine.specs.Laws.{BadLineStays, NumbersAreSmall, RefusedStays};
+ghost use Rattle.ic_machine.specs.Laws.{BadLineStays, CounterpartsAreBack, NumbersAreSmall};
+ghost use Rattle.ic_machine.specs.Laws.{RefusedStays, ServedIsCore};
 ghost use Rattle.ic_machine.specs.Laws.{RunsLeaveSame, RunsTellSame};
 ghost use Rattle.ic_machine.specs.Readers.{LeavesIf, is_reader};
 ghost use Rattle.ic_machine.specs.Scene.{KeepsSceneIf, leaves_names};
@@ -54,4 +55,10 @@ pub fn law_core_is_stepped()
 pub fn law_runs_shared()
     ensures left { RunsLeaveSame }
     ensures told { RunsTellSame }
+{}
+
+/// The command that a line is, of those that are served, is the core machine's, and none where the core machine has none.
+pub fn law_served_is_core()
+    ensures served { ServedIsCore }
+    ensures back { CounterpartsAreBack }
 {}
