@@ -1,2 +1,5 @@
 pub mod Answered
-pub mod Effect
+pub mod Does
+pub mod Fields
+pub mod Served
+pub mod Whole

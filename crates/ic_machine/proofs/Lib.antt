@@ -3,6 +3,6 @@ mod CoreLemmas
 mod NumberLemmas
 mod ReaderLemmas
 mod SceneLemmas
-mod ServedLemmas
-mod SteppedLemmas
+pub mod ServedLemmas
+pub mod SteppedLemmas
 mod examples
