@@ -19,7 +19,7 @@ string_field text = optional_text_field (option_map (λ s. chars (string_bytes s
 
 -- the name, the scope and the body of each definition that is listed
 abbrev pub fields_of_listed : Listed → List Field
-fields_of_listed item = TextField item.0 ∷ NumberField item.1.0 ∷ TextField item.1.1 ∷ []
+fields_of_listed item = TextField item.0 ∷ NumberField item.1 ∷ TextField item.2 ∷ []
 
 abbrev pub listed_fields : Vec (String Global × Option ℕ × String Global) → List Field
 listed_fields names = flat_map (λ item. fields_of_listed (listed item)) names.items

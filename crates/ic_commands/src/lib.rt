@@ -5,6 +5,7 @@
 #![tactic(auto)]
 
 mod answer;
+mod stand_in;
 mod told;
 
 pub use answer::{answer_line, reply_to};
