@@ -16,9 +16,9 @@ use Rattle.ic_book.specs.Refused.{refusal_of}
 use Rattle.ic_book.specs.declared.error.BookError.{BookError}
 use Rattle.ic_book.specs.declared.error.BookError.TheVariants as errors
 use Rattle.ic_commands.specs.Answered.{Answers, IsAnswered, Stays, Tells}
-use Rattle.ic_commands.specs.Does.{DoesStep, Memory, Never, Refused, Wanted, WantedIn, WantedOr}
-use Rattle.ic_commands.specs.Served.{served_command_step, served_step}
-use Rattle.ic_commands.specs.Whole.{whole_of}
+use Rattle.ic_book.specs.Does.{DoesStep, Memory, Never, Refused, Wanted, WantedIn, WantedOr}
+use Rattle.ic_book.specs.Served.{served_command_step, served_step}
+use Rattle.ic_book.specs.Whole.{whole_of}
 
 -- every error but that memory ran out tells a refusal
 pub tells : (e : BookError) → e ≢ errors.OutOfMemory → (refusal : core.Refusal) × (refusal_of e ≡ Some refusal)

@@ -21,7 +21,7 @@ use Rattle.ic_machine.specs.subjects.Definitions.{delete_name_step, list_step, n
 use Rattle.ic_machine.specs.subjects.Notation.{set_language_step, set_locale_step}
 use Rattle.ic_machine.specs.subjects.Reading.{cell_formula_step}
 use Rattle.ic_machine.specs.subjects.Sheets.{with_new_sheet, add_sheet_step, delete_by_id_step, delete_by_name_step, delete_sheet_step, lifted, move_sheet_step, new_sheet_id_step, rename_by_index_step, rename_sheet_step}
-use Rattle.ic_commands.specs.Served.{begins_with_sign, served_formula_step, served_step}
+use Rattle.ic_book.specs.Served.{begins_with_sign, served_formula_step, served_step}
 
 -- Replies of both machines ----
 

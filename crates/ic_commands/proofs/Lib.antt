@@ -1,5 +1,5 @@
 pub mod AnswerLemmas
 pub mod CoreLemmas
-pub mod Given
 pub mod LineLemmas
 pub mod ReplyLemmas
+pub mod ServedCore

@@ -19,10 +19,11 @@ use Rattle.ic_words.specs.Served.{served}
 use Rattle.ic_words.proofs.ReplyLemmas.{refusal_line}
 use Rattle.ic_book.specs.Book.{Book, IsSameBeside, IsValidBook, ModelState, StepsTo, core_of, notations_in}
 use Rattle.ic_commands.specs.Answered.{Answers, DoesLine, IsAnswered, LeavesLine, StaysAfter}
-use Rattle.ic_commands.specs.Served.{served_command_step, served_line_step, served_step}
-use Rattle.ic_commands.specs.Whole.{whole_of}
+use Rattle.ic_book.specs.Served.{served_command_step, served_line_step, served_step}
+use Rattle.ic_book.specs.Whole.{whole_of}
 use Rattle.ic_commands.proofs.CoreLemmas.{StandsBeside, core_left, served_stands, text_told}
-use Rattle.ic_commands.proofs.Given.{served_core, whole_core}
+use Rattle.ic_book.proofs.WholeLemmas.{whole_core}
+use Rattle.ic_commands.proofs.ServedCore.{served_core}
 
 -- what contracts say of an answered line, by the core machine
 pub record IsAnsweredAs (k : Option core.Command) (old new : Book) (told : List ℕ) : Type 0 where

@@ -11,9 +11,9 @@ use Rattle.ic_machine.specs.Step.{english_errors}
 use Rattle.ic_words.specs.Reply.{IsLineText}
 use Rattle.ic_book.specs.Book.{IsValidBook, ModelState}
 use Rattle.ic_book.specs.declared.error.BookError.{BookError}
-use Rattle.ic_commands.specs.Does.{DoesStep, Memory}
-use Rattle.ic_commands.specs.Served.{served_command_step, served_line_step, served_step}
-use Rattle.ic_commands.specs.Whole.{whole_of}
+use Rattle.ic_book.specs.Does.{DoesStep, Memory}
+use Rattle.ic_book.specs.Served.{served_command_step, served_line_step, served_step}
+use Rattle.ic_book.specs.Whole.{whole_of}
 
 -- A refusal leaves all that contracts see of a model as it was, what its formulas are found by too, and so does a command
 -- that only reads.

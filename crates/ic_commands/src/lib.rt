@@ -5,7 +5,6 @@
 #![tactic(auto)]
 
 mod answer;
-mod stand_in;
 mod told;
 
 pub use answer::{answer_line, reply_to};

@@ -100,3 +100,7 @@ HasCause read write turns errors.ReadFault = read
 HasCause read write turns errors.WriteFault = write
 HasCause read write turns errors.TooManyTurns = turns
 HasCause read write turns errors.OutOfMemory = Unit {0}
+
+-- the replies of the machine that is served, from the whole of a book that was made at some moment
+abbrev pub AppendsServedFrom : (List ℕ → Book) → List ℕ → List ℕ → List ℕ → Type 0
+AppendsServedFrom book bytes before now = (created : List ℕ) × AppendsServed (whole_of (book created)) bytes before now

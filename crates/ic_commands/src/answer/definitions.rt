@@ -29,9 +29,9 @@ pub(crate) fn answer_definitions(
             reply,
         ),
         Definitions::IsValidDefinedName { name, scope, body } => told(
-            crate::stand_in::is_valid_defined_name(model, name.as_str(), scope, body.as_str()),
+            model.is_valid_defined_name(name.as_str(), scope, body.as_str()),
             reply,
         ),
-        Definitions::GetDefinedNameList => told(crate::stand_in::get_defined_name_list(model), reply),
+        Definitions::GetDefinedNameList => told(model.get_defined_name_list(), reply),
     }
 }

@@ -20,7 +20,7 @@ pub(crate) fn answer_notation(
     ensures { Answers (OnNotation (notation_meant command.entry)) model.old model.new (string_bytes reply) result }
 {
     match command {
-        Notation::SetLocale { id } => told(crate::stand_in::set_locale(model, id.as_str()), reply),
+        Notation::SetLocale { id } => told(model.set_locale(id.as_str()), reply),
         Notation::SetLanguage { id } => told(model.set_language(id.as_str()), reply),
     }
 }

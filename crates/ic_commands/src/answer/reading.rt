@@ -21,7 +21,7 @@ pub(crate) fn answer_reading(
 {
     match command {
         Reading::GetCellFormula { sheet, row, column } => told(
-            crate::stand_in::get_cell_formula(model, sheet, row, column),
+            model.get_cell_formula(sheet, row, column),
             reply,
         ),
     }

@@ -20,9 +20,9 @@ pub(crate) fn answer_sheets(
     ensures { Answers (OnSheets (sheets_meant command.entry)) model.old model.new (string_bytes reply) result }
 {
     match command {
-        Sheets::AddSheet { name } => told(crate::stand_in::add_sheet(model, name.as_str()), reply),
+        Sheets::AddSheet { name } => told(model.add_sheet(name.as_str()), reply),
         Sheets::RenameSheet { old, new } => told(
-            crate::stand_in::rename_sheet(model, old.as_str(), new.as_str()),
+            model.rename_sheet(old.as_str(), new.as_str()),
             reply,
         ),
         Sheets::RenameSheetByIndex { sheet, name } => told(
@@ -36,6 +36,6 @@ pub(crate) fn answer_sheets(
             reply,
         ),
         Sheets::DeleteSheetBySheetId { id } => told(model.delete_sheet_by_sheet_id(id), reply),
-        Sheets::GetNewSheetId => told(Ok(crate::stand_in::get_new_sheet_id(model)), reply),
+        Sheets::GetNewSheetId => told(Ok(model.get_new_sheet_id()), reply),
     }
 }

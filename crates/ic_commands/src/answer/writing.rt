@@ -30,7 +30,7 @@ pub(crate) fn answer_writing(
         } => {
             let text = text.into_string(alloc)?;
             told(
-                crate::stand_in::update_cell_with_formula(model, sheet, row, column, text),
+                model.update_cell_with_formula(sheet, row, column, text),
                 reply,
             )
         }
