@@ -43,7 +43,7 @@ module _ (b : Book) where
   same_scene : (sheets : List Sheet) → all_seen sheets ≡ all_seen b.sheets → scene_in (record b { sheets = sheets }) ≡ scene_in b
   same_scene sheets same = ap (λ (ss : List SheetName). let scene : Scene = record { sheets = ss; names = map spelling_of b.definitions } in scene) same
 
-  placed : (index : ℕ) (old new : Sheet) → slice_get b.sheets index ≡ Some old → seen new ≡ seen old → scene_in (with_sheet b index new) ≡ scene_in b
+  pub placed : (index : ℕ) (old new : Sheet) → slice_get b.sheets index ≡ Some old → seen new ≡ seen old → scene_in (with_sheet b index new) ≡ scene_in b
   placed index old new at same = same_scene (updated_at (λ s. new) index b.sheets) (seen_updated index b.sheets old new at same)
 
   -- a step that leaves the book leaves its scene

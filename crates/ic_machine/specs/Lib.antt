@@ -7,6 +7,7 @@ pub mod Content
 pub mod Core
 pub mod Format
 pub mod InForce
+pub mod Kept
 pub mod Laws
 pub mod Line
 pub mod Parsed

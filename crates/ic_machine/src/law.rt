@@ -4,12 +4,20 @@ ghost use Rattle.ic_machine.specs.Alike.{HoldsAlike};
 ghost use Rattle.ic_machine.specs.Book.{Book};
 ghost use Rattle.ic_machine.specs.Command.{Command};
 ghost use Rattle.ic_machine.specs.Content.{content_of, held};
-ghost use Rattle.ic_machine.specs.Core.{IsSteppedAs, core_command};
-ghost use Rattle.ic_machine.specs.Laws.{BadLineStays, NumbersAreSmall, RefusedStays};
+ghost use Rattle.ic_machine.specs.Core.{FormulaIsStepped, IsSteppedAs, core_command};
+ghost use Rattle.ic_machine.specs.Kept.{KeepsValid};
+ghost use Rattle.ic_machine.specs.Laws.{BadLineStays, CounterpartsAreBack, NumbersAreSmall};
+ghost use Rattle.ic_machine.specs.Laws.{RefusedStays, ServedIsCore};
 ghost use Rattle.ic_machine.specs.Laws.{RunsLeaveSame, RunsTellSame};
 ghost use Rattle.ic_machine.specs.Readers.{LeavesIf, is_reader};
 ghost use Rattle.ic_machine.specs.Scene.{KeepsSceneIf, leaves_names};
 ghost use Rattle.ic_machine.specs.Step.{step};
+ghost use Rattle.ic_machine.specs.subjects.Extending.{extending_step};
+ghost use Rattle.ic_machine.specs.subjects.Layout.{layout_step};
+ghost use Rattle.ic_machine.specs.subjects.Notation.{notation_step};
+ghost use Rattle.ic_machine.specs.subjects.Reading.{reading_step};
+ghost use Rattle.ic_machine.specs.subjects.Styles.{style_step};
+ghost use Rattle.ic_machine.specs.subjects.Tabs.{tab_step};
 
 /// A line that is no command of a table changes nothing, and is answered by `BadLine`.
 pub fn law_bad_line_stays()
@@ -54,4 +62,26 @@ pub fn law_core_is_stepped()
 pub fn law_runs_shared()
     ensures left { RunsLeaveSame }
     ensures told { RunsTellSame }
+{}
+
+/// The command that a line is, of those that are served, is the core machine's, and none where the core machine has none.
+pub fn law_served_is_core()
+    ensures served { ServedIsCore }
+    ensures back { CounterpartsAreBack }
+{}
+
+/// So is one that writes a formula, where merged cells and arrays don't forbid it and no sign begins its text.
+pub fn law_formula_is_stepped()
+    ensures { FormulaIsStepped }
+{}
+
+/// A command on the notation, a reader of cells, one that writes a formula out for another place, one on styles, on the
+/// layout, on tabs or on the theme keeps what always holds of a book.
+pub fn law_book_stays_valid()
+    ensures notation { KeepsValid notation_step }
+    ensures reading { KeepsValid reading_step }
+    ensures extending { KeepsValid extending_step }
+    ensures styles { KeepsValid style_step }
+    ensures layout { KeepsValid layout_step }
+    ensures tabs { KeepsValid tab_step }
 {}

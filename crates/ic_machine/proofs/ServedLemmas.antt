@@ -1,0 +1,207 @@
+-- The command that a line is by the rows which are served is the one that it is by those of the core machine.
+use Rattle.std.proofs.Common.{◌≡◌, ℕ, List, [], ◌∷◌, ◌++◌, map, Bool, true, false, cond, Option, Some, None, refl, sym, ap, ap₂, ◌∙◌, codes}
+use mathlib.Core.Bool.{true≢false}
+use Rattle.std.specs.Prelude.{◌||◌, bytes_eq, drop, option_and_then, option_map, take}
+use Rattle.std.specs.List.{find, list_any}
+use Rattle.std.proofs.lemmas.Iterator.Adapters.{option_map_id}
+use Rattle.std.proofs.lemmas.Slice.Eq.{bytes_eq-Decides}
+use Rattle.ic_laws.specs.Command as core
+use Rattle.ic_laws.specs.Command.{CommandRow}
+use Rattle.ic_laws.specs.Lines as lines
+use Rattle.ic_laws.specs.Lines.{word_texts}
+use Rattle.ic_machine.specs.Command.{Command, command_in, commands, served, served_names}
+use Rattle.ic_machine.specs.Core.{counterpart, whole_command}
+use Rattle.ic_machine.specs.Row.{Row, joined, spelled}
+use Rattle.ic_machine.specs.Word.{AllSaid, OfIndex, OfPosition, OfScope, OfText, Said, WordForm, Words, all_said, said, words_of, words_said}
+
+-- a row of the core machine as one of the whole ----
+
+abbrev form_of : core.WordForm → WordForm
+form_of core.OfText = OfText
+form_of core.OfIndex = OfIndex
+form_of core.OfPosition = OfPosition
+form_of core.OfScope = OfScope
+
+abbrev words_by : List core.WordForm → Words
+words_by forms = words_of (map form_of forms)
+
+-- what a word says is the same
+abbrev said_back : (form : core.WordForm) → Said (form_of form) → core.Said form
+said_back core.OfText w = w
+said_back core.OfIndex w = w
+said_back core.OfPosition w = w
+said_back core.OfScope w = w
+
+abbrev all_back : (forms : List core.WordForm) → AllSaid (words_by forms) → core.AllSaid forms
+all_back [] w = tt
+all_back (form ∷ forms) w = (said_back form w.0, all_back forms w.1)
+
+abbrev whole_row : CommandRow → Row Command
+whole_row row = record { name = row.name; words = words_by row.forms; command = λ w. whole_command (row.command (all_back row.forms w)) }
+
+-- words say the same by both ----
+
+said_alike : (english : List (List ℕ)) (form : core.WordForm) (text : List ℕ) → option_map (said_back form) (said english (form_of form) text) ≡ core.said form text
+said_alike english core.OfText text = refl
+said_alike english core.OfIndex text = option_map_id (core.index_said text)
+said_alike english core.OfPosition text = option_map_id (core.position_said text)
+said_alike english core.OfScope text = option_map_id (core.scope_said text)
+
+pairs_alike : {A B C D : Type 0} (f : A → C) (g : B → D) (o : Option A) (p : Option B)
+    → option_map (λ (w : A × B). let pair : C × D = (f w.0, g w.1) in pair) (option_and_then (λ (a : A). option_map (λ (b : B). (a, b)) p) o)
+    ≡ option_and_then (λ (c : C). option_map (λ (d : D). (c, d)) (option_map g p)) (option_map f o)
+pairs_alike f g None p = refl
+pairs_alike f g (Some a) None = refl
+pairs_alike f g (Some a) (Some b) = refl
+
+all_alike : (english : List (List ℕ)) (forms : List core.WordForm) (texts : List (List ℕ)) → option_map (all_back forms) (all_said english (words_by forms) texts) ≡ core.all_said forms texts
+all_alike english [] [] = refl
+all_alike english [] (text ∷ texts) = refl
+all_alike english (form ∷ forms) [] = refl
+all_alike english (form ∷ forms) (text ∷ texts) =
+    pairs_alike (said_back form) (all_back forms) (said english (form_of form) text) (all_said english (words_by forms) texts)
+    ∙ ap₂ (λ (o : Option (core.Said form)) (p : Option (core.AllSaid forms)). option_and_then (λ first. option_map (λ others. (first, others)) p) o)
+    (said_alike english form text) (all_alike english forms texts)
+
+option_map-both : {A B C : Type 0} (f : A → B) (g : B → C) (o : Option A) → option_map (λ a. g (f a)) o ≡ option_map g (option_map f o)
+option_map-both f g None = refl
+option_map-both f g (Some a) = refl
+
+-- what a row makes of texts
+row_alike : (english : List (List ℕ)) (row : CommandRow) (texts : List (List ℕ))
+    → option_map (whole_row row).command (all_said english (words_by row.forms) texts) ≡ option_map whole_command (option_map row.command (core.all_said row.forms texts))
+row_alike english row texts =
+    option_map-both (all_back row.forms) (λ w. whole_command (row.command w)) (all_said english (words_by row.forms) texts)
+    ∙ ap (option_map (λ w. whole_command (row.command w))) (all_alike english row.forms texts)
+    ∙ option_map-both row.command whole_command (core.all_said row.forms texts)
+
+-- what a table finds ----
+
+one_of : (b : Bool) (row : CommandRow) (o : Option CommandRow) → cond b (Some (whole_row row)) (option_map whole_row o) ≡ option_map whole_row (cond b (Some row) o)
+one_of true row o = refl
+one_of false row o = refl
+
+find-rows : (p : List ℕ → Bool) (rows : List CommandRow) → find (λ row. p row.name) (map whole_row rows) ≡ option_map whole_row (find (λ row. p row.name) rows)
+find-rows p [] = refl
+find-rows p (row ∷ rows) =
+    ap (λ (o : Option (Row Command)). cond (p row.name) (Some (whole_row row)) o) (find-rows p rows) ∙ one_of (p row.name) row (find (λ row. p row.name) rows)
+
+none_said : (english : List (List ℕ)) (o : Option CommandRow) → joined (option_map (λ (row : Row Command). option_map row.command (let no : Option (AllSaid row.words) = None in no)) (option_map whole_row o)) ≡ None
+none_said english None = refl
+none_said english (Some row) = refl
+
+found_alike : (english : List (List ℕ)) (o : Option CommandRow) (texts : List (List ℕ))
+    → joined (option_map (λ (row : Row Command). option_map row.command (all_said english row.words texts)) (option_map whole_row o))
+    ≡ option_map whole_command (option_and_then (λ row. option_map row.command (core.all_said row.forms texts)) o)
+found_alike english None texts = refl
+found_alike english (Some row) texts = row_alike english row texts
+
+texts_alike : (english : List (List ℕ)) (o : Option CommandRow) (texts : Option (List (List ℕ)))
+    → joined (option_map (λ (row : Row Command). option_map row.command (option_and_then (all_said english row.words) texts)) (option_map whole_row o))
+    ≡ option_map whole_command (option_and_then (λ all. option_and_then (λ row. option_map row.command (core.all_said row.forms all)) o) texts)
+texts_alike english o None = none_said english o
+texts_alike english o (Some texts) = found_alike english o texts
+
+spelled_alike : (english : List (List ℕ)) (rows : List CommandRow) (words : List (List ℕ)) → spelled english (map whole_row rows) words ≡ option_map whole_command (lines.spelled_command rows words)
+spelled_alike english rows [] = refl
+spelled_alike english rows (name ∷ words) =
+    ap (λ (o : Option (Row Command)). joined (option_map (λ row. option_map row.command (words_said english row.words words)) o)) (find-rows (λ text. bytes_eq text name) rows)
+    ∙ texts_alike english (find (λ row. bytes_eq row.name name) rows) (word_texts words)
+
+-- a row with another name than some can stand before them ----
+
+same_name : (a b text : List ℕ) → bytes_eq a text ≡ true → bytes_eq b text ≡ true → bytes_eq a b ≡ true
+same_name a b text p q = (bytes_eq-Decides a b).1 ((bytes_eq-Decides a text).0 p ∙ sym ((bytes_eq-Decides b text).0 q))
+
+either_order : {A : Type 0} (a b : Bool) (x y z : A) → (a ≡ true → b ≡ true → ⊥) → cond a x (cond b y z) ≡ cond b y (cond a x z)
+either_order true true x y z apart = absurd (apart refl refl)
+either_order true false x y z apart = refl
+either_order false b x y z apart = refl
+
+first_false : (a b : Bool) → (a || b) ≡ false → a ≡ true → ⊥
+first_false true b e = λ p. true≢false e
+first_false false b e = λ p. true≢false (sym p)
+
+rest_false : (a b : Bool) → (a || b) ≡ false → b ≡ false
+rest_false true b e = absurd (true≢false e)
+rest_false false b e = e
+
+find-moved : (text : List ℕ) (front : List CommandRow) (row : CommandRow) (rest : List CommandRow) → list_any (λ other. bytes_eq other.name row.name) front ≡ false
+    → find (λ row. bytes_eq row.name text) (front ++ row ∷ rest) ≡ find (λ row. bytes_eq row.name text) (row ∷ front ++ rest)
+find-moved text [] row rest e = refl
+find-moved text (other ∷ front) row rest e =
+    ap (λ (o : Option CommandRow). cond (bytes_eq other.name text) (Some other) o)
+    (find-moved text front row rest (rest_false (bytes_eq other.name row.name) (list_any (λ other. bytes_eq other.name row.name) front) e))
+    ∙ either_order (bytes_eq other.name text) (bytes_eq row.name text) (Some other) (Some row) (find (λ row. bytes_eq row.name text) (front ++ rest))
+    (λ p q. first_false (bytes_eq other.name row.name) (list_any (λ other. bytes_eq other.name row.name) front) e (same_name other.name row.name text p q))
+
+find-after : (text : List ℕ) (front one other : List CommandRow) → find (λ row. bytes_eq row.name text) one ≡ find (λ row. bytes_eq row.name text) other
+    → find (λ row. bytes_eq row.name text) (front ++ one) ≡ find (λ row. bytes_eq row.name text) (front ++ other)
+find-after text [] one other e = e
+find-after text (row ∷ front) one other e = ap (λ (o : Option CommandRow). cond (bytes_eq row.name text) (Some row) o) (find-after text front one other e)
+
+-- both tables ----
+
+abbrev in_core : List CommandRow
+in_core = core.rows_named served_names
+
+-- its first rows, those on definitions, the one that asks for a new id, and the rest
+abbrev front : List CommandRow
+front = take 7 in_core
+
+abbrev middle : List CommandRow
+middle = take 4 (drop 7 in_core)
+
+abbrev last : List CommandRow
+last = drop 12 in_core
+
+abbrev asks : CommandRow
+asks = record { name = codes "get_new_sheet_id"; forms = []; command = λ w. core.GetNewSheetId }
+
+in_parts : in_core ≡ front ++ (middle ++ asks ∷ last)
+unfolding core.commands
+in_parts = refl
+
+served-whole : served ≡ map whole_row (front ++ (asks ∷ middle ++ last))
+unfolding core.commands commands served
+served-whole = refl
+
+others_named : list_any (λ other. bytes_eq other.name asks.name) middle ≡ false
+unfolding core.commands
+others_named = refl
+
+spelled_by : (one other : List CommandRow) (words : List (List ℕ)) → ((text : List ℕ) → find (λ row. bytes_eq row.name text) one ≡ find (λ row. bytes_eq row.name text) other)
+    → lines.spelled_command one words ≡ lines.spelled_command other words
+spelled_by one other [] same = refl
+spelled_by one other (name ∷ words) same =
+    ap (λ (o : Option CommandRow). option_and_then (λ texts. option_and_then (λ row. option_map row.command (core.all_said row.forms texts)) o) (word_texts words)) (same name)
+
+pub spelled_words : (english : List (List ℕ)) (words : List (List ℕ)) → spelled english served words ≡ option_map whole_command (lines.spelled_command in_core words)
+spelled_words english words =
+    ap (λ (rows : List (Row Command)). spelled english rows words) served-whole
+    ∙ spelled_alike english (front ++ (asks ∷ middle ++ last)) words
+    ∙ ap (option_map whole_command)
+    (spelled_by (front ++ (asks ∷ middle ++ last)) (front ++ (middle ++ asks ∷ last)) words
+    (λ text. find-after text front (asks ∷ middle ++ last) (middle ++ asks ∷ last) (sym (find-moved text middle asks last others_named))))
+    ∙ ap (λ (rows : List CommandRow). option_map whole_command (lines.spelled_command rows words)) (sym in_parts)
+
+pub served_is : (english : List (List ℕ)) (line : List ℕ) → command_in english served line ≡ option_map whole_command (lines.command_of in_core line)
+served_is english line = spelled_words english (lines.words_of line)
+
+pub back : (command : core.Command) → counterpart (whole_command command) ≡ Some command
+back (core.AddSheet name) = refl
+back (core.RenameSheet old new) = refl
+back (core.RenameSheetByIndex sheet name) = refl
+back (core.MoveSheet sheet to) = refl
+back (core.DeleteSheet sheet) = refl
+back (core.DeleteSheetByName name) = refl
+back (core.DeleteSheetBySheetId id) = refl
+back (core.NewDefinedName name scope body) = refl
+back (core.DeleteDefinedName name scope) = refl
+back (core.IsValidDefinedName name scope body) = refl
+back core.GetDefinedNameList = refl
+back core.GetNewSheetId = refl
+back (core.SetLocale id) = refl
+back (core.SetLanguage id) = refl
+back (core.UpdateCellWithFormula sheet row column text) = refl
+back (core.GetCellFormula sheet row column) = refl

@@ -1,0 +1,6 @@
+use Rattle.ic_machine.proofs.StylesStay.{styles_stay}
+use Rattle.ic_machine.proofs.SubjectsStay.{extending_stays, layout_stays, notation_stays, reading_stays, tabs_are}
+use Rattle.ic_machine.proofs.law.law_book_stays_valid.Goals as goal
+
+pub returns : goal.returns
+returns c = record { notation = notation_stays; reading = reading_stays; extending = extending_stays; styles = styles_stay; layout = layout_stays; tabs = tabs_are }
