@@ -78,7 +78,7 @@ nothing [] e = refl
 nothing (x ∷ xs) e = absurd (let no : suc (length xs) ≡ 0 = e in cc)
 
 -- a new sheet has no cells
-no_cells : finite.entries (finite.empty {X = Content} {R = place_cmp}) ≡ []
+pub no_cells : finite.entries (finite.empty {X = Content} {R = place_cmp}) ≡ []
 no_cells = nothing (finite.entries (finite.empty {X = Content} {R = place_cmp})) (sym (finite.len-entries (finite.empty {X = Content} {R = place_cmp})) ∙ finite.len-empty place_cmp Content)
 
 core_sheet-empty : (id : ℕ) (name : List ℕ) → core_sheet (empty_sheet id name) ≡ record { id = id; name = name; cells = [] }

@@ -1,6 +1,8 @@
 mod ArrayExamples
 mod CaptureExamples
 mod CellExamples
+mod ClearExamples
+mod CopyExamples
 mod DefinitionExamples
 mod LayoutExamples
 mod Session
