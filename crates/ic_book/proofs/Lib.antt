@@ -3,6 +3,8 @@ pub mod AddedNames
 pub mod BookLemmas
 pub mod BookValid
 pub mod ChangeLemmas
+pub mod DoesLemmas
+pub mod DynamicLemmas
 pub mod GoneNames
 pub mod HeldLemmas
 pub mod LookUpLemmas
@@ -13,4 +15,6 @@ pub mod NameLemmas
 pub mod NeverMentioned
 pub mod SparedBodies
 pub mod StartLemmas
+pub mod WholeLemmas
+pub mod WholeWritten
 pub mod WrittenLemmas

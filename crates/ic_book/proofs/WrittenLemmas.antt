@@ -29,7 +29,7 @@ one_of_all P zero (y ∷ xs) x at h = let same : y ≡ x = cc in subst P same h.
 one_of_all P (suc i) (y ∷ xs) x at h = one_of_all P i xs x at h.1
 
 -- a change of the item at an index that is seen through g as another, of that item alone
-updated_alike : {X Y : Type 0} (g : X → Y) (f : X → X) (h : Y → Y) (i : ℕ) (xs : List X) (x : X) → slice_get xs i ≡ Some x → g (f x) ≡ h (g x) → map g (updated_at f i xs) ≡ updated_at h i (map g xs)
+pub updated_alike : {X Y : Type 0} (g : X → Y) (f : X → X) (h : Y → Y) (i : ℕ) (xs : List X) (x : X) → slice_get xs i ≡ Some x → g (f x) ≡ h (g x) → map g (updated_at f i xs) ≡ updated_at h i (map g xs)
 updated_alike g f h i [] x at e = cc
 updated_alike {X} g f h zero (y ∷ xs) x at e = let same : x ≡ y = cc in ap (λ z. z ∷ map g xs) (subst (λ (z : X). g (f z) ≡ h (g z)) same e)
 updated_alike g f h (suc i) (y ∷ xs) x at e = ap (λ rest. g y ∷ rest) (updated_alike g f h i xs x at e)

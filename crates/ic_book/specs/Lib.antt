@@ -1,8 +1,13 @@
 pub mod Book
 pub mod Change
+pub mod Does
+pub mod Fields
 pub mod Inside
 pub mod LookUps
+pub mod Mentioned
 pub mod Names
 pub mod Refused
 pub mod Scene
+pub mod Served
+pub mod Whole
 pub mod Written

@@ -13,9 +13,14 @@ ghost use Rattle.ic_laws.specs.ValidCore.{IsPooled};
 ghost use Rattle.ic_laws.specs.declared.tree.Formula as kept;
 ghost use Rattle.ic_pool.specs.Pool.{IsPlaced};
 ghost use Rattle.ic_sheets.specs.Sheet.{cells_of};
-ghost use Rattle.ic_book.specs.Book.{IsSameBeside, core_of, notations_in, scene_in};
+ghost use Rattle.ic_machine.specs.subjects.Reading.{GetCellFormula, reading_step};
+ghost use Rattle.ic_machine.specs.subjects.Writing.{UpdateCellWithFormula};
+ghost use Rattle.ic_book.specs.Book.{IsSameBeside, IsValidBook, core_of, notations_in, scene_in};
+ghost use Rattle.ic_book.specs.Does.{Does, DoesIn};
+ghost use Rattle.ic_book.specs.Fields.{no_fields, string_field};
 ghost use Rattle.ic_book.specs.LookUps.{LooksUpAsBefore};
 ghost use Rattle.ic_book.specs.Refused.{Refuses, RefusesOnly};
+ghost use Rattle.ic_book.specs.Served.{served_writing_step};
 ghost use Rattle.ic_book.specs.Written.{pool_at, with_cell, with_pool};
 
 use crate::{BookError, Model};
@@ -43,31 +48,17 @@ impl<'a> Model<'a> {
         column: i32,
         formula: String,
     ) -> Result<(), BookError>
-        // The machine's step: the cell has the formula of the text, and all else of the core is as it was.
-        ensures core { OnOk result (core_of self.new.book ≡ record (core_of self.old.book) {
-          sheets = updated_at (with_formula (notations_in self.old.book) (core_of self.old.book) row column (without_equals (chars (string_bytes formula)))) sheet (core_of self.old.book).sheets;
-        }) }
-
-        // The formula stands in the pool of its sheet at its first place, or was put at the end; the rest of the book is
-        // as it was.
-        ensures written { OnOk result (IfSome (slice_get self.old.book.sheets sheet) (λ s. (pool : List kept.Formula) × (place : ℕ)
-            × IsPlaced (cell_formula (notations_in self.old.book) (core_of self.old.book) s.id row column (without_equals (chars (string_bytes formula)))) place s.pool pool
-            × (self.new.book ≡ with_cell sheet pool row column place self.old.book))) }
-        ensures beside { OnOk result (IsSameBeside self.old.book self.new.book) }
-        ensures looks_up { OnOk result (self.new.has_all ≡ updated_at (λ _. true) sheet self.old.has_all) }
+        ensures does { DoesIn served_writing_step
+            (UpdateCellWithFormula sheet row column (chars (string_bytes formula))) no_fields
+            result self.old self.new }
+        ensures looks_up { OnOk result
+            (self.new.has_all ≡ updated_at (λ _. true) sheet self.old.has_all) }
         ensures whole { OnOk result (slice_get self.new.has_all sheet ≡ Some true) }
-        ensures refused { Refuses result (update_refusal (core_of self.old.book) sheet row column (chars (string_bytes formula))) }
-        ensures untouched { (refusal : Refusal) → update_refusal (core_of self.old.book) sheet row column (chars (string_bytes formula)) ≡ Some refusal → self.new ≡ self.old }
-        ensures err { OnErr result (self.new.book ≡ self.old.book) }
 
         // After an error the look-up of this sheet may be there; the others are as before.
         ensures left { OnErr result (LooksUpAsBefore sheet self.old self.new) }
     {
-        let body = self.body_to_write(sheet, row, column, formula.as_str())?;
-        let id = self.sheets.as_slice()[sheet as usize].id;
-        let formula = self.formula_of(id, row, column, body)?;
-        self.sheets.write(sheet as usize, row, column, formula)?;
-        Ok(())
+        self.write_formula(sheet, row, column, formula)
     }
 
     /// What is shown of the formula in the cell at a row and a column, both from 1, of the sheet at an index, from 0: `=`
@@ -81,17 +72,10 @@ impl<'a> Model<'a> {
         row: i32,
         column: i32,
     ) -> Result<Option<String>, BookError>
-        ensures shown { IfOk result (λ text. option_map (λ s. chars (string_bytes s)) text
-            ≡ option_map (λ f. equals ∷ shown_formula (notations_in self.now.book) (core_of self.now.book) row column f) (formula_of (core_of self.now.book) sheet row column)) }
-        ensures refused { Refuses result (first_refusal ((lacks_sheet (core_of self.now.book) sheet, InvalidSheet) ∷ [])) }
+        ensures does { Does reading_step (GetCellFormula sheet row column) string_field
+            result self.now self.now }
     {
-        let Some(worksheet) = self.sheets.as_slice().get(sheet as usize) else {
-            return Err(BookError::InvalidSheet);
-        };
-        let Some(formula) = formula_at(worksheet, row, column) else {
-            return Ok(None);
-        };
-        Ok(Some(self.show(row, column, formula)?))
+        self.formula_shown(sheet, row, column)
     }
 
     /// The place of a formula among those that the sheet at an index keeps, both from 0: the first place of an equal one;
@@ -127,6 +111,58 @@ impl<'a> Model<'a> {
             return Err(BookError::InvalidSheet);
         }
         Ok(self.sheets.place_copy(sheet as usize, tree, steps)?)
+    }
+
+    /// Writes a formula into a cell.
+    fn write_formula(
+        &mut self,
+        sheet: u32,
+        row: i32,
+        column: i32,
+        formula: String,
+    ) -> Result<(), BookError>
+        // The machine's step: the cell has the formula of the text, and all else of the core is as it was.
+        ensures core { OnOk result (core_of self.new.book ≡ record (core_of self.old.book) {
+          sheets = updated_at (with_formula (notations_in self.old.book) (core_of self.old.book) row column (without_equals (chars (string_bytes formula)))) sheet (core_of self.old.book).sheets;
+        }) }
+
+        // The formula stands in the pool of its sheet at its first place, or was put at the end; the rest of the book is
+        // as it was.
+        ensures written { OnOk result (IfSome (slice_get self.old.book.sheets sheet) (λ s. (pool : List kept.Formula) × (place : ℕ)
+            × IsPlaced (cell_formula (notations_in self.old.book) (core_of self.old.book) s.id row column (without_equals (chars (string_bytes formula)))) place s.pool pool
+            × (self.new.book ≡ with_cell sheet pool row column place self.old.book))) }
+        ensures beside { OnOk result (IsSameBeside self.old.book self.new.book) }
+        ensures looks_up { OnOk result (self.new.has_all ≡ updated_at (λ _. true) sheet self.old.has_all) }
+        ensures whole { OnOk result (slice_get self.new.has_all sheet ≡ Some true) }
+        ensures refused { Refuses result (update_refusal (core_of self.old.book) sheet row column (chars (string_bytes formula))) }
+        ensures untouched { (refusal : Refusal) → update_refusal (core_of self.old.book) sheet row column (chars (string_bytes formula)) ≡ Some refusal → self.new ≡ self.old }
+        ensures err { OnErr result (self.new.book ≡ self.old.book) }
+        ensures valid { IsValidBook self.old.book }
+
+        // After an error the look-up of this sheet may be there; the others are as before.
+        ensures left { OnErr result (LooksUpAsBefore sheet self.old self.new) }
+    {
+        let body = self.body_to_write(sheet, row, column, formula.as_str())?;
+        let id = self.sheets.as_slice()[sheet as usize].id;
+        let formula = self.formula_of(id, row, column, body)?;
+        self.sheets.write(sheet as usize, row, column, formula)?;
+        Ok(())
+    }
+
+    /// What is shown of the formula in a cell.
+    fn formula_shown(&self, sheet: u32, row: i32, column: i32) -> Result<Option<String>, BookError>
+        ensures shown { IfOk result (λ text. option_map (λ s. chars (string_bytes s)) text
+            ≡ option_map (λ f. equals ∷ shown_formula (notations_in self.now.book) (core_of self.now.book) row column f) (formula_of (core_of self.now.book) sheet row column)) }
+        ensures refused { Refuses result (first_refusal ((lacks_sheet (core_of self.now.book) sheet, InvalidSheet) ∷ [])) }
+        ensures valid { IsValidBook self.now.book }
+    {
+        let Some(worksheet) = self.sheets.as_slice().get(sheet as usize) else {
+            return Err(BookError::InvalidSheet);
+        };
+        let Some(formula) = formula_at(worksheet, row, column) else {
+            return Ok(None);
+        };
+        Ok(Some(self.show(row, column, formula)?))
     }
 
     /// What stands after `=` in a text that may be written into a cell.

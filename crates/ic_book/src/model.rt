@@ -1,10 +1,13 @@
-ghost use Rattle.std.specs.Prelude.{◌≡◌, ◌<◌, [], ◌∷◌, Some, true, chars, All, IfOk, IfSome, option_map, option_and_then};
+ghost use Rattle.std.specs.Prelude.{◌≡◌, ◌<◌, [], ◌∷◌, Ok, Some, true, chars, All, IfOk, IfSome, option_map, option_and_then};
 ghost use Rattle.std.specs.List.{slice_get};
 ghost use Rattle.ic_laws.specs.CoreBook.{fresh_id, used_ids};
 ghost use Rattle.ic_laws.specs.Notations.{AreNotations};
 ghost use Rattle.ic_laws.specs.ValidCore.{IsPooled};
 ghost use Rattle.ic_book.specs.Book.{IsValidBook, core_of, first_sheet_name_in, new_book, new_book_refusal, notations_in, scene_in};
+ghost use Rattle.ic_book.specs.Does.{DoesOnly};
+ghost use Rattle.ic_book.specs.Fields.{scope_field};
 ghost use Rattle.ic_book.specs.Refused.{Refuses};
+ghost use Rattle.ic_machine.specs.subjects.Sheets.{GetNewSheetId, sheet_step};
 
 use crate::BookError;
 use crate::scene::BookScene;
@@ -120,6 +123,7 @@ impl<'a> Model<'a> {
     /// The id of the next new sheet: one more than the greatest id in use, of a sheet or of a definition that is local to
     /// one, also where that sheet is gone. None exactly where that is the last one, 4,294,967,295. It takes no memory.
     pub fn get_new_sheet_id(&self) -> Option<u32>
+        ensures does { DoesOnly sheet_step GetNewSheetId scope_field (Ok result) self.now self.now }
         ensures fresh { result ≡ fresh_id (core_of self.now.book) }
         ensures unused { IfSome result (λ id. All (λ used. used < id) (used_ids (core_of self.now.book))) }
     {

@@ -1,16 +1,16 @@
 //! Definitions come and go, and are listed.
-ghost use Rattle.std.specs.Prelude.{◌≡◌, ℕ, IfOk, IfSome, None, OnErr, OnOk, Some, chars, map};
-ghost use Rattle.std.specs.List.{slice_get};
-ghost use Rattle.ic_laws.specs.BookTrees.{with_trees};
-ghost use Rattle.ic_laws.specs.Changes.{changed_tree, name_added, name_gone};
-ghost use Rattle.ic_laws.specs.CoreBook.{Definition, scene_of, spelling_of};
-ghost use Rattle.ic_laws.specs.CoreStep.{changed_by, delete_name_refusal, index_of_definition, listed_scope, new_definition, new_name_refusal, scope_of, scope_or_none, with_definition, with_new_name, without_definition};
+ghost use Rattle.std.specs.Prelude.{◌≡◌, IfOk, IfSome, None, OnErr, OnOk, Some, chars, map};
+ghost use Rattle.ic_laws.specs.CoreStep.{changed_by, delete_name_refusal, index_of_definition, listed_scope, new_definition, new_name_refusal, scope_of, scope_or_none, with_new_name, without_definition};
 ghost use Rattle.ic_laws.specs.FormulaReading.{Body, body_of, shown_body};
-ghost use Rattle.ic_book.specs.Book.{IsSameBeside, core_of, notations_in};
-ghost use Rattle.ic_book.specs.Change.{book_changed_by, with_name, without_name};
-ghost use Rattle.ic_book.specs.LookUps.{LooksUpDefined, LooksUpUndefined};
-ghost use Rattle.ic_book.specs.Names.{body_of_typed, listed, listed_names};
 ghost use Rattle.ic_laws.specs.Refusal.{InvalidNameFormula};
+ghost use Rattle.ic_machine.specs.subjects.Definitions.{DeleteDefinedName, GetDefinedNameList, IsValidDefinedName, NewDefinedName, definition_step};
+ghost use Rattle.ic_book.specs.Book.{IsValidBook, core_of, notations_in};
+ghost use Rattle.ic_book.specs.Change.{book_changed_by, with_name, without_name};
+ghost use Rattle.ic_book.specs.Does.{Does, DoesOr};
+ghost use Rattle.ic_book.specs.Fields.{listed_fields, no_fields, scope_field};
+ghost use Rattle.ic_book.specs.LookUps.{LooksUpDefined, LooksUpUndefined};
+ghost use Rattle.ic_book.specs.Mentioned.{BindsDefined, DanglesUndefined};
+ghost use Rattle.ic_book.specs.Names.{body_of_typed, listed, listed_names};
 ghost use Rattle.ic_book.specs.Refused.{Refuses, RefusesOr};
 
 mod body;
@@ -39,23 +39,81 @@ impl<'a> Model<'a> {
         scope: Option<u32>,
         formula: &str,
     ) -> Result<(), BookError>
-        ensures ok { OnOk result ((body : Body) → body_of (notations_in self.old.book) (core_of self.old.book) (chars formula.now) ≡ Some body
-            → self.new.book ≡ book_changed_by (with_name (new_definition (notations_in self.old.book) (core_of self.old.book) (chars name.now) (scope_or_none (core_of self.old.book) scope) body)) self.old.book) }
-
-        // The machine's step.
-        ensures core { OnOk result (core_of self.new.book ≡ with_new_name (notations_in self.old.book) (core_of self.old.book) (chars name.now) (scope_or_none (core_of self.old.book) scope)
-            (body_of (notations_in self.old.book) (core_of self.old.book) (chars formula.now))) }
+        ensures does { DoesOr InvalidNameFormula definition_step
+            (NewDefinedName (chars name.now) scope (chars formula.now)) no_fields
+            result self.old self.new }
 
         // What is bound by it is bound to it, and each other mention is what it was.
-        ensures binds { OnOk result ((body : Body) → body_of (notations_in self.old.book) (core_of self.old.book) (chars formula.now) ≡ Some body
-            → core_of self.new.book ≡ with_definition (new_definition (notations_in self.old.book) (core_of self.old.book) (chars name.now) (scope_or_none (core_of self.old.book) scope) body)
-            (with_trees (changed_tree (name_added (record { name = chars name.now; scope = scope_or_none (core_of self.old.book) scope }))) (core_of self.old.book))) }
-        ensures beside { OnOk result (IsSameBeside self.old.book self.new.book) }
+        ensures binds { OnOk result (BindsDefined (chars name.now) scope (chars formula.now)
+            self.old.book self.new.book) }
 
         // A sheet's look-up of formulas is there as before where no mention of its formulas changed.
         ensures looks_up { OnOk result (LooksUpDefined (chars name.now) scope self.old self.new) }
+    {
+        self.define(name, scope, formula)
+    }
+
+    /// Whether such a definition could be added: the id of the sheet that it would be local to, if there is one.
+    ///
+    /// `InvalidName`, `InvalidScope`, `NameExists`, `InvalidNameFormula`, in this order, each exactly where it holds;
+    /// `OutOfMemory` only where none of the first three does.
+    pub fn is_valid_defined_name(
+        &self,
+        name: &str,
+        scope: Option<u32>,
+        formula: &str,
+    ) -> Result<Option<u32>, BookError>
+        ensures does { DoesOr InvalidNameFormula definition_step
+            (IsValidDefinedName (chars name.now) scope (chars formula.now)) scope_field
+            result self.now self.now }
+    {
+        self.scope_to_define(name, scope, formula)
+    }
+
+    /// Takes the definition of an agreeing name that is local to the sheet at an index, from 0, or to none, out of the book.
+    /// Words that meant it mean the one of an agreeing name that is local to none, where there is one; else they dangle,
+    /// keep its name, and find a definition again when one of an agreeing name comes.
+    ///
+    /// `InvalidSheet` exactly where no sheet stands at the index, then `NameNotFound` where there is no such definition;
+    /// `OutOfMemory` only where neither holds. An error changes nothing.
+    pub fn delete_defined_name(&mut self, name: &str, scope: Option<u32>) -> Result<(), BookError>
+        ensures does { Does definition_step (DeleteDefinedName (chars name.now) scope) no_fields
+            result self.old self.new }
+
+        // What meant it means the one for all sheets, or dangles by its name, and each other mention is what it was.
+        ensures dangles { OnOk result
+            (DanglesUndefined (chars name.now) scope self.old.book self.new.book) }
+
+        // A sheet's look-up of formulas is there as before where no mention of its formulas changed.
+        ensures looks_up { OnOk result
+            (LooksUpUndefined (chars name.now) scope self.old self.new) }
+    {
+        self.undefine(name, scope)
+    }
+
+    /// The definitions in their order, but for those that are local to a sheet which is gone: each with its name as it was
+    /// given, the index of the sheet that it is local to, from 0, if there is one, and its body in the notation in force.
+    ///
+    /// Nothing refuses it; `OutOfMemory` is its only error.
+    pub fn get_defined_name_list(&self) -> Result<Vec<(String, Option<u32>, String)>, BookError>
+        ensures does { Does definition_step GetDefinedNameList listed_fields
+            result self.now self.now }
+    {
+        self.listed_definitions()
+    }
+
+    /// Adds a definition at the end.
+    fn define(&mut self, name: &str, scope: Option<u32>, formula: &str) -> Result<(), BookError>
+        ensures ok { OnOk result ((body : Body) → body_of (notations_in self.old.book) (core_of self.old.book) (chars formula.now) ≡ Some body
+            → self.new.book ≡ book_changed_by (with_name (new_definition (notations_in self.old.book) (core_of self.old.book) (chars name.now) (scope_or_none (core_of self.old.book) scope) body)) self.old.book) }
+        ensures core { OnOk result (core_of self.new.book ≡ with_new_name (notations_in self.old.book) (core_of self.old.book) (chars name.now) (scope_or_none (core_of self.old.book) scope)
+            (body_of (notations_in self.old.book) (core_of self.old.book) (chars formula.now))) }
+        ensures binds { OnOk result (BindsDefined (chars name.now) scope (chars formula.now)
+            self.old.book self.new.book) }
+        ensures looks_up { OnOk result (LooksUpDefined (chars name.now) scope self.old self.new) }
         ensures refused { RefusesOr InvalidNameFormula result (new_name_refusal (notations_in self.old.book) (core_of self.old.book) (chars name.now) scope (chars formula.now)) }
         ensures err { OnErr result (self.new ≡ self.old) }
+        ensures valid { IsValidBook self.old.book }
     {
         let (id, body) = self.checked_name(name, scope, formula)?;
         let definition = self.definition_of(name, id, &body)?;
@@ -73,11 +131,8 @@ impl<'a> Model<'a> {
         Ok(())
     }
 
-    /// Whether such a definition could be added: the id of the sheet that it would be local to, if there is one.
-    ///
-    /// `InvalidName`, `InvalidScope`, `NameExists`, `InvalidNameFormula`, in this order, each exactly where it holds;
-    /// `OutOfMemory` only where none of the first three does.
-    pub fn is_valid_defined_name(
+    /// The id of the sheet that such a definition would be local to, if there is one.
+    fn scope_to_define(
         &self,
         name: &str,
         scope: Option<u32>,
@@ -85,34 +140,25 @@ impl<'a> Model<'a> {
     ) -> Result<Option<u32>, BookError>
         ensures id { IfOk result (λ id. id ≡ scope_or_none (core_of self.now.book) scope) }
         ensures refused { RefusesOr InvalidNameFormula result (new_name_refusal (notations_in self.now.book) (core_of self.now.book) (chars name.now) scope (chars formula.now)) }
+        ensures valid { IsValidBook self.now.book }
     {
         let (id, _) = self.checked_name(name, scope, formula)?;
         Ok(id)
     }
 
-    /// Takes the definition of an agreeing name that is local to the sheet at an index, from 0, or to none, out of the book.
-    /// Words that meant it mean the one of an agreeing name that is local to none, where there is one; else they dangle,
-    /// keep its name, and find a definition again when one of an agreeing name comes.
-    ///
-    /// `InvalidSheet` exactly where no sheet stands at the index, then `NameNotFound` where there is no such definition;
-    /// `OutOfMemory` only where neither holds. An error changes nothing.
-    pub fn delete_defined_name(&mut self, name: &str, scope: Option<u32>) -> Result<(), BookError>
+    /// Takes a definition out of the book.
+    fn undefine(&mut self, name: &str, scope: Option<u32>) -> Result<(), BookError>
         ensures ok { OnOk result (self.new.book ≡ book_changed_by (without_name (index_of_definition (core_of self.old.book) (chars name.now) (scope_or_none (core_of self.old.book) scope))) self.old.book) }
-
-        // The machine's step.
         ensures core { OnOk result (core_of self.new.book ≡ changed_by (notations_in self.old.book)
             (without_definition (index_of_definition (core_of self.old.book) (chars name.now) (scope_or_none (core_of self.old.book) scope))) (core_of self.old.book)) }
-
-        // What meant it means the one for all sheets, or dangles by its name, and each other mention is what it was.
-        ensures dangles { OnOk result ((index : ℕ) (definition : Definition) → index_of_definition (core_of self.old.book) (chars name.now) (scope_or_none (core_of self.old.book) scope) ≡ Some index
-            → slice_get (core_of self.old.book).definitions index ≡ Some definition
-            → core_of self.new.book ≡ without_definition (Some index) (with_trees (changed_tree (name_gone (scene_of (without_definition (Some index) (core_of self.old.book))) (spelling_of definition))) (core_of self.old.book))) }
-        ensures beside { OnOk result (IsSameBeside self.old.book self.new.book) }
-
-        // A sheet's look-up of formulas is there as before where no mention of its formulas changed.
-        ensures looks_up { OnOk result (LooksUpUndefined (chars name.now) scope self.old self.new) }
-        ensures refused { Refuses result (delete_name_refusal (core_of self.old.book) (chars name.now) scope) }
+        ensures dangles { OnOk result
+            (DanglesUndefined (chars name.now) scope self.old.book self.new.book) }
+        ensures looks_up { OnOk result
+            (LooksUpUndefined (chars name.now) scope self.old self.new) }
+        ensures refused { Refuses result
+            (delete_name_refusal (core_of self.old.book) (chars name.now) scope) }
         ensures err { OnErr result (self.new ≡ self.old) }
+        ensures valid { IsValidBook self.old.book }
     {
         let Some(id) = self.scope_id(scope) else {
             return Err(BookError::InvalidSheet);
@@ -124,13 +170,11 @@ impl<'a> Model<'a> {
         Ok(())
     }
 
-    /// The definitions in their order, but for those that are local to a sheet which is gone: each with its name as it was
-    /// given, the index of the sheet that it is local to, from 0, if there is one, and its body in the notation in force.
-    ///
-    /// Nothing refuses it; `OutOfMemory` is its only error.
-    pub fn get_defined_name_list(&self) -> Result<Vec<(String, Option<u32>, String)>, BookError>
+    /// The definitions that are listed.
+    fn listed_definitions(&self) -> Result<Vec<(String, Option<u32>, String)>, BookError>
         ensures list { IfOk result (λ names. map listed names.items ≡ listed_names (notations_in self.now.book) (core_of self.now.book)) }
         ensures refused { Refuses result None }
+        ensures valid { IsValidBook self.now.book }
     {
         let mut names = Vec::new(self.alloc);
         let definitions = self.names.as_slice();
@@ -152,7 +196,10 @@ impl<'a> Model<'a> {
         ensures id { IfOk result (λ found. scope_of (core_of self.now.book) scope ≡ Some found.0) }
         ensures body { IfOk result (λ found. body_of (notations_in self.now.book) (core_of self.now.book) (chars formula.now) ≡ Some (body_of_typed found.1)) }
         ensures refused { RefusesOr InvalidNameFormula result (new_name_refusal (notations_in self.now.book) (core_of self.now.book) (chars name.now) scope (chars formula.now)) }
+        ensures valid { IsValidBook self.now.book }
     {
+        // What always holds of a model is known from here on.
+        let _ = &self.sheets;
         if !is_valid_identifier(name) {
             return Err(BookError::InvalidName);
         }

@@ -1,8 +1,8 @@
-ghost use Rattle.std.specs.Prelude.{◌≡◌, [], ◌∷◌, chars, not, OnErr, OnOk};
-ghost use Rattle.ic_laws.specs.Refusal.{InvalidLanguage, InvalidLocale, first_refusal};
-ghost use Rattle.ic_book.specs.Book.{core_of, notations_in};
-ghost use Rattle.ic_book.specs.Change.{with_language, with_locale};
-ghost use Rattle.ic_book.specs.Refused.{RefusesOnly};
+ghost use Rattle.std.specs.Prelude.{◌≡◌, chars};
+ghost use Rattle.ic_machine.specs.subjects.Notation.{SetLanguage, SetLocale, notation_step};
+ghost use Rattle.ic_book.specs.Book.{core_of};
+ghost use Rattle.ic_book.specs.Does.{DoesOnly};
+ghost use Rattle.ic_book.specs.Fields.{no_fields};
 
 use crate::{BookError, Model};
 
@@ -11,9 +11,9 @@ impl<'a> Model<'a> {
     ///
     /// `InvalidLocale` exactly where the tables lack it; an error changes nothing. It takes no memory.
     pub fn set_locale(&mut self, locale_id: &str) -> Result<(), BookError>
-        ensures ok { OnOk result (self.new ≡ record self.old { book = with_locale (chars locale_id.now) self.old.book }) }
-        ensures refused { RefusesOnly result (first_refusal ((not ((notations_in self.old.book).knows_locale (chars locale_id.now)), InvalidLocale) ∷ [])) }
-        ensures err { OnErr result (self.new ≡ self.old) }
+        ensures does { DoesOnly notation_step (SetLocale (chars locale_id.now)) no_fields
+            result self.old self.new }
+        ensures looks_up { self.new.has_all ≡ self.old.has_all }
 
         // Each mention finds what it found.
         ensures sheets { (core_of self.new.book).sheets ≡ (core_of self.old.book).sheets }
@@ -32,9 +32,9 @@ impl<'a> Model<'a> {
     ///
     /// `InvalidLanguage` exactly where the tables lack it; an error changes nothing. It takes no memory.
     pub fn set_language(&mut self, language_id: &str) -> Result<(), BookError>
-        ensures ok { OnOk result (self.new ≡ record self.old { book = with_language (chars language_id.now) self.old.book }) }
-        ensures refused { RefusesOnly result (first_refusal ((not ((notations_in self.old.book).knows_language (chars language_id.now)), InvalidLanguage) ∷ [])) }
-        ensures err { OnErr result (self.new ≡ self.old) }
+        ensures does { DoesOnly notation_step (SetLanguage (chars language_id.now)) no_fields
+            result self.old self.new }
+        ensures looks_up { self.new.has_all ≡ self.old.has_all }
 
         // Each mention finds what it found.
         ensures sheets { (core_of self.new.book).sheets ≡ (core_of self.old.book).sheets }

@@ -1,13 +1,16 @@
 ghost use Rattle.std.specs.Prelude.{◌≡◌, ◌+◌, chars, IfOk, IfSome, OnErr, OnOk, Some};
 ghost use Rattle.std.specs.List.{slice_get};
-ghost use Rattle.ic_laws.specs.BookTrees.{BookKeepsFound, IsMoved, with_sheet_at_end, with_trees};
-ghost use Rattle.ic_laws.specs.Changes.{changed_tree, sheet_gone, sheet_named};
-ghost use Rattle.ic_laws.specs.CoreBook.{Sheet, greatest_id};
+ghost use Rattle.ic_laws.specs.BookTrees.{BookKeepsFound, IsMoved};
 ghost use Rattle.ic_laws.specs.CoreStep.{add_sheet_refusal, changed_by, delete_refusal, index_of_id, index_of_name, move_refusal, moved, rename_refusal, with_new_sheet, with_sheet_name, without_sheet};
-ghost use Rattle.ic_book.specs.Book.{core_of, notations_in};
+ghost use Rattle.ic_machine.specs.subjects.Sheets as sheets;
+ghost use Rattle.ic_machine.specs.subjects.Sheets.{sheet_step};
+ghost use Rattle.ic_book.specs.Book.{IsValidBook, core_of, notations_in};
 ghost use Rattle.ic_book.specs.Change.{book_changed_by, with_added_sheet, with_moved_sheet, with_removed_sheet, with_renamed_sheet};
+ghost use Rattle.ic_book.specs.Does.{Does, DoesOnly};
+ghost use Rattle.ic_book.specs.Fields.{no_fields};
 ghost use Rattle.ic_book.specs.LookUps.{LooksUpAdded, LooksUpNamed, LooksUpWithout};
-ghost use Rattle.ic_book.specs.Refused.{Refuses, RefusesOnly, refusal_at};
+ghost use Rattle.ic_book.specs.Mentioned.{AtId, AtName, BindsAdded, BindsNamed, DanglesWithout};
+ghost use Rattle.ic_book.specs.Refused.{Refuses, RefusesOnly};
 
 use crate::names::bodies_without;
 use crate::{BookError, Model};
@@ -21,20 +24,172 @@ impl<'a> Model<'a> {
     /// `InvalidSheetName`, `SheetExists`, `IdsUsedUp`, in this order, each exactly where it holds; `OutOfMemory` only
     /// where none of them does. An error changes nothing.
     pub fn add_sheet(&mut self, sheet_name: &str) -> Result<(), BookError>
-        ensures ok { OnOk result (self.new.book ≡ book_changed_by (with_added_sheet (chars sheet_name.now)) self.old.book) }
-
-        // The machine's step.
-        ensures core { OnOk result (core_of self.new.book ≡ changed_by (notations_in self.old.book) (with_new_sheet (chars sheet_name.now)) (core_of self.old.book)) }
+        ensures does { Does sheet_step (sheets.AddSheet (chars sheet_name.now)) no_fields
+            result self.old self.new }
 
         // What is bound by it is bound to it, and each other mention is what it was.
-        ensures binds { OnOk result (core_of self.new.book ≡ with_sheet_at_end (greatest_id (core_of self.old.book) + 1) (chars sheet_name.now)
-            (with_trees (changed_tree (sheet_named (greatest_id (core_of self.old.book) + 1) (chars sheet_name.now))) (core_of self.old.book))) }
+        ensures binds { OnOk result
+            (BindsAdded (chars sheet_name.now) self.old.book self.new.book) }
 
         // A sheet's look-up of formulas is there as before where no mention of its formulas changed.
         ensures looks_up { OnOk result (LooksUpAdded (chars sheet_name.now) self.old self.new) }
-        ensures refused { Refuses result (add_sheet_refusal (core_of self.old.book) (chars sheet_name.now)) }
-        ensures err { OnErr result (self.new ≡ self.old) }
     {
+        self.append_sheet(sheet_name)
+    }
+
+    /// Gives the sheet at an index, from 0, another name. It keeps its id, and what refers to it refers to it under the new
+    /// name. References that named no sheet, and whose name agrees with the new one, are references to it from then on.
+    ///
+    /// `InvalidSheetName`, `SheetExists` (another sheet's name agrees), `InvalidSheet`, in this order, each exactly where
+    /// it holds; `OutOfMemory` only where none of them does. An error changes nothing.
+    pub fn rename_sheet_by_index(
+        &mut self,
+        sheet_index: u32,
+        new_name: &str,
+    ) -> Result<(), BookError>
+        ensures does { Does sheet_step
+            (sheets.RenameSheetByIndex sheet_index (chars new_name.now)) no_fields
+            result self.old self.new }
+
+        // Each mention that found a sheet or a definition finds the same one, at the same place of the same formula.
+        ensures found { OnOk result
+            (BookKeepsFound (core_of self.old.book) (core_of self.new.book)) }
+
+        // What is bound by it is bound to that sheet, and each other mention is what it was.
+        ensures binds { OnOk result
+            (BindsNamed sheet_index (chars new_name.now) self.old.book self.new.book) }
+
+        // A sheet's look-up of formulas is there as before where no mention of its formulas changed.
+        ensures looks_up { OnOk result
+            (LooksUpNamed sheet_index (chars new_name.now) self.old self.new) }
+    {
+        self.rename_at(sheet_index as usize, new_name)
+    }
+
+    /// Gives the sheet whose name agrees another name, as `rename_sheet_by_index` does.
+    ///
+    /// `SheetNotFound` exactly where no sheet's name agrees with the old one; then `InvalidSheetName` and `SheetExists`
+    /// (another sheet's name agrees), in this order; `OutOfMemory` only where none of them holds. An error changes nothing.
+    pub fn rename_sheet(&mut self, old_name: &str, new_name: &str) -> Result<(), BookError>
+        ensures does { Does sheet_step
+            (sheets.RenameSheet (chars old_name.now) (chars new_name.now)) no_fields
+            result self.old self.new }
+
+        // Each mention that found a sheet or a definition finds the same one, at the same place of the same formula.
+        ensures found { OnOk result
+            (BookKeepsFound (core_of self.old.book) (core_of self.new.book)) }
+
+        // What is bound by it is bound to that sheet, and each other mention is what it was.
+        ensures binds { OnOk result (AtName (chars old_name.now) self.old.book
+            (λ index. BindsNamed index (chars new_name.now) self.old.book self.new.book)) }
+
+        // A sheet's look-up of formulas is there as before where no mention of its formulas changed.
+        ensures looks_up { OnOk result (AtName (chars old_name.now) self.old.book
+            (λ index. LooksUpNamed index (chars new_name.now) self.old self.new)) }
+    {
+        let Some(index) = self.sheets.index_of_name(old_name) else {
+            return Err(BookError::SheetNotFound);
+        };
+        self.rename_at(index, new_name)
+    }
+
+    /// Puts the sheet at an index at another, both from 0; the others keep their order. Formulas stay as they are.
+    ///
+    /// `SheetIndexTooLarge` exactly where no sheet stands at the first index, then `TargetTooLarge` where none stands at
+    /// the second; an error changes nothing. It takes no memory.
+    pub fn move_sheet(&mut self, sheet_index: u32, new_index: u32) -> Result<(), BookError>
+        ensures does { DoesOnly sheet_step (sheets.MoveSheet sheet_index new_index) no_fields
+            result self.old self.new }
+        ensures looks_up { OnOk result
+            (self.new.has_all ≡ moved sheet_index new_index self.old.has_all) }
+
+        // Each mention finds what it found.
+        ensures found { OnOk result
+            (IsMoved sheet_index new_index (core_of self.old.book) (core_of self.new.book)) }
+    {
+        self.move_at(sheet_index, new_index)
+    }
+
+    /// Takes the sheet at an index, from 0, out of the book. References to it name no sheet from then on: they keep its
+    /// name, and find a sheet again when one of an agreeing name comes.
+    ///
+    /// `OnlySheet` exactly where there is one sheet, then `SheetIndexTooLarge` where none stands at the index;
+    /// `OutOfMemory` only where neither holds. An error changes nothing.
+    pub fn delete_sheet(&mut self, sheet_index: u32) -> Result<(), BookError>
+        ensures does { Does sheet_step (sheets.DeleteSheet sheet_index) no_fields
+            result self.old self.new }
+
+        // What meant it dangles by its name, and each other mention is what it was.
+        ensures dangles { OnOk result
+            (DanglesWithout sheet_index self.old.book self.new.book) }
+
+        // A sheet's look-up of formulas is there as before where no mention of its formulas changed.
+        ensures looks_up { OnOk result (LooksUpWithout sheet_index self.old self.new) }
+    {
+        self.delete_at(sheet_index as usize)
+    }
+
+    /// Takes the sheet whose name agrees out of the book, as `delete_sheet` does.
+    ///
+    /// `SheetNotFound` exactly where no sheet's name agrees, then `OnlySheet` where there is one sheet; `OutOfMemory` only
+    /// where neither holds. An error changes nothing.
+    pub fn delete_sheet_by_name(&mut self, name: &str) -> Result<(), BookError>
+        ensures does { Does sheet_step (sheets.DeleteSheetByName (chars name.now)) no_fields
+            result self.old self.new }
+
+        // What meant it dangles by its name, and each other mention is what it was.
+        ensures dangles { OnOk result (AtName (chars name.now) self.old.book
+            (λ index. DanglesWithout index self.old.book self.new.book)) }
+
+        // A sheet's look-up of formulas is there as before where no mention of its formulas changed.
+        ensures looks_up { OnOk result (AtName (chars name.now) self.old.book
+            (λ index. LooksUpWithout index self.old self.new)) }
+    {
+        let Some(index) = self.sheets.index_of_name(name) else {
+            return Err(BookError::SheetNotFound);
+        };
+        self.delete_at(index)
+    }
+
+    /// Takes the sheet with this id out of the book, as `delete_sheet` does.
+    ///
+    /// `SheetNotFound` exactly where no sheet has the id, then `OnlySheet` where there is one sheet; `OutOfMemory` only
+    /// where neither holds. An error changes nothing.
+    pub fn delete_sheet_by_sheet_id(&mut self, sheet_id: u32) -> Result<(), BookError>
+        ensures does { Does sheet_step (sheets.DeleteSheetBySheetId sheet_id) no_fields
+            result self.old self.new }
+
+        // What meant it dangles by its name, and each other mention is what it was.
+        ensures dangles { OnOk result (AtId sheet_id self.old.book
+            (λ index. DanglesWithout index self.old.book self.new.book)) }
+
+        // A sheet's look-up of formulas is there as before where no mention of its formulas changed.
+        ensures looks_up { OnOk result (AtId sheet_id self.old.book
+            (λ index. LooksUpWithout index self.old self.new)) }
+    {
+        let Some(index) = self.sheets.index_of_id(sheet_id) else {
+            return Err(BookError::SheetNotFound);
+        };
+        self.delete_at(index)
+    }
+
+    /// Adds a sheet of this name at the end.
+    fn append_sheet(&mut self, sheet_name: &str) -> Result<(), BookError>
+        ensures ok { OnOk result
+            (self.new.book ≡ book_changed_by (with_added_sheet (chars sheet_name.now)) self.old.book) }
+        ensures core { OnOk result (core_of self.new.book
+            ≡ changed_by (notations_in self.old.book) (with_new_sheet (chars sheet_name.now))
+            (core_of self.old.book)) }
+        ensures binds { OnOk result
+            (BindsAdded (chars sheet_name.now) self.old.book self.new.book) }
+        ensures looks_up { OnOk result (LooksUpAdded (chars sheet_name.now) self.old self.new) }
+        ensures refused { Refuses result
+            (add_sheet_refusal (core_of self.old.book) (chars sheet_name.now)) }
+        ensures err { OnErr result (self.new ≡ self.old) }
+        ensures valid { IsValidBook self.old.book }
+    {
+        // What always holds of a model is known from here on.
+        let _ = &self.sheets;
         if !is_valid_sheet_name(sheet_name) {
             return Err(BookError::InvalidSheetName);
         }
@@ -54,80 +209,21 @@ impl<'a> Model<'a> {
         Ok(())
     }
 
-    /// Gives the sheet at an index, from 0, another name. It keeps its id, and what refers to it refers to it under the new
-    /// name. References that named no sheet, and whose name agrees with the new one, are references to it from then on.
-    ///
-    /// `InvalidSheetName`, `SheetExists` (another sheet's name agrees), `InvalidSheet`, in this order, each exactly where
-    /// it holds; `OutOfMemory` only where none of them does. An error changes nothing.
-    pub fn rename_sheet_by_index(
-        &mut self,
-        sheet_index: u32,
-        new_name: &str,
-    ) -> Result<(), BookError>
-        ensures ok { OnOk result (self.new.book ≡ book_changed_by (with_renamed_sheet sheet_index (chars new_name.now)) self.old.book) }
-
-        // The machine's step.
-        ensures core { OnOk result (core_of self.new.book ≡ changed_by (notations_in self.old.book) (with_sheet_name sheet_index (chars new_name.now)) (core_of self.old.book)) }
-
-        // Each mention that found a sheet or a definition finds the same one, at the same place of the same formula.
-        ensures found { OnOk result (BookKeepsFound (core_of self.old.book) (core_of self.new.book)) }
-
-        // What is bound by it is bound to that sheet, and each other mention is what it was.
-        ensures binds { OnOk result ((sheet : Sheet) → slice_get (core_of self.old.book).sheets sheet_index ≡ Some sheet
-            → core_of self.new.book ≡ with_sheet_name sheet_index (chars new_name.now) (with_trees (changed_tree (sheet_named sheet.id (chars new_name.now))) (core_of self.old.book))) }
-
-        // A sheet's look-up of formulas is there as before where no mention of its formulas changed.
+    /// Puts the sheet at an index at another.
+    fn move_at(&mut self, sheet_index: u32, new_index: u32) -> Result<(), BookError>
+        ensures ok { OnOk result
+            (self.new.book ≡ with_moved_sheet sheet_index new_index self.old.book) }
         ensures looks_up { OnOk result
-            (LooksUpNamed sheet_index (chars new_name.now) self.old self.new) }
-        ensures refused { Refuses result (rename_refusal (core_of self.old.book) sheet_index (chars new_name.now)) }
+            (self.new.has_all ≡ moved sheet_index new_index self.old.has_all) }
+        ensures core { OnOk result (core_of self.new.book ≡ record (core_of self.old.book) {
+          sheets = moved sheet_index new_index (core_of self.old.book).sheets;
+        }) }
+        ensures found { OnOk result
+            (IsMoved sheet_index new_index (core_of self.old.book) (core_of self.new.book)) }
+        ensures refused { RefusesOnly result
+            (move_refusal (core_of self.old.book) sheet_index new_index) }
         ensures err { OnErr result (self.new ≡ self.old) }
-    {
-        self.rename_at(sheet_index as usize, new_name)
-    }
-
-    /// Gives the sheet whose name agrees another name, as `rename_sheet_by_index` does.
-    ///
-    /// `SheetNotFound` exactly where no sheet's name agrees with the old one; then `InvalidSheetName` and `SheetExists`
-    /// (another sheet's name agrees), in this order; `OutOfMemory` only where none of them holds. An error changes nothing.
-    pub fn rename_sheet(&mut self, old_name: &str, new_name: &str) -> Result<(), BookError>
-        ensures ok { OnOk result (IfSome (index_of_name (core_of self.old.book) (chars old_name.now)) (λ index.
-            self.new.book ≡ book_changed_by (with_renamed_sheet index (chars new_name.now)) self.old.book)) }
-        ensures core { OnOk result (IfSome (index_of_name (core_of self.old.book) (chars old_name.now)) (λ index.
-            core_of self.new.book ≡ changed_by (notations_in self.old.book) (with_sheet_name index (chars new_name.now)) (core_of self.old.book))) }
-
-        // Each mention that found a sheet or a definition finds the same one, at the same place of the same formula.
-        ensures found { OnOk result (BookKeepsFound (core_of self.old.book) (core_of self.new.book)) }
-
-        // What is bound by it is bound to that sheet, and each other mention is what it was.
-        ensures binds { OnOk result (IfSome (index_of_name (core_of self.old.book) (chars old_name.now)) (λ index. (sheet : Sheet) → slice_get (core_of self.old.book).sheets index ≡ Some sheet
-            → core_of self.new.book ≡ with_sheet_name index (chars new_name.now) (with_trees (changed_tree (sheet_named sheet.id (chars new_name.now))) (core_of self.old.book)))) }
-
-        // A sheet's look-up of formulas is there as before where no mention of its formulas changed.
-        ensures looks_up { OnOk result
-            (IfSome (index_of_name (core_of self.old.book) (chars old_name.now))
-            (λ index. LooksUpNamed index (chars new_name.now) self.old self.new)) }
-        ensures refused { Refuses result (refusal_at (index_of_name (core_of self.old.book) (chars old_name.now)) (λ index. rename_refusal (core_of self.old.book) index (chars new_name.now))) }
-        ensures err { OnErr result (self.new ≡ self.old) }
-    {
-        let Some(index) = self.sheets.index_of_name(old_name) else {
-            return Err(BookError::SheetNotFound);
-        };
-        self.rename_at(index, new_name)
-    }
-
-    /// Puts the sheet at an index at another, both from 0; the others keep their order. Formulas stay as they are.
-    ///
-    /// `SheetIndexTooLarge` exactly where no sheet stands at the first index, then `TargetTooLarge` where none stands at
-    /// the second; an error changes nothing. It takes no memory.
-    pub fn move_sheet(&mut self, sheet_index: u32, new_index: u32) -> Result<(), BookError>
-        ensures ok { OnOk result (self.new.book ≡ with_moved_sheet sheet_index new_index self.old.book) }
-        ensures looks_up { OnOk result (self.new.has_all ≡ moved sheet_index new_index self.old.has_all) }
-
-        // The machine's step, after which each mention finds what it found.
-        ensures core { OnOk result (core_of self.new.book ≡ record (core_of self.old.book) { sheets = moved sheet_index new_index (core_of self.old.book).sheets }) }
-        ensures found { OnOk result (IsMoved sheet_index new_index (core_of self.old.book) (core_of self.new.book)) }
-        ensures refused { RefusesOnly result (move_refusal (core_of self.old.book) sheet_index new_index) }
-        ensures err { OnErr result (self.new ≡ self.old) }
+        ensures valid { IsValidBook self.old.book }
     {
         if sheet_index as usize >= self.sheets.len() {
             return Err(BookError::SheetIndexTooLarge);
@@ -140,94 +236,20 @@ impl<'a> Model<'a> {
         Ok(())
     }
 
-    /// Takes the sheet at an index, from 0, out of the book. References to it name no sheet from then on: they keep its
-    /// name, and find a sheet again when one of an agreeing name comes.
-    ///
-    /// `OnlySheet` exactly where there is one sheet, then `SheetIndexTooLarge` where none stands at the index;
-    /// `OutOfMemory` only where neither holds. An error changes nothing.
-    pub fn delete_sheet(&mut self, sheet_index: u32) -> Result<(), BookError>
-        ensures ok { OnOk result (self.new.book ≡ book_changed_by (with_removed_sheet sheet_index) self.old.book) }
-
-        // The machine's step.
-        ensures core { OnOk result (core_of self.new.book ≡ changed_by (notations_in self.old.book) (without_sheet sheet_index) (core_of self.old.book)) }
-
-        // What meant it dangles by its name, and each other mention is what it was.
-        ensures dangles { OnOk result ((sheet : Sheet) → slice_get (core_of self.old.book).sheets sheet_index ≡ Some sheet
-            → core_of self.new.book ≡ without_sheet sheet_index (with_trees (changed_tree (sheet_gone sheet.id sheet.name)) (core_of self.old.book))) }
-
-        // A sheet's look-up of formulas is there as before where no mention of its formulas changed.
-        ensures looks_up { OnOk result (LooksUpWithout sheet_index self.old self.new) }
-        ensures refused { Refuses result (delete_refusal (core_of self.old.book) sheet_index) }
-        ensures err { OnErr result (self.new ≡ self.old) }
-    {
-        self.delete_at(sheet_index as usize)
-    }
-
-    /// Takes the sheet whose name agrees out of the book, as `delete_sheet` does.
-    ///
-    /// `SheetNotFound` exactly where no sheet's name agrees, then `OnlySheet` where there is one sheet; `OutOfMemory` only
-    /// where neither holds. An error changes nothing.
-    pub fn delete_sheet_by_name(&mut self, name: &str) -> Result<(), BookError>
-        ensures ok { OnOk result (IfSome (index_of_name (core_of self.old.book) (chars name.now)) (λ index.
-            self.new.book ≡ book_changed_by (with_removed_sheet index) self.old.book)) }
-        ensures core { OnOk result (IfSome (index_of_name (core_of self.old.book) (chars name.now)) (λ index.
-            core_of self.new.book ≡ changed_by (notations_in self.old.book) (without_sheet index) (core_of self.old.book))) }
-
-        // What meant it dangles by its name, and each other mention is what it was.
-        ensures dangles { OnOk result (IfSome (index_of_name (core_of self.old.book) (chars name.now)) (λ index. (sheet : Sheet) → slice_get (core_of self.old.book).sheets index ≡ Some sheet
-            → core_of self.new.book ≡ without_sheet index (with_trees (changed_tree (sheet_gone sheet.id sheet.name)) (core_of self.old.book)))) }
-
-        // A sheet's look-up of formulas is there as before where no mention of its formulas changed.
-        ensures looks_up { OnOk result
-            (IfSome (index_of_name (core_of self.old.book) (chars name.now))
-            (λ index. LooksUpWithout index self.old self.new)) }
-        ensures refused { Refuses result (refusal_at (index_of_name (core_of self.old.book) (chars name.now)) (delete_refusal (core_of self.old.book))) }
-        ensures err { OnErr result (self.new ≡ self.old) }
-    {
-        let Some(index) = self.sheets.index_of_name(name) else {
-            return Err(BookError::SheetNotFound);
-        };
-        self.delete_at(index)
-    }
-
-    /// Takes the sheet with this id out of the book, as `delete_sheet` does.
-    ///
-    /// `SheetNotFound` exactly where no sheet has the id, then `OnlySheet` where there is one sheet; `OutOfMemory` only
-    /// where neither holds. An error changes nothing.
-    pub fn delete_sheet_by_sheet_id(&mut self, sheet_id: u32) -> Result<(), BookError>
-        ensures ok { OnOk result (IfSome (index_of_id (core_of self.old.book) sheet_id) (λ index.
-            self.new.book ≡ book_changed_by (with_removed_sheet index) self.old.book)) }
-        ensures core { OnOk result (IfSome (index_of_id (core_of self.old.book) sheet_id) (λ index.
-            core_of self.new.book ≡ changed_by (notations_in self.old.book) (without_sheet index) (core_of self.old.book))) }
-
-        // What meant it dangles by its name, and each other mention is what it was.
-        ensures dangles { OnOk result (IfSome (index_of_id (core_of self.old.book) sheet_id) (λ index. (sheet : Sheet) → slice_get (core_of self.old.book).sheets index ≡ Some sheet
-            → core_of self.new.book ≡ without_sheet index (with_trees (changed_tree (sheet_gone sheet.id sheet.name)) (core_of self.old.book)))) }
-
-        // A sheet's look-up of formulas is there as before where no mention of its formulas changed.
-        ensures looks_up { OnOk result
-            (IfSome (index_of_id (core_of self.old.book) sheet_id)
-            (λ index. LooksUpWithout index self.old self.new)) }
-        ensures refused { Refuses result (refusal_at (index_of_id (core_of self.old.book) sheet_id) (delete_refusal (core_of self.old.book))) }
-        ensures err { OnErr result (self.new ≡ self.old) }
-    {
-        let Some(index) = self.sheets.index_of_id(sheet_id) else {
-            return Err(BookError::SheetNotFound);
-        };
-        self.delete_at(index)
-    }
-
     /// Renames the sheet at an index.
     fn rename_at(&mut self, index: usize, new_name: &str) -> Result<(), BookError>
         ensures ok { OnOk result (self.new.book ≡ book_changed_by (with_renamed_sheet index (chars new_name.now)) self.old.book) }
         ensures core { OnOk result (core_of self.new.book ≡ changed_by (notations_in self.old.book) (with_sheet_name index (chars new_name.now)) (core_of self.old.book)) }
         ensures found { OnOk result (BookKeepsFound (core_of self.old.book) (core_of self.new.book)) }
-        ensures binds { OnOk result ((sheet : Sheet) → slice_get (core_of self.old.book).sheets index ≡ Some sheet
-            → core_of self.new.book ≡ with_sheet_name index (chars new_name.now) (with_trees (changed_tree (sheet_named sheet.id (chars new_name.now))) (core_of self.old.book))) }
+        ensures binds { OnOk result
+            (BindsNamed index (chars new_name.now) self.old.book self.new.book) }
         ensures looks_up { OnOk result (LooksUpNamed index (chars new_name.now) self.old self.new) }
         ensures refused { Refuses result (rename_refusal (core_of self.old.book) index (chars new_name.now)) }
         ensures err { OnErr result (self.new ≡ self.old) }
+        ensures valid { IsValidBook self.old.book }
     {
+        // What always holds of a model is known from here on.
+        let _ = &self.sheets;
         if !is_valid_sheet_name(new_name) {
             return Err(BookError::InvalidSheetName);
         }
@@ -251,11 +273,11 @@ impl<'a> Model<'a> {
     fn delete_at(&mut self, index: usize) -> Result<(), BookError>
         ensures ok { OnOk result (self.new.book ≡ book_changed_by (with_removed_sheet index) self.old.book) }
         ensures core { OnOk result (core_of self.new.book ≡ changed_by (notations_in self.old.book) (without_sheet index) (core_of self.old.book)) }
-        ensures dangles { OnOk result ((sheet : Sheet) → slice_get (core_of self.old.book).sheets index ≡ Some sheet
-            → core_of self.new.book ≡ without_sheet index (with_trees (changed_tree (sheet_gone sheet.id sheet.name)) (core_of self.old.book))) }
+        ensures dangles { OnOk result (DanglesWithout index self.old.book self.new.book) }
         ensures looks_up { OnOk result (LooksUpWithout index self.old self.new) }
         ensures refused { Refuses result (delete_refusal (core_of self.old.book) index) }
         ensures err { OnErr result (self.new ≡ self.old) }
+        ensures valid { IsValidBook self.old.book }
     {
         if self.sheets.len() == 1 {
             return Err(BookError::OnlySheet);

@@ -1,3 +1,5 @@
 pub mod AnswerLemmas
+pub mod CoreLemmas
+pub mod LineLemmas
 pub mod ReplyLemmas
-pub mod StepLemmas
+pub mod ServedCore

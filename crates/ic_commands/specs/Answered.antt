@@ -1,32 +1,60 @@
--- What an answered command does and replies.
-use Rattle.std.specs.Prelude.{◌≡◌, ℕ, List, [], ◌++◌, Some, String, Result, Ok, Err, chars, encode_utf8_all, false, string_bytes}
+-- What an answered command leaves and replies.
+use Rattle.std.specs.Prelude.{◌≡◌, ℕ, List, ◌++◌, Bool, false, true, Option, Some, None, String, Result, Ok, Err, IfOk, OnErr, string_bytes}
 use Rattle.std.specs.declared.alloc.Global.{Global}
-use Rattle.ic_laws.specs.Command.{Command}
-use Rattle.ic_laws.specs.Lines.{command_step, reply_bytes, reply_text}
-use Rattle.ic_laws.specs.Refusal.{Refusal}
-use Rattle.ic_lines.specs.Reading.{has_line_feed}
-use Rattle.ic_book.specs.Book.{ModelState, StepsTo, core_of, notations_in}
-use Rattle.ic_book.specs.Refused.{refusal_of}
+use Rattle.ic_laws.specs.declared.memory.OutOfMemory.{OutOfMemory}
+use Rattle.ic_machine.specs.Book as machine
+use Rattle.ic_machine.specs.Book.{Stepped}
+use Rattle.ic_machine.specs.Command.{Command, command_in, served}
+use Rattle.ic_machine.specs.Readers.{is_reader}
+use Rattle.ic_machine.specs.Reply.{Field, Reply, reply_bytes, reply_text}
+use Rattle.ic_machine.specs.Step.{english_errors}
+use Rattle.ic_words.specs.Reply.{IsLineText}
+use Rattle.ic_book.specs.Book.{IsValidBook, ModelState}
 use Rattle.ic_book.specs.declared.error.BookError.{BookError}
-use Rattle.ic_commands.specs.Effect.{LineDoes}
+use Rattle.ic_book.specs.Does.{DoesStep, Memory}
+use Rattle.ic_book.specs.Served.{served_command_step, served_line_step, served_step}
+use Rattle.ic_book.specs.Whole.{whole_of}
 
--- a text that its bytes spell, without a line feed
-abbrev pub IsLineText : List ℕ → Type 0
-IsLineText text = (chars (encode_utf8_all text) ≡ text) × (has_line_feed text ≡ false)
+-- A refusal leaves all that contracts see of a model as it was, what its formulas are found by too, and so does a command
+-- that only reads.
+abbrev pub Stays : Reply → Command → ModelState → ModelState → Type 0
+Stays (Err refusal) command old new = new ≡ old
+Stays (Ok fields) command old new = is_reader command ≡ true → new ≡ old
 
--- The command made its step of the machine, and the step's reply was put behind a text. The reply is one line. Of the
--- model it did what the command does.
+-- so does a line that is no command
+abbrev pub StaysAfter : Option Command → ModelState → ModelState → Type 0
+StaysAfter None old new = new ≡ old
+StaysAfter (Some command) old new = Stays (served_command_step (whole_of old.book) (Some command)).1 command old new
+
+-- A line left of the whole book what the machine that is served leaves, and this is its reply. What changes nothing left
+-- the model as it was.
+pub record DoesLine (line : List ℕ) (old new : ModelState) (told : List ℕ) : Type 0 where
+  pub book : whole_of new.book ≡ (served_line_step (whole_of old.book) line).0
+  pub reply : told ≡ reply_bytes (served_line_step (whole_of old.book) line).1
+  pub stays : StaysAfter (command_in (english_errors (whole_of old.book)) served line) old new
+
+-- the same without the reply
+pub record LeavesLine (line : List ℕ) (old new : ModelState) : Type 0 where
+  pub book : whole_of new.book ≡ (served_line_step (whole_of old.book) line).0
+  pub stays : StaysAfter (command_in (english_errors (whole_of old.book)) served line) old new
+
+-- The command made its step, and the step's reply, which is one line, was put behind a text.
 pub record IsAnswered (command : Command) (old new : ModelState) (before after : List ℕ) : Type 0 where
-  pub book : StepsTo old.book new.book (command_step (notations_in old.book) (core_of old.book) (Some command)).0
-  pub reply : after ≡ before ++ reply_bytes (command_step (notations_in old.book) (core_of old.book) (Some command)).1
-  pub line : IsLineText (reply_text (command_step (notations_in old.book) (core_of old.book) (Some command)).1)
-  pub does : LineDoes (Some command) old new
+  pub book : whole_of new.book ≡ (served_command_step (whole_of old.book) (Some command)).0
+  pub reply : after ≡ before ++ reply_bytes (served_command_step (whole_of old.book) (Some command)).1
+  pub line : IsLineText (reply_text (served_command_step (whole_of old.book) (Some command)).1)
+  pub stays : StaysAfter (Some command) old new
+  pub valid_before : IsValidBook old.book
+  pub valid_after : IsValidBook new.book
 
--- and these are the texts before and after
-abbrev pub Answers : Command → ModelState → ModelState → String Global → String Global → Type 0
-Answers command old new reply text = IsAnswered command old new (string_bytes reply) (string_bytes text)
+-- What a call did is told: whatever command it did is answered by it, and where the fields take no memory, there is no reply
+-- only where the call left the book as it was.
+pub record Tells {T : Type 0} (fields : T → List Field) (memory : Bool) (done : Result T BookError) (before : List ℕ) (result : Result (String Global) OutOfMemory) : Type 0 where
+  pub ok : (wants : Memory) (command : Command) (old new : ModelState) → DoesStep wants (served_step (whole_of old.book) command) fields done old new
+      → (is_reader command ≡ true → new ≡ old) → IfOk result (λ text. IsAnswered command old new before (string_bytes text))
+  pub err : (wants : Memory) (made : Stepped machine.Book) (old new : ModelState) → memory ≡ false → DoesStep wants made fields done old new → OnErr result (new.book ≡ old.book)
 
--- A call's answer was put behind a text as a reply: `ok`, or the refusal that its error tells.
-abbrev pub IsTold : Result (Unit {0}) BookError → List ℕ → List ℕ → Type 0
-IsTold (Ok done) before after = after ≡ before ++ reply_bytes (Ok [])
-IsTold (Err e) before after = (refusal : Refusal) × (refusal_of e ≡ Some refusal) × (after ≡ before ++ reply_bytes (Err refusal))
+-- The command is answered; where there is no reply, the book is as it was.
+pub record Answers (command : Command) (old new : ModelState) (before : List ℕ) (result : Result (String Global) OutOfMemory) : Type 0 where
+  pub ok : IfOk result (λ text. IsAnswered command old new before (string_bytes text))
+  pub err : OnErr result (new.book ≡ old.book)

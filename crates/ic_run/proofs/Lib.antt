@@ -1,3 +1,4 @@
 pub mod DeskLemmas
 pub mod ProgressLemmas
 pub mod RunLemmas
+pub mod ServedLemmas

@@ -13,9 +13,8 @@ use Rattle.ic_lines.proofs.FeedLemmas.{line_feeds-append, line_feeds-next}
 use Rattle.ic_lines.proofs.ToldLemmas.{IfTold-join, IfTold-weaker}
 use Rattle.ic_book.specs.Book.{Book, IsSameBeside, ModelState, StepsTo, core_of, notations_in}
 use Rattle.ic_words.specs.Served.{served}
-use Rattle.ic_commands.specs.Effect.{LineDoes}
 use Rattle.ic_tree.specs.Notations.{notations_of}
-use Rattle.ic_run.specs.Run.{AppendsReplies, AreRead, HasAnswered, HasPartlyAnswered, HasPartlyReplied, HasReplied, IsAfterLines, Leaves, LinesDo, TakesAll}
+use Rattle.ic_run.specs.Run.{AppendsReplies, AreRead, HasAnswered, HasPartlyAnswered, HasPartlyReplied, HasReplied, IsAfterLines, Leaves, LineDoes, LinesDo, TakesAll}
 use Rattle.ic_run.proofs.RunLemmas.{after-append, next_rest, next_taken, next_within, replies-append}
 
 -- what stays beside two steps
@@ -269,8 +268,8 @@ module _ (old new : Book) (count : ℕ) (reader asked new_reader : Reading) (bef
 -- what lines do to the whole model ----
 
 -- one line after others
-lines_do-append : (lines : List (List ℕ)) (line : List ℕ) (old mid new : ModelState) → LinesDo lines old mid → LineDoes (command_of served line) mid new → LinesDo (lines ++ line ∷ []) old new
-lines_do-append [] line old mid new did does = (new, subst (λ m. LineDoes (command_of served line) m new) did does, refl)
+lines_do-append : (lines : List (List ℕ)) (line : List ℕ) (old mid new : ModelState) → LinesDo lines old mid → LineDoes line mid new → LinesDo (lines ++ line ∷ []) old new
+lines_do-append [] line old mid new did does = (new, subst (λ m. LineDoes line m new) did does, refl)
 lines_do-append (first ∷ lines) line old mid new did does = (did.0, did.1, lines_do-append lines line did.0 mid new did.2 does)
 
 -- the first so many lines of the bytes did
@@ -286,7 +285,7 @@ module _ (old mid : ModelState) (count : ℕ) (reader : Reading) (before now : O
   both = IfTold-and first a (Progress old.book mid.book count reader before now) (Did old mid count) (Unit {0}) p (λ _. did)
 
   -- and the next line
-  pub did_next : (new_reader : Reading) (line : List ℕ) (new : ModelState) → IfTold a b (Next line reader new_reader) → LineDoes (command_of served line) mid new → IfTold first b (Did old new (count + 1))
+  pub did_next : (new_reader : Reading) (line : List ℕ) (new : ModelState) → IfTold a b (Next line reader new_reader) → LineDoes line mid new → IfTold first b (Did old new (count + 1))
   did_next new_reader line new n does =
       IfTold-join first a b (λ x y. Progress old.book mid.book count reader before now x y × (Unit {0} → Did old mid count x y)) (Next line reader new_reader) (Did old new (count + 1))
       (λ bytes x y q k.

@@ -8,7 +8,7 @@ use Rattle.ic_lines.specs.declared.error.RunError.{RunError}
 use Rattle.ic_lines.specs.declared.error.RunError.TheVariants as run
 use Rattle.ic_book.specs.declared.error.BookError.{BookError}
 use Rattle.ic_book.specs.declared.error.BookError.TheVariants as book
-use Rattle.ic_book.specs.Book.{first_sheet_name_in, new_book_refusal}
+use Rattle.ic_book.specs.Book.{Book, first_sheet_name_in, new_book, new_book_refusal}
 
 -- the locale, the language and the zone that the program begins with
 pub record Setting : Type 0 where
@@ -34,6 +34,10 @@ start setting = record {
   locale = setting.locale;
   language = setting.language;
 }
+
+-- and the book itself, which was made at this moment
+abbrev pub start_book : Setting → List ℕ → TableSet → Book
+start_book setting created tables = new_book (codes "workbook") setting.locale setting.zone setting.language created tables
 
 -- what of these the tables lack
 abbrev pub start_refusal : Setting → TableSet → Option Refusal

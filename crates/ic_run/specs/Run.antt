@@ -1,15 +1,19 @@
 -- What a run of lines leaves and writes, at its end and after an error.
 use Rattle.std.specs.Prelude.{◌≡◌, ℕ, ◌+◌, ◌<◌, ◌≤◌, ◌⊎◌, List, [], ◌∷◌, ◌++◌, length, take, Option}
 use Rattle.ic_laws.specs.CoreBook.{CoreBook}
-use Rattle.ic_laws.specs.Lines.{texts_of, after, command_of, replies}
+use Rattle.ic_laws.specs.Lines.{after, line_step, replies, reply_bytes, texts_of}
 use Rattle.ic_laws.specs.Notations.{Notations}
 use Rattle.ic_lines.specs.Bytes.{IfTold}
 use Rattle.ic_lines.specs.Reading.{line_feeds}
 use Rattle.ic_lines.specs.declared.error.RunError.{RunError}
 use Rattle.ic_lines.specs.declared.error.RunError.TheVariants as errors
+use Rattle.ic_machine.specs.Book as machine
+use Rattle.ic_machine.specs.Run as runs
+use Rattle.ic_book.specs.Served.{served_machine}
+use Rattle.ic_book.specs.Whole.{whole_of}
 use Rattle.ic_book.specs.Book.{Book, ModelState, StepsTo, core_of, notations_in}
 use Rattle.ic_words.specs.Served.{served}
-use Rattle.ic_commands.specs.Effect.{LineDoes}
+use Rattle.ic_commands.specs.Answered.{LeavesLine}
 
 -- a whole run: nothing is left of the bytes, their lines are counted, and the book is the one that the machine leaves
 pub record TakesAll (old new : Book) (lines : ℕ) (bytes left : List ℕ) : Type 0 where
@@ -17,10 +21,25 @@ pub record TakesAll (old new : Book) (lines : ℕ) (bytes left : List ℕ) : Typ
   pub count : lines ≡ length (texts_of bytes)
   pub book : StepsTo old new (after (notations_in old) served (core_of old) (texts_of bytes))
 
--- lines one after another, each of which does to all that contracts see of a model what its command does
+-- A line left of the whole book what the machine that is served leaves, and that has one reply with the core machine. What
+-- changes nothing left the model as it was.
+pub record LineDoes (line : List ℕ) (old new : ModelState) : Type 0 where
+  pub leaves : LeavesLine line old new
+  pub steps : StepsTo old.book new.book (line_step (notations_in old.book) served (core_of old.book) line).0
+  pub tells : (served_machine (whole_of old.book) line).1 ≡ reply_bytes (line_step (notations_in old.book) served (core_of old.book) line).1
+
+-- lines one after another, each of which does so
 abbrev pub LinesDo : List (List ℕ) → ModelState → ModelState → Type 0
 LinesDo [] old new = new ≡ old
-LinesDo (line ∷ lines) old new = (mid : ModelState) × LineDoes (command_of served line) old mid × LinesDo lines mid new
+LinesDo (line ∷ lines) old new = (mid : ModelState) × LineDoes line old mid × LinesDo lines mid new
+
+-- the whole book is the one that the machine which is served leaves after the lines of the bytes
+abbrev pub IsServed : Book → Book → List ℕ → List ℕ → Type 0
+IsServed old new bytes left = whole_of new ≡ runs.after served_machine (whole_of old) (texts_of bytes)
+
+-- its replies to them, from a whole book, stand after what was written before
+abbrev pub AppendsServed : machine.Book → List ℕ → List ℕ → List ℕ → Type 0
+AppendsServed whole bytes before now = now ≡ before ++ runs.replies served_machine whole (texts_of bytes)
 
 -- the machine's replies to the lines of the bytes stand after what was written before
 abbrev pub AppendsReplies : Notations → CoreBook → List ℕ → List ℕ → List ℕ → Type 0
@@ -81,3 +100,7 @@ HasCause read write turns errors.ReadFault = read
 HasCause read write turns errors.WriteFault = write
 HasCause read write turns errors.TooManyTurns = turns
 HasCause read write turns errors.OutOfMemory = Unit {0}
+
+-- the replies of the machine that is served, from the whole of a book that was made at some moment
+abbrev pub AppendsServedFrom : (List ℕ → Book) → List ℕ → List ℕ → List ℕ → Type 0
+AppendsServedFrom book bytes before now = (created : List ℕ) × AppendsServed (whole_of (book created)) bytes before now

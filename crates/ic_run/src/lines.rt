@@ -1,10 +1,10 @@
 ghost use Rattle.std.specs.Prelude.{◌≡◌, ◌⊎◌, ◌+◌, ◌++◌, ◌<◌, ◌≤◌, ◌^◌, true, Err, length, IfOk, IfErr, IsSomeAnd, OnOk};
-ghost use Rattle.ic_laws.specs.Lines.{command_of, line_step, reply_bytes, texts_of};
+ghost use Rattle.ic_laws.specs.Lines.{line_step, reply_bytes, texts_of};
 ghost use Rattle.ic_lines.specs.Bytes.{AppendsFront, HasFault, IfTold};
 ghost use Rattle.ic_book.specs.Book.{StepsTo, core_of, notations_in};
 ghost use Rattle.ic_words.specs.Served.{served};
-ghost use Rattle.ic_commands.specs.Effect.{LineDoes};
-ghost use Rattle.ic_run.specs.Run.{AppendsReplies, HasCause, Leaves, LinesDo, TakesAll};
+ghost use Rattle.ic_book.specs.Whole.{whole_of};
+ghost use Rattle.ic_run.specs.Run.{AppendsReplies, AppendsServed, HasCause, IsServed, Leaves, LineDoes, LinesDo, TakesAll};
 
 use ic_book::Model;
 use ic_commands::reply_to;
@@ -29,8 +29,13 @@ pub fn run<S: Source, K: Sink>(
     ensures replies { OnOk result (IfTold (S.left source.old) (S.left source.new) (λ bytes _.
         IfTold (K.written sink.old) (K.written sink.new) (AppendsReplies (notations_in model.old.book) (core_of model.old.book) bytes))) }
 
-    // Each line did to the whole model, its formulas and their look-ups too, what its command does; one that is no
-    // command, is refused or only asks left all as it was.
+    // So it is with the whole book, by the machine that is served, its replies too.
+    ensures whole { OnOk result (IfTold (S.left source.old) (S.left source.new) (IsServed model.old.book model.new.book)) }
+    ensures served { OnOk result (IfTold (S.left source.old) (S.left source.new) (λ bytes _.
+        IfTold (K.written sink.old) (K.written sink.new) (AppendsServed (whole_of model.old.book) bytes))) }
+
+    // Each line did so; one that is no command, is refused or only asks left all that a model is as it was, the look-ups
+    // of its formulas too.
     ensures does { OnOk result (IfTold (S.left source.old) (S.left source.new)
         (λ bytes _. LinesDo (texts_of bytes) model.old model.new)) }
 
@@ -76,7 +81,7 @@ fn answer_to<K: Sink>(
     ensures book { OnOk result (StepsTo model.old.book model.new.book (line_step (notations_in model.old.book) served (core_of model.old.book) line.now).0) }
     ensures reply { OnOk result (IfTold (K.written sink.old) (K.written sink.new)
         (λ before now. now ≡ before ++ reply_bytes (line_step (notations_in model.old.book) served (core_of model.old.book) line.now).1)) }
-    ensures does { OnOk result (LineDoes (command_of served line.now) model.old model.new) }
+    ensures does { OnOk result (LineDoes line.now model.old model.new) }
     ensures which { IfErr result (λ e. (e ≡ RunError.OutOfMemory) ⊎ (e ≡ RunError.WriteFault)) }
     ensures no_memory { result ≡ Err RunError.OutOfMemory → (model.new.book ≡ model.old.book) × (sink.new ≡ sink.old) }
     ensures write_fault { result ≡ Err RunError.WriteFault → HasFault (K.faults sink.old) (K.faults sink.new)

@@ -1,8 +1,8 @@
 ghost use Rattle.std.specs.Prelude.{◌≡◌, ◌⊎◌, ◌↔◌, ◌+◌, ◌<◌, ◌≤◌, ◌^◌, [], true, Err, length, option_map, IfSome, IsNone, IsSome, IsSomeAnd};
 ghost use Rattle.ic_lines.specs.Bytes.{IfTold, HasFault};
-ghost use Rattle.ic_run.specs.Desk.{setting_of, start, start_refusal, start_status, run_status, texts};
+ghost use Rattle.ic_run.specs.Desk.{setting_of, start, start_book, start_refusal, start_status, run_status, texts};
 ghost use Rattle.ic_run.specs.Start.{setting};
-ghost use Rattle.ic_run.specs.Run.{AppendsReplies, LeavesReplies};
+ghost use Rattle.ic_run.specs.Run.{AppendsReplies, AppendsServedFrom, LeavesReplies};
 ghost use Rattle.ic_tree.specs.Notations.{notations_of};
 
 use crate::lines::run;
@@ -40,6 +40,10 @@ pub fn desk<S: Source, K: Sink>(
     ensures taken { result ≡ 0 → IfTold (S.left source.old) (S.left source.new) (λ bytes left. left ≡ []) }
     ensures replies { result ≡ 0 → IsSomeAnd (setting_of (texts words.now)) (λ setting. IfTold (S.left source.old) (S.left source.new) (λ bytes _.
         IfTold (K.written sink.old) (K.written sink.new) (AppendsReplies (notations_of tables.now) (start setting) bytes))) }
+
+    // So were those of the machine that is served, from the whole book.
+    ensures served { result ≡ 0 → IsSomeAnd (setting_of (texts words.now)) (λ setting. IfTold (S.left source.old) (S.left source.new) (λ bytes _.
+        IfTold (K.written sink.old) (K.written sink.new) (AppendsServedFrom (λ created. start_book setting created tables.now) bytes))) }
 
     // Each other status has its cause; that memory ran out may come in place of all but 1 and 2.
     ensures usage { (result ≡ 1) ↔ IsNone (setting_of (texts words.now)) }

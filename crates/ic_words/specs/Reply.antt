@@ -1,10 +1,10 @@
 -- The room for replies, and the fields and the text of a reply.
-use Rattle.std.specs.Prelude.{◌≡◌, ℕ, List, [], ◌∷◌, false, true, Option, Some, None, String, chars, encode_utf8_all, flat_map, string_bytes}
+use Rattle.std.specs.Prelude.{◌≡◌, ℕ, List, [], ◌∷◌, Option, String, chars, encode_utf8_all, flat_map, false, option_map, string_bytes, true}
 use Rattle.std.specs.List.{AllByRecursion}
 use Rattle.std.specs.declared.alloc.Global.{Global}
 use lib.Utf8.{scalars}
 use Rattle.ic_lines.specs.Reading.{has_line_feed}
-use Rattle.ic_machine.specs.Reply.{Field, NumberField, TextField, field_text}
+use Rattle.ic_machine.specs.Reply.{Field, NumberField, TextField, field_text, optional_text_field}
 
 -- the bytes for which there is room before a reply without a field is written
 abbrev pub reply_room : ℕ
@@ -29,8 +29,7 @@ scope_field number = NumberField number ∷ []
 
 -- a text, where there is one
 abbrev pub string_field : Option (String Global) → List Field
-string_field None = []
-string_field (Some text) = TextField (chars (string_bytes text)) ∷ []
+string_field text = optional_text_field (option_map (λ s. chars (string_bytes s)) text)
 
 -- a listed definition: its name, the index of the sheet that it is for, or none, and its body
 abbrev pub name_fields : String Global × Option ℕ × String Global → List Field

@@ -25,3 +25,6 @@ returns-clause-reply c =
     c.whole.ensures
     ∙ cut_reply said (string_bytes reply) _ (string_len reply) c.in_ok-reply.ensures.line c.in_ok-reply.ensures.reply is_len
     (c.pop.ensures.ascii_bytes (some_byte front _ _ c.in_ok-reply.ensures.reply is_len) (last_byte front _ _ c.in_ok-reply.ensures.reply is_len))
+
+pub returns-clause-whole : goal.returns-clause-whole
+returns-clause-whole c = record { book = c.in_ok-reply.ensures.whole.book; stays = c.in_ok-reply.ensures.whole.stays }

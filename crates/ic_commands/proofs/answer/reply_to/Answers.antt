@@ -1,16 +1,82 @@
-use Rattle.std.proofs.Common.{◌≡◌, None, ap, option_map, subst, sym, ◌∙◌}
-use Rattle.ic_laws.specs.Lines.{command_of, command_step, reply_text}
-use Rattle.ic_laws.specs.Refusal.{BadLine}
-use Rattle.ic_book.specs.Book.{core_of, notations_in}
+use Rattle.std.proofs.Common.{◌≡◌, ◌++◌, ℕ, List, [], Err, None, Some, ap, chars, option_map, string_bytes, subst, sym, ◌∙◌}
+use Rattle.std.proofs.lemmas.Result.{IfOk-weaker}
+use Rattle.ic_machine.specs.Command.{command_in, served}
+use Rattle.ic_machine.specs.Refusal.{BadLine}
+use Rattle.ic_machine.specs.Reply.{reply_bytes}
 use Rattle.ic_words.specs.Command.{command_meant}
-use Rattle.ic_words.specs.Served.{served}
-use Rattle.ic_commands.specs.Answered.{IsLineText}
-use Rattle.ic_commands.proofs.ReplyLemmas.{refusal_line}
+use Rattle.ic_commands.specs.Answered.{IsAnswered}
+use Rattle.ic_commands.proofs.AnswerLemmas.{on_ok}
+use Rattle.ic_commands.proofs.LineLemmas.{bad_answered, bad_done, line_answered, line_done}
 use Rattle.ic_commands.proofs.answer.reply_to.Goals as goal
+
+pub returns-in-Some-clause-reply : goal.returns-in-Some-clause-reply
+returns-in-Some-clause-reply c =
+    let line = c.args.line.now in
+    let command = command_meant c.in-Some.command in
+    let is : (english : List (List ℕ)) → Some command ≡ command_in english served line = λ english.
+    ap (option_map command_meant) (sym c.in-Some.is) ∙ c.in_ok-command.ensures.exact english ∙ ap (command_in english served) (c.as_str.ensures.characters ∙ c.text.ensures.same) in
+    let old = c.args.model.now in
+    let new = c.answer.new.model in
+    IfOk-weaker c.answer.result _ _ (λ text a. (line_answered line command old new (string_bytes text) is (subst (λ before. IsAnswered command old new before (string_bytes text)) c.in_ok-reply.ensures.bytes a)).reply) c.answer.ensures.ok
+
+pub returns-in-Some-clause-line : goal.returns-in-Some-clause-line
+returns-in-Some-clause-line c =
+    let line = c.args.line.now in
+    let command = command_meant c.in-Some.command in
+    let is : (english : List (List ℕ)) → Some command ≡ command_in english served line = λ english.
+    ap (option_map command_meant) (sym c.in-Some.is) ∙ c.in_ok-command.ensures.exact english ∙ ap (command_in english served) (c.as_str.ensures.characters ∙ c.text.ensures.same) in
+    let old = c.args.model.now in
+    let new = c.answer.new.model in
+    IfOk-weaker c.answer.result _ _ (λ text a. (line_answered line command old new (string_bytes text) is (subst (λ before. IsAnswered command old new before (string_bytes text)) c.in_ok-reply.ensures.bytes a)).line) c.answer.ensures.ok
+
+pub returns-in-Some-clause-book : goal.returns-in-Some-clause-book
+returns-in-Some-clause-book c =
+    let line = c.args.line.now in
+    let command = command_meant c.in-Some.command in
+    let is : (english : List (List ℕ)) → Some command ≡ command_in english served line = λ english.
+    ap (option_map command_meant) (sym c.in-Some.is) ∙ c.in_ok-command.ensures.exact english ∙ ap (command_in english served) (c.as_str.ensures.characters ∙ c.text.ensures.same) in
+    let old = c.args.model.now in
+    let new = c.answer.new.model in
+    on_ok c.answer.result c.answer.ensures.ok (λ text a. (line_answered line command old new (string_bytes text) is (subst (λ before. IsAnswered command old new before (string_bytes text)) c.in_ok-reply.ensures.bytes a)).book)
+
+pub returns-in-Some-clause-whole : goal.returns-in-Some-clause-whole
+returns-in-Some-clause-whole c =
+    let line = c.args.line.now in
+    let command = command_meant c.in-Some.command in
+    let is : (english : List (List ℕ)) → Some command ≡ command_in english served line = λ english.
+    ap (option_map command_meant) (sym c.in-Some.is) ∙ c.in_ok-command.ensures.exact english ∙ ap (command_in english served) (c.as_str.ensures.characters ∙ c.text.ensures.same) in
+    let old = c.args.model.now in
+    let new = c.answer.new.model in
+    IfOk-weaker c.answer.result _ _ (λ text a. line_done line command old new (string_bytes text) is (subst (λ before. IsAnswered command old new before (string_bytes text)) c.in_ok-reply.ensures.bytes a)) c.answer.ensures.ok
+
+pub returns-in-None-clause-reply : goal.returns-in-None-clause-reply
+returns-in-None-clause-reply c =
+    let line = c.args.line.now in
+    let is : (english : List (List ℕ)) → None ≡ command_in english served line = λ english.
+    ap (option_map command_meant) (sym c.in-None.is) ∙ c.in_ok-command.ensures.exact english ∙ ap (command_in english served) (c.as_str.ensures.characters ∙ c.text.ensures.same) in
+    let told = c.error_reply.ensures.refusal BadLine c.name.ensures ∙ ap (λ before. before ++ reply_bytes (Err BadLine)) c.in_ok-reply.ensures.bytes in
+    (bad_answered line c.args.model.now (string_bytes c.error_reply.result) is told).reply
 
 pub returns-in-None-clause-line : goal.returns-in-None-clause-line
 returns-in-None-clause-line c =
-    let book = c.args.model.now.book in
-    let none : command_of served c.args.line.now ≡ None =
-    sym (ap (command_of served) (c.as_str.ensures.characters ∙ c.text.ensures.same)) ∙ sym c.in_ok-command.ensures ∙ ap (option_map command_meant) c.in-None.is in
-    subst (λ o. IsLineText (reply_text (command_step (notations_in book) (core_of book) o).1)) (sym none) (refusal_line BadLine)
+    let line = c.args.line.now in
+    let is : (english : List (List ℕ)) → None ≡ command_in english served line = λ english.
+    ap (option_map command_meant) (sym c.in-None.is) ∙ c.in_ok-command.ensures.exact english ∙ ap (command_in english served) (c.as_str.ensures.characters ∙ c.text.ensures.same) in
+    let told = c.error_reply.ensures.refusal BadLine c.name.ensures ∙ ap (λ before. before ++ reply_bytes (Err BadLine)) c.in_ok-reply.ensures.bytes in
+    (bad_answered line c.args.model.now (string_bytes c.error_reply.result) is told).line
+
+pub returns-in-None-clause-book : goal.returns-in-None-clause-book
+returns-in-None-clause-book c =
+    let line = c.args.line.now in
+    let is : (english : List (List ℕ)) → None ≡ command_in english served line = λ english.
+    ap (option_map command_meant) (sym c.in-None.is) ∙ c.in_ok-command.ensures.exact english ∙ ap (command_in english served) (c.as_str.ensures.characters ∙ c.text.ensures.same) in
+    let told = c.error_reply.ensures.refusal BadLine c.name.ensures ∙ ap (λ before. before ++ reply_bytes (Err BadLine)) c.in_ok-reply.ensures.bytes in
+    (bad_answered line c.args.model.now (string_bytes c.error_reply.result) is told).book
+
+pub returns-in-None-clause-whole : goal.returns-in-None-clause-whole
+returns-in-None-clause-whole c =
+    let line = c.args.line.now in
+    let is : (english : List (List ℕ)) → None ≡ command_in english served line = λ english.
+    ap (option_map command_meant) (sym c.in-None.is) ∙ c.in_ok-command.ensures.exact english ∙ ap (command_in english served) (c.as_str.ensures.characters ∙ c.text.ensures.same) in
+    let told = c.error_reply.ensures.refusal BadLine c.name.ensures ∙ ap (λ before. before ++ reply_bytes (Err BadLine)) c.in_ok-reply.ensures.bytes in
+    bad_done line c.args.model.now (string_bytes c.error_reply.result) is told

@@ -6,6 +6,7 @@ use Rattle.ic_lines.proofs.ToldLemmas.{IfTold-join}
 use Rattle.ic_run.specs.Run.{Leaves}
 use Rattle.ic_run.proofs.ProgressLemmas.{Next, Progress, Progress-step, all_did, all_replied_told, did_next, leaves_at_line, leaves_at_reader, next_told, takes_all_told}
 use Rattle.ic_run.proofs.RunLemmas.{IfErr-given, IsSome-is}
+use Rattle.ic_run.proofs.ServedLemmas.{appends_served, is_served}
 use Rattle.ic_run.proofs.lines.run.Goals as goal
 
 pub returns-in_err-line-clause-front : goal.returns-in_err-line-clause-front
@@ -102,3 +103,25 @@ returns-clause-does g c =
     let h = c.in_ok-line.ensures in
     all_did c.args.model.now c.lines.model c.lines.count before (g.K.Sink.written c.args.sink.now) (g.K.Sink.written c.lines.sink) _ _ _ c.lines.invariant.done c.lines.invariant.did h.taken.0 after h.taken.1
     (subst (λ o. IfTold (left c.lines.source) (left c.next_line.new.source) (λ a b. GivesLine o (unread before a) (unread after b))) c.in_default.is h.line)
+
+pub returns-clause-whole : goal.returns-clause-whole
+returns-clause-whole g c =
+    let left = g.S.Source.left in
+    let before = c.lines.reader in
+    let after = c.next_line.new.self in
+    let h = c.in_ok-line.ensures in
+    is_served (left c.args.source.now) (left c.next_line.new.source) c.args.model.now c.lines.model
+    (all_did c.args.model.now c.lines.model c.lines.count before (g.K.Sink.written c.args.sink.now) (g.K.Sink.written c.lines.sink) _ _ _ c.lines.invariant.done c.lines.invariant.did h.taken.0 after h.taken.1
+    (subst (λ o. IfTold (left c.lines.source) (left c.next_line.new.source) (λ a b. GivesLine o (unread before a) (unread after b))) c.in_default.is h.line))
+
+pub returns-clause-served : goal.returns-clause-served
+returns-clause-served g c =
+    let left = g.S.Source.left in
+    let written = g.K.Sink.written in
+    let before = c.lines.reader in
+    let after = c.next_line.new.self in
+    let h = c.in_ok-line.ensures in
+    let gives = subst (λ o. IfTold (left c.lines.source) (left c.next_line.new.source) (λ a b. GivesLine o (unread before a) (unread after b))) c.in_default.is h.line in
+    appends_served (left c.args.source.now) (left c.next_line.new.source) (written c.args.sink.now) (written c.lines.sink) c.args.model.now c.lines.model
+    (all_did c.args.model.now c.lines.model c.lines.count before (written c.args.sink.now) (written c.lines.sink) _ _ _ c.lines.invariant.done c.lines.invariant.did h.taken.0 after h.taken.1 gives)
+    (all_replied_told c.args.model.now.book c.lines.model.book c.lines.count before h.taken.0 after (written c.args.sink.now) (written c.lines.sink) _ _ _ c.lines.invariant.done h.taken.1 gives)

@@ -1,10 +1,13 @@
-use Rattle.std.proofs.Common.{◌∙◌, sym, subst, IsSomeAnd}
+use Rattle.std.proofs.Common.{◌≡◌, ◌∙◌, ap, codes, sym, subst, IsSomeAnd}
 use Rattle.ic_lines.specs.Bytes.{IfTold}
-use Rattle.ic_book.specs.Book.{Book, core_of, notations_in}
-use Rattle.ic_run.specs.Desk.{Setting, start}
-use Rattle.ic_run.specs.Run.{AppendsReplies, LeavesReplies}
+use Rattle.ic_book.specs.Book.{Book, core_of, new_book, notations_in}
+use Rattle.ic_book.specs.Whole.{whole_of}
+use Rattle.ic_run.specs.Desk.{Setting, start, start_book}
+use Rattle.ic_run.specs.Start.{setting}
+use Rattle.ic_run.specs.Run.{AppendsReplies, AppendsServed, AppendsServedFrom, LeavesReplies}
 use Rattle.ic_tree.specs.Notations.{notations_of}
 use Rattle.ic_run.proofs.DeskLemmas.{all_taken, leaves_replies_told, on_ok_at_0}
+use Rattle.ic_run.proofs.ServedLemmas.{some_moment, workbook}
 use Rattle.ic_run.proofs.program.desk.Goals as goal
 
 pub returns-in-Ok-clause-taken : goal.returns-in-Ok-clause-taken
@@ -29,3 +32,16 @@ returns-in-Ok-clause-stopped g c e stopped =
     let told : Told c.in-Ok.model.book =
     leaves_replies_told c.run.result e c.in-Ok.model.book c.run.new.model.book (left c.args.source.now) (left c.run.new.source) (written c.args.sink.now) (written c.run.new.sink) (sym c.status_of.ensures ∙ stopped) c.run.ensures.front in
     subst (λ o. IsSomeAnd o Wanted) c.in-Some.ensures (subst Told c.in-Ok.ensures.start told)
+
+pub returns-in-Ok-clause-served : goal.returns-in-Ok-clause-served
+returns-in-Ok-clause-served g c at_0 =
+    let left = g.S.Source.left in
+    let written = g.K.Sink.written in
+    let book = c.in-Ok.model.book in
+    let tables = c.args.tables.now in
+    let Told : Book → Type 0 = λ b. IfTold (left c.args.source.now) (left c.run.new.source) (λ bytes _. IfTold (written c.args.sink.now) (written c.run.new.sink) (AppendsServed (whole_of b) bytes)) in
+    let Wanted : Setting → Type 0 = λ s. IfTold (left c.args.source.now) (left c.run.new.source) (λ bytes _. IfTold (written c.args.sink.now) (written c.run.new.sink) (AppendsServedFrom (λ created. start_book s created tables) bytes)) in
+    let told : Told book = on_ok_at_0 c.run.result (Told book) c.run.ensures.served (sym c.status_of.ensures ∙ at_0) in
+    subst (λ o. IsSomeAnd o Wanted) c.in-Some.ensures
+    (some_moment (left c.args.source.now) (left c.run.new.source) (written c.args.sink.now) (written c.run.new.sink) (λ created. start_book (setting c.in-Some.start) created tables) book.created
+    (subst Told (c.in-Ok.ensures.start ∙ workbook _ _ _ book.created tables) told))

@@ -1,35 +1,7 @@
-use Rattle.std.proofs.Common.{ap, chars, position, subst, sym, ◌∙◌}
-use Rattle.ic_laws.specs.CoreStep.{is_named}
-use Rattle.ic_book.specs.Book.{ModelState, core_of}
-use Rattle.ic_book.specs.Refused.{Refuses}
-use Rattle.ic_book.proofs.HeldLemmas.{no_memory}
-use Rattle.ic_book.proofs.NameHeld.{it_goes, undefined_book, undefined_core, undefined_dangles, undefined_held, undefined_looks_up}
-use Rattle.ic_book.proofs.NameLemmas.{no_name}
+use Rattle.std.proofs.Common.{chars}
+use Rattle.ic_book.proofs.DoesLemmas.{undefines}
 use Rattle.ic_book.proofs.model.Model.delete_defined_name.Goals as goal
 
-pub returns-in_default-index_of-clause-refused : goal.returns-in_default-index_of-clause-refused
-returns-in_default-index_of-clause-refused c =
-    no_name (core_of c.args.self.now.book) (chars c.args.name.now) c.args.scope c.in-Some.id (sym c.scope_id.ensures ∙ c.in-Some.is)
-    (ap (λ (m : ModelState). position (is_named (chars c.args.name.now) c.in-Some.id) (core_of m.book).definitions) (sym c.self.view_is) ∙ sym c.index_of.ensures ∙ c.in_default-index_of.is)
-
-pub returns-in_err-delete_at-clause-refused : goal.returns-in_err-delete_at-clause-refused
-returns-in_err-delete_at-clause-refused c =
-    subst (Refuses c.from_residual.result) (sym (it_goes c.self.inside.name c.self.inside.sheets c.self.inside.names c.self.inside.locale.now c.self.inside.language.now c.self.inside.zone c.self.inside.created c.self.inside.tables.now c.self.invariant c.args.self.now c.self.view_is (chars c.args.name.now) c.args.scope c.in-Some.id (sym c.scope_id.ensures ∙ c.in-Some.is) c.in-Some-index_of.index (sym c.index_of.ensures ∙ c.in-Some-index_of.is))) (no_memory c.from_residual.result c.from_residual.ensures)
-
-pub invariant_of-self-2 : goal.invariant_of-self-2
-invariant_of-self-2 c = undefined_held c.self.inside.name c.self.inside.sheets c.self.inside.names c.self.inside.locale.now c.self.inside.language.now c.self.inside.zone c.self.inside.created c.self.inside.tables.now c.self.invariant c.args.self.now c.self.view_is (chars c.args.name.now) c.args.scope c.in-Some.id (sym c.scope_id.ensures ∙ c.in-Some.is) c.in-Some-index_of.index (sym c.index_of.ensures ∙ c.in-Some-index_of.is) c.delete_at.new.sheets c.delete_at.new.names c.in_ok-delete_at.ensures.sheets c.in_ok-delete_at.ensures.names
-
-pub returns-clause-ok : goal.returns-clause-ok
-returns-clause-ok c = undefined_book c.self.inside.name c.self.inside.sheets c.self.inside.names c.self.inside.locale.now c.self.inside.language.now c.self.inside.zone c.self.inside.created c.self.inside.tables.now c.self.invariant c.args.self.now c.self.view_is (chars c.args.name.now) c.args.scope c.in-Some.id (sym c.scope_id.ensures ∙ c.in-Some.is) c.in-Some-index_of.index (sym c.index_of.ensures ∙ c.in-Some-index_of.is) c.delete_at.new.sheets c.delete_at.new.names c.in_ok-delete_at.ensures.sheets c.in_ok-delete_at.ensures.names
-
-pub returns-clause-core : goal.returns-clause-core
-returns-clause-core c = undefined_core c.self.inside.name c.self.inside.sheets c.self.inside.names c.self.inside.locale.now c.self.inside.language.now c.self.inside.zone c.self.inside.created c.self.inside.tables.now c.self.invariant c.args.self.now c.self.view_is (chars c.args.name.now) c.args.scope c.in-Some.id (sym c.scope_id.ensures ∙ c.in-Some.is) c.in-Some-index_of.index (sym c.index_of.ensures ∙ c.in-Some-index_of.is) c.delete_at.new.sheets c.delete_at.new.names c.in_ok-delete_at.ensures.sheets c.in_ok-delete_at.ensures.names
-
-pub returns-clause-dangles : goal.returns-clause-dangles
-returns-clause-dangles c = undefined_dangles c.self.inside.name c.self.inside.sheets c.self.inside.names c.self.inside.locale.now c.self.inside.language.now c.self.inside.zone c.self.inside.created c.self.inside.tables.now c.self.invariant c.args.self.now c.self.view_is (chars c.args.name.now) c.args.scope c.in-Some.id (sym c.scope_id.ensures ∙ c.in-Some.is) c.in-Some-index_of.index (sym c.index_of.ensures ∙ c.in-Some-index_of.is) c.delete_at.new.sheets c.delete_at.new.names c.in_ok-delete_at.ensures.sheets c.in_ok-delete_at.ensures.names
-
-pub returns-clause-refused : goal.returns-clause-refused
-returns-clause-refused c = it_goes c.self.inside.name c.self.inside.sheets c.self.inside.names c.self.inside.locale.now c.self.inside.language.now c.self.inside.zone c.self.inside.created c.self.inside.tables.now c.self.invariant c.args.self.now c.self.view_is (chars c.args.name.now) c.args.scope c.in-Some.id (sym c.scope_id.ensures ∙ c.in-Some.is) c.in-Some-index_of.index (sym c.index_of.ensures ∙ c.in-Some-index_of.is)
-
-pub returns-clause-looks_up : goal.returns-clause-looks_up
-returns-clause-looks_up c = undefined_looks_up c.self.inside.name c.self.inside.sheets c.self.inside.names c.self.inside.locale.now c.self.inside.language.now c.self.inside.zone c.self.inside.created c.self.inside.tables.now c.self.invariant c.args.self.now c.self.view_is (chars c.args.name.now) c.args.scope c.in-Some.id (sym c.scope_id.ensures ∙ c.in-Some.is) c.in-Some-index_of.index (sym c.index_of.ensures ∙ c.in-Some-index_of.is) c.delete_at.new.sheets c.in_ok-delete_at.ensures.looks_up
+pub returns-clause-does : goal.returns-clause-does
+returns-clause-does c =
+    undefines c.undefine.result c.args.self.now c.undefine.new.self c.undefine.ensures.valid c.undefine.ensures.err (chars c.args.name.now) c.args.scope c.undefine.ensures.ok c.undefine.ensures.refused

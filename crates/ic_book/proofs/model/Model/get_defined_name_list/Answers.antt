@@ -1,12 +1,5 @@
-use Rattle.std.proofs.Common.{List, ap, flat_map, ◌∙◌}
-use Rattle.std.proofs.lemmas.List.{take_all}
-use Rattle.ic_laws.specs.CoreBook.{Definition}
-use Rattle.ic_book.specs.Book.{ModelState, core_of, notations_in}
-use Rattle.ic_book.specs.Names.{listed_definition}
+use Rattle.ic_book.proofs.DoesLemmas.{lists}
 use Rattle.ic_book.proofs.model.Model.get_defined_name_list.Goals as goal
 
-pub returns-clause-list : goal.returns-clause-list
-returns-clause-list c =
-    c.loop-definition.invariant
-    ∙ ap (λ (ds : List Definition). flat_map (listed_definition (notations_in c.args.self.now.book) (core_of c.args.self.now.book)) ds) (take_all c.loop-definition.definition-index c.as_slice-definitions.result.now c.loop-definition-test.false ∙ c.as_slice-definitions.ensures)
-    ∙ ap (λ (m : ModelState). flat_map (listed_definition (notations_in c.args.self.now.book) (core_of c.args.self.now.book)) (core_of m.book).definitions) c.self.view_is
+pub returns : goal.returns
+returns c = record { does = lists c.args.self.now c.listed_definitions.ensures.valid c.listed_definitions.result c.listed_definitions.ensures.list c.listed_definitions.ensures.refused }

@@ -1,7 +1,8 @@
 use Rattle.std.proofs.Common.{ap, ap₂, ◌∙◌, subst, All, IfSome, ◌<◌}
 use Rattle.std.specs.Prelude.{max}
 use Rattle.ic_laws.specs.CoreBook.{fresh_id, used_ids}
-use Rattle.ic_book.specs.Book.{ModelState, core_of}
+use Rattle.ic_book.specs.Book.{IsValidBook, ModelState, core_of}
+use Rattle.ic_book.proofs.DoesLemmas.{tells_id}
 use Rattle.ic_book.proofs.HeldLemmas.{greatest_is, next_is, next_of}
 use Rattle.ic_book.proofs.StartLemmas.{above_all}
 use Rattle.ic_book.proofs.model.Model.get_new_sheet_id.Goals as goal
@@ -16,3 +17,6 @@ pub returns-clause-unused : goal.returns-clause-unused
 returns-clause-unused c =
     subst (λ (m : ModelState). IfSome c.checked_add.result (λ id. All (λ used. used < id) (used_ids (core_of m.book)))) c.self.view_is
     (above_all c.checked_add.result c.max-greatest.result _ c.checked_add.ensures (c.max-greatest.ensures ∙ ap₂ max c.greatest_id.ensures c.greatest_scope.ensures ∙ greatest_is c.self.inside.name c.self.inside.sheets c.self.inside.names c.self.inside.locale.now c.self.inside.language.now c.self.inside.zone c.self.inside.created c.self.inside.tables.now c.self.invariant))
+
+pub returns-clause-does : goal.returns-clause-does
+returns-clause-does c = tells_id c.args.self.now (subst (λ (m : ModelState). IsValidBook m.book) c.self.view_is c.self.invariant.valid) c.checked_add.result (returns-clause-fresh c)

@@ -1,39 +1,6 @@
-use Rattle.std.proofs.Common.{map, sym, ap, subst, ◌∙◌}
-use Rattle.ic_laws.specs.BookTrees.{IsMoved}
-use Rattle.ic_laws.specs.CoreStep.{moved}
-use Rattle.ic_sheets.specs.declared.sheet.Worksheet.{Worksheet}
-use Rattle.ic_book.specs.Book.{ModelState, core_of}
-use Rattle.ic_book.specs.Change.{with_moved_sheet}
-use Rattle.ic_book.specs.Inside.{held}
-use Rattle.ic_book.proofs.BookLemmas.{core_of-moved, moved-map}
-use Rattle.ic_book.proofs.BookValid.{moved_valid}
-use Rattle.ic_book.proofs.HeldLemmas.{held_after, keeps_moved, move_accepts, put, there_is, within_core, within_of}
+use Rattle.ic_book.proofs.DoesLemmas.{moves}
 use Rattle.ic_book.proofs.model.Model.move_sheet.Goals as goal
 
-pub invariant_of-self : goal.invariant_of-self
-invariant_of-self c =
-    let from = within_of c.self.inside.sheets c.len.result c.args.sheet_index c.len.ensures c.if-sheet_index-len.false in
-    let to = within_of c.self.inside.sheets c.len-2.result c.args.new_index c.len-2.ensures c.if-new_index-len.false in
-    held_after c.self.inside.name c.self.inside.sheets c.self.inside.names c.self.inside.locale.now c.self.inside.language.now c.self.inside.zone c.self.inside.created c.self.inside.tables.now c.self.invariant c.move_to.new.self c.self.inside.names (with_moved_sheet c.args.sheet_index c.args.new_index (held c.self.inside.name c.self.inside.sheets c.self.inside.names c.self.inside.locale.now c.self.inside.language.now c.self.inside.zone c.self.inside.created c.self.inside.tables.now))
-    (put c.self.inside.name c.self.inside.sheets c.self.inside.names c.self.inside.locale.now c.self.inside.language.now c.self.inside.zone c.self.inside.created c.self.inside.tables.now c.self.invariant c.move_to.new.self c.args.sheet_index c.args.new_index c.move_to.ensures)
-    (moved_valid (held c.self.inside.name c.self.inside.sheets c.self.inside.names c.self.inside.locale.now c.self.inside.language.now c.self.inside.zone c.self.inside.created c.self.inside.tables.now) c.self.invariant.valid c.args.sheet_index c.args.new_index (move_accepts (core_of (held c.self.inside.name c.self.inside.sheets c.self.inside.names c.self.inside.locale.now c.self.inside.language.now c.self.inside.zone c.self.inside.created c.self.inside.tables.now)) c.args.sheet_index c.args.new_index (there_is c.self.inside.sheets c.args.sheet_index from) (there_is c.self.inside.sheets c.args.new_index to)) (within_core c.self.inside.sheets c.args.sheet_index from))
-
-pub returns-clause-ok : goal.returns-clause-ok
-returns-clause-ok c =
-    put c.self.inside.name c.self.inside.sheets c.self.inside.names c.self.inside.locale.now c.self.inside.language.now c.self.inside.zone c.self.inside.created c.self.inside.tables.now c.self.invariant c.move_to.new.self c.args.sheet_index c.args.new_index c.move_to.ensures ∙ ap (λ (m : ModelState). with_moved_sheet c.args.sheet_index c.args.new_index m.book) c.self.view_is
-
-pub returns-clause-looks_up : goal.returns-clause-looks_up
-returns-clause-looks_up c =
-    ap (map (λ (s : Worksheet). s.pool.is_whole)) c.move_to.ensures ∙ moved-map (λ (s : Worksheet). s.pool.is_whole) c.args.sheet_index c.args.new_index c.self.inside.sheets
-    ∙ ap (λ (m : ModelState). moved c.args.sheet_index c.args.new_index m.has_all) c.self.view_is
-
-pub returns-clause-core : goal.returns-clause-core
-returns-clause-core c = ap core_of (returns-clause-ok c) ∙ core_of-moved c.args.sheet_index c.args.new_index c.args.self.now.book
-
-pub returns-clause-found : goal.returns-clause-found
-returns-clause-found c =
-    let from = within_of c.self.inside.sheets c.len.result c.args.sheet_index c.len.ensures c.if-sheet_index-len.false in
-    let to = within_of c.self.inside.sheets c.len-2.result c.args.new_index c.len-2.ensures c.if-new_index-len.false in
-    subst (IsMoved c.args.sheet_index c.args.new_index (core_of c.args.self.now.book)) (sym (returns-clause-core c))
-    (subst (λ (m : ModelState). IsMoved c.args.sheet_index c.args.new_index (core_of m.book) (record (core_of m.book) { sheets = moved c.args.sheet_index c.args.new_index (core_of m.book).sheets })) c.self.view_is
-    (keeps_moved c.self.inside.name c.self.inside.sheets c.self.inside.names c.self.inside.locale.now c.self.inside.language.now c.self.inside.zone c.self.inside.created c.self.inside.tables.now c.self.invariant c.args.sheet_index c.args.new_index (move_accepts (core_of (held c.self.inside.name c.self.inside.sheets c.self.inside.names c.self.inside.locale.now c.self.inside.language.now c.self.inside.zone c.self.inside.created c.self.inside.tables.now)) c.args.sheet_index c.args.new_index (there_is c.self.inside.sheets c.args.sheet_index from) (there_is c.self.inside.sheets c.args.new_index to))))
+pub returns-clause-does : goal.returns-clause-does
+returns-clause-does c =
+    moves c.move_at.result c.args.self.now c.move_at.new.self c.move_at.ensures.valid c.move_at.ensures.err c.args.sheet_index c.args.new_index c.move_at.ensures.ok c.move_at.ensures.refused

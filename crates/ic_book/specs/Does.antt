@@ -1,0 +1,65 @@
+-- What a call does, by the step of the whole machine that it makes.
+use Rattle.std.specs.Prelude.{◌≡◌, ◌⊎◌, List, Option, Some, None, Result, Ok, Err}
+use Rattle.ic_laws.specs.Refusal as core
+use Rattle.ic_machine.specs.Book as machine
+use Rattle.ic_machine.specs.Book.{Stepped}
+use Rattle.ic_machine.specs.Refusal.{OfCore}
+use Rattle.ic_machine.specs.Reply.{Field}
+use Rattle.ic_book.specs.Book.{IsValidBook, ModelState}
+use Rattle.ic_book.specs.Refused.{refusal_of}
+use Rattle.ic_book.specs.Whole.{whole_of}
+use Rattle.ic_book.specs.declared.error.BookError.{BookError}
+
+-- when a call may run out of memory: never; only where its step isn't refused; there, or where this refusal holds, which
+-- needs memory to be seen; and only where it isn't refused, but what formulas are found by may have grown then
+pub data Memory : Type 0 where
+  Never : Memory
+  Wanted : Memory
+  WantedOr : (late : core.Refusal) → Memory
+  WantedIn : Memory
+
+-- a step isn't refused
+abbrev pub IsDone : {A : Type 0} → Stepped A → Type 0
+IsDone (Ok done) = Unit {0}
+IsDone (Err refusal) = ⊥
+
+-- memory ran out at a step from the first state, and the second is left
+abbrev pub Wants : Memory → Stepped machine.Book → ModelState → ModelState → Type 0
+Wants Never made old new = ⊥
+Wants Wanted made old new = IsDone made × (new ≡ old)
+Wants (WantedOr late) made old new = (IsDone made ⊎ (made ≡ Err (OfCore late))) × (new ≡ old)
+Wants WantedIn made old new = IsDone made × (new.book ≡ old.book)
+
+-- a call answered an error that tells this refusal, or none: the step's refusal, or want of memory
+abbrev pub Refused : Memory → Stepped machine.Book → ModelState → ModelState → Option core.Refusal → Type 0
+Refused memory made old new (Some refusal) = (made ≡ Err (OfCore refusal)) × (new ≡ old)
+Refused memory made old new None = Wants memory made old new
+
+-- a call left what its step leaves and answered the step's fields, or answered why it didn't
+module _ {T : Type 0} (memory : Memory) (made : Stepped machine.Book) (fields : T → List Field) (old new : ModelState) where
+  abbrev pub Made : Result T BookError → Type 0
+  Made (Ok value) = made ≡ Ok (whole_of new.book, fields value)
+  Made (Err e) = Refused memory made old new (refusal_of e)
+
+-- that is so, and the book is valid before and after it
+pub record DoesStep {T : Type 0} (memory : Memory) (made : Stepped machine.Book) (fields : T → List Field) (result : Result T BookError) (old new : ModelState) : Type 0 where
+  pub done : Made memory made fields old new result
+  pub before : IsValidBook old.book
+  pub after : IsValidBook new.book
+
+-- The call makes the step of a subject's command on the whole book and answers its fields. Where it answers an error, that
+-- is the step's refusal, or memory ran out, and the model is as it was.
+abbrev pub Does : {C T : Type 0} → (machine.Book → C → Stepped machine.Book) → C → (T → List Field) → Result T BookError → ModelState → ModelState → Type 0
+Does step command fields result old new = DoesStep Wanted (step (whole_of old.book) command) fields result old new
+
+-- the same of a call that takes no memory
+abbrev pub DoesOnly : {C T : Type 0} → (machine.Book → C → Stepped machine.Book) → C → (T → List Field) → Result T BookError → ModelState → ModelState → Type 0
+DoesOnly step command fields result old new = DoesStep Never (step (whole_of old.book) command) fields result old new
+
+-- of one that needs memory to see whether a refusal holds
+abbrev pub DoesOr : core.Refusal → {C T : Type 0} → (machine.Book → C → Stepped machine.Book) → C → (T → List Field) → Result T BookError → ModelState → ModelState → Type 0
+DoesOr late step command fields result old new = DoesStep (WantedOr late) (step (whole_of old.book) command) fields result old new
+
+-- and of one that may leave more to find formulas by where memory runs out
+abbrev pub DoesIn : {C T : Type 0} → (machine.Book → C → Stepped machine.Book) → C → (T → List Field) → Result T BookError → ModelState → ModelState → Type 0
+DoesIn step command fields result old new = DoesStep WantedIn (step (whole_of old.book) command) fields result old new

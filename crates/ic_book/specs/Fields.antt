@@ -1,0 +1,25 @@
+-- The fields of a reply, by what a call answers.
+use Rattle.std.specs.Prelude.{String, ℕ, List, [], ◌∷◌, Option, chars, flat_map, option_map, string_bytes}
+use Rattle.std.specs.declared.alloc.Global.{Global}
+use Rattle.std.specs.Global.{Vec}
+use Rattle.ic_machine.specs.Reply.{Field, NumberField, TextField, optional_text_field}
+use Rattle.ic_book.specs.Names.{Listed, listed}
+
+-- nothing
+abbrev pub no_fields : Unit {0} → List Field
+no_fields done = []
+
+-- a number, or none
+abbrev pub scope_field : Option ℕ → List Field
+scope_field scope = NumberField scope ∷ []
+
+-- a text, if there is one
+abbrev pub string_field : Option (String Global) → List Field
+string_field text = optional_text_field (option_map (λ s. chars (string_bytes s)) text)
+
+-- the name, the scope and the body of each definition that is listed
+abbrev pub fields_of_listed : Listed → List Field
+fields_of_listed item = TextField item.0 ∷ NumberField item.1 ∷ TextField item.2 ∷ []
+
+abbrev pub listed_fields : Vec (String Global × Option ℕ × String Global) → List Field
+listed_fields names = flat_map (λ item. fields_of_listed (listed item)) names.items

@@ -1,0 +1,11 @@
+use Rattle.std.proofs.Common.{refl, rules}
+use Rattle.ic_machine.specs.Command.{OnDefinitions}
+use Rattle.ic_words.specs.subjects.Definitions.{definitions_meant}
+use Rattle.ic_commands.proofs.AnswerLemmas.{changed}
+use Rattle.ic_commands.proofs.answer.definitions.answer_definitions.Goals as goal
+
+pub returns-in-NewDefinedName : goal.returns-in-NewDefinedName
+returns-in-NewDefinedName c = changed (OnDefinitions (definitions_meant c.args.command)) refl c.told.ensures c.new_defined_name.ensures.does (search rules) (search rules)
+
+pub returns-in-DeleteDefinedName : goal.returns-in-DeleteDefinedName
+returns-in-DeleteDefinedName c = changed (OnDefinitions (definitions_meant c.args.command)) refl c.told-in-DeleteDefinedName.ensures c.delete_defined_name.ensures.does (search rules) (search rules)

@@ -1,0 +1,28 @@
+ghost use Rattle.std.specs.Prelude.{◌+◌, ◌≤◌, string_bytes, string_capacity, string_len};
+ghost use Rattle.ic_machine.specs.Command.{OnReading};
+ghost use Rattle.ic_words.specs.Reply.{reply_room};
+ghost use Rattle.ic_words.specs.subjects.Reading.{reading_meant};
+ghost use Rattle.ic_commands.specs.Answered.{Answers};
+
+use crate::told::told;
+use ic_book::Model;
+use ic_laws::OutOfMemory;
+use ic_words::Reading;
+
+/// Does a command that reads a cell, and puts its reply behind a text that has room for one without a field.
+#[tactic(auto, using(crate::proofs::AnswerLemmas::only_read))]
+pub(crate) fn answer_reading(
+    model: &mut Model<'_>,
+    command: Reading,
+    reply: String,
+) -> Result<String, OutOfMemory>
+    requires { string_len reply + reply_room ≤ string_capacity reply }
+    ensures { Answers (OnReading (reading_meant command)) model.old model.new (string_bytes reply) result }
+{
+    match command {
+        Reading::GetCellFormula { sheet, row, column } => told(
+            model.get_cell_formula(sheet, row, column),
+            reply,
+        ),
+    }
+}

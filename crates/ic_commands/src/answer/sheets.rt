@@ -1,0 +1,41 @@
+ghost use Rattle.std.specs.Prelude.{◌+◌, ◌≤◌, string_bytes, string_capacity, string_len};
+ghost use Rattle.ic_machine.specs.Command.{OnSheets};
+ghost use Rattle.ic_words.specs.Reply.{reply_room};
+ghost use Rattle.ic_words.specs.subjects.Sheets.{sheets_meant};
+ghost use Rattle.ic_commands.specs.Answered.{Answers};
+
+use crate::told::told;
+use ic_book::Model;
+use ic_laws::OutOfMemory;
+use ic_words::Sheets;
+
+/// Does a command on the list of sheets, and puts its reply behind a text that has room for one without a field.
+#[tactic(auto, using(crate::proofs::AnswerLemmas::only_read))]
+pub(crate) fn answer_sheets(
+    model: &mut Model<'_>,
+    command: Sheets<'_>,
+    reply: String,
+) -> Result<String, OutOfMemory>
+    requires { string_len reply + reply_room ≤ string_capacity reply }
+    ensures { Answers (OnSheets (sheets_meant command.entry)) model.old model.new (string_bytes reply) result }
+{
+    match command {
+        Sheets::AddSheet { name } => told(model.add_sheet(name.as_str()), reply),
+        Sheets::RenameSheet { old, new } => told(
+            model.rename_sheet(old.as_str(), new.as_str()),
+            reply,
+        ),
+        Sheets::RenameSheetByIndex { sheet, name } => told(
+            model.rename_sheet_by_index(sheet, name.as_str()),
+            reply,
+        ),
+        Sheets::MoveSheet { sheet, to } => told(model.move_sheet(sheet, to), reply),
+        Sheets::DeleteSheet { sheet } => told(model.delete_sheet(sheet), reply),
+        Sheets::DeleteSheetByName { name } => told(
+            model.delete_sheet_by_name(name.as_str()),
+            reply,
+        ),
+        Sheets::DeleteSheetBySheetId { id } => told(model.delete_sheet_by_sheet_id(id), reply),
+        Sheets::GetNewSheetId => told(Ok(model.get_new_sheet_id()), reply),
+    }
+}

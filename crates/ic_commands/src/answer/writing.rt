@@ -1,0 +1,38 @@
+ghost use Rattle.std.specs.Prelude.{◌+◌, ◌≤◌, string_bytes, string_capacity, string_len};
+ghost use Rattle.ic_machine.specs.Command.{OnWriting};
+ghost use Rattle.ic_words.specs.Reply.{reply_room};
+ghost use Rattle.ic_words.specs.subjects.Writing.{writing_meant};
+ghost use Rattle.ic_commands.specs.Answered.{Answers};
+
+use crate::told::told;
+use ic_book::Model;
+use ic_laws::OutOfMemory;
+use ic_words::Writing;
+use std::alloc::Global;
+
+/// Does a command that writes a cell, and puts its reply behind a text that has room for one without a field.
+#[tactic(auto, using(crate::proofs::AnswerLemmas::only_read))]
+pub(crate) fn answer_writing(
+    alloc: Global,
+    model: &mut Model<'_>,
+    command: Writing<'_>,
+    reply: String,
+) -> Result<String, OutOfMemory>
+    requires { string_len reply + reply_room ≤ string_capacity reply }
+    ensures { Answers (OnWriting (writing_meant command.entry)) model.old model.new (string_bytes reply) result }
+{
+    match command {
+        Writing::UpdateCellWithFormula {
+            sheet,
+            row,
+            column,
+            text,
+        } => {
+            let text = text.into_string(alloc)?;
+            told(
+                model.update_cell_with_formula(sheet, row, column, text),
+                reply,
+            )
+        }
+    }
+}
