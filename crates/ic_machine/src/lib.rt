@@ -7,7 +7,7 @@
 //! notation in force makes of texts and amounts), `Placed`, `Styling`, `Line` and `Parsed` (indexes of formulas, numbers of
 //! styles, rows and columns, names of cells), `subjects` (ten subjects: the commands of each with their words, refusals and
 //! steps), `Command` and `Step` (one table and one step of all subjects), `Run` (runs of lines over any machine), `Core`,
-//! `Readers`, `Scene`, `Alike` and `Laws` (what the laws say).
+//! `Readers`, `Scene`, `Alike`, `Kept` and `Laws` (what the laws say).
 #![tactic(auto)]
 
 mod law;
