@@ -1,4 +1,5 @@
 pub mod AlikeLemmas
+pub mod BindsLemmas
 pub mod CoreLemmas
 pub mod CoreValid
 pub mod FormulaLemmas

@@ -1,4 +1,5 @@
 pub mod Alike
+pub mod Binds
 pub mod Book
 pub mod Capture
 pub mod Changed

@@ -1,0 +1,49 @@
+-- What the formulas of a valid book mention after a command that adds or renames a sheet, or adds or deletes a definition:
+-- what dangled and is bound then means that sheet or that definition, what meant a deleted definition means the one for all
+-- sheets that is in sight then, or dangles, and each other mention is what it was. Formulas are those of the core: of each
+-- cell, and the bodies.
+use Rattle.std.specs.Prelude.{◌≡◌, ℕ, ◌+◌, List, Option, Some, Ok, slice_get}
+use Rattle.ic_laws.specs.BookTrees.{with_sheet_at_end, with_trees}
+use Rattle.ic_laws.specs.Changes.{changed_tree, name_added, name_gone, sheet_named}
+use Rattle.ic_laws.specs.CoreBook.{Definition, greatest_id, scene_of, spelling_of}
+use Rattle.ic_laws.specs.CoreStep.{index_of_definition, new_definition, scope_or_none, with_definition, with_sheet_name, without_definition}
+use Rattle.ic_laws.specs.FormulaReading.{Body, body_of}
+use Rattle.ic_machine.specs.Book.{Book, Sheet, core_of, notations_in}
+use Rattle.ic_machine.specs.Command.{OnDefinitions, OnSheets}
+use Rattle.ic_machine.specs.Reply.{Field}
+use Rattle.ic_machine.specs.Step.{step}
+use Rattle.ic_machine.specs.Valid.{IsValidBook}
+use Rattle.ic_machine.specs.subjects.Definitions as definitions
+use Rattle.ic_machine.specs.subjects.Sheets as sheets
+
+-- a new sheet is meant by what dangled by a name that agrees with its own
+abbrev pub AddedIsMeant : Type 0
+AddedIsMeant =
+    (book after : Book) (name : List ℕ) (fields : List Field) → IsValidBook book → step book (OnSheets (sheets.AddSheet name)) ≡ Ok (after, fields)
+    → core_of after ≡ with_sheet_at_end (greatest_id (core_of book) + 1) name (with_trees (changed_tree (sheet_named (greatest_id (core_of book) + 1) name)) (core_of book))
+
+-- so is a renamed one, by its new name
+abbrev pub RenamedIsMeant : Type 0
+RenamedIsMeant =
+    (book after : Book) (index : ℕ) (name : List ℕ) (sheet : Sheet) (fields : List Field) → IsValidBook book → slice_get book.sheets index ≡ Some sheet
+    → step book (OnSheets (sheets.RenameSheetByIndex index name)) ≡ Ok (after, fields)
+    → core_of after ≡ with_sheet_name index name (with_trees (changed_tree (sheet_named sheet.id name)) (core_of book))
+
+-- a new definition is meant by what can mean it
+abbrev pub DefinedIsMeant : Type 0
+DefinedIsMeant =
+    (book after : Book) (name : List ℕ) (scope : Option ℕ) (text : List ℕ) (body : Body) (fields : List Field) → IsValidBook book
+    → body_of (notations_in book) (core_of book) text ≡ Some body → step book (OnDefinitions (definitions.NewDefinedName name scope text)) ≡ Ok (after, fields)
+    → core_of after
+    ≡ with_definition (new_definition (notations_in book) (core_of book) name (scope_or_none (core_of book) scope) body)
+    (with_trees (changed_tree (name_added (record { name = name; scope = scope_or_none (core_of book) scope }))) (core_of book))
+
+-- what meant a deleted one means the one for all sheets, or dangles
+abbrev pub DeletedIsNotMeant : Type 0
+DeletedIsNotMeant =
+    (book after : Book) (name : List ℕ) (scope : Option ℕ) (index : ℕ) (definition : Definition) (fields : List Field) → IsValidBook book
+    → index_of_definition (core_of book) name (scope_or_none (core_of book) scope) ≡ Some index → slice_get book.definitions index ≡ Some definition
+    → step book (OnDefinitions (definitions.DeleteDefinedName name scope)) ≡ Ok (after, fields)
+    → core_of after
+    ≡ without_definition (Some index)
+    (with_trees (changed_tree (name_gone (scene_of (without_definition (Some index) (core_of book))) (spelling_of definition))) (core_of book))
