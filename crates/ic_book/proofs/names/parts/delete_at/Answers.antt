@@ -4,13 +4,13 @@ use Rattle.std.specs.List.{slice_get}
 use Rattle.ic_laws.specs.BookTrees.{with_body_tree}
 use Rattle.ic_laws.specs.Changes.{Change, changed_tree}
 use Rattle.ic_laws.specs.CoreBook.{Definition}
-use Rattle.ic_sheets.proofs.RewritingLemmas.{prepared_makes}
+use Rattle.ic_sheets.proofs.RewritingLemmas.{prepared_fits, prepared_makes}
 use Rattle.ic_sheets.specs.Rewriting.{changed_pool, look_ups, looks_up_after, sheets_of}
 use Rattle.ic_book.proofs.GoneNames.{change_is}
 use Rattle.ic_book.proofs.names.parts.delete_at.Goals as goal
 
 pub apply-requires : goal.apply-requires
-apply-requires c = (prepared_makes _ c.in_ok-formulas.formulas.items c.args.sheets.now c.in_ok-formulas.ensures).fits
+apply-requires c = prepared_fits _ c.in_ok-formulas.formulas.items c.args.sheets.now c.in_ok-formulas.ensures
 
 pub returns-clause-sheets : goal.returns-clause-sheets
 returns-clause-sheets c = λ d at.
