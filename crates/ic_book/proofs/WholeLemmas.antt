@@ -3,7 +3,7 @@ use Rattle.std.proofs.Common.{◌≡◌, ℕ, zero, suc, ◌+◌, pos, List, [],
 use Rattle.std.specs.FinMap as finite
 use Rattle.std.specs.FinMap.{is_sorted}
 use Rattle.std.specs.FinMap.Entries.{below_all}
-use Rattle.std.specs.Prelude.{option_map}
+use Rattle.std.specs.Prelude.{option_map, unwrap_or}
 use Rattle.std.specs.List.{AllByRecursion}
 use Rattle.std.specs.List.Sorted.{IsStrictlySortedBy}
 use Rattle.std.specs.Option.{option_to_list}
@@ -183,3 +183,44 @@ whole_defined new book = refl
 pub whole_undefined : (index : Option ℕ) (book : Book) → whole_of (without_name index book) ≡ changed.without_definition index (whole_of book)
 whole_undefined None book = refl
 whole_undefined (Some index) book = refl
+
+-- A valid book is found again in its whole book, so no two have the same. ----
+
+abbrev found_cell : Entry → CellPlace × ℕ
+found_cell entry = (entry.0, unwrap_or (formula_index entry.1) 0)
+
+cells_again : (kinds : List FunctionKind) (pool : List Formula) (cells : List (CellPlace × ℕ)) → map found_cell (held_cells kinds pool cells) ≡ cells
+cells_again kinds pool [] = refl
+cells_again kinds pool (cell ∷ cells) =
+    ap₂ (λ (o : Option ℕ) (rest : List (CellPlace × ℕ)). let all : List (CellPlace × ℕ) = (cell.0, unwrap_or o 0) ∷ rest in all) (held_index kinds pool (formula_in pool cell.1) cell.1) (cells_again kinds pool cells)
+
+abbrev found_sheet : machine.Sheet → BookSheet
+found_sheet sheet = record { id = sheet.id; name = sheet.name; pool = sheet.pool; cells = map found_cell (finite.entries sheet.grid.contents) }
+
+sheet_again : (kinds : List FunctionKind) (sheet : BookSheet) → IsStrictlySortedBy place_cmp (map (λ cell. cell.0) (sheet_core sheet).cells) → found_sheet (whole_sheet kinds sheet) ≡ sheet
+sheet_again kinds sheet ordered =
+    ap (λ (cells : List (CellPlace × ℕ)). let s : BookSheet = record { id = sheet.id; name = sheet.name; pool = sheet.pool; cells = cells } in s)
+    (ap (map found_cell) (entries_are (held_cells kinds sheet.pool sheet.cells) (subst (IsStrictlySortedBy place_cmp) (sym (held_places kinds sheet.pool sheet.cells)) ordered)) ∙ cells_again kinds sheet.pool sheet.cells)
+
+sheets_again : (n : Notations) (scene : Scene) (kinds : List FunctionKind) (sheets : List BookSheet) → AllByRecursion (IsValidSheet n scene) (map sheet_core sheets) → map found_sheet (map (whole_sheet kinds) sheets) ≡ sheets
+sheets_again n scene kinds [] h = refl
+sheets_again n scene kinds (s ∷ sheets) h = ap₂ ◌∷◌ (sheet_again kinds s h.0.ordered) (sheets_again n scene kinds sheets h.1)
+
+abbrev found_book : machine.Book → Book
+found_book whole = record {
+  name = whole.name;
+  sheets = map found_sheet whole.sheets;
+  definitions = whole.definitions;
+  locale = whole.locale;
+  language = whole.language;
+  zone = whole.zone;
+  created = whole.metadata.created;
+  tables = whole.tables;
+}
+
+book_again : (book : Book) → IsValidBook book → found_book (whole_of book) ≡ book
+book_again book valid =
+    ap (λ (sheets : List BookSheet). let b : Book = record book { sheets = sheets } in b) (sheets_again (notations_in book) (scene_in book) book.tables.kinds book.sheets valid.core.sheets)
+
+pub whole_determines : (one other : Book) → IsValidBook one → IsValidBook other → whole_of one ≡ whole_of other → one ≡ other
+whole_determines one other valid valid_other same = sym (book_again one valid) ∙ ap found_book same ∙ book_again other valid_other

@@ -1,11 +1,10 @@
 -- What is served of the whole machine's commands: until typed input joins, a text that is written as a formula begins with
 -- an equals sign. This file goes with that.
-use Rattle.std.specs.Prelude.{ℕ, List, [], ◌∷◌, Bool, ◌||◌, Option, Some, None, is_none, unwrap_or, Err}
+use Rattle.std.specs.Prelude.{ℕ, List, [], ◌∷◌, ◌||◌, Option, Some, None, is_none, unwrap_or, Err}
 use Rattle.ic_laws.specs.CoreBook.{CellPlace}
-use Rattle.ic_laws.specs.Scan.{first_is}
-use Rattle.ic_input.specs.Convention.{is_sign}
 use Rattle.ic_machine.specs.Book.{Book, Stepped}
 use Rattle.ic_machine.specs.Command.{Command, OnWriting, command_in, served}
+pub use Rattle.ic_machine.specs.Core.{begins_with_sign}
 use Rattle.ic_machine.specs.InForce.{formula_typed}
 use Rattle.ic_machine.specs.Refusal.{BadLine, NotAFormula}
 use Rattle.ic_machine.specs.Reply.{Reply, reply_bytes}
@@ -13,11 +12,7 @@ use Rattle.ic_machine.specs.Run.{Machine}
 use Rattle.ic_machine.specs.Step.{english_errors, outcome_of, step}
 use Rattle.ic_machine.specs.subjects.Writing.{UpdateCellWithFormula, Writing, formula_at_place, formula_written, write_step, writing_step}
 
--- a text begins with a sign
-abbrev pub begins_with_sign : List ℕ → Bool
-begins_with_sign text = first_is is_sign text
-
--- the machine's step, but such a text is no formula
+-- the machine's step, but a text that begins with a sign is no formula
 unfoldable pub served_formula_step : ℕ → CellPlace → List ℕ → Book → Stepped Book
 served_formula_step index place text book =
     write_step book index place (λ sheet. formula_written book sheet (formula_at_place book sheet place (unwrap_or (formula_typed book text) [])))

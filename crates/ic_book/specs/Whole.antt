@@ -1,5 +1,5 @@
 -- The whole book of a model: what stands of it, and for the rest what a new book has. Values, styles and layout join it.
-use Rattle.std.specs.Prelude.{ℕ, List, [], ◌∷◌, map, codes}
+use Rattle.std.specs.Prelude.{◌≡◌, ℕ, List, [], ◌∷◌, map, codes}
 use Rattle.std.specs.FinMap as finite
 use Rattle.ic_laws.specs.CoreBook.{CellPlace}
 use Rattle.ic_laws.specs.declared.tree.Formula.{Formula}
@@ -11,7 +11,7 @@ use Rattle.ic_machine.specs.Book.{Entry, plain_tab}
 use Rattle.ic_machine.specs.Content.{formula_in}
 use Rattle.ic_machine.specs.subjects.Writing.{formula_content}
 use Rattle.ic_sheets.specs.Sheet.{BookSheet}
-use Rattle.ic_book.specs.Book.{Book}
+use Rattle.ic_book.specs.Book.{Book, IsValidBook, core_of}
 
 -- what a cell with the formula at an index of a pool holds: that formula without a value, in the default style; one that may
 -- spill is an array of one cell
@@ -66,3 +66,10 @@ whole_of book = record {
   metadata = metadata_made book.created;
   tables = book.tables;
 }
+
+-- the core of a valid book is that of its whole book, and no two valid books have the same whole book
+abbrev pub HasCore : Type 0
+HasCore = (book : Book) → IsValidBook book → machine.core_of (whole_of book) ≡ core_of book
+
+abbrev pub Determines : Type 0
+Determines = (one other : Book) → IsValidBook one → IsValidBook other → whole_of one ≡ whole_of other → one ≡ other

@@ -92,16 +92,29 @@ impl<'a> Model<'a> {
         tree: &Formula,
         steps: &mut Steps<L>,
     ) -> Result<usize, BookError>
-        requires { IfSome (slice_get self.old.book.sheets sheet) (λ s. IsPooled (notations_in self.old.book) (scene_in self.old.book) (Some s.id) tree.now) }
-        ensures placed { IfOk result (λ at. (pool : List kept.Formula) × IsPlaced tree.now at (pool_at self.old.book sheet) pool × (self.new.book ≡ with_pool sheet pool self.old.book)) }
+        requires { IfSome (slice_get self.old.book.sheets sheet) (λ s. IsPooled
+            (notations_in self.old.book) (scene_in self.old.book) (Some s.id) tree.now) }
+        ensures placed { IfOk result (λ at. (pool : List kept.Formula) × IsPlaced tree.now at
+            (pool_at self.old.book sheet) pool × (self.new.book
+            ≡ with_pool sheet pool self.old.book)) }
         ensures core { core_of self.new.book ≡ core_of self.old.book }
-        ensures looks_up { OnOk result (self.new.has_all ≡ updated_at (λ _. true) sheet self.old.has_all) }
+        ensures looks_up { OnOk result (self.new.has_all ≡ updated_at
+            (λ _. true) sheet self.old.has_all) }
         ensures whole { OnOk result (slice_get self.new.has_all sheet ≡ Some true) }
         ensures still { slice_get self.old.has_all sheet ≡ Some true → steps.new ≡ steps.old }
         ensures cost { steps.new ≤ steps.old + length (pool_at self.old.book sheet) }
         ensures grows { steps.old ≤ steps.new }
-        ensures refused { Refuses result (first_refusal ((lacks_sheet (core_of self.old.book) sheet, InvalidSheet) ∷ [])) }
-        ensures untouched { (refusal : Refusal) → first_refusal ((lacks_sheet (core_of self.old.book) sheet, InvalidSheet) ∷ []) ≡ Some refusal → self.new ≡ self.old }
+        ensures refused { Refuses result (first_refusal ((
+          lacks_sheet
+              (core_of self.old.book) sheet,
+          InvalidSheet,
+        ) ∷ [])) }
+        ensures untouched { (refusal : Refusal) → first_refusal ((
+          lacks_sheet
+              (core_of self.old.book) sheet,
+          InvalidSheet,
+        ) ∷ []) ≡ Some refusal → self.new
+            ≡ self.old }
         ensures err { OnErr result (self.new.book ≡ self.old.book) }
 
         // After an error the look-up of this sheet may be there; the others are as before.
@@ -128,14 +141,21 @@ impl<'a> Model<'a> {
 
         // The formula stands in the pool of its sheet at its first place, or was put at the end; the rest of the book is
         // as it was.
-        ensures written { OnOk result (IfSome (slice_get self.old.book.sheets sheet) (λ s. (pool : List kept.Formula) × (place : ℕ)
-            × IsPlaced (cell_formula (notations_in self.old.book) (core_of self.old.book) s.id row column (without_equals (chars (string_bytes formula)))) place s.pool pool
+        ensures written { OnOk result (IfSome (slice_get self.old.book.sheets sheet) (λ s.
+            (pool : List kept.Formula) × (place : ℕ)
+            × IsPlaced (cell_formula (notations_in self.old.book)
+            (core_of self.old.book) s.id row column (without_equals (chars
+            (string_bytes formula)))) place s.pool pool
             × (self.new.book ≡ with_cell sheet pool row column place self.old.book))) }
         ensures beside { OnOk result (IsSameBeside self.old.book self.new.book) }
-        ensures looks_up { OnOk result (self.new.has_all ≡ updated_at (λ _. true) sheet self.old.has_all) }
+        ensures looks_up { OnOk result (self.new.has_all ≡ updated_at
+            (λ _. true) sheet self.old.has_all) }
         ensures whole { OnOk result (slice_get self.new.has_all sheet ≡ Some true) }
-        ensures refused { Refuses result (update_refusal (core_of self.old.book) sheet row column (chars (string_bytes formula))) }
-        ensures untouched { (refusal : Refusal) → update_refusal (core_of self.old.book) sheet row column (chars (string_bytes formula)) ≡ Some refusal → self.new ≡ self.old }
+        ensures refused { Refuses result (update_refusal (core_of self.old.book) sheet row column
+            (chars (string_bytes formula))) }
+        ensures untouched { (refusal : Refusal) → update_refusal
+            (core_of self.old.book) sheet row column (chars (string_bytes formula)) ≡ Some refusal
+            → self.new ≡ self.old }
         ensures err { OnErr result (self.new.book ≡ self.old.book) }
         ensures valid { IsValidBook self.old.book }
 
@@ -152,8 +172,14 @@ impl<'a> Model<'a> {
     /// What is shown of the formula in a cell.
     fn formula_shown(&self, sheet: u32, row: i32, column: i32) -> Result<Option<String>, BookError>
         ensures shown { IfOk result (λ text. option_map (λ s. chars (string_bytes s)) text
-            ≡ option_map (λ f. equals ∷ shown_formula (notations_in self.now.book) (core_of self.now.book) row column f) (formula_of (core_of self.now.book) sheet row column)) }
-        ensures refused { Refuses result (first_refusal ((lacks_sheet (core_of self.now.book) sheet, InvalidSheet) ∷ [])) }
+            ≡ option_map (λ f. equals ∷ shown_formula (notations_in self.now.book)
+            (core_of self.now.book) row column f) (formula_of
+            (core_of self.now.book) sheet row column)) }
+        ensures refused { Refuses result (first_refusal ((
+          lacks_sheet
+              (core_of self.now.book) sheet,
+          InvalidSheet,
+        ) ∷ [])) }
         ensures valid { IsValidBook self.now.book }
     {
         let Some(worksheet) = self.sheets.as_slice().get(sheet as usize) else {
@@ -174,7 +200,8 @@ impl<'a> Model<'a> {
         text: &'t str,
     ) -> Result<&'t str, BookError>
         ensures body { IfOk result (λ body. chars body.now ≡ without_equals (chars text.now)) }
-        ensures refused { RefusesOnly result (update_refusal (core_of self.now.book) sheet row column (chars text.now)) }
+        ensures refused { RefusesOnly result (update_refusal
+            (core_of self.now.book) sheet row column (chars text.now)) }
     {
         if sheet as usize >= self.sheets.len() {
             return Err(BookError::InvalidSheet);
@@ -193,7 +220,8 @@ impl<'a> Model<'a> {
 
     /// The formula of a text in a cell of the sheet with this id.
     fn formula_of(&self, id: u32, row: i32, column: i32, body: &str) -> Result<Formula, OutOfMemory>
-        ensures { IfOk result (λ f. f ≡ cell_formula (notations_in self.now.book) (core_of self.now.book) id row column (chars body.now)) }
+        ensures { IfOk result (λ f. f ≡ cell_formula (notations_in self.now.book)
+            (core_of self.now.book) id row column (chars body.now)) }
     {
         match read_cell(self.alloc, &self.shown(row, column), body)? {
             Some(tree) => Ok(Formula::Tree(self.bound(id, &tree)?)),
@@ -203,7 +231,8 @@ impl<'a> Model<'a> {
 
     /// A formula of the sheet with this id, bound to what it finds in the book.
     fn bound(&self, id: u32, tree: &Spelled) -> Result<Bound, OutOfMemory>
-        ensures { IfOk result (λ t. t ≡ bound (english_function (notations_in self.now.book)) (scene_in self.now.book) (Some id) tree.now) }
+        ensures { IfOk result (λ t. t ≡ bound (english_function (notations_in self.now.book))
+            (scene_in self.now.book) (Some id) tree.now) }
     {
         let english = self.tables.get_default_language();
         bind(self.alloc, &self.scene(), english, Some(id), tree)
@@ -211,21 +240,25 @@ impl<'a> Model<'a> {
 
     /// How formulas are written now, in the cell at a row and a column.
     pub(crate) fn shown(&self, row: i32, column: i32) -> Shown<'a>
-        ensures { ⟦<Shown<'a> as Dialect>⟧.meaning result ≡ shown_at (notations_in self.now.book) (core_of self.now.book) row column }
+        ensures { ⟦<Shown<'a> as Dialect>⟧.meaning result ≡ shown_at (notations_in self.now.book)
+            (core_of self.now.book) row column }
     {
         Shown::new(self.tables, &self.locale.locale, self.language, row, column)
     }
 
     /// `=` and a formula as it is shown in the cell at a row and a column.
     fn show(&self, row: i32, column: i32, formula: &Formula) -> Result<String, OutOfMemory>
-        ensures { IfOk result (λ text. chars (string_bytes text) ≡ equals ∷ shown_formula (notations_in self.now.book) (core_of self.now.book) row column formula.now) }
+        ensures { IfOk result (λ text. chars (string_bytes text) ≡ equals ∷ shown_formula
+            (notations_in self.now.book) (core_of self.now.book) row column formula.now) }
     {
         self.show_after("=", row, column, formula)
     }
 
     /// The body of a definition as it is shown, with its equals sign.
     pub(crate) fn show_body(&self, definition: &Definition) -> Result<String, OutOfMemory>
-        ensures { IfOk result (λ text. chars (string_bytes text) ≡ shown_body (notations_in self.now.book) (core_of self.now.book) definition.now.has_equals definition.now.body) }
+        ensures { IfOk result (λ text. chars (string_bytes text) ≡ shown_body
+            (notations_in self.now.book)
+            (core_of self.now.book) definition.now.has_equals definition.now.body) }
     {
         if definition.has_equals() {
             return self.show_after("=", 1, 1, definition.body());
@@ -241,7 +274,8 @@ impl<'a> Model<'a> {
         column: i32,
         formula: &Formula,
     ) -> Result<String, OutOfMemory>
-        ensures { IfOk result (λ text. chars (string_bytes text) ≡ chars sign.now ++ shown_formula (notations_in self.now.book) (core_of self.now.book) row column formula.now) }
+        ensures { IfOk result (λ text. chars (string_bytes text) ≡ chars sign.now ++ shown_formula
+            (notations_in self.now.book) (core_of self.now.book) row column formula.now) }
     {
         match formula {
             Formula::Tree(tree) => {
@@ -256,7 +290,9 @@ impl<'a> Model<'a> {
 
 /// What stands after `=` in a text that is `=` and something after it; None for every other text.
 fn after_equals(text: &str) -> Option<&str>
-    ensures { MatchOption result (is_formula_text (chars text.now) ≡ false) (λ body. (is_formula_text (chars text.now) ≡ true) × (chars body.now ≡ without_equals (chars text.now))) }
+    ensures { MatchOption result (is_formula_text (chars text.now) ≡ false) (λ body.
+        (is_formula_text (chars text.now) ≡ true) × (chars body.now ≡ without_equals
+        (chars text.now))) }
 {
     let (first, body) = first_char(text)?;
     if first != '=' {
@@ -288,8 +324,10 @@ fn read_closed<D: Dialect>(alloc: Global, d: &D, text: &str) -> Result<Option<Sp
 
 /// The formula in a cell of a sheet.
 fn formula_at(worksheet: &Worksheet, row: i32, column: i32) -> Option<&Formula>
-    requires { AllByRecursion (λ (cell : CellPlace × ℕ). cell.1 < length worksheet.now.pool.formulas) worksheet.now.cells }
-    ensures { option_map (λ f. f.now) result ≡ formula_at (cells_of worksheet.now.pool.formulas worksheet.now.cells) row column }
+    requires { AllByRecursion (λ (cell : CellPlace
+        × ℕ). cell.1 < length worksheet.now.pool.formulas) worksheet.now.cells }
+    ensures { option_map (λ f. f.now) result ≡ formula_at
+        (cells_of worksheet.now.pool.formulas worksheet.now.cells) row column }
 {
     let place = worksheet.cells.place_at(row, column)?;
     worksheet.pool.get(place)

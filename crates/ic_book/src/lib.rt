@@ -1,14 +1,16 @@
 //! The workbook: `Model` holds the sheets of a book, with ids that outlive their names, and their formulas.
 //!
 //! Contracts see a `Model` as the book of `specs/Book`, and for each sheet whether the look-up of its formulas has all of
-//! them. Each call that changes the book is a step of the core machine of `ic_laws` (the clauses `core`), says what it does
-//! to the whole book, pools included (`ok`, `written`, `placed`), and which refusal comes when (`refused`); a call that
-//! answers an error leaves the book. The reader `get_cell_formula` shows a formula with the names and the notation then in
-//! force (`shown`).
+//! them. What a command's call does is one clause, `does` (`specs/Does`): the step of the whole machine of `ic_machine` on
+//! the whole book (`specs/Whole`: `whole_of`), and the fields of its reply; or the refusal of that step, or want of memory,
+//! after which all is as it was. Beside it stand clauses for what becomes of mentions (`found`, `binds`, `dangles`:
+//! `specs/Mentioned`) and for which look-ups of formulas are there (`looks_up`: `specs/LookUps`). What is served of the
+//! machine is in `specs/Served`.
 #![tactic(auto)]
 
 mod error;
 mod formulas;
+mod law;
 mod model;
 mod names;
 mod notation;
@@ -17,4 +19,5 @@ mod sheet_changes;
 
 pub use error::BookError;
 pub use ic_pool::Steps;
+pub use law::law_whole_book;
 pub use model::Model;

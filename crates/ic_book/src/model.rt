@@ -86,9 +86,11 @@ impl<'a> Model<'a> {
         tables: &'a Tables,
         moment: Timestamp,
     ) -> Result<Model<'a>, BookError>
-        ensures start { IfOk result (λ m. m.book ≡ new_book (chars name.now) (chars locale_id.now) (chars timezone.now) (chars language_id.now) m.book.created tables.now) }
+        ensures start { IfOk result (λ m. m.book ≡ new_book (chars name.now) (chars locale_id.now)
+            (chars timezone.now) (chars language_id.now) m.book.created tables.now) }
         ensures looks_up { IfOk result (λ m. m.has_all ≡ true ∷ []) }
-        ensures refused { Refuses result (new_book_refusal (chars locale_id.now) (chars timezone.now) (chars language_id.now) tables.now) }
+        ensures refused { Refuses result (new_book_refusal (chars locale_id.now)
+            (chars timezone.now) (chars language_id.now) tables.now) }
     {
         if !tables.has_zone(timezone) {
             return Err(BookError::InvalidTimezone);
@@ -125,7 +127,8 @@ impl<'a> Model<'a> {
     pub fn get_new_sheet_id(&self) -> Option<u32>
         ensures does { DoesOnly sheet_step GetNewSheetId scope_field (Ok result) self.now self.now }
         ensures fresh { result ≡ fresh_id (core_of self.now.book) }
-        ensures unused { IfSome result (λ id. All (λ used. used < id) (used_ids (core_of self.now.book))) }
+        ensures unused { IfSome result (λ id. All (λ used. used < id) (used_ids
+            (core_of self.now.book))) }
     {
         let greatest = self.sheets.greatest_id().max(self.names.greatest_scope());
         greatest.checked_add(1)
@@ -141,10 +144,13 @@ impl<'a> Model<'a> {
     /// The formula at a place of the formulas that the sheet at an index keeps, both from 0. None exactly where there is
     /// no such sheet or no such place.
     pub fn parsed_formula(&self, sheet: u32, index: usize) -> Option<&Formula>
-        ensures formula { option_map (λ f. f.now) result ≡ option_and_then (λ s. slice_get s.pool index) (slice_get self.now.book.sheets sheet) }
+        ensures formula { option_map (λ f. f.now) result ≡ option_and_then
+            (λ s. slice_get s.pool index) (slice_get self.now.book.sheets sheet) }
 
         // It is settled in its sheet, so that `shared_formula_index` takes it for that sheet.
-        ensures pooled { IfSome result (λ f. IfSome (slice_get self.now.book.sheets sheet) (λ s. IsPooled (notations_in self.now.book) (scene_in self.now.book) (Some s.id) f.now)) }
+        ensures pooled { IfSome result (λ f. IfSome (slice_get self.now.book.sheets sheet)
+            (λ s. IsPooled (notations_in self.now.book) (scene_in self.now.book)
+            (Some s.id) f.now)) }
 
         // What the laws on books ask of a book and its notations.
         ensures valid { IsValidBook self.now.book }
@@ -157,7 +163,8 @@ impl<'a> Model<'a> {
 
 /// The sheets of a new book: one, with the id 1, named by the language.
 fn first_sheet(alloc: Global, language: &Language) -> Result<Sheets, OutOfMemory>
-    ensures { IfOk result (λ sheets. sheets ≡ record { id = 1; name = first_sheet_name_in language.now.code; pool = record { formulas = []; is_whole = true }; cells = [] } ∷ []) }
+    ensures { IfOk result (λ sheets. sheets
+        ≡ record { id = 1; name = first_sheet_name_in language.now.code; pool = record { formulas = []; is_whole = true }; cells = [] } ∷ []) }
 {
     let mut sheets = Sheets::new(alloc);
     sheets.push(1, first_sheet_name(&language.code))?;

@@ -104,14 +104,21 @@ impl<'a> Model<'a> {
 
     /// Adds a definition at the end.
     fn define(&mut self, name: &str, scope: Option<u32>, formula: &str) -> Result<(), BookError>
-        ensures ok { OnOk result ((body : Body) → body_of (notations_in self.old.book) (core_of self.old.book) (chars formula.now) ≡ Some body
-            → self.new.book ≡ book_changed_by (with_name (new_definition (notations_in self.old.book) (core_of self.old.book) (chars name.now) (scope_or_none (core_of self.old.book) scope) body)) self.old.book) }
-        ensures core { OnOk result (core_of self.new.book ≡ with_new_name (notations_in self.old.book) (core_of self.old.book) (chars name.now) (scope_or_none (core_of self.old.book) scope)
+        ensures ok { OnOk result ((body : Body) → body_of (notations_in self.old.book)
+            (core_of self.old.book) (chars formula.now) ≡ Some body
+            → self.new.book ≡ book_changed_by (with_name (new_definition
+            (notations_in self.old.book) (core_of self.old.book) (chars name.now) (scope_or_none
+            (core_of self.old.book) scope) body)) self.old.book) }
+        ensures core { OnOk result (core_of self.new.book ≡ with_new_name
+            (notations_in self.old.book) (core_of self.old.book) (chars name.now) (scope_or_none
+            (core_of self.old.book) scope)
             (body_of (notations_in self.old.book) (core_of self.old.book) (chars formula.now))) }
         ensures binds { OnOk result (BindsDefined (chars name.now) scope (chars formula.now)
             self.old.book self.new.book) }
         ensures looks_up { OnOk result (LooksUpDefined (chars name.now) scope self.old self.new) }
-        ensures refused { RefusesOr InvalidNameFormula result (new_name_refusal (notations_in self.old.book) (core_of self.old.book) (chars name.now) scope (chars formula.now)) }
+        ensures refused { RefusesOr InvalidNameFormula result (new_name_refusal
+            (notations_in self.old.book) (core_of self.old.book) (chars name.now) scope
+            (chars formula.now)) }
         ensures err { OnErr result (self.new ≡ self.old) }
         ensures valid { IsValidBook self.old.book }
     {
@@ -139,7 +146,9 @@ impl<'a> Model<'a> {
         formula: &str,
     ) -> Result<Option<u32>, BookError>
         ensures id { IfOk result (λ id. id ≡ scope_or_none (core_of self.now.book) scope) }
-        ensures refused { RefusesOr InvalidNameFormula result (new_name_refusal (notations_in self.now.book) (core_of self.now.book) (chars name.now) scope (chars formula.now)) }
+        ensures refused { RefusesOr InvalidNameFormula result (new_name_refusal
+            (notations_in self.now.book) (core_of self.now.book) (chars name.now) scope
+            (chars formula.now)) }
         ensures valid { IsValidBook self.now.book }
     {
         let (id, _) = self.checked_name(name, scope, formula)?;
@@ -148,9 +157,12 @@ impl<'a> Model<'a> {
 
     /// Takes a definition out of the book.
     fn undefine(&mut self, name: &str, scope: Option<u32>) -> Result<(), BookError>
-        ensures ok { OnOk result (self.new.book ≡ book_changed_by (without_name (index_of_definition (core_of self.old.book) (chars name.now) (scope_or_none (core_of self.old.book) scope))) self.old.book) }
+        ensures ok { OnOk result (self.new.book ≡ book_changed_by (without_name
+            (index_of_definition (core_of self.old.book) (chars name.now) (scope_or_none
+            (core_of self.old.book) scope))) self.old.book) }
         ensures core { OnOk result (core_of self.new.book ≡ changed_by (notations_in self.old.book)
-            (without_definition (index_of_definition (core_of self.old.book) (chars name.now) (scope_or_none (core_of self.old.book) scope))) (core_of self.old.book)) }
+            (without_definition (index_of_definition (core_of self.old.book) (chars name.now)
+            (scope_or_none (core_of self.old.book) scope))) (core_of self.old.book)) }
         ensures dangles { OnOk result
             (DanglesUndefined (chars name.now) scope self.old.book self.new.book) }
         ensures looks_up { OnOk result
@@ -172,7 +184,8 @@ impl<'a> Model<'a> {
 
     /// The definitions that are listed.
     fn listed_definitions(&self) -> Result<Vec<(String, Option<u32>, String)>, BookError>
-        ensures list { IfOk result (λ names. map listed names.items ≡ listed_names (notations_in self.now.book) (core_of self.now.book)) }
+        ensures list { IfOk result (λ names. map listed names.items ≡ listed_names
+            (notations_in self.now.book) (core_of self.now.book)) }
         ensures refused { Refuses result None }
         ensures valid { IsValidBook self.now.book }
     {
@@ -194,8 +207,11 @@ impl<'a> Model<'a> {
         formula: &str,
     ) -> Result<(Option<u32>, TypedBody), BookError>
         ensures id { IfOk result (λ found. scope_of (core_of self.now.book) scope ≡ Some found.0) }
-        ensures body { IfOk result (λ found. body_of (notations_in self.now.book) (core_of self.now.book) (chars formula.now) ≡ Some (body_of_typed found.1)) }
-        ensures refused { RefusesOr InvalidNameFormula result (new_name_refusal (notations_in self.now.book) (core_of self.now.book) (chars name.now) scope (chars formula.now)) }
+        ensures body { IfOk result (λ found. body_of (notations_in self.now.book)
+            (core_of self.now.book) (chars formula.now) ≡ Some (body_of_typed found.1)) }
+        ensures refused { RefusesOr InvalidNameFormula result (new_name_refusal
+            (notations_in self.now.book) (core_of self.now.book) (chars name.now) scope
+            (chars formula.now)) }
         ensures valid { IsValidBook self.now.book }
     {
         // What always holds of a model is known from here on.
@@ -247,7 +263,13 @@ impl<'a> Model<'a> {
         definition: &Definition,
         scope: Option<u32>,
     ) -> Result<(String, Option<u32>, String), OutOfMemory>
-        ensures { IfOk result (λ item. listed item ≡ (definition.now.name, scope, shown_body (notations_in self.now.book) (core_of self.now.book) definition.now.has_equals definition.now.body)) }
+        ensures { IfOk result (λ item. listed item ≡ (
+          definition.now.name,
+          scope,
+          shown_body
+              (notations_in self.now.book)
+              (core_of self.now.book) definition.now.has_equals definition.now.body,
+        )) }
     {
         let mut name = String::new(self.alloc);
         push_text(&mut name, definition.name())?;

@@ -17,7 +17,8 @@ impl<'a> Model<'a> {
 
         // Each mention finds what it found.
         ensures sheets { (core_of self.new.book).sheets ≡ (core_of self.old.book).sheets }
-        ensures definitions { (core_of self.new.book).definitions ≡ (core_of self.old.book).definitions }
+        ensures definitions { (core_of self.new.book).definitions ≡
+            (core_of self.old.book).definitions }
     {
         match self.tables.get_named_locale(locale_id) {
             Ok(locale) => {
@@ -38,7 +39,8 @@ impl<'a> Model<'a> {
 
         // Each mention finds what it found.
         ensures sheets { (core_of self.new.book).sheets ≡ (core_of self.old.book).sheets }
-        ensures definitions { (core_of self.new.book).definitions ≡ (core_of self.old.book).definitions }
+        ensures definitions { (core_of self.new.book).definitions ≡
+            (core_of self.old.book).definitions }
     {
         match self.tables.get_language(language_id) {
             Ok(language) => {

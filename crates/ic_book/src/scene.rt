@@ -81,7 +81,9 @@ impl<'b> SceneWithName<'b> {
         scope: Option<u32>,
         word: &str,
     ) -> Result<Option<NameKey>, OutOfMemory>
-        ensures { IfOk result (λ key. key ≡ option_map key_of (definition_at (scene_with self.now.book.sheets.now self.now.book.names.now (chars self.now.name.now) self.now.key.now.scope) (fold (chars word.now)) scope)) }
+        ensures { IfOk result (λ key. key ≡ option_map key_of (definition_at
+            (scene_with self.now.book.sheets.now self.now.book.names.now
+            (chars self.now.name.now) self.now.key.now.scope) (fold (chars word.now)) scope)) }
     {
         if let Some(key) = self.book.names.key_at(scope, word)? {
             return Ok(Some(key));
@@ -94,7 +96,8 @@ impl<'b> SceneWithName<'b> {
 
     /// Whether the definition at the end has an agreeing name and is local to the sheet with this id, or to none.
     fn is_named(&self, scope: Option<u32>, word: &str) -> bool
-        ensures { result ≡ (agrees (chars self.now.name.now) (chars word.now) && same_scope self.now.key.now.scope scope) }
+        ensures { result ≡ (agrees (chars self.now.name.now)
+            (chars word.now) && same_scope self.now.key.now.scope scope) }
     {
         agree(self.name, word) && same_scope(self.key.scope, scope)
     }

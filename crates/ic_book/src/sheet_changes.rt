@@ -176,7 +176,8 @@ impl<'a> Model<'a> {
     /// Adds a sheet of this name at the end.
     fn append_sheet(&mut self, sheet_name: &str) -> Result<(), BookError>
         ensures ok { OnOk result
-            (self.new.book ≡ book_changed_by (with_added_sheet (chars sheet_name.now)) self.old.book) }
+            (self.new.book ≡ book_changed_by (with_added_sheet
+            (chars sheet_name.now)) self.old.book) }
         ensures core { OnOk result (core_of self.new.book
             ≡ changed_by (notations_in self.old.book) (with_new_sheet (chars sheet_name.now))
             (core_of self.old.book)) }
@@ -238,13 +239,18 @@ impl<'a> Model<'a> {
 
     /// Renames the sheet at an index.
     fn rename_at(&mut self, index: usize, new_name: &str) -> Result<(), BookError>
-        ensures ok { OnOk result (self.new.book ≡ book_changed_by (with_renamed_sheet index (chars new_name.now)) self.old.book) }
-        ensures core { OnOk result (core_of self.new.book ≡ changed_by (notations_in self.old.book) (with_sheet_name index (chars new_name.now)) (core_of self.old.book)) }
-        ensures found { OnOk result (BookKeepsFound (core_of self.old.book) (core_of self.new.book)) }
+        ensures ok { OnOk result (self.new.book ≡ book_changed_by (with_renamed_sheet index
+            (chars new_name.now)) self.old.book) }
+        ensures core { OnOk result (core_of self.new.book ≡ changed_by
+            (notations_in self.old.book) (with_sheet_name index (chars new_name.now))
+            (core_of self.old.book)) }
+        ensures found { OnOk result (BookKeepsFound (core_of self.old.book)
+            (core_of self.new.book)) }
         ensures binds { OnOk result
             (BindsNamed index (chars new_name.now) self.old.book self.new.book) }
         ensures looks_up { OnOk result (LooksUpNamed index (chars new_name.now) self.old self.new) }
-        ensures refused { Refuses result (rename_refusal (core_of self.old.book) index (chars new_name.now)) }
+        ensures refused { Refuses result (rename_refusal (core_of self.old.book) index
+            (chars new_name.now)) }
         ensures err { OnErr result (self.new ≡ self.old) }
         ensures valid { IsValidBook self.old.book }
     {
@@ -271,8 +277,10 @@ impl<'a> Model<'a> {
 
     /// Takes the sheet at an index out.
     fn delete_at(&mut self, index: usize) -> Result<(), BookError>
-        ensures ok { OnOk result (self.new.book ≡ book_changed_by (with_removed_sheet index) self.old.book) }
-        ensures core { OnOk result (core_of self.new.book ≡ changed_by (notations_in self.old.book) (without_sheet index) (core_of self.old.book)) }
+        ensures ok { OnOk result (self.new.book ≡ book_changed_by
+            (with_removed_sheet index) self.old.book) }
+        ensures core { OnOk result (core_of self.new.book ≡ changed_by
+            (notations_in self.old.book) (without_sheet index) (core_of self.old.book)) }
         ensures dangles { OnOk result (DanglesWithout index self.old.book self.new.book) }
         ensures looks_up { OnOk result (LooksUpWithout index self.old self.new) }
         ensures refused { Refuses result (delete_refusal (core_of self.old.book) index) }

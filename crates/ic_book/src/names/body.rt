@@ -29,7 +29,8 @@ impl<'a> Model<'a> {
     /// The body that a text is: a reference to a sheet of the book, with or without blanks around it, or a LAMBDA, with or
     /// without an equals sign before it, in the notation in force or else in English. None exactly where it is neither.
     pub(crate) fn read_body(&self, text: &str) -> Result<Option<TypedBody>, OutOfMemory>
-        ensures { IfOk result (λ body. option_map body_of_typed body ≡ body_of (notations_in self.now.book) (core_of self.now.book) (chars text.now)) }
+        ensures { IfOk result (λ body. option_map body_of_typed body ≡ body_of
+            (notations_in self.now.book) (core_of self.now.book) (chars text.now)) }
     {
         let shown = self.shown(1, 1);
         if let Some(tree) = reference_in(self.alloc, &shown, &self.scene(), text)? {
@@ -52,7 +53,8 @@ impl<'a> Model<'a> {
         scope: Option<u32>,
         body: &TypedBody,
     ) -> Result<Definition, OutOfMemory>
-        ensures { IfOk result (λ d. d ≡ new_definition (notations_in self.now.book) (core_of self.now.book) (chars name.now) scope (body_of_typed body.now)) }
+        ensures { IfOk result (λ d. d ≡ new_definition (notations_in self.now.book)
+            (core_of self.now.book) (chars name.now) scope (body_of_typed body.now)) }
     {
         let folded = Text::from(default_case_fold_str(self.alloc, name)?);
         let key = NameKey {
@@ -73,7 +75,8 @@ impl<'a> Model<'a> {
 
     /// How formulas are written in English in the first cell.
     fn english(&self) -> Shown<'a>
-        ensures { ⟦<Shown<'a> as Dialect>⟧.meaning result ≡ (notations_in self.now.book).shown english english (pos 1) (pos 1) }
+        ensures { ⟦<Shown<'a> as Dialect>⟧.meaning result ≡
+            (notations_in self.now.book).shown english english (pos 1) (pos 1) }
     {
         let locale = self.tables.get_default_locale();
         Shown::new(
@@ -93,7 +96,8 @@ fn reference_in<D: Dialect, N: Finder>(
     names: &N,
     text: &str,
 ) -> Result<Option<Spelled>, OutOfMemory>
-    ensures { IfOk result (λ t. t ≡ reference_tree (D.meaning d.now) (N.scene names.now) (chars text.now)) }
+    ensures { IfOk result (λ t. t ≡ reference_tree (D.meaning d.now) (N.scene names.now)
+        (chars text.now)) }
 {
     let Some(reference) = read_reference(alloc, d, trimmed(text))? else {
         return Ok(None);
@@ -115,7 +119,8 @@ fn lambda_in<D: Dialect>(
     english: &D,
     text: &str,
 ) -> Result<Option<Spelled>, OutOfMemory>
-    ensures { IfOk result (λ t. t ≡ lambda_tree (D.meaning active.now) (D.meaning english.now) (chars text.now)) }
+    ensures { IfOk result (λ t. t ≡ lambda_tree (D.meaning active.now) (D.meaning english.now)
+        (chars text.now)) }
 {
     match read(alloc, active, text)? {
         Some(tree) => Ok(if_lambda(tree)),

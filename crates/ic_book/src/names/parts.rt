@@ -28,11 +28,14 @@ pub fn add_for_all(
 ) -> Result<(), OutOfMemory>
     requires free { list_any (is_named definition.name definition.scope) names.old ≡ false }
     requires scope { definition.scope ≡ None }
-    requires spares { AllByRecursion (StaysWhereFound (name_added (spelling_of definition))) names.old }
-    ensures sheets { OnOk result (sheets_of sheets.new ≡ map (changed_pool (name_added (spelling_of definition))) (sheets_of sheets.old)) }
+    requires spares { AllByRecursion (StaysWhereFound (name_added
+        (spelling_of definition))) names.old }
+    ensures sheets { OnOk result (sheets_of sheets.new ≡ map (changed_pool (name_added
+        (spelling_of definition))) (sheets_of sheets.old)) }
     ensures looks_up { OnOk result (look_ups sheets.new
         ≡ map (looks_up_after (name_added (spelling_of definition))) sheets.old) }
-    ensures names { OnOk result (names.new ≡ map (with_body_tree (changed_tree (name_added (spelling_of definition)))) names.old ++ definition ∷ []) }
+    ensures names { OnOk result (names.new ≡ map (with_body_tree (changed_tree (name_added
+        (spelling_of definition)))) names.old ++ definition ∷ []) }
     ensures err { OnErr result ((sheets.new ≡ sheets.old) × (names.new ≡ names.old)) }
 {
     let added = NameAdded::new(definition.name(), definition.key());
@@ -53,11 +56,14 @@ pub fn add_for_sheet(
     requires free { list_any (is_named definition.name definition.scope) names.old ≡ false }
     requires within { index < length sheets.old }
     requires ids { IsDistinct nat_eq (map (λ s. s.id) sheets.old) }
-    requires scope { (sheet : Worksheet) → slice_get sheets.old index ≡ Some sheet → definition.scope ≡ Some sheet.id }
-    ensures sheets { OnOk result (sheets_of sheets.new ≡ map (changed_pool (name_added (spelling_of definition))) (sheets_of sheets.old)) }
+    requires scope { (sheet : Worksheet) → slice_get sheets.old index ≡ Some sheet
+        → definition.scope ≡ Some sheet.id }
+    ensures sheets { OnOk result (sheets_of sheets.new ≡ map (changed_pool (name_added
+        (spelling_of definition))) (sheets_of sheets.old)) }
     ensures looks_up { OnOk result (look_ups sheets.new
         ≡ map (looks_up_after (name_added (spelling_of definition))) sheets.old) }
-    ensures names { OnOk result (names.new ≡ map (with_body_tree (changed_tree (name_added (spelling_of definition)))) names.old ++ definition ∷ []) }
+    ensures names { OnOk result (names.new ≡ map (with_body_tree (changed_tree (name_added
+        (spelling_of definition)))) names.old ++ definition ∷ []) }
     ensures err { OnErr result ((sheets.new ≡ sheets.old) × (names.new ≡ names.old)) }
 {
     let added = NameAdded::new(definition.name(), definition.key());
@@ -107,7 +113,8 @@ fn mention_without(
     names: &Definitions,
     definition: &Definition,
 ) -> Result<NameMention, OutOfMemory>
-    ensures { IfOk result (λ mention. (index : ℕ) → IsDistinct same_key (map key_in names.now) → slice_get names.now index ≡ Some definition.now
+    ensures { IfOk result (λ mention. (index : ℕ) → IsDistinct same_key (map key_in names.now)
+        → slice_get names.now index ≡ Some definition.now
         → mention ≡ name_or_dangling definition.now.name (found_name (names_scene (remove names.now index)) None definition.now.name)) }
 {
     match key_without(names, definition)? {
@@ -118,7 +125,8 @@ fn mention_without(
 
 /// The key that such a word finds without this definition.
 fn key_without(names: &Definitions, definition: &Definition) -> Result<Option<NameKey>, OutOfMemory>
-    ensures { IfOk result (λ key. (index : ℕ) → IsDistinct same_key (map key_in names.now) → slice_get names.now index ≡ Some definition.now
+    ensures { IfOk result (λ key. (index : ℕ) → IsDistinct same_key (map key_in names.now)
+        → slice_get names.now index ≡ Some definition.now
         → key ≡ found_name (names_scene (remove names.now index)) None definition.now.name) }
 {
     match definition.scope() {
