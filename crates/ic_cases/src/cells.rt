@@ -166,7 +166,7 @@ fn error(row: &mut Row<'_>, text: &str) -> Error {
 }
 
 /// The word of a value: `u` for none, or a letter, `:` and what it is.
-fn formula_value(row: &mut Row<'_>, text: &str) -> FormulaValue {
+pub fn formula_value(row: &mut Row<'_>, text: &str) -> FormulaValue {
     if text == "u" {
         return FormulaValue::Unevaluated;
     }
@@ -321,7 +321,7 @@ fn put_pair(row: &mut Row<'_>, pair: (i32, i32)) {
     row.put_field(pair.1);
 }
 
-fn type_name(kind: CellType) -> &'static str {
+pub fn type_name(kind: CellType) -> &'static str {
     match kind {
         CellType::Number => "Number",
         CellType::Text => "Text",

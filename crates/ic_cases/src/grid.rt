@@ -16,6 +16,7 @@ pub fn call(row: &mut Row<'_>) {
     match row.name {
         "Grid" => session(row),
         "Grid::write" => writes(row),
+        "Grid::calls" => crate::sheet::calls(row),
         _ => {}
     }
 }
@@ -222,7 +223,7 @@ fn loose_cell(kind: &str, s: usize) -> Option<Cell>
     }
 }
 
-fn put_answer(row: &mut Row<'_>, answer: Result<(), GridError>) {
+pub fn put_answer(row: &mut Row<'_>, answer: Result<(), GridError>) {
     match answer {
         Ok(()) => row.put("ok"),
         Err(error) => row.put(name_of(error)),

@@ -29,6 +29,7 @@ mod row;
 mod runs;
 mod scans;
 mod scenes;
+mod sheet;
 mod styles;
 mod values;
 
