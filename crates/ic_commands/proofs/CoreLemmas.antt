@@ -1,26 +1,25 @@
 -- A step of the whole machine is seen by its core, and leaves beside it what stands beside.
-use Rattle.std.proofs.Common.{◌≡◌, ℕ, List, [], ◌∷◌, ◌++◌, map, flat_map, Option, Some, None, Result, Ok, Err, option_map, slice_get, unwrap_or, refl, ap, ap₂, sym, subst, ◌∙◌}
+use Rattle.std.proofs.Common.{◌≡◌, ℕ, List, [], ◌∷◌, ◌++◌, flat_map, Option, Some, None, Result, Ok, Err, option_map, slice_get, unwrap_or, refl, ap, ap₂, ◌∙◌}
 use Rattle.std.specs.Prelude.{is_none, ◌||◌}
-use Rattle.ic_laws.specs.Character.{line_feed, tab}
+use Rattle.ic_laws.specs.Character.{tab}
 use Rattle.ic_laws.specs.Command as core
 use Rattle.ic_laws.specs.CoreBook.{CoreBook}
 use Rattle.ic_laws.specs.CoreStep.{Outcome, core_step, index_of_definition, index_of_id, index_of_name, scope_or_none}
 use Rattle.ic_laws.specs.FormulaReading.{Body, body_of}
 use Rattle.ic_laws.specs.Lines as lines
 use Rattle.ic_laws.specs.Lines.{escaped}
-use Rattle.ic_laws.specs.Refusal as refusals
 use Rattle.ic_machine.specs.Book.{Book, Sheet, Stepped, as_core, core_of, found_or, notations_in, unless, unless_refused}
-use Rattle.ic_machine.specs.Changed.{changed_by, with_definition, with_moved_sheet, with_removed_sheet, with_renamed_sheet, without_definition}
+use Rattle.ic_machine.specs.Changed.{changed_by, with_moved_sheet, with_removed_sheet, with_renamed_sheet, without_definition}
 use Rattle.ic_machine.specs.Core.{told_by, told_by_core, whole_command}
-use Rattle.ic_machine.specs.Refusal.{InvalidSheet, NotAFormula, OfCore, Refusal, first_refusal, refusal_name}
-use Rattle.ic_machine.specs.Reply.{Field, Reply, field_word, of_core_field, of_core_fields, reply_bytes, reply_text}
+use Rattle.ic_machine.specs.Refusal.{InvalidSheet, NotAFormula, Refusal, first_refusal}
+use Rattle.ic_machine.specs.Reply.{Field, field_word, of_core_field, of_core_fields, reply_text}
 use Rattle.ic_machine.specs.Step.{outcome_of}
 use Rattle.ic_machine.specs.InForce.{formula_typed}
 use Rattle.ic_machine.specs.subjects.Writing.{formula_at_place, formula_written, place_causes, with_written, write_causes}
 use Rattle.ic_machine.specs.subjects.Definitions.{delete_name_step, list_step, new_name_step, valid_name_step, with_new_name}
 use Rattle.ic_machine.specs.subjects.Notation.{set_language_step, set_locale_step}
 use Rattle.ic_machine.specs.subjects.Reading.{cell_formula_step}
-use Rattle.ic_machine.specs.subjects.Sheets.{with_new_sheet, add_sheet_step, delete_by_id_step, delete_by_name_step, delete_sheet_step, lifted, move_sheet_step, new_sheet_id_step, rename_by_index_step, rename_sheet_step}
+use Rattle.ic_machine.specs.subjects.Sheets.{with_new_sheet, add_sheet_step, delete_by_id_step, delete_by_name_step, delete_sheet_step, move_sheet_step, new_sheet_id_step, rename_by_index_step, rename_sheet_step}
 use Rattle.ic_book.specs.Served.{begins_with_sign, served_formula_step, served_step}
 
 -- Replies of both machines ----

@@ -1,25 +1,22 @@
 -- What a line is answered with, by the whole machine and by the core machine.
-use Rattle.std.proofs.Common.{◌≡◌, ◌≢◌, ℕ, List, [], ◌∷◌, ◌++◌, true, String, Global, Option, Some, None, Result, Ok, Err, IfOk, OnErr, OnOk, Bor, chars, encode_utf8_all, option_map, string_bytes, refl, ap, ap₂, sym, subst, ◌∙◌}
+use Rattle.std.proofs.Common.{◌≡◌, ℕ, List, [], ◌∷◌, ◌++◌, Option, Some, None, Err, encode_utf8_all, option_map, refl, ap, sym, subst, ◌∙◌}
 use Rattle.ic_laws.specs.Command as core
-use Rattle.ic_laws.specs.CoreBook.{CoreBook}
 use Rattle.ic_laws.specs.CoreStep.{core_step}
 use Rattle.ic_laws.specs.Lines as lines
-use Rattle.ic_laws.specs.Refusal as refusals
-use Rattle.ic_laws.specs.declared.memory.OutOfMemory.{OutOfMemory}
 use Rattle.ic_machine.specs.Book as machine
 use Rattle.ic_machine.specs.Command.{Command, command_in, served_names}
 use Rattle.ic_machine.specs.Command as table
 use Rattle.ic_machine.specs.Core.{whole_command}
 use Rattle.ic_machine.specs.Refusal.{BadLine}
-use Rattle.ic_machine.specs.Reply.{Reply, reply_bytes, reply_text}
+use Rattle.ic_machine.specs.Reply.{reply_bytes, reply_text}
 use Rattle.ic_machine.specs.Step.{english_errors, outcome_of}
 use Rattle.ic_machine.proofs.ServedLemmas.{served_is}
 use Rattle.ic_words.specs.Reply.{IsLineText}
 use Rattle.ic_words.specs.Served.{served}
 use Rattle.ic_words.proofs.ReplyLemmas.{refusal_line}
-use Rattle.ic_book.specs.Book.{Book, IsSameBeside, IsValidBook, ModelState, StepsTo, core_of, notations_in}
-use Rattle.ic_commands.specs.Answered.{Answers, DoesLine, IsAnswered, LeavesLine, StaysAfter}
-use Rattle.ic_book.specs.Served.{served_command_step, served_line_step, served_step}
+use Rattle.ic_book.specs.Book.{Book, IsSameBeside, ModelState, StepsTo, core_of, notations_in}
+use Rattle.ic_commands.specs.Answered.{DoesLine, IsAnswered, StaysAfter}
+use Rattle.ic_book.specs.Served.{served_command_step, served_step}
 use Rattle.ic_book.specs.Whole.{whole_of}
 use Rattle.ic_commands.proofs.CoreLemmas.{StandsBeside, core_left, served_stands, text_told}
 use Rattle.ic_book.proofs.WholeLemmas.{whole_core}

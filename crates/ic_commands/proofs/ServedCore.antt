@@ -1,7 +1,6 @@
 -- What is served is, seen by the core of a model's whole book, what the core machine does.
-use Rattle.std.proofs.Common.{◌≡◌, ℕ, zero, suc, ◌<◌, List, [], ◌∷◌, length, Bool, true, false, cond, map, Option, Some, None, is_some, option_map, slice_get, refl, ap, sym, subst, ◌∙◌}
+use Rattle.std.proofs.Common.{◌≡◌, ℕ, pos, zero, suc, ◌<◌, List, [], ◌∷◌, length, Bool, true, false, cond, map, Some, is_some, slice_get, refl, ap, sym, subst, ◌∙◌}
 use Rattle.std.specs.FinMap as finite
-use Rattle.core.specs.FinMap.Entries.{find}
 use Rattle.std.specs.List.{AllByRecursion}
 use Rattle.std.specs.Ordering.{eq_by_cmp}
 use Rattle.ic_laws.proofs.core.CellWritten.{place_cmp_total}
@@ -10,8 +9,10 @@ use Rattle.ic_laws.specs.CoreBook.{CellPlace, CoreBook, place_cmp}
 use Rattle.ic_laws.specs.CoreStep.{core_step}
 use Rattle.ic_laws.specs.declared.tree.Formula.{Formula}
 use Rattle.ic_tables.specs.declared.language.FunctionKind.{FunctionKind}
+use Rattle.ic_cells.specs.declared.cell.ArrayKind.TheVariants as arrays
+use Rattle.ic_cells.specs.declared.value.FormulaValue.TheVariants as fvalues
 use Rattle.ic_machine.specs.Book as machine
-use Rattle.ic_machine.specs.Content.{Content, formula_in, formula_index}
+use Rattle.ic_machine.specs.Content.{AnchorContent, Content, FormulaContent, formula_in, formula_index}
 use Rattle.ic_machine.specs.Core.{HasPooled, IsFree, TakesFormula, told_by, told_by_core, whole_command}
 use Rattle.ic_machine.specs.Placed.{is_dynamic}
 use Rattle.ic_machine.specs.subjects.Writing.{formula_content}
@@ -25,14 +26,18 @@ use Rattle.ic_book.proofs.WholeLemmas.{whole_core}
 use Rattle.ic_book.proofs.WholeWritten.{in_force_there, not_fixed}
 
 -- the formula of a held cell is the one at its index
+index_by : (dynamic : Bool) (at style : ℕ) → formula_index (cond dynamic (AnchorContent at (pos 1, pos 1) arrays.Dynamic fvalues.Unevaluated style) (FormulaContent at fvalues.Unevaluated style)) ≡ Some at
+index_by true at style = refl
+index_by false at style = refl
+
 index_held : (kinds : List FunctionKind) (formula : Formula) (at style : ℕ) → formula_index (formula_content kinds formula at style) ≡ Some at
-index_held kinds formula at style = elim (is_dynamic kinds formula) as (λ b. formula_index (cond b _ _) ≡ Some at) [ true ↦ refl | false ↦ refl ]
+index_held kinds formula at style = index_by (is_dynamic kinds formula) at style
 
 pooled_found : (kinds : List FunctionKind) (pool : List Formula) (cells : List (CellPlace × ℕ)) → AllByRecursion (λ (cell : CellPlace × ℕ). cell.1 < length pool) cells
-    → (q : CellPlace) (content : Content) (index : ℕ) → find place_cmp q (held_cells kinds pool cells) ≡ Some content → formula_index content ≡ Some index → index < length pool
+    → (q : CellPlace) (content : Content) (index : ℕ) → finite.find place_cmp q (held_cells kinds pool cells) ≡ Some content → formula_index content ≡ Some index → index < length pool
 pooled_found kinds pool [] h q content index e is = cc
 pooled_found kinds pool (cell ∷ cells) h q content index e is =
-    elim (eq_by_cmp place_cmp q cell.0) as (λ b. cond b (Some (formula_content kinds (formula_in pool cell.1) cell.1 0)) (find place_cmp q (held_cells kinds pool cells)) ≡ Some content → index < length pool) [
+    elim (eq_by_cmp place_cmp q cell.0) as (λ b. cond b (Some (formula_content kinds (formula_in pool cell.1) cell.1 0)) (finite.find place_cmp q (held_cells kinds pool cells)) ≡ Some content → index < length pool) [
       | true ↦ λ f.
           let same : formula_content kinds (formula_in pool cell.1) cell.1 0 ≡ content = cc in
           let at : Some cell.1 ≡ Some index = sym (index_held kinds (formula_in pool cell.1) cell.1 0) ∙ ap formula_index same ∙ is in
@@ -60,28 +65,26 @@ takes b v index place = record {
   free = free_at b.tables.kinds place _ (λ s h. is_free b.tables.kinds place s h.places) b.sheets v.pools index;
 }
 
-module _ (b : Book) (v : IsValidBook b) where
-  abbrev Told : core.Command → CoreBook → Type 0
-  Told k c = told_by (served_step (whole_of b) (whole_command k)) ≡ told_by_core (core_step (notations_in b) c k)
+-- of the whole book's own core
+by_whole : (b : Book) → IsValidBook b → (k : core.Command) → told_by (served_step (whole_of b) (whole_command k)) ≡ told_by_core (core_step (notations_in b) (machine.core_of (whole_of b)) k)
+unfolding served_formula_step
+by_whole b v (core.UpdateCellWithFormula sheet row column text) = served_formula_told (whole_of b) sheet (row, column) text (takes b v sheet (row, column))
+by_whole b v (core.AddSheet name) = stepped (whole_of b) (whole_command (core.AddSheet name))
+by_whole b v (core.RenameSheet old new) = stepped (whole_of b) (whole_command (core.RenameSheet old new))
+by_whole b v (core.RenameSheetByIndex sheet name) = stepped (whole_of b) (whole_command (core.RenameSheetByIndex sheet name))
+by_whole b v (core.MoveSheet sheet to) = stepped (whole_of b) (whole_command (core.MoveSheet sheet to))
+by_whole b v (core.DeleteSheet sheet) = stepped (whole_of b) (whole_command (core.DeleteSheet sheet))
+by_whole b v (core.DeleteSheetByName name) = stepped (whole_of b) (whole_command (core.DeleteSheetByName name))
+by_whole b v (core.DeleteSheetBySheetId id) = stepped (whole_of b) (whole_command (core.DeleteSheetBySheetId id))
+by_whole b v (core.NewDefinedName name scope body) = stepped (whole_of b) (whole_command (core.NewDefinedName name scope body))
+by_whole b v (core.DeleteDefinedName name scope) = stepped (whole_of b) (whole_command (core.DeleteDefinedName name scope))
+by_whole b v (core.IsValidDefinedName name scope body) = stepped (whole_of b) (whole_command (core.IsValidDefinedName name scope body))
+by_whole b v core.GetDefinedNameList = stepped (whole_of b) (whole_command core.GetDefinedNameList)
+by_whole b v core.GetNewSheetId = stepped (whole_of b) (whole_command core.GetNewSheetId)
+by_whole b v (core.SetLocale id) = stepped (whole_of b) (whole_command (core.SetLocale id))
+by_whole b v (core.SetLanguage id) = stepped (whole_of b) (whole_command (core.SetLanguage id))
+by_whole b v (core.GetCellFormula sheet row column) = stepped (whole_of b) (whole_command (core.GetCellFormula sheet row column))
 
-  pub served_core : (k : core.Command) → Told k (core_of b)
-  served_core k = subst (Told k) (whole_core b v) (by_whole k)
-    where
-      by_whole : (k : core.Command) → Told k (machine.core_of (whole_of b))
-      unfolding served_formula_step
-      by_whole (core.UpdateCellWithFormula sheet row column text) = served_formula_told (whole_of b) sheet (row, column) text (takes b v sheet (row, column))
-      by_whole (core.AddSheet name) = stepped (whole_of b) (whole_command (core.AddSheet name))
-      by_whole (core.RenameSheet old new) = stepped (whole_of b) (whole_command (core.RenameSheet old new))
-      by_whole (core.RenameSheetByIndex sheet name) = stepped (whole_of b) (whole_command (core.RenameSheetByIndex sheet name))
-      by_whole (core.MoveSheet sheet to) = stepped (whole_of b) (whole_command (core.MoveSheet sheet to))
-      by_whole (core.DeleteSheet sheet) = stepped (whole_of b) (whole_command (core.DeleteSheet sheet))
-      by_whole (core.DeleteSheetByName name) = stepped (whole_of b) (whole_command (core.DeleteSheetByName name))
-      by_whole (core.DeleteSheetBySheetId id) = stepped (whole_of b) (whole_command (core.DeleteSheetBySheetId id))
-      by_whole (core.NewDefinedName name scope body) = stepped (whole_of b) (whole_command (core.NewDefinedName name scope body))
-      by_whole (core.DeleteDefinedName name scope) = stepped (whole_of b) (whole_command (core.DeleteDefinedName name scope))
-      by_whole (core.IsValidDefinedName name scope body) = stepped (whole_of b) (whole_command (core.IsValidDefinedName name scope body))
-      by_whole core.GetDefinedNameList = stepped (whole_of b) (whole_command core.GetDefinedNameList)
-      by_whole core.GetNewSheetId = stepped (whole_of b) (whole_command core.GetNewSheetId)
-      by_whole (core.SetLocale id) = stepped (whole_of b) (whole_command (core.SetLocale id))
-      by_whole (core.SetLanguage id) = stepped (whole_of b) (whole_command (core.SetLanguage id))
-      by_whole (core.GetCellFormula sheet row column) = stepped (whole_of b) (whole_command (core.GetCellFormula sheet row column))
+pub served_core : (b : Book) → IsValidBook b → (k : core.Command) → told_by (served_step (whole_of b) (whole_command k)) ≡ told_by_core (core_step (notations_in b) (core_of b) k)
+served_core b v k =
+    subst (λ (c : CoreBook). told_by (served_step (whole_of b) (whole_command k)) ≡ told_by_core (core_step (notations_in b) c k)) (whole_core b v) (by_whole b v k)

@@ -1,7 +1,7 @@
 use Rattle.std.proofs.Common.{refl, rules}
 use Rattle.ic_machine.specs.Command.{OnSheets}
 use Rattle.ic_words.specs.subjects.Sheets.{sheets_meant}
-use Rattle.ic_commands.proofs.AnswerLemmas.{changed}
+use Rattle.ic_commands.proofs.AnswerLemmas.{changed, only_read}
 use Rattle.ic_commands.proofs.answer.sheets.answer_sheets.Goals as goal
 
 pub returns-in-AddSheet : goal.returns-in-AddSheet
@@ -24,3 +24,6 @@ returns-in-DeleteSheetByName c = changed (OnSheets (sheets_meant c.args.command)
 
 pub returns-in-DeleteSheetBySheetId : goal.returns-in-DeleteSheetBySheetId
 returns-in-DeleteSheetBySheetId c = changed (OnSheets (sheets_meant c.args.command)) refl c.told-in-DeleteSheetBySheetId.ensures c.delete_sheet_by_sheet_id.ensures.does (search rules) (search rules)
+
+pub returns-in-GetNewSheetId : goal.returns-in-GetNewSheetId
+returns-in-GetNewSheetId c = only_read c.told-in-GetNewSheetId.ensures c.get_new_sheet_id.ensures.does (search rules)
