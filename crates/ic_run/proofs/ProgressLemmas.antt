@@ -4,7 +4,7 @@ use Rattle.std.proofs.Math.Seq.{take-append-add}
 use Rattle.std.proofs.lemmas.Bool.{cases_Bool}
 use Rattle.std.proofs.lemmas.Bool.Decides.{eqb_tells}
 use Rattle.std.proofs.lemmas.List.{take-append-drop}
-use Rattle.ic_laws.specs.Lines.{after, command_of, replies, line_step, reply_bytes, texts_of}
+use Rattle.ic_laws.specs.Lines.{after, replies, line_step, reply_bytes, texts_of}
 use Rattle.ic_lines.specs.Bytes.{AppendsFront, IfTold}
 use Rattle.ic_lines.specs.Reading.{GivesHeld, GivesLine, HasToAsk, Reading, TakesLine, has_line_feed, line_feeds, unread}
 use Rattle.ic_lines.specs.declared.error.RunError.{RunError}

@@ -1,5 +1,6 @@
 -- What lines leave of the whole book and reply, by the machine that is served.
-use Rattle.std.proofs.Common.{◌≡◌, ℕ, List, [], ◌∷◌, ◌++◌, Option, Some, None, Result, Ok, Err, OnOk, chars, codes, refl, ap, ap₂, sym, subst, ◌∙◌}
+use Rattle.std.proofs.Common.{◌≡◌, ℕ, List, [], ◌∷◌, ◌++◌, Option, Some, None, Result, Ok, Err, OnOk, codes, refl, ap, ap₂, sym, ◌∙◌}
+use Rattle.std.specs.Str.{chars}
 use Rattle.ic_laws.specs.CoreBook.{CoreBook}
 use Rattle.ic_laws.specs.Lines as lines
 use Rattle.ic_laws.specs.Lines.{line_step, reply_bytes, texts_of}

@@ -1,6 +1,6 @@
-use Rattle.std.proofs.Common.{◌≡◌, ◌∙◌, ap, codes, sym, subst, IsSomeAnd}
+use Rattle.std.proofs.Common.{◌∙◌, sym, subst, IsSomeAnd}
 use Rattle.ic_lines.specs.Bytes.{IfTold}
-use Rattle.ic_book.specs.Book.{Book, core_of, new_book, notations_in}
+use Rattle.ic_book.specs.Book.{Book, core_of, notations_in}
 use Rattle.ic_book.specs.Whole.{whole_of}
 use Rattle.ic_run.specs.Desk.{Setting, start, start_book}
 use Rattle.ic_run.specs.Start.{setting}
