@@ -28,10 +28,17 @@ use writing::answer_writing;
 /// command, is refused or only asks leaves all that a model is, the formulas that sheets keep and their look-ups too; for
 /// the others the whole book is as the command leaves it. Where memory runs out the book is as it was.
 pub fn reply_to(alloc: Global, model: &mut Model<'_>, line: &Line) -> Result<String, OutOfMemory>
-    ensures reply { IfOk result (λ reply. string_bytes reply ≡ reply_bytes (line_step (notations_in model.old.book) served (core_of model.old.book) line.now).1) }
-    ensures line { IfOk result (λ _. IsLineText (reply_text (line_step (notations_in model.old.book) served (core_of model.old.book) line.now).1)) }
-    ensures book { OnOk result (StepsTo model.old.book model.new.book (line_step (notations_in model.old.book) served (core_of model.old.book) line.now).0) }
-    ensures whole { IfOk result (λ reply. DoesLine line.now model.old model.new (string_bytes reply)) }
+    ensures reply { IfOk result
+        (λ reply. string_bytes reply ≡ reply_bytes
+        (line_step (notations_in model.old.book) served (core_of model.old.book) line.now).1) }
+    ensures line { IfOk result
+        (λ _. IsLineText (reply_text
+        (line_step (notations_in model.old.book) served (core_of model.old.book) line.now).1)) }
+    ensures book { OnOk result
+        (StepsTo model.old.book model.new.book
+        (line_step (notations_in model.old.book) served (core_of model.old.book) line.now).0) }
+    ensures whole { IfOk result
+        (λ reply. DoesLine line.now model.old model.new (string_bytes reply)) }
     ensures err { OnErr result (model.new.book ≡ model.old.book) }
 {
     let command = command_in(alloc, line.text().as_str())?;
@@ -44,8 +51,12 @@ pub fn reply_to(alloc: Global, model: &mut Model<'_>, line: &Line) -> Result<Str
 
 /// The same, with the reply as a line: without the line feed at its end.
 pub fn answer_line(alloc: Global, model: &mut Model<'_>, line: &Line) -> Result<Line, OutOfMemory>
-    ensures reply { IfOk result (λ reply. reply ≡ reply_text (line_step (notations_in model.old.book) served (core_of model.old.book) line.now).1) }
-    ensures book { OnOk result (StepsTo model.old.book model.new.book (line_step (notations_in model.old.book) served (core_of model.old.book) line.now).0) }
+    ensures reply { IfOk result
+        (λ reply. reply ≡ reply_text
+        (line_step (notations_in model.old.book) served (core_of model.old.book) line.now).1) }
+    ensures book { OnOk result
+        (StepsTo model.old.book model.new.book
+        (line_step (notations_in model.old.book) served (core_of model.old.book) line.now).0) }
     ensures whole { OnOk result (LeavesLine line.now model.old model.new) }
     ensures err { OnErr result (model.new.book ≡ model.old.book) }
 {
@@ -62,7 +73,8 @@ fn answer(
     reply: String,
 ) -> Result<String, OutOfMemory>
     requires { string_len reply + reply_room ≤ string_capacity reply }
-    ensures { Answers (command_meant command.entry) model.old model.new (string_bytes reply) result }
+    ensures { Answers (command_meant command.entry) model.old model.new (string_bytes reply)
+        result }
 {
     match command {
         Command::Sheets(command) => answer_sheets(model, command, reply),

@@ -29,7 +29,8 @@ pub(crate) fn told<T: Fields>(
 /// Puts the refusal that an error tells behind a text. There is none where memory ran out.
 fn refused(e: &BookError, reply: String) -> Result<String, OutOfMemory>
     requires { string_len reply + reply_room ≤ string_capacity reply }
-    ensures ok { IfOk result (λ text. (refusal : Refusal) × (refusal_of e.now ≡ Some refusal) × (string_bytes text ≡ string_bytes reply ++ reply_bytes (Err (OfCore refusal)))) }
+    ensures ok { IfOk result (λ text. (refusal : Refusal) × (refusal_of e.now ≡ Some refusal)
+        × (string_bytes text ≡ string_bytes reply ++ reply_bytes (Err (OfCore refusal)))) }
     ensures err { OnErr result (e.now ≡ errors.OutOfMemory) }
 {
     match e {

@@ -25,14 +25,19 @@ pub fn run<S: Source, K: Sink>(
 ) -> Result<u64, RunError>
     // The identity theorem: all bytes were taken, their lines counted, the machine's replies appended, and its book
     // left.
-    ensures book { IfOk result (λ count. IfTold (S.left source.old) (S.left source.new) (TakesAll model.old.book model.new.book count)) }
+    ensures book { IfOk result
+        (λ count. IfTold (S.left source.old) (S.left source.new)
+        (TakesAll model.old.book model.new.book count)) }
     ensures replies { OnOk result (IfTold (S.left source.old) (S.left source.new) (λ bytes _.
-        IfTold (K.written sink.old) (K.written sink.new) (AppendsReplies (notations_in model.old.book) (core_of model.old.book) bytes))) }
+        IfTold (K.written sink.old) (K.written sink.new)
+        (AppendsReplies (notations_in model.old.book) (core_of model.old.book) bytes))) }
 
     // So it is with the whole book, by the machine that is served, its replies too.
-    ensures whole { OnOk result (IfTold (S.left source.old) (S.left source.new) (IsServed model.old.book model.new.book)) }
+    ensures whole { OnOk result
+        (IfTold (S.left source.old) (S.left source.new) (IsServed model.old.book model.new.book)) }
     ensures served { OnOk result (IfTold (S.left source.old) (S.left source.new) (λ bytes _.
-        IfTold (K.written sink.old) (K.written sink.new) (AppendsServed (whole_of model.old.book) bytes))) }
+        IfTold (K.written sink.old) (K.written sink.new)
+        (AppendsServed (whole_of model.old.book) bytes))) }
 
     // Each line did so; one that is no command, is refused or only asks left all that a model is as it was, the look-ups
     // of its formulas too.
@@ -43,8 +48,10 @@ pub fn run<S: Source, K: Sink>(
     ensures cause { IfErr result (HasCause
         (HasFault (S.faults source.old) (S.faults source.new))
         (HasFault (K.faults sink.old) (K.faults sink.new))
-        (IfTold (S.left source.old) (S.left source.new) (λ before now. 2 ^ 32 + length now ≤ length before))) }
-    ensures quiet { OnOk result ((S.faults source.new ≡ S.faults source.old) × (K.faults sink.new ≡ K.faults sink.old)) }
+        (IfTold (S.left source.old) (S.left source.new)
+        (λ before now. 2 ^ 32 + length now ≤ length before))) }
+    ensures quiet { OnOk result
+        ((S.faults source.new ≡ S.faults source.old) × (K.faults sink.new ≡ K.faults sink.old)) }
 
     // It answers Ok only where a read showed the end of the source, and finds too many turns only where none did.
     ensures end { OnOk result (S.ended source.new ≡ true) }
@@ -52,14 +59,16 @@ pub fn run<S: Source, K: Sink>(
 
     // After an error the book is as some of the first lines leave it, and their replies were appended.
     ensures front { IfErr result (λ e. IfTold (S.left source.old) (S.left source.new)
-        (λ bytes left. Leaves e model.old.book model.new.book bytes left (K.written sink.old) (K.written sink.new))) }
+        (λ bytes left. Leaves e model.old.book model.new.book bytes left (K.written sink.old)
+        (K.written sink.new))) }
 
     ensures source_counted { S.faults source.old ≤ S.faults source.new }
     ensures sink_counted { K.faults sink.old ≤ K.faults sink.new }
 
     // Where there is no fault, and the source holds fewer than 2^32 bytes, only that memory runs out is left.
     ensures completes { IsSomeAnd (S.left source.old) (λ bytes. length bytes < 2 ^ 32)
-        → ¬ HasFault (S.faults source.old) (S.faults source.new) → ¬ HasFault (K.faults sink.old) (K.faults sink.new)
+        → ¬ HasFault (S.faults source.old) (S.faults source.new)
+        → ¬ HasFault (K.faults sink.old) (K.faults sink.new)
         → IfErr result (λ e. e ≡ RunError.OutOfMemory) }
 {
     let mut reader = LineReader::new(alloc);
@@ -78,15 +87,23 @@ fn answer_to<K: Sink>(
     line: &Line,
     sink: &mut K,
 ) -> Result<(), RunError>
-    ensures book { OnOk result (StepsTo model.old.book model.new.book (line_step (notations_in model.old.book) served (core_of model.old.book) line.now).0) }
+    ensures book { OnOk result
+        (StepsTo model.old.book model.new.book
+        (line_step (notations_in model.old.book) served (core_of model.old.book) line.now).0) }
     ensures reply { OnOk result (IfTold (K.written sink.old) (K.written sink.new)
-        (λ before now. now ≡ before ++ reply_bytes (line_step (notations_in model.old.book) served (core_of model.old.book) line.now).1)) }
+        (λ before now. now ≡ before ++ reply_bytes
+        (line_step (notations_in model.old.book) served (core_of model.old.book) line.now).1)) }
     ensures does { OnOk result (LineDoes line.now model.old model.new) }
     ensures which { IfErr result (λ e. (e ≡ RunError.OutOfMemory) ⊎ (e ≡ RunError.WriteFault)) }
-    ensures no_memory { result ≡ Err RunError.OutOfMemory → (model.new.book ≡ model.old.book) × (sink.new ≡ sink.old) }
-    ensures write_fault { result ≡ Err RunError.WriteFault → HasFault (K.faults sink.old) (K.faults sink.new)
-        × (StepsTo model.old.book model.new.book (line_step (notations_in model.old.book) served (core_of model.old.book) line.now).0)
-        × IfTold (K.written sink.old) (K.written sink.new) (AppendsFront (reply_bytes (line_step (notations_in model.old.book) served (core_of model.old.book) line.now).1)) }
+    ensures no_memory { result ≡ Err RunError.OutOfMemory → (model.new.book ≡ model.old.book)
+        × (sink.new ≡ sink.old) }
+    ensures write_fault { result ≡ Err RunError.WriteFault → HasFault (K.faults sink.old)
+        (K.faults sink.new)
+        × (StepsTo model.old.book model.new.book
+        (line_step (notations_in model.old.book) served (core_of model.old.book) line.now).0)
+        × IfTold (K.written sink.old) (K.written sink.new)
+        (AppendsFront (reply_bytes
+        (line_step (notations_in model.old.book) served (core_of model.old.book) line.now).1)) }
     ensures counted { K.faults sink.old ≤ K.faults sink.new }
     ensures quiet { OnOk result (K.faults sink.new ≡ K.faults sink.old) }
 {

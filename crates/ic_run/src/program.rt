@@ -37,34 +37,46 @@ pub fn desk<S: Source, K: Sink>(
 ) -> u8
     // With 0 a read showed the end, all bytes were taken, and the machine's replies from the start were appended.
     ensures end { result ≡ 0 → S.ended source.new ≡ true }
-    ensures taken { result ≡ 0 → IfTold (S.left source.old) (S.left source.new) (λ bytes left. left ≡ []) }
-    ensures replies { result ≡ 0 → IsSomeAnd (setting_of (texts words.now)) (λ setting. IfTold (S.left source.old) (S.left source.new) (λ bytes _.
-        IfTold (K.written sink.old) (K.written sink.new) (AppendsReplies (notations_of tables.now) (start setting) bytes))) }
+    ensures taken { result ≡ 0 → IfTold (S.left source.old) (S.left source.new)
+        (λ bytes left. left ≡ []) }
+    ensures replies { result ≡ 0 → IsSomeAnd (setting_of (texts words.now))
+        (λ setting. IfTold (S.left source.old) (S.left source.new) (λ bytes _.
+        IfTold (K.written sink.old) (K.written sink.new)
+        (AppendsReplies (notations_of tables.now) (start setting) bytes))) }
 
     // So were those of the machine that is served, from the whole book.
-    ensures served { result ≡ 0 → IsSomeAnd (setting_of (texts words.now)) (λ setting. IfTold (S.left source.old) (S.left source.new) (λ bytes _.
-        IfTold (K.written sink.old) (K.written sink.new) (AppendsServedFrom (λ created. start_book setting created tables.now) bytes))) }
+    ensures served { result ≡ 0 → IsSomeAnd (setting_of (texts words.now))
+        (λ setting. IfTold (S.left source.old) (S.left source.new) (λ bytes _.
+        IfTold (K.written sink.old) (K.written sink.new)
+        (AppendsServedFrom (λ created. start_book setting created tables.now) bytes))) }
 
     // Each other status has its cause; that memory ran out may come in place of all but 1 and 2.
     ensures usage { (result ≡ 1) ↔ IsNone (setting_of (texts words.now)) }
-    ensures unknown { (result ≡ 2) ↔ IsSomeAnd (setting_of (texts words.now)) (λ setting. IsSome (start_refusal setting tables.now)) }
-    ensures untouched { (result ≡ 1) ⊎ (result ≡ 2) → (source.new ≡ source.old) × (sink.new ≡ sink.old) }
+    ensures unknown { (result ≡ 2) ↔ IsSomeAnd (setting_of (texts words.now))
+        (λ setting. IsSome (start_refusal setting tables.now)) }
+    ensures untouched { (result ≡ 1) ⊎ (result ≡ 2) → (source.new ≡ source.old)
+        × (sink.new ≡ sink.old) }
     ensures read_fault { result ≡ 3 → HasFault (S.faults source.old) (S.faults source.new) }
     ensures write_fault { result ≡ 4 → HasFault (K.faults sink.old) (K.faults sink.new) }
-    ensures too_many { result ≡ 5 → IfTold (S.left source.old) (S.left source.new) (λ before now. 2 ^ 32 + length now ≤ length before) }
+    ensures too_many { result ≡ 5 → IfTold (S.left source.old) (S.left source.new)
+        (λ before now. 2 ^ 32 + length now ≤ length before) }
     ensures unseen { result ≡ 5 → S.ended source.new ≡ S.ended source.old }
     ensures most { result ≤ 6 }
 
     // With the status of an error of `run`, the replies are those that this error leaves; none where memory ran out
     // before there was a book.
-    ensures stopped { (e : RunError) → result ≡ run_status (Err e) → IsSomeAnd (setting_of (texts words.now)) (λ setting.
+    ensures stopped { (e : RunError) → result ≡ run_status (Err e) → IsSomeAnd
+        (setting_of (texts words.now)) (λ setting.
         IfTold (S.left source.old) (S.left source.new) (λ bytes left.
-        LeavesReplies e (notations_of tables.now) (start setting) bytes left (K.written sink.old) (K.written sink.new))) }
+        LeavesReplies e (notations_of tables.now) (start setting) bytes left (K.written sink.old)
+        (K.written sink.new))) }
 
     // Where there is no fault, and the source holds fewer than 2^32 bytes, only that memory runs out is left beside 0.
-    ensures completes { IsSomeAnd (setting_of (texts words.now)) (λ setting. IsNone (start_refusal setting tables.now))
+    ensures completes { IsSomeAnd (setting_of (texts words.now))
+        (λ setting. IsNone (start_refusal setting tables.now))
         → IsSomeAnd (S.left source.old) (λ bytes. length bytes < 2 ^ 32)
-        → ¬ HasFault (S.faults source.old) (S.faults source.new) → ¬ HasFault (K.faults sink.old) (K.faults sink.new)
+        → ¬ HasFault (S.faults source.old) (S.faults source.new)
+        → ¬ HasFault (K.faults sink.old) (K.faults sink.new)
         → (result ≡ 0) ⊎ (result ≡ 6) }
 {
     let Some(start) = start_named(words) else {

@@ -57,7 +57,9 @@ pub enum Command<'l> {
 /// The command that a line is; None where it is none that is served: another name, fewer or more words, a number that
 /// isn't one of its type, or a wrong escape. Memory is asked for only for a text with an escape.
 pub fn command_in<'l>(alloc: Global, line: &'l str) -> Result<Option<Command<'l>>, OutOfMemory>
-    ensures exact { IfOk result (λ command. (english : List (List ℕ)) → option_map command_meant command ≡ command_in english served (chars line.now)) }
+    ensures exact { IfOk result
+        (λ command. (english : List (List ℕ)) → option_map command_meant command ≡ command_in
+        english served (chars line.now)) }
     ensures memory { OnErr result (HaveEscape (words_of (chars line.now))) }
 {
     let (name, rest) = first_word(line);
@@ -70,7 +72,9 @@ fn command_named<'l>(
     name: &str,
     rest: Option<&'l str>,
 ) -> Result<Option<Command<'l>>, OutOfMemory>
-    ensures exact { IfOk result (λ command. option_map command_meant command ≡ joined (named [] served (chars name.now) (words_left rest.entry))) }
+    ensures exact { IfOk result
+        (λ command. option_map command_meant command ≡ joined
+        (named [] served (chars name.now) (words_left rest.entry))) }
     ensures memory { OnErr result (HaveEscape (words_left rest.entry)) }
 {
     try_subject!(sheets_named(alloc, name, rest), Command::Sheets);

@@ -15,7 +15,9 @@ pub trait Fields: Drop {
 
     /// Appends the fields.
     fn write(&self, reply: &mut String) -> Result<(), OutOfMemory>
-        ensures ok { OnOk result (chars (string_bytes reply.new) ≡ chars (string_bytes reply.old) ++ flat_map field_word (fields self.now)) }
+        ensures ok { OnOk result
+            (chars (string_bytes reply.new) ≡ chars (string_bytes reply.old) ++ flat_map field_word
+            (fields self.now)) }
         ensures texts { OnOk result (AreTexts (fields self.now)) }
         ensures none { memory ≡ false → reply.new ≡ reply.old }
         ensures err { OnErr result (memory ≡ true) };
@@ -71,7 +73,8 @@ impl Fields for Vec<(String, Option<u32>, String)> {
 
 /// Appends the three fields of a listed definition.
 fn push_name(reply: &mut String, listed: &(String, Option<u32>, String)) -> Result<(), OutOfMemory>
-    ensures ok { OnOk result (chars (string_bytes reply.new) ≡ chars (string_bytes reply.old) ++ flat_map field_word (name_fields listed.now)) }
+    ensures ok { OnOk result (chars (string_bytes reply.new) ≡ chars (string_bytes reply.old)
+        ++ flat_map field_word (name_fields listed.now)) }
     ensures texts { OnOk result (AreTexts (name_fields listed.now)) }
 {
     push_field(reply, listed.0.as_str())?;

@@ -25,7 +25,8 @@ pub fn law_reply_room()
 /// where the fields take any; the text is gone then.
 pub fn ok_reply<T: Fields>(mut reply: String, value: &T) -> Result<String, OutOfMemory>
     requires { string_len reply + reply_room ≤ string_capacity reply }
-    ensures ok { IfOk result (λ text. string_bytes text ≡ string_bytes reply ++ reply_bytes (Ok (T.fields value.now))) }
+    ensures ok { IfOk result (λ text. string_bytes text ≡ string_bytes reply ++ reply_bytes
+        (Ok (T.fields value.now))) }
     ensures line { IfOk result (λ _. IsLineText (reply_text (Ok (T.fields value.now)))) }
     ensures err { OnErr result (T.memory ≡ true) }
 {
@@ -39,8 +40,10 @@ pub fn ok_reply<T: Fields>(mut reply: String, value: &T) -> Result<String, OutOf
 pub fn error_reply(mut reply: String, name: &str) -> String
     requires room { string_len reply + reply_room ≤ string_capacity reply }
     requires short { length name.now ≤ 32 }
-    ensures exact { string_bytes result ≡ string_bytes reply ++ (codes "error\t" ++ name.now ++ line_feed ∷ []) }
-    ensures refusal { (refusal : Refusal) → name.now ≡ refusal_name refusal → string_bytes result ≡ string_bytes reply ++ reply_bytes (Err refusal) }
+    ensures exact { string_bytes result ≡ string_bytes reply
+        ++ (codes "error\t" ++ name.now ++ line_feed ∷ []) }
+    ensures refusal { (refusal : Refusal) → name.now ≡ refusal_name refusal → string_bytes result
+        ≡ string_bytes reply ++ reply_bytes (Err refusal) }
 {
     append(&mut reply, "error\t");
     append(&mut reply, name);
@@ -50,7 +53,8 @@ pub fn error_reply(mut reply: String, name: &str) -> String
 
 /// Appends a field that is a text: a tab, and the text with its escapes.
 pub(crate) fn push_field(reply: &mut String, field: &str) -> Result<(), OutOfMemory>
-    ensures ok { OnOk result (chars (string_bytes reply.new) ≡ chars (string_bytes reply.old) ++ field_word (TextField (chars field.now))) }
+    ensures ok { OnOk result (chars (string_bytes reply.new) ≡ chars (string_bytes reply.old)
+        ++ field_word (TextField (chars field.now))) }
     ensures text { scalars (chars field.now) ≡ true }
 {
     push_char(reply, '\t')?;
@@ -59,7 +63,8 @@ pub(crate) fn push_field(reply: &mut String, field: &str) -> Result<(), OutOfMem
 
 /// Appends a field that is a number: a tab, and its digits, or a minus where there is none.
 pub(crate) fn push_number(reply: &mut String, number: Option<u32>) -> Result<(), OutOfMemory>
-    ensures ok { OnOk result (chars (string_bytes reply.new) ≡ chars (string_bytes reply.old) ++ field_word (NumberField number)) }
+    ensures ok { OnOk result (chars (string_bytes reply.new) ≡ chars (string_bytes reply.old)
+        ++ field_word (NumberField number)) }
     ensures text { scalars (field_text (NumberField number)) ≡ true }
 {
     push_char(reply, '\t')?;
@@ -71,7 +76,8 @@ pub(crate) fn push_number(reply: &mut String, number: Option<u32>) -> Result<(),
 
 /// Appends the decimal digits of a number.
 fn push_digits(reply: &mut String, number: u32) -> Result<(), OutOfMemory>
-    ensures { OnOk result (chars (string_bytes reply.new) ≡ chars (string_bytes reply.old) ++ decimal number) }
+    ensures { OnOk result (chars (string_bytes reply.new) ≡ chars (string_bytes reply.old)
+        ++ decimal number) }
 {
     write!(reply, "{number}")?;
     Ok(())

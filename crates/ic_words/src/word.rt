@@ -16,7 +16,8 @@ pub trait Word<'l>: Drop {
 
     /// The value that a word says; None where the word isn't of the form. Memory is asked for only where it has an escape.
     fn of(alloc: Global, word: &'l str) -> Result<Option<Self>, OutOfMemory>
-        ensures exact { IfOk result (λ value. option_map says value ≡ word_said form (chars word.now)) }
+        ensures exact { IfOk result
+            (λ value. option_map says value ≡ word_said form (chars word.now)) }
         ensures memory { OnErr result (HasEscape (chars word.now)) };
 }
 

@@ -17,7 +17,8 @@ pub trait Words<'l>: Drop {
     /// What the words that are left say; None where they are more or fewer, or one isn't of its form. Memory is asked for
     /// only where one of them has an escape.
     fn of(alloc: Global, rest: Option<&'l str>) -> Result<Option<Self>, OutOfMemory>
-        ensures exact { IfOk result (λ values. option_map says values ≡ words_said forms (words_left rest.entry)) }
+        ensures exact { IfOk result
+            (λ values. option_map says values ≡ words_said forms (words_left rest.entry)) }
         ensures memory { OnErr result (HaveEscape (words_left rest.entry)) };
 }
 

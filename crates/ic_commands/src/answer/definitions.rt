@@ -17,7 +17,8 @@ pub(crate) fn answer_definitions(
     reply: String,
 ) -> Result<String, OutOfMemory>
     requires { string_len reply + reply_room ≤ string_capacity reply }
-    ensures { Answers (OnDefinitions (definitions_meant command.entry)) model.old model.new (string_bytes reply) result }
+    ensures { Answers (OnDefinitions (definitions_meant command.entry)) model.old model.new
+        (string_bytes reply) result }
 {
     match command {
         Definitions::NewDefinedName { name, scope, body } => told(

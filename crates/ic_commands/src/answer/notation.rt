@@ -17,7 +17,8 @@ pub(crate) fn answer_notation(
     reply: String,
 ) -> Result<String, OutOfMemory>
     requires { string_len reply + reply_room ≤ string_capacity reply }
-    ensures { Answers (OnNotation (notation_meant command.entry)) model.old model.new (string_bytes reply) result }
+    ensures { Answers (OnNotation (notation_meant command.entry)) model.old model.new
+        (string_bytes reply) result }
 {
     match command {
         Notation::SetLocale { id } => told(model.set_locale(id.as_str()), reply),

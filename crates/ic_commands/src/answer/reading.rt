@@ -17,7 +17,8 @@ pub(crate) fn answer_reading(
     reply: String,
 ) -> Result<String, OutOfMemory>
     requires { string_len reply + reply_room ≤ string_capacity reply }
-    ensures { Answers (OnReading (reading_meant command)) model.old model.new (string_bytes reply) result }
+    ensures { Answers (OnReading (reading_meant command)) model.old model.new (string_bytes reply)
+        result }
 {
     match command {
         Reading::GetCellFormula { sheet, row, column } => told(

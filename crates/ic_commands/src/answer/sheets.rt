@@ -17,7 +17,8 @@ pub(crate) fn answer_sheets(
     reply: String,
 ) -> Result<String, OutOfMemory>
     requires { string_len reply + reply_room ≤ string_capacity reply }
-    ensures { Answers (OnSheets (sheets_meant command.entry)) model.old model.new (string_bytes reply) result }
+    ensures { Answers (OnSheets (sheets_meant command.entry)) model.old model.new
+        (string_bytes reply) result }
 {
     match command {
         Sheets::AddSheet { name } => told(model.add_sheet(name.as_str()), reply),

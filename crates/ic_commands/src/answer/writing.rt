@@ -19,7 +19,8 @@ pub(crate) fn answer_writing(
     reply: String,
 ) -> Result<String, OutOfMemory>
     requires { string_len reply + reply_room ≤ string_capacity reply }
-    ensures { Answers (OnWriting (writing_meant command.entry)) model.old model.new (string_bytes reply) result }
+    ensures { Answers (OnWriting (writing_meant command.entry)) model.old model.new
+        (string_bytes reply) result }
 {
     match command {
         Writing::UpdateCellWithFormula {

@@ -35,7 +35,9 @@ pub(crate) fn definitions_named<'l>(
     name: &str,
     rest: Option<&'l str>,
 ) -> Result<Option<Option<Definitions<'l>>>, OutOfMemory>
-    ensures exact { IfOk result (λ made. option_map (option_map definitions_meant) made ≡ served_in definition_rows name.now (words_left rest.entry)) }
+    ensures exact { IfOk result
+        (λ made. option_map (option_map definitions_meant) made ≡ served_in definition_rows name.now
+        (words_left rest.entry)) }
     ensures memory { OnErr result (HaveEscape (words_left rest.entry)) }
 {
     match name {

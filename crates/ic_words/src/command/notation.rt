@@ -22,7 +22,9 @@ pub(crate) fn notation_named<'l>(
     name: &str,
     rest: Option<&'l str>,
 ) -> Result<Option<Option<Notation<'l>>>, OutOfMemory>
-    ensures exact { IfOk result (λ made. option_map (option_map notation_meant) made ≡ served_in notation_rows name.now (words_left rest.entry)) }
+    ensures exact { IfOk result
+        (λ made. option_map (option_map notation_meant) made ≡ served_in notation_rows name.now
+        (words_left rest.entry)) }
     ensures memory { OnErr result (HaveEscape (words_left rest.entry)) }
 {
     match name {

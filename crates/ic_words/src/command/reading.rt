@@ -20,7 +20,9 @@ pub(crate) fn reading_named<'l>(
     name: &str,
     rest: Option<&'l str>,
 ) -> Result<Option<Option<Reading>>, OutOfMemory>
-    ensures exact { IfOk result (λ made. option_map (option_map reading_meant) made ≡ served_in reading_rows name.now (words_left rest.entry)) }
+    ensures exact { IfOk result
+        (λ made. option_map (option_map reading_meant) made ≡ served_in reading_rows name.now
+        (words_left rest.entry)) }
     ensures memory { OnErr result (HaveEscape (words_left rest.entry)) }
 {
     match name {

@@ -45,7 +45,9 @@ pub(crate) fn sheets_named<'l>(
     name: &str,
     rest: Option<&'l str>,
 ) -> Result<Option<Option<Sheets<'l>>>, OutOfMemory>
-    ensures exact { IfOk result (λ made. option_map (option_map sheets_meant) made ≡ served_in sheet_rows name.now (words_left rest.entry)) }
+    ensures exact { IfOk result
+        (λ made. option_map (option_map sheets_meant) made ≡ served_in sheet_rows name.now
+        (words_left rest.entry)) }
     ensures memory { OnErr result (HaveEscape (words_left rest.entry)) }
 {
     match name {

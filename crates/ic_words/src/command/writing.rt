@@ -26,7 +26,9 @@ pub(crate) fn writing_named<'l>(
     name: &str,
     rest: Option<&'l str>,
 ) -> Result<Option<Option<Writing<'l>>>, OutOfMemory>
-    ensures exact { IfOk result (λ made. option_map (option_map writing_meant) made ≡ served_in writing_rows name.now (words_left rest.entry)) }
+    ensures exact { IfOk result
+        (λ made. option_map (option_map writing_meant) made ≡ served_in writing_rows name.now
+        (words_left rest.entry)) }
     ensures memory { OnErr result (HaveEscape (words_left rest.entry)) }
 {
     match name {
