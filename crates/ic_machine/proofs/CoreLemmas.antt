@@ -24,7 +24,7 @@ use Rattle.ic_machine.specs.subjects.Sheets.{with_new_sheet}
 
 -- formulas that are replaced, each by its own ----
 
-formula_in-map : (f : Formula → Formula) → f (formulas.Raw []) ≡ formulas.Raw [] → (pool : List Formula) (at : ℕ) → formula_in (map f pool) at ≡ f (formula_in pool at)
+pub formula_in-map : (f : Formula → Formula) → f (formulas.Raw []) ≡ formulas.Raw [] → (pool : List Formula) (at : ℕ) → formula_in (map f pool) at ≡ f (formula_in pool at)
 formula_in-map f blank [] at = sym blank
 formula_in-map f blank (x ∷ pool) zero = refl
 formula_in-map f blank (x ∷ pool) (suc at) = formula_in-map f blank pool at

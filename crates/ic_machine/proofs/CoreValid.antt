@@ -103,7 +103,7 @@ all_definitions n scene [] names scopes bodies = tt
 all_definitions n scene (d ∷ definitions) names scopes bodies =
     (record { name = names.0; scope = scopes.0; body = bodies.0 }, all_definitions n scene definitions names.1 scopes.1 bodies.1)
 
-map_twice : {A B C : Type 0} (f : A → B) (g : B → C) (xs : List A) → map (λ x. g (f x)) xs ≡ map g (map f xs)
+pub map_twice : {A B C : Type 0} (f : A → B) (g : B → C) (xs : List A) → map (λ x. g (f x)) xs ≡ map g (map f xs)
 map_twice f g [] = refl
 map_twice f g (x ∷ xs) = ap (λ rest. g (f x) ∷ rest) (map_twice f g xs)
 

@@ -1,5 +1,6 @@
 pub mod AlikeLemmas
 pub mod BindsLemmas
+pub mod ChangedStays
 pub mod CoreLemmas
 pub mod CoreValid
 pub mod FormulaLemmas
@@ -7,6 +8,7 @@ pub mod FormulaStepped
 pub mod NumberLemmas
 pub mod ReaderLemmas
 pub mod SceneLemmas
+pub mod SheetsStay
 pub mod ServedLemmas
 pub mod SteppedLemmas
 pub mod StylesStay

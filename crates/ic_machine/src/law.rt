@@ -7,17 +7,20 @@ ghost use Rattle.ic_machine.specs.Book.{Book};
 ghost use Rattle.ic_machine.specs.Command.{Command};
 ghost use Rattle.ic_machine.specs.Content.{content_of, held};
 ghost use Rattle.ic_machine.specs.Core.{FormulaIsStepped, IsSteppedAs, core_command};
-ghost use Rattle.ic_machine.specs.Kept.{CoreIsValid, CoreStaysValid, KeepsValid};
+ghost use Rattle.ic_machine.specs.Kept.{CoreIsValid, CoreStaysValid, KeepsValid, KeepsValidIf};
+ghost use Rattle.ic_machine.specs.Kept.{keeps_definitions, keeps_sheets};
 ghost use Rattle.ic_machine.specs.Laws.{BadLineStays, CounterpartsAreBack, NumbersAreSmall};
 ghost use Rattle.ic_machine.specs.Laws.{RefusedStays, ServedIsCore};
 ghost use Rattle.ic_machine.specs.Laws.{RunsLeaveSame, RunsTellSame};
 ghost use Rattle.ic_machine.specs.Readers.{LeavesIf, is_reader};
 ghost use Rattle.ic_machine.specs.Scene.{KeepsSceneIf, leaves_names};
 ghost use Rattle.ic_machine.specs.Step.{step};
+ghost use Rattle.ic_machine.specs.subjects.Definitions.{definition_step};
 ghost use Rattle.ic_machine.specs.subjects.Extending.{extending_step};
 ghost use Rattle.ic_machine.specs.subjects.Layout.{layout_step};
 ghost use Rattle.ic_machine.specs.subjects.Notation.{notation_step};
 ghost use Rattle.ic_machine.specs.subjects.Reading.{reading_step};
+ghost use Rattle.ic_machine.specs.subjects.Sheets.{sheet_step};
 ghost use Rattle.ic_machine.specs.subjects.Styles.{style_step};
 ghost use Rattle.ic_machine.specs.subjects.Tabs.{tab_step};
 ghost use Rattle.ic_machine.specs.subjects.Writing.{writing_step};
@@ -79,7 +82,8 @@ pub fn law_formula_is_stepped()
 {}
 
 /// A command on the notation, one that writes a cell, a reader of cells, one that writes a formula out for another place,
-/// one on styles, on the layout, on tabs or on the theme keeps what always holds of a book.
+/// one on styles, on the layout, on tabs or on the theme keeps what always holds of a book. So does one on sheets, but for
+/// inserting, making and copying one, and one on definitions, but for an update.
 pub fn law_book_stays_valid()
     ensures notation { KeepsValid notation_step }
     ensures writing { KeepsValid writing_step }
@@ -88,6 +92,8 @@ pub fn law_book_stays_valid()
     ensures styles { KeepsValid style_step }
     ensures layout { KeepsValid layout_step }
     ensures tabs { KeepsValid tab_step }
+    ensures sheets { KeepsValidIf keeps_sheets sheet_step }
+    ensures definitions { KeepsValidIf keeps_definitions definition_step }
 {}
 
 /// The core of a valid book is a valid book of the core machine; and so is that of the book which an accepted command leaves
