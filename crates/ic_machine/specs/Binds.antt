@@ -6,7 +6,7 @@ use Rattle.std.specs.Prelude.{◌≡◌, ℕ, ◌+◌, List, Option, Some, Ok, s
 use Rattle.ic_laws.specs.BookTrees.{with_sheet_at_end, with_trees}
 use Rattle.ic_laws.specs.Changes.{changed_tree, name_added, name_gone, sheet_named}
 use Rattle.ic_laws.specs.CoreBook.{Definition, greatest_id, scene_of, spelling_of}
-use Rattle.ic_laws.specs.CoreStep.{index_of_definition, new_definition, scope_or_none, with_definition, with_sheet_name, without_definition}
+use Rattle.ic_laws.specs.CoreStep.{index_of_definition, index_of_name, new_definition, scope_or_none, with_definition, with_sheet_name, without_definition}
 use Rattle.ic_laws.specs.FormulaReading.{Body, body_of}
 use Rattle.ic_machine.specs.Book.{Book, Sheet, core_of, notations_in}
 use Rattle.ic_machine.specs.Command.{OnDefinitions, OnSheets}
@@ -27,6 +27,13 @@ abbrev pub RenamedIsMeant : Type 0
 RenamedIsMeant =
     (book after : Book) (index : ℕ) (name : List ℕ) (sheet : Sheet) (fields : List Field) → IsValidBook book → slice_get book.sheets index ≡ Some sheet
     → step book (OnSheets (sheets.RenameSheetByIndex index name)) ≡ Ok (after, fields)
+    → core_of after ≡ with_sheet_name index name (with_trees (changed_tree (sheet_named sheet.id name)) (core_of book))
+
+-- so is one that is renamed by its old name, which is that of the first sheet whose name agrees
+abbrev pub RenamedByNameIsMeant : Type 0
+RenamedByNameIsMeant =
+    (book after : Book) (old name : List ℕ) (index : ℕ) (sheet : Sheet) (fields : List Field) → IsValidBook book → index_of_name (core_of book) old ≡ Some index
+    → slice_get book.sheets index ≡ Some sheet → step book (OnSheets (sheets.RenameSheet old name)) ≡ Ok (after, fields)
     → core_of after ≡ with_sheet_name index name (with_trees (changed_tree (sheet_named sheet.id name)) (core_of book))
 
 -- a new definition is meant by what can mean it

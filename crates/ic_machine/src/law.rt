@@ -2,7 +2,7 @@ ghost use Rattle.std.specs.Prelude.{List, ℕ};
 ghost use Rattle.ic_grid.specs.Shape.{celled};
 ghost use Rattle.ic_machine.specs.Alike.{HoldsAlike};
 ghost use Rattle.ic_machine.specs.Binds.{AddedIsMeant, DefinedIsMeant};
-ghost use Rattle.ic_machine.specs.Binds.{DeletedIsNotMeant, RenamedIsMeant};
+ghost use Rattle.ic_machine.specs.Binds.{DeletedIsNotMeant, RenamedByNameIsMeant, RenamedIsMeant};
 ghost use Rattle.ic_machine.specs.Book.{Book};
 ghost use Rattle.ic_machine.specs.Command.{Command};
 ghost use Rattle.ic_machine.specs.Content.{content_of, held};
@@ -110,6 +110,7 @@ pub fn law_core_stays_valid()
 pub fn law_bound_is_named()
     ensures added { AddedIsMeant }
     ensures renamed { RenamedIsMeant }
+    ensures by_name { RenamedByNameIsMeant }
     ensures defined { DefinedIsMeant }
     ensures deleted { DeletedIsNotMeant }
 {}
