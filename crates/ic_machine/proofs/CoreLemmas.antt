@@ -97,7 +97,7 @@ core_of-renamed index name b =
 pub core_of-removed : (index : ℕ) (b : Book) → core_of (with_removed_sheet index b) ≡ core.without_sheet index (core_of b)
 core_of-removed index b = ap (with_sheets b) (removed_seen core_sheet b.sheets index)
 
-insert-map : {X Y : Type 0} (f : X → Y) (xs : List X) (at : ℕ) (x : X) → map f (insert xs at x) ≡ insert (map f xs) at (f x)
+pub insert-map : {X Y : Type 0} (f : X → Y) (xs : List X) (at : ℕ) (x : X) → map f (insert xs at x) ≡ insert (map f xs) at (f x)
 insert-map f [] zero x = refl
 insert-map f [] (suc at) x = refl
 insert-map f (y ∷ xs) zero x = refl

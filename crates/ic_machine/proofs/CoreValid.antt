@@ -91,7 +91,7 @@ module _ (n : Notations) (scene : Scene) (s : Sheet) where
         (λ place content f. let at = finite.get-entries s.grid.contents place ∙ f in (inside place content at, formulas place content at)));
   }
 
-all_sheets : (n : Notations) (scene : Scene) (sheets : List Sheet) → AllByRecursion (λ (s : Sheet). IsId s.id) sheets → AllByRecursion (λ (s : Sheet). is_sheet_name s.name ≡ true) sheets
+pub all_sheets : (n : Notations) (scene : Scene) (sheets : List Sheet) → AllByRecursion (λ (s : Sheet). IsId s.id) sheets → AllByRecursion (λ (s : Sheet). is_sheet_name s.name ≡ true) sheets
     → AllByRecursion (λ (s : Sheet). AreInSheet held s.grid.contents) sheets → AllByRecursion (HasCellFormulas n scene) sheets → AllByRecursion (IsValidSheet n scene) (map core_sheet sheets)
 all_sheets n scene [] ids names inside formulas = tt
 all_sheets n scene (s ∷ sheets) ids names inside formulas =

@@ -5,6 +5,8 @@ pub mod CoreLemmas
 pub mod CoreValid
 pub mod FormulaLemmas
 pub mod FormulaStepped
+pub mod InsertedStays
+pub mod NamesStay
 pub mod NumberLemmas
 pub mod ReaderLemmas
 pub mod SceneLemmas

@@ -8,15 +8,15 @@ use Rattle.std.specs.FinMap as finite
 use Rattle.std.specs.List.{AllByRecursion, insert, remove, slice_get}
 use Rattle.std.specs.Option.{option_to_list}
 use Rattle.std.specs.Ordering.{int_cmp}
-use Rattle.std.specs.Prelude.{nat_lt, unwrap_or}
+use Rattle.std.specs.Prelude.{nat_lt}
 use Rattle.ic_laws.proofs.core.Lists.{all_pushed, all_removed, all_updated, removed_seen, updated_seen}
 use Rattle.ic_laws.proofs.keeping.Accepted.{accepted, none_holds}
 use Rattle.ic_laws.proofs.kept.Scenes.{FindsAlike, moved_alike}
 use Rattle.ic_laws.specs.Command as core
 use Rattle.ic_laws.specs.CoreBook as core_book
 use Rattle.ic_laws.specs.CoreBook.{CoreBook, Definition, greatest_id, ids_of, scene_of, spelling_of}
-use Rattle.ic_laws.specs.CoreStep.{Outcome, core_step, index_of_definition, index_of_id, index_of_name, move_causes, move_refusal, moved, new_definition, put_back, scope_or_none, updated_at}
-use Rattle.ic_laws.specs.FormulaReading.{Body, body_of}
+use Rattle.ic_laws.specs.CoreStep.{Outcome, core_step, move_causes, move_refusal, moved, new_definition, put_back, updated_at}
+use Rattle.ic_laws.specs.FormulaReading.{Body}
 use Rattle.ic_laws.specs.Greatest.{greatest}
 use Rattle.ic_laws.specs.Keeping.{kept_in_body, same_keys}
 use Rattle.ic_laws.specs.Notations.{Notations}
@@ -27,22 +27,20 @@ use Rattle.ic_cells.specs.Maps.{place_cmp}
 use Rattle.ic_grid.specs.Block.{Place}
 use Rattle.ic_machine.specs.Book.{Book, Sheet, as_core, core_of, core_sheet, empty_sheet, notations_in, scene_in}
 use Rattle.ic_machine.specs.Changed.{changed_by, with_definition, with_kept_formulas, with_kept_pool, with_moved_sheet, with_removed_sheet, with_renamed_sheet, without_definition}
-use Rattle.ic_machine.specs.Command.{Command, OnDefinitions, OnSheets}
+use Rattle.ic_machine.specs.Command.{Command, OnSheets}
 use Rattle.ic_machine.specs.Content.{Content}
 use Rattle.ic_machine.specs.Core.{core_command}
-use Rattle.ic_machine.specs.Kept.{StaysValid, StaysValidIf, keeps_definitions, keeps_sheets}
+use Rattle.ic_machine.specs.Kept.{StaysValid}
 use Rattle.ic_machine.specs.Reply.{of_core_fields}
 use Rattle.ic_machine.specs.Step.{step}
 use Rattle.ic_machine.specs.Valid.{IsValidBook}
-use Rattle.ic_machine.specs.subjects.Definitions as definitions
-use Rattle.ic_machine.specs.subjects.Definitions.{delete_name_step, definition_step, new_name_step, with_new_name}
+use Rattle.ic_machine.specs.subjects.Definitions.{with_new_name}
 use Rattle.ic_machine.specs.subjects.Sheets as sheets
 use Rattle.ic_machine.specs.subjects.Sheets.{add_sheet_step, delete_by_id_step, delete_by_name_step, delete_sheet_step, move_sheet_step, rename_by_index_step, rename_sheet_step, sheet_step, with_new_sheet}
 use Rattle.ic_machine.proofs.ChangedStays.{all_hold, changed_stays, holds_alike, kept_definitions, kept_sheets, rebuilt, scene_same, seen, seen_kept, spelled_kept}
 use Rattle.ic_machine.proofs.CoreLemmas.{core_of-moved}
 use Rattle.ic_machine.proofs.CoreValid.{core_stays, core_valid, map_twice}
-use Rattle.ic_machine.proofs.ReaderLemmas.{readers_leave}
-use Rattle.ic_machine.proofs.ValidLemmas.{HoldsOf, all_of, stays_leaving}
+use Rattle.ic_machine.proofs.ValidLemmas.{HoldsOf, all_of}
 
 -- a sheet that holds nothing ----
 
@@ -83,7 +81,7 @@ module _ (b : Book) (valid : IsValidBook b) where
   Holds scene s = HoldsOf (notations_in b) scene (length b.styles) s
 
   -- an accepted command leaves a valid core, and so a valid book
-  stays_lifted : (command : Command) (k : core.Command) (left : Book) → core_command command ≡ Some k → (o : Outcome) → step b command ≡ as_core o left
+  pub stays_lifted : (command : Command) (k : core.Command) (left : Book) → core_command command ≡ Some k → (o : Outcome) → step b command ≡ as_core o left
       → (IsValidCore (notations_in b) (core_of left) → IsValidBook left) → StaysValid (as_core o left)
   stays_lifted command k left is (Ok done) e h = h (core_stays b left command k (of_core_fields done.1) valid is e)
   stays_lifted command k left is (Err refusal) e h = tt
@@ -96,7 +94,7 @@ module _ (b : Book) (valid : IsValidBook b) where
   abbrev named_so : List ℕ → SheetName → SheetName
   named_so name m = record m { name = name }
 
-  renamed_stays : (index : ℕ) (name : List ℕ) → IsValidCore (notations_in b) (core_of (changed_by (with_renamed_sheet index name) b)) → IsValidBook (changed_by (with_renamed_sheet index name) b)
+  pub renamed_stays : (index : ℕ) (name : List ℕ) → IsValidCore (notations_in b) (core_of (changed_by (with_renamed_sheet index name) b)) → IsValidBook (changed_by (with_renamed_sheet index name) b)
   renamed_stays index name core =
       let later : Scene = scene_in (with_renamed_sheet index name b) in
       let kept : List Sheet = kept_sheets b valid later same_keys in
@@ -110,7 +108,7 @@ module _ (b : Book) (valid : IsValidBook b) where
       core
 
   -- one sheet less
-  removed_stays : (index : ℕ) → IsValidCore (notations_in b) (core_of (changed_by (with_removed_sheet index) b)) → IsValidBook (changed_by (with_removed_sheet index) b)
+  pub removed_stays : (index : ℕ) → IsValidCore (notations_in b) (core_of (changed_by (with_removed_sheet index) b)) → IsValidBook (changed_by (with_removed_sheet index) b)
   removed_stays index core =
       let later : Scene = scene_in (with_removed_sheet index b) in
       let kept : List Sheet = kept_sheets b valid later same_keys in
@@ -121,7 +119,7 @@ module _ (b : Book) (valid : IsValidBook b) where
 
   -- one sheet more, at the end ----
 
-  empty_holds : (scene : Scene) (id : ℕ) (name : List ℕ) → HoldsOf (notations_in b) scene (length b.styles) (empty_sheet id name)
+  pub empty_holds : (scene : Scene) (id : ℕ) (name : List ℕ) → HoldsOf (notations_in b) scene (length b.styles) (empty_sheet id name)
   empty_holds scene id name = record {
     pool = tt;
     inside = λ place content e. nothing_at _ place content e;
@@ -161,7 +159,7 @@ module _ (b : Book) (valid : IsValidBook b) where
   same_greatest : (later : Scene) → greatest_id (core_of (with_kept_formulas (notations_in b) (scene_in b) later same_keys b)) ≡ greatest_id (core_of b)
   same_greatest later = ap₂ (λ (ids scopes : List ℕ). greatest (ids ++ scopes)) (same_ids later) (scopes_kept later b.definitions)
 
-  added_stays : (name : List ℕ) → IsValidCore (notations_in b) (core_of (changed_by (with_new_sheet name) b)) → IsValidBook (changed_by (with_new_sheet name) b)
+  pub added_stays : (name : List ℕ) → IsValidCore (notations_in b) (core_of (changed_by (with_new_sheet name) b)) → IsValidBook (changed_by (with_new_sheet name) b)
   added_stays name core =
       let later : Scene = scene_in (with_new_sheet name b) in
       let kept : List Sheet = kept_sheets b valid later same_keys in
@@ -186,7 +184,7 @@ module _ (b : Book) (valid : IsValidBook b) where
       (all_moved (Holds after) from to b.sheets
       (all_of (Holds (scene_in b)) (Holds after) (holds_alike (notations_in b) (scene_in b) after alike (length b.styles)) b.sheets (all_hold b valid)))
 
-  move_stays : (from to : ℕ) (o : Outcome) → core_step (notations_in b) (core_of b) (core.MoveSheet from to) ≡ o → StaysValid (as_core o (with_moved_sheet from to b))
+  pub move_stays : (from to : ℕ) (o : Outcome) → core_step (notations_in b) (core_of b) (core.MoveSheet from to) ≡ o → StaysValid (as_core o (with_moved_sheet from to b))
   unfolding core_step move_sheet_step
   move_stays from to (Err refusal) e = tt
   move_stays from to (Ok done) e =
@@ -207,7 +205,7 @@ module _ (b : Book) (valid : IsValidBook b) where
       (map-append spelling_of bodies (new ∷ []) ∙ ap (λ ms. ms ++ spelling_of new ∷ []) (spelled_kept b valid later same_keys) ∙ sym (map-append spelling_of b.definitions (new ∷ []))))
       (λ holds. holds) core
 
-  undefined_stays : (index : Option ℕ) → IsValidCore (notations_in b) (core_of (changed_by (without_definition index) b)) → IsValidBook (changed_by (without_definition index) b)
+  pub undefined_stays : (index : Option ℕ) → IsValidCore (notations_in b) (core_of (changed_by (without_definition index) b)) → IsValidBook (changed_by (without_definition index) b)
   undefined_stays None core =
       let later : Scene = scene_in b in
       let kept : List Sheet = kept_sheets b valid later same_keys in
@@ -223,48 +221,6 @@ module _ (b : Book) (valid : IsValidBook b) where
       (removed_seen spelling_of bodies index ∙ ap (λ ms. remove ms index) (spelled_kept b valid later same_keys) ∙ sym (removed_seen spelling_of b.definitions index)))
       (λ holds. holds) core
 
-  named_stays : (name : List ℕ) (scope : Option ℕ) (body : Option Body) → IsValidCore (notations_in b) (core_of (with_new_name b name scope body)) → IsValidBook (with_new_name b name scope body)
+  pub named_stays : (name : List ℕ) (scope : Option ℕ) (body : Option Body) → IsValidCore (notations_in b) (core_of (with_new_name b name scope body)) → IsValidBook (with_new_name b name scope body)
   named_stays name scope None core = valid
   named_stays name scope (Some body) core = defined_stays (new_definition (notations_in b) (core_of b) name scope body) core
-
-  -- by commands ----
-
-  pub sheets_stay : (command : sheets.Sheets) → StaysValidIf (keeps_sheets command) (sheet_step b command)
-  unfolding add_sheet_step rename_sheet_step rename_by_index_step delete_sheet_step delete_by_name_step delete_by_id_step move_sheet_step
-  sheets_stay (sheets.AddSheet name) =
-      stays_lifted (OnSheets (sheets.AddSheet name)) (core.AddSheet name) (changed_by (with_new_sheet name) b) refl (core_step (notations_in b) (core_of b) (core.AddSheet name)) refl (added_stays name)
-  sheets_stay (sheets.RenameSheet old new) =
-      let index : ℕ = unwrap_or (index_of_name (core_of b) old) 0 in
-      stays_lifted (OnSheets (sheets.RenameSheet old new)) (core.RenameSheet old new) (changed_by (with_renamed_sheet index new) b) refl (core_step (notations_in b) (core_of b) (core.RenameSheet old new)) refl (renamed_stays index new)
-  sheets_stay (sheets.RenameSheetByIndex sheet name) =
-      stays_lifted (OnSheets (sheets.RenameSheetByIndex sheet name)) (core.RenameSheetByIndex sheet name) (changed_by (with_renamed_sheet sheet name) b) refl (core_step (notations_in b) (core_of b) (core.RenameSheetByIndex sheet name)) refl
-      (renamed_stays sheet name)
-  sheets_stay (sheets.MoveSheet sheet to) = move_stays sheet to (core_step (notations_in b) (core_of b) (core.MoveSheet sheet to)) refl
-  sheets_stay (sheets.DeleteSheet sheet) =
-      stays_lifted (OnSheets (sheets.DeleteSheet sheet)) (core.DeleteSheet sheet) (changed_by (with_removed_sheet sheet) b) refl (core_step (notations_in b) (core_of b) (core.DeleteSheet sheet)) refl (removed_stays sheet)
-  sheets_stay (sheets.DeleteSheetByName name) =
-      let index : ℕ = unwrap_or (index_of_name (core_of b) name) 0 in
-      stays_lifted (OnSheets (sheets.DeleteSheetByName name)) (core.DeleteSheetByName name) (changed_by (with_removed_sheet index) b) refl (core_step (notations_in b) (core_of b) (core.DeleteSheetByName name)) refl (removed_stays index)
-  sheets_stay (sheets.DeleteSheetBySheetId id) =
-      let index : ℕ = unwrap_or (index_of_id (core_of b) id) 0 in
-      stays_lifted (OnSheets (sheets.DeleteSheetBySheetId id)) (core.DeleteSheetBySheetId id) (changed_by (with_removed_sheet index) b) refl (core_step (notations_in b) (core_of b) (core.DeleteSheetBySheetId id)) refl (removed_stays index)
-  sheets_stay sheets.GetNewSheetId = stays_leaving b valid _ (readers_leave b (OnSheets sheets.GetNewSheetId))
-  sheets_stay sheets.GetWorksheetsProperties = stays_leaving b valid _ (readers_leave b (OnSheets sheets.GetWorksheetsProperties))
-  sheets_stay (sheets.InsertSheet name index id) = tt
-  sheets_stay sheets.NewSheet = tt
-  sheets_stay (sheets.DuplicateSheet sheet) = tt
-
-  pub definitions_stay : (command : definitions.Definitions) → StaysValidIf (keeps_definitions command) (definition_step b command)
-  unfolding new_name_step delete_name_step
-  definitions_stay (definitions.NewDefinedName name scope body) =
-      let left : Book = with_new_name b name (scope_or_none (core_of b) scope) (body_of (notations_in b) (core_of b) body) in
-      stays_lifted (OnDefinitions (definitions.NewDefinedName name scope body)) (core.NewDefinedName name scope body) left refl (core_step (notations_in b) (core_of b) (core.NewDefinedName name scope body)) refl
-      (named_stays name (scope_or_none (core_of b) scope) (body_of (notations_in b) (core_of b) body))
-  definitions_stay (definitions.DeleteDefinedName name scope) =
-      let index : Option ℕ = index_of_definition (core_of b) name (scope_or_none (core_of b) scope) in
-      stays_lifted (OnDefinitions (definitions.DeleteDefinedName name scope)) (core.DeleteDefinedName name scope) (changed_by (without_definition index) b) refl (core_step (notations_in b) (core_of b) (core.DeleteDefinedName name scope)) refl
-      (undefined_stays index)
-  definitions_stay (definitions.WouldCaptureName update) = stays_leaving b valid _ (readers_leave b (OnDefinitions (definitions.WouldCaptureName update)))
-  definitions_stay (definitions.IsValidDefinedName name scope body) = stays_leaving b valid _ (readers_leave b (OnDefinitions (definitions.IsValidDefinedName name scope body)))
-  definitions_stay definitions.GetDefinedNameList = stays_leaving b valid _ (readers_leave b (OnDefinitions definitions.GetDefinedNameList))
-  definitions_stay (definitions.UpdateDefinedName update) = tt

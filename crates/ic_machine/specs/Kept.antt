@@ -1,6 +1,7 @@
 -- A step keeps what always holds of a book.
-use Rattle.std.specs.Prelude.{◌≡◌, List, Bool, true, false, Some, Ok, Err}
+use Rattle.std.specs.Prelude.{◌≡◌, ℕ, List, Bool, true, false, not, nat_lt, Option, Some, None, Ok, Err}
 use Rattle.ic_laws.specs.Command as core
+use Rattle.ic_laws.specs.CoreBook.{last_id}
 use Rattle.ic_laws.specs.ValidCore.{IsValidCore}
 use Rattle.ic_machine.specs.Book.{Book, Stepped, core_of, notations_in}
 use Rattle.ic_machine.specs.Command.{Command}
@@ -30,9 +31,15 @@ StaysValidIf false stepped = Unit {0}
 abbrev pub KeepsValidIf : {C : Type 0} → (C → Bool) → (Book → C → Stepped Book) → Type 0
 KeepsValidIf {C} asked step = (book : Book) (command : C) → IsValidBook book → StaysValidIf (asked command) (step book command)
 
--- of which commands on sheets this is shown: all but one that inserts a sheet, makes one of a new name or copies one
+-- an id that a word can say, or none
+abbrev pub is_given_id : Option ℕ → Bool
+is_given_id None = true
+is_given_id (Some id) = not (nat_lt last_id id)
+
+-- of which commands on sheets this is shown: all but one that makes a sheet of a new name or copies one. The id of a sheet
+-- that is inserted is one that a word can say.
 abbrev pub keeps_sheets : Sheets → Bool
-keeps_sheets (sheets.InsertSheet name index id) = false
+keeps_sheets (sheets.InsertSheet name index id) = is_given_id id
 keeps_sheets sheets.NewSheet = false
 keeps_sheets (sheets.DuplicateSheet sheet) = false
 keeps_sheets command = true

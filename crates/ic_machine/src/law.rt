@@ -83,7 +83,8 @@ pub fn law_formula_is_stepped()
 
 /// A command on the notation, one that writes a cell, a reader of cells, one that writes a formula out for another place,
 /// one on styles, on the layout, on tabs or on the theme keeps what always holds of a book. So does one on sheets, but for
-/// inserting, making and copying one, and one on definitions, but for an update.
+/// making one of a new name and copying one, where an id that is given is one that a word can say; and one on definitions,
+/// but for an update.
 pub fn law_book_stays_valid()
     ensures notation { KeepsValid notation_step }
     ensures writing { KeepsValid writing_step }

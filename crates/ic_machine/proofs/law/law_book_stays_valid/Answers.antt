@@ -1,4 +1,4 @@
-use Rattle.ic_machine.proofs.SheetsStay.{definitions_stay, sheets_stay}
+use Rattle.ic_machine.proofs.NamesStay.{definitions_stay, sheets_stay}
 use Rattle.ic_machine.proofs.StylesStay.{styles_stay}
 use Rattle.ic_machine.proofs.SubjectsStay.{extending_stays, layout_stays, notation_stays, reading_stays, tabs_are}
 use Rattle.ic_machine.proofs.WritingSteps.{writing_stays}
