@@ -49,7 +49,7 @@ named_cores : (sheets : List Sheet) → AllByRecursion (λ (s : Sheet). is_sheet
 named_cores [] h = tt
 named_cores (s ∷ sheets) h = (h.0, named_cores sheets h.1)
 
-distinct_inserted : {X : Type 0} {same : X → X → Bool} → IsEquivalence same → (xs : List X) (index : ℕ) (x : X) → IsDistinct same xs → list_any (same x) xs ≡ false → IsDistinct same (insert xs index x)
+pub distinct_inserted : {X : Type 0} {same : X → X → Bool} → IsEquivalence same → (xs : List X) (index : ℕ) (x : X) → IsDistinct same xs → list_any (same x) xs ≡ false → IsDistinct same (insert xs index x)
 distinct_inserted {X} {same} equiv xs index x d e =
     IsDistinct-IsPermutation same equiv.symm (x ∷ xs) (insert xs index x) (IsPermutation-insert xs index x) (IsDistinct-cons same x xs (none_passes (same x) xs e) d)
 

@@ -5,6 +5,7 @@ pub mod CoreLemmas
 pub mod CoreValid
 pub mod FormulaLemmas
 pub mod FormulaStepped
+pub mod InsertedBinds
 pub mod InsertedStays
 pub mod NamesStay
 pub mod NumberLemmas
