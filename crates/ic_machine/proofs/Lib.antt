@@ -8,6 +8,8 @@ pub mod FormulaStepped
 pub mod InsertedBinds
 pub mod InsertedStays
 pub mod NamesStay
+pub mod NewNames
+pub mod NewSheetStays
 pub mod NumberLemmas
 pub mod ReaderLemmas
 pub mod SceneLemmas

@@ -16,6 +16,7 @@ use Rattle.ic_machine.specs.subjects.Sheets.{add_sheet_step, delete_by_id_step, 
 use Rattle.ic_machine.proofs.ReaderLemmas.{readers_leave}
 use Rattle.ic_machine.proofs.ValidLemmas.{stays_leaving}
 use Rattle.ic_machine.proofs.InsertedStays.{insert_stays}
+use Rattle.ic_machine.proofs.NewSheetStays.{new_sheet_stays}
 use Rattle.ic_machine.proofs.SheetsStay.{added_stays, move_stays, named_stays, removed_stays, renamed_stays, stays_lifted, undefined_stays}
 
 -- what is asked of a command where a test is passed
@@ -46,7 +47,7 @@ module _ (b : Book) (valid : IsValidBook b) where
   sheets_stay sheets.GetNewSheetId = stays_leaving b valid _ (readers_leave b (OnSheets sheets.GetNewSheetId))
   sheets_stay sheets.GetWorksheetsProperties = stays_leaving b valid _ (readers_leave b (OnSheets sheets.GetWorksheetsProperties))
   sheets_stay (sheets.InsertSheet name index id) = by_asking (is_given_id id) _ (insert_stays b valid name index id)
-  sheets_stay sheets.NewSheet = tt
+  sheets_stay sheets.NewSheet = new_sheet_stays b valid
   sheets_stay (sheets.DuplicateSheet sheet) = tt
 
   pub definitions_stay : (command : definitions.Definitions) → StaysValidIf (keeps_definitions command) (definition_step b command)

@@ -15,13 +15,21 @@ use Rattle.ic_machine.specs.Step.{step}
 use Rattle.ic_machine.specs.Valid.{IsValidBook}
 use Rattle.ic_machine.specs.subjects.Definitions as definitions
 use Rattle.ic_machine.specs.subjects.Sheets as sheets
-use Rattle.ic_machine.specs.subjects.Sheets.{chosen_id}
+use Rattle.ic_machine.specs.subjects.Sheets.{chosen_id, new_sheet_name}
 
 -- a new sheet is meant by what dangled by a name that agrees with its own
 abbrev pub AddedIsMeant : Type 0
 AddedIsMeant =
     (book after : Book) (name : List ℕ) (fields : List Field) → IsValidBook book → step book (OnSheets (sheets.AddSheet name)) ≡ Ok (after, fields)
     → core_of after ≡ with_sheet_at_end (greatest_id (core_of book) + 1) name (with_trees (changed_tree (sheet_named (greatest_id (core_of book) + 1) name)) (core_of book))
+
+-- so is one of a new name with a number
+abbrev pub NewIsMeant : Type 0
+NewIsMeant =
+    (book after : Book) (fields : List Field) → IsValidBook book → step book (OnSheets sheets.NewSheet) ≡ Ok (after, fields)
+    → core_of after
+    ≡ with_sheet_at_end (greatest_id (core_of book) + 1) (new_sheet_name book)
+    (with_trees (changed_tree (sheet_named (greatest_id (core_of book) + 1) (new_sheet_name book))) (core_of book))
 
 -- so is one that is put in among the others
 abbrev pub with_sheet_among : ℕ → ℕ → List ℕ → CoreBook → CoreBook

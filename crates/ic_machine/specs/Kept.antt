@@ -36,11 +36,10 @@ abbrev pub is_given_id : Option ℕ → Bool
 is_given_id None = true
 is_given_id (Some id) = not (nat_lt last_id id)
 
--- of which commands on sheets this is shown: all but one that makes a sheet of a new name or copies one. The id of a sheet
--- that is inserted is one that a word can say.
+-- of which commands on sheets this is shown: all but one that copies a sheet. The id of a sheet that is inserted is one that
+-- a word can say.
 abbrev pub keeps_sheets : Sheets → Bool
 keeps_sheets (sheets.InsertSheet name index id) = is_given_id id
-keeps_sheets sheets.NewSheet = false
 keeps_sheets (sheets.DuplicateSheet sheet) = false
 keeps_sheets command = true
 

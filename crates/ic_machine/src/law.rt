@@ -2,7 +2,8 @@ ghost use Rattle.std.specs.Prelude.{List, ℕ};
 ghost use Rattle.ic_grid.specs.Shape.{celled};
 ghost use Rattle.ic_machine.specs.Alike.{HoldsAlike};
 ghost use Rattle.ic_machine.specs.Binds.{AddedIsMeant, DefinedIsMeant, InsertedIsMeant};
-ghost use Rattle.ic_machine.specs.Binds.{DeletedIsNotMeant, RenamedByNameIsMeant, RenamedIsMeant};
+ghost use Rattle.ic_machine.specs.Binds.{DeletedIsNotMeant, NewIsMeant};
+ghost use Rattle.ic_machine.specs.Binds.{RenamedByNameIsMeant, RenamedIsMeant};
 ghost use Rattle.ic_machine.specs.Book.{Book};
 ghost use Rattle.ic_machine.specs.Command.{Command};
 ghost use Rattle.ic_machine.specs.Content.{content_of, held};
@@ -83,8 +84,7 @@ pub fn law_formula_is_stepped()
 
 /// A command on the notation, one that writes a cell, a reader of cells, one that writes a formula out for another place,
 /// one on styles, on the layout, on tabs or on the theme keeps what always holds of a book. So does one on sheets, but for
-/// making one of a new name and copying one, where an id that is given is one that a word can say; and one on definitions,
-/// but for an update.
+/// copying one, where an id that is given is one that a word can say; and one on definitions, but for an update.
 pub fn law_book_stays_valid()
     ensures notation { KeepsValid notation_step }
     ensures writing { KeepsValid writing_step }
@@ -110,6 +110,7 @@ pub fn law_core_stays_valid()
 /// dangles. Each other mention is what it was.
 pub fn law_bound_is_named()
     ensures added { AddedIsMeant }
+    ensures new { NewIsMeant }
     ensures inserted { InsertedIsMeant }
     ensures renamed { RenamedIsMeant }
     ensures by_name { RenamedByNameIsMeant }
