@@ -1,7 +1,7 @@
--- What the formulas of a valid book mention after a command that adds, puts in or renames a sheet, or adds or deletes a definition:
--- what dangled and is bound then means that sheet or that definition, what meant a deleted definition means the one for all
--- sheets that is in sight then, or dangles, and each other mention is what it was. Formulas are those of the core: of each
--- cell, and the bodies.
+-- What the formulas of a valid book mention after a command that adds, puts in or renames a sheet, or adds or deletes a
+-- definition: what dangled and is bound then means that sheet or that definition, what meant a deleted definition means the
+-- one for all sheets that is in sight then, or dangles, and each other mention is what it was. Formulas are those of the
+-- core: of each cell, and the bodies.
 use Rattle.std.specs.Prelude.{◌≡◌, ℕ, ◌+◌, List, [], Option, Some, Ok, insert, slice_get}
 use Rattle.ic_laws.specs.BookTrees.{with_sheet_at_end, with_trees}
 use Rattle.ic_laws.specs.Changes.{changed_tree, name_added, name_gone, sheet_named}
