@@ -1,14 +1,14 @@
 -- What is bound after a command, by the core machine's laws.
-use Rattle.std.proofs.Common.{◌≡◌, List, Some, Ok, Err, refl, sym, ap, subst, ◌∙◌}
+use Rattle.std.proofs.Common.{◌≡◌, ℕ, List, Option, Some, Ok, Err, refl, sym, ap, subst, ◌∙◌}
 use Rattle.std.proofs.lemmas.Option.{slice_get-map}
 use Rattle.std.specs.Prelude.{option_map}
 use Rattle.ic_laws.proofs.keeping.Deletes.{delete_name_dangles, new_name_binds}
 use Rattle.ic_laws.proofs.keeping.Renames.{add_binds, rename_binds}
 use Rattle.ic_laws.specs.Command as core
 use Rattle.ic_laws.specs.CoreBook.{CoreBook}
-use Rattle.ic_laws.specs.CoreStep.{Outcome, core_step}
+use Rattle.ic_laws.specs.CoreStep.{Outcome, at_found, core_step, rename_step}
 use Rattle.ic_tree.proofs.NotationLaws.{notations_are}
-use Rattle.ic_machine.specs.Binds.{AddedIsMeant, DefinedIsMeant, DeletedIsNotMeant, RenamedIsMeant}
+use Rattle.ic_machine.specs.Binds.{AddedIsMeant, DefinedIsMeant, DeletedIsNotMeant, RenamedByNameIsMeant, RenamedIsMeant}
 use Rattle.ic_machine.specs.Book.{Book, Stepped, core_of, core_sheet, notations_in}
 use Rattle.ic_machine.specs.Command.{Command, OnDefinitions, OnSheets}
 use Rattle.ic_machine.specs.Core.{IsSteppedAs, core_command, told_by, told_by_core}
@@ -45,6 +45,14 @@ renamed_is_meant b after index name sheet fields valid at e =
     let left = core_left b after (OnSheets (sheets.RenameSheetByIndex index name)) (core.RenameSheetByIndex index name) fields refl e in
     rename_binds (notations_in b) (core_of b) (core_of after) index name (core_sheet sheet) left.0 (notations_are b.tables valid.tables) (core_valid b valid)
     (slice_get-map core_sheet b.sheets index ∙ ap (option_map core_sheet) at) left.1
+
+pub renamed_by_name_is_meant : RenamedByNameIsMeant
+unfolding core_step
+renamed_by_name_is_meant b after old name index sheet fields valid found at e =
+    let left = core_left b after (OnSheets (sheets.RenameSheet old name)) (core.RenameSheet old name) fields refl e in
+    rename_binds (notations_in b) (core_of b) (core_of after) index name (core_sheet sheet) left.0 (notations_are b.tables valid.tables) (core_valid b valid)
+    (slice_get-map core_sheet b.sheets index ∙ ap (option_map core_sheet) at)
+    (sym (ap (λ (o : Option ℕ). at_found o (λ i. rename_step (notations_in b) (core_of b) i name)) found) ∙ left.1)
 
 pub defined_is_meant : DefinedIsMeant
 unfolding core_step

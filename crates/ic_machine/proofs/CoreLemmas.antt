@@ -16,15 +16,16 @@ use Rattle.ic_laws.specs.declared.scene.Scene.{Scene}
 use Rattle.ic_laws.specs.declared.tree.Formula.{Formula}
 use Rattle.ic_laws.specs.declared.tree.Formula.TheVariants as formulas
 use Rattle.ic_cells.specs.Maps.{place_cmp}
+use Rattle.ic_machine.specs.Binds.{with_sheet_among}
 use Rattle.ic_machine.specs.Book as book
 use Rattle.ic_machine.specs.Book.{Book, Entry, core_cells, core_entry, core_of, core_sheet, empty_sheet, notations_in, scene_in}
 use Rattle.ic_machine.specs.Changed.{changed_by, with_definition, with_kept_formulas, with_kept_pool, with_moved_sheet, with_removed_sheet, with_renamed_sheet, without_definition}
 use Rattle.ic_machine.specs.Content.{Content, formula_in, formula_index}
-use Rattle.ic_machine.specs.subjects.Sheets.{with_new_sheet}
+use Rattle.ic_machine.specs.subjects.Sheets.{with_inserted_sheet, with_new_sheet}
 
 -- formulas that are replaced, each by its own ----
 
-formula_in-map : (f : Formula → Formula) → f (formulas.Raw []) ≡ formulas.Raw [] → (pool : List Formula) (at : ℕ) → formula_in (map f pool) at ≡ f (formula_in pool at)
+pub formula_in-map : (f : Formula → Formula) → f (formulas.Raw []) ≡ formulas.Raw [] → (pool : List Formula) (at : ℕ) → formula_in (map f pool) at ≡ f (formula_in pool at)
 formula_in-map f blank [] at = sym blank
 formula_in-map f blank (x ∷ pool) zero = refl
 formula_in-map f blank (x ∷ pool) (suc at) = formula_in-map f blank pool at
@@ -97,11 +98,16 @@ core_of-renamed index name b =
 pub core_of-removed : (index : ℕ) (b : Book) → core_of (with_removed_sheet index b) ≡ core.without_sheet index (core_of b)
 core_of-removed index b = ap (with_sheets b) (removed_seen core_sheet b.sheets index)
 
-insert-map : {X Y : Type 0} (f : X → Y) (xs : List X) (at : ℕ) (x : X) → map f (insert xs at x) ≡ insert (map f xs) at (f x)
+pub insert-map : {X Y : Type 0} (f : X → Y) (xs : List X) (at : ℕ) (x : X) → map f (insert xs at x) ≡ insert (map f xs) at (f x)
 insert-map f [] zero x = refl
 insert-map f [] (suc at) x = refl
 insert-map f (y ∷ xs) zero x = refl
 insert-map f (y ∷ xs) (suc at) x = ap (λ rest. f y ∷ rest) (insert-map f xs at x)
+
+pub core_of-inserted : (index id : ℕ) (name : List ℕ) (b : Book) → core_of (with_inserted_sheet index id name b) ≡ with_sheet_among index id name (core_of b)
+core_of-inserted index id name b =
+    ap (with_sheets b)
+    (insert-map core_sheet b.sheets index (empty_sheet id name) ∙ ap (λ (s : Sheet). insert (map core_sheet b.sheets) index s) (core_sheet-empty id name))
 
 put_back-map : {X Y : Type 0} (f : X → Y) (to : ℕ) (xs : List X) (o : Option X) → map f (put_back to xs o) ≡ put_back to (map f xs) (option_map f o)
 put_back-map f to xs None = refl

@@ -91,7 +91,7 @@ module _ (n : Notations) (scene : Scene) (s : Sheet) where
         (λ place content f. let at = finite.get-entries s.grid.contents place ∙ f in (inside place content at, formulas place content at)));
   }
 
-all_sheets : (n : Notations) (scene : Scene) (sheets : List Sheet) → AllByRecursion (λ (s : Sheet). IsId s.id) sheets → AllByRecursion (λ (s : Sheet). is_sheet_name s.name ≡ true) sheets
+pub all_sheets : (n : Notations) (scene : Scene) (sheets : List Sheet) → AllByRecursion (λ (s : Sheet). IsId s.id) sheets → AllByRecursion (λ (s : Sheet). is_sheet_name s.name ≡ true) sheets
     → AllByRecursion (λ (s : Sheet). AreInSheet held s.grid.contents) sheets → AllByRecursion (HasCellFormulas n scene) sheets → AllByRecursion (IsValidSheet n scene) (map core_sheet sheets)
 all_sheets n scene [] ids names inside formulas = tt
 all_sheets n scene (s ∷ sheets) ids names inside formulas =
@@ -103,7 +103,7 @@ all_definitions n scene [] names scopes bodies = tt
 all_definitions n scene (d ∷ definitions) names scopes bodies =
     (record { name = names.0; scope = scopes.0; body = bodies.0 }, all_definitions n scene definitions names.1 scopes.1 bodies.1)
 
-map_twice : {A B C : Type 0} (f : A → B) (g : B → C) (xs : List A) → map (λ x. g (f x)) xs ≡ map g (map f xs)
+pub map_twice : {A B C : Type 0} (f : A → B) (g : B → C) (xs : List A) → map (λ x. g (f x)) xs ≡ map g (map f xs)
 map_twice f g [] = refl
 map_twice f g (x ∷ xs) = ap (λ rest. g (f x) ∷ rest) (map_twice f g xs)
 

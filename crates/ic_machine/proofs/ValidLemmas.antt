@@ -47,7 +47,7 @@ module _ {X : Type 0} (P : X → Type 0) where
   all_at zero (y ∷ xs) x h e = let same : y ≡ x = cc in subst P same h.0
   all_at (suc i) (y ∷ xs) x h e = all_at i xs x h.1 e
 
-all_of : {X : Type 0} (P Q : X → Type 0) → ((x : X) → P x → Q x) → (xs : List X) → AllByRecursion P xs → AllByRecursion Q xs
+pub all_of : {X : Type 0} (P Q : X → Type 0) → ((x : X) → P x → Q x) → (xs : List X) → AllByRecursion P xs → AllByRecursion Q xs
 all_of P Q more [] h = tt
 all_of P Q more (x ∷ xs) h = (more x h.0, all_of P Q more xs h.1)
 

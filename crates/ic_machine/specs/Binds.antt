@@ -1,12 +1,12 @@
--- What the formulas of a valid book mention after a command that adds or renames a sheet, or adds or deletes a definition:
--- what dangled and is bound then means that sheet or that definition, what meant a deleted definition means the one for all
--- sheets that is in sight then, or dangles, and each other mention is what it was. Formulas are those of the core: of each
--- cell, and the bodies.
-use Rattle.std.specs.Prelude.{◌≡◌, ℕ, ◌+◌, List, Option, Some, Ok, slice_get}
+-- What the formulas of a valid book mention after a command that adds, puts in or renames a sheet, or adds or deletes a
+-- definition: what dangled and is bound then means that sheet or that definition, what meant a deleted definition means the
+-- one for all sheets that is in sight then, or dangles, and each other mention is what it was. Formulas are those of the
+-- core: of each cell, and the bodies.
+use Rattle.std.specs.Prelude.{◌≡◌, ℕ, ◌+◌, List, [], Option, Some, Ok, insert, slice_get}
 use Rattle.ic_laws.specs.BookTrees.{with_sheet_at_end, with_trees}
 use Rattle.ic_laws.specs.Changes.{changed_tree, name_added, name_gone, sheet_named}
-use Rattle.ic_laws.specs.CoreBook.{Definition, greatest_id, scene_of, spelling_of}
-use Rattle.ic_laws.specs.CoreStep.{index_of_definition, new_definition, scope_or_none, with_definition, with_sheet_name, without_definition}
+use Rattle.ic_laws.specs.CoreBook.{CoreBook, Definition, greatest_id, scene_of, spelling_of}
+use Rattle.ic_laws.specs.CoreStep.{index_of_definition, index_of_name, new_definition, scope_or_none, with_definition, with_sheet_name, without_definition}
 use Rattle.ic_laws.specs.FormulaReading.{Body, body_of}
 use Rattle.ic_machine.specs.Book.{Book, Sheet, core_of, notations_in}
 use Rattle.ic_machine.specs.Command.{OnDefinitions, OnSheets}
@@ -15,6 +15,7 @@ use Rattle.ic_machine.specs.Step.{step}
 use Rattle.ic_machine.specs.Valid.{IsValidBook}
 use Rattle.ic_machine.specs.subjects.Definitions as definitions
 use Rattle.ic_machine.specs.subjects.Sheets as sheets
+use Rattle.ic_machine.specs.subjects.Sheets.{chosen_id, new_sheet_name}
 
 -- a new sheet is meant by what dangled by a name that agrees with its own
 abbrev pub AddedIsMeant : Type 0
@@ -22,11 +23,36 @@ AddedIsMeant =
     (book after : Book) (name : List ℕ) (fields : List Field) → IsValidBook book → step book (OnSheets (sheets.AddSheet name)) ≡ Ok (after, fields)
     → core_of after ≡ with_sheet_at_end (greatest_id (core_of book) + 1) name (with_trees (changed_tree (sheet_named (greatest_id (core_of book) + 1) name)) (core_of book))
 
+-- so is one of a new name with a number
+abbrev pub NewIsMeant : Type 0
+NewIsMeant =
+    (book after : Book) (fields : List Field) → IsValidBook book → step book (OnSheets sheets.NewSheet) ≡ Ok (after, fields)
+    → core_of after
+    ≡ with_sheet_at_end (greatest_id (core_of book) + 1) (new_sheet_name book)
+    (with_trees (changed_tree (sheet_named (greatest_id (core_of book) + 1) (new_sheet_name book))) (core_of book))
+
+-- so is one that is put in among the others
+abbrev pub with_sheet_among : ℕ → ℕ → List ℕ → CoreBook → CoreBook
+with_sheet_among index id name book = record book { sheets = insert book.sheets index (record { id = id; name = name; cells = [] }) }
+
+abbrev pub InsertedIsMeant : Type 0
+InsertedIsMeant =
+    (book after : Book) (name : List ℕ) (index : ℕ) (given : Option ℕ) (id : ℕ) (fields : List Field) → IsValidBook book → chosen_id (core_of book) given ≡ Some id
+    → step book (OnSheets (sheets.InsertSheet name index given)) ≡ Ok (after, fields)
+    → core_of after ≡ with_sheet_among index id name (with_trees (changed_tree (sheet_named id name)) (core_of book))
+
 -- so is a renamed one, by its new name
 abbrev pub RenamedIsMeant : Type 0
 RenamedIsMeant =
     (book after : Book) (index : ℕ) (name : List ℕ) (sheet : Sheet) (fields : List Field) → IsValidBook book → slice_get book.sheets index ≡ Some sheet
     → step book (OnSheets (sheets.RenameSheetByIndex index name)) ≡ Ok (after, fields)
+    → core_of after ≡ with_sheet_name index name (with_trees (changed_tree (sheet_named sheet.id name)) (core_of book))
+
+-- so is one that is renamed by its old name, which is that of the first sheet whose name agrees
+abbrev pub RenamedByNameIsMeant : Type 0
+RenamedByNameIsMeant =
+    (book after : Book) (old name : List ℕ) (index : ℕ) (sheet : Sheet) (fields : List Field) → IsValidBook book → index_of_name (core_of book) old ≡ Some index
+    → slice_get book.sheets index ≡ Some sheet → step book (OnSheets (sheets.RenameSheet old name)) ≡ Ok (after, fields)
     → core_of after ≡ with_sheet_name index name (with_trees (changed_tree (sheet_named sheet.id name)) (core_of book))
 
 -- a new definition is meant by what can mean it

@@ -1,6 +1,7 @@
 -- A step keeps what always holds of a book.
-use Rattle.std.specs.Prelude.{◌≡◌, List, Some, Ok, Err}
+use Rattle.std.specs.Prelude.{◌≡◌, ℕ, List, Bool, true, false, not, nat_lt, Option, Some, None, Ok, Err}
 use Rattle.ic_laws.specs.Command as core
+use Rattle.ic_laws.specs.CoreBook.{last_id}
 use Rattle.ic_laws.specs.ValidCore.{IsValidCore}
 use Rattle.ic_machine.specs.Book.{Book, Stepped, core_of, notations_in}
 use Rattle.ic_machine.specs.Command.{Command}
@@ -8,6 +9,10 @@ use Rattle.ic_machine.specs.Core.{core_command}
 use Rattle.ic_machine.specs.Reply.{Field}
 use Rattle.ic_machine.specs.Step.{step}
 use Rattle.ic_machine.specs.Valid.{IsValidBook}
+use Rattle.ic_machine.specs.subjects.Definitions as definitions
+use Rattle.ic_machine.specs.subjects.Definitions.{Definitions}
+use Rattle.ic_machine.specs.subjects.Sheets as sheets
+use Rattle.ic_machine.specs.subjects.Sheets.{Sheets}
 
 -- what a step leaves, if it isn't refused, is a valid book
 abbrev pub StaysValid : Stepped Book → Type 0
@@ -17,6 +22,31 @@ StaysValid (Err refusal) = Unit {0}
 -- so do the steps of all commands of a subject
 abbrev pub KeepsValid : {C : Type 0} → (Book → C → Stepped Book) → Type 0
 KeepsValid {C} step = (book : Book) (command : C) → IsValidBook book → StaysValid (step book command)
+
+-- the same, asked of some commands of a subject alone
+abbrev pub StaysValidIf : Bool → Stepped Book → Type 0
+StaysValidIf true stepped = StaysValid stepped
+StaysValidIf false stepped = Unit {0}
+
+abbrev pub KeepsValidIf : {C : Type 0} → (C → Bool) → (Book → C → Stepped Book) → Type 0
+KeepsValidIf {C} asked step = (book : Book) (command : C) → IsValidBook book → StaysValidIf (asked command) (step book command)
+
+-- an id that a word can say, or none
+abbrev pub is_given_id : Option ℕ → Bool
+is_given_id None = true
+is_given_id (Some id) = not (nat_lt last_id id)
+
+-- of which commands on sheets this is shown: all but one that copies a sheet. The id of a sheet that is inserted is one that
+-- a word can say.
+abbrev pub keeps_sheets : Sheets → Bool
+keeps_sheets (sheets.InsertSheet name index id) = is_given_id id
+keeps_sheets (sheets.DuplicateSheet sheet) = false
+keeps_sheets command = true
+
+-- and of which on definitions: all but an update
+abbrev pub keeps_definitions : Definitions → Bool
+keeps_definitions (definitions.UpdateDefinedName update) = false
+keeps_definitions command = true
 
 -- the core of a valid book is a valid book of the core machine
 abbrev pub CoreIsValid : Type 0

@@ -1,3 +1,4 @@
+use Rattle.ic_machine.proofs.NamesStay.{definitions_stay, sheets_stay}
 use Rattle.ic_machine.proofs.StylesStay.{styles_stay}
 use Rattle.ic_machine.proofs.SubjectsStay.{extending_stays, layout_stays, notation_stays, reading_stays, tabs_are}
 use Rattle.ic_machine.proofs.WritingSteps.{writing_stays}
@@ -12,4 +13,6 @@ returns c = record {
   styles = styles_stay;
   layout = layout_stays;
   tabs = tabs_are;
+  sheets = λ b command valid. sheets_stay b valid command;
+  definitions = λ b command valid. definitions_stay b valid command;
 }
