@@ -7,8 +7,16 @@ pub mod KeyLemmas
 pub mod LoosenLemmas
 pub mod PrepareLemmas
 pub mod ReleaseLemmas
+pub mod RoomLemmas
 pub mod RowLemmas
 pub mod SoughtLemmas
+pub mod SpillAllowed
+pub mod SpillCells
+pub mod SpillFilled
+pub mod SpillFits
+pub mod SpillLemmas
+pub mod SpillPlaced
+pub mod SpillWhole
 pub mod SpreadLemmas
 pub mod ValueLemmas
 pub mod ValueWhole

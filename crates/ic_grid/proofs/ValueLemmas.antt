@@ -25,7 +25,7 @@ use Rattle.ic_grid.specs.Value.{IsArrayThere, formula_array, is_cse_anchor, shap
 use Rattle.ic_grid.specs.declared.block.Array.{Array}
 
 -- what stands where an array formula does
-there_array : (p : Place) (o : Option Cell) (f s : ℕ) (array : Array) → formula_array p o ≡ Some (f, s, array)
+pub there_array : (p : Place) (o : Option Cell) (f s : ℕ) (array : Array) → formula_array p o ≡ Some (f, s, array)
     → (v : FormulaValue) × (o ≡ Some (cells.ArrayFormula f s (array.block.width, array.block.height) array.kind v)) × (block_at p array.block.width array.block.height ≡ array.block)
 there_array p None f s array e = cc
 there_array p (Some (cells.EmptyCell n)) f s array e = cc

@@ -8,6 +8,7 @@ pub mod Contents
 pub mod Lines
 pub mod Merges
 pub mod Prepare
+pub mod Room
 pub mod Rows
 pub mod Shape
 pub mod Spill

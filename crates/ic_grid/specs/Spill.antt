@@ -1,9 +1,13 @@
 -- What becomes of a sheet when an array is written or gets its values, and which cell blocks a spill.
-use Rattle.std.specs.Prelude.{ℕ, zero, suc, ℤ, pos, ◌*ℤ◌, Bool, false, not, ◌&&◌, ◌||◌, List, [], ◌∷◌, Option, Some, None, if◌then◌else◌}
+use Rattle.std.specs.Prelude.{ℕ, zero, suc, ℤ, pos, ◌*ℤ◌, Bool, true, false, not, ◌&&◌, ◌||◌, List, [], ◌∷◌, Option, Some, None, if◌then◌else◌}
 use Rattle.std.specs.FinMap as finite
+use Rattle.std.specs.Option.{option_map, unwrap_or}
 use Rattle.std.specs.Ordering.{int_eq}
 use Rattle.ic_cells.specs.Style as styling
+use Rattle.ic_cells.specs.declared.cell.ArrayKind.{ArrayKind}
 use Rattle.ic_cells.specs.declared.cell.ArrayKind.TheVariants as kinds
+use Rattle.ic_cells.specs.declared.cell.Cell.{Cell}
+use Rattle.ic_cells.specs.declared.cell.Cell.TheVariants as cells
 use Rattle.ic_cells.specs.declared.layout.Merge.{Merge}
 use Rattle.ic_cells.specs.declared.style.Style.{Style}
 use Rattle.ic_cells.specs.declared.value.SpillValue.{SpillValue}
@@ -12,7 +16,7 @@ use Rattle.ic_grid.specs.Block.{Place, first_place, has_places, is_in_sheet, is_
 use Rattle.ic_grid.specs.Contents.{Contents}
 use Rattle.ic_grid.specs.Merges.{is_merged}
 use Rattle.ic_grid.specs.Prepare.{all_prepared, without_spill}
-use Rattle.ic_grid.specs.Shape.{Holding, Shape, Anchor, gathered, is_empty, is_spill_of}
+use Rattle.ic_grid.specs.Shape.{Holding, Shape, Anchor, celled, gathered, is_empty, is_spill_of, shape_of}
 use Rattle.ic_grid.specs.Style.{Columns, Rows, style_at}
 use Rattle.ic_grid.specs.Value.{is_cse_anchor, shape_at}
 use Rattle.ic_grid.specs.declared.block.Block.{Block}
@@ -28,12 +32,19 @@ abbrev pub misfits : Block → ℕ → Shape → Bool
 misfits b count shape =
     not (has_places b) || not (int_eq (b.width *ℤ b.height) (pos count)) || (is_cse_anchor shape && has_other_area b.width b.height shape)
 
+-- empty, or one of the spill of the formula at a place
+abbrev pub is_free : Place → Shape → Bool
+is_free a shape = is_empty shape || is_spill_of a shape
+
+abbrev pub is_free_there : Place → Option Cell → Bool
+is_free_there a o = unwrap_or (option_map (λ x. is_free a (shape_of x)) o) true
+
 module _ {X : Type 0} (h : Holding X) where
   -- a place keeps the array of the formula at another, `a`, from spilling: it is past the edge of the sheet, or one of
   -- merged cells, or holds something else than a cell of this array's spill
   abbrev pub blocks : List Merge → Contents X → Place → Place → Bool
   blocks merges m a q =
-      not (is_in_sheet q) || is_merged merges q || not (same_place q a || is_empty (shape_at h m q) || is_spill_of a (shape_at h m q))
+      not (is_in_sheet q) || is_merged merges q || not (same_place q a || is_free a (shape_at h m q))
 
   -- the first of so many places of a block, by rows from one on, that does
   abbrev pub first_of_blocking : List Merge → Contents X → Place → Block → ℕ → Place → Option Place
@@ -92,3 +103,15 @@ module _ {X : Type 0} (h : Holding X) (rows : Rows) (columns : Columns) where
       with_blanks b more (next_place b (first_place b))
       (finite.insert (all_prepared h b (suc more) (first_place b) m) (first_place b) (h.array f (written_style m styles (first_place b)).0 b.width b.height kinds.Cse))
       (written_style m styles (first_place b)).1
+
+-- for each of these values, by rows from a place of a block on, a cell of its spill in the style of its place
+abbrev pub rest_cells : Rows → Columns → Contents Cell → Block → Place → List SpillValue → List Cell
+rest_cells rows columns m b q [] = []
+rest_cells rows columns m b q (v ∷ vs) =
+    celled.spill (style_at celled m rows columns q) (first_place b) v ∷ rest_cells rows columns m b (next_place b q) vs
+
+-- the cells of an array with these values: its formula, which has the first, and the cells of its spill
+abbrev pub array_cells : Rows → Columns → Contents Cell → Block → ℕ → ℕ → ArrayKind → List SpillValue → List Cell
+array_cells rows columns m b f s kind [] = []
+array_cells rows columns m b f s kind (v ∷ vs) =
+    cells.ArrayFormula f s (b.width, b.height) kind (gathered v) ∷ rest_cells rows columns m b (next_place b (first_place b)) vs

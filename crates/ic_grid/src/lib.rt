@@ -10,6 +10,8 @@ mod grid;
 mod lines;
 mod merges;
 mod prepare;
+mod room;
+mod spill;
 mod start;
 mod value;
 mod walk;

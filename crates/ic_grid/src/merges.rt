@@ -1,6 +1,6 @@
 //! Merged cells.
 ghost use Rattle.std.specs.Prelude.{◌≡◌};
-ghost use Rattle.ic_grid.specs.Merges.{covers, is_covered, meets_merge, merged_block};
+ghost use Rattle.ic_grid.specs.Merges.{covers, is_covered, is_merged, meets_merge, merged_block};
 
 use crate::Block;
 use crate::block::is_same;
@@ -37,4 +37,11 @@ pub fn meets_merge(merges: &[Merge], block: &Block) -> bool
     ensures { result ≡ meets_merge merges.now block.now }
 {
     merges.iter().any(|merge| merged_block(merge).meets(block))
+}
+
+/// Whether a place is one of merged cells.
+pub fn is_merged(merges: &[Merge], place: (i32, i32)) -> bool
+    ensures { result ≡ is_merged merges.now place }
+{
+    merges.iter().any(|merge| merged_block(merge).has(place))
 }

@@ -78,7 +78,7 @@ fn single_at(cells: &PlaceMap<Cell>, place: (i32, i32)) -> Option<(usize, usize)
 }
 
 /// The formula, the style and the array of the array formula at a place, if one stands there.
-fn array_at(cells: &PlaceMap<Cell>, place: (i32, i32)) -> Option<(usize, usize, Array)>
+pub fn array_at(cells: &PlaceMap<Cell>, place: (i32, i32)) -> Option<(usize, usize, Array)>
     ensures { result ≡ formula_array place (finite.get cells.now place) }
 {
     match cells.get(place.0, place.1) {

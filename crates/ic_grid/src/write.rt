@@ -15,14 +15,14 @@ use ic_cells::{Cell, PlaceMap};
 use ic_laws::OutOfMemory;
 
 /// Whether a cell stands at a place.
-fn is_there(cells: &PlaceMap<Cell>, place: (i32, i32)) -> bool
+pub fn is_there(cells: &PlaceMap<Cell>, place: (i32, i32)) -> bool
     ensures { result ≡ is_some (finite.get cells.now place) }
 {
     cells.get(place.0, place.1).is_some()
 }
 
 /// Puts a cell at a place. Memory can only be missing where none stands there, and then nothing has changed.
-fn put(cells: &mut PlaceMap<Cell>, place: (i32, i32), cell: Cell) -> Result<(), OutOfMemory>
+pub fn put(cells: &mut PlaceMap<Cell>, place: (i32, i32), cell: Cell) -> Result<(), OutOfMemory>
     ensures ok { OnOk result (cells.new ≡ finite.insert cells.old place cell) }
     ensures err { OnErr result (cells.new ≡ cells.old) }
 {
