@@ -15,7 +15,7 @@ use Rattle.ic_book.specs.Book.{ModelState}
 use Rattle.ic_book.specs.Refused.{refusal_of}
 use Rattle.ic_book.specs.declared.error.BookError.{BookError}
 use Rattle.ic_book.specs.declared.error.BookError.TheVariants as errors
-use Rattle.ic_commands.specs.Answered.{Answers, IsAnswered, Stays, Tells}
+use Rattle.ic_commands.specs.Answered.{Answers, IsAnswered, Keeps, Stays, Tells, is_on_notation}
 use Rattle.ic_book.specs.Does.{DoesStep, Memory, Never, Refused, Wanted, WantedIn, WantedOr}
 use Rattle.ic_book.specs.Served.{served_command_step, served_step}
 use Rattle.ic_book.specs.Whole.{whole_of}
@@ -34,16 +34,16 @@ refused_book (WantedOr late) made old new None h = ap (λ (m : ModelState). m.bo
 refused_book WantedIn made old new None h = h.1
 
 module _ {T : Type 0} (wants : Memory) (fields : T → List Field) (command : Command) (old new : ModelState) (before after : List ℕ) where
-  pub told_ok : (done : Result T BookError) (value : T) → done ≡ Ok value → DoesStep wants (served_step (whole_of old.book) command) fields done old new → (is_reader command ≡ true → new ≡ old)
+  pub told_ok : (done : Result T BookError) (value : T) → done ≡ Ok value → DoesStep wants (served_step (whole_of old.book) command) fields done old new → Keeps command old new
       → IsLineText (reply_text (Ok (fields value))) → after ≡ before ++ reply_bytes (Ok (fields value)) → IsAnswered command old new before after
-  told_ok done value is d reads line told =
+  told_ok done value is d keeps line told =
       let did = subst (λ r. DoesStep wants (served_step (whole_of old.book) command) fields r old new) is d in
       let made : served_command_step (whole_of old.book) (Some command) ≡ (whole_of new.book, Ok (fields value)) = ap (outcome_of (whole_of old.book)) did.done in
       record {
         book = sym (ap (λ (s : machine.Book × Reply). s.0) made);
         reply = told ∙ ap (λ (s : machine.Book × Reply). before ++ reply_bytes s.1) (sym made);
         line = subst (λ (s : machine.Book × Reply). IsLineText (reply_text s.1)) (sym made) line;
-        stays = subst (λ (s : machine.Book × Reply). Stays s.1 command old new) (sym made) reads;
+        stays = subst (λ (s : machine.Book × Reply). Stays s.1 command old new) (sym made) keeps;
         valid_before = did.before;
         valid_after = did.after;
       }
@@ -84,20 +84,33 @@ on_ok (Ok value) p h = h value p
 on_ok (Err e) p h = tt
 
 -- A call that changes the book takes no memory for its reply.
-pub changed : {T : Type 0} {fields : T → List Field} {memory : Bool} {wants : Memory} {made : Stepped machine.Book} {done : Result T BookError} {before : List ℕ} {result : Result (String Global) OutOfMemory} (command : Command) {old new : ModelState}
-    → memory ≡ false → Tells fields memory done before result → DoesStep wants made fields done old new → made ≡ served_step (whole_of old.book) command → is_reader command ≡ false → Answers command old new before result
-changed {fields = fields} {wants = wants} {done = done} command {old} {new} none told does is other =
-    let does = subst (λ made. DoesStep wants made fields done old new) is does in
-    record {
-      ok = told.ok wants command old new does (λ reads. let no : false ≡ true = sym other ∙ reads in absurd (cc));
-      err = told.err wants (served_step (whole_of old.book) command) old new none does;
-    }
+module _ {T : Type 0} {fields : T → List Field} {memory : Bool} {wants : Memory} {made : Stepped machine.Book} {done : Result T BookError} {before : List ℕ} {result : Result (String Global) OutOfMemory} (command : Command) {old new : ModelState} (none : memory ≡ false) (told : Tells fields memory done before result) (did : DoesStep wants made fields done old new) (is : made ≡ served_step (whole_of old.book) command) where
+  answered : Keeps command old new → Answers command old new before result
+  answered keeps =
+      let does = subst (λ made. DoesStep wants made fields done old new) is did in
+      record {
+        ok = told.ok wants command old new does keeps;
+        err = told.err wants (served_step (whole_of old.book) command) old new none does;
+      }
+
+  pub changed : is_reader command ≡ false → is_on_notation command ≡ false → Answers command old new before result
+  changed other beside = answered (record {
+    reads = λ reads. let no : false ≡ true = sym other ∙ reads in absurd (cc);
+    looks_up = λ notation. let no : false ≡ true = sym beside ∙ notation in absurd (cc);
+  })
+
+  -- so does one on the notation, which leaves the look-ups
+  pub changed_notation : is_reader command ≡ false → new.has_all ≡ old.has_all → Answers command old new before result
+  changed_notation other looks_up = answered (record {
+    reads = λ reads. let no : false ≡ true = sym other ∙ reads in absurd (cc);
+    looks_up = λ _. looks_up;
+  })
 
 -- One that only reads may.
 pub only_read : {T : Type 0} {fields : T → List Field} {memory : Bool} {wants : Memory} {made : Stepped machine.Book} {done : Result T BookError} {before : List ℕ} {result : Result (String Global) OutOfMemory} {command : Command} {state : ModelState}
     → Tells fields memory done before result → DoesStep wants made fields done state state → made ≡ served_step (whole_of state.book) command → Answers command state state before result
 only_read {fields = fields} {wants = wants} {done = done} {result = result} {command = command} {state = state} told does is =
     record {
-      ok = told.ok wants command state state (subst (λ made. DoesStep wants made fields done state state) is does) (λ reads. refl);
+      ok = told.ok wants command state state (subst (λ made. DoesStep wants made fields done state state) is does) (record { reads = λ _. refl; looks_up = λ _. refl });
       err = always_err result refl;
     }

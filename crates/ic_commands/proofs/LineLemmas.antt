@@ -4,7 +4,7 @@ use Rattle.ic_laws.specs.Command as core
 use Rattle.ic_laws.specs.CoreStep.{core_step}
 use Rattle.ic_laws.specs.Lines as lines
 use Rattle.ic_machine.specs.Book as machine
-use Rattle.ic_machine.specs.Command.{Command, command_in, served_names}
+use Rattle.ic_machine.specs.Command.{Command, command_in, core_names}
 use Rattle.ic_machine.specs.Command as table
 use Rattle.ic_machine.specs.Core.{whole_command}
 use Rattle.ic_machine.specs.Refusal.{BadLine}
@@ -15,7 +15,7 @@ use Rattle.ic_words.specs.Reply.{IsLineText}
 use Rattle.ic_words.specs.Served.{served}
 use Rattle.ic_words.proofs.ReplyLemmas.{refusal_line}
 use Rattle.ic_book.specs.Book.{Book, IsSameBeside, ModelState, StepsTo, core_of, notations_in}
-use Rattle.ic_commands.specs.Answered.{DoesLine, IsAnswered, StaysAfter}
+use Rattle.ic_commands.specs.Answered.{DoesLine, IsAnswered, IsCore, StaysAfter}
 use Rattle.ic_book.specs.Served.{served_command_step, served_step}
 use Rattle.ic_book.specs.Whole.{whole_of}
 use Rattle.ic_commands.proofs.CoreLemmas.{StandsBeside, core_left, served_stands, text_told}
@@ -65,39 +65,41 @@ module _ (line : List ℕ) where
   no_core_command None e = refl
   no_core_command (Some k) e = cc
 
-  -- a line whose command was answered
-  pub line_answered : (command : Command) (old new : ModelState) (reply : List ℕ) → ((english : List (List ℕ)) → Some command ≡ command_in english table.served line) → IsAnswered command old new [] reply
-      → IsAnsweredAs (lines.command_of served line) old.book new.book reply
-  unfolding served
-  line_answered command old new reply is a =
-      let k = as_core_command (lines.command_of served line) command (is [] ∙ served_is [] line) in
-      subst (λ o. IsAnsweredAs o old.book new.book reply) (sym k.2) (core_half k.0 old new reply (subst (λ c. IsAnswered c old new [] reply) k.1 a))
+  -- the core machine's rows that are served are those of its commands
+  command_of_core : lines.command_of served line ≡ lines.command_of (core.rows_named core_names) line
+  unfolding served core.commands
+  command_of_core = refl
 
-  pub line_done : (command : Command) (old new : ModelState) (reply : List ℕ) → ((english : List (List ℕ)) → Some command ≡ command_in english table.served line) → IsAnswered command old new [] reply → DoesLine line old new reply
-  line_done command old new reply is a =
-      let e = is (english_errors (whole_of old.book)) in
-      record {
-        book = subst (λ o. whole_of new.book ≡ (served_command_step (whole_of old.book) o).0) e a.book;
-        reply = subst (λ o. reply ≡ reply_bytes (served_command_step (whole_of old.book) o).1) e a.reply;
-        stays = subst (λ o. StaysAfter o old new) e a.stays;
-      }
+  -- a line whose command was answered
+  pub line_answered : (command : Command) (old new : ModelState) (reply : List ℕ) → Some command ≡ command_in (english_errors (whole_of old.book)) table.served line → IsAnswered command old new [] reply → IsCore old.book.tables line
+      → IsAnsweredAs (lines.command_of served line) old.book new.book reply
+  line_answered command old new reply is a is_core =
+      let k = as_core_command (lines.command_of (core.rows_named core_names) line) command (is ∙ served_is (english_errors (whole_of old.book)) line is_core) in
+      subst (λ o. IsAnsweredAs o old.book new.book reply) (sym (command_of_core ∙ k.2)) (core_half k.0 old new reply (subst (λ c. IsAnswered c old new [] reply) k.1 a))
+
+  pub line_done : (command : Command) (old new : ModelState) (reply : List ℕ) → Some command ≡ command_in (english_errors (whole_of old.book)) table.served line → IsAnswered command old new [] reply → DoesLine line old new reply
+  line_done command old new reply is a = record {
+    book = subst (λ o. whole_of new.book ≡ (served_command_step (whole_of old.book) o).0) is a.book;
+    reply = subst (λ o. reply ≡ reply_bytes (served_command_step (whole_of old.book) o).1) is a.reply;
+    is_line = subst (λ o. IsLineText (reply_text (served_command_step (whole_of old.book) o).1)) is a.line;
+    stays = subst (λ o. StaysAfter o old new) is a.stays;
+  }
 
   -- a line that is no command
-  pub bad_answered : (state : ModelState) (reply : List ℕ) → ((english : List (List ℕ)) → None ≡ command_in english table.served line) → reply ≡ reply_bytes (Err BadLine) → IsAnsweredAs (lines.command_of served line) state.book state.book reply
-  unfolding served
-  bad_answered state reply is told =
-      subst (λ o. IsAnsweredAs o state.book state.book reply) (sym (no_core_command (lines.command_of served line) (is [] ∙ served_is [] line)))
+  pub bad_answered : (state : ModelState) (reply : List ℕ) → None ≡ command_in (english_errors (whole_of state.book)) table.served line → reply ≡ reply_bytes (Err BadLine) → IsCore state.book.tables line
+      → IsAnsweredAs (lines.command_of served line) state.book state.book reply
+  bad_answered state reply is told is_core =
+      subst (λ o. IsAnsweredAs o state.book state.book reply) (sym (command_of_core ∙ no_core_command (lines.command_of (core.rows_named core_names) line) (is ∙ served_is (english_errors (whole_of state.book)) line is_core)))
       (record {
         reply = told;
         line = refusal_line BadLine;
         book = record { core = refl; beside = record { name = refl; zone = refl; created = refl; tables = refl } };
       })
 
-  pub bad_done : (state : ModelState) (reply : List ℕ) → ((english : List (List ℕ)) → None ≡ command_in english table.served line) → reply ≡ reply_bytes (Err BadLine) → DoesLine line state state reply
-  bad_done state reply is told =
-      let e = is (english_errors (whole_of state.book)) in
-      record {
-        book = subst (λ o. whole_of state.book ≡ (served_command_step (whole_of state.book) o).0) e refl;
-        reply = subst (λ o. reply ≡ reply_bytes (served_command_step (whole_of state.book) o).1) e told;
-        stays = subst (λ o. StaysAfter o state state) e refl;
-      }
+  pub bad_done : (state : ModelState) (reply : List ℕ) → None ≡ command_in (english_errors (whole_of state.book)) table.served line → reply ≡ reply_bytes (Err BadLine) → DoesLine line state state reply
+  bad_done state reply is told = record {
+    book = subst (λ o. whole_of state.book ≡ (served_command_step (whole_of state.book) o).0) is refl;
+    reply = subst (λ o. reply ≡ reply_bytes (served_command_step (whole_of state.book) o).1) is told;
+    is_line = subst (λ o. IsLineText (reply_text (served_command_step (whole_of state.book) o).1)) is (refusal_line BadLine);
+    stays = subst (λ o. StaysAfter o state state) is refl;
+  }

@@ -2,7 +2,6 @@
 use Rattle.std.proofs.Common.{◌≡◌, ℕ, ◌-◌, ◌<◌, List, [], ◌∷◌, ◌++◌, length, take, get_or, false, chars, encode_utf8_all, ap, sym, ◌∙◌, arith, length-append}
 use Rattle.std.proofs.Math.Seq.{get_or-append_seam}
 use Rattle.std.proofs.lemmas.List.{take_at}
-use Rattle.ic_laws.specs.Lines.{Reply, reply_bytes, reply_text}
 use Rattle.ic_lines.specs.Reading.{has_line_feed}
 use Rattle.ic_words.specs.Reply.{IsLineText}
 
@@ -21,10 +20,10 @@ last_byte front bytes len e l =
     let at : get_or bytes (len - 1) 0 ≡ 10 = ap (λ v. get_or v (len - 1) 0) e ∙ ap (λ i. get_or (front ++ 10 ∷ []) i 0) (sym n) ∙ get_or-append_seam front 10 [] 0 in
     omega (arith, at)
 
--- a reply whose last byte went
-module _ (reply : Reply) (bytes cut : List ℕ) (len : ℕ) (is_line : IsLineText (reply_text reply)) (is_reply : bytes ≡ reply_bytes reply) (is_len : len ≡ length bytes) (is_cut : cut ≡ take (len - 1) bytes) where
-  pub cut_reply : chars cut ≡ reply_text reply
-  cut_reply = ap chars (is_cut ∙ without_last (encode_utf8_all (reply_text reply)) bytes len is_reply is_len) ∙ is_line.0
+-- a text with a line feed after it, whose last byte went
+module _ (text : List ℕ) (bytes cut : List ℕ) (len : ℕ) (is_line : IsLineText text) (is_reply : bytes ≡ encode_utf8_all text ++ 10 ∷ []) (is_len : len ≡ length bytes) (is_cut : cut ≡ take (len - 1) bytes) where
+  pub cut_reply : chars cut ≡ text
+  cut_reply = ap chars (is_cut ∙ without_last (encode_utf8_all text) bytes len is_reply is_len) ∙ is_line.0
 
   pub cut_is_line : has_line_feed (chars cut) ≡ false
   cut_is_line = ap has_line_feed cut_reply ∙ is_line.1

@@ -2,9 +2,11 @@
 use Rattle.std.specs.Prelude.{◌≡◌, ℕ, List, ◌++◌, Bool, false, true, Option, Some, None, String, Result, Ok, Err, IfOk, OnErr, string_bytes}
 use Rattle.std.specs.declared.alloc.Global.{Global}
 use Rattle.ic_laws.specs.declared.memory.OutOfMemory.{OutOfMemory}
+use Rattle.ic_tables.specs.Tables.{TableSet, english, error_words_in}
 use Rattle.ic_machine.specs.Book as machine
 use Rattle.ic_machine.specs.Book.{Stepped}
-use Rattle.ic_machine.specs.Command.{Command, command_in, served}
+use Rattle.ic_machine.specs.Command.{Command, OnNotation, command_in, served}
+use Rattle.ic_machine.specs.Core.{is_core_line}
 use Rattle.ic_machine.specs.Readers.{is_reader}
 use Rattle.ic_machine.specs.Reply.{Field, Reply, reply_bytes, reply_text}
 use Rattle.ic_machine.specs.Step.{english_errors}
@@ -15,22 +17,37 @@ use Rattle.ic_book.specs.Does.{DoesStep, Memory}
 use Rattle.ic_book.specs.Served.{served_command_step, served_line_step, served_step}
 use Rattle.ic_book.specs.Whole.{whole_of}
 
--- A refusal leaves all that contracts see of a model as it was, what its formulas are found by too, and so does a command
--- that only reads.
+-- A line is a core line, by the tables of a book: it is no command that is served, or one that the core machine has.
+abbrev pub IsCore : TableSet → List ℕ → Type 0
+IsCore tables line = is_core_line (error_words_in (english tables.languages)) line ≡ true
+
+-- a command on the locale, the language and the zone
+abbrev pub is_on_notation : Command → Bool
+is_on_notation (OnNotation command) = true
+is_on_notation command = false
+
+-- A command that only reads leaves all that contracts see of a model, and one on the notation which look-ups of formulas
+-- are there.
+pub record Keeps (command : Command) (old new : ModelState) : Type 0 where
+  pub reads : is_reader command ≡ true → new ≡ old
+  pub looks_up : is_on_notation command ≡ true → new.has_all ≡ old.has_all
+
+-- A refusal leaves all that contracts see of a model as it was, what its formulas are found by too.
 abbrev pub Stays : Reply → Command → ModelState → ModelState → Type 0
 Stays (Err refusal) command old new = new ≡ old
-Stays (Ok fields) command old new = is_reader command ≡ true → new ≡ old
+Stays (Ok fields) command old new = Keeps command old new
 
 -- so does a line that is no command
 abbrev pub StaysAfter : Option Command → ModelState → ModelState → Type 0
 StaysAfter None old new = new ≡ old
 StaysAfter (Some command) old new = Stays (served_command_step (whole_of old.book) (Some command)).1 command old new
 
--- A line left of the whole book what the machine that is served leaves, and this is its reply. What changes nothing left
--- the model as it was.
+-- A line left of the whole book what the machine that is served leaves, and this is its reply, which is one line. What
+-- changes nothing left the model as it was.
 pub record DoesLine (line : List ℕ) (old new : ModelState) (told : List ℕ) : Type 0 where
   pub book : whole_of new.book ≡ (served_line_step (whole_of old.book) line).0
   pub reply : told ≡ reply_bytes (served_line_step (whole_of old.book) line).1
+  pub is_line : IsLineText (reply_text (served_line_step (whole_of old.book) line).1)
   pub stays : StaysAfter (command_in (english_errors (whole_of old.book)) served line) old new
 
 -- the same without the reply
@@ -51,7 +68,7 @@ pub record IsAnswered (command : Command) (old new : ModelState) (before after :
 -- only where the call left the book as it was.
 pub record Tells {T : Type 0} (fields : T → List Field) (memory : Bool) (done : Result T BookError) (before : List ℕ) (result : Result (String Global) OutOfMemory) : Type 0 where
   pub ok : (wants : Memory) (command : Command) (old new : ModelState) → DoesStep wants (served_step (whole_of old.book) command) fields done old new
-      → (is_reader command ≡ true → new ≡ old) → IfOk result (λ text. IsAnswered command old new before (string_bytes text))
+      → Keeps command old new → IfOk result (λ text. IsAnswered command old new before (string_bytes text))
   pub err : (wants : Memory) (made : Stepped machine.Book) (old new : ModelState) → memory ≡ false → DoesStep wants made fields done old new → OnErr result (new.book ≡ old.book)
 
 -- The command is answered; where there is no reply, the book is as it was.

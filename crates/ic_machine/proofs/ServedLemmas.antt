@@ -1,17 +1,19 @@
 -- The command that a line is by the rows which are served is the one that it is by those of the core machine.
-use Rattle.std.proofs.Common.{◌≡◌, ℕ, List, [], ◌∷◌, ◌++◌, map, Bool, true, false, cond, Option, Some, None, refl, sym, ap, ap₂, ◌∙◌, codes}
+use Rattle.std.proofs.Common.{◌≡◌, ℕ, List, [], ◌∷◌, ◌++◌, map, Bool, true, false, cond, Option, Some, None, is_some, refl, sym, ap, ap₂, subst, ◌∙◌, codes, inl, inr, rules}
 use mathlib.Core.Bool.{true≢false}
 use Rattle.std.specs.Prelude.{◌||◌, bytes_eq, drop, option_and_then, option_map, take}
-use Rattle.std.specs.List.{find, list_any}
+use Rattle.std.specs.List.{AllByRecursion, find, list_any}
+use Rattle.std.proofs.lemmas.Bool.{cases_Bool}
+use Rattle.std.proofs.lemmas.List.Folds.{list_any-append}
 use Rattle.std.proofs.lemmas.Iterator.Adapters.{option_map_id}
 use Rattle.std.proofs.lemmas.Slice.Eq.{bytes_eq-Decides}
 use Rattle.ic_laws.specs.Command as core
 use Rattle.ic_laws.specs.Command.{CommandRow}
 use Rattle.ic_laws.specs.Lines as lines
 use Rattle.ic_laws.specs.Lines.{word_texts}
-use Rattle.ic_machine.specs.Command.{Command, command_in, commands, served, served_names}
-use Rattle.ic_machine.specs.Core.{counterpart, whole_command}
-use Rattle.ic_machine.specs.Row.{Row, joined, spelled}
+use Rattle.ic_machine.specs.Command.{Command, command_in, commands, core_names, more_names, served}
+use Rattle.ic_machine.specs.Core.{counterpart, is_core, is_core_line, whole_command}
+use Rattle.ic_machine.specs.Row.{Row, joined, rows_named, spelled}
 use Rattle.ic_machine.specs.Word.{AllSaid, OfIndex, OfPosition, OfScope, OfText, Said, WordForm, Words, all_said, said, words_of, words_said}
 
 -- a row of the core machine as one of the whole ----
@@ -143,7 +145,7 @@ find-after text (row ∷ front) one other e = ap (λ (o : Option CommandRow). co
 -- both tables ----
 
 abbrev in_core : List CommandRow
-in_core = core.rows_named served_names
+in_core = core.rows_named core_names
 
 -- its first rows, those on definitions, the one that asks for a new id, and the rest
 abbrev front : List CommandRow
@@ -162,9 +164,9 @@ in_parts : in_core ≡ front ++ (middle ++ asks ∷ last)
 unfolding core.commands
 in_parts = refl
 
-served-whole : served ≡ map whole_row (front ++ (asks ∷ middle ++ last))
-unfolding core.commands commands served
-served-whole = refl
+core-whole : rows_named core_names commands ≡ map whole_row (front ++ (asks ∷ middle ++ last))
+unfolding core.commands commands
+core-whole = refl
 
 others_named : list_any (λ other. bytes_eq other.name asks.name) middle ≡ false
 unfolding core.commands
@@ -176,17 +178,125 @@ spelled_by one other [] same = refl
 spelled_by one other (name ∷ words) same =
     ap (λ (o : Option CommandRow). option_and_then (λ texts. option_and_then (λ row. option_map row.command (core.all_said row.forms texts)) o) (word_texts words)) (same name)
 
-pub spelled_words : (english : List (List ℕ)) (words : List (List ℕ)) → spelled english served words ≡ option_map whole_command (lines.spelled_command in_core words)
-spelled_words english words =
-    ap (λ (rows : List (Row Command)). spelled english rows words) served-whole
+core_words : (english : List (List ℕ)) (words : List (List ℕ)) → spelled english (rows_named core_names commands) words ≡ option_map whole_command (lines.spelled_command in_core words)
+core_words english words =
+    ap (λ (rows : List (Row Command)). spelled english rows words) core-whole
     ∙ spelled_alike english (front ++ (asks ∷ middle ++ last)) words
     ∙ ap (option_map whole_command)
     (spelled_by (front ++ (asks ∷ middle ++ last)) (front ++ (middle ++ asks ∷ last)) words
     (λ text. find-after text front (asks ∷ middle ++ last) (middle ++ asks ∷ last) (sym (find-moved text middle asks last others_named))))
     ∙ ap (λ (rows : List CommandRow). option_map whole_command (lines.spelled_command rows words)) (sym in_parts)
 
-pub served_is : (english : List (List ℕ)) (line : List ℕ) → command_in english served line ≡ option_map whole_command (lines.command_of in_core line)
-served_is english line = spelled_words english (lines.words_of line)
+-- what is found among rows with some names ----
+
+passed : (q : Bool) (row : Row Command) (rows : List (Row Command)) (name : List ℕ) → bytes_eq row.name name ≡ false
+    → find (λ row. bytes_eq row.name name) (cond q (row ∷ rows) rows) ≡ find (λ row. bytes_eq row.name name) rows
+passed true row rows name e = rw e refl
+passed false row rows name e = refl
+
+module _ (names : List (List ℕ)) (name : List ℕ) where
+  abbrev found_in : List (Row Command) → Option (Row Command)
+  found_in rows = find (λ row. bytes_eq row.name name) rows
+
+  found_first : (b : Bool) (row : Row Command) (rest kept : List (Row Command)) → bytes_eq row.name name ≡ true → found_in kept ≡ cond b (found_in rest) None
+      → found_in (cond b (row ∷ kept) kept) ≡ cond b (found_in (row ∷ rest)) None
+  found_first true row rest kept e later = rw e refl
+  found_first false row rest kept e later = later
+
+  found_named : (rows : List (Row Command)) → found_in (rows_named names rows) ≡ cond (list_any (bytes_eq name) names) (found_in rows) None
+  found_named [] = elim (list_any (bytes_eq name) names) as (λ b. None ≡ cond b (let no : Option (Row Command) = None in no) None) [ true ↦ refl | false ↦ refl ]
+  found_named (row ∷ rows) =
+      elim (cases_Bool (bytes_eq row.name name)) [
+        | inl e ↦
+            let same : row.name ≡ name = (bytes_eq-Decides row.name name).0 e in
+            subst (λ n. found_in (cond (list_any (bytes_eq n) names) (row ∷ rows_named names rows) (rows_named names rows)) ≡ cond (list_any (bytes_eq name) names) (found_in (row ∷ rows)) None) (sym same)
+            (found_first (list_any (bytes_eq name) names) row rows (rows_named names rows) e (found_named rows))
+        | inr e ↦ rw e (passed (list_any (bytes_eq row.name) names) row (rows_named names rows) name e ∙ found_named rows)
+      ]
+
+-- A row with another name than those of the core machine makes none of its commands. ----
+
+abbrev IsOther : Row Command → Type 0
+IsOther row = cond (list_any (bytes_eq row.name) core_names) (Unit {0}) ((w : AllSaid row.words) → counterpart (row.command w) ≡ None)
+
+all_other : AllByRecursion IsOther commands
+unfolding commands
+all_other = search rules
+
+module _ (english : List (List ℕ)) (name : List ℕ) (words : List (List ℕ)) where
+  abbrev made_by : Option (Row Command) → Option Command
+  made_by o = joined (option_map (λ (row : Row Command). option_map row.command (words_said english row.words words)) o)
+
+  none_made : {W : Type 0} (make : W → Command) (o : Option W) → ((w : W) → counterpart (make w) ≡ None) → is_core (option_map make o) ≡ true → option_map make o ≡ None
+  none_made make None other h = refl
+  none_made make (Some w) other h = absurd (true≢false (sym h ∙ ap is_some (other w)))
+
+  other_made : (rows : List (Row Command)) → AllByRecursion IsOther rows → list_any (bytes_eq name) core_names ≡ false → is_core (made_by (find (λ row. bytes_eq row.name name) rows)) ≡ true
+      → made_by (find (λ row. bytes_eq row.name name) rows) ≡ None
+  other_made [] all apart h = refl
+  other_made (row ∷ rows) all apart h =
+      elim (cases_Bool (bytes_eq row.name name)) [
+        | inl e ↦
+            let same : row.name ≡ name = (bytes_eq-Decides row.name name).0 e in
+            let here : list_any (bytes_eq row.name) core_names ≡ false = ap (λ n. list_any (bytes_eq n) core_names) same ∙ apart in
+            let other = subst (λ b. cond b (Unit {0}) ((w : AllSaid row.words) → counterpart (row.command w) ≡ None)) here all.0 in
+            rw e (none_made row.command (words_said english row.words words) other (rw e at h))
+        | inr e ↦ rw e (other_made rows all.1 apart (rw e at h))
+      ]
+
+  other_kept : (b : Bool) → list_any (bytes_eq name) core_names ≡ false → is_core (made_by (cond b (find (λ row. bytes_eq row.name name) commands) None)) ≡ true
+      → made_by (cond b (find (λ row. bytes_eq row.name name) commands) None) ≡ None
+  other_kept true apart h = other_made commands all_other apart h
+  other_kept false apart h = refl
+
+-- What is served, whatever further names are. ----
+
+module _ (english : List (List ℕ)) (more : List (List ℕ)) where
+  abbrev rows_with : List (Row Command)
+  rows_with = rows_named (core_names ++ more) commands
+
+  abbrev core_rows : List (Row Command)
+  core_rows = rows_named core_names commands
+
+  any_with : (name : List ℕ) → list_any (bytes_eq name) core_names ≡ true → list_any (bytes_eq name) (core_names ++ more) ≡ true
+  any_with name e = list_any-append (bytes_eq name) core_names more ∙ ap (λ b. b || list_any (bytes_eq name) more) e
+
+  found_core : (name : List ℕ) → list_any (bytes_eq name) core_names ≡ true → find (λ row. bytes_eq row.name name) rows_with ≡ find (λ row. bytes_eq row.name name) core_rows
+  found_core name e =
+      found_named (core_names ++ more) name commands ∙ ap (λ b. cond b (find (λ row. bytes_eq row.name name) commands) None) (any_with name e ∙ sym e) ∙ sym (found_named core_names name commands)
+
+  none_core : (name : List ℕ) → list_any (bytes_eq name) core_names ≡ false → find (λ row. bytes_eq row.name name) core_rows ≡ None
+  none_core name e = found_named core_names name commands ∙ ap (λ b. cond b (find (λ row. bytes_eq row.name name) commands) None) e
+
+  -- a core line
+  same_command : (words : List (List ℕ)) → is_core (spelled english rows_with words) ≡ true → spelled english rows_with words ≡ spelled english core_rows words
+  same_command [] h = refl
+  same_command (name ∷ words) h =
+      elim (cases_Bool (list_any (bytes_eq name) core_names)) [
+        | inl e ↦ ap (made_by english name words) (found_core name e)
+        | inr e ↦
+            subst (λ o. is_core (made_by english name words o) ≡ true → made_by english name words o ≡ None) (sym (found_named (core_names ++ more) name commands))
+            (other_kept english name words (list_any (bytes_eq name) (core_names ++ more)) e) h
+            ∙ sym (ap (made_by english name words) (none_core name e))
+      ]
+
+  -- a command of the core machine
+  core_command : (words : List (List ℕ)) (command : Command) → spelled english core_rows words ≡ Some command → spelled english rows_with words ≡ Some command
+  core_command [] command h = cc
+  core_command (name ∷ words) command h =
+      elim (cases_Bool (list_any (bytes_eq name) core_names)) [
+        | inl e ↦ ap (made_by english name words) (found_core name e) ∙ h
+        | inr e ↦ let no : None ≡ Some command = sym (ap (made_by english name words) (none_core name e)) ∙ h in absurd (cc)
+      ]
+
+pub served_is : (english : List (List ℕ)) (line : List ℕ) → is_core_line english line ≡ true → command_in english served line ≡ option_map whole_command (lines.command_of in_core line)
+unfolding served
+served_is english line is = same_command english more_names (lines.words_of line) is ∙ core_words english (lines.words_of line)
+
+pub core_served : (english : List (List ℕ)) (line : List ℕ) (command : core.Command) → lines.command_of in_core line ≡ Some command → command_in english served line ≡ Some (whole_command command)
+unfolding served
+core_served english line command is =
+    core_command english more_names (lines.words_of line) (whole_command command) (core_words english (lines.words_of line) ∙ ap (option_map whole_command) is)
 
 pub back : (command : core.Command) → counterpart (whole_command command) ≡ Some command
 back (core.AddSheet name) = refl

@@ -32,12 +32,20 @@ commands =
     ++ (map (row_in OnWriting) writing_rows ++ (map (row_in OnReading) reading_rows ++ (map (row_in OnExtending) extending_rows
     ++ (map (row_in OnStyles) style_rows ++ (map (row_in OnLayout) layout_rows ++ (map (row_in OnTabs) tab_rows ++ map (row_in OnArrays) array_rows))))))))
 
--- the names of the commands that are served
-abbrev pub served_names : List (List ℕ)
-served_names =
+-- the names of the commands that are served and that the core machine has, too
+abbrev pub core_names : List (List ℕ)
+core_names =
     codes "add_sheet" ∷ codes "rename_sheet" ∷ codes "rename_sheet_by_index" ∷ codes "move_sheet" ∷ codes "delete_sheet" ∷ codes "delete_sheet_by_name"
     ∷ codes "delete_sheet_by_sheet_id" ∷ codes "new_defined_name" ∷ codes "delete_defined_name" ∷ codes "is_valid_defined_name" ∷ codes "get_defined_name_list"
     ∷ codes "get_new_sheet_id" ∷ codes "set_locale" ∷ codes "set_language" ∷ codes "update_cell_with_formula" ∷ codes "get_cell_formula" ∷ []
+
+-- those of the other commands that are served
+abbrev pub more_names : List (List ℕ)
+more_names = []
+
+-- the names of all commands that are served
+abbrev pub served_names : List (List ℕ)
+served_names = core_names ++ more_names
 
 -- their rows
 unfoldable pub served : List (Row Command)

@@ -1,12 +1,12 @@
 -- What the laws of the machine say.
-use Rattle.std.specs.Prelude.{◌≡◌, ℕ, ◌+◌, ◌≤◌, List, length, Some, None, Err, option_map}
+use Rattle.std.specs.Prelude.{◌≡◌, ℕ, ◌+◌, ◌≤◌, List, length, true, Some, None, Err, option_map}
 use Rattle.ic_laws.specs.Command as core
 use Rattle.ic_laws.specs.CoreBook.{CoreBook}
 use Rattle.ic_laws.specs.Lines as lines
 use Rattle.ic_laws.specs.Notations.{Notations}
 use Rattle.ic_machine.specs.Book.{Book}
-use Rattle.ic_machine.specs.Command.{Command, command_in, served, served_names}
-use Rattle.ic_machine.specs.Core.{counterpart, whole_command}
+use Rattle.ic_machine.specs.Command.{Command, command_in, core_names, served}
+use Rattle.ic_machine.specs.Core.{counterpart, is_core_line, whole_command}
 use Rattle.ic_machine.specs.Refusal.{BadLine, Refusal}
 use Rattle.ic_machine.specs.Row.{Row}
 use Rattle.ic_machine.specs.Run.{after, replies}
@@ -33,11 +33,18 @@ abbrev pub RunsTellSame : Type 0
 RunsTellSame =
     (n : Notations) (table : List core.CommandRow) (book : CoreBook) (all : List (List ℕ)) → replies (core_machine n table) book all ≡ lines.replies n table book all
 
--- the command that a line is by the rows which are served is the one that it is by the rows of the core machine with the
--- same names, whatever the English words of the error values are; where it is none of these, it is none of those
+-- the command that a core line is by the rows which are served is the one that it is by the rows of the core machine with
+-- the names that both have; where it is none of these, it is none of those
 abbrev pub ServedIsCore : Type 0
 ServedIsCore =
-    (english : List (List ℕ)) (line : List ℕ) → command_in english served line ≡ option_map whole_command (lines.command_of (core.rows_named served_names) line)
+    (english : List (List ℕ)) (line : List ℕ) → is_core_line english line ≡ true
+    → command_in english served line ≡ option_map whole_command (lines.command_of (core.rows_named core_names) line)
+
+-- and each line that is a command of the core machine is served as that, whatever the English words are
+abbrev pub CoreIsServed : Type 0
+CoreIsServed =
+    (english : List (List ℕ)) (line : List ℕ) (command : core.Command) → lines.command_of (core.rows_named core_names) line ≡ Some command
+    → command_in english served line ≡ Some (whole_command command)
 
 -- and no two commands of the core machine are one
 abbrev pub CounterpartsAreBack : Type 0

@@ -11,7 +11,7 @@ ghost use Rattle.ic_machine.specs.Core.{FormulaIsStepped, IsSteppedAs, core_comm
 ghost use Rattle.ic_machine.specs.Kept.{CoreIsValid, CoreStaysValid, KeepsValid, KeepsValidIf};
 ghost use Rattle.ic_machine.specs.Kept.{keeps_definitions, keeps_sheets};
 ghost use Rattle.ic_machine.specs.Laws.{BadLineStays, CounterpartsAreBack, NumbersAreSmall};
-ghost use Rattle.ic_machine.specs.Laws.{RefusedStays, ServedIsCore};
+ghost use Rattle.ic_machine.specs.Laws.{CoreIsServed, RefusedStays, ServedIsCore};
 ghost use Rattle.ic_machine.specs.Laws.{RunsLeaveSame, RunsTellSame};
 ghost use Rattle.ic_machine.specs.Readers.{LeavesIf, is_reader};
 ghost use Rattle.ic_machine.specs.Scene.{KeepsSceneIf, leaves_names};
@@ -71,9 +71,12 @@ pub fn law_runs_shared()
     ensures told { RunsTellSame }
 {}
 
-/// The command that a line is, of those that are served, is the core machine's, and none where the core machine has none.
+/// The command that a core line is, of those that are served, is the core machine's, and none where the core machine has
+/// none. Each line that is a command of the core machine is a core line, and so is each that is no command; which further
+/// commands are served doesn't matter.
 pub fn law_served_is_core()
     ensures served { ServedIsCore }
+    ensures all { CoreIsServed }
     ensures back { CounterpartsAreBack }
 {}
 

@@ -7,7 +7,7 @@ use Rattle.ic_lines.specs.declared.error.RunError.{RunError}
 use Rattle.ic_lines.specs.declared.error.RunError.TheVariants as run
 use Rattle.ic_lines.proofs.ToldLemmas.{IfTold-weaker}
 use Rattle.ic_lines.specs.Bytes.{IfTold}
-use Rattle.ic_book.specs.Book.{Book, core_of, notations_in}
+use Rattle.ic_book.specs.Book.{Book, core_of}
 use Rattle.ic_run.specs.Desk.{setting_of, run_status, texts}
 use Rattle.ic_run.specs.Run.{Leaves, LeavesReplies, TakesAll}
 
@@ -101,7 +101,7 @@ at_error_status (Err run.OutOfMemory) run.OutOfMemory P same h = h
 
 -- what an error leaves of the replies alone
 leaves_replies : (e : RunError) (old new : Book) (bytes left : List ℕ) (before now : Option (List ℕ)) → Leaves e old new bytes left before now
-    → LeavesReplies e (notations_in old) (core_of old) bytes left before now
+    → LeavesReplies e old.tables (core_of old) bytes left before now
 leaves_replies run.ReadFault old new bytes left before now h = (h.0, h.2, h.1.replied)
 leaves_replies run.TooManyTurns old new bytes left before now h = (h.0, h.2, h.1.replied)
 leaves_replies run.OutOfMemory old new bytes left before now h = (h.0, h.1.read, h.1.replied)
@@ -109,8 +109,8 @@ leaves_replies run.WriteFault old new bytes left before now h = (h.0, h.1.read, 
 
 pub leaves_replies_told : (r : Result ℕ RunError) (e : RunError) (old new : Book) (source left before now : Option (List ℕ)) → run_status r ≡ run_status (Err e)
     → IfErr r (λ x. IfTold source left (λ bytes rest. Leaves x old new bytes rest before now))
-    → IfTold source left (λ bytes rest. LeavesReplies e (notations_in old) (core_of old) bytes rest before now)
+    → IfTold source left (λ bytes rest. LeavesReplies e old.tables (core_of old) bytes rest before now)
 leaves_replies_told r e old new source left before now same h =
-    IfTold-weaker source left (λ bytes rest. Leaves e old new bytes rest before now) (λ bytes rest. LeavesReplies e (notations_in old) (core_of old) bytes rest before now)
+    IfTold-weaker source left (λ bytes rest. Leaves e old new bytes rest before now) (λ bytes rest. LeavesReplies e old.tables (core_of old) bytes rest before now)
     (λ bytes rest p. leaves_replies e old new bytes rest before now p)
     (at_error_status r e (λ x. IfTold source left (λ bytes rest. Leaves x old new bytes rest before now)) same h)

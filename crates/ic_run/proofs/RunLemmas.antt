@@ -1,23 +1,17 @@
--- Books and replies after some of the lines, and the causes of errors.
-use Rattle.std.proofs.Common.{◌≡◌, ℕ, ◌+◌, ◌<◌, List, [], ◌∷◌, ◌++◌, length, take, drop, ap, sym, ◌∙◌, refl, arith, append_assoc, length-drop, Result, Ok, Err, Option, Some, IsSome, IfErr, IsErrAnd, subst, rules}
+-- Replies after some of the lines, the next of them, and the causes of errors.
+use Rattle.std.proofs.Common.{◌≡◌, ℕ, ◌+◌, ◌<◌, List, [], ◌∷◌, ◌++◌, length, take, drop, ap, sym, ◌∙◌, arith, append_assoc, append-nil, length-drop, Result, Ok, Err, Option, Some, IsSome, IfErr, IsErrAnd, subst, rules}
 use Rattle.std.proofs.Math.Seq.{take-add}
 use Rattle.std.proofs.lemmas.List.{drop-drop}
-use Rattle.ic_laws.specs.Command.{CommandRow}
-use Rattle.ic_laws.specs.CoreBook.{CoreBook}
-use Rattle.ic_laws.specs.Lines.{after, replies, line_step, reply_bytes}
-use Rattle.ic_laws.specs.Notations.{Notations}
+use Rattle.ic_machine.specs.Run.{Machine, after, replies}
 use Rattle.ic_lines.specs.declared.error.RunError.{RunError}
 
-module _ (n : Notations) (table : List CommandRow) where
-  pub after-append : (core : CoreBook) (xs ys : List (List ℕ)) → after n table core (xs ++ ys) ≡ after n table (after n table core xs) ys
-  after-append core [] ys = refl
-  after-append core (x ∷ xs) ys = after-append (line_step n table core x).0 xs ys
-
-  pub replies-append : (core : CoreBook) (xs ys : List (List ℕ)) → replies n table core (xs ++ ys) ≡ replies n table core xs ++ replies n table (after n table core xs) ys
-  replies-append core [] ys = refl
-  replies-append core (x ∷ xs) ys =
-      ap (λ v. reply_bytes (line_step n table core x).1 ++ v) (replies-append (line_step n table core x).0 xs ys)
-      ∙ sym (append_assoc (reply_bytes (line_step n table core x).1) (replies n table (line_step n table core x).0 xs) (replies n table (after n table (line_step n table core x).0 xs) ys))
+-- the replies to lines and one more, by any machine
+module _ {S : Type 0} (machine : Machine S) where
+  pub replies-append : (state : S) (lines : List (List ℕ)) (line : List ℕ) → replies machine state (lines ++ line ∷ []) ≡ replies machine state lines ++ (machine (after machine state lines) line).1
+  replies-append state [] line = append-nil (machine state line).1
+  replies-append state (first ∷ lines) line =
+      ap (λ v. (machine state first).1 ++ v) (replies-append (machine state first).0 lines line)
+      ∙ sym (append_assoc (machine state first).1 (replies machine (machine state first).0 lines) (machine (after machine (machine state first).0 lines) line).1)
 
 -- the next of some lines
 module _ {X : Type 0} (lines : List X) (count : ℕ) (line : X) (rest : List X) (next : drop count lines ≡ line ∷ rest) where

@@ -1,5 +1,5 @@
 -- What lines leave of the whole book and reply, by the machine that is served.
-use Rattle.std.proofs.Common.{◌≡◌, ℕ, List, [], ◌∷◌, ◌++◌, Option, Some, None, Result, Ok, Err, OnOk, codes, refl, ap, ap₂, sym, ◌∙◌}
+use Rattle.std.proofs.Common.{◌≡◌, ℕ, List, [], ◌∷◌, ◌++◌, Option, Some, None, Result, Ok, Err, OnOk, codes, refl, ap, ap₂, sym, subst, ◌∙◌}
 use Rattle.std.specs.Str.{chars}
 use Rattle.ic_laws.specs.CoreBook.{CoreBook}
 use Rattle.ic_laws.specs.Lines as lines
@@ -12,38 +12,58 @@ use Rattle.ic_machine.specs.Run as runs
 use Rattle.ic_lines.specs.Bytes.{IfTold}
 use Rattle.ic_lines.proofs.ToldLemmas.{IfTold-weaker}
 use Rattle.ic_words.specs.Served.{served}
-use Rattle.ic_book.specs.Book.{Book, ModelState, core_of, new_book, notations_in}
+use Rattle.ic_book.specs.Book.{Book, IsSameBeside, ModelState, StepsTo, core_of, new_book, notations_in}
 use Rattle.ic_book.specs.Served.{served_machine}
 use Rattle.ic_book.specs.Whole.{whole_of}
-use Rattle.ic_run.specs.Run.{AppendsReplies, AppendsServed, AppendsServedFrom, IsServed, LinesDo}
+use Rattle.ic_commands.specs.Answered.{DoesLine, IsCore}
+use Rattle.ic_run.specs.Run.{AppendsServed, AppendsServedFrom, AreCore, IsServed, LineDoes, LinesDo, replies_core, replies_served}
 
 pub lines_leave : (all : List (List ℕ)) (old new : ModelState) → LinesDo all old new → whole_of new.book ≡ runs.after served_machine (whole_of old.book) all
 lines_leave [] old new did = ap (λ (m : ModelState). whole_of m.book) did
 lines_leave (line ∷ all) old new did =
     lines_leave all did.0 new did.2 ∙ ap (λ (b : machine.Book). runs.after served_machine b all) did.1.leaves.book
 
--- both machines have the same replies
-pub replies_same : (all : List (List ℕ)) (old new : ModelState) → LinesDo all old new → runs.replies served_machine (whole_of old.book) all ≡ lines.replies (notations_in old.book) served (core_of old.book) all
-replies_same [] old new did = refl
-replies_same (line ∷ all) old new did =
-    let same = ap notations_of did.1.steps.beside.tables in
-    let later : runs.replies served_machine (served_machine (whole_of old.book) line).0 all ≡ lines.replies (notations_in old.book) served (line_step (notations_in old.book) served (core_of old.book) line).0 all =
-    ap (λ (b : machine.Book). runs.replies served_machine b all) (sym did.1.leaves.book) ∙ replies_same all did.0 new did.2
-    ∙ ap₂ (λ (n : Notations) (c : CoreBook). lines.replies n served c all) same did.1.steps.core in
-    ap₂ (λ (a b : List ℕ). a ++ b) did.1.tells later
+-- what stays beside two steps
+same_beside_again : (old mid new : Book) → IsSameBeside old mid → IsSameBeside mid new → IsSameBeside old new
+same_beside_again old mid new p q = record { name = q.name ∙ p.name; zone = q.zone ∙ p.zone; created = q.created ∙ p.created; tables = q.tables ∙ p.tables }
 
--- over a source and a sink that tell their bytes
+-- core lines leave what the core machine leaves
+pub core_left : (all : List (List ℕ)) (old new : ModelState) → LinesDo all old new → AreCore old.book.tables all → StepsTo old.book new.book (lines.after (notations_in old.book) served (core_of old.book) all)
+core_left [] old new did are =
+    subst (λ (m : ModelState). StepsTo old.book m.book (core_of old.book)) (sym did) (record { core = refl; beside = record { name = refl; zone = refl; created = refl; tables = refl } })
+core_left (line ∷ all) old new did are =
+    let step = did.1.steps are.0 in
+    let later = core_left all did.0 new did.2 (subst (λ (t : TableSet). AreCore t all) (sym step.beside.tables) are.1) in
+    record {
+      core = later.core ∙ ap₂ (λ (n : Notations) (c : CoreBook). lines.after n served c all) (ap notations_of step.beside.tables) step.core;
+      beside = same_beside_again old.book did.0.book new.book step.beside later.beside;
+    }
+
+-- and both machines have the same replies to them
+pub replies_same : (all : List (List ℕ)) (old new : ModelState) → LinesDo all old new → AreCore old.book.tables all → replies_served old.book all ≡ replies_core (notations_in old.book) (core_of old.book) all
+replies_same [] old new did are = refl
+replies_same (line ∷ all) old new did are =
+    let step = did.1.steps are.0 in
+    let same = ap notations_of step.beside.tables in
+    let later : runs.replies served_machine (served_machine (whole_of old.book) line).0 all ≡ lines.replies (notations_in old.book) served (line_step (notations_in old.book) served (core_of old.book) line).0 all =
+    ap (λ (b : machine.Book). runs.replies served_machine b all) (sym did.1.leaves.book)
+    ∙ replies_same all did.0 new did.2 (subst (λ (t : TableSet). AreCore t all) (sym step.beside.tables) are.1)
+    ∙ ap₂ (λ (n : Notations) (c : CoreBook). lines.replies n served c all) same step.core in
+    ap₂ (λ (a b : List ℕ). a ++ b) (did.1.tells are.0) later
+
+-- an answered line does what a line does
+pub line_does : (line : List ℕ) (old new : ModelState) (reply : List ℕ) → DoesLine line old new reply → (IsCore old.book.tables line → StepsTo old.book new.book (line_step (notations_in old.book) served (core_of old.book) line).0)
+    → (IsCore old.book.tables line → reply ≡ reply_bytes (line_step (notations_in old.book) served (core_of old.book) line).1) → LineDoes line old new
+line_does line old new reply does steps tells = record {
+  leaves = record { book = does.book; stays = does.stays };
+  steps = steps;
+  tells = λ core. sym does.reply ∙ tells core;
+}
+
+-- over a source that tells its bytes
 pub is_served : (first b : Option (List ℕ)) (old new : ModelState) → IfTold first b (λ bytes _. LinesDo (texts_of bytes) old new) → IfTold first b (IsServed old.book new.book)
 is_served first b old new did =
     IfTold-weaker first b (λ bytes _. LinesDo (texts_of bytes) old new) (IsServed old.book new.book) (λ bytes left. lines_leave (texts_of bytes) old new) did
-
-pub appends_served : (first b before now : Option (List ℕ)) (old new : ModelState) → IfTold first b (λ bytes _. LinesDo (texts_of bytes) old new)
-    → IfTold first b (λ bytes _. IfTold before now (AppendsReplies (notations_in old.book) (core_of old.book) bytes)) → IfTold first b (λ bytes _. IfTold before now (AppendsServed (whole_of old.book) bytes))
-appends_served None b before now old new did told = tt
-appends_served (Some bytes) None before now old new did told = told
-appends_served (Some bytes) (Some left) before now old new did told =
-    IfTold-weaker before now (AppendsReplies (notations_in old.book) (core_of old.book) bytes) (AppendsServed (whole_of old.book) bytes)
-    (λ x y q. q ∙ ap (λ v. x ++ v) (sym (replies_same (texts_of bytes) old new did))) told
 
 -- the name of a new workbook
 name_chars : chars (codes "workbook") ≡ codes "workbook"

@@ -1,7 +1,8 @@
 //! Runs of command lines: each line of a source answered into a sink, and all that the program does with its words.
 //!
-//! `run` carries the main promise: where it answers Ok, the replies that it appended are those of the identity
-//! machine of `ic_laws`, and the book is the one that the machine leaves. `desk` gives that for the program's words.
+//! `run` carries the main promise: where it answers Ok over core lines, the replies that it appended are those of the
+//! identity machine of `ic_laws`, and the book is the one that the machine leaves. For all lines it says the same of the
+//! machine that is served. `desk` gives that for the program's words.
 #![tactic(auto)]
 
 mod lines;

@@ -1,10 +1,10 @@
 ghost use Rattle.std.specs.Prelude.{◌≡◌, ◌⊎◌, ◌+◌, ◌++◌, ◌<◌, ◌≤◌, ◌^◌, true, Err, length, IfOk, IfErr, IsSomeAnd, OnOk};
-ghost use Rattle.ic_laws.specs.Lines.{line_step, reply_bytes, texts_of};
+ghost use Rattle.ic_laws.specs.Lines.{texts_of};
 ghost use Rattle.ic_lines.specs.Bytes.{AppendsFront, HasFault, IfTold};
-ghost use Rattle.ic_book.specs.Book.{StepsTo, core_of, notations_in};
-ghost use Rattle.ic_words.specs.Served.{served};
+ghost use Rattle.ic_book.specs.Book.{core_of, notations_in};
+ghost use Rattle.ic_book.specs.Served.{served_machine};
 ghost use Rattle.ic_book.specs.Whole.{whole_of};
-ghost use Rattle.ic_run.specs.Run.{AppendsReplies, AppendsServed, HasCause, IsServed, Leaves, LineDoes, LinesDo, TakesAll};
+ghost use Rattle.ic_run.specs.Run.{AppendsReplies, AppendsServed, AreCore, HasCause, IsServed, Leaves, LineDoes, LinesDo, TakesAll};
 
 use ic_book::Model;
 use ic_commands::reply_to;
@@ -12,7 +12,7 @@ use ic_lines::{Line, LineReader, RunError, Sink, Source, write_all};
 use std::alloc::Global;
 
 /// Answers the lines of a source, one reply a line, and answers their number. It answers every whole line that it
-/// has before it reads again.
+/// has before it reads again. A core line is one that is no command or one that the core machine has.
 ///
 /// `ReadFault` and `WriteFault` where the source or the sink had a fault, `TooManyTurns` after 2^32 reads that each
 /// gave a byte, where none showed the end, `OutOfMemory`, after which the book is as before the line that met it, and
@@ -23,16 +23,17 @@ pub fn run<S: Source, K: Sink>(
     source: &mut S,
     sink: &mut K,
 ) -> Result<u64, RunError>
-    // The identity theorem: all bytes were taken, their lines counted, the machine's replies appended, and its book
-    // left.
+    // The identity theorem: all bytes were taken and their lines counted; and if these are core lines, the core machine's
+    // replies were appended, and its book left.
     ensures book { IfOk result
         (λ count. IfTold (S.left source.old) (S.left source.new)
         (TakesAll model.old.book model.new.book count)) }
     ensures replies { OnOk result (IfTold (S.left source.old) (S.left source.new) (λ bytes _.
-        IfTold (K.written sink.old) (K.written sink.new)
+        AreCore model.old.book.tables (texts_of bytes)
+        → IfTold (K.written sink.old) (K.written sink.new)
         (AppendsReplies (notations_in model.old.book) (core_of model.old.book) bytes))) }
 
-    // So it is with the whole book, by the machine that is served, its replies too.
+    // For all lines it is so with the whole book, by the machine that is served, and with its replies.
     ensures whole { OnOk result
         (IfTold (S.left source.old) (S.left source.new) (IsServed model.old.book model.new.book)) }
     ensures served { OnOk result (IfTold (S.left source.old) (S.left source.new) (λ bytes _.
@@ -87,23 +88,17 @@ fn answer_to<K: Sink>(
     line: &Line,
     sink: &mut K,
 ) -> Result<(), RunError>
-    ensures book { OnOk result
-        (StepsTo model.old.book model.new.book
-        (line_step (notations_in model.old.book) served (core_of model.old.book) line.now).0) }
     ensures reply { OnOk result (IfTold (K.written sink.old) (K.written sink.new)
-        (λ before now. now ≡ before ++ reply_bytes
-        (line_step (notations_in model.old.book) served (core_of model.old.book) line.now).1)) }
+        (λ before now. now ≡ before ++ (served_machine (whole_of model.old.book) line.now).1)) }
     ensures does { OnOk result (LineDoes line.now model.old model.new) }
     ensures which { IfErr result (λ e. (e ≡ RunError.OutOfMemory) ⊎ (e ≡ RunError.WriteFault)) }
     ensures no_memory { result ≡ Err RunError.OutOfMemory → (model.new.book ≡ model.old.book)
         × (sink.new ≡ sink.old) }
     ensures write_fault { result ≡ Err RunError.WriteFault → HasFault (K.faults sink.old)
         (K.faults sink.new)
-        × (StepsTo model.old.book model.new.book
-        (line_step (notations_in model.old.book) served (core_of model.old.book) line.now).0)
+        × LineDoes line.now model.old model.new
         × IfTold (K.written sink.old) (K.written sink.new)
-        (AppendsFront (reply_bytes
-        (line_step (notations_in model.old.book) served (core_of model.old.book) line.now).1)) }
+        (AppendsFront (served_machine (whole_of model.old.book) line.now).1) }
     ensures counted { K.faults sink.old ≤ K.faults sink.new }
     ensures quiet { OnOk result (K.faults sink.new ≡ K.faults sink.old) }
 {

@@ -1,8 +1,9 @@
 ghost use Rattle.std.specs.Prelude.{◌≡◌, ◌⊎◌, ◌↔◌, ◌+◌, ◌<◌, ◌≤◌, ◌^◌, [], true, Err, length, option_map, IfSome, IsNone, IsSome, IsSomeAnd};
+ghost use Rattle.ic_laws.specs.Lines.{texts_of};
 ghost use Rattle.ic_lines.specs.Bytes.{IfTold, HasFault};
 ghost use Rattle.ic_run.specs.Desk.{setting_of, start, start_book, start_refusal, start_status, run_status, texts};
 ghost use Rattle.ic_run.specs.Start.{setting};
-ghost use Rattle.ic_run.specs.Run.{AppendsReplies, AppendsServedFrom, LeavesReplies};
+ghost use Rattle.ic_run.specs.Run.{AppendsReplies, AppendsServedFrom, AreCore, LeavesReplies};
 ghost use Rattle.ic_tree.specs.Notations.{notations_of};
 
 use crate::lines::run;
@@ -35,16 +36,17 @@ pub fn desk<S: Source, K: Sink>(
     source: &mut S,
     sink: &mut K,
 ) -> u8
-    // With 0 a read showed the end, all bytes were taken, and the machine's replies from the start were appended.
+    // With 0 a read showed the end, and all bytes were taken; and if their lines are core lines, the core machine's replies
+    // from the start were appended.
     ensures end { result ≡ 0 → S.ended source.new ≡ true }
     ensures taken { result ≡ 0 → IfTold (S.left source.old) (S.left source.new)
         (λ bytes left. left ≡ []) }
     ensures replies { result ≡ 0 → IsSomeAnd (setting_of (texts words.now))
         (λ setting. IfTold (S.left source.old) (S.left source.new) (λ bytes _.
-        IfTold (K.written sink.old) (K.written sink.new)
+        AreCore tables.now (texts_of bytes) → IfTold (K.written sink.old) (K.written sink.new)
         (AppendsReplies (notations_of tables.now) (start setting) bytes))) }
 
-    // So were those of the machine that is served, from the whole book.
+    // For all lines those of the machine that is served were, from the whole book.
     ensures served { result ≡ 0 → IsSomeAnd (setting_of (texts words.now))
         (λ setting. IfTold (S.left source.old) (S.left source.new) (λ bytes _.
         IfTold (K.written sink.old) (K.written sink.new)
@@ -63,12 +65,12 @@ pub fn desk<S: Source, K: Sink>(
     ensures unseen { result ≡ 5 → S.ended source.new ≡ S.ended source.old }
     ensures most { result ≤ 6 }
 
-    // With the status of an error of `run`, the replies are those that this error leaves; none where memory ran out
-    // before there was a book.
+    // With the status of an error of `run`, the replies to core lines are those that this error leaves; none where memory
+    // ran out before there was a book.
     ensures stopped { (e : RunError) → result ≡ run_status (Err e) → IsSomeAnd
         (setting_of (texts words.now)) (λ setting.
         IfTold (S.left source.old) (S.left source.new) (λ bytes left.
-        LeavesReplies e (notations_of tables.now) (start setting) bytes left (K.written sink.old)
+        LeavesReplies e tables.now (start setting) bytes left (K.written sink.old)
         (K.written sink.new))) }
 
     // Where there is no fault, and the source holds fewer than 2^32 bytes, only that memory runs out is left beside 0.

@@ -4,9 +4,9 @@ use Rattle.ic_lines.specs.Reading.{GivesHeld, GivesLine, unread}
 use Rattle.ic_lines.proofs.TakeLemmas.{SeesEnd-join}
 use Rattle.ic_lines.proofs.ToldLemmas.{IfTold-join}
 use Rattle.ic_run.specs.Run.{Leaves}
-use Rattle.ic_run.proofs.ProgressLemmas.{Next, Progress, Progress-step, all_did, all_replied_told, did_next, leaves_at_line, leaves_at_reader, next_told, takes_all_told}
+use Rattle.ic_run.proofs.ProgressLemmas.{Next, Progress, Progress-step, all_do_told, all_replied_told, all_served_told, leaves_at_line, leaves_at_reader, next_told, takes_all_told}
 use Rattle.ic_run.proofs.RunLemmas.{IfErr-given, IsSome-is}
-use Rattle.ic_run.proofs.ServedLemmas.{appends_served, is_served}
+use Rattle.ic_run.proofs.ServedLemmas.{is_served}
 use Rattle.ic_run.proofs.lines.run.Goals as goal
 
 pub returns-in_err-line-clause-front : goal.returns-in_err-line-clause-front
@@ -16,7 +16,7 @@ returns-in_err-line-clause-front g c =
     let e = c.in_err-line.field-0.0 in
     let h = c.in_err-line.ensures in
     let t = h.taken in
-    let given = leaves_at_reader c.args.model.now.book c.lines.model.book c.lines.count c.lines.reader t.0 c.next_line.new.self (written c.args.sink.now) (written c.lines.sink) _ _ _ e
+    let given = leaves_at_reader c.args.model.now c.lines.model c.lines.count c.lines.reader t.0 c.next_line.new.self (written c.args.sink.now) (written c.lines.sink) _ _ _ e
     c.lines.invariant.done t.1 t.2 (λ which. elim which [ inl p ↦ (h.read_fault (ap Err p)).1 | inr p ↦ (h.too_many (ap Err p)).1 ]) (λ p. h.no_write (ap Err p)) in
     IfErr-given c.from_residual.result e
     (λ x. IfTold (left c.args.source.now) (left c.next_line.new.source) (λ bytes b. Leaves x c.args.model.now.book c.lines.model.book bytes b (written c.args.sink.now) (written c.lines.sink)))
@@ -26,9 +26,9 @@ pub returns-in_err-answer_to-clause-front : goal.returns-in_err-answer_to-clause
 returns-in_err-answer_to-clause-front g c =
     let left = g.S.Source.left in
     let written = g.K.Sink.written in
-    let old = c.args.model.now.book in
-    let mid = c.lines.model.book in
-    let new = c.answer_to.new.model.book in
+    let old = c.args.model.now in
+    let mid = c.lines.model in
+    let new = c.answer_to.new.model in
     let before = c.lines.reader in
     let after = c.next_line.new.self in
     let line = c.in-Some.line in
@@ -43,16 +43,16 @@ returns-in_err-answer_to-clause-front g c =
     c.lines.invariant.done (next_told line before t.0 after _ _ t.1 held gives reads.ends) h.which
     (λ p. let k = h.no_memory (ap Err p) in (k.0, ap written k.1)) (λ p. let k = h.write_fault (ap Err p) in (k.1, k.2)) in
     IfErr-given c.from_residual-in_err-answer_to.result e
-    (λ x. IfTold (left c.args.source.now) (left c.next_line.new.source) (λ bytes b. Leaves x old new bytes b (written c.args.sink.now) (written c.answer_to.new.sink)))
+    (λ x. IfTold (left c.args.source.now) (left c.next_line.new.source) (λ bytes b. Leaves x old.book new.book bytes b (written c.args.sink.now) (written c.answer_to.new.sink)))
     c.from_residual-in_err-answer_to.ensures.1 given
 
 pub lines-preserved : goal.lines-preserved
 lines-preserved g c =
     let left = g.S.Source.left in
     let written = g.K.Sink.written in
-    let old = c.args.model.now.book in
-    let mid = c.lines.model.book in
-    let new = c.answer_to.new.model.book in
+    let old = c.args.model.now in
+    let mid = c.lines.model in
+    let new = c.answer_to.new.model in
     let before = c.lines.reader in
     let after = c.next_line.new.self in
     let line = c.in-Some.line in
@@ -66,9 +66,8 @@ lines-preserved g c =
       done = IfTold-join _ _ _
           (Progress old mid c.lines.count before (written c.args.sink.now) (written c.lines.sink)) (Next line before after)
           (Progress old new (c.lines.count + 1) after (written c.args.sink.now) (written c.answer_to.new.sink))
-          (λ bytes a b p n. Progress-step old mid c.lines.count before after _ _ bytes a b line p n new _ c.in_ok-answer_to.ensures.book c.in_ok-answer_to.ensures.reply)
+          (λ bytes a b p n. Progress-step old mid c.lines.count before after _ _ bytes a b line p n new _ c.in_ok-answer_to.ensures.does c.in_ok-answer_to.ensures.reply)
           i.done (next_told line before t.0 after _ _ t.1 held gives e.ends);
-      did = did_next c.args.model.now c.lines.model c.lines.count before (written c.args.sink.now) (written c.lines.sink) _ _ _ i.done i.did after line c.answer_to.new.model (next_told line before t.0 after _ _ t.1 held gives e.ends) c.in_ok-answer_to.ensures.does;
       turns = IfTold-join _ _ _ (λ bytes a. before.turns + length a ≤ length bytes) (λ a b. after.turns + length b ≤ before.turns + length a) (λ bytes b. after.turns + length b ≤ length bytes)
           (λ bytes a b p q. omega (arith, p, q)) i.turns e.turns;
       few = omega (arith, i.few, e.progress (IsSome-is _ line c.in-Some.is));
@@ -83,7 +82,7 @@ returns-clause-book g c =
     let before = c.lines.reader in
     let after = c.next_line.new.self in
     let h = c.in_ok-line.ensures in
-    takes_all_told c.args.model.now.book c.lines.model.book c.lines.count before h.taken.0 after (g.K.Sink.written c.args.sink.now) (g.K.Sink.written c.lines.sink) _ _ _ c.lines.invariant.done h.taken.1
+    takes_all_told c.args.model.now c.lines.model c.lines.count before h.taken.0 after (g.K.Sink.written c.args.sink.now) (g.K.Sink.written c.lines.sink) _ _ _ c.lines.invariant.done h.taken.1
     (subst (λ o. IfTold (left c.lines.source) (left c.next_line.new.source) (λ a b. GivesLine o (unread before a) (unread after b))) c.in_default.is h.line)
 
 pub returns-clause-replies : goal.returns-clause-replies
@@ -92,7 +91,16 @@ returns-clause-replies g c =
     let before = c.lines.reader in
     let after = c.next_line.new.self in
     let h = c.in_ok-line.ensures in
-    all_replied_told c.args.model.now.book c.lines.model.book c.lines.count before h.taken.0 after (g.K.Sink.written c.args.sink.now) (g.K.Sink.written c.lines.sink) _ _ _ c.lines.invariant.done h.taken.1
+    all_replied_told c.args.model.now c.lines.model c.lines.count before h.taken.0 after (g.K.Sink.written c.args.sink.now) (g.K.Sink.written c.lines.sink) _ _ _ c.lines.invariant.done h.taken.1
+    (subst (λ o. IfTold (left c.lines.source) (left c.next_line.new.source) (λ a b. GivesLine o (unread before a) (unread after b))) c.in_default.is h.line)
+
+pub returns-clause-served : goal.returns-clause-served
+returns-clause-served g c =
+    let left = g.S.Source.left in
+    let before = c.lines.reader in
+    let after = c.next_line.new.self in
+    let h = c.in_ok-line.ensures in
+    all_served_told c.args.model.now c.lines.model c.lines.count before h.taken.0 after (g.K.Sink.written c.args.sink.now) (g.K.Sink.written c.lines.sink) _ _ _ c.lines.invariant.done h.taken.1
     (subst (λ o. IfTold (left c.lines.source) (left c.next_line.new.source) (λ a b. GivesLine o (unread before a) (unread after b))) c.in_default.is h.line)
 
 pub returns-clause-does : goal.returns-clause-does
@@ -101,7 +109,7 @@ returns-clause-does g c =
     let before = c.lines.reader in
     let after = c.next_line.new.self in
     let h = c.in_ok-line.ensures in
-    all_did c.args.model.now c.lines.model c.lines.count before (g.K.Sink.written c.args.sink.now) (g.K.Sink.written c.lines.sink) _ _ _ c.lines.invariant.done c.lines.invariant.did h.taken.0 after h.taken.1
+    all_do_told c.args.model.now c.lines.model c.lines.count before h.taken.0 after (g.K.Sink.written c.args.sink.now) (g.K.Sink.written c.lines.sink) _ _ _ c.lines.invariant.done h.taken.1
     (subst (λ o. IfTold (left c.lines.source) (left c.next_line.new.source) (λ a b. GivesLine o (unread before a) (unread after b))) c.in_default.is h.line)
 
 pub returns-clause-whole : goal.returns-clause-whole
@@ -111,17 +119,5 @@ returns-clause-whole g c =
     let after = c.next_line.new.self in
     let h = c.in_ok-line.ensures in
     is_served (left c.args.source.now) (left c.next_line.new.source) c.args.model.now c.lines.model
-    (all_did c.args.model.now c.lines.model c.lines.count before (g.K.Sink.written c.args.sink.now) (g.K.Sink.written c.lines.sink) _ _ _ c.lines.invariant.done c.lines.invariant.did h.taken.0 after h.taken.1
+    (all_do_told c.args.model.now c.lines.model c.lines.count before h.taken.0 after (g.K.Sink.written c.args.sink.now) (g.K.Sink.written c.lines.sink) _ _ _ c.lines.invariant.done h.taken.1
     (subst (λ o. IfTold (left c.lines.source) (left c.next_line.new.source) (λ a b. GivesLine o (unread before a) (unread after b))) c.in_default.is h.line))
-
-pub returns-clause-served : goal.returns-clause-served
-returns-clause-served g c =
-    let left = g.S.Source.left in
-    let written = g.K.Sink.written in
-    let before = c.lines.reader in
-    let after = c.next_line.new.self in
-    let h = c.in_ok-line.ensures in
-    let gives = subst (λ o. IfTold (left c.lines.source) (left c.next_line.new.source) (λ a b. GivesLine o (unread before a) (unread after b))) c.in_default.is h.line in
-    appends_served (left c.args.source.now) (left c.next_line.new.source) (written c.args.sink.now) (written c.lines.sink) c.args.model.now c.lines.model
-    (all_did c.args.model.now c.lines.model c.lines.count before (written c.args.sink.now) (written c.lines.sink) _ _ _ c.lines.invariant.done c.lines.invariant.did h.taken.0 after h.taken.1 gives)
-    (all_replied_told c.args.model.now.book c.lines.model.book c.lines.count before h.taken.0 after (written c.args.sink.now) (written c.lines.sink) _ _ _ c.lines.invariant.done h.taken.1 gives)

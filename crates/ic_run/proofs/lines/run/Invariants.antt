@@ -1,7 +1,7 @@
 use Rattle.std.proofs.Common.{◌≡◌, ◌+◌, ◌*◌, ◌≤◌, false, length}
 use Rattle.ic_lines.specs.Bytes.{IfTold}
 use Rattle.ic_lines.specs.Reading.{SeesEnd, budget}
-use Rattle.ic_run.proofs.ProgressLemmas.{Did, Progress}
+use Rattle.ic_run.proofs.ProgressLemmas.{Progress}
 use Rattle.ic_run.proofs.lines.run.Given as goal
 
 -- some of the first lines are answered, and the others are still to be given; no fault was counted
@@ -10,8 +10,7 @@ invariant-lines g l =
     let source = g.S.Source in
     let sink = g.K.Sink in
     record {
-      done : IfTold (source.left l.fn.source) (source.left l.source) (Progress l.fn.model.book l.model.book l.count l.reader (sink.written l.fn.sink) (sink.written l.sink));
-      did : IfTold (source.left l.fn.source) (source.left l.source) (Did l.fn.model l.model l.count);
+      done : IfTold (source.left l.fn.source) (source.left l.source) (Progress l.fn.model l.model l.count l.reader (sink.written l.fn.sink) (sink.written l.sink));
       turns : IfTold (source.left l.fn.source) (source.left l.source) (λ bytes left. l.reader.turns + length left ≤ length bytes);
       few : l.count + budget l.reader ≤ 4096 * 4294967296;
       shown : SeesEnd false l.reader.ended (source.ended l.fn.source) (source.ended l.source);

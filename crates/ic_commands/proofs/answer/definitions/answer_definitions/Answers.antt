@@ -5,10 +5,10 @@ use Rattle.ic_commands.proofs.AnswerLemmas.{changed, only_read}
 use Rattle.ic_commands.proofs.answer.definitions.answer_definitions.Goals as goal
 
 pub returns-in-NewDefinedName : goal.returns-in-NewDefinedName
-returns-in-NewDefinedName c = changed (OnDefinitions (definitions_meant c.args.command)) refl c.told.ensures c.new_defined_name.ensures.does (search rules) (search rules)
+returns-in-NewDefinedName c = changed (OnDefinitions (definitions_meant c.args.command)) refl c.told.ensures c.new_defined_name.ensures.does (search rules) (search rules) refl
 
 pub returns-in-DeleteDefinedName : goal.returns-in-DeleteDefinedName
-returns-in-DeleteDefinedName c = changed (OnDefinitions (definitions_meant c.args.command)) refl c.told-in-DeleteDefinedName.ensures c.delete_defined_name.ensures.does (search rules) (search rules)
+returns-in-DeleteDefinedName c = changed (OnDefinitions (definitions_meant c.args.command)) refl c.told-in-DeleteDefinedName.ensures c.delete_defined_name.ensures.does (search rules) (search rules) refl
 
 pub returns-in-GetDefinedNameList : goal.returns-in-GetDefinedNameList
 returns-in-GetDefinedNameList c = only_read c.told-in-GetDefinedNameList.ensures c.get_defined_name_list.ensures.does (search rules)

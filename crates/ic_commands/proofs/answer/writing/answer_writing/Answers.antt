@@ -5,4 +5,4 @@ use Rattle.ic_commands.proofs.AnswerLemmas.{changed}
 use Rattle.ic_commands.proofs.answer.writing.answer_writing.Goals as goal
 
 pub returns : goal.returns
-returns c = changed (OnWriting (writing_meant c.args.command)) refl c.told.ensures c.update_cell_with_formula.ensures.does (search rules) (search rules)
+returns c = changed (OnWriting (writing_meant c.args.command)) refl c.told.ensures c.update_cell_with_formula.ensures.does (search rules) (search rules) refl
