@@ -33,7 +33,7 @@ find_inserted p (y ∷ xs) (suc index) x e = elim (cases_Bool (p y)) [
   | inr f ↦ rw f (find_inserted p xs index x (rw f at e))
 ]
 
-any_inserted : {X : Type 0} (p : X → Bool) (xs : List X) (index : ℕ) (x : X) → list_any p xs ≡ true → list_any p (insert xs index x) ≡ true
+pub any_inserted : {X : Type 0} (p : X → Bool) (xs : List X) (index : ℕ) (x : X) → list_any p xs ≡ true → list_any p (insert xs index x) ≡ true
 any_inserted p [] index x e = cc
 any_inserted p (y ∷ xs) zero x e = elim (cases_Bool (p x)) [
   | inl t ↦ rw t refl

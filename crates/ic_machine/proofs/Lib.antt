@@ -1,10 +1,15 @@
 pub mod AlikeLemmas
+pub mod ArraysStay
 pub mod BindsLemmas
 pub mod ChangedStays
+pub mod CopyKeys
+pub mod CopyNames
 pub mod CoreLemmas
 pub mod CoreValid
+pub mod DuplicatedStays
 pub mod FormulaLemmas
 pub mod FormulaStepped
+pub mod HaveLemmas
 pub mod InsertedBinds
 pub mod InsertedStays
 pub mod NamesStay
@@ -13,12 +18,15 @@ pub mod NewSheetStays
 pub mod NumberLemmas
 pub mod ReaderLemmas
 pub mod SceneLemmas
-pub mod SheetsStay
+pub mod SeenLemmas
 pub mod ServedLemmas
+pub mod SheetsStay
 pub mod SteppedLemmas
 pub mod StylesStay
 pub mod SubjectsStay
+pub mod UpdatedStays
 pub mod ValidLemmas
+pub mod WholeLemmas
 pub mod WritingStays
 pub mod WritingSteps
 mod examples

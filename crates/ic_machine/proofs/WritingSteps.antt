@@ -125,7 +125,7 @@ of_content : (count : ℕ) (o : Option Content) → ((x : Content) → o ≡ Som
 of_content count None h = tt
 of_content count (Some x) h = h x refl
 
-number_below : (count : ℕ) (grid : Grid) (p : CellPlace) → HasGridStyles count grid → 0 < count → style_number_at grid p.0 p.1 < count
+pub number_below : (count : ℕ) (grid : Grid) (p : CellPlace) → HasGridStyles count grid → 0 < count → style_number_at grid p.0 p.1 < count
 number_below count grid p h z =
     number_or count (option_map style_of (finite.get grid.contents p)) (option_and_then (λ (r : RowProps). r.style) (finite.get grid.rows p.0)) (option_and_then (λ (c : ColumnProps). c.style) (finite.get grid.columns p.1))
     (of_content count (finite.get grid.contents p) (h.contents p)) (optional count (λ (r : RowProps). r.style) (finite.get grid.rows p.0) (h.rows p.0)) (optional count (λ (c : ColumnProps). c.style) (finite.get grid.columns p.1) (h.columns p.1)) z

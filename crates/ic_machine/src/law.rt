@@ -9,13 +9,14 @@ ghost use Rattle.ic_machine.specs.Command.{Command};
 ghost use Rattle.ic_machine.specs.Content.{content_of, held};
 ghost use Rattle.ic_machine.specs.Core.{FormulaIsStepped, IsSteppedAs, core_command};
 ghost use Rattle.ic_machine.specs.Kept.{CoreIsValid, CoreStaysValid, KeepsValid, KeepsValidIf};
-ghost use Rattle.ic_machine.specs.Kept.{keeps_definitions, keeps_sheets};
+ghost use Rattle.ic_machine.specs.Kept.{gives_id, keeps_arrays};
 ghost use Rattle.ic_machine.specs.Laws.{BadLineStays, CounterpartsAreBack, NumbersAreSmall};
 ghost use Rattle.ic_machine.specs.Laws.{RefusedStays, ServedIsCore};
 ghost use Rattle.ic_machine.specs.Laws.{RunsLeaveSame, RunsTellSame};
 ghost use Rattle.ic_machine.specs.Readers.{LeavesIf, is_reader};
 ghost use Rattle.ic_machine.specs.Scene.{KeepsSceneIf, leaves_names};
 ghost use Rattle.ic_machine.specs.Step.{step};
+ghost use Rattle.ic_machine.specs.subjects.Arrays.{arrays_step};
 ghost use Rattle.ic_machine.specs.subjects.Definitions.{definition_step};
 ghost use Rattle.ic_machine.specs.subjects.Extending.{extending_step};
 ghost use Rattle.ic_machine.specs.subjects.Layout.{layout_step};
@@ -82,9 +83,8 @@ pub fn law_formula_is_stepped()
     ensures { FormulaIsStepped }
 {}
 
-/// A command on the notation, one that writes a cell, a reader of cells, one that writes a formula out for another place,
-/// one on styles, on the layout, on tabs or on the theme keeps what always holds of a book. So does one on sheets, but for
-/// copying one, where an id that is given is one that a word can say; and one on definitions, but for an update.
+/// A step of each command keeps what always holds of a book, where the id that a sheet is to be inserted with is one that a
+/// word can say; but for one that writes an array, of which this isn't shown.
 pub fn law_book_stays_valid()
     ensures notation { KeepsValid notation_step }
     ensures writing { KeepsValid writing_step }
@@ -93,8 +93,9 @@ pub fn law_book_stays_valid()
     ensures styles { KeepsValid style_step }
     ensures layout { KeepsValid layout_step }
     ensures tabs { KeepsValid tab_step }
-    ensures sheets { KeepsValidIf keeps_sheets sheet_step }
-    ensures definitions { KeepsValidIf keeps_definitions definition_step }
+    ensures sheets { KeepsValidIf gives_id sheet_step }
+    ensures definitions { KeepsValid definition_step }
+    ensures arrays { KeepsValidIf keeps_arrays arrays_step }
 {}
 
 /// The core of a valid book is a valid book of the core machine; and so is that of the book which an accepted command leaves
