@@ -1,4 +1,6 @@
 pub mod AlikeLemmas
+pub mod ArrayCells
+pub mod ArrayStays
 pub mod ArraysStay
 pub mod BindsLemmas
 pub mod ChangedStays
@@ -21,6 +23,7 @@ pub mod SceneLemmas
 pub mod SeenLemmas
 pub mod ServedLemmas
 pub mod SheetsStay
+pub mod StandingLemmas
 pub mod SteppedLemmas
 pub mod StylesStay
 pub mod SubjectsStay

@@ -177,7 +177,7 @@ module _ {X Y : Type 0} (f : X → Y) (h : Holding X) (k : Holding Y) (alike : H
         remade_seen f m c seen _ _
         (λ q x. ap Some (ap (λ s. valued_cell k (is_cse_anchor s) value a q (f x)) (shape_same a) ∙ valued_one (is_cse_anchor (shape_at h m a)) value a q x))
 
-    without_seen : (a : Place) → IsSeen f (without_spill h a m) (without_spill k a c)
+    pub without_seen : (a : Place) → IsSeen f (without_spill h a m) (without_spill k a c)
     without_seen a = remade_seen f m c seen _ _ (λ q x. ap Some (unspilled_seen a x))
 
     -- what keeps a formula from spilling

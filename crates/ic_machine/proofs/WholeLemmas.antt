@@ -67,17 +67,17 @@ array_cell (Some (cells.SpillCell n a v)) e = cc
 -- the contents of a sheet as its cells ----
 
 module _ (rows : Rows) (columns : Columns) (merges : List Merge) where
-  abbrev as_grid : Contents Cell → Grid
+  abbrev pub as_grid : Contents Cell → Grid
   as_grid c = record { cells = c; rows = rows; columns = columns; merged_cells = merges }
 
-  whole_as : (m : Contents Content) (c : Contents Cell) → IsSeen as_cell m c → IsWhole merges m → IsGrid (as_grid c)
+  pub whole_as : (m : Contents Content) (c : Contents Cell) → IsSeen as_cell m c → IsWhole merges m → IsGrid (as_grid c)
   whole_as m c seen w = record {
     inside = same_inside held celled m c (seen_to as_cell held celled contents_are_cells m c seen) (seen_back as_cell held celled contents_are_cells m c seen) w.inside;
     arrays = same_arrays held celled m c (seen_to as_cell held celled contents_are_cells m c seen) (seen_back as_cell held celled contents_are_cells m c seen) w.arrays;
     merges = same_merges held celled m c (seen_to as_cell held celled contents_are_cells m c seen) (seen_back as_cell held celled contents_are_cells m c seen) merges w.apart;
   }
 
-  whole_back : (m : Contents Content) (c : Contents Cell) → IsSeen as_cell m c → IsGrid (as_grid c) → IsWhole merges m
+  pub whole_back : (m : Contents Content) (c : Contents Cell) → IsSeen as_cell m c → IsGrid (as_grid c) → IsWhole merges m
   whole_back m c seen w = record {
     inside = same_inside celled held c m (seen_back as_cell held celled contents_are_cells m c seen) (seen_to as_cell held celled contents_are_cells m c seen) w.inside;
     arrays = same_arrays celled held c m (seen_back as_cell held celled contents_are_cells m c seen) (seen_to as_cell held celled contents_are_cells m c seen) w.arrays;

@@ -226,7 +226,7 @@ module _ (b : Book) (valid : IsValidBook b) where
         ((notations_are b.tables valid.tables).shown b.locale b.language p.0 p.1 valid.locale valid.language) (text ++ codes ")") t g (Some s.id)
     read_kept text None None h g = tt
 
-    text_good : (text : List ℕ) → IsGood (notations_in b) (scene_in b) s p (formula_written b s (formula_at_place b s p text))
+    pub text_good : (text : List ℕ) → IsGood (notations_in b) (scene_in b) s p (formula_written b s (formula_at_place b s p text))
     text_good text =
         formula_good (formula_at_place b s p text)
         (read_kept text (read_as (shown_at (notations_in b) (core_of b) p.0 p.1) text) (read_as (shown_at (notations_in b) (core_of b) p.0 p.1) (text ++ codes ")")) refl refl)

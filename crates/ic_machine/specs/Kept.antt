@@ -9,8 +9,6 @@ use Rattle.ic_machine.specs.Core.{core_command}
 use Rattle.ic_machine.specs.Reply.{Field}
 use Rattle.ic_machine.specs.Step.{step}
 use Rattle.ic_machine.specs.Valid.{IsValidBook}
-use Rattle.ic_machine.specs.subjects.Arrays as arrays
-use Rattle.ic_machine.specs.subjects.Arrays.{Arrays}
 use Rattle.ic_machine.specs.subjects.Sheets as sheets
 use Rattle.ic_machine.specs.subjects.Sheets.{Sheets}
 
@@ -40,11 +38,6 @@ is_given_id (Some id) = not (nat_lt last_id id)
 abbrev pub gives_id : Sheets → Bool
 gives_id (sheets.InsertSheet name index id) = is_given_id id
 gives_id command = true
-
--- of which commands on arrays this is shown: all but one that writes an array
-abbrev pub keeps_arrays : Arrays → Bool
-keeps_arrays (arrays.SetUserArrayFormula sheet block text) = false
-keeps_arrays command = true
 
 -- the core of a valid book is a valid book of the core machine
 abbrev pub CoreIsValid : Type 0

@@ -9,7 +9,7 @@ ghost use Rattle.ic_machine.specs.Command.{Command};
 ghost use Rattle.ic_machine.specs.Content.{content_of, held};
 ghost use Rattle.ic_machine.specs.Core.{FormulaIsStepped, IsSteppedAs, core_command};
 ghost use Rattle.ic_machine.specs.Kept.{CoreIsValid, CoreStaysValid, KeepsValid, KeepsValidIf};
-ghost use Rattle.ic_machine.specs.Kept.{gives_id, keeps_arrays};
+ghost use Rattle.ic_machine.specs.Kept.{gives_id};
 ghost use Rattle.ic_machine.specs.Laws.{BadLineStays, CounterpartsAreBack, NumbersAreSmall};
 ghost use Rattle.ic_machine.specs.Laws.{RefusedStays, ServedIsCore};
 ghost use Rattle.ic_machine.specs.Laws.{RunsLeaveSame, RunsTellSame};
@@ -83,8 +83,8 @@ pub fn law_formula_is_stepped()
     ensures { FormulaIsStepped }
 {}
 
-/// A step of each command keeps what always holds of a book, where the id that a sheet is to be inserted with is one that a
-/// word can say; but for one that writes an array, of which this isn't shown.
+/// A step of each command keeps what always holds of a book. The id that a sheet is inserted with, where one is given, is one
+/// that a word can say.
 pub fn law_book_stays_valid()
     ensures notation { KeepsValid notation_step }
     ensures writing { KeepsValid writing_step }
@@ -95,7 +95,7 @@ pub fn law_book_stays_valid()
     ensures tabs { KeepsValid tab_step }
     ensures sheets { KeepsValidIf gives_id sheet_step }
     ensures definitions { KeepsValid definition_step }
-    ensures arrays { KeepsValidIf keeps_arrays arrays_step }
+    ensures arrays { KeepsValid arrays_step }
 {}
 
 /// The core of a valid book is a valid book of the core machine; and so is that of the book which an accepted command leaves
