@@ -58,7 +58,7 @@ first_false : (x y z : Bool) → (x && y) ≡ false → y ≡ true → (x && z) 
 first_false false y z e f = refl
 first_false true y z e f = absurd (let no : true ≡ false = sym f ∙ e in cc)
 
-second_false : (x y : Bool) → y ≡ false → (x && y) ≡ false
+pub second_false : (x y : Bool) → y ≡ false → (x && y) ≡ false
 second_false true y e = e
 second_false false y e = refl
 
@@ -128,7 +128,7 @@ module _ (id copy : ℕ) where
           (none_passes (λ (other : Definition). agrees other.name d.name) (local_to id ds) (shared_parts d e).1))
 
   -- no definition is local to a sheet with an id that none has
-  no_scope : (ds : List Definition) → list_any (nat_eq copy) (flat_map (λ (d : Definition). option_to_list d.scope) ds) ≡ false → AllByRecursion (λ (d : Definition). same_scope d.scope (Some copy) ≡ false) ds
+  pub no_scope : (ds : List Definition) → list_any (nat_eq copy) (flat_map (λ (d : Definition). option_to_list d.scope) ds) ≡ false → AllByRecursion (λ (d : Definition). same_scope d.scope (Some copy) ≡ false) ds
   no_scope [] e = tt
   no_scope (d ∷ ds) e =
       let parts = neither (list_any (nat_eq copy) (option_to_list d.scope)) _ (sym (list_any-append (nat_eq copy) (option_to_list d.scope) (flat_map (λ (x : Definition). option_to_list x.scope) ds)) ∙ e) in

@@ -102,7 +102,7 @@ module _ (b : Book) (valid : IsValidBook b) (index : ℕ) (source : Sheet) (at :
   good : is_sheet_name (name_of_copy b source.name) ≡ true
   good = copy_is_good b valid source.name (all_at (λ (s : Sheet). is_sheet_name s.name ≡ true) index b.sheets source valid.sheet_names.names at)
 
-  free : has_sheet (core_of b) (name_of_copy b source.name) ≡ false
+  pub free : has_sheet (core_of b) (name_of_copy b source.name) ≡ false
   free = copy_is_free b valid source.name (all_at (λ (s : Sheet). is_sheet_name s.name ≡ true) index b.sheets source valid.sheet_names.names at)
 
   fits : IsId id
@@ -115,7 +115,7 @@ module _ (b : Book) (valid : IsValidBook b) (index : ℕ) (source : Sheet) (at :
   neither true q e = cc
   neither false q e = (refl, e)
 
-  parts : (list_any (nat_eq id) (ids_of (core_of b)) ≡ false) × (list_any (nat_eq id) (flat_map (λ (d : Definition). option_to_list d.scope) b.definitions) ≡ false)
+  pub parts : (list_any (nat_eq id) (ids_of (core_of b)) ≡ false) × (list_any (nat_eq id) (flat_map (λ (d : Definition). option_to_list d.scope) b.definitions) ≡ false)
   parts = neither _ _ (sym (list_any-append (nat_eq id) (ids_of (core_of b)) (flat_map (λ (d : Definition). option_to_list d.scope) b.definitions)) ∙ unused)
 
   -- what formulas see of the copied definitions is what they see of these with their old bodies

@@ -53,7 +53,7 @@ none_mapped None e = refl
 none_mapped (Some m) e = cc
 
 -- what it does to the scene
-insert_naming : (book : CoreBook) (index id : ℕ) (name : List ℕ) → IsDistinct agrees (names_of book) → has_sheet book name ≡ false → Naming (scene_of book) (scene_of (with_sheet_among index id name book)) id name
+pub insert_naming : (book : CoreBook) (index id : ℕ) (name : List ℕ) → IsDistinct agrees (names_of book) → has_sheet book name ≡ false → Naming (scene_of book) (scene_of (with_sheet_among index id name book)) id name
 insert_naming book index id name differ new =
     let s : core_book.Sheet = record { id = id; name = name; cells = [] } in
     let m : SheetName = record { id = id; name = name } in

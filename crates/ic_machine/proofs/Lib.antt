@@ -4,6 +4,7 @@ pub mod ArrayStays
 pub mod ArraysStay
 pub mod BindsLemmas
 pub mod ChangedStays
+pub mod CopiedBinds
 pub mod CopyKeys
 pub mod CopyNames
 pub mod CoreLemmas

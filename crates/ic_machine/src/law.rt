@@ -1,7 +1,7 @@
 ghost use Rattle.std.specs.Prelude.{List, ℕ};
 ghost use Rattle.ic_grid.specs.Shape.{celled};
 ghost use Rattle.ic_machine.specs.Alike.{HoldsAlike};
-ghost use Rattle.ic_machine.specs.Binds.{AddedIsMeant, DefinedIsMeant, InsertedIsMeant};
+ghost use Rattle.ic_machine.specs.Binds.{AddedIsMeant, CopiedIsMeant, DefinedIsMeant, InsertedIsMeant};
 ghost use Rattle.ic_machine.specs.Binds.{DeletedIsNotMeant, NewIsMeant};
 ghost use Rattle.ic_machine.specs.Binds.{RenamedByNameIsMeant, RenamedIsMeant};
 ghost use Rattle.ic_machine.specs.Book.{Book};
@@ -106,13 +106,14 @@ pub fn law_core_stays_valid()
     ensures stays { CoreStaysValid }
 {}
 
-/// In a valid book, after a sheet was added, put in or renamed or a definition was added, what dangled and is bound then means
-/// just that sheet or that definition. After one was deleted, what meant it means the one of an agreeing name for all sheets, or
-/// dangles. Each other mention is what it was.
+/// In a valid book, after a sheet was added, put in, copied or renamed or a definition was added, what dangled and is bound then
+/// means just that sheet or that definition. After one was deleted, what meant it means the one of an agreeing name for all
+/// sheets, or dangles. Each other mention is what it was. The formulas of a copy are the ones that are written for it.
 pub fn law_bound_is_named()
     ensures added { AddedIsMeant }
     ensures new { NewIsMeant }
     ensures inserted { InsertedIsMeant }
+    ensures copied { CopiedIsMeant }
     ensures renamed { RenamedIsMeant }
     ensures by_name { RenamedByNameIsMeant }
     ensures defined { DefinedIsMeant }
