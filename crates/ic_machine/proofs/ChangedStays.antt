@@ -46,7 +46,7 @@ module _ (n : Notations) (are : AreNotations n) (before after : Scene) (named : 
   pool_kept scope [] h = tt
   pool_kept scope (x ∷ pool) h = (pooled_kept scope x h.0, pool_kept scope pool h.1)
 
-  formula_kept : (scope : Option ℕ) (row column : ℤ) (formula : Formula) → IsKeptFormula n before scope row column formula → IsKeptFormula n after scope row column (keep scope formula)
+  pub formula_kept : (scope : Option ℕ) (row column : ℤ) (formula : Formula) → IsKeptFormula n before scope row column formula → IsKeptFormula n after scope row column (keep scope formula)
   formula_kept scope row column (formulas.Tree t) h = kept_is_kept n are before after named named_after change scope (IsPlaceInside row column) t h
   formula_kept scope row column (formulas.Raw text) h = tt
 

@@ -33,7 +33,7 @@ find_inserted p (y ∷ xs) (suc index) x e = elim (cases_Bool (p y)) [
   | inr f ↦ rw f (find_inserted p xs index x (rw f at e))
 ]
 
-any_inserted : {X : Type 0} (p : X → Bool) (xs : List X) (index : ℕ) (x : X) → list_any p xs ≡ true → list_any p (insert xs index x) ≡ true
+pub any_inserted : {X : Type 0} (p : X → Bool) (xs : List X) (index : ℕ) (x : X) → list_any p xs ≡ true → list_any p (insert xs index x) ≡ true
 any_inserted p [] index x e = cc
 any_inserted p (y ∷ xs) zero x e = elim (cases_Bool (p x)) [
   | inl t ↦ rw t refl
@@ -53,7 +53,7 @@ none_mapped None e = refl
 none_mapped (Some m) e = cc
 
 -- what it does to the scene
-insert_naming : (book : CoreBook) (index id : ℕ) (name : List ℕ) → IsDistinct agrees (names_of book) → has_sheet book name ≡ false → Naming (scene_of book) (scene_of (with_sheet_among index id name book)) id name
+pub insert_naming : (book : CoreBook) (index id : ℕ) (name : List ℕ) → IsDistinct agrees (names_of book) → has_sheet book name ≡ false → Naming (scene_of book) (scene_of (with_sheet_among index id name book)) id name
 insert_naming book index id name differ new =
     let s : core_book.Sheet = record { id = id; name = name; cells = [] } in
     let m : SheetName = record { id = id; name = name } in

@@ -41,11 +41,11 @@ use Rattle.ic_machine.proofs.ValidLemmas.{HoldsOf, all_of, stays_unless}
 
 -- lists ----
 
-all_mapped : {X : Type 0} (P : X → Type 0) (f : X → X) → ((x : X) → P x → P (f x)) → (xs : List X) → AllByRecursion P xs → AllByRecursion P (map f xs)
+pub all_mapped : {X : Type 0} (P : X → Type 0) (f : X → X) → ((x : X) → P x → P (f x)) → (xs : List X) → AllByRecursion P xs → AllByRecursion P (map f xs)
 all_mapped P f more [] h = tt
 all_mapped P f more (x ∷ xs) h = (more x h.0, all_mapped P f more xs h.1)
 
-named_cores : (sheets : List Sheet) → AllByRecursion (λ (s : Sheet). is_sheet_name s.name ≡ true) sheets → AllByRecursion HasSheetName (map core_sheet sheets)
+pub named_cores : (sheets : List Sheet) → AllByRecursion (λ (s : Sheet). is_sheet_name s.name ≡ true) sheets → AllByRecursion HasSheetName (map core_sheet sheets)
 named_cores [] h = tt
 named_cores (s ∷ sheets) h = (h.0, named_cores sheets h.1)
 
@@ -53,7 +53,7 @@ pub distinct_inserted : {X : Type 0} {same : X → X → Bool} → IsEquivalence
 distinct_inserted {X} {same} equiv xs index x d e =
     IsDistinct-IsPermutation same equiv.symm (x ∷ xs) (insert xs index x) (IsPermutation-insert xs index x) (IsDistinct-cons same x xs (none_passes (same x) xs e) d)
 
-some_inserted : {X : Type 0} (xs : List X) (index : ℕ) (x : X) → 0 < length (insert xs index x)
+pub some_inserted : {X : Type 0} (xs : List X) (index : ℕ) (x : X) → 0 < length (insert xs index x)
 some_inserted [] zero x = omega (arith)
 some_inserted [] (suc index) x = omega (arith)
 some_inserted (y ∷ xs) zero x = omega (arith)
@@ -100,7 +100,7 @@ module _ (b : Book) (valid : IsValidBook b) (later : Scene) (keys : KeyChange) (
 
 module _ (b : Book) (valid : IsValidBook b) where
   -- definitions with their bodies kept are valid, where the scene after is named
-  bodies_kept : (later : Scene) → IsNamed later → AllByRecursion (IsValidDefinition (notations_in b) later) (kept_definitions b valid later same_keys)
+  pub bodies_kept : (later : Scene) → IsNamed later → AllByRecursion (IsValidDefinition (notations_in b) later) (kept_definitions b valid later same_keys)
   bodies_kept later named =
       let n : Notations = notations_in b in
       let core : IsValidCore n (core_of b) = core_valid b valid in
@@ -135,7 +135,7 @@ module _ (b : Book) (valid : IsValidBook b) where
       (subst (IsDistinct same_key) (map_twice _ key b.definitions) valid.definitions.differ)
 
   -- the id that a sheet gets, where none of the causes holds
-  fresh_fits : (o : Option ℕ) → o ≡ fresh_id (core_of b) → is_none o ≡ false → IsId (unwrap_or o 0) × (list_any (nat_eq (unwrap_or o 0)) (ids_of (core_of b)) ≡ false)
+  pub fresh_fits : (o : Option ℕ) → o ≡ fresh_id (core_of b) → is_none o ≡ false → IsId (unwrap_or o 0) × (list_any (nat_eq (unwrap_or o 0)) (ids_of (core_of b)) ≡ false)
   fresh_fits None e some = cc
   fresh_fits (Some id) e some =
       let next = fresh_is_next (core_of b) id e in

@@ -1,10 +1,18 @@
 pub mod AlikeLemmas
+pub mod ArrayCells
+pub mod ArrayStays
+pub mod ArraysStay
 pub mod BindsLemmas
 pub mod ChangedStays
+pub mod CopiedBinds
+pub mod CopyKeys
+pub mod CopyNames
 pub mod CoreLemmas
 pub mod CoreValid
+pub mod DuplicatedStays
 pub mod FormulaLemmas
 pub mod FormulaStepped
+pub mod HaveLemmas
 pub mod InsertedBinds
 pub mod InsertedStays
 pub mod NamesStay
@@ -13,12 +21,16 @@ pub mod NewSheetStays
 pub mod NumberLemmas
 pub mod ReaderLemmas
 pub mod SceneLemmas
-pub mod SheetsStay
+pub mod SeenLemmas
 pub mod ServedLemmas
+pub mod SheetsStay
+pub mod StandingLemmas
 pub mod SteppedLemmas
 pub mod StylesStay
 pub mod SubjectsStay
+pub mod UpdatedStays
 pub mod ValidLemmas
+pub mod WholeLemmas
 pub mod WritingStays
 pub mod WritingSteps
 mod examples

@@ -7,14 +7,16 @@ use Rattle.ic_laws.specs.FormulaReading.{body_of}
 use Rattle.ic_machine.specs.Book.{Book, Stepped, core_of, notations_in}
 use Rattle.ic_machine.specs.Changed.{changed_by, with_removed_sheet, with_renamed_sheet, without_definition}
 use Rattle.ic_machine.specs.Command.{OnDefinitions, OnSheets}
-use Rattle.ic_machine.specs.Kept.{StaysValid, StaysValidIf, is_given_id, keeps_definitions, keeps_sheets}
+use Rattle.ic_machine.specs.Kept.{StaysValid, StaysValidIf, gives_id, is_given_id}
 use Rattle.ic_machine.specs.Valid.{IsValidBook}
 use Rattle.ic_machine.specs.subjects.Definitions as definitions
 use Rattle.ic_machine.specs.subjects.Definitions.{delete_name_step, definition_step, new_name_step, with_new_name}
 use Rattle.ic_machine.specs.subjects.Sheets as sheets
 use Rattle.ic_machine.specs.subjects.Sheets.{add_sheet_step, delete_by_id_step, delete_by_name_step, delete_sheet_step, move_sheet_step, rename_by_index_step, rename_sheet_step, sheet_step, with_new_sheet}
 use Rattle.ic_machine.proofs.ReaderLemmas.{readers_leave}
+use Rattle.ic_machine.proofs.UpdatedStays.{update_name_stays}
 use Rattle.ic_machine.proofs.ValidLemmas.{stays_leaving}
+use Rattle.ic_machine.proofs.DuplicatedStays.{duplicate_stays}
 use Rattle.ic_machine.proofs.InsertedStays.{insert_stays}
 use Rattle.ic_machine.proofs.NewSheetStays.{new_sheet_stays}
 use Rattle.ic_machine.proofs.SheetsStay.{added_stays, move_stays, named_stays, removed_stays, renamed_stays, stays_lifted, undefined_stays}
@@ -25,7 +27,7 @@ by_asking true stepped h = h refl
 by_asking false stepped h = tt
 
 module _ (b : Book) (valid : IsValidBook b) where
-  pub sheets_stay : (command : sheets.Sheets) → StaysValidIf (keeps_sheets command) (sheet_step b command)
+  pub sheets_stay : (command : sheets.Sheets) → StaysValidIf (gives_id command) (sheet_step b command)
   unfolding add_sheet_step rename_sheet_step rename_by_index_step delete_sheet_step delete_by_name_step delete_by_id_step move_sheet_step
   sheets_stay (sheets.AddSheet name) =
       stays_lifted b valid (OnSheets (sheets.AddSheet name)) (core.AddSheet name) (changed_by (with_new_sheet name) b) refl (core_step (notations_in b) (core_of b) (core.AddSheet name)) refl (added_stays b valid name)
@@ -48,9 +50,9 @@ module _ (b : Book) (valid : IsValidBook b) where
   sheets_stay sheets.GetWorksheetsProperties = stays_leaving b valid _ (readers_leave b (OnSheets sheets.GetWorksheetsProperties))
   sheets_stay (sheets.InsertSheet name index id) = by_asking (is_given_id id) _ (insert_stays b valid name index id)
   sheets_stay sheets.NewSheet = new_sheet_stays b valid
-  sheets_stay (sheets.DuplicateSheet sheet) = tt
+  sheets_stay (sheets.DuplicateSheet sheet) = duplicate_stays b valid sheet
 
-  pub definitions_stay : (command : definitions.Definitions) → StaysValidIf (keeps_definitions command) (definition_step b command)
+  pub definitions_stay : (command : definitions.Definitions) → StaysValid (definition_step b command)
   unfolding new_name_step delete_name_step
   definitions_stay (definitions.NewDefinedName name scope body) =
       let left : Book = with_new_name b name (scope_or_none (core_of b) scope) (body_of (notations_in b) (core_of b) body) in
@@ -63,4 +65,4 @@ module _ (b : Book) (valid : IsValidBook b) where
   definitions_stay (definitions.WouldCaptureName update) = stays_leaving b valid _ (readers_leave b (OnDefinitions (definitions.WouldCaptureName update)))
   definitions_stay (definitions.IsValidDefinedName name scope body) = stays_leaving b valid _ (readers_leave b (OnDefinitions (definitions.IsValidDefinedName name scope body)))
   definitions_stay definitions.GetDefinedNameList = stays_leaving b valid _ (readers_leave b (OnDefinitions definitions.GetDefinedNameList))
-  definitions_stay (definitions.UpdateDefinedName update) = tt
+  definitions_stay (definitions.UpdateDefinedName update) = update_name_stays b valid update

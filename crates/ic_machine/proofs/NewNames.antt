@@ -71,7 +71,7 @@ module _ (names : List (List ℕ)) (name : ℕ → List ℕ) (top : ℕ) (apart 
 
 -- digits ----
 
-below_ten : (P : ℕ → Type 0) → P 0 → P 1 → P 2 → P 3 → P 4 → P 5 → P 6 → P 7 → P 8 → P 9 → (n : ℕ) → n < 10 → P n
+pub below_ten : (P : ℕ → Type 0) → P 0 → P 1 → P 2 → P 3 → P 4 → P 5 → P 6 → P 7 → P 8 → P 9 → (n : ℕ) → n < 10 → P n
 below_ten P a b c d e f g h i j zero less = a
 below_ten P a b c d e f g h i j (suc zero) less = b
 below_ten P a b c d e f g h i j (suc (suc zero)) less = c
@@ -84,7 +84,7 @@ below_ten P a b c d e f g h i j (suc (suc (suc (suc (suc (suc (suc (suc zero))))
 below_ten P a b c d e f g h i j (suc (suc (suc (suc (suc (suc (suc (suc (suc zero))))))))) less = j
 below_ten P a b c d e f g h i j (suc (suc (suc (suc (suc (suc (suc (suc (suc (suc n)))))))))) less = absurd (omega (arith, less))
 
-all_joined : (p : ℕ → Bool) (xs ys : List ℕ) → list_all p xs ≡ true → list_all p ys ≡ true → list_all p (xs ++ ys) ≡ true
+pub all_joined : (p : ℕ → Bool) (xs ys : List ℕ) → list_all p xs ≡ true → list_all p ys ≡ true → list_all p (xs ++ ys) ≡ true
 all_joined p [] ys h g = g
 all_joined p (x ∷ xs) ys h g = elim (cases_Bool (p x)) [
   | inl t ↦ rw t (all_joined p xs ys (rw t at h) g)
@@ -97,13 +97,13 @@ digit_fixed = below_ten (λ n. list_all is_fixed ((48 + n) ∷ []) ≡ true) ref
 digit_good : (n : ℕ) → n < 10 → list_any is_forbidden ((48 + n) ∷ []) ≡ false
 digit_good = below_ten (λ n. list_any is_forbidden ((48 + n) ∷ []) ≡ false) refl refl refl refl refl refl refl refl refl refl
 
-digits_fixed : (n : ℕ) → n < 2 ^ 64 → list_all is_fixed (decimal n) ≡ true
+pub digits_fixed : (n : ℕ) → n < 2 ^ 64 → list_all is_fixed (decimal n) ≡ true
 digits_fixed = decimal_by_steps (λ n ds. list_all is_fixed ds ≡ true) digit_fixed (λ n ds more h. all_joined is_fixed ds ((48 + n % 10) ∷ []) h (digit_fixed (n % 10) (omega (arith))))
 
-none_joined : (p : ℕ → Bool) (xs ys : List ℕ) → list_any p xs ≡ false → list_any p ys ≡ false → list_any p (xs ++ ys) ≡ false
+pub none_joined : (p : ℕ → Bool) (xs ys : List ℕ) → list_any p xs ≡ false → list_any p ys ≡ false → list_any p (xs ++ ys) ≡ false
 none_joined p xs ys h g = list_any-append p xs ys ∙ rw (h, g) refl
 
-digits_good : (n : ℕ) → n < 2 ^ 64 → list_any is_forbidden (decimal n) ≡ false
+pub digits_good : (n : ℕ) → n < 2 ^ 64 → list_any is_forbidden (decimal n) ≡ false
 digits_good = decimal_by_steps (λ n ds. list_any is_forbidden ds ≡ false) digit_good (λ n ds more h. none_joined is_forbidden ds ((48 + n % 10) ∷ []) h (digit_good (n % 10) (omega (arith))))
 
 -- names with a number ----

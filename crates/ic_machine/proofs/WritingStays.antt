@@ -32,17 +32,17 @@ cond_same false x = refl
 
 -- One content of a place q after the array of the formula at a is released. ----
 
-abbrev reset_at : Bool → Content → Content
+abbrev pub reset_at : Bool → Content → Content
 reset_at t x = cond t (anchor_reset held x) x
 
-abbrev released_one : CellPlace → CellPlace → Content → Content
+abbrev pub released_one : CellPlace → CellPlace → Content → Content
 released_one a q x = reset_at (same_place q a) (unspilled held a x)
 
 both_made : (t : Bool) (a : CellPlace) (o : Option Content) → option_and_then (λ x. Some (reset_at t x)) (option_and_then (λ x. Some (unspilled held a x)) o) ≡ option_and_then (λ x. Some (reset_at t (unspilled held a x))) o
 both_made t a None = refl
 both_made t a (Some x) = refl
 
-get_released : (a : CellPlace) (m : Contents Content) (q : CellPlace) → finite.get (released held a m) q ≡ option_and_then (λ x. Some (released_one a q x)) (finite.get m q)
+pub get_released : (a : CellPlace) (m : Contents Content) (q : CellPlace) → finite.get (released held a m) q ≡ option_and_then (λ x. Some (released_one a q x)) (finite.get m q)
 get_released a m q =
     get-remade (λ q x. Some (reset_at (same_place q a) x)) (without_spill held a m) q
     ∙ ap (option_and_then (λ x. Some (reset_at (same_place q a) x))) (get-remade (λ q x. Some (unspilled held a x)) m q)
@@ -63,7 +63,7 @@ kept_one a q b (SpillContent c value style) e f =
     ap (reset_at (same_place q a)) (cond_false (same_place a c) (EmptyContent style) (SpillContent c value style) (ap (same_place a) same ∙ f))
     ∙ cond_same (same_place q a) (SpillContent c value style)
 
-loose_same : (t : Bool) (x : Content) → is_loose (shape_of x) ≡ true → is_loose (shape_of (cond t x x)) ≡ true
+pub loose_same : (t : Bool) (x : Content) → is_loose (shape_of x) ≡ true → is_loose (shape_of (cond t x x)) ≡ true
 loose_same t x e = ap (λ (y : Content). is_loose (shape_of y)) (cond_same t x) ∙ e
 
 loose_one : (a q : CellPlace) (x : Content) → ((b : CellPlace) → anchor_of q (shape_of x) ≡ Some b → same_place a b ≡ true) → is_loose (shape_of (released_one a q x)) ≡ true
@@ -79,7 +79,7 @@ loose_one a q (SpillContent c value style) h =
     ap (λ (t : Bool). is_loose (shape_of (reset_at (same_place q a) (cond t (EmptyContent style) (SpillContent c value style))))) (h c refl)
     ∙ loose_same (same_place q a) (EmptyContent style) refl
 
-free_loose : (q : CellPlace) (x : Content) → ((b : CellPlace) → anchor_of q (shape_of x) ≡ Some b → ⊥) → is_loose (shape_of x) ≡ true
+pub free_loose : (q : CellPlace) (x : Content) → ((b : CellPlace) → anchor_of q (shape_of x) ≡ Some b → ⊥) → is_loose (shape_of x) ≡ true
 free_loose q (EmptyContent style) h = refl
 free_loose q (BoolContent truth style) h = refl
 free_loose q (NumContent amount style) h = refl
@@ -132,7 +132,7 @@ pub record Was (m : Contents Content) (q : CellPlace) (x : Content) : Type 0 whe
   pub index : formula_index x ≡ formula_index old
 
 module _ (m : Contents Content) where
-  kept_at : (o : Option CellPlace) (q b : CellPlace) → anchor_at held m q ≡ Some b → begins_at o b ≡ false → finite.get (released_if held o m) q ≡ finite.get m q
+  pub kept_at : (o : Option CellPlace) (q b : CellPlace) → anchor_at held m q ≡ Some b → begins_at o b ≡ false → finite.get (released_if held o m) q ≡ finite.get m q
   kept_at None q b e f = refl
   kept_at (Some a) q b e f =
       let x = there (λ y. anchor_of q (shape_of y)) (finite.get m q) b e in
@@ -141,7 +141,7 @@ module _ (m : Contents Content) where
   anchor_there : (q : CellPlace) (x : Content) → finite.get m q ≡ Some x → anchor_at held m q ≡ anchor_of q (shape_of x)
   anchor_there q x e = ap (option_and_then (λ y. anchor_of q (shape_of y))) e
 
-  loose_at : (o : Option CellPlace) (q : CellPlace) → ((b : CellPlace) → anchor_at held m q ≡ Some b → begins_at o b ≡ true) → (x : Content) → finite.get (released_if held o m) q ≡ Some x → is_loose (shape_of x) ≡ true
+  pub loose_at : (o : Option CellPlace) (q : CellPlace) → ((b : CellPlace) → anchor_at held m q ≡ Some b → begins_at o b ≡ true) → (x : Content) → finite.get (released_if held o m) q ≡ Some x → is_loose (shape_of x) ≡ true
   loose_at None q h x e = free_loose q x (λ b f. true≢false (sym (h b (anchor_there q x e ∙ f))))
   loose_at (Some a) q h x e =
       let y = there (λ z. Some (released_one a q z)) (finite.get m q) x (sym (get_released a m q) ∙ e) in

@@ -2,20 +2,21 @@
 -- definition: what dangled and is bound then means that sheet or that definition, what meant a deleted definition means the
 -- one for all sheets that is in sight then, or dangles, and each other mention is what it was. Formulas are those of the
 -- core: of each cell, and the bodies.
-use Rattle.std.specs.Prelude.{◌≡◌, ℕ, ◌+◌, List, [], Option, Some, Ok, insert, slice_get}
+use Rattle.std.specs.Prelude.{◌≡◌, ℕ, ◌+◌, ◌++◌, List, [], Option, Some, Ok, insert, slice_get}
 use Rattle.ic_laws.specs.BookTrees.{with_sheet_at_end, with_trees}
 use Rattle.ic_laws.specs.Changes.{changed_tree, name_added, name_gone, sheet_named}
+use Rattle.ic_laws.specs.CoreBook as core_book
 use Rattle.ic_laws.specs.CoreBook.{CoreBook, Definition, greatest_id, scene_of, spelling_of}
 use Rattle.ic_laws.specs.CoreStep.{index_of_definition, index_of_name, new_definition, scope_or_none, with_definition, with_sheet_name, without_definition}
 use Rattle.ic_laws.specs.FormulaReading.{Body, body_of}
-use Rattle.ic_machine.specs.Book.{Book, Sheet, core_of, notations_in}
+use Rattle.ic_machine.specs.Book.{Book, Sheet, core_of, core_sheet, notations_in}
 use Rattle.ic_machine.specs.Command.{OnDefinitions, OnSheets}
 use Rattle.ic_machine.specs.Reply.{Field}
 use Rattle.ic_machine.specs.Step.{step}
 use Rattle.ic_machine.specs.Valid.{IsValidBook}
 use Rattle.ic_machine.specs.subjects.Definitions as definitions
 use Rattle.ic_machine.specs.subjects.Sheets as sheets
-use Rattle.ic_machine.specs.subjects.Sheets.{chosen_id, new_sheet_name}
+use Rattle.ic_machine.specs.subjects.Sheets.{chosen_id, copies_of_definitions, copy_id, copy_of_sheet, name_of_copy, new_sheet_name}
 
 -- a new sheet is meant by what dangled by a name that agrees with its own
 abbrev pub AddedIsMeant : Type 0
@@ -40,6 +41,19 @@ InsertedIsMeant =
     (book after : Book) (name : List ℕ) (index : ℕ) (given : Option ℕ) (id : ℕ) (fields : List Field) → IsValidBook book → chosen_id (core_of book) given ≡ Some id
     → step book (OnSheets (sheets.InsertSheet name index given)) ≡ Ok (after, fields)
     → core_of after ≡ with_sheet_among index id name (with_trees (changed_tree (sheet_named id name)) (core_of book))
+
+-- so is the copy of one. Its own formulas, and those of the definitions that are copied with it, are the ones that are
+-- written for it.
+abbrev pub with_copied : ℕ → core_book.Sheet → List Definition → CoreBook → CoreBook
+with_copied index copy definitions book = record book { sheets = insert book.sheets (index + 1) copy; definitions = book.definitions ++ definitions }
+
+abbrev pub CopiedIsMeant : Type 0
+CopiedIsMeant =
+    (book after : Book) (index : ℕ) (source : Sheet) (fields : List Field) → IsValidBook book → slice_get book.sheets index ≡ Some source
+    → step book (OnSheets (sheets.DuplicateSheet index)) ≡ Ok (after, fields)
+    → core_of after
+    ≡ with_copied index (core_sheet (copy_of_sheet book index source)) (copies_of_definitions book index source)
+    (with_trees (changed_tree (sheet_named (copy_id book index source) (name_of_copy book source.name))) (core_of book))
 
 -- so is a renamed one, by its new name
 abbrev pub RenamedIsMeant : Type 0

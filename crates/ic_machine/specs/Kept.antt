@@ -9,8 +9,6 @@ use Rattle.ic_machine.specs.Core.{core_command}
 use Rattle.ic_machine.specs.Reply.{Field}
 use Rattle.ic_machine.specs.Step.{step}
 use Rattle.ic_machine.specs.Valid.{IsValidBook}
-use Rattle.ic_machine.specs.subjects.Definitions as definitions
-use Rattle.ic_machine.specs.subjects.Definitions.{Definitions}
 use Rattle.ic_machine.specs.subjects.Sheets as sheets
 use Rattle.ic_machine.specs.subjects.Sheets.{Sheets}
 
@@ -36,17 +34,10 @@ abbrev pub is_given_id : Option ℕ → Bool
 is_given_id None = true
 is_given_id (Some id) = not (nat_lt last_id id)
 
--- of which commands on sheets this is shown: all but one that copies a sheet. The id of a sheet that is inserted is one that
--- a word can say.
-abbrev pub keeps_sheets : Sheets → Bool
-keeps_sheets (sheets.InsertSheet name index id) = is_given_id id
-keeps_sheets (sheets.DuplicateSheet sheet) = false
-keeps_sheets command = true
-
--- and of which on definitions: all but an update
-abbrev pub keeps_definitions : Definitions → Bool
-keeps_definitions (definitions.UpdateDefinedName update) = false
-keeps_definitions command = true
+-- the commands on sheets whose ids, where one is given, are such that a word can say
+abbrev pub gives_id : Sheets → Bool
+gives_id (sheets.InsertSheet name index id) = is_given_id id
+gives_id command = true
 
 -- the core of a valid book is a valid book of the core machine
 abbrev pub CoreIsValid : Type 0

@@ -1,7 +1,7 @@
 ghost use Rattle.std.specs.Prelude.{List, ℕ};
 ghost use Rattle.ic_grid.specs.Shape.{celled};
 ghost use Rattle.ic_machine.specs.Alike.{HoldsAlike};
-ghost use Rattle.ic_machine.specs.Binds.{AddedIsMeant, DefinedIsMeant, InsertedIsMeant};
+ghost use Rattle.ic_machine.specs.Binds.{AddedIsMeant, CopiedIsMeant, DefinedIsMeant, InsertedIsMeant};
 ghost use Rattle.ic_machine.specs.Binds.{DeletedIsNotMeant, NewIsMeant};
 ghost use Rattle.ic_machine.specs.Binds.{RenamedByNameIsMeant, RenamedIsMeant};
 ghost use Rattle.ic_machine.specs.Book.{Book};
@@ -9,13 +9,14 @@ ghost use Rattle.ic_machine.specs.Command.{Command};
 ghost use Rattle.ic_machine.specs.Content.{content_of, held};
 ghost use Rattle.ic_machine.specs.Core.{FormulaIsStepped, IsSteppedAs, core_command};
 ghost use Rattle.ic_machine.specs.Kept.{CoreIsValid, CoreStaysValid, KeepsValid, KeepsValidIf};
-ghost use Rattle.ic_machine.specs.Kept.{keeps_definitions, keeps_sheets};
+ghost use Rattle.ic_machine.specs.Kept.{gives_id};
 ghost use Rattle.ic_machine.specs.Laws.{BadLineStays, CounterpartsAreBack, NumbersAreSmall};
 ghost use Rattle.ic_machine.specs.Laws.{CoreIsServed, RefusedStays, ServedIsCore};
 ghost use Rattle.ic_machine.specs.Laws.{RunsLeaveSame, RunsTellSame};
 ghost use Rattle.ic_machine.specs.Readers.{LeavesIf, is_reader};
 ghost use Rattle.ic_machine.specs.Scene.{KeepsSceneIf, leaves_names};
 ghost use Rattle.ic_machine.specs.Step.{step};
+ghost use Rattle.ic_machine.specs.subjects.Arrays.{arrays_step};
 ghost use Rattle.ic_machine.specs.subjects.Definitions.{definition_step};
 ghost use Rattle.ic_machine.specs.subjects.Extending.{extending_step};
 ghost use Rattle.ic_machine.specs.subjects.Layout.{layout_step};
@@ -85,9 +86,8 @@ pub fn law_formula_is_stepped()
     ensures { FormulaIsStepped }
 {}
 
-/// A command on the notation, one that writes a cell, a reader of cells, one that writes a formula out for another place,
-/// one on styles, on the layout, on tabs or on the theme keeps what always holds of a book. So does one on sheets, but for
-/// copying one, where an id that is given is one that a word can say; and one on definitions, but for an update.
+/// A step of each command keeps what always holds of a book. The id that a sheet is inserted with, where one is given, is one
+/// that a word can say.
 pub fn law_book_stays_valid()
     ensures notation { KeepsValid notation_step }
     ensures writing { KeepsValid writing_step }
@@ -96,8 +96,9 @@ pub fn law_book_stays_valid()
     ensures styles { KeepsValid style_step }
     ensures layout { KeepsValid layout_step }
     ensures tabs { KeepsValid tab_step }
-    ensures sheets { KeepsValidIf keeps_sheets sheet_step }
-    ensures definitions { KeepsValidIf keeps_definitions definition_step }
+    ensures sheets { KeepsValidIf gives_id sheet_step }
+    ensures definitions { KeepsValid definition_step }
+    ensures arrays { KeepsValid arrays_step }
 {}
 
 /// The core of a valid book is a valid book of the core machine; and so is that of the book which an accepted command leaves
@@ -108,13 +109,14 @@ pub fn law_core_stays_valid()
     ensures stays { CoreStaysValid }
 {}
 
-/// In a valid book, after a sheet was added, put in or renamed or a definition was added, what dangled and is bound then means
-/// just that sheet or that definition. After one was deleted, what meant it means the one of an agreeing name for all sheets, or
-/// dangles. Each other mention is what it was.
+/// In a valid book, after a sheet was added, put in, copied or renamed or a definition was added, what dangled and is bound then
+/// means just that sheet or that definition. After one was deleted, what meant it means the one of an agreeing name for all
+/// sheets, or dangles. Each other mention is what it was. The formulas of a copy are the ones that are written for it.
 pub fn law_bound_is_named()
     ensures added { AddedIsMeant }
     ensures new { NewIsMeant }
     ensures inserted { InsertedIsMeant }
+    ensures copied { CopiedIsMeant }
     ensures renamed { RenamedIsMeant }
     ensures by_name { RenamedByNameIsMeant }
     ensures defined { DefinedIsMeant }

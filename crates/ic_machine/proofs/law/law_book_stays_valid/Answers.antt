@@ -1,3 +1,4 @@
+use Rattle.ic_machine.proofs.ArraysStay.{arrays_stay}
 use Rattle.ic_machine.proofs.NamesStay.{definitions_stay, sheets_stay}
 use Rattle.ic_machine.proofs.StylesStay.{styles_stay}
 use Rattle.ic_machine.proofs.SubjectsStay.{extending_stays, layout_stays, notation_stays, reading_stays, tabs_are}
@@ -15,4 +16,5 @@ returns c = record {
   tabs = tabs_are;
   sheets = λ b command valid. sheets_stay b valid command;
   definitions = λ b command valid. definitions_stay b valid command;
+  arrays = λ b command valid. arrays_stay b valid command;
 }
