@@ -4,7 +4,9 @@ mod CellExamples
 mod ClearExamples
 mod CopyExamples
 mod DefinitionExamples
+mod Formulas
 mod LayoutExamples
+mod OneSheet
 mod Session
 mod SheetExamples
 mod Small
