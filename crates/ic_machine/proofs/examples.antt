@@ -5,6 +5,7 @@ mod ClearExamples
 mod CopyExamples
 mod DefinitionExamples
 mod Formulas
+mod InputSession
 mod LayoutExamples
 mod OneSheet
 mod Session
