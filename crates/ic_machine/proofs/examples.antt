@@ -11,4 +11,5 @@ mod OneSheet
 mod Session
 mod SheetExamples
 mod Small
+mod SpillSession
 mod TableExamples
