@@ -1,4 +1,5 @@
 mod ArrayExamples
+mod ArraySession
 mod CaptureExamples
 mod CellExamples
 mod ClearExamples
