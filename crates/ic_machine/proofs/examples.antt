@@ -13,4 +13,5 @@ mod Session
 mod SheetExamples
 mod Small
 mod SpillSession
+mod StyleSession
 mod TableExamples
