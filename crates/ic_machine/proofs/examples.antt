@@ -5,6 +5,7 @@ mod CellExamples
 mod ClearExamples
 mod CopyExamples
 mod DefinitionExamples
+mod DefinitionSession
 mod Formulas
 mod InputSession
 mod LayoutExamples
