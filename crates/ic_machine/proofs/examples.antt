@@ -1,6 +1,7 @@
 mod ArrayExamples
 mod ArraySession
 mod CaptureExamples
+mod CaptureSession
 mod CellExamples
 mod ClearExamples
 mod CopyExamples
