@@ -4,7 +4,9 @@ mod CaptureExamples
 mod CaptureSession
 mod CellExamples
 mod ClearExamples
+mod CopiedDefinitions
 mod CopyExamples
+mod CopySession
 mod DefinitionExamples
 mod DefinitionSession
 mod Formulas
