@@ -28,6 +28,7 @@ use Rattle.ic_machine.specs.Capture.{captured, captured_at, captured_body, captu
 use Rattle.ic_cells.specs.declared.value.FormulaValue.TheVariants as values
 use Rattle.ic_laws.proofs.core.CellWritten.{place_cmp_total}
 use Rattle.ic_laws.specs.CoreBook.{CellPlace, Definition}
+use Rattle.ic_laws.specs.declared.tree.Formula.{Formula}
 use Rattle.ic_laws.specs.declared.tree.Formula.TheVariants as formulas
 use Rattle.ic_cells.specs.Maps.{place_cmp}
 use Rattle.ic_machine.specs.Book.{Book, Entry, Sheet, Stepped, core_of, empty_grid, empty_sheet, notations_in, unless_refused}
@@ -42,19 +43,19 @@ use Rattle.ic_machine.proofs.examples.Small.{start, tables}
 abbrev pair_words : BoundPair → List (Option NameMention)
 pair_words pair = words_in pair.value
 
-words-node : (kind : BoundKind) → words_in (bound_node kind) ≡ words_step (map-Tree SheetMention NameMention Bound BoundPair (List (Option NameMention)) (List (Option NameMention)) words_in pair_words kind)
+pub words-node : (kind : BoundKind) → words_in (bound_node kind) ≡ words_step (map-Tree SheetMention NameMention Bound BoundPair (List (Option NameMention)) (List (Option NameMention)) words_in pair_words kind)
 words-node kind =
     fold-roll-Tree SheetMention NameMention (List (Option NameMention)) (List (Option NameMention)) words_step (λ pair. pair.value) kind
     ∙ ap (λ (g : BoundPair → List (Option NameMention)). words_step (map-Tree SheetMention NameMention Bound BoundPair (List (Option NameMention)) (List (Option NameMention)) words_in g kind))
     (fun_ext (λ pair. fold-roll-LetPair SheetMention NameMention (List (Option NameMention)) (List (Option NameMention)) words_step (λ pair. pair.value) (record { variable = pair.variable; value = pair.value })))
 
 -- LET(y,1,_+y) with a word in its place
-abbrev formula : NameMention → Bound
+abbrev pub formula : NameMention → Bound
 formula mention =
     bound_node (one.Let (bound_pair_of (codes "y") (bound_node (one.Num (pos 1000000000))) ∷ [])
     (bound_node (one.Binary signs.Plus (bound_node (one.Word mention)) (bound_node (one.Word (names.Var (codes "y")))))))
 
-abbrev key : List ℕ → NameKey
+abbrev pub key : List ℕ → NameKey
 key name = record { name = name; scope = None }
 
 -- one sheet, and one definition of this name
@@ -79,20 +80,21 @@ is_not_captured = simp (words-node)
 
 -- The whole book: the definition x of the first cell, and LET(y,1,x+y) in that cell. ----
 
-abbrev place : CellPlace
+abbrev pub place : CellPlace
 place = (pos 1, pos 1)
 
 abbrev first_cell : Content
 first_cell = FormulaContent 0 values.Unevaluated 0
 
-abbrev sheet : Sheet
+abbrev pub sheet : Sheet
 sheet = record (empty_sheet 1 (codes "Sheet1")) {
   pool = formulas.Tree (formula (names.Name (key (codes "x")))) ∷ [];
   grid = record empty_grid { contents = finite.insert finite.empty place first_cell };
 }
 
-abbrev book : Book
-book = record start { sheets = sheet ∷ []; definitions = record { name = codes "x"; scope = None; has_equals = false; body = formulas.Raw [] } ∷ [] }
+-- whatever the definition's own body is
+abbrev pub book : Formula → Book
+book own = record start { sheets = sheet ∷ []; definitions = record { name = codes "x"; scope = None; has_equals = false; body = own } ∷ [] }
 
 only_cell : finite.entries sheet.grid.contents ≡ (place, first_cell) ∷ []
 only_cell = finite.entries-insert place_cmp_total finite.empty place first_cell ∙ ap (λ (es : List Entry). finite.put place_cmp place first_cell es) no_cells
@@ -114,73 +116,73 @@ sites_in keys after b e =
     ap (λ (es : List Entry). flat_map (λ entry. captured_at keys sheet (with_formula after) entry.0 (formula_index entry.1)) es) only_cell
     ∙ ap (λ (c : Bool). cond c (CellSite 1 place ∷ []) [] ++ []) e ∙ cond_list b
 
-module _ (text : List ℕ) (body : Body) where
-  sheets_of_y : (with_body book (to (codes "y") text) (Some body)).sheets ≡ with_formula (formula (names.Var (codes "y"))) ∷ []
+module _ (own : Formula) (text : List ℕ) (body : Body) where
+  sheets_of_y : (with_body (book own) (to (codes "y") text) (Some body)).sheets ≡ with_formula (formula (names.Var (codes "y"))) ∷ []
   unfolding caseless notations_of
   sheets_of_y = ap (λ (t : Bound). with_formula t ∷ []) kept_as_variable
 
-  sheets_of_z : (with_body book (to (codes "z") text) (Some body)).sheets ≡ with_formula (formula (names.Name (key (codes "z")))) ∷ []
+  sheets_of_z : (with_body (book own) (to (codes "z") text) (Some body)).sheets ≡ with_formula (formula (names.Name (key (codes "z")))) ∷ []
   unfolding caseless notations_of
   sheets_of_z = ap (λ (t : Bound). with_formula t ∷ []) kept_as_name
 
-  bodies_of_y : flat_map (captured_body (keys_of_update book (to (codes "y") text)) (old_key book (to (codes "y") text))) (zip book.definitions (with_body book (to (codes "y") text) (Some body)).definitions) ≡ []
+  bodies_of_y : flat_map (captured_body (keys_of_update (book own) (to (codes "y") text)) (old_key (book own) (to (codes "y") text))) (zip (book own).definitions (with_body (book own) (to (codes "y") text) (Some body)).definitions) ≡ []
   unfolding caseless notations_of
   bodies_of_y = refl
 
-  bodies_of_z : flat_map (captured_body (keys_of_update book (to (codes "z") text)) (old_key book (to (codes "z") text))) (zip book.definitions (with_body book (to (codes "z") text) (Some body)).definitions) ≡ []
+  bodies_of_z : flat_map (captured_body (keys_of_update (book own) (to (codes "z") text)) (old_key (book own) (to (codes "z") text))) (zip (book own).definitions (with_body (book own) (to (codes "z") text) (Some body)).definitions) ≡ []
   unfolding caseless notations_of
   bodies_of_z = refl
 
   -- what is captured by an update to a name with a body, if there is one
   abbrev sites_by : List ℕ → Option Body → List Site
-  sites_by name o = captured_sites (keys_of_update book (to name text)) (old_key book (to name text)) book (with_body book (to name text) o)
+  sites_by name o = captured_sites (keys_of_update (book own) (to name text)) (old_key (book own) (to name text)) (book own) (with_body (book own) (to name text) o)
 
   sites_of_y : sites_by (codes "y") (Some body) ≡ CellSite 1 place ∷ []
   unfolding caseless notations_of
   sites_of_y =
       ap₂ ◌++◌
-      (ap (λ (sheets : List Sheet). flat_map (captured_cells (keys_of_update book (to (codes "y") text))) (zip book.sheets sheets)) sheets_of_y
-      ∙ ap (λ (sites : List Site). sites ++ []) (sites_in (keys_of_update book (to (codes "y") text)) (formula (names.Var (codes "y"))) true is_captured))
+      (ap (λ (sheets : List Sheet). flat_map (captured_cells (keys_of_update (book own) (to (codes "y") text))) (zip (book own).sheets sheets)) sheets_of_y
+      ∙ ap (λ (sites : List Site). sites ++ []) (sites_in (keys_of_update (book own) (to (codes "y") text)) (formula (names.Var (codes "y"))) true is_captured))
       bodies_of_y
 
   sites_of_z : sites_by (codes "z") (Some body) ≡ []
   unfolding caseless notations_of
   sites_of_z =
       ap₂ ◌++◌
-      (ap (λ (sheets : List Sheet). flat_map (captured_cells (keys_of_update book (to (codes "z") text))) (zip book.sheets sheets)) sheets_of_z
-      ∙ ap (λ (sites : List Site). sites ++ []) (sites_in (keys_of_update book (to (codes "z") text)) (formula (names.Name (key (codes "z")))) false is_not_captured))
+      (ap (λ (sheets : List Sheet). flat_map (captured_cells (keys_of_update (book own) (to (codes "z") text))) (zip (book own).sheets sheets)) sheets_of_z
+      ∙ ap (λ (sites : List Site). sites ++ []) (sites_in (keys_of_update (book own) (to (codes "z") text)) (formula (names.Name (key (codes "z")))) false is_not_captured))
       bodies_of_z
 
   -- the question, by the body and by the sites
   abbrev asked : List ℕ → Option Body → List Site → Stepped Book
   asked name o sites =
       unless_refused
-      ((not (is_identifier name), InvalidName) ∷ (false, InvalidScope) ∷ (false, InvalidScope) ∷ (meets_other book (to name text), NameExists) ∷ (is_none o, InvalidFormula)
-      ∷ (not (has_definition (core_of book) (codes "x") None), NameNotFound) ∷ [])
-      book (bool_field (has_sites sites))
+      ((not (is_identifier name), InvalidName) ∷ (false, InvalidScope) ∷ (false, InvalidScope) ∷ (meets_other (book own) (to name text), NameExists) ∷ (is_none o, InvalidFormula)
+      ∷ (not (has_definition (core_of (book own)) (codes "x") None), NameNotFound) ∷ [])
+      (book own) (bool_field (has_sites sites))
 
   abbrev updated : List ℕ → Option Body → List Site → Stepped Book
   updated name o sites =
       unless_refused
-      ((not (is_identifier name), InvalidName) ∷ (false, InvalidScope) ∷ (false, InvalidScope) ∷ (meets_other book (to name text), NameExists) ∷ (is_none o, InvalidFormula)
-      ∷ (not (has_definition (core_of book) (codes "x") None), NameNotFound) ∷ (has_sites sites, WouldCapture sites) ∷ [])
-      (with_body book (to name text) o) []
+      ((not (is_identifier name), InvalidName) ∷ (false, InvalidScope) ∷ (false, InvalidScope) ∷ (meets_other (book own) (to name text), NameExists) ∷ (is_none o, InvalidFormula)
+      ∷ (not (has_definition (core_of (book own)) (codes "x") None), NameNotFound) ∷ (has_sites sites, WouldCapture sites) ∷ [])
+      (with_body (book own) (to name text) o) []
 
-  module _ (read : update_body (notations_in book) (core_of book) text ≡ Some body) where
+  module _ (read : update_body (notations_in (book own)) (core_of (book own)) text ≡ Some body) where
     -- a text that reads makes the update of x to y one that would capture, which is told and refused; to z it isn't
-    would_by_y : would_capture_step (to (codes "y") text) book ≡ Ok (book, bool_field true)
+    pub would_by_y : would_capture_step (to (codes "y") text) (book own) ≡ Ok (book own, bool_field true)
     unfolding caseless ucd_derived would_capture_step
     would_by_y = ap (λ (o : Option Body). asked (codes "y") o (sites_by (codes "y") o)) read ∙ ap (λ (sites : List Site). asked (codes "y") (Some body) sites) sites_of_y
 
-    would_by_z : would_capture_step (to (codes "z") text) book ≡ Ok (book, bool_field false)
+    pub would_by_z : would_capture_step (to (codes "z") text) (book own) ≡ Ok (book own, bool_field false)
     unfolding caseless ucd_derived would_capture_step
     would_by_z = ap (λ (o : Option Body). asked (codes "z") o (sites_by (codes "z") o)) read ∙ ap (λ (sites : List Site). asked (codes "z") (Some body) sites) sites_of_z
 
-    refused_by_y : update_name_step (to (codes "y") text) book ≡ Err (WouldCapture (CellSite 1 place ∷ []))
+    pub refused_by_y : update_name_step (to (codes "y") text) (book own) ≡ Err (WouldCapture (CellSite 1 place ∷ []))
     unfolding caseless ucd_derived update_name_step
     refused_by_y = ap (λ (o : Option Body). updated (codes "y") o (sites_by (codes "y") o)) read ∙ ap (λ (sites : List Site). updated (codes "y") (Some body) sites) sites_of_y
 
-    done_by_z : update_name_step (to (codes "z") text) book ≡ Ok (with_body book (to (codes "z") text) (Some body), [])
+    pub done_by_z : update_name_step (to (codes "z") text) (book own) ≡ Ok (with_body (book own) (to (codes "z") text) (Some body), [])
     unfolding caseless ucd_derived update_name_step
     done_by_z = ap (λ (o : Option Body). updated (codes "z") o (sites_by (codes "z") o)) read ∙ ap (λ (sites : List Site). updated (codes "z") (Some body) sites) sites_of_z
 

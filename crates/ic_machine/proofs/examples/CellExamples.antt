@@ -8,7 +8,7 @@ use Rattle.ic_machine.specs.Command.{commands}
 use Rattle.ic_machine.specs.Refusal.{BadArea, NoFormulaCell}
 use Rattle.ic_machine.specs.subjects.Arrays.{clear_step, put_value_step}
 use Rattle.ic_machine.specs.subjects.Writing.{bool_step, number_step}
-use Rattle.ic_machine.proofs.examples.Session.{answers}
+use Rattle.ic_machine.proofs.examples.Session.{answers, step}
 use Rattle.ic_machine.proofs.examples.Small.{start}
 
 -- the first four cells are merged
@@ -19,7 +19,7 @@ merged = record start { sheets = record (empty_sheet 1 (codes "Sheet1")) { grid 
 covered : answers merged
     (codes "update_cell_with_bool\t0\t2\t2\ttrue" ∷ codes "update_cell_with_bool\t0\t0\t0\ttrue" ∷ codes "update_cell_with_number\t0\t1\t16385\t1.5" ∷ codes "update_cell_with_number\t3\t0\t0\t1" ∷ codes "update_cell_with_number\t0\t1\t1\tx" ∷ [])
     ≡ codes "error\tMergedPart" ∷ codes "error\tInvalidRow" ∷ codes "error\tInvalidColumn" ∷ codes "error\tInvalidSheet" ∷ codes "error\tBadLine" ∷ []
-unfolding commands bool_step number_step is_between
+unfolding answers step commands bool_step number_step is_between
 covered = refl
 
 -- a value needs a formula

@@ -23,7 +23,7 @@ abbrev reference_at : Place → Formula
 reference_at place = formulas.Tree (bound_node (one.Reference (sheets.Sheet 1) place))
 
 -- the sheet, its copy and another, and no definitions
-abbrev scene : Scene
+abbrev pub scene : Scene
 scene = record { sheets = record { id = 1; name = codes "Sheet1" } ∷ record { id = 3; name = codes "Sheet1 (1)" } ∷ record { id = 2; name = codes "Other" } ∷ []; names = [] }
 
 module _ (place : Place) where
@@ -31,12 +31,12 @@ module _ (place : Place) where
   reference sheet = formulas.Tree (bound_node (one.Reference sheet place))
 
   -- a reference to the sheet itself is one to the copy
-  of_itself : copied_formula (notations_of tables) scene 1 3 (reference (sheets.Sheet 1)) ≡ reference (sheets.Sheet 3)
+  pub of_itself : copied_formula (notations_of tables) scene 1 3 (reference (sheets.Sheet 1)) ≡ reference (sheets.Sheet 3)
   unfolding caseless notations_of
   of_itself = simp (spelled-node, bound-node)
 
   -- one to another sheet stays
-  of_another : copied_formula (notations_of tables) scene 1 3 (reference (sheets.Sheet 2)) ≡ reference (sheets.Sheet 2)
+  pub of_another : copied_formula (notations_of tables) scene 1 3 (reference (sheets.Sheet 2)) ≡ reference (sheets.Sheet 2)
   unfolding caseless notations_of
   of_another = simp (spelled-node, bound-node)
 
@@ -45,7 +45,7 @@ module _ (place : Place) where
 abbrev defined : List ℕ → Option ℕ → Formula → Definition
 defined name scope body = record { name = name; scope = scope; has_equals = false; body = body }
 
-no_more : (mentions : Bool) → (mentions && false) ≡ false
+pub no_more : (mentions : Bool) → (mentions && false) ≡ false
 no_more true = refl
 no_more false = refl
 

@@ -8,33 +8,33 @@ use Rattle.ic_machine.specs.Refusal.{InvalidColumn}
 use Rattle.ic_machine.specs.Reply.{number_field}
 use Rattle.ic_machine.specs.subjects.Layout.{get_width_step, set_width_step}
 use Rattle.ic_machine.specs.subjects.Tabs.{freeze_rows_step, frozen_rows_step}
-use Rattle.ic_machine.proofs.examples.Session.{answers}
+use Rattle.ic_machine.proofs.examples.Session.{answers, step}
 use Rattle.ic_machine.proofs.examples.Small.{start}
 
 -- as many rows as a sheet has can't stay in sight
 frozen : answers start
     (codes "set_frozen_rows\t0\t1048576" ∷ codes "set_frozen_rows\t0\t1048575" ∷ codes "set_frozen_rows\t0\t-1" ∷ codes "get_frozen_rows_count\t0" ∷ codes "set_frozen_rows\t1\t1" ∷ codes "set_frozen_rows\t0" ∷ [])
     ≡ codes "error\tTooManyRows" ∷ codes "ok" ∷ codes "error\tFrozenNegative" ∷ codes "ok\t1048575" ∷ codes "error\tInvalidSheet" ∷ codes "error\tBadLine" ∷ []
-unfolding commands on_tab freeze_rows_step frozen_rows_step digits
+unfolding answers step commands on_tab freeze_rows_step frozen_rows_step digits
 frozen = refl
 
 -- a column has the width that it was given, and the others the one that all have
-abbrev wide : Grid
+abbrev pub wide : Grid
 wide = record empty_grid { columns = finite.insert finite.empty (pos 2) (record { width = Some 5000; hidden = false; style = None }) }
 
-widened : set_width_step (pos 2) 5000 empty_grid ≡ Ok (wide, [])
+pub widened : set_width_step (pos 2) 5000 empty_grid ≡ Ok (wide, [])
 unfolding set_width_step
 widened = simp (finite.get-empty)
 
-its_own : get_width_step (pos 2) wide ≡ Ok (wide, number_field 5000)
+pub its_own : get_width_step (pos 2) wide ≡ Ok (wide, number_field 5000)
 unfolding get_width_step
 its_own = simp (finite.gets)
 
-another : get_width_step (pos 3) wide ≡ Ok (wide, number_field 12500)
+pub another : get_width_step (pos 3) wide ≡ Ok (wide, number_field 12500)
 unfolding get_width_step
 another = simp (finite.gets)
 
-outside : set_width_step (pos 16385) 1 wide ≡ Err InvalidColumn
+pub outside : set_width_step (pos 16385) 1 wide ≡ Err InvalidColumn
 unfolding set_width_step
 outside = refl
 
