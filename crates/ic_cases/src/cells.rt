@@ -124,6 +124,16 @@ fn put_localized(
     }
 }
 
+/// What a cell shows in the default language and locale, where there are no shared strings.
+pub fn put_shown_cell(row: &mut Row<'_>, cell: &Cell) {
+    let strings = Items::from(Vec::new(row.alloc));
+    let (locale, language) = (
+        row.tables.get_default_locale(),
+        row.tables.get_default_language(),
+    );
+    row.put_made(cell.get_localized_text(row.alloc, &strings, locale, language));
+}
+
 /// A number is formatted as its amount text with the separator of the second word.
 fn put_formatted(
     row: &mut Row<'_>,

@@ -1,22 +1,17 @@
 //! One sheet's cells in sessions: one row is a list of calls on a new grid, one after another, and the answers stand in one
 //! row.
-ghost use Rattle.std.specs.Prelude.{◌≡◌, true, IfSome};
-ghost use Rattle.ic_grid.specs.Shape.{is_loose, shape_of};
-ghost use Rattle.ic_grid.specs.Whole.{IsGrid};
-
 use crate::cells::cell;
 use crate::row::Row;
+use crate::sheet::{calls, merge};
 use ic_cells::{ArrayKind, Cell, FormulaValue, Merge, SpillValue};
 use ic_grid::{Block, Grid, GridError};
 use ic_laws::Items;
-use ic_refs::{is_valid_column_number, is_valid_row};
 
 /// Answers the call, if it is one of these.
 pub fn call(row: &mut Row<'_>) {
     match row.name {
         "Grid" => session(row),
-        "Grid::write" => writes(row),
-        "Grid::calls" => crate::sheet::calls(row),
+        "Grid::calls" | "Grid::answers" => calls(row),
         _ => {}
     }
 }
@@ -39,7 +34,7 @@ fn session(row: &mut Row<'_>) {
 fn made(row: &mut Row<'_>, grid: &mut Grid) {
     match row.word(0) {
         "put" => put(row, grid),
-        "merge" => merge(row, grid),
+        "merge" => add_merge(row, grid),
         "can_write" => {
             let (line, column) = (row.int(1), row.int(2));
             put_answer(row, grid.can_write(line, column));
@@ -141,13 +136,8 @@ fn array(kind: ArrayKind, r: (i32, i32)) -> Cell {
 }
 
 /// Adds merged cells.
-fn merge(row: &mut Row<'_>, grid: &mut Grid) {
-    let merge = Merge {
-        row: row.int(1),
-        column: row.int(2),
-        width: row.int(3),
-        height: row.int(4),
-    };
+fn add_merge(row: &mut Row<'_>, grid: &mut Grid) {
+    let merge = merge(row);
     grid.merged_cells = merges_with(row, grid.merged_cells.as_slice(), merge);
     row.put("ok");
 }
@@ -165,69 +155,29 @@ fn merges_with(row: &mut Row<'_>, before: &[Merge], merge: Merge) -> Items<Merge
     Items::from(merges)
 }
 
-/// Writes into an empty grid: a place, a kind (`boolean`, `empty` or `dynamic`) and a style each. Then the cells stand, each
-/// with its place, its style and whether it has a formula.
-fn writes(row: &mut Row<'_>) {
-    let mut grid = Grid::new(row.alloc);
-    row.skip(1);
-    'calls: for _ in 0..row.words.len() / 4 {
-        write(row, &mut grid);
-        row.tab();
-        row.skip(4);
-    }
-    for ((line, column), cell) in grid.cells.as_map().iter() {
-        put_place(row, *line, *column, cell);
-    }
-}
-
-fn put_place(row: &mut Row<'_>, line: i32, column: i32, cell: &Cell) {
-    row.put_number(i128::from(line));
-    row.put(",");
-    row.put_number(i128::from(column));
-    row.put(",");
-    row.put_number(cell.get_style() as i128);
-    row.put(",");
-    row.put_bool(cell.has_formula());
-    row.put(" ");
-}
-
-fn write(row: &mut Row<'_>, grid: &mut Grid)
-    requires { IsGrid grid.old }
-    ensures { IsGrid grid.new }
-{
-    let (line, column) = (row.int(0), row.int(1));
-    let style = row.size(3);
-    if !is_valid_row(line) || !is_valid_column_number(column) {
-        return row.bad();
-    }
-    match loose_cell(row.word(2), style) {
-        Some(cell) => put_answer(row, grid.write(line, column, cell)),
-        None => row.bad(),
-    }
-}
-
-fn loose_cell(kind: &str, s: usize) -> Option<Cell>
-    ensures { IfSome result (λ cell. is_loose (shape_of cell) ≡ true) }
-{
-    match kind {
-        "empty" => Some(Cell::EmptyCell { s }),
-        "boolean" => Some(Cell::new_boolean(true, s)),
-        "dynamic" => Some(Cell::ArrayFormula {
-            f: 0,
-            s,
-            r: (1, 1),
-            kind: ArrayKind::Dynamic,
-            v: FormulaValue::Unevaluated,
-        }),
-        _ => None,
-    }
-}
-
 pub fn put_answer(row: &mut Row<'_>, answer: Result<(), GridError>) {
     match answer {
         Ok(()) => row.put("ok"),
-        Err(error) => row.put(name_of(error)),
+        Err(error) => put_refusal(row, error),
     }
+}
+
+/// The name of a refusal; the first place that blocks stands behind it.
+fn put_refusal(row: &mut Row<'_>, error: GridError) {
+    match error {
+        GridError::SpillBlocked { row: line, column } => {
+            put_pair(row, "error SpillBlocked ", line, ":", column);
+        }
+        _ => row.put(name_of(error)),
+    }
+}
+
+/// Two numbers, with a text before each.
+pub fn put_pair(row: &mut Row<'_>, front: &str, first: i32, middle: &str, second: i32) {
+    row.put(front);
+    row.put_number(i128::from(first));
+    row.put(middle);
+    row.put_number(i128::from(second));
 }
 
 fn name_of(error: GridError) -> &'static str {
