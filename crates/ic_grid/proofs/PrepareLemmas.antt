@@ -174,7 +174,7 @@ module _ (m : Contents Cell) where
     pub progress_arrays : AreInSheet celled m → AreArrays celled m → AreArrays celled now
     progress_arrays inside ok = subst (λ (n : Contents Cell). AreArrays celled n) (sym so.is) (released_arrays so.test inside ok)
 
-    there_still : (q : Place) (x : Cell) → finite.get m q ≡ Some x → finite.get now q ≡ Some (released_cell so.test q x)
+    pub there_still : (q : Place) (x : Cell) → finite.get m q ≡ Some x → finite.get now q ≡ Some (released_cell so.test q x)
     there_still q x e = ap (λ (n : Contents Cell). finite.get n q) so.is ∙ cell_at so.test q x e
 
     pub progress_more : (p : Place) → IsFirstIn now b at p → (after : Contents Cell) → after ≡ prepared celled p now → (next : Place) → next ≡ right_of p → Progress b next after

@@ -130,7 +130,7 @@ module _ (b : Block) (m : Contents Cell) (inside : AreInSheet celled m) (ok : Ar
   never_there : {P : Type 0} → is_in_sheet nowhere ≡ true → P
   never_there e = cc
 
-  no_placeholder : (p : Place) (x : Cell) → finite.get m p ≡ Some x → is_placeholder x ≡ false
+  pub no_placeholder : (p : Place) (x : Cell) → finite.get m p ≡ Some x → is_placeholder x ≡ false
   no_placeholder p x e =
       by_side (is_placeholder x)
       (λ t.

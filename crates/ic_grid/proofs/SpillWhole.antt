@@ -13,6 +13,7 @@ use Rattle.ic_cells.specs.declared.layout.Merge.{Merge}
 use Rattle.ic_grid.proofs.ArrayLemmas.{array_there, one_shape, there}
 use Rattle.ic_grid.proofs.BlockLemmas.{area_bounds, first_in}
 use Rattle.ic_grid.proofs.ContentsLemmas.{get-remade, same_is, same_turned}
+use Rattle.ic_grid.proofs.RowLemmas.{area_inside}
 use Rattle.ic_grid.proofs.SpillFits.{Fits}
 use Rattle.ic_grid.proofs.WalkLemmas.{by_side, in_block}
 use Rattle.ic_grid.specs.Arrays.{array_from, array_of}
@@ -26,18 +27,6 @@ use Rattle.ic_grid.specs.Spill.{is_free}
 use Rattle.ic_grid.specs.Value.{shape_at}
 use Rattle.ic_grid.specs.declared.block.Array.{Array}
 use Rattle.ic_grid.specs.declared.block.Block.{Block}
-
-row_in : (n first last : ℤ) → pos 1 ≤ℤ first → first ≤ℤ n → n <ℤ last → last ≤ℤ pos 1048577 → is_row n ≡ true
-row_in n first last a b c d = and_from (int_le (pos 1) n) (int_le n LAST_ROW) (grind (arith, ints, a, b)) (grind (arith, ints, c, d))
-
-column_in : (n first last : ℤ) → pos 1 ≤ℤ first → first ≤ℤ n → n <ℤ last → last ≤ℤ pos 16385 → is_column n ≡ true
-column_in n first last a b c d = and_from (int_le (pos 1) n) (int_le n LAST_COLUMN) (grind (arith, ints, a, b)) (grind (arith, ints, c, d))
-
-area_inside : (b : Block) → is_area b ≡ true → (p : Place) → is_in_block b p ≡ true → is_in_sheet p ≡ true
-area_inside b area p within =
-    let s = area_bounds b area in
-    let i = in_block b p within in
-    and_from (is_row p.0) (is_column p.1) (row_in p.0 b.row (b.row +ℤ b.height) s.row i.top i.bottom s.last_row) (column_in p.1 b.column (b.column +ℤ b.width) s.column i.left i.right s.last_column)
 
 no_shape : {P : Type 0} (w t : ℤ) (k : ArrayKind) (a : Place) → Anchor w t k ≡ SpillOf a → P
 no_shape w t k a e = cc

@@ -16,6 +16,7 @@ mod start;
 mod value;
 mod walk;
 mod write;
+mod write_array;
 
 pub use block::{Array, Block};
 pub use error::GridError;

@@ -191,7 +191,7 @@ fn place_array(
 
 impl Grid {
     /// The number of the style that a place shows.
-    fn style_of_place(&self, place: (i32, i32)) -> usize
+    pub(crate) fn style_of_place(&self, place: (i32, i32)) -> usize
         ensures { result
             ≡ style_at celled self.now.cells self.now.rows self.now.columns place }
     {
