@@ -1,21 +1,20 @@
 -- Empty cells stand at the places of a block at which nothing stood: what holds of a sheet still does.
-use Rattle.std.proofs.Common.{◌≡◌, ◌∙◌, ◌⊎◌, inl, inr, refl, sym, ap, subst, ℤ, Bool, true, false, cond, List, length, Option, Some, None, is_some, IsSome}
+use Rattle.std.proofs.Common.{◌≡◌, ◌∙◌, ◌⊎◌, inl, inr, refl, sym, ap, subst, Bool, true, false, cond, List, length, Option, Some, None, is_some, IsSome}
 use Rattle.std.proofs.lemmas.Bool.{both_ways}
 use Rattle.std.specs.FinMap as finite
 use Rattle.std.specs.Option.{option_and_then}
-use Rattle.ic_cells.specs.declared.cell.ArrayKind.{ArrayKind}
 use Rattle.ic_cells.specs.declared.cell.Cell.{Cell}
 use Rattle.ic_cells.specs.declared.cell.Cell.TheVariants as cells
 use Rattle.ic_grid.proofs.ContentsLemmas.{get-remade}
 use Rattle.ic_grid.proofs.RoomLemmas.{no_placeholder}
 use Rattle.ic_grid.proofs.RowLemmas.{IsAt, area_inside, at_first, first_left, placed_over}
 use Rattle.ic_grid.specs.Arrays.{anchor_at, anchor_of, array_at, array_from, array_of, reaches}
-use Rattle.ic_grid.specs.Block.{Place, block_at, first_place, is_area, is_in_block, is_in_sheet, same_place}
+use Rattle.ic_grid.specs.Block.{Place, first_place, is_area, is_in_block, is_in_sheet}
 use Rattle.ic_grid.specs.Change.{changed, changed_in, is_placeholder, placeholder}
 use Rattle.ic_grid.specs.Conditions.{AreArrays, AreInSheet, Has}
 use Rattle.ic_grid.specs.Contents.{Contents}
 use Rattle.ic_grid.specs.Prepare.{loosened, loosened_in}
-use Rattle.ic_grid.specs.Room.{IsAdded, IsMarked, IsPadded}
+use Rattle.ic_grid.specs.Room.{IsMarked, IsPadded}
 use Rattle.ic_grid.specs.Rows.{IsFull, place_count, placed}
 use Rattle.ic_grid.specs.Shape.{Anchor, Empty, Shape, SpillOf, celled, emptied, is_empty, shape_of}
 use Rattle.ic_grid.specs.declared.block.Block.{Block}

@@ -1,6 +1,6 @@
 -- An array is put into a block of a sheet in which nothing of an array of more than one cell stands: all that holds of a
 -- sheet still does.
-use Rattle.std.proofs.Common.{◌≡◌, ◌∙◌, refl, sym, ap, ap₂, subst, ℤ, Bool, true, false, List, Some}
+use Rattle.std.proofs.Common.{◌≡◌, ◌∙◌, sym, ap, ap₂, subst, ℤ, true, false, List, Some}
 use Rattle.std.proofs.lemmas.Bool.{both_ways}
 use Rattle.std.specs.FinMap as finite
 use Rattle.std.specs.Option.{option_and_then}
@@ -8,12 +8,12 @@ use Rattle.ic_cells.specs.declared.cell.ArrayKind.{ArrayKind}
 use Rattle.ic_cells.specs.declared.cell.Cell.{Cell}
 use Rattle.ic_cells.specs.declared.layout.Merge.{Merge}
 use Rattle.ic_grid.proofs.ArrayLemmas.{array_there, one_shape}
-use Rattle.ic_grid.proofs.BlockLemmas.{block_of_one, first_in}
+use Rattle.ic_grid.proofs.BlockLemmas.{block_of_one}
 use Rattle.ic_grid.proofs.ContentsLemmas.{same_is}
 use Rattle.ic_grid.proofs.RowLemmas.{area_inside}
 use Rattle.ic_grid.proofs.WalkLemmas.{by_side}
 use Rattle.ic_grid.specs.Arrays.{array_from, array_of}
-use Rattle.ic_grid.specs.Block.{Place, block_at, first_place, is_area, is_in_block, is_in_sheet, is_single, same_place}
+use Rattle.ic_grid.specs.Block.{Place, block_at, first_place, is_area, is_in_block, is_single, same_place}
 use Rattle.ic_grid.specs.Conditions.{AreArrays, AreInSheet, AreMerges, Has}
 use Rattle.ic_grid.specs.Contents.{Contents}
 use Rattle.ic_grid.specs.Merges.{meets_merge}

@@ -20,7 +20,7 @@ use Rattle.ic_grid.specs.Prepare.{unspilled, without_spill}
 use Rattle.ic_grid.specs.Rows.{placed}
 use Rattle.ic_grid.specs.Shape.{celled, gathered, is_spill_of, shape_of}
 use Rattle.ic_grid.specs.Spill.{array_cells, filled, rest_cells, spilled, with_first}
-use Rattle.ic_grid.specs.Style.{Columns, Rows, first_style, style_at}
+use Rattle.ic_grid.specs.Style.{Columns, Rows, style_at}
 use Rattle.ic_grid.specs.Walk.{is_from, is_left}
 use Rattle.ic_grid.specs.declared.block.Block.{Block}
 

@@ -1,5 +1,5 @@
 -- The cells of an array that is written into a block, one after another, and the styles that they get.
-use Rattle.std.proofs.Common.{◌≡◌, ◌∙◌, refl, sym, ap, subst, ℕ, zero, suc, ◌<◌, ◌≤◌, ◌-◌, Bool, true, false, cond, List, [], ◌∷◌, ◌++◌, length, Option, Some, None, append_assoc, append-nil, arith}
+use Rattle.std.proofs.Common.{◌≡◌, ◌∙◌, refl, sym, ap, subst, ℕ, zero, suc, ◌<◌, ◌≤◌, ◌-◌, true, false, cond, List, [], ◌∷◌, ◌++◌, length, Some, append_assoc, append-nil, arith}
 use Rattle.std.proofs.lemmas.Bool.{and_from, both_ways}
 use Rattle.std.specs.FinMap as finite
 use Rattle.std.specs.Option.{option_map}
@@ -11,18 +11,16 @@ use Rattle.ic_cells.specs.declared.value.SpillValue.TheVariants as spills
 use Rattle.ic_laws.proofs.core.CellWritten.{place_cmp_total}
 use Rattle.ic_grid.proofs.BlockLemmas.{first_in}
 use Rattle.ic_grid.proofs.ContentsLemmas.{insert_away, same_is, same_itself}
-use Rattle.ic_grid.proofs.ReachedLemmas.{all_are_prepared, loosened_styles}
+use Rattle.ic_grid.proofs.ReachedLemmas.{loosened_styles}
 use Rattle.ic_grid.proofs.RowLemmas.{IsAt, at_first, at_in, at_next, first_left, left_apart, left_later, left_other, none_at_end, placed_away, this_done}
 use Rattle.ic_grid.proofs.StyleLemmas.{start_longer, start_more, start_same, style_by, styled_more, written_below, written_more}
 use Rattle.ic_grid.proofs.WalkLemmas.{by_side, from_itself}
 use Rattle.ic_grid.specs.Block.{Place, first_place, is_area, is_in_block, next_place, same_place}
-use Rattle.ic_grid.specs.Conditions.{AreArrays}
 use Rattle.ic_grid.specs.Contents.{Contents}
-use Rattle.ic_grid.specs.Prepare.{all_prepared, loosened_in}
+use Rattle.ic_grid.specs.Prepare.{loosened_in}
 use Rattle.ic_grid.specs.Rows.{place_count, placed}
 use Rattle.ic_grid.specs.Shape.{celled}
 use Rattle.ic_grid.specs.Spill.{array_written, unquoted, with_blanks, written_style}
-use Rattle.ic_grid.specs.Style.{style_at}
 use Rattle.ic_grid.specs.Walk.{is_from, is_left}
 use Rattle.ic_grid.specs.Whole.{IsStyled}
 use Rattle.ic_grid.specs.Written.{StartWith, all_blank, blank_cell, blank_cells, style_written, written_array}
@@ -137,9 +135,9 @@ module _ (grid : Grid) (b : Block) (f : ℕ) where
       spill = ap (λ t. cond t (celled.array f (style_written grid styles q).0 b.width b.height kinds.Cse) (celled.spill (style_written grid styles q).0 (first_place b) (spills.Text []))) apart
 
   -- so to write the array is to release the arrays with a cell in the block, and to put them there
-  pub written_placed : is_area b ≡ true → AreArrays celled grid.cells → (styles : List Style)
+  pub written_placed : is_area b ≡ true → (styles : List Style)
       → written_array grid b f styles ≡ (placed b (first_place b) (all_blank grid b f styles).0 (loosened_in celled b grid.cells), (all_blank grid b f styles).1)
-  written_placed area ok styles = by_count (place_count b) refl
+  written_placed area styles = by_count (place_count b) refl
     where
       by_count : (n : ℕ) → place_count b ≡ n → written_array grid b f styles ≡ (placed b (first_place b) (all_blank grid b f styles).0 (loosened_in celled b grid.cells), (all_blank grid b f styles).1)
       by_count zero e =
@@ -147,7 +145,6 @@ module _ (grid : Grid) (b : Block) (f : ℕ) where
           (first_left b (first_place b) ∙ first_in (first_place b) b.width b.height area))
       by_count (suc n) e =
           ap (λ k. array_written celled grid.rows grid.columns b k f grid.cells styles) less
-          ∙ ap (λ (c : Contents Cell). with_blanks celled grid.rows grid.columns b n next (finite.insert c (first_place b) (celled.array f w.0 b.width b.height kinds.Cse)) w.1) prepared
           ∙ ap (λ y. with_blanks celled grid.rows grid.columns b n next (finite.insert (loosened_in celled b grid.cells) (first_place b) y) w.1) (sym anchor)
           ∙ blanks_placed n next (at_next b (first_place b) n at) (this_done b (first_place b) n at) (finite.insert (loosened_in celled b grid.cells) (first_place b) x)
           (λ p left. ap (option_map style_of) (insert_away (loosened_in celled b grid.cells) (first_place b) x p (left_apart b (first_place b) n at p left)) ∙ loosened_styles grid.cells b p) w.1
@@ -170,6 +167,3 @@ module _ (grid : Grid) (b : Block) (f : ℕ) where
 
           anchor : x ≡ celled.array f w.0 b.width b.height kinds.Cse
           anchor = ap (λ t. cond t (celled.array f w.0 b.width b.height kinds.Cse) (celled.spill w.0 (first_place b) (spills.Text []))) (same_itself (first_place b))
-
-          prepared : all_prepared celled b (suc n) (first_place b) grid.cells ≡ loosened_in celled b grid.cells
-          prepared = ap (λ k. all_prepared celled b k (first_place b) grid.cells) (sym e) ∙ all_are_prepared grid.cells b ok area

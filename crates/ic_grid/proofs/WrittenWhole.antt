@@ -1,5 +1,5 @@
 -- All that holds of a sheet holds of one into which an array was written, with the styles then.
-use Rattle.std.proofs.Common.{◌≡◌, ◌∙◌, refl, sym, ap, subst, ℕ, ◌<◌, Bool, true, false, cond, List, [], length, Option, Some, None, Ok, Err, arith}
+use Rattle.std.proofs.Common.{◌≡◌, ◌∙◌, refl, sym, ap, subst, ℕ, ◌<◌, Bool, true, false, cond, List, [], length, Option, Some, None, Ok}
 use Rattle.std.specs.FinMap as finite
 use Rattle.std.specs.Option.{option_map}
 use Rattle.ic_cells.specs.Cell.{style_of}
@@ -13,11 +13,11 @@ use Rattle.ic_grid.proofs.LoosenLemmas.{loosened_arrays, loosened_merges}
 use Rattle.ic_grid.proofs.PlacedLemmas.{placed_arrays, placed_inside, placed_merges}
 use Rattle.ic_grid.proofs.ReachedLemmas.{loose_within, loosened_inside, loosened_loosens, loosened_styles, reached}
 use Rattle.ic_grid.proofs.RowLemmas.{IsAt, at_first, first_left, placed_away}
-use Rattle.ic_grid.proofs.StyleLemmas.{start_longer, styled_more}
+use Rattle.ic_grid.proofs.StyleLemmas.{styled_more}
 use Rattle.ic_grid.proofs.WalkLemmas.{by_side}
 use Rattle.ic_grid.proofs.WrittenLemmas.{blank_at, blank_length, blank_more, written_placed}
-use Rattle.ic_grid.specs.Block.{Place, first_place, is_area, is_in_block, is_single, same_place}
-use Rattle.ic_grid.specs.Calls.{Answer, can_write_array, refused_by}
+use Rattle.ic_grid.specs.Block.{Place, first_place, is_area, is_in_block, same_place}
+use Rattle.ic_grid.specs.Calls.{Answer, refused_by}
 use Rattle.ic_grid.specs.Conditions.{AreArrays, AreInSheet, Has}
 use Rattle.ic_grid.specs.Contents.{Contents}
 use Rattle.ic_grid.specs.Merges.{meets_merge}
@@ -25,9 +25,8 @@ use Rattle.ic_grid.specs.Prepare.{loosened_in}
 use Rattle.ic_grid.specs.Rows.{place_count, placed}
 use Rattle.ic_grid.specs.Shape.{Anchor, SpillOf, celled, shape_of}
 use Rattle.ic_grid.specs.Whole.{IsGrid, IsStyled}
-use Rattle.ic_grid.specs.Written.{all_blank, blank_cell, with_array, written_array}
+use Rattle.ic_grid.specs.Written.{all_blank, blank_cell, with_array}
 use Rattle.ic_grid.specs.declared.block.Block.{Block}
-use Rattle.ic_grid.specs.declared.error.GridError.{GridError}
 use Rattle.ic_grid.specs.declared.error.GridError.TheVariants as errors
 use Rattle.ic_grid.specs.declared.grid.Grid.{Grid}
 
@@ -75,7 +74,7 @@ module _ (grid : Grid) (b : Block) (f : ℕ) (styles : List Style) (whole : IsGr
         (blank_cell b f one.0 p, one.1, ap (λ t. shape_of (cond t (celled.array f one.0 b.width b.height kinds.Cse) (celled.spill one.0 (first_place b) (spills.Text [])))) other)
 
     pub is_written : (record grid { cells = after } ≡ (with_array grid b f styles).0)
-    is_written = ap (λ (c : Contents Cell). let g : Grid = record grid { cells = c } in g) (is ∙ sym (ap (λ (p : Contents Cell × List Style). p.0) (written_placed grid b f area whole.arrays styles)))
+    is_written = ap (λ (c : Contents Cell). let g : Grid = record grid { cells = c } in g) (is ∙ sym (ap (λ (p : Contents Cell × List Style). p.0) (written_placed grid b f area styles)))
 
     pub written_whole : meets_merge grid.merged_cells b ≡ false → IsGrid (record grid { cells = after })
     written_whole apart = record {
@@ -119,4 +118,4 @@ module _ (grid : Grid) (b : Block) (f : ℕ) (styles : List Style) (whole : IsGr
                 of_old (finite.get grid.cells p) refl (ap (option_map style_of) (sym e ∙ away p out) ∙ loosened_styles grid.cells b p)
 
   pub styles_are : (grown : List Style) → grown ≡ (all_blank grid b f styles).1 → grown ≡ (with_array grid b f styles).1
-  styles_are grown e = e ∙ sym (ap (λ (p : Contents Cell × List Style). p.1) (written_placed grid b f area whole.arrays styles))
+  styles_are grown e = e ∙ sym (ap (λ (p : Contents Cell × List Style). p.1) (written_placed grid b f area styles))

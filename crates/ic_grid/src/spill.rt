@@ -11,7 +11,7 @@ ghost use Rattle.ic_grid.specs.Shape.{Anchor, celled, gathered, is_cse, shape_of
 ghost use Rattle.ic_grid.specs.Style.{style_at};
 ghost use Rattle.ic_grid.specs.Value.{formula_array, shape_at};
 ghost use Rattle.ic_grid.specs.Whole.{IsGrid};
-ghost use Rattle.ic_grid.specs.Spill.{blocks, array_cells, first_of_blocking, has_other_area, is_free, is_free_there, misfits, spilled};
+ghost use Rattle.ic_grid.specs.Spill.{blocks, array_cells, first_of_blocking, first_to_block, has_other_area, is_free, is_free_there, misfits, spilled};
 ghost use Rattle.ic_grid.specs.Calls.{IsRefusal, can_spill, spill_answer};
 
 use crate::block::is_same;
@@ -125,6 +125,23 @@ fn misfits(block: &Block, count: usize, array: &Array) -> bool
     is_cse(array) && has_other_area(block, array)
 }
 
+/// The first of so many places of a block, by rows, that keeps the array of the formula at its first place from spilling.
+fn first_to_block(
+    cells: &PlaceMap<Cell>,
+    merges: &[Merge],
+    block: &Block,
+    count: usize,
+    array: &Array,
+) -> Option<(i32, i32)>
+    ensures { result ≡ first_to_block celled merges.now cells.now block.now count
+        (Anchor array.now.block.width array.now.block.height array.now.kind) }
+{
+    if is_cse(array) || block.is_single() {
+        return None;
+    }
+    first_of_blocking(cells, merges, block, count)
+}
+
 /// Whether so many values can be given to the array of the formula at the first place of a block: Ok, or why they can't.
 fn can_spill(
     cells: &PlaceMap<Cell>,
@@ -139,10 +156,7 @@ fn can_spill(
     if misfits(block, count, array) {
         return Err(GridError::BadArea);
     }
-    if is_cse(array) || block.is_single() {
-        return Ok(());
-    }
-    match first_of_blocking(cells, merges, block, count) {
+    match first_to_block(cells, merges, block, count, array) {
         Some(place) => Err(GridError::SpillBlocked {
             row: place.0,
             column: place.1,

@@ -53,7 +53,8 @@ fn spread_cells(
     value: &FormulaValue,
 ) -> Result<Vec<Cell>, OutOfMemory>
     requires { is_area block.now ≡ true }
-    ensures { IfOk result (λ items. items.items ≡ spread_from cells.now block.now (spread value.now) (first_place block.now) (place_count block.now)) }
+    ensures { IfOk result (λ items. items.items ≡ spread_from cells.now block.now
+        (spread value.now) (first_place block.now) (place_count block.now)) }
 {
     let alloc = cells.alloc();
     let anchor = block.first();
