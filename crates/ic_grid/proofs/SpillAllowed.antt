@@ -16,7 +16,7 @@ use Rattle.ic_grid.proofs.ArrayLemmas.{array_with}
 use Rattle.ic_grid.proofs.RowLemmas.{IsAt, at_first, at_next, first_left, left_other, none_at_end, placed_away, this_done}
 use Rattle.ic_grid.proofs.SpillFilled.{rest_at, rest_length, spilled_placed}
 use Rattle.ic_grid.proofs.SpillWhole.{spilled_arrays, spilled_inside, spilled_merges}
-use Rattle.ic_grid.proofs.ValueLemmas.{there_array}
+use Rattle.ic_grid.proofs.ReleaseLemmas.{there_array}
 use Rattle.ic_laws.proofs.core.CellWritten.{place_cmp_total}
 use Rattle.ic_cells.specs.declared.value.FormulaValue.{FormulaValue}
 use Rattle.ic_cells.specs.declared.value.SpillValue.{SpillValue}

@@ -18,7 +18,7 @@ use Rattle.ic_grid.specs.Shape.{celled}
 use Rattle.ic_grid.specs.Spill.{unquoted}
 use Rattle.ic_grid.specs.Style.{Columns, Rows, first_style, style_at}
 use Rattle.ic_grid.specs.Whole.{IsStyled}
-use Rattle.ic_grid.specs.Written.{StartWith, style_written}
+use Rattle.ic_grid.specs.Written.{StartWith, written_style_of}
 use Rattle.ic_grid.specs.declared.grid.Grid.{Grid}
 
 -- where cells of one style stand, a place shows one style
@@ -130,7 +130,7 @@ module _ (grid : Grid) (styles : List Style) (ok : IsStyled styles grid) where
       of_column (Some props) e = ok.columns p.1 props e
 
   -- and the one that it gets when something is written there, among the styles then
-  pub written_below : 0 < length styles → (p : Place) → (style_written grid styles p).0 < length (style_written grid styles p).1
+  pub written_below : 0 < length styles → (p : Place) → (written_style_of grid styles p).0 < length (written_style_of grid styles p).1
   written_below some p = unquoted_below styles (style_at celled grid.cells grid.rows grid.columns p) (style_below some p)
 
   -- a sheet with the styles that it names still has them when others join them
@@ -143,5 +143,5 @@ module _ (grid : Grid) (styles : List Style) (ok : IsStyled styles grid) where
         columns = λ column props e. still_below (length styles) (length now) props.style longer (ok.columns column props e);
       }
 
-pub written_more : (grid : Grid) (styles : List Style) (p : Place) → StartWith (style_written grid styles p).1 styles
+pub written_more : (grid : Grid) (styles : List Style) (p : Place) → StartWith (written_style_of grid styles p).1 styles
 written_more grid styles p = unquoted_more styles (style_at celled grid.cells grid.rows grid.columns p)

@@ -23,7 +23,7 @@ use Rattle.ic_grid.specs.Shape.{celled}
 use Rattle.ic_grid.specs.Spill.{array_written, unquoted, with_blanks, written_style}
 use Rattle.ic_grid.specs.Walk.{is_from, is_left}
 use Rattle.ic_grid.specs.Whole.{IsStyled}
-use Rattle.ic_grid.specs.Written.{StartWith, all_blank, blank_cell, blank_cells, style_written, written_array}
+use Rattle.ic_grid.specs.Written.{StartWith, all_blank, blank_cell, blank_cells, written_style_of, written_array}
 use Rattle.ic_grid.specs.declared.block.Block.{Block}
 use Rattle.ic_grid.specs.declared.grid.Grid.{Grid}
 
@@ -48,7 +48,7 @@ module _ (grid : Grid) (b : Block) (f : ℕ) where
         })
 
     module _ (items : List Cell) (at : Place) (styles : List Style) (so : IsWriting items at styles) where
-      pub writing_more : is_in_block b at ≡ true → (now : List Style) → now ≡ (style_written grid styles at).1 → (s : ℕ) → s ≡ (style_written grid styles at).0 → (after : List Cell) (x : Cell) → after ≡ items ++ x ∷ [] → x ≡ blank_cell b f s at
+      pub writing_more : is_in_block b at ≡ true → (now : List Style) → now ≡ (written_style_of grid styles at).1 → (s : ℕ) → s ≡ (written_style_of grid styles at).0 → (after : List Cell) (x : Cell) → after ≡ items ++ x ∷ [] → x ≡ blank_cell b f s at
           → (next : Place) → next ≡ next_place b at → IsWriting after next now
       writing_more within now joined s number after x e same next is = by_left so.n so.left so.cells so.rest
         where
@@ -61,10 +61,10 @@ module _ (grid : Grid) (b : Block) (f : ℕ) where
                 n = n;
                 left = at_next b at n left;
                 cells =
-                    ap (λ xs. xs ++ (blank_cells grid b f n (next_place b at) (style_written grid styles at).1).0) (e ∙ ap (λ y. items ++ y ∷ []) (same ∙ ap (λ k. blank_cell b f k at) number))
-                    ∙ append_assoc items (blank_cell b f (style_written grid styles at).0 at ∷ []) (blank_cells grid b f n (next_place b at) (style_written grid styles at).1).0 ∙ cells;
+                    ap (λ xs. xs ++ (blank_cells grid b f n (next_place b at) (written_style_of grid styles at).1).0) (e ∙ ap (λ y. items ++ y ∷ []) (same ∙ ap (λ k. blank_cell b f k at) number))
+                    ∙ append_assoc items (blank_cell b f (written_style_of grid styles at).0 at ∷ []) (blank_cells grid b f n (next_place b at) (written_style_of grid styles at).1).0 ∙ cells;
                 rest = rest;
-                more = start_more old styles (style_written grid styles at).1 so.more (written_more grid styles at);
+                more = start_more old styles (written_style_of grid styles at).1 so.more (written_more grid styles at);
               }))
 
       pub writing_done : is_in_block b at ≡ false → (items ≡ (all_blank grid b f old).0) × (styles ≡ (all_blank grid b f old).1)
@@ -76,12 +76,12 @@ module _ (grid : Grid) (b : Block) (f : ℕ) where
 
   pub blank_length : (n : ℕ) (q : Place) (styles : List Style) → length (blank_cells grid b f n q styles).0 ≡ n
   blank_length zero q styles = refl
-  blank_length (suc n) q styles = ap suc (blank_length n (next_place b q) (style_written grid styles q).1)
+  blank_length (suc n) q styles = ap suc (blank_length n (next_place b q) (written_style_of grid styles q).1)
 
   pub blank_more : (n : ℕ) (q : Place) (styles : List Style) → StartWith (blank_cells grid b f n q styles).1 styles
   blank_more zero q styles = start_same styles styles refl
   blank_more (suc n) q styles =
-      start_more styles (style_written grid styles q).1 (blank_cells grid b f n (next_place b q) (style_written grid styles q).1).1 (written_more grid styles q) (blank_more n (next_place b q) (style_written grid styles q).1)
+      start_more styles (written_style_of grid styles q).1 (blank_cells grid b f n (next_place b q) (written_style_of grid styles q).1).1 (written_more grid styles q) (blank_more n (next_place b q) (written_style_of grid styles q).1)
 
   -- what stands where, once they are put there, and that its style is one of those that there are grown
   pub blank_at : (n : ℕ) (q : Place) → IsAt b q n → (styles : List Style) → 0 < length styles → IsStyled styles grid → (c : Contents Cell) (p : Place) → is_left b q p ≡ true
@@ -89,23 +89,23 @@ module _ (grid : Grid) (b : Block) (f : ℕ) where
   blank_at zero q at styles some ok c p left = absurd (both_ways (is_left b q p) (none_at_end b q at p) left)
   blank_at (suc n) q at styles some ok c p left =
       by_side (same_place p q) here
-      (λ s. blank_at n (next_place b q) (at_next b q n at) (style_written grid styles q).1 (omega (arith, some, longer)) (styled_more grid styles ok (style_written grid styles q).1 (written_more grid styles q)) (finite.insert c q x) p (left_other b q n at p left s))
+      (λ s. blank_at n (next_place b q) (at_next b q n at) (written_style_of grid styles q).1 (omega (arith, some, longer)) (styled_more grid styles ok (written_style_of grid styles q).1 (written_more grid styles q)) (finite.insert c q x) p (left_other b q n at p left s))
     where
       x : Cell
-      x = blank_cell b f (style_written grid styles q).0 q
+      x = blank_cell b f (written_style_of grid styles q).0 q
 
-      longer : length styles ≤ length (style_written grid styles q).1
-      longer = start_longer styles (style_written grid styles q).1 (written_more grid styles q)
+      longer : length styles ≤ length (written_style_of grid styles q).1
+      longer = start_longer styles (written_style_of grid styles q).1 (written_more grid styles q)
 
       here : same_place p q ≡ true → (s : ℕ) × (finite.get (placed b q (blank_cells grid b f (suc n) q styles).0 c) p ≡ Some (blank_cell b f s p)) × (s < length (blank_cells grid b f (suc n) q styles).1)
       here s =
           let e : p ≡ q = same_is p q s in
-          let grown : List Style = (style_written grid styles q).1 in
+          let grown : List Style = (written_style_of grid styles q).1 in
           let below = written_below grid styles ok some q in
           let last = start_longer grown (blank_cells grid b f n (next_place b q) grown).1 (blank_more n (next_place b q) grown) in (
-            (style_written grid styles q).0,
+            (written_style_of grid styles q).0,
             placed_away b (blank_cells grid b f n (next_place b q) grown).0 (next_place b q) (subst (λ k. IsAt b (next_place b q) k) (sym (blank_length n (next_place b q) grown)) (at_next b q n at)) (finite.insert c q x) p (ap (is_left b (next_place b q)) e ∙ this_done b q n at)
-                ∙ finite.get-insert place_cmp_total c q x p ∙ ap (λ t. cond t (Some x) (finite.get c p)) s ∙ ap (λ z. Some (blank_cell b f (style_written grid styles q).0 z)) (sym e),
+                ∙ finite.get-insert place_cmp_total c q x p ∙ ap (λ t. cond t (Some x) (finite.get c p)) s ∙ ap (λ z. Some (blank_cell b f (written_style_of grid styles q).0 z)) (sym e),
             omega (arith, below, last),
           )
 
@@ -115,24 +115,24 @@ module _ (grid : Grid) (b : Block) (f : ℕ) where
   blanks_placed zero q at other k h styles = refl
   blanks_placed (suc n) q at other k h styles =
       ap (λ (w : ℕ × List Style). with_blanks celled grid.rows grid.columns b n (next_place b q) (finite.insert k q (celled.spill w.0 (first_place b) (spills.Text []))) w.1) same
-      ∙ ap (λ y. with_blanks celled grid.rows grid.columns b n (next_place b q) (finite.insert k q y) (style_written grid styles q).1) (sym spill)
+      ∙ ap (λ y. with_blanks celled grid.rows grid.columns b n (next_place b q) (finite.insert k q y) (written_style_of grid styles q).1) (sym spill)
       ∙ blanks_placed n (next_place b q) (at_next b q n at) (by_side (is_left b (next_place b q) (first_place b)) (λ t. absurd (both_ways (is_left b q (first_place b)) other (left_later b q n at (first_place b) t))) (λ t. t))
-      (finite.insert k q x) (λ p left. ap (option_map style_of) (insert_away k q x p (left_apart b q n at p left)) ∙ h p (left_later b q n at p left)) (style_written grid styles q).1
+      (finite.insert k q x) (λ p left. ap (option_map style_of) (insert_away k q x p (left_apart b q n at p left)) ∙ h p (left_later b q n at p left)) (written_style_of grid styles q).1
     where
       here : is_left b q q ≡ true
       here = and_from (is_in_block b q) (is_from q q) (at_in b q n at) (from_itself q)
 
-      same : written_style celled grid.rows grid.columns k styles q ≡ style_written grid styles q
+      same : written_style celled grid.rows grid.columns k styles q ≡ written_style_of grid styles q
       same = ap (unquoted styles) (style_by grid.rows grid.columns k grid.cells q (h q here))
 
       x : Cell
-      x = blank_cell b f (style_written grid styles q).0 q
+      x = blank_cell b f (written_style_of grid styles q).0 q
 
       apart : same_place q (first_place b) ≡ false
       apart = by_side (same_place q (first_place b)) (λ t. absurd (both_ways (is_left b q (first_place b)) other (ap (is_left b q) (sym (same_is q (first_place b) t)) ∙ here))) (λ t. t)
 
-      spill : x ≡ celled.spill (style_written grid styles q).0 (first_place b) (spills.Text [])
-      spill = ap (λ t. cond t (celled.array f (style_written grid styles q).0 b.width b.height kinds.Cse) (celled.spill (style_written grid styles q).0 (first_place b) (spills.Text []))) apart
+      spill : x ≡ celled.spill (written_style_of grid styles q).0 (first_place b) (spills.Text [])
+      spill = ap (λ t. cond t (celled.array f (written_style_of grid styles q).0 b.width b.height kinds.Cse) (celled.spill (written_style_of grid styles q).0 (first_place b) (spills.Text []))) apart
 
   -- so to write the array is to release the arrays with a cell in the block, and to put them there
   pub written_placed : is_area b ≡ true → (styles : List Style)
@@ -160,7 +160,7 @@ module _ (grid : Grid) (b : Block) (f : ℕ) where
           less = omega (arith, e)
 
           w : ℕ × List Style
-          w = style_written grid styles (first_place b)
+          w = written_style_of grid styles (first_place b)
 
           x : Cell
           x = blank_cell b f w.0 (first_place b)

@@ -1,7 +1,6 @@
 -- What becomes of a sheet when an array is written or gets its values, and which cell blocks a spill.
-use Rattle.std.specs.Prelude.{ℕ, zero, suc, ℤ, pos, ◌*ℤ◌, Bool, true, false, not, ◌&&◌, ◌||◌, List, [], ◌∷◌, Option, Some, None, if◌then◌else◌}
+use Rattle.std.specs.Prelude.{ℕ, zero, suc, ℤ, pos, ◌*ℤ◌, Bool, false, not, ◌&&◌, ◌||◌, List, [], ◌∷◌, Option, Some, None, if◌then◌else◌}
 use Rattle.std.specs.FinMap as finite
-use Rattle.std.specs.Option.{option_map, unwrap_or}
 use Rattle.std.specs.Ordering.{int_eq}
 use Rattle.ic_cells.specs.Style as styling
 use Rattle.ic_cells.specs.declared.cell.ArrayKind.{ArrayKind}
@@ -16,7 +15,7 @@ use Rattle.ic_grid.specs.Block.{Place, first_place, has_places, is_in_sheet, is_
 use Rattle.ic_grid.specs.Contents.{Contents}
 use Rattle.ic_grid.specs.Merges.{is_merged}
 use Rattle.ic_grid.specs.Prepare.{loosened_in, without_spill}
-use Rattle.ic_grid.specs.Shape.{Holding, Shape, Anchor, celled, gathered, is_empty, is_spill_of, shape_of}
+use Rattle.ic_grid.specs.Shape.{Holding, Shape, Anchor, celled, gathered, is_empty, is_spill_of}
 use Rattle.ic_grid.specs.Style.{Columns, Rows, style_at}
 use Rattle.ic_grid.specs.Value.{is_cse_anchor, shape_at}
 use Rattle.ic_grid.specs.declared.block.Block.{Block}
@@ -35,9 +34,6 @@ misfits b count shape =
 -- empty, or one of the spill of the formula at a place
 abbrev pub is_free : Place → Shape → Bool
 is_free a shape = is_empty shape || is_spill_of a shape
-
-abbrev pub is_free_there : Place → Option Cell → Bool
-is_free_there a o = unwrap_or (option_map (λ x. is_free a (shape_of x)) o) true
 
 module _ {X : Type 0} (h : Holding X) where
   -- a place keeps the array of the formula at another, `a`, from spilling: it is past the edge of the sheet, or one of

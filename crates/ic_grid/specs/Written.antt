@@ -27,8 +27,8 @@ blank_cell b f s q =
     if same_place q (first_place b) then celled.array f s b.width b.height kinds.Cse else celled.spill s (first_place b) (spills.Text [])
 
 -- the style that a place of a sheet gets when something is written there
-abbrev pub style_written : Grid → List Style → Place → ℕ × List Style
-style_written grid styles q = written_style celled grid.rows grid.columns grid.cells styles q
+abbrev pub written_style_of : Grid → List Style → Place → ℕ × List Style
+written_style_of grid styles q = written_style celled grid.rows grid.columns grid.cells styles q
 
 module _ (grid : Grid) (b : Block) (f : ℕ) where
   -- the cells for so many places of the block, by rows from one on, each in the style that its place gets; and the styles
@@ -36,8 +36,8 @@ module _ (grid : Grid) (b : Block) (f : ℕ) where
   abbrev pub blank_cells : ℕ → Place → List Style → List Cell × List Style
   blank_cells zero q styles = ([], styles)
   blank_cells (suc n) q styles = (
-    blank_cell b f (style_written grid styles q).0 q ∷ (blank_cells n (next_place b q) (style_written grid styles q).1).0,
-    (blank_cells n (next_place b q) (style_written grid styles q).1).1,
+    blank_cell b f (written_style_of grid styles q).0 q ∷ (blank_cells n (next_place b q) (written_style_of grid styles q).1).0,
+    (blank_cells n (next_place b q) (written_style_of grid styles q).1).1,
   )
 
   -- those for all its places

@@ -9,7 +9,7 @@ ghost use Rattle.ic_grid.specs.Rows.{place_count, placed};
 ghost use Rattle.ic_grid.specs.Shape.{celled};
 ghost use Rattle.ic_grid.specs.Spill.{unquoted};
 ghost use Rattle.ic_grid.specs.Whole.{IsGrid, IsStyled};
-ghost use Rattle.ic_grid.specs.Written.{StartWith, all_blank, blank_cell, style_written, with_array};
+ghost use Rattle.ic_grid.specs.Written.{StartWith, all_blank, blank_cell, written_style_of, with_array};
 
 use crate::block::is_same;
 use crate::changes::{next_place, put_all};
@@ -84,11 +84,11 @@ fn put_array(cells: &mut PlaceMap<Cell>, block: &Block, items: Vec<Cell>) -> Res
 
 impl Grid {
     /// The number of the style that a place gets when something is written there.
-    fn style_written(&self, styles: &mut Styles, place: (i32, i32)) -> Result<usize, OutOfMemory>
+    fn written_style(&self, styles: &mut Styles, place: (i32, i32)) -> Result<usize, OutOfMemory>
         requires some { 0 < length styles.old }
         requires styled { IsStyled styles.old self.now }
-        ensures number { IfOk result (λ n. n ≡ (style_written self.now styles.old place).0) }
-        ensures styles { OnOk result (styles.new ≡ (style_written self.now styles.old place).1) }
+        ensures number { IfOk result (λ n. n ≡ (written_style_of self.now styles.old place).0) }
+        ensures styles { OnOk result (styles.new ≡ (written_style_of self.now styles.old place).1) }
         ensures err { OnErr result (styles.new ≡ styles.old) }
     {
         let number = self.style_of_place(place);
@@ -116,7 +116,7 @@ impl Grid {
         items.reserve(place_count(block))?;
         let mut at = block.first();
         'places: while block.has(at) {
-            let s = self.style_written(styles, at)?;
+            let s = self.written_style(styles, at)?;
             items.push(blank_cell(alloc, block, f, s, at))?;
             at = next_place(block, at);
         }

@@ -36,7 +36,7 @@ places-smaller c = next_nearer c.args.block.now c.places.at c.requires.area (sym
 
 pub places-preserved : goal.places-preserved
 places-preserved c =
-    writing_more c.args.self.now c.args.block.now c.args.f c.args.styles.now c.places.items.items c.places.at c.places.styles c.places.invariant (sym c.places-test.ensures) c.style_written.new.styles c.in_ok-s.ensures.styles
+    writing_more c.args.self.now c.args.block.now c.args.f c.args.styles.now c.places.items.items c.places.at c.places.styles c.places.invariant (sym c.places-test.ensures) c.written_style.new.styles c.in_ok-s.ensures.styles
     c.in_ok-s.s c.in_ok-s.ensures.number c.push.new.self.items c.blank_cell.result c.in_ok-push.ensures.items c.blank_cell.ensures c.next_place-at.result c.next_place-at.ensures
 
 pub returns-clause-cells : goal.returns-clause-cells
