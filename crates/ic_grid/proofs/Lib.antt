@@ -22,6 +22,7 @@ pub mod SpillPlaced
 pub mod SpillWhole
 pub mod SpreadLemmas
 pub mod StyleLemmas
+pub mod StyledLemmas
 pub mod ValueLemmas
 pub mod ValueWhole
 pub mod WalkLemmas

@@ -6,7 +6,7 @@ use Rattle.std.specs.Option.{option_and_then}
 use Rattle.ic_cells.specs.declared.cell.Cell.{Cell}
 use Rattle.ic_cells.specs.declared.cell.Cell.TheVariants as cells
 use Rattle.ic_grid.proofs.ContentsLemmas.{get-remade}
-use Rattle.ic_grid.proofs.RoomLemmas.{no_placeholder}
+use Rattle.ic_grid.proofs.RoomLemmas.{added_outside, no_placeholder}
 use Rattle.ic_grid.proofs.RowLemmas.{IsAt, area_inside, at_first, first_left, placed_over}
 use Rattle.ic_grid.specs.Arrays.{anchor_at, anchor_of, array_at, array_from, array_of, reaches}
 use Rattle.ic_grid.specs.Block.{Place, first_place, is_area, is_in_block, is_in_sheet}
@@ -113,17 +113,10 @@ module _ (b : Block) (m n : Contents Cell) (added : IsPadded b m n) where
       each None = refl
       each (Some a) = same_array_of a
 
-  kept_outside : (p : Place) → is_in_block b p ≡ false → finite.get n p ≡ finite.get m p
-  kept_outside p out = of_case (added p)
-    where
-      of_case : (finite.get n p ≡ finite.get m p) ⊎ ((is_in_block b p ≡ true) × (finite.get m p ≡ None) × (finite.get n p ≡ Some (cells.EmptyCell 0))) → finite.get n p ≡ finite.get m p
-      of_case (inl e) = e
-      of_case (inr i) = absurd (both_ways (is_in_block b p) out i.0)
-
   loosened_outside : (p : Place) → is_in_block b p ≡ false → finite.get (loosened_in celled b n) p ≡ finite.get (loosened_in celled b m) p
   loosened_outside p out =
       get-remade _ n p ∙ ap (λ a. option_and_then (λ x. Some (cond (reaches b a) (loosened celled x) x)) (finite.get n p)) (same_array_at p)
-      ∙ ap (option_and_then (λ x. Some (cond (reaches b (array_at celled m p)) (loosened celled x) x))) (kept_outside p out) ∙ sym (get-remade _ m p)
+      ∙ ap (option_and_then (λ x. Some (cond (reaches b (array_at celled m p)) (loosened celled x) x))) (added_outside (cells.EmptyCell 0) b m n added p out) ∙ sym (get-remade _ m p)
 
   pub loosened_full : (now : Contents Cell) → IsFull b n → now ≡ loosened_in celled b n → IsFull b now
   loosened_full now full e p within =

@@ -1,5 +1,5 @@
 -- What holds of a sheet's cells and merges between calls.
-use Rattle.std.specs.Prelude.{◌≡◌, ◌<◌, ℕ, ℤ, true, false, List, Option, Some, None}
+use Rattle.std.specs.Prelude.{◌≡◌, ◌<◌, ℕ, ℤ, nat_lt, Bool, true, false, List, Option, Some, None}
 use Rattle.std.specs.FinMap as finite
 use Rattle.std.specs.List.{All, slice_get}
 use Rattle.ic_cells.specs.declared.cell.ArrayKind.{ArrayKind}
@@ -18,6 +18,11 @@ use Rattle.ic_grid.specs.Style.{Columns, Rows}
 abbrev pub IsStyleNumber : ℕ → Option ℕ → Type 0
 IsStyleNumber count None = Unit {0}
 IsStyleNumber count (Some n) = n < count
+
+-- the same as a test
+abbrev pub is_style_number : ℕ → Option ℕ → Bool
+is_style_number count None = true
+is_style_number count (Some n) = nat_lt n count
 
 module _ {X : Type 0} (h : Holding X) (m : Contents X) where
   -- something of this shape stands at a place

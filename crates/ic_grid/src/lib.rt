@@ -13,6 +13,7 @@ mod prepare;
 mod room;
 mod spill;
 mod start;
+mod styled;
 mod value;
 mod walk;
 mod write;

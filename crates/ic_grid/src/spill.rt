@@ -8,7 +8,6 @@ ghost use Rattle.ic_grid.specs.Prepare.{without_spill};
 ghost use Rattle.ic_grid.specs.Rows.{place_count, placed};
 ghost use Rattle.ic_grid.specs.Merges.{is_merged};
 ghost use Rattle.ic_grid.specs.Shape.{Anchor, celled, gathered, is_cse, shape_of};
-ghost use Rattle.ic_grid.specs.Style.{style_at};
 ghost use Rattle.ic_grid.specs.Value.{formula_array, shape_at};
 ghost use Rattle.ic_grid.specs.Whole.{IsGrid};
 ghost use Rattle.ic_grid.specs.Spill.{blocks, array_cells, first_of_blocking, first_to_block, has_other_area, is_free, misfits, spilled};
@@ -190,14 +189,6 @@ fn place_array(
 }
 
 impl Grid {
-    /// The number of the style that a place shows.
-    pub(crate) fn style_of_place(&self, place: (i32, i32)) -> usize
-        ensures { result
-            ≡ style_at celled self.now.cells self.now.rows self.now.columns place }
-    {
-        self.style_at(place.0, place.1)
-    }
-
     /// The cells of an array with these values, by rows: its formula, and for each other value a cell of its spill, in the
     /// style of its place.
     fn array_cells(

@@ -183,7 +183,7 @@ impl Grid {
     /// column's, else 0, but without the quote flag; where no style is so, one is put at the end of the styles, by rows.
     /// `MergedPart` comes exactly where the block meets merged cells, and then `ArrayPart` exactly where one of its places
     /// belongs to a Cse array of more than one cell. Memory can be missing. After an error the sheet and the styles are as
-    /// before.
+    /// before. The sheet names styles that are there (`is_styled`), and does so after it too.
     pub fn write_array(
         &mut self,
         styles: &mut Styles,
