@@ -28,7 +28,7 @@ fn is_style_number(count: usize, style: Option<usize>) -> bool
     }
 }
 
-/// Whether the number of each cell's style is.
+/// Whether the number of each cell's style is below how many styles there are.
 fn are_below(map: &BTreeMap<(i32, i32), Cell>, count: usize) -> bool
     ensures all { result ≡ list_all (λ (x : Cell). nat_lt (style_of x) count) (values map.now) }
     ensures ordered { IsOrdered place_cmp map.now }
@@ -41,7 +41,7 @@ fn are_below(map: &BTreeMap<(i32, i32), Cell>, count: usize) -> bool
     true
 }
 
-/// Whether the number of each style that was set for a row is.
+/// Whether the number of each style that was set for a row is so.
 fn are_rows_below(map: &BTreeMap<i32, RowProps>, count: usize) -> bool
     ensures all { result ≡ list_all (λ (props : RowProps). is_style_number count
         props.style) (values map.now) }
@@ -55,7 +55,7 @@ fn are_rows_below(map: &BTreeMap<i32, RowProps>, count: usize) -> bool
     true
 }
 
-/// Whether the number of each style that was set for a column is.
+/// Whether the number of each style that was set for a column is so.
 fn are_columns_below(map: &BTreeMap<i32, ColumnProps>, count: usize) -> bool
     ensures all { result ≡ list_all (λ (props : ColumnProps). is_style_number count
         props.style) (values map.now) }
