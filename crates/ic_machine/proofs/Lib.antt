@@ -28,9 +28,11 @@ pub mod StandingLemmas
 pub mod SteppedLemmas
 pub mod StylesStay
 pub mod SubjectsStay
+pub mod UpdatedBinds
 pub mod UpdatedStays
 pub mod ValidLemmas
 pub mod WholeLemmas
+pub mod WordLemmas
 pub mod WritingStays
 pub mod WritingSteps
 mod examples

@@ -1,20 +1,29 @@
--- What the formulas of a valid book mention after a command that adds, puts in or renames a sheet, or adds or deletes a
--- definition: what dangled and is bound then means that sheet or that definition, what meant a deleted definition means the
--- one for all sheets that is in sight then, or dangles, and each other mention is what it was. Formulas are those of the
--- core: of each cell, and the bodies.
-use Rattle.std.specs.Prelude.{◌≡◌, ℕ, ◌+◌, ◌++◌, List, [], Option, Some, Ok, insert, slice_get}
+-- What the formulas of a valid book mention after a command that adds, puts in, copies or renames a sheet, or adds, deletes
+-- or updates a definition: what dangled and is bound then means that sheet or that definition, what meant a deleted
+-- definition means the one for all sheets that is in sight then, or dangles, and each other mention is what it was. Formulas
+-- are those of the core: of each cell, and the bodies.
+use Rattle.std.specs.Prelude.{◌≡◌, ◌⊎◌, ℕ, ◌+◌, ◌++◌, List, [], Bool, true, false, Option, Some, None, Ok, insert, slice_get}
+use Rattle.std.specs.List.{AllZip}
 use Rattle.ic_laws.specs.BookTrees.{with_sheet_at_end, with_trees}
 use Rattle.ic_laws.specs.Changes.{changed_tree, name_added, name_gone, sheet_named}
 use Rattle.ic_laws.specs.CoreBook as core_book
 use Rattle.ic_laws.specs.CoreBook.{CoreBook, Definition, greatest_id, scene_of, spelling_of}
 use Rattle.ic_laws.specs.CoreStep.{index_of_definition, index_of_name, new_definition, scope_or_none, with_definition, with_sheet_name, without_definition}
 use Rattle.ic_laws.specs.FormulaReading.{Body, body_of}
+use Rattle.ic_laws.specs.Scene.{key_of, same_key}
+use Rattle.ic_laws.specs.declared.tree.Formula.{Formula}
+use Rattle.ic_laws.specs.declared.tree.Formula.TheVariants as formulas
+use Rattle.ic_laws.specs.declared.tree.NameKey.{NameKey}
+use Rattle.ic_laws.specs.declared.tree.NameMention.{NameMention}
+use Rattle.ic_laws.specs.declared.tree.NameMention.TheVariants as names
 use Rattle.ic_machine.specs.Book.{Book, Sheet, core_of, core_sheet, notations_in}
+use Rattle.ic_machine.specs.Capture.{captured_sites, words_in}
 use Rattle.ic_machine.specs.Command.{OnDefinitions, OnSheets}
 use Rattle.ic_machine.specs.Reply.{Field}
 use Rattle.ic_machine.specs.Step.{step}
 use Rattle.ic_machine.specs.Valid.{IsValidBook}
 use Rattle.ic_machine.specs.subjects.Definitions as definitions
+use Rattle.ic_machine.specs.subjects.Definitions.{Update, keys_of_update, new_key, old_key}
 use Rattle.ic_machine.specs.subjects.Sheets as sheets
 use Rattle.ic_machine.specs.subjects.Sheets.{chosen_id, copies_of_definitions, copy_id, copy_of_sheet, name_of_copy, new_sheet_name}
 
@@ -87,3 +96,36 @@ DeletedIsNotMeant =
     → core_of after
     ≡ without_definition (Some index)
     (with_trees (changed_tree (name_gone (scene_of (without_definition (Some index) (core_of book))) (spelling_of definition))) (core_of book))
+
+-- What becomes of a word when a definition is updated, which has this key then: what dangled dangles by the same word, or
+-- means that definition; a variable is the same, and a function that is called; of what meant a definition see below.
+abbrev pub IsUpdatedWord : NameKey → Option NameMention → Option NameMention → Type 0
+IsUpdatedWord key None after = after ≡ None
+IsUpdatedWord key (Some (names.Var word)) after = after ≡ Some (names.Var word)
+IsUpdatedWord key (Some (names.Name found)) after = Unit {0}
+IsUpdatedWord key (Some (names.Dangling word)) after = (after ≡ Some (names.Dangling word)) ⊎ (after ≡ Some (names.Name key))
+
+abbrev pub IsUpdatedFormula : NameKey → Formula → Formula → Type 0
+IsUpdatedFormula key (formulas.Tree before) (formulas.Tree after) = AllZip (IsUpdatedWord key) (words_in before) (words_in after)
+IsUpdatedFormula key before after = after ≡ before
+
+-- the body of each definition but the one that is updated, which gets another
+abbrev pub AskedOfOthers : Bool → Type 0 → Type 0
+AskedOfOthers true P = Unit {0}
+AskedOfOthers false P = P
+
+abbrev pub IsUpdatedBody : NameKey → NameKey → Definition → Definition → Type 0
+IsUpdatedBody old new before after = AskedOfOthers (same_key (key_of (spelling_of before)) old) (IsUpdatedFormula new before.body after.body)
+
+-- each formula of a sheet's pool and each body, word for word; and no cell and no other body has a word that meant a
+-- definition and doesn't mean the same one then
+pub record UpdatesWords (book after : Book) (update : Update) : Type 0 where
+  pub pools : AllZip (λ (s t : Sheet). AllZip (IsUpdatedFormula (new_key book update)) s.pool t.pool) book.sheets after.sheets
+  pub bodies : AllZip (IsUpdatedBody (old_key book update) (new_key book update)) book.definitions after.definitions
+  pub uncaptured : captured_sites (keys_of_update book update) (old_key book update) book after ≡ []
+
+-- an updated definition is meant by what dangled and is bound then, and by what meant it
+abbrev pub UpdatedIsMeant : Type 0
+UpdatedIsMeant =
+    (book after : Book) (update : Update) (fields : List Field) → IsValidBook book → step book (OnDefinitions (definitions.UpdateDefinedName update)) ≡ Ok (after, fields)
+    → UpdatesWords book after update
