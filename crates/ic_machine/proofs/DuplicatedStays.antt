@@ -187,7 +187,7 @@ module _ (b : Book) (valid : IsValidBook b) (index : ℕ) (source : Sheet) (at :
       (ap (list_any test) seen_later
       ∙ any_inserted test (map seen b.sheets) (index + 1) (seen copy) (sym (ap (list_any test) before) ∙ some_found test (scene_in b).sheets (some_unmapped (λ (s : SheetName). s.name) (find test (scene_in b).sheets) h))))
 
-  has_key : (k : NameKey) → IsSome (name_of_key (scene_in b) k) → IsSome (name_of_key later k)
+  pub has_key : (k : NameKey) → IsSome (name_of_key (scene_in b) k) → IsSome (name_of_key later k)
   has_key k h =
       let test : NameSpelling → Bool = λ m. same_key (key_of m) k in
       some_mapped (λ (m : NameSpelling). m.name) (find test later.names)

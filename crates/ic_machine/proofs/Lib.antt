@@ -5,6 +5,7 @@ pub mod ArraysStay
 pub mod BindsLemmas
 pub mod ChangedStays
 pub mod CopiedBinds
+pub mod CopiedWords
 pub mod CopyKeys
 pub mod CopyNames
 pub mod CoreLemmas

@@ -38,7 +38,7 @@ use Rattle.ic_machine.proofs.WordLemmas.{words_become}
 
 -- lists, item for item ----
 
-zip_mapped : {X : Type 0} (P : X → Type 0) (R : X → X → Type 0) (f : X → X) → ((x : X) → P x → R x (f x)) → (xs : List X) → AllByRecursion P xs → AllZip R xs (map f xs)
+pub zip_mapped : {X Y : Type 0} (P : X → Type 0) (R : X → Y → Type 0) (f : X → Y) → ((x : X) → P x → R x (f x)) → (xs : List X) → AllByRecursion P xs → AllZip R xs (map f xs)
 zip_mapped P R f h [] all = tt
 zip_mapped P R f h (x ∷ xs) all = (h x all.0, zip_mapped P R f h xs all.1)
 
