@@ -1,5 +1,6 @@
 -- What is bound after a sheet is copied.
 use Rattle.std.proofs.Common.{◌≡◌, ℕ, ◌+◌, List, [], ◌∷◌, ◌++◌, map, false, ◌&&◌, Option, Some, None, Ok, refl, sym, ap, ap₂, ◌∙◌}
+use Rattle.std.proofs.lemmas.Bool.{and_right}
 use Rattle.std.proofs.lemmas.List.{map-append}
 use Rattle.std.proofs.lemmas.List.Folds.{find-append}
 use Rattle.std.specs.Cmp.{nat_eq_equiv}
@@ -37,7 +38,7 @@ use Rattle.ic_machine.specs.Changed.{changed_by}
 use Rattle.ic_machine.specs.Refusal.{IdsUsedUp, InvalidSheet, first_refusal}
 use Rattle.ic_machine.specs.Valid.{IsValidBook}
 use Rattle.ic_machine.specs.subjects.Sheets.{copied_of, copies_of_definitions, copy_id, copy_of_sheet, definitions_moved, duplicate_sheet_step, duplicated, formula_copied, local_in, name_of_copy, named_fields, with_copy, with_formula}
-use Rattle.ic_machine.proofs.CopyKeys.{all_in_map, no_scope, second_false}
+use Rattle.ic_machine.proofs.CopyKeys.{all_in_map, no_scope}
 use Rattle.ic_machine.proofs.CoreLemmas.{core_of-changed, insert-map}
 use Rattle.ic_machine.proofs.CoreValid.{core_valid}
 use Rattle.ic_machine.proofs.DuplicatedStays.{free, parts}
@@ -51,7 +52,7 @@ pub unfound : (folded : List ℕ) (scope : Option ℕ) (ms : List NameSpelling) 
     → find (λ (m : NameSpelling). bytes_eq (fold m.name) folded && same_scope m.scope scope) ms ≡ None
 unfound folded scope [] h = refl
 unfound folded scope (m ∷ ms) h =
-    find_later (λ (x : NameSpelling). bytes_eq (fold x.name) folded && same_scope x.scope scope) m ms (second_false (bytes_eq (fold m.name) folded) (same_scope m.scope scope) h.0) ∙ unfound folded scope ms h.1
+    find_later (λ (x : NameSpelling). bytes_eq (fold x.name) folded && same_scope x.scope scope) m ms (and_right (bytes_eq (fold m.name) folded) (same_scope m.scope scope) h.0) ∙ unfound folded scope ms h.1
 
 pub or_none : {A : Type 0} (o : Option A) → option_or o None ≡ o
 or_none None = refl

@@ -1,6 +1,6 @@
 -- What the words of copied formulas mean.
 use Rattle.std.proofs.Common.{◌≡◌, ◌⊎◌, ℕ, pos, ◌+◌, IsSome, is_some, List, [], ◌∷◌, ◌++◌, map, Bool, true, false, cond, ◌&&◌, ◌||◌, Option, Some, None, Ok, refl, sym, ap, ap₂, subst, ◌∙◌, inl, inr, if◌then◌else◌}
-use Rattle.std.proofs.lemmas.Bool.{and_from, and_parts, cases_Bool}
+use Rattle.std.proofs.lemmas.Bool.{and_from, and_parts, and_right, cases_Bool, or_right}
 use Rattle.std.proofs.lemmas.List.{map-append}
 use Rattle.std.proofs.lemmas.List.Folds.{find-append, list_any-append}
 use Rattle.std.proofs.lemmas.Slice.Eq.{bytes_eq-Decides}
@@ -80,19 +80,11 @@ local_has id folded x (d ∷ ds) e = by_test (bytes_eq (fold d.name) folded) (sa
     later : is_at folded (Some id) (spelling_of d) ≡ false → find (is_at folded (Some id)) (map spelling_of ds) ≡ Some x
     later f = sym (find_later (is_at folded (Some id)) (spelling_of d) (map spelling_of ds) f) ∙ e
 
-    any_or : (c : Bool) → list_any test (local_to id ds) ≡ true → (c || list_any test (local_to id ds)) ≡ true
-    any_or true h = refl
-    any_or false h = h
-
     by_test : (t s : Bool) → bytes_eq (fold d.name) folded ≡ t → same_scope d.scope (Some id) ≡ s
         → (find (is_at folded (Some id)) (map spelling_of ds) ≡ Some x → list_any test (local_to id ds) ≡ true) → list_any test (cond s (d ∷ local_to id ds) (local_to id ds)) ≡ true
-    by_test t false p q rest = rest (later (ap₂ (λ (a c : Bool). a && c) p q ∙ second t))
-      where
-        second : (c : Bool) → (c && false) ≡ false
-        second true = refl
-        second false = refl
+    by_test t false p q rest = rest (later (and_right (bytes_eq (fold d.name) folded) (same_scope d.scope (Some id)) q))
     by_test true true p q rest = ap (λ (c : Bool). c || list_any test (local_to id ds)) p
-    by_test false true p q rest = any_or (bytes_eq (fold d.name) folded) (rest (later (ap (λ (a : Bool). a && same_scope d.scope (Some id)) p)))
+    by_test false true p q rest = or_right (bytes_eq (fold d.name) folded) (list_any test (local_to id ds)) (rest (later (ap (λ (a : Bool). a && same_scope d.scope (Some id)) p)))
 
 module _ (b : Book) (valid : IsValidBook b) (index : ℕ) (source : Sheet) (at : slice_get b.sheets index ≡ Some source) (room : is_none (fresh_id (core_of b)) ≡ false) where
   abbrev n : Notations

@@ -1,6 +1,6 @@
 -- What is bound after a definition is updated.
 use Rattle.std.proofs.Common.{◌≡◌, ◌⊎◌, ℕ, ℤ, zero, suc, pos, List, [], ◌∷◌, map, Bool, true, false, not, Option, Some, None, refl, sym, ap, ap₂, subst, ◌∙◌, inl, inr, if◌then◌else◌}
-use Rattle.std.proofs.lemmas.Bool.{cases_Bool}
+use Rattle.std.proofs.lemmas.Bool.{OnFalse_from, both_ways, cases_Bool}
 use Rattle.std.specs.List.{AllByRecursion, AllZip, find, slice_get}
 use Rattle.std.specs.Option.{option_or}
 use Rattle.std.specs.Prelude.{option_map}
@@ -24,7 +24,7 @@ use Rattle.ic_laws.specs.declared.tree.Formula.TheVariants as formulas
 use Rattle.ic_laws.specs.declared.tree.NameKey.{NameKey}
 use Rattle.ic_laws.specs.declared.tree.NameMention.{NameMention}
 use Rattle.ic_laws.specs.declared.tree.NameMention.TheVariants as names
-use Rattle.ic_machine.specs.Binds.{AskedOfOthers, IsUpdatedBody, IsUpdatedFormula, IsUpdatedWord, UpdatedIsMeant, UpdatesWords}
+use Rattle.ic_machine.specs.Binds.{IsUpdatedBody, IsUpdatedFormula, IsUpdatedWord, UpdatedIsMeant, UpdatesWords}
 use Rattle.ic_machine.specs.Book.{Book, Sheet, notations_in, scene_in, core_of}
 use Rattle.ic_machine.specs.Capture.{captured_sites, has_sites, words_in}
 use Rattle.ic_machine.specs.Changed.{changed_with, with_kept_pool}
@@ -150,14 +150,6 @@ module _ (b : Book) (valid : IsValidBook b) (u : Update) (index : ℕ) (found : 
   kept_becomes scope row column (formulas.Tree t) h = tree_becomes (english_function n) (scene_in b) later (spelling_of new) index names_are (keys_of_update b u) scope t h.settled
   kept_becomes scope row column (formulas.Raw text) h = refl
 
-  asked : (P : Type 0) (t : Bool) → P → AskedOfOthers t P
-  asked P true p = tt
-  asked P false p = p
-
-  its_own : (P : Type 0) (t : Bool) → t ≡ true → AskedOfOthers t P
-  its_own P true e = tt
-  its_own P false e = cc
-
   words_are : (left : Book) → left ≡ changed_with (keys_of_update b u) (with_update b u has_equals body (Some index)) b → captured_sites (keys_of_update b u) (old_key b u) b left ≡ [] → UpdatesWords b left u
   words_are left is none =
       subst (λ (x : Book). captured_sites (keys_of_update b u) (old_key b u) b x ≡ [] → UpdatesWords b x u) (sym is)
@@ -169,12 +161,13 @@ module _ (b : Book) (valid : IsValidBook b) (u : Update) (index : ℕ) (found : 
         bodies =
             zip_updated (IsUpdatedBody (old_key b u) (new_key b u)) new index b.definitions (map (kept_in_body n (scene_in b) later (keys_of_update b u)) b.definitions)
             (zip_mapped (IsKeptBody n (scene_in b)) (IsUpdatedBody (old_key b u) (new_key b u)) (kept_in_body n (scene_in b) later (keys_of_update b u))
-            (λ d h. asked (IsUpdatedFormula (new_key b u) d.body (kept_formula (english_function n) (scene_in b) later (keys_of_update b u) d.scope d.body)) (same_key (key_of (spelling_of d)) (old_key b u)) (kept_becomes d.scope (pos 1) (pos 1) d.body h)) b.definitions valid.kept.bodies)
+            (λ d h. OnFalse_from (same_key (key_of (spelling_of d)) (old_key b u)) _ (λ other. kept_becomes d.scope (pos 1) (pos 1) d.body h)) b.definitions valid.kept.bodies)
             (λ d e.
             let x = passes_at (is_named u.name (old_scope b u)) b.definitions index found in
             let some : Some x.0 ≡ Some d = sym x.1 ∙ e in
             let same : x.0 ≡ d = cc in
-            its_own (IsUpdatedFormula (new_key b u) d.body body) (same_key (key_of (spelling_of d)) (old_key b u)) (subst (λ (y : Definition). same_key (key_of (spelling_of y)) (old_key b u) ≡ true) same x.2));
+            OnFalse_from (same_key (key_of (spelling_of d)) (old_key b u)) _
+            (λ other. absurd (both_ways (same_key (key_of (spelling_of d)) (old_key b u)) other (subst (λ (y : Definition). same_key (key_of (spelling_of y)) (old_key b u) ≡ true) same x.2))));
         uncaptured = clear;
       })
       none

@@ -2,7 +2,8 @@
 -- or updates a definition: what dangled and is bound then means that sheet or that definition, what meant a deleted
 -- definition means the one for all sheets that is in sight then, or dangles, and each other mention is what it was. Formulas
 -- are those of the core: of each cell, and the bodies.
-use Rattle.std.specs.Prelude.{◌≡◌, ◌⊎◌, ℕ, ◌+◌, ◌++◌, List, [], map, Bool, true, false, Option, Some, None, Ok, option_map, bytes_eq, insert, slice_get, if◌then◌else◌}
+use Rattle.std.specs.Prelude.{◌≡◌, ◌⊎◌, ℕ, ◌+◌, ◌++◌, List, [], map, Bool, Option, Some, None, Ok, option_map, bytes_eq, insert, slice_get, if◌then◌else◌}
+use Rattle.std.specs.Bool.{OnFalse}
 use Rattle.std.specs.List.{AllZip, list_any}
 use Rattle.ic_laws.specs.BookTrees.{with_sheet_at_end, with_trees}
 use Rattle.ic_laws.specs.Changes.{changed_tree, name_added, name_gone, sheet_named}
@@ -136,12 +137,8 @@ IsUpdatedFormula key (formulas.Tree before) (formulas.Tree after) = AllZip (IsUp
 IsUpdatedFormula key before after = after ≡ before
 
 -- the body of each definition but the one that is updated, which gets another
-abbrev pub AskedOfOthers : Bool → Type 0 → Type 0
-AskedOfOthers true P = Unit {0}
-AskedOfOthers false P = P
-
 abbrev pub IsUpdatedBody : NameKey → NameKey → Definition → Definition → Type 0
-IsUpdatedBody old new before after = AskedOfOthers (same_key (key_of (spelling_of before)) old) (IsUpdatedFormula new before.body after.body)
+IsUpdatedBody old new before after = OnFalse (same_key (key_of (spelling_of before)) old) (IsUpdatedFormula new before.body after.body)
 
 -- each formula of a sheet's pool and each body, word for word; and no cell and no other body has a word that meant a
 -- definition and doesn't mean the same one then
