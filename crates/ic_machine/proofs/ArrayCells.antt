@@ -1,6 +1,6 @@
 -- An array is written: what stands in its block then, and that arrays are whole and the merged cells apart from them.
 use Rattle.std.proofs.Common.{◌≡◌, ◌∙◌, ◌⊎◌, inl, inr, refl, sym, ap, subst, ℕ, ℤ, zero, suc, pos, Bool, true, false, cond, ◌||◌, List, [], Option, Some, None, arith}
-use Rattle.std.proofs.lemmas.Bool.{and_from, both_ways}
+use Rattle.std.proofs.lemmas.Bool.{or_right, and_from, both_ways}
 use Rattle.std.proofs.lemmas.Int.{ints}
 use Rattle.std.specs.FinMap as finite
 use Rattle.std.specs.Option.{option_and_then, option_map, unwrap_or}
@@ -252,16 +252,12 @@ module _ (merges : List Merge) where
       to : (p : Place) (s : Shape) → Has held after p s → Has celled d p s
       to = seen_to as_cell held celled contents_are_cells after d (is_seen_as as_cell after)
 
-      or_true : (x y : Bool) → y ≡ true → (x || y) ≡ true
-      or_true true y e = refl
-      or_true false y e = e
-
       fits : Fits merges c b (place_count b)
       fits = record {
         area = area;
         places = refl;
         free = λ p i. by_side (same_place p a) (λ s. ap (λ t. t || is_free a (shape_at celled c p)) s)
-            (λ s. or_true (same_place p a) (is_free a (shape_at celled c p)) (ap (is_free a) (shape_same as_cell held celled contents_are_cells bare c see p ∙ bare_empty p i s)));
+            (λ s. or_right (same_place p a) (is_free a (shape_at celled c p)) (ap (is_free a) (shape_same as_cell held celled contents_are_cells bare c see p ∙ bare_empty p i s)));
         apart = λ many. apart;
       }
 

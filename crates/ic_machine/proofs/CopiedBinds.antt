@@ -1,5 +1,6 @@
 -- What is bound after a sheet is copied.
 use Rattle.std.proofs.Common.{◌≡◌, ℕ, ◌+◌, List, [], ◌∷◌, ◌++◌, map, false, ◌&&◌, Option, Some, None, Ok, refl, sym, ap, ap₂, ◌∙◌}
+use Rattle.std.proofs.lemmas.Bool.{and_right}
 use Rattle.std.proofs.lemmas.List.{map-append}
 use Rattle.std.proofs.lemmas.List.Folds.{find-append}
 use Rattle.std.specs.Cmp.{nat_eq_equiv}
@@ -37,27 +38,27 @@ use Rattle.ic_machine.specs.Changed.{changed_by}
 use Rattle.ic_machine.specs.Refusal.{IdsUsedUp, InvalidSheet, first_refusal}
 use Rattle.ic_machine.specs.Valid.{IsValidBook}
 use Rattle.ic_machine.specs.subjects.Sheets.{copied_of, copies_of_definitions, copy_id, copy_of_sheet, definitions_moved, duplicate_sheet_step, duplicated, formula_copied, local_in, name_of_copy, named_fields, with_copy, with_formula}
-use Rattle.ic_machine.proofs.CopyKeys.{all_in_map, no_scope, second_false}
+use Rattle.ic_machine.proofs.CopyKeys.{all_in_map, no_scope}
 use Rattle.ic_machine.proofs.CoreLemmas.{core_of-changed, insert-map}
 use Rattle.ic_machine.proofs.CoreValid.{core_valid}
 use Rattle.ic_machine.proofs.DuplicatedStays.{free, parts}
 use Rattle.ic_machine.proofs.InsertedBinds.{accepted, insert_naming}
 use Rattle.ic_machine.proofs.InsertedStays.{none_holds}
+use Rattle.ic_machine.proofs.ValidLemmas.{all_of}
 
--- definitions of a scope alone are found from no other ----
+-- definitions of other scopes are found from no sheet ----
+
+pub unfound : (folded : List ℕ) (scope : Option ℕ) (ms : List NameSpelling) → AllByRecursion (λ (m : NameSpelling). same_scope m.scope scope ≡ false) ms
+    → find (λ (m : NameSpelling). bytes_eq (fold m.name) folded && same_scope m.scope scope) ms ≡ None
+unfound folded scope [] h = refl
+unfound folded scope (m ∷ ms) h =
+    find_later (λ (x : NameSpelling). bytes_eq (fold x.name) folded && same_scope x.scope scope) m ms (and_right (bytes_eq (fold m.name) folded) (same_scope m.scope scope) h.0) ∙ unfound folded scope ms h.1
+
+pub or_none : {A : Type 0} (o : Option A) → option_or o None ≡ o
+or_none None = refl
+or_none (Some x) = refl
 
 module _ (id : ℕ) (ns : List NameSpelling) (all : AllByRecursion (λ (m : NameSpelling). m.scope ≡ Some id) ns) where
-  none_found : (folded : List ℕ) (scope : Option ℕ) → same_scope (Some id) scope ≡ false → (ms : List NameSpelling) → AllByRecursion (λ (m : NameSpelling). m.scope ≡ Some id) ms
-      → find (λ (m : NameSpelling). bytes_eq (fold m.name) folded && same_scope m.scope scope) ms ≡ None
-  none_found folded scope apart [] h = refl
-  none_found folded scope apart (m ∷ ms) h =
-      find_later (λ (x : NameSpelling). bytes_eq (fold x.name) folded && same_scope x.scope scope) m ms (second_false (bytes_eq (fold m.name) folded) (same_scope m.scope scope) (ap (λ o. same_scope o scope) h.0 ∙ apart))
-      ∙ none_found folded scope apart ms h.1
-
-  or_none : {A : Type 0} (o : Option A) → option_or o None ≡ o
-  or_none None = refl
-  or_none (Some x) = refl
-
   module _ (before : Scene) (sheets : List SheetName) (scope : Option ℕ) (apart : same_scope (Some id) scope ≡ false) where
     abbrev with_more : Scene
     with_more = record { sheets = sheets; names = before.names ++ ns }
@@ -65,7 +66,7 @@ module _ (id : ℕ) (ns : List NameSpelling) (all : AllByRecursion (λ (m : Name
     same_at : (folded : List ℕ) (at : Option ℕ) → same_scope (Some id) at ≡ false → definition_at with_more folded at ≡ definition_at before folded at
     same_at folded at other =
         find-append (λ (m : NameSpelling). bytes_eq (fold m.name) folded && same_scope m.scope at) before.names ns
-        ∙ ap (option_or (definition_at before folded at)) (none_found folded at other ns all) ∙ or_none (definition_at before folded at)
+        ∙ ap (option_or (definition_at before folded at)) (unfound folded at ns (all_of (λ (m : NameSpelling). m.scope ≡ Some id) (λ (m : NameSpelling). same_scope m.scope at ≡ false) (λ m e. ap (λ o. same_scope o at) e ∙ other) ns all)) ∙ or_none (definition_at before folded at)
 
     same_found : (folded : List ℕ) → key_found with_more scope folded ≡ key_found before scope folded
     same_found folded = ap₂ (λ (local global : Option NameSpelling). option_map key_of (option_or local global)) (same_at folded scope apart) (same_at folded None refl)

@@ -1,6 +1,6 @@
 -- The definitions that are copied with a sheet have keys of their own: no two of them one, and none that of another.
-use Rattle.std.proofs.Common.{◌≡◌, ℕ, List, [], ◌∷◌, ◌++◌, map, flat_map, Bool, true, false, not, cond, ◌&&◌, ◌||◌, Option, Some, None, refl, sym, ap, subst, ◌∙◌}
-use Rattle.std.proofs.lemmas.Bool.{and_parts}
+use Rattle.std.proofs.Common.{◌≡◌, ℕ, List, [], ◌∷◌, ◌++◌, map, flat_map, Bool, true, false, not, cond, ◌&&◌, Option, Some, None, refl, sym, ap, subst, ◌∙◌}
+use Rattle.std.proofs.lemmas.Bool.{and_right, or_parts, and_parts}
 use Rattle.std.proofs.lemmas.List.Folds.{list_any-append}
 use Rattle.std.proofs.lemmas.Map.Keys.{IsDistinct-cons, IsDistinct-head, IsDistinct-tail}
 use Rattle.std.specs.Cmp.{nat_eq_equiv}
@@ -57,14 +57,6 @@ distinct_joined same (x ∷ xs) ys d e h =
 first_false : (x y z : Bool) → (x && y) ≡ false → y ≡ true → (x && z) ≡ false
 first_false false y z e f = refl
 first_false true y z e f = absurd (let no : true ≡ false = sym f ∙ e in cc)
-
-pub second_false : (x y : Bool) → y ≡ false → (x && y) ≡ false
-second_false true y e = e
-second_false false y e = refl
-
-neither : (p q : Bool) → (p || q) ≡ false → (p ≡ false) × (q ≡ false)
-neither true q e = cc
-neither false q e = (refl, e)
 
 module _ (id copy : ℕ) where
   -- the key that a definition has as one of the copy
@@ -131,12 +123,12 @@ module _ (id copy : ℕ) where
   pub no_scope : (ds : List Definition) → list_any (nat_eq copy) (flat_map (λ (d : Definition). option_to_list d.scope) ds) ≡ false → AllByRecursion (λ (d : Definition). same_scope d.scope (Some copy) ≡ false) ds
   no_scope [] e = tt
   no_scope (d ∷ ds) e =
-      let parts = neither (list_any (nat_eq copy) (option_to_list d.scope)) _ (sym (list_any-append (nat_eq copy) (option_to_list d.scope) (flat_map (λ (x : Definition). option_to_list x.scope) ds)) ∙ e) in
+      let parts = or_parts (list_any (nat_eq copy) (option_to_list d.scope)) _ (sym (list_any-append (nat_eq copy) (option_to_list d.scope) (flat_map (λ (x : Definition). option_to_list x.scope) ds)) ∙ e) in
       (one d.scope parts.0, no_scope ds parts.1)
     where
       one : (o : Option ℕ) → list_any (nat_eq copy) (option_to_list o) ≡ false → same_scope o (Some copy) ≡ false
       one None f = refl
-      one (Some k) f = nat_eq_equiv.symm k copy ∙ (neither (nat_eq copy k) false f).0
+      one (Some k) f = nat_eq_equiv.symm k copy ∙ (or_parts (nat_eq copy k) false f).0
 
   pub keys_with_copies : (ds : List Definition) → IsDistinct same_key (map key ds) → list_any (nat_eq copy) (flat_map (λ (d : Definition). option_to_list d.scope) ds) ≡ false
       → IsDistinct same_key (map key ds ++ map copy_key (copied_of id ds))
@@ -145,5 +137,5 @@ module _ (id copy : ℕ) where
       (all_in_map copy_key (λ k. AllByRecursion (λ l. same_key l k ≡ false) (map key ds)) (copied_of id ds)
       (all_each (λ (d : Definition). AllByRecursion (λ l. same_key l (copy_key d) ≡ false) (map key ds))
       (λ d. all_in_map key (λ l. same_key l (copy_key d) ≡ false) ds
-      (all_of (λ (x : Definition). same_scope x.scope (Some copy) ≡ false) (λ (x : Definition). same_key (key x) (copy_key d) ≡ false) (λ x f. second_false (bytes_eq (fold x.name) (fold d.name)) (same_scope x.scope (Some copy)) f) ds (no_scope ds none)))
+      (all_of (λ (x : Definition). same_scope x.scope (Some copy) ≡ false) (λ (x : Definition). same_key (key x) (copy_key d) ≡ false) (λ x f. and_right (bytes_eq (fold x.name) (fold d.name)) (same_scope x.scope (Some copy)) f) ds (no_scope ds none)))
       (copied_of id ds)))

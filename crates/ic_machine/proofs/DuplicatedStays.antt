@@ -1,6 +1,6 @@
 -- A book stays valid when a sheet is copied.
 use Rattle.std.proofs.Common.{◌≡◌, ℕ, ℤ, zero, suc, pos, ◌+◌, ◌<◌, List, [], ◌∷◌, ◌++◌, map, flat_map, length, Bool, true, false, cond, ◌||◌, Option, Some, None, refl, sym, ap, ap₂, subst, ◌∙◌, arith, inl, inr}
-use Rattle.std.proofs.lemmas.Bool.{cases_Bool}
+use Rattle.std.proofs.lemmas.Bool.{or_parts, cases_Bool}
 use Rattle.std.proofs.lemmas.List.{length-map, map-append}
 use Rattle.std.proofs.lemmas.List.Folds.{list_any-append}
 use Rattle.std.specs.Cmp.{nat_eq_equiv}
@@ -111,12 +111,8 @@ module _ (b : Book) (valid : IsValidBook b) (index : ℕ) (source : Sheet) (at :
   unused : list_any (nat_eq id) (used_ids (core_of b)) ≡ false
   unused = above_greatest id (used_ids (core_of b)) (omega (arith))
 
-  neither : (p q : Bool) → (p || q) ≡ false → (p ≡ false) × (q ≡ false)
-  neither true q e = cc
-  neither false q e = (refl, e)
-
   pub parts : (list_any (nat_eq id) (ids_of (core_of b)) ≡ false) × (list_any (nat_eq id) (flat_map (λ (d : Definition). option_to_list d.scope) b.definitions) ≡ false)
-  parts = neither _ _ (sym (list_any-append (nat_eq id) (ids_of (core_of b)) (flat_map (λ (d : Definition). option_to_list d.scope) b.definitions)) ∙ unused)
+  parts = or_parts _ _ (sym (list_any-append (nat_eq id) (ids_of (core_of b)) (flat_map (λ (d : Definition). option_to_list d.scope) b.definitions)) ∙ unused)
 
   -- what formulas see of the copied definitions is what they see of these with their old bodies
   spelled_copies : map spelling_of copies ≡ map spelling_of (definitions_moved b index source)
@@ -187,7 +183,7 @@ module _ (b : Book) (valid : IsValidBook b) (index : ℕ) (source : Sheet) (at :
       (ap (list_any test) seen_later
       ∙ any_inserted test (map seen b.sheets) (index + 1) (seen copy) (sym (ap (list_any test) before) ∙ some_found test (scene_in b).sheets (some_unmapped (λ (s : SheetName). s.name) (find test (scene_in b).sheets) h))))
 
-  has_key : (k : NameKey) → IsSome (name_of_key (scene_in b) k) → IsSome (name_of_key later k)
+  pub has_key : (k : NameKey) → IsSome (name_of_key (scene_in b) k) → IsSome (name_of_key later k)
   has_key k h =
       let test : NameSpelling → Bool = λ m. same_key (key_of m) k in
       some_mapped (λ (m : NameSpelling). m.name) (find test later.names)

@@ -1,6 +1,6 @@
 -- A book stays valid when a sheet is put in among the others, over which its formulas are kept.
 use Rattle.std.proofs.Common.{◌≡◌, ℕ, zero, suc, ◌<◌, List, [], ◌∷◌, ◌++◌, map, length, flat_map, Bool, true, false, arith, Option, Some, None, refl, sym, ap, subst, ◌∙◌, inl, inr}
-use Rattle.std.proofs.lemmas.Bool.{cases_Bool, not-false}
+use Rattle.std.proofs.lemmas.Bool.{cases_Bool, not-false, or_parts}
 use Rattle.std.proofs.lemmas.Bool.Decides.{nat_tests}
 use Rattle.std.proofs.lemmas.List.{length-map}
 use Rattle.std.proofs.lemmas.List.Sorted.{IsPermutation-insert}
@@ -8,7 +8,7 @@ use Rattle.std.proofs.lemmas.Map.Keys.{IsDistinct-IsPermutation, IsDistinct-cons
 use Rattle.std.specs.Cmp.{IsEquivalence, nat_eq_equiv}
 use Rattle.std.specs.List.{AllByRecursion, IsDistinct, insert, list_any}
 use Rattle.std.specs.Option.{option_to_list}
-use Rattle.std.specs.Prelude.{◌||◌, is_none, nat_eq, nat_lt, not, unwrap_or}
+use Rattle.std.specs.Prelude.{is_none, nat_eq, nat_lt, not, unwrap_or}
 use Rattle.ic_laws.proofs.CoreLemmas.{above_greatest, agrees_equiv, fresh_is_next}
 use Rattle.ic_laws.proofs.core.KeptBook.{valid_definitions}
 use Rattle.ic_laws.proofs.core.Lists.{none_passes}
@@ -145,17 +145,13 @@ module _ (b : Book) (valid : IsValidBook b) where
         not_among id (ids_of (core_of b)) (flat_map (λ (d : Definition). option_to_list d.scope) b.definitions) (above_greatest id (used_ids (core_of b)) (omega (arith, is))),
       )
 
-  neither : (p q : Bool) → (p || q) ≡ false → (p ≡ false) × (q ≡ false)
-  neither true q e = cc
-  neither false q e = (refl, e)
-
   given_fits : (id : ℕ) → not (nat_lt last_id id) ≡ true → nat_eq id 0 ≡ false → IsId id
   given_fits id small some = grind (arith, nat_tests)
 
   chosen_fits : (id : Option ℕ) → is_given_id id ≡ true → is_live (core_of b) id ≡ false → is_none (chosen_id (core_of b) id) ≡ false
       → IsId (unwrap_or (chosen_id (core_of b) id) 0) × (list_any (nat_eq (unwrap_or (chosen_id (core_of b) id) 0)) (ids_of (core_of b)) ≡ false)
   chosen_fits None small live some = fresh_fits (fresh_id (core_of b)) refl some
-  chosen_fits (Some id) small live some = let apart = neither (nat_eq id 0) (list_any (nat_eq id) (ids_of (core_of b))) live in (given_fits id small apart.0, apart.1)
+  chosen_fits (Some id) small live some = let apart = or_parts (nat_eq id 0) (list_any (nat_eq id) (ids_of (core_of b))) live in (given_fits id small apart.0, apart.1)
 
   pub insert_stays : (name : List ℕ) (index : ℕ) (id : Option ℕ) → is_given_id id ≡ true → StaysValid (insert_sheet_step name index id b)
   unfolding insert_sheet_step

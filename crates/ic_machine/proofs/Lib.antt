@@ -5,6 +5,7 @@ pub mod ArraysStay
 pub mod BindsLemmas
 pub mod ChangedStays
 pub mod CopiedBinds
+pub mod CopiedWords
 pub mod CopyKeys
 pub mod CopyNames
 pub mod CoreLemmas
@@ -28,9 +29,11 @@ pub mod StandingLemmas
 pub mod SteppedLemmas
 pub mod StylesStay
 pub mod SubjectsStay
+pub mod UpdatedBinds
 pub mod UpdatedStays
 pub mod ValidLemmas
 pub mod WholeLemmas
+pub mod WordLemmas
 pub mod WritingStays
 pub mod WritingSteps
 mod examples

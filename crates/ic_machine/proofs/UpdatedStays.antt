@@ -60,7 +60,7 @@ none_from p k (x ∷ xs) e = elim (cases_Bool (p x)) [
   | inr f ↦ rw f (none_from p (k + 1) xs (rw f at e))
 ]
 
-none_passes_at : {X : Type 0} (p : X → Bool) (xs : List X) → position p xs ≡ None → list_any p xs ≡ false
+pub none_passes_at : {X : Type 0} (p : X → Bool) (xs : List X) → position p xs ≡ None → list_any p xs ≡ false
 none_passes_at p xs e = none_from p 0 xs (sym (position_from-zero p xs) ∙ e)
 
 none_of_less : {X : Type 0} (p : X → Bool) (xs : List X) (i : ℕ) → list_any p xs ≡ false → list_any p (remove xs i) ≡ false
@@ -90,7 +90,7 @@ unmet true true e f = cc
 unmet true false e f = cc
 unmet false same e f = refl
 
-some_of : {A : Type 0} (o : Option A) → is_none o ≡ false → (x : A) × (o ≡ Some x)
+pub some_of : {A : Type 0} (o : Option A) → is_none o ≡ false → (x : A) × (o ≡ Some x)
 some_of None e = cc
 some_of (Some x) e = (x, refl)
 
@@ -105,10 +105,10 @@ module _ (b : Book) (valid : IsValidBook b) where
       of_sheet (Some s) e = (all_at (IsValidSheet (notations_in b) (scene_in b)) i (core_of b).sheets s (core_valid b valid).sheets e).id
 
   module _ (u : Update) (index : ℕ) (found : updated_index b u ≡ Some index) (has_equals : Bool) (body : Formula) where
-    abbrev new : Definition
+    abbrev pub new : Definition
     new = record { name = u.new_name; scope = new_scope_id b u; has_equals = has_equals; body = body }
 
-    abbrev later : Scene
+    abbrev pub later : Scene
     later = scene_in (with_update b u has_equals body (Some index) b)
 
     abbrev bodies : List Definition

@@ -1,22 +1,33 @@
--- What the formulas of a valid book mention after a command that adds, puts in or renames a sheet, or adds or deletes a
--- definition: what dangled and is bound then means that sheet or that definition, what meant a deleted definition means the
--- one for all sheets that is in sight then, or dangles, and each other mention is what it was. Formulas are those of the
--- core: of each cell, and the bodies.
-use Rattle.std.specs.Prelude.{◌≡◌, ℕ, ◌+◌, ◌++◌, List, [], Option, Some, Ok, insert, slice_get}
+-- What the formulas of a valid book mention after a command that adds, puts in, copies or renames a sheet, or adds, deletes
+-- or updates a definition: what dangled and is bound then means that sheet or that definition, what meant a deleted
+-- definition means the one for all sheets that is in sight then, or dangles, and each other mention is what it was. Formulas
+-- are those of the core: of each cell, and the bodies.
+use Rattle.std.specs.Prelude.{◌≡◌, ◌⊎◌, ℕ, ◌+◌, ◌++◌, List, [], map, Bool, Option, Some, None, Ok, option_map, bytes_eq, insert, slice_get, if◌then◌else◌}
+use Rattle.std.specs.Bool.{OnFalse}
+use Rattle.std.specs.List.{AllZip, list_any}
 use Rattle.ic_laws.specs.BookTrees.{with_sheet_at_end, with_trees}
 use Rattle.ic_laws.specs.Changes.{changed_tree, name_added, name_gone, sheet_named}
 use Rattle.ic_laws.specs.CoreBook as core_book
 use Rattle.ic_laws.specs.CoreBook.{CoreBook, Definition, greatest_id, scene_of, spelling_of}
 use Rattle.ic_laws.specs.CoreStep.{index_of_definition, index_of_name, new_definition, scope_or_none, with_definition, with_sheet_name, without_definition}
 use Rattle.ic_laws.specs.FormulaReading.{Body, body_of}
+use Rattle.ic_laws.specs.Name.{fold}
+use Rattle.ic_laws.specs.Scene.{key_of, same_key}
+use Rattle.ic_laws.specs.declared.tree.Formula.{Formula}
+use Rattle.ic_laws.specs.declared.tree.Formula.TheVariants as formulas
+use Rattle.ic_laws.specs.declared.tree.NameKey.{NameKey}
+use Rattle.ic_laws.specs.declared.tree.NameMention.{NameMention}
+use Rattle.ic_laws.specs.declared.tree.NameMention.TheVariants as names
 use Rattle.ic_machine.specs.Book.{Book, Sheet, core_of, core_sheet, notations_in}
+use Rattle.ic_machine.specs.Capture.{captured_sites, words_in}
 use Rattle.ic_machine.specs.Command.{OnDefinitions, OnSheets}
 use Rattle.ic_machine.specs.Reply.{Field}
 use Rattle.ic_machine.specs.Step.{step}
 use Rattle.ic_machine.specs.Valid.{IsValidBook}
 use Rattle.ic_machine.specs.subjects.Definitions as definitions
+use Rattle.ic_machine.specs.subjects.Definitions.{Update, keys_of_update, new_key, old_key}
 use Rattle.ic_machine.specs.subjects.Sheets as sheets
-use Rattle.ic_machine.specs.subjects.Sheets.{chosen_id, copies_of_definitions, copy_id, copy_of_sheet, name_of_copy, new_sheet_name}
+use Rattle.ic_machine.specs.subjects.Sheets.{chosen_id, copied_of, copies_of_definitions, copy_id, copy_of_sheet, name_of_copy, new_sheet_name}
 
 -- a new sheet is meant by what dangled by a name that agrees with its own
 abbrev pub AddedIsMeant : Type 0
@@ -55,6 +66,31 @@ CopiedIsMeant =
     ≡ with_copied index (core_sheet (copy_of_sheet book index source)) (copies_of_definitions book index source)
     (with_trees (changed_tree (sheet_named (copy_id book index source) (name_of_copy book source.name))) (core_of book))
 
+-- Word for word, a copied formula means what its source means, but for what a definition that is copied with the sheet could
+-- mean: that means the copied one.
+abbrev pub is_copied : List Definition → List ℕ → Bool
+is_copied copied folded = list_any (λ (d : Definition). bytes_eq (fold d.name) folded) copied
+
+abbrev pub key_in_copy : ℕ → List ℕ → NameKey
+key_in_copy copy folded = record { name = folded; scope = Some copy }
+
+abbrev pub copied_word : ℕ → List Definition → NameMention → NameMention
+copied_word copy copied (names.Var word) = names.Var word
+copied_word copy copied (names.Name key) = if is_copied copied key.name then names.Name (key_in_copy copy key.name) else names.Name key
+copied_word copy copied (names.Dangling word) = if is_copied copied (fold word) then names.Name (key_in_copy copy (fold word)) else names.Dangling word
+
+abbrev pub HasCopiedWords : ℕ → List Definition → Formula → Formula → Type 0
+HasCopiedWords copy copied (formulas.Tree before) (formulas.Tree after) = words_in after ≡ map (option_map (copied_word copy copied)) (words_in before)
+HasCopiedWords copy copied before after = after ≡ before
+
+-- the formulas of the copy, and the bodies of the copied definitions
+abbrev pub CopiedMeansSame : Type 0
+CopiedMeansSame =
+    (book after : Book) (index : ℕ) (source : Sheet) (fields : List Field) → IsValidBook book → slice_get book.sheets index ≡ Some source
+    → step book (OnSheets (sheets.DuplicateSheet index)) ≡ Ok (after, fields)
+    → AllZip (HasCopiedWords (copy_id book index source) (copied_of source.id book.definitions)) source.pool (copy_of_sheet book index source).pool
+    × AllZip (λ (d e : Definition). HasCopiedWords (copy_id book index source) (copied_of source.id book.definitions) d.body e.body) (copied_of source.id book.definitions) (copies_of_definitions book index source)
+
 -- so is a renamed one, by its new name
 abbrev pub RenamedIsMeant : Type 0
 RenamedIsMeant =
@@ -87,3 +123,32 @@ DeletedIsNotMeant =
     → core_of after
     ≡ without_definition (Some index)
     (with_trees (changed_tree (name_gone (scene_of (without_definition (Some index) (core_of book))) (spelling_of definition))) (core_of book))
+
+-- What becomes of a word when a definition is updated, which has this key then: what dangled dangles by the same word, or
+-- means that definition; a variable is the same, and a function that is called; of what meant a definition see below.
+abbrev pub IsUpdatedWord : NameKey → Option NameMention → Option NameMention → Type 0
+IsUpdatedWord key None after = after ≡ None
+IsUpdatedWord key (Some (names.Var word)) after = after ≡ Some (names.Var word)
+IsUpdatedWord key (Some (names.Name found)) after = Unit {0}
+IsUpdatedWord key (Some (names.Dangling word)) after = (after ≡ Some (names.Dangling word)) ⊎ (after ≡ Some (names.Name key))
+
+abbrev pub IsUpdatedFormula : NameKey → Formula → Formula → Type 0
+IsUpdatedFormula key (formulas.Tree before) (formulas.Tree after) = AllZip (IsUpdatedWord key) (words_in before) (words_in after)
+IsUpdatedFormula key before after = after ≡ before
+
+-- the body of each definition but the one that is updated, which gets another
+abbrev pub IsUpdatedBody : NameKey → NameKey → Definition → Definition → Type 0
+IsUpdatedBody old new before after = OnFalse (same_key (key_of (spelling_of before)) old) (IsUpdatedFormula new before.body after.body)
+
+-- each formula of a sheet's pool and each body, word for word; and no cell and no other body has a word that meant a
+-- definition and doesn't mean the same one then
+pub record UpdatesWords (book after : Book) (update : Update) : Type 0 where
+  pub pools : AllZip (λ (s t : Sheet). AllZip (IsUpdatedFormula (new_key book update)) s.pool t.pool) book.sheets after.sheets
+  pub bodies : AllZip (IsUpdatedBody (old_key book update) (new_key book update)) book.definitions after.definitions
+  pub uncaptured : captured_sites (keys_of_update book update) (old_key book update) book after ≡ []
+
+-- an updated definition is meant by what dangled and is bound then, and by what meant it
+abbrev pub UpdatedIsMeant : Type 0
+UpdatedIsMeant =
+    (book after : Book) (update : Update) (fields : List Field) → IsValidBook book → step book (OnDefinitions (definitions.UpdateDefinedName update)) ≡ Ok (after, fields)
+    → UpdatesWords book after update

@@ -1,9 +1,10 @@
 ghost use Rattle.std.specs.Prelude.{List, ℕ};
 ghost use Rattle.ic_grid.specs.Shape.{celled};
 ghost use Rattle.ic_machine.specs.Alike.{HoldsAlike};
-ghost use Rattle.ic_machine.specs.Binds.{AddedIsMeant, CopiedIsMeant, DefinedIsMeant, InsertedIsMeant};
+ghost use Rattle.ic_machine.specs.Binds.{AddedIsMeant, CopiedIsMeant, CopiedMeansSame};
+ghost use Rattle.ic_machine.specs.Binds.{DefinedIsMeant, InsertedIsMeant};
 ghost use Rattle.ic_machine.specs.Binds.{DeletedIsNotMeant, NewIsMeant};
-ghost use Rattle.ic_machine.specs.Binds.{RenamedByNameIsMeant, RenamedIsMeant};
+ghost use Rattle.ic_machine.specs.Binds.{RenamedByNameIsMeant, RenamedIsMeant, UpdatedIsMeant};
 ghost use Rattle.ic_machine.specs.Book.{Book};
 ghost use Rattle.ic_machine.specs.Command.{Command};
 ghost use Rattle.ic_machine.specs.Content.{content_of, held};
@@ -111,14 +112,18 @@ pub fn law_core_stays_valid()
 
 /// In a valid book, after a sheet was added, put in, copied or renamed or a definition was added, what dangled and is bound then
 /// means just that sheet or that definition. After one was deleted, what meant it means the one of an agreeing name for all
-/// sheets, or dangles. Each other mention is what it was. The formulas of a copy are the ones that are written for it.
+/// sheets, or dangles. Each other mention is what it was. Word for word, the formulas of a copy mean what their sources mean, but
+/// for what a definition that is copied with the sheet could mean: that means the copied one. After a definition was updated,
+/// what dangled and is bound then means it, and what meant a definition, in a cell or in another body, means the same one.
 pub fn law_bound_is_named()
     ensures added { AddedIsMeant }
     ensures new { NewIsMeant }
     ensures inserted { InsertedIsMeant }
     ensures copied { CopiedIsMeant }
+    ensures copy { CopiedMeansSame }
     ensures renamed { RenamedIsMeant }
     ensures by_name { RenamedByNameIsMeant }
     ensures defined { DefinedIsMeant }
     ensures deleted { DeletedIsNotMeant }
+    ensures updated { UpdatedIsMeant }
 {}

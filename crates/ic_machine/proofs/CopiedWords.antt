@@ -1,0 +1,271 @@
+-- What the words of copied formulas mean.
+use Rattle.std.proofs.Common.{◌≡◌, ◌⊎◌, ℕ, pos, ◌+◌, IsSome, is_some, List, [], ◌∷◌, ◌++◌, map, Bool, true, false, cond, ◌&&◌, ◌||◌, Option, Some, None, Ok, refl, sym, ap, ap₂, subst, ◌∙◌, inl, inr, if◌then◌else◌}
+use Rattle.std.proofs.lemmas.Bool.{and_from, and_parts, and_right, cases_Bool, or_right}
+use Rattle.std.proofs.lemmas.List.{map-append}
+use Rattle.std.proofs.lemmas.List.Folds.{find-append, list_any-append}
+use Rattle.std.proofs.lemmas.Slice.Eq.{bytes_eq-Decides}
+use Rattle.std.specs.List.{AllByRecursion, AllZip, find, list_any, slice_get}
+use Rattle.std.specs.Option.{option_or}
+use Rattle.std.specs.Prelude.{bytes_eq, is_none, option_map, unwrap_or}
+use Rattle.ic_laws.proofs.binding.SceneLemmas.{find_here, find_later, found_has_definition, folds_to_key, same_scope_self}
+use Rattle.ic_laws.proofs.keeping.NameChanges.{same_scope_from}
+use Rattle.ic_laws.proofs.kept.Kept.{english_by_fold}
+use Rattle.ic_laws.specs.Binding.{Binders, RespectsFolding, bound, bound_word, is_bound_by, name_or_dangling, spelled, spelled_with, spelled_word}
+use Rattle.ic_laws.specs.CoreBook.{Definition, fresh_id, spelling_of}
+use Rattle.ic_laws.specs.Name.{fold}
+use Rattle.ic_laws.specs.Notations.{Notations, english_function}
+use Rattle.ic_laws.specs.Scene.{definition_at, found_name, key_found, key_of, name_of_key, name_spelling, same_scope}
+use Rattle.ic_laws.specs.Tree.{Bound}
+use Rattle.ic_laws.specs.ValidCore.{IsKeptBody, IsKeptFormula, IsPooled}
+use Rattle.ic_laws.specs.declared.scene.NameSpelling.{NameSpelling}
+use Rattle.ic_laws.specs.declared.scene.Scene.{Scene}
+use Rattle.ic_laws.specs.declared.tree.Formula.{Formula}
+use Rattle.ic_laws.specs.declared.tree.Formula.TheVariants as formulas
+use Rattle.ic_laws.specs.declared.tree.NameKey.{NameKey}
+use Rattle.ic_laws.specs.declared.tree.NameMention.{NameMention}
+use Rattle.ic_laws.specs.declared.tree.NameMention.TheVariants as names
+use Rattle.ic_tree.proofs.NotationLaws.{notations_are}
+use Rattle.ic_machine.specs.Binds.{CopiedMeansSame, HasCopiedWords, copied_word, is_copied, key_in_copy}
+use Rattle.ic_machine.specs.Book.{Book, Sheet, core_of, found_or, notations_in, scene_in}
+use Rattle.ic_machine.specs.Capture.{words_in}
+use Rattle.ic_machine.specs.Refusal.{IdsUsedUp, InvalidSheet, first_refusal}
+use Rattle.ic_machine.specs.Valid.{IsKeptPool, IsValidBook}
+use Rattle.ic_machine.specs.subjects.Sheets.{copied_of, copies_of_definitions, copy_id, copy_of_sheet, copy_spelling, definitions_moved, duplicate_sheet_step, duplicated, formula_copied, local_in, local_to, mentions_sheet, named_fields, name_of_copy, scene_with_copy, shared_about, with_copy, with_formula}
+use Rattle.ic_machine.specs.Changed.{changed_by}
+use Rattle.ic_machine.proofs.CopiedBinds.{or_none, unfound}
+use Rattle.ic_machine.proofs.CopyKeys.{all_appended, all_filtered, all_in_map, no_scope}
+use Rattle.ic_machine.proofs.CoreValid.{map_twice}
+use Rattle.ic_machine.proofs.DuplicatedStays.{has_key, parts}
+use Rattle.ic_machine.proofs.InsertedBinds.{accepted}
+use Rattle.ic_machine.proofs.InsertedStays.{none_holds}
+use Rattle.ic_machine.proofs.UpdatedBinds.{zip_mapped}
+use Rattle.ic_machine.proofs.ValidLemmas.{all_at}
+use Rattle.ic_machine.proofs.WordLemmas.{words_become}
+
+-- words that are each what a function makes of another are the others, mapped
+mapped_zip : {A : Type 0} (g : A → A) (xs ys : List A) → AllZip (λ x y. y ≡ g x) xs ys → ys ≡ map g xs
+mapped_zip g [] [] h = refl
+mapped_zip g [] (y ∷ ys) h = absurd h
+mapped_zip g (x ∷ xs) [] h = absurd h
+mapped_zip g (x ∷ xs) (y ∷ ys) h = ap₂ (λ a bs. a ∷ bs) h.0 (mapped_zip g xs ys h.1)
+
+abbrev is_at : List ℕ → Option ℕ → NameSpelling → Bool
+is_at folded scope m = bytes_eq (fold m.name) folded && same_scope m.scope scope
+
+-- definitions that are local to the copy are found from it by their names
+local_found : (copy : ℕ) (folded : List ℕ) (global : Option NameSpelling) (ds : List Definition)
+    → option_map key_of (option_or (find (is_at folded (Some copy)) (map spelling_of (map (local_in copy) ds))) global) ≡ (if is_copied ds folded then Some (key_in_copy copy folded) else option_map key_of global)
+local_found copy folded global [] = refl
+local_found copy folded global (d ∷ ds) =
+    let m : NameSpelling = record { name = d.name; scope = Some copy } in
+    elim (cases_Bool (bytes_eq (fold d.name) folded)) [
+      | inl t ↦
+          ap (λ (o : Option NameSpelling). option_map key_of (option_or o global)) (find_here (is_at folded (Some copy)) m (map spelling_of (map (local_in copy) ds)) (and_from (bytes_eq (fold d.name) folded) (same_scope (Some copy) (Some copy)) t (same_scope_self (Some copy))))
+          ∙ ap (λ (name : List ℕ). Some (key_in_copy copy name)) ((bytes_eq-Decides (fold d.name) folded).0 t)
+          ∙ sym (ap (λ (c : Bool). if c || is_copied ds folded then Some (key_in_copy copy folded) else option_map key_of global) t)
+      | inr f ↦
+          ap (λ (o : Option NameSpelling). option_map key_of (option_or o global)) (find_later (is_at folded (Some copy)) m (map spelling_of (map (local_in copy) ds)) (ap (λ (c : Bool). c && same_scope (Some copy) (Some copy)) f))
+          ∙ local_found copy folded global ds
+          ∙ sym (ap (λ (c : Bool). if c || is_copied ds folded then Some (key_in_copy copy folded) else option_map key_of global) f)
+    ]
+
+-- one that is found from a sheet as local to it is one of those that are local to it
+local_has : (id : ℕ) (folded : List ℕ) (x : NameSpelling) (ds : List Definition) → find (is_at folded (Some id)) (map spelling_of ds) ≡ Some x → list_any (λ (d : Definition). bytes_eq (fold d.name) folded) (local_to id ds) ≡ true
+local_has id folded x [] e = cc
+local_has id folded x (d ∷ ds) e = by_test (bytes_eq (fold d.name) folded) (same_scope d.scope (Some id)) refl refl (local_has id folded x ds)
+  where
+    test : Definition → Bool
+    test y = bytes_eq (fold y.name) folded
+
+    later : is_at folded (Some id) (spelling_of d) ≡ false → find (is_at folded (Some id)) (map spelling_of ds) ≡ Some x
+    later f = sym (find_later (is_at folded (Some id)) (spelling_of d) (map spelling_of ds) f) ∙ e
+
+    by_test : (t s : Bool) → bytes_eq (fold d.name) folded ≡ t → same_scope d.scope (Some id) ≡ s
+        → (find (is_at folded (Some id)) (map spelling_of ds) ≡ Some x → list_any test (local_to id ds) ≡ true) → list_any test (cond s (d ∷ local_to id ds) (local_to id ds)) ≡ true
+    by_test t false p q rest = rest (later (and_right (bytes_eq (fold d.name) folded) (same_scope d.scope (Some id)) q))
+    by_test true true p q rest = ap (λ (c : Bool). c || list_any test (local_to id ds)) p
+    by_test false true p q rest = or_right (bytes_eq (fold d.name) folded) (list_any test (local_to id ds)) (rest (later (ap (λ (a : Bool). a && same_scope d.scope (Some id)) p)))
+
+module _ (b : Book) (valid : IsValidBook b) (index : ℕ) (source : Sheet) (at : slice_get b.sheets index ≡ Some source) (room : is_none (fresh_id (core_of b)) ≡ false) where
+  abbrev n : Notations
+  n = notations_in b
+
+  abbrev id : ℕ
+  id = copy_id b index source
+
+  abbrev copied : List Definition
+  copied = copied_of source.id b.definitions
+
+  abbrev before : Scene
+  before = scene_in b
+
+  abbrev later : Scene
+  later = scene_with_copy b index source
+
+  -- the scope of the sheet, or none
+  abbrev IsSource : Option ℕ → Type 0
+  IsSource scope = (scope ≡ None) ⊎ (scope ≡ Some source.id)
+
+  names_are : later.names ≡ before.names ++ map spelling_of (definitions_moved b index source)
+  names_are = map-append spelling_of b.definitions (definitions_moved b index source)
+
+  -- what a name finds from the copy
+  copy_finds : (folded : List ℕ) → key_found later (Some id) folded ≡ (if is_copied copied folded then Some (key_in_copy id folded) else option_map key_of (definition_at before folded None))
+  copy_finds folded =
+      ap₂ (λ (local global : Option NameSpelling). option_map key_of (option_or local global)) local global ∙ local_found id folded (definition_at before folded None) copied
+    where
+      moved : List NameSpelling
+      moved = map spelling_of (definitions_moved b index source)
+
+      unseen : AllByRecursion (λ (m : NameSpelling). same_scope m.scope (Some id) ≡ false) before.names
+      unseen = all_in_map spelling_of (λ (m : NameSpelling). same_scope m.scope (Some id) ≡ false) b.definitions (no_scope source.id id b.definitions (parts b valid index source at room).1)
+
+      of_copy : AllByRecursion (λ (m : NameSpelling). same_scope m.scope None ≡ false) moved
+      of_copy =
+          all_in_map spelling_of (λ (m : NameSpelling). same_scope m.scope None ≡ false) (definitions_moved b index source)
+          (all_in_map (local_in id) (λ (d : Definition). same_scope d.scope None ≡ false) copied (each copied))
+        where
+          each : (ds : List Definition) → AllByRecursion (λ (d : Definition). same_scope (local_in id d).scope None ≡ false) ds
+          each [] = tt
+          each (d ∷ ds) = (refl, each ds)
+
+      local : definition_at later folded (Some id) ≡ find (is_at folded (Some id)) moved
+      local =
+          ap (find (is_at folded (Some id))) names_are ∙ find-append (is_at folded (Some id)) before.names moved
+          ∙ ap (λ (o : Option NameSpelling). option_or o (find (is_at folded (Some id)) moved)) (unfound folded (Some id) before.names unseen)
+
+      global : definition_at later folded None ≡ definition_at before folded None
+      global =
+          ap (find (is_at folded None)) names_are ∙ find-append (is_at folded None) before.names moved ∙ ap (option_or (definition_at before folded None)) (unfound folded None moved of_copy)
+          ∙ or_none (definition_at before folded None)
+
+  local_copied : (folded : List ℕ) (x : NameSpelling) → definition_at before folded (Some source.id) ≡ Some x → is_copied copied folded ≡ true
+  local_copied folded x e =
+      list_any-append (λ (d : Definition). bytes_eq (fold d.name) folded) (local_to source.id b.definitions) (shared_about source.id b.definitions)
+      ∙ ap (λ (c : Bool). c || list_any (λ (d : Definition). bytes_eq (fold d.name) folded) (shared_about source.id b.definitions)) (local_has source.id folded x b.definitions e)
+
+  -- what was found and is not of a copied definition is for all sheets
+  for_all : (scope : Option ℕ) → IsSource scope → (k : NameKey) (folded : List ℕ) → key_found before scope folded ≡ Some k → is_copied copied folded ≡ false → option_map key_of (definition_at before folded None) ≡ Some k
+  for_all scope is k folded e none = go (definition_at before folded scope) refl e
+    where
+      go : (local : Option NameSpelling) → definition_at before folded scope ≡ local → option_map key_of (option_or local (definition_at before folded None)) ≡ Some k → option_map key_of (definition_at before folded None) ≡ Some k
+      go None f g = g
+      go (Some x) f g = elim is [
+        | inl s ↦ ap (λ (o : Option ℕ). option_map key_of (definition_at before folded o)) (sym s) ∙ ap (option_map key_of) f ∙ g
+        | inr s ↦
+            absurd (let no : true ≡ false = sym (local_copied folded x (ap (definition_at before folded) (sym s) ∙ f)) ∙ none in cc)
+      ]
+
+  module _ (scope : Option ℕ) (is : IsSource scope) where
+    abbrev key_text : NameKey → List ℕ
+    key_text = name_spelling later
+
+    abbrev mention : Bool → List ℕ → Option NameKey → NameMention
+    mention c word found = if c then names.Var word else name_or_dangling word found
+
+    spelled_same : (word : List ℕ) (k : NameKey) → found_name before scope word ≡ Some k → fold (key_text k) ≡ fold word
+    spelled_same word k e =
+        let has = found_has_definition before scope (fold word) k e in
+        of_later k has.same (definition_at later k.name k.scope) refl (has_key b valid index source at room k (ap (λ (o : Option NameSpelling). is_some (option_map (λ (m : NameSpelling). m.name) o)) has.found))
+      where
+        of_later : (k : NameKey) → k.name ≡ fold word → (o : Option NameSpelling) → definition_at later k.name k.scope ≡ o → IsSome (name_of_key later k) → fold (key_text k) ≡ fold word
+        of_later k same None f some = absurd (let no : false ≡ true = sym (ap (λ (o : Option NameSpelling). is_some (option_map (λ (m : NameSpelling). m.name) o)) f) ∙ some in cc)
+        of_later k same (Some d) f some =
+            ap (λ (o : Option NameSpelling). fold (unwrap_or (option_map (λ (m : NameSpelling). m.name) o) k.name)) f ∙ folds_to_key later k.name k.scope d f ∙ same
+
+    mention_same : (binders : Binders) (word : List ℕ) → fold (spelled_word key_text (bound_word before scope binders word)) ≡ fold word
+    mention_same binders word = go (is_bound_by binders word) (found_name before scope word) refl
+      where
+        go : (c : Bool) (found : Option NameKey) → found_name before scope word ≡ found → fold (spelled_word key_text (mention c word found)) ≡ fold word
+        go true found e = refl
+        go false None e = refl
+        go false (Some k) e = spelled_same word k e
+
+    abbrev Becomes : Option NameMention → Option NameMention → Type 0
+    Becomes m u = u ≡ option_map (copied_word id copied) m
+
+    word_becomes : (binders : Binders) (word : List ℕ) → Becomes (Some (bound_word before scope binders word)) (Some (bound_word later (Some id) binders (spelled_word key_text (bound_word before scope binders word))))
+    word_becomes binders word = ap (λ (m : NameMention). Some m) (go (is_bound_by binders word) refl (found_name before scope word) refl)
+      where
+        dangling : (c : Bool) → name_or_dangling word (if c then Some (key_in_copy id (fold word)) else None) ≡ (if c then names.Name (key_in_copy id (fold word)) else names.Dangling word)
+        dangling true = refl
+        dangling false = refl
+
+        global_none : key_found before scope (fold word) ≡ None → option_map key_of (definition_at before (fold word) None) ≡ None
+        global_none e = of_local (definition_at before (fold word) scope) e
+          where
+            of_local : (o : Option NameSpelling) → option_map key_of (option_or o (definition_at before (fold word) None)) ≡ None → option_map key_of (definition_at before (fold word) None) ≡ None
+            of_local None f = f
+            of_local (Some x) f = cc
+
+        named : (k : NameKey) (spelling : List ℕ) → k.name ≡ fold word → key_found before scope (fold word) ≡ Some k → (c : Bool) → is_copied copied (fold word) ≡ c
+            → name_or_dangling spelling (if c then Some (key_in_copy id (fold word)) else option_map key_of (definition_at before (fold word) None)) ≡ (if c then names.Name (key_in_copy id (fold word)) else names.Name k)
+        named k spelling same e true f = refl
+        named k spelling same e false f = ap (name_or_dangling spelling) (for_all scope is k (fold word) e f)
+
+        go : (c : Bool) → is_bound_by binders word ≡ c → (found : Option NameKey) → found_name before scope word ≡ found
+            → bound_word later (Some id) binders (spelled_word key_text (mention c word found)) ≡ copied_word id copied (mention c word found)
+        go true e found f = ap (λ (c : Bool). mention c word (found_name later (Some id) word)) e
+        go false e None f =
+            ap (λ (c : Bool). mention c word (found_name later (Some id) word)) e
+            ∙ ap (name_or_dangling word) (copy_finds (fold word) ∙ ap (λ (o : Option NameKey). if is_copied copied (fold word) then Some (key_in_copy id (fold word)) else o) (global_none f))
+            ∙ dangling (is_copied copied (fold word))
+        go false e (Some k) f =
+            let spelling : List ℕ = key_text k in
+            let folds : fold spelling ≡ fold word = spelled_same word k f in
+            let same : k.name ≡ fold word = (found_has_definition before scope (fold word) k f).same in
+            ap (λ (c : Bool). mention c spelling (found_name later (Some id) spelling)) (ap (λ w. list_any (λ (variable : List ℕ). bytes_eq (fold variable) w) binders) folds ∙ e)
+            ∙ ap (name_or_dangling spelling) (ap (key_found later (Some id)) folds ∙ copy_finds (fold word))
+            ∙ named k spelling same f (is_copied copied (fold word)) refl
+            ∙ ap (λ (w : List ℕ). if is_copied copied w then names.Name (key_in_copy id w) else names.Name k) (sym same)
+
+    called_becomes : RespectsFolding (english_function n) → (binders : Binders) (word : List ℕ) (number : ℕ) → english_function n word ≡ None
+        → english_function n (spelled_word key_text (bound_word before scope binders word)) ≡ Some number → Becomes (Some (bound_word before scope binders word)) None
+    called_becomes by_fold binders word number none some =
+        absurd (let no : None ≡ Some number = sym none ∙ sym (by_fold (spelled_word key_text (bound_word before scope binders word)) word (mention_same binders word)) ∙ some in cc)
+
+    tree_becomes : (t : Bound) → bound (english_function n) before scope (spelled before t) ≡ t → words_in (bound (english_function n) later (Some id) (spelled_with (copy_spelling later source.id id) key_text t)) ≡ map (option_map (copied_word id copied)) (words_in t)
+    tree_becomes t settled =
+        mapped_zip (option_map (copied_word id copied)) (words_in t) (words_in (bound (english_function n) later (Some id) (spelled_with (copy_spelling later source.id id) key_text t)))
+        (subst (λ (u : Bound). AllZip Becomes (words_in u) (words_in (bound (english_function n) later (Some id) (spelled_with (copy_spelling later source.id id) key_text u)))) settled
+        (words_become (english_function n) scope (Some id) before later (copy_spelling later source.id id) key_text Becomes
+        (record { word = word_becomes; none = refl; called = called_becomes (english_by_fold n (notations_are b.tables valid.tables)) }) (spelled before t)))
+
+    pooled_becomes : (f : Formula) → IsPooled n before scope f → HasCopiedWords id copied f (formula_copied b index source f)
+    pooled_becomes (formulas.Tree t) h = tree_becomes t h.settled
+    pooled_becomes (formulas.Raw text) h = refl
+
+    kept_becomes : (f : Formula) → IsKeptFormula n before scope (pos 1) (pos 1) f → HasCopiedWords id copied f (formula_copied b index source f)
+    kept_becomes (formulas.Tree t) h = tree_becomes t h.settled
+    kept_becomes (formulas.Raw text) h = refl
+
+  pool_words : AllZip (HasCopiedWords id copied) source.pool (copy_of_sheet b index source).pool
+  pool_words =
+      zip_mapped (IsPooled n before (Some source.id)) (HasCopiedWords id copied) (formula_copied b index source) (pooled_becomes (Some source.id) (inr refl)) source.pool (all_at (IsKeptPool n before) index b.sheets source valid.kept.pools at)
+
+  -- a copied definition is local to the sheet, or to none
+  abbrev IsCopied : Definition → Type 0
+  IsCopied d = IsSource d.scope × IsKeptBody n before d
+
+  all_copied : AllByRecursion IsCopied copied
+  all_copied =
+      all_appended IsCopied (local_to source.id b.definitions) (shared_about source.id b.definitions)
+      (all_filtered (λ d. same_scope d.scope (Some source.id)) (IsKeptBody n before) IsCopied (λ d e h. (inr (same_scope_from d.scope (Some source.id) e), h)) b.definitions valid.kept.bodies)
+      (all_filtered _ (IsKeptBody n before) IsCopied (λ d e h. (inl (none_is d.scope (and_parts (is_none d.scope) _ (and_parts (is_none d.scope && mentions_sheet source.id d.body) _ e).0).0), h)) b.definitions valid.kept.bodies)
+    where
+      none_is : (o : Option ℕ) → is_none o ≡ true → o ≡ None
+      none_is None e = refl
+      none_is (Some i) e = cc
+
+  body_words : AllZip (λ (d e : Definition). HasCopiedWords id copied d.body e.body) copied (copies_of_definitions b index source)
+  body_words =
+      subst (AllZip (λ (d e : Definition). HasCopiedWords id copied d.body e.body) copied) (map_twice (local_in id) (with_formula (formula_copied b index source)) copied)
+      (zip_mapped IsCopied (λ (d e : Definition). HasCopiedWords id copied d.body e.body) (λ d. with_formula (formula_copied b index source) (local_in id d)) (λ d h. kept_becomes d.scope h.0 d.body h.1) copied all_copied)
+
+pub copied_means_same : CopiedMeansSame
+unfolding duplicate_sheet_step
+copied_means_same b after index source fields valid at e =
+    let one : duplicated b index source ≡ Ok (after, fields) = sym (ap (λ (o : Option Sheet). found_or InvalidSheet (option_map (duplicated b index) o)) at) ∙ e in
+    let ok = accepted (first_refusal ((is_none (fresh_id (core_of b)), IdsUsedUp) ∷ [])) (changed_by (with_copy index (copy_of_sheet b index source) (copies_of_definitions b index source)) b) after (named_fields (name_of_copy b source.name) (index + 1)) fields one in
+    let room = (none_holds ((is_none (fresh_id (core_of b)), IdsUsedUp) ∷ []) ok.0).0 in
+    (pool_words b valid index source at room, body_words b valid index source at room)
