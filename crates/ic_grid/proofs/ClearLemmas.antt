@@ -1,19 +1,19 @@
 -- A block is cleared: what stands where then, and that all that holds of a sheet still does.
-use Rattle.std.proofs.Common.{◌≡◌, ◌∙◌, refl, sym, ap, subst, Bool, true, false, cond, Option, Some, None, IsSome}
+use Rattle.std.proofs.Common.{◌≡◌, ◌∙◌, refl, sym, ap, subst, Bool, true, false, cond, Option, Some, None}
 use Rattle.std.proofs.lemmas.Bool.{both_ways}
 use Rattle.std.specs.FinMap as finite
 use Rattle.std.specs.Option.{option_and_then}
 use Rattle.ic_cells.specs.declared.cell.Cell.{Cell}
 use Rattle.ic_cells.specs.declared.cell.Cell.TheVariants as cells
-use Rattle.ic_grid.proofs.ArrayLemmas.{anchored, array_there, place_in_area, there}
-use Rattle.ic_grid.proofs.BlockLemmas.{meets_at}
+use Rattle.ic_grid.proofs.ArrayLemmas.{there}
 use Rattle.ic_grid.proofs.ContentsLemmas.{get-remade, remade_twice}
 use Rattle.ic_grid.proofs.LoosenLemmas.{Loosens, loosened_arrays, loosened_merges}
 use Rattle.ic_grid.proofs.PrepareLemmas.{loose_now}
+use Rattle.ic_grid.proofs.ReachedLemmas.{reached_at}
 use Rattle.ic_grid.proofs.WalkLemmas.{by_side}
 use Rattle.ic_grid.proofs.WriteLemmas.{IsLooseCell, free_cell}
 use Rattle.ic_grid.specs.Arrays.{anchor_at, anchor_of, array_at, array_of, reaches}
-use Rattle.ic_grid.specs.Block.{Place, block_at, blocks_meet, is_in_block}
+use Rattle.ic_grid.specs.Block.{Place, is_in_block}
 use Rattle.ic_grid.specs.Change.{changed, remade_where}
 use Rattle.ic_grid.specs.Clear.{cleared, cleared_cell, wiped, wiping}
 use Rattle.ic_grid.specs.Conditions.{AreArrays, AreInSheet}
@@ -21,7 +21,6 @@ use Rattle.ic_grid.specs.Contents.{Contents}
 use Rattle.ic_grid.specs.Prepare.{loosened, loosened_in}
 use Rattle.ic_grid.specs.Shape.{celled, emptied, shape_of}
 use Rattle.ic_grid.specs.Whole.{IsGrid}
-use Rattle.ic_grid.specs.declared.block.Array.{Array}
 use Rattle.ic_grid.specs.declared.block.Block.{Block}
 use Rattle.ic_grid.specs.declared.grid.Grid.{Grid}
 
@@ -81,19 +80,8 @@ module _ (m : Contents Cell) (b : Block) (all : Bool) where
           get-remade _ m q ∙ ap (option_and_then (cleared_cell celled m b all q)) x.1
           ∙ second (is_in_block b q) (reaches b (array_at celled m q)) x.0 out (ap (reaches b) (array_is q (Some a) e) ∙ t) ∙ sym x.1
         where
-          some_of : (o : Option Array) → IsSome o → (array : Array) × (o ≡ Some array)
-          some_of None h = let never : false ≡ true = h in cc
-          some_of (Some array) h = (array, refl)
-
           out : is_in_block b q ≡ false
-          out = by_side (is_in_block b q) (λ s. absurd (both_ways (test a) t (meets s))) (λ s. s)
-            where
-              meets : is_in_block b q ≡ true → test a ≡ true
-              meets s =
-                  let array = some_of (array_of celled m a) (anchored celled m ok q a e) in
-                  let has = array_there celled m a array.0 array.1 in
-                  ap (reaches b) array.1 ∙ sym (ap (λ (one : Array). blocks_meet one.block b) has.4)
-                  ∙ meets_at (block_at a has.0 has.1) b q (place_in_area celled m ok q a e has.0 has.1 has.2 has.3) s
+          out = by_side (is_in_block b q) (λ s. absurd (both_ways (test a) t (reached_at m b ok q a s e))) (λ s. s)
 
       left : (q : Place) → ((a : Place) → anchor_at celled m q ≡ Some a → test a ≡ true) → (y : Cell) → finite.get after q ≡ Some y → IsLooseCell y
       left q h y e =

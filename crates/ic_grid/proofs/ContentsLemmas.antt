@@ -46,6 +46,10 @@ module _ {X : Type 0} where
   unfolding remade
   get-remade f m q = found f (finite.entries m) q ∙ ap (option_and_then (f q)) (sym (finite.get-entries m q))
 
+  -- what stands elsewhere stays when something is put at a place
+  pub insert_away : (m : Contents X) (q : Place) (x : X) (p : Place) → same_place p q ≡ false → finite.get (finite.insert m q x) p ≡ finite.get m p
+  insert_away m q x p s = finite.get-insert place_cmp_total m q x p ∙ ap (λ t. cond t (Some x) (finite.get m p)) s
+
   -- contents that have the same at each place are one
   pub same_contents : (m n : Contents X) → ((q : Place) → finite.get m q ≡ finite.get n q) → m ≡ n
   same_contents m n h = finite.same_map place_cmp_total place_tied m n h

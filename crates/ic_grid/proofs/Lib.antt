@@ -5,7 +5,10 @@ pub mod ClearLemmas
 pub mod ContentsLemmas
 pub mod KeyLemmas
 pub mod LoosenLemmas
+pub mod PaddedLemmas
+pub mod PlacedLemmas
 pub mod PrepareLemmas
+pub mod ReachedLemmas
 pub mod ReleaseLemmas
 pub mod RoomLemmas
 pub mod RowLemmas
@@ -18,7 +21,11 @@ pub mod SpillLemmas
 pub mod SpillPlaced
 pub mod SpillWhole
 pub mod SpreadLemmas
+pub mod StyleLemmas
+pub mod StyledLemmas
 pub mod ValueLemmas
 pub mod ValueWhole
 pub mod WalkLemmas
 pub mod WriteLemmas
+pub mod WrittenLemmas
+pub mod WrittenWhole

@@ -144,13 +144,6 @@ module _ (m : Contents Cell) where
         each q None = refl
         each q (Some x) = ap Some (released_again test a q x)
 
-  -- how far the arrays of a block are released: those that have a cell in it before a place
-  pub record Progress (b : Block) (at : Place) (now : Contents Cell) : Type 0 where
-    pub test : Place → Bool
-    pub is : now ≡ released_where test m
-    pub sound : (a : Place) → test a ≡ true → (p : Place) × (is_in_block b p ≡ true) × (anchor_at celled m p ≡ Some a)
-    pub complete : (p a : Place) → is_in_block b p ≡ true → is_from at p ≡ false → anchor_at celled m p ≡ Some a → test a ≡ true
-
   nothing_released : m ≡ released_where (λ a. false) m
   nothing_released = same_contents _ _ (λ q. each q (finite.get m q) ∙ sym (get-remade _ m q))
     where
@@ -161,6 +154,17 @@ module _ (m : Contents Cell) where
       each : (q : Place) (o : Option Cell) → o ≡ option_and_then (λ x. Some (released_cell (λ a. false) q x)) o
       each q None = refl
       each q (Some x) = ap Some (none q x (anchor_of q (shape_of x)))
+
+  -- the array of one formula is released
+  pub released_is : (a : Place) → released celled a m ≡ released_where (and_at (λ c. false) a) m
+  released_is a = ap (released celled a) nothing_released ∙ again (λ c. false) a
+
+  -- how far the arrays of a block are released: those that have a cell in it before a place
+  pub record Progress (b : Block) (at : Place) (now : Contents Cell) : Type 0 where
+    pub test : Place → Bool
+    pub is : now ≡ released_where test m
+    pub sound : (a : Place) → test a ≡ true → (p : Place) × (is_in_block b p ≡ true) × (anchor_at celled m p ≡ Some a)
+    pub complete : (p a : Place) → is_in_block b p ≡ true → is_from at p ≡ false → anchor_at celled m p ≡ Some a → test a ≡ true
 
   pub progress_begun : (b : Block) (at : Place) → at ≡ first_place b → Progress b at m
   progress_begun b at e = record {

@@ -6,11 +6,12 @@ use Rattle.std.specs.Prelude.{◌+ℤ◌, ◌≤ℤ◌}
 use Rattle.ic_laws.proofs.core.CellWritten.{place_cmp_total}
 use Rattle.ic_grid.proofs.ContentsLemmas.{get-remade, remade_twice, same_contents, same_is}
 use Rattle.ic_grid.proofs.BlockLemmas.{column_more, no_columns, no_rows, row_more}
-use Rattle.ic_grid.specs.Block.{Place, is_in_lines, same_place}
+use Rattle.ic_grid.specs.Block.{Place, block_at, is_in_lines, same_place}
 use Rattle.ic_grid.specs.Contents.{Contents, changed_where}
 use Rattle.ic_grid.specs.Prepare.{anchor_reset, unspilled}
-use Rattle.ic_grid.specs.Shape.{array_formula_of, celled, spill_of}
-use Rattle.ic_cells.specs.declared.cell.ArrayKind.{ArrayKind}
+use Rattle.ic_grid.specs.Shape.{celled, spill_of}
+use Rattle.ic_grid.specs.Value.{formula_array}
+use Rattle.ic_grid.specs.declared.block.Array.{Array}
 use Rattle.ic_cells.specs.declared.value.FormulaValue.TheVariants as formulas
 use Rattle.ic_cells.specs.declared.value.FormulaValue.{FormulaValue}
 use Rattle.ic_cells.specs.declared.value.SpillValue.{SpillValue}
@@ -105,28 +106,33 @@ no_spill (cells.CellFormula f n v) a e = refl
 no_spill (cells.ArrayFormula f n r kind v) a e = refl
 no_spill (cells.SpillCell n b v) a e = cc
 
-anchor_is : (o : Option Cell) (f s : ℕ) (k : ArrayKind) → array_formula_of o ≡ Some (f, s, k) → (r : ℤ × ℤ) × (v : FormulaValue) × (o ≡ Some (cells.ArrayFormula f s r k v))
-anchor_is None f s k e = cc
-anchor_is (Some (cells.EmptyCell n)) f s k e = cc
-anchor_is (Some (cells.BooleanCell v n)) f s k e = cc
-anchor_is (Some (cells.NumberCell v n)) f s k e = cc
-anchor_is (Some (cells.ErrorCell v n)) f s k e = cc
-anchor_is (Some (cells.SharedString v n)) f s k e = cc
-anchor_is (Some (cells.CellFormula g n v)) f s k e = cc
-anchor_is (Some (cells.SpillCell n b v)) f s k e = cc
-anchor_is (Some (cells.ArrayFormula g n r kind v)) f s k e =
-    let p : ◌≡◌ {A = ℕ × ℕ × ArrayKind} (g, n, kind) (f, s, k) = cc in
-    (r, v, ap₂ (λ (i : ℕ) (rest : ℕ × ArrayKind). Some (cells.ArrayFormula i rest.0 r rest.1 v)) (ap (λ (z : ℕ × ℕ × ArrayKind). z.0) p) (ap (λ (z : ℕ × ℕ × ArrayKind). let two : ℕ × ArrayKind = (z.1, z.2) in two) p))
+-- what stands where an array formula does
+pub there_array : (p : Place) (o : Option Cell) (f s : ℕ) (array : Array) → formula_array p o ≡ Some (f, s, array)
+    → (v : FormulaValue) × (o ≡ Some (cells.ArrayFormula f s (array.block.width, array.block.height) array.kind v)) × (block_at p array.block.width array.block.height ≡ array.block)
+there_array p None f s array e = cc
+there_array p (Some (cells.EmptyCell n)) f s array e = cc
+there_array p (Some (cells.BooleanCell v n)) f s array e = cc
+there_array p (Some (cells.NumberCell v n)) f s array e = cc
+there_array p (Some (cells.ErrorCell v n)) f s array e = cc
+there_array p (Some (cells.SharedString v n)) f s array e = cc
+there_array p (Some (cells.CellFormula g n v)) f s array e = cc
+there_array p (Some (cells.SpillCell n b v)) f s array e = cc
+there_array p (Some (cells.ArrayFormula g n r k v)) f s array e =
+    let same : ◌≡◌ {A = ℕ × ℕ × Array} (g, n, record { block = block_at p r.0 r.1; kind = k }) (f, s, array) = cc in (
+      v,
+      ap (λ (z : ℕ × ℕ × Array). Some (cells.ArrayFormula z.0 z.1 (z.2.block.width, z.2.block.height) z.2.kind v)) same,
+      ap (λ (z : ℕ × ℕ × Array). block_at p z.2.block.width z.2.block.height) (sym same) ∙ ap (λ (z : ℕ × ℕ × Array). z.2.block) same,
+    )
 
-no_anchor : (x : Cell) → array_formula_of (Some x) ≡ None → anchor_reset celled x ≡ x
-no_anchor (cells.EmptyCell n) e = refl
-no_anchor (cells.BooleanCell v n) e = refl
-no_anchor (cells.NumberCell v n) e = refl
-no_anchor (cells.ErrorCell v n) e = refl
-no_anchor (cells.SharedString v n) e = refl
-no_anchor (cells.CellFormula f n v) e = refl
-no_anchor (cells.SpillCell n b v) e = refl
-no_anchor (cells.ArrayFormula f n r kind v) e = cc
+no_anchor : (p : Place) (x : Cell) → formula_array p (Some x) ≡ None → anchor_reset celled x ≡ x
+no_anchor p (cells.EmptyCell n) e = refl
+no_anchor p (cells.BooleanCell v n) e = refl
+no_anchor p (cells.NumberCell v n) e = refl
+no_anchor p (cells.ErrorCell v n) e = refl
+no_anchor p (cells.SharedString v n) e = refl
+no_anchor p (cells.CellFormula f n v) e = refl
+no_anchor p (cells.SpillCell n b v) e = refl
+no_anchor p (cells.ArrayFormula f n r kind v) e = cc
 
 passed : (t : Bool) (x y : Cell) → t ≡ true → x ≡ cond t x y
 passed true x y e = refl
@@ -155,13 +161,13 @@ module _ (m : Contents Cell) (p : Place) where
   none_there a e = one_kept m p (unspilled celled a) (λ x is. no_spill x a (ap spill_of (sym is) ∙ e))
 
   -- an array formula that was reset, if any
-  pub is_reset : (f s : ℕ) (k : ArrayKind) → array_formula_of (finite.get m p) ≡ Some (f, s, k) → finite.insert m p (cells.ArrayFormula f s (pos 1, pos 1) k formulas.Unevaluated) ≡ changed_where (λ q. same_place q p) (anchor_reset celled) m
-  is_reset f s k e =
-      let here = anchor_is (finite.get m p) f s k e in
-      one_changed m p (anchor_reset celled) (cells.ArrayFormula f s here.0 k here.1) here.2
+  pub is_reset : (f s : ℕ) (array : Array) → formula_array p (finite.get m p) ≡ Some (f, s, array) → finite.insert m p (cells.ArrayFormula f s (pos 1, pos 1) array.kind formulas.Unevaluated) ≡ changed_where (λ q. same_place q p) (anchor_reset celled) m
+  is_reset f s array e =
+      let here = there_array p (finite.get m p) f s array e in
+      one_changed m p (anchor_reset celled) (cells.ArrayFormula f s (array.block.width, array.block.height) array.kind here.0) here.1
 
-  pub none_to_reset : array_formula_of (finite.get m p) ≡ None → m ≡ changed_where (λ q. same_place q p) (anchor_reset celled) m
-  none_to_reset e = one_kept m p (anchor_reset celled) (λ x is. no_anchor x (ap array_formula_of (sym is) ∙ e))
+  pub none_to_reset : formula_array p (finite.get m p) ≡ None → m ≡ changed_where (λ q. same_place q p) (anchor_reset celled) m
+  none_to_reset e = one_kept m p (anchor_reset celled) (λ x is. no_anchor p x (ap (formula_array p) (sym is) ∙ e))
 
 -- a row of a spill is emptied column by column, and a block of it row by row
 module _ (m : Contents Cell) (a : Place) where

@@ -13,7 +13,7 @@ use Rattle.ic_grid.specs.Block.{Place, first_place, is_area, is_in_block, is_in_
 use Rattle.ic_grid.specs.Change.{changed, changed_in, is_placeholder, nowhere, placeholder}
 use Rattle.ic_grid.specs.Conditions.{AreArrays, AreInSheet}
 use Rattle.ic_grid.specs.Contents.{Contents}
-use Rattle.ic_grid.specs.Room.{HasRoom, IsMarked, marked_at}
+use Rattle.ic_grid.specs.Room.{IsAdded, IsMarked, marked_at}
 use Rattle.ic_grid.specs.Rows.{IsFull, place_count}
 use Rattle.ic_grid.specs.Shape.{celled, shape_of}
 use Rattle.ic_grid.specs.Walk.{is_from, is_left}
@@ -118,19 +118,19 @@ module _ (b : Block) (m : Contents Cell) where
         by_left zero left = so.done p within (none_at_end b at left p)
         by_left (suc n) left = absurd (both_ways (is_in_block b at) out (at_in b at n left))
 
--- only outside of the block nothing changed
-pub has_room : (b : Block) (m now : Contents Cell) → IsMarked b m now → IsFull b now → HasRoom b m now
-has_room b m now marked full = record { outside = λ p out. of_case p out (marked p); full = full }
+-- outside of the block nothing changed
+pub added_outside : (x : Cell) (b : Block) (m now : Contents Cell) → IsAdded x b m now → (p : Place) → is_in_block b p ≡ false → finite.get now p ≡ finite.get m p
+added_outside x b m now added p out = of_case (added p)
   where
-    of_case : (p : Place) → is_in_block b p ≡ false → (finite.get now p ≡ finite.get m p) ⊎ ((is_in_block b p ≡ true) × (finite.get m p ≡ None) × (finite.get now p ≡ Some placeholder)) → finite.get now p ≡ finite.get m p
-    of_case p out (inl e) = e
-    of_case p out (inr i) = absurd (both_ways (is_in_block b p) out i.0)
+    of_case : (finite.get now p ≡ finite.get m p) ⊎ ((is_in_block b p ≡ true) × (finite.get m p ≡ None) × (finite.get now p ≡ Some x)) → finite.get now p ≡ finite.get m p
+    of_case (inl e) = e
+    of_case (inr i) = absurd (both_ways (is_in_block b p) out i.0)
 
 module _ (b : Block) (m : Contents Cell) (inside : AreInSheet celled m) (ok : AreArrays celled m) where
   never_there : {P : Type 0} → is_in_sheet nowhere ≡ true → P
   never_there e = cc
 
-  no_placeholder : (p : Place) (x : Cell) → finite.get m p ≡ Some x → is_placeholder x ≡ false
+  pub no_placeholder : (p : Place) (x : Cell) → finite.get m p ≡ Some x → is_placeholder x ≡ false
   no_placeholder p x e =
       by_side (is_placeholder x)
       (λ t.

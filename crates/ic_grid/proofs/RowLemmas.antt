@@ -5,13 +5,15 @@ use Rattle.std.proofs.lemmas.Int.{ints}
 use Rattle.std.proofs.Math.IntN.{nat_abs}
 use Rattle.std.specs.FinMap as finite
 use Rattle.std.specs.Ordering.{int_eq}
-use Rattle.std.specs.Prelude.{int_lt, ◌+ℤ◌, ◌≤ℤ◌, ◌<ℤ◌}
+use Rattle.std.specs.Prelude.{int_le, int_lt, ◌+ℤ◌, ◌≤ℤ◌, ◌<ℤ◌}
 use Rattle.ic_laws.proofs.core.CellWritten.{place_cmp_total}
+use Rattle.ic_laws.specs.Position.{is_column, is_row}
+use Rattle.ic_laws.specs.declared.reference.TheConstants.{LAST_COLUMN, LAST_ROW}
 use Rattle.ic_grid.proofs.BlockLemmas.{area_bounds, same_by_parts}
 use Rattle.ic_grid.proofs.ChangeLemmas.{abs_is, first_from}
 use Rattle.ic_grid.proofs.ContentsLemmas.{same_contents, same_is}
 use Rattle.ic_grid.proofs.WalkLemmas.{InBlock, by_side, from_itself, in_block}
-use Rattle.ic_grid.specs.Block.{Place, first_place, is_area, is_between, is_in_block, next_place, same_place}
+use Rattle.ic_grid.specs.Block.{Place, first_place, is_area, is_between, is_in_block, is_in_sheet, next_place, same_place}
 use Rattle.ic_grid.specs.Contents.{Contents}
 use Rattle.ic_grid.specs.Rows.{IsFull, place_count, placed}
 use Rattle.ic_grid.specs.Walk.{is_from, is_left}
@@ -134,6 +136,9 @@ module _ (b : Block) where
         (λ t. absurd (both_ways (is_from (next_place b q) q) (not_this (int_lt (q.1 +ℤ pos 1) (b.column +ℤ b.width)) refl) (and_parts (is_in_block b q) (is_from (next_place b q) q) t).1))
         (λ t. t)
 
+    pub left_apart : (p : Place) → is_left b (next_place b q) p ≡ true → same_place p q ≡ false
+    left_apart p left = by_side (same_place p q) (λ s. absurd (both_ways (is_left b (next_place b q) q) this_done (ap (is_left b (next_place b q)) (sym (same_is p q s)) ∙ left))) (λ s. s)
+
   no_row : (w r c : ℕ) → 0 + c ≡ r * w → c < w → r ≡ 0
   no_row w zero c e h = refl
   no_row w (suc r) c e h = absurd (omega arith)
@@ -178,6 +183,19 @@ module _ (b : Block) where
         apart : (s : Bool) → same_place p q ≡ s → same_place p q ≡ false
         apart true s = absurd (both_ways (is_left b q p) out (ap (is_left b q) (same_is p q s) ∙ and_from (is_in_block b q) (is_from q q) (at_in q (length xs) at) (from_itself q)))
         apart false s = s
+
+row_in : (n first last : ℤ) → pos 1 ≤ℤ first → first ≤ℤ n → n <ℤ last → last ≤ℤ pos 1048577 → is_row n ≡ true
+row_in n first last a b c d = and_from (int_le (pos 1) n) (int_le n LAST_ROW) (grind (arith, ints, a, b)) (grind (arith, ints, c, d))
+
+column_in : (n first last : ℤ) → pos 1 ≤ℤ first → first ≤ℤ n → n <ℤ last → last ≤ℤ pos 16385 → is_column n ≡ true
+column_in n first last a b c d = and_from (int_le (pos 1) n) (int_le n LAST_COLUMN) (grind (arith, ints, a, b)) (grind (arith, ints, c, d))
+
+-- the places of an area are places of the sheet
+pub area_inside : (b : Block) → is_area b ≡ true → (p : Place) → is_in_block b p ≡ true → is_in_sheet p ≡ true
+area_inside b area p within =
+    let s = area_bounds b area in
+    let i = in_block b p within in
+    and_from (is_row p.0) (is_column p.1) (row_in p.0 b.row (b.row +ℤ b.height) s.row i.top i.bottom s.last_row) (column_in p.1 b.column (b.column +ℤ b.width) s.column i.left i.right s.last_column)
 
 -- the same for what calls answered
 pub begun_at : (b : Block) (at : Place) → at ≡ first_place b → is_area b ≡ true → (n : ℕ) → n ≡ place_count b → IsAt b at n

@@ -16,7 +16,7 @@ use Rattle.ic_grid.proofs.ArrayLemmas.{array_with}
 use Rattle.ic_grid.proofs.RowLemmas.{IsAt, at_first, at_next, first_left, left_other, none_at_end, placed_away, this_done}
 use Rattle.ic_grid.proofs.SpillFilled.{rest_at, rest_length, spilled_placed}
 use Rattle.ic_grid.proofs.SpillWhole.{spilled_arrays, spilled_inside, spilled_merges}
-use Rattle.ic_grid.proofs.ValueLemmas.{there_array}
+use Rattle.ic_grid.proofs.ReleaseLemmas.{there_array}
 use Rattle.ic_laws.proofs.core.CellWritten.{place_cmp_total}
 use Rattle.ic_cells.specs.declared.value.FormulaValue.{FormulaValue}
 use Rattle.ic_cells.specs.declared.value.SpillValue.{SpillValue}
@@ -35,7 +35,7 @@ use Rattle.ic_grid.specs.Contents.{Contents}
 use Rattle.ic_grid.specs.Merges.{is_merged}
 use Rattle.ic_grid.specs.Rows.{place_count, placed}
 use Rattle.ic_grid.specs.Shape.{Anchor, Empty, SpillOf, celled, gathered, is_cse, shape_of}
-use Rattle.ic_grid.specs.Spill.{array_cells, first_of_blocking, has_other_area, is_free, misfits, rest_cells, spilled}
+use Rattle.ic_grid.specs.Spill.{array_cells, first_of_blocking, first_to_block, has_other_area, is_free, misfits, rest_cells, spilled}
 use Rattle.ic_grid.specs.Value.{formula_array, shape_at}
 use Rattle.ic_grid.specs.declared.block.Block.{Block}
 use Rattle.ic_grid.specs.declared.error.GridError.TheVariants as errors
@@ -103,23 +103,23 @@ module _ (merges : List Merge) (m : Contents Cell) (b : Block) (count : ℕ) (w 
   pub fits : spill_answer celled merges m b count (Anchor w t kind) ≡ Ok tt → Fits merges m b count
   fits e = by_side (misfits b count (Anchor w t kind)) never proper
     where
-      rest : Answer
-      rest = cond (is_cse kind || is_single b) (Ok tt) (blocked_by (first_of_blocking celled merges m a b count a))
+      first : Option Place
+      first = first_to_block celled merges m b count (Anchor w t kind)
 
       never : misfits b count (Anchor w t kind) ≡ true → Fits merges m b count
-      never u = let no : Err errors.BadArea ≡ Ok tt = sym (ap (λ v. let r : Answer = cond v (Err errors.BadArea) rest in r) u) ∙ e in cc
+      never u = let no : Err errors.BadArea ≡ Ok tt = sym (ap (λ v. let r : Answer = cond v (Err errors.BadArea) (blocked_by first) in r) u) ∙ e in cc
 
       proper : misfits b count (Anchor w t kind) ≡ false → Fits merges m b count
       proper u =
           let p = fit_parts (has_places b) (int_eq (b.width *ℤ b.height) (pos count)) (is_cse kind && has_other_area b.width b.height (Anchor w t kind)) u in
           let n = counted merges m b count p.0 p.1 in
-          let left : rest ≡ Ok tt = sym (ap (λ v. let r : Answer = cond v (Err errors.BadArea) rest in r) u) ∙ e in
+          let left : first ≡ None = none_blocked first (sym (ap (λ v. let r : Answer = cond v (Err errors.BadArea) (blocked_by first) in r) u) ∙ e) in
           by_side (is_cse kind)
           (λ c.
           let same = same_area (int_eq w b.width) (int_eq t b.height) (sym (ap (λ v. v && has_other_area b.width b.height (Anchor w t kind)) c) ∙ p.2) in
           cse_fits ((Decides-int_eq w b.width).0 same.0) ((Decides-int_eq t b.height).0 same.1) n)
           (λ c. by_side (is_single b) (λ o. single_fits o p.0 n) (λ o.
-          open_fits (none_blocked (first_of_blocking celled merges m a b count a) (sym (ap₂ (λ v z. let r : Answer = cond (v || z) (Ok tt) (blocked_by (first_of_blocking celled merges m a b count a)) in r) c o) ∙ left)) p.0 n))
+          open_fits (sym (ap₂ (λ v z. let r : Option Place = cond (v || z) None (first_of_blocking celled merges m a b count a) in r) c o) ∙ left) p.0 n))
 
 module _ (grid : Grid) (ok : IsGrid grid) (b : Block) (f s : ℕ) (array : Array) (is : formula_array (first_place b) (finite.get grid.cells (first_place b)) ≡ Some (f, s, array)) (values : List SpillValue)
     (allowed : spill_answer celled grid.merged_cells grid.cells b (length values) (Anchor array.block.width array.block.height array.kind) ≡ Ok tt) where
@@ -156,9 +156,9 @@ module _ (grid : Grid) (ok : IsGrid grid) (b : Block) (f s : ℕ) (array : Array
 
     pub still_whole : IsGrid (record grid { cells = after })
     still_whole = record {
-      inside = spilled_inside grid.merged_cells grid.cells after b (length values) array.kind array.block.width array.block.height ok.arrays old_anchor array_fits now rest away ok.inside;
-      arrays = spilled_arrays grid.merged_cells grid.cells after b (length values) array.kind array.block.width array.block.height ok.arrays old_anchor array_fits now rest away;
-      merges = spilled_merges grid.merged_cells grid.cells after b (length values) array.kind array.block.width array.block.height ok.arrays old_anchor array_fits now rest away ok.merges;
+      inside = spilled_inside grid.merged_cells grid.cells after b (length values) array.kind array.block.width array.block.height ok.inside ok.arrays old_anchor array_fits now rest away;
+      arrays = spilled_arrays grid.merged_cells grid.cells after b (length values) array.kind array.block.width array.block.height ok.inside ok.arrays old_anchor array_fits now rest away;
+      merges = spilled_merges grid.merged_cells grid.cells after b (length values) array.kind array.block.width array.block.height ok.inside ok.arrays old_anchor array_fits now rest away ok.merges;
     }
       where
         v : (v : SpillValue) × (more : List SpillValue) × (values ≡ v ∷ more)

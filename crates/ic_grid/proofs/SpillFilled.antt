@@ -10,8 +10,9 @@ use Rattle.ic_cells.specs.declared.cell.Cell.TheVariants as cells
 use Rattle.ic_cells.specs.declared.value.FormulaValue.{FormulaValue}
 use Rattle.ic_cells.specs.declared.value.SpillValue.{SpillValue}
 use Rattle.ic_laws.proofs.core.CellWritten.{place_cmp_total}
-use Rattle.ic_grid.proofs.ContentsLemmas.{get-remade, same_is}
-use Rattle.ic_grid.proofs.RowLemmas.{IsAt, at_in, at_next, left_later, left_other, none_at_end, placed_away, this_done}
+use Rattle.ic_grid.proofs.ContentsLemmas.{get-remade, insert_away, same_is}
+use Rattle.ic_grid.proofs.RowLemmas.{IsAt, at_in, at_next, left_apart, left_later, left_other, none_at_end, placed_away, this_done}
+use Rattle.ic_grid.proofs.StyleLemmas.{style_by}
 use Rattle.ic_grid.proofs.WalkLemmas.{by_side, from_itself}
 use Rattle.ic_grid.specs.Block.{Place, first_place, is_in_block, next_place, same_place}
 use Rattle.ic_grid.specs.Contents.{Contents}
@@ -19,28 +20,19 @@ use Rattle.ic_grid.specs.Prepare.{unspilled, without_spill}
 use Rattle.ic_grid.specs.Rows.{placed}
 use Rattle.ic_grid.specs.Shape.{celled, gathered, is_spill_of, shape_of}
 use Rattle.ic_grid.specs.Spill.{array_cells, filled, rest_cells, spilled, with_first}
-use Rattle.ic_grid.specs.Style.{Columns, Rows, first_style, style_at}
+use Rattle.ic_grid.specs.Style.{Columns, Rows, style_at}
 use Rattle.ic_grid.specs.Walk.{is_from, is_left}
 use Rattle.ic_grid.specs.declared.block.Block.{Block}
 
 module _ (rows : Rows) (columns : Columns) (m : Contents Cell) (b : Block) where
-  left_apart : (q : Place) (n : ℕ) → IsAt b q (suc n) → (p : Place) → is_left b (next_place b q) p ≡ true → same_place p q ≡ false
-  left_apart q n at p left = by_side (same_place p q) (λ s. absurd (both_ways (is_left b (next_place b q) q) (this_done b q n at) (ap (is_left b (next_place b q)) (sym (same_is p q s)) ∙ left))) (λ s. s)
-
-  insert_away : (n : Contents Cell) (q : Place) (x : Cell) (p : Place) → same_place p q ≡ false → finite.get (finite.insert n q x) p ≡ finite.get n p
-  insert_away n q x p s = finite.get-insert place_cmp_total n q x p ∙ ap (λ t. cond t (Some x) (finite.get n p)) s
-
-  style_by : (n k : Contents Cell) (p : Place) → option_map style_of (finite.get n p) ≡ option_map style_of (finite.get k p) → style_at celled n rows columns p ≡ style_at celled k rows columns p
-  style_by n k p e = ap (λ o. first_style o (option_and_then (λ row. row.style) (finite.get rows p.0)) (option_and_then (λ column. column.style) (finite.get columns p.1))) e
-
   pub filled_placed : (vs : List SpillValue) (q : Place) → IsAt b q (length vs) → (n : Contents Cell) → ((p : Place) → is_left b q p ≡ true → option_map style_of (finite.get n p) ≡ option_map style_of (finite.get m p))
       → filled celled rows columns b q vs n ≡ placed b q (rest_cells rows columns m b q vs) n
   filled_placed [] q at n h = refl
   filled_placed (v ∷ vs) q at n h =
       ap (λ s. filled celled rows columns b (next_place b q) vs (finite.insert n q (celled.spill s (first_place b) v)))
-      (style_by n m q (h q (and_from (is_in_block b q) (is_from q q) (at_in b q (length vs) at) (from_itself q))))
+      (style_by rows columns n m q (h q (and_from (is_in_block b q) (is_from q q) (at_in b q (length vs) at) (from_itself q))))
       ∙ filled_placed vs (next_place b q) (at_next b q (length vs) at) (finite.insert n q (celled.spill (style_at celled m rows columns q) (first_place b) v)) (λ p left.
-      ap (option_map style_of) (insert_away n q (celled.spill (style_at celled m rows columns q) (first_place b) v) p (left_apart q (length vs) at p left))
+      ap (option_map style_of) (insert_away n q (celled.spill (style_at celled m rows columns q) (first_place b) v) p (left_apart b q (length vs) at p left))
       ∙ h p (earlier p left))
     where
       earlier : (p : Place) → is_left b (next_place b q) p ≡ true → is_left b q p ≡ true
@@ -60,7 +52,7 @@ module _ (rows : Rows) (columns : Columns) (m : Contents Cell) (b : Block) where
   spilled_placed f s r kind old here values at v vs e =
       ap (λ o. filled celled rows columns b (next_place b (first_place b)) vs (with_first celled b v o (without_spill celled (first_place b) m))) here
       ∙ filled_placed vs (next_place b (first_place b)) (at_next b (first_place b) (length vs) one) (finite.insert (without_spill celled (first_place b) m) (first_place b) (cells.ArrayFormula f s (b.width, b.height) kind (gathered v))) (λ p left.
-      ap (option_map style_of) (insert_away (without_spill celled (first_place b) m) (first_place b) (cells.ArrayFormula f s (b.width, b.height) kind (gathered v)) p (left_apart (first_place b) (length vs) one p left)
+      ap (option_map style_of) (insert_away (without_spill celled (first_place b) m) (first_place b) (cells.ArrayFormula f s (b.width, b.height) kind (gathered v)) p (left_apart b (first_place b) (length vs) one p left)
       ∙ get-remade _ m p)
       ∙ same_style (first_place b) (finite.get m p))
     where

@@ -1,12 +1,11 @@
 -- An array gets its values: what stands where then, and that all that holds of a sheet still does.
-use Rattle.std.proofs.Common.{◌≡◌, ◌∙◌, refl, sym, ap, ℕ, zero, suc, ◌+◌, ◌<◌, ◌≤◌, Bool, true, false, cond, List, Option, Some, None, arith}
-use Rattle.std.specs.Option.{option_map, unwrap_or}
+use Rattle.std.proofs.Common.{◌≡◌, ◌∙◌, sym, ap, ℕ, zero, suc, ◌+◌, ◌<◌, ◌≤◌, Bool, true, false, cond, List, Option, Some, None, arith}
 use Rattle.ic_cells.specs.declared.cell.Cell.{Cell}
 use Rattle.ic_cells.specs.declared.layout.Merge.{Merge}
 use Rattle.ic_grid.specs.Block.{Place, first_place, next_place}
 use Rattle.ic_grid.specs.Contents.{Contents}
-use Rattle.ic_grid.specs.Shape.{Empty, celled, shape_of}
-use Rattle.ic_grid.specs.Spill.{blocks, first_of_blocking, is_free, is_free_there}
+use Rattle.ic_grid.specs.Shape.{celled}
+use Rattle.ic_grid.specs.Spill.{blocks, first_of_blocking}
 use Rattle.ic_grid.specs.declared.block.Block.{Block}
 
 module _ (merges : List Merge) (m : Contents Cell) (b : Block) (k : ℕ) where
@@ -54,7 +53,3 @@ module _ (merges : List Merge) (m : Contents Cell) (b : Block) (k : ℕ) where
         by_left : (n : ℕ) → turn + n ≡ k → seek n at ≡ seek k (first_place b) → None ≡ seek k (first_place b)
         by_left zero sum same = same
         by_left (suc n) sum same = absurd (omega (arith, less, sum))
-
-pub free_there : (a : Place) (o : Option Cell) → is_free_there a o ≡ is_free a (unwrap_or (option_map shape_of o) Empty)
-free_there a None = refl
-free_there a (Some x) = refl

@@ -1,172 +1,105 @@
--- All that holds of a sheet holds of one in which an array got its values.
-use Rattle.std.proofs.Common.{◌≡◌, ◌∙◌, refl, sym, ap, ap₂, subst, ℕ, ℤ, pos, Bool, true, false, cond, ◌||◌, List, Some, arith}
-use Rattle.std.proofs.lemmas.Bool.{and_from, both_ways}
-use Rattle.std.proofs.lemmas.Int.{ints}
+-- All that holds of a sheet holds of one in which an array got its values: it is put into a sheet in which it was released.
+use Rattle.std.proofs.Common.{◌≡◌, ◌∙◌, refl, sym, ap, subst, ℕ, ℤ, Bool, true, false, cond, ◌||◌, List, Option, Some, None}
+use Rattle.std.proofs.lemmas.Bool.{both_ways}
 use Rattle.std.specs.FinMap as finite
 use Rattle.std.specs.Option.{option_and_then, option_map, unwrap_or}
-use Rattle.std.specs.Prelude.{int_le, ◌+ℤ◌, ◌≤ℤ◌, ◌<ℤ◌}
-use Rattle.ic_laws.specs.Position.{is_column, is_row}
-use Rattle.ic_laws.specs.declared.reference.TheConstants.{LAST_COLUMN, LAST_ROW}
 use Rattle.ic_cells.specs.declared.cell.ArrayKind.{ArrayKind}
 use Rattle.ic_cells.specs.declared.cell.Cell.{Cell}
 use Rattle.ic_cells.specs.declared.layout.Merge.{Merge}
-use Rattle.ic_grid.proofs.ArrayLemmas.{array_there, one_shape, there}
-use Rattle.ic_grid.proofs.BlockLemmas.{area_bounds, first_in}
+use Rattle.ic_grid.proofs.ArrayLemmas.{there}
+use Rattle.ic_grid.proofs.BlockLemmas.{first_in}
 use Rattle.ic_grid.proofs.ContentsLemmas.{get-remade, same_is, same_turned}
+use Rattle.ic_grid.proofs.LoosenLemmas.{Loosens, loosened_arrays, loosened_merges}
+use Rattle.ic_grid.proofs.PlacedLemmas.{placed_arrays, placed_inside, placed_merges}
+use Rattle.ic_grid.proofs.PrepareLemmas.{and_at, released_inside, released_is, released_loosens}
 use Rattle.ic_grid.proofs.SpillFits.{Fits}
-use Rattle.ic_grid.proofs.WalkLemmas.{by_side, in_block}
-use Rattle.ic_grid.specs.Arrays.{array_from, array_of}
-use Rattle.ic_grid.specs.Block.{Place, block_at, first_place, is_area, is_in_block, is_in_sheet, is_single, same_place}
+use Rattle.ic_grid.proofs.WalkLemmas.{by_side}
+use Rattle.ic_grid.specs.Arrays.{anchor_at, anchor_of}
+use Rattle.ic_grid.specs.Block.{Place, first_place, is_in_block, same_place}
 use Rattle.ic_grid.specs.Conditions.{AreArrays, AreInSheet, AreMerges, Has}
 use Rattle.ic_grid.specs.Contents.{Contents}
-use Rattle.ic_grid.specs.Merges.{meets_merge}
-use Rattle.ic_grid.specs.Prepare.{unspilled, without_spill}
-use Rattle.ic_grid.specs.Shape.{Anchor, Empty, Shape, SpillOf, celled, emptied, is_empty, is_spill_of, shape_of}
+use Rattle.ic_grid.specs.Prepare.{anchor_reset, released, without_spill}
+use Rattle.ic_grid.specs.Shape.{Anchor, Empty, Formula, Shape, SpillOf, Value, celled, is_loose, shape_of}
 use Rattle.ic_grid.specs.Spill.{is_free}
 use Rattle.ic_grid.specs.Value.{shape_at}
-use Rattle.ic_grid.specs.declared.block.Array.{Array}
 use Rattle.ic_grid.specs.declared.block.Block.{Block}
 
-row_in : (n first last : ℤ) → pos 1 ≤ℤ first → first ≤ℤ n → n <ℤ last → last ≤ℤ pos 1048577 → is_row n ≡ true
-row_in n first last a b c d = and_from (int_le (pos 1) n) (int_le n LAST_ROW) (grind (arith, ints, a, b)) (grind (arith, ints, c, d))
+second : (x y : Bool) → (x || y) ≡ true → x ≡ false → y ≡ true
+second true y e f = cc
+second false y e f = e
 
-column_in : (n first last : ℤ) → pos 1 ≤ℤ first → first ≤ℤ n → n <ℤ last → last ≤ℤ pos 16385 → is_column n ≡ true
-column_in n first last a b c d = and_from (int_le (pos 1) n) (int_le n LAST_COLUMN) (grind (arith, ints, a, b)) (grind (arith, ints, c, d))
+-- what is free for the array of a formula is of no other array
+of_free : (a p c : Place) (s : Shape) → is_free a s ≡ true → anchor_of p s ≡ Some c → same_place c a ≡ true
+of_free a p c Empty f e = cc
+of_free a p c Value f e = cc
+of_free a p c Formula f e = cc
+of_free a p c (Anchor w t k) f e = cc
+of_free a p c (SpillOf d) f e =
+    let one : d ≡ c = cc in
+    same_turned c a ∙ ap (same_place a) (sym one) ∙ f
 
-area_inside : (b : Block) → is_area b ≡ true → (p : Place) → is_in_block b p ≡ true → is_in_sheet p ≡ true
-area_inside b area p within =
-    let s = area_bounds b area in
-    let i = in_block b p within in
-    and_from (is_row p.0) (is_column p.1) (row_in p.0 b.row (b.row +ℤ b.height) s.row i.top i.bottom s.last_row) (column_in p.1 b.column (b.column +ℤ b.width) s.column i.left i.right s.last_column)
-
-no_shape : {P : Type 0} (w t : ℤ) (k : ArrayKind) (a : Place) → Anchor w t k ≡ SpillOf a → P
-no_shape w t k a e = cc
-
-module _ (merges : List Merge) (m after : Contents Cell) (b : Block) (count : ℕ) (kind : ArrayKind) (w0 t0 : ℤ) (ok : AreArrays celled m) (old : Has celled m (first_place b) (Anchor w0 t0 kind)) (fits : Fits merges m b count)
+module _ (merges : List Merge) (m after : Contents Cell) (b : Block) (count : ℕ) (kind : ArrayKind) (w0 t0 : ℤ) (inside : AreInSheet celled m) (ok : AreArrays celled m) (old : Has celled m (first_place b) (Anchor w0 t0 kind)) (fits : Fits merges m b count)
     (now : Has celled after (first_place b) (Anchor b.width b.height kind)) (rest : (p : Place) → is_in_block b p ≡ true → same_place p (first_place b) ≡ false → Has celled after p (SpillOf (first_place b)))
     (away : (p : Place) → is_in_block b p ≡ false → finite.get after p ≡ finite.get (without_spill celled (first_place b) m) p) where
   abbrev a : Place
   a = first_place b
 
-  a_in : is_in_block b a ≡ true
-  a_in = first_in a b.width b.height fits.area
+  -- the sheet in which the array is released
+  abbrev between : Contents Cell
+  between = released celled a m
 
-  was : (p : Place) (s : Shape) → is_in_block b p ≡ false → Has celled after p s → is_empty s ≡ false → Has celled m p s × (is_spill_of a s ≡ false)
-  was p s out has full =
-      let t = there (λ x. Some (unspilled celled a x)) (finite.get m p) has.0 (sym (get-remade _ m p) ∙ sym (away p out) ∙ has.1) in
-      let some : Some (unspilled celled a t.0) ≡ Some has.0 = t.2 in
-      let same : unspilled celled a t.0 ≡ has.0 = cc in
-      by_side (is_spill_of a (shape_of t.0))
-      (λ u.
-      let empty : s ≡ Empty = sym has.2 ∙ ap shape_of (sym same) ∙ ap (λ v. let y : Cell = cond v (emptied celled t.0) t.0 in shape_of y) u in
-      absurd (both_ways (is_empty s) full (ap is_empty empty)))
-      (λ u.
-      let one : t.0 ≡ has.0 = sym (ap (λ v. let y : Cell = cond v (emptied celled t.0) t.0 in y) u) ∙ same in
-      let shape : shape_of t.0 ≡ s = ap shape_of one ∙ has.2 in
-      ((t.0, t.1, shape), ap (is_spill_of a) (sym shape) ∙ u))
+  abbrev test : Place → Bool
+  test = and_at (λ c. false) a
 
-  still : (p : Place) (s : Shape) → is_in_block b p ≡ false → Has celled m p s → is_spill_of a s ≡ false → Has celled after p s
-  still p s out has u = (
-    has.0,
-    away p out ∙ get-remade _ m p ∙ ap (option_and_then (λ x. Some (unspilled celled a x))) has.1 ∙ ap (λ v. let y : Cell = cond v (emptied celled has.0) has.0 in Some y) (ap (is_spill_of a) has.2 ∙ u),
-    has.2,
-  )
+  loosens : Loosens celled m between test
+  loosens = subst (λ (c : Contents Cell). Loosens celled m c test) (sym (released_is m a)) (released_loosens m test)
 
-  none_free : (x y z : Bool) → (x || (y || z)) ≡ true → x ≡ false → y ≡ false → z ≡ true
-  none_free true y z e f g = cc
-  none_free false true z e f g = cc
-  none_free false false z e f g = e
+  still_inside : AreInSheet celled between
+  still_inside = subst (λ (c : Contents Cell). AreInSheet celled c) (sym (released_is m a)) (released_inside m test inside)
 
-  out_of : (p : Place) (s : Shape) → Has celled m p s → same_place p a ≡ false → is_empty s ≡ false → is_spill_of a s ≡ false → is_in_block b p ≡ false
-  out_of p s has other full u =
-      by_side (is_in_block b p)
-      (λ i.
-      let shape : shape_at celled m p ≡ s = ap (λ o. unwrap_or (option_map shape_of o) Empty) has.1 ∙ has.2 in
-      absurd (both_ways (is_spill_of a s) u (none_free (same_place p a) (is_empty s) (is_spill_of a s) (ap (λ z. same_place p a || is_free a z) (sym shape) ∙ fits.free p i) other full)))
-      (λ i. i)
+  still_arrays : AreArrays celled between
+  still_arrays = loosened_arrays celled m between test loosens ok still_inside
 
-  other_place : (p : Place) → is_in_block b p ≡ false → same_place p a ≡ false
-  other_place p out = by_side (same_place p a) (λ s. absurd (both_ways (is_in_block b p) out (ap (is_in_block b) (same_is p a s) ∙ a_in))) (λ s. s)
-
-  -- the array of a formula in the block is the new one
-  in_anchor : (p : Place) (w t : ℤ) (k : ArrayKind) → Has celled after p (Anchor w t k) → is_in_block b p ≡ true → (p ≡ a) × (block_at p w t ≡ b)
-  in_anchor p w t k has i = by_side (same_place p a) here elsewhere
+  -- each place of the block is of no other array
+  of_block : (p c : Place) → is_in_block b p ≡ true → anchor_at celled m p ≡ Some c → same_place c a ≡ true
+  of_block p c within anchor = by_side (same_place p a) here elsewhere
     where
-      here : same_place p a ≡ true → (p ≡ a) × (block_at p w t ≡ b)
+      x : (x : Cell) × (finite.get m p ≡ Some x) × (anchor_of p (shape_of x) ≡ Some c)
+      x = there (λ x. anchor_of p (shape_of x)) (finite.get m p) c anchor
+
+      here : same_place p a ≡ true → same_place c a ≡ true
       here s =
           let is : p ≡ a = same_is p a s in
-          let there_now : Has celled after a (Anchor w t k) = subst (λ (q : Place). Has celled after q (Anchor w t k)) is has in
-          let same : Anchor w t k ≡ Anchor b.width b.height kind = one_shape celled after a (Anchor w t k) (Anchor b.width b.height kind) there_now now in
-          let wide : w ≡ b.width = cc in
-          let high : t ≡ b.height = cc in
-          (is, ap (λ (q : Place). block_at q w t) is ∙ ap₂ (λ (n l : ℤ). block_at a n l) wide high)
+          let both : Some x.0 ≡ Some old.0 = sym x.1 ∙ ap (finite.get m) is ∙ old.1 in
+          let one : x.0 ≡ old.0 = cc in
+          let anchors : Some p ≡ Some c = sym (ap (anchor_of p) (ap shape_of one ∙ old.2)) ∙ x.2 in
+          let same : p ≡ c = cc in
+          ap (λ (q : Place). same_place q a) (sym same) ∙ s
 
-      elsewhere : same_place p a ≡ false → (p ≡ a) × (block_at p w t ≡ b)
-      elsewhere s = no_shape w t k a (one_shape celled after p (Anchor w t k) (SpillOf a) has (rest p i s))
+      elsewhere : same_place p a ≡ false → same_place c a ≡ true
+      elsewhere s =
+          let shape : shape_at celled m p ≡ shape_of x.0 = ap (λ o. unwrap_or (option_map shape_of o) Empty) x.1 in
+          of_free a p c (shape_of x.0) (ap (is_free a) (sym shape) ∙ second (same_place p a) (is_free a (shape_at celled m p)) (fits.free p within) s) x.2
+
+  loose : (p : Place) (x : Cell) → is_in_block b p ≡ true → finite.get between p ≡ Some x → is_loose (shape_of x) ≡ true
+  loose p x within e = loosens.loose p (λ c anchor. of_block p c within anchor) x e
+
+  outside : (p : Place) → is_in_block b p ≡ false → finite.get after p ≡ finite.get between p
+  outside p out = away p out ∙ sym (get-remade _ (without_spill celled a m) p ∙ stays (finite.get (without_spill celled a m) p) (same_place p a) other)
+    where
+      other : same_place p a ≡ false
+      other = by_side (same_place p a) (λ s. absurd (both_ways (is_in_block b p) out (ap (is_in_block b) (same_is p a s) ∙ first_in a b.width b.height fits.area))) (λ s. s)
+
+      stays : (o : Option Cell) (t : Bool) → t ≡ false → option_and_then (λ x. Some (cond t (anchor_reset celled x) x)) o ≡ o
+      stays None t e = refl
+      stays (Some x) true e = cc
+      stays (Some x) false e = refl
 
   pub spilled_arrays : AreArrays celled after
-  spilled_arrays = record { areas = areas; filled = filled; owned = owned }
-    where
-      areas : (p : Place) (w t : ℤ) (k : ArrayKind) → Has celled after p (Anchor w t k) → is_area (block_at p w t) ≡ true
-      areas p w t k has =
-          by_side (is_in_block b p) (λ i. ap is_area (in_anchor p w t k has i).1 ∙ fits.area)
-          (λ out. ok.areas p w t k (was p (Anchor w t k) out has refl).0)
+  spilled_arrays = placed_arrays between after b kind fits.area still_arrays loose now rest outside
 
-      filled : (c p : Place) (w t : ℤ) (k : ArrayKind) → Has celled after c (Anchor w t k) → is_in_block (block_at c w t) p ≡ true → same_place p c ≡ false → Has celled after p (SpillOf c)
-      filled c p w t k has within other = by_side (is_in_block b c) here elsewhere
-        where
-          here : is_in_block b c ≡ true → Has celled after p (SpillOf c)
-          here i =
-              let is = in_anchor c w t k has i in
-              subst (λ (q : Place). Has celled after p (SpillOf q)) (sym is.0) (rest p (ap (λ (d : Block). is_in_block d p) (sym is.1) ∙ within) (ap (same_place p) (sym is.0) ∙ other))
-
-          elsewhere : is_in_block b c ≡ false → Has celled after p (SpillOf c)
-          elsewhere out =
-              let spill = ok.filled c p w t k (was c (Anchor w t k) out has refl).0 within other in
-              let apart : same_place a c ≡ false = same_turned a c ∙ other_place c out in
-              let not_a : same_place p a ≡ false =
-              by_side (same_place p a)
-              (λ s. no_shape w0 t0 kind c (one_shape celled m a (Anchor w0 t0 kind) (SpillOf c) old (subst (λ (q : Place). Has celled m q (SpillOf c)) (same_is p a s) spill))) (λ s. s) in
-              still p (SpillOf c) (out_of p (SpillOf c) spill not_a refl apart) spill apart
-
-      owned : (c p : Place) → Has celled after p (SpillOf c) → (w : ℤ) × (t : ℤ) × (k : ArrayKind) × Has celled after c (Anchor w t k) × (is_in_block (block_at c w t) p ≡ true)
-      owned c p has = by_side (is_in_block b p) here elsewhere
-        where
-          here : is_in_block b p ≡ true → (w : ℤ) × (t : ℤ) × (k : ArrayKind) × Has celled after c (Anchor w t k) × (is_in_block (block_at c w t) p ≡ true)
-          here i = by_side (same_place p a) at_a at_rest
-            where
-              at_a : same_place p a ≡ true → (w : ℤ) × (t : ℤ) × (k : ArrayKind) × Has celled after c (Anchor w t k) × (is_in_block (block_at c w t) p ≡ true)
-              at_a s = no_shape b.width b.height kind c (one_shape celled after a (Anchor b.width b.height kind) (SpillOf c) now (subst (λ (q : Place). Has celled after q (SpillOf c)) (same_is p a s) has))
-
-              at_rest : same_place p a ≡ false → (w : ℤ) × (t : ℤ) × (k : ArrayKind) × Has celled after c (Anchor w t k) × (is_in_block (block_at c w t) p ≡ true)
-              at_rest s =
-                  let same : SpillOf a ≡ SpillOf c = one_shape celled after p (SpillOf a) (SpillOf c) (rest p i s) has in
-                  let one : a ≡ c = cc in
-                  (b.width, b.height, kind, subst (λ (q : Place). Has celled after q (Anchor b.width b.height kind)) one now, ap (λ (q : Place). is_in_block (block_at q b.width b.height) p) (sym one) ∙ i)
-
-          elsewhere : is_in_block b p ≡ false → (w : ℤ) × (t : ℤ) × (k : ArrayKind) × Has celled after c (Anchor w t k) × (is_in_block (block_at c w t) p ≡ true)
-          elsewhere out =
-              let before = was p (SpillOf c) out has refl in
-              let o = ok.owned c p before.0 in
-              (o.0, o.1, o.2, still c (Anchor o.0 o.1 o.2) (out_of c (Anchor o.0 o.1 o.2) o.3 (same_turned c a ∙ before.1) refl refl) o.3 refl, o.4)
-
-  pub spilled_inside : AreInSheet celled m → AreInSheet celled after
-  spilled_inside inside p x e =
-      by_side (is_in_block b p) (area_inside b fits.area p)
-      (λ out.
-      let t = there (λ x. Some (unspilled celled a x)) (finite.get m p) x (sym (get-remade _ m p) ∙ sym (away p out) ∙ e) in
-      inside p t.0 t.1)
+  pub spilled_inside : AreInSheet celled after
+  spilled_inside = placed_inside between after b kind fits.area still_arrays loose now rest outside still_inside
 
   pub spilled_merges : AreMerges celled m merges → AreMerges celled after merges
-  spilled_merges good = record { areas = good.areas; apart = good.apart; arrays = arrays }
-    where
-      arrays : (c : Place) (array : Array) → array_of celled after c ≡ Some array → is_single array.block ≡ false → meets_merge merges array.block ≡ false
-      arrays c array e many =
-          let t = array_there celled after c array e in
-          by_side (is_in_block b c)
-          (λ i.
-          let same : b ≡ array.block = sym (in_anchor c t.0 t.1 t.2 t.3 i).1 ∙ ap (λ (r : Array). r.block) t.4 in
-          ap (meets_merge merges) (sym same) ∙ fits.apart (ap is_single same ∙ many))
-          (λ out.
-          let before = was c (Anchor t.0 t.1 t.2) out t.3 refl in
-          good.arrays c array (ap (option_and_then (λ x. array_from c (shape_of x))) before.0.1 ∙ ap (array_from c) before.0.2 ∙ ap Some t.4) many)
+  spilled_merges good = placed_merges between after b kind fits.area still_arrays loose now rest outside merges fits.apart (loosened_merges celled m between test loosens merges good)

@@ -12,6 +12,7 @@ use Rattle.ic_laws.proofs.core.CellWritten.{place_cmp_total}
 use Rattle.ic_grid.proofs.ArrayLemmas.{in_area, one_shape, spill_shape, whole_spill}
 use Rattle.ic_grid.proofs.BlockLemmas.{first_in}
 use Rattle.ic_grid.proofs.ContentsLemmas.{get-remade, same_contents, same_is, same_itself}
+use Rattle.ic_grid.proofs.ReleaseLemmas.{there_array}
 use Rattle.ic_grid.proofs.RowLemmas.{IsAt, at_first, first_left, placed_away}
 use Rattle.ic_grid.proofs.SpreadLemmas.{spread_at, spread_length}
 use Rattle.ic_grid.proofs.WalkLemmas.{by_side}
@@ -23,24 +24,6 @@ use Rattle.ic_grid.specs.Rows.{IsFull, place_count, placed, spread_from}
 use Rattle.ic_grid.specs.Shape.{Anchor, Empty, Formula, SpillOf, celled, emptied, formula_of, is_cse, is_spill_of, shape_of, spread}
 use Rattle.ic_grid.specs.Value.{IsArrayThere, formula_array, is_cse_anchor, shape_at, valued, valued_cell}
 use Rattle.ic_grid.specs.declared.block.Array.{Array}
-
--- what stands where an array formula does
-pub there_array : (p : Place) (o : Option Cell) (f s : ℕ) (array : Array) → formula_array p o ≡ Some (f, s, array)
-    → (v : FormulaValue) × (o ≡ Some (cells.ArrayFormula f s (array.block.width, array.block.height) array.kind v)) × (block_at p array.block.width array.block.height ≡ array.block)
-there_array p None f s array e = cc
-there_array p (Some (cells.EmptyCell n)) f s array e = cc
-there_array p (Some (cells.BooleanCell v n)) f s array e = cc
-there_array p (Some (cells.NumberCell v n)) f s array e = cc
-there_array p (Some (cells.ErrorCell v n)) f s array e = cc
-there_array p (Some (cells.SharedString v n)) f s array e = cc
-there_array p (Some (cells.CellFormula g n v)) f s array e = cc
-there_array p (Some (cells.SpillCell n b v)) f s array e = cc
-there_array p (Some (cells.ArrayFormula g n r k v)) f s array e =
-    let same : ◌≡◌ {A = ℕ × ℕ × Array} (g, n, record { block = block_at p r.0 r.1; kind = k }) (f, s, array) = cc in (
-      v,
-      ap (λ (z : ℕ × ℕ × Array). Some (cells.ArrayFormula z.0 z.1 (z.2.block.width, z.2.block.height) z.2.kind v)) same,
-      ap (λ (z : ℕ × ℕ × Array). block_at p z.2.block.width z.2.block.height) (sym same) ∙ ap (λ (z : ℕ × ℕ × Array). z.2.block) same,
-    )
 
 module _ (m : Contents Cell) (ok : AreArrays celled m) (f s : ℕ) (array : Array) (is : IsArrayThere m f s array) where
   abbrev a : Place

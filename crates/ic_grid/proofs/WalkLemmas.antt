@@ -5,7 +5,7 @@ use Rattle.std.proofs.lemmas.Int.{ints}
 use Rattle.std.specs.BTreeMap as tree
 use Rattle.std.specs.BTreeMap.{BTreeMap, is_at}
 use Rattle.std.specs.Map.{lookup}
-use Rattle.ic_laws.proofs.core.CellWritten.{place_cmp_total}
+use Rattle.std.specs.Cmp.{IsTotalOrder}
 use Rattle.std.specs.BTreeMap.Range.{IsEntryInRange, IsLeBy, IsRangeOf}
 use Rattle.std.specs.List.{slice_get}
 use Rattle.std.specs.Option.{IfNone, IfSome}
@@ -13,6 +13,7 @@ use Rattle.std.specs.declared.ops.Bound.TheVariants.{Included, Unbounded}
 use Rattle.std.specs.FinMap as finite
 use Rattle.std.specs.Prelude.{int_le, int_lt, ◌+ℤ◌, ◌≤ℤ◌, ◌<ℤ◌}
 use Rattle.std.specs.Ordering.{is_eq, is_gt, ordering_then}
+use Rattle.std.specs.declared.cmp.Ordering.{Ordering}
 use Rattle.std.specs.declared.cmp.Ordering.TheVariants.{Less, Equal, Greater}
 use Rattle.ic_cells.specs.Maps.{place_cmp}
 use Rattle.ic_grid.specs.Block.{Place, is_between, is_in_block, is_in_span}
@@ -125,13 +126,13 @@ pub not_from : (p q : Place) → is_from p q ≡ false → (q.0 ≤ℤ p.0)
 unfolding is_from
 not_from p q e = grind (arith, ints)
 
-find_is : {X : Type 0} (es : List (Place × X)) (q : Place) → finite.find place_cmp q es ≡ lookup (is_at (place_cmp q)) es
-find_is [] q = refl
-find_is (e ∷ es) q = ap (cond (is_at (place_cmp q) e.0) (Some e.1)) (find_is es q)
+find_is : {K X : Type 0} (R : K → K → Ordering) (es : List (K × X)) (q : K) → finite.find R q es ≡ lookup (is_at (R q)) es
+find_is R [] q = refl
+find_is R (e ∷ es) q = ap (cond (is_at (R q) e.0) (Some e.1)) (find_is R es q)
 
 -- what an ordered map has is what the finite map has
-pub map_get : {X : Type 0} (m : BTreeMap Place X) (v : Contents X) → finite.from_entries m.entries ≡ v → (q : Place) → tree.get place_cmp m q ≡ finite.get v q
-map_get {X = X} m v e q = sym (ap (λ (w : Contents X). finite.get w q) (sym e) ∙ finite.get-from_entries place_cmp_total m.entries q ∙ find_is m.entries q)
+pub map_get : {K X : Type 0} {R : K → K → Ordering} → IsTotalOrder R → (m : BTreeMap K X) (v : finite.FinMap R X) → finite.from_entries m.entries ≡ v → (q : K) → tree.get R m q ≡ finite.get v q
+map_get {X = X} {R = R} o m v e q = sym (ap (λ (w : finite.FinMap R X). finite.get w q) (sym e) ∙ finite.get-from_entries o m.entries q ∙ find_is R m.entries q)
 
 -- in an order, each is before itself, and before what is behind what it is before
 pub from_itself : (p : Place) → is_from p p ≡ true

@@ -58,14 +58,18 @@ module _ {X : Type 0} (h : Holding X) (m : Contents X) where
   abbrev pub is_fixed_at : Place → Bool
   is_fixed_at p = is_fixed (array_at p)
 
-  -- some place of a block does
-  abbrev pub has_fixed : Block → Bool
-  has_fixed b = list_any (λ p. is_in_block b p && is_fixed_at p) (finite.keys m)
+  -- what a place of a block belongs to, an array or none, passes a test
+  abbrev pub has_in : Block → (Option Array → Bool) → Bool
+  has_in b test = list_any (λ p. is_in_block b p && test (array_at p)) (finite.keys m)
 
-  -- some place of a block belongs to an array that is looked for
-  abbrev pub has_sought : Sought → Block → Bool
-  has_sought kind b = list_any (λ p. is_in_block b p && is_sought kind b (array_at p)) (finite.keys m)
+  -- some place of a block belongs to a Cse array of more than one cell
+  abbrev pub has_fixed : Block → Bool
+  has_fixed b = has_in b is_fixed
 
   -- such an array lies partly in a block
   abbrev pub has_cut : Block → Bool
-  has_cut b = list_any (λ p. is_in_block b p && is_cut_by b (array_at p)) (finite.keys m)
+  has_cut b = has_in b (is_cut_by b)
+
+  -- some place of a block belongs to an array that is looked for
+  abbrev pub has_sought : Sought → Block → Bool
+  has_sought kind b = has_in b (is_sought kind b)

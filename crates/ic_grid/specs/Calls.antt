@@ -1,13 +1,13 @@
 -- What the calls on a sheet's cells answer, by their refusals in order.
-use Rattle.std.specs.Prelude.{◌≡◌, ◌⊎◌, ℕ, Bool, not, ◌||◌, List, Option, Some, None, Result, Ok, Err, if◌then◌else◌}
+use Rattle.std.specs.Prelude.{◌≡◌, ◌⊎◌, ℕ, Bool, not, List, Option, Some, None, Result, Ok, Err, if◌then◌else◌}
 use Rattle.ic_cells.specs.declared.layout.Merge.{Merge}
 use Rattle.ic_grid.specs.Arrays.{has_cut, has_fixed, is_fixed_at}
-use Rattle.ic_grid.specs.Block.{Place, first_place, is_single}
+use Rattle.ic_grid.specs.Block.{Place, first_place}
 use Rattle.ic_grid.specs.Contents.{Contents}
 use Rattle.ic_grid.specs.Merges.{is_covered, meets_merge}
 use Rattle.ic_grid.specs.Shape.{Holding, Shape, is_anchor, is_formula}
-use Rattle.ic_grid.specs.Spill.{first_of_blocking, misfits}
-use Rattle.ic_grid.specs.Value.{is_cse_anchor, shape_at}
+use Rattle.ic_grid.specs.Spill.{first_to_block, misfits}
+use Rattle.ic_grid.specs.Value.{shape_at}
 use Rattle.ic_grid.specs.declared.block.Block.{Block}
 use Rattle.ic_grid.specs.declared.error.GridError.{GridError}
 use Rattle.ic_grid.specs.declared.error.GridError.TheVariants as errors
@@ -52,8 +52,7 @@ module _ {X : Type 0} (h : Holding X) (merges : List Merge) (m : Contents X) whe
   abbrev pub spill_answer : Block → ℕ → Shape → Answer
   spill_answer b count shape =
       refused_by (not (is_anchor shape)) errors.NoFormulaCell
-      (refused_by (misfits b count shape) errors.BadArea
-      (if is_cse_anchor shape || is_single b then Ok tt else blocked_by (first_of_blocking h merges m (first_place b) b count (first_place b))))
+      (refused_by (misfits b count shape) errors.BadArea (blocked_by (first_to_block h merges m b count shape)))
 
   abbrev pub can_spill : Block → ℕ → Answer
   can_spill b count = spill_answer b count (shape_at h m (first_place b))

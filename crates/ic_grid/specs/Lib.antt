@@ -16,3 +16,4 @@ pub mod Style
 pub mod Value
 pub mod Walk
 pub mod Whole
+pub mod Written

@@ -1,8 +1,8 @@
 -- What becomes of a sheet when a cell is written: the array that the place belongs to is released first.
-use Rattle.std.specs.Prelude.{ℕ, zero, suc, true, Option, Some, None, if◌then◌else◌}
+use Rattle.std.specs.Prelude.{true, Option, Some, None, if◌then◌else◌}
 use Rattle.std.specs.FinMap as finite
 use Rattle.ic_grid.specs.Arrays.{anchor_at, array_at, reaches}
-use Rattle.ic_grid.specs.Block.{Place, next_place, same_place}
+use Rattle.ic_grid.specs.Block.{Place, same_place}
 use Rattle.ic_grid.specs.Contents.{Contents, changed_where, remade}
 use Rattle.ic_grid.specs.Shape.{Holding, emptied, is_anchor, is_spill_of, reset}
 use Rattle.ic_grid.specs.declared.block.Block.{Block}
@@ -32,11 +32,6 @@ module _ {X : Type 0} (h : Holding X) where
   -- a place is prepared for writing: the array that it belongs to, if any, is released
   abbrev pub prepared : Place → Contents X → Contents X
   prepared p m = released_if (anchor_at h m p) m
-
-  -- so are so many places of a block, by rows from one on
-  abbrev pub all_prepared : Block → ℕ → Place → Contents X → Contents X
-  all_prepared b zero p m = m
-  all_prepared b (suc n) p m = all_prepared b n (next_place b p) (prepared p m)
 
   -- what becomes of a cell of an array that is released: the formula is reset, a cell of the spill emptied
   abbrev pub loosened : X → X

@@ -119,11 +119,6 @@ abbrev pub spill_of : Option Cell → Option (ℕ × Place)
 spill_of (Some (cells.SpillCell s a v)) = Some (s, a)
 spill_of cell = None
 
--- the place of the formula, the style and the kind of an array formula
-abbrev pub array_formula_of : Option Cell → Option (ℕ × ℕ × ArrayKind)
-array_formula_of (Some (cells.ArrayFormula f s r kind v)) = Some (f, s, kind)
-array_formula_of cell = None
-
 -- the place of the formula and the style of a formula with one value
 abbrev pub formula_of : Option Cell → Option (ℕ × ℕ)
 formula_of (Some (cells.CellFormula f s v)) = Some (f, s)

@@ -1,7 +1,6 @@
 -- What becomes of a sheet when an array is written or gets its values, and which cell blocks a spill.
-use Rattle.std.specs.Prelude.{ℕ, zero, suc, ℤ, pos, ◌*ℤ◌, Bool, true, false, not, ◌&&◌, ◌||◌, List, [], ◌∷◌, Option, Some, None, if◌then◌else◌}
+use Rattle.std.specs.Prelude.{ℕ, zero, suc, ℤ, pos, ◌*ℤ◌, Bool, false, not, ◌&&◌, ◌||◌, List, [], ◌∷◌, Option, Some, None, if◌then◌else◌}
 use Rattle.std.specs.FinMap as finite
-use Rattle.std.specs.Option.{option_map, unwrap_or}
 use Rattle.std.specs.Ordering.{int_eq}
 use Rattle.ic_cells.specs.Style as styling
 use Rattle.ic_cells.specs.declared.cell.ArrayKind.{ArrayKind}
@@ -15,8 +14,8 @@ use Rattle.ic_cells.specs.declared.value.SpillValue.TheVariants as spills
 use Rattle.ic_grid.specs.Block.{Place, first_place, has_places, is_in_sheet, is_single, next_place, same_place}
 use Rattle.ic_grid.specs.Contents.{Contents}
 use Rattle.ic_grid.specs.Merges.{is_merged}
-use Rattle.ic_grid.specs.Prepare.{all_prepared, without_spill}
-use Rattle.ic_grid.specs.Shape.{Holding, Shape, Anchor, celled, gathered, is_empty, is_spill_of, shape_of}
+use Rattle.ic_grid.specs.Prepare.{loosened_in, without_spill}
+use Rattle.ic_grid.specs.Shape.{Holding, Shape, Anchor, celled, gathered, is_empty, is_spill_of}
 use Rattle.ic_grid.specs.Style.{Columns, Rows, style_at}
 use Rattle.ic_grid.specs.Value.{is_cse_anchor, shape_at}
 use Rattle.ic_grid.specs.declared.block.Block.{Block}
@@ -36,9 +35,6 @@ misfits b count shape =
 abbrev pub is_free : Place → Shape → Bool
 is_free a shape = is_empty shape || is_spill_of a shape
 
-abbrev pub is_free_there : Place → Option Cell → Bool
-is_free_there a o = unwrap_or (option_map (λ x. is_free a (shape_of x)) o) true
-
 module _ {X : Type 0} (h : Holding X) where
   -- a place keeps the array of the formula at another, `a`, from spilling: it is past the edge of the sheet, or one of
   -- merged cells, or holds something else than a cell of this array's spill
@@ -52,12 +48,15 @@ module _ {X : Type 0} (h : Holding X) where
   first_of_blocking merges m a b (suc n) q =
       if blocks merges m a q then Some q else first_of_blocking merges m a b n (next_place b q)
 
-  -- the first place of a block of so many places, by rows, that keeps the formula at its first place from spilling. A
-  -- Cse array and a block of one place are kept by none.
+  -- the first place of a block of so many places, by rows, that keeps a formula of this shape at its first place from
+  -- spilling. A Cse array and a block of one place are kept by none.
+  abbrev pub first_to_block : List Merge → Contents X → Block → ℕ → Shape → Option Place
+  first_to_block merges m b count shape =
+      if is_cse_anchor shape || is_single b then None else first_of_blocking merges m (first_place b) b count (first_place b)
+
+  -- the same for the formula that stands there
   abbrev pub first_blocking : List Merge → Contents X → Block → ℕ → Option Place
-  first_blocking merges m b count =
-      if is_cse_anchor (shape_at h m (first_place b)) || is_single b then None
-      else first_of_blocking merges m (first_place b) b count (first_place b)
+  first_blocking merges m b count = first_to_block merges m b count (shape_at h m (first_place b))
 
   -- the formula that stands at a place, if one does, gets this area and this value
   abbrev pub with_first : Block → SpillValue → Option X → Contents X → Contents X
@@ -96,12 +95,12 @@ module _ {X : Type 0} (h : Holding X) (rows : Rows) (columns : Columns) where
   with_blanks b (suc n) q m styles =
       with_blanks b n (next_place b q) (finite.insert m q (h.spill (written_style m styles q).0 (first_place b) (spills.Text []))) (written_style m styles q).1
 
-  -- a Cse array with this formula is written into a block of so many places and one: each place is prepared, the formula
-  -- stands at the first, without a value, and the others have the empty text
+  -- a Cse array with this formula is written into a block of so many places and one: each array with a cell in it is
+  -- released, the formula stands at the first place, without a value, and the others have the empty text
   abbrev pub array_written : Block → ℕ → ℕ → Contents X → List Style → Contents X × List Style
   array_written b more f m styles =
       with_blanks b more (next_place b (first_place b))
-      (finite.insert (all_prepared h b (suc more) (first_place b) m) (first_place b) (h.array f (written_style m styles (first_place b)).0 b.width b.height kinds.Cse))
+      (finite.insert (loosened_in h b m) (first_place b) (h.array f (written_style m styles (first_place b)).0 b.width b.height kinds.Cse))
       (written_style m styles (first_place b)).1
 
 -- for each of these values, by rows from a place of a block on, a cell of its spill in the style of its place

@@ -1,8 +1,10 @@
 //! Which array a place belongs to.
 ghost use Rattle.std.specs.Prelude.{◌≡◌, true};
+ghost use Rattle.std.specs.FinMap as finite;
 ghost use Rattle.ic_grid.specs.Arrays.{anchor_at, array_at, array_of, has_sought, is_cut_by, is_fixed, is_fixed_at, is_sought};
 ghost use Rattle.ic_grid.specs.Block.{is_area};
 ghost use Rattle.ic_grid.specs.Shape.{celled};
+ghost use Rattle.ic_grid.specs.Value.{formula_array};
 
 use crate::changes::right_of;
 use crate::walk::next_in;
@@ -16,6 +18,23 @@ pub fn anchor_at(cells: &PlaceMap<Cell>, place: (i32, i32)) -> Option<(i32, i32)
     match cells.get(place.0, place.1) {
         Some(Cell::ArrayFormula { .. }) => Some(place),
         Some(Cell::SpillCell { a, .. }) => Some(*a),
+        _ => None,
+    }
+}
+
+/// The formula, the style and the array of the array formula at a place, if one stands there.
+pub fn formula_array(cells: &PlaceMap<Cell>, place: (i32, i32)) -> Option<(usize, usize, Array)>
+    ensures { result ≡ formula_array place (finite.get cells.now place) }
+{
+    match cells.get(place.0, place.1) {
+        Some(Cell::ArrayFormula { f, s, r, kind, .. }) => Some((
+            *f,
+            *s,
+            Array {
+                block: Block::at(place, r.0, r.1),
+                kind: *kind,
+            },
+        )),
         _ => None,
     }
 }

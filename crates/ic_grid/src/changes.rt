@@ -10,12 +10,13 @@ ghost use Rattle.std.specs.Option.{unwrap_or};
 ghost use Rattle.ic_grid.specs.Contents.{changed_where};
 ghost use Rattle.ic_grid.specs.Prepare.{anchor_reset, unspilled};
 ghost use Rattle.ic_grid.specs.Rows.{IsFull, place_count, placed, style_or_zero};
-ghost use Rattle.ic_grid.specs.Shape.{array_formula_of, celled, spill_of};
+ghost use Rattle.ic_grid.specs.Shape.{celled, spill_of};
 
 use crate::Block;
+use crate::arrays::formula_array;
 use crate::block::is_same;
 use crate::walk::next_in;
-use ic_cells::{ArrayKind, Cell, FormulaValue, PlaceMap};
+use ic_cells::{Cell, FormulaValue, PlaceMap};
 
 /// Puts a cell where one stands.
 pub fn replace(cells: &mut PlaceMap<Cell>, place: (i32, i32), cell: Cell)
@@ -34,16 +35,6 @@ fn spill_at(cells: &PlaceMap<Cell>, place: (i32, i32)) -> Option<(usize, (i32, i
 {
     match cells.get(place.0, place.1) {
         Some(Cell::SpillCell { s, a, .. }) => Some((*s, *a)),
-        _ => None,
-    }
-}
-
-/// The formula, the style and the kind of the array formula at a place, if one stands there.
-fn formula_at(cells: &PlaceMap<Cell>, place: (i32, i32)) -> Option<(usize, usize, ArrayKind)>
-    ensures { result ≡ array_formula_of (finite.get cells.now place) }
-{
-    match cells.get(place.0, place.1) {
-        Some(Cell::ArrayFormula { f, s, kind, .. }) => Some((*f, *s, *kind)),
         _ => None,
     }
 }
@@ -94,12 +85,12 @@ pub fn unspill_block(cells: &mut PlaceMap<Cell>, block: &Block)
 pub fn reset(cells: &mut PlaceMap<Cell>, place: (i32, i32))
     ensures { cells.new ≡ changed_where (λ q. same_place q place) (anchor_reset celled) cells.old }
 {
-    if let Some((f, s, kind)) = formula_at(cells, place) {
+    if let Some((f, s, array)) = formula_array(cells, place) {
         let cell = Cell::ArrayFormula {
             f,
             s,
             r: (1, 1),
-            kind,
+            kind: array.kind,
             v: FormulaValue::Unevaluated,
         };
         replace(cells, place, cell);

@@ -53,6 +53,14 @@ impl Grid {
         }
     }
 
+    /// The same, for a row and a column as one.
+    pub(crate) fn style_of_place(&self, place: (i32, i32)) -> usize
+        ensures { result
+            ≡ style_at celled self.now.cells self.now.rows self.now.columns place }
+    {
+        self.style_at(place.0, place.1)
+    }
+
     /// Whether a cell can be written: Ok, or why it can't. `MergedPart` comes exactly where merged cells cover the place, and
     /// then `ArrayPart` exactly where it belongs to a Cse array of more than one cell. No memory is taken.
     pub fn can_write(&self, row: i32, column: i32) -> Result<(), GridError>

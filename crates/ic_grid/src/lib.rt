@@ -13,9 +13,11 @@ mod prepare;
 mod room;
 mod spill;
 mod start;
+mod styled;
 mod value;
 mod walk;
 mod write;
+mod write_array;
 
 pub use block::{Array, Block};
 pub use error::GridError;

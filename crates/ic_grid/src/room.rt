@@ -2,7 +2,7 @@
 ghost use Rattle.std.specs.Prelude.{◌≡◌, true, OnErr, OnOk};
 ghost use Rattle.ic_grid.specs.Block.{is_area};
 ghost use Rattle.ic_grid.specs.Conditions.{AreArrays, AreInSheet};
-ghost use Rattle.ic_grid.specs.Room.{HasRoom, IsMarked, marked_at};
+ghost use Rattle.ic_grid.specs.Room.{IsMarked, IsPadded, marked_at};
 ghost use Rattle.ic_grid.specs.Rows.{IsFull};
 ghost use Rattle.ic_grid.specs.Shape.{celled};
 
@@ -43,12 +43,13 @@ fn mark_all(cells: &mut PlaceMap<Cell>, block: &Block) -> Result<(), OutOfMemory
     Ok(())
 }
 
-/// Makes a cell stand at each place of a block. Where memory runs out, all is as before.
+/// Makes a cell stand at each place of a block, a placeholder where none stood. Where memory runs out, all is as before.
 pub fn make_room(cells: &mut PlaceMap<Cell>, block: &Block) -> Result<(), OutOfMemory>
     requires area { is_area block.now ≡ true }
     requires inside { AreInSheet celled cells.old }
     requires arrays { AreArrays celled cells.old }
-    ensures ok { OnOk result (HasRoom block.now cells.old cells.new) }
+    ensures marked { OnOk result (IsMarked block.now cells.old cells.new) }
+    ensures full { OnOk result (IsFull block.now cells.new) }
     ensures err { OnErr result (cells.new ≡ cells.old) }
 {
     match mark_all(cells, block) {
@@ -58,4 +59,18 @@ pub fn make_room(cells: &mut PlaceMap<Cell>, block: &Block) -> Result<(), OutOfM
             Err(lack)
         }
     }
+}
+
+/// Makes a cell stand at each place of a block, an empty one where none stood. Where memory runs out, all is as before.
+pub fn fill_up(cells: &mut PlaceMap<Cell>, block: &Block) -> Result<(), OutOfMemory>
+    requires area { is_area block.now ≡ true }
+    requires inside { AreInSheet celled cells.old }
+    requires arrays { AreArrays celled cells.old }
+    ensures padded { OnOk result (IsPadded block.now cells.old cells.new) }
+    ensures full { OnOk result (IsFull block.now cells.new) }
+    ensures err { OnErr result (cells.new ≡ cells.old) }
+{
+    make_room(cells, block)?;
+    change_block(cells, block, Change::EmptyPlaceholder);
+    Ok(())
 }

@@ -1,5 +1,5 @@
 //! Giving an array its values.
-ghost use Rattle.std.specs.Prelude.{◌≡◌, true, Some, option_map, pos, ◌∷◌, length, IfOk, IfErr, OnErr, OnOk, Ok};
+ghost use Rattle.std.specs.Prelude.{◌≡◌, true, Some, length, IfOk, IfErr, OnErr, OnOk, Ok};
 ghost use Rattle.std.specs.FinMap as finite;
 ghost use Rattle.ic_grid.specs.Block.{block_at, first_place, is_area, is_in_sheet};
 ghost use Rattle.ic_grid.specs.Arrays.{array_of};
@@ -8,17 +8,16 @@ ghost use Rattle.ic_grid.specs.Prepare.{without_spill};
 ghost use Rattle.ic_grid.specs.Rows.{place_count, placed};
 ghost use Rattle.ic_grid.specs.Merges.{is_merged};
 ghost use Rattle.ic_grid.specs.Shape.{Anchor, celled, gathered, is_cse, shape_of};
-ghost use Rattle.ic_grid.specs.Style.{style_at};
 ghost use Rattle.ic_grid.specs.Value.{formula_array, shape_at};
 ghost use Rattle.ic_grid.specs.Whole.{IsGrid};
-ghost use Rattle.ic_grid.specs.Spill.{blocks, array_cells, first_of_blocking, has_other_area, is_free, is_free_there, misfits, spilled};
+ghost use Rattle.ic_grid.specs.Spill.{blocks, array_cells, first_of_blocking, first_to_block, has_other_area, is_free, misfits, spilled};
 ghost use Rattle.ic_grid.specs.Calls.{IsRefusal, can_spill, spill_answer};
 
+use crate::arrays::formula_array;
 use crate::block::is_same;
 use crate::changes::{next_place, put_all, unspill_block};
 use crate::merges::is_merged;
 use crate::room::make_room;
-use crate::value::array_at;
 use crate::{Array, Block, Grid, GridError};
 use ic_cells::{ArrayKind, Cell, FormulaValue, Merge, PlaceMap, SpillValue};
 use ic_laws::{LAST_COLUMN, LAST_ROW, OutOfMemory, Text};
@@ -42,28 +41,14 @@ fn is_free(cell: &Cell, anchor: (i32, i32)) -> bool
     }
 }
 
-/// The same of what stands at a place, if something does.
-fn free_there(cells: &PlaceMap<Cell>, place: (i32, i32), anchor: (i32, i32)) -> Option<bool>
-    ensures { result ≡ option_map (λ x. is_free anchor (shape_of x)) (finite.get cells.now place) }
-{
-    match cells.get(place.0, place.1) {
-        Some(cell) => Some(is_free(cell, anchor)),
-        None => None,
-    }
-}
-
-/// The same, true where nothing does.
-fn is_free_there(cells: &PlaceMap<Cell>, place: (i32, i32), anchor: (i32, i32)) -> bool
-    ensures { result ≡ is_free_there anchor (finite.get cells.now place) }
-{
-    free_there(cells, place, anchor).unwrap_or(true)
-}
-
-/// The same, where nothing at all is as an empty cell.
+/// The same of what stands at a place, where nothing at all is as an empty cell.
 fn is_free_at(cells: &PlaceMap<Cell>, place: (i32, i32), anchor: (i32, i32)) -> bool
     ensures { result ≡ is_free anchor (shape_at celled cells.now place) }
 {
-    is_free_there(cells, place, anchor)
+    match cells.get(place.0, place.1) {
+        Some(cell) => is_free(cell, anchor),
+        None => true,
+    }
 }
 
 /// Whether a place keeps the array of the formula at another from spilling.
@@ -125,6 +110,23 @@ fn misfits(block: &Block, count: usize, array: &Array) -> bool
     is_cse(array) && has_other_area(block, array)
 }
 
+/// The first of so many places of a block, by rows, that keeps the array of the formula at its first place from spilling.
+fn first_to_block(
+    cells: &PlaceMap<Cell>,
+    merges: &[Merge],
+    block: &Block,
+    count: usize,
+    array: &Array,
+) -> Option<(i32, i32)>
+    ensures { result ≡ first_to_block celled merges.now cells.now block.now count
+        (Anchor array.now.block.width array.now.block.height array.now.kind) }
+{
+    if is_cse(array) || block.is_single() {
+        return None;
+    }
+    first_of_blocking(cells, merges, block, count)
+}
+
 /// Whether so many values can be given to the array of the formula at the first place of a block: Ok, or why they can't.
 fn can_spill(
     cells: &PlaceMap<Cell>,
@@ -139,10 +141,7 @@ fn can_spill(
     if misfits(block, count, array) {
         return Err(GridError::BadArea);
     }
-    if is_cse(array) || block.is_single() {
-        return Ok(());
-    }
-    match first_of_blocking(cells, merges, block, count) {
+    match first_to_block(cells, merges, block, count, array) {
         Some(place) => Err(GridError::SpillBlocked {
             row: place.0,
             column: place.1,
@@ -190,14 +189,6 @@ fn place_array(
 }
 
 impl Grid {
-    /// The number of the style that a place shows.
-    fn style_of_place(&self, place: (i32, i32)) -> usize
-        ensures { result
-            ≡ style_at celled self.now.cells self.now.rows self.now.columns place }
-    {
-        self.style_at(place.0, place.1)
-    }
-
     /// The cells of an array with these values, by rows: its formula, and for each other value a cell of its spill, in the
     /// style of its place.
     fn array_cells(
@@ -292,7 +283,7 @@ impl Grid {
         ensures whole { IsGrid self.new }
     {
         let block = Block::at((row, column), width, height);
-        let Some((f, s, array)) = array_at(&self.cells, (row, column)) else {
+        let Some((f, s, array)) = formula_array(&self.cells, (row, column)) else {
             return Err(GridError::NoFormulaCell);
         };
         can_spill(

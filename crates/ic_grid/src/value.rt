@@ -7,9 +7,10 @@ ghost use Rattle.ic_grid.specs.Calls.{IsRefusal, can_write_value};
 ghost use Rattle.ic_grid.specs.Conditions.{AreArrays};
 ghost use Rattle.ic_grid.specs.Rows.{place_count, spread_from};
 ghost use Rattle.ic_grid.specs.Shape.{celled, formula_of, spread};
-ghost use Rattle.ic_grid.specs.Value.{IsArrayThere, formula_array, valued};
+ghost use Rattle.ic_grid.specs.Value.{IsArrayThere, valued};
 ghost use Rattle.ic_grid.specs.Whole.{IsGrid};
 
+use crate::arrays::formula_array;
 use crate::changes::{next_place, put_all, replace, style_or_zero, unspill_block};
 use crate::{Array, Block, Grid, GridError};
 use ic_cells::{ArrayKind, Cell, FormulaValue, PlaceMap, SpillValue};
@@ -53,7 +54,8 @@ fn spread_cells(
     value: &FormulaValue,
 ) -> Result<Vec<Cell>, OutOfMemory>
     requires { is_area block.now ≡ true }
-    ensures { IfOk result (λ items. items.items ≡ spread_from cells.now block.now (spread value.now) (first_place block.now) (place_count block.now)) }
+    ensures { IfOk result (λ items. items.items ≡ spread_from cells.now block.now
+        (spread value.now) (first_place block.now) (place_count block.now)) }
 {
     let alloc = cells.alloc();
     let anchor = block.first();
@@ -73,23 +75,6 @@ fn single_at(cells: &PlaceMap<Cell>, place: (i32, i32)) -> Option<(usize, usize)
 {
     match cells.get(place.0, place.1) {
         Some(Cell::CellFormula { f, s, .. }) => Some((*f, *s)),
-        _ => None,
-    }
-}
-
-/// The formula, the style and the array of the array formula at a place, if one stands there.
-pub fn array_at(cells: &PlaceMap<Cell>, place: (i32, i32)) -> Option<(usize, usize, Array)>
-    ensures { result ≡ formula_array place (finite.get cells.now place) }
-{
-    match cells.get(place.0, place.1) {
-        Some(Cell::ArrayFormula { f, s, r, kind, .. }) => Some((
-            *f,
-            *s,
-            Array {
-                block: Block::at(place, r.0, r.1),
-                kind: *kind,
-            },
-        )),
         _ => None,
     }
 }
@@ -194,7 +179,7 @@ fn value_at(
         value_single(cells, place, f, s, value);
         return Ok(());
     }
-    if let Some((f, s, array)) = array_at(cells, place) {
+    if let Some((f, s, array)) = formula_array(cells, place) {
         value_array(cells, f, s, &array, value)?;
         return Ok(());
     }

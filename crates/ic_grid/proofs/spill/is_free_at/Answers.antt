@@ -1,7 +1,11 @@
-use Rattle.std.proofs.Common.{◌∙◌}
+use Rattle.std.proofs.Common.{rules, ◌≡◌, ◌∙◌, ap, Some}
 use Rattle.std.specs.FinMap as finite
-use Rattle.ic_grid.proofs.SpillLemmas.{free_there}
+use Rattle.std.specs.Option.{option_map, unwrap_or}
+use Rattle.ic_grid.specs.Shape.{Empty, shape_of}
+use Rattle.ic_grid.specs.Spill.{is_free}
 use Rattle.ic_grid.proofs.spill.is_free_at.Goals as goal
 
-pub returns : goal.returns
-returns c = c.is_free_there.ensures ∙ free_there c.args.anchor (finite.get c.args.cells.now c.args.place)
+pub returns-in-Some : goal.returns-in-Some
+returns-in-Some c =
+    let there : Some c.in-Some.cell.now ≡ finite.get c.args.cells.now c.args.place = search rules in
+    c.is_free.ensures ∙ ap (λ o. is_free c.args.anchor (unwrap_or (option_map shape_of o) Empty)) there
