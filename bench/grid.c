@@ -1,6 +1,6 @@
 /* A sheet's cells by hand in C, as a floor: answers rows of calls as crates/ic_cases does those named Grid::answers, on
    cells in a hash table and merged cells in a list. A block is cleared by a look at every cell. It tests only that merged
-   cells don't cover a place that is written, and what blocks a spill; it has no Cse arrays and keeps numbers alone. */
+   cells don't cover a place that is written, and what blocks a spill; its arrays are all dynamic, and it keeps numbers alone. */
 #include <stdio.h>
 #include <stdlib.h>
 #include <string.h>
@@ -96,6 +96,22 @@ static const char *spill(int row, int column, int width, int height) {
     return "ok\t";
 }
 
+/* An array without values, whose formula can get some later. */
+static const char *write_array(struct block b) {
+    for (size_t n = 0; n < merge_count; n++)
+        if (merges[n].row < b.row + b.height && b.row < merges[n].row + merges[n].height && merges[n].column < b.column + b.width && b.column < merges[n].column + merges[n].width) return "error MergedPart\t";
+    for (int y = b.row; y < b.row + b.height; y++)
+        for (int x = b.column; x < b.column + b.width; x++) release(made(y, x));
+    for (int y = b.row; y < b.row + b.height; y++)
+        for (int x = b.column; x < b.column + b.width; x++) {
+            struct cell *cell = at(y, x);
+            cell->kind = SPILL, cell->first = b.row, cell->second = b.column;
+        }
+    struct cell *anchor = at(b.row, b.column);
+    anchor->kind = ANCHOR, anchor->first = b.width, anchor->second = b.height;
+    return "ok\t";
+}
+
 static const char *clear(struct block b) {
     for (size_t n = 0; n < room; n++)
         if (cells[n].row && has(&b, cells[n].row, cells[n].column)) {
@@ -115,6 +131,7 @@ static const char *answer(void) {
     struct block b = {atoi(words[1]), atoi(words[2]), atoi(words[3]), atoi(words[4])};
     if (!strcmp(words[0], "merge")) return merge(b);
     if (!strcmp(words[0], "write")) return write_cell(b.row, b.column);
+    if (!strcmp(words[0], "write_array")) return write_array(b);
     if (!strcmp(words[0], "spill")) return spill(b.row, b.column, b.width, b.height);
     if (!strcmp(words[0], "clear")) return clear(b);
     return at(b.row, b.column)->kind == ANCHOR ? "ok\t" : "error NoFormulaCell\t";

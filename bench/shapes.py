@@ -194,6 +194,14 @@ def spills(count, parts):
             yield f"clear\t{row}\t{column}\t10\t10\ttrue"
 
 
+def arrays(count):
+    """Cse arrays of 10 by 10, each cleared at once, since the row looks at the styles of all cells before it writes one."""
+    for i in range(count):
+        place = f"{i // 10 * 10 + 1}\t{i % 10 * 10 + 1}\t10\t10"
+        yield f"write_array\t{place}\t0"
+        yield f"clear\t{place}\ttrue"
+
+
 def cleared(count):
     """The whole sheet, whose cells stay as empty ones."""
     return ["clear\t1\t1\t16384\t1048576\tfalse"] * count

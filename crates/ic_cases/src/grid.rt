@@ -1,11 +1,8 @@
-//! One sheet's cells in sessions: one row is a list of calls on a new grid, one after another, and the answers stand in one
-//! row.
-use crate::cells::cell;
+//! What is set for rows and columns in sessions: one row is a list of calls on a new grid, one after another, and the
+//! answers stand in one row.
 use crate::row::Row;
-use crate::sheet::{calls, merge};
-use ic_cells::{ArrayKind, Cell, FormulaValue, Merge, SpillValue};
+use crate::sheet::calls;
 use ic_grid::{Block, Grid, GridError};
-use ic_laws::Items;
 
 /// Answers the call, if it is one of these.
 pub fn call(row: &mut Row<'_>) {
@@ -16,8 +13,8 @@ pub fn call(row: &mut Row<'_>) {
     }
 }
 
-/// Calls that look at a grid of any cells and merges, and set rows and columns. Each has a name and five words, of which
-/// those that it doesn't need are `-`.
+/// Calls on the rows and columns of a grid without cells. Each has a name and five words, of which those that it doesn't
+/// need are `-`.
 fn session(row: &mut Row<'_>) {
     let mut grid = Grid::new(row.alloc);
     row.skip(1);
@@ -32,20 +29,17 @@ fn session(row: &mut Row<'_>) {
 
 /// Makes one call.
 fn made(row: &mut Row<'_>, grid: &mut Grid) {
-    match row.word(0) {
-        "put" => put(row, grid),
-        "merge" => add_merge(row, grid),
-        "can_write" => {
-            let (line, column) = (row.int(1), row.int(2));
-            put_answer(row, grid.can_write(line, column));
-        }
-        "can_write_array" => put_can_write_array(row, grid),
-        "style_at" => {
-            let (line, column) = (row.int(1), row.int(2));
-            row.put_number(grid.style_at(line, column) as i128);
-        }
-        _ => lines(row, grid),
+    if row.word(0) == "style_at" {
+        put_style_at(row, grid);
+    } else {
+        lines(row, grid);
     }
+}
+
+/// The style of a place.
+pub fn put_style_at(row: &mut Row<'_>, grid: &Grid) {
+    let (line, column) = (row.int(1), row.int(2));
+    row.put_number(grid.style_at(line, column) as i128);
 }
 
 /// Makes a call on a row or a column.
@@ -86,73 +80,14 @@ fn setters(row: &mut Row<'_>, grid: &mut Grid, number: i32) {
     }
 }
 
-fn put_can_write_array(row: &mut Row<'_>, grid: &Grid) {
+/// Whether an array can be written.
+pub fn put_can_write_array(row: &mut Row<'_>, grid: &Grid) {
     let (line, column) = (row.int(1), row.int(2));
     let (width, height) = (row.int(3), row.int(4));
     if !Block::at((line, column), width, height).is_area() {
         return row.bad();
     }
     put_answer(row, grid.can_write_array(line, column, width, height));
-}
-
-/// Puts a cell of any kind: its place, and its words as in the rows of cells, of which an array formula and a spill's cell
-/// are `dynamic` or `cse` with a width and a height, and `spill` with its anchor.
-fn put(row: &mut Row<'_>, grid: &mut Grid) {
-    let (line, column) = (row.int(1), row.int(2));
-    let cell = cell_of(row);
-    match grid.cells.insert(line, column, cell) {
-        Ok(_) => row.put("ok"),
-        Err(_) => row.bad(),
-    }
-}
-
-fn cell_of(row: &mut Row<'_>) -> Cell {
-    match row.word(3) {
-        "dynamic" => array(ArrayKind::Dynamic, (row.int(4), row.int(5))),
-        "cse" => array(ArrayKind::Cse, (row.int(4), row.int(5))),
-        "spill" => Cell::SpillCell {
-            s: 0,
-            a: (row.int(4), row.int(5)),
-            v: SpillValue::Boolean(true),
-        },
-        _ => {
-            let words = row.words;
-            row.skip(3);
-            let cell = cell(row);
-            row.words = words;
-            cell
-        }
-    }
-}
-
-fn array(kind: ArrayKind, r: (i32, i32)) -> Cell {
-    Cell::ArrayFormula {
-        f: 0,
-        s: 0,
-        r,
-        kind,
-        v: FormulaValue::Unevaluated,
-    }
-}
-
-/// Adds merged cells.
-fn add_merge(row: &mut Row<'_>, grid: &mut Grid) {
-    let merge = merge(row);
-    grid.merged_cells = merges_with(row, grid.merged_cells.as_slice(), merge);
-    row.put("ok");
-}
-
-fn merges_with(row: &mut Row<'_>, before: &[Merge], merge: Merge) -> Items<Merge> {
-    let mut merges = Vec::new(row.alloc);
-    for merge in before {
-        if merges.push(*merge).is_err() {
-            row.bad();
-        }
-    }
-    if merges.push(merge).is_err() {
-        row.bad();
-    }
-    Items::from(merges)
 }
 
 pub fn put_answer(row: &mut Row<'_>, answer: Result<(), GridError>) {

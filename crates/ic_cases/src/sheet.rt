@@ -9,21 +9,29 @@ ghost use Rattle.ic_grid.specs.Shape.{celled, is_loose, shape_of};
 ghost use Rattle.ic_grid.specs.Whole.{IsGrid};
 
 use crate::cells::{formula_value, put_shown_cell, spill_value, type_name};
-use crate::grid::{put_answer, put_pair};
+use crate::grid::{put_answer, put_can_write_array, put_pair, put_style_at};
 use crate::row::Row;
-use ic_cells::{ArrayKind, Cell, FormulaValue, Merge, SpillValue};
+use crate::styles::create;
+use ic_cells::{ArrayKind, Cell, FormulaValue, Merge, SpillValue, Styles};
 use ic_grid::{Block, Grid};
 use ic_laws::Items;
 use ic_refs::{is_valid_column_number, is_valid_row};
 
 /// Makes the calls, each a name and five words, of which those that it doesn't need are `-`; `merge` stands before all
 /// others. Then the cells stand, unless the row asks for the answers alone: each with its place, its style, the type of
-/// its value, what it shows, and what it is.
+/// its value, what it shows, and what it is. The session has styles of its own, at first the default one.
 pub fn calls(row: &mut Row<'_>) {
     row.skip(1);
+    match Styles::new(row.alloc) {
+        Ok(mut styles) => session(row, &mut styles),
+        Err(_) => row.bad(),
+    }
+}
+
+fn session(row: &mut Row<'_>, styles: &mut Styles) {
     let mut grid = merged(row);
     'calls: for _ in 0..row.words.len() / 6 {
-        made(row, &mut grid);
+        made(row, styles, &mut grid);
         row.tab();
         row.skip(6);
     }
@@ -96,7 +104,7 @@ fn merges(row: &mut Row<'_>) -> Vec<Merge>
 }
 
 /// The merged cells of a call.
-pub fn merge(row: &mut Row<'_>) -> Merge {
+fn merge(row: &mut Row<'_>) -> Merge {
     Merge {
         row: row.int(1),
         column: row.int(2),
@@ -134,11 +142,16 @@ fn block_of(merge: &Merge) -> Block
 }
 
 /// Makes one call.
-fn made(row: &mut Row<'_>, grid: &mut Grid)
+fn made(row: &mut Row<'_>, styles: &mut Styles, grid: &mut Grid)
     requires { IsGrid grid.old }
     ensures { IsGrid grid.new }
 {
     match row.word(0) {
+        "style" => create(row, styles),
+        "styles" => row.put_number(styles.len() as i128),
+        "style_at" => put_style_at(row, grid),
+        "can_write_array" => put_can_write_array(row, grid),
+        "write_array" => write_array(row, styles, grid),
         "set_row_style" => set_row_style(row, grid),
         "set_column_style" => set_column_style(row, grid),
         _ => on_place(row, grid),
@@ -177,6 +190,7 @@ fn on_place(row: &mut Row<'_>, grid: &mut Grid)
         return row.bad();
     }
     match row.word(0) {
+        "can_write" => put_answer(row, grid.can_write(line, column)),
         "write" => write(row, grid, line, column),
         "clear" => clear(row, grid, line, column),
         "write_value" => write_value(row, grid, line, column),
@@ -220,6 +234,23 @@ fn one_cell_array(kind: ArrayKind, s: usize) -> Cell
         kind,
         v: FormulaValue::Unevaluated,
     }
+}
+
+/// Writes a Cse array, where the sheet names styles of the session alone.
+fn write_array(row: &mut Row<'_>, styles: &mut Styles, grid: &mut Grid)
+    requires { IsGrid grid.old }
+    ensures { IsGrid grid.new }
+{
+    let (line, column) = (row.int(1), row.int(2));
+    let (width, height) = (row.int(3), row.int(4));
+    let f = row.size(5);
+    if !Block::at((line, column), width, height).is_area() || !grid.is_styled(styles) {
+        return row.bad();
+    }
+    put_answer(
+        row,
+        grid.write_array(styles, line, column, width, height, f),
+    );
 }
 
 fn clear(row: &mut Row<'_>, grid: &mut Grid, line: i32, column: i32)

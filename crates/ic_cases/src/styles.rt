@@ -52,15 +52,18 @@ fn taken_by(name: &str) -> usize {
 /// Makes one call.
 fn put_call(row: &mut Row<'_>, styles: &mut Styles) {
     match row.word(0) {
-        "create" => {
-            let style = style(row);
-            row.put_place(styles.get_style_index_or_create(&style));
-        }
+        "create" => create(row, styles),
         "style" => put_style_at(row, styles),
         "len" => row.put_number(styles.len() as i128),
         "truncate" => put_truncated(row, styles),
         _ => put_changed(row, styles),
     }
+}
+
+/// Finds or adds the style of the row, and answers its number.
+pub fn create(row: &mut Row<'_>, styles: &mut Styles) {
+    let style = style(row);
+    row.put_place(styles.get_style_index_or_create(&style));
 }
 
 /// The calls on a style that is there.
