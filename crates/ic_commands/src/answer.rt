@@ -14,6 +14,7 @@ mod definitions;
 mod notation;
 mod reading;
 mod sheets;
+mod tabs;
 mod writing;
 
 use definitions::answer_definitions;
@@ -25,6 +26,7 @@ use notation::answer_notation;
 use reading::answer_reading;
 use sheets::answer_sheets;
 use std::alloc::Global;
+use tabs::answer_tabs;
 use writing::answer_writing;
 
 /// One step of the machine that is served: what a line does to the book, and its reply with the line feed at its end. For a
@@ -89,6 +91,7 @@ fn answer(
         Command::Notation(command) => answer_notation(model, command, reply),
         Command::Writing(command) => answer_writing(alloc, model, command, reply),
         Command::Reading(command) => answer_reading(model, command, reply),
+        Command::Tabs(command) => answer_tabs(alloc, model, command, reply),
     }
 }
 

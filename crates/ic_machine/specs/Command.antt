@@ -41,7 +41,10 @@ core_names =
 
 -- those of the other commands that are served
 abbrev pub more_names : List (List ℕ)
-more_names = []
+more_names =
+    codes "get_worksheets_properties" ∷ codes "set_timezone" ∷ codes "get_locale" ∷ codes "get_language" ∷ codes "get_timezone" ∷ codes "set_theme"
+    ∷ codes "get_theme" ∷ codes "set_frozen_rows" ∷ codes "set_frozen_columns" ∷ codes "get_frozen_rows_count" ∷ codes "get_frozen_columns_count"
+    ∷ codes "set_sheet_color" ∷ codes "set_sheet_state" ∷ codes "set_show_grid_lines" ∷ []
 
 -- the names of all commands that are served
 abbrev pub served_names : List (List ℕ)

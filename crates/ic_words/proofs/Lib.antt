@@ -1,4 +1,5 @@
 pub mod AsciiLemmas
+pub mod ChoiceLemmas
 pub mod EscapedNumbers
 pub mod NameLemmas
 pub mod NumberLemmas

@@ -1,8 +1,8 @@
 -- The bytes and the characters of replies.
-use Rattle.std.proofs.Common.{◌≡◌, ℕ, zero, suc, ◌<◌, ◌+◌, ◌/◌, ◌%◌, ◌==◌, nat_lt, List, [], ◌∷◌, ◌++◌, Bool, true, false, ltb, not, ◌&&◌, Option, Some, None, String, Result, Ok, Err, OnOk, IsUtf8, IsAscii, chars, codes, encode_utf8_all, flat_map, slice_get, string_bytes, unwrap_or, append_assoc, inl, inr, refl, ap, sym, subst, ◌∙◌, arith}
+use Rattle.std.proofs.Common.{◌≡◌, ℕ, ℤ, pos, negsuc, zero, suc, ◌<◌, ◌+◌, ◌/◌, ◌%◌, ◌==◌, nat_lt, List, [], ◌∷◌, ◌++◌, Bool, true, false, ltb, not, ◌&&◌, Option, Some, None, String, Result, Ok, Err, OnOk, IsUtf8, IsAscii, chars, codes, encode_utf8_all, flat_map, slice_get, string_bytes, unwrap_or, append_assoc, inl, inr, refl, ap, sym, subst, ◌∙◌, arith}
 use lib.Utf8.{encode, scalar, scalars}
 use Rattle.std.specs.Char.{is_ascii_digit}
-use Rattle.std.specs.Fmt.{decimal, digit_glyph, digits, digits_onto}
+use Rattle.std.specs.Fmt.{decimal, digit_glyph, digits, digits_onto, signed_decimal}
 use Rattle.std.specs.List.{list_all}
 use Rattle.std.specs.Str.{all_ascii_digits}
 use Rattle.std.proofs.lemmas.Bool.{and_parts, cases_Bool, ltb-true}
@@ -15,7 +15,7 @@ use Rattle.ic_laws.specs.Lines.{escape_of, escaped}
 use Rattle.ic_laws.specs.Refusal as core
 use Rattle.ic_lines.specs.Reading.{has_line_feed}
 use Rattle.ic_machine.specs.Refusal.{OfCore, Refusal, refusal_name}
-use Rattle.ic_machine.specs.Reply.{Field, NumberField, field_text, field_word, reply_bytes, reply_text}
+use Rattle.ic_machine.specs.Reply.{Field, NumberField, PositionField, field_text, field_word, position_text, reply_bytes, reply_text}
 use Rattle.ic_words.specs.Reply.{AreTexts, IsLineText}
 use Rattle.ic_words.proofs.NumberLemmas.{digits_ascii}
 
@@ -74,10 +74,26 @@ escaped_digits (c ∷ cs) h =
 number_word : (number : Option ℕ) (n : ℕ) → number ≡ Some n → tab ∷ decimal n ≡ field_word (NumberField number)
 number_word number n is = rw is (ap (λ t. tab ∷ t) (sym (escaped_digits (decimal n) (decimal_digits n))))
 
+-- a word behind a tab
+pushed_behind : {T E : Type 0} (r : Result T E) (old first new text word : List ℕ) → tab ∷ text ≡ word → first ≡ old ++ tab ∷ [] → OnOk r (new ≡ first ++ text) → OnOk r (new ≡ old ++ word)
+pushed_behind (Ok x) old first new text word is e pushed =
+    pushed ∙ ap (λ front. front ++ text) e ∙ append_assoc old (tab ∷ []) text ∙ ap (λ word. old ++ word) is
+pushed_behind (Err x) old first new text word is e pushed = pushed
+
 pub number_pushed : {T E : Type 0} (r : Result T E) (old first new : List ℕ) (number : Option ℕ) (n : ℕ) → number ≡ Some n → first ≡ old ++ tab ∷ [] → OnOk r (new ≡ first ++ decimal n) → OnOk r (new ≡ old ++ field_word (NumberField number))
-number_pushed (Ok x) old first new number n is e pushed =
-    pushed ∙ ap (λ front. front ++ decimal n) e ∙ append_assoc old (tab ∷ []) (decimal n) ∙ ap (λ word. old ++ word) (number_word number n is)
-number_pushed (Err x) old first new number n is e pushed = pushed
+number_pushed r old first new number n is e pushed = pushed_behind r old first new (decimal n) (field_word (NumberField number)) (number_word number n is) e pushed
+
+-- what is written of a number that may be below 0
+pub position_written : (z : ℤ) → signed_decimal z ≡ position_text z
+position_written (pos n) = refl
+position_written (negsuc n) = refl
+
+escaped_position : (z : ℤ) → escaped (position_text z) ≡ position_text z
+escaped_position (pos n) = escaped_digits (decimal n) (decimal_digits n)
+escaped_position (negsuc n) = ap (λ t. 45 ∷ t) (escaped_digits (decimal (suc n)) (decimal_digits (suc n)))
+
+pub position_pushed : {T E : Type 0} (r : Result T E) (old first new : List ℕ) (z : ℤ) → first ≡ old ++ tab ∷ [] → OnOk r (new ≡ first ++ position_text z) → OnOk r (new ≡ old ++ field_word (PositionField z))
+position_pushed r old first new z e pushed = pushed_behind r old first new (position_text z) (field_word (PositionField z)) (ap (λ t. tab ∷ t) (sym (escaped_position z))) e pushed
 
 -- replies are one line ----
 
@@ -127,6 +143,10 @@ fields_line fields h =
 pub number_characters : (number : Option ℕ) → scalars (field_text (NumberField number)) ≡ true
 number_characters None = refl
 number_characters (Some n) = ap scalars (sym (chars-decimal n)) ∙ scalars-chars (decimal n) (IsUtf8-from_ascii (decimal n) (IsAscii-digits n))
+
+pub position_characters : (z : ℤ) → scalars (field_text (PositionField z)) ≡ true
+position_characters (pos n) = number_characters (Some n)
+position_characters (negsuc n) = number_characters (Some (suc n))
 
 -- a reply that tells a refusal is ASCII, and one line ----
 

@@ -15,7 +15,7 @@ pub minus_alone : (bytes : List ℕ) → bytes_eq bytes (codes "-") ≡ true →
 unfolding chars
 minus_alone bytes h = ap (λ b. scope_said (chars b)) (sym ((bytes_eq-Decides bytes (codes "-")).0 h))
 
-other_characters : (bytes : List ℕ) → IsUtf8 bytes → bytes_eq bytes (codes "-") ≡ false → bytes_eq (chars bytes) (codes "-") ≡ false
+pub other_characters : (bytes : List ℕ) → IsUtf8 bytes → bytes_eq bytes (codes "-") ≡ false → bytes_eq (chars bytes) (codes "-") ≡ false
 other_characters bytes u h = false_from_ne_true (bytes_eq (chars bytes) (codes "-")) (λ e.
     let same : bytes ≡ codes "-" = sym (encodes-chars bytes u) ∙ ap encode_utf8_all ((bytes_eq-Decides (chars bytes) (codes "-")).0 e) ∙ encodes-IsAscii (codes "-") (IsAscii-cons 45 [] (lit< tt) IsAscii-nil) in
     let yes = (bytes_eq-Decides bytes (codes "-")).1 same in absurd (cc))

@@ -1,18 +1,19 @@
 -- The table of all served commands, one subject after another.
-use Rattle.std.proofs.Common.{◌≡◌, ℕ, List, [], ◌∷◌, ◌++◌, Bool, true, false, ◌&&◌, map, Option, Some, None, IsUtf8, bytes_eq, chars, ltb, option_map, option_and_then, refl, ap, sym, ◌∙◌, inl, inr}
+use Rattle.std.proofs.Common.{◌≡◌, ℕ, List, [], ◌∷◌, ◌++◌, Bool, true, false, ◌&&◌, map, Option, Some, None, IsUtf8, bytes_eq, chars, option_map, option_and_then, refl, ap, sym, ◌∙◌, inl, inr}
 use Rattle.std.specs.List.{find, list_all}
 use Rattle.std.proofs.lemmas.Bool.{and_parts, cases_Bool}
 use Rattle.ic_laws.specs.Lines.{word_texts, words_of}
-use Rattle.ic_machine.specs.Command.{Command, OnDefinitions, OnNotation, OnReading, OnSheets, OnWriting, command_in, commands, served, served_names}
+use Rattle.ic_machine.specs.Command.{Command, OnDefinitions, OnNotation, OnReading, OnSheets, OnTabs, OnWriting, command_in, commands, served, served_names}
 use Rattle.ic_machine.specs.Row.{Row, joined, named, row_in, rows_named, spelled}
 use Rattle.ic_machine.specs.Word.{Done, Many, OfAmount, OfBool, OfColor, OfFlag, OfIndex, OfPosition, OfScope, OfSpill, OfState, OfText, OfValue, Then, WordForm, Words, all_said, each_said, said, some_said, words_said}
 use Rattle.ic_machine.specs.subjects.Definitions.{definition_rows}
 use Rattle.ic_machine.specs.subjects.Notation.{notation_rows}
 use Rattle.ic_machine.specs.subjects.Reading.{reading_rows}
 use Rattle.ic_machine.specs.subjects.Sheets.{sheet_rows}
+use Rattle.ic_machine.specs.subjects.Tabs.{tab_rows}
 use Rattle.ic_machine.specs.subjects.Writing.{writing_rows}
 use Rattle.ic_words.specs.Served.{served_in}
-use Rattle.ic_words.proofs.AsciiLemmas.{are_ascii, same_name}
+use Rattle.ic_words.proofs.AsciiLemmas.{found_same, has_ascii_names}
 
 -- what a subject has, and what the later ones have where it has nothing
 abbrev pub or_later : {C D : Type 0} → (C → D) → Option (Option C) → Option (Option D) → Option (Option D)
@@ -34,28 +35,22 @@ module _ {C D : Type 0} (subject : C → D) (later : List (Row D)) (name : List 
 
 -- Names are ASCII, so it is the same to find them by bytes or by characters. ----
 
-abbrev has_ascii_names : List (Row Command) → Type 0
-has_ascii_names rows = list_all (λ (row : Row Command). list_all (λ b. ltb b 128) row.name) rows ≡ true
-
-found_same : (rows : List (Row Command)) (bytes : List ℕ) → IsUtf8 bytes → has_ascii_names rows → find (λ (row : Row Command). bytes_eq row.name (chars bytes)) rows ≡ find (λ (row : Row Command). bytes_eq row.name bytes) rows
-found_same [] bytes u h = refl
-found_same (row ∷ rows) bytes u h =
-    let p = and_parts (list_all (λ b. ltb b 128) row.name) (list_all (λ (row : Row Command). list_all (λ b. ltb b 128) row.name) rows) h in
-    rw (same_name row.name bytes u (are_ascii row.name p.0), found_same rows bytes u p.1) refl
-
-served_ascii : has_ascii_names served
+served_ascii : has_ascii_names (λ (row : Row Command). row.name) served ≡ true
 unfolding commands served
 served_ascii = refl
 
 found_same_named : (name : List ℕ) (words : List (List ℕ)) → IsUtf8 name → named [] served (chars name) words ≡ named [] served name words
-found_same_named name words u = ap (λ (o : Option (Row Command)). option_map (λ (row : Row Command). option_map row.command (words_said [] row.words words)) o) (found_same served name u served_ascii)
+found_same_named name words u = ap (λ (o : Option (Row Command)). option_map (λ (row : Row Command). option_map row.command (words_said [] row.words words)) o) (found_same (λ (row : Row Command). row.name) served name u served_ascii)
 
 -- the served rows are those of the subjects, one after another
 abbrev served_of : {C : Type 0} → (C → Command) → List (Row C) → List (Row Command)
 served_of subject all = map (row_in subject) (rows_named served_names all)
 
+abbrev from_tabs : List (Row Command)
+from_tabs = served_of OnTabs tab_rows ++ []
+
 abbrev from_reading : List (Row Command)
-from_reading = served_of OnReading reading_rows ++ []
+from_reading = served_of OnReading reading_rows ++ from_tabs
 
 abbrev from_writing : List (Row Command)
 from_writing = served_of OnWriting writing_rows ++ from_reading
@@ -70,8 +65,11 @@ by_rows : served ≡ served_of OnSheets sheet_rows ++ from_definitions
 unfolding commands served
 by_rows = refl
 
+abbrev pub later_tabs : List ℕ → List (List ℕ) → Option (Option Command)
+later_tabs name words = or_later OnTabs (served_in tab_rows name words) None
+
 abbrev pub later_reading : List ℕ → List (List ℕ) → Option (Option Command)
-later_reading name words = or_later OnReading (served_in reading_rows name words) None
+later_reading name words = or_later OnReading (served_in reading_rows name words) (later_tabs name words)
 
 abbrev pub later_writing : List ℕ → List (List ℕ) → Option (Option Command)
 later_writing name words = or_later OnWriting (served_in writing_rows name words) (later_reading name words)
@@ -96,7 +94,8 @@ module _ (name : List ℕ) (words : List (List ℕ)) where
   by_subjects u =
       found_same_named name words u ∙ ap (λ rows. named [] rows name words) by_rows
       ∙ after_one OnSheets sheet_rows from_definitions (later_definitions name words) (after_one OnDefinitions definition_rows from_notation (later_notation name words)
-      (after_one OnNotation notation_rows from_writing (later_writing name words) (after_one OnWriting writing_rows from_reading (later_reading name words) (after_one OnReading reading_rows [] None refl))))
+      (after_one OnNotation notation_rows from_writing (later_writing name words) (after_one OnWriting writing_rows from_reading (later_reading name words)
+      (after_one OnReading reading_rows from_tabs (later_tabs name words) (after_one OnTabs tab_rows [] None refl)))))
 
 -- what the code has of the subject that is next
 module _ {X C D : Type 0} (subject : C → D) (meant : X → C) (o : Option (Option X)) (has : Option (Option C)) (table later : Option (Option D)) (chain : table ≡ or_later subject has later) (e : option_map (option_map meant) o ≡ has) where

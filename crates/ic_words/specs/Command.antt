@@ -4,6 +4,7 @@ use Rattle.ic_words.specs.subjects.Definitions.{definitions_meant}
 use Rattle.ic_words.specs.subjects.Notation.{notation_meant}
 use Rattle.ic_words.specs.subjects.Reading.{reading_meant}
 use Rattle.ic_words.specs.subjects.Sheets.{sheets_meant}
+use Rattle.ic_words.specs.subjects.Tabs.{tabs_meant}
 use Rattle.ic_words.specs.subjects.Writing.{writing_meant}
 use Rattle.ic_words.specs.declared.command.Command.{Command}
 use Rattle.ic_words.specs.declared.command.Command.TheVariants as commands
@@ -15,3 +16,4 @@ command_meant (commands.Definitions command) = laws.OnDefinitions (definitions_m
 command_meant (commands.Notation command) = laws.OnNotation (notation_meant command)
 command_meant (commands.Writing command) = laws.OnWriting (writing_meant command)
 command_meant (commands.Reading command) = laws.OnReading (reading_meant command)
+command_meant (commands.Tabs command) = laws.OnTabs (tabs_meant command)

@@ -5,6 +5,8 @@ use Rattle.std.specs.Option.{is_some}
 use Rattle.std.specs.Borrow.{Bor}
 use Rattle.ic_laws.specs.Character.{backslash}
 use Rattle.ic_laws.specs.Lines.{unescaped, words_of}
+use Rattle.ic_cells.specs.declared.style.Color.{Color}
+use Rattle.ic_cells.specs.declared.style.Color.TheVariants as colors
 use Rattle.ic_machine.specs.Word as machine
 use Rattle.ic_machine.specs.Word.{AllSaid, Said, WordForm, Words}
 
@@ -42,3 +44,8 @@ word_said form word = option_and_then (machine.said [] form) (unescaped word)
 -- and what words of these forms say
 abbrev pub words_said : (forms : Words) → List (List ℕ) → Option (AllSaid forms)
 words_said forms words = machine.words_said [] forms words
+
+-- the color that a text is; without one it is none
+abbrev pub color_meant : Option (List ℕ) → Color
+color_meant None = colors.None
+color_meant (Some text) = colors.Rgb text

@@ -31,6 +31,7 @@ pub mod definitions;
 pub mod notation;
 pub mod reading;
 pub mod sheets;
+pub mod tabs;
 pub mod writing;
 
 use crate::words::first_word;
@@ -40,6 +41,7 @@ use notation::{Notation, notation_named};
 use reading::{Reading, reading_named};
 use sheets::{Sheets, sheets_named};
 use std::alloc::Global;
+use tabs::{Tabs, tabs_named};
 use writing::{Writing, writing_named};
 
 /// A command that is served, by its subject. Sheets are told by their index from 0 in the order of the book, or by name
@@ -52,6 +54,7 @@ pub enum Command<'l> {
     Notation(Notation<'l>),
     Writing(Writing<'l>),
     Reading(Reading),
+    Tabs(Tabs<'l>),
 }
 
 /// The command that a line is; None where it is none that is served: another name, fewer or more words, a number that
@@ -82,5 +85,6 @@ fn command_named<'l>(
     try_subject!(notation_named(alloc, name, rest), Command::Notation);
     try_subject!(writing_named(alloc, name, rest), Command::Writing);
     try_subject!(reading_named(alloc, name, rest), Command::Reading);
+    try_subject!(tabs_named(alloc, name, rest), Command::Tabs);
     Ok(None)
 }

@@ -1,9 +1,13 @@
 //! What calls answer, as the fields of replies.
 ghost use Rattle.std.specs.Prelude.{◌≡◌, ◌++◌, Bool, List, OnErr, OnOk, chars, false, flat_map, string_bytes, true};
-ghost use Rattle.ic_machine.specs.Reply.{Field, field_word};
-ghost use Rattle.ic_words.specs.Reply.{AreTexts, name_fields, names_fields, no_fields, scope_field, string_field};
+ghost use Rattle.ic_machine.specs.Fields.{fields_of_name, fields_of_sheet, names_fields, no_fields, scope_field};
+ghost use Rattle.ic_machine.specs.Fields.{sheets_fields, string_field, string_only, theme_field};
+ghost use Rattle.ic_machine.specs.Reply.{Field, field_word, position_field};
+ghost use Rattle.ic_machine.specs.Styling.{color_text};
+ghost use Rattle.ic_words.specs.Reply.{AreTexts};
 
-use crate::reply::{push_field, push_number};
+use crate::reply::{push_field, push_number, push_position};
+use ic_cells::{Color, SheetProperties, Theme};
 use ic_laws::OutOfMemory;
 
 /// An answer that a reply shows by its fields.
@@ -43,6 +47,26 @@ impl Fields for Option<u32> {
     }
 }
 
+impl Fields for i32 {
+    ghost fields = { position_field };
+
+    ghost memory = { true };
+
+    fn write(&self, reply: &mut String) -> Result<(), OutOfMemory> {
+        push_position(reply, *self)
+    }
+}
+
+impl Fields for String {
+    ghost fields = { string_only };
+
+    ghost memory = { true };
+
+    fn write(&self, reply: &mut String) -> Result<(), OutOfMemory> {
+        push_field(reply, self.as_str())
+    }
+}
+
 impl Fields for Option<String> {
     ghost fields = { string_field };
 
@@ -56,10 +80,21 @@ impl Fields for Option<String> {
     }
 }
 
+/// A theme, by its name.
+impl Fields for Theme {
+    ghost fields = { theme_field };
+
+    ghost memory = { true };
+
+    fn write(&self, reply: &mut String) -> Result<(), OutOfMemory> {
+        push_field(reply, self.name.as_str())
+    }
+}
+
 /// Definitions, with three fields for each in this order: its name, the index from 0 of the sheet that it is for, or `-`
 /// where that is the whole book, and its body.
 impl Fields for Vec<(String, Option<u32>, String)> {
-    ghost fields = { λ names. names_fields names.items };
+    ghost fields = { names_fields };
 
     ghost memory = { true };
 
@@ -74,10 +109,47 @@ impl Fields for Vec<(String, Option<u32>, String)> {
 /// Appends the three fields of a listed definition.
 fn push_name(reply: &mut String, listed: &(String, Option<u32>, String)) -> Result<(), OutOfMemory>
     ensures ok { OnOk result (chars (string_bytes reply.new) ≡ chars (string_bytes reply.old)
-        ++ flat_map field_word (name_fields listed.now)) }
-    ensures texts { OnOk result (AreTexts (name_fields listed.now)) }
+        ++ flat_map field_word (fields_of_name listed.now)) }
+    ensures texts { OnOk result (AreTexts (fields_of_name listed.now)) }
 {
     push_field(reply, listed.0.as_str())?;
     push_number(reply, listed.1)?;
     push_field(reply, listed.2.as_str())
+}
+
+/// Sheets, with four fields for each in this order: its name, `visible`, `hidden` or `veryHidden`, the color of its tab, or
+/// `-` where that has none, and its id.
+impl Fields for Vec<SheetProperties> {
+    ghost fields = { sheets_fields };
+
+    ghost memory = { true };
+
+    fn write(&self, reply: &mut String) -> Result<(), OutOfMemory> {
+        for sheet in self {
+            push_sheet(reply, sheet)?;
+        }
+        Ok(())
+    }
+}
+
+/// Appends the four fields of a listed sheet.
+fn push_sheet(reply: &mut String, sheet: &SheetProperties) -> Result<(), OutOfMemory>
+    ensures ok { OnOk result (chars (string_bytes reply.new) ≡ chars (string_bytes reply.old)
+        ++ flat_map field_word (fields_of_sheet sheet.now)) }
+    ensures texts { OnOk result (AreTexts (fields_of_sheet sheet.now)) }
+{
+    push_field(reply, sheet.name.as_str())?;
+    push_field(reply, sheet.state.as_str())?;
+    push_field(reply, color_text(&sheet.color))?;
+    push_number(reply, Some(sheet.sheet_id))
+}
+
+/// The text of a color, or `-` for none.
+fn color_text(color: &Color) -> &str
+    ensures { chars result.now ≡ color_text color.now }
+{
+    match color {
+        Color::None => "-",
+        Color::Rgb(text) => text.as_str(),
+    }
 }

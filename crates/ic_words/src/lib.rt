@@ -5,6 +5,7 @@
 //! reader answers is by the table of `ic_machine/specs/Command`, both ways.
 #![tactic(auto)]
 
+mod choices;
 mod command;
 mod fields;
 mod numbers;
@@ -17,6 +18,7 @@ pub use command::definitions::Definitions;
 pub use command::notation::Notation;
 pub use command::reading::Reading;
 pub use command::sheets::Sheets;
+pub use command::tabs::Tabs;
 pub use command::writing::Writing;
 pub use command::{Command, command_in};
 pub use fields::Fields;

@@ -4,7 +4,8 @@ ghost use lib.Utf8.{scalars};
 ghost use Rattle.std.specs.Fmt.{decimal};
 ghost use Rattle.ic_laws.specs.Character.{line_feed};
 ghost use Rattle.ic_machine.specs.Refusal.{Refusal, refusal_name};
-ghost use Rattle.ic_machine.specs.Reply.{NumberField, TextField, field_text, field_word, reply_bytes, reply_text};
+ghost use Rattle.ic_machine.specs.Reply.{NumberField, PositionField, TextField, field_text, field_word};
+ghost use Rattle.ic_machine.specs.Reply.{position_text, reply_bytes, reply_text};
 ghost use Rattle.ic_words.specs.Reply.{IsLineText, reply_room};
 
 use crate::fields::Fields;
@@ -72,6 +73,25 @@ pub(crate) fn push_number(reply: &mut String, number: Option<u32>) -> Result<(),
         Some(number) => push_digits(reply, number),
         None => push_char(reply, '-'),
     }
+}
+
+/// Appends a field that is a number which may be below 0: a tab, and its digits, after a minus where it is below 0.
+pub(crate) fn push_position(reply: &mut String, position: i32) -> Result<(), OutOfMemory>
+    ensures ok { OnOk result (chars (string_bytes reply.new) ≡ chars (string_bytes reply.old)
+        ++ field_word (PositionField position)) }
+    ensures text { scalars (field_text (PositionField position)) ≡ true }
+{
+    push_char(reply, '\t')?;
+    push_signed(reply, position)
+}
+
+/// Appends the decimal digits of a number, after a minus where it is below 0.
+fn push_signed(reply: &mut String, number: i32) -> Result<(), OutOfMemory>
+    ensures { OnOk result (chars (string_bytes reply.new) ≡ chars (string_bytes reply.old)
+        ++ position_text number) }
+{
+    write!(reply, "{number}")?;
+    Ok(())
 }
 
 /// Appends the decimal digits of a number.

@@ -1,10 +1,13 @@
 //! One word, by its form.
 ghost use Rattle.std.specs.Prelude.{◌≡◌, IfOk, OnErr, chars, option_map};
-ghost use Rattle.ic_machine.specs.Word.{OfIndex, OfPosition, OfScope, OfText, Said, WordForm};
-ghost use Rattle.ic_words.specs.Words.{HasEscape, word_said};
+ghost use Rattle.ic_machine.specs.Word.{OfBool, OfColor, OfIndex, OfPosition, OfScope, OfState, OfText};
+ghost use Rattle.ic_machine.specs.Word.{Said, WordForm};
+ghost use Rattle.ic_words.specs.Words.{HasEscape, color_meant, word_said};
 
+use crate::choices::{bool_in, state_in};
 use crate::numbers::{index_of, position_of, scope_of};
 use crate::text::{WordText, text_of};
+use ic_cells::SheetState;
 use ic_laws::OutOfMemory;
 use std::alloc::Global;
 
@@ -58,5 +61,48 @@ impl<'l> Word<'l> for Option<u32> {
 
     fn of(_: Global, word: &'l str) -> Result<Option<Option<u32>>, OutOfMemory> {
         Ok(scope_of(word))
+    }
+}
+
+impl<'l> Word<'l> for bool {
+    ghost form = { OfBool };
+
+    ghost says = { λ truth. truth };
+
+    fn of(alloc: Global, word: &'l str) -> Result<Option<bool>, OutOfMemory> {
+        let Some(text) = text_of(alloc, word)? else {
+            return Ok(None);
+        };
+        Ok(bool_in(text.as_str()))
+    }
+}
+
+impl<'l> Word<'l> for SheetState {
+    ghost form = { OfState };
+
+    ghost says = { λ state. state };
+
+    fn of(alloc: Global, word: &'l str) -> Result<Option<SheetState>, OutOfMemory> {
+        let Some(text) = text_of(alloc, word)? else {
+            return Ok(None);
+        };
+        Ok(state_in(text.as_str()))
+    }
+}
+
+/// A color by its text, which stands where it is in its line; None where it is `-`.
+impl<'l> Word<'l> for Option<WordText<'l>> {
+    ghost form = { OfColor };
+
+    ghost says = { color_meant };
+
+    fn of(alloc: Global, word: &'l str) -> Result<Option<Option<WordText<'l>>>, OutOfMemory> {
+        let Some(text) = text_of(alloc, word)? else {
+            return Ok(None);
+        };
+        if text.as_str() == "-" {
+            return Ok(Some(None));
+        }
+        Ok(Some(Some(text)))
     }
 }

@@ -9,7 +9,8 @@ use ic_book::Model;
 use ic_laws::OutOfMemory;
 use ic_words::Notation;
 
-/// Does a command on the locale and the language, and puts its reply behind a text that has room for one without a field.
+/// Does a command on the locale, the language and the time zone, and puts its reply behind a text that has room for one
+/// without a field.
 #[tactic(auto, using(crate::proofs::AnswerLemmas::only_read))]
 pub(crate) fn answer_notation(
     model: &mut Model<'_>,
@@ -23,5 +24,9 @@ pub(crate) fn answer_notation(
     match command {
         Notation::SetLocale { id } => told(model.set_locale(id.as_str()), reply),
         Notation::SetLanguage { id } => told(model.set_language(id.as_str()), reply),
+        Notation::SetTimezone { id } => told(model.set_timezone(id.as_str()), reply),
+        Notation::GetLocale => told(model.get_locale(), reply),
+        Notation::GetLanguage => told(model.get_language(), reply),
+        Notation::GetTimezone => told(model.get_timezone(), reply),
     }
 }

@@ -38,5 +38,6 @@ pub(crate) fn answer_sheets(
         ),
         Sheets::DeleteSheetBySheetId { id } => told(model.delete_sheet_by_sheet_id(id), reply),
         Sheets::GetNewSheetId => told(Ok(model.get_new_sheet_id()), reply),
+        Sheets::GetWorksheetsProperties => told(model.get_worksheets_properties(), reply),
     }
 }

@@ -12,3 +12,4 @@ sheets_meant (commands.DeleteSheet sheet) = laws.DeleteSheet sheet
 sheets_meant (commands.DeleteSheetByName name) = laws.DeleteSheetByName name
 sheets_meant (commands.DeleteSheetBySheetId id) = laws.DeleteSheetBySheetId id
 sheets_meant commands.GetNewSheetId = laws.GetNewSheetId
+sheets_meant commands.GetWorksheetsProperties = laws.GetWorksheetsProperties

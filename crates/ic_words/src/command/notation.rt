@@ -9,14 +9,19 @@ use crate::words::Words;
 use ic_laws::OutOfMemory;
 use std::alloc::Global;
 
-/// A served command on the locale and the language.
+/// A served command on the locale, the language and the time zone.
 #[derive(Drop)]
 pub enum Notation<'l> {
     SetLocale { id: WordText<'l> },
     SetLanguage { id: WordText<'l> },
+    SetTimezone { id: WordText<'l> },
+    GetLocale,
+    GetLanguage,
+    GetTimezone,
 }
 
-/// The served command on the locale and the language of this name, with the words that are left; inside that None where they don't fit it.
+/// The served command on the locale, the language and the time zone of this name, with the words that are left; inside that
+/// None where they don't fit it.
 pub(crate) fn notation_named<'l>(
     alloc: Global,
     name: &str,
@@ -30,6 +35,10 @@ pub(crate) fn notation_named<'l>(
     match name {
         "set_locale" => said!(alloc, rest, (id, ()) => Notation::SetLocale { id }),
         "set_language" => said!(alloc, rest, (id, ()) => Notation::SetLanguage { id }),
+        "set_timezone" => said!(alloc, rest, (id, ()) => Notation::SetTimezone { id }),
+        "get_locale" => said!(alloc, rest, () => Notation::GetLocale),
+        "get_language" => said!(alloc, rest, () => Notation::GetLanguage),
+        "get_timezone" => said!(alloc, rest, () => Notation::GetTimezone),
         _ => Ok(None),
     }
 }

@@ -37,6 +37,7 @@ pub enum Sheets<'l> {
         id: u32,
     },
     GetNewSheetId,
+    GetWorksheetsProperties,
 }
 
 /// The served command on the list of sheets of this name, with the words that are left; inside that None where they don't fit it.
@@ -62,6 +63,7 @@ pub(crate) fn sheets_named<'l>(
         "delete_sheet_by_sheet_id" =>
             said!(alloc, rest, (id, ()) => Sheets::DeleteSheetBySheetId { id }),
         "get_new_sheet_id" => said!(alloc, rest, () => Sheets::GetNewSheetId),
+        "get_worksheets_properties" => said!(alloc, rest, () => Sheets::GetWorksheetsProperties),
         _ => Ok(None),
     }
 }

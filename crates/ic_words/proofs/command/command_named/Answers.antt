@@ -1,10 +1,11 @@
 use Rattle.std.proofs.Common.{[], None, chars, ap, sym}
-use Rattle.ic_machine.specs.Command.{OnDefinitions, OnNotation, OnReading, OnSheets, OnWriting, served}
+use Rattle.ic_machine.specs.Command.{OnDefinitions, OnNotation, OnReading, OnSheets, OnTabs, OnWriting, served}
 use Rattle.ic_machine.specs.Row.{joined, named}
 use Rattle.ic_machine.specs.subjects.Definitions.{definition_rows}
 use Rattle.ic_machine.specs.subjects.Notation.{notation_rows}
 use Rattle.ic_machine.specs.subjects.Reading.{reading_rows}
 use Rattle.ic_machine.specs.subjects.Sheets.{sheet_rows}
+use Rattle.ic_machine.specs.subjects.Tabs.{tab_rows}
 use Rattle.ic_machine.specs.subjects.Writing.{writing_rows}
 use Rattle.ic_words.specs.Served.{served_in}
 use Rattle.ic_words.specs.Words.{words_left}
@@ -12,8 +13,9 @@ use Rattle.ic_words.specs.subjects.Definitions.{definitions_meant}
 use Rattle.ic_words.specs.subjects.Notation.{notation_meant}
 use Rattle.ic_words.specs.subjects.Reading.{reading_meant}
 use Rattle.ic_words.specs.subjects.Sheets.{sheets_meant}
+use Rattle.ic_words.specs.subjects.Tabs.{tabs_meant}
 use Rattle.ic_words.specs.subjects.Writing.{writing_meant}
-use Rattle.ic_words.proofs.SubjectLemmas.{by_subjects, later_definitions, later_notation, later_reading, later_writing, nothing, one, past}
+use Rattle.ic_words.proofs.SubjectLemmas.{by_subjects, later_definitions, later_notation, later_reading, later_tabs, later_writing, nothing, one, past}
 use Rattle.ic_words.proofs.command.command_named.Goals as goal
 
 pub returns-in_default-said-clause-exact : goal.returns-in_default-said-clause-exact
@@ -102,7 +104,7 @@ returns-in_default-said-5-clause-exact c =
     let chain3 = past OnDefinitions definitions_meant c.in_ok-said-2.field-0 (served_in definition_rows n w) table (later_notation n w) chain2 c.in_ok-said-2.ensures.exact c.in_default-2.is in
     let chain4 = past OnNotation notation_meant c.in_ok-said-3.field-0 (served_in notation_rows n w) table (later_writing n w) chain3 c.in_ok-said-3.ensures.exact c.in_default-3.is in
     let chain5 = past OnWriting writing_meant c.in_ok-said-4.field-0 (served_in writing_rows n w) table (later_reading n w) chain4 c.in_ok-said-4.ensures.exact c.in_default-4.is in
-    nothing OnReading reading_meant c.in_ok-said-5.field-0 (served_in reading_rows n w) table None chain5 c.in_ok-said-5.ensures.exact c.in-Some-5.said c.in-Some-5.is c.in_default-said-5.is
+    nothing OnReading reading_meant c.in_ok-said-5.field-0 (served_in reading_rows n w) table (later_tabs n w) chain5 c.in_ok-said-5.ensures.exact c.in-Some-5.said c.in-Some-5.is c.in_default-said-5.is
 
 pub returns-in-Some-5-clause-exact : goal.returns-in-Some-5-clause-exact
 returns-in-Some-5-clause-exact c =
@@ -114,7 +116,33 @@ returns-in-Some-5-clause-exact c =
     let chain3 = past OnDefinitions definitions_meant c.in_ok-said-2.field-0 (served_in definition_rows n w) table (later_notation n w) chain2 c.in_ok-said-2.ensures.exact c.in_default-2.is in
     let chain4 = past OnNotation notation_meant c.in_ok-said-3.field-0 (served_in notation_rows n w) table (later_writing n w) chain3 c.in_ok-said-3.ensures.exact c.in_default-3.is in
     let chain5 = past OnWriting writing_meant c.in_ok-said-4.field-0 (served_in writing_rows n w) table (later_reading n w) chain4 c.in_ok-said-4.ensures.exact c.in_default-4.is in
-    one OnReading reading_meant c.in_ok-said-5.field-0 (served_in reading_rows n w) table None chain5 c.in_ok-said-5.ensures.exact c.in-Some-5.said c.in-Some-said-5.command c.in-Some-5.is c.in-Some-said-5.is
+    one OnReading reading_meant c.in_ok-said-5.field-0 (served_in reading_rows n w) table (later_tabs n w) chain5 c.in_ok-said-5.ensures.exact c.in-Some-5.said c.in-Some-said-5.command c.in-Some-5.is c.in-Some-said-5.is
+
+pub returns-in_default-said-6-clause-exact : goal.returns-in_default-said-6-clause-exact
+returns-in_default-said-6-clause-exact c =
+    let n = c.args.name.now in
+    let w = words_left c.args.rest in
+    let table = named [] served (chars n) w in
+    let chain1 = by_subjects n w c.utf8.name in
+    let chain2 = past OnSheets sheets_meant c.in_ok-said.field-0 (served_in sheet_rows n w) table (later_definitions n w) chain1 c.in_ok-said.ensures.exact c.in_default.is in
+    let chain3 = past OnDefinitions definitions_meant c.in_ok-said-2.field-0 (served_in definition_rows n w) table (later_notation n w) chain2 c.in_ok-said-2.ensures.exact c.in_default-2.is in
+    let chain4 = past OnNotation notation_meant c.in_ok-said-3.field-0 (served_in notation_rows n w) table (later_writing n w) chain3 c.in_ok-said-3.ensures.exact c.in_default-3.is in
+    let chain5 = past OnWriting writing_meant c.in_ok-said-4.field-0 (served_in writing_rows n w) table (later_reading n w) chain4 c.in_ok-said-4.ensures.exact c.in_default-4.is in
+    let chain6 = past OnReading reading_meant c.in_ok-said-5.field-0 (served_in reading_rows n w) table (later_tabs n w) chain5 c.in_ok-said-5.ensures.exact c.in_default-5.is in
+    nothing OnTabs tabs_meant c.in_ok-said-6.field-0 (served_in tab_rows n w) table None chain6 c.in_ok-said-6.ensures.exact c.in-Some-6.said c.in-Some-6.is c.in_default-said-6.is
+
+pub returns-in-Some-6-clause-exact : goal.returns-in-Some-6-clause-exact
+returns-in-Some-6-clause-exact c =
+    let n = c.args.name.now in
+    let w = words_left c.args.rest in
+    let table = named [] served (chars n) w in
+    let chain1 = by_subjects n w c.utf8.name in
+    let chain2 = past OnSheets sheets_meant c.in_ok-said.field-0 (served_in sheet_rows n w) table (later_definitions n w) chain1 c.in_ok-said.ensures.exact c.in_default.is in
+    let chain3 = past OnDefinitions definitions_meant c.in_ok-said-2.field-0 (served_in definition_rows n w) table (later_notation n w) chain2 c.in_ok-said-2.ensures.exact c.in_default-2.is in
+    let chain4 = past OnNotation notation_meant c.in_ok-said-3.field-0 (served_in notation_rows n w) table (later_writing n w) chain3 c.in_ok-said-3.ensures.exact c.in_default-3.is in
+    let chain5 = past OnWriting writing_meant c.in_ok-said-4.field-0 (served_in writing_rows n w) table (later_reading n w) chain4 c.in_ok-said-4.ensures.exact c.in_default-4.is in
+    let chain6 = past OnReading reading_meant c.in_ok-said-5.field-0 (served_in reading_rows n w) table (later_tabs n w) chain5 c.in_ok-said-5.ensures.exact c.in_default-5.is in
+    one OnTabs tabs_meant c.in_ok-said-6.field-0 (served_in tab_rows n w) table None chain6 c.in_ok-said-6.ensures.exact c.in-Some-6.said c.in-Some-said-6.command c.in-Some-6.is c.in-Some-said-6.is
 
 pub returns-clause-exact : goal.returns-clause-exact
 returns-clause-exact c =
@@ -126,4 +154,5 @@ returns-clause-exact c =
     let chain3 = past OnDefinitions definitions_meant c.in_ok-said-2.field-0 (served_in definition_rows n w) table (later_notation n w) chain2 c.in_ok-said-2.ensures.exact c.in_default-2.is in
     let chain4 = past OnNotation notation_meant c.in_ok-said-3.field-0 (served_in notation_rows n w) table (later_writing n w) chain3 c.in_ok-said-3.ensures.exact c.in_default-3.is in
     let chain5 = past OnWriting writing_meant c.in_ok-said-4.field-0 (served_in writing_rows n w) table (later_reading n w) chain4 c.in_ok-said-4.ensures.exact c.in_default-4.is in
-    ap joined (sym (past OnReading reading_meant c.in_ok-said-5.field-0 (served_in reading_rows n w) table None chain5 c.in_ok-said-5.ensures.exact c.in_default-5.is))
+    let chain6 = past OnReading reading_meant c.in_ok-said-5.field-0 (served_in reading_rows n w) table (later_tabs n w) chain5 c.in_ok-said-5.ensures.exact c.in_default-5.is in
+    ap joined (sym (past OnTabs tabs_meant c.in_ok-said-6.field-0 (served_in tab_rows n w) table None chain6 c.in_ok-said-6.ensures.exact c.in_default-6.is))

@@ -27,3 +27,6 @@ returns-in-DeleteSheetBySheetId c = changed (OnSheets (sheets_meant c.args.comma
 
 pub returns-in-GetNewSheetId : goal.returns-in-GetNewSheetId
 returns-in-GetNewSheetId c = only_read c.told-in-GetNewSheetId.ensures c.get_new_sheet_id.ensures.does (search rules)
+
+pub returns-in-GetWorksheetsProperties : goal.returns-in-GetWorksheetsProperties
+returns-in-GetWorksheetsProperties c = only_read c.told-in-GetWorksheetsProperties.ensures c.get_worksheets_properties.ensures.does (search rules)

@@ -1,0 +1,42 @@
+-- The fields of replies, by the values that calls answer.
+use Rattle.std.specs.Prelude.{String, ℕ, List, [], ◌∷◌, Option, Some, chars, flat_map, option_map, string_bytes}
+use Rattle.std.specs.declared.alloc.Global.{Global}
+use Rattle.std.specs.Global.{Vec}
+use Rattle.ic_cells.specs.declared.sheet.SheetProperties.{SheetProperties}
+use Rattle.ic_cells.specs.declared.workbook.Theme.{Theme}
+use Rattle.ic_machine.specs.Reply.{Field, NumberField, TextField, optional_text_field, text_field}
+use Rattle.ic_machine.specs.Styling.{color_text}
+
+-- nothing
+abbrev pub no_fields : Unit {0} → List Field
+no_fields nothing = []
+
+-- a number, or none
+abbrev pub scope_field : Option ℕ → List Field
+scope_field number = NumberField number ∷ []
+
+-- a text, if there is one
+abbrev pub string_field : Option (String Global) → List Field
+string_field text = optional_text_field (option_map (λ s. chars (string_bytes s)) text)
+
+-- a text
+abbrev pub string_only : String Global → List Field
+string_only text = text_field (chars (string_bytes text))
+
+-- the name of a theme
+abbrev pub theme_field : Theme → List Field
+theme_field theme = text_field theme.name
+
+-- a listed definition: its name, the index of the sheet that it is for, or none, and its body
+abbrev pub fields_of_name : String Global × Option ℕ × String Global → List Field
+fields_of_name listed = TextField (chars (string_bytes listed.0)) ∷ NumberField listed.1 ∷ TextField (chars (string_bytes listed.2)) ∷ []
+
+abbrev pub names_fields : Vec (String Global × Option ℕ × String Global) → List Field
+names_fields names = flat_map fields_of_name names.items
+
+-- what is told of each sheet: its name, the word of its state, its color and its id
+abbrev pub fields_of_sheet : SheetProperties → List Field
+fields_of_sheet sheet = TextField sheet.name ∷ TextField sheet.state ∷ TextField (color_text sheet.color) ∷ NumberField (Some sheet.sheet_id) ∷ []
+
+abbrev pub sheets_fields : Vec SheetProperties → List Field
+sheets_fields sheets = flat_map fields_of_sheet sheets.items
