@@ -1,8 +1,9 @@
 -- What the words of copied formulas mean.
-use Rattle.std.proofs.Common.{◌≡◌, ◌⊎◌, ℕ, pos, ◌+◌, IsSome, is_some, List, [], ◌∷◌, ◌++◌, map, Bool, true, false, cond, ◌&&◌, ◌||◌, Option, Some, None, Ok, refl, sym, ap, ap₂, subst, ◌∙◌, inl, inr, if◌then◌else◌}
+use Rattle.std.proofs.Common.{◌≡◌, ◌⊎◌, ℕ, zero, suc, pos, ◌+◌, ◌<◌, ◌≤◌, length, arith, IsSome, is_some, List, [], ◌∷◌, ◌++◌, map, Bool, true, false, cond, ◌&&◌, ◌||◌, Option, Some, None, Ok, refl, sym, ap, ap₂, subst, ◌∙◌, inl, inr, if◌then◌else◌}
 use Rattle.std.proofs.lemmas.Bool.{and_from, and_parts, and_right, cases_Bool, or_right}
-use Rattle.std.proofs.lemmas.List.{map-append}
+use Rattle.std.proofs.lemmas.List.{length-map, map-append}
 use Rattle.std.proofs.lemmas.List.Folds.{find-append, list_any-append}
+use Rattle.std.proofs.lemmas.Option.{slice_get_within}
 use Rattle.std.proofs.lemmas.Slice.Eq.{bytes_eq-Decides}
 use Rattle.std.specs.Cmp.{nat_eq_equiv}
 use Rattle.std.specs.Fmt.{decimal}
@@ -15,6 +16,7 @@ use Rattle.ic_laws.proofs.kept.Kept.{english_by_fold}
 use Rattle.ic_laws.specs.Binding.{Binders, RespectsFolding, bound, bound_sheet, bound_word, is_bound_by, name_or_dangling, sheet_or_dangling, spelled, spelled_sheet, spelled_with, spelled_word}
 use Rattle.ic_laws.specs.CoreBook as core_book
 use Rattle.ic_laws.specs.CoreBook.{Definition, fresh_id, spelling_of}
+use Rattle.ic_laws.specs.Keeping.{same_keys}
 use Rattle.ic_laws.specs.Name.{agrees, fold}
 use Rattle.ic_laws.specs.Notations.{Notations, english_function}
 use Rattle.ic_laws.specs.Scene.{definition_at, found_name, found_sheet, key_found, key_of, name_of_key, name_of_sheet, name_spelling, same_scope, sheet_spelling}
@@ -36,7 +38,7 @@ use Rattle.ic_machine.specs.Capture.{words_in}
 use Rattle.ic_machine.specs.Refusal.{IdsUsedUp, InvalidSheet, first_refusal}
 use Rattle.ic_machine.specs.Valid.{IsKeptPool, IsValidBook}
 use Rattle.ic_machine.specs.subjects.Sheets.{copied_of, copies_of_definitions, copy_id, copy_of_sheet, copy_spelling, definitions_moved, duplicate_sheet_step, duplicated, formula_copied, local_in, local_to, mentions_sheet, named_fields, name_of_copy, scene_with_copy, shared_about, with_copy, with_formula}
-use Rattle.ic_machine.specs.Changed.{changed_by}
+use Rattle.ic_machine.specs.Changed.{changed_by, with_kept_formulas}
 use Rattle.ic_machine.proofs.ChangedStays.{seen}
 use Rattle.ic_machine.proofs.CopiedBinds.{or_none, unfound}
 use Rattle.ic_machine.proofs.CopyKeys.{all_appended, all_filtered, all_in_map, no_scope}
@@ -309,10 +311,22 @@ module _ (b : Book) (valid : IsValidBook b) (index : ℕ) (source : Sheet) (at :
       subst (AllZip (λ (d e : Definition). HasCopiedMentions (copying_of b index source) d.body e.body) copied) (map_twice (local_in id) (with_formula (formula_copied b index source)) copied)
       (zip_mapped IsCopied (λ (d e : Definition). HasCopiedMentions (copying_of b index source) d.body e.body) (λ d. with_formula (formula_copied b index source) (local_in id d)) (λ d h. kept_becomes d.scope h.0 d.body h.1) copied all_copied)
 
+got_inserted : {X : Type 0} (xs : List X) (i : ℕ) (x : X) → i ≤ length xs → slice_get (insert xs i x) i ≡ Some x
+got_inserted [] zero x le = refl
+got_inserted [] (suc i) x le = absurd (omega (arith, le))
+got_inserted (y ∷ xs) zero x le = refl
+got_inserted (y ∷ xs) (suc i) x le = got_inserted xs i x (omega (arith, le))
+
 pub copied_means_same : CopiedMeansSame
 unfolding duplicate_sheet_step
 copied_means_same b after index source fields valid at e =
     let one : duplicated b index source ≡ Ok (after, fields) = sym (ap (λ (o : Option Sheet). found_or InvalidSheet (option_map (duplicated b index) o)) at) ∙ e in
     let ok = accepted (first_refusal ((is_none (fresh_id (core_of b)), IdsUsedUp) ∷ [])) (changed_by (with_copy index (copy_of_sheet b index source) (copies_of_definitions b index source)) b) after (named_fields (name_of_copy b source.name) (index + 1)) fields one in
     let room = (none_holds ((is_none (fresh_id (core_of b)), IdsUsedUp) ∷ []) ok.0).0 in
-    (pool_words b valid index source at room, body_words b valid index source at room)
+    let within : index < length b.sheets = slice_get_within b.sheets index source at in
+    let kept : List Sheet = (with_kept_formulas (notations_in b) (scene_in b) (scene_in (with_copy index (copy_of_sheet b index source) (copies_of_definitions b index source) b)) same_keys b).sheets in
+    let long : length kept ≡ length b.sheets = length-map b.sheets _ in (
+      ap (λ (left : Book). slice_get left.sheets (index + 1)) ok.1 ∙ got_inserted kept (index + 1) (copy_of_sheet b index source) (omega (arith, within, long)),
+      pool_words b valid index source at room,
+      body_words b valid index source at room,
+    )

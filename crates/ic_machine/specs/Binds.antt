@@ -123,12 +123,13 @@ HasCopiedMentions c (formulas.Tree before) (formulas.Tree after) =
     (words_in after ≡ map (option_map (copied_word c.copy c.definitions)) (words_in before)) × (sheets_in after ≡ map (copied_sheet c) (sheets_in before))
 HasCopiedMentions c before after = after ≡ before
 
--- the formulas of the copy, and the bodies of the copied definitions
+-- the formulas of the copy, which is the next sheet, and the bodies of the copied definitions
 abbrev pub CopiedMeansSame : Type 0
 CopiedMeansSame =
     (book after : Book) (index : ℕ) (source : Sheet) (fields : List Field) → IsValidBook book → slice_get book.sheets index ≡ Some source
     → step book (OnSheets (sheets.DuplicateSheet index)) ≡ Ok (after, fields)
-    → AllZip (HasCopiedMentions (copying_of book index source)) source.pool (copy_of_sheet book index source).pool
+    → (slice_get after.sheets (index + 1) ≡ Some (copy_of_sheet book index source))
+    × AllZip (HasCopiedMentions (copying_of book index source)) source.pool (copy_of_sheet book index source).pool
     × AllZip (λ (d e : Definition). HasCopiedMentions (copying_of book index source) d.body e.body) (copied_of source.id book.definitions) (copies_of_definitions book index source)
 
 -- so is a renamed one, by its new name
