@@ -1,53 +1,54 @@
 -- What the words of copied formulas mean.
-use Rattle.std.proofs.Common.{◌≡◌, ◌⊎◌, ℕ, pos, ◌+◌, IsSome, is_some, List, [], ◌∷◌, ◌++◌, map, Bool, true, false, cond, ◌&&◌, ◌||◌, Option, Some, None, Ok, refl, sym, ap, ap₂, subst, ◌∙◌, inl, inr, if◌then◌else◌}
+use Rattle.std.proofs.Common.{◌≡◌, ◌⊎◌, ℕ, zero, suc, pos, ◌+◌, ◌<◌, ◌≤◌, length, arith, IsSome, is_some, List, [], ◌∷◌, ◌++◌, map, Bool, true, false, cond, ◌&&◌, ◌||◌, Option, Some, None, Ok, refl, sym, ap, ap₂, subst, ◌∙◌, inl, inr, if◌then◌else◌}
 use Rattle.std.proofs.lemmas.Bool.{and_from, and_parts, and_right, cases_Bool, or_right}
-use Rattle.std.proofs.lemmas.List.{map-append}
+use Rattle.std.proofs.lemmas.List.{length-map, map-append}
 use Rattle.std.proofs.lemmas.List.Folds.{find-append, list_any-append}
+use Rattle.std.proofs.lemmas.Option.{slice_get_within}
 use Rattle.std.proofs.lemmas.Slice.Eq.{bytes_eq-Decides}
-use Rattle.std.specs.List.{AllByRecursion, AllZip, find, list_any, slice_get}
+use Rattle.std.specs.Cmp.{nat_eq_equiv}
+use Rattle.std.specs.Fmt.{decimal}
+use Rattle.std.specs.List.{AllByRecursion, AllZip, find, insert, list_any, slice_get}
 use Rattle.std.specs.Option.{option_or}
-use Rattle.std.specs.Prelude.{bytes_eq, is_none, option_map, unwrap_or}
-use Rattle.ic_laws.proofs.binding.SceneLemmas.{find_here, find_later, found_has_definition, folds_to_key, same_scope_self}
+use Rattle.std.specs.Prelude.{bytes_eq, is_none, nat_eq, option_map, unwrap_or}
+use Rattle.ic_laws.proofs.binding.SceneLemmas.{find_here, find_later, found_by_other, found_by_text, found_has_definition, folds_to_key, same_scope_self}
 use Rattle.ic_laws.proofs.keeping.NameChanges.{same_scope_from}
 use Rattle.ic_laws.proofs.kept.Kept.{english_by_fold}
-use Rattle.ic_laws.specs.Binding.{Binders, RespectsFolding, bound, bound_word, is_bound_by, name_or_dangling, spelled, spelled_with, spelled_word}
+use Rattle.ic_laws.specs.Binding.{Binders, RespectsFolding, bound, bound_sheet, bound_word, is_bound_by, name_or_dangling, sheet_or_dangling, spelled, spelled_sheet, spelled_with, spelled_word}
+use Rattle.ic_laws.specs.CoreBook as core_book
 use Rattle.ic_laws.specs.CoreBook.{Definition, fresh_id, spelling_of}
-use Rattle.ic_laws.specs.Name.{fold}
+use Rattle.ic_laws.specs.Keeping.{same_keys}
+use Rattle.ic_laws.specs.Name.{agrees, fold}
 use Rattle.ic_laws.specs.Notations.{Notations, english_function}
-use Rattle.ic_laws.specs.Scene.{definition_at, found_name, key_found, key_of, name_of_key, name_spelling, same_scope}
+use Rattle.ic_laws.specs.Scene.{definition_at, found_name, found_sheet, key_found, key_of, name_of_key, name_of_sheet, name_spelling, same_scope, sheet_spelling}
 use Rattle.ic_laws.specs.Tree.{Bound}
 use Rattle.ic_laws.specs.ValidCore.{IsKeptBody, IsKeptFormula, IsPooled}
 use Rattle.ic_laws.specs.declared.scene.NameSpelling.{NameSpelling}
 use Rattle.ic_laws.specs.declared.scene.Scene.{Scene}
+use Rattle.ic_laws.specs.declared.scene.SheetName.{SheetName}
 use Rattle.ic_laws.specs.declared.tree.Formula.{Formula}
 use Rattle.ic_laws.specs.declared.tree.Formula.TheVariants as formulas
 use Rattle.ic_laws.specs.declared.tree.NameKey.{NameKey}
 use Rattle.ic_laws.specs.declared.tree.NameMention.{NameMention}
 use Rattle.ic_laws.specs.declared.tree.NameMention.TheVariants as names
+use Rattle.ic_laws.specs.declared.tree.SheetMention.TheVariants as sheets
 use Rattle.ic_tree.proofs.NotationLaws.{notations_are}
-use Rattle.ic_machine.specs.Binds.{CopiedMeansSame, HasCopiedWords, copied_word, is_copied, key_in_copy}
-use Rattle.ic_machine.specs.Book.{Book, Sheet, core_of, found_or, notations_in, scene_in}
+use Rattle.ic_machine.specs.Binds.{CopiedMeansSame, HasCopiedMentions, copied_sheet, copied_word, copying_of, is_copied, key_in_copy, sheets_in}
+use Rattle.ic_machine.specs.Book.{Book, Sheet, core_of, core_sheet, found_or, notations_in, scene_in}
 use Rattle.ic_machine.specs.Capture.{words_in}
 use Rattle.ic_machine.specs.Refusal.{IdsUsedUp, InvalidSheet, first_refusal}
 use Rattle.ic_machine.specs.Valid.{IsKeptPool, IsValidBook}
 use Rattle.ic_machine.specs.subjects.Sheets.{copied_of, copies_of_definitions, copy_id, copy_of_sheet, copy_spelling, definitions_moved, duplicate_sheet_step, duplicated, formula_copied, local_in, local_to, mentions_sheet, named_fields, name_of_copy, scene_with_copy, shared_about, with_copy, with_formula}
-use Rattle.ic_machine.specs.Changed.{changed_by}
+use Rattle.ic_machine.specs.Changed.{changed_by, with_kept_formulas}
+use Rattle.ic_machine.proofs.ChangedStays.{seen}
 use Rattle.ic_machine.proofs.CopiedBinds.{or_none, unfound}
 use Rattle.ic_machine.proofs.CopyKeys.{all_appended, all_filtered, all_in_map, no_scope}
 use Rattle.ic_machine.proofs.CoreValid.{map_twice}
-use Rattle.ic_machine.proofs.DuplicatedStays.{has_key, parts}
-use Rattle.ic_machine.proofs.InsertedBinds.{accepted}
+use Rattle.ic_machine.proofs.DuplicatedStays.{has_copy, has_key, has_old, named, parts, seen_later}
+use Rattle.ic_machine.proofs.InsertedBinds.{accepted, find_inserted, mapped_choice}
 use Rattle.ic_machine.proofs.InsertedStays.{none_holds}
 use Rattle.ic_machine.proofs.UpdatedBinds.{zip_mapped}
 use Rattle.ic_machine.proofs.ValidLemmas.{all_at}
-use Rattle.ic_machine.proofs.WordLemmas.{words_become}
-
--- words that are each what a function makes of another are the others, mapped
-mapped_zip : {A : Type 0} (g : A → A) (xs ys : List A) → AllZip (λ x y. y ≡ g x) xs ys → ys ≡ map g xs
-mapped_zip g [] [] h = refl
-mapped_zip g [] (y ∷ ys) h = absurd h
-mapped_zip g (x ∷ xs) [] h = absurd h
-mapped_zip g (x ∷ xs) (y ∷ ys) h = ap₂ (λ a bs. a ∷ bs) h.0 (mapped_zip g xs ys h.1)
+use Rattle.ic_machine.proofs.WordLemmas.{mapped_zip, sheets_become, words_become}
 
 abbrev is_at : List ℕ → Option ℕ → NameSpelling → Bool
 is_at folded scope m = bytes_eq (fold m.name) folded && same_scope m.scope scope
@@ -156,6 +157,48 @@ module _ (b : Book) (valid : IsValidBook b) (index : ℕ) (source : Sheet) (at :
             absurd (let no : true ≡ false = sym (local_copied folded x (ap (definition_at before folded) (sym s) ∙ f)) ∙ none in cc)
       ]
 
+  -- a sheet of the book with the copy is found by how it is written
+  found_again : (i : ℕ) → IsSome (name_of_sheet later i) → found_sheet later (sheet_spelling later i) ≡ Some i
+  found_again i some = of_sheet (find (λ (m : SheetName). nat_eq m.id i) later.sheets) refl some
+    where
+      of_sheet : (o : Option SheetName) → find (λ (m : SheetName). nat_eq m.id i) later.sheets ≡ o → IsSome (option_map (λ (m : SheetName). m.name) o) → found_sheet later (sheet_spelling later i) ≡ Some i
+      of_sheet None e h = let no : false ≡ true = h in cc
+      of_sheet (Some m) e h = found_by_text later (named b valid index source at room).differ i m (decimal i) e
+
+  sheet_becomes : (name : Option (List ℕ)) → bound_sheet later (spelled_sheet (copy_spelling later source.id id) (bound_sheet before name)) ≡ copied_sheet (copying_of b index source) (bound_sheet before name)
+  sheet_becomes None = refl
+  sheet_becomes (Some typed) = of_found (find (λ (m : SheetName). agrees m.name typed) before.sheets) refl
+    where
+      either : (c : Bool) → sheet_or_dangling typed (if c then Some id else None) ≡ (if c then sheets.Sheet id else sheets.Dangling typed)
+      either true = refl
+      either false = refl
+
+      of_id : (i : ℕ) → IsSome (name_of_sheet before i) → (c : Bool) → sheet_or_dangling (sheet_spelling later (if c then id else i)) (found_sheet later (sheet_spelling later (if c then id else i))) ≡ sheets.Sheet (if c then id else i)
+      of_id i some true = ap (sheet_or_dangling (sheet_spelling later id)) (found_again id (has_copy b valid index source at room))
+      of_id i some false = ap (sheet_or_dangling (sheet_spelling later i)) (found_again i (has_old b valid index source at room i some))
+
+      there : (m : SheetName) → find (λ (x : SheetName). agrees x.name typed) before.sheets ≡ Some m → IsSome (name_of_sheet before m.id)
+      there m e =
+          let y = found_by_other (λ (x : SheetName). agrees x.name typed) (λ (x : SheetName). nat_eq x.id m.id) before.sheets m e (nat_eq_equiv.refl m.id) in
+          ap (λ (o : Option SheetName). is_some (option_map (λ (x : SheetName). x.name) o)) y.1
+
+      copy_found : (typed : List ℕ) → find (λ (m : SheetName). agrees m.name typed) before.sheets ≡ None
+          → option_map (λ (m : SheetName). m.id) (find (λ (m : SheetName). agrees m.name typed) (insert (map seen b.sheets) (index + 1) (seen (copy_of_sheet b index source)))) ≡ (if agrees (name_of_copy b source.name) typed then Some id else None)
+      copy_found typed e =
+          ap (option_map (λ (m : SheetName). m.id))
+          (find_inserted (λ (m : SheetName). agrees m.name typed) (map seen b.sheets) (index + 1) (seen (copy_of_sheet b index source))
+          (sym (ap (find (λ (m : SheetName). agrees m.name typed)) (sym (map_twice core_sheet (λ (s : core_book.Sheet). let m : SheetName = record { id = s.id; name = s.name } in m) b.sheets))) ∙ e))
+          ∙ mapped_choice (seen (copy_of_sheet b index source)) (agrees (name_of_copy b source.name) typed)
+
+      of_found : (o : Option SheetName) → find (λ (m : SheetName). agrees m.name typed) before.sheets ≡ o
+          → bound_sheet later (spelled_sheet (copy_spelling later source.id id) (sheet_or_dangling typed (option_map (λ (m : SheetName). m.id) o))) ≡ copied_sheet (copying_of b index source) (sheet_or_dangling typed (option_map (λ (m : SheetName). m.id) o))
+      of_found None e =
+          ap (sheet_or_dangling typed)
+          (ap (λ (ms : List SheetName). option_map (λ (m : SheetName). m.id) (find (λ (m : SheetName). agrees m.name typed) ms)) (seen_later b valid index source at room)
+          ∙ copy_found typed e)
+          ∙ either (agrees (name_of_copy b source.name) typed)
+      of_found (Some m) e = of_id m.id (there m e) (nat_eq m.id source.id)
+
   module _ (scope : Option ℕ) (is : IsSource scope) where
     abbrev key_text : NameKey → List ℕ
     key_text = name_spelling later
@@ -231,17 +274,23 @@ module _ (b : Book) (valid : IsValidBook b) (index : ℕ) (source : Sheet) (at :
         (words_become (english_function n) scope (Some id) before later (copy_spelling later source.id id) key_text Becomes
         (record { word = word_becomes; none = refl; called = called_becomes (english_by_fold n (notations_are b.tables valid.tables)) }) (spelled before t)))
 
-    pooled_becomes : (f : Formula) → IsPooled n before scope f → HasCopiedWords id copied f (formula_copied b index source f)
-    pooled_becomes (formulas.Tree t) h = tree_becomes t h.settled
+    sheets_copied : (t : Bound) → bound (english_function n) before scope (spelled before t) ≡ t
+        → sheets_in (bound (english_function n) later (Some id) (spelled_with (copy_spelling later source.id id) key_text t)) ≡ map (copied_sheet (copying_of b index source)) (sheets_in t)
+    sheets_copied t settled =
+        subst (λ (u : Bound). sheets_in (bound (english_function n) later (Some id) (spelled_with (copy_spelling later source.id id) key_text u)) ≡ map (copied_sheet (copying_of b index source)) (sheets_in u)) settled
+        (sheets_become (english_function n) scope (Some id) before later (copy_spelling later source.id id) key_text (copied_sheet (copying_of b index source)) sheet_becomes (spelled before t))
+
+    pooled_becomes : (f : Formula) → IsPooled n before scope f → HasCopiedMentions (copying_of b index source) f (formula_copied b index source f)
+    pooled_becomes (formulas.Tree t) h = (tree_becomes t h.settled, sheets_copied t h.settled)
     pooled_becomes (formulas.Raw text) h = refl
 
-    kept_becomes : (f : Formula) → IsKeptFormula n before scope (pos 1) (pos 1) f → HasCopiedWords id copied f (formula_copied b index source f)
-    kept_becomes (formulas.Tree t) h = tree_becomes t h.settled
+    kept_becomes : (f : Formula) → IsKeptFormula n before scope (pos 1) (pos 1) f → HasCopiedMentions (copying_of b index source) f (formula_copied b index source f)
+    kept_becomes (formulas.Tree t) h = (tree_becomes t h.settled, sheets_copied t h.settled)
     kept_becomes (formulas.Raw text) h = refl
 
-  pool_words : AllZip (HasCopiedWords id copied) source.pool (copy_of_sheet b index source).pool
+  pool_words : AllZip (HasCopiedMentions (copying_of b index source)) source.pool (copy_of_sheet b index source).pool
   pool_words =
-      zip_mapped (IsPooled n before (Some source.id)) (HasCopiedWords id copied) (formula_copied b index source) (pooled_becomes (Some source.id) (inr refl)) source.pool (all_at (IsKeptPool n before) index b.sheets source valid.kept.pools at)
+      zip_mapped (IsPooled n before (Some source.id)) (HasCopiedMentions (copying_of b index source)) (formula_copied b index source) (pooled_becomes (Some source.id) (inr refl)) source.pool (all_at (IsKeptPool n before) index b.sheets source valid.kept.pools at)
 
   -- a copied definition is local to the sheet, or to none
   abbrev IsCopied : Definition → Type 0
@@ -257,10 +306,16 @@ module _ (b : Book) (valid : IsValidBook b) (index : ℕ) (source : Sheet) (at :
       none_is None e = refl
       none_is (Some i) e = cc
 
-  body_words : AllZip (λ (d e : Definition). HasCopiedWords id copied d.body e.body) copied (copies_of_definitions b index source)
+  body_words : AllZip (λ (d e : Definition). HasCopiedMentions (copying_of b index source) d.body e.body) copied (copies_of_definitions b index source)
   body_words =
-      subst (AllZip (λ (d e : Definition). HasCopiedWords id copied d.body e.body) copied) (map_twice (local_in id) (with_formula (formula_copied b index source)) copied)
-      (zip_mapped IsCopied (λ (d e : Definition). HasCopiedWords id copied d.body e.body) (λ d. with_formula (formula_copied b index source) (local_in id d)) (λ d h. kept_becomes d.scope h.0 d.body h.1) copied all_copied)
+      subst (AllZip (λ (d e : Definition). HasCopiedMentions (copying_of b index source) d.body e.body) copied) (map_twice (local_in id) (with_formula (formula_copied b index source)) copied)
+      (zip_mapped IsCopied (λ (d e : Definition). HasCopiedMentions (copying_of b index source) d.body e.body) (λ d. with_formula (formula_copied b index source) (local_in id d)) (λ d h. kept_becomes d.scope h.0 d.body h.1) copied all_copied)
+
+got_inserted : {X : Type 0} (xs : List X) (i : ℕ) (x : X) → i ≤ length xs → slice_get (insert xs i x) i ≡ Some x
+got_inserted [] zero x le = refl
+got_inserted [] (suc i) x le = absurd (omega (arith, le))
+got_inserted (y ∷ xs) zero x le = refl
+got_inserted (y ∷ xs) (suc i) x le = got_inserted xs i x (omega (arith, le))
 
 pub copied_means_same : CopiedMeansSame
 unfolding duplicate_sheet_step
@@ -268,4 +323,10 @@ copied_means_same b after index source fields valid at e =
     let one : duplicated b index source ≡ Ok (after, fields) = sym (ap (λ (o : Option Sheet). found_or InvalidSheet (option_map (duplicated b index) o)) at) ∙ e in
     let ok = accepted (first_refusal ((is_none (fresh_id (core_of b)), IdsUsedUp) ∷ [])) (changed_by (with_copy index (copy_of_sheet b index source) (copies_of_definitions b index source)) b) after (named_fields (name_of_copy b source.name) (index + 1)) fields one in
     let room = (none_holds ((is_none (fresh_id (core_of b)), IdsUsedUp) ∷ []) ok.0).0 in
-    (pool_words b valid index source at room, body_words b valid index source at room)
+    let within : index < length b.sheets = slice_get_within b.sheets index source at in
+    let kept : List Sheet = (with_kept_formulas (notations_in b) (scene_in b) (scene_in (with_copy index (copy_of_sheet b index source) (copies_of_definitions b index source) b)) same_keys b).sheets in
+    let long : length kept ≡ length b.sheets = length-map b.sheets _ in (
+      ap (λ (left : Book). slice_get left.sheets (index + 1)) ok.1 ∙ got_inserted kept (index + 1) (copy_of_sheet b index source) (omega (arith, within, long)),
+      pool_words b valid index source at room,
+      body_words b valid index source at room,
+    )

@@ -151,7 +151,7 @@ module _ (b : Book) (valid : IsValidBook b) (index : ℕ) (source : Sheet) (at :
   identifiers : (ds : List Definition) → AllByRecursion HasIdentifier ds → AllByRecursion HasIdentifier (ds ++ copies)
   identifiers ds h = all_appended HasIdentifier ds copies h (all_copies HasIdentifier HasIdentifier (λ d e. e) valid.definitions.names)
 
-  named : IsNamed later
+  pub named : IsNamed later
   named =
       subst IsNamed (scene_is b.sheets b.definitions refl refl)
       (named_by (core_of (with_copy index copy copies b))
@@ -163,18 +163,18 @@ module _ (b : Book) (valid : IsValidBook b) (index : ℕ) (source : Sheet) (at :
   abbrev sheet_text : ℕ → List ℕ
   sheet_text = copy_spelling later source.id id
 
-  seen_later : later.sheets ≡ insert (map seen b.sheets) (index + 1) (seen copy)
+  pub seen_later : later.sheets ≡ insert (map seen b.sheets) (index + 1) (seen copy)
   seen_later =
       sym (map_twice core_sheet (λ (s : core_book.Sheet). let m : SheetName = record { id = s.id; name = s.name } in m) (insert b.sheets (index + 1) (copy_named b index source)))
       ∙ insert-map seen b.sheets (index + 1) (copy_named b index source)
 
-  has_copy : IsSome (name_of_sheet later id)
+  pub has_copy : IsSome (name_of_sheet later id)
   has_copy =
       some_mapped (λ (s : SheetName). s.name) (find (λ (s : SheetName). nat_eq s.id id) later.sheets)
       (found_some (λ (s : SheetName). nat_eq s.id id) later.sheets
       (ap (list_any (λ (s : SheetName). nat_eq s.id id)) seen_later ∙ any_here (λ (s : SheetName). nat_eq s.id id) (map seen b.sheets) (index + 1) (seen copy) (nat_eq_equiv.refl id)))
 
-  has_old : (i : ℕ) → IsSome (name_of_sheet (scene_in b) i) → IsSome (name_of_sheet later i)
+  pub has_old : (i : ℕ) → IsSome (name_of_sheet (scene_in b) i) → IsSome (name_of_sheet later i)
   has_old i h =
       let test : SheetName → Bool = λ s. nat_eq s.id i in
       let before : (scene_in b).sheets ≡ map seen b.sheets = sym (map_twice core_sheet (λ (s : core_book.Sheet). let m : SheetName = record { id = s.id; name = s.name } in m) b.sheets) in

@@ -24,7 +24,7 @@ use Rattle.ic_machine.proofs.CoreValid.{core_valid}
 use Rattle.ic_machine.proofs.InsertedStays.{distinct_inserted, none_holds}
 
 -- one item more in a list
-find_inserted : {X : Type 0} (p : X → Bool) (xs : List X) (index : ℕ) (x : X) → find p xs ≡ None → find p (insert xs index x) ≡ (if p x then Some x else None)
+pub find_inserted : {X : Type 0} (p : X → Bool) (xs : List X) (index : ℕ) (x : X) → find p xs ≡ None → find p (insert xs index x) ≡ (if p x then Some x else None)
 find_inserted p [] zero x e = refl
 find_inserted p [] (suc index) x e = refl
 find_inserted p (y ∷ xs) zero x e = ap (λ o. if p x then Some x else o) e
@@ -44,7 +44,7 @@ any_inserted p (y ∷ xs) (suc index) x e = elim (cases_Bool (p y)) [
   | inr f ↦ rw f (any_inserted p xs index x (rw f at e))
 ]
 
-mapped_choice : (m : SheetName) (b : Bool) → option_map (λ (x : SheetName). x.id) (if b then Some m else None) ≡ (if b then Some m.id else None)
+pub mapped_choice : (m : SheetName) (b : Bool) → option_map (λ (x : SheetName). x.id) (if b then Some m else None) ≡ (if b then Some m.id else None)
 mapped_choice m true = refl
 mapped_choice m false = refl
 

@@ -6,8 +6,11 @@ use Rattle.std.specs.Option.{option_or}
 use Rattle.std.specs.Prelude.{option_map}
 use Rattle.ic_laws.proofs.binding.SceneLemmas.{find_here, find_later}
 use Rattle.ic_laws.proofs.core.Lists.{updated_seen}
+use Rattle.ic_laws.proofs.core.Named.{book_named}
+use Rattle.ic_laws.proofs.keeping.Holds.{sheet_holds}
+use Rattle.ic_laws.proofs.keeping.Kept.{sheet_stays}
 use Rattle.ic_laws.proofs.keeping.Removing.{none_first}
-use Rattle.ic_laws.specs.Binding.{Binders, bound, bound_word, is_bound_by, name_or_dangling, spelled, spelled_word}
+use Rattle.ic_laws.specs.Binding.{Binders, bound, bound_sheet, bound_word, is_bound_by, name_or_dangling, spelled, spelled_word}
 use Rattle.ic_laws.specs.CoreBook.{Definition, spelling_of}
 use Rattle.ic_laws.specs.CoreStep.{has_definition, is_named, updated_at}
 use Rattle.ic_laws.specs.FormulaReading.{Body}
@@ -24,17 +27,18 @@ use Rattle.ic_laws.specs.declared.tree.Formula.TheVariants as formulas
 use Rattle.ic_laws.specs.declared.tree.NameKey.{NameKey}
 use Rattle.ic_laws.specs.declared.tree.NameMention.{NameMention}
 use Rattle.ic_laws.specs.declared.tree.NameMention.TheVariants as names
-use Rattle.ic_machine.specs.Binds.{IsUpdatedBody, IsUpdatedFormula, IsUpdatedWord, UpdatedIsMeant, UpdatesWords}
+use Rattle.ic_machine.specs.Binds.{sheets_in, IsUpdatedBody, IsUpdatedFormula, IsUpdatedWord, UpdatedIsMeant, UpdatesWords}
 use Rattle.ic_machine.specs.Book.{Book, Sheet, notations_in, scene_in, core_of}
 use Rattle.ic_machine.specs.Capture.{captured_sites, has_sites, words_in}
 use Rattle.ic_machine.specs.Changed.{changed_with, with_kept_pool}
 use Rattle.ic_machine.specs.Refusal.{Site, first_refusal}
 use Rattle.ic_machine.specs.Valid.{IsKeptPool, IsValidBook}
 use Rattle.ic_machine.specs.subjects.Definitions.{Update, keys_of_update, new_key, new_scope_id, old_key, old_scope, scene_updated, update_body, update_causes, update_name_step, update_sites, updated_book, updated_index, with_body, with_update}
+use Rattle.ic_machine.proofs.CoreValid.{core_valid}
 use Rattle.ic_machine.proofs.InsertedBinds.{accepted}
 use Rattle.ic_machine.proofs.InsertedStays.{none_holds}
 use Rattle.ic_machine.proofs.UpdatedStays.{none_passes_at, passes_at, some_of}
-use Rattle.ic_machine.proofs.WordLemmas.{words_become}
+use Rattle.ic_machine.proofs.WordLemmas.{sheets_become, words_become}
 
 -- lists, item for item ----
 
@@ -142,12 +146,24 @@ module _ (b : Book) (valid : IsValidBook b) (u : Update) (index : ℕ) (found : 
   names_are : later.names ≡ updated_at (λ m. spelling_of new) index (scene_in b).names
   names_are = updated_seen spelling_of (λ d. new) (λ m. spelling_of new) (λ d. refl) index b.definitions
 
+  map_same : {X : Type 0} (xs : List X) → map (λ x. x) xs ≡ xs
+  map_same [] = refl
+  map_same (x ∷ xs) = ap (λ ys. x ∷ ys) (map_same xs)
+
+  -- sheets are what they were
+  sheets_stay : (scope : Option ℕ) (t : Bound) → bound (english_function n) (scene_in b) scope (spelled (scene_in b) t) ≡ t → sheets_in (kept (english_function n) (scene_in b) later (keys_of_update b u) scope t) ≡ sheets_in t
+  sheets_stay scope t settled =
+      subst (λ (x : Bound). sheets_in (kept (english_function n) (scene_in b) later (keys_of_update b u) scope x) ≡ sheets_in x) settled
+      (sheets_become (english_function n) scope scope (scene_in b) later (kept_sheet (scene_in b) later) (kept_name (scene_in b) later (keys_of_update b u)) (λ m. m)
+      (λ name. sheet_stays (scene_in b) later (book_named n (core_of b) (core_valid b valid)).differ (bound_sheet (scene_in b) name) (sheet_holds (scene_in b) name)) (spelled (scene_in b) t)
+      ∙ map_same (sheets_in (bound (english_function n) (scene_in b) scope (spelled (scene_in b) t))))
+
   pooled_becomes : (scope : Option ℕ) (f : Formula) → IsPooled n (scene_in b) scope f → IsUpdatedFormula (new_key b u) f (kept_formula (english_function n) (scene_in b) later (keys_of_update b u) scope f)
-  pooled_becomes scope (formulas.Tree t) h = tree_becomes (english_function n) (scene_in b) later (spelling_of new) index names_are (keys_of_update b u) scope t h.settled
+  pooled_becomes scope (formulas.Tree t) h = (tree_becomes (english_function n) (scene_in b) later (spelling_of new) index names_are (keys_of_update b u) scope t h.settled, sheets_stay scope t h.settled)
   pooled_becomes scope (formulas.Raw text) h = refl
 
   kept_becomes : (scope : Option ℕ) (row column : ℤ) (f : Formula) → IsKeptFormula n (scene_in b) scope row column f → IsUpdatedFormula (new_key b u) f (kept_formula (english_function n) (scene_in b) later (keys_of_update b u) scope f)
-  kept_becomes scope row column (formulas.Tree t) h = tree_becomes (english_function n) (scene_in b) later (spelling_of new) index names_are (keys_of_update b u) scope t h.settled
+  kept_becomes scope row column (formulas.Tree t) h = (tree_becomes (english_function n) (scene_in b) later (spelling_of new) index names_are (keys_of_update b u) scope t h.settled, sheets_stay scope t h.settled)
   kept_becomes scope row column (formulas.Raw text) h = refl
 
   words_are : (left : Book) → left ≡ changed_with (keys_of_update b u) (with_update b u has_equals body (Some index)) b → captured_sites (keys_of_update b u) (old_key b u) b left ≡ [] → UpdatesWords b left u

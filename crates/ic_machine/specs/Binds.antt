@@ -2,7 +2,7 @@
 -- or updates a definition: what dangled and is bound then means that sheet or that definition, what meant a deleted
 -- definition means the one for all sheets that is in sight then, or dangles, and each other mention is what it was. Formulas
 -- are those of the core: of each cell, and the bodies.
-use Rattle.std.specs.Prelude.{◌≡◌, ◌⊎◌, ℕ, ◌+◌, ◌++◌, List, [], map, Bool, Option, Some, None, Ok, option_map, bytes_eq, insert, slice_get, if◌then◌else◌}
+use Rattle.std.specs.Prelude.{◌≡◌, ◌⊎◌, ℕ, ◌+◌, ◌++◌, List, [], ◌∷◌, map, flat_map, nat_eq, Bool, Option, Some, None, Ok, option_map, bytes_eq, insert, slice_get, if◌then◌else◌}
 use Rattle.std.specs.Bool.{OnFalse}
 use Rattle.std.specs.List.{AllZip, list_any}
 use Rattle.ic_laws.specs.BookTrees.{with_sheet_at_end, with_trees}
@@ -11,13 +11,18 @@ use Rattle.ic_laws.specs.CoreBook as core_book
 use Rattle.ic_laws.specs.CoreBook.{CoreBook, Definition, greatest_id, scene_of, spelling_of}
 use Rattle.ic_laws.specs.CoreStep.{index_of_definition, index_of_name, new_definition, scope_or_none, with_definition, with_sheet_name, without_definition}
 use Rattle.ic_laws.specs.FormulaReading.{Body, body_of}
-use Rattle.ic_laws.specs.Name.{fold}
+use Rattle.ic_laws.specs.Name.{agrees, fold}
 use Rattle.ic_laws.specs.Scene.{key_of, same_key}
+use Rattle.ic_laws.specs.Tree.{Bound}
 use Rattle.ic_laws.specs.declared.tree.Formula.{Formula}
 use Rattle.ic_laws.specs.declared.tree.Formula.TheVariants as formulas
 use Rattle.ic_laws.specs.declared.tree.NameKey.{NameKey}
 use Rattle.ic_laws.specs.declared.tree.NameMention.{NameMention}
 use Rattle.ic_laws.specs.declared.tree.NameMention.TheVariants as names
+use Rattle.ic_laws.specs.declared.tree.SheetMention.{SheetMention}
+use Rattle.ic_laws.specs.declared.tree.SheetMention.TheVariants as sheet_mentions
+use Rattle.ic_laws.specs.declared.tree.Tree.{Tree-F, fold-Tree}
+use Rattle.ic_laws.specs.declared.tree.Tree.TheOpen as one
 use Rattle.ic_machine.specs.Book.{Book, Sheet, core_of, core_sheet, notations_in}
 use Rattle.ic_machine.specs.Capture.{captured_sites, words_in}
 use Rattle.ic_machine.specs.Command.{OnDefinitions, OnSheets}
@@ -66,6 +71,40 @@ CopiedIsMeant =
     ≡ with_copied index (core_sheet (copy_of_sheet book index source)) (copies_of_definitions book index source)
     (with_trees (changed_tree (sheet_named (copy_id book index source) (name_of_copy book source.name))) (core_of book))
 
+-- the mentions of sheets of a formula, from left to right
+abbrev pub sheets_step : Tree-F SheetMention NameMention (List SheetMention) (List SheetMention) → List SheetMention
+sheets_step (one.Reference sheet place) = sheet ∷ []
+sheets_step (one.Paren x) = x
+sheets_step (one.Prefix sign x) = x
+sheets_step (one.Percent x) = x
+sheets_step (one.Spill x) = x
+sheets_step (one.Binary sign a b) = a ++ b
+sheets_step (one.Fun number arguments) = flat_map (λ x. x) arguments
+sheets_step (one.Call word arguments) = flat_map (λ x. x) arguments
+sheets_step (one.Let pairs body) = flat_map (λ x. x) pairs ++ body
+sheets_step (one.Lambda parameters body) = body
+sheets_step (one.Apply x arguments) = x ++ flat_map (λ x. x) arguments
+sheets_step kind = []
+
+abbrev pub sheets_in : Bound → List SheetMention
+sheets_in t = fold-Tree SheetMention NameMention (List SheetMention) (List SheetMention) sheets_step (λ pair. pair.value) t
+
+-- what is copied: the sheet with an id, as one with another id and name, and these definitions with it
+pub record Copying : Type 0 where
+  pub source : ℕ
+  pub copy : ℕ
+  pub name : List ℕ
+  pub definitions : List Definition
+
+abbrev pub copying_of : Book → ℕ → Sheet → Copying
+copying_of book index source = record { source = source.id; copy = copy_id book index source; name = name_of_copy book source.name; definitions = copied_of source.id book.definitions }
+
+-- what meant the sheet means the copy, and so does what dangled by a name that agrees with that of the copy
+abbrev pub copied_sheet : Copying → SheetMention → SheetMention
+copied_sheet c sheet_mentions.Own = sheet_mentions.Own
+copied_sheet c (sheet_mentions.Sheet id) = sheet_mentions.Sheet (if nat_eq id c.source then c.copy else id)
+copied_sheet c (sheet_mentions.Dangling typed) = if agrees c.name typed then sheet_mentions.Sheet c.copy else sheet_mentions.Dangling typed
+
 -- Word for word, a copied formula means what its source means, but for what a definition that is copied with the sheet could
 -- mean: that means the copied one.
 abbrev pub is_copied : List Definition → List ℕ → Bool
@@ -79,17 +118,19 @@ copied_word copy copied (names.Var word) = names.Var word
 copied_word copy copied (names.Name key) = if is_copied copied key.name then names.Name (key_in_copy copy key.name) else names.Name key
 copied_word copy copied (names.Dangling word) = if is_copied copied (fold word) then names.Name (key_in_copy copy (fold word)) else names.Dangling word
 
-abbrev pub HasCopiedWords : ℕ → List Definition → Formula → Formula → Type 0
-HasCopiedWords copy copied (formulas.Tree before) (formulas.Tree after) = words_in after ≡ map (option_map (copied_word copy copied)) (words_in before)
-HasCopiedWords copy copied before after = after ≡ before
+abbrev pub HasCopiedMentions : Copying → Formula → Formula → Type 0
+HasCopiedMentions c (formulas.Tree before) (formulas.Tree after) =
+    (words_in after ≡ map (option_map (copied_word c.copy c.definitions)) (words_in before)) × (sheets_in after ≡ map (copied_sheet c) (sheets_in before))
+HasCopiedMentions c before after = after ≡ before
 
--- the formulas of the copy, and the bodies of the copied definitions
+-- the formulas of the copy, which is the next sheet, and the bodies of the copied definitions
 abbrev pub CopiedMeansSame : Type 0
 CopiedMeansSame =
     (book after : Book) (index : ℕ) (source : Sheet) (fields : List Field) → IsValidBook book → slice_get book.sheets index ≡ Some source
     → step book (OnSheets (sheets.DuplicateSheet index)) ≡ Ok (after, fields)
-    → AllZip (HasCopiedWords (copy_id book index source) (copied_of source.id book.definitions)) source.pool (copy_of_sheet book index source).pool
-    × AllZip (λ (d e : Definition). HasCopiedWords (copy_id book index source) (copied_of source.id book.definitions) d.body e.body) (copied_of source.id book.definitions) (copies_of_definitions book index source)
+    → (slice_get after.sheets (index + 1) ≡ Some (copy_of_sheet book index source))
+    × AllZip (HasCopiedMentions (copying_of book index source)) source.pool (copy_of_sheet book index source).pool
+    × AllZip (λ (d e : Definition). HasCopiedMentions (copying_of book index source) d.body e.body) (copied_of source.id book.definitions) (copies_of_definitions book index source)
 
 -- so is a renamed one, by its new name
 abbrev pub RenamedIsMeant : Type 0
@@ -133,7 +174,7 @@ IsUpdatedWord key (Some (names.Name found)) after = Unit {0}
 IsUpdatedWord key (Some (names.Dangling word)) after = (after ≡ Some (names.Dangling word)) ⊎ (after ≡ Some (names.Name key))
 
 abbrev pub IsUpdatedFormula : NameKey → Formula → Formula → Type 0
-IsUpdatedFormula key (formulas.Tree before) (formulas.Tree after) = AllZip (IsUpdatedWord key) (words_in before) (words_in after)
+IsUpdatedFormula key (formulas.Tree before) (formulas.Tree after) = AllZip (IsUpdatedWord key) (words_in before) (words_in after) × (sheets_in after ≡ sheets_in before)
 IsUpdatedFormula key before after = after ≡ before
 
 -- the body of each definition but the one that is updated, which gets another

@@ -112,9 +112,10 @@ pub fn law_core_stays_valid()
 
 /// In a valid book, after a sheet was added, put in, copied or renamed or a definition was added, what dangled and is bound then
 /// means just that sheet or that definition. After one was deleted, what meant it means the one of an agreeing name for all
-/// sheets, or dangles. Each other mention is what it was. Word for word, the formulas of a copy mean what their sources mean, but
-/// for what a definition that is copied with the sheet could mean: that means the copied one. After a definition was updated,
-/// what dangled and is bound then means it, and what meant a definition, in a cell or in another body, means the same one.
+/// sheets, or dangles. Each other mention is what it was. Mention for mention, the formulas of a copy mean what their sources
+/// mean, but for what meant the sheet and what a definition that is copied with it could mean: that means the copy. After a
+/// definition was updated, what dangled and is bound then means it, and what meant a definition, in a cell or in another body,
+/// means the same one.
 pub fn law_bound_is_named()
     ensures added { AddedIsMeant }
     ensures new { NewIsMeant }
