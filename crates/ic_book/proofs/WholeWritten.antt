@@ -42,7 +42,7 @@ use Rattle.ic_input.specs.Convention.{is_sign}
 use Rattle.ic_input.specs.Number.{unsigned_number}
 use Rattle.ic_input.specs.Typed.{formula_of, unless_number}
 use Rattle.ic_machine.specs.Book as machine
-use Rattle.ic_machine.specs.Book.{Entry, Stepped, found_or, plain_tab, style_number_at, unless, with_sheet}
+use Rattle.ic_machine.specs.Book.{Entry, Stepped, found_or, style_number_at, unless, with_sheet}
 use Rattle.ic_machine.specs.Content.{AnchorContent, Content, FormulaContent, formula_in, held, shape_of, style_of}
 use Rattle.ic_machine.specs.InForce.{InForce, all_there, by_notation, formula_typed, in_force}
 use Rattle.ic_machine.specs.Placed.{index_in_pool, is_dynamic, pool_with}
@@ -60,7 +60,7 @@ use Rattle.ic_book.specs.Does.{DoesIn, IsDone, Refused, WantedIn}
 use Rattle.ic_book.specs.Fields.{no_fields}
 use Rattle.ic_book.specs.Refused.{Refuses}
 use Rattle.ic_book.specs.Served.{begins_with_sign, served_formula_step, served_writing_step}
-use Rattle.ic_book.specs.Whole.{held_cells, whole_of, whole_sheet}
+use Rattle.ic_book.specs.Whole.{held_cells, whole_of, whole_sheet, whole_tab}
 use Rattle.ic_book.specs.Written.{with_cell}
 use Rattle.ic_book.specs.declared.error.BookError.{BookError}
 use Rattle.ic_book.proofs.BookValid.{written_valid}
@@ -406,7 +406,7 @@ module _ (book : Book) (valid : IsValidBook book) (index : ℕ) (row column : �
 
     sheet_put : whole_sheet kinds (cell_put s) ≡ sheet_with formula pool at plain
     sheet_put =
-        ap (λ (m : Contents Content). let sheet : machine.Sheet = record { id = s.id; name = s.name; pool = pool; grid = record { contents = m; rows = finite.empty; columns = finite.empty; merges = [] }; tab = plain_tab } in sheet) contents_put
+        ap (λ (m : Contents Content). let sheet : machine.Sheet = record { id = s.id; name = s.name; pool = pool; grid = record { contents = m; rows = finite.empty; columns = finite.empty; merges = [] }; tab = whole_tab s.tab } in sheet) contents_put
 
     pub write_done : served_formula_step index (row, column) text (whole_of book) ≡ Ok (whole_of (with_cell index pool row column at book), [])
     write_done =

@@ -1,6 +1,8 @@
 -- A sheet of a book: its formulas in their places, and the place of each cell's formula.
 use Rattle.std.specs.Prelude.{◌≡◌, ◌⊎◌, ℕ, pos, ◌<◌, List, [], map, length, true, Some, option_map, unwrap_or}
+use Rattle.std.specs.Borrow.{MutBor}
 use Rattle.std.specs.BTreeMap.{insert_entry}
+use Rattle.std.specs.Fn.{FnOnceReturnsAtMut, Once}
 use Rattle.std.specs.List.{AllByRecursion, slice_get}
 use Rattle.ic_laws.specs.CoreBook.{CellPlace, Cells, Sheet, place_cmp}
 use Rattle.ic_laws.specs.CoreStep.{updated_at}
@@ -75,3 +77,12 @@ pub record IsValidPool (n : Notations) (scene : Scene) (sheet : BookSheet) : Typ
 -- a sheet with each formula kept over a change of its book
 abbrev pub kept_pool : Notations → Scene → Scene → BookSheet → BookSheet
 kept_pool n before after sheet = record sheet { pool = map (kept_formula (english_function n) before after same_keys (Some sheet.id)) sheet.pool }
+
+-- A change was called with the tab of the sheet at an index, from 0, answered this and left another there; all else is as
+-- it was.
+pub record ChangesTab {F T : Type 0} (calls : Once F (MutBor Tab × Unit {0}) (T × (MutBor Tab × Unit {0}))) (change : F) (index : ℕ) (result : T) (old new : List Worksheet) : Type 0 where
+  pub sheet : Worksheet
+  pub after : Tab
+  pub there : slice_get old index ≡ Some sheet
+  pub called : FnOnceReturnsAtMut calls change sheet.tab result after
+  pub becomes : new ≡ updated_at (λ s. record s { tab = after }) index old
