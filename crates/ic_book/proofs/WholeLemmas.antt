@@ -24,17 +24,18 @@ use Rattle.ic_tables.specs.declared.language.FunctionKind.{FunctionKind}
 use Rattle.ic_cells.specs.declared.cell.ArrayKind.TheVariants as arrays
 use Rattle.ic_cells.specs.declared.value.FormulaValue.TheVariants as fvalues
 use Rattle.ic_machine.specs.Book as machine
-use Rattle.ic_machine.specs.Book.{Entry, core_cells, core_sheet, empty_sheet, plain_tab}
+use Rattle.ic_machine.specs.Book.{Entry, core_cells, core_sheet, empty_sheet}
 use Rattle.ic_machine.specs.Changed as changed
 use Rattle.ic_machine.specs.Changed.{with_kept_formulas, with_kept_pool}
 use Rattle.ic_machine.specs.Content.{AnchorContent, FormulaContent, formula_in, formula_index}
 use Rattle.ic_machine.specs.Placed.{is_dynamic}
 use Rattle.ic_machine.specs.subjects.Sheets.{with_new_sheet}
 use Rattle.ic_machine.specs.subjects.Writing.{formula_content}
-use Rattle.ic_sheets.specs.Sheet.{BookSheet, IsValidPool, cells_of, kept_pool, sheet_core}
+use Rattle.ic_sheets.specs.declared.tab.Tab.{Tab}
+use Rattle.ic_sheets.specs.Sheet.{BookSheet, IsValidPool, cells_of, kept_pool, plain_tab, sheet_core}
 use Rattle.ic_book.specs.Book.{Book, IsValidBook, core_of, notations_in, scene_in}
 use Rattle.ic_book.specs.Change.{book_changed_by, with_added_sheet, with_kept_pools, with_moved_sheet, with_name, with_removed_sheet, with_renamed_sheet, without_name}
-use Rattle.ic_book.specs.Whole.{held_cells, whole_of, whole_sheet}
+use Rattle.ic_book.specs.Whole.{held_cells, whole_of, whole_sheet, whole_tab}
 use Rattle.ic_book.proofs.BookLemmas.{moved-map}
 use Rattle.ic_book.proofs.BookValid.{notations}
 use Rattle.ic_book.proofs.DynamicLemmas.{dynamic-kept}
@@ -133,7 +134,7 @@ module _ (kinds : List FunctionKind) (n : Notations) (are : AreNotations n) (bef
         name = sheet.name;
         pool = map (kept (Some sheet.id)) sheet.pool;
         grid = record { contents = finite.from_entries es; rows = finite.empty; columns = finite.empty; merges = [] };
-        tab = plain_tab;
+        tab = whole_tab sheet.tab;
       } in s) (held-kept (Some sheet.id) sheet.pool h sheet.cells)
 
   sheets-kept : (sheets : List BookSheet) → AllByRecursion (IsValidPool n before) sheets → map (whole_sheet kinds) (map (kept_pool n before after) sheets) ≡ map (with_kept_pool n before after same_keys) (map (whole_sheet kinds) sheets)
@@ -164,7 +165,7 @@ with_sheets book sheets = record (whole_of book) { sheets = sheets }
 pub whole_added : (name : List ℕ) (book : Book) → whole_of (with_added_sheet name book) ≡ with_new_sheet name (whole_of book)
 whole_added name book =
     ap (with_sheets book)
-    (map-append (whole_sheet book.tables.kinds) book.sheets (record { id = greatest_id (core_of book) + 1; name = name; pool = []; cells = [] } ∷ [])
+    (map-append (whole_sheet book.tables.kinds) book.sheets (record { id = greatest_id (core_of book) + 1; name = name; pool = []; cells = []; tab = plain_tab } ∷ [])
     ∙ ap (λ id. map (whole_sheet book.tables.kinds) book.sheets ++ empty_sheet (id + 1) name ∷ []) (sym (whole_greatest book)))
 
 pub whole_renamed : (index : ℕ) (name : List ℕ) (book : Book) → whole_of (with_renamed_sheet index name book) ≡ changed.with_renamed_sheet index name (whole_of book)
@@ -194,12 +195,15 @@ cells_again kinds pool [] = refl
 cells_again kinds pool (cell ∷ cells) =
     ap₂ (λ (o : Option ℕ) (rest : List (CellPlace × ℕ)). let all : List (CellPlace × ℕ) = (cell.0, unwrap_or o 0) ∷ rest in all) (held_index kinds pool (formula_in pool cell.1) cell.1) (cells_again kinds pool cells)
 
+abbrev found_tab : machine.Tab → Tab
+found_tab tab = record { state = tab.state; color = tab.color; frozen_rows = tab.frozen_rows; frozen_columns = tab.frozen_columns; shows_grid_lines = tab.shows_grid_lines }
+
 abbrev found_sheet : machine.Sheet → BookSheet
-found_sheet sheet = record { id = sheet.id; name = sheet.name; pool = sheet.pool; cells = map found_cell (finite.entries sheet.grid.contents) }
+found_sheet sheet = record { id = sheet.id; name = sheet.name; pool = sheet.pool; cells = map found_cell (finite.entries sheet.grid.contents); tab = found_tab sheet.tab }
 
 sheet_again : (kinds : List FunctionKind) (sheet : BookSheet) → IsStrictlySortedBy place_cmp (map (λ cell. cell.0) (sheet_core sheet).cells) → found_sheet (whole_sheet kinds sheet) ≡ sheet
 sheet_again kinds sheet ordered =
-    ap (λ (cells : List (CellPlace × ℕ)). let s : BookSheet = record { id = sheet.id; name = sheet.name; pool = sheet.pool; cells = cells } in s)
+    ap (λ (cells : List (CellPlace × ℕ)). let s : BookSheet = record { id = sheet.id; name = sheet.name; pool = sheet.pool; cells = cells; tab = sheet.tab } in s)
     (ap (map found_cell) (entries_are (held_cells kinds sheet.pool sheet.cells) (subst (IsStrictlySortedBy place_cmp) (sym (held_places kinds sheet.pool sheet.cells)) ordered)) ∙ cells_again kinds sheet.pool sheet.cells)
 
 sheets_again : (n : Notations) (scene : Scene) (kinds : List FunctionKind) (sheets : List BookSheet) → AllByRecursion (IsValidSheet n scene) (map sheet_core sheets) → map found_sheet (map (whole_sheet kinds) sheets) ≡ sheets
@@ -214,6 +218,7 @@ found_book whole = record {
   locale = whole.locale;
   language = whole.language;
   zone = whole.zone;
+  theme = whole.theme;
   created = whole.metadata.created;
   tables = whole.tables;
 }

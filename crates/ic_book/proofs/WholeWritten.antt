@@ -42,7 +42,7 @@ use Rattle.ic_input.specs.Convention.{is_sign}
 use Rattle.ic_input.specs.Number.{unsigned_number}
 use Rattle.ic_input.specs.Typed.{formula_of, unless_number}
 use Rattle.ic_machine.specs.Book as machine
-use Rattle.ic_machine.specs.Book.{Entry, Stepped, found_or, plain_tab, style_number_at, unless, with_sheet}
+use Rattle.ic_machine.specs.Book.{Entry, Stepped, found_or, style_number_at, unless, with_sheet}
 use Rattle.ic_machine.specs.Content.{AnchorContent, Content, FormulaContent, formula_in, held, shape_of, style_of}
 use Rattle.ic_machine.specs.InForce.{InForce, all_there, by_notation, formula_typed, in_force}
 use Rattle.ic_machine.specs.Placed.{index_in_pool, is_dynamic, pool_with}
@@ -58,9 +58,9 @@ use Rattle.ic_sheets.specs.Sheet.{BookSheet, IsValidPool, sheet_core}
 use Rattle.ic_book.specs.Book.{Book, IsValidBook, ModelState, core_of, notations_in, scene_in}
 use Rattle.ic_book.specs.Does.{DoesIn, IsDone, Refused, WantedIn}
 use Rattle.ic_book.specs.Fields.{no_fields}
-use Rattle.ic_book.specs.Refused.{Refuses, refusal_of}
+use Rattle.ic_book.specs.Refused.{Refuses}
 use Rattle.ic_book.specs.Served.{begins_with_sign, served_formula_step, served_writing_step}
-use Rattle.ic_book.specs.Whole.{held_cells, whole_of, whole_sheet}
+use Rattle.ic_book.specs.Whole.{held_cells, whole_of, whole_sheet, whole_tab}
 use Rattle.ic_book.specs.Written.{with_cell}
 use Rattle.ic_book.specs.declared.error.BookError.{BookError}
 use Rattle.ic_book.proofs.BookValid.{written_valid}
@@ -406,7 +406,7 @@ module _ (book : Book) (valid : IsValidBook book) (index : ℕ) (row column : �
 
     sheet_put : whole_sheet kinds (cell_put s) ≡ sheet_with formula pool at plain
     sheet_put =
-        ap (λ (m : Contents Content). let sheet : machine.Sheet = record { id = s.id; name = s.name; pool = pool; grid = record { contents = m; rows = finite.empty; columns = finite.empty; merges = [] }; tab = plain_tab } in sheet) contents_put
+        ap (λ (m : Contents Content). let sheet : machine.Sheet = record { id = s.id; name = s.name; pool = pool; grid = record { contents = m; rows = finite.empty; columns = finite.empty; merges = [] }; tab = whole_tab s.tab } in sheet) contents_put
 
     pub write_done : served_formula_step index (row, column) text (whole_of book) ≡ Ok (whole_of (with_cell index pool row column at book), [])
     write_done =
@@ -434,9 +434,9 @@ module _ (result : Result (Unit {0}) BookError) (old new : ModelState) (valid : 
         before = valid;
         after = subst IsValidBook (sym put.3) (written_valid old.book valid index found.0 found.1 put.1 put.0 row column text e put.2);
       }
-  writes_so (Err error) written e untouched same = record { done = told_so (refusal_of error) e; before = valid; after = subst IsValidBook (sym same) valid }
+  writes_so (Err error) written e untouched same = record { done = subst (Refused WantedIn (served_formula_step index (row, column) text (whole_of old.book)) old new) e (told_so (update_refusal (core_of old.book) index row column text) refl); before = valid; after = subst IsValidBook (sym same) valid }
     where
-      told_so : (o : Option core.Refusal) → update_refusal (core_of old.book) index row column text ≡ o → Refused WantedIn (served_formula_step index (row, column) text (whole_of old.book)) old new o
+      told_so : (o : Option core.Refusal) → update_refusal (core_of old.book) index row column text ≡ o → Refused WantedIn (served_formula_step index (row, column) text (whole_of old.book)) old new (option_map OfCore o)
       told_so None e = (write_accepted old.book valid index row column text e, same)
       told_so (Some r) e = (write_refused old.book valid index row column text r e, untouched r e)
 

@@ -1,13 +1,14 @@
 -- What a call does, by the step of the whole machine that it makes.
-use Rattle.std.specs.Prelude.{◌≡◌, ◌⊎◌, List, Option, Some, None, Result, Ok, Err}
+use Rattle.std.specs.Prelude.{◌≡◌, ◌⊎◌, List, Bool, true, false, Option, Some, None, Result, Ok, Err}
 use Rattle.ic_laws.specs.Refusal as core
 use Rattle.ic_machine.specs.Book as machine
 use Rattle.ic_machine.specs.Book.{Stepped}
-use Rattle.ic_machine.specs.Refusal.{OfCore}
+use Rattle.ic_machine.specs.Refusal.{OfCore, Refusal}
 use Rattle.ic_machine.specs.Reply.{Field}
 use Rattle.ic_book.specs.Book.{IsValidBook, ModelState}
 use Rattle.ic_book.specs.Refused.{refusal_of}
-use Rattle.ic_book.specs.Whole.{whole_of}
+use Rattle.ic_book.specs.Whole.{whole_of, whole_tab}
+use Rattle.ic_sheets.specs.declared.tab.Tab.{Tab}
 use Rattle.ic_book.specs.declared.error.BookError.{BookError}
 
 -- when a call may run out of memory: never; only where its step isn't refused; there, or where this refusal holds, which
@@ -31,8 +32,8 @@ Wants (WantedOr late) made old new = (IsDone made ⊎ (made ≡ Err (OfCore late
 Wants WantedIn made old new = IsDone made × (new.book ≡ old.book)
 
 -- a call answered an error that tells this refusal, or none: the step's refusal, or want of memory
-abbrev pub Refused : Memory → Stepped machine.Book → ModelState → ModelState → Option core.Refusal → Type 0
-Refused memory made old new (Some refusal) = (made ≡ Err (OfCore refusal)) × (new ≡ old)
+abbrev pub Refused : Memory → Stepped machine.Book → ModelState → ModelState → Option Refusal → Type 0
+Refused memory made old new (Some refusal) = (made ≡ Err refusal) × (new ≡ old)
 Refused memory made old new None = Wants memory made old new
 
 -- a call left what its step leaves and answered the step's fields, or answered why it didn't
@@ -63,3 +64,24 @@ DoesOr late step command fields result old new = DoesStep (WantedOr late) (step 
 -- and of one that may leave more to find formulas by where memory runs out
 abbrev pub DoesIn : {C T : Type 0} → (machine.Book → C → Stepped machine.Book) → C → (T → List Field) → Result T BookError → ModelState → ModelState → Type 0
 DoesIn step command fields result old new = DoesStep WantedIn (step (whole_of old.book) command) fields result old new
+
+-- the same of a part of a sheet ----
+
+-- when it may run out of memory: where its step isn't refused, or never
+abbrev pub wants : Bool → Memory
+wants true = Wanted
+wants false = Never
+
+-- why a step is refused; where memory is taken it may have run out instead, where it isn't
+abbrev pub PartRefused : {A : Type 0} → Bool → Stepped A → Option Refusal → Type 0
+PartRefused memory made (Some refusal) = made ≡ Err refusal
+PartRefused memory made None = (memory ≡ true) × IsDone made
+
+-- what was left of a part is what its step leaves, and the step's fields were answered; or the part is as it was, and why
+module _ {P L T : Type 0} (whole : P → L) (memory : Bool) (made : Stepped L) (fields : T → List Field) (old new : P) where
+  abbrev pub PartMade : Result T BookError → Type 0
+  PartMade (Ok value) = made ≡ Ok (whole new, fields value)
+  PartMade (Err e) = PartRefused memory made (refusal_of e) × (new ≡ old)
+
+pub record DoesTab {T : Type 0} (memory : Bool) (step : machine.Tab → Stepped machine.Tab) (fields : T → List Field) (result : Result T BookError) (old new : Tab) : Type 0 where
+  pub done : PartMade whole_tab memory (step (whole_tab old)) fields old new result

@@ -6,6 +6,7 @@ pub mod Inside
 pub mod LookUps
 pub mod Mentioned
 pub mod Names
+pub mod Parts
 pub mod Refused
 pub mod Scene
 pub mod Served

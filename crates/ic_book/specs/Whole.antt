@@ -7,10 +7,11 @@ use Rattle.ic_tables.specs.declared.language.FunctionKind.{FunctionKind}
 use Rattle.ic_cells.specs.Style.{default_style}
 use Rattle.ic_cells.specs.declared.workbook.Metadata.{Metadata}
 use Rattle.ic_machine.specs.Book as machine
-use Rattle.ic_machine.specs.Book.{Entry, plain_tab}
+use Rattle.ic_machine.specs.Book.{Entry}
 use Rattle.ic_machine.specs.Content.{formula_in}
 use Rattle.ic_machine.specs.subjects.Writing.{formula_content}
 use Rattle.ic_sheets.specs.Sheet.{BookSheet}
+use Rattle.ic_sheets.specs.declared.tab.Tab.{Tab}
 use Rattle.ic_book.specs.Book.{Book, IsValidBook, core_of}
 
 -- what a cell with the formula at an index of a pool holds: that formula without a value, in the default style; one that may
@@ -21,14 +22,24 @@ held_cell kinds pool cell = (cell.0, formula_content kinds (formula_in pool cell
 abbrev pub held_cells : List FunctionKind → List Formula → List (CellPlace × ℕ) → List Entry
 held_cells kinds pool cells = map (held_cell kinds pool) cells
 
--- a sheet with these cells, for whose rows and columns nothing was set, without merged cells, and with a plain tab
+-- how a sheet is presented
+abbrev pub whole_tab : Tab → machine.Tab
+whole_tab tab = record {
+  state = tab.state;
+  color = tab.color;
+  frozen_rows = tab.frozen_rows;
+  frozen_columns = tab.frozen_columns;
+  shows_grid_lines = tab.shows_grid_lines;
+}
+
+-- a sheet with these cells, for whose rows and columns nothing was set, and without merged cells
 abbrev pub whole_sheet : List FunctionKind → BookSheet → machine.Sheet
 whole_sheet kinds sheet = record {
   id = sheet.id;
   name = sheet.name;
   pool = sheet.pool;
   grid = record { contents = finite.from_entries (held_cells kinds sheet.pool sheet.cells); rows = finite.empty; columns = finite.empty; merges = [] };
-  tab = plain_tab;
+  tab = whole_tab sheet.tab;
 }
 
 -- who makes a new workbook, and with what
@@ -52,7 +63,7 @@ metadata_made created = record {
   last_modified = created;
 }
 
--- the whole book: one style, and a theme without a name
+-- the whole book: it has one style
 abbrev pub whole_of : Book → machine.Book
 whole_of book = record {
   sheets = map (whole_sheet book.tables.kinds) book.sheets;
@@ -61,7 +72,7 @@ whole_of book = record {
   language = book.language;
   zone = book.zone;
   styles = default_style ∷ [];
-  theme = [];
+  theme = book.theme;
   name = book.name;
   metadata = metadata_made book.created;
   tables = book.tables;

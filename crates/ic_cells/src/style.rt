@@ -37,8 +37,8 @@ impl Drop for Style {
 }
 
 impl Color {
-    /// The same colour.
-    pub(crate) fn copy(&self, alloc: Global) -> Result<Color, OutOfMemory>
+    /// The same colour. Only memory can be missing.
+    pub fn copy(&self, alloc: Global) -> Result<Color, OutOfMemory>
         ensures { IfOk result (λ c. c ≡ self.now) }
     {
         match self {

@@ -1,6 +1,8 @@
 -- A sheet of a book: its formulas in their places, and the place of each cell's formula.
-use Rattle.std.specs.Prelude.{◌≡◌, ◌⊎◌, ℕ, ◌<◌, List, [], map, length, true, Some, option_map, unwrap_or}
+use Rattle.std.specs.Prelude.{◌≡◌, ◌⊎◌, ℕ, pos, ◌<◌, List, [], map, length, true, Some, option_map, unwrap_or}
+use Rattle.std.specs.Borrow.{MutBor}
 use Rattle.std.specs.BTreeMap.{insert_entry}
+use Rattle.std.specs.Fn.{FnOnceReturnsAtMut, Once}
 use Rattle.std.specs.List.{AllByRecursion, slice_get}
 use Rattle.ic_laws.specs.CoreBook.{CellPlace, Cells, Sheet, place_cmp}
 use Rattle.ic_laws.specs.CoreStep.{updated_at}
@@ -10,19 +12,28 @@ use Rattle.ic_laws.specs.ValidCore.{IsPooled}
 use Rattle.ic_laws.specs.declared.scene.Scene.{Scene}
 use Rattle.ic_laws.specs.declared.tree.Formula.{Formula}
 use Rattle.ic_laws.specs.declared.tree.Formula.TheVariants as formulas
+use Rattle.ic_cells.specs.declared.sheet.SheetState.TheVariants as states
+use Rattle.ic_cells.specs.declared.style.Color.TheVariants as colors
 use Rattle.ic_pool.specs.Pool.{IsPlaced}
 use Rattle.ic_sheets.specs.declared.sheet.Worksheet.{Worksheet}
+use Rattle.ic_sheets.specs.declared.tab.Tab.{Tab}
 
--- a sheet's id and name, its formulas in their places, and each cell that has one with the place of its formula
+-- a sheet that is seen, whose tab has no color, where nothing stays in sight and lines part the cells
+abbrev pub plain_tab : Tab
+plain_tab = record { state = states.Visible; color = colors.None; frozen_rows = pos 0; frozen_columns = pos 0; shows_grid_lines = true }
+
+-- a sheet's id and name, its formulas in their places, each cell that has one with the place of its formula, and
+-- its tab
 pub record BookSheet : Type 0 where
   pub id : ℕ
   pub name : List ℕ
   pub pool : List Formula
   pub cells : List (CellPlace × ℕ)
+  pub tab : Tab
 
 -- a worksheet without what it keeps to find formulas by
 abbrev pub sheet_of : Worksheet → BookSheet
-sheet_of sheet = record { id = sheet.id; name = sheet.name; pool = sheet.pool.formulas; cells = sheet.cells }
+sheet_of sheet = record { id = sheet.id; name = sheet.name; pool = sheet.pool.formulas; cells = sheet.cells; tab = sheet.tab }
 
 -- the formulas of the sheet at an index, from 0, in their places; none past the end
 abbrev pub pool_at : List Worksheet → ℕ → List Formula
@@ -66,3 +77,12 @@ pub record IsValidPool (n : Notations) (scene : Scene) (sheet : BookSheet) : Typ
 -- a sheet with each formula kept over a change of its book
 abbrev pub kept_pool : Notations → Scene → Scene → BookSheet → BookSheet
 kept_pool n before after sheet = record sheet { pool = map (kept_formula (english_function n) before after same_keys (Some sheet.id)) sheet.pool }
+
+-- A change was called with the tab of the sheet at an index, from 0, answered this and left another there; all else is as
+-- it was.
+pub record ChangesTab {F T : Type 0} (calls : Once F (MutBor Tab × Unit {0}) (T × (MutBor Tab × Unit {0}))) (change : F) (index : ℕ) (result : T) (old new : List Worksheet) : Type 0 where
+  pub sheet : Worksheet
+  pub after : Tab
+  pub there : slice_get old index ≡ Some sheet
+  pub called : FnOnceReturnsAtMut calls change sheet.tab result after
+  pub becomes : new ≡ updated_at (λ s. record s { tab = after }) index old

@@ -4,7 +4,9 @@
 mod cells;
 mod sheet;
 mod sheets;
+mod tab;
 
 pub use cells::FormulaCells;
 pub use sheet::Worksheet;
 pub use sheets::Sheets;
+pub use tab::Tab;

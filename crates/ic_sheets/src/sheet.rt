@@ -3,20 +3,21 @@ ghost use Rattle.std.specs.BTreeMap.{is_at};
 ghost use Rattle.std.specs.Map.{lookup};
 ghost use Rattle.ic_laws.specs.CoreBook.{place_cmp};
 ghost use Rattle.ic_pool.specs.Pool.{IsPlaced};
-ghost use Rattle.ic_sheets.specs.Sheet.{IsSameOrLooksUp, IsWritten, sheet_of};
+ghost use Rattle.ic_sheets.specs.Sheet.{IsSameOrLooksUp, IsWritten, plain_tab, sheet_of};
 
-use crate::FormulaCells;
+use crate::{FormulaCells, Tab};
 use ic_laws::{Formula, OutOfMemory, Text};
 use ic_pool::{Pool, Steps};
 use std::alloc::Global;
 use std::sync::ledger::Ledger;
 
-/// A sheet: its id, its name, the formulas that it keeps, and its cells that have one.
+/// A sheet: its id, its name, the formulas that it keeps, its cells that have one, and its tab.
 pub struct Worksheet {
     pub id: u32,
     pub name: Text,
     pub pool: Pool,
     pub cells: FormulaCells,
+    pub tab: Tab,
 }
 
 impl Drop for Worksheet {
@@ -26,23 +27,26 @@ impl Drop for Worksheet {
             name,
             pool,
             cells,
+            tab,
         } = self;
         drop(name);
         drop(pool);
         drop(cells);
+        drop(tab);
     }
 }
 
 impl Worksheet {
-    /// A sheet that keeps no formulas.
+    /// A sheet that keeps no formulas, with a plain tab.
     pub fn new(alloc: Global, id: u32, name: Text) -> Worksheet
-        ensures { result ≡ record { id = id; name = name; pool = record { formulas = []; is_whole = true }; cells = [] } }
+        ensures { result ≡ record { id = id; name = name; pool = record { formulas = []; is_whole = true }; cells = []; tab = plain_tab } }
     {
         Worksheet {
             id,
             name,
             pool: Pool::new(alloc),
             cells: FormulaCells::new(alloc),
+            tab: Tab::plain(),
         }
     }
 

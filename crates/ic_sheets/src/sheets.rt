@@ -11,6 +11,7 @@ mod dangling;
 mod edits;
 mod formulas;
 mod rewriting;
+mod tabs;
 
 use crate::Worksheet;
 use caseless::default_case_fold_str;

@@ -1,14 +1,16 @@
 -- What tables that meet every condition have: each condition as a fact, for the crates above.
-use Rattle.std.proofs.Common.{◌≡◌, ℕ, suc, ◌+◌, List, [], ◌∷◌, ◌++◌, Bool, true, false, not, ◌&&◌, ◌||◌, ◌==◌, nat_lt, Option, Some, None, Result, Ok, Err, MatchResult, IfOk, Bor, bytes_eq, cond, codes, find, length, map, option_map, refl, suc-le-suc, zero-lt-suc, sym, ap, subst, ◌∙◌, arith}
+use Rattle.std.proofs.Common.{◌≡◌, ℕ, suc, ◌+◌, List, [], ◌∷◌, ◌++◌, Bool, true, false, not, ◌&&◌, ◌||◌, ◌==◌, nat_lt, Option, Some, None, Result, Ok, Err, MatchResult, IfOk, Bor, bytes_eq, cond, codes, find, is_some, length, map, option_map, refl, suc-le-suc, zero-lt-suc, sym, ap, subst, ◌∙◌, arith}
 use Rattle.std.proofs.lemmas.Bool.{and_from, and_parts, eqb-true, not-true, or_parts}
 use Rattle.std.proofs.Math.ListN.{length-map}
 use Rattle.std.proofs.lemmas.List.{get_or-map}
 use Rattle.std.proofs.lemmas.List.Sums.{AllPass-from_list_all}
 use Rattle.std.proofs.lemmas.Slice.Eq.{bytes_eq-Decides}
+use Rattle.std.specs.Option.{IfSome}
 use Rattle.std.specs.List.{AllByRecursion, AllPass, IsAmong, IsDistinct, list_all, list_any, slice_get}
 use Rattle.ic_laws.specs.Name.{agrees, fold, is_variable_form}
 use Rattle.ic_laws.specs.Dialect.{has_error_shape, has_function_shape}
 use Rattle.ic_tables.specs.Formats.{has_dates, has_group, has_separators, has_symbol}
+use Rattle.ic_tables.proofs.Lookups.{is_some-option_map}
 use Rattle.ic_tables.specs.declared.language.Language.{Language}
 use Rattle.ic_tables.specs.declared.locale.Locale.{Locale}
 use Rattle.ic_tables.specs.declared.locale.NamedLocale.{NamedLocale}
@@ -92,6 +94,18 @@ pub locale_found : (t : TableSet) (id : List ℕ) (l : NamedLocale) → locale_o
 locale_found t id l h =
     let same : l.id ≡ id = bytes_same l.id id (found_among (λ n. bytes_eq n.id id) t.locales l h).1 in
     (same, ap (locale_of t) same ∙ h)
+
+-- a text that is found among some is that text, and it is found where they have it
+pub text_found : {A : Type 0} (f : A → List ℕ) (t : List ℕ) (texts : List (List ℕ)) (o : Option A) → option_map f o ≡ find (λ x. bytes_eq x t) texts → (is_some o ≡ has_text texts t) × IfSome o (λ x. f x ≡ t)
+text_found {A} f t texts o h = (is_some-option_map f o ∙ ap is_some h ∙ among texts, named o h)
+  where
+    among : (texts : List (List ℕ)) → is_some (find (λ x. bytes_eq x t) texts) ≡ has_text texts t
+    among [] = refl
+    among (x ∷ xs) = elim (bytes_eq x t) as (λ b. is_some (cond b (Some x) (find (λ y. bytes_eq y t) xs)) ≡ (b || has_text xs t)) [ true ↦ refl | false ↦ among xs ]
+
+    named : (o : Option A) → option_map f o ≡ find (λ x. bytes_eq x t) texts → IfSome o (λ x. f x ≡ t)
+    named None h = tt
+    named (Some x) h = bytes_same (f x) t (found_among (λ y. bytes_eq y t) texts (f x) (sym h)).1
 
 -- ---- 1
 

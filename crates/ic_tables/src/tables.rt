@@ -1,4 +1,4 @@
-ghost use Rattle.std.specs.Prelude.{◌≡◌, true, None, Some, chars, codes, map, option_map, string_bytes, IfOk, MatchResult};
+ghost use Rattle.std.specs.Prelude.{◌≡◌, true, None, Some, chars, codes, is_some, map, option_map, string_bytes, IfOk, IfSome, MatchResult};
 ghost use Rattle.std.specs.List.{slice_get};
 ghost use Rattle.ic_tables.specs.Making.{Tells};
 ghost use Rattle.ic_tables.specs.Words.{has_stored_words};
@@ -160,6 +160,15 @@ impl Tables {
         ensures well_formed { IsWellFormed self.now }
     {
         has_id(self.zones.as_slice(), id)
+    }
+
+    /// The name of a zone as the list has it. None exactly where the list of zones lacks the name.
+    pub fn get_zone(&self, id: &str) -> Option<&Text>
+        ensures listed { is_some result ≡ lists_zone self.now (chars id.now) }
+        ensures name { IfSome result (λ zone. zone.now ≡ chars id.now) }
+        ensures well_formed { IsWellFormed self.now }
+    {
+        find_id(self.zones.as_slice(), id)
     }
 
     /// The kind of function `n`, from 0. None exactly where the tables have no such function.

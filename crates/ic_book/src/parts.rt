@@ -1,0 +1,42 @@
+//! A step on a part of a sheet, as a step of the book.
+ghost use Rattle.std.specs.Prelude.{◌≡◌, Result, option_map};
+ghost use Rattle.std.specs.Fn.{FnOnceTakesAt, FnOnceTakesAtMut};
+ghost use Rattle.std.specs.List.{slice_get};
+ghost use Rattle.ic_book.specs.Parts.{ChangesTab, ReadsTab};
+ghost use Rattle.ic_sheets.specs.declared.tab.Tab.{Tab};
+
+use crate::{BookError, Model};
+use ic_sheets::Tab;
+
+impl<'a> Model<'a> {
+    /// Changes the tab of the sheet at an index, from 0. `InvalidSheet` exactly where there is none.
+    pub(crate) fn on_tab<T, F: FnOnce(&mut Tab) -> Result<T, BookError> + Drop>(
+        &mut self,
+        sheet: u32,
+        change: F,
+    ) -> Result<T, BookError>
+        requires { (tab : Tab) → FnOnceTakesAtMut F.FnOnce change tab }
+        ensures { ChangesTab F.FnOnce change sheet result self.old self.new }
+        ensures looks_up { self.new.has_all ≡ self.old.has_all }
+    {
+        if sheet as usize >= self.sheets.len() {
+            return Err(BookError::InvalidSheet);
+        }
+        self.sheets.change_tab(sheet as usize, change)
+    }
+
+    /// Reads the tab of the sheet at an index, from 0. `InvalidSheet` exactly where there is none.
+    pub(crate) fn of_tab<T, F: FnOnce(&Tab) -> Result<T, BookError> + Drop>(
+        &self,
+        sheet: u32,
+        read: F,
+    ) -> Result<T, BookError>
+        requires { (tab : Tab) → FnOnceTakesAt F.FnOnce read tab }
+        ensures { ReadsTab F.FnOnce read sheet result self.now }
+    {
+        let Some(sheet) = self.sheets.as_slice().get(sheet as usize) else {
+            return Err(BookError::InvalidSheet);
+        };
+        read(&sheet.tab)
+    }
+}
