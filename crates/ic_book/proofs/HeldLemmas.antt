@@ -16,7 +16,7 @@ use Rattle.ic_laws.specs.CoreStep.{with_formula, add_sheet_causes, add_sheet_ref
 use Rattle.ic_laws.specs.Greatest.{greatest}
 use Rattle.ic_laws.specs.Name.{agrees, is_sheet_name}
 use Rattle.ic_laws.specs.Notations.{AreNotations, Notations}
-use Rattle.ic_laws.specs.Refusal.{IdsUsedUp, InvalidLanguage, InvalidLocale, InvalidSheet, NotAFormula, SheetExists, first_refusal}
+use Rattle.ic_laws.specs.Refusal.{IdsUsedUp, InvalidLanguage, InvalidLocale, InvalidSheet, NotAFormula, Refusal, SheetExists, first_refusal}
 use Rattle.ic_laws.specs.declared.scene.Scene.{Scene}
 use Rattle.ic_laws.specs.declared.scene.SheetName.{SheetName}
 use Rattle.ic_laws.proofs.core.KeptBook.{mentioned}
@@ -48,7 +48,7 @@ use Rattle.ic_book.proofs.BookLemmas.{moved-map}
 use Rattle.ic_book.proofs.BookValid.{placed_valid, written_valid}
 use Rattle.ic_book.proofs.ChangeLemmas.{added_is, defined_is, removed_is, renamed_is, undefined_is}
 use Rattle.ic_book.proofs.ModelLemmas.{position-map, scene_is}
-use Rattle.ic_book.specs.Refused.{Refuses, refusal_of}
+use Rattle.ic_book.specs.Refused.{Refuses, TellsCore}
 use Rattle.ic_book.specs.Scene.{scene_of_parts}
 use Rattle.ic_book.specs.declared.error.BookError.{BookError}
 use Rattle.ic_book.specs.declared.error.BookError.TheVariants as errors
@@ -171,10 +171,14 @@ pub option_map-twice : {A B C : Type 0} (f : A → B) (g : B → C) (o : Option 
 option_map-twice f g None = refl
 option_map-twice f g (Some x) = refl
 
+-- where memory ran out nothing refused
+pub none_told : {e : BookError} {refusal : Option Refusal} → refusal ≡ None → e ≡ errors.OutOfMemory → TellsCore e refusal
+none_told {e} {refusal} none is = subst (λ x. TellsCore x refusal) (sym is) none
+
 -- an error that is want of memory refuses nothing
 pub no_memory : (r : Result (Unit {0}) BookError) → IsErr r × IsErrAnd r (λ e. e ≡ errors.OutOfMemory) → Refuses r None
 no_memory (Ok done) h = let no : false ≡ true = h.0 in cc
-no_memory (Err e) h = sym (ap refusal_of h.1)
+no_memory (Err e) h = none_told refl h.1
 
 -- what formulas can mention among these sheets and definitions
 pub scene_held : (ws : List Worksheet) (book : Book) → map sheet_of ws ≡ book.sheets → scene_of_parts ws book.definitions ≡ scene_of (core_of book)
@@ -191,22 +195,20 @@ read_is slice ws i s sheet e lt read at = read_there ws i s sheet lt (read ∙ a
 
 -- a new book
 pub start_is : (a : About) (name : List ℕ) (ws : List Worksheet) (ds : List Definition) (locale : NamedLocale) (language : Language) (locale_id language_id zone : List ℕ) (tables : TableSet)
-    → a ≡ record { name = name; zone = zone; theme = []; created = a.created }
+    → a.name ≡ name → a.zone.now ≡ zone → a.theme ≡ []
     → ws ≡ record { id = 1; name = first_sheet_name_in language.code; pool = record { formulas = []; is_whole = true }; cells = []; tab = plain_tab } ∷ [] → ds ≡ [] → locale.id ≡ locale_id → language.code ≡ language_id
     → held a ws ds locale language tables ≡ new_book name locale_id zone language_id a.created tables
-start_is a name ws ds locale language locale_id language_id zone tables one two none three four =
-    ap (λ (b : About). make b (map sheet_of ws) ds locale.id language.code) one ∙ ap (λ (xs : List Worksheet). make given (map sheet_of xs) ds locale.id language.code) two
-    ∙ ap (λ (xs : List Definition). make given (first language.code) xs locale.id language.code) none ∙ ap (λ l. make given (first language.code) [] l language.code) three
-    ∙ ap (λ g. make given (first g) [] locale_id g) four
+start_is a name ws ds locale language locale_id language_id zone tables named there plain two none three four =
+    ap (λ n. make n a.zone.now a.theme (map sheet_of ws) ds locale.id language.code) named ∙ ap (λ z. make name z a.theme (map sheet_of ws) ds locale.id language.code) there
+    ∙ ap (λ t. make name zone t (map sheet_of ws) ds locale.id language.code) plain ∙ ap (λ (xs : List Worksheet). make name zone [] (map sheet_of xs) ds locale.id language.code) two
+    ∙ ap (λ (xs : List Definition). make name zone [] (first language.code) xs locale.id language.code) none ∙ ap (λ l. make name zone [] (first language.code) [] l language.code) three
+    ∙ ap (λ g. make name zone [] (first g) [] locale_id g) four
   where
-    given : About
-    given = record { name = name; zone = zone; theme = []; created = a.created }
-
     first : List ℕ → List BookSheet
     first code = record { id = 1; name = first_sheet_name_in code; pool = []; cells = []; tab = plain_tab } ∷ []
 
-    make : About → List BookSheet → List Definition → List ℕ → List ℕ → Book
-    make b ss ds l g = record { name = b.name; sheets = ss; definitions = ds; locale = l; language = g; zone = b.zone; theme = b.theme; created = b.created; tables = tables }
+    make : List ℕ → List ℕ → List ℕ → List BookSheet → List Definition → List ℕ → List ℕ → Book
+    make n z t ss ds l g = record { name = n; sheets = ss; definitions = ds; locale = l; language = g; zone = z; theme = t; created = a.created; tables = tables }
 
 pub whole_updated : (f : Worksheet → Worksheet) → ((s : Worksheet) → (f s).pool.is_whole ≡ true) → (i : ℕ) (ws : List Worksheet) → map (λ (s : Worksheet). s.pool.is_whole) (updated_at f i ws) ≡ updated_at (λ b. true) i (map (λ (s : Worksheet). s.pool.is_whole) ws)
 whole_updated f whole i ws = updated_seen (λ (s : Worksheet). s.pool.is_whole) f (λ b. true) whole i ws

@@ -13,6 +13,9 @@ pub mod ModelLemmas
 pub mod NameHeld
 pub mod NameLemmas
 pub mod NeverMentioned
+pub mod PartLemmas
+pub mod PartUses
+pub mod SettingLemmas
 pub mod SparedBodies
 pub mod StartLemmas
 pub mod WholeLemmas

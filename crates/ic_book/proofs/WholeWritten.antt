@@ -66,6 +66,7 @@ use Rattle.ic_book.specs.declared.error.BookError.{BookError}
 use Rattle.ic_book.proofs.BookValid.{written_valid}
 use Rattle.ic_book.proofs.WholeLemmas.{whole_core}
 use Rattle.ic_book.proofs.WrittenLemmas.{one_of_all, updated_alike}
+use Rattle.ic_book.proofs.DoesLemmas.{told_whole}
 
 -- a map with one entry more ----
 
@@ -434,7 +435,7 @@ module _ (result : Result (Unit {0}) BookError) (old new : ModelState) (valid : 
         before = valid;
         after = subst IsValidBook (sym put.3) (written_valid old.book valid index found.0 found.1 put.1 put.0 row column text e put.2);
       }
-  writes_so (Err error) written e untouched same = record { done = subst (Refused WantedIn (served_formula_step index (row, column) text (whole_of old.book)) old new) e (told_so (update_refusal (core_of old.book) index row column text) refl); before = valid; after = subst IsValidBook (sym same) valid }
+  writes_so (Err error) written e untouched same = record { done = subst (Refused WantedIn (served_formula_step index (row, column) text (whole_of old.book)) old new) (told_whole error (update_refusal (core_of old.book) index row column text) e) (told_so (update_refusal (core_of old.book) index row column text) refl); before = valid; after = subst IsValidBook (sym same) valid }
     where
       told_so : (o : Option core.Refusal) → update_refusal (core_of old.book) index row column text ≡ o → Refused WantedIn (served_formula_step index (row, column) text (whole_of old.book)) old new (option_map OfCore o)
       told_so None e = (write_accepted old.book valid index row column text e, same)

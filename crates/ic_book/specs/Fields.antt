@@ -1,39 +1,18 @@
--- The fields of a reply, by what a call answers.
-use Rattle.std.specs.Prelude.{String, ℕ, List, [], ◌∷◌, Option, Some, chars, flat_map, option_map, string_bytes}
+-- The fields of a reply, by what a call answers: those of the machine, and those of definitions and sheets as a model has
+-- them.
+use Rattle.std.specs.Prelude.{String, ℕ, List, [], ◌∷◌, Option, Some, flat_map}
 use Rattle.std.specs.declared.alloc.Global.{Global}
 use Rattle.std.specs.Global.{Vec}
-use Rattle.ic_cells.specs.declared.sheet.SheetProperties.{SheetProperties}
-use Rattle.ic_cells.specs.declared.workbook.Theme.{Theme}
-use Rattle.ic_machine.specs.Reply.{Field, NumberField, TextField, optional_text_field, text_field}
+use Rattle.ic_cells.specs.Sheet.{state_word}
+pub use Rattle.ic_machine.specs.Fields.{fields_of_sheet, no_fields, scope_field, sheets_fields, string_field, string_only, theme_field}
+use Rattle.ic_machine.specs.Reply.{Field, NumberField, TextField}
 use Rattle.ic_machine.specs.Styling.{color_text}
+use Rattle.ic_sheets.specs.declared.sheet.Worksheet.{Worksheet}
 use Rattle.ic_book.specs.Names.{Listed, listed}
 
--- nothing
-abbrev pub no_fields : Unit {0} → List Field
-no_fields done = []
-
--- a number, or none
-abbrev pub scope_field : Option ℕ → List Field
-scope_field scope = NumberField scope ∷ []
-
--- a text, if there is one
-abbrev pub string_field : Option (String Global) → List Field
-string_field text = optional_text_field (option_map (λ s. chars (string_bytes s)) text)
-
--- a text
-abbrev pub string_only : String Global → List Field
-string_only text = text_field (chars (string_bytes text))
-
--- the name of a theme
-abbrev pub theme_field : Theme → List Field
-theme_field theme = text_field theme.name
-
--- what is told of each sheet: its name, the word of its state, its color and its id
-abbrev pub fields_of_sheet : SheetProperties → List Field
-fields_of_sheet sheet = TextField sheet.name ∷ TextField sheet.state ∷ TextField (color_text sheet.color) ∷ NumberField (Some sheet.sheet_id) ∷ []
-
-abbrev pub sheets_fields : Vec SheetProperties → List Field
-sheets_fields sheets = flat_map fields_of_sheet sheets.items
+-- what is told of a sheet of the book: its name, the word of its state, its color and its id
+abbrev pub told_sheet : Worksheet → List Field
+told_sheet sheet = TextField sheet.name ∷ TextField (state_word sheet.tab.state) ∷ TextField (color_text sheet.tab.color) ∷ NumberField (Some sheet.id) ∷ []
 
 -- the name, the scope and the body of each definition that is listed
 abbrev pub fields_of_listed : Listed → List Field

@@ -18,7 +18,7 @@ module _ (about : About) (sheets : List Worksheet) (definitions : List Definitio
     definitions = definitions;
     locale = locale.id;
     language = language.code;
-    zone = about.zone;
+    zone = about.zone.now;
     theme = about.theme;
     created = about.created;
     tables = tables;

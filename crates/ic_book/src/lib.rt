@@ -15,8 +15,12 @@ mod law;
 mod model;
 mod names;
 mod notation;
+mod parts;
+mod properties;
 mod scene;
 mod sheet_changes;
+mod tab;
+mod tabs;
 
 pub use error::BookError;
 pub use ic_pool::Steps;

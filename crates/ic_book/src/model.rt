@@ -26,7 +26,7 @@ use std::marker;
 pub struct Model<'a> {
     pub(crate) alloc: Global,
     pub(crate) tables: &'a Tables,
-    pub(crate) about: About,
+    pub(crate) about: About<'a>,
     pub(crate) sheets: Sheets,
     pub(crate) names: Definitions,
     pub(crate) locale: &'a NamedLocale,
@@ -87,9 +87,9 @@ impl<'a> Model<'a> {
         ensures refused { Refuses result (new_book_refusal (chars locale_id.now)
             (chars timezone.now) (chars language_id.now) tables.now) }
     {
-        if !tables.has_zone(timezone) {
+        let Some(zone) = tables.get_zone(timezone) else {
             return Err(BookError::InvalidTimezone);
-        }
+        };
         let Ok(locale) = tables.get_named_locale(locale_id) else {
             return Err(BookError::InvalidLocale);
         };
@@ -97,7 +97,7 @@ impl<'a> Model<'a> {
             return Err(BookError::InvalidLanguage);
         };
         let sheets = first_sheet(alloc, language)?;
-        let about = about(alloc, name, timezone, moment)?;
+        let about = about(alloc, name, zone, moment)?;
         Ok(Model {
             alloc,
             tables,
@@ -183,23 +183,20 @@ fn first_sheet_name(language: &Text) -> &'static str
 }
 
 /// What a new workbook of this name has beside its contents: a theme without a name.
-fn about(
+fn about<'a>(
     alloc: Global,
     name: &str,
-    timezone: &str,
+    zone: &'a Text,
     moment: Timestamp,
-) -> Result<About, OutOfMemory>
-    ensures { IfOk result (λ about. about ≡ record {
-      name = chars name.now;
-      zone = chars timezone.now;
-      theme = [];
-      created = about.created;
-    }) }
+) -> Result<About<'a>, OutOfMemory>
+    ensures name { IfOk result (λ about. about.name ≡ chars name.now) }
+    ensures zone { IfOk result (λ about. about.zone.now ≡ zone.now) }
+    ensures theme { IfOk result (λ about. about.theme ≡ []) }
 {
     Ok(About {
         name: Text::from_str(alloc, name)?,
-        zone: Text::from_str(alloc, timezone)?,
-        theme: Text::from_str(alloc, "")?,
+        zone,
+        theme: Text::from(String::new(alloc)),
         created: moment_text(alloc, moment)?,
     })
 }

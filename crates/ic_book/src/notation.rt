@@ -1,11 +1,12 @@
-ghost use Rattle.std.specs.Prelude.{◌≡◌, chars};
+ghost use Rattle.std.specs.Prelude.{◌≡◌, IfOk, chars, string_bytes};
 ghost use Rattle.ic_machine.specs.subjects.Notation.{GetLanguage, GetLocale, GetTimezone, SetLanguage, SetLocale, SetTimezone, notation_step};
 ghost use Rattle.ic_book.specs.Book.{core_of};
 ghost use Rattle.ic_book.specs.Does.{Does, DoesOnly};
 ghost use Rattle.ic_book.specs.Fields.{no_fields, string_only};
 
 use crate::{BookError, Model};
-use ic_laws::Text;
+use ic_laws::{OutOfMemory, Text};
+use std::alloc::Global;
 
 impl<'a> Model<'a> {
     /// Puts the locale with this id in force. Formulas are read and shown with its separators from then on.
@@ -56,31 +57,44 @@ impl<'a> Model<'a> {
     pub fn get_locale(&self) -> Result<String, BookError>
         ensures does { Does notation_step GetLocale string_only result self.now self.now }
     {
-        Ok(String::from_str(self.alloc, self.locale.id.as_str())?)
+        Ok(string_of(self.alloc, &self.locale.id)?)
     }
 
     /// The code of the language in force. Only memory can be missing.
     pub fn get_language(&self) -> Result<String, BookError>
         ensures does { Does notation_step GetLanguage string_only result self.now self.now }
     {
-        Ok(String::from_str(self.alloc, self.language.code.as_str())?)
+        Ok(string_of(self.alloc, &self.language.code)?)
     }
 
     /// Puts the book into another time zone, by its name.
     ///
-    /// `InvalidTimezone` exactly where the tables lack it, or where memory for its name runs out; an error changes nothing.
+    /// `InvalidTimezone` exactly where the tables lack it; an error changes nothing. It takes no memory.
     pub fn set_timezone(&mut self, timezone: &str) -> Result<(), BookError>
         ensures does { DoesOnly notation_step (SetTimezone (chars timezone.now)) no_fields
             result self.old self.new }
         ensures looks_up { self.new.has_all ≡ self.old.has_all }
     {
-        Err(BookError::InvalidTimezone)
+        match self.tables.get_zone(timezone) {
+            Some(zone) => {
+                self.about.zone = zone;
+                Ok(())
+            }
+            None => Err(BookError::InvalidTimezone),
+        }
     }
 
     /// The name of the book's time zone. Only memory can be missing.
     pub fn get_timezone(&self) -> Result<String, BookError>
         ensures does { Does notation_step GetTimezone string_only result self.now self.now }
     {
-        Ok(String::from_str(self.alloc, self.about.zone.as_str())?)
+        Ok(string_of(self.alloc, self.about.zone)?)
     }
+}
+
+/// A text as callers take it.
+fn string_of(alloc: Global, text: &Text) -> Result<String, OutOfMemory>
+    ensures { IfOk result (λ s. chars (string_bytes s) ≡ text.now) }
+{
+    Ok(String::from_str(alloc, text.as_str())?)
 }

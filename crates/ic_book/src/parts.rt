@@ -16,7 +16,7 @@ impl<'a> Model<'a> {
         change: F,
     ) -> Result<T, BookError>
         requires { (tab : Tab) → FnOnceTakesAtMut F.FnOnce change tab }
-        ensures { ChangesTab F.FnOnce change sheet result self.old self.new }
+        ensures changes { ChangesTab F.FnOnce change sheet result self.old self.new }
         ensures looks_up { self.new.has_all ≡ self.old.has_all }
     {
         if sheet as usize >= self.sheets.len() {

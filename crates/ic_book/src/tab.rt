@@ -1,4 +1,5 @@
 //! One tab: the steps of the machine on it.
+ghost use Rattle.std.specs.Prelude.{false, true};
 ghost use Rattle.ic_machine.specs.Reply.{position_field};
 ghost use Rattle.ic_machine.specs.subjects.Tabs.{color_step, freeze_columns_step, freeze_rows_step, frozen_columns_step, frozen_rows_step, grid_lines_step, state_step};
 ghost use Rattle.ic_book.specs.Does.{DoesTab};

@@ -1,6 +1,4 @@
 //! The tabs of sheets, what stays in sight there, and the theme.
-#![tactic(auto, using(crate::proofs::PartUses::tab_changed, crate::proofs::PartUses::tab_read))]
-
 ghost use Rattle.std.specs.Prelude.{◌≡◌, Ok};
 ghost use Rattle.ic_machine.specs.Reply.{position_field};
 ghost use Rattle.ic_machine.specs.subjects.Tabs.{GetFrozenColumnsCount, GetFrozenRowsCount, GetTheme, SetFrozenColumns, SetFrozenRows, SetSheetColor, SetSheetState, SetShowGridLines, SetTheme, tab_step};

@@ -108,7 +108,7 @@ returns-clause-written c =
     (pool, place, written_there c.self.inside.about c.self.inside.sheets c.self.inside.names c.self.inside.locale.now c.self.inside.language.now c.self.inside.tables.now c.self.invariant c.write.new.self sheet entry there row column text c.in_ok-formula.formula place pool c.in_ok-write.ensures.ok.2 is after, written c.self.inside.about c.self.inside.sheets c.self.inside.names c.self.inside.locale.now c.self.inside.language.now c.self.inside.tables.now c.self.invariant c.write.new.self sheet entry there row column text c.in_ok-formula.formula place pool c.in_ok-write.ensures.ok.2 is after))
 
 pub returns-clause-beside : goal.returns-clause-beside
-returns-clause-beside c = subst (λ (m : ModelState). IsSameBeside m.book (held c.self.inside.about c.write.new.self c.self.inside.names c.self.inside.locale.now c.self.inside.language.now c.self.inside.tables.now)) c.self.view_is (record { name = refl; zone = refl; created = refl; tables = refl })
+returns-clause-beside c = subst (λ (m : ModelState). IsSameBeside m.book (held c.self.inside.about c.write.new.self c.self.inside.names c.self.inside.locale.now c.self.inside.language.now c.self.inside.tables.now)) c.self.view_is (record { name = refl; zone = refl; theme = refl; created = refl; tables = refl })
 
 pub returns-clause-looks_up : goal.returns-clause-looks_up
 returns-clause-looks_up c = ap (map (λ (s : Worksheet). s.pool.is_whole)) c.in_ok-write.ensures.ok.3 ∙ whole_updated _ (λ s. refl) c.args.sheet c.self.inside.sheets ∙ ap (λ (m : ModelState). updated_at (λ b. true) c.args.sheet m.has_all) c.self.view_is
