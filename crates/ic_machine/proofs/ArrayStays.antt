@@ -19,7 +19,7 @@ use Rattle.ic_grid.proofs.RowLemmas.{IsAt, at_first, first_left, none_at_end}
 use Rattle.ic_grid.specs.Block.{Place, first_place, is_area, next_place}
 use Rattle.ic_grid.specs.Contents.{Contents}
 use Rattle.ic_grid.specs.Merges.{meets_merge}
-use Rattle.ic_grid.specs.Prepare.{all_prepared}
+use Rattle.ic_grid.specs.Prepare.{loosened_in}
 use Rattle.ic_grid.specs.Spill.{array_written, with_blanks, written_style}
 use Rattle.ic_grid.specs.Walk.{is_left}
 use Rattle.ic_grid.specs.declared.block.Block.{Block}
@@ -30,7 +30,7 @@ use Rattle.ic_machine.specs.Valid.{HasFormula, HasGridStyles, IsValidBook}
 use Rattle.ic_machine.specs.subjects.Arrays.{place_count, with_array, with_contents}
 use Rattle.ic_machine.specs.subjects.Writing.{formula_written}
 use Rattle.ic_machine.proofs.ArrayCells.{written_array_whole}
-use Rattle.ic_machine.proofs.HaveLemmas.{AllHave, all_prepared_have, all_put}
+use Rattle.ic_machine.proofs.HaveLemmas.{AllHave, all_loosened, all_put}
 use Rattle.ic_machine.proofs.StandingLemmas.{IsStanding, passed_on}
 use Rattle.ic_machine.proofs.StylesStay.{HasNumber, has_number}
 use Rattle.ic_machine.proofs.ValidLemmas.{HoldsOf, holds_at, put_valid, styles_more}
@@ -83,11 +83,11 @@ module _ (n : Notations) (scene : Scene) (s : Sheet) (b : Block) where
       let a : Place = first_place b in
       let w = written_style held s.grid.rows s.grid.columns m styles a in
       let x : Content = AnchorContent f (b.width, b.height) kinds.Cse fvalues.Unevaluated w.0 in
-      let between : Contents Content = all_prepared held b (suc k) a m in
+      let between : Contents Content = loosened_in held b m in
       let has = number_of m styles a are lines stand in
       let more = has.more in
       let below = has.below in
-      let kept = all_prepared_have held (Stands (length w.1)) (passed_on n scene s (length w.1)) b (suc k) a m (more_stand (length styles) (length w.1) more m stand) in
+      let kept = all_loosened held (Stands (length w.1)) (passed_on n scene s (length w.1)) b m (more_stand (length styles) (length w.1) more m stand) in
       let rest = blanks_written k (next_place b a) (finite.insert between a x) w.1 has.are (styles_more (length styles) (length w.1) more s.grid lines) (all_put held (Stands (length w.1)) between a x kept (below, formula)) in
       let further = rest.more in
       record { are = rest.are; more = omega (arith, more, further); stand = rest.stand }

@@ -1,6 +1,6 @@
 -- What holds of each thing that stands in a place of a sheet, and of what becomes of it alone, still does after a block is
 -- cleared, a formula gets a value, or an array its values.
-use Rattle.std.proofs.Common.{◌≡◌, ◌∙◌, refl, sym, ap, subst, ℕ, ℤ, zero, suc, pos, Bool, true, false, cond, List, [], ◌∷◌, Option, Some, None, inl, inr}
+use Rattle.std.proofs.Common.{◌≡◌, ◌∙◌, refl, sym, ap, subst, ℤ, pos, Bool, true, false, cond, List, [], ◌∷◌, Option, Some, None, inl, inr}
 use Rattle.std.proofs.lemmas.Bool.{cases_Bool}
 use Rattle.std.specs.FinMap as finite
 use Rattle.ic_laws.proofs.core.CellWritten.{place_cmp_total}
@@ -9,11 +9,11 @@ use Rattle.ic_cells.specs.declared.value.FormulaValue.TheVariants as fvalues
 use Rattle.ic_cells.specs.declared.value.SpillValue.{SpillValue}
 use Rattle.ic_grid.proofs.ArrayLemmas.{there}
 use Rattle.ic_grid.proofs.ContentsLemmas.{get-remade, same_is}
-use Rattle.ic_grid.specs.Arrays.{anchor_at, array_at, reaches}
+use Rattle.ic_grid.specs.Arrays.{array_at, reaches}
 use Rattle.ic_grid.specs.Block.{Place, first_place, is_in_block, next_place, same_place}
 use Rattle.ic_grid.specs.Clear.{cleared, wiped}
 use Rattle.ic_grid.specs.Contents.{Contents, remade}
-use Rattle.ic_grid.specs.Prepare.{all_prepared, anchor_reset, loosened, prepared, released_if, unspilled, without_spill}
+use Rattle.ic_grid.specs.Prepare.{loosened, loosened_in, unspilled, without_spill}
 use Rattle.ic_grid.specs.Shape.{Holding, emptied, gathered, is_anchor, is_spill_of, reset, spread}
 use Rattle.ic_grid.specs.Spill.{filled, spilled, with_first}
 use Rattle.ic_grid.specs.Style.{Columns, Rows, style_at}
@@ -90,18 +90,9 @@ module _ {X : Type 0} (h : Holding X) (P : Place → X → Type 0) where
     all_without : (a : Place) (m : Contents X) → AllHave m → AllHave (without_spill h a m)
     all_without a m have = all_remade _ (λ q x p y e. made_so q (unspilled h a x) y (to_unspilled a q x p) e) m have
 
-    to_anchor_reset : (q : Place) (x : X) → P q x → P q (anchor_reset h x)
-    to_anchor_reset q x p = either (is_anchor (h.shape x)) q (reset h x) x (to_reset q x p) p
-
-    all_released : (o : Option Place) (m : Contents X) → AllHave m → AllHave (released_if h o m)
-    all_released None m have = have
-    all_released (Some a) m have =
-        all_remade _ (λ q x p y e. made_so q (cond (same_place q a) (anchor_reset h x) x) y (either (same_place q a) q (anchor_reset h x) x (to_anchor_reset q x p) p) e) (without_spill h a m)
-        (all_without a m have)
-
-    pub all_prepared_have : (b : Block) (n : ℕ) (q : Place) (m : Contents X) → AllHave m → AllHave (all_prepared h b n q m)
-    all_prepared_have b zero q m have = have
-    all_prepared_have b (suc n) q m have = all_prepared_have b n (next_place b q) (prepared h q m) (all_released (anchor_at h m q) m have)
+    pub all_loosened : (b : Block) (m : Contents X) → AllHave m → AllHave (loosened_in h b m)
+    all_loosened b m have =
+        all_remade _ (λ q x p y e. made_so q (cond (reaches b (array_at h m q)) (loosened h x) x) y (either (reaches b (array_at h m q)) q (loosened h x) x (to_loosened q x p) p) e) m have
 
     module _ (rows : Rows) (columns : Columns) (of_spills : IsOfSpills rows columns) (b : Block) where
       all_filled : (vs : List SpillValue) (q : Place) (m : Contents X) → AllHave m → AllHave (filled h rows columns b q vs m)

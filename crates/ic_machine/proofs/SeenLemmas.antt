@@ -19,7 +19,7 @@ use Rattle.ic_grid.specs.Clear.{cleared, wiped}
 use Rattle.ic_grid.specs.Conditions.{AreArrays, AreInSheet, AreMerges, Has}
 use Rattle.ic_grid.specs.Contents.{Contents, remade}
 use Rattle.ic_grid.specs.Merges.{is_merged}
-use Rattle.ic_grid.specs.Prepare.{loosened, unspilled, without_spill}
+use Rattle.ic_grid.specs.Prepare.{loosened, loosened_in, unspilled, without_spill}
 use Rattle.ic_grid.specs.Shape.{Anchor, Empty, Holding, Shape, SpillOf, emptied, gathered, is_anchor, is_spill_of, reset, spread}
 use Rattle.ic_grid.specs.Spill.{filled, first_blocking, first_of_blocking, is_free, spilled, with_first}
 use Rattle.ic_grid.specs.Style.{Columns, Rows, first_style, style_at}
@@ -171,6 +171,11 @@ module _ {X Y : Type 0} (f : X → Y) (h : Holding X) (k : Holding Y) (alike : H
         remade_seen f m c seen _ _
         (λ q x. by_side f (is_in_block b q) (wiped h all x) (Some (cond (reaches b (array_at h m q)) (loosened h x) x)) (wiped k all (f x)) (Some (cond (reaches b (array_at k c q)) (loosened k (f x)) (f x))) (wiped_seen all x)
         (ap Some (by_test f (reaches b (array_at k c q)) (reaches b (array_at h m q)) (loosened h x) x (loosened k (f x)) (f x) (ap (reaches b) (array_at_same q)) (loosened_seen x) refl)))
+
+    pub released_seen : (b : Block) → IsSeen f (loosened_in h b m) (loosened_in k b c)
+    released_seen b =
+        remade_seen f m c seen _ _
+        (λ q x. ap Some (by_test f (reaches b (array_at k c q)) (reaches b (array_at h m q)) (loosened h x) x (loosened k (f x)) (f x) (ap (reaches b) (array_at_same q)) (loosened_seen x) refl))
 
     pub valued_seen : (a : Place) (value : FormulaValue) → IsSeen f (valued h a value m) (valued k a value c)
     valued_seen a value =

@@ -22,7 +22,7 @@ use Rattle.ic_grid.specs.Contents.{Contents}
 use Rattle.ic_grid.specs.Prepare.{without_spill}
 use Rattle.ic_grid.specs.Rows.{placed}
 use Rattle.ic_grid.specs.Shape.{Anchor, Empty, Shape, celled, is_anchor, shape_of}
-use Rattle.ic_grid.specs.Spill.{array_cells, first_blocking, first_of_blocking, misfits, spilled}
+use Rattle.ic_grid.specs.Spill.{array_cells, first_blocking, misfits, spilled}
 use Rattle.ic_grid.specs.Style.{Columns, Rows}
 use Rattle.ic_grid.specs.Value.{formula_array, shape_at, valued}
 use Rattle.ic_grid.specs.Whole.{IsGrid}
@@ -43,11 +43,10 @@ pub record IsWhole (merges : List Merge) (m : Contents Content) : Type 0 where
 
 -- what refuses a spill ----
 
-answered : (p q t : Bool) (o : Option Place) → p ≡ false → q ≡ false → cond t None o ≡ None → (let r : Answer = cond p (Err errors.NoFormulaCell) (cond q (Err errors.BadArea) (cond t (Ok tt) (blocked_by o))) in r ≡ Ok tt)
-answered true q t o e f g = cc
-answered false true t o e f g = cc
-answered false false true o e f g = refl
-answered false false false o e f g = ap blocked_by g
+answered : (p q : Bool) (o : Option Place) → p ≡ false → q ≡ false → o ≡ None → (let r : Answer = cond p (Err errors.NoFormulaCell) (cond q (Err errors.BadArea) (blocked_by o)) in r ≡ Ok tt)
+answered true q o e f g = cc
+answered false true o e f g = cc
+answered false false o e f g = ap blocked_by g
 
 pub none_blocks : (o : Option Place) → AllByRecursion (λ cause. cause.0 ≡ false) (blocked_causes o) → o ≡ None
 none_blocks None h = refl
@@ -124,7 +123,7 @@ module _ (rows : Rows) (columns : Columns) (merges : List Merge) where
 
         can : can_spill celled merges c b (length values) ≡ Ok tt
         can =
-            answered (not (is_anchor (shape_at celled c (first_place b)))) (misfits b (length values) (shape_at celled c (first_place b))) _ (first_of_blocking celled merges c (first_place b) b (length values) (first_place b))
+            answered (not (is_anchor (shape_at celled c (first_place b)))) (misfits b (length values) (shape_at celled c (first_place b))) (first_blocking celled merges c b (length values))
             (ap (λ (s : Shape). not (is_anchor s)) same ∙ anchor) (ap (misfits b (length values)) same ∙ fits) (blocking_same as_cell held celled contents_are_cells m c seen merges b (length values) ∙ none)
 
         allowed : spill_answer celled merges c b (length values) (Anchor cell.2.0 cell.2.1 cell.3) ≡ Ok tt

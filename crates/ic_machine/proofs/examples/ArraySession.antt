@@ -1,5 +1,5 @@
 -- An array that is written as a whole, by example: its cells are written and cleared together or not at all.
-use Rattle.std.proofs.Common.{◌≡◌, ℕ, pos, List, [], ◌∷◌, map, Bool, true, false, Option, Some, Ok, Err, codes, refl, ap, ap₂, ◌∙◌}
+use Rattle.std.proofs.Common.{◌≡◌, ℕ, pos, List, [], ◌∷◌, map, Bool, true, false, cond, Option, Some, Ok, Err, codes, refl, ap, ap₂, ◌∙◌}
 use Rattle.std.specs.FinMap as finite
 use Rattle.std.specs.List.{list_any}
 use Rattle.std.specs.Prelude.{◌&&◌}
@@ -13,11 +13,12 @@ use Rattle.ic_cells.specs.declared.cell.ArrayKind.TheVariants as kinds
 use Rattle.ic_cells.specs.declared.style.Style.{Style}
 use Rattle.ic_cells.specs.declared.value.FormulaValue.TheVariants as values
 use Rattle.ic_cells.specs.declared.value.SpillValue.TheVariants as spills
-use Rattle.ic_grid.specs.Arrays.{array_at, has_cut, has_fixed, is_cut_by, is_fixed_at}
+use Rattle.ic_grid.specs.Arrays.{array_at, has_cut, has_fixed, is_cut_by, is_fixed_at, reaches}
 use Rattle.ic_grid.specs.Block.{is_between, is_in_block, is_span_within}
 use Rattle.ic_grid.specs.Clear.{cleared, cleared_cell}
 use Rattle.ic_grid.specs.Contents.{Contents, remade, remade_entries}
-use Rattle.ic_grid.specs.Spill.{array_written}
+use Rattle.ic_grid.specs.Prepare.{loosened, loosened_in}
+use Rattle.ic_grid.specs.Spill.{array_written, with_blanks, written_style}
 use Rattle.ic_grid.specs.declared.block.Block.{Block}
 use Rattle.ic_machine.specs.Book.{Book, Entry, Sheet, core_of, empty_grid, on_grid, unless, unless_refused}
 use Rattle.ic_machine.specs.Command.{commands}
@@ -67,8 +68,22 @@ book contents = with_first start [] (sheet contents) plain
 none_fixed : (b : Block) → has_fixed held finite.empty b ≡ false
 none_fixed b = ap (λ (es : List Entry). list_any (λ p. is_in_block b p && is_fixed_at held finite.empty p) (map (λ (e : Entry). e.0) es)) no_cells
 
+-- its cells, in a sheet whose arrays were released in these contents
+abbrev put_in : Contents Content → Contents Content × List Style
+put_in m =
+    with_blanks held finite.empty finite.empty (block 2 2) 3 (place 1 2)
+    (finite.insert m (place 1 1) (held.array 0 (written_style held finite.empty finite.empty finite.empty plain (place 1 1)).0 (pos 2) (pos 2) kinds.Cse))
+    (written_style held finite.empty finite.empty finite.empty plain (place 1 1)).1
+
+none_released : loosened_in held (block 2 2) finite.empty ≡ finite.empty
+unfolding remade
+none_released = ap (remade_entries (λ q x. Some (cond (reaches (block 2 2) (array_at held finite.empty q)) (loosened held x) x))) no_cells
+
+put_is : put_in finite.empty ≡ (array, plain)
+put_is = simp (finite.gets, place_cmp_total)
+
 array_is : array_written held finite.empty finite.empty (block 2 2) 3 0 finite.empty plain ≡ (array, plain)
-array_is = simp (finite.gets, place_cmp_total)
+array_is = ap put_in none_released ∙ put_is
 
 array_put : step start (codes "set_user_array_formula\t0\t1\t1\t2\t2\t=A5:B6") ≡ (book array, Ok [])
 unfolding step commands array_step is_span_within notations_of
