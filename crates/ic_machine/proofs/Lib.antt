@@ -1,3 +1,4 @@
+pub mod AlikeGrid
 pub mod AlikeLemmas
 pub mod BindsLemmas
 pub mod ChangedStays

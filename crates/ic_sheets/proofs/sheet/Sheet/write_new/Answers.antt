@@ -1,6 +1,6 @@
 use Rattle.std.proofs.lemmas.Result.{on_err_weaker, on_ok_weaker}
 use Rattle.ic_sheets.proofs.CellLemmas.{all_as_before, is_written, put_again, put_and_gone, put_is_there, stored_pair}
-use Rattle.ic_sheets.proofs.sheet.Worksheet.write_new.Goals as goal
+use Rattle.ic_sheets.proofs.sheet.Sheet.write_new.Goals as goal
 
 pub returns-in-Ok-clause-ok : goal.returns-in-Ok-clause-ok
 returns-in-Ok-clause-ok c =
