@@ -16,7 +16,7 @@ use Rattle.ic_laws.specs.Notations.{AreNotations, Notations}
 use Rattle.ic_laws.specs.declared.scene.NameSpelling.{NameSpelling}
 use Rattle.ic_laws.specs.declared.scene.Scene.{Scene}
 use Rattle.ic_laws.specs.declared.scene.SheetName.{SheetName}
-use Rattle.ic_sheets.specs.Sheet.{BookSheet, IsValidPool, kept_pool, sheet_core}
+use Rattle.ic_sheets.specs.Sheet.{BookSheet, IsValidPool, kept_pool, plain_tab, sheet_core}
 use Rattle.ic_book.specs.Book.{Book, core_of, scene_in}
 use Rattle.ic_book.specs.Change.{with_added_sheet, with_kept_pools, with_moved_sheet, with_name, with_removed_sheet, with_renamed_sheet, without_name}
 use Rattle.ic_sheets.proofs.PoolLemmas.{pools_kept, sheet_cores-kept}
@@ -70,7 +70,7 @@ module _ (n : Notations) (before after : Scene) where
       ∙ ap₂ (λ (front : List SheetName) (id : ℕ). front ++ record { id = id + 1; name = name } ∷ []) (seen-kept book.sheets) (greatest-kept book)
       ∙ sym (added book.sheets (greatest_id (core_of book) + 1)))
     where
-      added : (sheets : List BookSheet) (id : ℕ) → seen (sheets ++ record { id = id; name = name; pool = []; cells = [] } ∷ []) ≡ seen sheets ++ record { id = id; name = name } ∷ []
+      added : (sheets : List BookSheet) (id : ℕ) → seen (sheets ++ record { id = id; name = name; pool = []; cells = []; tab = plain_tab } ∷ []) ≡ seen sheets ++ record { id = id; name = name } ∷ []
       added [] id = refl
       added (s ∷ sheets) id = ap (λ rest. let m : SheetName = record { id = s.id; name = s.name } in m ∷ rest) (added sheets id)
 
@@ -117,9 +117,9 @@ pub record IsBookChange (change : Book → Book) (of_core : CoreBook → CoreBoo
 
 pub added_change : (name : List ℕ) → IsBookChange (with_added_sheet name) (with_new_sheet name)
 added_change name = record {
-  core = λ book. ap (λ (sheets : List Sheet). let core : CoreBook = record { sheets = sheets; definitions = book.definitions; locale = book.locale; language = book.language } in core) (map-append sheet_core book.sheets (record { id = greatest_id (core_of book) + 1; name = name; pool = []; cells = [] } ∷ []));
+  core = λ book. ap (λ (sheets : List Sheet). let core : CoreBook = record { sheets = sheets; definitions = book.definitions; locale = book.locale; language = book.language } in core) (map-append sheet_core book.sheets (record { id = greatest_id (core_of book) + 1; name = name; pool = []; cells = []; tab = plain_tab } ∷ []));
   scene = λ n before after book. scene-added n before after name book;
-  pools = λ n scene book h. all_pushed (IsValidPool n scene) book.sheets (record { id = greatest_id (core_of book) + 1; name = name; pool = []; cells = [] }) h (record { formulas = tt; places = tt });
+  pools = λ n scene book h. all_pushed (IsValidPool n scene) book.sheets (record { id = greatest_id (core_of book) + 1; name = name; pool = []; cells = []; tab = plain_tab }) h (record { formulas = tt; places = tt });
 }
 
 pub renamed_change : (index : ℕ) (name : List ℕ) → IsBookChange (with_renamed_sheet index name) (with_sheet_name index name)

@@ -19,6 +19,7 @@ use Rattle.ic_laws.specs.declared.tree.Formula.{Formula}
 use Rattle.ic_machine.specs.Book as machine
 use Rattle.ic_machine.specs.Book.{Stepped, as_core}
 use Rattle.ic_machine.specs.Changed as changed
+use Rattle.ic_machine.specs.Refusal.{OfCore}
 use Rattle.ic_machine.specs.Reply.{Field, NumberField, of_core_field, of_core_fields, optional_text_field}
 use Rattle.ic_machine.specs.subjects.Definitions.{DeleteDefinedName, GetDefinedNameList, IsValidDefinedName, NewDefinedName, definition_step, delete_name_step, list_step, new_name_step, valid_name_step, with_new_name}
 use Rattle.ic_machine.specs.subjects.Notation.{SetLanguage, SetLocale, notation_step, set_language_step, set_locale_step}
@@ -58,9 +59,9 @@ module _ {T : Type 0} (refusal : Option Refusal) (book : CoreBook) (told : List 
 
   made_wanted : (result : Result T BookError) → Refuses result refusal → IfOk result Leaves → OnErr result (new ≡ old) → Made Wanted made fields old new result
   made_wanted (Ok value) e leaves same = accepted value e leaves
-  made_wanted (Err error) e leaves same = told_so (refusal_of error) e
+  made_wanted (Err error) e leaves same = subst (Refused Wanted made old new) e (told_so refusal refl)
     where
-      told_so : (o : Option Refusal) → refusal ≡ o → Refused Wanted made old new o
+      told_so : (o : Option Refusal) → refusal ≡ o → Refused Wanted made old new (option_map OfCore o)
       told_so None e = (done e, same)
       told_so (Some r) e = (made_so (Some r) e, same)
 
@@ -70,9 +71,9 @@ module _ {T : Type 0} (refusal : Option Refusal) (book : CoreBook) (told : List 
 
   made_or : (late : Refusal) (result : Result T BookError) → RefusesOr late result refusal → IfOk result Leaves → OnErr result (new ≡ old) → Made (WantedOr late) made fields old new result
   made_or late (Ok value) e leaves same = accepted value e leaves
-  made_or late (Err error) (inl e) leaves same = told_so (refusal_of error) e
+  made_or late (Err error) (inl e) leaves same = subst (Refused (WantedOr late) made old new) e (told_so refusal refl)
     where
-      told_so : (o : Option Refusal) → refusal ≡ o → Refused (WantedOr late) made old new o
+      told_so : (o : Option Refusal) → refusal ≡ o → Refused (WantedOr late) made old new (option_map OfCore o)
       told_so None e = (inl (done e), same)
       told_so (Some r) e = (made_so (Some r) e, same)
   made_or late (Err error) (inr both) leaves same =

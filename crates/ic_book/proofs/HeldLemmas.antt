@@ -30,7 +30,7 @@ use Rattle.ic_names.specs.Named.{names_scene, scopes_of}
 use Rattle.ic_sheets.proofs.RewritingLemmas.{read_there}
 use Rattle.ic_sheets.specs.Rewriting.{changed_pool, sheets_of}
 use Rattle.ic_sheets.specs.Sheet as sheets
-use Rattle.ic_sheets.specs.Sheet.{BookSheet, IsValidPool, cells_of, sheet_core, sheet_of}
+use Rattle.ic_sheets.specs.Sheet.{BookSheet, IsValidPool, cells_of, plain_tab, sheet_core, sheet_of}
 use Rattle.ic_pool.specs.Pool.{IsPlaced}
 use Rattle.ic_laws.specs.declared.tree.Formula.{Formula}
 use Rattle.ic_laws.specs.FormulaReading.{cell_formula, is_formula_text, without_equals}
@@ -40,6 +40,7 @@ use Rattle.ic_laws.proofs.core.Lists.{updated_seen}
 use Rattle.ic_book.specs.Written.{pool_at, with_cell, with_pool}
 use Rattle.ic_book.proofs.WrittenLemmas.{core_of-cell, core_of-pool, one_of_all}
 use Rattle.ic_sheets.specs.declared.sheet.Worksheet.{Worksheet}
+use Rattle.ic_book.specs.declared.about.About.{About}
 use Rattle.ic_book.specs.Book.{Book, IsValidBook, core_of, first_sheet_name_in, new_book, notations_in, scene_in}
 use Rattle.ic_book.specs.Change.{book_changed_by, with_added_sheet, with_moved_sheet, with_name, with_removed_sheet, with_renamed_sheet, without_name}
 use Rattle.ic_book.specs.Inside.{IsHeld, held}
@@ -189,19 +190,23 @@ pub read_is : (slice ws : List Worksheet) (i : ℕ) (s sheet : Worksheet) → sl
 read_is slice ws i s sheet e lt read at = read_there ws i s sheet lt (read ∙ ap (λ (xs : List Worksheet). get_or xs i s) e) at
 
 -- a new book
-pub start_is : (given name : List ℕ) (ws : List Worksheet) (ds : List Definition) (locale : NamedLocale) (language : Language) (locale_id language_id given_zone zone created : List ℕ) (tables : TableSet) → given ≡ name
-    → ws ≡ record { id = 1; name = first_sheet_name_in language.code; pool = record { formulas = []; is_whole = true }; cells = [] } ∷ [] → ds ≡ [] → locale.id ≡ locale_id → language.code ≡ language_id → given_zone ≡ zone
-    → held given ws ds locale language given_zone created tables ≡ new_book name locale_id zone language_id created tables
-start_is given name ws ds locale language locale_id language_id given_zone zone created tables one two none three four five =
-    ap (λ a. make a (map sheet_of ws) ds locale.id language.code given_zone) one ∙ ap (λ (xs : List Worksheet). make name (map sheet_of xs) ds locale.id language.code given_zone) two
-    ∙ ap (λ (xs : List Definition). make name (first language.code) xs locale.id language.code given_zone) none ∙ ap (λ l. make name (first language.code) [] l language.code given_zone) three
-    ∙ ap (λ g. make name (first g) [] locale_id g given_zone) four ∙ ap (λ z. make name (first language_id) [] locale_id language_id z) five
+pub start_is : (a : About) (name : List ℕ) (ws : List Worksheet) (ds : List Definition) (locale : NamedLocale) (language : Language) (locale_id language_id zone : List ℕ) (tables : TableSet)
+    → a ≡ record { name = name; zone = zone; theme = []; created = a.created }
+    → ws ≡ record { id = 1; name = first_sheet_name_in language.code; pool = record { formulas = []; is_whole = true }; cells = []; tab = plain_tab } ∷ [] → ds ≡ [] → locale.id ≡ locale_id → language.code ≡ language_id
+    → held a ws ds locale language tables ≡ new_book name locale_id zone language_id a.created tables
+start_is a name ws ds locale language locale_id language_id zone tables one two none three four =
+    ap (λ (b : About). make b (map sheet_of ws) ds locale.id language.code) one ∙ ap (λ (xs : List Worksheet). make given (map sheet_of xs) ds locale.id language.code) two
+    ∙ ap (λ (xs : List Definition). make given (first language.code) xs locale.id language.code) none ∙ ap (λ l. make given (first language.code) [] l language.code) three
+    ∙ ap (λ g. make given (first g) [] locale_id g) four
   where
-    first : List ℕ → List BookSheet
-    first code = record { id = 1; name = first_sheet_name_in code; pool = []; cells = [] } ∷ []
+    given : About
+    given = record { name = name; zone = zone; theme = []; created = a.created }
 
-    make : List ℕ → List BookSheet → List Definition → List ℕ → List ℕ → List ℕ → Book
-    make a ss ds l g z = record { name = a; sheets = ss; definitions = ds; locale = l; language = g; zone = z; created = created; tables = tables }
+    first : List ℕ → List BookSheet
+    first code = record { id = 1; name = first_sheet_name_in code; pool = []; cells = []; tab = plain_tab } ∷ []
+
+    make : About → List BookSheet → List Definition → List ℕ → List ℕ → Book
+    make b ss ds l g = record { name = b.name; sheets = ss; definitions = ds; locale = l; language = g; zone = b.zone; theme = b.theme; created = b.created; tables = tables }
 
 pub whole_updated : (f : Worksheet → Worksheet) → ((s : Worksheet) → (f s).pool.is_whole ≡ true) → (i : ℕ) (ws : List Worksheet) → map (λ (s : Worksheet). s.pool.is_whole) (updated_at f i ws) ≡ updated_at (λ b. true) i (map (λ (s : Worksheet). s.pool.is_whole) ws)
 whole_updated f whole i ws = updated_seen (λ (s : Worksheet). s.pool.is_whole) f (λ b. true) whole i ws
@@ -234,12 +239,12 @@ language_unknown tables id none = rw (knows_language_is tables id ∙ ap is_some
 
 -- ---- changes of the sheets
 
-module _ (name : List ℕ) (ws : List Worksheet) (ds : List Definition) (locale : NamedLocale) (language : Language) (zone created : List ℕ) (tables : TableSet) (h : IsHeld name ws ds locale language zone created tables) where
+module _ (about : About) (ws : List Worksheet) (ds : List Definition) (locale : NamedLocale) (language : Language) (tables : TableSet) (h : IsHeld about ws ds locale language tables) where
   abbrev book : Book
-  book = held name ws ds locale language zone created tables
+  book = held about ws ds locale language tables
 
   abbrev pub after : List Worksheet → List Definition → Book
-  after now nds = held name now nds locale language zone created tables
+  after now nds = held about now nds locale language tables
 
   abbrev n : Notations
   n = notations_in book
@@ -257,7 +262,7 @@ module _ (name : List ℕ) (ws : List Worksheet) (ds : List Definition) (locale 
   fresh_above id e = let g = fresh_is _ (greatest_id (core_of book)) id e in let same = greatest_is in omega (arith, g, same)
 
   -- the same with other sheets and definitions
-  pub held_after : (now : List Worksheet) (nds : List Definition) (becomes : Book) → after now nds ≡ becomes → IsValidBook becomes → IsHeld name now nds locale language zone created tables
+  pub held_after : (now : List Worksheet) (nds : List Definition) (becomes : Book) → after now nds ≡ becomes → IsValidBook becomes → IsHeld about now nds locale language tables
   held_after now nds becomes e valid = record { valid = subst IsValidBook (sym e) valid; locale_found = h.locale_found; language_found = h.language_found }
 
   of_parts : (now : List Worksheet) (nds : List Definition) (sheets : List BookSheet) (definitions : List Definition) → sheets_of now ≡ sheets → nds ≡ definitions → after now nds ≡ record book { sheets = sheets; definitions = definitions }
@@ -268,7 +273,7 @@ module _ (name : List ℕ) (ws : List Worksheet) (ds : List Definition) (locale 
 
   module _ (now : List Worksheet) (nds : List Definition) where
     pub added : (called : List ℕ) (id : ℕ) → add_sheet_refusal (core_of book) called ≡ None → fresh_id (core_of book) ≡ Some id
-        → sheets_of now ≡ map (changed_pool (sheet_named id called)) (sheets_of ws) ++ record { id = id; name = called; pool = []; cells = [] } ∷ [] → nds ≡ map (with_body_tree (changed_tree (sheet_named id called))) ds
+        → sheets_of now ≡ map (changed_pool (sheet_named id called)) (sheets_of ws) ++ record { id = id; name = called; pool = []; cells = []; tab = plain_tab } ∷ [] → nds ≡ map (with_body_tree (changed_tree (sheet_named id called))) ds
         → after now nds ≡ book_changed_by (with_added_sheet called) book
     added called id none fresh e f =
         of_parts now nds _ _ e f
@@ -356,7 +361,7 @@ module _ (name : List ℕ) (ws : List Worksheet) (ds : List Definition) (locale 
       pub placed_core : now ≡ updated_at (λ s. record s { pool = record { formulas = pool; is_whole = true } }) index ws → core_of (after now ds) ≡ core_of book
       placed_core e = ap core_of (placed pool e) ∙ core_of-pool n book index (sheet_of s) (in_book index s at) formula place pool there h.valid.pools
 
-      pub placed_held : now ≡ updated_at (λ s. record s { pool = record { formulas = pool; is_whole = true } }) index ws → IsPooled n (scene_in book) (Some s.id) formula → IsHeld name now ds locale language zone created tables
+      pub placed_held : now ≡ updated_at (λ s. record s { pool = record { formulas = pool; is_whole = true } }) index ws → IsPooled n (scene_in book) (Some s.id) formula → IsHeld about now ds locale language tables
       placed_held e pooled = held_after now ds (with_pool index pool book) (placed pool e) (placed_valid book h.valid index (sheet_of s) (in_book index s at) place pool formula there pooled)
 
   pub present : (index : ℕ) (row column : ℤ) (text : List ℕ) → update_refusal (core_of book) index row column text ≡ None → lacks_sheet (core_of book) index ≡ false
@@ -380,5 +385,5 @@ module _ (name : List ℕ) (ws : List Worksheet) (ds : List Definition) (locale 
           ap core_of written
           ∙ core_of-cell n book index (sheet_of s) (in_book index s at) (cell_formula n (core_of book) s.id row column (without_equals text)) place pool written_there h.valid.pools row column (λ id. cell_formula n (core_of book) id row column (without_equals text)) refl
 
-      pub written_held : update_refusal (core_of book) index row column text ≡ None → IsHeld name now ds locale language zone created tables
+      pub written_held : update_refusal (core_of book) index row column text ≡ None → IsHeld about now ds locale language tables
       written_held none = held_after now ds (with_cell index pool row column place book) written (written_valid book h.valid index (sheet_of s) (in_book index s at) place pool row column text none written_there)

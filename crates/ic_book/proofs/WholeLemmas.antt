@@ -31,7 +31,7 @@ use Rattle.ic_machine.specs.Content.{AnchorContent, FormulaContent, formula_in, 
 use Rattle.ic_machine.specs.Placed.{is_dynamic}
 use Rattle.ic_machine.specs.subjects.Sheets.{with_new_sheet}
 use Rattle.ic_machine.specs.subjects.Writing.{formula_content}
-use Rattle.ic_sheets.specs.Sheet.{BookSheet, IsValidPool, cells_of, kept_pool, sheet_core}
+use Rattle.ic_sheets.specs.Sheet.{BookSheet, IsValidPool, cells_of, kept_pool, plain_tab, sheet_core}
 use Rattle.ic_book.specs.Book.{Book, IsValidBook, core_of, notations_in, scene_in}
 use Rattle.ic_book.specs.Change.{book_changed_by, with_added_sheet, with_kept_pools, with_moved_sheet, with_name, with_removed_sheet, with_renamed_sheet, without_name}
 use Rattle.ic_book.specs.Whole.{held_cells, whole_of, whole_sheet}
@@ -164,7 +164,7 @@ with_sheets book sheets = record (whole_of book) { sheets = sheets }
 pub whole_added : (name : List ℕ) (book : Book) → whole_of (with_added_sheet name book) ≡ with_new_sheet name (whole_of book)
 whole_added name book =
     ap (with_sheets book)
-    (map-append (whole_sheet book.tables.kinds) book.sheets (record { id = greatest_id (core_of book) + 1; name = name; pool = []; cells = [] } ∷ [])
+    (map-append (whole_sheet book.tables.kinds) book.sheets (record { id = greatest_id (core_of book) + 1; name = name; pool = []; cells = []; tab = plain_tab } ∷ [])
     ∙ ap (λ id. map (whole_sheet book.tables.kinds) book.sheets ++ empty_sheet (id + 1) name ∷ []) (sym (whole_greatest book)))
 
 pub whole_renamed : (index : ℕ) (name : List ℕ) (book : Book) → whole_of (with_renamed_sheet index name book) ≡ changed.with_renamed_sheet index name (whole_of book)
@@ -214,6 +214,7 @@ found_book whole = record {
   locale = whole.locale;
   language = whole.language;
   zone = whole.zone;
+  theme = whole.theme;
   created = whole.metadata.created;
   tables = whole.tables;
 }

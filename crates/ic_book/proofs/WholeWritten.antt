@@ -58,7 +58,7 @@ use Rattle.ic_sheets.specs.Sheet.{BookSheet, IsValidPool, sheet_core}
 use Rattle.ic_book.specs.Book.{Book, IsValidBook, ModelState, core_of, notations_in, scene_in}
 use Rattle.ic_book.specs.Does.{DoesIn, IsDone, Refused, WantedIn}
 use Rattle.ic_book.specs.Fields.{no_fields}
-use Rattle.ic_book.specs.Refused.{Refuses, refusal_of}
+use Rattle.ic_book.specs.Refused.{Refuses}
 use Rattle.ic_book.specs.Served.{begins_with_sign, served_formula_step, served_writing_step}
 use Rattle.ic_book.specs.Whole.{held_cells, whole_of, whole_sheet}
 use Rattle.ic_book.specs.Written.{with_cell}
@@ -434,9 +434,9 @@ module _ (result : Result (Unit {0}) BookError) (old new : ModelState) (valid : 
         before = valid;
         after = subst IsValidBook (sym put.3) (written_valid old.book valid index found.0 found.1 put.1 put.0 row column text e put.2);
       }
-  writes_so (Err error) written e untouched same = record { done = told_so (refusal_of error) e; before = valid; after = subst IsValidBook (sym same) valid }
+  writes_so (Err error) written e untouched same = record { done = subst (Refused WantedIn (served_formula_step index (row, column) text (whole_of old.book)) old new) e (told_so (update_refusal (core_of old.book) index row column text) refl); before = valid; after = subst IsValidBook (sym same) valid }
     where
-      told_so : (o : Option core.Refusal) → update_refusal (core_of old.book) index row column text ≡ o → Refused WantedIn (served_formula_step index (row, column) text (whole_of old.book)) old new o
+      told_so : (o : Option core.Refusal) → update_refusal (core_of old.book) index row column text ≡ o → Refused WantedIn (served_formula_step index (row, column) text (whole_of old.book)) old new (option_map OfCore o)
       told_so None e = (write_accepted old.book valid index row column text e, same)
       told_so (Some r) e = (write_refused old.book valid index row column text r e, untouched r e)
 

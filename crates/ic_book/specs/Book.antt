@@ -7,11 +7,11 @@ use Rattle.ic_laws.specs.Notations.{Notations}
 use Rattle.ic_laws.specs.Refusal.{Refusal, InvalidLocale, InvalidLanguage, InvalidTimezone, first_refusal}
 use Rattle.ic_laws.specs.ValidCore.{IsValidCore}
 use Rattle.ic_laws.specs.declared.scene.Scene.{Scene}
-use Rattle.ic_sheets.specs.Sheet.{BookSheet, IsValidPool, sheet_core}
+use Rattle.ic_sheets.specs.Sheet.{BookSheet, IsValidPool, plain_tab, sheet_core}
 use Rattle.ic_tree.specs.Notations.{notations_of}
 
 -- a book: its name, its sheets and its definitions in their order, the ids of the locale and the language in force, the
--- zone, when it was made, and the tables that it borrows
+-- zone, the name of the theme, when it was made, and the tables that it borrows
 pub record Book : Type 0 where
   pub name : List ℕ
   pub sheets : List BookSheet
@@ -19,6 +19,7 @@ pub record Book : Type 0 where
   pub locale : List ℕ
   pub language : List ℕ
   pub zone : List ℕ
+  pub theme : List ℕ
   pub created : List ℕ
   pub tables : TableSet
 
@@ -56,15 +57,16 @@ base_name language =
 abbrev pub first_sheet_name_in : List ℕ → List ℕ
 first_sheet_name_in language = base_name language ++ codes "1"
 
--- a new book: one sheet, which has the id 1 and the number 1 in its name
+-- a new book: one sheet, which has the id 1 and the number 1 in its name, and a theme without a name
 abbrev pub new_book : List ℕ → List ℕ → List ℕ → List ℕ → List ℕ → TableSet → Book
 new_book name locale zone language created tables = record {
   name = name;
-  sheets = record { id = 1; name = first_sheet_name_in language; pool = []; cells = [] } ∷ [];
+  sheets = record { id = 1; name = first_sheet_name_in language; pool = []; cells = []; tab = plain_tab } ∷ [];
   definitions = [];
   locale = locale;
   language = language;
   zone = zone;
+  theme = [];
   created = created;
   tables = tables;
 }
@@ -80,6 +82,7 @@ new_book_refusal locale zone language tables =
 pub record IsSameBeside (old new : Book) : Type 0 where
   pub name : new.name ≡ old.name
   pub zone : new.zone ≡ old.zone
+  pub theme : new.theme ≡ old.theme
   pub created : new.created ≡ old.created
   pub tables : new.tables ≡ old.tables
 

@@ -3,7 +3,7 @@ use Rattle.std.specs.Prelude.{◌≡◌, ◌⊎◌, List, Option, Some, None, Re
 use Rattle.ic_laws.specs.Refusal as core
 use Rattle.ic_machine.specs.Book as machine
 use Rattle.ic_machine.specs.Book.{Stepped}
-use Rattle.ic_machine.specs.Refusal.{OfCore}
+use Rattle.ic_machine.specs.Refusal.{OfCore, Refusal}
 use Rattle.ic_machine.specs.Reply.{Field}
 use Rattle.ic_book.specs.Book.{IsValidBook, ModelState}
 use Rattle.ic_book.specs.Refused.{refusal_of}
@@ -31,8 +31,8 @@ Wants (WantedOr late) made old new = (IsDone made ⊎ (made ≡ Err (OfCore late
 Wants WantedIn made old new = IsDone made × (new.book ≡ old.book)
 
 -- a call answered an error that tells this refusal, or none: the step's refusal, or want of memory
-abbrev pub Refused : Memory → Stepped machine.Book → ModelState → ModelState → Option core.Refusal → Type 0
-Refused memory made old new (Some refusal) = (made ≡ Err (OfCore refusal)) × (new ≡ old)
+abbrev pub Refused : Memory → Stepped machine.Book → ModelState → ModelState → Option Refusal → Type 0
+Refused memory made old new (Some refusal) = (made ≡ Err refusal) × (new ≡ old)
 Refused memory made old new None = Wants memory made old new
 
 -- a call left what its step leaves and answered the step's fields, or answered why it didn't

@@ -6,19 +6,21 @@ use Rattle.ic_tables.specs.declared.locale.NamedLocale.{NamedLocale}
 use Rattle.ic_laws.specs.CoreBook.{Definition}
 use Rattle.ic_sheets.specs.Sheet.{sheet_of}
 use Rattle.ic_sheets.specs.declared.sheet.Worksheet.{Worksheet}
+use Rattle.ic_book.specs.declared.about.About.{About}
 use Rattle.ic_book.specs.Book.{Book, IsValidBook, ModelState}
 
-module _ (name : List ℕ) (sheets : List Worksheet) (definitions : List Definition) (locale : NamedLocale) (language : Language) (zone created : List ℕ) (tables : TableSet) where
+module _ (about : About) (sheets : List Worksheet) (definitions : List Definition) (locale : NamedLocale) (language : Language) (tables : TableSet) where
   -- the book that it holds
   abbrev pub held : Book
   held = record {
-    name = name;
+    name = about.name;
     sheets = map sheet_of sheets;
     definitions = definitions;
     locale = locale.id;
     language = language.code;
-    zone = zone;
-    created = created;
+    zone = about.zone;
+    theme = about.theme;
+    created = about.created;
     tables = tables;
   }
 

@@ -52,7 +52,7 @@ metadata_made created = record {
   last_modified = created;
 }
 
--- the whole book: one style, and a theme without a name
+-- the whole book: it has one style
 abbrev pub whole_of : Book → machine.Book
 whole_of book = record {
   sheets = map (whole_sheet book.tables.kinds) book.sheets;
@@ -61,7 +61,7 @@ whole_of book = record {
   language = book.language;
   zone = book.zone;
   styles = default_style ∷ [];
-  theme = [];
+  theme = book.theme;
   name = book.name;
   metadata = metadata_made book.created;
   tables = book.tables;

@@ -48,6 +48,12 @@ pub enum BookError {
     InvalidLanguage,
     /// The tables list no such zone.
     InvalidTimezone,
+    /// The number of rows or columns that stay in sight is below 0.
+    FrozenNegative,
+    /// A sheet has no more rows than are to stay in sight.
+    TooManyRows,
+    /// A sheet has no more columns than are to stay in sight.
+    TooManyColumns,
     /// Memory ran out.
     OutOfMemory,
 }
@@ -76,6 +82,9 @@ impl BookError {
             BookError::InvalidLocale => "Invalid locale",
             BookError::InvalidLanguage => "Invalid language",
             BookError::InvalidTimezone => "Invalid timezone",
+            BookError::FrozenNegative => "Frozen rows or columns cannot be negative",
+            BookError::TooManyRows => "Too many rows",
+            BookError::TooManyColumns => "Too many columns",
             BookError::OutOfMemory => "Out of memory",
         }
     }
@@ -109,6 +118,9 @@ impl BookError {
             BookError::InvalidLocale => "InvalidLocale",
             BookError::InvalidLanguage => "InvalidLanguage",
             BookError::InvalidTimezone => "InvalidTimezone",
+            BookError::FrozenNegative => "FrozenNegative",
+            BookError::TooManyRows => "TooManyRows",
+            BookError::TooManyColumns => "TooManyColumns",
             BookError::OutOfMemory => "OutOfMemory",
         }
     }

@@ -8,6 +8,7 @@
 //! machine is in `specs/Served`.
 #![tactic(auto)]
 
+mod about;
 mod error;
 mod formulas;
 mod law;

@@ -8,8 +8,10 @@ ghost use Rattle.ic_book.specs.Does.{DoesOnly};
 ghost use Rattle.ic_book.specs.Fields.{scope_field};
 ghost use Rattle.ic_book.specs.Refused.{Refuses};
 ghost use Rattle.ic_machine.specs.subjects.Sheets.{GetNewSheetId, sheet_step};
+ghost use Rattle.ic_sheets.specs.Sheet.{plain_tab};
 
 use crate::BookError;
+use crate::about::About;
 use crate::scene::BookScene;
 use ic_laws::{Finder, Formula, OutOfMemory, Text};
 use ic_names::Definitions;
@@ -24,14 +26,11 @@ use std::marker;
 pub struct Model<'a> {
     pub(crate) alloc: Global,
     pub(crate) tables: &'a Tables,
-    name: Text,
+    pub(crate) about: About,
     pub(crate) sheets: Sheets,
     pub(crate) names: Definitions,
     pub(crate) locale: &'a NamedLocale,
     pub(crate) language: &'a Language,
-    zone: Text,
-    /// When the book was made, as `Timestamp` displays it.
-    created: Text,
 }
 
 impl Drop for Model<'_> {
@@ -39,20 +38,16 @@ impl Drop for Model<'_> {
         let Self {
             alloc,
             tables: _,
-            name,
+            about,
             sheets,
             names,
             locale: _,
             language: _,
-            zone,
-            created,
         } = self;
         drop(alloc);
-        drop(name);
+        drop(about);
         drop(sheets);
         drop(names);
-        drop(zone);
-        drop(created);
     }
 }
 
@@ -67,9 +62,9 @@ impl<'a> marker::Model for Model<'a> {
 
     ghost coded = { Prim.hlevel (codes, formula.the_row.coded) };
 
-    ghost view = { λ m. held_state m.name m.sheets m.names m.locale.now m.language.now m.zone m.created m.tables.now };
+    ghost view = { λ m. held_state m.about m.sheets m.names m.locale.now m.language.now m.tables.now };
 
-    ghost invariant = { λ m. IsHeld m.name m.sheets m.names m.locale.now m.language.now m.zone m.created m.tables.now };
+    ghost invariant = { λ m. IsHeld m.about m.sheets m.names m.locale.now m.language.now m.tables.now };
 }
 
 impl<'a> Model<'a> {
@@ -102,16 +97,15 @@ impl<'a> Model<'a> {
             return Err(BookError::InvalidLanguage);
         };
         let sheets = first_sheet(alloc, language)?;
+        let about = about(alloc, name, timezone, moment)?;
         Ok(Model {
             alloc,
             tables,
-            name: Text::from_str(alloc, name)?,
+            about,
             sheets,
             names: Definitions::new(alloc),
             locale,
             language,
-            zone: Text::from_str(alloc, timezone)?,
-            created: moment_text(alloc, moment)?,
         })
     }
 
@@ -119,7 +113,7 @@ impl<'a> Model<'a> {
     pub fn created(&self) -> &Text
         ensures { result.now ≡ self.now.book.created }
     {
-        &self.created
+        &self.about.created
     }
 
     /// The id of the next new sheet: one more than the greatest id in use, of a sheet or of a definition that is local to
@@ -164,7 +158,7 @@ impl<'a> Model<'a> {
 /// The sheets of a new book: one, with the id 1, named by the language.
 fn first_sheet(alloc: Global, language: &Language) -> Result<Sheets, OutOfMemory>
     ensures { IfOk result (λ sheets. sheets
-        ≡ record { id = 1; name = first_sheet_name_in language.now.code; pool = record { formulas = []; is_whole = true }; cells = [] } ∷ []) }
+        ≡ record { id = 1; name = first_sheet_name_in language.now.code; pool = record { formulas = []; is_whole = true }; cells = []; tab = plain_tab } ∷ []) }
 {
     let mut sheets = Sheets::new(alloc);
     sheets.push(1, first_sheet_name(&language.code))?;
@@ -186,6 +180,28 @@ fn first_sheet_name(language: &Text) -> &'static str
     } else {
         "Sheet1"
     }
+}
+
+/// What a new workbook of this name has beside its contents: a theme without a name.
+fn about(
+    alloc: Global,
+    name: &str,
+    timezone: &str,
+    moment: Timestamp,
+) -> Result<About, OutOfMemory>
+    ensures { IfOk result (λ about. about ≡ record {
+      name = chars name.now;
+      zone = chars timezone.now;
+      theme = [];
+      created = about.created;
+    }) }
+{
+    Ok(About {
+        name: Text::from_str(alloc, name)?,
+        zone: Text::from_str(alloc, timezone)?,
+        theme: Text::from_str(alloc, "")?,
+        created: moment_text(alloc, moment)?,
+    })
 }
 
 /// The moment as `Timestamp` displays it.

@@ -1,12 +1,11 @@
 -- What is told of a call answers the command that it did.
 use Rattle.std.proofs.Common.{◌≡◌, ◌≢◌, ℕ, List, ◌++◌, Bool, false, true, String, Global, Option, Some, None, Result, Ok, Err, IfOk, OnErr, OnOk, unwrap_or, refl, ap, sym, subst, ◌∙◌}
-use Rattle.ic_laws.specs.Refusal as core
+use Rattle.ic_machine.specs.Refusal.{BadLine, Refusal}
 use Rattle.ic_laws.specs.declared.memory.OutOfMemory.{OutOfMemory}
 use Rattle.ic_machine.specs.Book as machine
 use Rattle.ic_machine.specs.Book.{Stepped}
 use Rattle.ic_machine.specs.Command.{Command}
 use Rattle.ic_machine.specs.Readers.{is_reader}
-use Rattle.ic_machine.specs.Refusal.{OfCore}
 use Rattle.ic_machine.specs.Reply.{Field, Reply, reply_bytes, reply_text}
 use Rattle.ic_machine.specs.Step.{outcome_of}
 use Rattle.ic_words.specs.Reply.{IsLineText}
@@ -21,12 +20,12 @@ use Rattle.ic_book.specs.Served.{served_command_step, served_step}
 use Rattle.ic_book.specs.Whole.{whole_of}
 
 -- every error but that memory ran out tells a refusal
-pub tells : (e : BookError) → e ≢ errors.OutOfMemory → (refusal : core.Refusal) × (refusal_of e ≡ Some refusal)
+pub tells : (e : BookError) → e ≢ errors.OutOfMemory → (refusal : Refusal) × (refusal_of e ≡ Some refusal)
 tells errors.OutOfMemory h = absurd (h refl)
-tells e h = (unwrap_or (refusal_of e) core.BadLine, refl)
+tells e h = (unwrap_or (refusal_of e) BadLine, refl)
 
 -- after an error the book is as it was
-refused_book : (wants : Memory) (made : Stepped machine.Book) (old new : ModelState) (refusal : Option core.Refusal) → Refused wants made old new refusal → new.book ≡ old.book
+refused_book : (wants : Memory) (made : Stepped machine.Book) (old new : ModelState) (refusal : Option Refusal) → Refused wants made old new refusal → new.book ≡ old.book
 refused_book wants made old new (Some refusal) h = ap (λ (m : ModelState). m.book) h.1
 refused_book Never made old new None h = absurd h
 refused_book Wanted made old new None h = ap (λ (m : ModelState). m.book) h.1
@@ -48,16 +47,16 @@ module _ {T : Type 0} (wants : Memory) (fields : T → List Field) (command : Co
         valid_after = did.after;
       }
 
-  pub told_refusal : (done : Result T BookError) (e : BookError) → done ≡ Err e → DoesStep wants (served_step (whole_of old.book) command) fields done old new → (refusal : core.Refusal) → refusal_of e ≡ Some refusal
-      → after ≡ before ++ reply_bytes (Err (OfCore refusal)) → IsAnswered command old new before after
+  pub told_refusal : (done : Result T BookError) (e : BookError) → done ≡ Err e → DoesStep wants (served_step (whole_of old.book) command) fields done old new → (refusal : Refusal) → refusal_of e ≡ Some refusal
+      → after ≡ before ++ reply_bytes (Err refusal) → IsAnswered command old new before after
   told_refusal done e is d refusal tells told =
       let did = subst (λ r. DoesStep wants (served_step (whole_of old.book) command) fields r old new) is d in
       let refused = subst (Refused wants (served_step (whole_of old.book) command) old new) tells did.done in
-      let made : served_command_step (whole_of old.book) (Some command) ≡ (whole_of old.book, Err (OfCore refusal)) = ap (outcome_of (whole_of old.book)) refused.0 in
+      let made : served_command_step (whole_of old.book) (Some command) ≡ (whole_of old.book, Err refusal) = ap (outcome_of (whole_of old.book)) refused.0 in
       record {
         book = ap (λ (m : ModelState). whole_of m.book) refused.1 ∙ sym (ap (λ (s : machine.Book × Reply). s.0) made);
         reply = told ∙ ap (λ (s : machine.Book × Reply). before ++ reply_bytes s.1) (sym made);
-        line = subst (λ (s : machine.Book × Reply). IsLineText (reply_text s.1)) (sym made) (refusal_line (OfCore refusal));
+        line = subst (λ (s : machine.Book × Reply). IsLineText (reply_text s.1)) (sym made) (refusal_line refusal);
         stays = subst (λ (s : machine.Book × Reply). Stays s.1 command old new) (sym made) refused.1;
         valid_before = did.before;
         valid_after = did.after;

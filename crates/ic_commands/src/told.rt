@@ -1,7 +1,6 @@
 //! What a call did, told by a reply.
 ghost use Rattle.std.specs.Prelude.{◌≡◌, ◌+◌, ◌++◌, ◌≤◌, Err, IfOk, OnErr, Some, string_bytes, string_capacity, string_len};
-ghost use Rattle.ic_laws.specs.Refusal.{Refusal};
-ghost use Rattle.ic_machine.specs.Refusal.{OfCore};
+ghost use Rattle.ic_machine.specs.Refusal.{Refusal};
 ghost use Rattle.ic_machine.specs.Reply.{reply_bytes};
 ghost use Rattle.ic_words.specs.Reply.{reply_room};
 ghost use Rattle.ic_book.specs.Refused.{refusal_of};
@@ -30,7 +29,7 @@ pub(crate) fn told<T: Fields>(
 fn refused(e: &BookError, reply: String) -> Result<String, OutOfMemory>
     requires { string_len reply + reply_room ≤ string_capacity reply }
     ensures ok { IfOk result (λ text. (refusal : Refusal) × (refusal_of e.now ≡ Some refusal)
-        × (string_bytes text ≡ string_bytes reply ++ reply_bytes (Err (OfCore refusal)))) }
+        × (string_bytes text ≡ string_bytes reply ++ reply_bytes (Err refusal))) }
     ensures err { OnErr result (e.now ≡ errors.OutOfMemory) }
 {
     match e {

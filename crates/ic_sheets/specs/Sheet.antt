@@ -16,6 +16,8 @@ use Rattle.ic_cells.specs.Cell.{formula_of}
 use Rattle.ic_cells.specs.declared.cell.ArrayKind.TheVariants as arrays
 use Rattle.ic_cells.specs.declared.cell.Cell.{Cell}
 use Rattle.ic_cells.specs.declared.cell.Cell.TheVariants as cells
+use Rattle.ic_cells.specs.declared.sheet.SheetState.TheVariants as states
+use Rattle.ic_cells.specs.declared.style.Color.TheVariants as colors
 use Rattle.ic_cells.specs.declared.value.FormulaValue.TheVariants as fvalues
 use Rattle.ic_grid.specs.Block.{is_in_sheet}
 use Rattle.ic_grid.specs.Calls.{can_write}
@@ -27,17 +29,23 @@ use Rattle.ic_pool.specs.Pool.{IsPlaced}
 use Rattle.ic_sheets.specs.declared.sheet.FormulaKind.{FormulaKind}
 use Rattle.ic_sheets.specs.declared.sheet.FormulaKind.TheVariants as kinds
 use Rattle.ic_sheets.specs.declared.sheet.Sheet.{Sheet}
+use Rattle.ic_sheets.specs.declared.tab.Tab.{Tab}
 
--- a sheet's id and name, its formulas in their places, and its cells with its rows, columns and merged cells
+-- a sheet that is seen, whose tab has no color, where nothing stays in sight and lines part the cells
+abbrev pub plain_tab : Tab
+plain_tab = record { state = states.Visible; color = colors.None; frozen_rows = pos 0; frozen_columns = pos 0; shows_grid_lines = true }
+
+-- a sheet's id and name, its formulas in their places, its cells with its rows, columns and merged cells, and its tab
 pub record BookSheet : Type 0 where
   pub id : ℕ
   pub name : List ℕ
   pub pool : List Formula
   pub grid : Grid
+  pub tab : Tab
 
 -- a sheet without what it keeps to find formulas by
 abbrev pub sheet_of : Sheet → BookSheet
-sheet_of sheet = record { id = sheet.id; name = sheet.name; pool = sheet.pool.formulas; grid = sheet.grid }
+sheet_of sheet = record { id = sheet.id; name = sheet.name; pool = sheet.pool.formulas; grid = sheet.grid; tab = sheet.tab }
 
 -- no cells and no merged cells, and nothing is set for a row or a column
 abbrev pub empty_grid : Grid

@@ -3,6 +3,8 @@
 
 mod sheet;
 mod sheets;
+mod tab;
 
 pub use sheet::{FormulaKind, Sheet};
 pub use sheets::Sheets;
+pub use tab::Tab;

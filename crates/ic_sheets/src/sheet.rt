@@ -1,8 +1,9 @@
 ghost use Rattle.std.specs.Prelude.{◌≡◌, ◌≤◌, ◌+◌, [], IfOk, OnErr, OnOk, false, is_some, length, true};
 ghost use Rattle.std.specs.FinMap as finite;
 ghost use Rattle.ic_pool.specs.Pool.{IsPlaced};
-ghost use Rattle.ic_sheets.specs.Sheet.{IsSameOrLooksUp, IsWritten, TakesCell, empty_grid, formula_cell, sheet_of};
+ghost use Rattle.ic_sheets.specs.Sheet.{IsSameOrLooksUp, IsWritten, TakesCell, empty_grid, formula_cell, plain_tab, sheet_of};
 
+use crate::Tab;
 use ic_cells::{ArrayKind, Cell, FormulaValue};
 use ic_grid::Grid;
 use ic_laws::{Formula, OutOfMemory, Text};
@@ -10,12 +11,13 @@ use ic_pool::{Pool, Steps};
 use std::alloc::Global;
 use std::sync::ledger::Ledger;
 
-/// A sheet: its id, its name, the formulas that it keeps, and its cells with its rows, columns and merged cells.
+/// A sheet: its id, its name, the formulas that it keeps, its cells with its rows, columns and merged cells, and its tab.
 pub struct Sheet {
     pub id: u32,
     pub name: Text,
     pub pool: Pool,
     pub grid: Grid,
+    pub tab: Tab,
 }
 
 impl Drop for Sheet {
@@ -25,10 +27,12 @@ impl Drop for Sheet {
             name,
             pool,
             grid,
+            tab,
         } = self;
         drop(name);
         drop(pool);
         drop(grid);
+        drop(tab);
     }
 }
 
@@ -58,15 +62,16 @@ fn formula_cell(kind: FormulaKind, f: usize, s: usize) -> Cell
 }
 
 impl Sheet {
-    /// A sheet that keeps no formulas and holds nothing.
+    /// A sheet that keeps no formulas and holds nothing, with a plain tab.
     pub fn new(alloc: Global, id: u32, name: Text) -> Sheet
-        ensures { result ≡ record { id = id; name = name; pool = record { formulas = []; is_whole = true }; grid = empty_grid } }
+        ensures { result ≡ record { id = id; name = name; pool = record { formulas = []; is_whole = true }; grid = empty_grid; tab = plain_tab } }
     {
         Sheet {
             id,
             name,
             pool: Pool::new(alloc),
             grid: Grid::new(alloc),
+            tab: Tab::plain(),
         }
     }
 

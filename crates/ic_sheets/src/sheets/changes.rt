@@ -8,7 +8,7 @@ ghost use Rattle.ic_laws.specs.Name.{agrees};
 ghost use Rattle.ic_pool.specs.Mentions.{SparesFound};
 ghost use Rattle.ic_pool.specs.Rewrites.{FitsPool};
 ghost use Rattle.ic_sheets.specs.Rewriting.{ArePrepared, FitOwn, FitSheets, IsPrepared, Makes, changed_pool, look_ups, looks_up_after, sheets_of, with_all_rewrites, with_own_rewrites, with_rewrites};
-ghost use Rattle.ic_sheets.specs.Sheet.{BookSheet, empty_grid};
+ghost use Rattle.ic_sheets.specs.Sheet.{BookSheet, empty_grid, plain_tab};
 ghost use Rattle.ic_sheets.specs.declared.sheet.Sheet.{Sheet};
 
 use super::Sheets;
@@ -23,7 +23,7 @@ impl Sheets {
     pub fn add_sheet(&mut self, id: u32, name: &str) -> Result<(), OutOfMemory>
         requires free { list_any (agrees (chars name.now)) (map (λ s. s.name) self.old) ≡ false }
         requires fresh { greatest (map (λ s. s.id) self.old) < id }
-        ensures ok { OnOk result (sheets_of self.new ≡ map (changed_pool (sheet_named id (chars name.now))) (sheets_of self.old) ++ record { id = id; name = chars name.now; pool = []; grid = empty_grid } ∷ []) }
+        ensures ok { OnOk result (sheets_of self.new ≡ map (changed_pool (sheet_named id (chars name.now))) (sheets_of self.old) ++ record { id = id; name = chars name.now; pool = []; grid = empty_grid; tab = plain_tab } ∷ []) }
         ensures looks_up { OnOk result (look_ups self.new ≡ map (looks_up_after (sheet_named id (chars name.now))) self.old ++ true ∷ []) }
         ensures err { OnErr result (self.new ≡ self.old) }
     {

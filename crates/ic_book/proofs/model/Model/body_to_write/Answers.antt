@@ -14,12 +14,12 @@ returns-in-Some-clause-body c = c.in-Some.ensures.1
 pub returns-in-Some-clause-refused : goal.returns-in-Some-clause-refused
 returns-in-Some-clause-refused c =
     subst (λ (m : ModelState). update_refusal (core_of m.book) c.args.sheet c.args.row c.args.column (chars c.args.text.now) ≡ None) c.self.view_is
-    (update_accepts (core_of (held c.self.inside.name c.self.inside.sheets c.self.inside.names c.self.inside.locale.now c.self.inside.language.now c.self.inside.zone c.self.inside.created c.self.inside.tables.now)) c.args.sheet c.args.row c.args.column (chars c.args.text.now) (there_is c.self.inside.sheets c.args.sheet (within_of c.self.inside.sheets c.len.result c.args.sheet c.len.ensures c.if-sheet-len.false)) (subst (λ r. is_row r ≡ true) (to_z-of_z w32 c.args.row c.ranges.row) (search (rules, arith))) (subst (λ r. is_column r ≡ true) (to_z-of_z w32 c.args.column c.ranges.column) (search (rules, arith))) c.in-Some.ensures.0)
+    (update_accepts (core_of (held c.self.inside.about c.self.inside.sheets c.self.inside.names c.self.inside.locale.now c.self.inside.language.now c.self.inside.tables.now)) c.args.sheet c.args.row c.args.column (chars c.args.text.now) (there_is c.self.inside.sheets c.args.sheet (within_of c.self.inside.sheets c.len.result c.args.sheet c.len.ensures c.if-sheet-len.false)) (subst (λ r. is_row r ≡ true) (to_z-of_z w32 c.args.row c.ranges.row) (search (rules, arith))) (subst (λ r. is_column r ≡ true) (to_z-of_z w32 c.args.column c.ranges.column) (search (rules, arith))) c.in-Some.ensures.0)
 
 pub returns-in-None-clause-refused : goal.returns-in-None-clause-refused
 returns-in-None-clause-refused c = (
   NotAFormula,
   refl,
   subst (λ (m : ModelState). update_refusal (core_of m.book) c.args.sheet c.args.row c.args.column (chars c.args.text.now) ≡ Some NotAFormula) c.self.view_is
-      (not_a_formula (core_of (held c.self.inside.name c.self.inside.sheets c.self.inside.names c.self.inside.locale.now c.self.inside.language.now c.self.inside.zone c.self.inside.created c.self.inside.tables.now)) c.args.sheet c.args.row c.args.column (chars c.args.text.now) (there_is c.self.inside.sheets c.args.sheet (within_of c.self.inside.sheets c.len.result c.args.sheet c.len.ensures c.if-sheet-len.false)) (subst (λ r. is_row r ≡ true) (to_z-of_z w32 c.args.row c.ranges.row) (search (rules, arith))) (subst (λ r. is_column r ≡ true) (to_z-of_z w32 c.args.column c.ranges.column) (search (rules, arith))) c.in-None.ensures),
+      (not_a_formula (core_of (held c.self.inside.about c.self.inside.sheets c.self.inside.names c.self.inside.locale.now c.self.inside.language.now c.self.inside.tables.now)) c.args.sheet c.args.row c.args.column (chars c.args.text.now) (there_is c.self.inside.sheets c.args.sheet (within_of c.self.inside.sheets c.len.result c.args.sheet c.len.ensures c.if-sheet-len.false)) (subst (λ r. is_row r ≡ true) (to_z-of_z w32 c.args.row c.ranges.row) (search (rules, arith))) (subst (λ r. is_column r ≡ true) (to_z-of_z w32 c.args.column c.ranges.column) (search (rules, arith))) c.in-None.ensures),
 )

@@ -10,4 +10,4 @@ use Rattle.ic_book.proofs.model.Model.scene.Goals as goal
 pub returns : goal.returns
 returns c =
     ap₂ (λ (ws : List Worksheet) (ds : List Definition). scene_of_parts ws ds) c.new.ensures.sheets c.new.ensures.names
-    ∙ (scene_held c.self.inside.sheets (held c.self.inside.name c.self.inside.sheets c.self.inside.names c.self.inside.locale.now c.self.inside.language.now c.self.inside.zone c.self.inside.created c.self.inside.tables.now) refl ∙ ap (λ (m : ModelState). scene_in m.book) c.self.view_is)
+    ∙ (scene_held c.self.inside.sheets (held c.self.inside.about c.self.inside.sheets c.self.inside.names c.self.inside.locale.now c.self.inside.language.now c.self.inside.tables.now) refl ∙ ap (λ (m : ModelState). scene_in m.book) c.self.view_is)

@@ -35,7 +35,7 @@ invariant_of-self-2 c =
     ∙ ap (λ t. update_refusal (core_of book) sheet row column (chars t)) (sym c.as_str.ensures.value)
     ∙ ap (λ (p : CellPlace). update_refusal (core_of book) sheet p.0 p.1 (chars c.as_str.result.now)) (sym cell)
     ∙ c.in_ok-body.ensures.refused in
-    let there = at_index c.as_slice.result.now c.self.inside.sheets sheet entry c.as_slice.ensures.sheets (there_of c.self.inside.sheets c.as_slice.result.now sheet c.as_slice.ensures.sheets (present c.self.inside.name c.self.inside.sheets c.self.inside.names c.self.inside.locale.now c.self.inside.language.now c.self.inside.zone c.self.inside.created c.self.inside.tables.now c.self.invariant sheet row column text none)) c.index-as_slice-sheet.is in
+    let there = at_index c.as_slice.result.now c.self.inside.sheets sheet entry c.as_slice.ensures.sheets (there_of c.self.inside.sheets c.as_slice.result.now sheet c.as_slice.ensures.sheets (present c.self.inside.about c.self.inside.sheets c.self.inside.names c.self.inside.locale.now c.self.inside.language.now c.self.inside.tables.now c.self.invariant sheet row column text none)) c.index-as_slice-sheet.is in
     let is =
     c.in_ok-formula.ensures
     ∙ ap (λ (s : Worksheet). cell_formula (notations_in book) (core_of book) s.id (to_z w32 (of_z w32 row)) (to_z w32 (of_z w32 column)) (chars c.in_ok-body.body.now)) (sym c.index-as_slice-sheet.is)
@@ -45,7 +45,7 @@ invariant_of-self-2 c =
     let after =
     c.in_ok-write.ensures.ok.3
     ∙ ap (λ (p : CellPlace). updated_at (λ (s : Worksheet). record s { pool = record { formulas = pool; is_whole = true }; cells = insert_entry place_cmp s.cells p place }) sheet c.self.inside.sheets) cell in
-    written_held c.self.inside.name c.self.inside.sheets c.self.inside.names c.self.inside.locale.now c.self.inside.language.now c.self.inside.zone c.self.inside.created c.self.inside.tables.now c.self.invariant c.write.new.self sheet entry there row column text c.in_ok-formula.formula place pool c.in_ok-write.ensures.ok.2 is after none
+    written_held c.self.inside.about c.self.inside.sheets c.self.inside.names c.self.inside.locale.now c.self.inside.language.now c.self.inside.tables.now c.self.invariant c.write.new.self sheet entry there row column text c.in_ok-formula.formula place pool c.in_ok-write.ensures.ok.2 is after none
 
 pub returns-clause-core : goal.returns-clause-core
 returns-clause-core c =
@@ -63,7 +63,7 @@ returns-clause-core c =
     ∙ ap (λ t. update_refusal (core_of book) sheet row column (chars t)) (sym c.as_str.ensures.value)
     ∙ ap (λ (p : CellPlace). update_refusal (core_of book) sheet p.0 p.1 (chars c.as_str.result.now)) (sym cell)
     ∙ c.in_ok-body.ensures.refused in
-    let there = at_index c.as_slice.result.now c.self.inside.sheets sheet entry c.as_slice.ensures.sheets (there_of c.self.inside.sheets c.as_slice.result.now sheet c.as_slice.ensures.sheets (present c.self.inside.name c.self.inside.sheets c.self.inside.names c.self.inside.locale.now c.self.inside.language.now c.self.inside.zone c.self.inside.created c.self.inside.tables.now c.self.invariant sheet row column text none)) c.index-as_slice-sheet.is in
+    let there = at_index c.as_slice.result.now c.self.inside.sheets sheet entry c.as_slice.ensures.sheets (there_of c.self.inside.sheets c.as_slice.result.now sheet c.as_slice.ensures.sheets (present c.self.inside.about c.self.inside.sheets c.self.inside.names c.self.inside.locale.now c.self.inside.language.now c.self.inside.tables.now c.self.invariant sheet row column text none)) c.index-as_slice-sheet.is in
     let is =
     c.in_ok-formula.ensures
     ∙ ap (λ (s : Worksheet). cell_formula (notations_in book) (core_of book) s.id (to_z w32 (of_z w32 row)) (to_z w32 (of_z w32 column)) (chars c.in_ok-body.body.now)) (sym c.index-as_slice-sheet.is)
@@ -73,7 +73,7 @@ returns-clause-core c =
     let after =
     c.in_ok-write.ensures.ok.3
     ∙ ap (λ (p : CellPlace). updated_at (λ (s : Worksheet). record s { pool = record { formulas = pool; is_whole = true }; cells = insert_entry place_cmp s.cells p place }) sheet c.self.inside.sheets) cell in
-    written_core c.self.inside.name c.self.inside.sheets c.self.inside.names c.self.inside.locale.now c.self.inside.language.now c.self.inside.zone c.self.inside.created c.self.inside.tables.now c.self.invariant c.write.new.self sheet entry there row column text c.in_ok-formula.formula place pool c.in_ok-write.ensures.ok.2 is after ∙ ap (λ (m : ModelState). record (core_of m.book) { sheets = updated_at (with_formula (notations_in m.book) (core_of m.book) row column (without_equals text)) sheet (core_of m.book).sheets }) c.self.view_is
+    written_core c.self.inside.about c.self.inside.sheets c.self.inside.names c.self.inside.locale.now c.self.inside.language.now c.self.inside.tables.now c.self.invariant c.write.new.self sheet entry there row column text c.in_ok-formula.formula place pool c.in_ok-write.ensures.ok.2 is after ∙ ap (λ (m : ModelState). record (core_of m.book) { sheets = updated_at (with_formula (notations_in m.book) (core_of m.book) row column (without_equals text)) sheet (core_of m.book).sheets }) c.self.view_is
 
 pub returns-clause-written : goal.returns-clause-written
 returns-clause-written c =
@@ -91,7 +91,7 @@ returns-clause-written c =
     ∙ ap (λ t. update_refusal (core_of book) sheet row column (chars t)) (sym c.as_str.ensures.value)
     ∙ ap (λ (p : CellPlace). update_refusal (core_of book) sheet p.0 p.1 (chars c.as_str.result.now)) (sym cell)
     ∙ c.in_ok-body.ensures.refused in
-    let there = at_index c.as_slice.result.now c.self.inside.sheets sheet entry c.as_slice.ensures.sheets (there_of c.self.inside.sheets c.as_slice.result.now sheet c.as_slice.ensures.sheets (present c.self.inside.name c.self.inside.sheets c.self.inside.names c.self.inside.locale.now c.self.inside.language.now c.self.inside.zone c.self.inside.created c.self.inside.tables.now c.self.invariant sheet row column text none)) c.index-as_slice-sheet.is in
+    let there = at_index c.as_slice.result.now c.self.inside.sheets sheet entry c.as_slice.ensures.sheets (there_of c.self.inside.sheets c.as_slice.result.now sheet c.as_slice.ensures.sheets (present c.self.inside.about c.self.inside.sheets c.self.inside.names c.self.inside.locale.now c.self.inside.language.now c.self.inside.tables.now c.self.invariant sheet row column text none)) c.index-as_slice-sheet.is in
     let is =
     c.in_ok-formula.ensures
     ∙ ap (λ (s : Worksheet). cell_formula (notations_in book) (core_of book) s.id (to_z w32 (of_z w32 row)) (to_z w32 (of_z w32 column)) (chars c.in_ok-body.body.now)) (sym c.index-as_slice-sheet.is)
@@ -101,14 +101,14 @@ returns-clause-written c =
     let after =
     c.in_ok-write.ensures.ok.3
     ∙ ap (λ (p : CellPlace). updated_at (λ (s : Worksheet). record s { pool = record { formulas = pool; is_whole = true }; cells = insert_entry place_cmp s.cells p place }) sheet c.self.inside.sheets) cell in
-    let now = held c.self.inside.name c.self.inside.sheets c.self.inside.names c.self.inside.locale.now c.self.inside.language.now c.self.inside.zone c.self.inside.created c.self.inside.tables.now in
-    let new = held c.self.inside.name c.write.new.self c.self.inside.names c.self.inside.locale.now c.self.inside.language.now c.self.inside.zone c.self.inside.created c.self.inside.tables.now in
+    let now = held c.self.inside.about c.self.inside.sheets c.self.inside.names c.self.inside.locale.now c.self.inside.language.now c.self.inside.tables.now in
+    let new = held c.self.inside.about c.write.new.self c.self.inside.names c.self.inside.locale.now c.self.inside.language.now c.self.inside.tables.now in
     subst (λ (m : ModelState). IfSome (slice_get m.book.sheets sheet) (λ s. (pool : List Formula) × (place : ℕ) × IsPlaced (cell_formula (notations_in m.book) (core_of m.book) s.id row column (without_equals text)) place s.pool pool × (new ≡ with_cell sheet pool row column place m.book))) c.self.view_is
     (subst (λ o. IfSome o (λ (s : BookSheet). (pool : List Formula) × (place : ℕ) × IsPlaced (cell_formula (notations_in now) (core_of now) s.id row column (without_equals text)) place s.pool pool × (new ≡ with_cell sheet pool row column place now))) (sym (slice_get-map sheet_of c.self.inside.sheets sheet ∙ ap (option_map sheet_of) there))
-    (pool, place, written_there c.self.inside.name c.self.inside.sheets c.self.inside.names c.self.inside.locale.now c.self.inside.language.now c.self.inside.zone c.self.inside.created c.self.inside.tables.now c.self.invariant c.write.new.self sheet entry there row column text c.in_ok-formula.formula place pool c.in_ok-write.ensures.ok.2 is after, written c.self.inside.name c.self.inside.sheets c.self.inside.names c.self.inside.locale.now c.self.inside.language.now c.self.inside.zone c.self.inside.created c.self.inside.tables.now c.self.invariant c.write.new.self sheet entry there row column text c.in_ok-formula.formula place pool c.in_ok-write.ensures.ok.2 is after))
+    (pool, place, written_there c.self.inside.about c.self.inside.sheets c.self.inside.names c.self.inside.locale.now c.self.inside.language.now c.self.inside.tables.now c.self.invariant c.write.new.self sheet entry there row column text c.in_ok-formula.formula place pool c.in_ok-write.ensures.ok.2 is after, written c.self.inside.about c.self.inside.sheets c.self.inside.names c.self.inside.locale.now c.self.inside.language.now c.self.inside.tables.now c.self.invariant c.write.new.self sheet entry there row column text c.in_ok-formula.formula place pool c.in_ok-write.ensures.ok.2 is after))
 
 pub returns-clause-beside : goal.returns-clause-beside
-returns-clause-beside c = subst (λ (m : ModelState). IsSameBeside m.book (held c.self.inside.name c.write.new.self c.self.inside.names c.self.inside.locale.now c.self.inside.language.now c.self.inside.zone c.self.inside.created c.self.inside.tables.now)) c.self.view_is (record { name = refl; zone = refl; created = refl; tables = refl })
+returns-clause-beside c = subst (λ (m : ModelState). IsSameBeside m.book (held c.self.inside.about c.write.new.self c.self.inside.names c.self.inside.locale.now c.self.inside.language.now c.self.inside.tables.now)) c.self.view_is (record { name = refl; zone = refl; created = refl; tables = refl })
 
 pub returns-clause-looks_up : goal.returns-clause-looks_up
 returns-clause-looks_up c = ap (map (λ (s : Worksheet). s.pool.is_whole)) c.in_ok-write.ensures.ok.3 ∙ whole_updated _ (λ s. refl) c.args.sheet c.self.inside.sheets ∙ ap (λ (m : ModelState). updated_at (λ b. true) c.args.sheet m.has_all) c.self.view_is
@@ -127,7 +127,7 @@ returns-clause-whole c =
     ∙ ap (λ t. update_refusal (core_of book) sheet row column (chars t)) (sym c.as_str.ensures.value)
     ∙ ap (λ (p : CellPlace). update_refusal (core_of book) sheet p.0 p.1 (chars c.as_str.result.now)) (sym cell)
     ∙ c.in_ok-body.ensures.refused in
-    let there = at_index c.as_slice.result.now c.self.inside.sheets sheet entry c.as_slice.ensures.sheets (there_of c.self.inside.sheets c.as_slice.result.now sheet c.as_slice.ensures.sheets (present c.self.inside.name c.self.inside.sheets c.self.inside.names c.self.inside.locale.now c.self.inside.language.now c.self.inside.zone c.self.inside.created c.self.inside.tables.now c.self.invariant sheet row column text none)) c.index-as_slice-sheet.is in
+    let there = at_index c.as_slice.result.now c.self.inside.sheets sheet entry c.as_slice.ensures.sheets (there_of c.self.inside.sheets c.as_slice.result.now sheet c.as_slice.ensures.sheets (present c.self.inside.about c.self.inside.sheets c.self.inside.names c.self.inside.locale.now c.self.inside.language.now c.self.inside.tables.now c.self.invariant sheet row column text none)) c.index-as_slice-sheet.is in
     ap (λ (ws : List Worksheet). slice_get (map (λ (s : Worksheet). s.pool.is_whole) ws) sheet) c.in_ok-write.ensures.ok.3 ∙ whole_at _ (λ s. refl) sheet c.self.inside.sheets entry there
 
 pub returns-in_err-body-clause-left : goal.returns-in_err-body-clause-left
@@ -139,5 +139,5 @@ returns-in_err-formula-clause-left c = at_err c.from_residual-in_err-formula.res
 pub returns-in_err-write-clause-left : goal.returns-in_err-write-clause-left
 returns-in_err-write-clause-left c =
     at_err c.from_residual-in_err-write.result _
-    (subst (λ (m : ModelState). LooksUpAsBefore c.args.sheet m (held_state c.self.inside.name c.write.new.self c.self.inside.names c.self.inside.locale.now c.self.inside.language.now c.self.inside.zone c.self.inside.created c.self.inside.tables.now)) c.self.view_is
+    (subst (λ (m : ModelState). LooksUpAsBefore c.args.sheet m (held_state c.self.inside.about c.write.new.self c.self.inside.names c.self.inside.locale.now c.self.inside.language.now c.self.inside.tables.now)) c.self.view_is
     (look_ups_left c.args.sheet c.self.inside.sheets c.write.new.self c.in_err-write.ensures.looks_up))

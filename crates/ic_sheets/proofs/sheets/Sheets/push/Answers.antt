@@ -8,14 +8,14 @@ use Rattle.ic_sheets.proofs.KeptLemmas.{kept_indexed, kept_pushed}
 use Rattle.ic_sheets.proofs.PlaceLemmas.{placed_pushed, placed_undone}
 use Rattle.ic_sheets.proofs.SearchLemmas.{ids, names}
 use Rattle.ic_sheets.specs.Index.{AreDangling}
-use Rattle.ic_sheets.specs.Sheet.{empty_grid}
+use Rattle.ic_sheets.specs.Sheet.{empty_grid, plain_tab}
 use Rattle.ic_sheets.specs.declared.sheet.Sheet.{Sheet}
 use Rattle.ic_sheets.proofs.sheets.Sheets.push.Goals as goal
 
 pub invariant_of-self-in-Ok : goal.invariant_of-self-in-Ok
 invariant_of-self-in-Ok c =
     let sheets = c.self.inside.list.items in
-    let s : Sheet = record { id = c.args.id; name = c.in_ok-name.name; pool = record { formulas = []; is_whole = true }; grid = empty_grid } in
+    let s : Sheet = record { id = c.args.id; name = c.in_ok-name.name; pool = record { formulas = []; is_whole = true }; grid = empty_grid; tab = plain_tab } in
     let named = c.in_ok-name.ensures in
     let free : list_any (agrees s.name) (names sheets) ≡ false = ap (λ n. list_any (agrees n) (names sheets)) named ∙ ap (λ xs. list_any (agrees (chars c.args.name.now)) (names xs)) c.self.view_is ∙ c.requires.free in
     let fresh : greatest (ids sheets) < s.id = subst (λ xs. greatest (ids xs) < c.args.id) (sym c.self.view_is) c.requires.fresh in

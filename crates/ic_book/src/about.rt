@@ -1,0 +1,28 @@
+use ic_laws::Text;
+
+/// What a workbook has beside its sheets, its definitions and its notation.
+pub struct About {
+    /// What it is called.
+    pub name: Text,
+    /// The name of its time zone, such as `Europe/Berlin`.
+    pub zone: Text,
+    /// The name of its theme.
+    pub theme: Text,
+    /// When it was made, as `Timestamp` displays it.
+    pub created: Text,
+}
+
+impl Drop for About {
+    fn drop(self) {
+        let Self {
+            name,
+            zone,
+            theme,
+            created,
+        } = self;
+        drop(name);
+        drop(zone);
+        drop(theme);
+        drop(created);
+    }
+}
