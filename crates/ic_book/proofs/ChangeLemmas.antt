@@ -20,7 +20,7 @@ use Rattle.ic_laws.specs.Scene.{key_of, same_key}
 use Rattle.ic_laws.specs.ValidCore.{IsValidCore}
 use Rattle.ic_laws.specs.declared.scene.Scene.{Scene}
 use Rattle.ic_sheets.specs.Rewriting.{changed_pool}
-use Rattle.ic_sheets.specs.Sheet.{BookSheet, IsValidPool, kept_pool, plain_tab, sheet_core}
+use Rattle.ic_sheets.specs.Sheet.{BookSheet, IsValidPool, empty_grid, kept_pool, plain_tab, sheet_core}
 use Rattle.ic_book.specs.Book.{Book, core_of, scene_in}
 use Rattle.ic_book.specs.Change.{changed_book, with_added_sheet, with_kept_pools, with_name, with_removed_sheet, with_renamed_sheet, without_name}
 use Rattle.ic_book.proofs.BookLemmas.{added_change, changed_in, greatest-kept, removed_change, renamed_change, same_scene_after}
@@ -42,12 +42,12 @@ module _ (n : Notations) (are : AreNotations n) (book : Book) (core : IsValidCor
 
   -- a book with a new sheet
   pub added_is : (name : List ℕ) (id : ℕ) → has_sheet (core_of book) name ≡ false → id ≡ greatest_id (core_of book) + 1
-      → changed_in n (with_added_sheet name) book ≡ record (changed_book (sheet_named id name) book) { sheets = map (changed_pool (sheet_named id name)) book.sheets ++ record { id = id; name = name; pool = []; cells = []; tab = plain_tab } ∷ [] }
+      → changed_in n (with_added_sheet name) book ≡ record (changed_book (sheet_named id name) book) { sheets = map (changed_pool (sheet_named id name)) book.sheets ++ record { id = id; name = name; pool = []; grid = empty_grid; tab = plain_tab } ∷ [] }
   added_is name id new is =
       let after : Scene = scene_in (with_added_sheet name book) in
       let naming : Naming (scene_in book) after (greatest_id (core_of book) + 1) name =
       subst (λ scene. Naming (scene_in book) scene (greatest_id (core_of book) + 1) name) (same_scene_after _ _ (added_change name) book) (add_naming (core_of book) name core.names_differ new) in
-      ap₂ (λ (kept : Book) (k : ℕ). let b : Book = record kept { sheets = kept.sheets ++ record { id = k; name = name; pool = []; cells = []; tab = plain_tab } ∷ [] } in b)
+      ap₂ (λ (kept : Book) (k : ℕ). let b : Book = record kept { sheets = kept.sheets ++ record { id = k; name = name; pool = []; grid = empty_grid; tab = plain_tab } ∷ [] } in b)
       (subst (λ k. with_kept_pools n (scene_in book) after book ≡ changed_book (sheet_named k name) book) (sym is)
       (kept_is after (sheet_named (greatest_id (core_of book) + 1) name) (named_becomes (scene_in book) after (greatest_id (core_of book) + 1) name naming)))
       (ap (λ k. k + 1) (greatest-kept n (scene_in book) after book) ∙ sym is)

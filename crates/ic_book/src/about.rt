@@ -1,4 +1,5 @@
-use ic_laws::Text;
+use ic_cells::Styles;
+use ic_laws::{Items, Text};
 
 /// What a workbook has beside its sheets, its definitions and its notation.
 pub struct About {
@@ -10,6 +11,10 @@ pub struct About {
     pub theme: Text,
     /// When it was made, as `Timestamp` displays it.
     pub created: Text,
+    /// By number, from 0.
+    pub styles: Styles,
+    /// The texts that its cells share, by number from 0.
+    pub strings: Items<Text>,
 }
 
 impl Drop for About {
@@ -19,10 +24,14 @@ impl Drop for About {
             zone,
             theme,
             created,
+            styles,
+            strings,
         } = self;
         drop(name);
         drop(zone);
         drop(theme);
         drop(created);
+        drop(styles);
+        drop(strings);
     }
 }

@@ -1,6 +1,6 @@
 -- Contents that are seen as others, where the one way to hold them is seen as the other: what the rules on arrays, spills
 -- and styles find among them is the same, what they make is seen as the same, and what holds of the seen ones holds of them.
-use Rattle.std.proofs.Common.{◌≡◌, ℤ, pos, List, [], ◌∷◌, map, Bool, true, false, cond, ◌&&◌, Option, Some, None, T, refl, sym, ap, ap₂, subst, ◌∙◌}
+use Rattle.std.proofs.Common.{◌≡◌, ℤ, suc, pos, length, List, [], ◌∷◌, map, Bool, true, false, cond, ◌&&◌, Option, Some, None, T, refl, sym, ap, ap₂, subst, ◌∙◌}
 use Rattle.std.specs.FinMap as finite
 use Rattle.std.specs.FinMap.{find, is_sorted}
 use Rattle.std.specs.FinMap.Entries.{below_all}
@@ -22,6 +22,14 @@ use Rattle.ic_grid.specs.Shape.{Holding, Shape, emptied, is_anchor, is_spill_of,
 use Rattle.ic_grid.specs.Style.{Columns, Rows, first_style, style_at}
 use Rattle.ic_grid.specs.declared.block.Array.{Array}
 use Rattle.ic_machine.specs.Alike.{HoldsAlike, seen_by}
+
+-- nothing stands in no contents
+pub entries-empty : (X : Type 0) → finite.entries (finite.empty {X = X} {R = place_cmp}) ≡ []
+entries-empty X = none (finite.entries (finite.empty {X = X} {R = place_cmp})) (sym (finite.len-entries (finite.empty {X = X} {R = place_cmp})) ∙ finite.len-empty place_cmp X)
+  where
+    none : (es : List (Place × X)) → length es ≡ 0 → es ≡ []
+    none [] e = refl
+    none (e ∷ es) no = let absurd_length : suc (length es) ≡ 0 = no in cc
 
 module _ {X Y : Type 0} (f : X → Y) where
   -- what stands where ----

@@ -125,7 +125,7 @@ of_content : (count : ℕ) (o : Option Content) → ((x : Content) → o ≡ Som
 of_content count None h = tt
 of_content count (Some x) h = h x refl
 
-number_below : (count : ℕ) (grid : Grid) (p : CellPlace) → HasGridStyles count grid → 0 < count → style_number_at grid p.0 p.1 < count
+pub number_below : (count : ℕ) (grid : Grid) (p : CellPlace) → HasGridStyles count grid → 0 < count → style_number_at grid p.0 p.1 < count
 number_below count grid p h z =
     number_or count (option_map style_of (finite.get grid.contents p)) (option_and_then (λ (r : RowProps). r.style) (finite.get grid.rows p.0)) (option_and_then (λ (c : ColumnProps). c.style) (finite.get grid.columns p.1))
     (of_content count (finite.get grid.contents p) (h.contents p)) (optional count (λ (r : RowProps). r.style) (finite.get grid.rows p.0) (h.rows p.0)) (optional count (λ (c : ColumnProps). c.style) (finite.get grid.columns p.1) (h.columns p.1)) z
@@ -147,7 +147,7 @@ place_clear true false others e = cc
 place_clear true true others e = (refl, refl)
 
 module _ (b : Book) (valid : IsValidBook b) where
-  write_stays : (index : ℕ) (p : CellPlace) (w : Sheet → Written) (causes : Causes)
+  pub write_stays : (index : ℕ) (p : CellPlace) (w : Sheet → Written) (causes : Causes)
       → ((s : Sheet) → slice_get b.sheets index ≡ Some s → is_row p.0 ≡ true → is_column p.1 ≡ true → IsGood (notations_in b) (scene_in b) s p (w s)) → StaysValid (write_step b index p w causes)
   write_stays index p w causes good =
       stays_found b valid index _
@@ -226,7 +226,7 @@ module _ (b : Book) (valid : IsValidBook b) where
         ((notations_are b.tables valid.tables).shown b.locale b.language p.0 p.1 valid.locale valid.language) (text ++ codes ")") t g (Some s.id)
     read_kept text None None h g = tt
 
-    text_good : (text : List ℕ) → IsGood (notations_in b) (scene_in b) s p (formula_written b s (formula_at_place b s p text))
+    pub text_good : (text : List ℕ) → IsGood (notations_in b) (scene_in b) s p (formula_written b s (formula_at_place b s p text))
     text_good text =
         formula_good (formula_at_place b s p text)
         (read_kept text (read_as (shown_at (notations_in b) (core_of b) p.0 p.1) text) (read_as (shown_at (notations_in b) (core_of b) p.0 p.1) (text ++ codes ")")) refl refl)

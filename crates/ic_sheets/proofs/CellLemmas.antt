@@ -10,7 +10,6 @@ use Rattle.ic_cells.specs.declared.cell.Cell.{Cell}
 use Rattle.ic_grid.proofs.ContentsLemmas.{same_contents, same_is, same_itself}
 use Rattle.ic_grid.specs.Arrays.{anchor_of}
 use Rattle.ic_grid.specs.Block.{same_place}
-use Rattle.ic_grid.specs.Calls.{Answer}
 use Rattle.ic_grid.specs.Contents.{Contents}
 use Rattle.ic_grid.specs.Prepare.{released_if, written}
 use Rattle.ic_grid.specs.Shape.{celled, is_loose, shape_of}
@@ -41,11 +40,6 @@ pub is_written : (formula : Formula) (kind : FormulaKind) (style : ℕ) (k : Cel
 is_written formula kind style k sheet pool grid place placed whole put =
     (place, placed, ap₂ (λ (b : Bool) (g : Grid). let after : Sheet = record sheet { pool = record { formulas = pool.formulas; is_whole = b }; grid = g } in after) whole put)
 
--- what a write does, that can't be refused and takes no memory
-pub wrote : {E : Type 0} (r : Result (Unit {0}) E) (P : Type 0) (there : Bool) (can : Answer) → OnOk r P → OnErr r (can ≡ Ok tt → there ≡ false) → can ≡ Ok tt → there ≡ true → P
-wrote (Ok done) P there can h absent free e = h
-wrote (Err error) P there can h absent free e = let no : true ≡ false = sym e ∙ absent free in cc
-
 none_there : {X : Type 0} (o : Option X) → is_some o ≡ false → o ≡ None
 none_there None e = refl
 none_there (Some x) e = cc
@@ -74,16 +68,16 @@ module _ (m : Contents Cell) (k : CellPlace) (free : is_some (finite.get m k) �
   put_there : (x : Cell) → finite.get (finite.insert m k x) k ≡ Some x
   put_there x = finite.get-insert place_cmp_total m k x k ∙ ap (λ t. cond t (Some x) (finite.get m k)) (same_itself k)
 
-  pub put_again : {A E : Type 0} (r : Result A E) (between after : Contents Cell) (x y : Cell) → between ≡ finite.insert m k x → OnOk r (after ≡ finite.insert between k y) → OnErr r (finite.get between k ≡ None) → after ≡ written celled k y m
-  put_again (Ok done) between after x y first second absent =
+  put_at : {A E : Type 0} (r : Result A E) (between after : Contents Cell) (x y : Cell) → between ≡ finite.insert m k x → OnOk r (after ≡ finite.insert between k y) → OnErr r (finite.get between k ≡ None) → after ≡ written celled k y m
+  put_at (Ok done) between after x y first second absent =
       second ∙ ap (λ (c : Contents Cell). finite.insert c k y) first ∙ put_twice x y ∙ sym (written_new y)
-  put_again (Err error) between after x y first second absent =
+  put_at (Err error) between after x y first second absent =
       let no : Some x ≡ None = sym (put_there x) ∙ ap (λ (c : Contents Cell). finite.get c k) (sym first) ∙ absent in
       cc
 
   -- put and taken out again, it is gone
-  pub put_and_gone : (between after : Contents Cell) (x : Cell) → between ≡ finite.insert m k x → after ≡ finite.remove between k → after ≡ m
-  put_and_gone between after x first second =
+  gone_at : (between after : Contents Cell) (x : Cell) → between ≡ finite.insert m k x → after ≡ finite.remove between k → after ≡ m
+  gone_at between after x first second =
       second ∙ ap (λ (c : Contents Cell). finite.remove c k) first
       ∙ same_contents _ _ (λ q.
       finite.get-remove place_cmp_total (finite.insert m k x) k q ∙ ap (cond (same_place q k) None) (finite.get-insert place_cmp_total m k x q) ∙ gone q (same_place q k) refl)
@@ -91,6 +85,17 @@ module _ (m : Contents Cell) (k : CellPlace) (free : is_some (finite.get m k) �
       gone : (q : CellPlace) (t : Bool) → same_place q k ≡ t → cond t None (cond t (Some x) (finite.get m q)) ≡ finite.get m q
       gone q true e = sym (ap (finite.get m) (same_is q k e) ∙ none)
       gone q false e = refl
+
+  -- the same by the place as it is stored
+  module _ (stored : CellPlace) (same : stored ≡ k) (between after : Contents Cell) (x : Cell) (first : between ≡ finite.insert m stored x) where
+    pub put_again : {A E : Type 0} (r : Result A E) (y z : Cell) → OnOk r (after ≡ finite.insert between stored y) → OnErr r (finite.get between stored ≡ None) → y ≡ z → after ≡ written celled k z m
+    put_again r y z second absent is =
+        put_at r between after x y (subst (λ q. between ≡ finite.insert m q x) same first) (subst (λ q. OnOk r (after ≡ finite.insert between q y)) same second)
+        (subst (λ q. OnErr r (finite.get between q ≡ None)) same absent)
+        ∙ ap (λ (c : Cell). written celled k c m) is
+
+    pub put_and_gone : after ≡ finite.remove between stored → after ≡ m
+    put_and_gone second = gone_at between after x (subst (λ q. between ≡ finite.insert m q x) same first) (subst (λ q. after ≡ finite.remove between q) same second)
 
 pub all_as_before : (sheet : Sheet) (pool : PoolState) (cells : Contents Cell) → pool ≡ sheet.pool → cells ≡ sheet.grid.cells → ◌≡◌ {A = Sheet} (record sheet { pool = pool; grid = record sheet.grid { cells = cells } }) sheet
 all_as_before sheet pool cells same there = ap₂ (λ (p : PoolState) (c : Contents Cell). let after : Sheet = record sheet { pool = p; grid = record sheet.grid { cells = c } } in after) same there

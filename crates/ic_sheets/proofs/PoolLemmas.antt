@@ -30,8 +30,12 @@ formula_in-map f blank [] at = sym blank
 formula_in-map f blank (x ∷ pool) zero = refl
 formula_in-map f blank (x ∷ pool) (suc at) = formula_in-map f blank pool at
 
+-- a cell with its formula, if it has one
+abbrev one_cell : List Formula → CellPlace → Option ℕ → Cells
+one_cell pool place o = option_to_list (option_map (λ at. (place, formula_in pool at)) o)
+
 one_cell-map : (f : Formula → Formula) → f (formulas.Raw []) ≡ formulas.Raw [] → (pool : List Formula) (place : CellPlace) (o : Option ℕ)
-    → option_to_list (option_map (λ at. (place, formula_in (map f pool) at)) o) ≡ mapped_cells f (option_to_list (option_map (λ at. (place, formula_in pool at)) o))
+    → one_cell (map f pool) place o ≡ mapped_cells f (one_cell pool place o)
 one_cell-map f blank pool place None = refl
 one_cell-map f blank pool place (Some at) = ap (λ (g : Formula). let all : Cells = (place, g) ∷ [] in all) (formula_in-map f blank pool at)
 
@@ -113,7 +117,7 @@ IsBelow count None = Unit {0}
 IsBelow count (Some at) = at < count
 
 one_same : (before after : List Formula) → ((k : ℕ) → k < length before → formula_in after k ≡ formula_in before k) → (place : CellPlace) (o : Option ℕ) → IsBelow (length before) o
-    → option_to_list (option_map (λ at. (place, formula_in after at)) o) ≡ option_to_list (option_map (λ at. (place, formula_in before at)) o)
+    → one_cell after place o ≡ one_cell before place o
 one_same before after same place None h = refl
 one_same before after same place (Some at) h = ap (λ (g : Formula). let all : Cells = (place, g) ∷ [] in all) (same at h)
 

@@ -32,8 +32,7 @@ impl Sheets {
         self.places.insert(id, place)?;
         match put_id(&mut self.ids, key, id) {
             Ok(()) => {
-                self.list
-                    .push_reserved(Sheet::new(self.alloc, id, name));
+                self.list.push_reserved(Sheet::new(self.alloc, id, name));
                 self.greatest = id;
                 Ok(())
             }
