@@ -1,12 +1,12 @@
 -- A valid book: its core and its pools, and that it stays valid over each change.
-use Rattle.std.proofs.Common.{◌≡◌, ℕ, zero, suc, ◌<◌, List, [], ◌∷◌, map, true, false, not, length, Option, Some, None, Ok, refl, sym, ap, subst, ◌∙◌, arith}
+use Rattle.std.proofs.Common.{◌≡◌, ℕ, ◌+◌, ◌<◌, ◌≤◌, List, [], ◌∷◌, map, true, false, not, length, Option, Some, None, Ok, refl, sym, ap, subst, ◌∙◌, arith}
 use Rattle.std.proofs.lemmas.Option.{slice_get-map}
 use Rattle.std.specs.FinMap as finite
 use Rattle.std.specs.List.{AllByRecursion, slice_get}
 use Rattle.std.specs.Prelude.{option_map}
 use Rattle.ic_laws.proofs.core.Lists.{all_pushed, all_removed, all_updated}
 use Rattle.ic_laws.specs.Command.{AddSheet, Command, DeleteDefinedName, DeleteSheet, MoveSheet, NewDefinedName, RenameSheetByIndex, SetLanguage, SetLocale}
-use Rattle.ic_laws.specs.CoreBook.{CellPlace, CoreBook, Definition}
+use Rattle.ic_laws.specs.CoreBook.{CellPlace, CoreBook, Definition, greatest_id}
 use Rattle.ic_laws.specs.CoreStep as core_step
 use Rattle.ic_laws.specs.CoreStep.{add_sheet_refusal, delete_name_refusal, delete_refusal, index_of_definition, move_refusal, new_definition, new_name_refusal, rename_refusal, scope_or_none, updated_at}
 use Rattle.ic_laws.specs.FormulaReading.{Body, body_of}
@@ -116,8 +116,8 @@ module _ (book : Book) (valid : IsValidBook book) where
       let after : Scene = scene_in (with_added_sheet name book) in
       record {
         whole = subst valid_machine.IsValidBook (sym (whole_changed (with_added_sheet name) (with_new_sheet name) (whole_added name) book)) (added_whole name e);
-        strings = all_pushed (λ (s : BookSheet). HasStrings (length book.strings) s.grid) _ _ (grids_kept (HasStrings (length book.strings)) n (scene_in book) after book.sheets valid.strings) (no_strings (length book.strings));
-        plain = all_pushed (λ (s : BookSheet). IsPlain s.grid) _ _ (grids_kept IsPlain n (scene_in book) after book.sheets valid.plain) is_plain;
+        strings = all_pushed (λ (s : BookSheet). HasStrings (length book.strings) s.grid) (map (kept_pool n (scene_in book) after) book.sheets) (record { id = greatest_id (core_of (with_kept_pools n (scene_in book) after book)) + 1; name = name; pool = []; grid = empty_grid; tab = plain_tab }) (grids_kept (HasStrings (length book.strings)) n (scene_in book) after book.sheets valid.strings) (no_strings (length book.strings));
+        plain = all_pushed (λ (s : BookSheet). IsPlain s.grid) (map (kept_pool n (scene_in book) after) book.sheets) (record { id = greatest_id (core_of (with_kept_pools n (scene_in book) after book)) + 1; name = name; pool = []; grid = empty_grid; tab = plain_tab }) (grids_kept IsPlain n (scene_in book) after book.sheets valid.plain) is_plain;
       }
 
   renamed_whole : (index : ℕ) (name : List ℕ) → rename_refusal core index name ≡ None → valid_machine.IsValidBook (changed.changed_by (changed.with_renamed_sheet index name) whole)
@@ -129,8 +129,8 @@ module _ (book : Book) (valid : IsValidBook book) where
       let after : Scene = scene_in (with_renamed_sheet index name book) in
       record {
         whole = subst valid_machine.IsValidBook (sym (whole_changed (with_renamed_sheet index name) (changed.with_renamed_sheet index name) (whole_renamed index name) book)) (renamed_whole index name e);
-        strings = all_updated (λ (s : BookSheet). HasStrings (length book.strings) s.grid) (λ s. record s { name = name }) (λ s h. h) index _ (grids_kept (HasStrings (length book.strings)) n (scene_in book) after book.sheets valid.strings);
-        plain = all_updated (λ (s : BookSheet). IsPlain s.grid) (λ s. record s { name = name }) (λ s h. h) index _ (grids_kept IsPlain n (scene_in book) after book.sheets valid.plain);
+        strings = all_updated (λ (s : BookSheet). HasStrings (length book.strings) s.grid) (λ s. record s { name = name }) (λ s h. h) index (map (kept_pool n (scene_in book) after) book.sheets) (grids_kept (HasStrings (length book.strings)) n (scene_in book) after book.sheets valid.strings);
+        plain = all_updated (λ (s : BookSheet). IsPlain s.grid) (λ s. record s { name = name }) (λ s h. h) index (map (kept_pool n (scene_in book) after) book.sheets) (grids_kept IsPlain n (scene_in book) after book.sheets valid.plain);
       }
 
   removed_whole : (index : ℕ) → delete_refusal core index ≡ None → valid_machine.IsValidBook (changed.changed_by (changed.with_removed_sheet index) whole)
@@ -142,8 +142,8 @@ module _ (book : Book) (valid : IsValidBook book) where
       let after : Scene = scene_in (with_removed_sheet index book) in
       record {
         whole = subst valid_machine.IsValidBook (sym (whole_changed (with_removed_sheet index) (changed.with_removed_sheet index) (whole_removed index) book)) (removed_whole index e);
-        strings = all_removed (λ (s : BookSheet). HasStrings (length book.strings) s.grid) _ index (grids_kept (HasStrings (length book.strings)) n (scene_in book) after book.sheets valid.strings);
-        plain = all_removed (λ (s : BookSheet). IsPlain s.grid) _ index (grids_kept IsPlain n (scene_in book) after book.sheets valid.plain);
+        strings = all_removed (λ (s : BookSheet). HasStrings (length book.strings) s.grid) (map (kept_pool n (scene_in book) after) book.sheets) index (grids_kept (HasStrings (length book.strings)) n (scene_in book) after book.sheets valid.strings);
+        plain = all_removed (λ (s : BookSheet). IsPlain s.grid) (map (kept_pool n (scene_in book) after) book.sheets) index (grids_kept IsPlain n (scene_in book) after book.sheets valid.plain);
       }
 
   moved_whole : (from to : ℕ) → move_refusal core from to ≡ None → valid_machine.IsValidBook (changed.with_moved_sheet from to whole)
@@ -233,9 +233,10 @@ module _ (book : Book) (valid : IsValidBook book) where
     longer q None h = tt
     longer q (Some k) h =
         let grown = has_placed formula place sheet.pool pool placed in
-        let more = grown.longer in
-        let less = h.0 in
-        (omega (arith, less, more), subst (λ (f : Formula). IsKeptFormula n (machine.scene_in whole) (Some sheet.id) q.0 q.1 f) (sym (grown.others k h.0)) h.1)
+        let more : length sheet.pool ≤ length pool = grown.longer in
+        let less : k < length sheet.pool = h.0 in
+        let below : k < length pool = omega (arith, less, more) in
+        (below, subst (λ (f : Formula). IsKeptFormula n (machine.scene_in whole) (Some sheet.id) q.0 q.1 f) (sym (grown.others k h.0)) h.1)
 
     new_holds : HoldsOf n (machine.scene_in whole) (length whole.styles) new
     new_holds =

@@ -31,12 +31,41 @@ use Rattle.ic_book.specs.Change.{book_changed_by, with_added_sheet, with_languag
 use Rattle.ic_book.specs.Does.{Does, DoesOnly, DoesOr, DoesStep, IsDone, Made, Never, Refused, Wanted, WantedOr}
 use Rattle.ic_book.specs.Fields.{fields_of_listed, listed_fields, no_fields, scope_field, string_field}
 use Rattle.ic_book.specs.Names.{Listed, listed, listed_definition, listed_names}
-use Rattle.ic_book.specs.Refused.{Refuses, RefusesOnly, RefusesOr, refusal_of}
+use Rattle.ic_book.specs.Refused.{Refuses, RefusesOnly, RefusesOr, TellsCore, refusal_of}
 use Rattle.ic_book.specs.Whole.{whole_of}
 use Rattle.ic_book.specs.declared.error.BookError.{BookError}
 use Rattle.ic_book.specs.declared.error.BookError.TheVariants as errors
 use Rattle.ic_book.proofs.BookValid.{added_valid, defined_valid, in_language, in_locale, moved_valid, removed_valid, renamed_valid, undefined_valid}
 use Rattle.ic_book.proofs.WholeLemmas.{whole_added, whole_changed, whole_core, whole_defined, whole_moved, whole_removed, whole_renamed, whole_undefined}
+
+-- what an error tells of the core machine's refusals it tells of all
+pub told_whole : (e : BookError) (refusal : Option Refusal) → TellsCore e refusal → option_map OfCore refusal ≡ refusal_of e
+told_whole errors.BadLine refusal h = ap (option_map OfCore) h
+told_whole errors.InvalidSheet refusal h = ap (option_map OfCore) h
+told_whole errors.InvalidRow refusal h = ap (option_map OfCore) h
+told_whole errors.InvalidColumn refusal h = ap (option_map OfCore) h
+told_whole errors.SheetIndexTooLarge refusal h = ap (option_map OfCore) h
+told_whole errors.TargetTooLarge refusal h = ap (option_map OfCore) h
+told_whole errors.InvalidSheetName refusal h = ap (option_map OfCore) h
+told_whole errors.SheetExists refusal h = ap (option_map OfCore) h
+told_whole errors.SheetNotFound refusal h = ap (option_map OfCore) h
+told_whole errors.OnlySheet refusal h = ap (option_map OfCore) h
+told_whole errors.IdsUsedUp refusal h = ap (option_map OfCore) h
+told_whole errors.InvalidName refusal h = ap (option_map OfCore) h
+told_whole errors.InvalidScope refusal h = ap (option_map OfCore) h
+told_whole errors.NameExists refusal h = ap (option_map OfCore) h
+told_whole errors.NameNotFound refusal h = ap (option_map OfCore) h
+told_whole errors.InvalidNameFormula refusal h = ap (option_map OfCore) h
+told_whole errors.NotAFormula refusal h = ap (option_map OfCore) h
+told_whole errors.InvalidLocale refusal h = ap (option_map OfCore) h
+told_whole errors.InvalidLanguage refusal h = ap (option_map OfCore) h
+told_whole errors.InvalidTimezone refusal h = ap (option_map OfCore) h
+told_whole errors.MergedPart refusal h = absurd h
+told_whole errors.ArrayPart refusal h = absurd h
+told_whole errors.FrozenNegative refusal h = absurd h
+told_whole errors.TooManyRows refusal h = absurd h
+told_whole errors.TooManyColumns refusal h = absurd h
+told_whole errors.OutOfMemory refusal h = ap (option_map OfCore) h
 
 -- A step of the core machine, seen as one of the whole, where nothing but this refuses it. ----
 
@@ -59,7 +88,7 @@ module _ {T : Type 0} (refusal : Option Refusal) (book : CoreBook) (told : List 
 
   made_wanted : (result : Result T BookError) → Refuses result refusal → IfOk result Leaves → OnErr result (new ≡ old) → Made Wanted made fields old new result
   made_wanted (Ok value) e leaves same = accepted value e leaves
-  made_wanted (Err error) e leaves same = subst (Refused Wanted made old new) e (told_so refusal refl)
+  made_wanted (Err error) e leaves same = subst (Refused Wanted made old new) (told_whole error refusal e) (told_so refusal refl)
     where
       told_so : (o : Option Refusal) → refusal ≡ o → Refused Wanted made old new (option_map OfCore o)
       told_so None e = (done e, same)
@@ -67,11 +96,11 @@ module _ {T : Type 0} (refusal : Option Refusal) (book : CoreBook) (told : List 
 
   made_never : (result : Result T BookError) → RefusesOnly result refusal → IfOk result Leaves → OnErr result (new ≡ old) → Made Never made fields old new result
   made_never (Ok value) e leaves same = accepted value e leaves
-  made_never (Err error) e leaves same = subst (Refused Never made old new) (sym e.1) (made_so (Some e.0) e.2, same)
+  made_never (Err error) e leaves same = subst (Refused Never made old new) (told_whole error (Some e.0) e.1) (made_so (Some e.0) e.2, same)
 
   made_or : (late : Refusal) (result : Result T BookError) → RefusesOr late result refusal → IfOk result Leaves → OnErr result (new ≡ old) → Made (WantedOr late) made fields old new result
   made_or late (Ok value) e leaves same = accepted value e leaves
-  made_or late (Err error) (inl e) leaves same = subst (Refused (WantedOr late) made old new) e (told_so refusal refl)
+  made_or late (Err error) (inl e) leaves same = subst (Refused (WantedOr late) made old new) (told_whole error refusal e) (told_so refusal refl)
     where
       told_so : (o : Option Refusal) → refusal ≡ o → Refused (WantedOr late) made old new (option_map OfCore o)
       told_so None e = (inl (done e), same)

@@ -1,18 +1,21 @@
 -- The grid of a sheet: what a write leaves of each cell, that it is a grid where its whole sheet is valid, and the style that
 -- is written.
-use Rattle.std.proofs.Common.{◌≡◌, ℕ, ◌<◌, ◌≤◌, List, [], ◌∷◌, Bool, true, false, cond, not, length, take, Option, Some, None, Ok, refl, if◌then◌else◌, sym, ap, ap₂, subst, ◌∙◌, arith}
+use Rattle.std.proofs.Common.{◌≡◌, ℕ, ◌<◌, ◌≤◌, List, [], ◌∷◌, Bool, true, false, cond, not, length, take, Option, Some, None, Result, Ok, Err, IsErr, IsErrAnd, refl, if◌then◌else◌, sym, ap, ap₂, subst, ◌∙◌, arith}
 use Rattle.std.proofs.lemmas.Bool.{and_from}
 use Rattle.std.proofs.lemmas.Option.{slice_get-map, slice_get_within}
 use Rattle.std.specs.FinMap as finite
 use Rattle.std.specs.List.{AllByRecursion, slice_get}
-use Rattle.std.specs.Prelude.{◌&&◌, ◌++◌, is_some, option_and_then, option_map}
+use Rattle.std.specs.Prelude.{◌&&◌, ◌++◌, bytes_eq, is_some, option_and_then, option_map}
 use Rattle.ic_laws.proofs.core.CellWritten.{place_cmp_total}
 use Rattle.ic_laws.specs.CoreBook.{CellPlace}
+use Rattle.ic_laws.specs.FormulaReading.{is_formula_text}
 use Rattle.ic_laws.specs.Position.{is_column, is_row}
-use Rattle.ic_cells.proofs.StyleLemmas.{is_style-Decides}
-use Rattle.ic_cells.specs.Style.{default_style, first_place, is_style, style_at, style_number, with_quote_prefix, with_style_in}
+use Rattle.std.proofs.lemmas.Slice.Eq.{bytes_eq-Decides}
+use Rattle.ic_cells.specs.Style.{default_style, first_place, is_color, is_flag, is_style, style_at, style_number, with_quote_prefix, with_style_in}
 use Rattle.ic_cells.specs.declared.cell.Cell.{Cell}
 use Rattle.ic_cells.specs.declared.cell.Cell.TheVariants as cells
+use Rattle.ic_cells.specs.declared.style.Color.{Color}
+use Rattle.ic_cells.specs.declared.style.Color.TheVariants as colors
 use Rattle.ic_cells.specs.declared.style.Style.{Style}
 use Rattle.ic_cells.specs.Cell.{style_of}
 use Rattle.ic_grid.proofs.WriteLemmas.{after_release, released_at}
@@ -34,7 +37,7 @@ use Rattle.ic_machine.proofs.ValidLemmas.{HoldsOf, holds_at}
 use Rattle.ic_machine.proofs.WritingSteps.{number_below}
 use Rattle.ic_machine.specs.Book as machine
 use Rattle.ic_machine.specs.Content.{content_of, held}
-use Rattle.ic_machine.specs.Refusal.{ArrayPart, InvalidColumn, InvalidRow, MergedPart, NotAFormula, first_refusal}
+use Rattle.ic_machine.specs.Refusal.{ArrayPart, InvalidColumn, InvalidRow, MergedPart, NotAFormula, Refusal, first_refusal}
 use Rattle.ic_machine.specs.Styling.{Numbered, numbered, restyled}
 use Rattle.ic_machine.specs.subjects.Writing.{unquoted}
 use Rattle.ic_sheets.specs.Sheet.{BookSheet, TakesCell, formula_cell, with_cell_in}
@@ -42,7 +45,9 @@ use Rattle.ic_sheets.specs.declared.sheet.FormulaKind.{FormulaKind}
 use Rattle.ic_sheets.specs.declared.sheet.FormulaKind.TheVariants as kinds
 use Rattle.ic_sheets.proofs.CellLemmas.{formula_loose}
 use Rattle.ic_book.specs.Book.{Book, HasString, HasStrings, IsPlain, IsValidBook, notations_in, scene_in, whole_of, whole_sheet}
+use Rattle.ic_book.specs.Refused.{TellsOnly, refusal_of}
 use Rattle.ic_book.specs.Written.{text_causes}
+use Rattle.ic_book.specs.declared.error.BookError.{BookError}
 
 -- What holds of each cell, and of an empty one, and of a formula's that is reset, holds after a write. ----
 
@@ -171,9 +176,53 @@ text_clear true true false true e h = cc
 text_clear true true false false false h = cc
 text_clear true true false false true h = (refl, refl, refl, refl, refl)
 
+-- What refuses a text, by what refuses the cell. ----
+
+pub cell_free : (covered fixed : Bool) → Ok tt ≡ refused_by covered grid_errors.MergedPart (refused_by fixed grid_errors.ArrayPart (Ok tt)) → first_refusal ((covered, MergedPart) ∷ (fixed, ArrayPart) ∷ []) ≡ None
+cell_free true fixed e = cc
+cell_free false true e = cc
+cell_free false false e = refl
+
+pub cell_merged : (covered fixed : Bool) → Err grid_errors.MergedPart ≡ refused_by covered grid_errors.MergedPart (refused_by fixed grid_errors.ArrayPart (Ok tt))
+    → first_refusal ((covered, MergedPart) ∷ (fixed, ArrayPart) ∷ []) ≡ Some MergedPart
+cell_merged true fixed e = refl
+cell_merged false true e = cc
+cell_merged false false e = cc
+
+pub text_taken : (row column covered fixed is : Bool) → row ≡ true → column ≡ true → first_refusal ((covered, MergedPart) ∷ (fixed, ArrayPart) ∷ []) ≡ None → is ≡ true
+    → first_refusal ((not row, InvalidRow) ∷ (not column, InvalidColumn) ∷ (covered, MergedPart) ∷ (fixed, ArrayPart) ∷ (not is, NotAFormula) ∷ []) ≡ None
+text_taken false column covered fixed is r c free e = cc
+text_taken true false covered fixed is r c free e = cc
+text_taken true true true fixed is r c free e = cc
+text_taken true true false true is r c free e = cc
+text_taken true true false false false r c free e = cc
+text_taken true true false false true r c free e = refl
+
+pub no_text : (row column covered fixed is : Bool) → row ≡ true → column ≡ true → first_refusal ((covered, MergedPart) ∷ (fixed, ArrayPart) ∷ []) ≡ None → is ≡ false
+    → first_refusal ((not row, InvalidRow) ∷ (not column, InvalidColumn) ∷ (covered, MergedPart) ∷ (fixed, ArrayPart) ∷ (not is, NotAFormula) ∷ []) ≡ Some NotAFormula
+no_text false column covered fixed is r c free e = cc
+no_text true false covered fixed is r c free e = cc
+no_text true true true fixed is r c free e = cc
+no_text true true false true is r c free e = cc
+no_text true true false false false r c free e = refl
+no_text true true false false true r c free e = cc
+
+pub cell_told : (row column covered fixed is : Bool) (r : Refusal) → row ≡ true → column ≡ true → first_refusal ((covered, MergedPart) ∷ (fixed, ArrayPart) ∷ []) ≡ Some r
+    → first_refusal ((not row, InvalidRow) ∷ (not column, InvalidColumn) ∷ (covered, MergedPart) ∷ (fixed, ArrayPart) ∷ (not is, NotAFormula) ∷ []) ≡ Some r
+cell_told false column covered fixed is q r c e = cc
+cell_told true false covered fixed is q r c e = cc
+cell_told true true true fixed is q r c e = e
+cell_told true true false true is q r c e = e
+cell_told true true false false is q r c e = cc
+
+-- an error that is passed on tells the same
+pub told_again : {T : Type 0} (r : Result T BookError) (e : BookError) (o : Option Refusal) → IsErr r × IsErrAnd r (λ f. f ≡ e) → (told : Refusal) × (refusal_of e ≡ Some told) × (o ≡ Some told) → TellsOnly r o
+told_again (Ok x) e o h t = let no : false ≡ true = h.0 in cc
+told_again (Err f) e o h t = (t.0, ap refusal_of h.1 ∙ t.1, t.2)
+
 pub takes_text : (grid : Grid) (place : CellPlace) (text : List ℕ) → IsGrid grid → first_refusal (text_causes grid place text) ≡ None → TakesCell place grid
 takes_text grid place text whole none =
-    let clear = text_clear (is_row place.0) (is_column place.1) (is_covered grid.merged_cells place) (is_fixed_at celled grid.cells place) _ none in
+    let clear = text_clear (is_row place.0) (is_column place.1) (is_covered grid.merged_cells place) (is_fixed_at celled grid.cells place) (is_formula_text text) none in
     record {
       whole = whole;
       inside = and_from _ _ clear.0 clear.1;
@@ -185,12 +234,24 @@ takes_text grid place text whole none =
 abbrev restyled_by : Bool → List Style → ℕ → Numbered
 restyled_by same styles number = if same then record { number = number; styles = styles } else numbered (unquoted (style_at styles number)) styles
 
-is_same : (s : Style) → s.quote_prefix ≡ false → is_style (unquoted s) s ≡ true
-is_same s e = (is_style-Decides (unquoted s) s).1 (ap (λ q. let t : Style = record s { quote_prefix = q } in t) (sym e))
+flag_itself : (b : Bool) → is_flag b b ≡ true
+flag_itself true = refl
+flag_itself false = refl
 
-is_other : (s : Style) → s.quote_prefix ≡ true → (b : Bool) → is_style (unquoted s) s ≡ b → is_style (unquoted s) s ≡ false
-is_other s e false f = f
-is_other s e true f = let same = (is_style-Decides (unquoted s) s).0 f in let no : false ≡ true = ap (λ (t : Style). t.quote_prefix) same ∙ e in cc
+color_itself : (c : Color) → is_color c c ≡ true
+color_itself colors.None = refl
+color_itself (colors.Rgb t) = (bytes_eq-Decides t t).1 refl
+
+is_same : (s : Style) → s.quote_prefix ≡ false → is_style (unquoted s) s ≡ true
+unfolding is_style
+is_same s e =
+    and_from _ _ (and_from _ _ (and_from _ _ ((bytes_eq-Decides s.num_fmt s.num_fmt).1 refl) (ap (is_flag false) e)) (flag_itself s.bold)) (color_itself s.fill)
+
+is_other : (s : Style) → s.quote_prefix ≡ true → is_style (unquoted s) s ≡ false
+unfolding is_style
+is_other s e =
+    ap (λ q. bytes_eq s.num_fmt s.num_fmt && is_flag false q && is_flag s.bold s.bold && is_color s.fill s.fill) e
+    ∙ ap (λ (b : Bool). b && is_flag s.bold s.bold && is_color s.fill s.fill) (no_and (bytes_eq s.num_fmt s.num_fmt))
 
 pub unquoted_kept : (styles : List Style) (number : ℕ) → (style_at styles number).quote_prefix ≡ false → restyled unquoted number styles ≡ record { number = number; styles = styles }
 unquoted_kept styles number e =
@@ -198,7 +259,7 @@ unquoted_kept styles number e =
 
 pub unquoted_new : (styles : List Style) (number : ℕ) → (style_at styles number).quote_prefix ≡ true → restyled unquoted number styles ≡ numbered (unquoted (style_at styles number)) styles
 unquoted_new styles number e =
-    ap (λ b. restyled_by b styles number) (is_other (style_at styles number) e _ refl)
+    ap (λ b. restyled_by b styles number) (is_other (style_at styles number) e)
 
 -- and taken back
 take_all : {X : Type 0} (xs : List X) → take (length xs) xs ≡ xs

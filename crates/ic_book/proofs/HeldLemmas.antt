@@ -4,7 +4,8 @@ use Rattle.std.specs.Prelude.{max, option_and_then, position, unwrap_or, remove,
 use Rattle.std.specs.Borrow.{Bor}
 use Rattle.std.specs.FinMap as finite
 use Rattle.std.specs.List.{AllByRecursion, slice_get}
-use Rattle.std.proofs.lemmas.Option.{slice_get-map, slice_get_read}
+use Rattle.std.proofs.lemmas.List.{length-map}
+use Rattle.std.proofs.lemmas.Option.{slice_get-map, slice_get_read, slice_get_within}
 use Rattle.ic_laws.proofs.keeping.Accepted.{none_holds}
 use Rattle.ic_laws.proofs.keeping.Deletes.{delete_dangles}
 use Rattle.ic_laws.proofs.keeping.Moves.{move_keeps}
@@ -16,7 +17,7 @@ use Rattle.ic_laws.specs.CoreStep.{add_sheet_causes, add_sheet_refusal, changed_
 use Rattle.ic_laws.specs.Greatest.{greatest}
 use Rattle.ic_laws.specs.Name.{agrees, is_sheet_name}
 use Rattle.ic_laws.specs.Notations.{AreNotations, Notations}
-use Rattle.ic_laws.specs.Refusal.{IdsUsedUp, InvalidLanguage, InvalidLocale, InvalidSheet, SheetExists, first_refusal}
+use Rattle.ic_laws.specs.Refusal.{IdsUsedUp, InvalidLanguage, InvalidLocale, InvalidSheet, Refusal, SheetExists, first_refusal}
 use Rattle.ic_laws.specs.declared.scene.Scene.{Scene}
 use Rattle.ic_laws.specs.declared.scene.SheetName.{SheetName}
 use Rattle.ic_laws.proofs.core.KeptBook.{mentioned}
@@ -30,16 +31,19 @@ use Rattle.ic_names.specs.Named.{names_scene, scopes_of}
 use Rattle.ic_sheets.proofs.RewritingLemmas.{read_there}
 use Rattle.ic_sheets.specs.Rewriting.{changed_pool, sheets_of}
 use Rattle.ic_sheets.specs.Sheet as sheets
-use Rattle.ic_sheets.specs.Sheet.{BookSheet, HasPlaces, IsValidPool, cells_of, empty_grid, formula_cell, plain_tab, sheet_core, sheet_of, with_cell_in}
+use Rattle.ic_sheets.specs.Sheet.{BookSheet, HasPlaces, IsValidPool, TakesCell, cells_of, empty_grid, formula_cell, plain_tab, sheet_core, sheet_of, with_cell_in}
 use Rattle.ic_sheets.specs.declared.sheet.FormulaKind.{FormulaKind}
 use Rattle.ic_pool.specs.Pool.{IsPlaced}
 use Rattle.ic_laws.specs.declared.tree.Formula.{Formula}
 use Rattle.ic_cells.specs.Style.{default_style}
 use Rattle.ic_cells.specs.declared.style.Style.{Style}
+use Rattle.ic_grid.specs.Shape.{celled}
+use Rattle.ic_grid.specs.Style.{style_at}
 use Rattle.ic_machine.specs.Refusal as machine
 use Rattle.ic_laws.specs.ValidCore.{IsPooled}
 use Rattle.ic_laws.proofs.core.Lists.{updated_seen}
 use Rattle.ic_book.specs.Written.{WritesFormula, kind_of, pool_at, refusal_in, text_causes, with_cell, with_pool, write_refusal, written_formula, written_style}
+use Rattle.ic_book.proofs.GridLemmas.{its_grid, style_below, takes_text}
 use Rattle.ic_book.proofs.WholeWritten.{written_valid}
 use Rattle.ic_book.proofs.WrittenLemmas.{core_of-pool, one_of_all}
 use Rattle.ic_sheets.specs.declared.sheet.Sheet.{Sheet as HeldSheet}
@@ -51,7 +55,7 @@ use Rattle.ic_book.proofs.BookLemmas.{moved-map}
 use Rattle.ic_book.proofs.BookValid.{core_valid, placed_valid, pools_valid}
 use Rattle.ic_book.proofs.ChangeLemmas.{added_is, defined_is, removed_is, renamed_is, undefined_is}
 use Rattle.ic_book.proofs.ModelLemmas.{position-map, scene_is}
-use Rattle.ic_book.specs.Refused.{Refuses, refusal_of}
+use Rattle.ic_book.specs.Refused.{Refuses, TellsCore}
 use Rattle.ic_book.specs.Scene.{scene_of_parts}
 use Rattle.ic_book.specs.declared.error.BookError.{BookError}
 use Rattle.ic_book.specs.declared.error.BookError.TheVariants as errors
@@ -168,10 +172,14 @@ pub option_map-twice : {A B C : Type 0} (f : A → B) (g : B → C) (o : Option 
 option_map-twice f g None = refl
 option_map-twice f g (Some x) = refl
 
+-- where memory ran out nothing refused
+pub none_told : {e : BookError} {refusal : Option Refusal} → refusal ≡ None → e ≡ errors.OutOfMemory → TellsCore e refusal
+none_told {e} {refusal} none is = subst (λ x. TellsCore x refusal) (sym is) none
+
 -- an error that is want of memory refuses nothing
 pub no_memory : (r : Result (Unit {0}) BookError) → IsErr r × IsErrAnd r (λ e. e ≡ errors.OutOfMemory) → Refuses r None
 no_memory (Ok done) h = let no : false ≡ true = h.0 in cc
-no_memory (Err e) h = sym (ap refusal_of h.1)
+no_memory (Err e) h = none_told refl h.1
 
 -- what formulas can mention among these sheets and definitions
 pub scene_held : (ws : List HeldSheet) (book : Book) → map sheet_of ws ≡ book.sheets → scene_of_parts ws book.definitions ≡ scene_of (core_of book)
@@ -181,6 +189,18 @@ scene_held ws book same =
 -- the sheet at an index of a slice
 pub at_index : (slice ws : List HeldSheet) (i : ℕ) (s : HeldSheet) → slice ≡ ws → true ≡ nat_lt i (length slice) → s ≡ get_or slice i s → slice_get ws i ≡ Some s
 at_index slice ws i s same within read = subst (λ xs. slice_get xs i ≡ Some s) same (slice_get_read slice (length slice) i s refl (search (rules, arith)) read)
+
+-- past the end there is none
+past_end : (xs : List HeldSheet) (i : ℕ) → nat_lt i (length xs) ≡ false → slice_get xs i ≡ None
+past_end [] i e = refl
+past_end (x ∷ xs) zero e = let no : true ≡ false = sym (is_less zero (suc (length xs)) (omega arith)) ∙ e in cc
+past_end (x ∷ xs) (suc i) e = past_end xs i (same_less i (length xs) ∙ e)
+  where
+    same_less : (m k : ℕ) → nat_lt m k ≡ nat_lt (suc m) (suc k)
+    same_less m k = search (rules, arith)
+
+pub none_at : (slice ws : List HeldSheet) (i : ℕ) → slice ≡ ws → nat_lt i (length slice) ≡ false → slice_get ws i ≡ None
+none_at slice ws i same past = past_end ws i (subst (λ xs. nat_lt i (length xs) ≡ false) same past)
 
 -- and the one that was read there is it
 pub read_is : (slice ws : List HeldSheet) (i : ℕ) (s sheet : HeldSheet) → slice ≡ ws → i < length ws → s ≡ get_or slice i s → slice_get ws i ≡ Some sheet → s ≡ sheet
@@ -393,3 +413,34 @@ module _ (about : About) (ws : List HeldSheet) (ds : List Definition) (locale : 
   -- the sheet that nothing refuses
   pub refused_in : (index : ℕ) (place : CellPlace) (text : List ℕ) (s : HeldSheet) → slice_get ws index ≡ Some s → write_refusal book index place text ≡ machine.first_refusal (text_causes s.grid place text)
   refused_in index place text s at = ap (refusal_in place text) (in_book index s at)
+
+  -- a text that nothing refuses finds its sheet, which takes it
+  module _ (index : ℕ) (place : CellPlace) (text : List ℕ) (none : write_refusal (held about ws ds locale language tables) index place text ≡ None) where
+    some_sheet : (o : Option BookSheet) → refusal_in place text o ≡ None → (s : BookSheet) × (o ≡ Some s)
+    some_sheet None e = cc
+    some_sheet (Some s) e = (s, refl)
+
+    pub is_within : index < length ws
+    is_within =
+        let found = some_sheet (slice_get book.sheets index) none in
+        subst (λ k. index < k) (length-map ws sheet_of) (slice_get_within book.sheets index found.0 found.1)
+
+    pub entry_at : (slice : List HeldSheet) (s : HeldSheet) → slice ≡ ws → s ≡ get_or slice index s → slice_get ws index ≡ Some s
+    entry_at slice s same read = at_index slice ws index s same (there_of ws slice index same (there_is ws index is_within)) read
+
+    module _ (s : HeldSheet) (at : slice_get ws index ≡ Some s) where
+      pub clear_at : machine.first_refusal (text_causes s.grid place text) ≡ None
+      clear_at = sym (refused_in index place text s at) ∙ none
+
+      pub takes_there : IfSome (slice_get ws index) (λ (s : HeldSheet). TakesCell place s.grid)
+      takes_there = subst (λ o. IfSome o (λ (s : HeldSheet). TakesCell place s.grid)) (sym at) (takes_text s.grid place text (its_grid book h.valid index (sheet_of s) (in_book index s at)) clear_at)
+
+  pub style_within : (index : ℕ) (place : CellPlace) (s : HeldSheet) → slice_get ws index ≡ Some s → style_at celled s.grid.cells s.grid.rows s.grid.columns place < length about.styles
+  style_within index place s at = style_below book h.valid index (sheet_of s) (in_book index s at) place
+
+  -- the same book, where styles that were added are taken back
+  pub book_again : (styles : List Style) (now : List HeldSheet) → styles ≡ about.styles → sheets_of now ≡ sheets_of ws → held (record about { styles = styles }) now ds locale language tables ≡ held about ws ds locale language tables
+  book_again styles now same sheets = ap₂ (λ (ss : List BookSheet) (st : List Style). let b : Book = record book { sheets = ss; styles = st } in b) sheets same
+
+  pub held_again : (styles : List Style) (now : List HeldSheet) → styles ≡ about.styles → sheets_of now ≡ sheets_of ws → IsHeld (record about { styles = styles }) now ds locale language tables
+  held_again styles now same sheets = record { valid = subst IsValidBook (sym (book_again styles now same sheets)) h.valid; locale_found = h.locale_found; language_found = h.language_found }

@@ -17,10 +17,10 @@ use Rattle.ic_laws.specs.Refusal.{InvalidName, InvalidNameFormula, InvalidScope,
 use Rattle.ic_names.proofs.NamesFacts.{position_none, some_position}
 use Rattle.ic_sheets.specs.Sheet.{sheet_core, sheet_of}
 use Rattle.ic_sheets.specs.declared.sheet.Sheet.{Sheet as HeldSheet}
-use Rattle.ic_book.specs.Refused.{RefusesOr, refusal_of}
+use Rattle.ic_book.specs.Refused.{RefusesOr}
 use Rattle.ic_book.specs.declared.error.BookError.{BookError}
 use Rattle.ic_book.specs.declared.error.BookError.TheVariants as errors
-use Rattle.ic_book.proofs.HeldLemmas.{found_by_id}
+use Rattle.ic_book.proofs.HeldLemmas.{found_by_id, none_told}
 
 -- ---- the sheet of a scope
 
@@ -71,7 +71,7 @@ module _ (n : Notations) (core : CoreBook) (name : List ℕ) (index : Option ℕ
       where
         by_body : (o : Option Body) → body_of n core text ≡ o → RefusesOr InvalidNameFormula {T = T} (Err e) (new_name_refusal n core name index text)
         by_body None none = inr (no_body free none, h.1)
-        by_body (Some body) typed = inl (ap (option_map OfCore) (name_accepted free body typed) ∙ sym (ap refusal_of h.1))
+        by_body (Some body) typed = inl (none_told (name_accepted free body typed) h.1)
 
   -- where nothing refuses it, no definition has its key
   pub key_free : (id : Option ℕ) → scope_of core index ≡ Some id → new_name_refusal n core name index text ≡ None → list_any (is_named name id) core.definitions ≡ false
@@ -80,7 +80,7 @@ module _ (n : Notations) (core : CoreBook) (name : List ℕ) (index : Option ℕ
 -- after the checks only want of memory is left
 pub accepted_then : {T : Type 0} (r : Result T BookError) (refusal : Option Refusal) → refusal ≡ None → IsErr r × IsErrAnd r (λ e. e ≡ errors.OutOfMemory) → RefusesOr InvalidNameFormula r refusal
 accepted_then (Ok value) refusal none h = none
-accepted_then (Err e) refusal none h = inl (ap (option_map OfCore) none ∙ sym (ap refusal_of h.1))
+accepted_then (Err e) refusal none h = inl (none_told none h.1)
 
 -- ---- what refuses a deletion
 

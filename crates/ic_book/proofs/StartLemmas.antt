@@ -1,5 +1,5 @@
 -- The start of a book, and small facts of its calls.
-use Rattle.std.proofs.Common.{◌≡◌, ℕ, ◌+◌, ◌^◌, ◌<◌, ◌≤◌, ◌++◌, ◌∷◌, [], List, true, false, Option, Some, None, SomeIff, IfSome, is_some, is_err, option_map, Result, Ok, Err, MatchResult, All, codes, bytes_eq, refl, arith, if◌then◌else◌}
+use Rattle.std.proofs.Common.{◌≡◌, ℕ, ◌+◌, ◌^◌, ◌<◌, ◌≤◌, ◌++◌, ◌∷◌, [], List, true, false, Option, Some, None, SomeIff, IfSome, is_some, is_err, option_map, Result, Ok, Err, MatchResult, All, codes, bytes_eq, refl, sym, ap, subst, arith, if◌then◌else◌}
 use Rattle.std.proofs.lemmas.List.Elements.{All-weaker}
 use Rattle.ic_laws.specs.Name.{is_sheet_name}
 use Rattle.ic_laws.specs.Greatest.{greatest}

@@ -217,7 +217,7 @@ module _ (book : Book) (valid : IsValidBook book) (index : ℕ) (place : CellPla
     formula_is : its_formula s ≡ formula
     formula_is =
         ap₂ (λ (c : CoreBook) (body : List ℕ). cell_formula (notations_in book) c s.id place.0 place.1 body) (whole_core book)
-        (ap (λ o. unwrap_or o []) typed_is ∙ body_so (in_force_there book valid).0 text (text_clear _ _ _ _ _ none).4)
+        (ap (λ o. unwrap_or o []) typed_is ∙ body_so (in_force_there book valid).0 text (text_clear (is_row place.0) (is_column place.1) (is_covered s.grid.merged_cells place) (is_fixed_at celled s.grid.cells place) (is_formula_text text) none).4)
 
     abbrev sheet_with : Formula → List Formula → ℕ → Numbered → machine.Sheet
     sheet_with f p i by = with_content place p (formula_content kinds f i by.number) (seen s)

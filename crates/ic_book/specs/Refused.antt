@@ -1,5 +1,5 @@
 -- What a call's error says of the refusal that holds.
-use Rattle.std.specs.Prelude.{◌≡◌, ◌⊎◌, ℕ, List, Option, Some, None, Result, Ok, Err, codes, option_map}
+use Rattle.std.specs.Prelude.{◌≡◌, ◌⊎◌, ℕ, List, Option, Some, None, Result, Ok, Err, codes}
 use Rattle.std.specs.Option.{option_map_or}
 use Rattle.ic_laws.specs.Refusal as core
 use Rattle.ic_machine.specs.Refusal as machine
@@ -51,21 +51,46 @@ abbrev pub TellsOnly : {T : Type 0} → Result T BookError → Option Refusal �
 TellsOnly (Ok value) refusal = refusal ≡ None
 TellsOnly (Err e) refusal = (told : Refusal) × (refusal_of e ≡ Some told) × (refusal ≡ Some told)
 
--- The refusals of the core machine, by which private calls say why they refuse. ----
+-- What an error tells where the core machine says what refuses: this refusal, or none where memory ran out. Other errors
+-- don't come there. ----
+
+abbrev pub TellsCore : BookError → Option core.Refusal → Type 0
+TellsCore errors.BadLine refusal = refusal ≡ Some core.BadLine
+TellsCore errors.InvalidSheet refusal = refusal ≡ Some core.InvalidSheet
+TellsCore errors.InvalidRow refusal = refusal ≡ Some core.InvalidRow
+TellsCore errors.InvalidColumn refusal = refusal ≡ Some core.InvalidColumn
+TellsCore errors.SheetIndexTooLarge refusal = refusal ≡ Some core.SheetIndexTooLarge
+TellsCore errors.TargetTooLarge refusal = refusal ≡ Some core.TargetTooLarge
+TellsCore errors.InvalidSheetName refusal = refusal ≡ Some core.InvalidSheetName
+TellsCore errors.SheetExists refusal = refusal ≡ Some core.SheetExists
+TellsCore errors.SheetNotFound refusal = refusal ≡ Some core.SheetNotFound
+TellsCore errors.OnlySheet refusal = refusal ≡ Some core.OnlySheet
+TellsCore errors.IdsUsedUp refusal = refusal ≡ Some core.IdsUsedUp
+TellsCore errors.InvalidName refusal = refusal ≡ Some core.InvalidName
+TellsCore errors.InvalidScope refusal = refusal ≡ Some core.InvalidScope
+TellsCore errors.NameExists refusal = refusal ≡ Some core.NameExists
+TellsCore errors.NameNotFound refusal = refusal ≡ Some core.NameNotFound
+TellsCore errors.InvalidNameFormula refusal = refusal ≡ Some core.InvalidNameFormula
+TellsCore errors.NotAFormula refusal = refusal ≡ Some core.NotAFormula
+TellsCore errors.InvalidLocale refusal = refusal ≡ Some core.InvalidLocale
+TellsCore errors.InvalidLanguage refusal = refusal ≡ Some core.InvalidLanguage
+TellsCore errors.InvalidTimezone refusal = refusal ≡ Some core.InvalidTimezone
+TellsCore errors.OutOfMemory refusal = refusal ≡ None
+TellsCore e refusal = ⊥
 
 -- A call answers Ok only where nothing refuses. Its error is the refusal where there is one, and otherwise that memory
 -- ran out.
 abbrev pub Refuses : {T : Type 0} → Result T BookError → Option core.Refusal → Type 0
 Refuses (Ok value) refusal = refusal ≡ None
-Refuses (Err e) refusal = option_map OfCore refusal ≡ refusal_of e
+Refuses (Err e) refusal = TellsCore e refusal
 
 -- The same of a call that needs memory to see whether this one refusal holds: where it does, memory may run out first.
 abbrev pub RefusesOr : core.Refusal → {T : Type 0} → Result T BookError → Option core.Refusal → Type 0
 RefusesOr late (Ok value) refusal = refusal ≡ None
-RefusesOr late (Err e) refusal = (option_map OfCore refusal ≡ refusal_of e) ⊎ ((refusal ≡ Some late) × (e ≡ errors.OutOfMemory))
+RefusesOr late (Err e) refusal = TellsCore e refusal ⊎ ((refusal ≡ Some late) × (e ≡ errors.OutOfMemory))
 
 -- A call that takes no memory answers Ok exactly where nothing refuses. Its error is the refusal, and never that memory ran
 -- out.
 abbrev pub RefusesOnly : {T : Type 0} → Result T BookError → Option core.Refusal → Type 0
 RefusesOnly (Ok value) refusal = refusal ≡ None
-RefusesOnly (Err e) refusal = (told : core.Refusal) × (refusal_of e ≡ Some (OfCore told)) × (refusal ≡ Some told)
+RefusesOnly (Err e) refusal = (told : core.Refusal) × TellsCore e (Some told) × (refusal ≡ Some told)

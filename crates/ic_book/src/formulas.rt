@@ -28,9 +28,9 @@ ghost use Rattle.ic_book.specs.Served.{served_writing_step};
 ghost use Rattle.ic_book.specs.Written.{WritesFormula, cell_causes, kind_of, pool_at, text_causes, with_pool, write_refusal};
 
 use crate::{BookError, Model};
-use ic_laws::scan::{first_char, push_char, push_text};
 use ic_cells::Styles;
 use ic_grid::{Grid, GridError};
+use ic_laws::scan::{first_char, push_char, push_text};
 use ic_laws::{Bound, Dialect, Formula, LAST_COLUMN, LAST_ROW, OutOfMemory, Spelled, Text};
 use ic_names::Definition;
 use ic_pool::Steps;

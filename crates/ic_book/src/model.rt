@@ -188,12 +188,7 @@ fn first_sheet_name(language: &Text) -> &'static str
 }
 
 /// What a new workbook of this name has beside its contents: a theme without a name, the default style, no shared strings.
-fn about(
-    alloc: Global,
-    name: &str,
-    timezone: &str,
-    moment: Timestamp,
-) -> Result<About, OutOfMemory>
+fn about(alloc: Global, name: &str, timezone: &str, moment: Timestamp) -> Result<About, OutOfMemory>
     ensures { IfOk result (λ about. about ≡ record {
       name = chars name.now;
       zone = chars timezone.now;

@@ -29,7 +29,7 @@ entries-empty X = none (finite.entries (finite.empty {X = X} {R = place_cmp})) (
   where
     none : (es : List (Place × X)) → length es ≡ 0 → es ≡ []
     none [] e = refl
-    none (e ∷ es) no = let absurd_length : suc (length es) ≡ 0 = no in cc
+    none (x ∷ es) e = let longer : suc (length es) ≡ 0 = e in cc
 
 module _ {X Y : Type 0} (f : X → Y) where
   -- what stands where ----

@@ -7,12 +7,12 @@ use Rattle.ic_book.proofs.model.Model.new_empty.Goals as goal
 pub invariant_of-result : goal.invariant_of-result
 invariant_of-result c = record {
   valid =
-      subst IsValidBook (sym (start_is c.in_ok-about.field-0 (chars c.args.name.now) _ _ c.in-Ok.locale.now c.in-Ok-get_language.language.now (chars c.args.locale_id.now) (chars c.args.language_id.now) (chars c.args.timezone.now) c.args.tables.now c.in_ok-about.ensures c.in_ok-sheets.ensures c.new.ensures (locale_is c.args.tables.now (chars c.args.locale_id.now) c.in-Ok.locale.now c.in-Ok.ensures.found).0 (language_is c.args.tables.now (chars c.args.language_id.now) c.in-Ok-get_language.language.now c.in-Ok-get_language.ensures.found).0))
-      (new_book_valid (chars c.args.name.now) (chars c.args.locale_id.now) (chars c.args.timezone.now) (chars c.args.language_id.now) c.in_ok-about.field-0.created c.args.tables.now (ap is_some c.in-Ok.ensures.found) (ap is_some c.in-Ok-get_language.ensures.found)
+      subst IsValidBook (sym (start_is c.in_ok-about.about (chars c.args.name.now) _ _ c.in-Ok.locale.now c.in-Ok-get_language.language.now (chars c.args.locale_id.now) (chars c.args.language_id.now) (chars c.args.timezone.now) c.args.tables.now c.in_ok-about.ensures c.in_ok-sheets.ensures c.new.ensures (locale_is c.args.tables.now (chars c.args.locale_id.now) c.in-Ok.locale.now c.in-Ok.ensures.found).0 (language_is c.args.tables.now (chars c.args.language_id.now) c.in-Ok-get_language.language.now c.in-Ok-get_language.ensures.found).0))
+      (new_book_valid (chars c.args.name.now) (chars c.args.locale_id.now) (chars c.args.timezone.now) (chars c.args.language_id.now) c.in_ok-about.about.created c.args.tables.now (ap is_some c.in-Ok.ensures.found) (ap is_some c.in-Ok-get_language.ensures.found)
       (sym c.has_zone.ensures.listed ∙ c.if-not-has_zone.false) c.has_zone.ensures.well_formed);
   locale_found = (locale_is c.args.tables.now (chars c.args.locale_id.now) c.in-Ok.locale.now c.in-Ok.ensures.found).1;
   language_found = (language_is c.args.tables.now (chars c.args.language_id.now) c.in-Ok-get_language.language.now c.in-Ok-get_language.ensures.found).1;
 }
 
 pub returns-clause-start : goal.returns-clause-start
-returns-clause-start c = (start_is c.in_ok-about.field-0 (chars c.args.name.now) _ _ c.in-Ok.locale.now c.in-Ok-get_language.language.now (chars c.args.locale_id.now) (chars c.args.language_id.now) (chars c.args.timezone.now) c.args.tables.now c.in_ok-about.ensures c.in_ok-sheets.ensures c.new.ensures (locale_is c.args.tables.now (chars c.args.locale_id.now) c.in-Ok.locale.now c.in-Ok.ensures.found).0 (language_is c.args.tables.now (chars c.args.language_id.now) c.in-Ok-get_language.language.now c.in-Ok-get_language.ensures.found).0)
+returns-clause-start c = (start_is c.in_ok-about.about (chars c.args.name.now) _ _ c.in-Ok.locale.now c.in-Ok-get_language.language.now (chars c.args.locale_id.now) (chars c.args.language_id.now) (chars c.args.timezone.now) c.args.tables.now c.in_ok-about.ensures c.in_ok-sheets.ensures c.new.ensures (locale_is c.args.tables.now (chars c.args.locale_id.now) c.in-Ok.locale.now c.in-Ok.ensures.found).0 (language_is c.args.tables.now (chars c.args.language_id.now) c.in-Ok-get_language.language.now c.in-Ok-get_language.ensures.found).0)
