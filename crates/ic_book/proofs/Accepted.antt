@@ -41,9 +41,3 @@ module _ (n : Notations) (core : CoreBook) where
   pub language_accepted : (id : List ℕ) → first_refusal ((not (n.knows_language id), InvalidLanguage) ∷ []) ≡ None → core_step n core (SetLanguage id) ≡ Ok (record core { language = id }, [])
   unfolding core_step
   language_accepted id e = ap (λ r. unless_refused r (record core { language = id }) []) e
-
-  pub update_accepted : (index : ℕ) (row column : ℤ) (text : List ℕ) → update_refusal core index row column text ≡ None
-      → core_step n core (UpdateCellWithFormula index row column text) ≡ Ok (record core { sheets = updated_at (with_formula n core row column (without_equals text)) index core.sheets }, [])
-  unfolding core_step
-  update_accepted index row column text e =
-      ap (λ r. unless_refused r (record core { sheets = updated_at (with_formula n core row column (without_equals text)) index core.sheets }) []) e

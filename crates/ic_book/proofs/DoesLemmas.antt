@@ -145,12 +145,6 @@ not_false : (b : Bool) → not b ≡ false → b ≡ true
 not_false true e = refl
 not_false false e = cc
 
-less : (m k : ℕ) → nat_lt m k ≡ true → m < k
-less m k e = search (rules, arith)
-
-within : (m k : ℕ) → not (nat_lt m k) ≡ false → m < k
-within m k e = less m k (not_false _ e)
-
 module _ (result : Result (Unit {0}) BookError) (old new : ModelState) (valid : IsValidBook old.book) (same : OnErr result (new ≡ old)) where
   abbrev n : Notations
   n = notations_in old.book

@@ -178,35 +178,6 @@ text_clear true true false false true h = (refl, refl, refl, refl, refl)
 
 -- What refuses a text, by what refuses the cell. ----
 
-pub cell_free : (covered fixed : Bool) → Ok tt ≡ refused_by covered grid_errors.MergedPart (refused_by fixed grid_errors.ArrayPart (Ok tt)) → first_refusal ((covered, MergedPart) ∷ (fixed, ArrayPart) ∷ []) ≡ None
-cell_free true fixed e = cc
-cell_free false true e = cc
-cell_free false false e = refl
-
-pub cell_merged : (covered fixed : Bool) → Err grid_errors.MergedPart ≡ refused_by covered grid_errors.MergedPart (refused_by fixed grid_errors.ArrayPart (Ok tt))
-    → first_refusal ((covered, MergedPart) ∷ (fixed, ArrayPart) ∷ []) ≡ Some MergedPart
-cell_merged true fixed e = refl
-cell_merged false true e = cc
-cell_merged false false e = cc
-
-pub text_taken : (row column covered fixed is : Bool) → row ≡ true → column ≡ true → first_refusal ((covered, MergedPart) ∷ (fixed, ArrayPart) ∷ []) ≡ None → is ≡ true
-    → first_refusal ((not row, InvalidRow) ∷ (not column, InvalidColumn) ∷ (covered, MergedPart) ∷ (fixed, ArrayPart) ∷ (not is, NotAFormula) ∷ []) ≡ None
-text_taken false column covered fixed is r c free e = cc
-text_taken true false covered fixed is r c free e = cc
-text_taken true true true fixed is r c free e = cc
-text_taken true true false true is r c free e = cc
-text_taken true true false false false r c free e = cc
-text_taken true true false false true r c free e = refl
-
-pub no_text : (row column covered fixed is : Bool) → row ≡ true → column ≡ true → first_refusal ((covered, MergedPart) ∷ (fixed, ArrayPart) ∷ []) ≡ None → is ≡ false
-    → first_refusal ((not row, InvalidRow) ∷ (not column, InvalidColumn) ∷ (covered, MergedPart) ∷ (fixed, ArrayPart) ∷ (not is, NotAFormula) ∷ []) ≡ Some NotAFormula
-no_text false column covered fixed is r c free e = cc
-no_text true false covered fixed is r c free e = cc
-no_text true true true fixed is r c free e = cc
-no_text true true false true is r c free e = cc
-no_text true true false false false r c free e = refl
-no_text true true false false true r c free e = cc
-
 pub cell_told : (row column covered fixed is : Bool) (r : Refusal) → row ≡ true → column ≡ true → first_refusal ((covered, MergedPart) ∷ (fixed, ArrayPart) ∷ []) ≡ Some r
     → first_refusal ((not row, InvalidRow) ∷ (not column, InvalidColumn) ∷ (covered, MergedPart) ∷ (fixed, ArrayPart) ∷ (not is, NotAFormula) ∷ []) ≡ Some r
 cell_told false column covered fixed is q r c e = cc
