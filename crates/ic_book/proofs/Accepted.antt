@@ -1,9 +1,9 @@
 -- Where nothing refuses a command, the machine accepts it, and leaves the book that the command names.
-use Rattle.std.proofs.Common.{◌≡◌, ℕ, ℤ, List, [], ◌∷◌, not, Option, None, Ok, ap}
-use Rattle.ic_laws.specs.Command.{AddSheet, DeleteDefinedName, DeleteSheet, MoveSheet, NewDefinedName, RenameSheetByIndex, SetLanguage, SetLocale, UpdateCellWithFormula}
+use Rattle.std.proofs.Common.{◌≡◌, ℕ, List, [], ◌∷◌, not, Option, None, Ok, ap}
+use Rattle.ic_laws.specs.Command.{AddSheet, DeleteDefinedName, DeleteSheet, MoveSheet, NewDefinedName, RenameSheetByIndex, SetLanguage, SetLocale}
 use Rattle.ic_laws.specs.CoreBook.{CoreBook}
-use Rattle.ic_laws.specs.CoreStep.{add_sheet_refusal, changed_by, core_step, delete_name_refusal, delete_refusal, index_of_definition, move_refusal, moved, new_name_refusal, scope_or_none, with_new_name, without_definition, rename_refusal, unless_refused, update_refusal, updated_at, with_formula, with_new_sheet, with_sheet_name, without_sheet}
-use Rattle.ic_laws.specs.FormulaReading.{body_of, without_equals}
+use Rattle.ic_laws.specs.CoreStep.{add_sheet_refusal, changed_by, core_step, delete_name_refusal, delete_refusal, index_of_definition, move_refusal, moved, new_name_refusal, scope_or_none, with_new_name, without_definition, rename_refusal, unless_refused, with_new_sheet, with_sheet_name, without_sheet}
+use Rattle.ic_laws.specs.FormulaReading.{body_of}
 use Rattle.ic_laws.specs.Notations.{Notations}
 use Rattle.ic_laws.specs.Refusal.{InvalidLanguage, InvalidLocale, first_refusal}
 

@@ -8,7 +8,7 @@ use Rattle.std.proofs.lemmas.Option.{slice_get-map}
 use Rattle.ic_laws.proofs.core.KeptBook.{in_body}
 use Rattle.ic_laws.proofs.core.Lists.{removed_seen, updated_seen}
 use Rattle.ic_laws.specs.CoreBook.{CellPlace, CoreBook, Definition, Sheet, greatest_id, scene_of}
-use Rattle.ic_laws.specs.CoreStep.{changed_by, moved, put_back, updated_at, with_definition, with_new_sheet, with_sheet_name, without_definition, without_sheet}
+use Rattle.ic_laws.specs.CoreStep.{changed_by, moved, put_back, with_definition, with_new_sheet, with_sheet_name, without_definition, without_sheet}
 use Rattle.ic_laws.specs.Greatest.{greatest}
 use Rattle.ic_laws.specs.Keeping.{kept_in_body, same_keys, with_kept}
 use Rattle.ic_laws.specs.Notations.{Notations}

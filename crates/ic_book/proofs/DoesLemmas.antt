@@ -1,6 +1,6 @@
 -- What the calls of a model do is the step of their command.
-use Rattle.std.proofs.Common.{◌≡◌, ℕ, ℤ, List, [], ◌∷◌, ◌++◌, Bool, true, false, map, not, option_map, Option, Some, None, Result, Ok, Err, is_some, refl, sym, ap, ap₂, subst, ◌∙◌, inl, inr, ◌<◌, IfOk, OnOk, OnErr, length, rules, arith}
-use Rattle.std.specs.Prelude.{flat_map, is_none, nat_lt, option_to_list, unwrap_or, String, chars, string_bytes}
+use Rattle.std.proofs.Common.{◌≡◌, ℕ, ℤ, List, [], ◌∷◌, ◌++◌, Bool, true, false, map, not, option_map, Option, Some, None, Result, Ok, Err, is_some, refl, sym, ap, ap₂, subst, ◌∙◌, inl, inr, IfOk, OnOk, OnErr}
+use Rattle.std.specs.Prelude.{flat_map, is_none, option_to_list, unwrap_or, String, chars, string_bytes}
 use Rattle.std.proofs.lemmas.Grind.{flat_map-append}
 use Rattle.std.proofs.lemmas.List.{map-append}
 use Rattle.std.proofs.lemmas.List.Folds.{flat_map-map}

@@ -1,17 +1,17 @@
 -- The grid of a sheet: what a write leaves of each cell, that it is a grid where its whole sheet is valid, and the style that
 -- is written.
-use Rattle.std.proofs.Common.{◌≡◌, ℕ, ◌<◌, ◌≤◌, List, [], ◌∷◌, Bool, true, false, cond, not, length, take, Option, Some, None, Result, Ok, Err, IsErr, IsErrAnd, refl, if◌then◌else◌, sym, ap, ap₂, subst, ◌∙◌, arith}
+use Rattle.std.proofs.Common.{◌≡◌, ℕ, ◌<◌, List, [], ◌∷◌, Bool, true, false, cond, not, length, take, Option, Some, None, Result, Ok, Err, IsErr, IsErrAnd, refl, if◌then◌else◌, sym, ap, ap₂, subst, ◌∙◌}
 use Rattle.std.proofs.lemmas.Bool.{and_from}
 use Rattle.std.proofs.lemmas.Option.{slice_get-map, slice_get_within}
 use Rattle.std.specs.FinMap as finite
-use Rattle.std.specs.List.{AllByRecursion, slice_get}
+use Rattle.std.specs.List.{slice_get}
 use Rattle.std.specs.Prelude.{◌&&◌, ◌++◌, bytes_eq, is_some, option_and_then, option_map}
 use Rattle.ic_laws.proofs.core.CellWritten.{place_cmp_total}
 use Rattle.ic_laws.specs.CoreBook.{CellPlace}
 use Rattle.ic_laws.specs.FormulaReading.{is_formula_text}
 use Rattle.ic_laws.specs.Position.{is_column, is_row}
 use Rattle.std.proofs.lemmas.Slice.Eq.{bytes_eq-Decides}
-use Rattle.ic_cells.specs.Style.{default_style, first_place, is_color, is_flag, is_style, style_at, style_number, with_quote_prefix, with_style_in}
+use Rattle.ic_cells.specs.Style.{default_style, first_place, is_color, is_flag, is_style, style_at}
 use Rattle.ic_cells.specs.declared.cell.Cell.{Cell}
 use Rattle.ic_cells.specs.declared.cell.Cell.TheVariants as cells
 use Rattle.ic_cells.specs.declared.style.Color.{Color}
@@ -20,9 +20,8 @@ use Rattle.ic_cells.specs.declared.style.Style.{Style}
 use Rattle.ic_cells.specs.Cell.{style_of}
 use Rattle.ic_grid.proofs.WriteLemmas.{after_release, released_at}
 use Rattle.ic_grid.specs.Arrays.{anchor_at, array_from, array_of, is_fixed, is_fixed_at}
-use Rattle.ic_grid.specs.Block.{Place, is_in_sheet, same_place}
-use Rattle.ic_grid.specs.Calls.{can_write, refused_by}
-use Rattle.ic_grid.specs.Conditions.{AreArrays, AreInSheet, AreMerges}
+use Rattle.ic_grid.specs.Block.{Place, same_place}
+use Rattle.ic_grid.specs.Calls.{refused_by}
 use Rattle.ic_grid.specs.Contents.{Contents}
 use Rattle.ic_grid.specs.Merges.{is_covered}
 use Rattle.ic_grid.specs.Prepare.{prepared, released_if, unspilled, written}
@@ -44,7 +43,7 @@ use Rattle.ic_sheets.specs.Sheet.{BookSheet, TakesCell, formula_cell, with_cell_
 use Rattle.ic_sheets.specs.declared.sheet.FormulaKind.{FormulaKind}
 use Rattle.ic_sheets.specs.declared.sheet.FormulaKind.TheVariants as kinds
 use Rattle.ic_sheets.proofs.CellLemmas.{formula_loose}
-use Rattle.ic_book.specs.Book.{Book, HasString, HasStrings, IsPlain, IsValidBook, notations_in, scene_in, whole_of, whole_sheet}
+use Rattle.ic_book.specs.Book.{Book, HasString, HasStrings, IsPlain, IsValidBook, notations_in, whole_of, whole_sheet}
 use Rattle.ic_book.specs.Refused.{TellsOnly, refusal_of}
 use Rattle.ic_book.specs.Written.{text_causes}
 use Rattle.ic_book.specs.declared.error.BookError.{BookError}

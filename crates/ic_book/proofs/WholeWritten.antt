@@ -1,12 +1,11 @@
 -- A formula that is written into a cell, as the whole machine writes it.
-use Rattle.std.proofs.Common.{◌≡◌, ℕ, ℤ, zero, suc, pos, ◌<◌, ◌≤◌, ◌⊎◌, inl, inr, List, [], ◌∷◌, ◌++◌, ◌||◌, ◌==◌, Bool, true, false, not, length, map, Option, Some, None, is_some, option_map, Result, Ok, Err, refl, sym, ap, ap₂, subst, ◌∙◌, if◌then◌else◌, codes, IfSome, OnOk, OnErr, rules, arith}
+use Rattle.std.proofs.Common.{◌≡◌, ℕ, zero, suc, pos, ◌<◌, ◌≤◌, ◌⊎◌, inl, inr, List, [], ◌∷◌, ◌++◌, ◌||◌, ◌==◌, Bool, true, false, not, length, Option, Some, None, is_some, option_map, Result, Ok, Err, refl, sym, ap, ap₂, subst, ◌∙◌, if◌then◌else◌, codes, IfSome, OnOk, OnErr, rules, arith}
 use Rattle.std.specs.Prelude.{is_none, unwrap_or}
 use Rattle.std.specs.List.{slice_get}
 use Rattle.std.proofs.lemmas.Option.{slice_get-map}
 use Rattle.ic_laws.proofs.core.Lists.{all_updated}
 use Rattle.ic_laws.specs.Character.{equals}
 use Rattle.ic_laws.specs.CoreBook.{CellPlace, CoreBook}
-use Rattle.ic_laws.specs.CoreStep.{updated_at}
 use Rattle.ic_laws.specs.FormulaReading.{cell_formula, is_formula_text, without_equals}
 use Rattle.ic_laws.specs.Notations.{english}
 use Rattle.ic_laws.specs.Position.{is_column, is_row}
@@ -40,14 +39,13 @@ use Rattle.ic_machine.specs.Kept.{StaysValid}
 use Rattle.ic_machine.specs.Placed.{index_in_pool, is_dynamic, pool_with}
 use Rattle.ic_machine.specs.Refusal.{ArrayPart, Causes, InvalidColumn, InvalidRow, InvalidSheet, MergedPart, NotAFormula, Refusal, first_refusal}
 use Rattle.ic_machine.specs.Styling.{Numbered, restyled}
-use Rattle.ic_machine.specs.Valid as valid_machine
 use Rattle.ic_machine.specs.subjects.Writing.{UpdateCellWithFormula, formula_at_place, formula_content, formula_written, place_causes, unquoted, with_content, with_written, write_causes}
 use Rattle.ic_pool.proofs.PlacedLemmas.{below_length, first_found, first_pushed}
 use Rattle.ic_pool.specs.Code.{code}
 use Rattle.ic_pool.specs.Pool.{IsFirstAt, IsPlaced, first_place}
 use Rattle.ic_sheets.specs.Sheet.{BookSheet, formula_cell, with_cell_in}
 use Rattle.ic_sheets.specs.declared.sheet.FormulaKind.TheVariants as kinds_of
-use Rattle.ic_book.specs.Book.{Book, HasStrings, IsPlain, IsValidBook, ModelState, core_of, notations_in, whole_of, whole_sheet, whole_tab}
+use Rattle.ic_book.specs.Book.{Book, HasStrings, IsPlain, IsValidBook, ModelState, notations_in, whole_of, whole_sheet, whole_tab}
 use Rattle.ic_book.specs.Does.{DoesIn, IsDone, Refused, WantedIn}
 use Rattle.ic_book.specs.Fields.{no_fields}
 use Rattle.ic_book.specs.Refused.{Tells, refusal_of}

@@ -1,5 +1,5 @@
 -- What a model keeps, as contracts see it, and what always holds of that.
-use Rattle.std.specs.Prelude.{◌≡◌, ℕ, List, map, Some}
+use Rattle.std.specs.Prelude.{◌≡◌, List, map, Some}
 use Rattle.ic_tables.specs.Tables.{TableSet, language_of, locale_of}
 use Rattle.ic_tables.specs.declared.language.Language.{Language}
 use Rattle.ic_tables.specs.declared.locale.NamedLocale.{NamedLocale}

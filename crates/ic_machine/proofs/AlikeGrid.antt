@@ -1,6 +1,6 @@
 -- Contents that are seen as others, where the one way to hold them is seen as the other: what the rules on arrays, spills
 -- and styles find among them is the same, what they make is seen as the same, and what holds of the seen ones holds of them.
-use Rattle.std.proofs.Common.{◌≡◌, ℤ, suc, pos, length, List, [], ◌∷◌, map, Bool, true, false, cond, ◌&&◌, Option, Some, None, T, refl, sym, ap, ap₂, subst, ◌∙◌}
+use Rattle.std.proofs.Common.{◌≡◌, suc, pos, length, List, [], ◌∷◌, map, Bool, true, false, cond, ◌&&◌, Option, Some, None, T, refl, sym, ap, ap₂, subst, ◌∙◌}
 use Rattle.std.specs.FinMap as finite
 use Rattle.std.specs.FinMap.{find, is_sorted}
 use Rattle.std.specs.FinMap.Entries.{below_all}
@@ -20,7 +20,6 @@ use Rattle.ic_grid.specs.Contents.{Contents, changed_where, remade}
 use Rattle.ic_grid.specs.Prepare.{anchor_reset, prepared, released, released_if, unspilled, without_spill, written}
 use Rattle.ic_grid.specs.Shape.{Holding, Shape, emptied, is_anchor, is_spill_of, reset}
 use Rattle.ic_grid.specs.Style.{Columns, Rows, first_style, style_at}
-use Rattle.ic_grid.specs.declared.block.Array.{Array}
 use Rattle.ic_machine.specs.Alike.{HoldsAlike, seen_by}
 
 -- nothing stands in no contents

@@ -1,4 +1,3 @@
-use Rattle.ic_machine.proofs.AlikeGrid.{written-seen, merges_held, style_at-seen}
 use Rattle.ic_machine.proofs.AlikeLemmas.{cells_are_contents}
 use Rattle.ic_machine.proofs.law.law_cells_are_contents.Goals as goal
 
