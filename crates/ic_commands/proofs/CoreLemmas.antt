@@ -70,11 +70,12 @@ module _ (b : Book) (c : CoreBook) (is : core_of b ≡ c) where
 pub record StandsBeside (old new : Book) : Type 0 where
   pub name : new.name ≡ old.name
   pub zone : new.zone ≡ old.zone
+  pub theme : new.theme ≡ old.theme
   pub metadata : new.metadata ≡ old.metadata
   pub tables : new.tables ≡ old.tables
 
 pub stands : (b : Book) → StandsBeside b b
-stands b = record { name = refl; zone = refl; metadata = refl; tables = refl }
+stands b = record { name = refl; zone = refl; theme = refl; metadata = refl; tables = refl }
 
 module _ (b : Book) where
   core_stands : (o : Outcome) (left : Book) → StandsBeside b left → StandsBeside b (outcome_of b (as_core o left)).0
@@ -83,11 +84,11 @@ module _ (b : Book) where
 
   defined : (name : List ℕ) (scope : Option ℕ) (body : Option Body) → StandsBeside b (with_new_name b name scope body)
   defined name scope None = stands b
-  defined name scope (Some body) = record { name = refl; zone = refl; metadata = refl; tables = refl }
+  defined name scope (Some body) = record { name = refl; zone = refl; theme = refl; metadata = refl; tables = refl }
 
   undefined : (index : Option ℕ) → StandsBeside b (changed_by (without_definition index) b)
-  undefined None = record { name = refl; zone = refl; metadata = refl; tables = refl }
-  undefined (Some index) = record { name = refl; zone = refl; metadata = refl; tables = refl }
+  undefined None = record { name = refl; zone = refl; theme = refl; metadata = refl; tables = refl }
+  undefined (Some index) = record { name = refl; zone = refl; theme = refl; metadata = refl; tables = refl }
 
   unless_stands : (refusal : Option Refusal) (left : Book) (fields : List Field) → StandsBeside b left → StandsBeside b (outcome_of b (unless refusal left fields)).0
   unless_stands (Some refusal) left fields h = stands b
@@ -100,15 +101,15 @@ module _ (b : Book) where
   -- a served command leaves what stands beside the core
   pub served_stands : (k : core.Command) → StandsBeside b (outcome_of b (served_step b (whole_command k))).0
   unfolding add_sheet_step rename_sheet_step rename_by_index_step move_sheet_step delete_sheet_step delete_by_name_step delete_by_id_step new_sheet_id_step new_name_step delete_name_step valid_name_step list_step set_locale_step set_language_step cell_formula_step served_formula_step
-  served_stands (core.AddSheet name) = core_stands (core_step (notations_in b) (core_of b) (core.AddSheet name)) (changed_by (with_new_sheet name) b) (record { name = refl; zone = refl; metadata = refl; tables = refl })
-  served_stands (core.RenameSheet old new) = core_stands (core_step (notations_in b) (core_of b) (core.RenameSheet old new)) (changed_by (with_renamed_sheet (unwrap_or (index_of_name (core_of b) old) 0) new) b) (record { name = refl; zone = refl; metadata = refl; tables = refl })
-  served_stands (core.RenameSheetByIndex sheet name) = core_stands (core_step (notations_in b) (core_of b) (core.RenameSheetByIndex sheet name)) (changed_by (with_renamed_sheet sheet name) b) (record { name = refl; zone = refl; metadata = refl; tables = refl })
-  served_stands (core.MoveSheet sheet to) = core_stands (core_step (notations_in b) (core_of b) (core.MoveSheet sheet to)) (with_moved_sheet sheet to b) (record { name = refl; zone = refl; metadata = refl; tables = refl })
-  served_stands (core.DeleteSheet sheet) = core_stands (core_step (notations_in b) (core_of b) (core.DeleteSheet sheet)) (changed_by (with_removed_sheet sheet) b) (record { name = refl; zone = refl; metadata = refl; tables = refl })
-  served_stands (core.DeleteSheetByName name) = core_stands (core_step (notations_in b) (core_of b) (core.DeleteSheetByName name)) (changed_by (with_removed_sheet (unwrap_or (index_of_name (core_of b) name) 0)) b) (record { name = refl; zone = refl; metadata = refl; tables = refl })
-  served_stands (core.DeleteSheetBySheetId id) = core_stands (core_step (notations_in b) (core_of b) (core.DeleteSheetBySheetId id)) (changed_by (with_removed_sheet (unwrap_or (index_of_id (core_of b) id) 0)) b) (record { name = refl; zone = refl; metadata = refl; tables = refl })
-  served_stands (core.SetLocale id) = core_stands (core_step (notations_in b) (core_of b) (core.SetLocale id)) (record b { locale = id }) (record { name = refl; zone = refl; metadata = refl; tables = refl })
-  served_stands (core.SetLanguage id) = core_stands (core_step (notations_in b) (core_of b) (core.SetLanguage id)) (record b { language = id }) (record { name = refl; zone = refl; metadata = refl; tables = refl })
+  served_stands (core.AddSheet name) = core_stands (core_step (notations_in b) (core_of b) (core.AddSheet name)) (changed_by (with_new_sheet name) b) (record { name = refl; zone = refl; theme = refl; metadata = refl; tables = refl })
+  served_stands (core.RenameSheet old new) = core_stands (core_step (notations_in b) (core_of b) (core.RenameSheet old new)) (changed_by (with_renamed_sheet (unwrap_or (index_of_name (core_of b) old) 0) new) b) (record { name = refl; zone = refl; theme = refl; metadata = refl; tables = refl })
+  served_stands (core.RenameSheetByIndex sheet name) = core_stands (core_step (notations_in b) (core_of b) (core.RenameSheetByIndex sheet name)) (changed_by (with_renamed_sheet sheet name) b) (record { name = refl; zone = refl; theme = refl; metadata = refl; tables = refl })
+  served_stands (core.MoveSheet sheet to) = core_stands (core_step (notations_in b) (core_of b) (core.MoveSheet sheet to)) (with_moved_sheet sheet to b) (record { name = refl; zone = refl; theme = refl; metadata = refl; tables = refl })
+  served_stands (core.DeleteSheet sheet) = core_stands (core_step (notations_in b) (core_of b) (core.DeleteSheet sheet)) (changed_by (with_removed_sheet sheet) b) (record { name = refl; zone = refl; theme = refl; metadata = refl; tables = refl })
+  served_stands (core.DeleteSheetByName name) = core_stands (core_step (notations_in b) (core_of b) (core.DeleteSheetByName name)) (changed_by (with_removed_sheet (unwrap_or (index_of_name (core_of b) name) 0)) b) (record { name = refl; zone = refl; theme = refl; metadata = refl; tables = refl })
+  served_stands (core.DeleteSheetBySheetId id) = core_stands (core_step (notations_in b) (core_of b) (core.DeleteSheetBySheetId id)) (changed_by (with_removed_sheet (unwrap_or (index_of_id (core_of b) id) 0)) b) (record { name = refl; zone = refl; theme = refl; metadata = refl; tables = refl })
+  served_stands (core.SetLocale id) = core_stands (core_step (notations_in b) (core_of b) (core.SetLocale id)) (record b { locale = id }) (record { name = refl; zone = refl; theme = refl; metadata = refl; tables = refl })
+  served_stands (core.SetLanguage id) = core_stands (core_step (notations_in b) (core_of b) (core.SetLanguage id)) (record b { language = id }) (record { name = refl; zone = refl; theme = refl; metadata = refl; tables = refl })
   served_stands (core.NewDefinedName name scope body) =
       core_stands (core_step (notations_in b) (core_of b) (core.NewDefinedName name scope body)) (with_new_name b name (scope_or_none (core_of b) scope) (body_of (notations_in b) (core_of b) body)) (defined name (scope_or_none (core_of b) scope) (body_of (notations_in b) (core_of b) body))
   served_stands (core.DeleteDefinedName name scope) =
@@ -121,4 +122,4 @@ module _ (b : Book) where
       let w = λ (s : Sheet). formula_written b s (formula_at_place b s (row, column) (unwrap_or (formula_typed b text) [])) in
       let causes = λ (s : Sheet). place_causes (row, column) ++ (write_causes s (row, column) ++ (begins_with_sign text || is_none (formula_typed b text), NotAFormula) ∷ []) in
       let left = λ (s : Sheet). with_written b sheet s (row, column) (w s) in
-      found_stands InvalidSheet (slice_get b.sheets sheet) (λ s. unless_refused (causes s) (left s) []) (λ s. unless_stands (first_refusal (causes s)) (left s) [] (record { name = refl; zone = refl; metadata = refl; tables = refl }))
+      found_stands InvalidSheet (slice_get b.sheets sheet) (λ s. unless_refused (causes s) (left s) []) (λ s. unless_stands (first_refusal (causes s)) (left s) [] (record { name = refl; zone = refl; theme = refl; metadata = refl; tables = refl }))

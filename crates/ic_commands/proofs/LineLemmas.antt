@@ -32,6 +32,7 @@ pub same_beside : (old new : Book) (left : machine.Book) → whole_of new ≡ le
 same_beside old new left is beside = record {
   name = ap (λ (b : machine.Book). b.name) is ∙ beside.name;
   zone = ap (λ (b : machine.Book). b.zone) is ∙ beside.zone;
+  theme = ap (λ (b : machine.Book). b.theme) is ∙ beside.theme;
   created = ap (λ (b : machine.Book). b.metadata.created) is ∙ ap (λ m. m.created) beside.metadata;
   tables = ap (λ (b : machine.Book). b.tables) is ∙ beside.tables;
 }
@@ -90,7 +91,7 @@ module _ (line : List ℕ) where
       (record {
         reply = told;
         line = refusal_line BadLine;
-        book = record { core = refl; beside = record { name = refl; zone = refl; created = refl; tables = refl } };
+        book = record { core = refl; beside = record { name = refl; zone = refl; theme = refl; created = refl; tables = refl } };
       })
 
   pub bad_done : (state : ModelState) (reply : List ℕ) → ((english : List (List ℕ)) → None ≡ command_in english table.served line) → reply ≡ reply_bytes (Err BadLine) → DoesLine line state state reply

@@ -19,7 +19,7 @@ use Rattle.ic_run.proofs.RunLemmas.{after-append, next_rest, next_taken, next_wi
 
 -- what stays beside two steps
 pub same_beside_again : (old mid new : Book) → IsSameBeside old mid → IsSameBeside mid new → IsSameBeside old new
-same_beside_again old mid new p q = record { name = q.name ∙ p.name; zone = q.zone ∙ p.zone; created = q.created ∙ p.created; tables = q.tables ∙ p.tables }
+same_beside_again old mid new p q = record { name = q.name ∙ p.name; zone = q.zone ∙ p.zone; theme = q.theme ∙ p.theme; created = q.created ∙ p.created; tables = q.tables ∙ p.tables }
 
 -- so many of the lines were answered, and the others are still to be given
 pub record Progress (old new : Book) (count : ℕ) (reader : Reading) (before now : Option (List ℕ)) (bytes left : List ℕ) : Type 0 where
