@@ -1,5 +1,5 @@
 -- What a change of a part of a sheet does to the model.
-use Rattle.std.proofs.Common.{◌≡◌, ℕ, ℤ, pos, zero, suc, ◌<◌, ◌≤◌, List, [], ◌∷◌, Bool, true, false, length, map, Option, Some, None, Result, Ok, Err, option_map, refl, ap, ap₂, sym, subst, ◌∙◌, nat_lt, rules, arith}
+use Rattle.std.proofs.Common.{◌≡◌, ℕ, ℤ, pos, zero, suc, ◌≤◌, List, [], ◌∷◌, Bool, true, false, length, map, Option, Some, None, Result, Ok, Err, option_map, refl, ap, ap₂, sym, subst, ◌∙◌, nat_lt, rules, arith}
 use Rattle.std.specs.List.{slice_get}
 use Rattle.std.specs.Prelude.{◌≤ℤ◌, ◌<ℤ◌}
 use Rattle.std.proofs.lemmas.Option.{slice_get-map, slice_get_past}
@@ -23,7 +23,7 @@ use Rattle.ic_sheets.specs.declared.tab.Tab.{Tab}
 use Rattle.ic_book.specs.Book.{Book, HasStrings, IsPlain, IsValidBook, ModelState, notations_in}
 use Rattle.ic_book.specs.declared.about.About.{About}
 use Rattle.ic_book.specs.Inside.{IsHeld, held_state}
-use Rattle.ic_book.specs.Does.{DoesStep, DoesTab, IsDone, Memory, PartMade, PartRefused, Refused, Wants, wants}
+use Rattle.ic_book.specs.Does.{DoesStep, DoesTab, IsDone, PartMade, PartRefused, Refused, wants}
 use Rattle.ic_book.specs.Parts.{StaysFrozen}
 use Rattle.ic_book.specs.Refused.{refusal_of}
 use Rattle.ic_book.specs.Whole.{whole_of, whole_sheet, whole_tab}

@@ -1,5 +1,5 @@
 -- What a call does that puts or tells one of a book's settings, or tells of its sheets.
-use Rattle.std.proofs.Common.{◌≡◌, ◌++◌, ℕ, List, [], ◌∷◌, Bool, true, false, Some, None, Result, Ok, Err, IsErr, IsErrAnd, map, refl, ap, ap₂, sym, subst, ◌∙◌, not}
+use Rattle.std.proofs.Common.{◌≡◌, ◌++◌, ℕ, List, [], ◌∷◌, Bool, true, false, Result, Ok, Err, IsErr, IsErrAnd, map, refl, ap, sym, subst, ◌∙◌, not}
 use Rattle.std.specs.Prelude.{flat_map}
 use Rattle.ic_tables.specs.Tables.{lists_zone}
 use Rattle.ic_machine.specs.Book as machine

@@ -1,5 +1,5 @@
 -- What a step on a part of a sheet does to the model.
-use Rattle.std.specs.Prelude.{◌≡◌, ℕ, List, Bool, Result}
+use Rattle.std.specs.Prelude.{ℕ, List, Bool, Result}
 use Rattle.std.specs.Borrow.{Bor, MutBor}
 use Rattle.std.specs.Fn.{FnOnceReturnsAt, FnOnceReturnsAtMut, Once}
 use Rattle.ic_machine.specs.Book as machine

@@ -1,4 +1,4 @@
-use Rattle.std.proofs.Common.{◌≡◌, List, ap, flat_map, subst, ◌∙◌}
+use Rattle.std.proofs.Common.{List, ap, flat_map, subst, ◌∙◌}
 use Rattle.ic_machine.specs.subjects.Sheets.{properties_step, property_fields}
 use Rattle.ic_sheets.specs.declared.sheet.Sheet.{Sheet as HeldSheet}
 use Rattle.ic_book.specs.Book.{IsValidBook, ModelState}

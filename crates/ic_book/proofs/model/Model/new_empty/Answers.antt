@@ -1,6 +1,5 @@
-use Rattle.std.proofs.Common.{◌≡◌, is_some, chars, sym, ap, subst, ◌∙◌}
-use Rattle.ic_book.specs.Book.{IsValidBook, new_book}
-use Rattle.ic_book.specs.Inside.{held}
+use Rattle.std.proofs.Common.{is_some, chars, sym, ap, subst}
+use Rattle.ic_book.specs.Book.{IsValidBook}
 use Rattle.ic_book.proofs.HeldLemmas.{language_is, locale_is, start_is}
 use Rattle.ic_book.proofs.StartLemmas.{new_book_valid}
 use Rattle.ic_book.proofs.model.Model.new_empty.Goals as goal

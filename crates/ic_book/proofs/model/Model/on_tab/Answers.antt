@@ -1,4 +1,4 @@
-use Rattle.std.proofs.Common.{◌≡◌, None, Some, ap, option_map, subst, ◌∙◌}
+use Rattle.std.proofs.Common.{◌≡◌, None, ap, option_map, subst, ◌∙◌}
 use Rattle.std.specs.List.{slice_get}
 use Rattle.std.proofs.lemmas.Option.{slice_get-map}
 use Rattle.ic_machine.specs.Book.{on_tab}
