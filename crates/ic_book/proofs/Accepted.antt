@@ -1,9 +1,9 @@
 -- Where nothing refuses a command, the machine accepts it, and leaves the book that the command names.
-use Rattle.std.proofs.Common.{◌≡◌, ℕ, ℤ, List, [], ◌∷◌, not, Option, None, Ok, ap}
-use Rattle.ic_laws.specs.Command.{AddSheet, DeleteDefinedName, DeleteSheet, MoveSheet, NewDefinedName, RenameSheetByIndex, SetLanguage, SetLocale, UpdateCellWithFormula}
+use Rattle.std.proofs.Common.{◌≡◌, ℕ, List, [], ◌∷◌, not, Option, None, Ok, ap}
+use Rattle.ic_laws.specs.Command.{AddSheet, DeleteDefinedName, DeleteSheet, MoveSheet, NewDefinedName, RenameSheetByIndex, SetLanguage, SetLocale}
 use Rattle.ic_laws.specs.CoreBook.{CoreBook}
-use Rattle.ic_laws.specs.CoreStep.{add_sheet_refusal, changed_by, core_step, delete_name_refusal, delete_refusal, index_of_definition, move_refusal, moved, new_name_refusal, scope_or_none, with_new_name, without_definition, rename_refusal, unless_refused, update_refusal, updated_at, with_formula, with_new_sheet, with_sheet_name, without_sheet}
-use Rattle.ic_laws.specs.FormulaReading.{body_of, without_equals}
+use Rattle.ic_laws.specs.CoreStep.{add_sheet_refusal, changed_by, core_step, delete_name_refusal, delete_refusal, index_of_definition, move_refusal, moved, new_name_refusal, scope_or_none, with_new_name, without_definition, rename_refusal, unless_refused, with_new_sheet, with_sheet_name, without_sheet}
+use Rattle.ic_laws.specs.FormulaReading.{body_of}
 use Rattle.ic_laws.specs.Notations.{Notations}
 use Rattle.ic_laws.specs.Refusal.{InvalidLanguage, InvalidLocale, first_refusal}
 
@@ -41,9 +41,3 @@ module _ (n : Notations) (core : CoreBook) where
   pub language_accepted : (id : List ℕ) → first_refusal ((not (n.knows_language id), InvalidLanguage) ∷ []) ≡ None → core_step n core (SetLanguage id) ≡ Ok (record core { language = id }, [])
   unfolding core_step
   language_accepted id e = ap (λ r. unless_refused r (record core { language = id }) []) e
-
-  pub update_accepted : (index : ℕ) (row column : ℤ) (text : List ℕ) → update_refusal core index row column text ≡ None
-      → core_step n core (UpdateCellWithFormula index row column text) ≡ Ok (record core { sheets = updated_at (with_formula n core row column (without_equals text)) index core.sheets }, [])
-  unfolding core_step
-  update_accepted index row column text e =
-      ap (λ r. unless_refused r (record core { sheets = updated_at (with_formula n core row column (without_equals text)) index core.sheets }) []) e

@@ -11,11 +11,11 @@ use Rattle.ic_laws.specs.Scene.{definition_at, same_scope}
 use Rattle.ic_laws.specs.declared.scene.NameSpelling.{NameSpelling}
 use Rattle.ic_laws.specs.declared.scene.Scene.{Scene}
 use Rattle.ic_names.specs.Named.{names_scene}
-use Rattle.ic_sheets.specs.declared.sheet.Worksheet.{Worksheet}
+use Rattle.ic_sheets.specs.declared.sheet.Sheet.{Sheet as HeldSheet}
 use Rattle.ic_book.specs.Scene.{scene_of_parts, scene_with}
 
 -- what formulas can mention then
-pub scene_with_is : (sheets : List Worksheet) (ds : List Definition) (core : CoreBook) (name : List ℕ) (scope : Option ℕ) → scene_of_parts sheets ds ≡ scene_of core → scene_with sheets ds name scope ≡ scene_with_name core name scope
+pub scene_with_is : (sheets : List HeldSheet) (ds : List Definition) (core : CoreBook) (name : List ℕ) (scope : Option ℕ) → scene_of_parts sheets ds ≡ scene_of core → scene_with sheets ds name scope ≡ scene_with_name core name scope
 scene_with_is sheets ds core name scope e = ap (λ (s : Scene). let more : Scene = record s { names = s.names ++ record { name = name; scope = scope } ∷ [] } in more) e
 
 module _ {X : Type 0} (g : NameSpelling → X) where

@@ -1,59 +1,81 @@
--- What always holds of a book holds after each call.
-use Rattle.std.proofs.Common.{◌≡◌, ℕ, zero, suc, ℤ, ◌<◌, List, [], ◌∷◌, ◌++◌, Bool, true, false, not, length, codes, Option, Some, None, Ok, refl, sym, ap, subst, ◌∙◌}
-use Rattle.std.specs.Prelude.{insert, remove}
+-- A valid book: its core and its pools, and that it stays valid over each change.
+use Rattle.std.proofs.Common.{◌≡◌, ℕ, ◌+◌, ◌<◌, ◌≤◌, List, [], ◌∷◌, map, not, length, Option, Some, None, Ok, refl, sym, ap, subst, ◌∙◌, arith}
+use Rattle.std.proofs.lemmas.Option.{slice_get-map}
+use Rattle.std.specs.FinMap as finite
 use Rattle.std.specs.List.{AllByRecursion, slice_get}
-use Rattle.std.specs.Option.{option_or}
-use Rattle.ic_laws.proofs.core.Lists.{all_removed}
-use Rattle.ic_laws.proofs.core.Named.{IsNamed, added_named, book_named, defined_named, deleted_named, renamed_named, undefined_named}
-use Rattle.ic_laws.proofs.core.Steps.{step_keeps}
-use Rattle.ic_laws.proofs.keeping.Accepted.{none_holds}
-use Rattle.ic_laws.proofs.kept.Kept.{bound_is_kept, kept_where_less}
-use Rattle.ic_laws.proofs.kept.Scenes.{kept_where_alike, moved_alike}
-use Rattle.ic_laws.proofs.kept.TreeFacts.{tree_facts}
-use Rattle.ic_laws.specs.Binding.{bound}
-use Rattle.ic_laws.specs.Command.{AddSheet, Command, DeleteDefinedName, DeleteSheet, MoveSheet, NewDefinedName, RenameSheetByIndex, SetLanguage, SetLocale, UpdateCellWithFormula}
-use Rattle.ic_laws.specs.CoreBook.{CoreBook, Definition, scene_of}
-use Rattle.ic_laws.specs.CoreStep.{add_sheet_causes, add_sheet_refusal, changed_by, core_step, delete_name_refusal, delete_refusal, index_of_definition, move_refusal, moved, new_definition, new_name_causes, new_name_refusal, put_back, scope_or_none, with_definition, with_new_name, without_definition, rename_causes, rename_refusal, update_refusal, with_new_sheet, with_sheet_name, without_sheet}
-use Rattle.ic_laws.specs.FormulaReading.{Body, body_of, cell_formula, shown_at, tree_or_raw, without_equals}
-use Rattle.ic_laws.specs.Notations.{AreNotations, IsShownForm, Notations, english_function}
-use Rattle.ic_laws.specs.ReadAs.{read_as}
+use Rattle.std.specs.Prelude.{option_map}
+use Rattle.ic_laws.proofs.core.Lists.{all_pushed, all_removed, all_updated}
+use Rattle.ic_laws.specs.Command.{AddSheet, Command, DeleteDefinedName, DeleteSheet, MoveSheet, NewDefinedName, RenameSheetByIndex, SetLanguage, SetLocale}
+use Rattle.ic_laws.specs.CoreBook.{CellPlace, CoreBook, Definition, greatest_id}
+use Rattle.ic_laws.specs.CoreStep as core_step
+use Rattle.ic_laws.specs.CoreStep.{add_sheet_refusal, delete_name_refusal, delete_refusal, index_of_definition, move_refusal, new_definition, new_name_refusal, rename_refusal, scope_or_none, updated_at}
+use Rattle.ic_laws.specs.FormulaReading.{Body, body_of}
+use Rattle.ic_laws.specs.Notations.{AreNotations, Notations}
 use Rattle.ic_laws.specs.Refusal.{InvalidLanguage, InvalidLocale, first_refusal}
-use Rattle.ic_laws.specs.Tree.{Spelled}
-use Rattle.ic_laws.specs.ValidCore.{IsPlaceInside, IsPooled, IsValidCore}
+use Rattle.ic_laws.specs.ValidCore.{IsKeptFormula, IsPooled, IsValidCore}
 use Rattle.ic_laws.specs.declared.scene.Scene.{Scene}
 use Rattle.ic_laws.specs.declared.tree.Formula.{Formula}
-use Rattle.ic_laws.specs.declared.tree.Formula.TheVariants as formulas
+use Rattle.ic_grid.specs.declared.grid.Grid.{Grid}
+use Rattle.ic_machine.proofs.AlikeGrid.{get-seen}
+use Rattle.ic_machine.proofs.CoreValid as machine_core
+use Rattle.ic_machine.proofs.NamesStay.{definitions_stay, sheets_stay}
+use Rattle.ic_machine.proofs.SheetsStay.{all_moved}
+use Rattle.ic_machine.proofs.SubjectsStay.{notation_stays}
+use Rattle.ic_machine.proofs.ValidLemmas.{HoldsOf, holds_at, same_styles}
+use Rattle.ic_machine.specs.Book as machine
+use Rattle.ic_machine.specs.Book.{as_core, with_sheet}
+use Rattle.ic_machine.specs.Changed as changed
+use Rattle.ic_machine.specs.Content.{content_of, formula_index}
+use Rattle.ic_machine.specs.Kept.{StaysValid}
+use Rattle.ic_machine.specs.Valid as valid_machine
+use Rattle.ic_machine.specs.Valid.{HasCellFormulas, HasFormula, IsKeptPool}
+use Rattle.ic_machine.specs.subjects.Definitions as definitions
+use Rattle.ic_machine.specs.subjects.Definitions.{delete_name_step, new_name_step, with_new_name}
+use Rattle.ic_machine.specs.subjects.Notation as notation
+use Rattle.ic_machine.specs.subjects.Notation.{set_language_step, set_locale_step}
+use Rattle.ic_machine.specs.subjects.Sheets as sheets
+use Rattle.ic_machine.specs.subjects.Sheets.{add_sheet_step, delete_sheet_step, move_sheet_step, rename_by_index_step, with_new_sheet}
 use Rattle.ic_pool.specs.Pool.{IsPlaced}
-use Rattle.ic_sheets.specs.Sheet.{BookSheet, IsValidPool}
+use Rattle.ic_sheets.proofs.PoolLemmas.{all_placed, has_placed}
+use Rattle.ic_sheets.specs.Sheet.{BookSheet, IsValidPool, empty_grid, kept_pool, plain_tab}
 use Rattle.ic_tree.proofs.NotationLaws.{notations_are}
-use Rattle.ic_book.specs.Book.{Book, IsValidBook, core_of, notations_in, scene_in}
-use Rattle.ic_book.specs.Change.{book_changed_by, with_added_sheet, with_language, with_locale, with_moved_sheet, with_name, with_removed_sheet, with_renamed_sheet, without_name}
-use Rattle.ic_book.specs.Written.{with_cell, with_pool}
-use Rattle.ic_book.proofs.Accepted.{add_accepted, delete_accepted, delete_name_accepted, language_accepted, locale_accepted, move_accepted, new_name_accepted, rename_accepted, update_accepted}
-use Rattle.ic_book.proofs.BookLemmas.{added_change, core_of-changed, core_of-moved, defined_change, pools-changed, removed_change, undefined_change, renamed_change, same_scene_after}
-use Rattle.ic_book.proofs.WrittenLemmas.{core_of-cell, core_of-pool, pools-placed, pools-written}
+use Rattle.ic_book.specs.Book.{Book, HasStrings, IsPlain, IsValidBook, core_of, notations_in, scene_in, whole_of, whole_sheet}
+use Rattle.ic_book.specs.Change.{book_changed_by, with_added_sheet, with_kept_pools, with_language, with_locale, with_moved_sheet, with_name, with_removed_sheet, with_renamed_sheet, without_name}
+use Rattle.ic_book.specs.Written.{with_pool}
+use Rattle.ic_book.proofs.Accepted.{add_accepted, delete_accepted, delete_name_accepted, language_accepted, locale_accepted, move_accepted, new_name_accepted, rename_accepted}
+use Rattle.ic_book.proofs.WholeLemmas.{index_seen, whole_added, whole_changed, whole_core, whole_defined, whole_moved, whole_removed, whole_renamed, whole_scene, whole_undefined}
+use Rattle.ic_book.proofs.WrittenLemmas.{updated_alike}
 
-not_false : (b : Bool) → not b ≡ false → b ≡ true
-not_false true e = refl
-not_false false e = cc
+-- What holds of the grid of each sheet, over changes that leave grids, and new ones empty. ----
 
-all_inserted : {X : Type 0} (P : X → Type 0) (xs : List X) (at : ℕ) (x : X) → AllByRecursion P xs → P x → AllByRecursion P (insert xs at x)
-all_inserted P [] zero x h p = (p, tt)
-all_inserted P [] (suc at) x h p = (p, tt)
-all_inserted P (y ∷ xs) zero x h p = (p, h)
-all_inserted P (y ∷ xs) (suc at) x h p = (h.0, all_inserted P xs at x h.1 p)
+module _ (P : Grid → Type 0) where
+  pub grids_kept : (n : Notations) (before after : Scene) (sheets : List BookSheet) → AllByRecursion (λ (s : BookSheet). P s.grid) sheets → AllByRecursion (λ (s : BookSheet). P s.grid) (map (kept_pool n before after) sheets)
+  grids_kept n before after [] h = tt
+  grids_kept n before after (s ∷ sheets) h = (h.0, grids_kept n before after sheets h.1)
 
-got : {X : Type 0} (P : X → Type 0) (xs : List X) (at : ℕ) (o : Option X) → slice_get xs at ≡ o → (to : ℕ) → AllByRecursion P xs → AllByRecursion P (put_back to (remove xs at) o)
-got P xs at None e to h = all_removed P xs at h
-got P xs at (Some x) e to h = all_inserted P (remove xs at) to x (all_removed P xs at h) (here xs at e h)
-  where
-    here : (xs : List _) (at : ℕ) → slice_get xs at ≡ Some x → AllByRecursion P xs → P x
-    here [] at e h = cc
-    here (y ∷ xs) zero e h = let same : y ≡ x = cc in subst P same h.0
-    here (y ∷ xs) (suc at) e h = here xs at e h.1
+-- no cell, no string, nothing merged
+pub no_strings : (count : ℕ) → HasStrings count empty_grid
+no_strings count place cell e = let none : None ≡ Some cell = sym (finite.get-empty _ place) ∙ e in cc
 
-all_moved : {X : Type 0} (P : X → Type 0) (from to : ℕ) (xs : List X) → AllByRecursion P xs → AllByRecursion P (moved from to xs)
-all_moved P from to xs h = got P xs from (slice_get xs from) refl to h
+pub is_plain : IsPlain empty_grid
+is_plain = record { merges = refl; loose = λ place cell e. let none : None ≡ Some cell = sym (finite.get-empty _ place) ∙ e in cc }
+
+-- the pools of sheets, by those of their whole sheets
+module _ (n : Notations) (scene : Scene) (strings : List (List ℕ)) where
+  placed_in : (sheet : BookSheet) (place : CellPlace) (o : Option ℕ) (at : ℕ) → o ≡ Some at → HasFormula n scene (whole_sheet strings sheet) place o → at < length sheet.pool
+  placed_in sheet place None at e h = cc
+  placed_in sheet place (Some k) at e h = let same : k ≡ at = cc in subst (λ i. i < length sheet.pool) same h.0
+
+  pools_of : (sheets : List BookSheet) → AllByRecursion (IsKeptPool n scene) (map (whole_sheet strings) sheets) → AllByRecursion (HasCellFormulas n scene) (map (whole_sheet strings) sheets) → AllByRecursion (IsValidPool n scene) sheets
+  pools_of [] h g = tt
+  pools_of (s ∷ sheets) h g = (
+    record {
+      formulas = h.0;
+      places = λ place cell at e is.
+          placed_in s place (formula_index (content_of strings cell)) at (index_seen strings cell ∙ is) (g.0 place (content_of strings cell) (get-seen (content_of strings) s.grid.cells place ∙ ap (option_map (content_of strings)) e));
+    },
+    pools_of sheets h.1 g.1,
+  )
 
 module _ (book : Book) (valid : IsValidBook book) where
   abbrev n : Notations
@@ -62,145 +84,177 @@ module _ (book : Book) (valid : IsValidBook book) where
   abbrev core : CoreBook
   core = core_of book
 
+  abbrev whole : machine.Book
+  whole = whole_of book
+
   pub notations : AreNotations (notations_in book)
-  notations = notations_are book.tables valid.tables
+  notations = notations_are book.tables valid.whole.tables
 
-  pub named : IsNamed (scene_in book)
-  named = book_named n core valid.core
+  -- its core is valid, and its pools are
+  pub core_valid : IsValidCore (notations_in book) (core_of book)
+  core_valid = subst (IsValidCore n) (whole_core book) (machine_core.core_valid whole valid.whole)
 
-  -- a step that is accepted leaves a valid core
-  step_valid : (command : Command) (after : CoreBook) → core_step n core command ≡ Ok (after, []) → IsValidCore n after
-  step_valid command after e = step_keeps n notations (tree_facts n notations) core valid.core command after [] e
+  pub pools_valid : AllByRecursion (IsValidPool (notations_in book) (scene_in book)) book.sheets
+  pools_valid =
+      subst (λ scene. AllByRecursion (IsValidPool n scene) book.sheets) (whole_scene book)
+      (pools_of n (machine.scene_in whole) book.strings book.sheets valid.whole.kept.pools valid.whole.formulas)
+
+  -- what an accepted step of the core machine leaves of the whole book is valid, where the step keeps that
+  lifted_valid : (command : Command) (after : CoreBook) (left : machine.Book) → core_step.core_step n core command ≡ Ok (after, []) → StaysValid (as_core (core_step.core_step n (machine.core_of whole) command) left) → valid_machine.IsValidBook left
+  lifted_valid command after left e h = subst (λ o. StaysValid (as_core o left)) (ap (λ c. core_step.core_step n c command) (whole_core book) ∙ e) h
+
+  -- sheets ----
+
+  added_whole : (name : List ℕ) → add_sheet_refusal core name ≡ None → valid_machine.IsValidBook (changed.changed_by (with_new_sheet name) whole)
+  unfolding add_sheet_step
+  added_whole name e = lifted_valid (AddSheet name) _ _ (add_accepted n core name e) (sheets_stay whole valid.whole (sheets.AddSheet name))
 
   pub added_valid : (name : List ℕ) → add_sheet_refusal core name ≡ None → IsValidBook (book_changed_by (with_added_sheet name) book)
   added_valid name e =
-      let clear = none_holds (add_sheet_causes core name) e in
+      let after : Scene = scene_in (with_added_sheet name book) in
       record {
-        core = subst (IsValidCore n) (sym (core_of-changed n (with_added_sheet name) (with_new_sheet name) (added_change name) book)) (step_valid (AddSheet name) _ (add_accepted n core name e));
-        pools =
-            pools-changed n notations (with_added_sheet name) (with_new_sheet name) (added_change name) book named
-            (subst IsNamed (same_scene_after (with_added_sheet name) (with_new_sheet name) (added_change name) book) (added_named n core valid.core name (not_false _ clear.0) clear.1.0)) valid.pools;
-        zone = valid.zone;
-        tables = valid.tables;
+        whole = subst valid_machine.IsValidBook (sym (whole_changed (with_added_sheet name) (with_new_sheet name) (whole_added name) book)) (added_whole name e);
+        strings = all_pushed (λ (s : BookSheet). HasStrings (length book.strings) s.grid) (map (kept_pool n (scene_in book) after) book.sheets) (record { id = greatest_id (core_of (with_kept_pools n (scene_in book) after book)) + 1; name = name; pool = []; grid = empty_grid; tab = plain_tab }) (grids_kept (HasStrings (length book.strings)) n (scene_in book) after book.sheets valid.strings) (no_strings (length book.strings));
+        plain = all_pushed (λ (s : BookSheet). IsPlain s.grid) (map (kept_pool n (scene_in book) after) book.sheets) (record { id = greatest_id (core_of (with_kept_pools n (scene_in book) after book)) + 1; name = name; pool = []; grid = empty_grid; tab = plain_tab }) (grids_kept IsPlain n (scene_in book) after book.sheets valid.plain) is_plain;
       }
+
+  renamed_whole : (index : ℕ) (name : List ℕ) → rename_refusal core index name ≡ None → valid_machine.IsValidBook (changed.changed_by (changed.with_renamed_sheet index name) whole)
+  unfolding rename_by_index_step
+  renamed_whole index name e = lifted_valid (RenameSheetByIndex index name) _ _ (rename_accepted n core index name e) (sheets_stay whole valid.whole (sheets.RenameSheetByIndex index name))
 
   pub renamed_valid : (index : ℕ) (name : List ℕ) → rename_refusal core index name ≡ None → IsValidBook (book_changed_by (with_renamed_sheet index name) book)
   renamed_valid index name e =
-      let clear = none_holds (rename_causes core index name) e in
+      let after : Scene = scene_in (with_renamed_sheet index name book) in
       record {
-        core = subst (IsValidCore n) (sym (core_of-changed n (with_renamed_sheet index name) (with_sheet_name index name) (renamed_change index name) book)) (step_valid (RenameSheetByIndex index name) _ (rename_accepted n core index name e));
-        pools =
-            pools-changed n notations (with_renamed_sheet index name) (with_sheet_name index name) (renamed_change index name) book named
-            (subst IsNamed (same_scene_after (with_renamed_sheet index name) (with_sheet_name index name) (renamed_change index name) book) (renamed_named n core valid.core index name (not_false _ clear.0) clear.1.0)) valid.pools;
-        zone = valid.zone;
-        tables = valid.tables;
+        whole = subst valid_machine.IsValidBook (sym (whole_changed (with_renamed_sheet index name) (changed.with_renamed_sheet index name) (whole_renamed index name) book)) (renamed_whole index name e);
+        strings = all_updated (λ (s : BookSheet). HasStrings (length book.strings) s.grid) (λ s. record s { name = name }) (λ s h. h) index (map (kept_pool n (scene_in book) after) book.sheets) (grids_kept (HasStrings (length book.strings)) n (scene_in book) after book.sheets valid.strings);
+        plain = all_updated (λ (s : BookSheet). IsPlain s.grid) (λ s. record s { name = name }) (λ s h. h) index (map (kept_pool n (scene_in book) after) book.sheets) (grids_kept IsPlain n (scene_in book) after book.sheets valid.plain);
       }
 
+  removed_whole : (index : ℕ) → delete_refusal core index ≡ None → valid_machine.IsValidBook (changed.changed_by (changed.with_removed_sheet index) whole)
+  unfolding delete_sheet_step
+  removed_whole index e = lifted_valid (DeleteSheet index) _ _ (delete_accepted n core index e) (sheets_stay whole valid.whole (sheets.DeleteSheet index))
+
   pub removed_valid : (index : ℕ) → delete_refusal core index ≡ None → IsValidBook (book_changed_by (with_removed_sheet index) book)
-  removed_valid index e = record {
-    core = subst (IsValidCore n) (sym (core_of-changed n (with_removed_sheet index) (without_sheet index) (removed_change index) book)) (step_valid (DeleteSheet index) _ (delete_accepted n core index e));
-    pools =
-        pools-changed n notations (with_removed_sheet index) (without_sheet index) (removed_change index) book named
-        (subst IsNamed (same_scene_after (with_removed_sheet index) (without_sheet index) (removed_change index) book) (deleted_named n core valid.core index)) valid.pools;
-    zone = valid.zone;
-    tables = valid.tables;
+  removed_valid index e =
+      let after : Scene = scene_in (with_removed_sheet index book) in
+      record {
+        whole = subst valid_machine.IsValidBook (sym (whole_changed (with_removed_sheet index) (changed.with_removed_sheet index) (whole_removed index) book)) (removed_whole index e);
+        strings = all_removed (λ (s : BookSheet). HasStrings (length book.strings) s.grid) (map (kept_pool n (scene_in book) after) book.sheets) index (grids_kept (HasStrings (length book.strings)) n (scene_in book) after book.sheets valid.strings);
+        plain = all_removed (λ (s : BookSheet). IsPlain s.grid) (map (kept_pool n (scene_in book) after) book.sheets) index (grids_kept IsPlain n (scene_in book) after book.sheets valid.plain);
+      }
+
+  moved_whole : (from to : ℕ) → move_refusal core from to ≡ None → valid_machine.IsValidBook (changed.with_moved_sheet from to whole)
+  unfolding move_sheet_step
+  moved_whole from to e = lifted_valid (MoveSheet from to) _ _ (move_accepted n core from to e) (sheets_stay whole valid.whole (sheets.MoveSheet from to))
+
+  pub moved_valid : (from to : ℕ) → move_refusal core from to ≡ None → IsValidBook (with_moved_sheet from to book)
+  moved_valid from to e = record {
+    whole = subst valid_machine.IsValidBook (sym (whole_moved from to book)) (moved_whole from to e);
+    strings = all_moved (λ (s : BookSheet). HasStrings (length book.strings) s.grid) from to book.sheets valid.strings;
+    plain = all_moved (λ (s : BookSheet). IsPlain s.grid) from to book.sheets valid.plain;
   }
+
+  -- definitions ----
+
+  named_whole : (name : List ℕ) (index : Option ℕ) (text : List ℕ) (body : Body) → new_name_refusal n core name index text ≡ None → body_of n core text ≡ Some body
+      → valid_machine.IsValidBook (with_new_name whole name (scope_or_none core index) (Some body))
+  unfolding new_name_step
+  named_whole name index text body e typed =
+      subst valid_machine.IsValidBook (ap (λ (c : CoreBook). with_new_name whole name (scope_or_none c index) (body_of n c text)) (whole_core book) ∙ ap (with_new_name whole name (scope_or_none core index)) typed)
+      (lifted_valid (NewDefinedName name index text) _ _ (new_name_accepted n core name index text e) (definitions_stay whole valid.whole (definitions.NewDefinedName name index text)))
 
   pub defined_valid : (name : List ℕ) (index : Option ℕ) (text : List ℕ) (body : Body) → new_name_refusal n core name index text ≡ None → body_of n core text ≡ Some body
       → IsValidBook (book_changed_by (with_name (new_definition n core name (scope_or_none core index) body)) book)
   defined_valid name index text body e typed =
       let new : Definition = new_definition n core name (scope_or_none core index) body in
+      let after : Scene = scene_in (with_name new book) in
       record {
-        core =
-            subst (IsValidCore n) (sym (core_of-changed n (with_name new) (with_definition new) (defined_change new) book))
-            (step_valid (NewDefinedName name index text) _ (new_name_accepted n core name index text e ∙ ap (λ b. Ok (with_new_name n core name (scope_or_none core index) b, [])) typed));
-        pools =
-            pools-changed n notations (with_name new) (with_definition new) (defined_change new) book named
-            (defined_named n core valid.core new (not_false _ (none_holds (new_name_causes n core name index text) e).0)) valid.pools;
-        zone = valid.zone;
-        tables = valid.tables;
+        whole =
+            subst valid_machine.IsValidBook
+            (sym
+            (whole_changed (with_name new) (changed.with_definition new) (whole_defined new) book
+            ∙ ap (λ (c : CoreBook). changed.changed_by (changed.with_definition (new_definition n c name (scope_or_none core index) body)) whole) (sym (whole_core book))))
+            (named_whole name index text body e typed);
+        strings = grids_kept (HasStrings (length book.strings)) n (scene_in book) after book.sheets valid.strings;
+        plain = grids_kept IsPlain n (scene_in book) after book.sheets valid.plain;
       }
+
+  unnamed_whole : (name : List ℕ) (index : Option ℕ) (at : ℕ) → delete_name_refusal core name index ≡ None → index_of_definition core name (scope_or_none core index) ≡ Some at
+      → valid_machine.IsValidBook (changed.changed_by (changed.without_definition (Some at)) whole)
+  unfolding delete_name_step
+  unnamed_whole name index at e found =
+      subst valid_machine.IsValidBook (ap (λ (o : Option ℕ). changed.changed_by (changed.without_definition o) whole) (ap (λ (c : CoreBook). index_of_definition c name (scope_or_none c index)) (whole_core book) ∙ found))
+      (lifted_valid (DeleteDefinedName name index) _ _ (delete_name_accepted n core name index e) (definitions_stay whole valid.whole (definitions.DeleteDefinedName name index)))
 
   pub undefined_valid : (name : List ℕ) (index : Option ℕ) (at : ℕ) → delete_name_refusal core name index ≡ None → index_of_definition core name (scope_or_none core index) ≡ Some at
       → IsValidBook (book_changed_by (without_name (Some at)) book)
-  undefined_valid name index at e found = record {
-    core =
-        subst (IsValidCore n) (sym (core_of-changed n (without_name (Some at)) (without_definition (Some at)) (undefined_change at) book))
-        (step_valid (DeleteDefinedName name index) _ (delete_name_accepted n core name index e ∙ ap (λ o. Ok (changed_by n (without_definition o) core, [])) found));
-    pools = pools-changed n notations (without_name (Some at)) (without_definition (Some at)) (undefined_change at) book named (undefined_named n core valid.core at) valid.pools;
-    zone = valid.zone;
-    tables = valid.tables;
-  }
+  undefined_valid name index at e found =
+      let after : Scene = scene_in (without_name (Some at) book) in
+      record {
+        whole = subst valid_machine.IsValidBook (sym (whole_changed (without_name (Some at)) (changed.without_definition (Some at)) (whole_undefined (Some at)) book)) (unnamed_whole name index at e found);
+        strings = grids_kept (HasStrings (length book.strings)) n (scene_in book) after book.sheets valid.strings;
+        plain = grids_kept IsPlain n (scene_in book) after book.sheets valid.plain;
+      }
 
-  -- in another order of the sheets the same is kept
-  pub moved_valid : (from to : ℕ) → move_refusal core from to ≡ None → from < length core.sheets → IsValidBook (with_moved_sheet from to book)
-  moved_valid from to e within = record {
-    core = subst (IsValidCore n) (sym (core_of-moved from to book)) (step_valid (MoveSheet from to) _ (move_accepted n core from to e));
-    pools = subst (λ scene. AllByRecursion (IsValidPool n scene) (moved from to book.sheets)) (ap scene_of (sym (core_of-moved from to book))) (all_moved (IsValidPool n after) from to book.sheets (pools_alike book.sheets valid.pools));
-    zone = valid.zone;
-    tables = valid.tables;
-  }
-    where
-      after : Scene
-      after = scene_of (record core { sheets = moved from to core.sheets })
-
-      alike : (scope : Option ℕ) (formula : Formula) → IsPooled n (scene_in book) scope formula → IsPooled n after scope formula
-      alike scope (formulas.Tree t) h = kept_where_alike n (scene_in book) after (moved_alike n core valid.core from to within) scope (λ place. Unit {0}) t h
-      alike scope (formulas.Raw text) h = tt
-
-      all_alike : (scope : Option ℕ) (pool : List Formula) → AllByRecursion (IsPooled n (scene_in book) scope) pool → AllByRecursion (IsPooled n after scope) pool
-      all_alike scope [] h = tt
-      all_alike scope (x ∷ pool) h = (alike scope x h.0, all_alike scope pool h.1)
-
-      pools_alike : (sheets : List BookSheet) → AllByRecursion (IsValidPool n (scene_in book)) sheets → AllByRecursion (IsValidPool n after) sheets
-      pools_alike [] h = tt
-      pools_alike (s ∷ sheets) h = (record { formulas = all_alike (Some s.id) s.pool h.0.formulas; places = h.0.places }, pools_alike sheets h.1)
+  -- the notation ----
 
   pub in_locale : (id : List ℕ) → first_refusal ((not (n.knows_locale id), InvalidLocale) ∷ []) ≡ None → IsValidBook (with_locale id book)
-  in_locale id e = record { core = step_valid (SetLocale id) _ (locale_accepted n core id e); pools = valid.pools; zone = valid.zone; tables = valid.tables }
+  unfolding set_locale_step
+  in_locale id e = record {
+    whole = lifted_valid (SetLocale id) _ _ (locale_accepted n core id e) (notation_stays whole (notation.SetLocale id) valid.whole);
+    strings = valid.strings;
+    plain = valid.plain;
+  }
 
   pub in_language : (id : List ℕ) → first_refusal ((not (n.knows_language id), InvalidLanguage) ∷ []) ≡ None → IsValidBook (with_language id book)
-  in_language id e = record { core = step_valid (SetLanguage id) _ (language_accepted n core id e); pools = valid.pools; zone = valid.zone; tables = valid.tables }
+  unfolding set_language_step
+  in_language id e = record {
+    whole = lifted_valid (SetLanguage id) _ _ (language_accepted n core id e) (notation_stays whole (notation.SetLanguage id) valid.whole);
+    strings = valid.strings;
+    plain = valid.plain;
+  }
 
-  -- the formula of a text in a cell can be kept
-  pub cell_pooled : (id : ℕ) (row column : ℤ) (text : List ℕ) → IsPooled n (scene_in book) (Some id) (cell_formula n core id row column text)
-  cell_pooled id row column text = at (read_as (shown_at n core row column) text) (read_as (shown_at n core row column) (text ++ codes ")")) refl refl
-    where
-      form : IsShownForm n (shown_at n core row column) row column
-      form = notations.shown core.locale core.language row column valid.core.locale valid.core.language
+  -- a formula that gets its place in a pool ----
 
-      of_text : (typed : List ℕ) (t : Spelled) → read_as (shown_at n core row column) typed ≡ Some t → IsPooled n (scene_in book) (Some id) (formulas.Tree (bound (english_function n) (scene_in book) (Some id) t))
-      of_text typed t e =
-          kept_where_less n (IsPlaceInside row column) (λ place. Unit {0}) (λ place inside. tt) (scene_in book) (Some id) (bound (english_function n) (scene_in book) (Some id) t)
-          (bound_is_kept n notations (scene_in book) named.differ (shown_at n core row column) row column form typed t e (Some id))
+  module _ (index : ℕ) (sheet : BookSheet) (at_index : slice_get book.sheets index ≡ Some sheet) (place : ℕ) (pool : List Formula) (formula : Formula) (placed : IsPlaced formula place sheet.pool pool) (pooled : IsPooled n (scene_in book) (Some sheet.id) formula) where
+    abbrev old : machine.Sheet
+    old = whole_sheet book.strings sheet
 
-      at : (o p : Option Spelled) → read_as (shown_at n core row column) text ≡ o → read_as (shown_at n core row column) (text ++ codes ")") ≡ p
-          → IsPooled n (scene_in book) (Some id) (tree_or_raw (λ t. formulas.Tree (bound (english_function n) (scene_in book) (Some id) t)) text (option_or o p))
-      at (Some t) p e f = of_text text t e
-      at None (Some t) e f = of_text (text ++ codes ")") t f
-      at None None e f = tt
+    abbrev new : machine.Sheet
+    new = record old { pool = pool }
 
-  module _ (index : ℕ) (sheet : BookSheet) (at_index : slice_get book.sheets index ≡ Some sheet) (place : ℕ) (pool : List Formula) where
-    -- a formula that is written
-    pub written_valid : (row column : ℤ) (text : List ℕ) → update_refusal core index row column text ≡ None → IsPlaced (cell_formula n core sheet.id row column (without_equals text)) place sheet.pool pool
-        → IsValidBook (with_cell index pool row column place book)
-    written_valid row column text e placed =
-        let formula : Formula = cell_formula n core sheet.id row column (without_equals text) in
+    there : slice_get whole.sheets index ≡ Some old
+    there = slice_get-map (whole_sheet book.strings) book.sheets index ∙ ap (option_map (whole_sheet book.strings)) at_index
+
+    longer : (q : CellPlace) (o : Option ℕ) → HasFormula n (machine.scene_in whole) old q o → HasFormula n (machine.scene_in whole) new q o
+    longer q None h = tt
+    longer q (Some k) h =
+        let grown = has_placed formula place sheet.pool pool placed in
+        let more : length sheet.pool ≤ length pool = grown.longer in
+        let less : k < length sheet.pool = h.0 in
+        let below : k < length pool = omega (arith, less, more) in
+        (below, subst (λ (f : Formula). IsKeptFormula n (machine.scene_in whole) (Some sheet.id) q.0 q.1 f) (sym (grown.others k h.0)) h.1)
+
+    new_holds : HoldsOf n (machine.scene_in whole) (length whole.styles) new
+    new_holds =
+        let holds = holds_at whole valid.whole index old there in
         record {
-          core =
-              subst (IsValidCore n)
-              (sym (core_of-cell n book index sheet at_index formula place pool placed valid.pools row column (λ id. cell_formula n core id row column (without_equals text)) refl))
-              (step_valid (UpdateCellWithFormula index row column text) _ (update_accepted n core index row column text e));
-          pools = pools-written n book index sheet at_index formula place pool placed valid.pools (cell_pooled sheet.id row column (without_equals text)) row column;
-          zone = valid.zone;
-          tables = valid.tables;
+          pool = all_placed (IsPooled n (machine.scene_in whole) (Some sheet.id)) formula place sheet.pool pool placed (subst (λ scene. IsPooled n scene (Some sheet.id) formula) (sym (whole_scene book)) pooled) holds.pool;
+          inside = holds.inside;
+          formulas = λ q x e. longer q (formula_index x) (holds.formulas q x e);
+          styles = holds.styles;
+          arrays = holds.arrays;
+          merges = holds.merges;
+          layout = record { frozen = holds.layout.frozen; lines = holds.layout.lines };
         }
 
-    -- and one that gets its place alone
-    pub placed_valid : (formula : Formula) → IsPlaced formula place sheet.pool pool → IsPooled n (scene_in book) (Some sheet.id) formula → IsValidBook (with_pool index pool book)
-    placed_valid formula placed pooled = record {
-      core = subst (IsValidCore n) (sym (core_of-pool n book index sheet at_index formula place pool placed valid.pools)) valid.core;
-      pools = pools-placed n book index sheet at_index formula place pool placed valid.pools pooled;
-      zone = valid.zone;
-      tables = valid.tables;
+    pub placed_valid : IsValidBook (with_pool index pool book)
+    placed_valid = record {
+      whole =
+          subst valid_machine.IsValidBook
+          (ap (λ (all : List machine.Sheet). let b : machine.Book = record whole { sheets = all } in b) (sym (updated_alike (whole_sheet book.strings) (λ s. record s { pool = pool }) (λ s. new) index book.sheets sheet at_index refl)))
+          (same_styles whole valid.whole index old new there refl refl new_holds);
+      strings = all_updated (λ (s : BookSheet). HasStrings (length book.strings) s.grid) (λ s. record s { pool = pool }) (λ s h. h) index book.sheets valid.strings;
+      plain = all_updated (λ (s : BookSheet). IsPlain s.grid) (λ s. record s { pool = pool }) (λ s h. h) index book.sheets valid.plain;
     }

@@ -14,13 +14,14 @@ use Rattle.ic_laws.proofs.keeping.SheetChanges.{Going, Naming, gone_becomes, nam
 use Rattle.ic_laws.proofs.keeping.Sheets.{sheets_differ}
 use Rattle.ic_laws.specs.Changes.{Change, changed_sheet, changed_word, name_added, name_gone, sheet_gone, sheet_named}
 use Rattle.ic_laws.specs.CoreBook.{CoreBook, Definition, greatest_id, has_sheet, spelling_of}
+use Rattle.ic_laws.specs.CoreStep as core_step
 use Rattle.ic_laws.specs.CoreStep.{has_other_sheet}
 use Rattle.ic_laws.specs.Notations.{AreNotations, Notations}
 use Rattle.ic_laws.specs.Scene.{key_of, same_key}
 use Rattle.ic_laws.specs.ValidCore.{IsValidCore}
 use Rattle.ic_laws.specs.declared.scene.Scene.{Scene}
 use Rattle.ic_sheets.specs.Rewriting.{changed_pool}
-use Rattle.ic_sheets.specs.Sheet.{BookSheet, IsValidPool, kept_pool, plain_tab, sheet_core}
+use Rattle.ic_sheets.specs.Sheet.{BookSheet, IsValidPool, empty_grid, kept_pool, plain_tab, sheet_core}
 use Rattle.ic_book.specs.Book.{Book, core_of, scene_in}
 use Rattle.ic_book.specs.Change.{changed_book, with_added_sheet, with_kept_pools, with_name, with_removed_sheet, with_renamed_sheet, without_name}
 use Rattle.ic_book.proofs.BookLemmas.{added_change, changed_in, greatest-kept, removed_change, renamed_change, same_scene_after}
@@ -42,12 +43,12 @@ module _ (n : Notations) (are : AreNotations n) (book : Book) (core : IsValidCor
 
   -- a book with a new sheet
   pub added_is : (name : List ℕ) (id : ℕ) → has_sheet (core_of book) name ≡ false → id ≡ greatest_id (core_of book) + 1
-      → changed_in n (with_added_sheet name) book ≡ record (changed_book (sheet_named id name) book) { sheets = map (changed_pool (sheet_named id name)) book.sheets ++ record { id = id; name = name; pool = []; cells = []; tab = plain_tab } ∷ [] }
+      → changed_in n (with_added_sheet name) book ≡ record (changed_book (sheet_named id name) book) { sheets = map (changed_pool (sheet_named id name)) book.sheets ++ record { id = id; name = name; pool = []; grid = empty_grid; tab = plain_tab } ∷ [] }
   added_is name id new is =
       let after : Scene = scene_in (with_added_sheet name book) in
       let naming : Naming (scene_in book) after (greatest_id (core_of book) + 1) name =
-      subst (λ scene. Naming (scene_in book) scene (greatest_id (core_of book) + 1) name) (same_scene_after _ _ (added_change name) book) (add_naming (core_of book) name core.names_differ new) in
-      ap₂ (λ (kept : Book) (k : ℕ). let b : Book = record kept { sheets = kept.sheets ++ record { id = k; name = name; pool = []; cells = []; tab = plain_tab } ∷ [] } in b)
+      subst (λ scene. Naming (scene_in book) scene (greatest_id (core_of book) + 1) name) (same_scene_after (with_added_sheet name) (core_step.with_new_sheet name) (added_change name) book) (add_naming (core_of book) name core.names_differ new) in
+      ap₂ (λ (kept : Book) (k : ℕ). let b : Book = record kept { sheets = kept.sheets ++ record { id = k; name = name; pool = []; grid = empty_grid; tab = plain_tab } ∷ [] } in b)
       (subst (λ k. with_kept_pools n (scene_in book) after book ≡ changed_book (sheet_named k name) book) (sym is)
       (kept_is after (sheet_named (greatest_id (core_of book) + 1) name) (named_becomes (scene_in book) after (greatest_id (core_of book) + 1) name naming)))
       (ap (λ k. k + 1) (greatest-kept n (scene_in book) after book) ∙ sym is)
@@ -58,7 +59,7 @@ module _ (n : Notations) (are : AreNotations n) (book : Book) (core : IsValidCor
   renamed_is index name sheet at new =
       let after : Scene = scene_in (with_renamed_sheet index name book) in
       let naming : Naming (scene_in book) after sheet.id name =
-      subst (λ scene. Naming (scene_in book) scene sheet.id name) (same_scene_after _ _ (renamed_change index name) book)
+      subst (λ scene. Naming (scene_in book) scene sheet.id name) (same_scene_after (with_renamed_sheet index name) (core_step.with_sheet_name index name) (renamed_change index name) book)
       (rename_naming (core_of book) index name (sheet_core sheet) core.names_differ (slice_get-map sheet_core book.sheets index ∙ ap (option_map sheet_core) at) new) in
       ap (with_renamed_sheet index name) (kept_is after (sheet_named sheet.id name) (named_becomes (scene_in book) after sheet.id name naming))
 
@@ -68,7 +69,7 @@ module _ (n : Notations) (are : AreNotations n) (book : Book) (core : IsValidCor
   removed_is index sheet at =
       let after : Scene = scene_in (with_removed_sheet index book) in
       let going : Going (scene_in book) after sheet.id sheet.name =
-      subst (λ scene. Going (scene_in book) scene sheet.id sheet.name) (same_scene_after _ _ (removed_change index) book)
+      subst (λ scene. Going (scene_in book) scene sheet.id sheet.name) (same_scene_after (with_removed_sheet index) (core_step.without_sheet index) (removed_change index) book)
       (delete_going n (core_of book) index (sheet_core sheet) core (slice_get-map sheet_core book.sheets index ∙ ap (option_map sheet_core) at)) in
       ap (with_removed_sheet index) (kept_is after (sheet_gone sheet.id sheet.name) (gone_becomes (scene_in book) after sheet.id sheet.name going))
 

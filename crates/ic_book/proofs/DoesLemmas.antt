@@ -1,6 +1,6 @@
 -- What the calls of a model do is the step of their command.
-use Rattle.std.proofs.Common.{◌≡◌, ℕ, ℤ, List, [], ◌∷◌, ◌++◌, Bool, true, false, map, not, option_map, Option, Some, None, Result, Ok, Err, is_some, refl, sym, ap, ap₂, subst, ◌∙◌, inl, inr, ◌<◌, IfOk, OnOk, OnErr, length, rules, arith}
-use Rattle.std.specs.Prelude.{flat_map, is_none, nat_lt, option_to_list, unwrap_or, String, chars, string_bytes}
+use Rattle.std.proofs.Common.{◌≡◌, ℕ, ℤ, List, [], ◌∷◌, ◌++◌, Bool, true, false, map, not, option_map, Option, Some, None, Result, Ok, Err, is_some, refl, sym, ap, ap₂, subst, ◌∙◌, inl, inr, IfOk, OnOk, OnErr}
+use Rattle.std.specs.Prelude.{flat_map, is_none, option_to_list, unwrap_or, String, chars, string_bytes}
 use Rattle.std.proofs.lemmas.Grind.{flat_map-append}
 use Rattle.std.proofs.lemmas.List.{map-append}
 use Rattle.std.proofs.lemmas.List.Folds.{flat_map-map}
@@ -60,6 +60,8 @@ told_whole errors.NotAFormula refusal h = ap (option_map OfCore) h
 told_whole errors.InvalidLocale refusal h = ap (option_map OfCore) h
 told_whole errors.InvalidLanguage refusal h = ap (option_map OfCore) h
 told_whole errors.InvalidTimezone refusal h = ap (option_map OfCore) h
+told_whole errors.MergedPart refusal h = absurd h
+told_whole errors.ArrayPart refusal h = absurd h
 told_whole errors.FrozenNegative refusal h = absurd h
 told_whole errors.TooManyRows refusal h = absurd h
 told_whole errors.TooManyColumns refusal h = absurd h
@@ -143,12 +145,6 @@ not_false : (b : Bool) → not b ≡ false → b ≡ true
 not_false true e = refl
 not_false false e = cc
 
-less : (m k : ℕ) → nat_lt m k ≡ true → m < k
-less m k e = search (rules, arith)
-
-within : (m k : ℕ) → not (nat_lt m k) ≡ false → m < k
-within m k e = less m k (not_false _ e)
-
 module _ (result : Result (Unit {0}) BookError) (old new : ModelState) (valid : IsValidBook old.book) (same : OnErr result (new ≡ old)) where
   abbrev n : Notations
   n = notations_in old.book
@@ -158,7 +154,7 @@ module _ (result : Result (Unit {0}) BookError) (old new : ModelState) (valid : 
 
   -- its core
   abbrev seen : machine.core_of (whole_of old.book) ≡ core_of old.book
-  seen = whole_core old.book valid
+  seen = whole_core old.book
 
   -- the step of a command whose refusal is this, by the core, and that leaves this
   module _ (becomes : Book) (is : OnOk result (new.book ≡ becomes)) (refusal : CoreBook → Option Refusal) (leaves : CoreBook → CoreBook) (left : machine.Book) (e : whole_of becomes ≡ left) where
@@ -192,19 +188,19 @@ module _ (result : Result (Unit {0}) BookError) (old new : ModelState) (valid : 
   unfolding core_step add_sheet_step
   adds name is refused =
       step_wanted (book_changed_by (with_added_sheet name) old.book) is (λ c. add_sheet_refusal c name) (core.changed_by n (core.with_new_sheet name)) (changed.changed_by (with_new_sheet name) whole)
-      (whole_changed (with_added_sheet name) (with_new_sheet name) (whole_added name) old.book valid) refused (added_valid old.book valid name)
+      (whole_changed (with_added_sheet name) (with_new_sheet name) (whole_added name) old.book) refused (added_valid old.book valid name)
 
   pub renames_at : (index : ℕ) (name : List ℕ) → OnOk result (new.book ≡ book_changed_by (with_renamed_sheet index name) old.book) → Refuses result (rename_refusal (core_of old.book) index name) → Does sheet_step (RenameSheetByIndex index name) no_fields result old new
   unfolding core_step rename_by_index_step
   renames_at index name is refused =
       step_wanted (book_changed_by (with_renamed_sheet index name) old.book) is (λ c. rename_refusal c index name) (core.changed_by n (with_sheet_name index name)) (changed.changed_by (changed.with_renamed_sheet index name) whole)
-      (whole_changed (with_renamed_sheet index name) (changed.with_renamed_sheet index name) (whole_renamed index name) old.book valid) refused (renamed_valid old.book valid index name)
+      (whole_changed (with_renamed_sheet index name) (changed.with_renamed_sheet index name) (whole_renamed index name) old.book) refused (renamed_valid old.book valid index name)
 
   pub deletes_at : (index : ℕ) → OnOk result (new.book ≡ book_changed_by (with_removed_sheet index) old.book) → Refuses result (delete_refusal (core_of old.book) index) → Does sheet_step (DeleteSheet index) no_fields result old new
   unfolding core_step delete_sheet_step
   deletes_at index is refused =
       step_wanted (book_changed_by (with_removed_sheet index) old.book) is (λ c. delete_refusal c index) (core.changed_by n (without_sheet index)) (changed.changed_by (changed.with_removed_sheet index) whole)
-      (whole_changed (with_removed_sheet index) (changed.with_removed_sheet index) (whole_removed index) old.book valid) refused (removed_valid old.book valid index)
+      (whole_changed (with_removed_sheet index) (changed.with_removed_sheet index) (whole_removed index) old.book) refused (removed_valid old.book valid index)
 
   -- a sheet that is looked up, at the index where it is found
   pub renames : (from name : List ℕ) (index : ℕ) → index_of_name (core_of old.book) from ≡ Some index → OnOk result (new.book ≡ book_changed_by (with_renamed_sheet index name) old.book) → Refuses result (rename_refusal (core_of old.book) index name) → Does sheet_step (RenameSheet from name) no_fields result old new
@@ -250,7 +246,7 @@ module _ (result : Result (Unit {0}) BookError) (old new : ModelState) (valid : 
       let index : Option ℕ = index_of_definition (core_of old.book) name (scope_or_none (core_of old.book) scope) in
       step_wanted (undefined_book name scope) is (λ c. delete_name_refusal c name scope) (λ c. core.changed_by n (core.without_definition (index_of_definition c name (scope_or_none c scope))) c)
       (changed.changed_by (changed.without_definition (index_of_definition (machine.core_of whole) name (scope_or_none (machine.core_of whole) scope))) whole)
-      (whole_changed (without_name index) (changed.without_definition index) (whole_undefined index) old.book valid
+      (whole_changed (without_name index) (changed.without_definition index) (whole_undefined index) old.book
       ∙ ap (λ c. changed.changed_by (changed.without_definition (index_of_definition c name (scope_or_none c scope))) whole) (sym seen)) refused (undefined_after name scope)
 
   -- the book with a new definition, where its body reads
@@ -265,7 +261,7 @@ module _ (result : Result (Unit {0}) BookError) (old new : ModelState) (valid : 
     whole_with : (o : Option Body) → whole_of (defined_book o) ≡ with_new_name whole name (scope_or_none (core_of old.book) scope) o
     whole_with None = refl
     whole_with (Some body) =
-        whole_changed (with_name (new_in (core_of old.book) body)) (changed.with_definition (new_in (core_of old.book) body)) (whole_defined (new_in (core_of old.book) body)) old.book valid
+        whole_changed (with_name (new_in (core_of old.book) body)) (changed.with_definition (new_in (core_of old.book) body)) (whole_defined (new_in (core_of old.book) body)) old.book
         ∙ ap (λ c. changed.changed_by (changed.with_definition (new_definition n c name (scope_or_none (core_of old.book) scope) body)) whole) (sym seen)
 
     module _ (text : List ℕ) where
@@ -303,7 +299,7 @@ module _ (result : Result (Unit {0}) BookError) (old new : ModelState) (valid : 
   unfolding core_step move_sheet_step
   moves from to is refused =
       step_never (with_moved_sheet from to old.book) is (λ c. move_refusal c from to) (λ c. record c { sheets = moved from to c.sheets }) (changed.with_moved_sheet from to whole) (whole_moved from to old.book) refused
-      (λ e. moved_valid old.book valid from to e (within from (length (core_of old.book).sheets) (none_holds (move_causes (core_of old.book) from to) e).0))
+      (moved_valid old.book valid from to)
 
   pub puts_locale : (id : List ℕ) → OnOk result (new.book ≡ with_locale id old.book) → RefusesOnly result (first_refusal ((not ((notations_in old.book).knows_locale id), InvalidLocale) ∷ [])) → DoesOnly notation_step (SetLocale id) no_fields result old new
   unfolding core_step set_locale_step
@@ -322,7 +318,7 @@ module _ (now : ModelState) (valid : IsValidBook now.book) where
   renames_none from name none = record {
     done = (
       ap (λ o. as_core (core.at_found o (λ i. core.rename_step (notations_in now.book) (machine.core_of (whole_of now.book)) i name)) (changed.changed_by (changed.with_renamed_sheet (unwrap_or o 0) name) (whole_of now.book)))
-          (ap (λ c. index_of_name c from) (whole_core now.book valid) ∙ none),
+          (ap (λ c. index_of_name c from) (whole_core now.book) ∙ none),
       refl,
     );
     before = valid;
@@ -334,7 +330,7 @@ module _ (now : ModelState) (valid : IsValidBook now.book) where
   deletes_named_none name none = record {
     done = (
       ap (λ o. as_core (core.at_found o (λ i. core.delete_step (notations_in now.book) (machine.core_of (whole_of now.book)) i)) (changed.changed_by (changed.with_removed_sheet (unwrap_or o 0)) (whole_of now.book)))
-          (ap (λ c. index_of_name c name) (whole_core now.book valid) ∙ none),
+          (ap (λ c. index_of_name c name) (whole_core now.book) ∙ none),
       refl,
     );
     before = valid;
@@ -346,7 +342,7 @@ module _ (now : ModelState) (valid : IsValidBook now.book) where
   deletes_no_id id none = record {
     done = (
       ap (λ o. as_core (core.at_found o (λ i. core.delete_step (notations_in now.book) (machine.core_of (whole_of now.book)) i)) (changed.changed_by (changed.with_removed_sheet (unwrap_or o 0)) (whole_of now.book)))
-          (ap (λ c. index_of_id c id) (whole_core now.book valid) ∙ none),
+          (ap (λ c. index_of_id c id) (whole_core now.book) ∙ none),
       refl,
     );
     before = valid;
@@ -375,7 +371,7 @@ module _ (now : ModelState) (valid : IsValidBook now.book) where
   all = whole_of now.book
 
   abbrev all_seen : machine.core_of (whole_of now.book) ≡ core_of now.book
-  all_seen = whole_core now.book valid
+  all_seen = whole_core now.book
 
   pub tells_id : (id : Option ℕ) → id ≡ fresh_id (core_of now.book) → DoesOnly sheet_step GetNewSheetId scope_field (Ok id) now now
   unfolding core_step new_sheet_id_step

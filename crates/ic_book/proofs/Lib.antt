@@ -4,8 +4,8 @@ pub mod BookLemmas
 pub mod BookValid
 pub mod ChangeLemmas
 pub mod DoesLemmas
-pub mod DynamicLemmas
 pub mod GoneNames
+pub mod GridLemmas
 pub mod HeldLemmas
 pub mod LookUpLemmas
 pub mod MentionPairs

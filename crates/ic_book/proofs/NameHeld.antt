@@ -13,7 +13,7 @@ use Rattle.ic_names.proofs.NamesFacts.{item_at_position}
 use Rattle.ic_names.specs.Bodies.{StaysWhereFound}
 use Rattle.ic_names.specs.Named.{names_scene}
 use Rattle.ic_sheets.specs.Rewriting.{changed_pool, look_ups, looks_up_after, sheets_of}
-use Rattle.ic_sheets.specs.declared.sheet.Worksheet.{Worksheet}
+use Rattle.ic_sheets.specs.declared.sheet.Sheet.{Sheet as HeldSheet}
 use Rattle.ic_tables.specs.Tables.{TableSet}
 use Rattle.ic_tables.specs.declared.language.Language.{Language}
 use Rattle.ic_tables.specs.declared.locale.NamedLocale.{NamedLocale}
@@ -23,14 +23,14 @@ use Rattle.ic_book.specs.declared.about.About.{About}
 use Rattle.ic_book.specs.Inside.{IsHeld, held, held_state}
 use Rattle.ic_book.specs.LookUps.{looks_up_in}
 use Rattle.ic_book.proofs.BookLemmas.{core_of-changed, defined_change, undefined_change}
-use Rattle.ic_book.proofs.BookValid.{defined_valid, notations, undefined_valid}
+use Rattle.ic_book.proofs.BookValid.{core_valid, defined_valid, notations, undefined_valid}
 use Rattle.ic_book.proofs.HeldLemmas.{defined, held_after, undefined}
 use Rattle.ic_book.proofs.LookUpLemmas.{looks_up_is}
 use Rattle.ic_book.proofs.NameLemmas.{index_is, key_free, name_there, scope_is, scope_seen, scope_there}
 use Rattle.ic_book.proofs.SparedBodies.{adding_bodies}
 
 -- the index of a sheet is less than the number of sheets
-inside : (ws : List Worksheet) (i : ℕ) (id : Option ℕ) → option_map (λ (s : Worksheet). let id : Option ℕ = Some s.id in id) (slice_get ws i) ≡ Some id → i < length ws
+inside : (ws : List HeldSheet) (i : ℕ) (id : Option ℕ) → option_map (λ (s : HeldSheet). let id : Option ℕ = Some s.id in id) (slice_get ws i) ≡ Some id → i < length ws
 inside [] i id e = cc
 inside (s ∷ ws) zero id e = omega arith
 inside (s ∷ ws) (suc i) id e = let lt = inside ws i id e in omega (arith, lt)
@@ -38,7 +38,7 @@ inside (s ∷ ws) (suc i) id e = let lt = inside ws i id e in omega (arith, lt)
 some_is : (a b : Body) → Some a ≡ Some b → a ≡ b
 some_is a b e = cc
 
-module _ (about : About) (ws : List Worksheet) (ds : List Definition) (locale : NamedLocale) (language : Language) (tables : TableSet) (h : IsHeld about ws ds locale language tables)
+module _ (about : About) (ws : List HeldSheet) (ds : List Definition) (locale : NamedLocale) (language : Language) (tables : TableSet) (h : IsHeld about ws ds locale language tables)
     (m : ModelState) (is : held_state about ws ds locale language tables ≡ m) (called : List ℕ) (index : Option ℕ) (id : Option ℕ) (scope : scope_of (core_of m.book) index ≡ Some id) where
   abbrev held_book : Book
   held_book = held about ws ds locale language tables
@@ -84,22 +84,22 @@ module _ (about : About) (ws : List Worksheet) (ds : List Definition) (locale : 
     pub it_spares : index ≡ None → AllByRecursion (StaysWhereFound (name_added (spelling_of new))) ds
     it_spares given =
         let global : new.scope ≡ None = ap (λ (d : Definition). d.scope) made ∙ sym its_scope ∙ ap (scope_or_none core) given in
-        adding_bodies (core_of held_book) (spelling_of new) global (ap (λ s. list_any (is_named new.name s) ds) (sym global) ∙ is_free) (notations_in held_book) h.valid.core
+        adding_bodies (core_of held_book) (spelling_of new) global (ap (λ s. list_any (is_named new.name s) ds) (sym global) ∙ is_free) (notations_in held_book) (core_valid held_book h.valid)
 
     -- and one that is local to a sheet is so to one that is there
     pub it_is_within : (i : ℕ) → index ≡ Some i → i < length ws
     it_is_within i given = inside ws i id (sym (scope_seen ws i) ∙ ap (scope_of (core_of held_book)) (sym given) ∙ scope_here)
 
-    pub its_sheet : (i : ℕ) → index ≡ Some i → (s : Worksheet) → slice_get ws i ≡ Some s → new.scope ≡ Some s.id
+    pub its_sheet : (i : ℕ) → index ≡ Some i → (s : HeldSheet) → slice_get ws i ≡ Some s → new.scope ≡ Some s.id
     its_sheet i given s at = ap (λ (d : Definition). d.scope) made ∙ sym (ap (λ o. unwrap_or o None) (scope_there (core_of held_book) ws index i s refl given at ∙ scope_here))
 
     -- the look-ups that it leaves
-    pub defined_looks_up : (now : List Worksheet) → look_ups now ≡ map (looks_up_after (name_added (spelling_of new))) ws
+    pub defined_looks_up : (now : List HeldSheet) → look_ups now ≡ map (looks_up_after (name_added (spelling_of new))) ws
         → look_ups now ≡ looks_up_in (name_added (record { name = called; scope = scope_or_none core index })) m
     defined_looks_up now e =
         e ∙ sym (looks_up_is (name_added (spelling_of new)) ws) ∙ ap (looks_up_in (name_added (spelling_of new))) is ∙ ap (λ (d : Definition). looks_up_in (name_added (spelling_of d)) m) made_again
 
-    module _ (now : List Worksheet) (nds : List Definition) (sheets : sheets_of now ≡ map (changed_pool (name_added (spelling_of new))) (sheets_of ws)) (names : nds ≡ map (with_body_tree (changed_tree (name_added (spelling_of new)))) ds ++ new ∷ []) where
+    module _ (now : List HeldSheet) (nds : List Definition) (sheets : sheets_of now ≡ map (changed_pool (name_added (spelling_of new))) (sheets_of ws)) (names : nds ≡ map (with_body_tree (changed_tree (name_added (spelling_of new)))) ds ++ new ∷ []) where
       left : held about now nds locale language tables ≡ book_changed_by (with_name new) held_book
       left = defined about ws ds locale language tables h now nds new sheets names
 
@@ -122,7 +122,7 @@ module _ (about : About) (ws : List Worksheet) (ds : List Definition) (locale : 
           ≡ with_definition (new_definition n core called (scope_or_none core index) body) (with_trees (changed_tree (name_added (record { name = called; scope = scope_or_none core index }))) core)
       defined_binds body e =
           defined_core
-          ∙ new_name_binds n core _ called index text body [] (notations m.book valid) valid.core e (ap (λ r. unless_refused r (with_new_name n core called (scope_or_none core index) (body_of n core text)) []) none)
+          ∙ new_name_binds n core _ called index text body [] (notations m.book valid) (core_valid m.book valid) e (ap (λ r. unless_refused r (with_new_name n core called (scope_or_none core index) (body_of n core text)) []) none)
 
   -- ---- one goes
 
@@ -141,7 +141,7 @@ module _ (about : About) (ws : List Worksheet) (ds : List Definition) (locale : 
     it_goes = name_there core called index id scope at found_there
 
     -- the look-ups that it leaves
-    pub undefined_looks_up : (now : List Worksheet) → ((d : Definition) → slice_get ds at ≡ Some d → look_ups now ≡ map (looks_up_after (name_gone (names_scene (remove ds at)) (spelling_of d))) ws)
+    pub undefined_looks_up : (now : List HeldSheet) → ((d : Definition) → slice_get ds at ≡ Some d → look_ups now ≡ map (looks_up_after (name_gone (names_scene (remove ds at)) (spelling_of d))) ws)
         → IfSome (index_of_definition core called (scope_or_none core index)) (λ i. IfSome (slice_get m.book.definitions i)
         (λ d. look_ups now ≡ looks_up_in (name_gone (scene_of (without_definition (Some i) core)) (spelling_of d)) m))
     undefined_looks_up now e =
@@ -150,7 +150,7 @@ module _ (about : About) (ws : List Worksheet) (ds : List Definition) (locale : 
         (subst (λ o. IfSome o (λ (d : Definition). look_ups now ≡ looks_up_in (name_gone (scene_of (without_definition (Some at) (core_of held_book))) (spelling_of d)) (held_state about ws ds locale language tables))) (sym there.1)
         (e there.0 there.1 ∙ sym (looks_up_is (name_gone (names_scene (remove ds at)) (spelling_of there.0)) ws))))
 
-    module _ (now : List Worksheet) (nds : List Definition) (sheets : (d : Definition) → slice_get ds at ≡ Some d → sheets_of now ≡ map (changed_pool (name_gone (names_scene (remove ds at)) (spelling_of d))) (sheets_of ws))
+    module _ (now : List HeldSheet) (nds : List Definition) (sheets : (d : Definition) → slice_get ds at ≡ Some d → sheets_of now ≡ map (changed_pool (name_gone (names_scene (remove ds at)) (spelling_of d))) (sheets_of ws))
         (names : (d : Definition) → slice_get ds at ≡ Some d → nds ≡ remove (map (with_body_tree (changed_tree (name_gone (names_scene (remove ds at)) (spelling_of d)))) ds) at) where
       remains : held about now nds locale language tables ≡ book_changed_by (without_name (Some at)) held_book
       remains = undefined about ws ds locale language tables h now nds at there.0 there.1 (sheets there.0 there.1) (names there.0 there.1)
@@ -174,4 +174,4 @@ module _ (about : About) (ws : List Worksheet) (ds : List Definition) (locale : 
           → core_of (held about now nds locale language tables) ≡ without_definition (Some i) (with_trees (changed_tree (name_gone (scene_of (without_definition (Some i) core)) (spelling_of d))) core)
       undefined_dangles i d e f =
           undefined_core
-          ∙ delete_name_dangles n core _ called index i d [] (notations m.book valid) valid.core e f (ap (λ r. unless_refused r (changed_by n (without_definition (index_of_definition core called (scope_or_none core index))) core) []) it_goes)
+          ∙ delete_name_dangles n core _ called index i d [] (notations m.book valid) (core_valid m.book valid) e f (ap (λ r. unless_refused r (changed_by n (without_definition (index_of_definition core called (scope_or_none core index))) core) []) it_goes)

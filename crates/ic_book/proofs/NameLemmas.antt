@@ -16,7 +16,7 @@ use Rattle.ic_laws.specs.Notations.{Notations, english}
 use Rattle.ic_laws.specs.Refusal.{InvalidName, InvalidNameFormula, InvalidScope, InvalidSheet, NameExists, NameNotFound, Refusal}
 use Rattle.ic_names.proofs.NamesFacts.{position_none, some_position}
 use Rattle.ic_sheets.specs.Sheet.{sheet_core, sheet_of}
-use Rattle.ic_sheets.specs.declared.sheet.Worksheet.{Worksheet}
+use Rattle.ic_sheets.specs.declared.sheet.Sheet.{Sheet as HeldSheet}
 use Rattle.ic_book.specs.Refused.{RefusesOr}
 use Rattle.ic_book.specs.declared.error.BookError.{BookError}
 use Rattle.ic_book.specs.declared.error.BookError.TheVariants as errors
@@ -25,18 +25,18 @@ use Rattle.ic_book.proofs.HeldLemmas.{found_by_id, none_told}
 -- ---- the sheet of a scope
 
 -- the id of the sheet at an index, as the core sees it
-pub scope_seen : (ws : List Worksheet) (i : ℕ) → option_map (λ (s : Sheet). let id : Option ℕ = Some s.id in id) (slice_get (map sheet_core (map sheet_of ws)) i) ≡ option_map (λ (s : Worksheet). let id : Option ℕ = Some s.id in id) (slice_get ws i)
+pub scope_seen : (ws : List HeldSheet) (i : ℕ) → option_map (λ (s : Sheet). let id : Option ℕ = Some s.id in id) (slice_get (map sheet_core (map sheet_of ws)) i) ≡ option_map (λ (s : HeldSheet). let id : Option ℕ = Some s.id in id) (slice_get ws i)
 scope_seen [] i = refl
 scope_seen (s ∷ ws) zero = refl
 scope_seen (s ∷ ws) (suc i) = scope_seen ws i
 
 -- the id of the sheet at an index, where the sheets of a core are these
-pub scope_there : (core : CoreBook) (ws : List Worksheet) (index : Option ℕ) (i : ℕ) (s : Worksheet) → core.sheets ≡ map sheet_core (map sheet_of ws) → index ≡ Some i → slice_get ws i ≡ Some s → Some (Some s.id) ≡ scope_of core index
+pub scope_there : (core : CoreBook) (ws : List HeldSheet) (index : Option ℕ) (i : ℕ) (s : HeldSheet) → core.sheets ≡ map sheet_core (map sheet_of ws) → index ≡ Some i → slice_get ws i ≡ Some s → Some (Some s.id) ≡ scope_of core index
 scope_there core ws index i s sheets is at =
-    sym (ap (scope_of core) is ∙ ap (λ (xs : List Sheet). option_map (λ (x : Sheet). let id : Option ℕ = Some x.id in id) (slice_get xs i)) sheets ∙ scope_seen ws i ∙ ap (option_map (λ (x : Worksheet). let id : Option ℕ = Some x.id in id)) at)
+    sym (ap (scope_of core) is ∙ ap (λ (xs : List Sheet). option_map (λ (x : Sheet). let id : Option ℕ = Some x.id in id) (slice_get xs i)) sheets ∙ scope_seen ws i ∙ ap (option_map (λ (x : HeldSheet). let id : Option ℕ = Some x.id in id)) at)
 
 -- the index of the sheet with an id
-pub listed_there : (core : CoreBook) (ws : List Worksheet) (scope : Option ℕ) (id : ℕ) (o : Option ℕ) → core.sheets ≡ map sheet_core (map sheet_of ws) → scope ≡ Some id → o ≡ position (λ (s : Worksheet). nat_eq s.id id) ws
+pub listed_there : (core : CoreBook) (ws : List HeldSheet) (scope : Option ℕ) (id : ℕ) (o : Option ℕ) → core.sheets ≡ map sheet_core (map sheet_of ws) → scope ≡ Some id → o ≡ position (λ (s : HeldSheet). nat_eq s.id id) ws
     → option_map (λ (index : ℕ). let place : Option ℕ = Some index in place) o ≡ listed_scope core scope
 listed_there core ws scope id o sheets is at =
     sym (ap (listed_scope core) is ∙ ap (λ (xs : List Sheet). option_map (λ (index : ℕ). let place : Option ℕ = Some index in place) (position (λ (s : Sheet). nat_eq s.id id) xs)) sheets

@@ -1,26 +1,30 @@
 -- What a change of a part of a sheet does to the model.
-use Rattle.std.proofs.Common.{◌≡◌, ℕ, zero, suc, ◌<◌, ◌≤◌, List, [], ◌∷◌, Bool, true, false, length, map, Option, Some, None, Result, Ok, Err, option_map, refl, ap, ap₂, sym, subst, ◌∙◌, nat_lt, rules, arith}
-use Rattle.std.specs.List.{AllByRecursion, slice_get}
+use Rattle.std.proofs.Common.{◌≡◌, ℕ, ℤ, pos, zero, suc, ◌≤◌, List, [], ◌∷◌, Bool, true, false, length, map, Option, Some, None, Result, Ok, Err, option_map, refl, ap, ap₂, sym, subst, ◌∙◌, nat_lt, rules, arith}
+use Rattle.std.specs.List.{slice_get}
+use Rattle.std.specs.Prelude.{◌≤ℤ◌, ◌<ℤ◌}
 use Rattle.std.proofs.lemmas.Option.{slice_get-map, slice_get_past}
-use Rattle.ic_laws.proofs.core.Lists.{updated_seen}
-use Rattle.ic_laws.specs.CoreBook.{CoreBook, Definition, Sheet, scene_of}
+use Rattle.ic_laws.proofs.core.Lists.{all_updated, updated_seen}
+use Rattle.ic_laws.specs.CoreBook.{Definition}
 use Rattle.ic_laws.specs.CoreStep.{updated_at}
-use Rattle.ic_laws.specs.ValidCore.{IsValidCore}
+use Rattle.ic_laws.specs.declared.reference.TheConstants.{LAST_COLUMN, LAST_ROW}
 use Rattle.ic_tables.specs.Tables.{TableSet}
-use Rattle.ic_tables.specs.declared.language.FunctionKind.{FunctionKind}
 use Rattle.ic_tables.specs.declared.language.Language.{Language}
 use Rattle.ic_tables.specs.declared.locale.NamedLocale.{NamedLocale}
 use Rattle.ic_machine.specs.Book as machine
 use Rattle.ic_machine.specs.Book.{Stepped, found_or, on_sheet, on_tab, put_in, with_sheet}
+use Rattle.ic_machine.proofs.ValidLemmas.{HoldsOf, holds_at, same_styles}
 use Rattle.ic_machine.specs.Refusal.{InvalidSheet, Refusal}
 use Rattle.ic_machine.specs.Reply.{Field}
-use Rattle.ic_sheets.specs.Sheet.{BookSheet, IsValidPool, sheet_core, sheet_of}
-use Rattle.ic_sheets.specs.declared.sheet.Worksheet.{Worksheet}
+use Rattle.ic_machine.specs.Valid as valid_machine
+use Rattle.ic_machine.specs.Valid.{IsFrozen}
+use Rattle.ic_sheets.specs.Sheet.{BookSheet, sheet_of}
+use Rattle.ic_sheets.specs.declared.sheet.Sheet.{Sheet as HeldSheet}
 use Rattle.ic_sheets.specs.declared.tab.Tab.{Tab}
-use Rattle.ic_book.specs.Book.{Book, IsValidBook, ModelState, core_of, notations_in, scene_in}
+use Rattle.ic_book.specs.Book.{Book, HasStrings, IsPlain, IsValidBook, ModelState, notations_in}
 use Rattle.ic_book.specs.declared.about.About.{About}
 use Rattle.ic_book.specs.Inside.{IsHeld, held_state}
-use Rattle.ic_book.specs.Does.{DoesStep, DoesTab, IsDone, Memory, PartMade, PartRefused, Refused, Wants, wants}
+use Rattle.ic_book.specs.Does.{DoesStep, DoesTab, IsDone, PartMade, PartRefused, Refused, wants}
+use Rattle.ic_book.specs.Parts.{StaysFrozen}
 use Rattle.ic_book.specs.Refused.{refusal_of}
 use Rattle.ic_book.specs.Whole.{whole_of, whole_sheet, whole_tab}
 use Rattle.ic_book.specs.declared.error.BookError.{BookError}
@@ -38,46 +42,69 @@ updated_same f (suc i) (y ∷ xs) x at e = ap (λ rest. y ∷ rest) (updated_sam
 abbrev pub with_tab : ℕ → Tab → Book → Book
 with_tab index tab book = record book { sheets = updated_at (λ s. record s { tab = tab }) index book.sheets }
 
-core_same : (index : ℕ) (tab : Tab) (book : Book) → core_of (with_tab index tab book) ≡ core_of book
-core_same index tab book =
-    ap (λ (sheets : List Sheet). let core : CoreBook = record { sheets = sheets; definitions = book.definitions; locale = book.locale; language = book.language } in core) (seen index book.sheets)
-  where
-    seen : (i : ℕ) (sheets : List BookSheet) → map sheet_core (updated_at (λ s. record s { tab = tab }) i sheets) ≡ map sheet_core sheets
-    seen i [] = refl
-    seen zero (s ∷ sheets) = refl
-    seen (suc i) (s ∷ sheets) = ap (λ rest. sheet_core s ∷ rest) (seen i sheets)
+module _ (index : ℕ) (tab : Tab) (book : Book) (valid : IsValidBook book) (sheet : BookSheet) (at : slice_get book.sheets index ≡ Some sheet) where
+  abbrev old_sheet : machine.Sheet
+  old_sheet = whole_sheet book.strings sheet
 
-pub valid_with_tab : (index : ℕ) (tab : Tab) (book : Book) → IsValidBook book → IsValidBook (with_tab index tab book)
-valid_with_tab index tab book valid =
-    record {
-      core = subst (IsValidCore (notations_in book)) (sym (core_same index tab book)) valid.core;
-      pools = subst (λ scene. AllByRecursion (IsValidPool (notations_in book) scene) (with_tab index tab book).sheets) (sym (scene_same)) (pools index book.sheets valid.pools);
-      zone = valid.zone;
-      tables = valid.tables;
-    }
-  where
-    scene_same : scene_in (with_tab index tab book) ≡ scene_in book
-    scene_same = ap scene_of (core_same index tab book)
+  abbrev new_sheet : machine.Sheet
+  new_sheet = record old_sheet { tab = whole_tab tab }
 
-    pools : (i : ℕ) (sheets : List BookSheet) → AllByRecursion (IsValidPool (notations_in book) (scene_in book)) sheets → AllByRecursion (IsValidPool (notations_in book) (scene_in book)) (updated_at (λ s. record s { tab = tab }) i sheets)
-    pools i [] h = tt
-    pools zero (s ∷ sheets) h = (record { formulas = h.0.formulas; places = h.0.places }, h.1)
-    pools (suc i) (s ∷ sheets) h = (h.0, pools i sheets h.1)
+  old_there : slice_get (whole_of book).sheets index ≡ Some old_sheet
+  old_there = slice_get-map (whole_sheet book.strings) book.sheets index ∙ ap (option_map (whole_sheet book.strings)) at
+
+  old_holds : HoldsOf (notations_in book) (machine.scene_in (whole_of book)) (length book.styles) old_sheet
+  old_holds = holds_at (whole_of book) valid.whole index old_sheet old_there
+
+  -- few enough of its rows and columns stay in sight
+  pub frozen_there : IsFrozen (whole_tab sheet.tab)
+  frozen_there = old_holds.layout.frozen
+
+  whole_with_tab : whole_of (with_tab index tab book) ≡ with_sheet (whole_of book) index new_sheet
+  whole_with_tab =
+      ap (λ (sheets : List machine.Sheet). let b : machine.Book = record (whole_of book) { sheets = sheets } in b)
+      (updated_alike (whole_sheet book.strings) (λ s. record s { tab = tab }) (λ s. new_sheet) index book.sheets sheet at refl)
+
+  pub valid_with_tab : IsFrozen (whole_tab tab) → IsValidBook (with_tab index tab book)
+  valid_with_tab frozen = record {
+    whole =
+        subst valid_machine.IsValidBook (sym whole_with_tab)
+        (same_styles (whole_of book) valid.whole index old_sheet new_sheet old_there refl refl
+        (record {
+          pool = old_holds.pool;
+          inside = old_holds.inside;
+          formulas = old_holds.formulas;
+          styles = old_holds.styles;
+          arrays = old_holds.arrays;
+          merges = old_holds.merges;
+          layout = record { frozen = frozen; lines = old_holds.layout.lines };
+        }));
+    strings = all_updated (λ (s : BookSheet). HasStrings (length book.strings) s.grid) (λ s. record s { tab = tab }) (λ s h. h) index book.sheets valid.strings;
+    plain = all_updated (λ (s : BookSheet). IsPlain s.grid) (λ s. record s { tab = tab }) (λ s h. h) index book.sheets valid.plain;
+  }
+
+-- a tab with other looks stays frozen
+pub same_frozen : (old new : Tab) → new.frozen_rows ≡ old.frozen_rows → new.frozen_columns ≡ old.frozen_columns → StaysFrozen old new
+same_frozen old new rows columns h = record {
+  some_rows = subst (λ (count : ℤ). pos 0 ≤ℤ count) (sym rows) h.some_rows;
+  few_rows = subst (λ (count : ℤ). count <ℤ LAST_ROW) (sym rows) h.few_rows;
+  some_columns = subst (λ (count : ℤ). pos 0 ≤ℤ count) (sym columns) h.some_columns;
+  few_columns = subst (λ (count : ℤ). count <ℤ LAST_COLUMN) (sym columns) h.few_columns;
+}
 
 -- what is done to a part of a sheet is done to the book ----
 
 module _ (book : Book) (index : ℕ) where
-  abbrev kinds : List FunctionKind
-  kinds = book.tables.kinds
+  abbrev strings : List (List ℕ)
+  strings = book.strings
 
   found : (step : machine.Sheet → Stepped machine.Sheet) (sheet : BookSheet) → slice_get book.sheets index ≡ Some sheet
-      → on_sheet (whole_of book) index step ≡ put_in (with_sheet (whole_of book) index) (step (whole_sheet kinds sheet))
+      → on_sheet (whole_of book) index step ≡ put_in (with_sheet (whole_of book) index) (step (whole_sheet strings sheet))
   found step sheet is =
-      ap (λ o. found_or InvalidSheet (option_map (λ s. put_in (with_sheet (whole_of book) index) (step s)) o)) (slice_get-map (whole_sheet kinds) book.sheets index ∙ ap (option_map (whole_sheet kinds)) is)
+      ap (λ o. found_or InvalidSheet (option_map (λ s. put_in (with_sheet (whole_of book) index) (step s)) o)) (slice_get-map (whole_sheet strings) book.sheets index ∙ ap (option_map (whole_sheet strings)) is)
 
   missing : (step : machine.Sheet → Stepped machine.Sheet) → slice_get book.sheets index ≡ None → on_sheet (whole_of book) index step ≡ Err InvalidSheet
   missing step none =
-      ap (λ o. found_or InvalidSheet (option_map (λ s. put_in (with_sheet (whole_of book) index) (step s)) o)) (slice_get-map (whole_sheet kinds) book.sheets index ∙ ap (option_map (whole_sheet kinds)) none)
+      ap (λ o. found_or InvalidSheet (option_map (λ s. put_in (with_sheet (whole_of book) index) (step s)) o)) (slice_get-map (whole_sheet strings) book.sheets index ∙ ap (option_map (whole_sheet strings)) none)
 
 -- a step on the tab is one on the sheet
 abbrev tab_on : (machine.Tab → Stepped machine.Tab) → machine.Sheet → Stepped machine.Sheet
@@ -101,27 +128,22 @@ module _ (old : ModelState) (valid : IsValidBook old.book) (index : ℕ) {T : Ty
   unfolding on_tab
   tab_missing none = record { done = (missing old.book index (tab_on step) none, refl); before = valid; after = valid }
 
-  module _ (sheet : BookSheet) (is : slice_get old.book.sheets index ≡ Some sheet) (after : Tab) (new : ModelState) (becomes : new ≡ record old { book = with_tab index after old.book }) where
+  module _ (sheet : BookSheet) (is : slice_get old.book.sheets index ≡ Some sheet) (after : Tab) (frozen : IsFrozen (whole_tab after)) (new : ModelState) (becomes : new ≡ record old { book = with_tab index after old.book }) where
     abbrev whole : machine.Book
     whole = whole_of old.book
 
-    its_step : on_sheet whole index (tab_on step) ≡ put_in (with_sheet whole index) (tab_on step (whole_sheet old.book.tables.kinds sheet))
+    its_step : on_sheet whole index (tab_on step) ≡ put_in (with_sheet whole index) (tab_on step (whole_sheet old.book.strings sheet))
     its_step = found old.book index (tab_on step) sheet is
-
-    put_there : whole_of (with_tab index after old.book) ≡ with_sheet whole index (record (whole_sheet old.book.tables.kinds sheet) { tab = whole_tab after })
-    put_there =
-        ap (λ (sheets : List machine.Sheet). let b : machine.Book = record whole { sheets = sheets } in b)
-        (updated_alike (whole_sheet old.book.tables.kinds) (λ s. record s { tab = after }) (λ s. record (whole_sheet old.book.tables.kinds sheet) { tab = whole_tab after }) index old.book.sheets sheet is refl)
 
     done_so : (r : Result T BookError) → PartMade whole_tab memory (step (whole_tab sheet.tab)) fields sheet.tab after r
         → DoesStep (wants memory) (on_tab whole index step) fields r old new
     unfolding on_tab
     done_so (Ok value) h = record {
       done =
-          its_step ∙ ap (λ made. put_in (with_sheet whole index) (put_in (λ tab. record (whole_sheet old.book.tables.kinds sheet) { tab = tab }) made)) h
-          ∙ ap (λ (b : machine.Book). let made : Stepped machine.Book = Ok (b, fields value) in made) (sym (ap (λ (m : ModelState). whole_of m.book) becomes ∙ put_there));
+          its_step ∙ ap (λ made. put_in (with_sheet whole index) (put_in (λ tab. record (whole_sheet old.book.strings sheet) { tab = tab }) made)) h
+          ∙ ap (λ (b : machine.Book). let made : Stepped machine.Book = Ok (b, fields value) in made) (sym (ap (λ (m : ModelState). whole_of m.book) becomes ∙ whole_with_tab index after old.book valid sheet is));
       before = valid;
-      after = subst (λ (m : ModelState). IsValidBook m.book) (sym becomes) (valid_with_tab index after old.book valid);
+      after = subst (λ (m : ModelState). IsValidBook m.book) (sym becomes) (valid_with_tab index after old.book valid sheet is frozen);
     }
     done_so (Err e) h =
         let unchanged : with_tab index after old.book ≡ old.book =
@@ -131,7 +153,7 @@ module _ (old : ModelState) (valid : IsValidBook old.book) (index : ℕ) {T : Ty
         record {
           done =
               subst (λ made. Refused (wants memory) made old new (refusal_of e)) (sym its_step)
-              (part_refused memory _ old new (refusal_of e) (refused_in (with_sheet whole index) memory _ (refusal_of e) (refused_in (λ tab. record (whole_sheet old.book.tables.kinds sheet) { tab = tab }) memory (step (whole_tab sheet.tab)) (refusal_of e) h.0)) same);
+              (part_refused memory _ old new (refusal_of e) (refused_in (with_sheet whole index) memory _ (refusal_of e) (refused_in (λ tab. record (whole_sheet old.book.strings sheet) { tab = tab }) memory (step (whole_tab sheet.tab)) (refusal_of e) h.0)) same);
           before = valid;
           after = subst (λ (m : ModelState). IsValidBook m.book) (sym same) valid;
         }
@@ -143,7 +165,7 @@ module _ (old : ModelState) (valid : IsValidBook old.book) (index : ℕ) {T : Ty
   pub tab_reads : (sheet : BookSheet) → slice_get old.book.sheets index ≡ Some sheet → (r : Result T BookError) → DoesTab memory step fields r sheet.tab sheet.tab → DoesStep (wants memory) (on_tab (whole_of old.book) index step) fields r old old
   tab_reads sheet is r h =
       let same : updated_at (λ s. record s { tab = sheet.tab }) index old.book.sheets ≡ old.book.sheets = updated_same (λ s. record s { tab = sheet.tab }) index old.book.sheets sheet is refl in
-      tab_does sheet is sheet.tab old (ap (λ (sheets : List BookSheet). let m : ModelState = record old { book = record old.book { sheets = sheets } } in m) (sym same)) r h
+      tab_does sheet is sheet.tab (frozen_there index sheet.tab old.book valid sheet is) old (ap (λ (sheets : List BookSheet). let m : ModelState = record old { book = record old.book { sheets = sheets } } in m) (sym same)) r h
 
 -- no sheet stands past the end
 pub past_end : (index count : ℕ) → false ≡ nat_lt index count → count ≤ index
@@ -151,28 +173,34 @@ past_end index count e = search (rules, arith)
 
 -- the same of a model's sheets ----
 
-module _ (about : About) (ws : List Worksheet) (ds : List Definition) (locale : NamedLocale) (language : Language) (tables : TableSet) (h : IsHeld about ws ds locale language tables) (index : ℕ) where
+module _ (about : About) (ws : List HeldSheet) (ds : List Definition) (locale : NamedLocale) (language : Language) (tables : TableSet) (h : IsHeld about ws ds locale language tables) (index : ℕ) where
   abbrev its_state : ModelState
   its_state = held_state about ws ds locale language tables
 
   pub not_held : length ws ≤ index → slice_get its_state.book.sheets index ≡ None
   not_held past = slice_get-map sheet_of ws index ∙ ap (option_map sheet_of) (slice_get_past ws index past)
 
-  module _ (now : List Worksheet) (tab : Tab) (is : now ≡ updated_at (λ s. record s { tab = tab }) index ws) where
+  in_state : (s : HeldSheet) → slice_get ws index ≡ Some s → slice_get its_state.book.sheets index ≡ Some (sheet_of s)
+  in_state s at = slice_get-map sheet_of ws index ∙ ap (option_map sheet_of) at
+
+  pub frozen_in : (s : HeldSheet) → slice_get ws index ≡ Some s → IsFrozen (whole_tab s.tab)
+  frozen_in s at = frozen_there index s.tab its_state.book h.valid (sheet_of s) (in_state s at)
+
+  module _ (now : List HeldSheet) (tab : Tab) (is : now ≡ updated_at (λ s. record s { tab = tab }) index ws) where
     pub tab_state : held_state about now ds locale language tables ≡ record its_state { book = with_tab index tab its_state.book }
     tab_state =
         ap₂ (λ (sheets : List BookSheet) (all : List Bool). let m : ModelState = record { book = record its_state.book { sheets = sheets }; has_all = all } in m)
         (ap (map sheet_of) is ∙ updated_seen sheet_of (λ s. record s { tab = tab }) (λ s. record s { tab = tab }) (λ s. refl) index ws)
-        (ap (map (λ (s : Worksheet). s.pool.is_whole)) is ∙ look_ups_same index ws)
+        (ap (map (λ (s : HeldSheet). s.pool.is_whole)) is ∙ look_ups_same index ws)
       where
-        look_ups_same : (i : ℕ) (xs : List Worksheet) → map (λ (s : Worksheet). s.pool.is_whole) (updated_at (λ s. record s { tab = tab }) i xs) ≡ map (λ (s : Worksheet). s.pool.is_whole) xs
+        look_ups_same : (i : ℕ) (xs : List HeldSheet) → map (λ (s : HeldSheet). s.pool.is_whole) (updated_at (λ s. record s { tab = tab }) i xs) ≡ map (λ (s : HeldSheet). s.pool.is_whole) xs
         look_ups_same i [] = refl
         look_ups_same zero (s ∷ xs) = refl
         look_ups_same (suc i) (s ∷ xs) = ap (λ more. s.pool.is_whole ∷ more) (look_ups_same i xs)
 
-    pub tab_held : IsHeld about now ds locale language tables
-    tab_held = record {
-      valid = subst (λ (m : ModelState). IsValidBook m.book) (sym tab_state) (valid_with_tab index tab its_state.book h.valid);
+    pub tab_held : (s : HeldSheet) → slice_get ws index ≡ Some s → StaysFrozen s.tab tab → IsHeld about now ds locale language tables
+    tab_held s at stays = record {
+      valid = subst (λ (m : ModelState). IsValidBook m.book) (sym tab_state) (valid_with_tab index tab its_state.book h.valid (sheet_of s) (in_state s at) (stays (frozen_in s at)));
       locale_found = h.locale_found;
       language_found = h.language_found;
     }

@@ -1,17 +1,18 @@
 -- What a call does that puts or tells one of a book's settings, or tells of its sheets.
-use Rattle.std.proofs.Common.{◌≡◌, ◌++◌, ℕ, List, [], ◌∷◌, Bool, true, false, Some, None, Result, Ok, Err, IsErr, IsErrAnd, map, refl, ap, ap₂, sym, subst, ◌∙◌, not}
+use Rattle.std.proofs.Common.{◌≡◌, ◌++◌, ℕ, List, [], ◌∷◌, Bool, true, false, Result, Ok, Err, IsErr, IsErrAnd, map, refl, ap, sym, subst, ◌∙◌, not}
 use Rattle.std.specs.Prelude.{flat_map}
 use Rattle.ic_tables.specs.Tables.{lists_zone}
-use Rattle.ic_tables.specs.declared.language.FunctionKind.{FunctionKind}
 use Rattle.ic_machine.specs.Book as machine
 use Rattle.ic_machine.specs.Book.{Stepped, unless, unless_refused}
+use Rattle.ic_machine.proofs.SubjectsStay.{notation_stays, tabs_are}
+use Rattle.ic_machine.specs.Kept.{StaysValid}
 use Rattle.ic_machine.specs.Refusal.{InvalidTimezone, first_refusal}
 use Rattle.ic_machine.specs.Reply.{Field}
-use Rattle.ic_machine.specs.subjects.Notation.{set_timezone_step}
+use Rattle.ic_machine.specs.subjects.Notation.{SetTimezone, set_timezone_step}
 use Rattle.ic_machine.specs.subjects.Sheets.{property_fields}
-use Rattle.ic_machine.specs.subjects.Tabs.{set_theme_step}
+use Rattle.ic_machine.specs.subjects.Tabs.{SetTheme, set_theme_step}
 use Rattle.ic_sheets.specs.Sheet.{sheet_of}
-use Rattle.ic_sheets.specs.declared.sheet.Worksheet.{Worksheet}
+use Rattle.ic_sheets.specs.declared.sheet.Sheet.{Sheet as HeldSheet}
 use Rattle.ic_book.specs.Book.{Book, IsValidBook, ModelState}
 use Rattle.ic_book.specs.Does.{DoesStep, Never, Refused, Wanted}
 use Rattle.ic_book.specs.Fields.{no_fields, told_sheet}
@@ -37,23 +38,28 @@ module _ (now : ModelState) (valid : IsValidBook now.book) {T : Type 0} (fields 
 abbrev pub with_zone : List ℕ → Book → Book
 with_zone id book = record book { zone = id }
 
+zone_step : (book : Book) (id : List ℕ) (listed : Bool) → lists_zone book.tables id ≡ listed
+    → set_timezone_step id (whole_of book) ≡ unless (first_refusal ((not listed, InvalidTimezone) ∷ [])) (record (whole_of book) { zone = id }) []
+unfolding set_timezone_step
+zone_step book id listed e = ap (λ b. unless (first_refusal ((not b, InvalidTimezone) ∷ [])) (record (whole_of book) { zone = id }) []) e
+
 pub zone_valid : (book : Book) (id : List ℕ) → IsValidBook book → lists_zone book.tables id ≡ true → IsValidBook (with_zone id book)
-zone_valid book id valid listed = record { core = valid.core; pools = valid.pools; zone = listed; tables = valid.tables }
+zone_valid book id valid listed = record {
+  whole = subst StaysValid (zone_step book id true listed) (notation_stays (whole_of book) (SetTimezone id) valid.whole);
+  strings = valid.strings;
+  plain = valid.plain;
+}
 
 module _ (old : ModelState) (valid : IsValidBook old.book) (id : List ℕ) where
-  zone_step : (listed : Bool) → lists_zone old.book.tables id ≡ listed → set_timezone_step id (whole_of old.book) ≡ unless (first_refusal ((not listed, InvalidTimezone) ∷ [])) (record (whole_of old.book) { zone = id }) []
-  unfolding set_timezone_step
-  zone_step listed e = ap (λ b. unless (first_refusal ((not b, InvalidTimezone) ∷ [])) (record (whole_of old.book) { zone = id }) []) e
-
   pub puts_zone : lists_zone old.book.tables id ≡ true → (new : ModelState) → new ≡ record old { book = with_zone id old.book } → DoesStep Never (set_timezone_step id (whole_of old.book)) no_fields (Ok tt) old new
   puts_zone listed new becomes = record {
-    done = zone_step true listed ∙ ap (λ (m : ModelState). let done : Stepped machine.Book = Ok (whole_of m.book, []) in done) (sym becomes);
+    done = zone_step old.book id true listed ∙ ap (λ (m : ModelState). let done : Stepped machine.Book = Ok (whole_of m.book, []) in done) (sym becomes);
     before = valid;
     after = subst (λ (m : ModelState). IsValidBook m.book) (sym becomes) (zone_valid old.book id valid listed);
   }
 
   pub unknown_zone : lists_zone old.book.tables id ≡ false → DoesStep Never (set_timezone_step id (whole_of old.book)) no_fields (Err errors.InvalidTimezone) old old
-  unknown_zone none = record { done = (zone_step false none, refl); before = valid; after = valid }
+  unknown_zone none = record { done = (zone_step old.book id false none, refl); before = valid; after = valid }
 
 -- the theme ----
 
@@ -61,7 +67,12 @@ abbrev pub with_theme : List ℕ → Book → Book
 with_theme name book = record book { theme = name }
 
 pub theme_valid : (book : Book) (name : List ℕ) → IsValidBook book → IsValidBook (with_theme name book)
-theme_valid book name valid = record { core = valid.core; pools = valid.pools; zone = valid.zone; tables = valid.tables }
+unfolding set_theme_step
+theme_valid book name valid = record {
+  whole = tabs_are (whole_of book) (SetTheme name) valid.whole;
+  strings = valid.strings;
+  plain = valid.plain;
+}
 
 pub puts_theme : (old : ModelState) → IsValidBook old.book → (name : List ℕ) (new : ModelState) → new ≡ record old { book = with_theme name old.book } → DoesStep Never (set_theme_step name (whole_of old.book)) no_fields (Ok tt) old new
 unfolding set_theme_step
@@ -73,6 +84,6 @@ puts_theme old valid name new becomes = record {
 
 -- what is told of the sheets ----
 
-pub sheets_told : (kinds : List FunctionKind) (ws : List Worksheet) → flat_map told_sheet ws ≡ flat_map property_fields (map (whole_sheet kinds) (map sheet_of ws))
-sheets_told kinds [] = refl
-sheets_told kinds (s ∷ ws) = ap (λ rest. told_sheet s ++ rest) (sheets_told kinds ws)
+pub sheets_told : (strings : List (List ℕ)) (ws : List HeldSheet) → flat_map told_sheet ws ≡ flat_map property_fields (map (whole_sheet strings) (map sheet_of ws))
+sheets_told strings [] = refl
+sheets_told strings (s ∷ ws) = ap (λ rest. told_sheet s ++ rest) (sheets_told strings ws)

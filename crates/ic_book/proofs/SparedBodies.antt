@@ -38,7 +38,7 @@ use Rattle.ic_sheets.proofs.RewritingLemmas.{prepared_makes}
 use Rattle.ic_sheets.proofs.SearchLemmas.{ids}
 use Rattle.ic_sheets.specs.Rewriting.{IsPrepared, changed_pool, look_ups, looks_up_after, sheets_of, with_rewrites}
 use Rattle.ic_sheets.specs.Sheet.{BookSheet, sheet_of}
-use Rattle.ic_sheets.specs.declared.sheet.Worksheet.{Worksheet}
+use Rattle.ic_sheets.specs.declared.sheet.Sheet.{Sheet as HeldSheet}
 use Rattle.ic_book.proofs.MentionPairs.{mentions_both}
 use Rattle.ic_book.proofs.NeverMentioned.{never_mentioned}
 
@@ -136,30 +136,30 @@ module _ (d : NameSpelling) (id : ℕ) (local : d.scope ≡ Some id) where
   pool_stays other apart [] = refl
   pool_stays other apart (f ∷ pool) = ap₂ ◌∷◌ (formula_stays other apart f) (pool_stays other apart pool)
 
-  sheet_stays : (s : Worksheet) → nat_eq id s.id ≡ false → sheet_of s ≡ changed_pool (name_added d) (sheet_of s)
+  sheet_stays : (s : HeldSheet) → nat_eq id s.id ≡ false → sheet_of s ≡ changed_pool (name_added d) (sheet_of s)
   sheet_stays s apart = sym (ap (λ (pool : List Formula). let one : BookSheet = record (sheet_of s) { pool = pool } in one) (pool_stays s.id apart s.pool.formulas))
 
-  others_stay : (ws : List Worksheet) → AllByRecursion (λ y. nat_eq id y ≡ false) (ids ws) → sheets_of ws ≡ map (changed_pool (name_added d)) (sheets_of ws)
+  others_stay : (ws : List HeldSheet) → AllByRecursion (λ y. nat_eq id y ≡ false) (ids ws) → sheets_of ws ≡ map (changed_pool (name_added d)) (sheets_of ws)
   others_stay [] h = refl
   others_stay (s ∷ ws) h = ap₂ ◌∷◌ (sheet_stays s h.0) (others_stay ws h.1)
 
   flip : (a b : ℕ) → nat_eq a b ≡ false → nat_eq b a ≡ false
   flip a b e = sym (nat_eq_equiv.symm a b) ∙ e
 
-  apart_from : (x : ℕ) (ws : List Worksheet) (i : ℕ) (s : Worksheet) → slice_get ws i ≡ Some s → AllByRecursion (λ y. nat_eq x y ≡ false) (ids ws) → nat_eq x s.id ≡ false
+  apart_from : (x : ℕ) (ws : List HeldSheet) (i : ℕ) (s : HeldSheet) → slice_get ws i ≡ Some s → AllByRecursion (λ y. nat_eq x y ≡ false) (ids ws) → nat_eq x s.id ≡ false
   apart_from x [] i s at h = cc
-  apart_from x (w ∷ ws) zero s at h = let same : w ≡ s = cc in subst (λ (y : Worksheet). nat_eq x y.id ≡ false) same h.0
+  apart_from x (w ∷ ws) zero s at h = let same : w ≡ s = cc in subst (λ (y : HeldSheet). nat_eq x y.id ≡ false) same h.0
   apart_from x (w ∷ ws) (suc i) s at h = apart_from x ws i s at h.1
 
   -- so what was prepared for its sheet makes of all sheets what the change does
-  pub local_made : (w : RewritesState) (ws : List Worksheet) (index : ℕ) (s : Worksheet) → slice_get ws index ≡ Some s → s.id ≡ id → IsDistinct nat_eq (ids ws) → rewritten_by w s.pool.formulas ≡ map (formula_after (name_added d) (Some s.id)) s.pool.formulas
+  pub local_made : (w : RewritesState) (ws : List HeldSheet) (index : ℕ) (s : HeldSheet) → slice_get ws index ≡ Some s → s.id ≡ id → IsDistinct nat_eq (ids ws) → rewritten_by w s.pool.formulas ≡ map (formula_after (name_added d) (Some s.id)) s.pool.formulas
       → sheets_of (updated_at (with_rewrites w) index ws) ≡ map (changed_pool (name_added d)) (sheets_of ws)
   local_made w [] index s at its differ made = cc
   local_made w (x ∷ ws) zero s at its differ made =
       let same : s ≡ x = cc in
       let made_x : rewritten_by w x.pool.formulas ≡ map (formula_after (name_added d) (Some x.id)) x.pool.formulas =
-      subst (λ (y : Worksheet). rewritten_by w y.pool.formulas ≡ map (formula_after (name_added d) (Some y.id)) y.pool.formulas) same made in
-      let its_x : x.id ≡ id = ap (λ (y : Worksheet). y.id) (sym same) ∙ its in
+      subst (λ (y : HeldSheet). rewritten_by w y.pool.formulas ≡ map (formula_after (name_added d) (Some y.id)) y.pool.formulas) same made in
+      let its_x : x.id ≡ id = ap (λ (y : HeldSheet). y.id) (sym same) ∙ its in
       ap₂ ◌∷◌ (ap (λ (pool : List Formula). let one : BookSheet = record (sheet_of x) { pool = pool } in one) made_x)
       (others_stay ws (subst (λ k. AllByRecursion (λ y. nat_eq k y ≡ false) (ids ws)) its_x (IsDistinct-head nat_eq x.id (ids ws) differ)))
   local_made w (x ∷ ws) (suc index) s at its differ made =
@@ -180,20 +180,20 @@ module _ (d : NameSpelling) (id : ℕ) (local : d.scope ≡ Some id) where
   pool_unchanged other apart [] = refl
   pool_unchanged other apart (f ∷ pool) = ap₂ (λ a b. a || b) (none_changes other apart f) (pool_unchanged other apart pool)
 
-  look_up_stays : (s : Worksheet) → nat_eq id s.id ≡ false → s.pool.is_whole ≡ looks_up_after (name_added d) s
+  look_up_stays : (s : HeldSheet) → nat_eq id s.id ≡ false → s.pool.is_whole ≡ looks_up_after (name_added d) s
   look_up_stays s apart = and_true s.pool.is_whole ∙ ap (λ b. s.pool.is_whole && not b) (sym (pool_unchanged s.id apart s.pool.formulas))
 
-  look_ups_stay : (ws : List Worksheet) → AllByRecursion (λ y. nat_eq id y ≡ false) (ids ws) → look_ups ws ≡ map (looks_up_after (name_added d)) ws
+  look_ups_stay : (ws : List HeldSheet) → AllByRecursion (λ y. nat_eq id y ≡ false) (ids ws) → look_ups ws ≡ map (looks_up_after (name_added d)) ws
   look_ups_stay [] h = refl
   look_ups_stay (s ∷ ws) h = ap₂ ◌∷◌ (look_up_stays s h.0) (look_ups_stay ws h.1)
 
   -- so it leaves the look-ups that the change does
-  pub local_looks_up : (w : RewritesState) (ws : List Worksheet) (index : ℕ) (s : Worksheet) → slice_get ws index ≡ Some s → s.id ≡ id → IsDistinct nat_eq (ids ws) → IsPrepared (name_added d) w s
+  pub local_looks_up : (w : RewritesState) (ws : List HeldSheet) (index : ℕ) (s : HeldSheet) → slice_get ws index ≡ Some s → s.id ≡ id → IsDistinct nat_eq (ids ws) → IsPrepared (name_added d) w s
       → look_ups (updated_at (with_rewrites w) index ws) ≡ map (looks_up_after (name_added d)) ws
   local_looks_up w [] index s at its differ prepared = cc
   local_looks_up w (x ∷ ws) zero s at its differ prepared =
       let same : s ≡ x = cc in
-      let its_x : x.id ≡ id = ap (λ (y : Worksheet). y.id) (sym same) ∙ its in
+      let its_x : x.id ≡ id = ap (λ (y : HeldSheet). y.id) (sym same) ∙ its in
       ap₂ ◌++◌ (prepared_makes (name_added d) (w ∷ []) (x ∷ []) (subst (IsPrepared (name_added d) w) same prepared, tt)).looks_up
       (look_ups_stay ws (subst (λ k. AllByRecursion (λ y. nat_eq k y ≡ false) (ids ws)) its_x (IsDistinct-head nat_eq x.id (ids ws) differ)))
   local_looks_up w (x ∷ ws) (suc index) s at its differ prepared =

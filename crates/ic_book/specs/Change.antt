@@ -9,7 +9,7 @@ use Rattle.ic_laws.specs.Keeping.{kept_in_body, same_keys}
 use Rattle.ic_laws.specs.Notations.{Notations}
 use Rattle.ic_laws.specs.declared.scene.Scene.{Scene}
 use Rattle.ic_sheets.specs.Rewriting.{changed_pool}
-use Rattle.ic_sheets.specs.Sheet.{kept_pool, plain_tab}
+use Rattle.ic_sheets.specs.Sheet.{empty_grid, kept_pool, plain_tab}
 use Rattle.ic_book.specs.Book.{Book, core_of, notations_in, scene_in}
 
 module _ (n : Notations) (before after : Scene) where
@@ -23,7 +23,7 @@ book_changed_by change book = change (with_kept_pools (notations_in book) (scene
 
 -- the book with a new sheet at its end, which has the fresh id and no formulas
 abbrev pub with_added_sheet : List ℕ → Book → Book
-with_added_sheet name book = record book { sheets = book.sheets ++ record { id = greatest_id (core_of book) + 1; name = name; pool = []; cells = []; tab = plain_tab } ∷ [] }
+with_added_sheet name book = record book { sheets = book.sheets ++ record { id = greatest_id (core_of book) + 1; name = name; pool = []; grid = empty_grid; tab = plain_tab } ∷ [] }
 
 -- with another name for the sheet at an index
 abbrev pub with_renamed_sheet : ℕ → List ℕ → Book → Book

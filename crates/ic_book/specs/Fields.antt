@@ -7,11 +7,11 @@ use Rattle.ic_cells.specs.Sheet.{state_word}
 pub use Rattle.ic_machine.specs.Fields.{fields_of_sheet, no_fields, scope_field, sheets_fields, string_field, string_only, theme_field}
 use Rattle.ic_machine.specs.Reply.{Field, NumberField, TextField}
 use Rattle.ic_machine.specs.Styling.{color_text}
-use Rattle.ic_sheets.specs.declared.sheet.Worksheet.{Worksheet}
+use Rattle.ic_sheets.specs.declared.sheet.Sheet.{Sheet as HeldSheet}
 use Rattle.ic_book.specs.Names.{Listed, listed}
 
 -- what is told of a sheet of the book: its name, the word of its state, its color and its id
-abbrev pub told_sheet : Worksheet → List Field
+abbrev pub told_sheet : HeldSheet → List Field
 told_sheet sheet = TextField sheet.name ∷ TextField (state_word sheet.tab.state) ∷ TextField (color_text sheet.tab.color) ∷ NumberField (Some sheet.id) ∷ []
 
 -- the name, the scope and the body of each definition that is listed

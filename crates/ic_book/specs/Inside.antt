@@ -1,15 +1,15 @@
 -- What a model keeps, as contracts see it, and what always holds of that.
-use Rattle.std.specs.Prelude.{◌≡◌, ℕ, List, map, Some}
+use Rattle.std.specs.Prelude.{◌≡◌, List, map, Some}
 use Rattle.ic_tables.specs.Tables.{TableSet, language_of, locale_of}
 use Rattle.ic_tables.specs.declared.language.Language.{Language}
 use Rattle.ic_tables.specs.declared.locale.NamedLocale.{NamedLocale}
 use Rattle.ic_laws.specs.CoreBook.{Definition}
 use Rattle.ic_sheets.specs.Sheet.{sheet_of}
-use Rattle.ic_sheets.specs.declared.sheet.Worksheet.{Worksheet}
+use Rattle.ic_sheets.specs.declared.sheet.Sheet.{Sheet as HeldSheet}
 use Rattle.ic_book.specs.declared.about.About.{About}
 use Rattle.ic_book.specs.Book.{Book, IsValidBook, ModelState}
 
-module _ (about : About) (sheets : List Worksheet) (definitions : List Definition) (locale : NamedLocale) (language : Language) (tables : TableSet) where
+module _ (about : About) (sheets : List HeldSheet) (definitions : List Definition) (locale : NamedLocale) (language : Language) (tables : TableSet) where
   -- the book that it holds
   abbrev pub held : Book
   held = record {
@@ -21,6 +21,8 @@ module _ (about : About) (sheets : List Worksheet) (definitions : List Definitio
     zone = about.zone.now;
     theme = about.theme;
     created = about.created;
+    styles = about.styles;
+    strings = about.strings;
     tables = tables;
   }
 

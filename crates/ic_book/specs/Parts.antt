@@ -1,15 +1,20 @@
 -- What a step on a part of a sheet does to the model.
-use Rattle.std.specs.Prelude.{◌≡◌, ℕ, List, Bool, Result}
+use Rattle.std.specs.Prelude.{ℕ, List, Bool, Result}
 use Rattle.std.specs.Borrow.{Bor, MutBor}
 use Rattle.std.specs.Fn.{FnOnceReturnsAt, FnOnceReturnsAtMut, Once}
 use Rattle.ic_machine.specs.Book as machine
 use Rattle.ic_machine.specs.Book.{Stepped, on_tab}
 use Rattle.ic_machine.specs.Reply.{Field}
+use Rattle.ic_machine.specs.Valid.{IsFrozen}
 use Rattle.ic_sheets.specs.declared.tab.Tab.{Tab}
 use Rattle.ic_book.specs.Book.{ModelState}
 use Rattle.ic_book.specs.Does.{DoesStep, DoesTab, wants}
-use Rattle.ic_book.specs.Whole.{whole_of}
+use Rattle.ic_book.specs.Whole.{whole_of, whole_tab}
 use Rattle.ic_book.specs.declared.error.BookError.{BookError}
+
+-- Fewer rows and columns of a sheet stay in sight than there are, where that was so before.
+abbrev pub StaysFrozen : Tab → Tab → Type 0
+StaysFrozen before after = IsFrozen (whole_tab before) → IsFrozen (whole_tab after)
 
 -- The change of the tab of a sheet is one of the model: where there is the sheet, what the change does to its tab is done;
 -- which formulas are found by their look-ups stays.

@@ -29,6 +29,8 @@ refusal_of errors.NotAFormula = Some (OfCore core.NotAFormula)
 refusal_of errors.InvalidLocale = Some (OfCore core.InvalidLocale)
 refusal_of errors.InvalidLanguage = Some (OfCore core.InvalidLanguage)
 refusal_of errors.InvalidTimezone = Some (OfCore core.InvalidTimezone)
+refusal_of errors.MergedPart = Some machine.MergedPart
+refusal_of errors.ArrayPart = Some machine.ArrayPart
 refusal_of errors.FrozenNegative = Some machine.FrozenNegative
 refusal_of errors.TooManyRows = Some machine.TooManyRows
 refusal_of errors.TooManyColumns = Some machine.TooManyColumns
@@ -37,6 +39,17 @@ refusal_of errors.OutOfMemory = None
 -- the name of an error's variant: that of its refusal
 abbrev pub error_name : BookError → List ℕ
 error_name e = option_map_or refusal_name (refusal_of e) (codes "OutOfMemory")
+
+-- A call answers Ok only where nothing refuses. Its error is the refusal where there is one, and otherwise that memory ran
+-- out.
+abbrev pub Tells : {T : Type 0} → Result T BookError → Option Refusal → Type 0
+Tells (Ok value) refusal = refusal ≡ None
+Tells (Err e) refusal = refusal ≡ refusal_of e
+
+-- the same of a call that takes no memory
+abbrev pub TellsOnly : {T : Type 0} → Result T BookError → Option Refusal → Type 0
+TellsOnly (Ok value) refusal = refusal ≡ None
+TellsOnly (Err e) refusal = (told : Refusal) × (refusal_of e ≡ Some told) × (refusal ≡ Some told)
 
 -- What an error tells where the core machine says what refuses: this refusal, or none where memory ran out. Other errors
 -- don't come there. ----

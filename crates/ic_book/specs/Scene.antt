@@ -3,14 +3,14 @@ use Rattle.std.specs.Prelude.{ℕ, List, [], ◌∷◌, ◌++◌, Option, map}
 use Rattle.ic_laws.specs.CoreBook.{Definition, spelling_of}
 use Rattle.ic_laws.specs.declared.scene.Scene.{Scene}
 use Rattle.ic_laws.specs.declared.scene.SheetName.{SheetName}
-use Rattle.ic_sheets.specs.declared.sheet.Worksheet.{Worksheet}
+use Rattle.ic_sheets.specs.declared.sheet.Sheet.{Sheet as HeldSheet}
 
-abbrev pub named : Worksheet → SheetName
+abbrev pub named : HeldSheet → SheetName
 named sheet = record { id = sheet.id; name = sheet.name }
 
-abbrev pub scene_of_parts : List Worksheet → List Definition → Scene
+abbrev pub scene_of_parts : List HeldSheet → List Definition → Scene
 scene_of_parts sheets definitions = record { sheets = map named sheets; names = map spelling_of definitions }
 
 -- and one definition more at the end, by its name and the sheet that it is local to
-abbrev pub scene_with : List Worksheet → List Definition → List ℕ → Option ℕ → Scene
+abbrev pub scene_with : List HeldSheet → List Definition → List ℕ → Option ℕ → Scene
 scene_with sheets definitions name scope = record (scene_of_parts sheets definitions) { names = map spelling_of definitions ++ record { name = name; scope = scope } ∷ [] }

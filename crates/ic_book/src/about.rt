@@ -1,4 +1,5 @@
-use ic_laws::Text;
+use ic_cells::Styles;
+use ic_laws::{Items, Text};
 
 /// What a workbook has beside its sheets, its definitions and its notation.
 pub struct About<'a> {
@@ -10,6 +11,10 @@ pub struct About<'a> {
     pub theme: Text,
     /// When it was made, as `Timestamp` displays it.
     pub created: Text,
+    /// By number, from 0.
+    pub styles: Styles,
+    /// The texts that its cells share, by number from 0.
+    pub strings: Items<Text>,
 }
 
 impl Drop for About<'_> {
@@ -19,9 +24,13 @@ impl Drop for About<'_> {
             zone: _,
             theme,
             created,
+            styles,
+            strings,
         } = self;
         drop(name);
         drop(theme);
         drop(created);
+        drop(styles);
+        drop(strings);
     }
 }

@@ -48,6 +48,10 @@ pub enum BookError {
     InvalidLanguage,
     /// The tables list no such zone.
     InvalidTimezone,
+    /// Merged cells cover the cell, but it isn't their first.
+    MergedPart,
+    /// The cell belongs to a Cse array of more than one cell.
+    ArrayPart,
     /// The number of rows or columns that stay in sight is below 0.
     FrozenNegative,
     /// A sheet has no more rows than are to stay in sight.
@@ -82,6 +86,8 @@ impl BookError {
             BookError::InvalidLocale => "Invalid locale",
             BookError::InvalidLanguage => "Invalid language",
             BookError::InvalidTimezone => "Invalid timezone",
+            BookError::MergedPart => "Cannot edit a cell that is part of a merged cell",
+            BookError::ArrayPart => "Cannot write in a cell that is part of an array formula",
             BookError::FrozenNegative => "Frozen rows or columns cannot be negative",
             BookError::TooManyRows => "Too many rows",
             BookError::TooManyColumns => "Too many columns",
@@ -118,6 +124,8 @@ impl BookError {
             BookError::InvalidLocale => "InvalidLocale",
             BookError::InvalidLanguage => "InvalidLanguage",
             BookError::InvalidTimezone => "InvalidTimezone",
+            BookError::MergedPart => "MergedPart",
+            BookError::ArrayPart => "ArrayPart",
             BookError::FrozenNegative => "FrozenNegative",
             BookError::TooManyRows => "TooManyRows",
             BookError::TooManyColumns => "TooManyColumns",

@@ -1,35 +1,42 @@
 ghost use Rattle.std.specs.Prelude.{◌≡◌, ◌+◌, ◌≤◌, ◌<◌, List, [], ◌∷◌, ℤ, ℕ, Some, true, false, chars, length, option_map, string_bytes, IfOk, IfSome, OnErr, OnOk, MatchOption, ◌++◌, codes};
-ghost use Rattle.std.specs.List.{AllByRecursion, slice_get};
+ghost use Rattle.std.specs.FinMap as finite;
+ghost use Rattle.std.specs.List.{slice_get};
 ghost use Rattle.ic_laws.specs.Binding.{bound};
 ghost use Rattle.ic_laws.specs.Character.{equals};
-ghost use Rattle.ic_laws.specs.CoreBook.{CellPlace, formula_at};
-ghost use Rattle.ic_laws.specs.CoreStep.{formula_of, lacks_sheet, update_refusal, updated_at, with_formula};
+ghost use Rattle.ic_laws.specs.CoreBook.{formula_at};
+ghost use Rattle.ic_laws.specs.CoreStep.{formula_of, lacks_sheet, updated_at};
 ghost use Rattle.ic_laws.specs.FormulaReading.{cell_formula, cell_tree, is_formula_text, shown_at, shown_body, shown_formula, without_equals};
 ghost use Rattle.ic_laws.specs.Notations.{english_function};
 ghost use Rattle.ic_laws.specs.ReadAs.{read_as};
-ghost use Rattle.ic_laws.specs.Refusal.{InvalidSheet, Refusal, first_refusal};
+ghost use Rattle.ic_laws.specs.Refusal as core;
+ghost use Rattle.ic_laws.specs.Refusal.{InvalidSheet};
 ghost use Rattle.ic_laws.specs.Tree as trees;
 ghost use Rattle.ic_laws.specs.ValidCore.{IsPooled};
 ghost use Rattle.ic_laws.specs.declared.tree.Formula as kept;
 ghost use Rattle.ic_pool.specs.Pool.{IsPlaced};
-ghost use Rattle.ic_sheets.specs.Sheet.{cells_of};
+ghost use Rattle.ic_sheets.specs.Sheet.{HasPlaces, cells_of};
+ghost use Rattle.ic_machine.specs.Refusal.{Refusal, first_refusal};
+ghost use Rattle.ic_machine.specs.Styling.{restyled};
 ghost use Rattle.ic_machine.specs.subjects.Reading.{GetCellFormula, reading_step};
-ghost use Rattle.ic_machine.specs.subjects.Writing.{UpdateCellWithFormula};
-ghost use Rattle.ic_book.specs.Book.{IsSameBeside, IsValidBook, core_of, notations_in, scene_in};
+ghost use Rattle.ic_machine.specs.subjects.Writing.{UpdateCellWithFormula, unquoted};
+ghost use Rattle.ic_book.specs.Book.{IsValidBook, core_of, notations_in, scene_in};
 ghost use Rattle.ic_book.specs.Does.{Does, DoesIn};
 ghost use Rattle.ic_book.specs.Fields.{no_fields, string_field};
 ghost use Rattle.ic_book.specs.LookUps.{LooksUpAsBefore};
-ghost use Rattle.ic_book.specs.Refused.{Refuses, RefusesOnly};
+ghost use Rattle.ic_book.specs.Refused.{Refuses, Tells, TellsOnly};
 ghost use Rattle.ic_book.specs.Served.{served_writing_step};
-ghost use Rattle.ic_book.specs.Written.{pool_at, with_cell, with_pool};
+ghost use Rattle.ic_book.specs.Written.{WritesFormula, cell_causes, kind_of, pool_at, text_causes, with_pool, write_refusal};
 
 use crate::{BookError, Model};
+use ic_cells::Styles;
+use ic_grid::{Grid, GridError};
 use ic_laws::scan::{first_char, push_char, push_text};
 use ic_laws::{Bound, Dialect, Formula, LAST_COLUMN, LAST_ROW, OutOfMemory, Spelled, Text};
 use ic_names::Definition;
 use ic_pool::Steps;
-use ic_sheets::Worksheet;
-use ic_tree::{Shown, bind, print, read, spell};
+use ic_sheets::{FormulaKind, Sheet};
+use ic_tables::Tables;
+use ic_tree::{Shown, bind, is_dynamic, print, read, spell};
 use std::alloc::Global;
 use std::sync::ledger::Ledger;
 
@@ -38,9 +45,13 @@ impl<'a> Model<'a> {
     /// `=` and a formula in the notation in force; where it doesn't read, it is read with a `)` added, and else kept as it
     /// is. Sheets that it names are found now, and found again under every later name.
     ///
-    /// `InvalidSheet`, `InvalidRow`, `InvalidColumn`, `NotAFormula` (the text doesn't begin with `=`, or is `=` alone), in
-    /// this order, each exactly where it holds; `OutOfMemory` only where none of them does. An error leaves the book, and a
-    /// refusal all that a model is.
+    /// The array that the cell belongs to is released. A formula that may have several values gets the area of its own
+    /// cell; the cell keeps the style that it shows, without its quote flag.
+    ///
+    /// `InvalidSheet`, `InvalidRow`, `InvalidColumn`, `MergedPart` (merged cells cover the cell), `ArrayPart` (it belongs to
+    /// a Cse array of more than one cell), `NotAFormula` (the text doesn't begin with `=`, or is `=` alone), in this order,
+    /// each exactly where it holds; `OutOfMemory` only where none of them does. An error leaves the book, and a refusal all
+    /// that a model is.
     pub fn update_cell_with_formula(
         &mut self,
         sheet: u32,
@@ -104,12 +115,12 @@ impl<'a> Model<'a> {
         ensures still { slice_get self.old.has_all sheet ≡ Some true → steps.new ≡ steps.old }
         ensures cost { steps.new ≤ steps.old + length (pool_at self.old.book sheet) }
         ensures grows { steps.old ≤ steps.new }
-        ensures refused { Refuses result (first_refusal ((
+        ensures refused { Refuses result (core.first_refusal ((
           lacks_sheet
               (core_of self.old.book) sheet,
           InvalidSheet,
         ) ∷ [])) }
-        ensures untouched { (refusal : Refusal) → first_refusal ((
+        ensures untouched { (refusal : core.Refusal) → core.first_refusal ((
           lacks_sheet
               (core_of self.old.book) sheet,
           InvalidSheet,
@@ -134,27 +145,16 @@ impl<'a> Model<'a> {
         column: i32,
         formula: String,
     ) -> Result<(), BookError>
-        // The machine's step: the cell has the formula of the text, and all else of the core is as it was.
-        ensures core { OnOk result (core_of self.new.book ≡ record (core_of self.old.book) {
-          sheets = updated_at (with_formula (notations_in self.old.book) (core_of self.old.book) row column (without_equals (chars (string_bytes formula)))) sheet (core_of self.old.book).sheets;
-        }) }
-
-        // The formula stands in the pool of its sheet at its first place, or was put at the end; the rest of the book is
-        // as it was.
         ensures written { OnOk result (IfSome (slice_get self.old.book.sheets sheet) (λ s.
-            (pool : List kept.Formula) × (place : ℕ)
-            × IsPlaced (cell_formula (notations_in self.old.book)
-            (core_of self.old.book) s.id row column (without_equals (chars
-            (string_bytes formula)))) place s.pool pool
-            × (self.new.book ≡ with_cell sheet pool row column place self.old.book))) }
-        ensures beside { OnOk result (IsSameBeside self.old.book self.new.book) }
-        ensures looks_up { OnOk result (self.new.has_all ≡ updated_at
-            (λ _. true) sheet self.old.has_all) }
+            WritesFormula sheet s (row, column) (chars (string_bytes formula))
+            self.old.book self.new.book)) }
+        ensures looks_up { OnOk result
+            (self.new.has_all ≡ updated_at (λ _. true) sheet self.old.has_all) }
         ensures whole { OnOk result (slice_get self.new.has_all sheet ≡ Some true) }
-        ensures refused { Refuses result (update_refusal (core_of self.old.book) sheet row column
-            (chars (string_bytes formula))) }
-        ensures untouched { (refusal : Refusal) → update_refusal
-            (core_of self.old.book) sheet row column (chars (string_bytes formula)) ≡ Some refusal
+        ensures refused { Tells result
+            (write_refusal self.old.book sheet (row, column) (chars (string_bytes formula))) }
+        ensures untouched { (refusal : Refusal) → write_refusal
+            self.old.book sheet (row, column) (chars (string_bytes formula)) ≡ Some refusal
             → self.new ≡ self.old }
         ensures err { OnErr result (self.new.book ≡ self.old.book) }
         ensures valid { IsValidBook self.old.book }
@@ -163,10 +163,22 @@ impl<'a> Model<'a> {
         ensures left { OnErr result (LooksUpAsBefore sheet self.old self.new) }
     {
         let body = self.body_to_write(sheet, row, column, formula.as_str())?;
-        let id = self.sheets.as_slice()[sheet as usize].id;
-        let formula = self.formula_of(id, row, column, body)?;
-        self.sheets.write(sheet as usize, row, column, formula)?;
-        Ok(())
+        let worksheet = &self.sheets.as_slice()[sheet as usize];
+        let shown = worksheet.grid.style_at(row, column);
+        let formula = self.formula_of(worksheet.id, row, column, body)?;
+        let kind = kind_of(&formula, self.tables);
+        let count = self.about.styles.len();
+        let style = without_quote(&mut self.about.styles, shown)?;
+        match self
+            .sheets
+            .write(sheet as usize, row, column, formula, kind, style)
+        {
+            Ok(()) => Ok(()),
+            Err(error) => {
+                self.about.styles.truncate(count);
+                Err(BookError::from(error))
+            }
+        }
     }
 
     /// What is shown of the formula in a cell.
@@ -175,7 +187,7 @@ impl<'a> Model<'a> {
             ≡ option_map (λ f. equals ∷ shown_formula (notations_in self.now.book)
             (core_of self.now.book) row column f) (formula_of
             (core_of self.now.book) sheet row column)) }
-        ensures refused { Refuses result (first_refusal ((
+        ensures refused { Refuses result (core.first_refusal ((
           lacks_sheet
               (core_of self.now.book) sheet,
           InvalidSheet,
@@ -200,22 +212,13 @@ impl<'a> Model<'a> {
         text: &'t str,
     ) -> Result<&'t str, BookError>
         ensures body { IfOk result (λ body. chars body.now ≡ without_equals (chars text.now)) }
-        ensures refused { RefusesOnly result (update_refusal
-            (core_of self.now.book) sheet row column (chars text.now)) }
+        ensures refused { TellsOnly result
+            (write_refusal self.now.book sheet (row, column) (chars text.now)) }
     {
-        if sheet as usize >= self.sheets.len() {
+        let Some(worksheet) = self.sheets.as_slice().get(sheet as usize) else {
             return Err(BookError::InvalidSheet);
-        }
-        if row < 1 || row > LAST_ROW {
-            return Err(BookError::InvalidRow);
-        }
-        if column < 1 || column > LAST_COLUMN {
-            return Err(BookError::InvalidColumn);
-        }
-        match after_equals(text) {
-            Some(body) => Ok(body),
-            None => Err(BookError::NotAFormula),
-        }
+        };
+        body_in(&worksheet.grid, row, column, text)
     }
 
     /// The formula of a text in a cell of the sheet with this id.
@@ -323,14 +326,73 @@ fn read_closed<D: Dialect>(alloc: Global, d: &D, text: &str) -> Result<Option<Sp
 }
 
 /// The formula in a cell of a sheet.
-fn formula_at(worksheet: &Worksheet, row: i32, column: i32) -> Option<&Formula>
-    requires { AllByRecursion (λ (cell : CellPlace
-        × ℕ). cell.1 < length worksheet.now.pool.formulas) worksheet.now.cells }
+fn formula_at(worksheet: &Sheet, row: i32, column: i32) -> Option<&Formula>
+    requires { HasPlaces (length worksheet.now.pool.formulas) worksheet.now.grid }
     ensures { option_map (λ f. f.now) result ≡ formula_at
-        (cells_of worksheet.now.pool.formulas worksheet.now.cells) row column }
+        (cells_of worksheet.now.pool.formulas (finite.entries worksheet.now.grid.cells)) row column }
 {
-    let place = worksheet.cells.place_at(row, column)?;
+    let cell = worksheet.grid.cells.get(row, column)?;
+    let place = cell.get_formula()?;
     worksheet.pool.get(place)
+}
+
+/// What stands after `=` in a text that may be written into a cell of a sheet.
+fn body_in<'t>(grid: &Grid, row: i32, column: i32, text: &'t str) -> Result<&'t str, BookError>
+    ensures body { IfOk result (λ body. chars body.now ≡ without_equals (chars text.now)) }
+    ensures refused { TellsOnly result
+        (first_refusal (text_causes grid.now (row, column) (chars text.now))) }
+{
+    if row < 1 || row > LAST_ROW {
+        return Err(BookError::InvalidRow);
+    }
+    if column < 1 || column > LAST_COLUMN {
+        return Err(BookError::InvalidColumn);
+    }
+    can_write(grid, row, column)?;
+    match after_equals(text) {
+        Some(body) => Ok(body),
+        None => Err(BookError::NotAFormula),
+    }
+}
+
+/// Whether merged cells or an array forbid to write a cell of a sheet.
+fn can_write(grid: &Grid, row: i32, column: i32) -> Result<(), BookError>
+    ensures { TellsOnly result (first_refusal (cell_causes grid.now (row, column))) }
+{
+    match grid.can_write(row, column) {
+        Ok(()) => Ok(()),
+        Err(GridError::MergedPart) => Err(BookError::MergedPart),
+        Err(_) => Err(BookError::ArrayPart),
+    }
+}
+
+/// How many values a formula may have.
+fn kind_of(formula: &Formula, tables: &Tables) -> FormulaKind
+    ensures { result ≡ kind_of tables.now.kinds formula.now }
+{
+    match formula {
+        Formula::Tree(tree) => {
+            if is_dynamic(tree, tables) {
+                FormulaKind::Dynamic
+            } else {
+                FormulaKind::Single
+            }
+        }
+        Formula::Raw(_) => FormulaKind::Single,
+    }
+}
+
+/// The number of a style without its quote flag, which may be new. Memory can be missing, and then nothing has changed.
+fn without_quote(styles: &mut Styles, style: usize) -> Result<usize, OutOfMemory>
+    requires { style < length styles.old }
+    ensures number { IfOk result (λ n. n ≡ (restyled unquoted style styles.old).number) }
+    ensures styles { OnOk result (styles.new ≡ (restyled unquoted style styles.old).styles) }
+    ensures err { OnErr result (styles.new ≡ styles.old) }
+{
+    if styles.style_is_quote_prefix(style) {
+        return styles.get_style_without_quote_prefix(style);
+    }
+    Ok(style)
 }
 
 /// A text after a sign.

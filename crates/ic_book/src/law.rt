@@ -1,8 +1,6 @@
-ghost use Rattle.ic_book.specs.Whole.{Determines, HasCore};
+ghost use Rattle.ic_book.specs.Whole.{HasCore};
 
-/// The whole book of a valid book has its core, and is the whole book of no other: so what a call does to the whole book
-/// says what becomes of the book.
+/// The whole book of a valid book has its core: so what a call does to the whole book says what becomes of the core.
 pub fn law_whole_book()
-    ensures core { HasCore }
-    ensures determines { Determines }
+    ensures { HasCore }
 {}

@@ -8,12 +8,14 @@ ghost use Rattle.ic_book.specs.Does.{DoesOnly};
 ghost use Rattle.ic_book.specs.Fields.{scope_field};
 ghost use Rattle.ic_book.specs.Refused.{Refuses};
 ghost use Rattle.ic_machine.specs.subjects.Sheets.{GetNewSheetId, sheet_step};
-ghost use Rattle.ic_sheets.specs.Sheet.{plain_tab};
+ghost use Rattle.ic_cells.specs.Style.{default_style};
+ghost use Rattle.ic_sheets.specs.Sheet.{empty_grid, plain_tab};
 
 use crate::BookError;
 use crate::about::About;
 use crate::scene::BookScene;
-use ic_laws::{Finder, Formula, OutOfMemory, Text};
+use ic_cells::Styles;
+use ic_laws::{Finder, Formula, Items, OutOfMemory, Text};
 use ic_names::Definitions;
 use ic_sheets::Sheets;
 use ic_tables::{Language, NamedLocale, Tables};
@@ -59,8 +61,11 @@ impl<'a> marker::Model for Model<'a> {
 
     ghost use Rattle.std.specs.Coded.{codes};
     ghost use Rattle.ic_laws.specs.contracts.tree.Formula as formula;
+    ghost use Rattle.ic_cells.specs.contracts.style.Style as style;
+    ghost use Rattle.ic_grid.specs.contracts.grid.Grid as grid;
+    ghost use Rattle.ic_sheets.specs.contracts.tab.Tab as tab;
 
-    ghost coded = { Prim.hlevel (codes, formula.the_row.coded) };
+    ghost coded = { Prim.hlevel (codes, formula.the_row.coded, style.the_row.coded, grid.the_row.coded, tab.the_row.coded) };
 
     ghost view = { λ m. held_state m.about m.sheets m.names m.locale.now m.language.now m.tables.now };
 
@@ -158,7 +163,7 @@ impl<'a> Model<'a> {
 /// The sheets of a new book: one, with the id 1, named by the language.
 fn first_sheet(alloc: Global, language: &Language) -> Result<Sheets, OutOfMemory>
     ensures { IfOk result (λ sheets. sheets
-        ≡ record { id = 1; name = first_sheet_name_in language.now.code; pool = record { formulas = []; is_whole = true }; cells = []; tab = plain_tab } ∷ []) }
+        ≡ record { id = 1; name = first_sheet_name_in language.now.code; pool = record { formulas = []; is_whole = true }; grid = empty_grid; tab = plain_tab } ∷ []) }
 {
     let mut sheets = Sheets::new(alloc);
     sheets.push(1, first_sheet_name(&language.code))?;
@@ -182,22 +187,29 @@ fn first_sheet_name(language: &Text) -> &'static str
     }
 }
 
-/// What a new workbook of this name has beside its contents: a theme without a name.
+/// What a new workbook of this name has beside its contents: a theme without a name, the default style, no shared strings.
 fn about<'a>(
     alloc: Global,
     name: &str,
     zone: &'a Text,
     moment: Timestamp,
 ) -> Result<About<'a>, OutOfMemory>
-    ensures name { IfOk result (λ about. about.name ≡ chars name.now) }
-    ensures zone { IfOk result (λ about. about.zone.now ≡ zone.now) }
-    ensures theme { IfOk result (λ about. about.theme ≡ []) }
+    ensures { IfOk result (λ about. about ≡ record {
+      name = chars name.now;
+      zone = zone.entry;
+      theme = [];
+      created = about.created;
+      styles = default_style ∷ [];
+      strings = [];
+    }) }
 {
     Ok(About {
         name: Text::from_str(alloc, name)?,
         zone,
         theme: Text::from(String::new(alloc)),
         created: moment_text(alloc, moment)?,
+        styles: Styles::new(alloc)?,
+        strings: Items::from(Vec::new(alloc)),
     })
 }
 

@@ -1,8 +1,9 @@
 //! A step on a part of a sheet, as a step of the book.
 ghost use Rattle.std.specs.Prelude.{◌≡◌, Result, option_map};
-ghost use Rattle.std.specs.Fn.{FnOnceTakesAt, FnOnceTakesAtMut};
+ghost use Rattle.std.specs.Fn.{FnOnceReturnsAtMut, FnOnceTakesAt, FnOnceTakesAtMut};
 ghost use Rattle.std.specs.List.{slice_get};
-ghost use Rattle.ic_book.specs.Parts.{ChangesTab, ReadsTab};
+ghost use Rattle.ic_book.specs.Parts.{ChangesTab, ReadsTab, StaysFrozen};
+ghost use Rattle.ic_book.specs.declared.error.BookError.{BookError};
 ghost use Rattle.ic_sheets.specs.declared.tab.Tab.{Tab};
 
 use crate::{BookError, Model};
@@ -15,7 +16,9 @@ impl<'a> Model<'a> {
         sheet: u32,
         change: F,
     ) -> Result<T, BookError>
-        requires { (tab : Tab) → FnOnceTakesAtMut F.FnOnce change tab }
+        requires callable { (tab : Tab) → FnOnceTakesAtMut F.FnOnce change tab }
+        requires frozen { (before after : Tab) (r : Result T BookError)
+            → FnOnceReturnsAtMut F.FnOnce change before r after → StaysFrozen before after }
         ensures changes { ChangesTab F.FnOnce change sheet result self.old self.new }
         ensures looks_up { self.new.has_all ≡ self.old.has_all }
     {

@@ -8,7 +8,7 @@ ghost use Rattle.ic_book.specs.Fields.{fields_of_sheet, sheets_fields, told_shee
 use crate::{BookError, Model};
 use ic_cells::{SheetProperties, SheetState};
 use ic_laws::{OutOfMemory, Text};
-use ic_sheets::Worksheet;
+use ic_sheets::Sheet;
 use std::alloc::Global;
 
 impl<'a> Model<'a> {
@@ -23,7 +23,7 @@ impl<'a> Model<'a> {
 }
 
 /// What is told of these sheets.
-fn properties_of(alloc: Global, sheets: &[Worksheet]) -> Result<Vec<SheetProperties>, OutOfMemory>
+fn properties_of(alloc: Global, sheets: &[Sheet]) -> Result<Vec<SheetProperties>, OutOfMemory>
     ensures { IfOk result
         (λ all. flat_map fields_of_sheet all.items ≡ flat_map told_sheet sheets.now) }
 {
@@ -35,7 +35,7 @@ fn properties_of(alloc: Global, sheets: &[Worksheet]) -> Result<Vec<SheetPropert
 }
 
 /// What is told of a sheet.
-fn properties(alloc: Global, sheet: &Worksheet) -> Result<SheetProperties, OutOfMemory>
+fn properties(alloc: Global, sheet: &Sheet) -> Result<SheetProperties, OutOfMemory>
     ensures { IfOk result (λ told. fields_of_sheet told ≡ told_sheet sheet.now) }
 {
     Ok(SheetProperties {

@@ -4,6 +4,7 @@ ghost use Rattle.ic_machine.specs.Reply.{position_field};
 ghost use Rattle.ic_machine.specs.subjects.Tabs.{color_step, freeze_columns_step, freeze_rows_step, frozen_columns_step, frozen_rows_step, grid_lines_step, state_step};
 ghost use Rattle.ic_book.specs.Does.{DoesTab};
 ghost use Rattle.ic_book.specs.Fields.{no_fields};
+ghost use Rattle.ic_book.specs.Parts.{StaysFrozen};
 
 use crate::BookError;
 use ic_cells::{Color, SheetState};
@@ -13,7 +14,8 @@ use std::alloc::Global;
 
 #[tactic(auto, unfolding(ic_machine::specs::subjects::Tabs::freeze_rows_step))]
 pub(crate) fn freeze_rows(tab: &mut Tab, count: i32) -> Result<(), BookError>
-    ensures { DoesTab false (freeze_rows_step count) no_fields result tab.old tab.new }
+    ensures does { DoesTab false (freeze_rows_step count) no_fields result tab.old tab.new }
+    ensures frozen { StaysFrozen tab.old tab.new }
 {
     if count < 0 {
         return Err(BookError::FrozenNegative);
@@ -27,7 +29,8 @@ pub(crate) fn freeze_rows(tab: &mut Tab, count: i32) -> Result<(), BookError>
 
 #[tactic(auto, unfolding(ic_machine::specs::subjects::Tabs::freeze_columns_step))]
 pub(crate) fn freeze_columns(tab: &mut Tab, count: i32) -> Result<(), BookError>
-    ensures { DoesTab false (freeze_columns_step count) no_fields result tab.old tab.new }
+    ensures does { DoesTab false (freeze_columns_step count) no_fields result tab.old tab.new }
+    ensures frozen { StaysFrozen tab.old tab.new }
 {
     if count < 0 {
         return Err(BookError::FrozenNegative);
@@ -55,7 +58,8 @@ pub(crate) fn frozen_columns(tab: &Tab) -> Result<i32, BookError>
 
 #[tactic(auto, unfolding(ic_machine::specs::subjects::Tabs::color_step))]
 pub(crate) fn paint(tab: &mut Tab, alloc: Global, color: &Color) -> Result<(), BookError>
-    ensures { DoesTab true (color_step color.now) no_fields result tab.old tab.new }
+    ensures does { DoesTab true (color_step color.now) no_fields result tab.old tab.new }
+    ensures frozen { StaysFrozen tab.old tab.new }
 {
     tab.color = color.copy(alloc)?;
     Ok(())
@@ -63,7 +67,8 @@ pub(crate) fn paint(tab: &mut Tab, alloc: Global, color: &Color) -> Result<(), B
 
 #[tactic(auto, unfolding(ic_machine::specs::subjects::Tabs::state_step))]
 pub(crate) fn put_state(tab: &mut Tab, state: SheetState) -> Result<(), BookError>
-    ensures { DoesTab false (state_step state) no_fields result tab.old tab.new }
+    ensures does { DoesTab false (state_step state) no_fields result tab.old tab.new }
+    ensures frozen { StaysFrozen tab.old tab.new }
 {
     tab.state = state;
     Ok(())
@@ -71,7 +76,8 @@ pub(crate) fn put_state(tab: &mut Tab, state: SheetState) -> Result<(), BookErro
 
 #[tactic(auto, unfolding(ic_machine::specs::subjects::Tabs::grid_lines_step))]
 pub(crate) fn show_lines(tab: &mut Tab, shows: bool) -> Result<(), BookError>
-    ensures { DoesTab false (grid_lines_step shows) no_fields result tab.old tab.new }
+    ensures does { DoesTab false (grid_lines_step shows) no_fields result tab.old tab.new }
+    ensures frozen { StaysFrozen tab.old tab.new }
 {
     tab.shows_grid_lines = shows;
     Ok(())

@@ -68,7 +68,7 @@ fn put_run_error(row: &mut Row<'_>) {
 }
 
 /// The errors of the book.
-const BOOK_ERRORS: [BookError; 24] = [
+const BOOK_ERRORS: [BookError; 26] = [
     BookError::BadLine,
     BookError::InvalidSheet,
     BookError::InvalidRow,
@@ -89,6 +89,8 @@ const BOOK_ERRORS: [BookError; 24] = [
     BookError::InvalidLocale,
     BookError::InvalidLanguage,
     BookError::InvalidTimezone,
+    BookError::MergedPart,
+    BookError::ArrayPart,
     BookError::FrozenNegative,
     BookError::TooManyRows,
     BookError::TooManyColumns,

@@ -44,13 +44,13 @@ core_half k old new reply a =
     let made = served_step w (whole_command k) in
     let o = core_step (notations_in old.book) (core_of old.book) k in
     let told = served_core old.book a.valid_before k in
-    let is = whole_core old.book a.valid_before in
+    let is = whole_core old.book in
     let text : reply_text (outcome_of w made).1 ≡ lines.reply_text (lines.outcome_of (core_of old.book) o).1 = text_told w (core_of old.book) is made o told in
     record {
       reply = a.reply ∙ ap (λ (t : List ℕ). encode_utf8_all t ++ 10 ∷ []) text;
       line = subst IsLineText text a.line;
       book = record {
-        core = sym (whole_core new.book a.valid_after) ∙ ap machine.core_of a.book ∙ core_left w (core_of old.book) is made o told;
+        core = sym (whole_core new.book) ∙ ap machine.core_of a.book ∙ core_left w (core_of old.book) is made o told;
         beside = same_beside old.book new.book (outcome_of w made).0 a.book (served_stands w k);
       };
     }

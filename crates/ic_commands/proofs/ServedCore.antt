@@ -1,68 +1,50 @@
 -- What is served is, seen by the core of a model's whole book, what the core machine does.
-use Rattle.std.proofs.Common.{◌≡◌, ℕ, pos, zero, suc, ◌<◌, List, [], ◌∷◌, length, Bool, true, false, cond, map, Some, is_some, slice_get, refl, ap, sym, subst, ◌∙◌}
-use Rattle.std.specs.FinMap as finite
+use Rattle.std.proofs.Common.{◌≡◌, ℕ, zero, suc, ◌<◌, List, [], ◌∷◌, length, map, Option, Some, None, is_some, slice_get, ap, subst, ◌∙◌}
 use Rattle.std.specs.List.{AllByRecursion}
-use Rattle.std.specs.Ordering.{eq_by_cmp}
-use Rattle.ic_laws.proofs.core.CellWritten.{place_cmp_total}
 use Rattle.ic_laws.specs.Command as core
-use Rattle.ic_laws.specs.CoreBook.{CellPlace, CoreBook, place_cmp}
+use Rattle.ic_laws.specs.CoreBook.{CellPlace, CoreBook}
 use Rattle.ic_laws.specs.CoreStep.{core_step}
-use Rattle.ic_laws.specs.declared.tree.Formula.{Formula}
-use Rattle.ic_tables.specs.declared.language.FunctionKind.{FunctionKind}
-use Rattle.ic_cells.specs.declared.cell.ArrayKind.TheVariants as arrays
-use Rattle.ic_cells.specs.declared.value.FormulaValue.TheVariants as fvalues
+use Rattle.ic_laws.specs.Notations.{Notations}
+use Rattle.ic_laws.specs.declared.scene.Scene.{Scene}
+use Rattle.ic_grid.specs.Merges.{is_covered}
+use Rattle.ic_grid.specs.Shape.{celled}
 use Rattle.ic_machine.specs.Book as machine
-use Rattle.ic_machine.specs.Content.{AnchorContent, Content, FormulaContent, formula_in, formula_index}
-use Rattle.ic_machine.specs.Core.{HasPooled, IsFree, TakesFormula, told_by, told_by_core, whole_command}
-use Rattle.ic_machine.specs.Placed.{is_dynamic}
-use Rattle.ic_machine.specs.subjects.Writing.{formula_content}
+use Rattle.ic_machine.specs.Content.{content_of, formula_index, held}
+use Rattle.ic_machine.specs.Core.{IsFree, TakesFormula, told_by, told_by_core, whole_command}
+use Rattle.ic_machine.specs.Valid.{HasCellFormulas, HasFormula}
+use Rattle.ic_machine.proofs.AlikeGrid.{is_fixed_at-seen}
+use Rattle.ic_machine.proofs.AlikeLemmas.{cells_are_contents}
 use Rattle.ic_machine.proofs.FormulaStepped.{served_formula_told}
 use Rattle.ic_machine.proofs.SteppedLemmas.{stepped}
 use Rattle.ic_sheets.specs.Sheet.{BookSheet}
-use Rattle.ic_book.specs.Book.{Book, IsValidBook, core_of, notations_in}
+use Rattle.ic_book.specs.Book.{Book, IsPlain, IsValidBook, core_of, notations_in, whole_of, whole_sheet}
 use Rattle.ic_book.specs.Served.{served_formula_step, served_step}
-use Rattle.ic_book.specs.Whole.{held_cells, whole_of, whole_sheet}
+use Rattle.ic_book.proofs.GridLemmas.{none_fixed}
 use Rattle.ic_book.proofs.WholeLemmas.{whole_core}
-use Rattle.ic_book.proofs.WholeWritten.{in_force_there, not_fixed}
+use Rattle.ic_book.proofs.WholeWritten.{in_force_there}
 
--- the formula of a held cell is the one at its index
-index_by : (dynamic : Bool) (at style : ℕ) → formula_index (cond dynamic (AnchorContent at (pos 1, pos 1) arrays.Dynamic fvalues.Unevaluated style) (FormulaContent at fvalues.Unevaluated style)) ≡ Some at
-index_by true at style = refl
-index_by false at style = refl
+-- no merged cells and no array of a plain sheet forbid to write a cell, and each formula of a cell is one of the pool
+pooled : (n : Notations) (scene : Scene) (sheet : machine.Sheet) (place : CellPlace) (o : Option ℕ) (index : ℕ) → o ≡ Some index → HasFormula n scene sheet place o → index < length sheet.pool
+pooled n scene sheet place None index e h = cc
+pooled n scene sheet place (Some k) index e h = let same : k ≡ index = cc in subst (λ i. i < length sheet.pool) same h.0
 
-index_held : (kinds : List FunctionKind) (formula : Formula) (at style : ℕ) → formula_index (formula_content kinds formula at style) ≡ Some at
-index_held kinds formula at style = index_by (is_dynamic kinds formula) at style
+is_free : (n : Notations) (scene : Scene) (strings : List (List ℕ)) (place : CellPlace) (s : BookSheet) → IsPlain s.grid → HasCellFormulas n scene (whole_sheet strings s) → IsFree (whole_sheet strings s) place
+is_free n scene strings place s plain formulas = record {
+  uncovered = ap (λ merges. is_covered merges place) plain.merges;
+  loose = is_fixed_at-seen (content_of strings) celled held (cells_are_contents strings) s.grid.cells place ∙ none_fixed s.grid plain place;
+  pooled = λ p content index at is. pooled n scene (whole_sheet strings s) p (formula_index content) index is (formulas p content at);
+}
 
-pooled_found : (kinds : List FunctionKind) (pool : List Formula) (cells : List (CellPlace × ℕ)) → AllByRecursion (λ (cell : CellPlace × ℕ). cell.1 < length pool) cells
-    → (q : CellPlace) (content : Content) (index : ℕ) → finite.find place_cmp q (held_cells kinds pool cells) ≡ Some content → formula_index content ≡ Some index → index < length pool
-pooled_found kinds pool [] h q content index e is = cc
-pooled_found kinds pool (cell ∷ cells) h q content index e is =
-    elim (eq_by_cmp place_cmp q cell.0) as (λ b. cond b (Some (formula_content kinds (formula_in pool cell.1) cell.1 0)) (finite.find place_cmp q (held_cells kinds pool cells)) ≡ Some content → index < length pool) [
-      | true ↦ λ f.
-          let same : formula_content kinds (formula_in pool cell.1) cell.1 0 ≡ content = cc in
-          let at : Some cell.1 ≡ Some index = sym (index_held kinds (formula_in pool cell.1) cell.1 0) ∙ ap formula_index same ∙ is in
-          let one : cell.1 ≡ index = cc in
-          subst (λ i. i < length pool) one h.0
-      | false ↦ λ f. pooled_found kinds pool cells h.1 q content index f is
-    ] e
-
-has_pooled : (kinds : List FunctionKind) (sheet : BookSheet) → AllByRecursion (λ (cell : CellPlace × ℕ). cell.1 < length sheet.pool) sheet.cells → HasPooled (whole_sheet kinds sheet)
-has_pooled kinds sheet h place content index held is =
-    pooled_found kinds sheet.pool sheet.cells h place content index (sym (finite.get-from_entries place_cmp_total (held_cells kinds sheet.pool sheet.cells) place) ∙ held) is
-
-is_free : (kinds : List FunctionKind) (place : CellPlace) (sheet : BookSheet) → AllByRecursion (λ (cell : CellPlace × ℕ). cell.1 < length sheet.pool) sheet.cells → IsFree (whole_sheet kinds sheet) place
-is_free kinds place sheet h = record { uncovered = refl; loose = not_fixed kinds sheet.pool sheet.cells place; pooled = has_pooled kinds sheet h }
-
-free_at : (kinds : List FunctionKind) (place : CellPlace) (P : BookSheet → Type 0) → ((s : BookSheet) → P s → IsFree (whole_sheet kinds s) place) → (sheets : List BookSheet) → AllByRecursion P sheets → (index : ℕ) (sheet : machine.Sheet)
-    → slice_get (map (whole_sheet kinds) sheets) index ≡ Some sheet → IsFree sheet place
-free_at kinds place P each [] h index sheet e = cc
-free_at kinds place P each (s ∷ sheets) h zero sheet e = let same : whole_sheet kinds s ≡ sheet = cc in subst (λ s. IsFree s place) same (each s h.0)
-free_at kinds place P each (s ∷ sheets) h (suc index) sheet e = free_at kinds place P each sheets h.1 index sheet e
+free_at : (n : Notations) (scene : Scene) (strings : List (List ℕ)) (place : CellPlace) (sheets : List BookSheet) → AllByRecursion (λ (s : BookSheet). IsPlain s.grid) sheets → AllByRecursion (HasCellFormulas n scene) (map (whole_sheet strings) sheets)
+    → (index : ℕ) (sheet : machine.Sheet) → slice_get (map (whole_sheet strings) sheets) index ≡ Some sheet → IsFree sheet place
+free_at n scene strings place [] plain formulas index sheet e = cc
+free_at n scene strings place (s ∷ sheets) plain formulas zero sheet e = let same : whole_sheet strings s ≡ sheet = cc in subst (λ s. IsFree s place) same (is_free n scene strings place s plain.0 formulas.0)
+free_at n scene strings place (s ∷ sheets) plain formulas (suc index) sheet e = free_at n scene strings place sheets plain.1 formulas.1 index sheet e
 
 takes : (b : Book) → IsValidBook b → (index : ℕ) (place : CellPlace) → TakesFormula (whole_of b) index place
 takes b v index place = record {
   read = ap is_some (in_force_there b v).1;
-  free = free_at b.tables.kinds place _ (λ s h. is_free b.tables.kinds place s h.places) b.sheets v.pools index;
+  free = free_at (notations_in b) (machine.scene_in (whole_of b)) b.strings place b.sheets v.plain v.whole.formulas index;
 }
 
 -- of the whole book's own core
@@ -87,4 +69,4 @@ by_whole b v (core.GetCellFormula sheet row column) = stepped (whole_of b) (whol
 
 pub served_core : (b : Book) → IsValidBook b → (k : core.Command) → told_by (served_step (whole_of b) (whole_command k)) ≡ told_by_core (core_step (notations_in b) (core_of b) k)
 served_core b v k =
-    subst (λ (c : CoreBook). told_by (served_step (whole_of b) (whole_command k)) ≡ told_by_core (core_step (notations_in b) c k)) (whole_core b v) (by_whole b v k)
+    subst (λ (c : CoreBook). told_by (served_step (whole_of b) (whole_command k)) ≡ told_by_core (core_step (notations_in b) c k)) (whole_core b) (by_whole b v k)

@@ -1,5 +1,5 @@
 //! Writing a cell.
-ghost use Rattle.std.specs.Prelude.{◌≡◌, true, is_some, OnErr, OnOk, IfErr, Ok};
+ghost use Rattle.std.specs.Prelude.{◌≡◌, true, false, is_some, OnErr, OnOk, IfErr, Ok};
 ghost use Rattle.std.specs.FinMap as finite;
 ghost use Rattle.ic_grid.specs.Block.{is_in_sheet};
 ghost use Rattle.ic_grid.specs.Calls.{IsRefusal, can_write};
@@ -35,6 +35,7 @@ fn write_at(cells: &mut PlaceMap<Cell>, place: (i32, i32), cell: Cell) -> Result
     requires { AreArrays celled cells.old }
     ensures ok { OnOk result (cells.new ≡ written celled place cell cells.old) }
     ensures err { OnErr result (cells.new ≡ cells.old) }
+    ensures absent { OnErr result (is_some (finite.get cells.old place) ≡ false) }
 {
     if is_there(cells, place) {
         prepare(cells, place);
@@ -61,6 +62,9 @@ impl Grid {
         ensures err { IfErr result
             (IsRefusal (can_write celled self.old.merged_cells self.old.cells (row, column))) }
         ensures kept { OnErr result (self.new ≡ self.old) }
+        ensures absent { OnErr result
+            (can_write celled self.old.merged_cells self.old.cells (row, column) ≡ Ok tt
+            → is_some (finite.get self.old.cells (row, column)) ≡ false) }
         ensures whole { IsGrid self.new }
     {
         self.can_write(row, column)?;

@@ -39,7 +39,7 @@ use Rattle.ic_machine.proofs.SteppedLemmas.{stepped}
 -- what is found in entries in order holds of each of them ----
 
 module _ {K X : Type 0} (R : K → K → Ordering) (o : IsTotalOrder R) (P : K → X → Type 0) where
-  each_found : (es : List (K × X)) → T (finite.is_sorted R es) → ((k : K) (x : X) → finite.find R k es ≡ Some x → P k x) → AllByRecursion (λ (e : K × X). P e.0 e.1) es
+  pub each_found : (es : List (K × X)) → T (finite.is_sorted R es) → ((k : K) (x : X) → finite.find R k es ≡ Some x → P k x) → AllByRecursion (λ (e : K × X). P e.0 e.1) es
   each_found [] sorted h = tt
   each_found (e ∷ es) sorted h = (
     h e.0 e.1 (ap (λ (t : Bool). cond t (Some e.1) (finite.find R e.0 es)) (tied e.0)),

@@ -114,7 +114,7 @@ module _ {K X Z Y : Type 0} (R : K → K → Ordering) (g : X → Option Z) (h :
   at_either true x o = refl
   at_either false x o = refl
 
-  find-made : IsTotalOrder R → (q : K) (es : List (K × X)) → T (finite.is_sorted R es) → finite.find R q (all_made es) ≡ option_map h (option_and_then g (finite.find R q es))
+  pub find-made : IsTotalOrder R → (q : K) (es : List (K × X)) → T (finite.is_sorted R es) → finite.find R q (all_made es) ≡ option_map h (option_and_then g (finite.find R q es))
   find-made o q [] p = refl
   find-made o q (e ∷ es) p =
       find_one q e.0 (g e.1) (all_made es)

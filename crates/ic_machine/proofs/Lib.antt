@@ -1,3 +1,4 @@
+pub mod AlikeGrid
 pub mod AlikeLemmas
 pub mod ArrayCells
 pub mod ArrayStays

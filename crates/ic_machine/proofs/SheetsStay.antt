@@ -53,6 +53,33 @@ nothing_set P at x e = let never : None ≡ Some x = sym (finite.get-empty int_c
 none_at : {X : Type 0} (P : Type 0) (i : ℕ) (x : X) → slice_get [] i ≡ Some x → P
 none_at P i x e = let never : None ≡ Some x = e in cc
 
+-- what always holds of an empty sheet
+pub nothing_holds : (n : Notations) (scene : Scene) (count id : ℕ) (name : List ℕ) → HoldsOf n scene count (empty_sheet id name)
+nothing_holds n scene count id name = record {
+  pool = tt;
+  inside = λ place content e. nothing_at _ place content e;
+  formulas = λ place content e. nothing_at _ place content e;
+  styles = record {
+    contents = λ place content e. nothing_at _ place content e;
+    rows = λ row props e. nothing_set _ row props e;
+    columns = λ column props e. nothing_set _ column props e;
+  };
+  arrays = record {
+    areas = λ a w t kind has. nothing_at _ a has.0 has.1;
+    filled = λ a p w t kind has inside other. nothing_at _ a has.0 has.1;
+    owned = λ a p has. nothing_at _ p has.0 has.1;
+  };
+  merges = record {
+    areas = All-nil _;
+    apart = λ i j one other lt at to. none_at _ i one at;
+    arrays = λ a array e single. refl;
+  };
+  layout = record {
+    frozen = record { some_rows = omega (arith, ints); few_rows = omega (arith, ints); some_columns = omega (arith, ints); few_columns = omega (arith, ints) };
+    lines = record { rows = λ row props e. nothing_set _ row props e; columns = λ column props e. nothing_set _ column props e };
+  };
+}
+
 -- a sheet in the list that is put at another place ----
 
 pub all_inserted : {X : Type 0} (P : X → Type 0) (xs : List X) (at : ℕ) (x : X) → AllByRecursion P xs → P x → AllByRecursion P (insert xs at x)
@@ -70,7 +97,7 @@ got P xs at (Some x) e to h = all_inserted P (remove xs at) to x (all_removed P 
     here (y ∷ xs) zero e h = let same : y ≡ x = cc in subst P same h.0
     here (y ∷ xs) (suc at) e h = here xs at e h.1
 
-all_moved : {X : Type 0} (P : X → Type 0) (from to : ℕ) (xs : List X) → AllByRecursion P xs → AllByRecursion P (moved from to xs)
+pub all_moved : {X : Type 0} (P : X → Type 0) (from to : ℕ) (xs : List X) → AllByRecursion P xs → AllByRecursion P (moved from to xs)
 all_moved P from to xs h = got P xs from (slice_get xs from) refl to h
 
 module _ (b : Book) (valid : IsValidBook b) where
@@ -120,30 +147,7 @@ module _ (b : Book) (valid : IsValidBook b) where
   -- one sheet more, at the end ----
 
   pub empty_holds : (scene : Scene) (id : ℕ) (name : List ℕ) → HoldsOf (notations_in b) scene (length b.styles) (empty_sheet id name)
-  empty_holds scene id name = record {
-    pool = tt;
-    inside = λ place content e. nothing_at _ place content e;
-    formulas = λ place content e. nothing_at _ place content e;
-    styles = record {
-      contents = λ place content e. nothing_at _ place content e;
-      rows = λ row props e. nothing_set _ row props e;
-      columns = λ column props e. nothing_set _ column props e;
-    };
-    arrays = record {
-      areas = λ a w t kind has. nothing_at _ a has.0 has.1;
-      filled = λ a p w t kind has inside other. nothing_at _ a has.0 has.1;
-      owned = λ a p has. nothing_at _ p has.0 has.1;
-    };
-    merges = record {
-      areas = All-nil _;
-      apart = λ i j one other lt at to. none_at _ i one at;
-      arrays = λ a array e single. refl;
-    };
-    layout = record {
-      frozen = record { some_rows = omega (arith, ints); few_rows = omega (arith, ints); some_columns = omega (arith, ints); few_columns = omega (arith, ints) };
-      lines = record { rows = λ row props e. nothing_set _ row props e; columns = λ column props e. nothing_set _ column props e };
-    };
-  }
+  empty_holds scene id name = nothing_holds (notations_in b) scene (length b.styles) id name
 
   -- the ids in use are the same where formulas are kept
   same_ids : (later : Scene) → ids_of (core_of (with_kept_formulas (notations_in b) (scene_in b) later same_keys b)) ≡ ids_of (core_of b)

@@ -147,7 +147,7 @@ place_clear true false others e = cc
 place_clear true true others e = (refl, refl)
 
 module _ (b : Book) (valid : IsValidBook b) where
-  write_stays : (index : ℕ) (p : CellPlace) (w : Sheet → Written) (causes : Causes)
+  pub write_stays : (index : ℕ) (p : CellPlace) (w : Sheet → Written) (causes : Causes)
       → ((s : Sheet) → slice_get b.sheets index ≡ Some s → is_row p.0 ≡ true → is_column p.1 ≡ true → IsGood (notations_in b) (scene_in b) s p (w s)) → StaysValid (write_step b index p w causes)
   write_stays index p w causes good =
       stays_found b valid index _

@@ -7,9 +7,22 @@ use Rattle.ic_lines.specs.declared.error.RunError.{RunError}
 use Rattle.ic_lines.specs.declared.error.RunError.TheVariants as run
 use Rattle.ic_lines.proofs.ToldLemmas.{IfTold-weaker}
 use Rattle.ic_lines.specs.Bytes.{IfTold}
-use Rattle.ic_book.specs.Book.{Book, core_of}
+use Rattle.ic_book.specs.Book.{Book, core_of, first_sheet_name_in, new_book}
 use Rattle.ic_run.specs.Desk.{setting_of, run_status, texts}
 use Rattle.ic_run.specs.Run.{Leaves, LeavesReplies, TakesAll}
+use Rattle.ic_laws.specs.CoreBook.{CellPlace, CoreBook}
+use Rattle.ic_cells.specs.declared.cell.Cell.{Cell}
+use Rattle.ic_machine.proofs.AlikeGrid.{entries-empty}
+use Rattle.ic_sheets.specs.Sheet.{cells_of}
+use Rattle.ic_tables.specs.Tables.{TableSet}
+
+-- the core of a new book
+pub start_core : (book : Book) (name locale zone language created : List ℕ) (tables : TableSet) → book ≡ new_book name locale zone language created tables
+    → core_of book ≡ record { sheets = record { id = 1; name = first_sheet_name_in language; cells = [] } ∷ []; definitions = []; locale = locale; language = language }
+start_core book name locale zone language created tables e =
+    ap core_of e
+    ∙ ap (λ (es : List (CellPlace × Cell)). let core : CoreBook = record { sheets = record { id = 1; name = first_sheet_name_in language; cells = cells_of [] es } ∷ []; definitions = []; locale = locale; language = language } in core)
+    (entries-empty Cell)
 
 -- the status 0 is that of Ok
 pub on_ok_at_0 : (r : Result ℕ RunError) (P : Type 0) → OnOk r P → run_status r ≡ 0 → P

@@ -11,7 +11,7 @@ use Rattle.ic_sheets.proofs.IndexLemmas.{set_parts, split_at}
 use Rattle.ic_sheets.proofs.PlaceLemmas.{alone}
 use Rattle.ic_sheets.proofs.SearchLemmas.{ids}
 use Rattle.ic_sheets.specs.Index.{AreDangling, dangles, dangles_at, dangling_ids, is_listed}
-use Rattle.ic_sheets.specs.declared.sheet.Worksheet.{Worksheet}
+use Rattle.ic_sheets.specs.declared.sheet.Sheet.{Sheet}
 
 or_exchange : (a b c : Bool) → (a || (b || c)) ≡ (b || (a || c))
 or_exchange true true c = refl
@@ -28,19 +28,19 @@ or_false true = refl
 or_false false = refl
 
 -- a sheet among others
-middle : (q : ℕ) (front back : List Worksheet) (s : Worksheet) → dangles_at q (front ++ s ∷ back) ≡ (nat_eq q s.id && dangles s || dangles_at q (front ++ back))
+middle : (q : ℕ) (front back : List Sheet) (s : Sheet) → dangles_at q (front ++ s ∷ back) ≡ (nat_eq q s.id && dangles s || dangles_at q (front ++ back))
 middle q [] back s = refl
 middle q (x ∷ front) back s = ap (λ b. nat_eq q x.id && dangles x || b) (middle q front back s) ∙ or_exchange (nat_eq q x.id && dangles x) (nat_eq q s.id && dangles s) (dangles_at q (front ++ back))
 
 -- an id that no sheet has
-pub absent : (q : ℕ) (sheets : List Worksheet) → list_any (nat_eq q) (ids sheets) ≡ false → dangles_at q sheets ≡ false
+pub absent : (q : ℕ) (sheets : List Sheet) → list_any (nat_eq q) (ids sheets) ≡ false → dangles_at q sheets ≡ false
 absent q [] e = refl
 absent q (s ∷ sheets) e =
     let parts = or_parts (nat_eq q s.id) (list_any (nat_eq q) (ids sheets)) e in
     ap₂ (λ a b. a && dangles s || b) parts.0 (absent q sheets parts.1)
 
 -- a sheet in which something dangles has its id
-present : (q : ℕ) (sheets : List Worksheet) → dangles_at q sheets ≡ true → list_any (nat_eq q) (ids sheets) ≡ true
+present : (q : ℕ) (sheets : List Sheet) → dangles_at q sheets ≡ true → list_any (nat_eq q) (ids sheets) ≡ true
 present q sheets e =
     elim (cases_Bool (list_any (nat_eq q) (ids sheets))) [
       | inl there ↦ there
@@ -51,7 +51,7 @@ none_apart : IsDistinct nat_eq []
 unfolding IsDistinct
 none_apart = tt
 
-pub dangling_empty : (now : List ℕ) (sheets : List Worksheet) → now ≡ [] → sheets ≡ [] → AreDangling now sheets
+pub dangling_empty : (now : List ℕ) (sheets : List Sheet) → now ≡ [] → sheets ≡ [] → AreDangling now sheets
 dangling_empty now sheets none empty = record {
   finds = λ q. ap (is_listed q) none ∙ sym (ap (dangles_at q) empty);
   differ = subst (IsDistinct nat_eq) (sym none) none_apart;
@@ -64,11 +64,11 @@ length_over [] at x = refl
 length_over (y ∷ xs) zero x = refl
 length_over (y ∷ xs) (suc at) x = ap suc (length_over xs at x)
 
-pub dangling_pushed : (now : List ℕ) (sheets list : List Worksheet) (s : Worksheet) → AreDangling now sheets → dangles s ≡ false → list ≡ sheets ++ s ∷ [] → AreDangling now list
+pub dangling_pushed : (now : List ℕ) (sheets list : List Sheet) (s : Sheet) → AreDangling now sheets → dangles s ≡ false → list ≡ sheets ++ s ∷ [] → AreDangling now list
 dangling_pushed now sheets list s d clean pushed = record {
   finds = λ q. d.finds q ∙ sym (or_false (dangles_at q sheets))
       ∙ ap (λ b. dangles_at q sheets || b) (sym (step (nat_eq q s.id)))
-      ∙ sym (ap (dangles_at q) pushed ∙ list_any-append (λ (x : Worksheet). nat_eq q x.id && dangles x) sheets (s ∷ []));
+      ∙ sym (ap (dangles_at q) pushed ∙ list_any-append (λ (x : Sheet). nat_eq q x.id && dangles x) sheets (s ∷ []));
   differ = d.differ;
 }
   where
@@ -78,7 +78,7 @@ dangling_pushed now sheets list s d clean pushed = record {
 
 -- ---- one sheet goes or changes
 
-module _ (now : List ℕ) (front back : List Worksheet) (s : Worksheet) (d : AreDangling now (front ++ s ∷ back)) (differ : IsDistinct nat_eq (ids (front ++ s ∷ back))) where
+module _ (now : List ℕ) (front back : List Sheet) (s : Sheet) (d : AreDangling now (front ++ s ∷ back)) (differ : IsDistinct nat_eq (ids (front ++ s ∷ back))) where
   none_else : dangles_at s.id (front ++ back) ≡ false
   none_else = absent s.id (front ++ back) (alone front back s differ)
 
@@ -96,12 +96,12 @@ module _ (now : List ℕ) (front back : List Worksheet) (s : Worksheet) (d : Are
       let more : List ℕ = now ++ s.id ∷ [] in
       let apart : IsDistinct nat_eq more = IsDistinct-push nat_eq_equiv now s.id d.differ (listed_here ∙ clean) in
       let all : length more ≤ length (ids (front ++ s ∷ back)) = length-le_from_is_member nat_eq_equiv more (ids (front ++ s ∷ back)) apart within in
-      omega (arith, all, length-append now (s.id ∷ []), length-map (front ++ s ∷ back) (λ (x : Worksheet). x.id))
+      omega (arith, all, length-append now (s.id ∷ []), length-map (front ++ s ∷ back) (λ (x : Sheet). x.id))
     where
       own : list_any (nat_eq s.id) (ids (front ++ s ∷ back)) ≡ true
       own = go front
         where
-          go : (xs : List Worksheet) → list_any (nat_eq s.id) (ids (xs ++ s ∷ back)) ≡ true
+          go : (xs : List Sheet) → list_any (nat_eq s.id) (ids (xs ++ s ∷ back)) ≡ true
           go [] = ap (λ a. a || list_any (nat_eq s.id) (ids back)) (eq-eqb s.id s.id refl)
           go (x ∷ xs) = ap (λ b. nat_eq s.id x.id || b) (go xs) ∙ or_true (nat_eq s.id x.id)
 
@@ -123,7 +123,7 @@ module _ (now : List ℕ) (front back : List Worksheet) (s : Worksheet) (d : Are
         step q false e = others q e
 
     -- the sheet has changed
-    over : (t : Worksheet) → t.id ≡ s.id → b ≡ dangles t → AreDangling after (front ++ t ∷ back)
+    over : (t : Sheet) → t.id ≡ s.id → b ≡ dangles t → AreDangling after (front ++ t ∷ back)
     over t same is = record { finds = λ q. settled q ∙ step q (nat_eq q s.id) refl ∙ sym (middle q front back t); differ = apart }
       where
         step : (q : ℕ) (c : Bool) → nat_eq q s.id ≡ c → cond c b (is_listed q now) ≡ (nat_eq q t.id && dangles t || dangles_at q (front ++ back))
@@ -136,11 +136,11 @@ module _ (now : List ℕ) (front back : List Worksheet) (s : Worksheet) (d : Are
             others q e ∙ sym (ap (λ a. a && dangles t || dangles_at q (front ++ back)) here)
 
 -- the same by its place
-module _ (now : List ℕ) (sheets : List Worksheet) (at : ℕ) (s : Worksheet) (d : AreDangling now sheets) (differ : IsDistinct nat_eq (ids sheets)) (lt : at < length sheets) (read : s ≡ get_or sheets at s) where
-  abbrev front : List Worksheet
+module _ (now : List ℕ) (sheets : List Sheet) (at : ℕ) (s : Sheet) (d : AreDangling now sheets) (differ : IsDistinct nat_eq (ids sheets)) (lt : at < length sheets) (read : s ≡ get_or sheets at s) where
+  abbrev front : List Sheet
   front = take at sheets
 
-  abbrev back : List Worksheet
+  abbrev back : List Sheet
   back = drop (suc at) sheets
 
   parts : sheets ≡ front ++ s ∷ back
@@ -161,30 +161,30 @@ module _ (now : List ℕ) (sheets : List Worksheet) (at : ℕ) (s : Worksheet) (
   removed_parts : remove sheets at ≡ front ++ back
   removed_parts = go sheets at lt
     where
-      go : (xs : List Worksheet) (i : ℕ) → i < length xs → remove xs i ≡ take i xs ++ drop (suc i) xs
+      go : (xs : List Sheet) (i : ℕ) → i < length xs → remove xs i ≡ take i xs ++ drop (suc i) xs
       go [] i le = absurd (omega arith)
       go (x ∷ xs) zero le = refl
-      go (x ∷ xs) (suc i) le = ap (λ (ys : List Worksheet). x ∷ ys) (go xs i (omega arith))
+      go (x ∷ xs) (suc i) le = ap (λ (ys : List Sheet). x ∷ ys) (go xs i (omega arith))
 
   module _ (after : List ℕ) (b : Bool) (settled : (q : ℕ) → is_listed q after ≡ cond (nat_eq q s.id) b (is_listed q now)) (apart : IsDistinct nat_eq after) where
-    pub dangling_removed : (list : List Worksheet) → b ≡ false → list ≡ remove sheets at → AreDangling after list
+    pub dangling_removed : (list : List Sheet) → b ≡ false → list ≡ remove sheets at → AreDangling after list
     dangling_removed list none removed = subst (AreDangling after) (sym (removed ∙ removed_parts)) (gone now front back s there apart_there after b settled apart none)
 
-    pub dangling_over : (t : Worksheet) → t.id ≡ s.id → b ≡ dangles t → AreDangling after (slice_set sheets at t)
+    pub dangling_over : (t : Sheet) → t.id ≡ s.id → b ≡ dangles t → AreDangling after (slice_set sheets at t)
     dangling_over t same is = subst (AreDangling after) (sym (set_parts sheets at t lt)) (over now front back s there apart_there after b settled apart t same is)
 
   -- a sheet that gets another name
-  pub dangling_renamed : (t : Worksheet) → t.id ≡ s.id → dangles t ≡ dangles s → AreDangling now (slice_set sheets at t)
+  pub dangling_renamed : (t : Sheet) → t.id ≡ s.id → dangles t ≡ dangles s → AreDangling now (slice_set sheets at t)
   dangling_renamed t same is = subst (AreDangling now) (sym (set_parts sheets at t lt)) (record {
     finds = λ q. there.finds q ∙ middle q front back s ∙ sym (middle q front back t ∙ ap₂ (λ k b. nat_eq q k && b || dangles_at q (front ++ back)) same is);
     differ = there.differ;
   })
 
   -- a sheet that gets another place
-  pub dangling_moved : (list : List Worksheet) (to : ℕ) → list ≡ insert (remove sheets at) to s → AreDangling now list
+  pub dangling_moved : (list : List Sheet) (to : ℕ) → list ≡ insert (remove sheets at) to s → AreDangling now list
   dangling_moved list to put =
-      let first : List Worksheet = take to (front ++ back) in
-      let rest : List Worksheet = drop to (front ++ back) in
+      let first : List Sheet = take to (front ++ back) in
+      let rest : List Sheet = drop to (front ++ back) in
       let same : first ++ rest ≡ front ++ back = take-append-drop to (front ++ back) in
       let e : list ≡ first ++ s ∷ rest = put ∙ ap (λ xs. insert xs to s) removed_parts in
       subst (AreDangling now) (sym e) (record {
@@ -194,7 +194,7 @@ module _ (now : List ℕ) (sheets : List Worksheet) (at : ℕ) (s : Worksheet) (
 
 -- ---- all of them anew
 
-dangling_ids-append : (xs : List Worksheet) (s : Worksheet) → dangling_ids (xs ++ s ∷ []) ≡ cond (dangles s) (dangling_ids xs ++ s.id ∷ []) (dangling_ids xs)
+dangling_ids-append : (xs : List Sheet) (s : Sheet) → dangling_ids (xs ++ s ∷ []) ≡ cond (dangles s) (dangling_ids xs ++ s.id ∷ []) (dangling_ids xs)
 dangling_ids-append [] s = refl
 dangling_ids-append (x ∷ xs) s = ap (λ ys. cond (dangles x) (x.id ∷ ys) ys) (dangling_ids-append xs s) ∙ step (dangles x) (dangles s)
   where
@@ -205,13 +205,13 @@ dangling_ids-append (x ∷ xs) s = ap (λ ys. cond (dangles x) (x.id ∷ ys) ys)
     step false true = refl
     step false false = refl
 
-pub noted : (xs : List Worksheet) (s : Worksheet) → dangles s ≡ true → dangling_ids (xs ++ s ∷ []) ≡ dangling_ids xs ++ s.id ∷ []
+pub noted : (xs : List Sheet) (s : Sheet) → dangles s ≡ true → dangling_ids (xs ++ s ∷ []) ≡ dangling_ids xs ++ s.id ∷ []
 noted xs s e = dangling_ids-append xs s ∙ ap (λ b. cond b (dangling_ids xs ++ s.id ∷ []) (dangling_ids xs)) e
 
-pub passed : (xs : List Worksheet) (s : Worksheet) → dangles s ≡ false → dangling_ids (xs ++ s ∷ []) ≡ dangling_ids xs
+pub passed : (xs : List Sheet) (s : Sheet) → dangles s ≡ false → dangling_ids (xs ++ s ∷ []) ≡ dangling_ids xs
 passed xs s e = dangling_ids-append xs s ∙ ap (λ b. cond b (dangling_ids xs ++ s.id ∷ []) (dangling_ids xs)) e
 
-listed_anew : (q : ℕ) (sheets : List Worksheet) → is_listed q (dangling_ids sheets) ≡ dangles_at q sheets
+listed_anew : (q : ℕ) (sheets : List Sheet) → is_listed q (dangling_ids sheets) ≡ dangles_at q sheets
 listed_anew q [] = refl
 listed_anew q (s ∷ sheets) = step (dangles s) (nat_eq q s.id) (listed_anew q sheets)
   where
@@ -227,7 +227,7 @@ listed_anew q (s ∷ sheets) = step (dangles s) (nat_eq q s.id) (listed_anew q s
         none true = refl
         none false = refl
 
-ids_anew : (P : ℕ → Type 0) (xs : List Worksheet) → AllByRecursion P (ids xs) → AllByRecursion P (dangling_ids xs)
+ids_anew : (P : ℕ → Type 0) (xs : List Sheet) → AllByRecursion P (ids xs) → AllByRecursion P (dangling_ids xs)
 ids_anew P [] h = tt
 ids_anew P (x ∷ xs) h = one (dangles x) h.0 (ids_anew P xs h.1)
   where
@@ -235,7 +235,7 @@ ids_anew P (x ∷ xs) h = one (dangles x) h.0 (ids_anew P xs h.1)
     one true p rest = (p, rest)
     one false p rest = rest
 
-apart_anew : (sheets : List Worksheet) → IsDistinct nat_eq (ids sheets) → IsDistinct nat_eq (dangling_ids sheets)
+apart_anew : (sheets : List Sheet) → IsDistinct nat_eq (ids sheets) → IsDistinct nat_eq (dangling_ids sheets)
 apart_anew [] d = d
 apart_anew (s ∷ sheets) d = step (dangles s) (ids_anew (λ y. nat_eq s.id y ≡ false) sheets (IsDistinct-head nat_eq s.id (ids sheets) d)) (apart_anew sheets (IsDistinct-tail nat_eq s.id (ids sheets) d))
   where
@@ -243,7 +243,7 @@ apart_anew (s ∷ sheets) d = step (dangles s) (ids_anew (λ y. nat_eq s.id y �
     step true other rest = IsDistinct-cons nat_eq s.id (dangling_ids sheets) other rest
     step false other rest = rest
 
-pub dangling_anew : (now : List ℕ) (sheets : List Worksheet) → IsDistinct nat_eq (ids sheets) → now ≡ dangling_ids sheets → AreDangling now sheets
+pub dangling_anew : (now : List ℕ) (sheets : List Sheet) → IsDistinct nat_eq (ids sheets) → now ≡ dangling_ids sheets → AreDangling now sheets
 dangling_anew now sheets d e = subst (λ xs. AreDangling xs sheets) (sym e) (record { finds = λ q. listed_anew q sheets; differ = apart_anew sheets d })
 
 -- ---- those of the ids that are left
@@ -302,7 +302,7 @@ left_alone now id b is q = step (nat_eq q id) refl
     step false e = refl
 
 -- those are left whose sheet still has something that dangles
-pub dangling_kept : (now after : List ℕ) (before sheets : List Worksheet) → AreDangling now before → ((q : ℕ) → dangles_at q sheets ≡ true → dangles_at q before ≡ true) → after ≡ filter (λ id. dangles_at id sheets) now → AreDangling after sheets
+pub dangling_kept : (now after : List ℕ) (before sheets : List Sheet) → AreDangling now before → ((q : ℕ) → dangles_at q sheets ≡ true → dangles_at q before ≡ true) → after ≡ filter (λ id. dangles_at id sheets) now → AreDangling after sheets
 dangling_kept now after before sheets d fewer e = record {
   finds = λ q. ap (is_listed q) e ∙ listed_filter (λ id. dangles_at id sheets) q now ∙ ap (λ b. b && dangles_at q sheets) (d.finds q) ∙ step q (dangles_at q sheets) refl;
   differ = subst (IsDistinct nat_eq) (sym e) (distinct_filter (λ id. dangles_at id sheets) now d.differ);

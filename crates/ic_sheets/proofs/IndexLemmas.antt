@@ -15,7 +15,7 @@ use Rattle.std.proofs.lemmas.List.Sorted.{IsPermutation-middle, IsPermutation-sy
 use Rattle.std.proofs.lemmas.Map.Keys.{IsDistinct-head, IsDistinct-tail, IsDistinct-cons, IsDistinct-IsPermutation}
 use Rattle.std.proofs.lemmas.Map.Text.{btree_map_updates_text}
 use Rattle.ic_laws.specs.Name.{fold, agrees}
-use Rattle.ic_sheets.specs.declared.sheet.Worksheet.{Worksheet}
+use Rattle.ic_sheets.specs.declared.sheet.Sheet.{Sheet}
 use Rattle.ic_sheets.specs.Search.{id_of}
 use Rattle.ic_sheets.specs.Index.{IsIndexed}
 use Rattle.ic_sheets.proofs.SearchLemmas.{ids, names}
@@ -61,7 +61,7 @@ clash false e f = cc
 -- ---- the plain search
 
 -- where no name has the new key, a sheet put in between is found by its key, and all else as before
-pub id_of-middle : (front back : List Worksheet) (s : Worksheet) → id_of (fold s.name) (front ++ back) ≡ None → (key : List ℕ) → id_of key (front ++ s ∷ back) ≡ cond (bytes_eq (fold s.name) key) (Some s.id) (id_of key (front ++ back))
+pub id_of-middle : (front back : List Sheet) (s : Sheet) → id_of (fold s.name) (front ++ back) ≡ None → (key : List ℕ) → id_of key (front ++ s ∷ back) ≡ cond (bytes_eq (fold s.name) key) (Some s.id) (id_of key (front ++ back))
 id_of-middle [] back s none key = ap (λ b. cond b (Some s.id) (id_of key back)) (bytes_eq-flip key (fold s.name))
 id_of-middle (x ∷ front) back s none key =
     let apart = not_taken (bytes_eq (fold s.name) (fold x.name)) x.id (id_of (fold s.name) (front ++ back)) none in
@@ -72,7 +72,7 @@ id_of-middle (x ∷ front) back s none key =
     clash (bytes_eq (fold s.name) (fold x.name)) ((bytes_eq-Decides (fold s.name) (fold x.name)).1 same) apart.0)
 
 -- so without it, its key finds nothing, and all else is found as before
-pub id_of-without : (front back : List Worksheet) (s : Worksheet) → id_of (fold s.name) (front ++ back) ≡ None → (key : List ℕ) → id_of key (front ++ back) ≡ cond (bytes_eq (fold s.name) key) None (id_of key (front ++ s ∷ back))
+pub id_of-without : (front back : List Sheet) (s : Sheet) → id_of (fold s.name) (front ++ back) ≡ None → (key : List ℕ) → id_of key (front ++ back) ≡ cond (bytes_eq (fold s.name) key) None (id_of key (front ++ s ∷ back))
 id_of-without front back s none key =
     by_test (bytes_eq (fold s.name) key) (λ b. sym (ap (λ k. id_of k (front ++ back)) ((bytes_eq-Decides (fold s.name) key).0 b)) ∙ none)
     ∙ ap (cond (bytes_eq (fold s.name) key) None) (sym (id_of-middle front back s none key))
@@ -83,27 +83,27 @@ id_of-without front back s none key =
 
 -- ---- names that differ
 
-pub none_agrees : (name : List ℕ) (sheets : List Worksheet) → AllByRecursion (λ y. agrees name y ≡ false) (names sheets) → id_of (fold name) sheets ≡ None
+pub none_agrees : (name : List ℕ) (sheets : List Sheet) → AllByRecursion (λ y. agrees name y ≡ false) (names sheets) → id_of (fold name) sheets ≡ None
 none_agrees name [] h = refl
 none_agrees name (s ∷ sheets) h = ap (λ b. cond b (Some s.id) (id_of (fold name) sheets)) h.0 ∙ none_agrees name sheets h.1
 
-all_apart : (name : List ℕ) (sheets : List Worksheet) → id_of (fold name) sheets ≡ None → AllByRecursion (λ y. agrees name y ≡ false) (names sheets)
+all_apart : (name : List ℕ) (sheets : List Sheet) → id_of (fold name) sheets ≡ None → AllByRecursion (λ y. agrees name y ≡ false) (names sheets)
 all_apart name [] e = tt
 all_apart name (s ∷ sheets) e =
     let apart = not_taken (agrees name s.name) s.id (id_of (fold name) sheets) e in (apart.0, all_apart name sheets apart.1)
 
-to_front : (front back : List Worksheet) (s : Worksheet) → IsPermutation (names (front ++ s ∷ back)) (s.name ∷ names (front ++ back))
-to_front front back s = IsPermutation-map (λ (s : Worksheet). s.name) (front ++ s ∷ back) (s ∷ (front ++ back)) (IsPermutation-middle front s back)
+to_front : (front back : List Sheet) (s : Sheet) → IsPermutation (names (front ++ s ∷ back)) (s.name ∷ names (front ++ back))
+to_front front back s = IsPermutation-map (λ (s : Sheet). s.name) (front ++ s ∷ back) (s ∷ (front ++ back)) (IsPermutation-middle front s back)
 
-pub alone : (front back : List Worksheet) (s : Worksheet) → IsDistinct agrees (names (front ++ s ∷ back)) → id_of (fold s.name) (front ++ back) ≡ None
+pub alone : (front back : List Sheet) (s : Sheet) → IsDistinct agrees (names (front ++ s ∷ back)) → id_of (fold s.name) (front ++ back) ≡ None
 alone front back s d =
     none_agrees s.name (front ++ back)
     (IsDistinct-head agrees s.name (names (front ++ back)) (IsDistinct-IsPermutation agrees agrees-flip _ _ (to_front front back s) d))
 
-pub differ-without : (front back : List Worksheet) (s : Worksheet) → IsDistinct agrees (names (front ++ s ∷ back)) → IsDistinct agrees (names (front ++ back))
+pub differ-without : (front back : List Sheet) (s : Sheet) → IsDistinct agrees (names (front ++ s ∷ back)) → IsDistinct agrees (names (front ++ back))
 differ-without front back s d = IsDistinct-tail agrees s.name (names (front ++ back)) (IsDistinct-IsPermutation agrees agrees-flip _ _ (to_front front back s) d)
 
-pub differ-middle : (front back : List Worksheet) (s : Worksheet) → IsDistinct agrees (names (front ++ back)) → id_of (fold s.name) (front ++ back) ≡ None → IsDistinct agrees (names (front ++ s ∷ back))
+pub differ-middle : (front back : List Sheet) (s : Sheet) → IsDistinct agrees (names (front ++ back)) → id_of (fold s.name) (front ++ back) ≡ None → IsDistinct agrees (names (front ++ s ∷ back))
 differ-middle front back s d none =
     IsDistinct-IsPermutation agrees agrees-flip _ _ (IsPermutation-sym _ _ (to_front front back s))
     (IsDistinct-cons agrees s.name (names (front ++ back)) (all_apart s.name (front ++ back) none) d)
@@ -116,12 +116,12 @@ updated before after bytes key w u e q =
     btree_map_updates_text bytes before after w u (encode_utf8_all q)
     ∙ ap (λ b. cond b w (get_by_text before (encode_utf8_all q))) (ap (λ x. bytes_eq x (encode_utf8_all q)) e ∙ same_encoded key q)
 
-pub IsIndexed-empty : (index : Index) (sheets : List Worksheet) → IsEmpty index → sheets ≡ [] → IsIndexed index sheets
+pub IsIndexed-empty : (index : Index) (sheets : List Sheet) → IsEmpty index → sheets ≡ [] → IsIndexed index sheets
 unfolding IsDistinct
 IsIndexed-empty index sheets empty none =
     subst (IsIndexed index) (sym none) (record { finds = λ key. ap (lookup _) empty; differ = tt })
 
-pub IsIndexed-add : (before after : Index) (sheets list : List Worksheet) (s : Worksheet) → IsIndexed before sheets → id_of (fold s.name) sheets ≡ None → ((q : List ℕ) → get_by_text after (encode_utf8_all q) ≡ cond (bytes_eq (fold s.name) q) (Some s.id) (get_by_text before (encode_utf8_all q))) → list ≡ sheets ++ s ∷ [] → IsIndexed after list
+pub IsIndexed-add : (before after : Index) (sheets list : List Sheet) (s : Sheet) → IsIndexed before sheets → id_of (fold s.name) sheets ≡ None → ((q : List ℕ) → get_by_text after (encode_utf8_all q) ≡ cond (bytes_eq (fold s.name) q) (Some s.id) (get_by_text before (encode_utf8_all q))) → list ≡ sheets ++ s ∷ [] → IsIndexed after list
 IsIndexed-add before after sheets list s indexed none u pushed =
     let whole : sheets ++ [] ≡ sheets = append-nil sheets in
     let none_here : id_of (fold s.name) (sheets ++ []) ≡ None = ap (id_of (fold s.name)) whole ∙ none in
@@ -133,7 +133,7 @@ IsIndexed-add before after sheets list s indexed none u pushed =
       differ = differ-middle sheets [] s (subst (λ x. IsDistinct agrees (names x)) (sym whole) indexed.differ) none_here;
     })
 
-pub IsIndexed-remove : (before after : Index) (front back : List Worksheet) (s : Worksheet) → IsIndexed before (front ++ s ∷ back) → ((q : List ℕ) → get_by_text after (encode_utf8_all q) ≡ cond (bytes_eq (fold s.name) q) None (get_by_text before (encode_utf8_all q))) → IsIndexed after (front ++ back)
+pub IsIndexed-remove : (before after : Index) (front back : List Sheet) (s : Sheet) → IsIndexed before (front ++ s ∷ back) → ((q : List ℕ) → get_by_text after (encode_utf8_all q) ≡ cond (bytes_eq (fold s.name) q) None (get_by_text before (encode_utf8_all q))) → IsIndexed after (front ++ back)
 IsIndexed-remove before after front back s indexed u =
     let none = alone front back s indexed.differ in
     record {
@@ -141,7 +141,7 @@ IsIndexed-remove before after front back s indexed u =
       differ = differ-without front back s indexed.differ;
     }
 
-pub IsIndexed-rename : (before after : Index) (front back : List Worksheet) (s t : Worksheet) → IsIndexed before (front ++ s ∷ back) → id_of (fold t.name) (front ++ back) ≡ None → ((q : List ℕ) → get_by_text after (encode_utf8_all q) ≡ cond (bytes_eq (fold t.name) q) (Some t.id) (cond (bytes_eq (fold s.name) q) None (get_by_text before (encode_utf8_all q)))) → IsIndexed after (front ++ t ∷ back)
+pub IsIndexed-rename : (before after : Index) (front back : List Sheet) (s t : Sheet) → IsIndexed before (front ++ s ∷ back) → id_of (fold t.name) (front ++ back) ≡ None → ((q : List ℕ) → get_by_text after (encode_utf8_all q) ≡ cond (bytes_eq (fold t.name) q) (Some t.id) (cond (bytes_eq (fold s.name) q) None (get_by_text before (encode_utf8_all q)))) → IsIndexed after (front ++ t ∷ back)
 IsIndexed-rename before after front back s t indexed free u =
     let none = alone front back s indexed.differ in
     record {
@@ -178,18 +178,18 @@ module _ {X : Type 0} where
   same_read (z ∷ xs) zero x y lt e f = e ∙ sym f
   same_read (z ∷ xs) (suc place) x y lt e f = same_read xs place x y (omega arith) e f
 
-pub IsIndexed-remove_at : (before after : Index) (sheets list : List Worksheet) (place : ℕ) (s : Worksheet) → IsIndexed before sheets → place < length sheets → s ≡ get_or sheets place s → list ≡ remove sheets place → ((q : List ℕ) → get_by_text after (encode_utf8_all q) ≡ cond (bytes_eq (fold s.name) q) None (get_by_text before (encode_utf8_all q))) → IsIndexed after list
+pub IsIndexed-remove_at : (before after : Index) (sheets list : List Sheet) (place : ℕ) (s : Sheet) → IsIndexed before sheets → place < length sheets → s ≡ get_or sheets place s → list ≡ remove sheets place → ((q : List ℕ) → get_by_text after (encode_utf8_all q) ≡ cond (bytes_eq (fold s.name) q) None (get_by_text before (encode_utf8_all q))) → IsIndexed after list
 IsIndexed-remove_at before after sheets list place s indexed lt e removed u =
     subst (IsIndexed after) (sym removed)
     (IsIndexed-remove before after (take place sheets) (drop (suc place) sheets) s (subst (IsIndexed before) (split_at sheets place s lt e) indexed) u)
 
-pub IsIndexed-rename_at : (before after : Index) (sheets : List Worksheet) (place : ℕ) (s t : Worksheet) → IsIndexed before sheets → place < length sheets → s ≡ get_or sheets place s → id_of (fold t.name) (remove sheets place) ≡ None → ((q : List ℕ) → get_by_text after (encode_utf8_all q) ≡ cond (bytes_eq (fold t.name) q) (Some t.id) (cond (bytes_eq (fold s.name) q) None (get_by_text before (encode_utf8_all q)))) → IsIndexed after (slice_set sheets place t)
+pub IsIndexed-rename_at : (before after : Index) (sheets : List Sheet) (place : ℕ) (s t : Sheet) → IsIndexed before sheets → place < length sheets → s ≡ get_or sheets place s → id_of (fold t.name) (remove sheets place) ≡ None → ((q : List ℕ) → get_by_text after (encode_utf8_all q) ≡ cond (bytes_eq (fold t.name) q) (Some t.id) (cond (bytes_eq (fold s.name) q) None (get_by_text before (encode_utf8_all q)))) → IsIndexed after (slice_set sheets place t)
 IsIndexed-rename_at before after sheets place s t indexed lt e free u =
     subst (IsIndexed after) (sym (set_parts sheets place t lt))
     (IsIndexed-rename before after (take place sheets) (drop (suc place) sheets) s t (subst (IsIndexed before) (split_at sheets place s lt e) indexed) free u)
 
 -- a sheet that is taken out and put somewhere else is found as before
-pub IsIndexed-move : (index : Index) (front back first rest : List Worksheet) (s : Worksheet) → first ++ rest ≡ front ++ back → IsIndexed index (front ++ s ∷ back) → IsIndexed index (first ++ s ∷ rest)
+pub IsIndexed-move : (index : Index) (front back first rest : List Sheet) (s : Sheet) → first ++ rest ≡ front ++ back → IsIndexed index (front ++ s ∷ back) → IsIndexed index (first ++ s ∷ rest)
 IsIndexed-move index front back first rest s same indexed =
     let none = alone front back s indexed.differ in
     let none_too : id_of (fold s.name) (first ++ rest) ≡ None = ap (id_of (fold s.name)) same ∙ none in
@@ -199,7 +199,7 @@ IsIndexed-move index front back first rest s same indexed =
     }
 
 -- what is found goes by the names and the ids alone
-pub id_of-same : (xs ys : List Worksheet) → names xs ≡ names ys → ids xs ≡ ids ys → (key : List ℕ) → id_of key xs ≡ id_of key ys
+pub id_of-same : (xs ys : List Sheet) → names xs ≡ names ys → ids xs ≡ ids ys → (key : List ℕ) → id_of key xs ≡ id_of key ys
 id_of-same [] [] e f key = refl
 id_of-same [] (y ∷ ys) e f key = cc
 id_of-same (x ∷ xs) [] e f key = cc
@@ -210,7 +210,7 @@ id_of-same (x ∷ xs) (y ∷ ys) e f key =
     let others : ids xs ≡ ids ys = cc in
     ap₂ (λ n i. cond (bytes_eq key (fold n)) (Some i) (id_of key xs)) name id ∙ ap (cond (bytes_eq key (fold y.name)) (Some y.id)) (id_of-same xs ys more others key)
 
-pub IsIndexed-same : (index : Index) (xs ys : List Worksheet) → names ys ≡ names xs → ids ys ≡ ids xs → IsIndexed index xs → IsIndexed index ys
+pub IsIndexed-same : (index : Index) (xs ys : List Sheet) → names ys ≡ names xs → ids ys ≡ ids xs → IsIndexed index xs → IsIndexed index ys
 IsIndexed-same index xs ys e f indexed = record {
   finds = λ key. indexed.finds key ∙ sym (id_of-same ys xs e f key);
   differ = subst (IsDistinct agrees) (sym e) indexed.differ;

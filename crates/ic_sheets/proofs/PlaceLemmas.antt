@@ -16,7 +16,7 @@ use Rattle.ic_laws.proofs.CoreLemmas.{above_greatest}
 use Rattle.ic_laws.specs.Greatest.{greatest}
 use Rattle.ic_sheets.specs.Index.{ArePlaced, lowered, moved_place, raised}
 use Rattle.ic_sheets.specs.Search.{place_of}
-use Rattle.ic_sheets.specs.declared.sheet.Worksheet.{Worksheet}
+use Rattle.ic_sheets.specs.declared.sheet.Sheet.{Sheet}
 use Rattle.ic_sheets.proofs.IndexLemmas.{clash, split_at}
 use Rattle.ic_sheets.proofs.SearchLemmas.{ids}
 
@@ -33,18 +33,18 @@ counted_later {X} p at (x ∷ xs) = step (p x) (counted_later p (at + 1) xs)
     step true e = ap (λ n. Some n) (let next : at + 1 ≡ suc at = omega arith in next)
     step false e = e
 
-abbrev has_id : ℕ → Worksheet → Bool
+abbrev has_id : ℕ → Sheet → Bool
 has_id id s = nat_eq s.id id
 
-position_step : (id : ℕ) (s : Worksheet) (sheets : List Worksheet) → position (has_id id) (s ∷ sheets) ≡ cond (nat_eq s.id id) (Some 0) (option_map suc (position (has_id id) sheets))
+position_step : (id : ℕ) (s : Sheet) (sheets : List Sheet) → position (has_id id) (s ∷ sheets) ≡ cond (nat_eq s.id id) (Some 0) (option_map suc (position (has_id id) sheets))
 position_step id s sheets =
     position_from-zero (has_id id) (s ∷ sheets) ∙ ap (cond (nat_eq s.id id) (Some 0)) (counted_later (has_id id) 0 sheets ∙ ap (option_map suc) (sym (position_from-zero (has_id id) sheets)))
 
-pub place_is : (id : ℕ) (sheets : List Worksheet) → place_of id sheets ≡ position (λ s. nat_eq s.id id) sheets
+pub place_is : (id : ℕ) (sheets : List Sheet) → place_of id sheets ≡ position (λ s. nat_eq s.id id) sheets
 place_is id [] = refl
 place_is id (s ∷ sheets) = ap (λ o. cond (nat_eq s.id id) (Some 0) (option_map suc o)) (place_is id sheets) ∙ sym (position_step id s sheets)
 
-first_there : (id : ℕ) (sheets : List Worksheet) → option_and_then (slice_get sheets) (place_of id sheets) ≡ find (λ s. nat_eq s.id id) sheets
+first_there : (id : ℕ) (sheets : List Sheet) → option_and_then (slice_get sheets) (place_of id sheets) ≡ find (λ s. nat_eq s.id id) sheets
 first_there id [] = refl
 first_there id (s ∷ sheets) = step (nat_eq s.id id) (place_of id sheets) (first_there id sheets)
   where
@@ -54,7 +54,7 @@ first_there id (s ∷ sheets) = step (nat_eq s.id id) (place_of id sheets) (firs
     step false (Some n) e = e
 
 -- the sheet at the place that was found is the one with the id
-pub first_at : (id : ℕ) (sheets : List Worksheet) (place : Option ℕ) → place ≡ position (λ s. nat_eq s.id id) sheets → option_and_then (slice_get sheets) place ≡ find (λ s. nat_eq s.id id) sheets
+pub first_at : (id : ℕ) (sheets : List Sheet) (place : Option ℕ) → place ≡ position (λ s. nat_eq s.id id) sheets → option_and_then (slice_get sheets) place ≡ find (λ s. nat_eq s.id id) sheets
 first_at id sheets place e = ap (option_and_then (slice_get sheets)) (e ∙ sym (place_is id sheets)) ∙ first_there id sheets
 
 -- ---- the look-up
@@ -71,11 +71,11 @@ same_number k q = step (nat_lt k q) refl (nat_eq k q) refl
 updated : (before after : Places) (key : ℕ) (w : Option ℕ) → Updates nat_cmp before after key w → (q : ℕ) → get nat_cmp after q ≡ cond (nat_eq key q) w (get nat_cmp before q)
 updated before after key w u q = u.0 q ∙ ap (λ b. cond b w (get nat_cmp before q)) (same_number key q)
 
-pub placed_empty : (places : Places) (sheets : List Worksheet) → IsEmpty places → sheets ≡ [] → ArePlaced places sheets
+pub placed_empty : (places : Places) (sheets : List Sheet) → IsEmpty places → sheets ≡ [] → ArePlaced places sheets
 placed_empty places sheets empty none = subst (ArePlaced places) (sym none) (record { finds = λ id. ap (lookup _) empty })
 
 -- other formulas and names
-same_place : (xs ys : List Worksheet) → ids xs ≡ ids ys → (id : ℕ) → place_of id xs ≡ place_of id ys
+same_place : (xs ys : List Sheet) → ids xs ≡ ids ys → (id : ℕ) → place_of id xs ≡ place_of id ys
 same_place [] [] e id = refl
 same_place [] (y ∷ ys) e id = cc
 same_place (x ∷ xs) [] e id = cc
@@ -84,12 +84,12 @@ same_place (x ∷ xs) (y ∷ ys) e id =
     let others : ids xs ≡ ids ys = cc in
     ap₂ (λ k place. cond (nat_eq k id) (Some 0) (option_map suc place)) first (same_place xs ys others id)
 
-pub placed_same : (places : Places) (sheets list : List Worksheet) → ArePlaced places sheets → ids list ≡ ids sheets → ArePlaced places list
+pub placed_same : (places : Places) (sheets list : List Sheet) → ArePlaced places sheets → ids list ≡ ids sheets → ArePlaced places list
 placed_same places sheets list placed same = record { finds = λ id. placed.finds id ∙ sym (same_place list sheets same id) }
 
 -- ---- a sheet comes
 
-no_place : (id : ℕ) (sheets : List Worksheet) → list_any (nat_eq id) (ids sheets) ≡ false → place_of id sheets ≡ None
+no_place : (id : ℕ) (sheets : List Sheet) → list_any (nat_eq id) (ids sheets) ≡ false → place_of id sheets ≡ None
 no_place id [] e = refl
 no_place id (s ∷ sheets) e =
     let parts = or_parts (nat_eq id s.id) (list_any (nat_eq id) (ids sheets)) e in
@@ -101,7 +101,7 @@ either_first true false n place h = refl
 either_first false true n place h = refl
 either_first false false n place h = refl
 
-place_pushed : (s : Worksheet) (sheets : List Worksheet) → list_any (nat_eq s.id) (ids sheets) ≡ false → (q : ℕ) → place_of q (sheets ++ s ∷ []) ≡ cond (nat_eq s.id q) (Some (length sheets)) (place_of q sheets)
+place_pushed : (s : Sheet) (sheets : List Sheet) → list_any (nat_eq s.id) (ids sheets) ≡ false → (q : ℕ) → place_of q (sheets ++ s ∷ []) ≡ cond (nat_eq s.id q) (Some (length sheets)) (place_of q sheets)
 place_pushed s [] free q = refl
 place_pushed s (x ∷ sheets) free q =
     let parts = or_parts (nat_eq s.id x.id) (list_any (nat_eq s.id) (ids sheets)) free in
@@ -109,7 +109,7 @@ place_pushed s (x ∷ sheets) free q =
     ∙ either_first (nat_eq x.id q) (nat_eq s.id q) (length sheets) (place_of q sheets)
     (λ t u. clash (nat_eq s.id x.id) (eq-eqb s.id x.id (eqb-true s.id q u ∙ sym (eqb-true x.id q t))) parts.0)
 
-pub placed_pushed : (before after : Places) (sheets list : List Worksheet) (s : Worksheet) (at : ℕ) → ArePlaced before sheets → greatest (ids sheets) < s.id → at ≡ length sheets → Updates nat_cmp before after s.id (Some at) → list ≡ sheets ++ s ∷ [] → ArePlaced after list
+pub placed_pushed : (before after : Places) (sheets list : List Sheet) (s : Sheet) (at : ℕ) → ArePlaced before sheets → greatest (ids sheets) < s.id → at ≡ length sheets → Updates nat_cmp before after s.id (Some at) → list ≡ sheets ++ s ∷ [] → ArePlaced after list
 placed_pushed before after sheets list s at placed fresh end u pushed =
     subst (ArePlaced after) (sym pushed)
     (record {
@@ -119,7 +119,7 @@ placed_pushed before after sheets list s at placed fresh end u pushed =
     })
 
 -- a place that was put in, and taken out again
-pub placed_undone : (before between after : Places) (sheets list : List Worksheet) (id : ℕ) (at : Option ℕ) → ArePlaced before sheets → greatest (ids sheets) < id → Updates nat_cmp before between id at → Updates nat_cmp between after id None → list ≡ sheets → ArePlaced after list
+pub placed_undone : (before between after : Places) (sheets list : List Sheet) (id : ℕ) (at : Option ℕ) → ArePlaced before sheets → greatest (ids sheets) < id → Updates nat_cmp before between id at → Updates nat_cmp between after id None → list ≡ sheets → ArePlaced after list
 placed_undone before between after sheets list id at placed fresh u v same =
     subst (ArePlaced after) (sym same)
     (record {
@@ -151,7 +151,7 @@ raised_later at (Some n) = ap (λ k. Some k) (more at n)
 first_stays : (at : ℕ) → raised (suc at) 0 ≡ 0
 first_stays at = grind arith
 
-place_middle : (front back : List Worksheet) (s : Worksheet) → list_any (nat_eq s.id) (ids (front ++ back)) ≡ false → (q : ℕ) → place_of q (front ++ s ∷ back) ≡ cond (nat_eq s.id q) (Some (length front)) (option_map (raised (length front)) (place_of q (front ++ back)))
+place_middle : (front back : List Sheet) (s : Sheet) → list_any (nat_eq s.id) (ids (front ++ back)) ≡ false → (q : ℕ) → place_of q (front ++ s ∷ back) ≡ cond (nat_eq s.id q) (Some (length front)) (option_map (raised (length front)) (place_of q (front ++ back)))
 place_middle [] back s free q = ap (cond (nat_eq s.id q) (Some 0)) (raised_first (place_of q back))
 place_middle (x ∷ front) back s free q =
     let parts = or_parts (nat_eq s.id x.id) (list_any (nat_eq s.id) (ids (front ++ back))) free in
@@ -168,18 +168,18 @@ pub some_apart : (id : ℕ) (ns : List ℕ) → AllByRecursion (λ y. nat_eq id 
 some_apart id [] h = refl
 some_apart id (n ∷ ns) h = ap₂ ◌||◌ h.0 (some_apart id ns h.1)
 
-pub alone : (front back : List Worksheet) (s : Worksheet) → IsDistinct nat_eq (ids (front ++ s ∷ back)) → list_any (nat_eq s.id) (ids (front ++ back)) ≡ false
+pub alone : (front back : List Sheet) (s : Sheet) → IsDistinct nat_eq (ids (front ++ s ∷ back)) → list_any (nat_eq s.id) (ids (front ++ back)) ≡ false
 alone front back s d =
     some_apart s.id (ids (front ++ back))
     (IsDistinct-head nat_eq s.id (ids (front ++ back))
-    (IsDistinct-IsPermutation nat_eq nat_eq_equiv.symm _ _ (IsPermutation-map (λ (x : Worksheet). x.id) (front ++ s ∷ back) (s ∷ (front ++ back)) (IsPermutation-middle front s back)) d))
+    (IsDistinct-IsPermutation nat_eq nat_eq_equiv.symm _ _ (IsPermutation-map (λ (x : Sheet). x.id) (front ++ s ∷ back) (s ∷ (front ++ back)) (IsPermutation-middle front s back)) d))
 
 back_again : (at k : ℕ) → lowered at (raised at k) ≡ k
 back_again at k = grind arith
 
 -- ---- a sheet goes
 
-longer : (s : Worksheet) (xs ys : List Worksheet) → length (xs ++ s ∷ ys) ≡ suc (length (xs ++ ys))
+longer : (s : Sheet) (xs ys : List Sheet) → length (xs ++ s ∷ ys) ≡ suc (length (xs ++ ys))
 longer s [] ys = refl
 longer s (x ∷ xs) ys = ap suc (longer s xs ys)
 
@@ -197,11 +197,11 @@ others_follow from to k =
     apart true e = absurd (never from k (eqb-true (raised from k) from e))
     apart false e = e
 
-module _ (sheets : List Worksheet) (at : ℕ) (s : Worksheet) (differ : IsDistinct nat_eq (ids sheets)) (lt : at < length sheets) (read : s ≡ get_or sheets at s) where
-  abbrev front : List Worksheet
+module _ (sheets : List Sheet) (at : ℕ) (s : Sheet) (differ : IsDistinct nat_eq (ids sheets)) (lt : at < length sheets) (read : s ≡ get_or sheets at s) where
+  abbrev front : List Sheet
   front = take at sheets
 
-  abbrev back : List Worksheet
+  abbrev back : List Sheet
   back = drop (suc at) sheets
 
   parts : sheets ≡ front ++ s ∷ back
@@ -222,7 +222,7 @@ module _ (sheets : List Worksheet) (at : ℕ) (s : Worksheet) (differ : IsDistin
   left q false e None f = refl
   left q false e (Some k) f = ap (λ n. Some n) (back_again at k)
 
-  pub placed_removed : (before between after : Places) (list : List Worksheet) → ArePlaced before sheets → list ≡ remove sheets at → Updates nat_cmp before between s.id None → ((q : ℕ) → get nat_cmp after q ≡ option_map (lowered at) (get nat_cmp between q)) → ArePlaced after list
+  pub placed_removed : (before between after : Places) (list : List Sheet) → ArePlaced before sheets → list ≡ remove sheets at → Updates nat_cmp before between s.id None → ((q : ℕ) → get nat_cmp after q ≡ option_map (lowered at) (get nat_cmp between q)) → ArePlaced after list
   placed_removed before between after list placed removed u low =
       subst (ArePlaced after) (sym removed)
       (record {
@@ -236,10 +236,10 @@ module _ (sheets : List Worksheet) (at : ℕ) (s : Worksheet) (differ : IsDistin
   follows to false None = refl
   follows to false (Some k) = ap (λ n. Some n) (others_follow at to k)
 
-  pub placed_moved : (before after : Places) (list : List Worksheet) (to : ℕ) → ArePlaced before sheets → to < length sheets → list ≡ insert (remove sheets at) to s → ((q : ℕ) → get nat_cmp after q ≡ option_map (moved_place at to) (get nat_cmp before q)) → ArePlaced after list
+  pub placed_moved : (before after : Places) (list : List Sheet) (to : ℕ) → ArePlaced before sheets → to < length sheets → list ≡ insert (remove sheets at) to s → ((q : ℕ) → get nat_cmp after q ≡ option_map (moved_place at to) (get nat_cmp before q)) → ArePlaced after list
   placed_moved before after list to placed within put moves =
-      let first : List Worksheet = take to (front ++ back) in
-      let rest : List Worksheet = drop to (front ++ back) in
+      let first : List Sheet = take to (front ++ back) in
+      let rest : List Sheet = drop to (front ++ back) in
       let same : first ++ rest ≡ front ++ back = take-append-drop to (front ++ back) in
       let free_too : list_any (nat_eq s.id) (ids (first ++ rest)) ≡ false = ap (λ xs. list_any (nat_eq s.id) (ids xs)) same ∙ free in
       let all : length sheets ≡ suc (length (front ++ back)) = ap length parts ∙ longer s front back in

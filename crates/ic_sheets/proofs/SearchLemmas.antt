@@ -8,41 +8,41 @@ use Rattle.std.specs.List.{AllByRecursion, IsDistinct, find, list_any, position,
 use Rattle.ic_laws.proofs.CoreLemmas.{agrees_equiv}
 use Rattle.ic_laws.specs.Name.{agrees, fold}
 use Rattle.ic_sheets.specs.Search.{id_of}
-use Rattle.ic_sheets.specs.declared.sheet.Worksheet.{Worksheet}
+use Rattle.ic_sheets.specs.declared.sheet.Sheet.{Sheet}
 
-abbrev pub names : List Worksheet → List (List ℕ)
+abbrev pub names : List Sheet → List (List ℕ)
 names sheets = map (λ s. s.name) sheets
 
-abbrev pub ids : List Worksheet → List ℕ
+abbrev pub ids : List Sheet → List ℕ
 ids sheets = map (λ s. s.id) sheets
 
 -- the id of the first sheet that passes
-abbrev pub found_id : (Worksheet → Bool) → List Worksheet → Option ℕ
+abbrev pub found_id : (Sheet → Bool) → List Sheet → Option ℕ
 found_id p sheets = option_map (λ s. s.id) (find p sheets)
 
 -- what a search by a key finds is what a search by the name finds
-pub id_of-found : (name : List ℕ) (sheets : List Worksheet) → id_of (fold name) sheets ≡ found_id (λ s. agrees s.name name) sheets
+pub id_of-found : (name : List ℕ) (sheets : List Sheet) → id_of (fold name) sheets ≡ found_id (λ s. agrees s.name name) sheets
 id_of-found name [] = refl
 id_of-found name (s ∷ sheets) =
     ap (λ b. cond b (Some s.id) (id_of (fold name) sheets)) (agrees_equiv.symm name s.name) ∙ step (agrees s.name name) (id_of-found name sheets)
   where
-    step : (b : Bool) → id_of (fold name) sheets ≡ found_id (λ x. agrees x.name name) sheets → cond b (Some s.id) (id_of (fold name) sheets) ≡ option_map (λ (x : Worksheet). x.id) (cond b (Some s) (find (λ x. agrees x.name name) sheets))
+    step : (b : Bool) → id_of (fold name) sheets ≡ found_id (λ x. agrees x.name name) sheets → cond b (Some s.id) (id_of (fold name) sheets) ≡ option_map (λ (x : Sheet). x.id) (cond b (Some s) (find (λ x. agrees x.name name) sheets))
     step true rest = refl
     step false rest = rest
 
 -- a name is taken where a sheet is found by it
-pub taken_found : (name : List ℕ) (sheets : List Worksheet) → is_some (found_id (λ s. agrees s.name name) sheets) ≡ list_any (agrees name) (names sheets)
+pub taken_found : (name : List ℕ) (sheets : List Sheet) → is_some (found_id (λ s. agrees s.name name) sheets) ≡ list_any (agrees name) (names sheets)
 taken_found name [] = refl
 taken_found name (s ∷ sheets) = step (agrees s.name name) (taken_found name sheets) ∙ ap (λ b. b || list_any (agrees name) (names sheets)) (agrees_equiv.symm s.name name)
   where
-    step : (b : Bool) → is_some (found_id (λ x. agrees x.name name) sheets) ≡ list_any (agrees name) (names sheets) → is_some (option_map (λ (x : Worksheet). x.id) (cond b (Some s) (find (λ x. agrees x.name name) sheets))) ≡ (b || list_any (agrees name) (names sheets))
+    step : (b : Bool) → is_some (found_id (λ x. agrees x.name name) sheets) ≡ list_any (agrees name) (names sheets) → is_some (option_map (λ (x : Sheet). x.id) (cond b (Some s) (find (λ x. agrees x.name name) sheets))) ≡ (b || list_any (agrees name) (names sheets))
     step true rest = refl
     step false rest = rest
 
 -- ---- by an id
 
 -- what is found has none of the ids that differ from all
-found_apart : (p : Worksheet → Bool) (k id : ℕ) (sheets : List Worksheet) → AllByRecursion (λ y. nat_eq k y ≡ false) (ids sheets) → found_id p sheets ≡ Some id → nat_eq k id ≡ false
+found_apart : (p : Sheet → Bool) (k id : ℕ) (sheets : List Sheet) → AllByRecursion (λ y. nat_eq k y ≡ false) (ids sheets) → found_id p sheets ≡ Some id → nat_eq k id ≡ false
 found_apart p k id [] h e = cc
 found_apart p k id (s ∷ sheets) h e =
     elim (cases_Bool (p s)) [
@@ -51,7 +51,7 @@ found_apart p k id (s ∷ sheets) h e =
     ]
 
 -- the sheet that a test finds stands where its id is first found
-pub position_by_id : (p : Worksheet → Bool) (id : ℕ) (sheets : List Worksheet) → IsDistinct nat_eq (ids sheets) → found_id p sheets ≡ Some id → position_or_len (λ s. nat_eq s.id id) sheets ≡ position_or_len p sheets
+pub position_by_id : (p : Sheet → Bool) (id : ℕ) (sheets : List Sheet) → IsDistinct nat_eq (ids sheets) → found_id p sheets ≡ Some id → position_or_len (λ s. nat_eq s.id id) sheets ≡ position_or_len p sheets
 position_by_id p id [] d e = refl
 position_by_id p id (s ∷ sheets) d e =
     elim (cases_Bool (p s)) [
@@ -65,11 +65,11 @@ position_by_id p id (s ∷ sheets) d e =
     same_is : (a b : ℕ) → a ≡ b → nat_eq a b ≡ true
     same_is a b e = grind (arith, e)
 
-pub index_by_id : (p : Worksheet → Bool) (id : ℕ) (sheets : List Worksheet) → IsDistinct nat_eq (ids sheets) → found_id p sheets ≡ Some id → position (λ s. nat_eq s.id id) sheets ≡ position p sheets
+pub index_by_id : (p : Sheet → Bool) (id : ℕ) (sheets : List Sheet) → IsDistinct nat_eq (ids sheets) → found_id p sheets ≡ Some id → position (λ s. nat_eq s.id id) sheets ≡ position p sheets
 index_by_id p id sheets d e = ap (λ n. cond (nat_lt n (length sheets)) (Some n) None) (position_by_id p id sheets d e)
 
 -- where nothing is found there is no place
-none_passes : (p : Worksheet → Bool) (sheets : List Worksheet) → found_id p sheets ≡ None → position_or_len p sheets ≡ length sheets
+none_passes : (p : Sheet → Bool) (sheets : List Sheet) → found_id p sheets ≡ None → position_or_len p sheets ≡ length sheets
 none_passes p [] e = refl
 none_passes p (s ∷ sheets) e =
     elim (cases_Bool (p s)) [
@@ -77,7 +77,7 @@ none_passes p (s ∷ sheets) e =
       | inr f ↦ rw f (ap (λ n. 1 + n) (none_passes p sheets (rw f at e)) ∙ one-add (length sheets))
     ]
 
-pub index_none : (p : Worksheet → Bool) (sheets : List Worksheet) → found_id p sheets ≡ None → position p sheets ≡ None
+pub index_none : (p : Sheet → Bool) (sheets : List Sheet) → found_id p sheets ≡ None → position p sheets ≡ None
 index_none p sheets e = ap (λ n. cond (nat_lt n (length sheets)) (Some n) None) (none_passes p sheets e) ∙ ap (λ b. cond b (Some (length sheets)) None) (not_less (length sheets))
   where
     not_less : (n : ℕ) → nat_lt n n ≡ false
@@ -86,14 +86,14 @@ index_none p sheets e = ap (λ n. cond (nat_lt n (length sheets)) (Some n) None)
 -- ---- a name that another sheet has
 
 module _ (name : List ℕ) where
-  abbrev has_name : Worksheet → Bool
+  abbrev has_name : Sheet → Bool
   has_name s = agrees s.name name
 
-  abbrev others : List Worksheet → ℕ → Bool
+  abbrev others : List Sheet → ℕ → Bool
   others sheets index = list_any (agrees name) (remove (names sheets) index)
 
   -- nobody's is no other's
-  pub free_for_all : (sheets : List Worksheet) (index : ℕ) → found_id has_name sheets ≡ None → others sheets index ≡ false
+  pub free_for_all : (sheets : List Sheet) (index : ℕ) → found_id has_name sheets ≡ None → others sheets index ≡ false
   free_for_all [] zero e = refl
   free_for_all [] (suc index) e = refl
   free_for_all (s ∷ sheets) index e =
@@ -107,33 +107,33 @@ module _ (name : List ℕ) where
       step (suc index) f rest more = ap (λ b. b || others sheets index) f ∙ more index rest
 
   -- past the end none is left out
-  pub none_left_out : (sheets : List Worksheet) (index : ℕ) → slice_get sheets index ≡ None → others sheets index ≡ list_any (agrees name) (names sheets)
+  pub none_left_out : (sheets : List Sheet) (index : ℕ) → slice_get sheets index ≡ None → others sheets index ≡ list_any (agrees name) (names sheets)
   none_left_out [] zero e = refl
   none_left_out [] (suc index) e = refl
   none_left_out (s ∷ sheets) zero e = cc
   none_left_out (s ∷ sheets) (suc index) e = ap (λ b. agrees name s.name || b) (none_left_out sheets index e)
 
   -- after the first whose name agrees no name does
-  only_one : (s : Worksheet) (sheets : List Worksheet) → AllByRecursion (λ y. agrees s.name y ≡ false) (names sheets) → agrees s.name name ≡ true → list_any (agrees name) (names sheets) ≡ false
+  only_one : (s : Sheet) (sheets : List Sheet) → AllByRecursion (λ y. agrees s.name y ≡ false) (names sheets) → agrees s.name name ≡ true → list_any (agrees name) (names sheets) ≡ false
   only_one s [] h t = refl
   only_one s (x ∷ sheets) h t =
       ap (λ b. b || list_any (agrees name) (names sheets)) (sym (agrees_equiv.congr s.name name x.name t) ∙ h.0) ∙ only_one s sheets h.1 t
 
   -- no other sheet has the id of this one
-  id_apart : (sheets : List Worksheet) (index id : ℕ) (s : Worksheet) → AllByRecursion (λ y. nat_eq id y ≡ false) (ids sheets) → slice_get sheets index ≡ Some s → nat_eq s.id id ≡ false
+  id_apart : (sheets : List Sheet) (index id : ℕ) (s : Sheet) → AllByRecursion (λ y. nat_eq id y ≡ false) (ids sheets) → slice_get sheets index ≡ Some s → nat_eq s.id id ≡ false
   id_apart [] index id s h at = cc
-  id_apart (x ∷ sheets) zero id s h at = let same : x ≡ s = cc in subst (λ (y : Worksheet). nat_eq y.id id ≡ false) same (nat_eq_equiv.symm x.id id ∙ h.0)
+  id_apart (x ∷ sheets) zero id s h at = let same : x ≡ s = cc in subst (λ (y : Sheet). nat_eq y.id id ≡ false) same (nat_eq_equiv.symm x.id id ∙ h.0)
   id_apart (x ∷ sheets) (suc index) id s h at = id_apart sheets index id s h.1 at
 
   same_id : (a b : ℕ) → a ≡ b → nat_eq a b ≡ true
   same_id a b e = grind (arith, e)
 
   -- where a sheet has it, it is another's where the ids differ
-  pub another's : (sheets : List Worksheet) (index id : ℕ) (s : Worksheet) → IsDistinct agrees (names sheets) → IsDistinct nat_eq (ids sheets) → slice_get sheets index ≡ Some s → found_id has_name sheets ≡ Some id → not (nat_eq s.id id) ≡ others sheets index
+  pub another's : (sheets : List Sheet) (index id : ℕ) (s : Sheet) → IsDistinct agrees (names sheets) → IsDistinct nat_eq (ids sheets) → slice_get sheets index ≡ Some s → found_id has_name sheets ≡ Some id → not (nat_eq s.id id) ≡ others sheets index
   another's [] index id s d n at e = cc
   another's (x ∷ sheets) zero id s d n at e =
       let same : x ≡ s = cc in
-      subst (λ (y : Worksheet). not (nat_eq y.id id) ≡ others (x ∷ sheets) zero) same
+      subst (λ (y : Sheet). not (nat_eq y.id id) ≡ others (x ∷ sheets) zero) same
       (elim (cases_Bool (has_name x)) [
         | inl t ↦
             let found : Some x.id ≡ Some id = rw t at e in

@@ -1,10 +1,9 @@
 -- What the sheets keep beside them stays true when a formula gets its place in one of them.
 use Rattle.std.proofs.Common.{◌≡◌, ℕ, zero, suc, ◌<◌, List, [], ◌∷◌, true, Some, Result, Ok, Err, map, length, get_or, slice_set, refl, sym, ap, subst, ◌∙◌, inl, inr}
 use Rattle.std.proofs.lemmas.Option.{slice_get_read}
-use Rattle.std.specs.BTreeMap.{insert_entry}
 use Rattle.std.specs.List.{slice_get}
-use Rattle.std.specs.Prelude.{IfOk, OnErr, OnOk, option_map, unwrap_or}
-use Rattle.ic_laws.specs.CoreBook.{CellPlace, place_cmp}
+use Rattle.std.specs.Prelude.{IfOk, IfSome, OnErr, OnOk, option_map, unwrap_or}
+use Rattle.ic_laws.specs.CoreBook.{CellPlace}
 use Rattle.ic_laws.specs.CoreStep.{updated_at}
 use Rattle.ic_laws.specs.declared.memory.OutOfMemory.{OutOfMemory}
 use Rattle.ic_laws.specs.declared.tree.Formula.{Formula}
@@ -12,8 +11,9 @@ use Rattle.ic_pool.specs.Pool.{IsPlaced, PoolState}
 use Rattle.ic_sheets.proofs.IndexLemmas.{Index, set_updated}
 use Rattle.ic_sheets.proofs.KeptLemmas.{kept_same}
 use Rattle.ic_sheets.specs.Index.{AreKept}
-use Rattle.ic_sheets.specs.Sheet.{AreSameOrLookUp, BookSheet, IsSameOrLooksUp, IsWritten, looking_up, pool_at, sheet_of}
-use Rattle.ic_sheets.specs.declared.sheet.Worksheet.{Worksheet}
+use Rattle.ic_sheets.specs.Sheet.{AreSameOrLookUp, BookSheet, IsSameOrLooksUp, IsWritten, TakesCell, formula_cell, looking_up, pool_at, sheet_of, with_cell_in}
+use Rattle.ic_sheets.specs.declared.sheet.FormulaKind.{FormulaKind}
+use Rattle.ic_sheets.specs.declared.sheet.Sheet.{Sheet}
 
 -- an item written over by one that is seen alike
 pub seen_over : {X Y : Type 0} (g : X → Y) (xs : List X) (place : ℕ) (x y : X) → x ≡ get_or xs place x → g y ≡ g x → map g (slice_set xs place y) ≡ map g xs
@@ -22,74 +22,81 @@ seen_over g (z ∷ xs) zero x y read same = ap (λ e. e ∷ map g xs) (same ∙ 
 seen_over g (z ∷ xs) (suc place) x y read same = ap (λ es. g z ∷ es) (seen_over g xs place x y read same)
 
 -- the same sheet, with other formulas or look-ups
-pub record IsLike (s after : Worksheet) : Type 0 where
+pub record IsLike (s after : Sheet) : Type 0 where
   pub id : after.id ≡ s.id
   pub name : after.name ≡ s.name
 
-like_same : (s after : Worksheet) → sheet_of after ≡ sheet_of s → IsLike s after
+like_same : (s after : Sheet) → sheet_of after ≡ sheet_of s → IsLike s after
 like_same s after same = record { id = ap (λ (b : BookSheet). b.id) same; name = ap (λ (b : BookSheet). b.name) same }
 
-pub like_written : (formula : Formula) (cell : CellPlace) (s after : Worksheet) (r : Result (Unit {0}) OutOfMemory) → OnOk r (IsWritten formula cell s after) → OnErr r (sheet_of after ≡ sheet_of s) → IsLike s after
-like_written formula cell s after (Ok done) h e = record { id = ap (λ (x : Worksheet). x.id) h.2; name = ap (λ (x : Worksheet). x.name) h.2 }
-like_written formula cell s after (Err error) h e = like_same s after e
+pub like_written : (formula : Formula) (kind : FormulaKind) (style : ℕ) (cell : CellPlace) (s after : Sheet) (r : Result (Unit {0}) OutOfMemory) → OnOk r (IsWritten formula kind style cell s after) → OnErr r (sheet_of after ≡ sheet_of s) → IsLike s after
+like_written formula kind style cell s after (Ok done) h e = record { id = ap (λ (x : Sheet). x.id) h.2; name = ap (λ (x : Sheet). x.name) h.2 }
+like_written formula kind style cell s after (Err error) h e = like_same s after e
 
-pub kept_over : (index : Index) (last : ℕ) (sheets : List Worksheet) (place : ℕ) (s after : Worksheet) → AreKept index last sheets → s ≡ get_or sheets place s → IsLike s after → AreKept index last (slice_set sheets place after)
+pub kept_over : (index : Index) (last : ℕ) (sheets : List Sheet) (place : ℕ) (s after : Sheet) → AreKept index last sheets → s ≡ get_or sheets place s → IsLike s after → AreKept index last (slice_set sheets place after)
 kept_over index last sheets place s after kept read like =
     kept_same index last sheets (slice_set sheets place after) kept
-    (seen_over (λ (x : Worksheet). x.name) sheets place s after read like.name)
-    (seen_over (λ (x : Worksheet). x.id) sheets place s after read like.id)
+    (seen_over (λ (x : Sheet). x.name) sheets place s after read like.name)
+    (seen_over (λ (x : Sheet). x.id) sheets place s after read like.id)
 
 -- ---- what the sheets are then
 
-pub pool_is : (sheets now_sheets : List Worksheet) (place : ℕ) (s : Worksheet) → sheets ≡ now_sheets → place < length now_sheets → s ≡ get_or sheets place s → pool_at now_sheets place ≡ s.pool.formulas
+pub pool_is : (sheets now_sheets : List Sheet) (place : ℕ) (s : Sheet) → sheets ≡ now_sheets → place < length now_sheets → s ≡ get_or sheets place s → pool_at now_sheets place ≡ s.pool.formulas
 pool_is sheets now_sheets place s is lt read =
-    ap (λ o. unwrap_or (option_map (λ (x : Worksheet). x.pool.formulas) o) [])
+    ap (λ o. unwrap_or (option_map (λ (x : Sheet). x.pool.formulas) o) [])
     (slice_get_read now_sheets (length now_sheets) place s refl lt (read ∙ ap (λ xs. get_or xs place s) is))
 
 -- a cell of the sheet at a place has got a formula
-abbrev pub WritesAt : Formula → CellPlace → ℕ → List Worksheet → List Worksheet → Type 0
-WritesAt formula cell place sheets list =
+abbrev pub WritesAt : Formula → FormulaKind → ℕ → CellPlace → ℕ → List Sheet → List Sheet → Type 0
+WritesAt formula kind style cell place sheets list =
     (pool : List Formula) × (at : ℕ) × IsPlaced formula at (pool_at sheets place) pool
-    × (list ≡ updated_at (λ s. record s { pool = record { formulas = pool; is_whole = true }; cells = insert_entry place_cmp s.cells cell at }) place sheets)
+    × (list ≡ updated_at (λ s. record s { pool = record { formulas = pool; is_whole = true }; grid = with_cell_in cell (formula_cell kind at style) s.grid }) place sheets)
 
-pub writes_at : (formula : Formula) (stored cell : CellPlace) (place : ℕ) (sheets now_sheets : List Worksheet) (s after : Worksheet) → stored ≡ cell → sheets ≡ now_sheets → place < length now_sheets → s ≡ get_or sheets place s → IsWritten formula stored s after
-    → WritesAt formula cell place now_sheets (slice_set sheets place after)
-writes_at formula stored cell place sheets now_sheets s after same is lt read h =
-    let put : Worksheet → Worksheet = λ x. record x { pool = record { formulas = after.pool.formulas; is_whole = true }; cells = insert_entry place_cmp x.cells stored h.0 } in
-    subst (λ k. WritesAt formula k place now_sheets (slice_set sheets place after)) same (
+pub writes_at : (formula : Formula) (kind : FormulaKind) (style : ℕ) (stored cell : CellPlace) (place : ℕ) (sheets now_sheets : List Sheet) (s after : Sheet) → stored ≡ cell → sheets ≡ now_sheets → place < length now_sheets → s ≡ get_or sheets place s → IsWritten formula kind style stored s after
+    → WritesAt formula kind style cell place now_sheets (slice_set sheets place after)
+writes_at formula kind style stored cell place sheets now_sheets s after same is lt read h =
+    let put : Sheet → Sheet = λ x. record x { pool = record { formulas = after.pool.formulas; is_whole = true }; grid = with_cell_in stored (formula_cell kind h.0 style) x.grid } in
+    subst (λ k. WritesAt formula kind style k place now_sheets (slice_set sheets place after)) same (
       after.pool.formulas,
       h.0,
       subst (λ pool. IsPlaced formula h.0 pool after.pool.formulas) (sym (pool_is sheets now_sheets place s is lt read)) h.1,
       ap (slice_set sheets place) h.2 ∙ set_updated put sheets place s read ∙ ap (updated_at put place) is,
     )
 
-pub sheets_as_before : (sheets now_sheets : List Worksheet) (place : ℕ) (s after : Worksheet) → sheets ≡ now_sheets → s ≡ get_or sheets place s → sheet_of after ≡ sheet_of s → map sheet_of (slice_set sheets place after) ≡ map sheet_of now_sheets
+-- the sheet at the place takes a cell where that of the list does
+pub takes_at : (stored cell : CellPlace) (place : ℕ) (sheets now_sheets : List Sheet) (s : Sheet) → stored ≡ cell → sheets ≡ now_sheets → place < length now_sheets → s ≡ get_or sheets place s
+    → IfSome (slice_get now_sheets place) (λ s. TakesCell cell s.grid) → TakesCell stored s.grid
+takes_at stored cell place sheets now_sheets s same is lt read h =
+    subst (λ k. TakesCell k s.grid) (sym same)
+    (subst (λ o. IfSome o (λ (s : Sheet). TakesCell cell s.grid)) (slice_get_read now_sheets (length now_sheets) place s refl lt (read ∙ ap (λ xs. get_or xs place s) is)) h)
+
+pub sheets_as_before : (sheets now_sheets : List Sheet) (place : ℕ) (s after : Sheet) → sheets ≡ now_sheets → s ≡ get_or sheets place s → sheet_of after ≡ sheet_of s → map sheet_of (slice_set sheets place after) ≡ map sheet_of now_sheets
 sheets_as_before sheets now_sheets place s after is read same = seen_over sheet_of sheets place s after read same ∙ ap (map sheet_of) is
 
 -- ---- a copy gets its place
 
--- what a worksheet answers of it
-abbrev pub PlacesCopy : Formula → Worksheet → Worksheet → ℕ → Type 0
+-- what a sheet answers of it
+abbrev pub PlacesCopy : Formula → Sheet → Sheet → ℕ → Type 0
 PlacesCopy formula s after at =
     IsPlaced formula at s.pool.formulas after.pool.formulas × (after ≡ record s { pool = record { formulas = after.pool.formulas; is_whole = true } })
 
-pub like_copied : (formula : Formula) (s after : Worksheet) (r : Result ℕ OutOfMemory) → IfOk r (PlacesCopy formula s after) → OnErr r (sheet_of after ≡ sheet_of s) → IsLike s after
-like_copied formula s after (Ok at) h e = record { id = ap (λ (x : Worksheet). x.id) h.1; name = ap (λ (x : Worksheet). x.name) h.1 }
+pub like_copied : (formula : Formula) (s after : Sheet) (r : Result ℕ OutOfMemory) → IfOk r (PlacesCopy formula s after) → OnErr r (sheet_of after ≡ sheet_of s) → IsLike s after
+like_copied formula s after (Ok at) h e = record { id = ap (λ (x : Sheet). x.id) h.1; name = ap (λ (x : Sheet). x.name) h.1 }
 like_copied formula s after (Err error) h e = like_same s after e
 
-pub copies_at : (formula : Formula) (place : ℕ) (sheets now_sheets : List Worksheet) (s after : Worksheet) → sheets ≡ now_sheets → place < length now_sheets → s ≡ get_or sheets place s → (at : ℕ) → PlacesCopy formula s after at
+pub copies_at : (formula : Formula) (place : ℕ) (sheets now_sheets : List Sheet) (s after : Sheet) → sheets ≡ now_sheets → place < length now_sheets → s ≡ get_or sheets place s → (at : ℕ) → PlacesCopy formula s after at
     → (pool : List Formula) × IsPlaced formula at (pool_at now_sheets place) pool × (slice_set sheets place after ≡ updated_at (λ x. record x { pool = record { formulas = pool; is_whole = true } }) place now_sheets)
 copies_at formula place sheets now_sheets s after is lt read at h =
-    let put : Worksheet → Worksheet = λ x. record x { pool = record { formulas = after.pool.formulas; is_whole = true } } in (
+    let put : Sheet → Sheet = λ x. record x { pool = record { formulas = after.pool.formulas; is_whole = true } } in (
       after.pool.formulas,
       subst (λ pool. IsPlaced formula at pool after.pool.formulas) (sym (pool_is sheets now_sheets place s is lt read)) h.0,
       ap (slice_set sheets place) h.1 ∙ set_updated put sheets place s read ∙ ap (updated_at put place) is,
     )
 
 -- the sheet's look-up is whole where that of the sheet at the place is
-pub whole_at : (sheets now_sheets : List Worksheet) (place : ℕ) (s : Worksheet) → sheets ≡ now_sheets → place < length now_sheets → s ≡ get_or sheets place s → option_map (λ (x : Worksheet). x.pool.is_whole) (slice_get now_sheets place) ≡ Some true → s.pool.is_whole ≡ true
+pub whole_at : (sheets now_sheets : List Sheet) (place : ℕ) (s : Sheet) → sheets ≡ now_sheets → place < length now_sheets → s ≡ get_or sheets place s → option_map (λ (x : Sheet). x.pool.is_whole) (slice_get now_sheets place) ≡ Some true → s.pool.is_whole ≡ true
 whole_at sheets now_sheets place s is lt read e =
-    let at : Some s.pool.is_whole ≡ Some true = sym (ap (option_map (λ (x : Worksheet). x.pool.is_whole)) (slice_get_read now_sheets (length now_sheets) place s refl lt (read ∙ ap (λ xs. get_or xs place s) is))) ∙ e in
+    let at : Some s.pool.is_whole ≡ Some true = sym (ap (option_map (λ (x : Sheet). x.pool.is_whole)) (slice_get_read now_sheets (length now_sheets) place s refl lt (read ∙ ap (λ xs. get_or xs place s) is))) ∙ e in
     cc
 
 -- ---- after want of memory
@@ -100,20 +107,20 @@ at_err (Ok x) P p = tt
 at_err (Err e) P p = p
 
 -- what is left where the look-up could be made, and nothing after it
-pub looked_up : (s : Worksheet) (between after : PoolState) → between ≡ record s.pool { is_whole = true } → after ≡ between → IsSameOrLooksUp s (record s { pool = after })
-looked_up s between after made same = inr (ap (λ (p : PoolState). let t : Worksheet = record s { pool = p } in t) (same ∙ made))
+pub looked_up : (s : Sheet) (between after : PoolState) → between ≡ record s.pool { is_whole = true } → after ≡ between → IsSameOrLooksUp s (record s { pool = after })
+looked_up s between after made same = inr (ap (λ (p : PoolState). let t : Sheet = record s { pool = p } in t) (same ∙ made))
 
-pub looked_up_whole : (s after : Worksheet) (between : PoolState) → between ≡ record s.pool { is_whole = true } → after ≡ record s { pool = between } → IsSameOrLooksUp s after
-looked_up_whole s after between made same = inr (same ∙ ap (λ (p : PoolState). let t : Worksheet = record s { pool = p } in t) made)
+pub looked_up_whole : (s after : Sheet) (between : PoolState) → between ≡ record s.pool { is_whole = true } → after ≡ record s { pool = between } → IsSameOrLooksUp s after
+looked_up_whole s after between made same = inr (same ∙ ap (λ (p : PoolState). let t : Sheet = record s { pool = p } in t) made)
 
-pub not_looked_up : (s : Worksheet) (after : PoolState) → after ≡ s.pool → IsSameOrLooksUp s (record s { pool = after })
-not_looked_up s after same = inl (ap (λ (p : PoolState). let t : Worksheet = record s { pool = p } in t) same)
+pub not_looked_up : (s : Sheet) (after : PoolState) → after ≡ s.pool → IsSameOrLooksUp s (record s { pool = after })
+not_looked_up s after same = inl (ap (λ (p : PoolState). let t : Sheet = record s { pool = p } in t) same)
 
-set_same : (xs : List Worksheet) (place : ℕ) (x : Worksheet) → x ≡ get_or xs place x → slice_set xs place x ≡ xs
+set_same : (xs : List Sheet) (place : ℕ) (x : Sheet) → x ≡ get_or xs place x → slice_set xs place x ≡ xs
 set_same [] place x e = refl
 set_same (y ∷ xs) zero x e = ap (λ z. z ∷ xs) e
 set_same (y ∷ xs) (suc place) x e = ap (λ ys. y ∷ ys) (set_same xs place x e)
 
-pub looked_up_at : (sheets now_sheets : List Worksheet) (place : ℕ) (s after : Worksheet) → sheets ≡ now_sheets → s ≡ get_or sheets place s → IsSameOrLooksUp s after → AreSameOrLookUp place now_sheets (slice_set sheets place after)
+pub looked_up_at : (sheets now_sheets : List Sheet) (place : ℕ) (s after : Sheet) → sheets ≡ now_sheets → s ≡ get_or sheets place s → IsSameOrLooksUp s after → AreSameOrLookUp place now_sheets (slice_set sheets place after)
 looked_up_at sheets now_sheets place s after is read (inl e) = inl (ap (slice_set sheets place) e ∙ set_same sheets place s read ∙ is)
 looked_up_at sheets now_sheets place s after is read (inr e) = inr (ap (slice_set sheets place) e ∙ set_updated looking_up sheets place s read ∙ ap (updated_at looking_up place) is)

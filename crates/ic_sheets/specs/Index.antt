@@ -8,15 +8,15 @@ use Rattle.ic_laws.specs.Greatest.{greatest}
 use Rattle.ic_laws.specs.Name.{agrees}
 use Rattle.ic_pool.specs.Pool.{dangling_places}
 use Rattle.ic_sheets.specs.Search.{id_of, place_of}
-use Rattle.ic_sheets.specs.declared.sheet.Worksheet.{Worksheet}
+use Rattle.ic_sheets.specs.declared.sheet.Sheet.{Sheet}
 
 -- at each key the look-up has the id of the first sheet whose folded name is that key, and no two names agree
-pub record IsIndexed (ids : BTreeMap (String Global) ℕ) (sheets : List Worksheet) : Type 0 where
+pub record IsIndexed (ids : BTreeMap (String Global) ℕ) (sheets : List Sheet) : Type 0 where
   pub finds : (key : List ℕ) → get_by_text ids (encode_utf8_all key) ≡ id_of key sheets
   pub differ : IsDistinct agrees (map (λ s. s.name) sheets)
 
 -- at each id the look-up has the place of the sheet with that id
-pub record ArePlaced (places : BTreeMap ℕ ℕ) (sheets : List Worksheet) : Type 0 where
+pub record ArePlaced (places : BTreeMap ℕ ℕ) (sheets : List Sheet) : Type 0 where
   pub finds : (id : ℕ) → get nat_cmp places id ≡ place_of id sheets
 
 -- a place, lowered by one where it is past this one
@@ -32,11 +32,11 @@ abbrev pub moved_place : ℕ → ℕ → ℕ → ℕ
 moved_place from to place = if nat_eq place from then to else raised to (lowered from place)
 
 -- some formula of a sheet mentions something that wasn't found
-abbrev pub dangles : Worksheet → Bool
+abbrev pub dangles : Sheet → Bool
 dangles sheet = nat_lt 0 (length (dangling_places sheet.pool.formulas))
 
 -- the sheet with this id is one of those in which something dangles
-abbrev pub dangles_at : ℕ → List Worksheet → Bool
+abbrev pub dangles_at : ℕ → List Sheet → Bool
 dangles_at id sheets = list_any (λ s. nat_eq id s.id && dangles s) sheets
 
 -- an id is one of these
@@ -44,17 +44,17 @@ abbrev pub is_listed : ℕ → List ℕ → Bool
 is_listed id ids = list_any (nat_eq id) ids
 
 -- These are the ids of the sheets in which something dangles, each once.
-pub record AreDangling (ids : List ℕ) (sheets : List Worksheet) : Type 0 where
+pub record AreDangling (ids : List ℕ) (sheets : List Sheet) : Type 0 where
   pub finds : (id : ℕ) → is_listed id ids ≡ dangles_at id sheets
   pub differ : IsDistinct nat_eq ids
 
 -- the same in the order of the sheets
-abbrev pub dangling_ids : List Worksheet → List ℕ
+abbrev pub dangling_ids : List Sheet → List ℕ
 dangling_ids [] = []
 dangling_ids (s ∷ sheets) = if dangles s then s.id ∷ dangling_ids sheets else dangling_ids sheets
 
 -- The look-up and the greatest id are true of the sheets, and no two ids are equal.
-pub record AreKept (ids : BTreeMap (String Global) ℕ) (last : ℕ) (sheets : List Worksheet) : Type 0 where
+pub record AreKept (ids : BTreeMap (String Global) ℕ) (last : ℕ) (sheets : List Sheet) : Type 0 where
   pub names : IsIndexed ids sheets
   pub ids_differ : IsDistinct nat_eq (map (λ s. s.id) sheets)
   pub greatest : last ≡ greatest (map (λ s. s.id) sheets)

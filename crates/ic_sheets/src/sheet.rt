@@ -1,92 +1,154 @@
-ghost use Rattle.std.specs.Prelude.{◌≡◌, ◌≢◌, ◌≤◌, ◌+◌, [], None, IfOk, OnErr, OnOk, length, true};
-ghost use Rattle.std.specs.BTreeMap.{is_at};
-ghost use Rattle.std.specs.Map.{lookup};
-ghost use Rattle.ic_laws.specs.CoreBook.{place_cmp};
+ghost use Rattle.std.specs.Prelude.{◌≡◌, ◌≤◌, ◌+◌, [], IfOk, OnErr, OnOk, false, is_some, length, true};
+ghost use Rattle.std.specs.FinMap as finite;
 ghost use Rattle.ic_pool.specs.Pool.{IsPlaced};
-ghost use Rattle.ic_sheets.specs.Sheet.{IsSameOrLooksUp, IsWritten, plain_tab, sheet_of};
+ghost use Rattle.ic_sheets.specs.Sheet.{IsSameOrLooksUp, IsWritten, TakesCell, empty_grid, formula_cell, plain_tab, sheet_of};
 
-use crate::{FormulaCells, Tab};
+use crate::Tab;
+use ic_cells::{ArrayKind, Cell, FormulaValue};
+use ic_grid::Grid;
 use ic_laws::{Formula, OutOfMemory, Text};
 use ic_pool::{Pool, Steps};
 use std::alloc::Global;
 use std::sync::ledger::Ledger;
 
-/// A sheet: its id, its name, the formulas that it keeps, its cells that have one, and its tab.
-pub struct Worksheet {
+/// A sheet: its id, its name, the formulas that it keeps, its cells with its rows, columns and merged cells, and its tab.
+pub struct Sheet {
     pub id: u32,
     pub name: Text,
     pub pool: Pool,
-    pub cells: FormulaCells,
+    pub grid: Grid,
     pub tab: Tab,
 }
 
-impl Drop for Worksheet {
+impl Drop for Sheet {
     fn drop(self) {
         let Self {
             id: _,
             name,
             pool,
-            cells,
+            grid,
             tab,
         } = self;
         drop(name);
         drop(pool);
-        drop(cells);
+        drop(grid);
         drop(tab);
     }
 }
 
-impl Worksheet {
-    /// A sheet that keeps no formulas, with a plain tab.
-    pub fn new(alloc: Global, id: u32, name: Text) -> Worksheet
-        ensures { result ≡ record { id = id; name = name; pool = record { formulas = []; is_whole = true }; cells = []; tab = plain_tab } }
+/// How many values a formula that is written into a cell may have.
+#[derive(Clone, Copy)]
+pub enum FormulaKind {
+    /// One.
+    Single,
+    /// Several, which spill into the cells beside it.
+    Dynamic,
+}
+
+/// The cell of a formula that has no value yet: the formula at a place, from 0, in the style of a number.
+fn formula_cell(kind: FormulaKind, f: usize, s: usize) -> Cell
+    ensures { result ≡ formula_cell kind f s }
+{
+    match kind {
+        FormulaKind::Single => Cell::new_formula(f, s),
+        FormulaKind::Dynamic => Cell::ArrayFormula {
+            f,
+            s,
+            r: (1, 1),
+            kind: ArrayKind::Dynamic,
+            v: FormulaValue::Unevaluated,
+        },
+    }
+}
+
+impl Sheet {
+    /// A sheet that keeps no formulas and holds nothing, with a plain tab.
+    pub fn new(alloc: Global, id: u32, name: Text) -> Sheet
+        ensures { result ≡ record { id = id; name = name; pool = record { formulas = []; is_whole = true }; grid = empty_grid; tab = plain_tab } }
     {
-        Worksheet {
+        Sheet {
             id,
             name,
             pool: Pool::new(alloc),
-            cells: FormulaCells::new(alloc),
+            grid: Grid::new(alloc),
             tab: Tab::plain(),
         }
     }
 
-    /// Gives a cell, by its row and its column from 1, a formula, which gets its place among those that the sheet keeps.
+    /// Writes a formula into a cell, by its row and its column from 1, in the style of a number. The place is prepared, so
+    /// that the array that it belongs to is released, and the formula gets its place among those that the sheet keeps.
     /// `OutOfMemory` changes nothing but what formulas are found by.
-    pub fn write(&mut self, row: i32, column: i32, formula: Formula) -> Result<(), OutOfMemory>
-        ensures ok { OnOk result (IsWritten formula (row, column) self.old self.new) }
+    pub fn write(
+        &mut self,
+        row: i32,
+        column: i32,
+        formula: Formula,
+        kind: FormulaKind,
+        style: usize,
+    ) -> Result<(), OutOfMemory>
+        requires { TakesCell (row, column) self.old.grid }
+        ensures ok { OnOk result (IsWritten formula kind style (row, column) self.old self.new) }
         ensures err { OnErr result (sheet_of self.new ≡ sheet_of self.old) }
         ensures looks_up { OnErr result (IsSameOrLooksUp self.old self.new) }
     {
         self.pool.make_whole_uncounted()?;
-        match self.cells.place_at(row, column) {
-            Some(_) => self.write_over(row, column, formula),
-            None => self.write_new(row, column, formula),
+        if self.grid.cells.get(row, column).is_some() {
+            self.write_over(row, column, formula, kind, style)
+        } else {
+            self.write_new(row, column, formula, kind, style)
         }
     }
 
-    /// The same where the cell has a formula: then only the pool may want memory.
-    fn write_over(&mut self, row: i32, column: i32, formula: Formula) -> Result<(), OutOfMemory>
+    /// The same where there is a cell: then only the pool may want memory.
+    fn write_over(
+        &mut self,
+        row: i32,
+        column: i32,
+        formula: Formula,
+        kind: FormulaKind,
+        style: usize,
+    ) -> Result<(), OutOfMemory>
         requires whole { self.old.pool.is_whole ≡ true }
-        requires there { lookup (is_at (place_cmp (row, column))) self.old.cells ≢ None }
-        ensures ok { OnOk result (IsWritten formula (row, column) self.old self.new) }
+        requires takes { TakesCell (row, column) self.old.grid }
+        requires there { is_some (finite.get self.old.grid.cells (row, column)) ≡ true }
+        ensures ok { OnOk result (IsWritten formula kind style (row, column) self.old self.new) }
         ensures err { OnErr result (self.new ≡ self.old) }
     {
         let place = self.pool.place(formula)?;
-        self.cells.insert(row, column, place)
+        // It may be written, and takes no memory, since a cell is there.
+        let _ = self
+            .grid
+            .write(row, column, formula_cell(kind, place, style));
+        Ok(())
     }
 
-    /// The same where the cell has none: it gets an entry first, so that what follows the pool wants no memory.
-    fn write_new(&mut self, row: i32, column: i32, formula: Formula) -> Result<(), OutOfMemory>
+    /// The same where there is none: an empty one is put there first, so that what follows the pool wants no memory.
+    fn write_new(
+        &mut self,
+        row: i32,
+        column: i32,
+        formula: Formula,
+        kind: FormulaKind,
+        style: usize,
+    ) -> Result<(), OutOfMemory>
         requires whole { self.old.pool.is_whole ≡ true }
-        requires free { lookup (is_at (place_cmp (row, column))) self.old.cells ≡ None }
-        ensures ok { OnOk result (IsWritten formula (row, column) self.old self.new) }
+        requires free { is_some (finite.get self.old.grid.cells (row, column)) ≡ false }
+        ensures ok { OnOk result (IsWritten formula kind style (row, column) self.old self.new) }
         ensures err { OnErr result (self.new ≡ self.old) }
     {
-        self.cells.insert(row, column, 0)?;
+        self.grid
+            .cells
+            .insert(row, column, Cell::EmptyCell { s: style })?;
         match self.pool.place(formula) {
-            Ok(place) => self.cells.insert(row, column, place),
+            Ok(place) => {
+                let _ = self
+                    .grid
+                    .cells
+                    .insert(row, column, formula_cell(kind, place, style));
+                Ok(())
+            }
             Err(error) => {
-                self.cells.remove(row, column);
+                self.grid.cells.remove(row, column);
                 Err(error)
             }
         }

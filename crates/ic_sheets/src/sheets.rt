@@ -13,7 +13,7 @@ mod formulas;
 mod rewriting;
 mod tabs;
 
-use crate::Worksheet;
+use crate::Sheet;
 use caseless::default_case_fold_str;
 use ic_laws::{OutOfMemory, agree};
 use std::alloc::Global;
@@ -23,7 +23,7 @@ use std::marker::Model;
 /// The sheets of a book in their order. No two have names that agree, and no two have one id.
 pub struct Sheets {
     alloc: Global,
-    list: Vec<Worksheet>,
+    list: Vec<Sheet>,
     /// The id of each sheet, by its folded name.
     ids: BTreeMap<String, u32>,
     /// The place of each sheet, from 0, by its id.
@@ -56,12 +56,12 @@ impl Model for Sheets {
     ghost use Rattle.std.specs.Prelude.{◌≤◌, List, length, vec_capacity};
     ghost use Rattle.std.specs.Coded.{codes};
     ghost use Rattle.ic_sheets.specs.Index.{AreDangling, AreKept, ArePlaced};
-    ghost use Rattle.ic_sheets.specs.contracts.sheet.Worksheet as worksheet;
-    ghost use Rattle.ic_sheets.specs.declared.sheet.Worksheet.{Worksheet};
+    ghost use Rattle.ic_sheets.specs.contracts.sheet.Sheet as sheet;
+    ghost use Rattle.ic_sheets.specs.declared.sheet.Sheet.{Sheet};
 
-    ghost Value = { List Worksheet };
+    ghost Value = { List Sheet };
 
-    ghost coded = { Prim.hlevel (codes, worksheet.the_row.coded) };
+    ghost coded = { Prim.hlevel (codes, sheet.the_row.coded) };
 
     ghost view = { λ s. s.list.items };
 
@@ -79,7 +79,7 @@ fn folded(alloc: Global, name: &str) -> Result<String, OutOfMemory>
 }
 
 /// The id of the first sheet whose name agrees with this one.
-fn first_named(sheets: &[Worksheet], name: &str) -> Option<u32>
+fn first_named(sheets: &[Sheet], name: &str) -> Option<u32>
     ensures { result ≡ option_map (λ s. s.id) (find (λ s. agrees s.name (chars name.now)) sheets.now) }
 {
     let sheet = sheets
@@ -96,7 +96,7 @@ fn place_in(places: &BTreeMap<u32, usize>, id: u32) -> Option<usize>
 }
 
 /// The sheet at a place, from 0. None past the end.
-fn sheet_at(sheets: &[Worksheet], index: usize) -> Option<&Worksheet>
+fn sheet_at(sheets: &[Sheet], index: usize) -> Option<&Sheet>
     ensures { option_map (λ s. s.now) result ≡ slice_get sheets.now index }
 {
     sheets.get(index)
@@ -118,7 +118,7 @@ impl Sheets {
     }
 
     /// The sheets in their order.
-    pub fn as_slice(&self) -> &[Worksheet]
+    pub fn as_slice(&self) -> &[Sheet]
         ensures sheets { result.now ≡ self.now }
         ensures names_differ { IsDistinct agrees (map (λ s. s.name) self.now) }
         ensures ids_differ { IsDistinct nat_eq (map (λ s. s.id) self.now) }
@@ -183,7 +183,7 @@ impl Sheets {
     }
 
     /// The sheet with this id.
-    fn with_id(&self, id: u32) -> Option<&Worksheet>
+    fn with_id(&self, id: u32) -> Option<&Sheet>
         ensures { option_map (λ s. s.now) result ≡ find (λ s. nat_eq s.id id) self.now }
     {
         match self.index_of_id(id) {
@@ -213,7 +213,7 @@ impl Sheets {
 }
 
 /// The greatest id of these sheets, 0 where there is none.
-fn greatest_of(sheets: &[Worksheet]) -> u32
+fn greatest_of(sheets: &[Sheet]) -> u32
     ensures { result ≡ greatest (map (λ s. s.id) sheets.now) }
 {
     let mut most = 0;

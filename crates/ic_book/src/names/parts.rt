@@ -12,7 +12,7 @@ ghost use Rattle.ic_laws.specs.Scene.{found_name, same_key};
 ghost use Rattle.ic_names.specs.Bodies.{FitsBodies, StaysWhereFound, with_bodies};
 ghost use Rattle.ic_names.specs.Named.{key_in, names_scene};
 ghost use Rattle.ic_sheets.specs.Rewriting.{changed_pool, look_ups, looks_up_after, sheets_of};
-ghost use Rattle.ic_sheets.specs.declared.sheet.Worksheet.{Worksheet};
+ghost use Rattle.ic_sheets.specs.declared.sheet.Sheet.{Sheet};
 
 use ic_laws::{NameKey, NameMention, OutOfMemory, Text};
 use ic_names::{BodyRewrites, Definition, Definitions};
@@ -56,7 +56,7 @@ pub fn add_for_sheet(
     requires free { list_any (is_named definition.name definition.scope) names.old ≡ false }
     requires within { index < length sheets.old }
     requires ids { IsDistinct nat_eq (map (λ s. s.id) sheets.old) }
-    requires scope { (sheet : Worksheet) → slice_get sheets.old index ≡ Some sheet
+    requires scope { (sheet : Sheet) → slice_get sheets.old index ≡ Some sheet
         → definition.scope ≡ Some sheet.id }
     ensures sheets { OnOk result (sheets_of sheets.new ≡ map (changed_pool (name_added
         (spelling_of definition))) (sheets_of sheets.old)) }
@@ -142,7 +142,7 @@ pub fn bodies_without(
     index: usize,
 ) -> Result<BodyRewrites, OutOfMemory>
     requires { index < length sheets.now }
-    ensures made { IfOk result (λ w. (sheet : Worksheet) → slice_get sheets.now index ≡ Some sheet
+    ensures made { IfOk result (λ w. (sheet : Sheet) → slice_get sheets.now index ≡ Some sheet
         → with_bodies w.bodies.items names.now ≡ map (with_body_tree (changed_tree (sheet_gone sheet.id sheet.name))) names.now) }
     ensures fits { IfOk result (λ w. FitsBodies w names.now) }
 {

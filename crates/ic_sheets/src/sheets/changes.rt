@@ -8,8 +8,8 @@ ghost use Rattle.ic_laws.specs.Name.{agrees};
 ghost use Rattle.ic_pool.specs.Mentions.{SparesFound};
 ghost use Rattle.ic_pool.specs.Rewrites.{FitsPool};
 ghost use Rattle.ic_sheets.specs.Rewriting.{ArePrepared, FitOwn, FitSheets, IsPrepared, Makes, changed_pool, look_ups, looks_up_after, sheets_of, with_all_rewrites, with_own_rewrites, with_rewrites};
-ghost use Rattle.ic_sheets.specs.Sheet.{BookSheet, plain_tab};
-ghost use Rattle.ic_sheets.specs.declared.sheet.Worksheet.{Worksheet};
+ghost use Rattle.ic_sheets.specs.Sheet.{BookSheet, empty_grid, plain_tab};
+ghost use Rattle.ic_sheets.specs.declared.sheet.Sheet.{Sheet};
 
 use super::Sheets;
 use super::dangling::{dangles, keep_dangling, note_dangling, settle};
@@ -23,7 +23,7 @@ impl Sheets {
     pub fn add_sheet(&mut self, id: u32, name: &str) -> Result<(), OutOfMemory>
         requires free { list_any (agrees (chars name.now)) (map (λ s. s.name) self.old) ≡ false }
         requires fresh { greatest (map (λ s. s.id) self.old) < id }
-        ensures ok { OnOk result (sheets_of self.new ≡ map (changed_pool (sheet_named id (chars name.now))) (sheets_of self.old) ++ record { id = id; name = chars name.now; pool = []; cells = []; tab = plain_tab } ∷ []) }
+        ensures ok { OnOk result (sheets_of self.new ≡ map (changed_pool (sheet_named id (chars name.now))) (sheets_of self.old) ++ record { id = id; name = chars name.now; pool = []; grid = empty_grid; tab = plain_tab } ∷ []) }
         ensures looks_up { OnOk result (look_ups self.new ≡ map (looks_up_after (sheet_named id (chars name.now))) self.old ++ true ∷ []) }
         ensures err { OnErr result (self.new ≡ self.old) }
     {
@@ -38,9 +38,9 @@ impl Sheets {
     pub fn rename_sheet(&mut self, index: usize, name: &str) -> Result<(), OutOfMemory>
         requires within { index < length self.old }
         requires free { list_any (agrees (chars name.now)) (remove (map (λ s. s.name) self.old) index) ≡ false }
-        ensures ok { OnOk result ((sheet : Worksheet) → slice_get self.old index ≡ Some sheet
+        ensures ok { OnOk result ((sheet : Sheet) → slice_get self.old index ≡ Some sheet
             → sheets_of self.new ≡ updated_at (λ s. record s { name = chars name.now }) index (map (changed_pool (sheet_named sheet.id (chars name.now))) (sheets_of self.old))) }
-        ensures looks_up { OnOk result ((sheet : Worksheet) → slice_get self.old index ≡ Some sheet → look_ups self.new ≡ map (looks_up_after (sheet_named sheet.id (chars name.now))) self.old) }
+        ensures looks_up { OnOk result ((sheet : Sheet) → slice_get self.old index ≡ Some sheet → look_ups self.new ≡ map (looks_up_after (sheet_named sheet.id (chars name.now))) self.old) }
         ensures err { OnErr result (self.new ≡ self.old) }
     {
         let id = self.list[index].id;
@@ -54,9 +54,9 @@ impl Sheets {
     /// nothing.
     pub fn delete_sheet(&mut self, index: usize) -> Result<(), OutOfMemory>
         requires { index < length self.old }
-        ensures ok { OnOk result ((sheet : Worksheet) → slice_get self.old index ≡ Some sheet
+        ensures ok { OnOk result ((sheet : Sheet) → slice_get self.old index ≡ Some sheet
             → sheets_of self.new ≡ remove (map (changed_pool (sheet_gone sheet.id sheet.name)) (sheets_of self.old)) index) }
-        ensures looks_up { OnOk result ((sheet : Worksheet) → slice_get self.old index ≡ Some sheet → look_ups self.new ≡ remove (map (looks_up_after (sheet_gone sheet.id sheet.name)) self.old) index) }
+        ensures looks_up { OnOk result ((sheet : Sheet) → slice_get self.old index ≡ Some sheet → look_ups self.new ≡ remove (map (looks_up_after (sheet_gone sheet.id sheet.name)) self.old) index) }
         ensures err { OnErr result (self.new ≡ self.old) }
     {
         let sheet = &self.list[index];
@@ -94,7 +94,7 @@ impl Sheets {
         change: &C,
     ) -> Result<Rewrites, OutOfMemory>
         requires { index < length self.now }
-        ensures { IfOk result (λ rewrites. (sheet : Worksheet) → slice_get self.now index ≡ Some sheet → IsPrepared (C.change change.now) rewrites sheet) }
+        ensures { IfOk result (λ rewrites. (sheet : Sheet) → slice_get self.now index ≡ Some sheet → IsPrepared (C.change change.now) rewrites sheet) }
     {
         let sheet = &self.list[index];
         sheet.pool.rewrites(change, Some(sheet.id))
@@ -124,7 +124,7 @@ impl Sheets {
     /// Does to the formulas of the sheet at a place, from 0, what was prepared for it.
     pub fn apply_at(&mut self, index: usize, rewrites: Rewrites)
         requires within { index < length self.old }
-        requires fits { (sheet : Worksheet) → slice_get self.old index ≡ Some sheet → FitsPool rewrites sheet.pool.formulas }
+        requires fits { (sheet : Sheet) → slice_get self.old index ≡ Some sheet → FitsPool rewrites sheet.pool.formulas }
         ensures { self.new ≡ updated_at (with_rewrites rewrites) index self.old }
     {
         let sheet = &mut self.list[index];

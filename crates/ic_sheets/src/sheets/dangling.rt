@@ -4,11 +4,11 @@ ghost use Rattle.std.specs.List.{IsDistinct};
 ghost use Rattle.ic_sheets.specs.Index.{ArePlaced, dangles, dangles_at, dangling_ids, is_listed};
 
 use super::{place_in, sheet_at};
-use crate::Worksheet;
+use crate::Sheet;
 use std::collections::BTreeMap;
 
 /// Whether some formula of a sheet mentions something that wasn't found.
-pub fn dangles(sheet: &Worksheet) -> bool
+pub fn dangles(sheet: &Sheet) -> bool
     ensures { result ≡ dangles sheet.now }
 {
     sheet.pool.dangling_count() > 0
@@ -41,7 +41,7 @@ fn take_out(ids: &mut Vec<u32>, id: u32)
 }
 
 /// Makes these the ids of the sheets in which something dangles. It takes no memory.
-pub fn note_dangling(ids: &mut Vec<u32>, sheets: &[Worksheet])
+pub fn note_dangling(ids: &mut Vec<u32>, sheets: &[Sheet])
     requires { length sheets.now ≤ vec_capacity ids.old }
     ensures ids { ids.new.items ≡ dangling_ids sheets.now }
     ensures capacity { vec_capacity ids.new ≡ vec_capacity ids.old }
@@ -55,7 +55,7 @@ pub fn note_dangling(ids: &mut Vec<u32>, sheets: &[Worksheet])
 }
 
 /// Leaves those of the ids alone whose sheet has something that dangles.
-pub fn keep_dangling(ids: &mut Vec<u32>, sheets: &[Worksheet], places: &BTreeMap<u32, usize>)
+pub fn keep_dangling(ids: &mut Vec<u32>, sheets: &[Sheet], places: &BTreeMap<u32, usize>)
     requires placed { ArePlaced places.now sheets.now }
     requires differ { IsDistinct nat_eq (map (λ s. s.id) sheets.now) }
     ensures ids { ids.new.items ≡ filter (λ id. dangles_at id sheets.now) ids.old.items }
@@ -65,7 +65,7 @@ pub fn keep_dangling(ids: &mut Vec<u32>, sheets: &[Worksheet], places: &BTreeMap
 }
 
 /// Whether something dangles in the sheet with this id.
-fn dangles_with(sheets: &[Worksheet], places: &BTreeMap<u32, usize>, id: u32) -> bool
+fn dangles_with(sheets: &[Sheet], places: &BTreeMap<u32, usize>, id: u32) -> bool
     ensures { ArePlaced places.now sheets.now → IsDistinct nat_eq (map (λ s. s.id) sheets.now)
         → result ≡ dangles_at id sheets.now }
 {
@@ -77,10 +77,10 @@ fn dangles_with(sheets: &[Worksheet], places: &BTreeMap<u32, usize>, id: u32) ->
 
 /// The sheet with this id.
 pub fn sheet_with<'s>(
-    sheets: &'s [Worksheet],
+    sheets: &'s [Sheet],
     places: &BTreeMap<u32, usize>,
     id: u32,
-) -> Option<&'s Worksheet>
+) -> Option<&'s Sheet>
     ensures { ArePlaced places.now sheets.now
         → option_map (λ s. s.now) result ≡ find (λ s. nat_eq s.id id) sheets.now }
 {

@@ -7,11 +7,11 @@ ghost use Rattle.ic_laws.specs.CoreStep.{moved, updated_at};
 ghost use Rattle.ic_laws.specs.Greatest.{greatest};
 ghost use Rattle.ic_laws.specs.Name.{agrees};
 ghost use Rattle.ic_sheets.specs.Index.{lowered, moved_place};
-ghost use Rattle.ic_sheets.specs.Sheet.{plain_tab};
+ghost use Rattle.ic_sheets.specs.Sheet.{empty_grid, plain_tab};
 
 use super::dangling::{dangles, settle};
 use super::{Sheets, folded, greatest_of};
-use crate::Worksheet;
+use crate::Sheet;
 use ic_laws::{OutOfMemory, Text};
 use std::collections::BTreeMap;
 
@@ -21,7 +21,7 @@ impl Sheets {
     pub fn push(&mut self, id: u32, name: &str) -> Result<(), OutOfMemory>
         requires free { list_any (agrees (chars name.now)) (map (λ s. s.name) self.old) ≡ false }
         requires fresh { greatest (map (λ s. s.id) self.old) < id }
-        ensures ok { OnOk result (self.new ≡ self.old ++ record { id = id; name = chars name.now; pool = record { formulas = []; is_whole = true }; cells = []; tab = plain_tab } ∷ []) }
+        ensures ok { OnOk result (self.new ≡ self.old ++ record { id = id; name = chars name.now; pool = record { formulas = []; is_whole = true }; grid = empty_grid; tab = plain_tab } ∷ []) }
         ensures err { OnErr result (self.new ≡ self.old) }
     {
         let key = folded(self.alloc, name)?;
@@ -32,8 +32,7 @@ impl Sheets {
         self.places.insert(id, place)?;
         match put_id(&mut self.ids, key, id) {
             Ok(()) => {
-                self.list
-                    .push_reserved(Worksheet::new(self.alloc, id, name));
+                self.list.push_reserved(Sheet::new(self.alloc, id, name));
                 self.greatest = id;
                 Ok(())
             }

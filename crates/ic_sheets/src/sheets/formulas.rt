@@ -1,36 +1,38 @@
 //! Formulas get their places in the sheets.
-ghost use Rattle.std.specs.Prelude.{◌≡◌, ◌<◌, ◌≤◌, ◌+◌, ℕ, List, Some, IfOk, OnErr, OnOk, length, map, option_map, slice_get, true};
-ghost use Rattle.std.specs.BTreeMap.{insert_entry};
-ghost use Rattle.ic_laws.specs.CoreBook.{place_cmp};
+ghost use Rattle.std.specs.Prelude.{◌≡◌, ◌<◌, ◌≤◌, ◌+◌, ℕ, List, Some, IfOk, IfSome, OnErr, OnOk, length, map, option_map, slice_get, true};
 ghost use Rattle.ic_laws.specs.CoreStep.{updated_at};
 ghost use Rattle.ic_laws.specs.declared.tree.Formula.{Formula};
 ghost use Rattle.ic_pool.specs.Pool.{IsPlaced};
-ghost use Rattle.ic_sheets.specs.Sheet.{AreSameOrLookUp, pool_at, sheet_of};
+ghost use Rattle.ic_sheets.specs.Sheet.{AreSameOrLookUp, TakesCell, formula_cell, pool_at, sheet_of, with_cell_in};
 
 use super::Sheets;
 use super::dangling::{dangles, settle};
+use crate::FormulaKind;
 use ic_laws::{Formula, OutOfMemory};
 use ic_pool::Steps;
 use std::sync::ledger::Ledger;
 
 impl Sheets {
-    /// Gives a cell of the sheet at a place, from 0, a formula: the cell of this row and this column, from 1.
-    /// `OutOfMemory` changes nothing but what formulas are found by.
+    /// Writes a formula into a cell of the sheet at a place, from 0: the cell of this row and this column, from 1, in the
+    /// style of a number. `OutOfMemory` changes nothing but what formulas are found by.
     pub fn write(
         &mut self,
         index: usize,
         row: i32,
         column: i32,
         formula: Formula,
+        kind: FormulaKind,
+        style: usize,
     ) -> Result<(), OutOfMemory>
-        requires { index < length self.old }
-        ensures ok { OnOk result ((pool : List Formula) × (place : ℕ) × IsPlaced formula place (pool_at self.old index) pool × (self.new ≡ updated_at (λ s. record s { pool = record { formulas = pool; is_whole = true }; cells = insert_entry place_cmp s.cells (row, column) place }) index self.old)) }
+        requires within { index < length self.old }
+        requires takes { IfSome (slice_get self.old index) (λ s. TakesCell (row, column) s.grid) }
+        ensures ok { OnOk result ((pool : List Formula) × (place : ℕ) × IsPlaced formula place (pool_at self.old index) pool × (self.new ≡ updated_at (λ s. record s { pool = record { formulas = pool; is_whole = true }; grid = with_cell_in (row, column) (formula_cell kind place style) s.grid }) index self.old)) }
         ensures err { OnErr result (map sheet_of self.new ≡ map sheet_of self.old) }
         ensures looks_up { OnErr result (AreSameOrLookUp index self.old self.new) }
     {
         let sheet = &mut self.list[index];
         let was = dangles(sheet);
-        let written = sheet.write(row, column, formula);
+        let written = sheet.write(row, column, formula, kind, style);
         settle(&mut self.dangling, sheet.id, was, dangles(sheet));
         written
     }

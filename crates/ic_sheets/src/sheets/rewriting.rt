@@ -8,7 +8,7 @@ ghost use Rattle.ic_sheets.specs.Rewriting.{ArePrepared, FitOwn, FitSheets, Prep
 
 use super::dangling::sheet_with;
 use super::place_in;
-use crate::Worksheet;
+use crate::Sheet;
 use ic_laws::OutOfMemory;
 use ic_pool::{BookChange, Rewrites};
 use std::alloc::Global;
@@ -17,7 +17,7 @@ use std::collections::BTreeMap;
 /// What a change does to the formulas of each sheet.
 pub fn prepare<C: BookChange>(
     alloc: Global,
-    sheets: &[Worksheet],
+    sheets: &[Sheet],
     change: &C,
 ) -> Result<Vec<Rewrites>, OutOfMemory>
     ensures { IfOk result (λ prepared. ArePrepared (C.change change.now) prepared.items sheets.now) }
@@ -33,7 +33,7 @@ pub fn prepare<C: BookChange>(
 /// tells for each its id.
 pub fn prepare_dangling<C: BookChange>(
     alloc: Global,
-    sheets: &[Worksheet],
+    sheets: &[Sheet],
     places: &BTreeMap<u32, usize>,
     ids: &[u32],
     change: &C,
@@ -56,7 +56,7 @@ pub fn prepare_dangling<C: BookChange>(
 }
 
 /// Does to the formulas of each sheet what was prepared for it, from the last one on. Sheets past the end stay.
-pub fn apply_all(sheets: &mut [Worksheet], mut prepared: Vec<Rewrites>)
+pub fn apply_all(sheets: &mut [Sheet], mut prepared: Vec<Rewrites>)
     requires { FitSheets prepared.items sheets.old }
     ensures { sheets.new ≡ with_all_rewrites prepared.items sheets.old }
 {
@@ -68,7 +68,7 @@ pub fn apply_all(sheets: &mut [Worksheet], mut prepared: Vec<Rewrites>)
 
 /// Does to the formulas of each sheet what was prepared for its id, from the last one on. The others stay.
 pub fn apply_own(
-    sheets: &mut [Worksheet],
+    sheets: &mut [Sheet],
     places: &BTreeMap<u32, usize>,
     mut prepared: Vec<(u32, Rewrites)>,
 )

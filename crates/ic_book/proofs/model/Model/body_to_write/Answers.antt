@@ -1,25 +1,33 @@
-use Rattle.std.proofs.Common.{◌≡◌, Some, None, true, chars, refl, subst, rules, arith, w32}
-use Rattle.std.proofs.lemmas.Int.{to_z-of_z}
-use Rattle.ic_laws.specs.CoreStep.{update_refusal}
-use Rattle.ic_laws.specs.Position.{is_column, is_row}
-use Rattle.ic_laws.specs.Refusal.{NotAFormula}
-use Rattle.ic_book.specs.Book.{ModelState, core_of}
-use Rattle.ic_book.specs.Inside.{held}
-use Rattle.ic_book.proofs.HeldLemmas.{not_a_formula, there_is, update_accepts, within_of}
+use Rattle.std.proofs.Common.{◌≡◌, ◌∙◌, false, option_map, chars, length, nat_lt, refl, sym, ap, subst, rules, arith}
+use Rattle.std.proofs.lemmas.Option.{slice_get-map}
+use Rattle.ic_laws.specs.CoreBook.{CellPlace}
+use Rattle.ic_machine.specs.Refusal.{InvalidSheet, first_refusal}
+use Rattle.ic_sheets.proofs.CellLemmas.{stored_pair}
+use Rattle.ic_sheets.specs.Sheet.{sheet_of}
+use Rattle.ic_book.specs.Book.{ModelState}
+use Rattle.ic_book.specs.Refused.{TellsOnly}
+use Rattle.ic_book.specs.Written.{refusal_in, text_causes, write_refusal}
+use Rattle.ic_book.proofs.HeldLemmas.{at_index, none_at, refused_in}
 use Rattle.ic_book.proofs.model.Model.body_to_write.Goals as goal
 
-pub returns-in-Some-clause-body : goal.returns-in-Some-clause-body
-returns-in-Some-clause-body c = c.in-Some.ensures.1
+pub returns-in_default-clause-refused : goal.returns-in_default-clause-refused
+returns-in_default-clause-refused c =
+    let place : CellPlace = (c.args.row, c.args.column) in
+    let past : nat_lt c.args.sheet (length c.as_slice.result.now) ≡ false = search (rules, arith) in (
+      InvalidSheet,
+      refl,
+      ap (λ (m : ModelState). write_refusal m.book c.args.sheet place (chars c.args.text.now)) (sym c.self.view_is)
+          ∙ ap (refusal_in place (chars c.args.text.now)) (slice_get-map sheet_of c.self.inside.sheets c.args.sheet ∙ ap (option_map sheet_of) (none_at c.as_slice.result.now c.self.inside.sheets c.args.sheet c.as_slice.ensures.sheets past)),
+    )
 
-pub returns-in-Some-clause-refused : goal.returns-in-Some-clause-refused
-returns-in-Some-clause-refused c =
-    subst (λ (m : ModelState). update_refusal (core_of m.book) c.args.sheet c.args.row c.args.column (chars c.args.text.now) ≡ None) c.self.view_is
-    (update_accepts (core_of (held c.self.inside.about c.self.inside.sheets c.self.inside.names c.self.inside.locale.now c.self.inside.language.now c.self.inside.tables.now)) c.args.sheet c.args.row c.args.column (chars c.args.text.now) (there_is c.self.inside.sheets c.args.sheet (within_of c.self.inside.sheets c.len.result c.args.sheet c.len.ensures c.if-sheet-len.false)) (subst (λ r. is_row r ≡ true) (to_z-of_z w32 c.args.row c.ranges.row) (search (rules, arith))) (subst (λ r. is_column r ≡ true) (to_z-of_z w32 c.args.column c.ranges.column) (search (rules, arith))) c.in-Some.ensures.0)
-
-pub returns-in-None-clause-refused : goal.returns-in-None-clause-refused
-returns-in-None-clause-refused c = (
-  NotAFormula,
-  refl,
-  subst (λ (m : ModelState). update_refusal (core_of m.book) c.args.sheet c.args.row c.args.column (chars c.args.text.now) ≡ Some NotAFormula) c.self.view_is
-      (not_a_formula (core_of (held c.self.inside.about c.self.inside.sheets c.self.inside.names c.self.inside.locale.now c.self.inside.language.now c.self.inside.tables.now)) c.args.sheet c.args.row c.args.column (chars c.args.text.now) (there_is c.self.inside.sheets c.args.sheet (within_of c.self.inside.sheets c.len.result c.args.sheet c.len.ensures c.if-sheet-len.false)) (subst (λ r. is_row r ≡ true) (to_z-of_z w32 c.args.row c.ranges.row) (search (rules, arith))) (subst (λ r. is_column r ≡ true) (to_z-of_z w32 c.args.column c.ranges.column) (search (rules, arith))) c.in-None.ensures),
-)
+pub returns-clause-refused : goal.returns-clause-refused
+returns-clause-refused c =
+    let place : CellPlace = (c.args.row, c.args.column) in
+    let entry = c.in-Some.worksheet.now in
+    let text = chars c.args.text.now in
+    let there = at_index c.as_slice.result.now c.self.inside.sheets c.args.sheet entry c.as_slice.ensures.sheets c.in-Some.ensures.lookup.0 c.in-Some.ensures.lookup.1 in
+    subst (TellsOnly c.body_in.result)
+    (ap (λ (p : CellPlace). first_refusal (text_causes entry.grid p text)) (stored_pair c.args.row c.args.column c.ranges.row c.ranges.column)
+    ∙ sym (refused_in c.self.inside.about c.self.inside.sheets c.self.inside.names c.self.inside.locale.now c.self.inside.language.now c.self.inside.tables.now c.self.invariant c.args.sheet place text entry there)
+    ∙ ap (λ (m : ModelState). write_refusal m.book c.args.sheet place text) c.self.view_is)
+    c.body_in.ensures.refused

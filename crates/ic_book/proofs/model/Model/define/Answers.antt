@@ -2,7 +2,9 @@ use Rattle.std.proofs.Common.{ap, chars, subst, sym, ◌∙◌}
 use Rattle.std.specs.List.{IsDistinct}
 use Rattle.std.specs.Prelude.{nat_eq}
 use Rattle.ic_book.specs.Book.{ModelState, core_of}
+use Rattle.ic_book.specs.Inside.{held}
 use Rattle.ic_book.specs.Names.{body_of_typed}
+use Rattle.ic_book.proofs.BookValid.{core_valid}
 use Rattle.ic_book.proofs.HeldLemmas.{seen_ids}
 use Rattle.ic_book.proofs.NameHeld.{defined_binds, defined_book, defined_core, defined_held, defined_looks_up, is_free, it_is_within, it_spares, its_sheet}
 use Rattle.ic_book.proofs.model.Model.define.Goals as goal
@@ -24,7 +26,7 @@ pub add_for_sheet-requires-clause-within : goal.add_for_sheet-requires-clause-wi
 add_for_sheet-requires-clause-within c = it_is_within c.self.inside.about c.self.inside.sheets c.self.inside.names c.self.inside.locale.now c.self.inside.language.now c.self.inside.tables.now c.self.invariant c.args.self.now c.self.view_is (chars c.args.name.now) c.args.scope c.in_ok-id.id c.in_ok-id.ensures.id (chars c.args.formula.now) (body_of_typed c.in_ok-id.body) c.in_ok-definition.definition c.in_ok-id.ensures.body c.in_ok-id.ensures.refused c.in_ok-definition.ensures c.in-Some.index c.in-Some.is
 
 pub add_for_sheet-requires-clause-ids : goal.add_for_sheet-requires-clause-ids
-add_for_sheet-requires-clause-ids c = subst (IsDistinct nat_eq) (sym (seen_ids c.self.inside.sheets)) c.self.invariant.valid.core.ids_differ
+add_for_sheet-requires-clause-ids c = subst (IsDistinct nat_eq) (sym (seen_ids c.self.inside.sheets)) (core_valid (held c.self.inside.about c.self.inside.sheets c.self.inside.names c.self.inside.locale.now c.self.inside.language.now c.self.inside.tables.now) c.self.invariant.valid).ids_differ
 
 pub add_for_sheet-requires-clause-scope : goal.add_for_sheet-requires-clause-scope
 add_for_sheet-requires-clause-scope c = its_sheet c.self.inside.about c.self.inside.sheets c.self.inside.names c.self.inside.locale.now c.self.inside.language.now c.self.inside.tables.now c.self.invariant c.args.self.now c.self.view_is (chars c.args.name.now) c.args.scope c.in_ok-id.id c.in_ok-id.ensures.id (chars c.args.formula.now) (body_of_typed c.in_ok-id.body) c.in_ok-definition.definition c.in_ok-id.ensures.body c.in_ok-id.ensures.refused c.in_ok-definition.ensures c.in-Some.index c.in-Some.is

@@ -1,4 +1,4 @@
-use Rattle.std.proofs.Common.{◌≡◌, ap, subst, ◌∙◌}
+use Rattle.std.proofs.Common.{ap, subst, ◌∙◌}
 use Rattle.ic_machine.specs.Reply.{text_field}
 use Rattle.ic_machine.specs.subjects.Tabs.{get_theme_step}
 use Rattle.ic_book.specs.Book.{IsValidBook, ModelState}

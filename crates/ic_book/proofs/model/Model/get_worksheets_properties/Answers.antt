@@ -1,6 +1,6 @@
-use Rattle.std.proofs.Common.{◌≡◌, List, ap, flat_map, subst, ◌∙◌}
+use Rattle.std.proofs.Common.{List, ap, flat_map, subst, ◌∙◌}
 use Rattle.ic_machine.specs.subjects.Sheets.{properties_step, property_fields}
-use Rattle.ic_sheets.specs.declared.sheet.Worksheet.{Worksheet}
+use Rattle.ic_sheets.specs.declared.sheet.Sheet.{Sheet as HeldSheet}
 use Rattle.ic_book.specs.Book.{IsValidBook, ModelState}
 use Rattle.ic_book.specs.Fields.{sheets_fields, told_sheet}
 use Rattle.ic_book.specs.Whole.{whole_of}
@@ -12,7 +12,7 @@ unfolding properties_step
 returns c = record {
   does =
       tells c.args.self.now (subst (λ (m : ModelState). IsValidBook m.book) c.self.view_is c.self.invariant.valid) sheets_fields (flat_map property_fields (whole_of c.args.self.now.book).sheets) c.in_ok-properties_of.field-0
-      (c.in_ok-properties_of.ensures ∙ ap (λ (ws : List Worksheet). flat_map told_sheet ws) c.as_slice.ensures.sheets ∙ sheets_told c.self.inside.tables.now.kinds c.self.inside.sheets
+      (c.in_ok-properties_of.ensures ∙ ap (λ (ws : List HeldSheet). flat_map told_sheet ws) c.as_slice.ensures.sheets ∙ sheets_told c.self.inside.about.strings c.self.inside.sheets
       ∙ ap (λ (m : ModelState). flat_map property_fields (whole_of m.book).sheets) c.self.view_is);
 }
 

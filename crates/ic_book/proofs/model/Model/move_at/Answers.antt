@@ -1,13 +1,13 @@
 use Rattle.std.proofs.Common.{map, sym, ap, subst, ◌∙◌}
 use Rattle.ic_laws.specs.BookTrees.{IsMoved}
 use Rattle.ic_laws.specs.CoreStep.{moved}
-use Rattle.ic_sheets.specs.declared.sheet.Worksheet.{Worksheet}
+use Rattle.ic_sheets.specs.declared.sheet.Sheet.{Sheet as HeldSheet}
 use Rattle.ic_book.specs.Book.{ModelState, core_of}
 use Rattle.ic_book.specs.Change.{with_moved_sheet}
 use Rattle.ic_book.specs.Inside.{held}
 use Rattle.ic_book.proofs.BookLemmas.{core_of-moved, moved-map}
 use Rattle.ic_book.proofs.BookValid.{moved_valid}
-use Rattle.ic_book.proofs.HeldLemmas.{held_after, keeps_moved, move_accepts, put, there_is, within_core, within_of}
+use Rattle.ic_book.proofs.HeldLemmas.{held_after, keeps_moved, move_accepts, put, there_is, within_of}
 use Rattle.ic_book.proofs.model.Model.move_at.Goals as goal
 
 pub invariant_of-self : goal.invariant_of-self
@@ -16,7 +16,7 @@ invariant_of-self c =
     let to = within_of c.self.inside.sheets c.len-2.result c.args.new_index c.len-2.ensures c.if-new_index-len.false in
     held_after c.self.inside.about c.self.inside.sheets c.self.inside.names c.self.inside.locale.now c.self.inside.language.now c.self.inside.tables.now c.self.invariant c.move_to.new.self c.self.inside.names (with_moved_sheet c.args.sheet_index c.args.new_index (held c.self.inside.about c.self.inside.sheets c.self.inside.names c.self.inside.locale.now c.self.inside.language.now c.self.inside.tables.now))
     (put c.self.inside.about c.self.inside.sheets c.self.inside.names c.self.inside.locale.now c.self.inside.language.now c.self.inside.tables.now c.self.invariant c.move_to.new.self c.args.sheet_index c.args.new_index c.move_to.ensures)
-    (moved_valid (held c.self.inside.about c.self.inside.sheets c.self.inside.names c.self.inside.locale.now c.self.inside.language.now c.self.inside.tables.now) c.self.invariant.valid c.args.sheet_index c.args.new_index (move_accepts (core_of (held c.self.inside.about c.self.inside.sheets c.self.inside.names c.self.inside.locale.now c.self.inside.language.now c.self.inside.tables.now)) c.args.sheet_index c.args.new_index (there_is c.self.inside.sheets c.args.sheet_index from) (there_is c.self.inside.sheets c.args.new_index to)) (within_core c.self.inside.sheets c.args.sheet_index from))
+    (moved_valid (held c.self.inside.about c.self.inside.sheets c.self.inside.names c.self.inside.locale.now c.self.inside.language.now c.self.inside.tables.now) c.self.invariant.valid c.args.sheet_index c.args.new_index (move_accepts (core_of (held c.self.inside.about c.self.inside.sheets c.self.inside.names c.self.inside.locale.now c.self.inside.language.now c.self.inside.tables.now)) c.args.sheet_index c.args.new_index (there_is c.self.inside.sheets c.args.sheet_index from) (there_is c.self.inside.sheets c.args.new_index to)))
 
 pub returns-clause-ok : goal.returns-clause-ok
 returns-clause-ok c =
@@ -24,7 +24,7 @@ returns-clause-ok c =
 
 pub returns-clause-looks_up : goal.returns-clause-looks_up
 returns-clause-looks_up c =
-    ap (map (λ (s : Worksheet). s.pool.is_whole)) c.move_to.ensures ∙ moved-map (λ (s : Worksheet). s.pool.is_whole) c.args.sheet_index c.args.new_index c.self.inside.sheets
+    ap (map (λ (s : HeldSheet). s.pool.is_whole)) c.move_to.ensures ∙ moved-map (λ (s : HeldSheet). s.pool.is_whole) c.args.sheet_index c.args.new_index c.self.inside.sheets
     ∙ ap (λ (m : ModelState). moved c.args.sheet_index c.args.new_index m.has_all) c.self.view_is
 
 pub returns-clause-core : goal.returns-clause-core

@@ -1,6 +1,6 @@
 use Rattle.std.proofs.Common.{◌≡◌, ◌≤◌, None, length, refl, subst}
 use Rattle.std.proofs.lemmas.Option.{slice_get-map}
-use Rattle.std.proofs.Common.{Some, ap, option_map, ◌∙◌}
+use Rattle.std.proofs.Common.{ap, option_map, ◌∙◌}
 use Rattle.std.specs.List.{slice_get}
 use Rattle.ic_machine.specs.Book.{on_tab}
 use Rattle.ic_sheets.specs.Sheet.{sheet_of}

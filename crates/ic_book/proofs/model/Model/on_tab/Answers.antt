@@ -1,4 +1,4 @@
-use Rattle.std.proofs.Common.{◌≡◌, None, Some, ap, option_map, subst, ◌∙◌}
+use Rattle.std.proofs.Common.{◌≡◌, None, ap, option_map, subst, ◌∙◌}
 use Rattle.std.specs.List.{slice_get}
 use Rattle.std.proofs.lemmas.Option.{slice_get-map}
 use Rattle.ic_machine.specs.Book.{on_tab}
@@ -8,7 +8,7 @@ use Rattle.ic_book.specs.Does.{DoesStep, wants}
 use Rattle.ic_book.specs.Inside.{held_state}
 use Rattle.ic_book.specs.Whole.{whole_of}
 use Rattle.ic_book.proofs.HeldLemmas.{past_of}
-use Rattle.ic_book.proofs.PartLemmas.{not_held, tab_does, tab_held, tab_missing, tab_state}
+use Rattle.ic_book.proofs.PartLemmas.{frozen_in, not_held, tab_does, tab_held, tab_missing, tab_state}
 use Rattle.ic_book.proofs.model.Model.on_tab.Goals as goal
 
 pub returns-then-sheet-len-clause-changes : goal.returns-then-sheet-len-clause-changes
@@ -21,6 +21,7 @@ returns-then-sheet-len-clause-changes g c = record {
 pub invariant_of-self : goal.invariant_of-self
 invariant_of-self g c =
     tab_held c.self.inside.about c.self.inside.sheets c.self.inside.names c.self.inside.locale.now c.self.inside.language.now c.self.inside.tables.now c.self.invariant c.args.sheet c.change_tab.new.self c.change_tab.ensures.after c.change_tab.ensures.becomes
+    c.change_tab.ensures.sheet c.change_tab.ensures.there (c.requires.frozen c.change_tab.ensures.sheet.tab c.change_tab.ensures.after c.change_tab.result c.change_tab.ensures.called)
 
 pub returns-clause-changes : goal.returns-clause-changes
 returns-clause-changes g c = record {
@@ -29,7 +30,8 @@ returns-clause-changes g c = record {
       let did = c.change_tab.ensures in
       let new : ModelState = held_state c.self.inside.about c.change_tab.new.self c.self.inside.names c.self.inside.locale.now c.self.inside.language.now c.self.inside.tables.now in
       subst (λ (m : ModelState). DoesStep (wants memory) (on_tab (whole_of m.book) c.args.sheet step) fields c.change_tab.result m new) c.self.view_is
-      (tab_does old c.self.invariant.valid c.args.sheet memory step fields (sheet_of did.sheet) (slice_get-map sheet_of c.self.inside.sheets c.args.sheet ∙ ap (option_map sheet_of) did.there) did.after new
+      (tab_does old c.self.invariant.valid c.args.sheet memory step fields (sheet_of did.sheet) (slice_get-map sheet_of c.self.inside.sheets c.args.sheet ∙ ap (option_map sheet_of) did.there) did.after
+      (c.requires.frozen did.sheet.tab did.after c.change_tab.result did.called (frozen_in c.self.inside.about c.self.inside.sheets c.self.inside.names c.self.inside.locale.now c.self.inside.language.now c.self.inside.tables.now c.self.invariant c.args.sheet did.sheet did.there)) new
       (tab_state c.self.inside.about c.self.inside.sheets c.self.inside.names c.self.inside.locale.now c.self.inside.language.now c.self.inside.tables.now c.self.invariant c.args.sheet c.change_tab.new.self did.after did.becomes) c.change_tab.result (h did.sheet.tab did.after c.change_tab.result did.called));
 }
 

@@ -9,7 +9,7 @@ use Rattle.ic_laws.specs.Refusal.{InvalidSheet, SheetExists}
 use Rattle.ic_sheets.proofs.RewritingLemmas.{sheet_there}
 use Rattle.ic_sheets.specs.Rewriting.{look_ups}
 use Rattle.ic_sheets.specs.Sheet.{BookSheet}
-use Rattle.ic_sheets.specs.declared.sheet.Worksheet.{Worksheet}
+use Rattle.ic_sheets.specs.declared.sheet.Sheet.{Sheet as HeldSheet}
 use Rattle.ic_book.specs.Book.{ModelState, core_of, notations_in}
 use Rattle.ic_book.specs.Change.{book_changed_by, with_renamed_sheet}
 use Rattle.ic_book.specs.Inside.{held, held_state}
@@ -51,14 +51,14 @@ invariant_of-self-2 c =
     let none = (rename_accepts (core_of (held c.self.inside.about c.self.inside.sheets c.self.inside.names c.self.inside.locale.now c.self.inside.language.now c.self.inside.tables.now)) c.args.index name (sym c.is_valid_sheet_name.ensures ∙ c.if-not-is_valid_sheet_name.false) (ap (λ xs. list_any (agrees name) (remove xs c.args.index)) (sym (seen_names c.self.inside.sheets)) ∙ sym c.is_taken_by_other.ensures ∙ c.if-is_taken_by_other.false) (there_is c.self.inside.sheets c.args.index (within_of c.self.inside.sheets c.len.result c.args.index c.len.ensures c.if-index-len.false))) in
     let at = sheet_there c.self.inside.sheets c.args.index (within_of c.self.inside.sheets c.len.result c.args.index c.len.ensures c.if-index-len.false) in
     held_after c.self.inside.about c.self.inside.sheets c.self.inside.names c.self.inside.locale.now c.self.inside.language.now c.self.inside.tables.now c.self.invariant c.rename_sheet.new.self c.apply.new.self (book_changed_by (with_renamed_sheet c.args.index name) (held c.self.inside.about c.self.inside.sheets c.self.inside.names c.self.inside.locale.now c.self.inside.language.now c.self.inside.tables.now))
-    (renamed c.self.inside.about c.self.inside.sheets c.self.inside.names c.self.inside.locale.now c.self.inside.language.now c.self.inside.tables.now c.self.invariant c.rename_sheet.new.self c.apply.new.self c.args.index name at.0 none at.1 (c.in_ok-rename_sheet.ensures.ok at.0 at.1) (c.apply.ensures ∙ c.in_ok-bodies.ensures.made ∙ ap (λ (s : Worksheet). map (with_body_tree (changed_tree (sheet_named s.id name))) c.self.inside.names) (sym c.index-as_slice-index.is ∙ read_is c.as_slice.result.now c.self.inside.sheets c.args.index c.index-as_slice-index.result at.0 c.as_slice.ensures.sheets (within_of c.self.inside.sheets c.len.result c.args.index c.len.ensures c.if-index-len.false) c.index-as_slice-index.is at.1)))
+    (renamed c.self.inside.about c.self.inside.sheets c.self.inside.names c.self.inside.locale.now c.self.inside.language.now c.self.inside.tables.now c.self.invariant c.rename_sheet.new.self c.apply.new.self c.args.index name at.0 none at.1 (c.in_ok-rename_sheet.ensures.ok at.0 at.1) (c.apply.ensures ∙ c.in_ok-bodies.ensures.made ∙ ap (λ (s : HeldSheet). map (with_body_tree (changed_tree (sheet_named s.id name))) c.self.inside.names) (sym c.index-as_slice-index.is ∙ read_is c.as_slice.result.now c.self.inside.sheets c.args.index c.index-as_slice-index.result at.0 c.as_slice.ensures.sheets (within_of c.self.inside.sheets c.len.result c.args.index c.len.ensures c.if-index-len.false) c.index-as_slice-index.is at.1)))
     (renamed_valid (held c.self.inside.about c.self.inside.sheets c.self.inside.names c.self.inside.locale.now c.self.inside.language.now c.self.inside.tables.now) c.self.invariant.valid c.args.index name none)
 
 pub returns-clause-ok : goal.returns-clause-ok
 returns-clause-ok c =
     let name = chars c.args.new_name.now in
     let at = sheet_there c.self.inside.sheets c.args.index (within_of c.self.inside.sheets c.len.result c.args.index c.len.ensures c.if-index-len.false) in
-    renamed c.self.inside.about c.self.inside.sheets c.self.inside.names c.self.inside.locale.now c.self.inside.language.now c.self.inside.tables.now c.self.invariant c.rename_sheet.new.self c.apply.new.self c.args.index name at.0 (rename_accepts (core_of (held c.self.inside.about c.self.inside.sheets c.self.inside.names c.self.inside.locale.now c.self.inside.language.now c.self.inside.tables.now)) c.args.index name (sym c.is_valid_sheet_name.ensures ∙ c.if-not-is_valid_sheet_name.false) (ap (λ xs. list_any (agrees name) (remove xs c.args.index)) (sym (seen_names c.self.inside.sheets)) ∙ sym c.is_taken_by_other.ensures ∙ c.if-is_taken_by_other.false) (there_is c.self.inside.sheets c.args.index (within_of c.self.inside.sheets c.len.result c.args.index c.len.ensures c.if-index-len.false))) at.1 (c.in_ok-rename_sheet.ensures.ok at.0 at.1) (c.apply.ensures ∙ c.in_ok-bodies.ensures.made ∙ ap (λ (s : Worksheet). map (with_body_tree (changed_tree (sheet_named s.id name))) c.self.inside.names) (sym c.index-as_slice-index.is ∙ read_is c.as_slice.result.now c.self.inside.sheets c.args.index c.index-as_slice-index.result at.0 c.as_slice.ensures.sheets (within_of c.self.inside.sheets c.len.result c.args.index c.len.ensures c.if-index-len.false) c.index-as_slice-index.is at.1))
+    renamed c.self.inside.about c.self.inside.sheets c.self.inside.names c.self.inside.locale.now c.self.inside.language.now c.self.inside.tables.now c.self.invariant c.rename_sheet.new.self c.apply.new.self c.args.index name at.0 (rename_accepts (core_of (held c.self.inside.about c.self.inside.sheets c.self.inside.names c.self.inside.locale.now c.self.inside.language.now c.self.inside.tables.now)) c.args.index name (sym c.is_valid_sheet_name.ensures ∙ c.if-not-is_valid_sheet_name.false) (ap (λ xs. list_any (agrees name) (remove xs c.args.index)) (sym (seen_names c.self.inside.sheets)) ∙ sym c.is_taken_by_other.ensures ∙ c.if-is_taken_by_other.false) (there_is c.self.inside.sheets c.args.index (within_of c.self.inside.sheets c.len.result c.args.index c.len.ensures c.if-index-len.false))) at.1 (c.in_ok-rename_sheet.ensures.ok at.0 at.1) (c.apply.ensures ∙ c.in_ok-bodies.ensures.made ∙ ap (λ (s : HeldSheet). map (with_body_tree (changed_tree (sheet_named s.id name))) c.self.inside.names) (sym c.index-as_slice-index.is ∙ read_is c.as_slice.result.now c.self.inside.sheets c.args.index c.index-as_slice-index.result at.0 c.as_slice.ensures.sheets (within_of c.self.inside.sheets c.len.result c.args.index c.len.ensures c.if-index-len.false) c.index-as_slice-index.is at.1))
     ∙ ap (λ (m : ModelState). book_changed_by (with_renamed_sheet c.args.index name) m.book) c.self.view_is
 
 pub returns-clause-core : goal.returns-clause-core

@@ -1,6 +1,6 @@
-use Rattle.std.proofs.Common.{ap, sym, subst, ◌∙◌}
+use Rattle.std.proofs.Common.{ap, subst}
 use Rattle.ic_book.specs.Book.{IsValidBook, ModelState}
-use Rattle.ic_book.specs.Inside.{held, held_state}
+use Rattle.ic_book.specs.Inside.{held}
 use Rattle.ic_book.proofs.SettingLemmas.{puts_theme, theme_valid, with_theme}
 use Rattle.ic_book.proofs.model.Model.set_theme.Goals as goal
 

@@ -8,7 +8,7 @@ use Rattle.ic_sheets.proofs.RewritingLemmas.{sheet_there}
 use Rattle.ic_sheets.proofs.WriteLemmas.{at_err}
 use Rattle.ic_sheets.specs.Sheet as sheets
 use Rattle.ic_sheets.specs.Sheet.{BookSheet}
-use Rattle.ic_sheets.specs.declared.sheet.Worksheet.{Worksheet}
+use Rattle.ic_sheets.specs.declared.sheet.Sheet.{Sheet as HeldSheet}
 use Rattle.ic_book.specs.Book.{ModelState, core_of, notations_in, scene_in}
 use Rattle.ic_book.specs.Inside.{held, held_state}
 use Rattle.ic_book.specs.LookUps.{LooksUpAsBefore}
@@ -37,10 +37,10 @@ returns-clause-core g c =
     placed_core c.self.inside.about c.self.inside.sheets c.self.inside.names c.self.inside.locale.now c.self.inside.language.now c.self.inside.tables.now c.self.invariant c.place_copy.new.self c.args.sheet at.0 at.1 c.args.tree.now c.in_ok-place_copy.field-0 c.in_ok-place_copy.ensures.ok.0 c.in_ok-place_copy.ensures.ok.1 c.in_ok-place_copy.ensures.ok.2 ∙ ap (λ (m : ModelState). core_of m.book) c.self.view_is
 
 pub returns-clause-looks_up : goal.returns-clause-looks_up
-returns-clause-looks_up g c = ap (map (λ (s : Worksheet). s.pool.is_whole)) c.in_ok-place_copy.ensures.ok.2 ∙ whole_updated _ (λ s. refl) c.args.sheet c.self.inside.sheets ∙ ap (λ (m : ModelState). updated_at (λ b. true) c.args.sheet m.has_all) c.self.view_is
+returns-clause-looks_up g c = ap (map (λ (s : HeldSheet). s.pool.is_whole)) c.in_ok-place_copy.ensures.ok.2 ∙ whole_updated _ (λ s. refl) c.args.sheet c.self.inside.sheets ∙ ap (λ (m : ModelState). updated_at (λ b. true) c.args.sheet m.has_all) c.self.view_is
 
 pub returns-clause-still : goal.returns-clause-still
-returns-clause-still g c = λ e. c.in_ok-place_copy.ensures.still (sym (slice_get-map (λ (s : Worksheet). s.pool.is_whole) c.self.inside.sheets c.args.sheet) ∙ ap (λ (m : ModelState). slice_get m.has_all c.args.sheet) c.self.view_is ∙ e)
+returns-clause-still g c = λ e. c.in_ok-place_copy.ensures.still (sym (slice_get-map (λ (s : HeldSheet). s.pool.is_whole) c.self.inside.sheets c.args.sheet) ∙ ap (λ (m : ModelState). slice_get m.has_all c.args.sheet) c.self.view_is ∙ e)
 
 pub returns-clause-cost : goal.returns-clause-cost
 returns-clause-cost g c = subst (λ pool. c.place_copy.new.steps ≤ c.args.steps.now + length pool) (pool_at_is c.self.inside.about c.self.inside.sheets c.self.inside.names c.self.inside.locale.now c.self.inside.language.now c.self.inside.tables.now c.self.invariant c.args.sheet ∙ ap (λ (m : ModelState). pool_at m.book c.args.sheet) c.self.view_is) c.in_ok-place_copy.ensures.cost
@@ -48,7 +48,7 @@ returns-clause-cost g c = subst (λ pool. c.place_copy.new.steps ≤ c.args.step
 pub returns-clause-whole : goal.returns-clause-whole
 returns-clause-whole g c =
     let at = sheet_there c.self.inside.sheets c.args.sheet (within_of c.self.inside.sheets c.len.result c.args.sheet c.len.ensures c.if-sheet-len.false) in
-    ap (λ (ws : List Worksheet). slice_get (map (λ (s : Worksheet). s.pool.is_whole) ws) c.args.sheet) c.in_ok-place_copy.ensures.ok.2 ∙ whole_at _ (λ s. refl) c.args.sheet c.self.inside.sheets at.0 at.1
+    ap (λ (ws : List HeldSheet). slice_get (map (λ (s : HeldSheet). s.pool.is_whole) ws) c.args.sheet) c.in_ok-place_copy.ensures.ok.2 ∙ whole_at _ (λ s. refl) c.args.sheet c.self.inside.sheets at.0 at.1
 
 pub returns-in_err-place_copy-clause-left : goal.returns-in_err-place_copy-clause-left
 returns-in_err-place_copy-clause-left g c =

@@ -9,7 +9,7 @@ use Rattle.ic_book.specs.Inside.{held}
 use Rattle.ic_book.proofs.model.Model.shown.Goals as goal
 
 pub new-requires-clause-locale : goal.new-requires-clause-locale
-new-requires-clause-locale c = formats_of_named c.self.inside.tables.now c.self.invariant.valid.tables c.self.inside.locale.now.id c.self.inside.locale.now c.self.invariant.locale_found
+new-requires-clause-locale c = formats_of_named c.self.inside.tables.now c.self.invariant.valid.whole.tables c.self.inside.locale.now.id c.self.inside.locale.now c.self.invariant.locale_found
 
 pub returns : goal.returns
 returns c =

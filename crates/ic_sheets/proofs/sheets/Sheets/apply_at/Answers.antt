@@ -3,7 +3,7 @@ use Rattle.std.proofs.lemmas.Option.{slice_get_read}
 use Rattle.std.specs.List.{slice_get}
 use Rattle.ic_laws.specs.CoreStep.{updated_at}
 use Rattle.ic_sheets.specs.Rewriting.{with_rewrites}
-use Rattle.ic_sheets.specs.declared.sheet.Worksheet.{Worksheet}
+use Rattle.ic_sheets.specs.declared.sheet.Sheet.{Sheet}
 use Rattle.ic_sheets.proofs.DanglingLemmas.{dangling_over, length_over, listed_at, room_at}
 use Rattle.ic_sheets.proofs.KeptLemmas.{kept_same}
 use Rattle.ic_sheets.proofs.PlaceLemmas.{placed_same}
@@ -14,9 +14,9 @@ use Rattle.ic_sheets.proofs.sheets.Sheets.apply_at.Goals as goal
 pub apply-requires : goal.apply-requires
 apply-requires c =
     let s = c.index_mut-sheet.result.now in
-    let xs : List Worksheet = c.self.inside.list.items in
-    let lt : c.args.index < length xs = subst (λ (ys : List Worksheet). c.args.index < length ys) (sym c.self.view_is) c.requires.within in
-    c.requires.fits s (subst (λ (ys : List Worksheet). slice_get ys c.args.index ≡ Some s) c.self.view_is (slice_get_read xs (length xs) c.args.index s refl lt c.index_mut-sheet.ensures.value))
+    let xs : List Sheet = c.self.inside.list.items in
+    let lt : c.args.index < length xs = subst (λ (ys : List Sheet). c.args.index < length ys) (sym c.self.view_is) c.requires.within in
+    c.requires.fits s (subst (λ (ys : List Sheet). slice_get ys c.args.index ≡ Some s) c.self.view_is (slice_get_read xs (length xs) c.args.index s refl lt c.index_mut-sheet.ensures.value))
 
 pub invariant_of-self : goal.invariant_of-self
 invariant_of-self c =
@@ -24,7 +24,7 @@ invariant_of-self c =
     let sheets = c.self.inside.list.items in
     let lt : c.args.index < length sheets = subst (λ xs. c.args.index < length xs) (sym c.self.view_is) c.requires.within in
     let there = rewritten_there c.args.rewrites s c.apply.new.self c.args.index sheets c.index_mut-sheet.ensures.value c.apply.ensures.formulas c.apply.ensures.whole in
-    let y : Worksheet = record s { pool = c.apply.new.self } in
+    let y : Sheet = record s { pool = c.apply.new.self } in
     let same_ids = ap ids there ∙ ids_there c.args.rewrites c.args.index sheets in (
       kept_same c.self.inside.ids c.self.inside.greatest sheets _ c.self.invariant.0 (ap names there ∙ names_there c.args.rewrites c.args.index sheets) same_ids,
       placed_same c.self.inside.places sheets _ c.self.invariant.1 same_ids,

@@ -6,13 +6,13 @@ use Rattle.ic_sheets.proofs.IndexLemmas.{set_updated}
 use Rattle.ic_sheets.proofs.PlaceLemmas.{placed_same}
 use Rattle.ic_sheets.proofs.WriteLemmas.{IsLike, kept_over, seen_over}
 use Rattle.ic_sheets.specs.Index.{dangles}
-use Rattle.ic_sheets.specs.declared.sheet.Worksheet.{Worksheet}
+use Rattle.ic_sheets.specs.declared.sheet.Sheet.{Sheet}
 use Rattle.ic_sheets.proofs.sheets.Sheets.change_tab.Goals as goal
 
 pub invariant_of-self : goal.invariant_of-self
 invariant_of-self g c =
     let s = c.index_mut-sheet.result.now in
-    let after : Worksheet = record s { tab = c.change.new.arg2 } in
+    let after : Sheet = record s { tab = c.change.new.arg2 } in
     let like : IsLike s after = record { id = refl; name = refl } in
     let sheets = c.self.inside.list.items in
     let now = c.self.inside.dangling.items in
@@ -20,7 +20,7 @@ invariant_of-self g c =
     let lt : c.args.index < length sheets = subst (λ xs. c.args.index < length xs) (sym c.self.view_is) c.requires.within in
     let differ = c.self.invariant.0.ids_differ in (
       kept_over c.self.inside.ids c.self.inside.greatest sheets c.args.index s after c.self.invariant.0 read like,
-      placed_same c.self.inside.places sheets _ c.self.invariant.1 (seen_over (λ (x : Worksheet). x.id) sheets c.args.index s after read refl),
+      placed_same c.self.inside.places sheets _ c.self.invariant.1 (seen_over (λ (x : Sheet). x.id) sheets c.args.index s after read refl),
       dangling_over now sheets c.args.index s c.self.invariant.2 differ lt read now (dangles s)
           (left_alone now s.id (dangles s) (listed_at now sheets c.args.index s c.self.invariant.2 differ lt read)) c.self.invariant.2.differ after refl refl,
       omega (arith, c.self.invariant.3, length_over sheets c.args.index after),
@@ -29,7 +29,7 @@ invariant_of-self g c =
 pub returns : goal.returns
 returns g c =
     let s = c.index_mut-sheet.result.now in
-    let put : Worksheet → Worksheet = λ x. record x { tab = c.change.new.arg2 } in
+    let put : Sheet → Sheet = λ x. record x { tab = c.change.new.arg2 } in
     let sheets = c.self.inside.list.items in
     let read = c.index_mut-sheet.ensures.value in
     record {

@@ -2,7 +2,7 @@ use Rattle.std.proofs.Common.{subst₂, sym, ◌∙◌, subst, ◌<◌, ap, get_
 use Rattle.ic_laws.specs.Changes.{sheet_gone}
 use Rattle.ic_sheets.proofs.RewritingLemmas.{deleted_looks_up, deleted_made, fits_removed, prepared_length, read_there}
 use Rattle.ic_sheets.specs.Rewriting.{ArePrepared, FitSheets}
-use Rattle.ic_sheets.specs.declared.sheet.Worksheet.{Worksheet}
+use Rattle.ic_sheets.specs.declared.sheet.Sheet.{Sheet}
 use Rattle.ic_sheets.proofs.sheets.Sheets.delete_sheet.Goals as goal
 
 pub remove-requires-2 : goal.remove-requires-2
@@ -17,7 +17,7 @@ pub returns-clause-ok : goal.returns-clause-ok
 returns-clause-ok c = λ sheet at.
     let s = c.index-sheet.result.now in
     deleted_made (sheet_gone sheet.id sheet.name) c.in_ok-prepared.prepared.items c.remove-2.new.self.items c.args.self.now c.remove.new.self c.apply.new.self c.args.index
-    (subst (λ (s : Worksheet). ArePrepared (sheet_gone s.id s.name) c.in_ok-prepared.prepared.items c.args.self.now)
+    (subst (λ (s : Sheet). ArePrepared (sheet_gone s.id s.name) c.in_ok-prepared.prepared.items c.args.self.now)
     (read_there c.args.self.now c.args.index s sheet c.requires (c.index-sheet.ensures ∙ ap (λ xs. get_or xs c.args.index s) c.self.view_is) at)
     (subst (λ n. ArePrepared (sheet_gone s.id n) c.in_ok-prepared.prepared.items c.args.self.now) c.as_str-name.ensures.characters c.in_ok-prepared.ensures))
     c.remove-2.ensures.items c.in_ok-remove.ensures.ok c.apply.ensures
@@ -26,7 +26,7 @@ pub returns-clause-looks_up : goal.returns-clause-looks_up
 returns-clause-looks_up c = λ sheet at.
     let s = c.index-sheet.result.now in
     deleted_looks_up (sheet_gone sheet.id sheet.name) c.in_ok-prepared.prepared.items c.remove-2.new.self.items c.args.self.now c.remove.new.self c.apply.new.self c.args.index
-    (subst (λ (s : Worksheet). ArePrepared (sheet_gone s.id s.name) c.in_ok-prepared.prepared.items c.args.self.now)
+    (subst (λ (s : Sheet). ArePrepared (sheet_gone s.id s.name) c.in_ok-prepared.prepared.items c.args.self.now)
     (read_there c.args.self.now c.args.index s sheet c.requires (c.index-sheet.ensures ∙ ap (λ xs. get_or xs c.args.index s) c.self.view_is) at)
     (subst (λ n. ArePrepared (sheet_gone s.id n) c.in_ok-prepared.prepared.items c.args.self.now) c.as_str-name.ensures.characters c.in_ok-prepared.ensures))
     c.remove-2.ensures.items c.in_ok-remove.ensures.ok c.apply.ensures

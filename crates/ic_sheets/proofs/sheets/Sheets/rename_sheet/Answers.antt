@@ -4,7 +4,7 @@ use Rattle.ic_pool.proofs.ChangeLemmas.{naming_spares_found}
 use Rattle.ic_sheets.proofs.OwnLemmas.{own_fits_called, renamed_looks_up, renamed_made}
 use Rattle.ic_sheets.proofs.RewritingLemmas.{read_there}
 use Rattle.ic_sheets.specs.Rewriting.{FitOwn, Makes}
-use Rattle.ic_sheets.specs.declared.sheet.Worksheet.{Worksheet}
+use Rattle.ic_sheets.specs.declared.sheet.Sheet.{Sheet}
 use Rattle.ic_sheets.proofs.sheets.Sheets.rename_sheet.Goals as goal
 
 pub rewrites_of_dangling-requires : goal.rewrites_of_dangling-requires
@@ -17,13 +17,13 @@ apply_own-requires c =
 pub returns-clause-ok : goal.returns-clause-ok
 returns-clause-ok c = λ sheet at.
     renamed_made (sheet_named sheet.id (chars c.args.name.now)) c.in_ok-prepared.prepared.items c.args.self.now
-    (subst (λ (s : Worksheet). Makes (sheet_named s.id (chars c.args.name.now)) c.in_ok-prepared.prepared.items c.args.self.now)
+    (subst (λ (s : Sheet). Makes (sheet_named s.id (chars c.args.name.now)) c.in_ok-prepared.prepared.items c.args.self.now)
     (read_there c.args.self.now c.args.index c.index.result.now sheet c.requires.within (c.index.ensures ∙ ap (λ xs. get_or xs c.args.index c.index.result.now) c.self.view_is) at) c.in_ok-prepared.ensures)
     c.args.index (chars c.args.name.now) c.rename.new.self c.apply_own.new.self c.in_ok-rename.ensures.ok c.apply_own.ensures
 
 pub returns-clause-looks_up : goal.returns-clause-looks_up
 returns-clause-looks_up c = λ sheet at.
     renamed_looks_up (sheet_named sheet.id (chars c.args.name.now)) c.in_ok-prepared.prepared.items c.args.self.now
-    (subst (λ (s : Worksheet). Makes (sheet_named s.id (chars c.args.name.now)) c.in_ok-prepared.prepared.items c.args.self.now)
+    (subst (λ (s : Sheet). Makes (sheet_named s.id (chars c.args.name.now)) c.in_ok-prepared.prepared.items c.args.self.now)
     (read_there c.args.self.now c.args.index c.index.result.now sheet c.requires.within (c.index.ensures ∙ ap (λ xs. get_or xs c.args.index c.index.result.now) c.self.view_is) at) c.in_ok-prepared.ensures)
     c.args.index (chars c.args.name.now) c.rename.new.self c.apply_own.new.self c.in_ok-rename.ensures.ok c.apply_own.ensures

@@ -1,18 +1,18 @@
 use Rattle.std.proofs.Common.{ap, arith, sym, take, vec_capacity, vec_len, Vec, Global, ℕ, List, ◌∙◌, ◌∷◌, ◌++◌, []}
 use Rattle.std.proofs.lemmas.List.{take_more}
 use Rattle.ic_sheets.specs.Index.{dangling_ids}
-use Rattle.ic_sheets.specs.declared.sheet.Worksheet.{Worksheet}
+use Rattle.ic_sheets.specs.declared.sheet.Sheet.{Sheet}
 use Rattle.ic_sheets.proofs.DanglingLemmas.{noted, passed}
 use Rattle.ic_sheets.proofs.sheets.dangling.note_dangling.Goals as goal
 use Rattle.ic_sheets.proofs.sheets.dangling.note_dangling.Goals.{then-dangles, else-dangles}
 
 pub loop-sheet-preserved : goal.loop-sheet-preserved
 loop-sheet-preserved c =
-    let sheets : List Worksheet = c.args.sheets.now in
+    let sheets : List Sheet = c.args.sheets.now in
     let i = c.loop-sheet.sheet-index in
-    let s : Worksheet = c.sheet-item.result in
-    let front : List Worksheet = take i sheets in
-    let more = take_more sheets i s c.loop-sheet-test.true ∙ ap (λ (y : Worksheet). front ++ y ∷ []) (sym c.sheet-item.is) in
+    let s : Sheet = c.sheet-item.result in
+    let front : List Sheet = take i sheets in
+    let more = take_more sheets i s c.loop-sheet-test.true ∙ ap (λ (y : Sheet). front ++ y ∷ []) (sym c.sheet-item.is) in
     let old = c.loop-sheet.invariant in
     elim c.if-dangles.branch [
       | then-dangles w ↦ record {

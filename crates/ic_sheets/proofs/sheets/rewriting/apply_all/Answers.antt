@@ -1,7 +1,7 @@
 use Rattle.std.proofs.Common.{subst, ◌∙◌, ◌<◌, length, rules, arith}
 use Rattle.ic_pool.specs.Rewrites.{FitsPool}
 use Rattle.ic_sheets.proofs.RewritingLemmas.{filled, taken_fits, taken_left, taken_within}
-use Rattle.ic_sheets.specs.declared.sheet.Worksheet.{Worksheet}
+use Rattle.ic_sheets.specs.declared.sheet.Sheet.{Sheet}
 use Rattle.ic_sheets.proofs.sheets.rewriting.apply_all.Goals as goal
 
 pub offset_bounds-sheets-len : goal.offset_bounds-sheets-len
@@ -16,7 +16,7 @@ bounds-sheets-len c =
 
 pub apply-requires : goal.apply-requires
 apply-requires c =
-    subst (λ (s : Worksheet). FitsPool c.in-Some.rewrites s.pool.formulas) c.index-sheets-len.is
+    subst (λ (s : Sheet). FitsPool c.in-Some.rewrites s.pool.formulas) c.index-sheets-len.is
     (taken_fits c.loop-rewrites.prepared.items c.pop.new.self.items c.in-Some.rewrites c.loop-rewrites.sheets c.len.result c.in-Some.ensures.items (c.len.ensures ∙ c.pop.new.self.ok.0) c.loop-rewrites.invariant.fits c.index-sheets-len.result
     c.index-sheets-len.is)
 

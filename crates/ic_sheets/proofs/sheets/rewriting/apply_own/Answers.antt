@@ -6,7 +6,7 @@ use Rattle.ic_sheets.proofs.OwnLemmas.{missed, nothing_left, own_done, own_fits,
 use Rattle.ic_sheets.proofs.PlaceLemmas.{placed_same}
 use Rattle.ic_sheets.proofs.RewritingLemmas.{filled}
 use Rattle.ic_sheets.specs.Search.{place_of}
-use Rattle.ic_sheets.specs.declared.sheet.Worksheet.{Worksheet}
+use Rattle.ic_sheets.specs.declared.sheet.Sheet.{Sheet}
 use Rattle.ic_sheets.proofs.sheets.rewriting.apply_own.Goals as goal
 
 pub offset_bounds-sheets-index : goal.offset_bounds-sheets-index
@@ -29,7 +29,7 @@ apply-requires c =
     let i = c.loop-id.invariant in
     let at : place_of c.in-Some.id c.loop-id.sheets ≡ Some c.in-Some-place_in.index =
     sym ((placed_same c.args.places.now c.args.sheets.now c.loop-id.sheets c.requires.placed i.same).finds c.in-Some.id) ∙ sym c.place_in.ensures ∙ c.in-Some-place_in.is in
-    subst (λ (s : Worksheet). FitsPool c.in-Some.rewrites s.pool.formulas) c.index-sheets-index.is
+    subst (λ (s : Sheet). FitsPool c.in-Some.rewrites s.pool.formulas) c.index-sheets-index.is
     (own_fits c.loop-id.prepared.items c.pop.new.self.items c.in-Some.id c.in-Some.rewrites c.loop-id.sheets c.in-Some.ensures.items i.fits c.in-Some-place_in.index at c.index-sheets-index.result c.index-sheets-index.is)
 
 pub loop-id-preserved-in-Some-place_in : goal.loop-id-preserved-in-Some-place_in

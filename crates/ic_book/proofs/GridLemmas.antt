@@ -1,0 +1,253 @@
+-- The grid of a sheet: what a write leaves of each cell, that it is a grid where its whole sheet is valid, and the style that
+-- is written.
+use Rattle.std.proofs.Common.{◌≡◌, ℕ, ◌<◌, List, [], ◌∷◌, Bool, true, false, cond, not, length, take, Option, Some, None, Result, Ok, Err, IsErr, IsErrAnd, refl, if◌then◌else◌, sym, ap, ap₂, subst, ◌∙◌}
+use Rattle.std.proofs.lemmas.Bool.{and_from}
+use Rattle.std.proofs.lemmas.Option.{slice_get-map, slice_get_within}
+use Rattle.std.specs.FinMap as finite
+use Rattle.std.specs.List.{slice_get}
+use Rattle.std.specs.Prelude.{◌&&◌, ◌++◌, bytes_eq, is_some, option_and_then, option_map}
+use Rattle.ic_laws.proofs.core.CellWritten.{place_cmp_total}
+use Rattle.ic_laws.specs.CoreBook.{CellPlace}
+use Rattle.ic_laws.specs.FormulaReading.{is_formula_text}
+use Rattle.ic_laws.specs.Position.{is_column, is_row}
+use Rattle.std.proofs.lemmas.Slice.Eq.{bytes_eq-Decides}
+use Rattle.ic_cells.specs.Style.{default_style, first_place, is_color, is_flag, is_style, style_at}
+use Rattle.ic_cells.specs.declared.cell.Cell.{Cell}
+use Rattle.ic_cells.specs.declared.cell.Cell.TheVariants as cells
+use Rattle.ic_cells.specs.declared.style.Color.{Color}
+use Rattle.ic_cells.specs.declared.style.Color.TheVariants as colors
+use Rattle.ic_cells.specs.declared.style.Style.{Style}
+use Rattle.ic_cells.specs.Cell.{style_of}
+use Rattle.ic_grid.proofs.WriteLemmas.{after_release, released_at}
+use Rattle.ic_grid.specs.Arrays.{anchor_at, array_from, array_of, is_fixed, is_fixed_at}
+use Rattle.ic_grid.specs.Block.{Place, same_place}
+use Rattle.ic_grid.specs.Calls.{refused_by}
+use Rattle.ic_grid.specs.Contents.{Contents}
+use Rattle.ic_grid.specs.Merges.{is_covered}
+use Rattle.ic_grid.specs.Prepare.{prepared, released_if, unspilled, written}
+use Rattle.ic_grid.specs.Shape.{celled, is_anchor, is_cse, is_loose, is_spill_of, reset, shape_of}
+use Rattle.ic_grid.specs.Style as grid_style
+use Rattle.ic_grid.specs.Whole.{IsGrid}
+use Rattle.ic_grid.specs.declared.error.GridError.TheVariants as grid_errors
+use Rattle.ic_grid.specs.declared.grid.Grid.{Grid}
+use Rattle.ic_machine.proofs.AlikeGrid.{arrays_held, inside_held, merges_held, style_at-seen}
+use Rattle.ic_machine.proofs.AlikeLemmas.{cells_are_contents}
+use Rattle.ic_machine.proofs.ValidLemmas.{HoldsOf, holds_at}
+use Rattle.ic_machine.proofs.WritingSteps.{number_below}
+use Rattle.ic_machine.specs.Book as machine
+use Rattle.ic_machine.specs.Content.{content_of, held}
+use Rattle.ic_machine.specs.Refusal.{ArrayPart, InvalidColumn, InvalidRow, MergedPart, NotAFormula, Refusal, first_refusal}
+use Rattle.ic_machine.specs.Styling.{Numbered, numbered, restyled}
+use Rattle.ic_machine.specs.subjects.Writing.{unquoted}
+use Rattle.ic_sheets.specs.Sheet.{BookSheet, TakesCell, formula_cell, with_cell_in}
+use Rattle.ic_sheets.specs.declared.sheet.FormulaKind.{FormulaKind}
+use Rattle.ic_sheets.specs.declared.sheet.FormulaKind.TheVariants as kinds
+use Rattle.ic_sheets.proofs.CellLemmas.{formula_loose}
+use Rattle.ic_book.specs.Book.{Book, HasString, HasStrings, IsPlain, IsValidBook, notations_in, whole_of, whole_sheet}
+use Rattle.ic_book.specs.Refused.{TellsOnly, refusal_of}
+use Rattle.ic_book.specs.Written.{text_causes}
+use Rattle.ic_book.specs.declared.error.BookError.{BookError}
+
+-- What holds of each cell, and of an empty one, and of a formula's that is reset, holds after a write. ----
+
+module _ (Q : Cell → Type 0) (empties : (s : ℕ) → Q (cells.EmptyCell s)) (resets : (x : Cell) → Q x → Q (reset celled x)) where
+  either : (t : Bool) (x y : Cell) → Q x → Q y → Q (cond t x y)
+  either true x y p q = p
+  either false x y p q = q
+
+  released_so : (a q : Place) (x : Cell) → Q x → Q (after_release a q x)
+  released_so a q x h =
+      let u : Cell = unspilled celled a x in
+      let hu : Q u = either (is_spill_of a (shape_of x)) (cells.EmptyCell (style_of x)) x (empties (style_of x)) h in
+      either (same_place q a) _ u (either (is_anchor (shape_of u)) (reset celled u) u (resets u hu) hu) hu
+
+  found_so : (f : Cell → Cell) → ((x : Cell) → Q x → Q (f x)) → (o : Option Cell) → ((x : Cell) → o ≡ Some x → Q x) → (y : Cell) → option_map f o ≡ Some y → Q y
+  found_so f keeps None h y e = cc
+  found_so f keeps (Some x) h y e = let same : f x ≡ y = cc in subst Q same (keeps x (h x refl))
+
+  module _ (m : Contents Cell) (all : (q : Place) (x : Cell) → finite.get m q ≡ Some x → Q x) where
+    if_released : (o : Option Place) (q : Place) (y : Cell) → finite.get (released_if celled o m) q ≡ Some y → Q y
+    if_released None q y e = all q y e
+    if_released (Some a) q y e = found_so (after_release a q) (released_so a q) (finite.get m q) (all q) y (made (finite.get m q) ∙ sym (released_at m a q) ∙ e)
+      where
+        made : (o : Option Cell) → option_map (after_release a q) o ≡ option_and_then (λ x. Some (after_release a q x)) o
+        made None = refl
+        made (Some x) = refl
+
+    pub written_so : (p : Place) (x : Cell) → Q x → (q : Place) (y : Cell) → finite.get (written celled p x m) q ≡ Some y → Q y
+    written_so p x h q y e = at (same_place q p) (sym (finite.get-insert place_cmp_total (prepared celled p m) p x q) ∙ e)
+      where
+        at : (t : Bool) → cond t (Some x) (finite.get (prepared celled p m) q) ≡ Some y → Q y
+        at true f = let same : x ≡ y = cc in subst Q same h
+        at false f = if_released (anchor_at celled m p) q y f
+
+-- shared strings, and plain grids ----
+
+strings_reset : (count : ℕ) (x : Cell) → HasString count x → HasString count (reset celled x)
+strings_reset count (cells.EmptyCell s) h = tt
+strings_reset count (cells.BooleanCell v s) h = tt
+strings_reset count (cells.NumberCell v s) h = tt
+strings_reset count (cells.ErrorCell e s) h = tt
+strings_reset count (cells.SharedString i s) h = h
+strings_reset count (cells.CellFormula f s v) h = tt
+strings_reset count (cells.ArrayFormula f s r kind v) h = tt
+strings_reset count (cells.SpillCell s a v) h = tt
+
+formula_string : (count : ℕ) (kind : FormulaKind) (at style : ℕ) → HasString count (formula_cell kind at style)
+formula_string count kinds.Single at style = tt
+formula_string count kinds.Dynamic at style = tt
+
+pub strings_written : (count : ℕ) (place : CellPlace) (kind : FormulaKind) (at style : ℕ) (grid : Grid) → HasStrings count grid → HasStrings count (with_cell_in place (formula_cell kind at style) grid)
+strings_written count place kind at style grid h =
+    written_so (HasString count) (λ s. tt) (strings_reset count) grid.cells h place (formula_cell kind at style) (formula_string count kind at style)
+
+abbrev IsLooseCell : Cell → Type 0
+IsLooseCell x = is_loose (shape_of x) ≡ true
+
+loose_reset : (x : Cell) → IsLooseCell x → IsLooseCell (reset celled x)
+loose_reset (cells.EmptyCell s) h = refl
+loose_reset (cells.BooleanCell v s) h = refl
+loose_reset (cells.NumberCell v s) h = refl
+loose_reset (cells.ErrorCell e s) h = refl
+loose_reset (cells.SharedString i s) h = refl
+loose_reset (cells.CellFormula f s v) h = refl
+loose_reset (cells.ArrayFormula f s r kind v) h = refl
+loose_reset (cells.SpillCell s a v) h = h
+
+pub plain_written : (place : CellPlace) (kind : FormulaKind) (at style : ℕ) (grid : Grid) → IsPlain grid → IsPlain (with_cell_in place (formula_cell kind at style) grid)
+plain_written place kind at style grid h = record {
+  merges = h.merges;
+  loose = written_so IsLooseCell (λ s. refl) loose_reset grid.cells h.loose place (formula_cell kind at style) (formula_loose kind at style);
+}
+
+-- a plain grid has no array whose area is fixed
+no_and : (b : Bool) → (b && false) ≡ false
+no_and true = refl
+no_and false = refl
+
+single_free : (a : Place) (x : Cell) → IsLooseCell x → is_fixed (array_from a (shape_of x)) ≡ false
+single_free a (cells.EmptyCell s) h = refl
+single_free a (cells.BooleanCell v s) h = refl
+single_free a (cells.NumberCell v s) h = refl
+single_free a (cells.ErrorCell e s) h = refl
+single_free a (cells.SharedString i s) h = refl
+single_free a (cells.CellFormula f s v) h = refl
+single_free a (cells.ArrayFormula f s r kind v) h = ap (λ t. is_cse kind && not t) h ∙ no_and (is_cse kind)
+single_free a (cells.SpillCell s b v) h = refl
+
+pub none_fixed : (grid : Grid) → IsPlain grid → (p : CellPlace) → is_fixed_at celled grid.cells p ≡ false
+none_fixed grid h p = at_anchor (anchor_at celled grid.cells p)
+  where
+    at_cell : (a : Place) (o : Option Cell) → ((x : Cell) → o ≡ Some x → IsLooseCell x) → is_fixed (option_and_then (λ x. array_from a (shape_of x)) o) ≡ false
+    at_cell a None loose = refl
+    at_cell a (Some x) loose = single_free a x (loose x refl)
+
+    at_anchor : (o : Option Place) → is_fixed (option_and_then (array_of celled grid.cells) o) ≡ false
+    at_anchor None = refl
+    at_anchor (Some a) = at_cell a (finite.get grid.cells a) (h.loose a)
+
+-- A sheet of a valid book. ----
+
+module _ (book : Book) (valid : IsValidBook book) (index : ℕ) (s : BookSheet) (at : slice_get book.sheets index ≡ Some s) where
+  its_holds : HoldsOf (notations_in book) (machine.scene_in (whole_of book)) (length book.styles) (whole_sheet book.strings s)
+  its_holds = holds_at (whole_of book) valid.whole index (whole_sheet book.strings s) (slice_get-map (whole_sheet book.strings) book.sheets index ∙ ap (option_map (whole_sheet book.strings)) at)
+
+  pub its_grid : IsGrid s.grid
+  its_grid = record {
+    inside = inside_held (content_of book.strings) celled held (cells_are_contents book.strings) s.grid.cells its_holds.inside;
+    arrays = arrays_held (content_of book.strings) celled held (cells_are_contents book.strings) s.grid.cells its_holds.arrays;
+    merges = merges_held (content_of book.strings) celled held (cells_are_contents book.strings) s.grid.cells s.grid.merged_cells its_holds.merges;
+  }
+
+  -- the style of each place is one of the book's
+  pub style_below : (place : CellPlace) → grid_style.style_at celled s.grid.cells s.grid.rows s.grid.columns place < length book.styles
+  style_below place =
+      subst (λ k. k < length book.styles) (style_at-seen (content_of book.strings) celled held (cells_are_contents book.strings) s.grid.cells s.grid.rows s.grid.columns place)
+      (number_below (length book.styles) (whole_sheet book.strings s).grid place its_holds.styles (slice_get_within book.styles 0 default_style valid.whole.styles.styles.default))
+
+-- where nothing refuses a text
+pub text_clear : (a b c d e : Bool) → first_refusal ((not a, InvalidRow) ∷ (not b, InvalidColumn) ∷ (c, MergedPart) ∷ (d, ArrayPart) ∷ (not e, NotAFormula) ∷ []) ≡ None
+    → (a ≡ true) × (b ≡ true) × (c ≡ false) × (d ≡ false) × (e ≡ true)
+text_clear false b c d e h = cc
+text_clear true false c d e h = cc
+text_clear true true true d e h = cc
+text_clear true true false true e h = cc
+text_clear true true false false false h = cc
+text_clear true true false false true h = (refl, refl, refl, refl, refl)
+
+-- What refuses a text, by what refuses the cell. ----
+
+pub cell_told : (row column covered fixed is : Bool) (r : Refusal) → row ≡ true → column ≡ true → first_refusal ((covered, MergedPart) ∷ (fixed, ArrayPart) ∷ []) ≡ Some r
+    → first_refusal ((not row, InvalidRow) ∷ (not column, InvalidColumn) ∷ (covered, MergedPart) ∷ (fixed, ArrayPart) ∷ (not is, NotAFormula) ∷ []) ≡ Some r
+cell_told false column covered fixed is q r c e = cc
+cell_told true false covered fixed is q r c e = cc
+cell_told true true true fixed is q r c e = e
+cell_told true true false true is q r c e = e
+cell_told true true false false is q r c e = cc
+
+-- an error that is passed on tells the same
+pub told_again : {T : Type 0} (r : Result T BookError) (e : BookError) (o : Option Refusal) → IsErr r × IsErrAnd r (λ f. f ≡ e) → (told : Refusal) × (refusal_of e ≡ Some told) × (o ≡ Some told) → TellsOnly r o
+told_again (Ok x) e o h t = let no : false ≡ true = h.0 in cc
+told_again (Err f) e o h t = (t.0, ap refusal_of h.1 ∙ t.1, t.2)
+
+pub takes_text : (grid : Grid) (place : CellPlace) (text : List ℕ) → IsGrid grid → first_refusal (text_causes grid place text) ≡ None → TakesCell place grid
+takes_text grid place text whole none =
+    let clear = text_clear (is_row place.0) (is_column place.1) (is_covered grid.merged_cells place) (is_fixed_at celled grid.cells place) (is_formula_text text) none in
+    record {
+      whole = whole;
+      inside = and_from _ _ clear.0 clear.1;
+      free = ap₂ (λ (covered fixed : Bool). refused_by covered grid_errors.MergedPart (refused_by fixed grid_errors.ArrayPart (Ok tt))) clear.2 clear.3;
+    }
+
+-- A style without its quote flag. ----
+
+abbrev restyled_by : Bool → List Style → ℕ → Numbered
+restyled_by same styles number = if same then record { number = number; styles = styles } else numbered (unquoted (style_at styles number)) styles
+
+flag_itself : (b : Bool) → is_flag b b ≡ true
+flag_itself true = refl
+flag_itself false = refl
+
+color_itself : (c : Color) → is_color c c ≡ true
+color_itself colors.None = refl
+color_itself (colors.Rgb t) = (bytes_eq-Decides t t).1 refl
+
+is_same : (s : Style) → s.quote_prefix ≡ false → is_style (unquoted s) s ≡ true
+unfolding is_style
+is_same s e =
+    and_from _ _ (and_from _ _ (and_from _ _ ((bytes_eq-Decides s.num_fmt s.num_fmt).1 refl) (ap (is_flag false) e)) (flag_itself s.bold)) (color_itself s.fill)
+
+is_other : (s : Style) → s.quote_prefix ≡ true → is_style (unquoted s) s ≡ false
+unfolding is_style
+is_other s e =
+    ap (λ q. bytes_eq s.num_fmt s.num_fmt && is_flag false q && is_flag s.bold s.bold && is_color s.fill s.fill) e
+    ∙ ap (λ (b : Bool). b && is_flag s.bold s.bold && is_color s.fill s.fill) (no_and (bytes_eq s.num_fmt s.num_fmt))
+
+pub unquoted_kept : (styles : List Style) (number : ℕ) → (style_at styles number).quote_prefix ≡ false → restyled unquoted number styles ≡ record { number = number; styles = styles }
+unquoted_kept styles number e =
+    ap (λ b. restyled_by b styles number) (is_same (style_at styles number) e)
+
+pub unquoted_new : (styles : List Style) (number : ℕ) → (style_at styles number).quote_prefix ≡ true → restyled unquoted number styles ≡ numbered (unquoted (style_at styles number)) styles
+unquoted_new styles number e =
+    ap (λ b. restyled_by b styles number) (is_other (style_at styles number) e)
+
+-- and taken back
+take_all : {X : Type 0} (xs : List X) → take (length xs) xs ≡ xs
+take_all [] = refl
+take_all (x ∷ xs) = ap (λ rest. x ∷ rest) (take_all xs)
+
+take_front : {X : Type 0} (xs ys : List X) → take (length xs) (xs ++ ys) ≡ xs
+take_front [] [] = refl
+take_front [] (y ∷ ys) = refl
+take_front (x ∷ xs) ys = ap (λ rest. x ∷ rest) (take_front xs ys)
+
+pub taken_back : (styles : List Style) (number : ℕ) → take (length styles) (restyled unquoted number styles).styles ≡ styles
+taken_back styles number = at (is_style (unquoted (style_at styles number)) (style_at styles number))
+  where
+    in_or_at_end : (t : Bool) (s : Style) → take (length styles) (cond t styles (styles ++ s ∷ [])) ≡ styles
+    in_or_at_end true s = take_all styles
+    in_or_at_end false s = take_front styles (s ∷ [])
+
+    at : (t : Bool) → take (length styles) (restyled_by t styles number).styles ≡ styles
+    at true = take_all styles
+    at false = in_or_at_end (is_some (first_place (unquoted (style_at styles number)) styles)) (unquoted (style_at styles number))
