@@ -15,6 +15,7 @@ pub mod NameLemmas
 pub mod NeverMentioned
 pub mod PartLemmas
 pub mod PartUses
+pub mod ReadLemmas
 pub mod SettingLemmas
 pub mod SparedBodies
 pub mod StartLemmas

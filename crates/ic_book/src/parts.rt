@@ -2,14 +2,24 @@
 ghost use Rattle.std.specs.Prelude.{◌≡◌, Result, option_map};
 ghost use Rattle.std.specs.Fn.{FnOnceReturnsAtMut, FnOnceTakesAt, FnOnceTakesAtMut};
 ghost use Rattle.std.specs.List.{slice_get};
-ghost use Rattle.ic_book.specs.Parts.{ChangesTab, ReadsTab, StaysFrozen};
+ghost use Rattle.ic_book.specs.Parts.{ChangesTab, FindsSheet, ReadsTab, StaysFrozen};
 ghost use Rattle.ic_book.specs.declared.error.BookError.{BookError};
 ghost use Rattle.ic_sheets.specs.declared.tab.Tab.{Tab};
 
 use crate::{BookError, Model};
-use ic_sheets::Tab;
+use ic_sheets::{Sheet, Tab};
 
 impl<'a> Model<'a> {
+    /// The sheet at an index, from 0. `InvalidSheet` exactly where there is none.
+    pub(crate) fn sheet_at(&self, sheet: u32) -> Result<&Sheet, BookError>
+        ensures { FindsSheet sheet result self.now }
+    {
+        match self.sheets.as_slice().get(sheet as usize) {
+            Some(sheet) => Ok(sheet),
+            None => Err(BookError::InvalidSheet),
+        }
+    }
+
     /// Changes the tab of the sheet at an index, from 0. `InvalidSheet` exactly where there is none.
     pub(crate) fn on_tab<T, F: FnOnce(&mut Tab) -> Result<T, BookError> + Drop>(
         &mut self,

@@ -24,7 +24,7 @@ pub use layout::{
     row_height,
 };
 pub use maps::{LineMap, PlaceMap};
-pub use sheet::{SheetProperties, SheetState, Worksheet};
+pub use sheet::{CellIndex, SheetProperties, SheetState, Worksheet};
 pub use style::{Color, Style};
 pub use styles::Styles;
 pub use value::{CellType, CellValue, FormulaValue, SpillValue, law_equal_values};

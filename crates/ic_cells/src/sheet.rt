@@ -98,3 +98,14 @@ impl Drop for SheetProperties {
         drop(color);
     }
 }
+
+/// The place of a cell of a workbook.
+#[derive(Clone, Copy)]
+pub struct CellIndex {
+    /// The index of its sheet, from 0.
+    pub index: u32,
+    /// From 1.
+    pub row: i32,
+    /// From 1.
+    pub column: i32,
+}

@@ -62,8 +62,8 @@ impl Style {
         })
     }
 
-    /// The same style.
-    pub(crate) fn copy(&self, alloc: Global) -> Result<Style, OutOfMemory>
+    /// The same style. Only memory can be missing.
+    pub fn copy(&self, alloc: Global) -> Result<Style, OutOfMemory>
         ensures { IfOk result (λ s. s ≡ self.now) }
     {
         self.with_format(alloc, self.num_fmt.as_str())

@@ -1,5 +1,6 @@
-ghost use Rattle.std.specs.Prelude.{◌≡◌};
+ghost use Rattle.std.specs.Prelude.{◌≡◌, [], ◌∷◌, ◌++◌, OnErr, OnOk, length, take};
 
+use crate::OutOfMemory;
 use std::marker::Model;
 
 /// A `Vec` that contracts see as the list of its items, so that a value which holds one is plain data.
@@ -25,6 +26,31 @@ impl<T> Items<T> {
         ensures { result.now ≡ self.now }
     {
         self.inner.as_slice()
+    }
+
+    /// How many items there are.
+    pub fn len(&self) -> usize
+        ensures { result ≡ length self.now }
+    {
+        self.inner.len()
+    }
+}
+
+impl<T: Drop> Items<T> {
+    /// Puts an item at the end. Only memory can be missing, and then nothing has changed.
+    pub fn push(&mut self, item: T) -> Result<(), OutOfMemory>
+        ensures ok { OnOk result (self.new ≡ self.old ++ item ∷ []) }
+        ensures err { OnErr result (self.new ≡ self.old) }
+    {
+        self.inner.push(item)?;
+        Ok(())
+    }
+
+    /// Keeps the first `len` items. Where there are no more, all stay.
+    pub fn truncate(&mut self, len: usize)
+        ensures { self.new ≡ take len self.old }
+    {
+        self.inner.truncate(len);
     }
 }
 

@@ -44,7 +44,12 @@ abbrev pub more_names : List (List ℕ)
 more_names =
     codes "get_worksheets_properties" ∷ codes "set_timezone" ∷ codes "get_locale" ∷ codes "get_language" ∷ codes "get_timezone" ∷ codes "set_theme"
     ∷ codes "get_theme" ∷ codes "set_frozen_rows" ∷ codes "set_frozen_columns" ∷ codes "get_frozen_rows_count" ∷ codes "get_frozen_columns_count"
-    ∷ codes "set_sheet_color" ∷ codes "set_sheet_state" ∷ codes "set_show_grid_lines" ∷ []
+    ∷ codes "set_sheet_color" ∷ codes "set_sheet_state" ∷ codes "set_show_grid_lines" ∷ codes "update_cell_with_bool" ∷ codes "update_cell_with_number"
+    ∷ codes "get_cell_value_by_index" ∷ codes "get_cell_type" ∷ codes "is_empty_cell" ∷ codes "get_all_cells" ∷ codes "get_cell_style_index"
+    ∷ codes "get_style_for_cell" ∷ codes "get_cell_style_or_none" ∷ codes "set_column_style" ∷ codes "set_row_style" ∷ codes "get_column_style"
+    ∷ codes "get_row_style" ∷ codes "delete_column_style" ∷ codes "delete_row_style" ∷ codes "set_column_width" ∷ codes "set_row_height"
+    ∷ codes "get_column_width" ∷ codes "get_row_height" ∷ codes "set_column_hidden" ∷ codes "set_row_hidden" ∷ codes "is_column_hidden"
+    ∷ codes "is_row_hidden" ∷ []
 
 -- the names of all commands that are served
 abbrev pub served_names : List (List ℕ)

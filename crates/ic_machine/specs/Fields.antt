@@ -1,11 +1,16 @@
 -- The fields of replies, by the values that calls answer.
 use Rattle.std.specs.Prelude.{String, ℕ, List, [], ◌∷◌, Option, Some, chars, flat_map, option_map, string_bytes}
+use Rattle.std.specs.Option.{option_map_or}
 use Rattle.std.specs.declared.alloc.Global.{Global}
 use Rattle.std.specs.Global.{Vec}
+use Rattle.ic_cells.specs.declared.sheet.CellIndex.{CellIndex}
 use Rattle.ic_cells.specs.declared.sheet.SheetProperties.{SheetProperties}
+use Rattle.ic_cells.specs.declared.style.Style.{Style}
+use Rattle.ic_cells.specs.declared.value.CellType.{CellType}
 use Rattle.ic_cells.specs.declared.workbook.Theme.{Theme}
-use Rattle.ic_machine.specs.Reply.{Field, NumberField, TextField, optional_text_field, text_field}
-use Rattle.ic_machine.specs.Styling.{color_text}
+use Rattle.ic_machine.specs.Reply.{Field, NumberField, PositionField, TextField, optional_text_field, text_field}
+use Rattle.ic_machine.specs.Styling.{color_text, style_fields}
+use Rattle.ic_machine.specs.subjects.Reading.{type_name}
 
 -- nothing
 abbrev pub no_fields : Unit {0} → List Field
@@ -40,3 +45,18 @@ fields_of_sheet sheet = TextField sheet.name ∷ TextField sheet.state ∷ TextF
 
 abbrev pub sheets_fields : Vec SheetProperties → List Field
 sheets_fields sheets = flat_map fields_of_sheet sheets.items
+
+-- the name of a type
+abbrev pub type_field : CellType → List Field
+type_field kind = text_field (type_name kind)
+
+-- a style, if there is one
+abbrev pub optional_style_fields : Option Style → List Field
+optional_style_fields style = option_map_or style_fields style []
+
+-- the places of cells: the index of the sheet, the row and the column of each
+abbrev pub fields_of_place : CellIndex → List Field
+fields_of_place place = NumberField (Some place.index) ∷ PositionField place.row ∷ PositionField place.column ∷ []
+
+abbrev pub places_fields : Vec CellIndex → List Field
+places_fields places = flat_map fields_of_place places.items

@@ -126,3 +126,11 @@ pub record ChangesTab {F T : Type 0} (calls : Once F (MutBor Tab × Unit {0}) (T
   pub there : slice_get old index ≡ Some sheet
   pub called : FnOnceReturnsAtMut calls change sheet.tab result after
   pub becomes : new ≡ updated_at (λ s. record s { tab = after }) index old
+
+-- the same of its cells with its rows and columns
+pub record ChangesGrid {F T : Type 0} (calls : Once F (MutBor Grid × Unit {0}) (T × (MutBor Grid × Unit {0}))) (change : F) (index : ℕ) (result : T) (old new : List Sheet) : Type 0 where
+  pub sheet : Sheet
+  pub after : Grid
+  pub there : slice_get old index ≡ Some sheet
+  pub called : FnOnceReturnsAtMut calls change sheet.grid result after
+  pub becomes : new ≡ updated_at (λ s. record s { grid = after }) index old

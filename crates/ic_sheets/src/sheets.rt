@@ -10,6 +10,7 @@ mod changes;
 mod dangling;
 mod edits;
 mod formulas;
+mod grids;
 mod rewriting;
 mod tabs;
 
