@@ -53,7 +53,8 @@ fn style_of<'l>(
     bold: Flag,
     fill: Option<WordText<'l>>,
 ) -> StyleWords<'l>
-    ensures { style_words result ≡ (num_fmt, (quoted.set, (bold.set, (color_meant fill, tt)))) }
+    ensures { style_words result ≡
+        (num_fmt.entry, (quoted.set, (bold.set, (color_meant fill.entry, tt)))) }
 {
     StyleWords {
         num_fmt,
