@@ -16,8 +16,8 @@ returns-in-GetCellStyleOrNone c = only_read c.told-in-GetCellStyleOrNone.ensures
 pub returns-in_ok-style-in-SetColumnStyle : goal.returns-in_ok-style-in-SetColumnStyle
 returns-in_ok-style-in-SetColumnStyle c = changed (OnStyles (styles_meant c.args.command)) refl c.told-in-SetColumnStyle.ensures c.set_column_style.ensures.does (search rules) (search rules) refl
 
-pub returns-in_ok-style-2-in-SetRowStyle : goal.returns-in_ok-style-2-in-SetRowStyle
-returns-in_ok-style-2-in-SetRowStyle c = changed (OnStyles (styles_meant c.args.command)) refl c.told-in-SetRowStyle.ensures c.set_row_style.ensures.does (search rules) (search rules) refl
+pub returns-in_ok-style-in-SetRowStyle : goal.returns-in_ok-style-in-SetRowStyle
+returns-in_ok-style-in-SetRowStyle c = changed (OnStyles (styles_meant c.args.command)) refl c.told-in-SetRowStyle.ensures c.set_row_style.ensures.does (search rules) (search rules) refl
 
 pub returns-in-GetColumnStyle : goal.returns-in-GetColumnStyle
 returns-in-GetColumnStyle c = only_read c.told-in-GetColumnStyle.ensures c.get_column_style.ensures.does (search rules)
