@@ -40,7 +40,9 @@ impl<'l> Words<'l> for StyleWords<'l> {
 
     fn of(alloc: Global, rest: Option<&'l str>) -> Result<Option<StyleWords<'l>>, OutOfMemory> {
         match Words::of(alloc, rest)? {
-            Some((num_fmt, (quoted, (bold, (fill, ()))))) => Ok(Some(style_of(num_fmt, quoted, bold, fill))),
+            Some((num_fmt, (quoted, (bold, (fill, ()))))) => Ok(Some(style_of(
+                num_fmt, quoted, bold, fill,
+            ))),
             None => Ok(None),
         }
     }

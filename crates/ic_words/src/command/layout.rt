@@ -12,14 +12,42 @@ use std::alloc::Global;
 /// hundredths.
 #[derive(Drop)]
 pub enum Layout {
-    SetColumnWidth { sheet: u32, column: i32, width: u32 },
-    SetRowHeight { sheet: u32, row: i32, height: u32 },
-    GetColumnWidth { sheet: u32, column: i32 },
-    GetRowHeight { sheet: u32, row: i32 },
-    SetColumnHidden { sheet: u32, column: i32, hidden: bool },
-    SetRowHidden { sheet: u32, row: i32, hidden: bool },
-    IsColumnHidden { sheet: u32, column: i32 },
-    IsRowHidden { sheet: u32, row: i32 },
+    SetColumnWidth {
+        sheet: u32,
+        column: i32,
+        width: u32,
+    },
+    SetRowHeight {
+        sheet: u32,
+        row: i32,
+        height: u32,
+    },
+    GetColumnWidth {
+        sheet: u32,
+        column: i32,
+    },
+    GetRowHeight {
+        sheet: u32,
+        row: i32,
+    },
+    SetColumnHidden {
+        sheet: u32,
+        column: i32,
+        hidden: bool,
+    },
+    SetRowHidden {
+        sheet: u32,
+        row: i32,
+        hidden: bool,
+    },
+    IsColumnHidden {
+        sheet: u32,
+        column: i32,
+    },
+    IsRowHidden {
+        sheet: u32,
+        row: i32,
+    },
 }
 
 /// The served command on the layout of rows and columns of this name, with the words that are left; inside that None where
