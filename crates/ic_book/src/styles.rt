@@ -27,8 +27,8 @@ impl<'a> Model<'a> {
         ensures does { DoesOnly style_step (GetCellStyleIndex sheet row column) number_field
             result self.now self.now }
     {
-        let sheet = self.sheet_at(sheet)?;
-        Ok(sheet.grid.style_at(row, column))
+        let worksheet = self.sheet_at(sheet)?;
+        Ok(worksheet.grid.style_at(row, column))
     }
 
     /// The style that is shown at a row and a column, both from 1, of the sheet at an index, from 0: its cell's, else its
@@ -44,8 +44,8 @@ impl<'a> Model<'a> {
         ensures does { Does style_step (GetStyleForCell sheet row column) style_fields
             result self.now self.now }
     {
-        let sheet = self.sheet_at(sheet)?;
-        let number = sheet.grid.style_at(row, column);
+        let worksheet = self.sheet_at(sheet)?;
+        let number = worksheet.grid.style_at(row, column);
         Ok(copy_of(&self.about.styles, self.alloc, number)?)
     }
 
@@ -62,8 +62,8 @@ impl<'a> Model<'a> {
         ensures does { Does style_step (GetCellStyleOrNone sheet row column) optional_style_fields
             result self.now self.now }
     {
-        let sheet = self.sheet_at(sheet)?;
-        let number = own_style(&sheet.grid, row, column);
+        let worksheet = self.sheet_at(sheet)?;
+        let number = own_style(&worksheet.grid, row, column);
         Ok(copy_if_set(&self.about.styles, self.alloc, number)?)
     }
 
@@ -153,9 +153,9 @@ impl<'a> Model<'a> {
         ensures does { DoesStep Wanted (line_style_step sheet line (whole_of self.now.book))
             optional_style_fields result self.now self.now }
     {
-        let sheet = self.sheet_at(sheet)?;
+        let worksheet = self.sheet_at(sheet)?;
         check_line(line)?;
-        let number = line_style(&sheet.grid, line);
+        let number = line_style(&worksheet.grid, line);
         Ok(copy_if_set(&self.about.styles, self.alloc, number)?)
     }
 }
