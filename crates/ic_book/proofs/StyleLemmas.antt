@@ -1,5 +1,5 @@
 -- What the readers of styles do.
-use Rattle.std.proofs.Common.{◌≡◌, ◌<◌, ℕ, zero, suc, List, [], ◌∷◌, Option, Some, None, Result, Ok, Err, IsErr, IsErrAnd, true, false, length, option_map, refl, sym, ap, subst, ◌∙◌, arith}
+use Rattle.std.proofs.Common.{◌≡◌, ◌<◌, ℕ, List, [], ◌∷◌, Option, Some, None, Result, Ok, Err, IsErr, IsErrAnd, true, false, length, option_map, refl, sym, ap, subst, ◌∙◌}
 use Rattle.std.specs.FinMap as finite
 use Rattle.std.specs.List.{slice_get}
 use Rattle.std.specs.Option.{option_map_or}
@@ -40,18 +40,6 @@ use Rattle.ic_book.specs.declared.error.BookError.TheVariants as errors
 use Rattle.ic_book.specs.declared.styled.Line.{Line}
 use Rattle.ic_book.specs.declared.styled.Line.TheVariants as lines
 use Rattle.ic_book.proofs.ReadLemmas.{sheet_missing, sheet_refused, sheet_told, sheet_wants}
-
--- the style of a number ----
-
-pub numbered_at : (styles : List Style) (number : ℕ) (style : Style) → slice_get styles number ≡ Some style → style ≡ style_at styles number
-numbered_at [] number style e = cc
-numbered_at (s ∷ styles) zero style e = cc
-numbered_at (s ∷ styles) (suc number) style e = numbered_at styles number style e
-
-pub number_past : (styles : List Style) (number : ℕ) → number < length styles → slice_get styles number ≡ None → ⊥
-number_past [] number lt e = absurd (omega (arith, lt))
-number_past (s ∷ styles) zero lt e = cc
-number_past (s ∷ styles) (suc number) lt e = number_past styles number (omega (arith, lt)) e
 
 -- the numbers of styles, in the whole sheet ----
 

@@ -27,6 +27,7 @@ impl<'a> Model<'a> {
         ensures does { DoesOnly style_step (GetCellStyleIndex sheet row column) number_field
             result self.now self.now }
     {
+        let _ = &self.about.styles;
         let worksheet = self.sheet_at(sheet)?;
         Ok(worksheet.grid.style_at(row, column))
     }
@@ -44,9 +45,10 @@ impl<'a> Model<'a> {
         ensures does { Does style_step (GetStyleForCell sheet row column) style_fields
             result self.now self.now }
     {
+        let styles = &self.about.styles;
         let worksheet = self.sheet_at(sheet)?;
         let number = worksheet.grid.style_at(row, column);
-        Ok(copy_of(&self.about.styles, self.alloc, number)?)
+        Ok(copy_of(styles, self.alloc, number)?)
     }
 
     /// The style of the cell at a row and a column, both from 1, of the sheet at an index, from 0. None exactly where no
@@ -62,9 +64,10 @@ impl<'a> Model<'a> {
         ensures does { Does style_step (GetCellStyleOrNone sheet row column) optional_style_fields
             result self.now self.now }
     {
+        let styles = &self.about.styles;
         let worksheet = self.sheet_at(sheet)?;
         let number = own_style(&worksheet.grid, row, column);
-        Ok(copy_if_set(&self.about.styles, self.alloc, number)?)
+        Ok(copy_if_set(styles, self.alloc, number)?)
     }
 
     /// Gives a column, from 1, of the sheet at an index, from 0, a style. Its cells keep theirs.
@@ -153,9 +156,10 @@ impl<'a> Model<'a> {
         ensures does { DoesStep Wanted (line_style_step sheet line (whole_of self.now.book))
             optional_style_fields result self.now self.now }
     {
+        let styles = &self.about.styles;
         let worksheet = self.sheet_at(sheet)?;
         check_line(line)?;
         let number = line_style(&worksheet.grid, line);
-        Ok(copy_if_set(&self.about.styles, self.alloc, number)?)
+        Ok(copy_if_set(styles, self.alloc, number)?)
     }
 }

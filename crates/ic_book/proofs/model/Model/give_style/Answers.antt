@@ -73,8 +73,8 @@ invariant_of-self-in-Err c =
     let same = c.truncate.ensures ∙ ap₂ (λ (n : ℕ) (xs : List Style). take n xs) c.len-count.ensures.exact c.in_ok-number.ensures.styles ∙ style_taken_back c.args.style.now c.self.inside.about.styles in
     state_held_again c.self.inside.about c.self.inside.sheets c.self.inside.names c.self.inside.locale.now c.self.inside.language.now c.self.inside.tables.now c.self.invariant c.args.sheet did.sheet did.there c.change_grid.new.self did.after did.becomes c.truncate.new.self same unchanged
 
-pub returns-clause-does : goal.returns-clause-does
-returns-clause-does c =
+pub returns-in-Err-clause-does : goal.returns-in-Err-clause-does
+returns-in-Err-clause-does c =
     let did = c.change_grid.ensures in
     let set : StylesLine c.args.line c.in_ok-number.number c.change_grid.result did.sheet.grid did.after = search rules in
     let unchanged = subst (λ r. OnErr r (did.after ≡ did.sheet.grid)) c.in-Err.is set.undone in
@@ -86,8 +86,8 @@ returns-clause-does c =
     c.in_ok-check_line.ensures c.from.result c.from.ensures new
     (state_again c.self.inside.about c.self.inside.sheets c.self.inside.names c.self.inside.locale.now c.self.inside.language.now c.self.inside.tables.now c.self.invariant c.args.sheet did.sheet did.there c.change_grid.new.self did.after did.becomes c.truncate.new.self same unchanged))
 
-pub returns-clause-looks_up : goal.returns-clause-looks_up
-returns-clause-looks_up c =
+pub returns-in-Err-clause-looks_up : goal.returns-in-Err-clause-looks_up
+returns-in-Err-clause-looks_up c =
     let did = c.change_grid.ensures in
     same_look_ups c.self.inside.about c.self.inside.sheets c.self.inside.names c.self.inside.locale.now c.self.inside.language.now c.self.inside.tables.now c.self.invariant c.args.sheet did.sheet did.there c.change_grid.new.self did.after did.becomes c.truncate.new.self
     ∙ ap (λ (m : ModelState). m.has_all) c.self.view_is
