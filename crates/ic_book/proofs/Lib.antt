@@ -19,6 +19,8 @@ pub mod ReadLemmas
 pub mod SettingLemmas
 pub mod SparedBodies
 pub mod StartLemmas
+pub mod StyleLemmas
+pub mod StyleSetLemmas
 pub mod WholeLemmas
 pub mod WholeWritten
 pub mod WrittenLemmas

@@ -32,7 +32,7 @@ use Rattle.ic_book.specs.declared.error.BookError.TheVariants as errors
 use Rattle.ic_book.proofs.WrittenLemmas.{updated_alike}
 
 -- lists whose item at an index is changed into itself stay
-updated_same : {X : Type 0} (f : X → X) (i : ℕ) (xs : List X) (x : X) → slice_get xs i ≡ Some x → f x ≡ x → updated_at f i xs ≡ xs
+pub updated_same : {X : Type 0} (f : X → X) (i : ℕ) (xs : List X) (x : X) → slice_get xs i ≡ Some x → f x ≡ x → updated_at f i xs ≡ xs
 updated_same f i [] x at e = refl
 updated_same {X} f zero (y ∷ xs) x at e = let same : x ≡ y = cc in ap (λ z. z ∷ xs) (subst (λ (z : X). f z ≡ z) same e)
 updated_same f (suc i) (y ∷ xs) x at e = ap (λ rest. y ∷ rest) (updated_same f i xs x at e)

@@ -19,6 +19,8 @@ mod parts;
 mod properties;
 mod scene;
 mod sheet_changes;
+mod styled;
+mod styles;
 mod tab;
 mod tabs;
 
