@@ -6,7 +6,9 @@ pub mod ChangeLemmas
 pub mod DoesLemmas
 pub mod GoneNames
 pub mod GridLemmas
+pub mod GridPartLemmas
 pub mod HeldLemmas
+pub mod LineLemmas
 pub mod LookUpLemmas
 pub mod MentionPairs
 pub mod ModelLemmas
