@@ -82,39 +82,42 @@ static uint32_t style_said(size_t first) {
     return style_number(text, length - 1);
 }
 
-static int read_index(size_t word, uint32_t *to) {
+/* A number of digits alone, below a limit. */
+static int read_digits(const char *s, uint64_t limit, uint64_t *to) {
     uint64_t value = 0;
-    if (!lengths[word] || lengths[word] > 10) return 0;
-    for (const char *s = words[word]; *s; s++) {
-        if (*s < '0' || *s > '9') return 0;
-        value = value * 10 + (*s - '0');
-    }
-    return value <= UINT32_MAX ? (*to = value, 1) : 0;
-}
-
-static int read_position(size_t word, int64_t *to) {
-    const char *s = words[word];
-    int minus = *s == '-';
-    int64_t value = 0;
-    s += minus;
-    if (!*s || strlen(s) > 10) return 0;
+    if (!*s) return 0;
     for (; *s; s++) {
         if (*s < '0' || *s > '9') return 0;
         value = value * 10 + (*s - '0');
+        if (value >= limit) return 0;
     }
-    *to = minus ? -value : value;
-    return *to <= INT32_MAX && *to >= INT32_MIN;
+    return *to = value, 1;
+}
+
+static int read_index(size_t word, uint32_t *to) {
+    uint64_t value;
+    return read_digits(words[word], 1ull << 32, &value) && (*to = value, 1);
+}
+
+static int read_position(size_t word, int64_t *to) {
+    uint64_t value;
+    int minus = *words[word] == '-';
+    return read_digits(words[word] + minus, (1ull << 31) + minus, &value) && (*to = minus ? -(int64_t)value : (int64_t)value, 1);
 }
 
 static int read_amount(size_t word, amount *to) {
     const char *s = words[word];
-    int minus = *s == '-', whole = 0, decimals = 0;
+    int minus = *s == '-', decimals = 0;
     amount value = 0;
     s += minus;
-    for (; *s >= '0' && *s <= '9'; s++, whole++) value = value * 10 + (*s - '0');
+    if (!*s || !strcmp(s, ".")) return 0;
+    for (; *s >= '0' && *s <= '9'; s++) {
+        value = value * 10 + (*s - '0');
+        if (value >= 1000000000000000000) return 0;
+    }
     if (*s == '.')
-        for (s++; *s >= '0' && *s <= '9'; s++, decimals++) value = value * 10 + (*s - '0');
-    if (*s || whole > 18 || decimals > 9 || !(whole + decimals)) return 0;
+        for (s++; *s >= '0' && *s <= '9'; s++, decimals++) value = decimals < 9 ? value * 10 + (*s - '0') : value;
+    if (*s || decimals > 9) return 0;
     for (; decimals < 9; decimals++) value *= 10;
     return *to = minus ? -value : value, 1;
 }
