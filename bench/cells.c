@@ -1,13 +1,13 @@
 /* The values, styles and row heights of one sheet by hand in C, as a floor: answers the lines of seven commands as the
    program does. Cells stand in a hash table by their place, rows in an array, styles in a list with a hash table of their
-   words. Each word is read as the program reads it, and refused where it is no such word; the sheet is number 0, and there
-   are no merged cells, no formulas and no columns. */
+   words. Each word is read as the program reads it, and refused where it is no such word; the sheet is number 0, there are
+   no merged cells, no formulas and no columns, and a line has at most 2,000 bytes. */
 #include <stdint.h>
 #include <stdio.h>
 #include <stdlib.h>
 #include <string.h>
 
-enum { LAST_ROW = 1048576, LAST_COLUMN = 16384, WORDS = 8 };
+enum { LAST_ROW = 1048576, LAST_COLUMN = 16384, WORDS = 8, LONGEST = 2000 };
 enum kind { NONE, EMPTY, BOOLEAN, NUMBER };
 typedef __int128 amount; /* in units of the ninth decimal */
 struct cell { amount value; uint32_t row; uint16_t column, kind; uint32_t style; };
@@ -21,7 +21,7 @@ static struct style *styles;
 static uint32_t style_count, style_slots, *slots;
 static char *words[WORDS];
 static size_t lengths[WORDS], count;
-static char reply[4096];
+static char reply[2 * LONGEST + 100];
 
 static size_t slot_of(uint32_t row, uint32_t column) {
     size_t place = ((row * 16384ull + column) * 0x9E3779B97F4A7C15ull >> 20) & (room - 1);
@@ -71,12 +71,17 @@ static uint32_t style_number(const char *text, size_t length) {
     return style_count - 1;
 }
 
-/* The words of a style as its replies have them: code, flags and fill, with tabs between. */
+/* The words of a style as its replies have them: code, flags and fill, with tabs between and escapes in them. */
 static uint32_t style_said(size_t first) {
-    static char text[1 << 16];
+    static char text[2 * LONGEST + 100];
     size_t length = 0;
     for (size_t n = first; n < first + 4; n++) {
-        memcpy(text + length, words[n], lengths[n]), length += lengths[n];
+        for (size_t k = 0; k < lengths[n]; k++) {
+            static const char plain[] = "\\\t\n\r", letters[] = "\\tnr";
+            const char *found = words[n][k] ? strchr(plain, words[n][k]) : NULL;
+            if (found) text[length++] = '\\';
+            text[length++] = found ? letters[found - plain] : words[n][k];
+        }
         text[length++] = '\t';
     }
     return style_number(text, length - 1);
@@ -258,6 +263,7 @@ int main(void) {
     style_slots = 1024, slots = calloc(style_slots, sizeof *slots), styles = malloc(style_slots * sizeof *styles);
     style_number("General\t0\t0\t-", 13);
     while ((length = getline(&line, &size, stdin)) > 0) {
+        if (length > LONGEST) return 1;
         if (line[length - 1] == '\n') length -= 1 + (length > 1 && line[length - 2] == '\r');
         length = split(line, length) ? answer() : said("error\tBadLine");
         reply[length++] = '\n';
