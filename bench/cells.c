@@ -1,13 +1,13 @@
 /* The values, styles and row heights of one sheet by hand in C, as a floor: answers the lines of seven commands as the
    program does. Cells stand in a hash table by their place, rows in an array, styles in a list with a hash table of their
-   words. Each word is read as the program reads it, and refused where it is no such word; the sheet is number 0, and there
-   are no merged cells, no formulas and no columns. */
+   words. Each word is read as the program reads it, and refused where it is no such word; the sheet is number 0, there are
+   no merged cells, no formulas and no columns, and a line has at most 2,000 bytes. */
 #include <stdint.h>
 #include <stdio.h>
 #include <stdlib.h>
 #include <string.h>
 
-enum { LAST_ROW = 1048576, LAST_COLUMN = 16384, WORDS = 8 };
+enum { LAST_ROW = 1048576, LAST_COLUMN = 16384, WORDS = 8, LONGEST = 2000 };
 enum kind { NONE, EMPTY, BOOLEAN, NUMBER };
 typedef __int128 amount; /* in units of the ninth decimal */
 struct cell { amount value; uint32_t row; uint16_t column, kind; uint32_t style; };
@@ -21,7 +21,7 @@ static struct style *styles;
 static uint32_t style_count, style_slots, *slots;
 static char *words[WORDS];
 static size_t lengths[WORDS], count;
-static char reply[4096];
+static char reply[2 * LONGEST + 100];
 
 static size_t slot_of(uint32_t row, uint32_t column) {
     size_t place = ((row * 16384ull + column) * 0x9E3779B97F4A7C15ull >> 20) & (room - 1);
@@ -71,50 +71,58 @@ static uint32_t style_number(const char *text, size_t length) {
     return style_count - 1;
 }
 
-/* The words of a style as its replies have them: code, flags and fill, with tabs between. */
+/* The words of a style as its replies have them: code, flags and fill, with tabs between and escapes in them. */
 static uint32_t style_said(size_t first) {
-    static char text[1 << 16];
+    static char text[2 * LONGEST + 100];
     size_t length = 0;
     for (size_t n = first; n < first + 4; n++) {
-        memcpy(text + length, words[n], lengths[n]), length += lengths[n];
+        for (size_t k = 0; k < lengths[n]; k++) {
+            static const char plain[] = "\\\t\n\r", letters[] = "\\tnr";
+            const char *found = words[n][k] ? strchr(plain, words[n][k]) : NULL;
+            if (found) text[length++] = '\\';
+            text[length++] = found ? letters[found - plain] : words[n][k];
+        }
         text[length++] = '\t';
     }
     return style_number(text, length - 1);
 }
 
-static int read_index(size_t word, uint32_t *to) {
+/* A number of digits alone, below a limit. */
+static int read_digits(const char *s, uint64_t limit, uint64_t *to) {
     uint64_t value = 0;
-    if (!lengths[word] || lengths[word] > 10) return 0;
-    for (const char *s = words[word]; *s; s++) {
-        if (*s < '0' || *s > '9') return 0;
-        value = value * 10 + (*s - '0');
-    }
-    return value <= UINT32_MAX ? (*to = value, 1) : 0;
-}
-
-static int read_position(size_t word, int64_t *to) {
-    const char *s = words[word];
-    int minus = *s == '-';
-    int64_t value = 0;
-    s += minus;
-    if (!*s || strlen(s) > 10) return 0;
+    if (!*s) return 0;
     for (; *s; s++) {
         if (*s < '0' || *s > '9') return 0;
         value = value * 10 + (*s - '0');
+        if (value >= limit) return 0;
     }
-    *to = minus ? -value : value;
-    return *to <= INT32_MAX && *to >= INT32_MIN;
+    return *to = value, 1;
+}
+
+static int read_index(size_t word, uint32_t *to) {
+    uint64_t value;
+    return read_digits(words[word], 1ull << 32, &value) && (*to = value, 1);
+}
+
+static int read_position(size_t word, int64_t *to) {
+    uint64_t value;
+    int minus = *words[word] == '-';
+    return read_digits(words[word] + minus, (1ull << 31) + minus, &value) && (*to = minus ? -(int64_t)value : (int64_t)value, 1);
 }
 
 static int read_amount(size_t word, amount *to) {
     const char *s = words[word];
-    int minus = *s == '-', whole = 0, decimals = 0;
+    int minus = *s == '-', decimals = 0;
     amount value = 0;
     s += minus;
-    for (; *s >= '0' && *s <= '9'; s++, whole++) value = value * 10 + (*s - '0');
+    if (!*s || !strcmp(s, ".")) return 0;
+    for (; *s >= '0' && *s <= '9'; s++) {
+        value = value * 10 + (*s - '0');
+        if (value >= 1000000000000000000) return 0;
+    }
     if (*s == '.')
-        for (s++; *s >= '0' && *s <= '9'; s++, decimals++) value = value * 10 + (*s - '0');
-    if (*s || whole > 18 || decimals > 9 || !(whole + decimals)) return 0;
+        for (s++; *s >= '0' && *s <= '9'; s++, decimals++) value = decimals < 9 ? value * 10 + (*s - '0') : value;
+    if (*s || decimals > 9) return 0;
     for (; decimals < 9; decimals++) value *= 10;
     return *to = minus ? -value : value, 1;
 }
@@ -255,6 +263,7 @@ int main(void) {
     style_slots = 1024, slots = calloc(style_slots, sizeof *slots), styles = malloc(style_slots * sizeof *styles);
     style_number("General\t0\t0\t-", 13);
     while ((length = getline(&line, &size, stdin)) > 0) {
+        if (length > LONGEST) return 1;
         if (line[length - 1] == '\n') length -= 1 + (length > 1 && line[length - 2] == '\r');
         length = split(line, length) ? answer() : said("error\tBadLine");
         reply[length++] = '\n';
