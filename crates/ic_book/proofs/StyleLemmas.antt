@@ -1,5 +1,5 @@
 -- What the readers of styles do.
-use Rattle.std.proofs.Common.{◌≡◌, ◌<◌, ℕ, List, [], ◌∷◌, Option, Some, None, Result, Ok, Err, IsErr, IsErrAnd, true, false, length, option_map, refl, sym, ap, subst, ◌∙◌}
+use Rattle.std.proofs.Common.{◌≡◌, ◌<◌, ℕ, List, [], Option, Some, None, Result, Ok, Err, IsErr, IsErrAnd, true, false, length, option_map, refl, sym, ap, subst, ◌∙◌}
 use Rattle.std.specs.FinMap as finite
 use Rattle.std.specs.List.{slice_get}
 use Rattle.std.specs.Option.{option_map_or}
@@ -23,7 +23,6 @@ use Rattle.ic_machine.specs.Book.{at_sheet, content_at, style_number_at, unless_
 use Rattle.ic_machine.specs.Content as contents
 use Rattle.ic_machine.specs.Content.{content_of, held}
 use Rattle.ic_machine.specs.Fields.{optional_style_fields}
-use Rattle.ic_machine.specs.Line.{column_of, row_of}
 use Rattle.ic_machine.specs.Refusal.{Causes, first_refusal}
 use Rattle.ic_machine.specs.Reply.{Field, number_field}
 use Rattle.ic_machine.specs.Styling.{style_fields}
@@ -54,7 +53,7 @@ module _ (strings : List (List ℕ)) (grid : Grid) where
       seen None = refl
       seen (Some x) = ap (λ (n : ℕ). let o : Option ℕ = Some n in o) ((cells_are_contents strings).style x)
 
-  pub line_number : (line : Line) → whole_line_style line (whole_grid strings grid) ≡ line_style line grid.rows grid.columns
+  line_number : (line : Line) → whole_line_style line (whole_grid strings grid) ≡ line_style line grid.rows grid.columns
   line_number (lines.Row row) = set (finite.get grid.rows row)
     where
       set : (o : Option RowProps) → (unwrap_or o (record { height = None; hidden = false; style = None })).style ≡ option_and_then (λ props. props.style) o

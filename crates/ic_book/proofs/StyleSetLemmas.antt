@@ -27,7 +27,7 @@ use Rattle.ic_sheets.specs.declared.sheet.Sheet.{Sheet as HeldSheet}
 use Rattle.ic_book.specs.Book.{Book, HasStrings, IsPlain, IsValidBook, ModelState, whole_grid}
 use Rattle.ic_book.specs.Does.{DoesStep, IsDone, Refused, Wanted}
 use Rattle.ic_book.specs.Fields.{no_fields}
-use Rattle.ic_book.specs.Inside.{IsHeld, held, held_state}
+use Rattle.ic_book.specs.Inside.{IsHeld, held_state}
 use Rattle.ic_book.specs.Refused.{TellsOnly, refusal_of}
 use Rattle.ic_book.specs.Styled.{line_causes, set_line_step, whole_with_line_style, with_line_style}
 use Rattle.ic_book.specs.Whole.{whole_of, whole_sheet}

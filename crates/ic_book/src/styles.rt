@@ -27,7 +27,8 @@ impl<'a> Model<'a> {
         ensures does { DoesOnly style_step (GetCellStyleIndex sheet row column) number_field
             result self.now self.now }
     {
-        let _ = &self.about.styles;
+        // What always holds of a model is known from here on.
+        let _ = &self.sheets;
         let worksheet = self.sheet_at(sheet)?;
         Ok(worksheet.grid.style_at(row, column))
     }
@@ -36,12 +37,7 @@ impl<'a> Model<'a> {
     /// row's, else its column's, else the default one. The place may lie outside of the sheet.
     ///
     /// `InvalidSheet` exactly where no sheet stands at the index; `OutOfMemory` only where one does.
-    pub fn get_style_for_cell(
-        &self,
-        sheet: u32,
-        row: i32,
-        column: i32,
-    ) -> Result<Style, BookError>
+    pub fn get_style_for_cell(&self, sheet: u32, row: i32, column: i32) -> Result<Style, BookError>
         ensures does { Does style_step (GetStyleForCell sheet row column) style_fields
             result self.now self.now }
     {
@@ -91,12 +87,7 @@ impl<'a> Model<'a> {
     ///
     /// `InvalidSheet` exactly where no sheet stands at the index, then `InvalidRow` where the row isn't 1 to 1,048,576;
     /// `OutOfMemory` only where neither holds. An error changes nothing.
-    pub fn set_row_style(
-        &mut self,
-        sheet: u32,
-        row: i32,
-        style: &Style,
-    ) -> Result<(), BookError>
+    pub fn set_row_style(&mut self, sheet: u32, row: i32, style: &Style) -> Result<(), BookError>
         ensures does { Does style_step (SetRowStyle sheet row style.now) no_fields
             result self.old self.new }
         ensures looks_up { self.new.has_all ≡ self.old.has_all }

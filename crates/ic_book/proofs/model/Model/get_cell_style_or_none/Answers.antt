@@ -1,4 +1,4 @@
-use Rattle.std.proofs.Common.{[], ℕ, length, option_map, refl, ap, sym, subst, ◌∙◌}
+use Rattle.std.proofs.Common.{[], length, option_map, refl, ap, sym, subst, ◌∙◌}
 use Rattle.std.specs.FinMap as finite
 use Rattle.ic_cells.specs.Cell.{style_of}
 use Rattle.ic_cells.specs.Style.{style_at}

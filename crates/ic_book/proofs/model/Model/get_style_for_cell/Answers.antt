@@ -1,6 +1,5 @@
-use Rattle.std.proofs.Common.{◌<◌, [], ℕ, List, length, refl, ap, sym, subst, ◌∙◌}
+use Rattle.std.proofs.Common.{◌<◌, [], length, refl, ap, sym, subst, ◌∙◌}
 use Rattle.ic_cells.specs.Style.{style_at}
-use Rattle.ic_cells.specs.declared.style.Style.{Style}
 use Rattle.ic_grid.specs.Shape.{celled}
 use Rattle.ic_grid.specs.Style as grid_style
 use Rattle.ic_machine.specs.Styling.{style_fields}

@@ -1,4 +1,4 @@
-use Rattle.std.proofs.Common.{◌≡◌, ℕ, None, length, option_map, refl, ap, sym, subst, ◌∙◌}
+use Rattle.std.proofs.Common.{length, option_map, ap, sym, subst, ◌∙◌}
 use Rattle.ic_cells.specs.Style.{style_at}
 use Rattle.ic_machine.specs.Fields.{optional_style_fields}
 use Rattle.ic_machine.specs.Valid.{IsStyleNumber}
