@@ -9,6 +9,7 @@
 #![tactic(auto)]
 
 mod about;
+mod cells;
 mod error;
 mod formulas;
 mod law;
@@ -21,6 +22,7 @@ mod scene;
 mod sheet_changes;
 mod tab;
 mod tabs;
+mod values;
 
 pub use error::BookError;
 pub use ic_pool::Steps;
