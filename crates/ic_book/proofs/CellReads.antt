@@ -24,6 +24,7 @@ use Rattle.ic_cells.specs.Maps.{place_cmp}
 use Rattle.ic_cells.specs.declared.cell.Cell.{Cell}
 use Rattle.ic_cells.specs.declared.cell.Cell.TheVariants as cells
 use Rattle.ic_cells.specs.declared.sheet.CellIndex.{CellIndex}
+use Rattle.ic_cells.specs.declared.value.CellType.{CellType}
 use Rattle.ic_cells.specs.declared.value.CellType.TheVariants as types
 use Rattle.ic_cells.specs.declared.value.CellValue.{CellValue}
 use Rattle.ic_cells.specs.declared.value.CellValue.TheVariants as values
@@ -35,15 +36,15 @@ use Rattle.ic_machine.specs.Alike.{HoldsAlike}
 use Rattle.ic_machine.specs.Book as machine
 use Rattle.ic_machine.specs.Content as contents
 use Rattle.ic_machine.specs.Content.{Content, content_of, held}
-use Rattle.ic_machine.specs.Fields.{fields_of_place}
+use Rattle.ic_machine.specs.Fields.{fields_of_place, type_field}
 use Rattle.ic_machine.specs.InForce.{InForce, all_there, by_notation, in_force, value_in}
-use Rattle.ic_machine.specs.Reply.{Field}
-use Rattle.ic_machine.specs.subjects.Reading.{place_fields, read_sheet, sheet_places}
+use Rattle.ic_machine.specs.Reply.{Field, bool_field}
+use Rattle.ic_machine.specs.subjects.Reading.{empty_step, place_fields, read_sheet, sheet_places, type_step, value_at, value_fields, value_step}
 use Rattle.ic_sheets.specs.Sheet.{BookSheet, sheet_of}
 use Rattle.ic_sheets.specs.declared.sheet.Sheet.{Sheet as HeldSheet}
 use Rattle.ic_book.specs.Book.{Book, IsValidBook, ModelState}
 use Rattle.ic_book.specs.Cells.{FindsCell, place_in, places_from}
-use Rattle.ic_book.specs.Does.{DoesStep, Memory, Wanted}
+use Rattle.ic_book.specs.Does.{DoesStep, Memory, Never, Wanted}
 use Rattle.ic_book.specs.Whole.{whole_of, whole_sheet}
 use Rattle.ic_book.specs.declared.error.BookError.{BookError}
 use Rattle.ic_book.specs.declared.error.BookError.TheVariants as errors
@@ -121,13 +122,6 @@ module _ (now : ModelState) (valid : IsValidBook now.book) (index : ℕ) (row co
     cell_told memory cell found value e =
         sheet_told now index valid memory fields [] its_fields found.0 found.1 refl value (e ∙ ap (λ o. as_field (of_cell o)) found.2 ∙ sym (ap as_field (same found.0)))
 
-    pub cell_missing : (memory : Memory) (e : BookError) → FindsCell index row column (Err e) now → DoesStep memory (read_sheet (whole_of now.book) index (λ sheet. as_field (told sheet))) fields (Err e) now now
-    cell_missing memory e found = sheet_missing now index valid memory fields [] its_fields found.0 e found.1
-
-    pub cell_wants : (cell : Option (Bor Cell)) → FindsCell index row column (Ok cell) now → (e : BookError) → e ≡ errors.OutOfMemory
-        → DoesStep Wanted (read_sheet (whole_of now.book) index (λ sheet. as_field (told sheet))) fields (Err e) now now
-    cell_wants cell found e out = sheet_wants now index valid fields [] its_fields found.0 found.1 refl e out
-
 -- all places ----
 
 -- an ordered map has the places of the finite map that contracts see, in the same order
@@ -166,3 +160,54 @@ module _ (strings : List (List ℕ)) where
   places_told index (s ∷ ws) =
       flat_map-append fields_of_place (map (place_in index) (finite.keys s.grid.cells)) (places_from (index + 1) ws)
       ∙ ap₂ (λ (a b : List Field). a ++ b) (sheet_told_same index (finite.entries s.grid.cells) ∙ ap (flat_map (place_fields index)) (sym (entries-seen (content_of strings) s.grid.cells))) (places_told (index + 1) ws)
+
+-- the readers of a place ----
+
+module _ (now : ModelState) (valid : IsValidBook now.book) (index : ℕ) (row column : ℤ) where
+  pub tells_empty : (cell : Option (Bor Cell)) → FindsCell index row column (Ok cell) now → (value : Bool) → value ≡ option_map_or (λ x. is_empty (shape_of x)) (option_copied cell) true
+      → DoesStep Never (empty_step index (row, column) (whole_of now.book)) bool_field (Ok value) now now
+  unfolding empty_step
+  tells_empty cell found value e =
+      cell_told now valid index row column bool_field bool_field (λ sheet. option_map_or (λ (x : Content). is_empty (contents.shape_of x)) (machine.content_at sheet row column) true) (λ o. option_map_or (λ x. is_empty (shape_of x)) o true)
+      (λ s. empty_read now.book.strings s row column) Never cell found value (ap bool_field e)
+
+  pub lacks_empty : (r : Result Bool BookError) (e : BookError) → IsErr r × IsErrAnd r (λ f. f ≡ e) → FindsCell index row column (Err e) now → DoesStep Never (empty_step index (row, column) (whole_of now.book)) bool_field r now now
+  unfolding empty_step
+  lacks_empty r e h found =
+      of_error (λ r. DoesStep Never (empty_step index (row, column) (whole_of now.book)) bool_field r now now) r h
+      (λ f same. sheet_missing now index valid Never bool_field [] (λ sheet. bool_field (option_map_or (λ (x : Content). is_empty (contents.shape_of x)) (machine.content_at sheet row column) true)) found.0 f (same ∙ found.1))
+
+  pub tells_type : (cell : Option (Bor Cell)) → FindsCell index row column (Ok cell) now → (value : CellType) → value ≡ option_map_or type_of (option_copied cell) types.Number
+      → DoesStep Never (type_step index (row, column) (whole_of now.book)) type_field (Ok value) now now
+  unfolding type_step
+  tells_type cell found value e =
+      cell_told now valid index row column type_field type_field (λ sheet. option_map_or contents.type_of (machine.content_at sheet row column) types.Number) (λ o. option_map_or type_of o types.Number)
+      (λ s. type_read now.book.strings s row column) Never cell found value (ap type_field e)
+
+  pub lacks_type : (r : Result CellType BookError) (e : BookError) → IsErr r × IsErrAnd r (λ f. f ≡ e) → FindsCell index row column (Err e) now → DoesStep Never (type_step index (row, column) (whole_of now.book)) type_field r now now
+  unfolding type_step
+  lacks_type r e h found =
+      of_error (λ r. DoesStep Never (type_step index (row, column) (whole_of now.book)) type_field r now now) r h
+      (λ f same. sheet_missing now index valid Never type_field [] (λ sheet. type_field (option_map_or contents.type_of (machine.content_at sheet row column) types.Number)) found.0 f (same ∙ found.1))
+
+  module _ (l : Language) (in_force : language_of now.book.tables now.book.language ≡ Some l) where
+    value_read : (s : BookSheet) → value_at (whole_of now.book) (whole_sheet now.book.strings s) (row, column) ≡ option_map_or (value_of now.book.strings l) (finite.get s.grid.cells (row, column)) values.None
+    value_read s = read_same now.book.strings (value_of now.book.strings l) (value_in (whole_of now.book)) (λ x. value_in_force now.book valid l in_force x) values.None s row column
+
+    pub tells_value : (cell : Option (Bor Cell)) → FindsCell index row column (Ok cell) now → (value : CellValue) → value ≡ option_map_or (value_of now.book.strings l) (option_copied cell) values.None
+        → DoesStep Wanted (value_step index (row, column) (whole_of now.book)) value_fields (Ok value) now now
+    unfolding value_step
+    tells_value cell found value e =
+        cell_told now valid index row column value_fields value_fields (λ sheet. value_at (whole_of now.book) sheet (row, column)) (λ o. option_map_or (value_of now.book.strings l) o values.None) value_read Wanted cell found value (ap value_fields e)
+
+  pub lacks_value : (r : Result CellValue BookError) (e : BookError) → IsErr r × IsErrAnd r (λ f. f ≡ e) → FindsCell index row column (Err e) now → DoesStep Wanted (value_step index (row, column) (whole_of now.book)) value_fields r now now
+  unfolding value_step
+  lacks_value r e h found =
+      of_error (λ r. DoesStep Wanted (value_step index (row, column) (whole_of now.book)) value_fields r now now) r h
+      (λ f same. sheet_missing now index valid Wanted value_fields [] (λ sheet. value_fields (value_at (whole_of now.book) sheet (row, column))) found.0 f (same ∙ found.1))
+
+  pub wants_value : (cell : Option (Bor Cell)) → FindsCell index row column (Ok cell) now → (r : Result CellValue BookError) → IsErr r × IsErrAnd r (λ f. f ≡ errors.OutOfMemory) → DoesStep Wanted (value_step index (row, column) (whole_of now.book)) value_fields r now now
+  unfolding value_step
+  wants_value cell found r h =
+      of_error (λ r. DoesStep Wanted (value_step index (row, column) (whole_of now.book)) value_fields r now now) r h
+      (λ f out. sheet_wants now index valid value_fields [] (λ sheet. value_fields (value_at (whole_of now.book) sheet (row, column))) found.0 found.1 refl f out)
