@@ -11,6 +11,7 @@ pub mod Parts
 pub mod Refused
 pub mod Scene
 pub mod Served
+pub mod Styled
 pub mod Values
 pub mod Whole
 pub mod Written
