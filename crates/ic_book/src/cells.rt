@@ -36,7 +36,7 @@ impl<'a> Model<'a> {
             result self.now self.now }
     {
         let cell = self.cell_at(sheet_index, row, column)?;
-        let strings = &self.about.strings;
+        let strings = self.about.strings.as_items();
         Ok(value_in(self.alloc, cell, strings, self.language)?)
     }
 

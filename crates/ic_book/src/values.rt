@@ -19,7 +19,7 @@ use ic_laws::{Amount, LAST_COLUMN, LAST_ROW, OutOfMemory};
 
 /// What may be written into a cell and is no formula.
 #[derive(Clone, Copy)]
-pub enum Value {
+pub(crate) enum Value {
     Boolean(bool),
     Number(Amount),
 }

@@ -12,7 +12,7 @@ returns c = record {
   does =
       tells_value c.args.self.now c.cell_at.ensures.valid c.args.sheet_index c.args.row c.args.column c.self.inside.language.now
       (subst (λ (m : ModelState). language_of m.book.tables m.book.language ≡ Some c.self.inside.language.now) c.self.view_is c.self.invariant.language_found) c.in_ok-cell.cell c.in_ok-cell.ensures.finds c.in_ok-value_in.field-0
-      (c.in_ok-value_in.ensures ∙ ap (λ (m : ModelState). option_map_or (value_of m.book.strings c.self.inside.language.now) (option_copied c.in_ok-cell.cell) values.None) c.self.view_is);
+      (c.in_ok-value_in.ensures ∙ ap (λ strings. option_map_or (value_of strings c.self.inside.language.now) (option_copied c.in_ok-cell.cell) values.None) c.as_items-strings.ensures ∙ ap (λ (m : ModelState). option_map_or (value_of m.book.strings c.self.inside.language.now) (option_copied c.in_ok-cell.cell) values.None) c.self.view_is);
 }
 
 pub returns-in_err-cell : goal.returns-in_err-cell
