@@ -91,8 +91,8 @@ impl<'a> Model<'a> {
             result self.old self.new }
         ensures looks_up { self.new.has_all ≡ self.old.has_all }
     {
-        let shown = self.style_to_write(sheet, row, column)?;
         let count = self.about.styles.len();
+        let shown = self.style_to_write(sheet, row, column)?;
         let style = with_quote(&mut self.about.styles, shown, quoted)?;
         match self
             .sheets

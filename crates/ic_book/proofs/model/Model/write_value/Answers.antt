@@ -1,4 +1,4 @@
-use Rattle.std.proofs.Common.{◌≡◌, ◌∙◌, ℕ, List, IfSome, true, ap, ap₂, map, refl, subst, sym, take}
+use Rattle.std.proofs.Common.{◌≡◌, ◌∙◌, ℕ, List, IfSome, true, ap, ap₂, map, refl, subst, sym, take, Ok}
 use Rattle.std.specs.List.{slice_get}
 use Rattle.ic_laws.specs.CoreBook.{CellPlace}
 use Rattle.ic_laws.specs.CoreStep.{updated_at}
@@ -13,6 +13,7 @@ use Rattle.ic_book.specs.Book.{IsValidBook, ModelState}
 use Rattle.ic_book.specs.Does.{DoesStep, Wanted}
 use Rattle.ic_book.specs.Fields.{no_fields}
 use Rattle.ic_book.specs.Inside.{held_state}
+use Rattle.ic_book.specs.Refused.{refusal_of}
 use Rattle.ic_book.specs.Values.{Shows, value_cell, value_refusal, value_step}
 use Rattle.ic_book.proofs.CellReads.{of_error}
 use Rattle.ic_book.proofs.GridLemmas.{all_taken_back}
@@ -119,8 +120,19 @@ returns-in-Err-clause-looks_up c =
     ∙ all_taken_back (with_quote_prefix c.args.quoted) c.self.inside.about.styles c.in_ok-shown.shown in
     ap (λ (m : ModelState). m.has_all) (state_again c.self.inside.about c.self.inside.sheets c.self.inside.names c.self.inside.locale.now c.self.inside.language.now c.self.inside.tables.now c.truncate.new.self c.write_cell.new.self same c.in-Err.ensures.err ∙ c.self.view_is)
 
-pub returns-in_err-style_to_write-clause-does : goal.returns-in_err-style_to_write-clause-does
-returns-in_err-style_to_write-clause-does c = ?
+pub returns-in_err-shown-clause-does : goal.returns-in_err-shown-clause-does
+returns-in_err-shown-clause-does c =
+    let now = c.args.self.now in
+    let step = value_step now.book c.args.sheet c.args.row c.args.column c.args.quoted (value_cell c.args.value) in
+    let t = c.in_err-shown.ensures.refused in
+    of_error (λ r. DoesStep Wanted step no_fields r now now) c.from_residual.result c.from_residual.ensures
+    (λ f same. value_refused now (subst (λ (m : ModelState). IsValidBook m.book) c.self.view_is c.self.invariant.valid) c.args.sheet c.args.row c.args.column c.args.quoted (value_cell c.args.value) f (t.0, ap refusal_of same ∙ t.1, t.2))
 
-pub returns-in_err-with_quote-clause-does : goal.returns-in_err-with_quote-clause-does
-returns-in_err-with_quote-clause-does c = ?
+pub returns-in_err-style-clause-does : goal.returns-in_err-style-clause-does
+returns-in_err-style-clause-does c =
+    let now = c.args.self.now in
+    let step = value_step now.book c.args.sheet c.args.row c.args.column c.args.quoted (value_cell c.args.value) in
+    let new = held_state (record c.self.inside.about { styles = c.with_quote.new.styles }) c.self.inside.sheets c.self.inside.names c.self.inside.locale.now c.self.inside.language.now c.self.inside.tables.now in
+    let again = state_again c.self.inside.about c.self.inside.sheets c.self.inside.names c.self.inside.locale.now c.self.inside.language.now c.self.inside.tables.now c.with_quote.new.styles c.self.inside.sheets c.in_err-style.ensures.err refl ∙ c.self.view_is in
+    of_error (λ r. DoesStep Wanted step no_fields r now new) c.from_residual-2.result c.from_residual-2.ensures
+    (λ f out. value_wants now (subst (λ (m : ModelState). IsValidBook m.book) c.self.view_is c.self.invariant.valid) c.args.sheet c.args.row c.args.column c.args.quoted (value_cell c.args.value) new again c.in_ok-shown.ensures.refused f out)
