@@ -11,7 +11,7 @@ use Rattle.ic_laws.specs.CoreBook.{CellPlace}
 use Rattle.ic_laws.specs.FormulaReading.{is_formula_text}
 use Rattle.ic_laws.specs.Position.{is_column, is_row}
 use Rattle.std.proofs.lemmas.Slice.Eq.{bytes_eq-Decides}
-use Rattle.ic_cells.specs.Style.{default_style, first_place, is_color, is_flag, is_style, style_at}
+use Rattle.ic_cells.specs.Style.{default_style, first_place, is_color, is_flag, is_style, style_at, with_quote_prefix}
 use Rattle.ic_cells.specs.declared.cell.Cell.{Cell}
 use Rattle.ic_cells.specs.declared.cell.Cell.TheVariants as cells
 use Rattle.ic_cells.specs.declared.style.Color.{Color}
@@ -45,7 +45,8 @@ use Rattle.ic_sheets.specs.declared.sheet.FormulaKind.TheVariants as kinds
 use Rattle.ic_sheets.proofs.CellLemmas.{formula_loose}
 use Rattle.ic_book.specs.Book.{Book, HasString, HasStrings, IsPlain, IsValidBook, notations_in, whole_of, whole_sheet}
 use Rattle.ic_book.specs.Refused.{TellsOnly, refusal_of}
-use Rattle.ic_book.specs.Written.{text_causes}
+use Rattle.ic_book.specs.Values.{value_causes}
+use Rattle.ic_book.specs.Written.{cell_causes, text_causes}
 use Rattle.ic_book.specs.declared.error.BookError.{BookError}
 
 -- What holds of each cell, and of an empty one, and of a formula's that is reset, holds after a write. ----
@@ -97,9 +98,11 @@ formula_string : (count : ℕ) (kind : FormulaKind) (at style : ℕ) → HasStri
 formula_string count kinds.Single at style = tt
 formula_string count kinds.Dynamic at style = tt
 
+pub strings_with : (count : ℕ) (place : CellPlace) (cell : Cell) → HasString count cell → (grid : Grid) → HasStrings count grid → HasStrings count (with_cell_in place cell grid)
+strings_with count place cell is grid h = written_so (HasString count) (λ s. tt) (strings_reset count) grid.cells h place cell is
+
 pub strings_written : (count : ℕ) (place : CellPlace) (kind : FormulaKind) (at style : ℕ) (grid : Grid) → HasStrings count grid → HasStrings count (with_cell_in place (formula_cell kind at style) grid)
-strings_written count place kind at style grid h =
-    written_so (HasString count) (λ s. tt) (strings_reset count) grid.cells h place (formula_cell kind at style) (formula_string count kind at style)
+strings_written count place kind at style = strings_with count place (formula_cell kind at style) (formula_string count kind at style)
 
 abbrev IsLooseCell : Cell → Type 0
 IsLooseCell x = is_loose (shape_of x) ≡ true
@@ -114,11 +117,11 @@ loose_reset (cells.CellFormula f s v) h = refl
 loose_reset (cells.ArrayFormula f s r kind v) h = refl
 loose_reset (cells.SpillCell s a v) h = h
 
+pub plain_with : (place : CellPlace) (cell : Cell) → is_loose (shape_of cell) ≡ true → (grid : Grid) → IsPlain grid → IsPlain (with_cell_in place cell grid)
+plain_with place cell loose grid h = record { merges = h.merges; loose = written_so IsLooseCell (λ s. refl) loose_reset grid.cells h.loose place cell loose }
+
 pub plain_written : (place : CellPlace) (kind : FormulaKind) (at style : ℕ) (grid : Grid) → IsPlain grid → IsPlain (with_cell_in place (formula_cell kind at style) grid)
-plain_written place kind at style grid h = record {
-  merges = h.merges;
-  loose = written_so IsLooseCell (λ s. refl) loose_reset grid.cells h.loose place (formula_cell kind at style) (formula_loose kind at style);
-}
+plain_written place kind at style = plain_with place (formula_cell kind at style) (formula_loose kind at style)
 
 -- a plain grid has no array whose area is fixed
 no_and : (b : Bool) → (b && false) ≡ false
@@ -190,19 +193,40 @@ pub told_again : {T : Type 0} (r : Result T BookError) (e : BookError) (o : Opti
 told_again (Ok x) e o h t = let no : false ≡ true = h.0 in cc
 told_again (Err f) e o h t = (t.0, ap refusal_of h.1 ∙ t.1, t.2)
 
+free_cell : (grid : Grid) (place : CellPlace) → IsGrid grid → is_row place.0 ≡ true → is_column place.1 ≡ true → is_covered grid.merged_cells place ≡ false → is_fixed_at celled grid.cells place ≡ false → TakesCell place grid
+free_cell grid place whole row column uncovered unfixed = record {
+  whole = whole;
+  inside = and_from _ _ row column;
+  free = ap₂ (λ (covered fixed : Bool). refused_by covered grid_errors.MergedPart (refused_by fixed grid_errors.ArrayPart (Ok tt))) uncovered unfixed;
+}
+
 pub takes_text : (grid : Grid) (place : CellPlace) (text : List ℕ) → IsGrid grid → first_refusal (text_causes grid place text) ≡ None → TakesCell place grid
 takes_text grid place text whole none =
     let clear = text_clear (is_row place.0) (is_column place.1) (is_covered grid.merged_cells place) (is_fixed_at celled grid.cells place) (is_formula_text text) none in
-    record {
-      whole = whole;
-      inside = and_from _ _ clear.0 clear.1;
-      free = ap₂ (λ (covered fixed : Bool). refused_by covered grid_errors.MergedPart (refused_by fixed grid_errors.ArrayPart (Ok tt))) clear.2 clear.3;
-    }
+    free_cell grid place whole clear.0 clear.1 clear.2 clear.3
 
--- A style without its quote flag. ----
+-- The same of a value. ----
 
-abbrev restyled_by : Bool → List Style → ℕ → Numbered
-restyled_by same styles number = if same then record { number = number; styles = styles } else numbered (unquoted (style_at styles number)) styles
+value_clear : (a b c d : Bool) → first_refusal ((not a, InvalidRow) ∷ (not b, InvalidColumn) ∷ (c, MergedPart) ∷ (d, ArrayPart) ∷ []) ≡ None → (a ≡ true) × (b ≡ true) × (c ≡ false) × (d ≡ false)
+value_clear false b c d h = cc
+value_clear true false c d h = cc
+value_clear true true true d h = cc
+value_clear true true false true h = cc
+value_clear true true false false h = (refl, refl, refl, refl)
+
+pub takes_cell : (grid : Grid) (place : CellPlace) → IsGrid grid → first_refusal (value_causes grid place) ≡ None → TakesCell place grid
+takes_cell grid place whole none =
+    let clear = value_clear (is_row place.0) (is_column place.1) (is_covered grid.merged_cells place) (is_fixed_at celled grid.cells place) none in
+    free_cell grid place whole clear.0 clear.1 clear.2 clear.3
+
+-- what refuses it, by what refuses the cell
+pub value_told : (grid : Grid) (place : CellPlace) → is_row place.0 ≡ true → is_column place.1 ≡ true → first_refusal (value_causes grid place) ≡ first_refusal (cell_causes grid place)
+value_told grid place row column = ap₂ (λ (row column : Bool). first_refusal ((not row, InvalidRow) ∷ (not column, InvalidColumn) ∷ cell_causes grid place)) row column
+
+-- A style with another quote flag. ----
+
+abbrev restyled_by : (Style → Style) → Bool → List Style → ℕ → Numbered
+restyled_by change same styles number = if same then record { number = number; styles = styles } else numbered (change (style_at styles number)) styles
 
 flag_itself : (b : Bool) → is_flag b b ≡ true
 flag_itself true = refl
@@ -212,24 +236,26 @@ color_itself : (c : Color) → is_color c c ≡ true
 color_itself colors.None = refl
 color_itself (colors.Rgb t) = (bytes_eq-Decides t t).1 refl
 
-is_same : (s : Style) → s.quote_prefix ≡ false → is_style (unquoted s) s ≡ true
+is_same : (quoted : Bool) (s : Style) → s.quote_prefix ≡ quoted → is_style (with_quote_prefix quoted s) s ≡ true
 unfolding is_style
-is_same s e =
-    and_from _ _ (and_from _ _ (and_from _ _ ((bytes_eq-Decides s.num_fmt s.num_fmt).1 refl) (ap (is_flag false) e)) (flag_itself s.bold)) (color_itself s.fill)
+is_same quoted s e =
+    and_from _ _ (and_from _ _ (and_from _ _ ((bytes_eq-Decides s.num_fmt s.num_fmt).1 refl) (ap (is_flag quoted) e ∙ flag_itself quoted)) (flag_itself s.bold)) (color_itself s.fill)
 
-is_other : (s : Style) → s.quote_prefix ≡ true → is_style (unquoted s) s ≡ false
+is_other : (quoted : Bool) (s : Style) → s.quote_prefix ≡ not quoted → is_style (with_quote_prefix quoted s) s ≡ false
 unfolding is_style
-is_other s e =
-    ap (λ q. bytes_eq s.num_fmt s.num_fmt && is_flag false q && is_flag s.bold s.bold && is_color s.fill s.fill) e
+is_other quoted s e =
+    ap (λ (b : Bool). bytes_eq s.num_fmt s.num_fmt && b && is_flag s.bold s.bold && is_color s.fill s.fill) (ap (is_flag quoted) e ∙ flag_not quoted)
     ∙ ap (λ (b : Bool). b && is_flag s.bold s.bold && is_color s.fill s.fill) (no_and (bytes_eq s.num_fmt s.num_fmt))
+  where
+    flag_not : (b : Bool) → is_flag b (not b) ≡ false
+    flag_not true = refl
+    flag_not false = refl
 
-pub unquoted_kept : (styles : List Style) (number : ℕ) → (style_at styles number).quote_prefix ≡ false → restyled unquoted number styles ≡ record { number = number; styles = styles }
-unquoted_kept styles number e =
-    ap (λ b. restyled_by b styles number) (is_same (style_at styles number) e)
+pub quote_kept : (quoted : Bool) (styles : List Style) (number : ℕ) → (style_at styles number).quote_prefix ≡ quoted → restyled (with_quote_prefix quoted) number styles ≡ record { number = number; styles = styles }
+quote_kept quoted styles number e = ap (λ b. restyled_by (with_quote_prefix quoted) b styles number) (is_same quoted (style_at styles number) e)
 
-pub unquoted_new : (styles : List Style) (number : ℕ) → (style_at styles number).quote_prefix ≡ true → restyled unquoted number styles ≡ numbered (unquoted (style_at styles number)) styles
-unquoted_new styles number e =
-    ap (λ b. restyled_by b styles number) (is_other (style_at styles number) e)
+pub quote_new : (quoted : Bool) (styles : List Style) (number : ℕ) → (style_at styles number).quote_prefix ≡ not quoted → restyled (with_quote_prefix quoted) number styles ≡ numbered (with_quote_prefix quoted (style_at styles number)) styles
+quote_new quoted styles number e = ap (λ b. restyled_by (with_quote_prefix quoted) b styles number) (is_other quoted (style_at styles number) e)
 
 -- and taken back
 take_all : {X : Type 0} (xs : List X) → take (length xs) xs ≡ xs
@@ -241,13 +267,16 @@ take_front [] [] = refl
 take_front [] (y ∷ ys) = refl
 take_front (x ∷ xs) ys = ap (λ rest. x ∷ rest) (take_front xs ys)
 
-pub taken_back : (styles : List Style) (number : ℕ) → take (length styles) (restyled unquoted number styles).styles ≡ styles
-taken_back styles number = at (is_style (unquoted (style_at styles number)) (style_at styles number))
+pub all_taken_back : (change : Style → Style) (styles : List Style) (number : ℕ) → take (length styles) (restyled change number styles).styles ≡ styles
+all_taken_back change styles number = at (is_style (change (style_at styles number)) (style_at styles number))
   where
     in_or_at_end : (t : Bool) (s : Style) → take (length styles) (cond t styles (styles ++ s ∷ [])) ≡ styles
     in_or_at_end true s = take_all styles
     in_or_at_end false s = take_front styles (s ∷ [])
 
-    at : (t : Bool) → take (length styles) (restyled_by t styles number).styles ≡ styles
+    at : (t : Bool) → take (length styles) (restyled_by change t styles number).styles ≡ styles
     at true = take_all styles
-    at false = in_or_at_end (is_some (first_place (unquoted (style_at styles number)) styles)) (unquoted (style_at styles number))
+    at false = in_or_at_end (is_some (first_place (change (style_at styles number)) styles)) (change (style_at styles number))
+
+pub taken_back : (styles : List Style) (number : ℕ) → take (length styles) (restyled unquoted number styles).styles ≡ styles
+taken_back = all_taken_back unquoted

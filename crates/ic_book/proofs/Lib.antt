@@ -2,6 +2,7 @@ pub mod Accepted
 pub mod AddedNames
 pub mod BookLemmas
 pub mod BookValid
+pub mod CellReads
 pub mod ChangeLemmas
 pub mod DoesLemmas
 pub mod GoneNames
@@ -23,6 +24,7 @@ pub mod SparedBodies
 pub mod StartLemmas
 pub mod StyleLemmas
 pub mod StyleSetLemmas
+pub mod ValueLemmas
 pub mod WholeLemmas
 pub mod WholeWritten
 pub mod WrittenLemmas

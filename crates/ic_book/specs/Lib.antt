@@ -1,4 +1,5 @@
 pub mod Book
+pub mod Cells
 pub mod Change
 pub mod Does
 pub mod Fields
@@ -11,5 +12,6 @@ pub mod Refused
 pub mod Scene
 pub mod Served
 pub mod Styled
+pub mod Values
 pub mod Whole
 pub mod Written

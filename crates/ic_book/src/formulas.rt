@@ -27,6 +27,7 @@ ghost use Rattle.ic_book.specs.Refused.{Refuses, Tells, TellsOnly};
 ghost use Rattle.ic_book.specs.Served.{served_writing_step};
 ghost use Rattle.ic_book.specs.Written.{WritesFormula, cell_causes, kind_of, pool_at, text_causes, with_pool, write_refusal};
 
+use crate::values::with_quote;
 use crate::{BookError, Model};
 use ic_cells::Styles;
 use ic_grid::{Grid, GridError};
@@ -356,7 +357,7 @@ fn body_in<'t>(grid: &Grid, row: i32, column: i32, text: &'t str) -> Result<&'t 
 }
 
 /// Whether merged cells or an array forbid to write a cell of a sheet.
-fn can_write(grid: &Grid, row: i32, column: i32) -> Result<(), BookError>
+pub(crate) fn can_write(grid: &Grid, row: i32, column: i32) -> Result<(), BookError>
     ensures { TellsOnly result (first_refusal (cell_causes grid.now (row, column))) }
 {
     match grid.can_write(row, column) {
@@ -389,10 +390,7 @@ fn without_quote(styles: &mut Styles, style: usize) -> Result<usize, OutOfMemory
     ensures styles { OnOk result (styles.new ≡ (restyled unquoted style styles.old).styles) }
     ensures err { OnErr result (styles.new ≡ styles.old) }
 {
-    if styles.style_is_quote_prefix(style) {
-        return styles.get_style_without_quote_prefix(style);
-    }
-    Ok(style)
+    with_quote(styles, style, false)
 }
 
 /// A text after a sign.

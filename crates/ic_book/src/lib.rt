@@ -9,6 +9,7 @@
 #![tactic(auto)]
 
 mod about;
+mod cells;
 mod error;
 mod formulas;
 mod law;
@@ -26,6 +27,7 @@ mod styled;
 mod styles;
 mod tab;
 mod tabs;
+mod values;
 
 pub use error::BookError;
 pub use ic_pool::Steps;

@@ -106,6 +106,15 @@ pub at_err : {T E : Type 0} (r : Result T E) (P : Type 0) → P → OnErr r P
 at_err (Ok x) P p = tt
 at_err (Err e) P p = p
 
+-- what holds anyway holds at an answer, and nothing is said of one at an error
+pub at_ok : {T E : Type 0} (r : Result T E) (P : Type 0) → P → OnOk r P
+at_ok (Ok x) P p = p
+at_ok (Err e) P p = tt
+
+pub not_ok : {T E : Type 0} {e : E} (r : Result T E) (P : Type 0) → r ≡ Err e → OnOk r P
+not_ok (Ok x) P is = cc
+not_ok (Err e) P is = tt
+
 -- what is left where the look-up could be made, and nothing after it
 pub looked_up : (s : Sheet) (between after : PoolState) → between ≡ record s.pool { is_whole = true } → after ≡ between → IsSameOrLooksUp s (record s { pool = after })
 looked_up s between after made same = inr (ap (λ (p : PoolState). let t : Sheet = record s { pool = p } in t) (same ∙ made))

@@ -1,0 +1,27 @@
+use Rattle.std.proofs.Common.{List, ap, flat_map, subst, ◌∙◌}
+use Rattle.std.specs.List.{enumerate_from}
+use Rattle.ic_machine.specs.Fields.{fields_of_place, places_fields}
+use Rattle.ic_machine.specs.subjects.Reading.{all_cells_step, sheet_places}
+use Rattle.ic_sheets.specs.declared.sheet.Sheet.{Sheet as HeldSheet}
+use Rattle.ic_book.specs.Book.{IsValidBook, ModelState}
+use Rattle.ic_book.specs.Cells.{places_from}
+use Rattle.ic_book.specs.Whole.{whole_of}
+use Rattle.ic_book.proofs.CellReads.{places_told}
+use Rattle.ic_book.proofs.SettingLemmas.{lacks_memory, tells}
+use Rattle.ic_book.proofs.model.Model.get_all_cells.Goals as goal
+
+pub returns : goal.returns
+unfolding all_cells_step
+returns c = record {
+  does =
+      tells c.args.self.now (subst (λ (m : ModelState). IsValidBook m.book) c.self.view_is c.self.invariant.valid) places_fields (flat_map sheet_places (enumerate_from 0 (whole_of c.args.self.now.book).sheets)) c.in_ok-all_places.field-0
+      (ap (flat_map fields_of_place) c.in_ok-all_places.ensures ∙ ap (λ (ws : List HeldSheet). flat_map fields_of_place (places_from 0 ws)) c.as_slice.ensures.sheets ∙ places_told c.self.inside.about.strings 0 c.self.inside.sheets
+      ∙ ap (λ (m : ModelState). flat_map sheet_places (enumerate_from 0 (whole_of m.book).sheets)) c.self.view_is);
+}
+
+pub returns-in_err-all_places : goal.returns-in_err-all_places
+unfolding all_cells_step
+returns-in_err-all_places c = record {
+  does =
+      lacks_memory c.args.self.now (subst (λ (m : ModelState). IsValidBook m.book) c.self.view_is c.self.invariant.valid) places_fields (flat_map sheet_places (enumerate_from 0 (whole_of c.args.self.now.book).sheets)) c.from_residual.result c.from_residual.ensures;
+}

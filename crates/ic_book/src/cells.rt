@@ -1,0 +1,151 @@
+//! What cells hold: their values, their types, and which there are.
+ghost use Rattle.std.specs.Prelude.{◌≡◌, ◌++◌, IfOk, OnOk, map, option_copied, true};
+ghost use Rattle.std.specs.BTreeMap.{IsOrdered, keys};
+ghost use Rattle.std.specs.Option.{option_map_or};
+ghost use Rattle.ic_cells.specs.Cell.{type_of, value_of};
+ghost use Rattle.ic_cells.specs.Maps.{place_cmp};
+ghost use Rattle.ic_grid.specs.Shape.{is_empty, shape_of};
+ghost use Rattle.ic_machine.specs.Fields.{places_fields, type_field};
+ghost use Rattle.ic_machine.specs.Reply.{bool_field};
+ghost use Rattle.ic_machine.specs.subjects.Reading.{GetAllCells, GetCellType, GetCellValueByIndex, IsEmptyCell, reading_step, value_fields};
+ghost use Rattle.ic_book.specs.Book.{IsValidBook};
+ghost use Rattle.ic_book.specs.Cells.{FindsCell, place_in, places_from};
+ghost use Rattle.ic_book.specs.Does.{Does, DoesOnly};
+
+use crate::{BookError, Model};
+use ic_cells::{Cell, CellIndex, CellType, CellValue};
+use ic_laws::{Items, OutOfMemory, Text};
+use ic_sheets::Sheet;
+use ic_tables::Language;
+use std::alloc::Global;
+use std::collections::BTreeMap;
+
+impl<'a> Model<'a> {
+    /// The value of the cell at a row and a column, both from 1, of the sheet at an index, from 0: a number, a boolean or
+    /// a text; an error value is the text of its word in the language in force, and a formula without a value the text
+    /// `#ERROR!`. `CellValue::None` exactly where no cell stands or an empty one, also outside the sheet.
+    ///
+    /// `InvalidSheet` exactly where no sheet stands at the index; `OutOfMemory` only where one does.
+    pub fn get_cell_value_by_index(
+        &self,
+        sheet_index: u32,
+        row: i32,
+        column: i32,
+    ) -> Result<CellValue, BookError>
+        ensures does { Does reading_step (GetCellValueByIndex sheet_index row column) value_fields
+            result self.now self.now }
+    {
+        let cell = self.cell_at(sheet_index, row, column)?;
+        let strings = self.about.strings.as_items();
+        Ok(value_in(self.alloc, cell, strings, self.language)?)
+    }
+
+    /// The type of the value of the cell at a row and a column, both from 1, of the sheet at an index, from 0. `Number`
+    /// where no cell stands, also outside the sheet; an empty cell and a formula without a value are numbers too.
+    ///
+    /// `InvalidSheet` exactly where no sheet stands at the index. It takes no memory.
+    pub fn get_cell_type(&self, sheet: u32, row: i32, column: i32) -> Result<CellType, BookError>
+        ensures does { DoesOnly reading_step (GetCellType sheet row column) type_field
+            result self.now self.now }
+    {
+        Ok(type_in(self.cell_at(sheet, row, column)?))
+    }
+
+    /// Whether the place at a row and a column, both from 1, of the sheet at an index, from 0, holds nothing but a style:
+    /// no cell, or an empty one. So it is at each place outside the sheet.
+    ///
+    /// `InvalidSheet` exactly where no sheet stands at the index. It takes no memory.
+    pub fn is_empty_cell(&self, sheet: u32, row: i32, column: i32) -> Result<bool, BookError>
+        ensures does { DoesOnly reading_step (IsEmptyCell sheet row column) bool_field
+            result self.now self.now }
+    {
+        Ok(is_empty(self.cell_at(sheet, row, column)?))
+    }
+
+    /// The places of all cells, empty ones too, by the indexes of their sheets, from 0, and by rows and columns, from 1.
+    /// Only memory can be missing.
+    pub fn get_all_cells(&self) -> Result<Vec<CellIndex>, BookError>
+        ensures does { Does reading_step GetAllCells places_fields result self.now self.now }
+    {
+        Ok(all_places(self.alloc, self.sheets.as_slice())?)
+    }
+
+    /// The cell at a place, which may lie outside of its sheet.
+    fn cell_at(&self, sheet: u32, row: i32, column: i32) -> Result<Option<&Cell>, BookError>
+        ensures finds { FindsCell sheet row column result self.now }
+        ensures valid { IsValidBook self.now.book }
+    {
+        match self.sheets.as_slice().get(sheet as usize) {
+            Some(sheet) => Ok(sheet.grid.cells.get(row, column)),
+            None => Err(BookError::InvalidSheet),
+        }
+    }
+}
+
+/// The value of a cell, if there is one.
+fn value_in(
+    alloc: Global,
+    cell: Option<&Cell>,
+    strings: &Items<Text>,
+    language: &Language,
+) -> Result<CellValue, OutOfMemory>
+    ensures { IfOk result (λ v. v ≡ option_map_or (value_of strings.now language.now)
+        (option_copied cell) CellValue.None) }
+{
+    match cell {
+        Some(cell) => cell.value(alloc, strings, language),
+        None => Ok(CellValue::None),
+    }
+}
+
+/// The type of its value.
+fn type_in(cell: Option<&Cell>) -> CellType
+    ensures { result ≡ option_map_or type_of (option_copied cell) CellType.Number }
+{
+    match cell {
+        Some(cell) => cell.get_type(),
+        None => CellType::Number,
+    }
+}
+
+/// Whether it holds nothing but a style.
+fn is_empty(cell: Option<&Cell>) -> bool
+    ensures { result ≡ option_map_or (λ x. is_empty (shape_of x)) (option_copied cell) true }
+{
+    match cell {
+        Some(Cell::EmptyCell { .. }) => true,
+        Some(_) => false,
+        None => true,
+    }
+}
+
+/// The places of all cells of these sheets.
+fn all_places(alloc: Global, sheets: &[Sheet]) -> Result<Vec<CellIndex>, OutOfMemory>
+    ensures { IfOk result (λ all. all.items ≡ places_from 0 sheets.now) }
+{
+    let mut all = Vec::new(alloc);
+    for (index, sheet) in sheets.iter().enumerate() {
+        push_places(&mut all, index as u32, sheet.grid.cells.as_map())?;
+    }
+    Ok(all)
+}
+
+/// Puts the places of the cells of a sheet at the end.
+fn push_places(
+    all: &mut Vec<CellIndex>,
+    index: u32,
+    cells: &BTreeMap<(i32, i32), Cell>,
+) -> Result<(), OutOfMemory>
+    ensures pushed { OnOk result (all.new.items
+        ≡ all.old.items ++ map (place_in index) (keys cells.now)) }
+    ensures ordered { IsOrdered place_cmp cells.now }
+{
+    for place in cells.keys() {
+        all.push(CellIndex {
+            index,
+            row: place.0,
+            column: place.1,
+        })?;
+    }
+    Ok(())
+}
