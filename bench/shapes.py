@@ -209,3 +209,47 @@ def cleared(count):
 
 def column_cleared(column, count):
     return [f"clear\t1\t{column}\t1\t1048576\tfalse"] * count
+
+
+def cell(i):
+    """The words of the cell of number i of the first sheet, each another."""
+    return f"0\t{i % ROWS + 1}\t{i // ROWS + 1}"
+
+
+def numbers(count, start=0):
+    """Numbers with and without decimals and signs, each written into a cell of its own."""
+    for i in range(count):
+        amount = (i + start) * 7919 % 1_000_003
+        yield f"update_cell_with_number\t{cell(i)}\t{'-' if i % 5 == 0 else ''}{amount}{f'.{i % 97:02}' if i % 3 else ''}"
+
+
+def booleans(count):
+    for i in range(count):
+        yield f"update_cell_with_bool\t{cell(i)}\t{'true' if i % 3 else 'false'}"
+
+
+def values(count):
+    """The values of the same cells."""
+    for i in range(count):
+        yield f"get_cell_value_by_index\t{cell(i)}"
+
+
+def row_heights(count):
+    for i in range(count):
+        yield f"set_row_height\t0\t{i * 7919 % 1_000_003 + 1}\t{i % 5_000}"
+
+
+def row_heights_read(count):
+    for i in range(count):
+        yield f"get_row_height\t0\t{i + 1}"
+
+
+def row_styles(count, many):
+    """So many different styles, each set for row after row."""
+    for i in range(count):
+        yield f"set_row_style\t0\t{i + 1}\t#,##0.00 [{i % many}]\t0\t{i % 2}\t{'#FF8800' if i % 3 else '-'}"
+
+
+def row_styles_read(count):
+    for i in range(count):
+        yield f"get_row_style\t0\t{i + 1}"

@@ -6,7 +6,9 @@ pub mod ChangeLemmas
 pub mod DoesLemmas
 pub mod GoneNames
 pub mod GridLemmas
+pub mod GridPartLemmas
 pub mod HeldLemmas
+pub mod LineLemmas
 pub mod LookUpLemmas
 pub mod MentionPairs
 pub mod ModelLemmas
@@ -19,6 +21,8 @@ pub mod ReadLemmas
 pub mod SettingLemmas
 pub mod SparedBodies
 pub mod StartLemmas
+pub mod StyleLemmas
+pub mod StyleSetLemmas
 pub mod WholeLemmas
 pub mod WholeWritten
 pub mod WrittenLemmas

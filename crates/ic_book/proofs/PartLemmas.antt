@@ -32,7 +32,7 @@ use Rattle.ic_book.specs.declared.error.BookError.TheVariants as errors
 use Rattle.ic_book.proofs.WrittenLemmas.{updated_alike}
 
 -- lists whose item at an index is changed into itself stay
-updated_same : {X : Type 0} (f : X → X) (i : ℕ) (xs : List X) (x : X) → slice_get xs i ≡ Some x → f x ≡ x → updated_at f i xs ≡ xs
+pub updated_same : {X : Type 0} (f : X → X) (i : ℕ) (xs : List X) (x : X) → slice_get xs i ≡ Some x → f x ≡ x → updated_at f i xs ≡ xs
 updated_same f i [] x at e = refl
 updated_same {X} f zero (y ∷ xs) x at e = let same : x ≡ y = cc in ap (λ z. z ∷ xs) (subst (λ (z : X). f z ≡ z) same e)
 updated_same f (suc i) (y ∷ xs) x at e = ap (λ rest. y ∷ rest) (updated_same f i xs x at e)
@@ -43,16 +43,16 @@ abbrev pub with_tab : ℕ → Tab → Book → Book
 with_tab index tab book = record book { sheets = updated_at (λ s. record s { tab = tab }) index book.sheets }
 
 module _ (index : ℕ) (tab : Tab) (book : Book) (valid : IsValidBook book) (sheet : BookSheet) (at : slice_get book.sheets index ≡ Some sheet) where
-  abbrev old_sheet : machine.Sheet
+  abbrev pub old_sheet : machine.Sheet
   old_sheet = whole_sheet book.strings sheet
 
   abbrev new_sheet : machine.Sheet
   new_sheet = record old_sheet { tab = whole_tab tab }
 
-  old_there : slice_get (whole_of book).sheets index ≡ Some old_sheet
+  pub old_there : slice_get (whole_of book).sheets index ≡ Some old_sheet
   old_there = slice_get-map (whole_sheet book.strings) book.sheets index ∙ ap (option_map (whole_sheet book.strings)) at
 
-  old_holds : HoldsOf (notations_in book) (machine.scene_in (whole_of book)) (length book.styles) old_sheet
+  pub old_holds : HoldsOf (notations_in book) (machine.scene_in (whole_of book)) (length book.styles) old_sheet
   old_holds = holds_at (whole_of book) valid.whole index old_sheet old_there
 
   -- few enough of its rows and columns stay in sight
@@ -97,12 +97,12 @@ module _ (book : Book) (index : ℕ) where
   abbrev strings : List (List ℕ)
   strings = book.strings
 
-  found : (step : machine.Sheet → Stepped machine.Sheet) (sheet : BookSheet) → slice_get book.sheets index ≡ Some sheet
+  pub found : (step : machine.Sheet → Stepped machine.Sheet) (sheet : BookSheet) → slice_get book.sheets index ≡ Some sheet
       → on_sheet (whole_of book) index step ≡ put_in (with_sheet (whole_of book) index) (step (whole_sheet strings sheet))
   found step sheet is =
       ap (λ o. found_or InvalidSheet (option_map (λ s. put_in (with_sheet (whole_of book) index) (step s)) o)) (slice_get-map (whole_sheet strings) book.sheets index ∙ ap (option_map (whole_sheet strings)) is)
 
-  missing : (step : machine.Sheet → Stepped machine.Sheet) → slice_get book.sheets index ≡ None → on_sheet (whole_of book) index step ≡ Err InvalidSheet
+  pub missing : (step : machine.Sheet → Stepped machine.Sheet) → slice_get book.sheets index ≡ None → on_sheet (whole_of book) index step ≡ Err InvalidSheet
   missing step none =
       ap (λ o. found_or InvalidSheet (option_map (λ s. put_in (with_sheet (whole_of book) index) (step s)) o)) (slice_get-map (whole_sheet strings) book.sheets index ∙ ap (option_map (whole_sheet strings)) none)
 
@@ -110,15 +110,15 @@ module _ (book : Book) (index : ℕ) where
 abbrev tab_on : (machine.Tab → Stepped machine.Tab) → machine.Sheet → Stepped machine.Sheet
 tab_on step sheet = put_in (λ tab. record sheet { tab = tab }) (step sheet.tab)
 
-done_in : {A B : Type 0} (f : A → B) (made : Stepped A) → IsDone made → IsDone (put_in f made)
+pub done_in : {A B : Type 0} (f : A → B) (made : Stepped A) → IsDone made → IsDone (put_in f made)
 done_in f (Ok done) h = tt
 done_in f (Err refusal) h = h
 
-refused_in : {A B : Type 0} (f : A → B) (memory : Bool) (made : Stepped A) (refusal : Option Refusal) → PartRefused memory made refusal → PartRefused memory (put_in f made) refusal
+pub refused_in : {A B : Type 0} (f : A → B) (memory : Bool) (made : Stepped A) (refusal : Option Refusal) → PartRefused memory made refusal → PartRefused memory (put_in f made) refusal
 refused_in f memory made (Some refusal) h = ap (put_in f) h
 refused_in f memory made None h = (h.0, done_in f made h.1)
 
-part_refused : (memory : Bool) (made : Stepped machine.Book) (old new : ModelState) (refusal : Option Refusal) → PartRefused memory made refusal → new ≡ old → Refused (wants memory) made old new refusal
+pub part_refused : (memory : Bool) (made : Stepped machine.Book) (old new : ModelState) (refusal : Option Refusal) → PartRefused memory made refusal → new ≡ old → Refused (wants memory) made old new refusal
 part_refused memory made old new (Some refusal) h same = (h, same)
 part_refused true made old new None h same = (h.1, same)
 part_refused false made old new None h same = let no : false ≡ true = h.0 in cc
@@ -180,7 +180,7 @@ module _ (about : About) (ws : List HeldSheet) (ds : List Definition) (locale : 
   pub not_held : length ws ≤ index → slice_get its_state.book.sheets index ≡ None
   not_held past = slice_get-map sheet_of ws index ∙ ap (option_map sheet_of) (slice_get_past ws index past)
 
-  in_state : (s : HeldSheet) → slice_get ws index ≡ Some s → slice_get its_state.book.sheets index ≡ Some (sheet_of s)
+  pub in_state : (s : HeldSheet) → slice_get ws index ≡ Some s → slice_get its_state.book.sheets index ≡ Some (sheet_of s)
   in_state s at = slice_get-map sheet_of ws index ∙ ap (option_map sheet_of) at
 
   pub frozen_in : (s : HeldSheet) → slice_get ws index ≡ Some s → IsFrozen (whole_tab s.tab)

@@ -9,6 +9,9 @@ use Rattle.ic_book.specs.Book.{IsValidBook, ModelState}
 use Rattle.ic_book.specs.Refused.{refusal_of}
 use Rattle.ic_book.specs.Whole.{whole_of, whole_tab}
 use Rattle.ic_sheets.specs.declared.tab.Tab.{Tab}
+use Rattle.std.specs.Prelude.{ℕ}
+use Rattle.ic_grid.specs.declared.grid.Grid.{Grid}
+use Rattle.ic_book.specs.Book.{whole_grid}
 use Rattle.ic_book.specs.declared.error.BookError.{BookError}
 
 -- when a call may run out of memory: never; only where its step isn't refused; there, or where this refusal holds, which
@@ -85,3 +88,7 @@ module _ {P L T : Type 0} (whole : P → L) (memory : Bool) (made : Stepped L) (
 
 pub record DoesTab {T : Type 0} (memory : Bool) (step : machine.Tab → Stepped machine.Tab) (fields : T → List Field) (result : Result T BookError) (old new : Tab) : Type 0 where
   pub done : PartMade whole_tab memory (step (whole_tab old)) fields old new result
+
+-- the same of a sheet's cells with its rows and columns, whichever the shared strings are
+pub record DoesGrid {T : Type 0} (memory : Bool) (step : machine.Grid → Stepped machine.Grid) (fields : T → List Field) (result : Result T BookError) (old new : Grid) : Type 0 where
+  pub done : (strings : List (List ℕ)) → PartMade (whole_grid strings) memory (step (whole_grid strings old)) fields old new result

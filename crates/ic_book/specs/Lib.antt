@@ -10,5 +10,6 @@ pub mod Parts
 pub mod Refused
 pub mod Scene
 pub mod Served
+pub mod Styled
 pub mod Whole
 pub mod Written

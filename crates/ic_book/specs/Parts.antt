@@ -7,6 +7,15 @@ use Rattle.ic_machine.specs.Book as machine
 use Rattle.ic_machine.specs.Book.{Stepped, on_tab}
 use Rattle.ic_machine.specs.Reply.{Field}
 use Rattle.ic_machine.specs.Valid.{IsFrozen}
+use Rattle.std.specs.Prelude.{ℤ, true}
+use Rattle.std.specs.FinMap as finite
+use Rattle.ic_laws.specs.Position.{is_column, is_row}
+use Rattle.ic_cells.specs.declared.layout.ColumnProps.{ColumnProps}
+use Rattle.ic_cells.specs.declared.layout.RowProps.{RowProps}
+use Rattle.ic_grid.specs.declared.grid.Grid.{Grid}
+use Rattle.ic_machine.specs.Book.{on_grid}
+use Rattle.ic_machine.specs.Valid.{IsStyleNumber}
+use Rattle.ic_book.specs.Does.{DoesGrid}
 use Rattle.ic_sheets.specs.Sheet.{sheet_of}
 use Rattle.ic_sheets.specs.declared.sheet.Sheet.{Sheet as HeldSheet}
 use Rattle.ic_sheets.specs.declared.tab.Tab.{Tab}
@@ -37,3 +46,28 @@ pub record ReadsTab {F T : Type 0} (calls : Once F (Bor Tab × Unit {0}) (Result
   pub does : (memory : Bool) (step : machine.Tab → Stepped machine.Tab) (fields : T → List Field)
       → ((tab : Tab) (r : Result T BookError) → FnOnceReturnsAt calls read tab r → DoesTab memory step fields r tab tab)
       → DoesStep (wants memory) (on_tab (whole_of now.book) sheet step) fields result now now
+
+-- What was set for rows and columns was set for those that a sheet has, and names styles below this number.
+pub record IsLaidOut (count : ℕ) (grid : Grid) : Type 0 where
+  pub rows : (row : ℤ) (props : RowProps) → finite.get grid.rows row ≡ Some props → (is_row row ≡ true) × IsStyleNumber count props.style
+  pub columns : (column : ℤ) (props : ColumnProps) → finite.get grid.columns column ≡ Some props → (is_column column ≡ true) × IsStyleNumber count props.style
+
+-- A change of a sheet leaves its cells and its merged cells, and what was set for rows and columns is so after it where it
+-- was so before.
+pub record StaysLaidOut (before after : Grid) : Type 0 where
+  pub cells : after.cells ≡ before.cells
+  pub merges : after.merged_cells ≡ before.merged_cells
+  pub lines : (count : ℕ) → IsLaidOut count before → IsLaidOut count after
+
+-- The change of a sheet's rows and columns is one of the model: where there is the sheet, what the change does to them is
+-- done.
+pub record ChangesGrid {F T : Type 0} (calls : Once F (MutBor Grid × Unit {0}) (Result T BookError × (MutBor Grid × Unit {0}))) (change : F) (sheet : ℕ) (result : Result T BookError) (old new : ModelState) : Type 0 where
+  pub does : (memory : Bool) (step : machine.Grid → Stepped machine.Grid) (fields : T → List Field)
+      → ((before after : Grid) (r : Result T BookError) → FnOnceReturnsAtMut calls change before r after → DoesGrid memory step fields r before after)
+      → DoesStep (wants memory) (on_grid (whole_of old.book) sheet step) fields result old new
+
+-- the same of what only reads them
+pub record ReadsGrid {F T : Type 0} (calls : Once F (Bor Grid × Unit {0}) (Result T BookError)) (read : F) (sheet : ℕ) (result : Result T BookError) (now : ModelState) : Type 0 where
+  pub does : (memory : Bool) (step : machine.Grid → Stepped machine.Grid) (fields : T → List Field)
+      → ((grid : Grid) (r : Result T BookError) → FnOnceReturnsAt calls read grid r → DoesGrid memory step fields r grid grid)
+      → DoesStep (wants memory) (on_grid (whole_of now.book) sheet step) fields result now now

@@ -1,5 +1,5 @@
-use ic_cells::Styles;
-use ic_laws::{Items, Text};
+use ic_cells::{SharedStrings, Styles};
+use ic_laws::Text;
 
 /// What a workbook has beside its sheets, its definitions and its notation.
 pub struct About<'a> {
@@ -14,7 +14,7 @@ pub struct About<'a> {
     /// By number, from 0.
     pub styles: Styles,
     /// The texts that its cells share, by number from 0.
-    pub strings: Items<Text>,
+    pub strings: SharedStrings,
 }
 
 impl Drop for About<'_> {

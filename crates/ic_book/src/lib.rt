@@ -12,6 +12,9 @@ mod about;
 mod error;
 mod formulas;
 mod law;
+mod layout;
+mod line_styles;
+mod lines;
 mod model;
 mod names;
 mod notation;
@@ -19,6 +22,8 @@ mod parts;
 mod properties;
 mod scene;
 mod sheet_changes;
+mod styled;
+mod styles;
 mod tab;
 mod tabs;
 

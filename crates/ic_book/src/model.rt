@@ -14,8 +14,8 @@ ghost use Rattle.ic_sheets.specs.Sheet.{empty_grid, plain_tab};
 use crate::BookError;
 use crate::about::About;
 use crate::scene::BookScene;
-use ic_cells::Styles;
-use ic_laws::{Finder, Formula, Items, OutOfMemory, Text};
+use ic_cells::{SharedStrings, Styles};
+use ic_laws::{Finder, Formula, OutOfMemory, Text};
 use ic_names::Definitions;
 use ic_sheets::Sheets;
 use ic_tables::{Language, NamedLocale, Tables};
@@ -209,7 +209,7 @@ fn about<'a>(
         theme: Text::from(String::new(alloc)),
         created: moment_text(alloc, moment)?,
         styles: Styles::new(alloc)?,
-        strings: Items::from(Vec::new(alloc)),
+        strings: SharedStrings::new(alloc),
     })
 }
 

@@ -2,11 +2,13 @@
 ghost use Rattle.std.specs.Prelude.{◌≡◌, Result, option_map};
 ghost use Rattle.std.specs.Fn.{FnOnceReturnsAtMut, FnOnceTakesAt, FnOnceTakesAtMut};
 ghost use Rattle.std.specs.List.{slice_get};
-ghost use Rattle.ic_book.specs.Parts.{ChangesTab, FindsSheet, ReadsTab, StaysFrozen};
+ghost use Rattle.ic_book.specs.Parts.{ChangesGrid, ChangesTab, FindsSheet, ReadsGrid, ReadsTab, StaysFrozen, StaysLaidOut};
 ghost use Rattle.ic_book.specs.declared.error.BookError.{BookError};
+ghost use Rattle.ic_grid.specs.declared.grid.Grid.{Grid};
 ghost use Rattle.ic_sheets.specs.declared.tab.Tab.{Tab};
 
 use crate::{BookError, Model};
+use ic_grid::Grid;
 use ic_sheets::{Sheet, Tab};
 
 impl<'a> Model<'a> {
@@ -51,5 +53,38 @@ impl<'a> Model<'a> {
             return Err(BookError::InvalidSheet);
         };
         read(&sheet.tab)
+    }
+
+    /// Changes what is set for the rows and columns of the sheet at an index, from 0. `InvalidSheet` exactly where there is none.
+    pub(crate) fn on_grid<T, F: FnOnce(&mut Grid) -> Result<T, BookError> + Drop>(
+        &mut self,
+        sheet: u32,
+        change: F,
+    ) -> Result<T, BookError>
+        requires callable { (grid : Grid) → FnOnceTakesAtMut F.FnOnce change grid }
+        requires laid_out { (before after : Grid) (r : Result T BookError)
+            → FnOnceReturnsAtMut F.FnOnce change before r after → StaysLaidOut before after }
+        ensures changes { ChangesGrid F.FnOnce change sheet result self.old self.new }
+        ensures looks_up { self.new.has_all ≡ self.old.has_all }
+    {
+        if sheet as usize >= self.sheets.len() {
+            return Err(BookError::InvalidSheet);
+        }
+        self.sheets.change_grid(sheet as usize, change)
+    }
+
+    /// Reads what is set for the rows and columns of the sheet at an index, from 0. `InvalidSheet` exactly where there is none.
+    pub(crate) fn of_grid<T, F: FnOnce(&Grid) -> Result<T, BookError> + Drop>(
+        &self,
+        sheet: u32,
+        read: F,
+    ) -> Result<T, BookError>
+        requires { (grid : Grid) → FnOnceTakesAt F.FnOnce read grid }
+        ensures { ReadsGrid F.FnOnce read sheet result self.now }
+    {
+        let Some(sheet) = self.sheets.as_slice().get(sheet as usize) else {
+            return Err(BookError::InvalidSheet);
+        };
+        read(&sheet.grid)
     }
 }

@@ -30,6 +30,7 @@ mod runs;
 mod scans;
 mod scenes;
 mod sheet;
+mod strings;
 mod styles;
 mod values;
 
@@ -55,6 +56,7 @@ fn call(row: &mut Row<'_>, books: &mut Books<'_>) {
     values::call(row);
     cells::call(row);
     grid::call(row);
+    strings::call(row);
     styles::call(row);
     errors::call(row);
     broken::call(row);

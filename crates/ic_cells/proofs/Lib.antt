@@ -2,4 +2,6 @@ mod CellExamples
 mod IndexLemmas
 mod Literals
 mod MapLemmas
+mod PlacedLemmas
+mod StringLemmas
 mod StyleLemmas

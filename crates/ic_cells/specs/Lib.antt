@@ -2,7 +2,9 @@ pub mod Cell
 pub mod Key
 pub mod Layout
 pub mod Lent
+pub mod Listed
 pub mod Maps
 pub mod Sheet
+pub mod Strings
 pub mod Style
 pub mod Value

@@ -1,7 +1,7 @@
 -- Styles, and where one stands in a list of them.
-use Rattle.std.specs.Prelude.{◌≡◌, ◌≢◌, ℕ, suc, ◌<◌, ◌≤◌, List, [], ◌∷◌, ◌++◌, length, Bool, true, false, not, ◌&&◌, Option, Some, None, is_some, option_map, codes, bytes_eq, if◌then◌else◌}
+use Rattle.std.specs.Prelude.{◌≡◌, ℕ, List, Bool, true, false, not, ◌&&◌, Option, Some, codes, bytes_eq}
 use Rattle.std.specs.List.{slice_get, slice_index_or}
-use Rattle.std.specs.Option.{unwrap_or}
+use Rattle.ic_cells.specs.Listed.{are_apart, number_in, place_in, with_item_in}
 use Rattle.ic_cells.specs.declared.style.Color.{Color}
 use Rattle.ic_cells.specs.declared.style.Color.TheVariants as colors
 use Rattle.ic_cells.specs.declared.style.Style.{Style}
@@ -33,36 +33,23 @@ is_style a b = bytes_eq a.num_fmt b.num_fmt && is_flag a.quote_prefix b.quote_pr
 
 -- the first place at which a style stands in a list, from 0
 abbrev pub first_place : Style → List Style → Option ℕ
-first_place s [] = None
-first_place s (t ∷ ts) = if is_style s t then Some 0 else option_map suc (first_place s ts)
+first_place s styles = place_in is_style s styles
 
 -- the number that a style gets: its first place, or the one at the end where it stands nowhere
 abbrev pub style_number : Style → List Style → ℕ
-style_number s styles = unwrap_or (first_place s styles) (length styles)
+style_number s styles = number_in is_style s styles
 
 -- the list with a style at its end, unless it stands in it
 abbrev pub with_style_in : Style → List Style → List Style
-with_style_in s styles = if is_some (first_place s styles) then styles else styles ++ s ∷ []
+with_style_in s styles = with_item_in is_style s styles
 
 -- the style of a number
 abbrev pub style_at : List Style → ℕ → Style
 style_at styles n = slice_index_or styles n default_style
 
--- a style stands in a list at this place, and at none before
-pub record IsFirstAt (s : Style) (at : ℕ) (styles : List Style) : Type 0 where
-  pub here : slice_get styles at ≡ Some s
-  pub none_before : (k : ℕ) → k < at → slice_get styles k ≢ Some s
-
--- a list has a style first at this place; it is as before where it had the style, and else has it at its end
-pub record IsPlaced (s : Style) (at : ℕ) (before after : List Style) : Type 0 where
-  pub first : IsFirstAt s at after
-  pub found : at < length before → after ≡ before
-  pub pushed : length before ≤ at → after ≡ before ++ s ∷ []
-
 -- no two of these styles are one
 abbrev pub are_different : List Style → Bool
-are_different [] = true
-are_different (s ∷ styles) = not (is_some (first_place s styles)) && are_different styles
+are_different styles = are_apart is_style styles
 
 -- what a list of styles is: the default stands first, and no style stands twice
 pub record AreStyles (styles : List Style) : Type 0 where

@@ -3,8 +3,9 @@
 //! A cell is of one of eight kinds (`Cell`). Which value it has, of which type that is, and which text it shows in a
 //! language and a locale are the tables of `specs/Value` and `specs/Cell`: `Cell::value`, `Cell::get_type` and
 //! `Cell::get_localized_text` answer exactly them. `Styles` is a list of styles in which no two are equal, the default one
-//! first; `specs/Styles` says where a style stands in it. The records of `Worksheet` and `Workbook` have public fields,
-//! whose lists and maps contracts see as lists and finite maps.
+//! first; `specs/Style` says where a style stands in it. `SharedStrings` is a list of texts in which none stands twice;
+//! `specs/Strings` says where a text stands in it. The records of `Worksheet` and `Workbook` have public fields, whose
+//! lists and maps contracts see as lists and finite maps.
 #![tactic(auto)]
 
 mod cell;
@@ -13,6 +14,7 @@ mod layout;
 mod lent;
 mod maps;
 mod sheet;
+mod strings;
 mod style;
 mod styles;
 mod value;
@@ -25,6 +27,7 @@ pub use layout::{
 };
 pub use maps::{LineMap, PlaceMap};
 pub use sheet::{CellIndex, SheetProperties, SheetState, Worksheet};
+pub use strings::SharedStrings;
 pub use style::{Color, Style};
 pub use styles::Styles;
 pub use value::{CellType, CellValue, FormulaValue, SpillValue, law_equal_values};

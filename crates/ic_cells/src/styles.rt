@@ -1,6 +1,7 @@
 ghost use Rattle.std.specs.Prelude.{◌≡◌, ◌<◌, [], ◌∷◌, length, take, chars, option_copied, IfOk, OnErr, OnOk, true, false};
 ghost use Rattle.std.specs.List.{slice_get};
-ghost use Rattle.ic_cells.specs.Style.{AreStyles, IsPlaced, default_style, style_at, style_number, with_format, with_quote_prefix, with_style_in};
+ghost use Rattle.ic_cells.specs.Listed.{IsPlaced};
+ghost use Rattle.ic_cells.specs.Style.{AreStyles, default_style, style_at, style_number, with_format, with_quote_prefix, with_style_in};
 
 use crate::Style;
 use crate::key::Key;

@@ -11,9 +11,11 @@ ghost use Rattle.ic_book.specs.Whole.{whole_of};
 ghost use Rattle.ic_commands.specs.Answered.{Answers, DoesLine, IsCore, LeavesLine};
 
 mod definitions;
+mod layout;
 mod notation;
 mod reading;
 mod sheets;
+mod styles;
 mod tabs;
 mod writing;
 
@@ -22,10 +24,12 @@ use ic_book::{BookError, Model};
 use ic_laws::{OutOfMemory, Text};
 use ic_lines::Line;
 use ic_words::{Command, REPLY_ROOM, command_in, error_reply};
+use layout::answer_layout;
 use notation::answer_notation;
 use reading::answer_reading;
 use sheets::answer_sheets;
 use std::alloc::Global;
+use styles::answer_styles;
 use tabs::answer_tabs;
 use writing::answer_writing;
 
@@ -91,6 +95,8 @@ fn answer(
         Command::Notation(command) => answer_notation(model, command, reply),
         Command::Writing(command) => answer_writing(alloc, model, command, reply),
         Command::Reading(command) => answer_reading(model, command, reply),
+        Command::Styles(command) => answer_styles(alloc, model, command, reply),
+        Command::Layout(command) => answer_layout(model, command, reply),
         Command::Tabs(command) => answer_tabs(alloc, model, command, reply),
     }
 }

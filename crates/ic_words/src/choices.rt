@@ -1,6 +1,6 @@
 //! Texts of closed lists.
 ghost use Rattle.std.specs.Prelude.{◌≡◌, chars};
-ghost use Rattle.ic_machine.specs.Word.{bool_said, state_said};
+ghost use Rattle.ic_machine.specs.Word.{bool_said, flag_said, state_said};
 
 use ic_cells::SheetState;
 
@@ -11,6 +11,17 @@ pub(crate) fn bool_in(text: &str) -> Option<bool>
     match text {
         "true" => Some(true),
         "false" => Some(false),
+        _ => None,
+    }
+}
+
+/// The truth that a flag says: `1` or `0`. None for any other text.
+pub(crate) fn flag_in(text: &str) -> Option<bool>
+    ensures { result ≡ flag_said (chars text.now) }
+{
+    match text {
+        "1" => Some(true),
+        "0" => Some(false),
         _ => None,
     }
 }

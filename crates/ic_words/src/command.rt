@@ -28,19 +28,23 @@ macro_rules! try_subject {
 }
 
 pub mod definitions;
+pub mod layout;
 pub mod notation;
 pub mod reading;
 pub mod sheets;
+pub mod styles;
 pub mod tabs;
 pub mod writing;
 
 use crate::words::first_word;
 use definitions::{Definitions, definitions_named};
 use ic_laws::OutOfMemory;
+use layout::{Layout, layout_named};
 use notation::{Notation, notation_named};
 use reading::{Reading, reading_named};
 use sheets::{Sheets, sheets_named};
 use std::alloc::Global;
+use styles::{Styles, styles_named};
 use tabs::{Tabs, tabs_named};
 use writing::{Writing, writing_named};
 
@@ -54,6 +58,8 @@ pub enum Command<'l> {
     Notation(Notation<'l>),
     Writing(Writing<'l>),
     Reading(Reading),
+    Styles(Styles<'l>),
+    Layout(Layout),
     Tabs(Tabs<'l>),
 }
 
@@ -85,6 +91,8 @@ fn command_named<'l>(
     try_subject!(notation_named(alloc, name, rest), Command::Notation);
     try_subject!(writing_named(alloc, name, rest), Command::Writing);
     try_subject!(reading_named(alloc, name, rest), Command::Reading);
+    try_subject!(styles_named(alloc, name, rest), Command::Styles);
+    try_subject!(layout_named(alloc, name, rest), Command::Layout);
     try_subject!(tabs_named(alloc, name, rest), Command::Tabs);
     Ok(None)
 }

@@ -2,11 +2,14 @@
 ghost use Rattle.std.specs.Prelude.{◌≡◌, ◌++◌, Bool, List, OnErr, OnOk, chars, false, flat_map, string_bytes, true};
 ghost use Rattle.ic_machine.specs.Fields.{fields_of_name, fields_of_sheet, names_fields, no_fields, scope_field};
 ghost use Rattle.ic_machine.specs.Fields.{sheets_fields, string_field, string_only, theme_field};
-ghost use Rattle.ic_machine.specs.Reply.{Field, field_word, position_field};
+ghost use Rattle.ic_machine.specs.Reply.{Field, bool_field, field_word, number_field, position_field};
 ghost use Rattle.ic_machine.specs.Styling.{color_text};
 ghost use Rattle.ic_words.specs.Reply.{AreTexts};
 
-use crate::reply::{push_field, push_number, push_position};
+mod cells;
+mod styles;
+
+use crate::reply::{push_field, push_index, push_number, push_position, push_truth};
 use ic_cells::{Color, SheetProperties, Theme};
 use ic_laws::OutOfMemory;
 
@@ -44,6 +47,36 @@ impl Fields for Option<u32> {
 
     fn write(&self, reply: &mut String) -> Result<(), OutOfMemory> {
         push_number(reply, *self)
+    }
+}
+
+impl Fields for u32 {
+    ghost fields = { number_field };
+
+    ghost memory = { true };
+
+    fn write(&self, reply: &mut String) -> Result<(), OutOfMemory> {
+        push_number(reply, Some(*self))
+    }
+}
+
+impl Fields for usize {
+    ghost fields = { number_field };
+
+    ghost memory = { true };
+
+    fn write(&self, reply: &mut String) -> Result<(), OutOfMemory> {
+        push_index(reply, *self)
+    }
+}
+
+impl Fields for bool {
+    ghost fields = { bool_field };
+
+    ghost memory = { true };
+
+    fn write(&self, reply: &mut String) -> Result<(), OutOfMemory> {
+        push_truth(reply, *self)
     }
 }
 
@@ -145,7 +178,7 @@ fn push_sheet(reply: &mut String, sheet: &SheetProperties) -> Result<(), OutOfMe
 }
 
 /// The text of a color, or `-` for none.
-fn color_text(color: &Color) -> &str
+pub(crate) fn color_text(color: &Color) -> &str
     ensures { chars result.now ≡ color_text color.now }
 {
     match color {

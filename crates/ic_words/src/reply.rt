@@ -4,13 +4,14 @@ ghost use lib.Utf8.{scalars};
 ghost use Rattle.std.specs.Fmt.{decimal};
 ghost use Rattle.ic_laws.specs.Character.{line_feed};
 ghost use Rattle.ic_machine.specs.Refusal.{Refusal, refusal_name};
-ghost use Rattle.ic_machine.specs.Reply.{NumberField, PositionField, TextField, field_text, field_word};
+ghost use Rattle.ic_machine.specs.Reply.{AmountField, BoolField, FlagField, NumberField, PositionField};
+ghost use Rattle.ic_machine.specs.Reply.{TextField, field_text, field_word};
 ghost use Rattle.ic_machine.specs.Reply.{position_text, reply_bytes, reply_text};
 ghost use Rattle.ic_words.specs.Reply.{IsLineText, reply_room};
 
 use crate::fields::Fields;
-use ic_laws::OutOfMemory;
 use ic_laws::scan::push_char;
+use ic_laws::{Amount, OutOfMemory, amount_spelling};
 use ic_lines::push_escaped;
 
 /// The bytes that are enough for a reply without a field. They are reserved before a command changes a book, so that
@@ -70,7 +71,7 @@ pub(crate) fn push_number(reply: &mut String, number: Option<u32>) -> Result<(),
 {
     push_char(reply, '\t')?;
     match number {
-        Some(number) => push_digits(reply, number),
+        Some(number) => push_digits(reply, number as usize),
         None => push_char(reply, '-'),
     }
 }
@@ -85,6 +86,54 @@ pub(crate) fn push_position(reply: &mut String, position: i32) -> Result<(), Out
     push_signed(reply, position)
 }
 
+/// Appends a field that is an index: a tab, and its digits.
+pub(crate) fn push_index(reply: &mut String, index: usize) -> Result<(), OutOfMemory>
+    ensures ok { OnOk result (chars (string_bytes reply.new) ≡ chars (string_bytes reply.old)
+        ++ field_word (NumberField (Some index))) }
+    ensures text { scalars (field_text (NumberField (Some index))) ≡ true }
+{
+    push_char(reply, '\t')?;
+    push_digits(reply, index)
+}
+
+/// Appends a field that is an amount: a tab, and its text with a dot before its decimals.
+pub(crate) fn push_amount(reply: &mut String, amount: Amount) -> Result<(), OutOfMemory>
+    ensures ok { OnOk result (chars (string_bytes reply.new) ≡ chars (string_bytes reply.old)
+        ++ field_word (AmountField amount)) }
+    ensures text { OnOk result (scalars (field_text (AmountField amount)) ≡ true) }
+{
+    let text = amount_spelling(*reply.allocator(), amount, '.')?;
+    push_field(reply, text.as_str())
+}
+
+/// Appends a field that is `true` or `false`.
+#[tactic(auto, unfolding(crate::proofs::Literals::literal))]
+pub(crate) fn push_truth(reply: &mut String, truth: bool) -> Result<(), OutOfMemory>
+    ensures ok { OnOk result (chars (string_bytes reply.new) ≡ chars (string_bytes reply.old)
+        ++ field_word (BoolField truth)) }
+    ensures text { scalars (field_text (BoolField truth)) ≡ true }
+{
+    if truth {
+        push_field(reply, "true")
+    } else {
+        push_field(reply, "false")
+    }
+}
+
+/// Appends a field that is a flag: `1` where it is set, else `0`.
+#[tactic(auto, unfolding(crate::proofs::Literals::literal))]
+pub(crate) fn push_flag(reply: &mut String, flag: bool) -> Result<(), OutOfMemory>
+    ensures ok { OnOk result (chars (string_bytes reply.new) ≡ chars (string_bytes reply.old)
+        ++ field_word (FlagField flag)) }
+    ensures text { scalars (field_text (FlagField flag)) ≡ true }
+{
+    if flag {
+        push_field(reply, "1")
+    } else {
+        push_field(reply, "0")
+    }
+}
+
 /// Appends the decimal digits of a number, after a minus where it is below 0.
 fn push_signed(reply: &mut String, number: i32) -> Result<(), OutOfMemory>
     ensures { OnOk result (chars (string_bytes reply.new) ≡ chars (string_bytes reply.old)
@@ -95,7 +144,7 @@ fn push_signed(reply: &mut String, number: i32) -> Result<(), OutOfMemory>
 }
 
 /// Appends the decimal digits of a number.
-fn push_digits(reply: &mut String, number: u32) -> Result<(), OutOfMemory>
+fn push_digits(reply: &mut String, number: usize) -> Result<(), OutOfMemory>
     ensures { OnOk result (chars (string_bytes reply.new) ≡ chars (string_bytes reply.old)
         ++ decimal number) }
 {

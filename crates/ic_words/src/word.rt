@@ -1,14 +1,16 @@
 //! One word, by its form.
 ghost use Rattle.std.specs.Prelude.{◌≡◌, IfOk, OnErr, chars, option_map};
-ghost use Rattle.ic_machine.specs.Word.{OfBool, OfColor, OfIndex, OfPosition, OfScope, OfState, OfText};
+ghost use Rattle.ic_machine.specs.Word.{OfAmount, OfBool, OfColor, OfFlag, OfIndex, OfPosition};
+ghost use Rattle.ic_machine.specs.Word.{OfScope, OfState, OfText};
 ghost use Rattle.ic_machine.specs.Word.{Said, WordForm};
 ghost use Rattle.ic_words.specs.Words.{HasEscape, color_meant, word_said};
 
-use crate::choices::{bool_in, state_in};
+use crate::choices::{bool_in, flag_in, state_in};
 use crate::numbers::{index_of, position_of, scope_of};
 use crate::text::{WordText, text_of};
 use ic_cells::SheetState;
-use ic_laws::OutOfMemory;
+use ic_input::read_amount;
+use ic_laws::{Amount, OutOfMemory};
 use std::alloc::Global;
 
 /// A value that a word of one form says.
@@ -74,6 +76,42 @@ impl<'l> Word<'l> for bool {
             return Ok(None);
         };
         Ok(bool_in(text.as_str()))
+    }
+}
+
+/// Whether a flag is set, which is said by `1` or `0`.
+#[derive(Drop)]
+pub(crate) struct Flag {
+    pub(crate) set: bool,
+}
+
+impl<'l> Word<'l> for Flag {
+    ghost form = { OfFlag };
+
+    ghost says = { λ flag. flag.set };
+
+    fn of(alloc: Global, word: &'l str) -> Result<Option<Flag>, OutOfMemory> {
+        let Some(text) = text_of(alloc, word)? else {
+            return Ok(None);
+        };
+        match flag_in(text.as_str()) {
+            Some(set) => Ok(Some(Flag { set })),
+            None => Ok(None),
+        }
+    }
+}
+
+/// An amount, with a dot before its decimals.
+impl<'l> Word<'l> for Amount {
+    ghost form = { OfAmount };
+
+    ghost says = { λ amount. amount };
+
+    fn of(alloc: Global, word: &'l str) -> Result<Option<Amount>, OutOfMemory> {
+        let Some(text) = text_of(alloc, word)? else {
+            return Ok(None);
+        };
+        Ok(read_amount(text.as_str(), '.'))
     }
 }
 

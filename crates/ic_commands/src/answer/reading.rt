@@ -9,7 +9,7 @@ use ic_book::Model;
 use ic_laws::OutOfMemory;
 use ic_words::Reading;
 
-/// Does a command that reads a cell, and puts its reply behind a text that has room for one without a field.
+/// Does a command that reads cells, and puts its reply behind a text that has room for one without a field.
 #[tactic(auto, using(crate::proofs::AnswerLemmas::only_read))]
 pub(crate) fn answer_reading(
     model: &mut Model<'_>,
@@ -25,5 +25,18 @@ pub(crate) fn answer_reading(
             model.get_cell_formula(sheet, row, column),
             reply,
         ),
+        Reading::GetCellValueByIndex { sheet, row, column } => told(
+            model.get_cell_value_by_index(sheet, row, column),
+            reply,
+        ),
+        Reading::GetCellType { sheet, row, column } => told(
+            model.get_cell_type(sheet, row, column),
+            reply,
+        ),
+        Reading::IsEmptyCell { sheet, row, column } => told(
+            model.is_empty_cell(sheet, row, column),
+            reply,
+        ),
+        Reading::GetAllCells => told(model.get_all_cells(), reply),
     }
 }

@@ -1,15 +1,14 @@
-ghost use Rattle.std.specs.Prelude.{◌≡◌, ◌+◌, ◌≤◌, IfOk, string_bytes, string_capacity, string_len};
+ghost use Rattle.std.specs.Prelude.{◌+◌, ◌≤◌, string_bytes, string_capacity, string_len};
 ghost use Rattle.ic_machine.specs.Command.{OnTabs};
 ghost use Rattle.ic_words.specs.Reply.{reply_room};
-ghost use Rattle.ic_words.specs.Words.{color_meant};
 ghost use Rattle.ic_words.specs.subjects.Tabs.{tabs_meant};
 ghost use Rattle.ic_commands.specs.Answered.{Answers};
 
 use crate::told::told;
 use ic_book::Model;
-use ic_cells::{Color, Theme};
+use ic_cells::Theme;
 use ic_laws::{OutOfMemory, Text};
-use ic_words::{Tabs, WordText};
+use ic_words::{Tabs, color_of};
 use std::alloc::Global;
 
 /// Does a command on tabs or the theme, and puts its reply behind a text that has room for one without a field.
@@ -38,7 +37,7 @@ pub(crate) fn answer_tabs(
         Tabs::GetFrozenRowsCount { sheet } => told(model.get_frozen_rows_count(sheet), reply),
         Tabs::GetFrozenColumnsCount { sheet } => told(model.get_frozen_columns_count(sheet), reply),
         Tabs::SetSheetColor { sheet, color } => {
-            let color = color_of(alloc, color)?;
+            let color = color_of(alloc, &color)?;
             told(model.set_sheet_color(sheet, &color), reply)
         }
         Tabs::SetSheetState { sheet, state } => told(model.set_sheet_state(sheet, state), reply),
@@ -46,15 +45,5 @@ pub(crate) fn answer_tabs(
             model.set_show_grid_lines(sheet, shows),
             reply,
         ),
-    }
-}
-
-/// The color that is meant by a text, or by none.
-fn color_of(alloc: Global, text: Option<WordText<'_>>) -> Result<Color, OutOfMemory>
-    ensures { IfOk result (λ color. color ≡ color_meant text.entry) }
-{
-    match text {
-        None => Ok(Color::None),
-        Some(text) => Ok(Color::Rgb(Text::from(text.into_string(alloc)?))),
     }
 }

@@ -35,5 +35,23 @@ pub(crate) fn answer_writing(
                 reply,
             )
         }
+        Writing::UpdateCellWithBool {
+            sheet,
+            row,
+            column,
+            truth,
+        } => told(
+            model.update_cell_with_bool(sheet, row, column, truth),
+            reply,
+        ),
+        Writing::UpdateCellWithNumber {
+            sheet,
+            row,
+            column,
+            amount,
+        } => told(
+            model.update_cell_with_number(sheet, row, column, amount),
+            reply,
+        ),
     }
 }

@@ -8,13 +8,17 @@ use crate::words::Words;
 use ic_laws::OutOfMemory;
 use std::alloc::Global;
 
-/// A served command that reads a cell.
+/// A served command that reads cells.
 #[derive(Drop)]
 pub enum Reading {
     GetCellFormula { sheet: u32, row: i32, column: i32 },
+    GetCellValueByIndex { sheet: u32, row: i32, column: i32 },
+    GetCellType { sheet: u32, row: i32, column: i32 },
+    IsEmptyCell { sheet: u32, row: i32, column: i32 },
+    GetAllCells,
 }
 
-/// The served command that reads a cell of this name, with the words that are left; inside that None where they don't fit it.
+/// The served command that reads cells of this name, with the words that are left; inside that None where they don't fit it.
 pub(crate) fn reading_named<'l>(
     alloc: Global,
     name: &str,
@@ -28,6 +32,13 @@ pub(crate) fn reading_named<'l>(
     match name {
         "get_cell_formula" =>
             said!(alloc, rest, (sheet, (row, (column, ()))) => Reading::GetCellFormula { sheet, row, column }),
+        "get_cell_value_by_index" =>
+            said!(alloc, rest, (sheet, (row, (column, ()))) => Reading::GetCellValueByIndex { sheet, row, column }),
+        "get_cell_type" =>
+            said!(alloc, rest, (sheet, (row, (column, ()))) => Reading::GetCellType { sheet, row, column }),
+        "is_empty_cell" =>
+            said!(alloc, rest, (sheet, (row, (column, ()))) => Reading::IsEmptyCell { sheet, row, column }),
+        "get_all_cells" => said!(alloc, rest, () => Reading::GetAllCells),
         _ => Ok(None),
     }
 }

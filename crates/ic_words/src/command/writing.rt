@@ -6,7 +6,7 @@ ghost use Rattle.ic_words.specs.subjects.Writing.{writing_meant};
 
 use crate::text::WordText;
 use crate::words::Words;
-use ic_laws::OutOfMemory;
+use ic_laws::{Amount, OutOfMemory};
 use std::alloc::Global;
 
 /// A served command that writes a cell.
@@ -17,6 +17,18 @@ pub enum Writing<'l> {
         row: i32,
         column: i32,
         text: WordText<'l>,
+    },
+    UpdateCellWithBool {
+        sheet: u32,
+        row: i32,
+        column: i32,
+        truth: bool,
+    },
+    UpdateCellWithNumber {
+        sheet: u32,
+        row: i32,
+        column: i32,
+        amount: Amount,
     },
 }
 
@@ -34,6 +46,10 @@ pub(crate) fn writing_named<'l>(
     match name {
         "update_cell_with_formula" =>
             said!(alloc, rest, (sheet, (row, (column, (text, ())))) => Writing::UpdateCellWithFormula { sheet, row, column, text }),
+        "update_cell_with_bool" =>
+            said!(alloc, rest, (sheet, (row, (column, (truth, ())))) => Writing::UpdateCellWithBool { sheet, row, column, truth }),
+        "update_cell_with_number" =>
+            said!(alloc, rest, (sheet, (row, (column, (amount, ())))) => Writing::UpdateCellWithNumber { sheet, row, column, amount }),
         _ => Ok(None),
     }
 }

@@ -11,4 +11,4 @@ made name zone theme created styles strings n t ss texts a c d e = λ i. record 
 
 pub returns : goal.returns
 unfolding chars
-returns c = made _ _ _ _ _ _ _ _ _ _ c.in_ok-from_str.ensures (c.from.ensures ∙ ap chars c.new.ensures.bytes) c.in_ok-new.ensures (c.from-2.ensures ∙ c.new-3.ensures.items)
+returns c = made _ _ _ _ _ _ _ _ _ _ c.in_ok-from_str.ensures (c.from.ensures ∙ ap chars c.new.ensures.bytes) c.in_ok-new.ensures c.new-3.ensures

@@ -4,5 +4,11 @@ use Rattle.ic_words.specs.subjects.Writing.{writing_meant}
 use Rattle.ic_commands.proofs.AnswerLemmas.{changed}
 use Rattle.ic_commands.proofs.answer.writing.answer_writing.Goals as goal
 
-pub returns : goal.returns
-returns c = changed (OnWriting (writing_meant c.args.command)) refl c.told.ensures c.update_cell_with_formula.ensures.does (search rules) (search rules) refl
+pub returns-in_ok-text-in-UpdateCellWithFormula : goal.returns-in_ok-text-in-UpdateCellWithFormula
+returns-in_ok-text-in-UpdateCellWithFormula c = changed (OnWriting (writing_meant c.args.command)) refl c.told.ensures c.update_cell_with_formula.ensures.does (search rules) (search rules) refl
+
+pub returns-in-UpdateCellWithBool : goal.returns-in-UpdateCellWithBool
+returns-in-UpdateCellWithBool c = changed (OnWriting (writing_meant c.args.command)) refl c.told-in-UpdateCellWithBool.ensures c.update_cell_with_bool.ensures.does (search rules) (search rules) refl
+
+pub returns-in-UpdateCellWithNumber : goal.returns-in-UpdateCellWithNumber
+returns-in-UpdateCellWithNumber c = changed (OnWriting (writing_meant c.args.command)) refl c.told-in-UpdateCellWithNumber.ensures c.update_cell_with_number.ensures.does (search rules) (search rules) refl

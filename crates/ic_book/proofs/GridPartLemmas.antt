@@ -1,0 +1,201 @@
+-- What a change of a sheet's rows and columns does to the model.
+use Rattle.std.proofs.Common.{◌≡◌, ℕ, ℤ, zero, suc, ◌≤◌, List, [], ◌∷◌, Bool, true, length, map, Option, Some, None, Result, Ok, Err, option_map, refl, ap, ap₂, sym, subst, ◌∙◌, arith}
+use Rattle.std.specs.FinMap as finite
+use Rattle.std.specs.List.{slice_get}
+use Rattle.ic_laws.proofs.core.Lists.{all_updated, updated_seen}
+use Rattle.ic_laws.specs.CoreBook.{CellPlace, Definition}
+use Rattle.ic_laws.specs.CoreStep.{updated_at}
+use Rattle.ic_tables.specs.Tables.{TableSet}
+use Rattle.ic_tables.specs.declared.language.Language.{Language}
+use Rattle.ic_tables.specs.declared.locale.NamedLocale.{NamedLocale}
+use Rattle.ic_cells.specs.declared.cell.Cell.{Cell}
+use Rattle.ic_cells.specs.declared.layout.ColumnProps.{ColumnProps}
+use Rattle.ic_cells.specs.declared.layout.Merge.{Merge}
+use Rattle.ic_cells.specs.declared.layout.RowProps.{RowProps}
+use Rattle.ic_grid.specs.Contents.{Contents}
+use Rattle.ic_grid.specs.Shape.{is_loose, shape_of}
+use Rattle.ic_grid.specs.declared.grid.Grid.{Grid}
+use Rattle.ic_machine.specs.Book as machine
+use Rattle.ic_machine.specs.Book.{Stepped, on_grid, on_sheet, put_in, with_sheet}
+use Rattle.ic_machine.specs.Content.{content_of}
+use Rattle.ic_machine.specs.Alike.{seen_by}
+use Rattle.ic_machine.proofs.ValidLemmas.{AreLines, HoldsOf, lines_held, lines_of, same_styles}
+use Rattle.ic_machine.specs.Refusal.{Refusal}
+use Rattle.ic_machine.specs.Reply.{Field}
+use Rattle.ic_machine.specs.Valid as valid_machine
+use Rattle.ic_sheets.specs.Sheet.{BookSheet, sheet_of}
+use Rattle.ic_sheets.specs.declared.sheet.Sheet.{Sheet as HeldSheet}
+use Rattle.ic_book.specs.Book.{Book, HasString, HasStrings, IsPlain, IsValidBook, ModelState, notations_in, whole_grid}
+use Rattle.ic_book.specs.declared.about.About.{About}
+use Rattle.ic_book.specs.Inside.{IsHeld, held_state}
+use Rattle.ic_book.specs.Does.{DoesGrid, DoesStep, PartMade, Refused, wants}
+use Rattle.ic_book.specs.Parts.{IsLaidOut, StaysLaidOut}
+use Rattle.ic_book.specs.Refused.{refusal_of}
+use Rattle.ic_book.specs.Whole.{whole_of, whole_sheet}
+use Rattle.ic_book.specs.declared.error.BookError.{BookError}
+use Rattle.ic_book.specs.declared.error.BookError.TheVariants as errors
+use Rattle.ic_book.proofs.PartLemmas.{found, in_state, missing, old_holds, old_there, part_refused, refused_in, updated_same}
+use Rattle.ic_book.proofs.WrittenLemmas.{one_of_all, updated_alike}
+
+-- what was set for rows and columns, as the machine has it ----
+
+pub lines_laid : (count : ℕ) (grid : Grid) → IsLaidOut count grid → AreLines count grid.rows grid.columns
+lines_laid count grid h = record {
+  row_styles = λ row props e. (h.rows row props e).1;
+  column_styles = λ column props e. (h.columns column props e).1;
+  rows_inside = λ row props e. (h.rows row props e).0;
+  columns_inside = λ column props e. (h.columns column props e).0;
+}
+
+pub laid_lines : (count : ℕ) (grid : Grid) → AreLines count grid.rows grid.columns → IsLaidOut count grid
+laid_lines count grid lines = record {
+  rows = λ row props e. (lines.rows_inside row props e, lines.row_styles row props e);
+  columns = λ column props e. (lines.columns_inside column props e, lines.column_styles column props e);
+}
+
+-- all is as it was
+pub same_laid_out : (before after : Grid) → after ≡ before → StaysLaidOut before after
+same_laid_out before after same = subst (StaysLaidOut before) (sym same) (record { cells = refl; merges = refl; lines = λ count h. h })
+
+-- a book with another grid for the sheet at an index ----
+
+abbrev pub with_grid : ℕ → Grid → Book → Book
+with_grid index grid book = record book { sheets = updated_at (λ s. record s { grid = grid }) index book.sheets }
+
+module _ (index : ℕ) (grid : Grid) (book : Book) (valid : IsValidBook book) (sheet : BookSheet) (at : slice_get book.sheets index ≡ Some sheet) where
+  abbrev old_sheet : machine.Sheet
+  old_sheet = whole_sheet book.strings sheet
+
+  abbrev sheet_with : machine.Grid → machine.Sheet
+  sheet_with g = record old_sheet { grid = g }
+
+  its_holds : HoldsOf (notations_in book) (machine.scene_in (whole_of book)) (length book.styles) old_sheet
+  its_holds = old_holds index sheet.tab book valid sheet at
+
+  whole_with_grid : whole_of (with_grid index grid book) ≡ with_sheet (whole_of book) index (sheet_with (whole_grid book.strings grid))
+  whole_with_grid =
+      ap (λ (sheets : List machine.Sheet). let b : machine.Book = record (whole_of book) { sheets = sheets } in b)
+      (updated_alike (whole_sheet book.strings) (λ s. record s { grid = grid }) (λ s. sheet_with (whole_grid book.strings grid)) index book.sheets sheet at refl)
+
+  module _ (stays : StaysLaidOut sheet.grid grid) where
+    abbrev laid : machine.Grid
+    laid = record old_sheet.grid { rows = grid.rows; columns = grid.columns }
+
+    -- it is the old one with other rows and columns
+    grid_laid : laid ≡ whole_grid book.strings grid
+    grid_laid =
+        ap₂ (λ (cells : Contents Cell) (merges : List Merge).
+        let g : machine.Grid = record { contents = seen_by (content_of book.strings) cells; rows = grid.rows; columns = grid.columns; merges = merges } in g)
+        (sym stays.cells) (sym stays.merges)
+
+    its_lines : AreLines (length book.styles) grid.rows grid.columns
+    its_lines =
+        lines_laid (length book.styles) grid
+        (stays.lines (length book.styles) (laid_lines (length book.styles) sheet.grid (lines_of (length book.styles) old_sheet.grid its_holds.styles its_holds.layout.lines)))
+
+    laid_valid : valid_machine.IsValidBook (with_sheet (whole_of book) index (sheet_with laid))
+    laid_valid =
+        same_styles (whole_of book) valid.whole index old_sheet (sheet_with laid) (old_there index sheet.tab book valid sheet at) refl refl
+        (lines_held (whole_of book) valid.whole (machine.scene_in (whole_of book)) (length book.styles) old_sheet grid.rows grid.columns its_holds (length book.styles) (omega (arith)) its_lines)
+
+    its_strings : HasStrings (length book.strings) grid
+    its_strings =
+        subst (λ (cells : Contents Cell). (place : CellPlace) (cell : Cell) → finite.get cells place ≡ Some cell → HasString (length book.strings) cell) (sym stays.cells)
+        (one_of_all (λ (s : BookSheet). HasStrings (length book.strings) s.grid) index book.sheets sheet at valid.strings)
+
+    its_plain : IsPlain grid
+    its_plain =
+        let plain : IsPlain sheet.grid = one_of_all (λ (s : BookSheet). IsPlain s.grid) index book.sheets sheet at valid.plain in
+        record {
+          merges = stays.merges ∙ plain.merges;
+          loose = subst (λ (cells : Contents Cell). (place : CellPlace) (cell : Cell) → finite.get cells place ≡ Some cell → is_loose (shape_of cell) ≡ true) (sym stays.cells) plain.loose;
+        }
+
+    pub valid_with_grid : IsValidBook (with_grid index grid book)
+    valid_with_grid = record {
+      whole =
+          subst valid_machine.IsValidBook (sym whole_with_grid)
+          (subst (λ (g : machine.Grid). valid_machine.IsValidBook (with_sheet (whole_of book) index (sheet_with g))) grid_laid laid_valid);
+      strings = all_updated (λ (s : BookSheet). HasStrings (length book.strings) s.grid) (λ s. record s { grid = grid }) (λ s h. its_strings) index book.sheets valid.strings;
+      plain = all_updated (λ (s : BookSheet). IsPlain s.grid) (λ s. record s { grid = grid }) (λ s h. its_plain) index book.sheets valid.plain;
+    }
+
+-- what is done to the grid of a sheet is done to the book ----
+
+-- a step on the grid is one on the sheet
+abbrev grid_on : (machine.Grid → Stepped machine.Grid) → machine.Sheet → Stepped machine.Sheet
+grid_on step sheet = put_in (λ grid. record sheet { grid = grid }) (step sheet.grid)
+
+module _ (old : ModelState) (valid : IsValidBook old.book) (index : ℕ) {T : Type 0} (memory : Bool) (step : machine.Grid → Stepped machine.Grid) (fields : T → List Field) where
+  pub grid_missing : slice_get old.book.sheets index ≡ None → DoesStep (wants memory) (on_grid (whole_of old.book) index step) fields (Err errors.InvalidSheet) old old
+  unfolding on_grid
+  grid_missing none = record { done = (missing old.book index (grid_on step) none, refl); before = valid; after = valid }
+
+  module _ (sheet : BookSheet) (is : slice_get old.book.sheets index ≡ Some sheet) (after : Grid) (stays : StaysLaidOut sheet.grid after) (new : ModelState) (becomes : new ≡ record old { book = with_grid index after old.book }) where
+    abbrev whole : machine.Book
+    whole = whole_of old.book
+
+    abbrev put : machine.Grid → machine.Sheet
+    put grid = record (whole_sheet old.book.strings sheet) { grid = grid }
+
+    abbrev made : Stepped machine.Grid
+    made = step (whole_grid old.book.strings sheet.grid)
+
+    its_step : on_sheet whole index (grid_on step) ≡ put_in (with_sheet whole index) (put_in put made)
+    its_step = found old.book index (grid_on step) sheet is
+
+    done_so : (r : Result T BookError) → PartMade (whole_grid old.book.strings) memory made fields sheet.grid after r → DoesStep (wants memory) (on_grid whole index step) fields r old new
+    unfolding on_grid
+    done_so (Ok value) h = record {
+      done =
+          its_step ∙ ap (λ made. put_in (with_sheet whole index) (put_in put made)) h
+          ∙ ap (λ (b : machine.Book). let made : Stepped machine.Book = Ok (b, fields value) in made) (sym (ap (λ (m : ModelState). whole_of m.book) becomes ∙ whole_with_grid index after old.book valid sheet is));
+      before = valid;
+      after = subst (λ (m : ModelState). IsValidBook m.book) (sym becomes) (valid_with_grid index after old.book valid sheet is stays);
+    }
+    done_so (Err e) h =
+        let unchanged : with_grid index after old.book ≡ old.book =
+        ap (λ (g : Grid). with_grid index g old.book) h.1
+        ∙ ap (λ (sheets : List BookSheet). let b : Book = record old.book { sheets = sheets } in b) (updated_same (λ s. record s { grid = sheet.grid }) index old.book.sheets sheet is refl) in
+        let same : new ≡ old = becomes ∙ ap (λ (b : Book). let m : ModelState = record old { book = b } in m) unchanged in
+        record {
+          done =
+              subst (λ made. Refused (wants memory) made old new (refusal_of e)) (sym its_step)
+              (part_refused memory _ old new (refusal_of e) (refused_in (with_sheet whole index) memory _ (refusal_of e) (refused_in put memory made (refusal_of e) h.0)) same);
+          before = valid;
+          after = subst (λ (m : ModelState). IsValidBook m.book) (sym same) valid;
+        }
+
+    pub grid_does : (r : Result T BookError) → DoesGrid memory step fields r sheet.grid after → DoesStep (wants memory) (on_grid whole index step) fields r old new
+    grid_does r h = done_so r (h.done old.book.strings)
+
+  -- the same of what only reads it
+  pub grid_reads : (sheet : BookSheet) → slice_get old.book.sheets index ≡ Some sheet → (r : Result T BookError) → DoesGrid memory step fields r sheet.grid sheet.grid → DoesStep (wants memory) (on_grid (whole_of old.book) index step) fields r old old
+  grid_reads sheet is r h =
+      let same : updated_at (λ s. record s { grid = sheet.grid }) index old.book.sheets ≡ old.book.sheets = updated_same (λ s. record s { grid = sheet.grid }) index old.book.sheets sheet is refl in
+      grid_does sheet is sheet.grid (same_laid_out sheet.grid sheet.grid refl) old (ap (λ (sheets : List BookSheet). let m : ModelState = record old { book = record old.book { sheets = sheets } } in m) (sym same)) r h
+
+-- the same of a model's sheets ----
+
+module _ (about : About) (ws : List HeldSheet) (ds : List Definition) (locale : NamedLocale) (language : Language) (tables : TableSet) (h : IsHeld about ws ds locale language tables) (index : ℕ) where
+  abbrev its_state : ModelState
+  its_state = held_state about ws ds locale language tables
+
+  module _ (now : List HeldSheet) (grid : Grid) (is : now ≡ updated_at (λ s. record s { grid = grid }) index ws) where
+    pub grid_state : held_state about now ds locale language tables ≡ record its_state { book = with_grid index grid its_state.book }
+    grid_state =
+        ap₂ (λ (sheets : List BookSheet) (all : List Bool). let m : ModelState = record { book = record its_state.book { sheets = sheets }; has_all = all } in m)
+        (ap (map sheet_of) is ∙ updated_seen sheet_of (λ s. record s { grid = grid }) (λ s. record s { grid = grid }) (λ s. refl) index ws)
+        (ap (map (λ (s : HeldSheet). s.pool.is_whole)) is ∙ look_ups_same index ws)
+      where
+        look_ups_same : (i : ℕ) (xs : List HeldSheet) → map (λ (s : HeldSheet). s.pool.is_whole) (updated_at (λ s. record s { grid = grid }) i xs) ≡ map (λ (s : HeldSheet). s.pool.is_whole) xs
+        look_ups_same i [] = refl
+        look_ups_same zero (s ∷ xs) = refl
+        look_ups_same (suc i) (s ∷ xs) = ap (λ more. s.pool.is_whole ∷ more) (look_ups_same i xs)
+
+    pub grid_held : (s : HeldSheet) → slice_get ws index ≡ Some s → StaysLaidOut s.grid grid → IsHeld about now ds locale language tables
+    grid_held s at stays = record {
+      valid = subst (λ (m : ModelState). IsValidBook m.book) (sym grid_state) (valid_with_grid index grid its_state.book h.valid (sheet_of s) (in_state about ws ds locale language tables h index s at) stays);
+      locale_found = h.locale_found;
+      language_found = h.language_found;
+    }

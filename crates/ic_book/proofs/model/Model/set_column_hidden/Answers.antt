@@ -1,0 +1,8 @@
+use Rattle.std.proofs.Common.{rules}
+use Rattle.ic_machine.specs.subjects.Layout.{hide_column_step}
+use Rattle.ic_book.specs.Fields.{no_fields}
+use Rattle.ic_book.proofs.PartUses.{grid_made}
+use Rattle.ic_book.proofs.model.Model.set_column_hidden.Goals as goal
+
+pub returns-clause-does : goal.returns-clause-does
+returns-clause-does c = grid_made (hide_column_step c.args.column c.args.hidden) no_fields c.on_grid.ensures.changes (λ before after r called. search rules)
