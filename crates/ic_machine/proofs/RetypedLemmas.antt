@@ -1,11 +1,10 @@
 -- What a cell shows, typed into it again, leaves what it held.
-use Rattle.std.proofs.Common.{◌≡◌, ◌≢◌, ℕ, zero, suc, ℤ, pos, List, [], ◌∷◌, ◌++◌, Bool, true, false, not, ◌&&◌, cond, codes, Option, Some, None, Ok, Err, is_some, option_map, refl, sym, ap, subst, ◌∙◌, inl, inr}
-use Rattle.std.proofs.lemmas.Bool.{and_parts, cases_Bool, true≢false}
+use Rattle.std.proofs.Common.{◌≡◌, ◌≢◌, ℕ, zero, suc, ℤ, pos, List, [], ◌∷◌, ◌++◌, Bool, true, false, ◌&&◌, cond, codes, Option, Some, None, Ok, option_map, refl, sym, ap, subst, ◌∙◌}
+use Rattle.std.proofs.lemmas.Bool.{and_parts, true≢false}
 use Rattle.std.proofs.lemmas.Bool.Decides.{Decides-int_eq}
 use Rattle.std.specs.FinMap as finite
-use Rattle.std.specs.List.{AllByRecursion, slice_get}
+use Rattle.std.specs.List.{slice_get}
 use Rattle.std.specs.Option.{option_map_or, option_or}
-use Rattle.std.specs.Ordering.{int_eq}
 use Rattle.ic_laws.proofs.core.CellWritten.{place_cmp_total}
 use Rattle.ic_laws.specs.Amount.{amount_text, is_amount}
 use Rattle.ic_laws.specs.Binding.{bound, spelled}
@@ -14,7 +13,7 @@ use Rattle.ic_laws.specs.Clash.{clashes_with}
 use Rattle.ic_laws.specs.CoreBook.{CellPlace}
 use Rattle.ic_laws.specs.CoreStep.{updated_at}
 use Rattle.ic_laws.specs.Dialect.{DialectMeaning, boolean_number, error_number}
-use Rattle.ic_laws.specs.FormulaReading.{cell_formula, shown_at, shown_formula, tree_or_raw}
+use Rattle.ic_laws.specs.FormulaReading.{shown_at, tree_or_raw}
 use Rattle.ic_laws.specs.NextToken.{tokens_by}
 use Rattle.ic_laws.specs.Notations.{english, english_function, is_cell}
 use Rattle.ic_laws.specs.Parse.{expression, operand, parsed, reader}
@@ -47,10 +46,9 @@ use Rattle.ic_input.specs.Typed.{typed}
 use Rattle.ic_input.specs.declared.input.Typed.{Typed}
 use Rattle.ic_input.specs.declared.input.Typed.TheVariants as kinds
 use Rattle.ic_grid.proofs.ContentsLemmas.{same_itself}
-use Rattle.ic_grid.specs.Block.{same_place}
 use Rattle.ic_grid.specs.Contents.{Contents}
 use Rattle.ic_grid.specs.Prepare.{prepared, written}
-use Rattle.ic_machine.specs.Book.{Book, Sheet, Stepped, content_at, core_of, found_or, formula_held, notations_in, scene_in, style_number_at, unless, unless_refused}
+use Rattle.ic_machine.specs.Book.{Book, Sheet, Stepped, content_at, core_of, found_or, notations_in, scene_in, style_number_at, unless, unless_refused}
 use Rattle.ic_machine.specs.Content.{AnchorContent, BoolContent, Content, EmptyContent, ErrContent, FormulaContent, NumContent, SpillContent, TextContent, formula_in, formula_index, held, style_of}
 use Rattle.ic_machine.specs.InForce.{InForce, all_there, boolean_in, by_notation, decimal_in, error_in, formatted_in, in_force, is_number, is_text, shown_number, shown_words, typed_in}
 use Rattle.ic_machine.specs.Placed.{index_in_pool, is_dynamic}

@@ -1,5 +1,5 @@
 -- What a cell shows, typed into it again, leaves what it held: a value of the same kind, or a formula with the same tree.
-use Rattle.std.specs.Prelude.{◌≡◌, ℕ, ℤ, List, Bool, true, false, Option, Some, None, Ok, slice_get}
+use Rattle.std.specs.Prelude.{◌≡◌, ℕ, List, Bool, true, false, Option, Some, None, Ok, slice_get}
 use Rattle.ic_laws.specs.Amount.{is_amount}
 use Rattle.ic_laws.specs.Clash.{clashes_with}
 use Rattle.ic_laws.specs.CoreBook.{CellPlace}
