@@ -1,5 +1,5 @@
 -- The word of a boolean and that of an error value are typed as them; and so are texts, quoted texts and formulas.
-use Rattle.std.proofs.Common.{◌≡◌, ◌≢◌, ℕ, zero, suc, List, [], ◌∷◌, ◌++◌, Bool, true, false, not, ◌==◌, Option, Some, None, bytes_eq, cond, find, refl, sym, ap, subst, ◌∙◌, inl, inr}
+use Rattle.std.proofs.Common.{◌≡◌, ◌≢◌, ℕ, zero, suc, List, [], ◌∷◌, Bool, true, false, not, ◌==◌, Option, Some, None, bytes_eq, cond, find, refl, sym, ap, subst, ◌∙◌, inl, inr}
 use Rattle.std.specs.List.{list_all, list_any, slice_get}
 use Rattle.std.specs.Option.{option_or}
 use Rattle.std.proofs.lemmas.Bool.{and_parts, cases_Bool, eq-eqb, eqb-true, not-true, or_parts, true≢false}
@@ -14,22 +14,19 @@ use Rattle.ic_laws.specs.Scan.{begins_word, first_is, is_digit}
 use Rattle.ic_laws.specs.declared.tree.Error.{Error}
 use Rattle.ic_tables.proofs.WellFormed.{good_words, language_among}
 use Rattle.ic_tables.proofs.WordLemmas.{finds, found_at, passes_at}
-use Rattle.ic_tables.specs.Formats.{are_up_to, begins_boolean, decimal_separator, has_symbol, is_symbol}
+use Rattle.ic_tables.specs.Formats.{begins_boolean, decimal_separator, has_symbol, is_symbol}
 use Rattle.ic_tables.specs.Tables.{HasGoodFormats, HasGoodWords, TableSet}
 use Rattle.ic_tables.specs.Words.{boolean_words, error_words, first_agreeing, has_boolean_words, has_error_words, no_two_agree, tells_booleans}
 use Rattle.ic_tables.specs.declared.language.Language.{Language}
 use Rattle.ic_tables.specs.declared.locale.Locale.{Locale}
 use Rattle.ic_input.specs.Again.{AreOfTables}
-use Rattle.ic_input.specs.Code.{stands_beside}
-use Rattle.ic_input.specs.Convention.{euro, is_currency, is_nothing, is_sign, plus}
-use Rattle.ic_input.specs.Number.{IsUnsigned, fraction_text, stands_before}
+use Rattle.ic_input.specs.Convention.{euro, is_currency, is_sign, plus}
+use Rattle.ic_input.specs.Number.{stands_before}
 use Rattle.ic_input.specs.Typed.{IsBare, IsNoNumber, IsTyped, typed}
 use Rattle.ic_input.specs.declared.input.Typed.TheVariants as kinds
-use Rattle.ic_input.specs.declared.number.Number.{Number}
 use Rattle.ic_input.proofs.LocaleLemmas.{decimal_cases}
-use Rattle.ic_input.proofs.NumberComplete.{body_first}
 use Rattle.ic_input.proofs.TypedLaws.{other_bare, typed_exactly}
-use Rattle.ic_input.proofs.TypedSteps.{date_first, tells_texts}
+use Rattle.ic_input.proofs.TypedSteps.{date_first, front_no_number, mark_no_currency, tells_texts}
 
 -- What begins no word and no number. ----
 
@@ -74,27 +71,11 @@ record IsPlainFirst (l : Locale) (c : ℕ) : Type 0 where
   plus : (c == plus) ≡ false
   minus : (c == minus) ≡ false
 
-no_unsigned : (l : Locale) (c : ℕ) (cs : List ℕ) (n : Number) → IsPlainFirst l c → IsUnsigned l (c ∷ cs) n → ⊥
-no_unsigned l c cs n m h = go h.before h.beside h.spelled
-  where
-    tail : List ℕ
-    tail = fraction_text (decimal_separator l) h.fraction ++ h.after
-
-    first-of : (text : List ℕ) → c ∷ cs ≡ text → first_is (stands_before (decimal_separator l)) text ≡ true
-    first-of text e = rw (← e) m.before
-
-    go : (before : List ℕ) → stands_beside (is_currency l) before h.after ≡ true → c ∷ cs ≡ before ++ (h.whole_text ++ tail) → ⊥
-    go [] b e = true≢false (sym (first-of (h.whole_text ++ tail) e) ∙ body_first l h.grouped h.whole h.whole_text h.fraction h.after h.whole_digits h.written h.some)
-    go (d ∷ ds) b e =
-        let same : c ≡ d = cc in
-        let is : is_currency l (d ∷ ds) ≡ true = (and_parts (is_nothing h.after) (is_currency l (d ∷ ds)) b).1 in
-        true≢false (sym is ∙ ap (λ (x : ℕ). is_currency l (x ∷ ds)) (sym same) ∙ m.symbol ds)
-
 begins_so : (c d : ℕ) (cs rest : List ℕ) → c ∷ cs ≡ d ∷ rest → (c == d) ≡ false → ⊥
 begins_so c d cs rest e apart = let same : c ≡ d = cc in true≢false (sym (eq-eqb c d same) ∙ apart)
 
 no_number : (l : Locale) (c : ℕ) (cs : List ℕ) → IsPlainFirst l c → IsNoNumber l (c ∷ cs)
-no_number l c cs m v code (inl h) = no_unsigned l c cs h.0 m h.1.0
+no_number l c cs m v code (inl h) = front_no_number l c cs h.0 m.before m.symbol h.1.0
 no_number l c cs m v code (inr (inl h)) = begins_so c plus cs h.0 h.1.0 m.plus
 no_number l c cs m v code (inr (inr (inl h))) = begins_so c minus cs h.0 h.1.0 m.minus
 no_number l c cs m v code (inr (inr (inr h))) = true≢false (sym (date_first l (c ∷ cs) h.0 h.1.0 h.1.1.0) ∙ m.digit)
@@ -107,31 +88,15 @@ bare tables l language beside good c cs m =
 -- The front of an error's word. ----
 
 hash_first : (tables : TableSet) (l : Locale) → HasGoodFormats tables l → IsPlainFirst l hash
-unfolding has_symbol
 hash_first tables l good = record {
   before = decimal_cases l (λ d. stands_before d hash ≡ true) refl refl;
-  symbol = λ cs. no_symbol cs;
+  symbol = λ cs. mark_no_currency l (tells_texts tables l good).signs hash cs refl;
   digit = refl;
   quote = refl;
   equals = refl;
   plus = refl;
   minus = refl;
 }
-  where
-    apart : (symbol cs : List ℕ) → is_symbol tables.languages l.numbers.symbols.group symbol ≡ true → bytes_eq symbol (hash ∷ cs) ≡ false
-    apart [] cs h = refl
-    apart (d ∷ ds) cs h = elim (cases_Bool (bytes_eq (d ∷ ds) (hash ∷ cs))) [
-      | inr e ↦ e
-      | inl e ↦
-          let whole : d ∷ ds ≡ hash ∷ cs = (bytes_eq-Decides (d ∷ ds) (hash ∷ cs)).0 e in
-          let same : d ≡ hash = cc in
-          let up : are_up_to 4 l.numbers.symbols.group (d ∷ ds) ≡ true = (and_parts _ _ h).1 in
-          let up_hash : are_up_to 4 l.numbers.symbols.group (hash ∷ ds) ≡ true = subst (λ (x : ℕ). are_up_to 4 l.numbers.symbols.group (x ∷ ds) ≡ true) same up in
-          absurd (true≢false (sym up_hash))
-    ]
-
-    no_symbol : (cs : List ℕ) → is_currency l (hash ∷ cs) ≡ false
-    no_symbol cs = apart l.currency.symbol cs good.symbol
 
 -- That of a boolean's word. ----
 

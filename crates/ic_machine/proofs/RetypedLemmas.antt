@@ -61,6 +61,7 @@ use Rattle.ic_machine.specs.subjects.Reading.{content_step, format_of, formula_t
 use Rattle.ic_machine.specs.subjects.Writing.{Written, formula_at_place, formula_written, input_step, place_causes, typed_written, with_content, with_written, write_causes}
 use Rattle.ic_machine.proofs.CoreValid.{core_valid}
 use Rattle.ic_machine.proofs.FormulaLemmas.{formula_placed}
+use Rattle.ic_machine.proofs.FormulaStepped.{indexed}
 use Rattle.ic_machine.proofs.ValidLemmas.{holds_at}
 
 -- The notation in force of a valid book. ----
@@ -221,15 +222,11 @@ module _ (b : Book) (valid : IsValidBook b) where
     formula_typed : typed_in b (equals ∷ shown) ≡ kinds.Formula shown
     formula_typed = typed_is (equals ∷ shown) ∙ formulas_again f.locale f.language f.beside shown some
 
-    dynamic_index : (u : Bool) (i k : ℕ) → formula_index (cond u (AnchorContent i (pos 1, pos 1) arrays.Dynamic fvalues.Unevaluated k) (FormulaContent i fvalues.Unevaluated k)) ≡ Some i
-    dynamic_index true i k = refl
-    dynamic_index false i k = refl
-
     held_again : (w : Written) → w ≡ typed_written b s place (typed_in b (equals ∷ shown)) → (k : ℕ) → option_map (formula_in w.pool) (formula_index (w.content k)) ≡ Some (formulas.Tree t)
     held_again w is k =
         ap (λ (x : Written). option_map (formula_in x.pool) (formula_index (x.content k)))
         (is ∙ ap (typed_written b s place) formula_typed ∙ ap (formula_written b s) read_again)
-        ∙ ap (option_map (formula_in (formula_written b s (formulas.Tree t)).pool)) (dynamic_index (is_dynamic b.tables.kinds (formulas.Tree t)) (index_in_pool (formulas.Tree t) s.pool) k)
+        ∙ ap (option_map (formula_in (formula_written b s (formulas.Tree t)).pool)) (indexed (is_dynamic b.tables.kinds (formulas.Tree t)) (index_in_pool (formulas.Tree t) s.pool) k)
         ∙ ap (λ (g : Formula). Some g) (formula_placed (formulas.Tree t) s.pool)
 
   -- each content
