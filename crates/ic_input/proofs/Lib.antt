@@ -18,3 +18,4 @@ pub mod RunSteps
 pub mod TripleLemmas
 pub mod TypedLaws
 pub mod TypedSteps
+pub mod WordAgain

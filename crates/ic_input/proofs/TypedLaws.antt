@@ -167,7 +167,7 @@ module _ (l : Locale) (tells : TellsTexts l) (language english : Language) where
       never formula (inl h) = let empty : formula ≡ [] = sym (tail_of h.0) in h.1 empty
       never formula (inr h) = let empty : h.1.1.0 ≡ [] = sym (tail_of h.1.1.1.0) in h.1.1.1.2 empty
 
-  other_bare : (c : ℕ) (rest : List ℕ) → (c == quote) ≡ false → (c == equals) ≡ false → is_sign c ≡ false → IsBare l (c ∷ rest)
+  pub other_bare : (c : ℕ) (rest : List ℕ) → (c == quote) ≡ false → (c == equals) ≡ false → is_sign c ≡ false → IsBare l (c ∷ rest)
   other_bare c rest q e s = record { some = λ n. cc; unquoted = q; no_formula = never }
     where
       never : (formula : List ℕ) → ¬ (IsFormula l (c ∷ rest) formula)

@@ -1,5 +1,5 @@
 -- Which texts are no numbers: what begins with a mark, and dates.
-use Rattle.std.proofs.Common.{◌≡◌, ℕ, ◌≤◌, List, [], ◌∷◌, ◌++◌, Bool, true, false, ◌&&◌, ◌==◌, ◌⊎◌, bytes_eq, codes, length, None, refl, sym, ◌∙◌, inl, inr, arith}
+use Rattle.std.proofs.Common.{◌≡◌, ℕ, ◌≤◌, List, [], ◌∷◌, ◌++◌, Bool, true, false, ◌&&◌, ◌==◌, ◌⊎◌, bytes_eq, codes, length, None, refl, sym, ap, ◌∙◌, inl, inr, arith}
 use Rattle.std.specs.List.{list_all}
 use Rattle.std.specs.Str.{all_ascii_digits}
 use Rattle.std.proofs.lemmas.Bool.{and_parts, and_right, cases_Bool, true≢false}
@@ -56,22 +56,33 @@ minus_mark l = record { before = decimal_cases l (λ d. stands_before d minus �
 pub quote_mark : (l : Locale) → IsMark l quote
 quote_mark l = record { before = decimal_cases l (λ d. stands_before d quote ≡ true) refl refl; symbol = refl; digit = refl }
 
-pub mark_no_number : (l : Locale) → TellsSigns l → (c : ℕ) (cs : List ℕ) (n : Number) → IsMark l c → IsUnsigned l (c ∷ cs) n → ⊥
-mark_no_number l signs c cs n m h = go h.before h.beside h.spelled
+-- what begins no symbol begins no symbol of a currency
+pub mark_no_currency : (l : Locale) → TellsSigns l → (c : ℕ) (cs : List ℕ) → may_stand_in_symbol c ≡ false → is_currency l (c ∷ cs) ≡ false
+mark_no_currency l signs c cs h =
+    elim (cases_Bool (is_currency l (c ∷ cs))) [
+      | inr e ↦ e
+      | inl e ↦ absurd (true≢false (sym (and_parts (may_stand_in_symbol c) _ (currency_all l signs (c ∷ cs) e)).0 ∙ h))
+    ]
+
+-- no number begins with what begins neither digits nor the symbol of a currency
+pub front_no_number : (l : Locale) (c : ℕ) (cs : List ℕ) (n : Number) → stands_before (decimal_separator l) c ≡ true → ((ds : List ℕ) → is_currency l (c ∷ ds) ≡ false) → IsUnsigned l (c ∷ cs) n → ⊥
+front_no_number l c cs n stands no_currency h = go h.before h.beside h.spelled
   where
     tail : List ℕ
     tail = fraction_text (decimal_separator l) h.fraction ++ h.after
 
     first-of : (text : List ℕ) → c ∷ cs ≡ text → first_is (stands_before (decimal_separator l)) text ≡ true
-    first-of text e = rw (← e) m.before
+    first-of text e = rw (← e) stands
 
     go : (before : List ℕ) → stands_beside (is_currency l) before h.after ≡ true → c ∷ cs ≡ before ++ (h.whole_text ++ tail) → ⊥
     go [] b e = true≢false (sym (first-of (h.whole_text ++ tail) e) ∙ body_first l h.grouped h.whole h.whole_text h.fraction h.after h.whole_digits h.written h.some)
     go (d ∷ ds) b e =
         let same : c ≡ d = cc in
-        let all = currency_all l signs (d ∷ ds) (and_parts (is_nothing h.after) (is_currency l (d ∷ ds)) b).1 in
-        let is : may_stand_in_symbol d ≡ true = (and_parts (may_stand_in_symbol d) _ all).0 in
-        true≢false (sym is ∙ rw (← same) m.symbol)
+        let is : is_currency l (d ∷ ds) ≡ true = (and_parts (is_nothing h.after) (is_currency l (d ∷ ds)) b).1 in
+        true≢false (sym is ∙ ap (λ (x : ℕ). is_currency l (x ∷ ds)) (sym same) ∙ no_currency ds)
+
+pub mark_no_number : (l : Locale) → TellsSigns l → (c : ℕ) (cs : List ℕ) (n : Number) → IsMark l c → IsUnsigned l (c ∷ cs) n → ⊥
+mark_no_number l signs c cs n m h = front_no_number l c cs n m.before (λ ds. mark_no_currency l signs c ds m.symbol) h
 
 -- nothing is no number
 pub nothing_no_number : (l : Locale) → TellsSigns l → (n : Number) → IsUnsigned l [] n → ⊥

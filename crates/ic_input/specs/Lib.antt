@@ -1,3 +1,4 @@
+pub mod Again
 pub mod Amount
 pub mod Code
 pub mod Convention

@@ -3,6 +3,8 @@ ghost use Rattle.ic_laws.specs.Amount.{amount_text, is_amount};
 ghost use Rattle.ic_tables.specs.Tables.{HasGoodFormats, TableSet};
 ghost use Rattle.ic_tables.specs.declared.language.Language.{Language};
 ghost use Rattle.ic_tables.specs.declared.locale.Locale.{Locale};
+ghost use Rattle.ic_input.specs.Again.{BooleansTypedAgain, ErrorsTypedAgain};
+ghost use Rattle.ic_input.specs.Again.{FormulasTypedAgain, QuotedTypedAgain, TextsTypedAgain};
 ghost use Rattle.ic_input.specs.Convention.{short_date};
 ghost use Rattle.ic_tables.specs.Formats.{decimal_separator};
 ghost use Rattle.ic_input.specs.Date.{IsShownDay, iso_date};
@@ -18,4 +20,19 @@ pub fn law_amount_typed_again()
 /// day with that code, in any language.
 pub fn law_date_typed_again()
     ensures { (tables : TableSet) (l : Locale) (language english : Language) (code text : List ℕ) (n : ℕ) → HasGoodFormats tables l → (code ≡ iso_date) ⊎ (code ≡ short_date l) → IsShownDay code n text → typed l language english text ≡ kinds.Number (amount_of_day n) (Some code) }
+{}
+
+/// The word of a boolean, and that of an error value, in a language of tables is typed there as the boolean or the error
+/// value, in each locale of the tables, whichever language is asked after it.
+pub fn law_word_typed_again()
+    ensures booleans { BooleansTypedAgain }
+    ensures errors { ErrorsTypedAgain }
+{}
+
+/// What is typed as a text is that text. Any text after a quote is that text, and something after an equals sign is the
+/// formula that it is.
+pub fn law_text_typed_again()
+    ensures texts { TextsTypedAgain }
+    ensures quoted { QuotedTypedAgain }
+    ensures formulas { FormulasTypedAgain }
 {}

@@ -40,7 +40,7 @@ put_seen g h new [] i old e same = refl
 put_seen g h new (x ∷ xs) zero old e same = let is : x ≡ old = cc in ap (λ y. y ∷ map g xs) (same ∙ ap (λ z. h (g z)) (sym is))
 put_seen g h new (x ∷ xs) (suc i) old e same = ap (λ rest. g x ∷ rest) (put_seen g h new xs i old e same)
 
-indexed : (b : Bool) (index style : ℕ) → formula_index (cond b (AnchorContent index (pos 1, pos 1) arrays.Dynamic fvalues.Unevaluated style) (FormulaContent index fvalues.Unevaluated style)) ≡ Some index
+pub indexed : (b : Bool) (index style : ℕ) → formula_index (cond b (AnchorContent index (pos 1, pos 1) arrays.Dynamic fvalues.Unevaluated style) (FormulaContent index fvalues.Unevaluated style)) ≡ Some index
 indexed true index style = refl
 indexed false index style = refl
 

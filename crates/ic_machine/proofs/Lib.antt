@@ -22,6 +22,7 @@ pub mod NewNames
 pub mod NewSheetStays
 pub mod NumberLemmas
 pub mod ReaderLemmas
+pub mod RetypedLemmas
 pub mod SceneLemmas
 pub mod SeenLemmas
 pub mod ServedLemmas

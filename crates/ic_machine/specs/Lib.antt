@@ -17,6 +17,7 @@ pub mod Placed
 pub mod Readers
 pub mod Refusal
 pub mod Reply
+pub mod Retyped
 pub mod Row
 pub mod Run
 pub mod Scene

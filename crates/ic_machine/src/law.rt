@@ -15,6 +15,7 @@ ghost use Rattle.ic_machine.specs.Laws.{BadLineStays, CounterpartsAreBack, Numbe
 ghost use Rattle.ic_machine.specs.Laws.{CoreIsServed, RefusedStays, ServedIsCore};
 ghost use Rattle.ic_machine.specs.Laws.{RunsLeaveSame, RunsTellSame};
 ghost use Rattle.ic_machine.specs.Readers.{LeavesIf, is_reader};
+ghost use Rattle.ic_machine.specs.Retyped.{RetypedStays};
 ghost use Rattle.ic_machine.specs.Scene.{KeepsSceneIf, leaves_names};
 ghost use Rattle.ic_machine.specs.Step.{step};
 ghost use Rattle.ic_machine.specs.subjects.Arrays.{arrays_step};
@@ -127,4 +128,11 @@ pub fn law_bound_is_named()
     ensures defined { DefinedIsMeant }
     ensures deleted { DeletedIsNotMeant }
     ensures updated { UpdatedIsMeant }
+{}
+
+/// What a cell shows, typed into it again, leaves in it what it held: a value of the same kind, or a formula with the same
+/// tree, unless the formula's text doesn't read or one of its names is a word of the language in force. It is no cell of a
+/// spill.
+pub fn law_retyped_stays()
+    ensures { RetypedStays }
 {}

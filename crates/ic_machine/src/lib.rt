@@ -7,7 +7,7 @@
 //! notation in force makes of texts and amounts), `Placed`, `Styling`, `Line` and `Parsed` (indexes of formulas, numbers of
 //! styles, rows and columns, names of cells), `subjects` (ten subjects: the commands of each with their words, refusals and
 //! steps), `Command` and `Step` (one table and one step of all subjects), `Run` (runs of lines over any machine), `Core`,
-//! `Readers`, `Scene`, `Alike`, `Binds`, `Kept` and `Laws` (what the laws say).
+//! `Readers`, `Scene`, `Alike`, `Binds`, `Kept`, `Retyped` and `Laws` (what the laws say).
 #![tactic(auto)]
 
 mod law;
@@ -15,6 +15,6 @@ mod law;
 pub use law::{
     law_bad_line_stays, law_book_stays_valid, law_bound_is_named, law_cells_are_contents,
     law_cells_leave_names, law_core_is_stepped, law_core_stays_valid, law_formula_is_stepped,
-    law_numbers_are_small, law_readers_change_nothing, law_refused_stays, law_runs_shared,
-    law_served_is_core,
+    law_numbers_are_small, law_readers_change_nothing, law_refused_stays, law_retyped_stays,
+    law_runs_shared, law_served_is_core,
 };
