@@ -1,5 +1,5 @@
 -- What a call does that reads a cell of a sheet, or lists all cells.
-use Rattle.std.proofs.Common.{◌≡◌, ◌++◌, ℕ, ℤ, ◌+◌, List, [], ◌∷◌, Bool, T, true, false, ◌&&◌, map, Option, Some, None, Result, Ok, Err, IsErr, IsErrAnd, option_map, refl, ap, ap₂, sym, subst, ◌∙◌}
+use Rattle.std.proofs.Common.{◌≡◌, ◌++◌, ℕ, ℤ, ◌+◌, append_assoc, drop, List, [], ◌∷◌, Bool, T, true, false, ◌&&◌, map, Option, Some, None, Result, Ok, Err, IsErr, IsErrAnd, option_map, refl, ap, ap₂, sym, subst, ◌∙◌}
 use Rattle.std.proofs.lemmas.Grind.{flat_map-append}
 use Rattle.std.specs.Prelude.{flat_map}
 use Rattle.std.specs.Borrow.{Bor}
@@ -124,12 +124,12 @@ module _ (now : ModelState) (valid : IsValidBook now.book) (index : ℕ) (row co
 
 -- all places ----
 
+both : (a b : Bool) → T a → T b → T (a && b)
+both true b p q = q
+both false b p q = p
+
 -- an ordered map has the places of the finite map that contracts see, in the same order
 module _ {X : Type 0} where
-  both : (a b : Bool) → T a → T b → T (a && b)
-  both true b p q = q
-  both false b p q = p
-
   below : (x : CellPlace) (es : List (CellPlace × X)) → AllByRecursion (λ y. place_cmp x y ≡ Less) (map (λ (e : CellPlace × X). e.0) es) → T (below_all place_cmp x es)
   below x [] h = tt
   below x (e ∷ es) h = both (is_lt (place_cmp x e.0)) (below_all place_cmp x es) (subst (λ r. T (is_lt r)) (sym h.0) tt) (below x es h.1)
@@ -160,6 +160,19 @@ module _ (strings : List (List ℕ)) where
   places_told index (s ∷ ws) =
       flat_map-append fields_of_place (map (place_in index) (finite.keys s.grid.cells)) (places_from (index + 1) ws)
       ∙ ap₂ (λ (a b : List Field). a ++ b) (sheet_told_same index (finite.entries s.grid.cells) ∙ ap (flat_map (place_fields index)) (sym (entries-seen (content_of strings) s.grid.cells))) (places_told (index + 1) ws)
+
+-- the places of a sheet more
+pub places_next : (all items new : List CellIndex) (index : ℕ) (ws : List HeldSheet) (s : HeldSheet) (places : List CellPlace) → drop index ws ≡ s ∷ drop (index + 1) ws
+    → items ++ places_from index (drop index ws) ≡ all → new ≡ items ++ map (place_in index) places → places ≡ finite.keys s.grid.cells → new ++ places_from (index + 1) (drop (index + 1) ws) ≡ all
+places_next all items new index ws s places left so_far put keys =
+    ap (λ xs. xs ++ places_from (index + 1) (drop (index + 1) ws)) (put ∙ ap (λ ks. items ++ map (place_in index) ks) keys)
+    ∙ append_assoc items (map (place_in index) (finite.keys s.grid.cells)) (places_from (index + 1) (drop (index + 1) ws))
+    ∙ ap (λ rest. items ++ places_from index rest) (sym left) ∙ so_far
+
+-- a cell that is found at a place, which is this one
+pub found_there : (now : ModelState) (index : ℕ) (row column : ℤ) (cell : Option (Bor Cell)) (place : CellPlace) → place ≡ (row, column)
+    → (x : BookSheet) × (slice_get now.book.sheets index ≡ Some x) × (option_copied cell ≡ finite.get x.grid.cells place) → FindsCell index row column (Ok cell) now
+found_there now index row column cell place same found = (found.0, found.1, found.2 ∙ ap (finite.get found.0.grid.cells) same)
 
 -- the readers of a place ----
 

@@ -17,7 +17,8 @@ use Rattle.ic_grid.specs.Arrays.{is_fixed_at}
 use Rattle.ic_grid.specs.Contents.{Contents}
 use Rattle.ic_grid.specs.Merges.{is_covered}
 use Rattle.ic_grid.specs.Prepare.{written}
-use Rattle.ic_grid.specs.Shape.{celled}
+use Rattle.ic_grid.specs.Shape.{celled, is_loose}
+use Rattle.ic_grid.specs.Style.{style_at}
 use Rattle.ic_machine.proofs.AlikeGrid.{is_fixed_at-seen, style_at-seen, written-seen}
 use Rattle.ic_machine.proofs.AlikeLemmas.{cells_are_contents}
 use Rattle.ic_machine.proofs.ValidLemmas.{holds_at}
@@ -53,6 +54,15 @@ use Rattle.ic_book.proofs.WrittenLemmas.{updated_alike}
 there_in : (place : CellPlace) (o : Option BookSheet) → value_refusal_in place o ≡ None → (s : BookSheet) × (o ≡ Some s) × (first_refusal (value_causes s.grid place) ≡ None)
 there_in place None e = cc
 there_in place (Some s) e = (s, refl, e)
+
+-- what refuses a value at a place, and the style that it shows, where it is this row and this column ----
+
+pub refusal_there : (book : Book) (index : ℕ) (row column : ℤ) (p : CellPlace) → p ≡ (row, column) → (o : Option Refusal) → value_refusal_in p (slice_get book.sheets index) ≡ o → value_refusal book index row column ≡ o
+refusal_there book index row column p same o e = ap (λ p. value_refusal_in p (slice_get book.sheets index)) (sym same) ∙ e
+
+pub shows_there : (book : Book) (index : ℕ) (row column : ℤ) (n : ℕ) (p : CellPlace) → p ≡ (row, column)
+    → IfSome (slice_get book.sheets index) (λ (s : BookSheet). n ≡ style_at celled s.grid.cells s.grid.rows s.grid.columns p) → Shows book index row column n
+shows_there book index row column n p same e = subst (λ (p : CellPlace). IfSome (slice_get book.sheets index) (λ (s : BookSheet). n ≡ style_at celled s.grid.cells s.grid.rows s.grid.columns p)) same e
 
 -- The machine's step. ----
 
@@ -101,7 +111,7 @@ module _ (book : Book) (valid : IsValidBook book) (index : ℕ) (row column : �
   module _ (is_value : IsValueCell (length book.strings) cell) where
     good : (s : machine.Sheet) → slice_get whole.sheets index ≡ Some s → IsGood (machine.notations_in whole) (machine.scene_in whole) s place (what s)
     good s e = record {
-      loose = λ k. (cells_are_contents book.strings).shape (cell k) ∙ is_value.loose k;
+      loose = λ k. ap is_loose ((cells_are_contents book.strings).shape (cell k)) ∙ is_value.loose k;
       style = λ k. (cells_are_contents book.strings).style (cell k) ∙ is_value.style k;
       pool = (holds_at whole valid.whole index s e).pool;
       longer = omega (arith);
@@ -204,14 +214,14 @@ module _ (about : About) (ws : List HeldSheet) (ds : List Definition) (locale : 
     pub takes_there : IfSome (slice_get ws index) (λ (s : HeldSheet). TakesCell (row, column) s.grid)
     takes_there =
         subst (λ o. IfSome o (λ (s : HeldSheet). TakesCell (row, column) s.grid)) (sym its_sheet.1)
-        (takes_cell its_sheet.0.grid (row, column) (its_grid its_state.book h.valid index (sheet_of its_sheet.0) its_sheet.2.0) its_sheet.2.1)
+        (takes_cell its_sheet.0.grid (row, column) (its_grid its_state.book h.valid index (sheet_of its_sheet.0) its_sheet.2) its_sheet.3)
 
     module _ (n : ℕ) (shows : Shows (held_state about ws ds locale language tables).book index row column n) where
       shown_is : n ≡ shown_style (sheet_of its_sheet.0) row column
-      shown_is = subst (λ o. IfSome o (λ (s : BookSheet). n ≡ shown_style s row column)) its_sheet.2.0 shows
+      shown_is = subst (λ o. IfSome o (λ (s : BookSheet). n ≡ shown_style s row column)) its_sheet.2 shows
 
       pub style_within : n < length about.styles
-      style_within = subst (λ k. k < length about.styles) (sym shown_is) (style_below its_state.book h.valid index (sheet_of its_sheet.0) its_sheet.2.0 (row, column))
+      style_within = subst (λ k. k < length about.styles) (sym shown_is) (style_below its_state.book h.valid index (sheet_of its_sheet.0) its_sheet.2 (row, column))
 
       module _ (quoted : Bool) (cell : ℕ → Cell) (number : ℕ) (styles : List Style) (now : List HeldSheet) (numbered : number ≡ (restyled (with_quote_prefix quoted) n about.styles).number) (styled : styles ≡ (restyled (with_quote_prefix quoted) n about.styles).styles)
           (e : now ≡ updated_at (λ s. record s { grid = with_cell_in (row, column) (cell number) s.grid }) index ws)
@@ -240,14 +250,14 @@ module _ (about : About) (ws : List HeldSheet) (ds : List Definition) (locale : 
 
           pub value_held : IsValueCell (length about.strings) cell → IsHeld (record about { styles = styles }) now ds locale language tables
           value_held is_value = record {
-            valid = subst (λ (m : ModelState). IsValidBook m.book) (sym value_state) (value_valid its_state.book h.valid index row column quoted cell is_value (sheet_of its_sheet.0) its_sheet.2.0 its_sheet.2.1);
+            valid = subst (λ (m : ModelState). IsValidBook m.book) (sym value_state) (value_valid its_state.book h.valid index row column quoted cell is_value (sheet_of its_sheet.0) its_sheet.2 its_sheet.3);
             locale_found = h.locale_found;
             language_found = h.language_found;
           }
 
           pub value_done : IsValueCell (length about.strings) cell → DoesStep Wanted (value_step its_state.book index row column quoted cell) no_fields (Ok tt) its_state (held_state (record about { styles = styles }) now ds locale language tables)
           value_done is_value =
-              value_does its_state h.valid index row column quoted cell is_value (held_state (record about { styles = styles }) now ds locale language tables) (sheet_of its_sheet.0) its_sheet.2.0 its_sheet.2.1
+              value_does its_state h.valid index row column quoted cell is_value (held_state (record about { styles = styles }) now ds locale language tables) (sheet_of its_sheet.0) its_sheet.2 its_sheet.3
               (ap (λ (m : ModelState). m.book) value_state)
 
 -- where styles that were added are taken back, and the sheets stayed, a model is as it was

@@ -1,7 +1,8 @@
 //! What cells hold: their values, their types, and which there are.
-ghost use Rattle.std.specs.Prelude.{◌≡◌, ◌++◌, IfOk, OnOk, map, option_copied, true};
+ghost use Rattle.std.specs.Prelude.{◌≡◌, ◌≤◌, ◌++◌, IfOk, OnOk, length, map, option_copied, true};
 ghost use Rattle.std.specs.BTreeMap.{IsOrdered, keys};
 ghost use Rattle.std.specs.Option.{option_map_or};
+ghost use Rattle.ic_laws.specs.CoreBook.{last_id};
 ghost use Rattle.ic_cells.specs.Cell.{type_of, value_of};
 ghost use Rattle.ic_cells.specs.Maps.{place_cmp};
 ghost use Rattle.ic_grid.specs.Shape.{is_empty, shape_of};
@@ -90,7 +91,7 @@ fn value_in(
     language: &Language,
 ) -> Result<CellValue, OutOfMemory>
     ensures { IfOk result (λ v. v ≡ option_map_or (value_of strings.now language.now)
-        (option_copied cell) CellValue.None) }
+        (option_copied cell.entry) CellValue.None) }
 {
     match cell {
         Some(cell) => cell.value(alloc, strings, language),
@@ -100,7 +101,7 @@ fn value_in(
 
 /// The type of its value.
 fn type_in(cell: Option<&Cell>) -> CellType
-    ensures { result ≡ option_map_or type_of (option_copied cell) CellType.Number }
+    ensures { result ≡ option_map_or type_of (option_copied cell.entry) CellType.Number }
 {
     match cell {
         Some(cell) => cell.get_type(),
@@ -110,7 +111,7 @@ fn type_in(cell: Option<&Cell>) -> CellType
 
 /// Whether it holds nothing but a style.
 fn is_empty(cell: Option<&Cell>) -> bool
-    ensures { result ≡ option_map_or (λ x. is_empty (shape_of x)) (option_copied cell) true }
+    ensures { result ≡ option_map_or (λ x. is_empty (shape_of x)) (option_copied cell.entry) true }
 {
     match cell {
         Some(Cell::EmptyCell { .. }) => true,
@@ -121,6 +122,7 @@ fn is_empty(cell: Option<&Cell>) -> bool
 
 /// The places of all cells of these sheets.
 fn all_places(alloc: Global, sheets: &[Sheet]) -> Result<Vec<CellIndex>, OutOfMemory>
+    requires { length sheets.now ≤ last_id }
     ensures { IfOk result (λ all. all.items ≡ places_from 0 sheets.now) }
 {
     let mut all = Vec::new(alloc);

@@ -1,5 +1,5 @@
 //! Values that are written into cells.
-ghost use Rattle.std.specs.Prelude.{◌≡◌, ◌<◌, IfOk, OnErr, OnOk, false, length};
+ghost use Rattle.std.specs.Prelude.{◌≡◌, ◌<◌, IfOk, OnErr, OnOk, false, length, true};
 ghost use Rattle.ic_cells.specs.Style.{with_quote_prefix};
 ghost use Rattle.ic_grid.specs.Shape.{celled};
 ghost use Rattle.ic_grid.specs.Style.{style_at};
@@ -147,11 +147,38 @@ pub(crate) fn with_quote(
         (styles.new ≡ (restyled (with_quote_prefix quoted) style styles.old).styles) }
     ensures err { OnErr result (styles.new ≡ styles.old) }
 {
-    if styles.style_is_quote_prefix(style) == quoted {
+    if quoted {
+        return quoted_style(styles, style);
+    }
+    unquoted_style(styles, style)
+}
+
+/// The same with the flag.
+fn quoted_style(styles: &mut Styles, style: usize) -> Result<usize, OutOfMemory>
+    requires { style < length styles.old }
+    ensures number { IfOk result
+        (λ n. n ≡ (restyled (with_quote_prefix true) style styles.old).number) }
+    ensures styles { OnOk result
+        (styles.new ≡ (restyled (with_quote_prefix true) style styles.old).styles) }
+    ensures err { OnErr result (styles.new ≡ styles.old) }
+{
+    if styles.style_is_quote_prefix(style) {
         return Ok(style);
     }
-    if quoted {
-        return styles.get_style_with_quote_prefix(style);
+    styles.get_style_with_quote_prefix(style)
+}
+
+/// The same without it.
+fn unquoted_style(styles: &mut Styles, style: usize) -> Result<usize, OutOfMemory>
+    requires { style < length styles.old }
+    ensures number { IfOk result
+        (λ n. n ≡ (restyled (with_quote_prefix false) style styles.old).number) }
+    ensures styles { OnOk result
+        (styles.new ≡ (restyled (with_quote_prefix false) style styles.old).styles) }
+    ensures err { OnErr result (styles.new ≡ styles.old) }
+{
+    if styles.style_is_quote_prefix(style) {
+        return styles.get_style_without_quote_prefix(style);
     }
-    styles.get_style_without_quote_prefix(style)
+    Ok(style)
 }

@@ -5,4 +5,4 @@ use Rattle.ic_book.proofs.cells.push_places.Given as goal
 
 -- what is listed so far, and the places that are left
 abbrev pub invariant-loop-place : goal.invariant-loop-place
-invariant-loop-place l = l.all.now.items ++ map (place_in l.index) l.place-iterator ≡ l.initial.all.now.items ++ map (place_in l.index) (keys l.cells)
+invariant-loop-place l = l.all.items ++ map (place_in l.index) l.place-iterator ≡ l.initial.all.items ++ map (place_in l.index) (keys l.cells)

@@ -16,5 +16,5 @@ returns-in-Some-clause-finds c =
     let there = at_index c.as_slice.result.now c.self.inside.sheets c.args.sheet entry c.as_slice.ensures.sheets c.in-Some.ensures.lookup.0 c.in-Some.ensures.lookup.1 in (
       sheet_of entry,
       ap (λ (m : ModelState). slice_get m.book.sheets c.args.sheet) (sym c.self.view_is) ∙ slice_get-map sheet_of c.self.inside.sheets c.args.sheet ∙ ap (option_map sheet_of) there,
-      c.get-2.ensures ∙ ap (finite.get entry.grid.cells) (stored_pair c.args.row c.args.column c.ranges.row c.ranges.column),
+      c.get-in-Some.ensures ∙ ap (finite.get entry.grid.cells) (stored_pair c.args.row c.args.column c.ranges.row c.ranges.column),
     )

@@ -1,14 +1,23 @@
-use Rattle.std.proofs.Common.{List, ap, flat_map, subst, ◌∙◌}
+use Rattle.std.proofs.Common.{◌≤◌, List, ap, flat_map, length, subst, sym, ◌∙◌}
+use Rattle.std.proofs.lemmas.List.{length-map}
 use Rattle.std.specs.List.{enumerate_from}
 use Rattle.ic_machine.specs.Fields.{fields_of_place, places_fields}
 use Rattle.ic_machine.specs.subjects.Reading.{all_cells_step, sheet_places}
+use Rattle.ic_laws.specs.CoreBook.{last_id}
+use Rattle.ic_sheets.specs.Sheet.{sheet_of}
 use Rattle.ic_sheets.specs.declared.sheet.Sheet.{Sheet as HeldSheet}
 use Rattle.ic_book.specs.Book.{IsValidBook, ModelState}
 use Rattle.ic_book.specs.Cells.{places_from}
-use Rattle.ic_book.specs.Whole.{whole_of}
+use Rattle.ic_book.specs.Whole.{whole_of, whole_sheet}
 use Rattle.ic_book.proofs.CellReads.{places_told}
 use Rattle.ic_book.proofs.SettingLemmas.{lacks_memory, tells}
 use Rattle.ic_book.proofs.model.Model.get_all_cells.Goals as goal
+
+pub all_places-requires : goal.all_places-requires
+all_places-requires c =
+    let sheets = c.self.inside.sheets in
+    subst (λ (ws : List HeldSheet). length ws ≤ last_id) (sym c.as_slice.ensures.sheets)
+    (subst (λ n. n ≤ last_id) (length-map _ (whole_sheet c.self.inside.about.strings) ∙ length-map sheets sheet_of) c.self.invariant.valid.whole.sheets.few)
 
 pub returns : goal.returns
 unfolding all_cells_step

@@ -1,4 +1,4 @@
-use Rattle.std.proofs.Common.{◌≡◌, ◌∙◌, ℕ, List, IfSome, true, ap, ap₂, map, refl, subst, sym, take, Ok}
+use Rattle.std.proofs.Common.{◌≡◌, ◌∙◌, ℕ, List, None, Some, IfSome, true, ap, ap₂, map, refl, subst, sym, take, Ok}
 use Rattle.std.specs.List.{slice_get}
 use Rattle.ic_laws.specs.CoreBook.{CellPlace}
 use Rattle.ic_laws.specs.CoreStep.{updated_at}
@@ -18,7 +18,7 @@ use Rattle.ic_book.specs.Values.{Shows, value_cell, value_refusal, value_step}
 use Rattle.ic_book.proofs.CellReads.{of_error}
 use Rattle.ic_book.proofs.GridLemmas.{all_taken_back}
 use Rattle.ic_book.proofs.HeldLemmas.{held_again}
-use Rattle.ic_book.proofs.ValueLemmas.{is_within, state_again, style_within, takes_there, value_does, value_done, value_held, value_is, value_refused, value_state, value_wants}
+use Rattle.ic_book.proofs.ValueLemmas.{is_within, refusal_there, shows_there, state_again, style_within, takes_there, value_does, value_done, value_held, value_is, value_refused, value_state, value_wants}
 use Rattle.ic_book.proofs.model.Model.write_value.Goals as goal
 
 pub with_quote-requires : goal.with_quote-requires
@@ -26,8 +26,9 @@ with_quote-requires c =
     let sheet = c.args.sheet in
     let row = c.args.row in
     let column = c.args.column in
-    let none = ap (λ (m : ModelState). value_refusal m.book sheet row column) c.self.view_is ∙ c.in_ok-shown.ensures.refused in
-    let shows = subst (λ (m : ModelState). Shows m.book sheet row column c.in_ok-shown.shown) (sym c.self.view_is) c.in_ok-shown.ensures.shows in
+    let stored = stored_pair row column c.ranges.row c.ranges.column in
+    let none = ap (λ (m : ModelState). value_refusal m.book sheet row column) c.self.view_is ∙ refusal_there c.args.self.now.book sheet row column _ stored None c.in_ok-shown.ensures.refused in
+    let shows = subst (λ (m : ModelState). Shows m.book sheet row column c.in_ok-shown.shown) (sym c.self.view_is) (shows_there c.args.self.now.book sheet row column c.in_ok-shown.shown _ stored c.in_ok-shown.ensures.shows) in
     style_within c.self.inside.about c.self.inside.sheets c.self.inside.names c.self.inside.locale.now c.self.inside.language.now c.self.inside.tables.now c.self.invariant sheet row column none c.in_ok-shown.shown shows
 
 pub write_cell-requires-clause-within : goal.write_cell-requires-clause-within
@@ -35,7 +36,8 @@ write_cell-requires-clause-within c =
     let sheet = c.args.sheet in
     let row = c.args.row in
     let column = c.args.column in
-    let none = ap (λ (m : ModelState). value_refusal m.book sheet row column) c.self.view_is ∙ c.in_ok-shown.ensures.refused in
+    let stored = stored_pair row column c.ranges.row c.ranges.column in
+    let none = ap (λ (m : ModelState). value_refusal m.book sheet row column) c.self.view_is ∙ refusal_there c.args.self.now.book sheet row column _ stored None c.in_ok-shown.ensures.refused in
     is_within c.self.inside.about c.self.inside.sheets c.self.inside.names c.self.inside.locale.now c.self.inside.language.now c.self.inside.tables.now c.self.invariant sheet row column none
 
 pub write_cell-requires-clause-takes : goal.write_cell-requires-clause-takes
@@ -43,8 +45,8 @@ write_cell-requires-clause-takes c =
     let sheet = c.args.sheet in
     let row = c.args.row in
     let column = c.args.column in
-    let none = ap (λ (m : ModelState). value_refusal m.book sheet row column) c.self.view_is ∙ c.in_ok-shown.ensures.refused in
     let stored = stored_pair row column c.ranges.row c.ranges.column in
+    let none = ap (λ (m : ModelState). value_refusal m.book sheet row column) c.self.view_is ∙ refusal_there c.args.self.now.book sheet row column _ stored None c.in_ok-shown.ensures.refused in
     subst (λ (p : CellPlace). IfSome (slice_get c.self.inside.sheets sheet) (λ (s : HeldSheet). TakesCell p s.grid)) (sym stored) (takes_there c.self.inside.about c.self.inside.sheets c.self.inside.names c.self.inside.locale.now c.self.inside.language.now c.self.inside.tables.now c.self.invariant sheet row column none)
 
 pub write_cell-requires-clause-loose : goal.write_cell-requires-clause-loose
@@ -55,9 +57,9 @@ invariant_of-self-in-Ok c =
     let sheet = c.args.sheet in
     let row = c.args.row in
     let column = c.args.column in
-    let none = ap (λ (m : ModelState). value_refusal m.book sheet row column) c.self.view_is ∙ c.in_ok-shown.ensures.refused in
-    let shows = subst (λ (m : ModelState). Shows m.book sheet row column c.in_ok-shown.shown) (sym c.self.view_is) c.in_ok-shown.ensures.shows in
     let stored = stored_pair row column c.ranges.row c.ranges.column in
+    let none = ap (λ (m : ModelState). value_refusal m.book sheet row column) c.self.view_is ∙ refusal_there c.args.self.now.book sheet row column _ stored None c.in_ok-shown.ensures.refused in
+    let shows = subst (λ (m : ModelState). Shows m.book sheet row column c.in_ok-shown.shown) (sym c.self.view_is) (shows_there c.args.self.now.book sheet row column c.in_ok-shown.shown _ stored c.in_ok-shown.ensures.shows) in
     let cell = value_cell c.args.value in
     let put =
     c.in-Ok.ensures.ok
@@ -69,9 +71,9 @@ returns-in-Ok-clause-does c =
     let sheet = c.args.sheet in
     let row = c.args.row in
     let column = c.args.column in
-    let none = ap (λ (m : ModelState). value_refusal m.book sheet row column) c.self.view_is ∙ c.in_ok-shown.ensures.refused in
-    let shows = subst (λ (m : ModelState). Shows m.book sheet row column c.in_ok-shown.shown) (sym c.self.view_is) c.in_ok-shown.ensures.shows in
     let stored = stored_pair row column c.ranges.row c.ranges.column in
+    let none = ap (λ (m : ModelState). value_refusal m.book sheet row column) c.self.view_is ∙ refusal_there c.args.self.now.book sheet row column _ stored None c.in_ok-shown.ensures.refused in
+    let shows = subst (λ (m : ModelState). Shows m.book sheet row column c.in_ok-shown.shown) (sym c.self.view_is) (shows_there c.args.self.now.book sheet row column c.in_ok-shown.shown _ stored c.in_ok-shown.ensures.shows) in
     let cell = value_cell c.args.value in
     let put =
     c.in-Ok.ensures.ok
@@ -85,9 +87,9 @@ returns-in-Ok-clause-looks_up c =
     let sheet = c.args.sheet in
     let row = c.args.row in
     let column = c.args.column in
-    let none = ap (λ (m : ModelState). value_refusal m.book sheet row column) c.self.view_is ∙ c.in_ok-shown.ensures.refused in
-    let shows = subst (λ (m : ModelState). Shows m.book sheet row column c.in_ok-shown.shown) (sym c.self.view_is) c.in_ok-shown.ensures.shows in
     let stored = stored_pair row column c.ranges.row c.ranges.column in
+    let none = ap (λ (m : ModelState). value_refusal m.book sheet row column) c.self.view_is ∙ refusal_there c.args.self.now.book sheet row column _ stored None c.in_ok-shown.ensures.refused in
+    let shows = subst (λ (m : ModelState). Shows m.book sheet row column c.in_ok-shown.shown) (sym c.self.view_is) (shows_there c.args.self.now.book sheet row column c.in_ok-shown.shown _ stored c.in_ok-shown.ensures.shows) in
     let cell = value_cell c.args.value in
     let put =
     c.in-Ok.ensures.ok
@@ -106,12 +108,13 @@ returns-in-Err-clause-does c =
     let sheet = c.args.sheet in
     let row = c.args.row in
     let column = c.args.column in
-    let none = ap (λ (m : ModelState). value_refusal m.book sheet row column) c.self.view_is ∙ c.in_ok-shown.ensures.refused in
+    let stored = stored_pair row column c.ranges.row c.ranges.column in
+    let none = ap (λ (m : ModelState). value_refusal m.book sheet row column) c.self.view_is ∙ refusal_there c.args.self.now.book sheet row column _ stored None c.in_ok-shown.ensures.refused in
     let same =
     c.truncate.ensures ∙ ap₂ (λ (n : ℕ) (xs : List Style). take n xs) c.len-count.ensures.exact c.in_ok-style.ensures.styles
     ∙ all_taken_back (with_quote_prefix c.args.quoted) c.self.inside.about.styles c.in_ok-shown.shown in
     let again = state_again c.self.inside.about c.self.inside.sheets c.self.inside.names c.self.inside.locale.now c.self.inside.language.now c.self.inside.tables.now c.truncate.new.self c.write_cell.new.self same c.in-Err.ensures.err ∙ c.self.view_is in
-    value_wants c.args.self.now (subst (λ (m : ModelState). IsValidBook m.book) c.self.view_is c.self.invariant.valid) sheet row column c.args.quoted (value_cell c.args.value) _ again c.in_ok-shown.ensures.refused c.from.result c.from.ensures
+    value_wants c.args.self.now (subst (λ (m : ModelState). IsValidBook m.book) c.self.view_is c.self.invariant.valid) sheet row column c.args.quoted (value_cell c.args.value) _ again (refusal_there c.args.self.now.book sheet row column _ stored None c.in_ok-shown.ensures.refused) c.from.result c.from.ensures
 
 pub returns-in-Err-clause-looks_up : goal.returns-in-Err-clause-looks_up
 returns-in-Err-clause-looks_up c =
@@ -126,7 +129,7 @@ returns-in_err-shown-clause-does c =
     let step = value_step now.book c.args.sheet c.args.row c.args.column c.args.quoted (value_cell c.args.value) in
     let t = c.in_err-shown.ensures.refused in
     of_error (λ r. DoesStep Wanted step no_fields r now now) c.from_residual.result c.from_residual.ensures
-    (λ f same. value_refused now (subst (λ (m : ModelState). IsValidBook m.book) c.self.view_is c.self.invariant.valid) c.args.sheet c.args.row c.args.column c.args.quoted (value_cell c.args.value) f (t.0, ap refusal_of same ∙ t.1, t.2))
+    (λ f same. value_refused now (subst (λ (m : ModelState). IsValidBook m.book) c.self.view_is c.self.invariant.valid) c.args.sheet c.args.row c.args.column c.args.quoted (value_cell c.args.value) f (t.0, ap refusal_of same ∙ t.1, refusal_there now.book c.args.sheet c.args.row c.args.column _ (stored_pair c.args.row c.args.column c.ranges.row c.ranges.column) (Some t.0) t.2))
 
 pub returns-in_err-style-clause-does : goal.returns-in_err-style-clause-does
 returns-in_err-style-clause-does c =
@@ -134,5 +137,5 @@ returns-in_err-style-clause-does c =
     let step = value_step now.book c.args.sheet c.args.row c.args.column c.args.quoted (value_cell c.args.value) in
     let new = held_state (record c.self.inside.about { styles = c.with_quote.new.styles }) c.self.inside.sheets c.self.inside.names c.self.inside.locale.now c.self.inside.language.now c.self.inside.tables.now in
     let again = state_again c.self.inside.about c.self.inside.sheets c.self.inside.names c.self.inside.locale.now c.self.inside.language.now c.self.inside.tables.now c.with_quote.new.styles c.self.inside.sheets c.in_err-style.ensures.err refl ∙ c.self.view_is in
-    of_error (λ r. DoesStep Wanted step no_fields r now new) c.from_residual-2.result c.from_residual-2.ensures
-    (λ f out. value_wants now (subst (λ (m : ModelState). IsValidBook m.book) c.self.view_is c.self.invariant.valid) c.args.sheet c.args.row c.args.column c.args.quoted (value_cell c.args.value) new again c.in_ok-shown.ensures.refused f out)
+    of_error (λ r. DoesStep Wanted step no_fields r now new) c.from_residual-in_err-style.result c.from_residual-in_err-style.ensures
+    (λ f out. value_wants now (subst (λ (m : ModelState). IsValidBook m.book) c.self.view_is c.self.invariant.valid) c.args.sheet c.args.row c.args.column c.args.quoted (value_cell c.args.value) new again (refusal_there now.book c.args.sheet c.args.row c.args.column _ (stored_pair c.args.row c.args.column c.ranges.row c.ranges.column) None c.in_ok-shown.ensures.refused) f out)
