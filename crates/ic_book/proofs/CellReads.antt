@@ -58,7 +58,7 @@ of_error P (Err e) h each = each e h.1
 
 -- a cell and its content are the same to readers ----
 
-value_same : (strings : List (List ℕ)) (l : Language) (cell : Cell) → contents.value_of l (content_of strings cell) ≡ value_of strings l cell
+pub value_same : (strings : List (List ℕ)) (l : Language) (cell : Cell) → contents.value_of l (content_of strings cell) ≡ value_of strings l cell
 value_same strings l (cells.EmptyCell s) = refl
 value_same strings l (cells.BooleanCell v s) = refl
 value_same strings l (cells.NumberCell v s) = refl

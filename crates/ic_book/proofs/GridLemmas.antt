@@ -5,13 +5,12 @@ use Rattle.std.proofs.lemmas.Bool.{and_from}
 use Rattle.std.proofs.lemmas.Option.{slice_get-map, slice_get_within}
 use Rattle.std.specs.FinMap as finite
 use Rattle.std.specs.List.{slice_get}
-use Rattle.std.specs.Prelude.{◌&&◌, ◌++◌, bytes_eq, is_some, option_and_then, option_map}
+use Rattle.std.specs.Prelude.{◌&&◌, ◌||◌, ◌++◌, bytes_eq, is_some, option_and_then, option_map}
 use Rattle.ic_laws.proofs.core.CellWritten.{place_cmp_total}
 use Rattle.ic_laws.specs.CoreBook.{CellPlace}
-use Rattle.ic_laws.specs.FormulaReading.{is_formula_text}
 use Rattle.ic_laws.specs.Position.{is_column, is_row}
 use Rattle.std.proofs.lemmas.Slice.Eq.{bytes_eq-Decides}
-use Rattle.ic_cells.specs.Style.{default_style, first_place, is_color, is_flag, is_style, style_at, with_quote_prefix}
+use Rattle.ic_cells.specs.Style.{default_style, first_place, is_color, is_flag, is_style, style_at, with_format, with_quote_prefix}
 use Rattle.ic_cells.specs.declared.cell.Cell.{Cell}
 use Rattle.ic_cells.specs.declared.cell.Cell.TheVariants as cells
 use Rattle.ic_cells.specs.declared.style.Color.{Color}
@@ -30,23 +29,24 @@ use Rattle.ic_grid.specs.Style as grid_style
 use Rattle.ic_grid.specs.Whole.{IsGrid}
 use Rattle.ic_grid.specs.declared.error.GridError.TheVariants as grid_errors
 use Rattle.ic_grid.specs.declared.grid.Grid.{Grid}
+use Rattle.ic_input.specs.Code.{is_date_code}
 use Rattle.ic_machine.proofs.AlikeGrid.{arrays_held, inside_held, merges_held, style_at-seen}
 use Rattle.ic_machine.proofs.AlikeLemmas.{cells_are_contents}
 use Rattle.ic_machine.proofs.ValidLemmas.{HoldsOf, holds_at}
 use Rattle.ic_machine.proofs.WritingSteps.{number_below}
 use Rattle.ic_machine.specs.Book as machine
 use Rattle.ic_machine.specs.Content.{content_of, held}
-use Rattle.ic_machine.specs.Refusal.{ArrayPart, InvalidColumn, InvalidRow, MergedPart, NotAFormula, Refusal, first_refusal}
+use Rattle.ic_machine.specs.Refusal.{ArrayPart, InvalidColumn, InvalidRow, MergedPart, Refusal, first_refusal}
 use Rattle.ic_machine.specs.Styling.{Numbered, numbered, restyled}
-use Rattle.ic_machine.specs.subjects.Writing.{unquoted}
+use Rattle.ic_machine.specs.subjects.Writing.{coded, unquoted}
 use Rattle.ic_sheets.specs.Sheet.{BookSheet, TakesCell, formula_cell, with_cell_in}
 use Rattle.ic_sheets.specs.declared.sheet.FormulaKind.{FormulaKind}
 use Rattle.ic_sheets.specs.declared.sheet.FormulaKind.TheVariants as kinds
 use Rattle.ic_sheets.proofs.CellLemmas.{formula_loose}
 use Rattle.ic_book.specs.Book.{Book, HasString, HasStrings, IsPlain, IsValidBook, notations_in, whole_of, whole_sheet}
 use Rattle.ic_book.specs.Refused.{TellsOnly, refusal_of}
-use Rattle.ic_book.specs.Values.{value_causes}
-use Rattle.ic_book.specs.Written.{cell_causes, text_causes}
+use Rattle.ic_book.specs.Values.{keeps_code, value_causes}
+use Rattle.ic_book.specs.Written.{cell_causes}
 use Rattle.ic_book.specs.declared.error.BookError.{BookError}
 
 -- What holds of each cell, and of an empty one, and of a formula's that is reset, holds after a write. ----
@@ -168,26 +168,6 @@ module _ (book : Book) (valid : IsValidBook book) (index : ℕ) (s : BookSheet) 
       subst (λ k. k < length book.styles) (style_at-seen (content_of book.strings) celled held (cells_are_contents book.strings) s.grid.cells s.grid.rows s.grid.columns place)
       (number_below (length book.styles) (whole_sheet book.strings s).grid place its_holds.styles (slice_get_within book.styles 0 default_style valid.whole.styles.styles.default))
 
--- where nothing refuses a text
-pub text_clear : (a b c d e : Bool) → first_refusal ((not a, InvalidRow) ∷ (not b, InvalidColumn) ∷ (c, MergedPart) ∷ (d, ArrayPart) ∷ (not e, NotAFormula) ∷ []) ≡ None
-    → (a ≡ true) × (b ≡ true) × (c ≡ false) × (d ≡ false) × (e ≡ true)
-text_clear false b c d e h = cc
-text_clear true false c d e h = cc
-text_clear true true true d e h = cc
-text_clear true true false true e h = cc
-text_clear true true false false false h = cc
-text_clear true true false false true h = (refl, refl, refl, refl, refl)
-
--- What refuses a text, by what refuses the cell. ----
-
-pub cell_told : (row column covered fixed is : Bool) (r : Refusal) → row ≡ true → column ≡ true → first_refusal ((covered, MergedPart) ∷ (fixed, ArrayPart) ∷ []) ≡ Some r
-    → first_refusal ((not row, InvalidRow) ∷ (not column, InvalidColumn) ∷ (covered, MergedPart) ∷ (fixed, ArrayPart) ∷ (not is, NotAFormula) ∷ []) ≡ Some r
-cell_told false column covered fixed is q r c e = cc
-cell_told true false covered fixed is q r c e = cc
-cell_told true true true fixed is q r c e = e
-cell_told true true false true is q r c e = e
-cell_told true true false false is q r c e = cc
-
 -- an error that is passed on tells the same
 pub told_again : {T : Type 0} (r : Result T BookError) (e : BookError) (o : Option Refusal) → IsErr r × IsErrAnd r (λ f. f ≡ e) → (told : Refusal) × (refusal_of e ≡ Some told) × (o ≡ Some told) → TellsOnly r o
 told_again (Ok x) e o h t = let no : false ≡ true = h.0 in cc
@@ -200,14 +180,9 @@ free_cell grid place whole row column uncovered unfixed = record {
   free = ap₂ (λ (covered fixed : Bool). refused_by covered grid_errors.MergedPart (refused_by fixed grid_errors.ArrayPart (Ok tt))) uncovered unfixed;
 }
 
-pub takes_text : (grid : Grid) (place : CellPlace) (text : List ℕ) → IsGrid grid → first_refusal (text_causes grid place text) ≡ None → TakesCell place grid
-takes_text grid place text whole none =
-    let clear = text_clear (is_row place.0) (is_column place.1) (is_covered grid.merged_cells place) (is_fixed_at celled grid.cells place) (is_formula_text text) none in
-    free_cell grid place whole clear.0 clear.1 clear.2 clear.3
+-- Where nothing refuses a write. ----
 
--- The same of a value. ----
-
-value_clear : (a b c d : Bool) → first_refusal ((not a, InvalidRow) ∷ (not b, InvalidColumn) ∷ (c, MergedPart) ∷ (d, ArrayPart) ∷ []) ≡ None → (a ≡ true) × (b ≡ true) × (c ≡ false) × (d ≡ false)
+pub value_clear : (a b c d : Bool) → first_refusal ((not a, InvalidRow) ∷ (not b, InvalidColumn) ∷ (c, MergedPart) ∷ (d, ArrayPart) ∷ []) ≡ None → (a ≡ true) × (b ≡ true) × (c ≡ false) × (d ≡ false)
 value_clear false b c d h = cc
 value_clear true false c d h = cc
 value_clear true true true d h = cc
@@ -257,12 +232,62 @@ quote_kept quoted styles number e = ap (λ b. restyled_by (with_quote_prefix quo
 pub quote_new : (quoted : Bool) (styles : List Style) (number : ℕ) → (style_at styles number).quote_prefix ≡ not quoted → restyled (with_quote_prefix quoted) number styles ≡ numbered (with_quote_prefix quoted (style_at styles number)) styles
 quote_new quoted styles number e = ap (λ b. restyled_by (with_quote_prefix quoted) b styles number) (is_other quoted (style_at styles number) e)
 
+-- where nothing changes, and where a code and the flag do ----
+
+style_itself : (s : Style) → is_style s s ≡ true
+unfolding is_style
+style_itself s = and_from _ _ (and_from _ _ (and_from _ _ ((bytes_eq-Decides s.num_fmt s.num_fmt).1 refl) (flag_itself s.quote_prefix)) (flag_itself s.bold)) (color_itself s.fill)
+
+pub nothing_changed : (styles : List Style) (number : ℕ) → restyled (λ s. s) number styles ≡ record { number = number; styles = styles }
+nothing_changed styles number = ap (λ b. restyled_by (λ s. s) b styles number) (style_itself (style_at styles number))
+
+no_front : (a b c d : Bool) → a ≡ false → (a && b && c && d) ≡ false
+no_front true b c d e = cc
+no_front false b c d e = refl
+
+other_code : (code : List ℕ) (s : Style) → bytes_eq s.num_fmt code ≡ false → is_style (unquoted (with_format code s)) s ≡ false
+unfolding is_style
+other_code code s e = no_front (bytes_eq code s.num_fmt) (is_flag false s.quote_prefix) (is_flag s.bold s.bold) (is_color s.fill s.fill) (flip (bytes_eq code s.num_fmt) refl)
+  where
+    flip : (b : Bool) → bytes_eq code s.num_fmt ≡ b → b ≡ false
+    flip false h = refl
+    flip true h =
+        let same : code ≡ s.num_fmt = (bytes_eq-Decides code s.num_fmt).0 h in
+        sym ((bytes_eq-Decides s.num_fmt code).1 (sym same)) ∙ e
+
+dated : (date : Bool) (code : List ℕ) (s : Style) → date ≡ false → (if date then s else with_format code s) ≡ with_format code s
+dated true code s e = cc
+dated false code s e = refl
+
+no_or : (a b : Bool) → (a || b) ≡ false → (a ≡ false) × (b ≡ false)
+no_or true b e = cc
+no_or false b e = (refl, e)
+
+pub code_new : (code : List ℕ) (styles : List Style) (number : ℕ) → keeps_code code (style_at styles number) ≡ false
+    → restyled (λ s. unquoted (coded (Some code) s)) number styles ≡ numbered (unquoted (with_format code (style_at styles number))) styles
+code_new code styles number e =
+    let s : Style = style_at styles number in
+    let parts = no_or (bytes_eq s.num_fmt code) (is_date_code code && is_date_code s.num_fmt) e in
+    ap (λ (t : Style). if is_style (unquoted t) s then record { number = number; styles = styles } else numbered (unquoted t) styles) (dated (is_date_code code && is_date_code s.num_fmt) code s parts.1)
+    ∙ ap (λ (b : Bool). if b then record { number = number; styles = styles } else numbered (unquoted (with_format code s)) styles) (other_code code s parts.0)
+
+keeps_it : (same date : Bool) (code : List ℕ) (s : Style) → bytes_eq s.num_fmt code ≡ same → (same || date) ≡ true → (if date then s else with_format code s) ≡ s
+keeps_it same true code s is e = refl
+keeps_it true false code s is e = let equal : s.num_fmt ≡ code = (bytes_eq-Decides s.num_fmt code).0 is in ap (λ (c : List ℕ). with_format c s) (sym equal)
+keeps_it false false code s is e = cc
+
+pub code_kept : (code : List ℕ) (styles : List Style) (number : ℕ) → keeps_code code (style_at styles number) ≡ true → restyled (λ s. unquoted (coded (Some code) s)) number styles ≡ restyled (with_quote_prefix false) number styles
+code_kept code styles number e =
+    let s : Style = style_at styles number in
+    ap (λ (t : Style). if is_style (unquoted t) s then record { number = number; styles = styles } else numbered (unquoted t) styles)
+    (keeps_it (bytes_eq s.num_fmt code) (is_date_code code && is_date_code s.num_fmt) code s refl e)
+
 -- and taken back
-take_all : {X : Type 0} (xs : List X) → take (length xs) xs ≡ xs
+pub take_all : {X : Type 0} (xs : List X) → take (length xs) xs ≡ xs
 take_all [] = refl
 take_all (x ∷ xs) = ap (λ rest. x ∷ rest) (take_all xs)
 
-take_front : {X : Type 0} (xs ys : List X) → take (length xs) (xs ++ ys) ≡ xs
+pub take_front : {X : Type 0} (xs ys : List X) → take (length xs) (xs ++ ys) ≡ xs
 take_front [] [] = refl
 take_front [] (y ∷ ys) = refl
 take_front (x ∷ xs) ys = ap (λ rest. x ∷ rest) (take_front xs ys)

@@ -42,8 +42,8 @@ use Rattle.ic_grid.specs.Style.{style_at}
 use Rattle.ic_machine.specs.Refusal as machine
 use Rattle.ic_laws.specs.ValidCore.{IsPooled}
 use Rattle.ic_laws.proofs.core.Lists.{updated_seen}
-use Rattle.ic_book.specs.Written.{WritesFormula, kind_of, pool_at, refusal_in, text_causes, with_cell, with_pool, write_refusal, written_formula, written_style}
-use Rattle.ic_book.proofs.GridLemmas.{its_grid, style_below, takes_text}
+use Rattle.ic_book.specs.Written.{WritesFormula, kind_of, pool_at, value_causes, value_refusal, value_refusal_in, with_cell, with_pool, written_formula, written_style}
+use Rattle.ic_book.proofs.GridLemmas.{its_grid, style_below, takes_cell}
 use Rattle.ic_book.proofs.WholeWritten.{written_valid}
 use Rattle.ic_book.proofs.WrittenLemmas.{core_of-pool, one_of_all}
 use Rattle.ic_sheets.specs.declared.sheet.Sheet.{Sheet as HeldSheet}
@@ -382,15 +382,15 @@ module _ (about : About) (ws : List HeldSheet) (ds : List Definition) (locale : 
       placed_held e pooled = held_after now ds (with_pool index pool book) (placed pool e) (placed_valid book h.valid index (sheet_of s) (in_book index s at) place pool formula there pooled)
 
   -- a formula that is written, in the style of this number, by these styles
-  module _ (now : List HeldSheet) (index : ℕ) (s : HeldSheet) (at : slice_get ws index ≡ Some s) (place : CellPlace) (text : List ℕ) (formula : Formula) (kind : FormulaKind) (number : ℕ) (styles : List Style) (k : ℕ) (pool : List Formula)
-      (is_placed : IsPlaced formula k (sheets.pool_at ws index) pool) (is : formula ≡ written_formula book (sheet_of s) place text) (of_kind : kind ≡ kind_of tables.kinds formula)
+  module _ (now : List HeldSheet) (index : ℕ) (s : HeldSheet) (at : slice_get ws index ≡ Some s) (place : CellPlace) (body : List ℕ) (formula : Formula) (kind : FormulaKind) (number : ℕ) (styles : List Style) (k : ℕ) (pool : List Formula)
+      (is_placed : IsPlaced formula k (sheets.pool_at ws index) pool) (is : formula ≡ written_formula book (sheet_of s) place body) (of_kind : kind ≡ kind_of tables.kinds formula)
       (numbered : number ≡ (written_style book (sheet_of s) place).number) (styled : styles ≡ (written_style book (sheet_of s) place).styles)
       (e : now ≡ updated_at (λ s. record s { pool = record { formulas = pool; is_whole = true }; grid = with_cell_in place (formula_cell kind k number) s.grid }) index ws)
     where
       abbrev about_then : About
       about_then = record about { styles = styles }
 
-      pub written : WritesFormula index (sheet_of s) place text (held about ws ds locale language tables) (held (record about { styles = styles }) now ds locale language tables)
+      pub written : WritesFormula index (sheet_of s) place body (held about ws ds locale language tables) (held (record about { styles = styles }) now ds locale language tables)
       written = record {
         pool = pool;
         at = k;
@@ -403,20 +403,16 @@ module _ (about : About) (ws : List HeldSheet) (ds : List Definition) (locale : 
             ∙ ap₂ (λ (kd : FormulaKind) (nr : ℕ). with_cell index pool place (formula_cell kd k nr) (written_style book (sheet_of s) place).styles book) (of_kind ∙ ap (kind_of tables.kinds) is) numbered;
       }
 
-      pub written_held : machine.first_refusal (text_causes s.grid place text) ≡ None → IsHeld (record about { styles = styles }) now ds locale language tables
+      pub written_held : machine.first_refusal (value_causes s.grid place) ≡ None → IsHeld (record about { styles = styles }) now ds locale language tables
       written_held none = record {
-        valid = written_valid book h.valid index place text (sheet_of s) (in_book index s at) (held about_then now ds locale language tables) written none;
+        valid = written_valid book h.valid index place body (sheet_of s) (in_book index s at) (held about_then now ds locale language tables) written none;
         locale_found = h.locale_found;
         language_found = h.language_found;
       }
 
-  -- the sheet that nothing refuses
-  pub refused_in : (index : ℕ) (place : CellPlace) (text : List ℕ) (s : HeldSheet) → slice_get ws index ≡ Some s → write_refusal book index place text ≡ machine.first_refusal (text_causes s.grid place text)
-  refused_in index place text s at = ap (refusal_in place text) (in_book index s at)
-
-  -- a text that nothing refuses finds its sheet, which takes it
-  module _ (index : ℕ) (place : CellPlace) (text : List ℕ) (none : write_refusal (held about ws ds locale language tables) index place text ≡ None) where
-    some_sheet : (o : Option BookSheet) → refusal_in place text o ≡ None → (s : BookSheet) × (o ≡ Some s)
+  -- a place that nothing refuses finds its sheet, which takes a cell there
+  module _ (index : ℕ) (place : CellPlace) (none : value_refusal (held about ws ds locale language tables) index place.0 place.1 ≡ None) where
+    some_sheet : (o : Option BookSheet) → value_refusal_in place o ≡ None → (s : BookSheet) × (o ≡ Some s)
     some_sheet None e = cc
     some_sheet (Some s) e = (s, refl)
 
@@ -429,11 +425,11 @@ module _ (about : About) (ws : List HeldSheet) (ds : List Definition) (locale : 
     entry_at slice s same read = at_index slice ws index s same (there_of ws slice index same (there_is ws index is_within)) read
 
     module _ (s : HeldSheet) (at : slice_get ws index ≡ Some s) where
-      pub clear_at : machine.first_refusal (text_causes s.grid place text) ≡ None
-      clear_at = sym (refused_in index place text s at) ∙ none
+      pub clear_at : machine.first_refusal (value_causes s.grid place) ≡ None
+      clear_at = sym (ap (value_refusal_in place) (in_book index s at)) ∙ none
 
       pub takes_there : IfSome (slice_get ws index) (λ (s : HeldSheet). TakesCell place s.grid)
-      takes_there = subst (λ o. IfSome o (λ (s : HeldSheet). TakesCell place s.grid)) (sym at) (takes_text s.grid place text (its_grid book h.valid index (sheet_of s) (in_book index s at)) clear_at)
+      takes_there = subst (λ o. IfSome o (λ (s : HeldSheet). TakesCell place s.grid)) (sym at) (takes_cell s.grid place (its_grid book h.valid index (sheet_of s) (in_book index s at)) clear_at)
 
   pub style_within : (index : ℕ) (place : CellPlace) (s : HeldSheet) → slice_get ws index ≡ Some s → style_at celled s.grid.cells s.grid.rows s.grid.columns place < length about.styles
   style_within index place s at = style_below book h.valid index (sheet_of s) (in_book index s at) place

@@ -43,7 +43,7 @@ use Rattle.ic_book.proofs.ReadLemmas.{sheet_missing, sheet_refused, sheet_told, 
 -- the numbers of styles, in the whole sheet ----
 
 module _ (strings : List (List ℕ)) (grid : Grid) where
-  shown_number : (place : CellPlace) → style_number_at (whole_grid strings grid) place.0 place.1 ≡ grid_style.style_at celled grid.cells grid.rows grid.columns place
+  pub shown_number : (place : CellPlace) → style_number_at (whole_grid strings grid) place.0 place.1 ≡ grid_style.style_at celled grid.cells grid.rows grid.columns place
   shown_number place = style_at-seen (content_of strings) celled held (cells_are_contents strings) grid.cells grid.rows grid.columns place
 
   own_number : (place : CellPlace) → option_map contents.style_of (finite.get (whole_grid strings grid).contents (place.0, place.1)) ≡ option_map style_of (finite.get grid.cells place)

@@ -1,5 +1,5 @@
 -- A value that is written into a cell, as the whole machine writes it.
-use Rattle.std.proofs.Common.{◌≡◌, ℕ, ℤ, ◌<◌, ◌≤◌, ◌++◌, List, [], ◌∷◌, Bool, true, not, length, map, Option, Some, None, option_map, Result, Ok, Err, refl, sym, ap, ap₂, subst, ◌∙◌, IfSome, arith}
+use Rattle.std.proofs.Common.{◌≡◌, ℕ, ℤ, ◌<◌, ◌++◌, List, [], ◌∷◌, Bool, not, length, map, Option, Some, None, option_map, Ok, Err, refl, sym, ap, subst, ◌∙◌, IfSome, arith}
 use Rattle.std.proofs.lemmas.Option.{slice_get-map, slice_get_within}
 use Rattle.std.specs.List.{slice_get}
 use Rattle.ic_laws.proofs.core.Lists.{all_updated, updated_seen, updated_unseen}
@@ -9,11 +9,8 @@ use Rattle.ic_laws.specs.Position.{is_column, is_row}
 use Rattle.ic_tables.specs.Tables.{TableSet}
 use Rattle.ic_tables.specs.declared.language.Language.{Language}
 use Rattle.ic_tables.specs.declared.locale.NamedLocale.{NamedLocale}
-use Rattle.ic_cells.specs.Cell.{formula_of}
-use Rattle.ic_cells.specs.Style.{with_quote_prefix}
 use Rattle.ic_cells.specs.declared.cell.Cell.{Cell}
 use Rattle.ic_cells.specs.declared.style.Style.{Style}
-use Rattle.ic_grid.specs.Arrays.{is_fixed_at}
 use Rattle.ic_grid.specs.Contents.{Contents}
 use Rattle.ic_grid.specs.Merges.{is_covered}
 use Rattle.ic_grid.specs.Prepare.{written}
@@ -23,15 +20,14 @@ use Rattle.ic_machine.proofs.AlikeGrid.{is_fixed_at-seen, style_at-seen, written
 use Rattle.ic_machine.proofs.AlikeLemmas.{cells_are_contents}
 use Rattle.ic_machine.proofs.ValidLemmas.{holds_at}
 use Rattle.ic_machine.proofs.WritingSteps.{IsGood, write_stays}
-use Rattle.ic_machine.specs.Alike.{HoldsAlike}
 use Rattle.ic_machine.specs.Book as machine
-use Rattle.ic_machine.specs.Book.{Stepped, found_or, style_number_at, unless, with_sheet}
+use Rattle.ic_machine.specs.Book.{Stepped, found_or, unless, with_sheet}
 use Rattle.ic_machine.specs.Content.{Content, content_of, held}
 use Rattle.ic_machine.specs.Kept.{StaysValid}
 use Rattle.ic_machine.specs.Refusal.{ArrayPart, InvalidColumn, InvalidRow, InvalidSheet, MergedPart, Refusal, first_refusal}
 use Rattle.ic_machine.specs.Styling.{Numbered, restyled}
 use Rattle.ic_machine.specs.Valid.{HasFormula}
-use Rattle.ic_machine.specs.subjects.Writing.{Written, place_causes, with_content, with_written, write_causes}
+use Rattle.ic_machine.specs.subjects.Writing.{Written, place_causes, with_content, with_written, write_causes, write_step}
 use Rattle.ic_sheets.specs.Sheet.{BookSheet, TakesCell, sheet_of, with_cell_in}
 use Rattle.ic_sheets.specs.declared.sheet.Sheet.{Sheet as HeldSheet}
 use Rattle.ic_book.specs.Book.{Book, HasStrings, IsPlain, IsValidBook, ModelState}
@@ -39,19 +35,17 @@ use Rattle.ic_book.specs.Does.{DoesStep, IsDone, Refused, Wanted}
 use Rattle.ic_book.specs.Fields.{no_fields}
 use Rattle.ic_book.specs.Inside.{IsHeld, held_state}
 use Rattle.ic_book.specs.Refused.{refusal_of}
-use Rattle.ic_book.specs.Values.{IsValueCell, Shows, cell_written, quoted_style, shown_style, value_causes, value_cell, value_refusal, value_refusal_in, value_step, with_value}
+use Rattle.ic_book.specs.Values.{IsValueCell, Shows, changed_style, content_written, put_step, shown_style, value_causes, value_refusal, value_refusal_in, value_step, with_value}
 use Rattle.ic_book.specs.Whole.{whole_of, whole_sheet, whole_tab}
 use Rattle.ic_book.specs.declared.about.About.{About}
 use Rattle.ic_book.specs.declared.error.BookError.{BookError}
 use Rattle.ic_book.specs.declared.error.BookError.TheVariants as errors
-use Rattle.ic_book.specs.declared.values.Value.{Value}
-use Rattle.ic_book.specs.declared.values.Value.TheVariants as values
 use Rattle.ic_book.proofs.GridLemmas.{its_grid, plain_with, strings_with, style_below, takes_cell}
 use Rattle.ic_book.proofs.WholeLemmas.{index_seen}
 use Rattle.ic_book.proofs.WrittenLemmas.{updated_alike}
 
 -- a sheet stands there where nothing refuses a value
-there_in : (place : CellPlace) (o : Option BookSheet) → value_refusal_in place o ≡ None → (s : BookSheet) × (o ≡ Some s) × (first_refusal (value_causes s.grid place) ≡ None)
+pub there_in : (place : CellPlace) (o : Option BookSheet) → value_refusal_in place o ≡ None → (s : BookSheet) × (o ≡ Some s) × (first_refusal (value_causes s.grid place) ≡ None)
 there_in place None e = cc
 there_in place (Some s) e = (s, refl, e)
 
@@ -66,7 +60,7 @@ shows_there book index row column n p same e = subst (λ (p : CellPlace). IfSome
 
 -- The machine's step. ----
 
-module _ (book : Book) (valid : IsValidBook book) (index : ℕ) (row column : ℤ) (quoted : Bool) (cell : ℕ → Cell) where
+module _ (book : Book) (index : ℕ) (row column : ℤ) (w : machine.Sheet → Written) where
   abbrev place : CellPlace
   place = (row, column)
 
@@ -76,16 +70,13 @@ module _ (book : Book) (valid : IsValidBook book) (index : ℕ) (row column : �
   abbrev seen : BookSheet → machine.Sheet
   seen s = whole_sheet book.strings s
 
-  abbrev what : machine.Sheet → Written
-  what = cell_written book.strings quoted cell
-
   abbrev left_at : BookSheet → machine.Book
-  left_at s = with_written whole index (seen s) place (what (seen s))
+  left_at s = with_written whole index (seen s) place (w (seen s))
 
   abbrev step_at : Option machine.Sheet → Stepped machine.Book
-  step_at o = found_or InvalidSheet (option_map (λ sheet. unless (first_refusal (place_causes place ++ (write_causes sheet place ++ []))) (with_written whole index sheet place (what sheet)) []) o)
+  step_at o = found_or InvalidSheet (option_map (λ sheet. unless (first_refusal (place_causes place ++ (write_causes sheet place ++ []))) (with_written whole index sheet place (w sheet)) []) o)
 
-  step_is : value_step book index row column quoted cell ≡ step_at (option_map seen (slice_get book.sheets index))
+  step_is : write_step whole index place w [] ≡ step_at (option_map seen (slice_get book.sheets index))
   step_is = ap step_at (slice_get-map seen book.sheets index)
 
   causes_are : (s : BookSheet) → first_refusal (place_causes place ++ (write_causes (seen s) place ++ [])) ≡ first_refusal (value_causes s.grid place)
@@ -100,89 +91,103 @@ module _ (book : Book) (valid : IsValidBook book) (index : ℕ) (row column : �
   step_done : (s : BookSheet) → first_refusal (value_causes s.grid place) ≡ None → step_at (Some (seen s)) ≡ Ok (left_at s, [])
   step_done s e = ap (λ o. unless o (left_at s) []) (causes_are s ∙ e)
 
-  pub step_refused : (r : Refusal) → value_refusal book index row column ≡ Some r → value_step book index row column quoted cell ≡ Err r
+  pub step_refused : (r : Refusal) → value_refusal book index row column ≡ Some r → write_step (whole_of book) index (row, column) w [] ≡ Err r
   step_refused r e = step_is ∙ step_told (slice_get book.sheets index) r e
 
-  pub step_accepted : value_refusal book index row column ≡ None → IsDone (value_step book index row column quoted cell)
+  pub step_accepted : value_refusal book index row column ≡ None → IsDone (write_step (whole_of book) index (row, column) w [])
   step_accepted e =
       let found = there_in place (slice_get book.sheets index) e in
       subst IsDone (sym (step_is ∙ ap (λ o. step_at (option_map seen o)) found.1 ∙ step_done found.0 found.2)) tt
 
+module _ (book : Book) (valid : IsValidBook book) (index : ℕ) (row column : ℤ) (change : Style → Style) (cell : ℕ → Cell) where
+  abbrev its_content : ℕ → Content
+  its_content = λ style. content_of book.strings (cell style)
+
+  abbrev its_place : CellPlace
+  its_place = (row, column)
+
+  abbrev its_whole : machine.Book
+  its_whole = whole_of book
+
+  abbrev as_seen : BookSheet → machine.Sheet
+  as_seen s = whole_sheet book.strings s
+
   module _ (is_value : IsValueCell (length book.strings) cell) where
-    good : (s : machine.Sheet) → slice_get whole.sheets index ≡ Some s → IsGood (machine.notations_in whole) (machine.scene_in whole) s place (what s)
+    good : (s : machine.Sheet) → slice_get its_whole.sheets index ≡ Some s → IsGood (machine.notations_in its_whole) (machine.scene_in its_whole) s its_place (content_written change its_content s)
     good s e = record {
       loose = λ k. ap is_loose ((cells_are_contents book.strings).shape (cell k)) ∙ is_value.loose k;
       style = λ k. (cells_are_contents book.strings).style (cell k) ∙ is_value.style k;
-      pool = (holds_at whole valid.whole index s e).pool;
+      pool = (holds_at its_whole valid.whole index s e).pool;
       longer = omega (arith);
       stays = λ i lt. refl;
-      formula = λ k. subst (HasFormula (machine.notations_in whole) (machine.scene_in whole) s place) (sym (index_seen book.strings (cell k) ∙ is_value.formula k)) tt;
+      formula = λ k. subst (HasFormula (machine.notations_in its_whole) (machine.scene_in its_whole) s its_place) (sym (index_seen book.strings (cell k) ∙ is_value.formula k)) tt;
     }
 
-    stays : StaysValid (value_step book index row column quoted cell)
-    stays = write_stays whole valid.whole index place what [] (λ s e r c. good s e)
+    stays : StaysValid (value_step book index row column change cell)
+    stays = write_stays its_whole valid.whole index its_place (content_written change its_content) [] (λ s e r c. good s e)
 
-    module _ (s : BookSheet) (at_index : slice_get book.sheets index ≡ Some s) (none : first_refusal (value_causes s.grid place) ≡ None) where
+    module _ (s : BookSheet) (at_index : slice_get book.sheets index ≡ Some s) (none : first_refusal (value_causes s.grid its_place) ≡ None) where
       abbrev styled : Numbered
-      styled = quoted_style book s row column quoted
+      styled = changed_style book s row column change
 
       abbrev sheet_with : ℕ → machine.Sheet
-      sheet_with number = with_content place s.pool (content_of book.strings (cell number)) (seen s)
+      sheet_with number = with_content its_place s.pool (content_of book.strings (cell number)) (as_seen s)
 
-      left_is : left_at s ≡ record (with_sheet whole index (sheet_with styled.number)) { styles = styled.styles }
+      left_is : left_at book index row column (content_written change its_content) s ≡ record (with_sheet its_whole index (sheet_with styled.number)) { styles = styled.styles }
       left_is =
-          ap (λ number. let by : Numbered = restyled (with_quote_prefix quoted) number book.styles in let b : machine.Book = record (with_sheet whole index (sheet_with by.number)) { styles = by.styles } in b)
-          (style_at-seen (content_of book.strings) celled held (cells_are_contents book.strings) s.grid.cells s.grid.rows s.grid.columns place)
+          ap (λ number. let by : Numbered = restyled change number book.styles in let b : machine.Book = record (with_sheet its_whole index (sheet_with by.number)) { styles = by.styles } in b)
+          (style_at-seen (content_of book.strings) celled held (cells_are_contents book.strings) s.grid.cells s.grid.rows s.grid.columns its_place)
 
-      sheet_put : seen (record s { grid = with_cell_in place (cell styled.number) s.grid }) ≡ sheet_with styled.number
+      sheet_put : as_seen (record s { grid = with_cell_in its_place (cell styled.number) s.grid }) ≡ sheet_with styled.number
       sheet_put =
           ap (λ (m : Contents Content). let sheet : machine.Sheet = record { id = s.id; name = s.name; pool = s.pool; grid = record { contents = m; rows = s.grid.rows; columns = s.grid.columns; merges = s.grid.merged_cells }; tab = whole_tab s.tab } in sheet)
-          (sym (written-seen (content_of book.strings) celled held (cells_are_contents book.strings) s.grid.cells place (cell styled.number)))
+          (sym (written-seen (content_of book.strings) celled held (cells_are_contents book.strings) s.grid.cells its_place (cell styled.number)))
 
-      pub step_leaves : value_step book index row column quoted cell ≡ Ok (whole_of (with_value index place cell styled book), [])
+      pub step_leaves : value_step book index row column change cell ≡ Ok (whole_of (with_value index its_place cell styled book), [])
       step_leaves =
-          step_is ∙ ap (λ o. step_at (option_map seen o)) at_index ∙ step_done s none
+          step_is book index row column (content_written change its_content) ∙ ap (λ o. step_at book index row column (content_written change its_content) (option_map as_seen o)) at_index ∙ step_done book index row column (content_written change its_content) s none
           ∙ ap (λ (b : machine.Book). let made : Stepped machine.Book = Ok (b, []) in made)
           (left_is
-          ∙ ap (λ (sheets : List machine.Sheet). let b : machine.Book = record whole { sheets = sheets; styles = styled.styles } in b)
-          (sym (updated_alike seen (λ s. record s { grid = with_cell_in place (cell styled.number) s.grid }) (λ old. sheet_with styled.number) index book.sheets s at_index sheet_put)))
+          ∙ ap (λ (sheets : List machine.Sheet). let b : machine.Book = record its_whole { sheets = sheets; styles = styled.styles } in b)
+          (sym (updated_alike as_seen (λ s. record s { grid = with_cell_in its_place (cell styled.number) s.grid }) (λ old. sheet_with styled.number) index book.sheets s at_index sheet_put)))
 
-      pub value_valid : IsValidBook (with_value index place cell styled book)
+      pub value_valid : IsValidBook (with_value index its_place cell styled book)
       value_valid = record {
         whole = subst StaysValid step_leaves stays;
-        strings = all_updated (λ (s : BookSheet). HasStrings (length book.strings) s.grid) (λ s. record s { grid = with_cell_in place (cell styled.number) s.grid }) (λ s h. strings_with (length book.strings) place (cell styled.number) (is_value.string styled.number) s.grid h) index book.sheets valid.strings;
-        plain = all_updated (λ (s : BookSheet). IsPlain s.grid) (λ s. record s { grid = with_cell_in place (cell styled.number) s.grid }) (λ s h. plain_with place (cell styled.number) (is_value.loose styled.number) s.grid h) index book.sheets valid.plain;
+        strings = all_updated (λ (s : BookSheet). HasStrings (length book.strings) s.grid) (λ s. record s { grid = with_cell_in its_place (cell styled.number) s.grid }) (λ s h. strings_with (length book.strings) its_place (cell styled.number) (is_value.string styled.number) s.grid h) index book.sheets valid.strings;
+        plain = all_updated (λ (s : BookSheet). IsPlain s.grid) (λ s. record s { grid = with_cell_in its_place (cell styled.number) s.grid }) (λ s h. plain_with its_place (cell styled.number) (is_value.loose styled.number) s.grid h) index book.sheets valid.plain;
       }
 
 -- What the call does. ----
 
-module _ (old : ModelState) (valid : IsValidBook old.book) (index : ℕ) (row column : ℤ) (quoted : Bool) (cell : ℕ → Cell) where
+module _ (old : ModelState) (valid : IsValidBook old.book) (index : ℕ) (row column : ℤ) (change : Style → Style) (content : ℕ → Content) where
   abbrev step : Stepped machine.Book
-  step = value_step old.book index row column quoted cell
+  step = put_step (whole_of old.book) index row column change content
 
   -- it is refused
-  pub value_refused : (e : BookError) → (told : Refusal) × (refusal_of e ≡ Some told) × (value_refusal old.book index row column ≡ Some told) → DoesStep Wanted (value_step old.book index row column quoted cell) no_fields (Err e) old old
+  pub value_refused : (e : BookError) → (told : Refusal) × (refusal_of e ≡ Some told) × (value_refusal old.book index row column ≡ Some told) → DoesStep Wanted (put_step (whole_of old.book) index row column change content) no_fields (Err e) old old
   value_refused e t = record {
-    done = subst (Refused Wanted step old old) (sym t.1) (step_refused old.book valid index row column quoted cell t.0 t.2, refl);
+    done = subst (Refused Wanted step old old) (sym t.1) (step_refused old.book index row column (content_written change content) t.0 t.2, refl);
     before = valid;
     after = valid;
   }
 
   -- memory ran out
-  pub value_wants : (new : ModelState) → new ≡ old → value_refusal old.book index row column ≡ None → (e : BookError) → e ≡ errors.OutOfMemory → DoesStep Wanted (value_step old.book index row column quoted cell) no_fields (Err e) old new
+  pub value_wants : (new : ModelState) → new ≡ old → value_refusal old.book index row column ≡ None → (e : BookError) → e ≡ errors.OutOfMemory → DoesStep Wanted (put_step (whole_of old.book) index row column change content) no_fields (Err e) old new
   value_wants new same none e out = record {
-    done = subst (Refused Wanted step old new) (sym (ap refusal_of out)) (step_accepted old.book valid index row column quoted cell none, same);
+    done = subst (Refused Wanted step old new) (sym (ap refusal_of out)) (step_accepted old.book index row column (content_written change content) none, same);
     before = valid;
     after = subst (λ (m : ModelState). IsValidBook m.book) (sym same) valid;
   }
 
+module _ (old : ModelState) (valid : IsValidBook old.book) (index : ℕ) (row column : ℤ) (change : Style → Style) (cell : ℕ → Cell) where
   -- it is done
   pub value_does : IsValueCell (length old.book.strings) cell → (new : ModelState) (s : BookSheet) → slice_get old.book.sheets index ≡ Some s → first_refusal (value_causes s.grid (row, column)) ≡ None
-      → new.book ≡ with_value index (row, column) cell (quoted_style old.book s row column quoted) old.book → DoesStep Wanted (value_step old.book index row column quoted cell) no_fields (Ok tt) old new
+      → new.book ≡ with_value index (row, column) cell (changed_style old.book s row column change) old.book → DoesStep Wanted (value_step old.book index row column change cell) no_fields (Ok tt) old new
   value_does is_value new s at none is = record {
-    done = step_leaves old.book valid index row column quoted cell is_value s at none ∙ ap (λ (b : Book). let made : Stepped machine.Book = Ok (whole_of b, []) in made) (sym is);
+    done = step_leaves old.book valid index row column change cell is_value s at none ∙ ap (λ (b : Book). let made : Stepped machine.Book = Ok (whole_of b, []) in made) (sym is);
     before = valid;
-    after = subst IsValidBook (sym is) (value_valid old.book valid index row column quoted cell is_value s at none);
+    after = subst IsValidBook (sym is) (value_valid old.book valid index row column change cell is_value s at none);
   }
 
 -- What a model holds then. ----
@@ -223,11 +228,11 @@ module _ (about : About) (ws : List HeldSheet) (ds : List Definition) (locale : 
       pub style_within : n < length about.styles
       style_within = subst (λ k. k < length about.styles) (sym shown_is) (style_below its_state.book h.valid index (sheet_of its_sheet.0) its_sheet.2 (row, column))
 
-      module _ (quoted : Bool) (cell : ℕ → Cell) (number : ℕ) (styles : List Style) (now : List HeldSheet) (numbered : number ≡ (restyled (with_quote_prefix quoted) n about.styles).number) (styled : styles ≡ (restyled (with_quote_prefix quoted) n about.styles).styles)
+      module _ (change : Style → Style) (cell : ℕ → Cell) (number : ℕ) (styles : List Style) (now : List HeldSheet) (numbered : number ≡ (restyled change n about.styles).number) (styled : styles ≡ (restyled change n about.styles).styles)
           (e : now ≡ updated_at (λ s. record s { grid = with_cell_in (row, column) (cell number) s.grid }) index ws)
         where
           abbrev by : Numbered
-          by = quoted_style its_state.book (sheet_of its_sheet.0) row column quoted
+          by = changed_style its_state.book (sheet_of its_sheet.0) row column change
 
           make : List BookSheet → List Style → List Bool → ModelState
           make sheets styles all = record { book = record its_state.book { sheets = sheets; styles = styles }; has_all = all }
@@ -236,7 +241,7 @@ module _ (about : About) (ws : List HeldSheet) (ds : List Definition) (locale : 
           sheets_are =
               ap (map sheet_of) e
               ∙ updated_seen sheet_of (λ s. record s { grid = with_cell_in (row, column) (cell number) s.grid }) (λ s. record s { grid = with_cell_in (row, column) (cell number) s.grid }) (λ s. refl) index ws
-              ∙ ap (λ (k : ℕ). updated_at (λ (s : BookSheet). record s { grid = with_cell_in (row, column) (cell k) s.grid }) index (map sheet_of ws)) (numbered ∙ ap (λ k. (restyled (with_quote_prefix quoted) k about.styles).number) shown_is)
+              ∙ ap (λ (k : ℕ). updated_at (λ (s : BookSheet). record s { grid = with_cell_in (row, column) (cell k) s.grid }) index (map sheet_of ws)) (numbered ∙ ap (λ k. (restyled change k about.styles).number) shown_is)
 
           look_ups_are : map (λ (s : HeldSheet). s.pool.is_whole) now ≡ its_state.has_all
           look_ups_are = ap (map (λ (s : HeldSheet). s.pool.is_whole)) e ∙ updated_unseen (λ (s : HeldSheet). s.pool.is_whole) (λ s. record s { grid = with_cell_in (row, column) (cell number) s.grid }) (λ s. refl) index ws
@@ -245,28 +250,17 @@ module _ (about : About) (ws : List HeldSheet) (ds : List Definition) (locale : 
           unfolding make
           value_state =
               ap (λ (sheets : List BookSheet). make sheets styles (map (λ (s : HeldSheet). s.pool.is_whole) now)) sheets_are
-              ∙ ap (λ (st : List Style). make (with_value index (row, column) cell by its_state.book).sheets st (map (λ (s : HeldSheet). s.pool.is_whole) now)) (styled ∙ ap (λ k. (restyled (with_quote_prefix quoted) k about.styles).styles) shown_is)
+              ∙ ap (λ (st : List Style). make (with_value index (row, column) cell by its_state.book).sheets st (map (λ (s : HeldSheet). s.pool.is_whole) now)) (styled ∙ ap (λ k. (restyled change k about.styles).styles) shown_is)
               ∙ ap (make (with_value index (row, column) cell by its_state.book).sheets by.styles) look_ups_are
 
           pub value_held : IsValueCell (length about.strings) cell → IsHeld (record about { styles = styles }) now ds locale language tables
           value_held is_value = record {
-            valid = subst (λ (m : ModelState). IsValidBook m.book) (sym value_state) (value_valid its_state.book h.valid index row column quoted cell is_value (sheet_of its_sheet.0) its_sheet.2 its_sheet.3);
+            valid = subst (λ (m : ModelState). IsValidBook m.book) (sym value_state) (value_valid its_state.book h.valid index row column change cell is_value (sheet_of its_sheet.0) its_sheet.2 its_sheet.3);
             locale_found = h.locale_found;
             language_found = h.language_found;
           }
 
-          pub value_done : IsValueCell (length about.strings) cell → DoesStep Wanted (value_step its_state.book index row column quoted cell) no_fields (Ok tt) its_state (held_state (record about { styles = styles }) now ds locale language tables)
+          pub value_done : IsValueCell (length about.strings) cell → DoesStep Wanted (value_step its_state.book index row column change cell) no_fields (Ok tt) its_state (held_state (record about { styles = styles }) now ds locale language tables)
           value_done is_value =
-              value_does its_state h.valid index row column quoted cell is_value (held_state (record about { styles = styles }) now ds locale language tables) (sheet_of its_sheet.0) its_sheet.2 its_sheet.3
+              value_does its_state h.valid index row column change cell is_value (held_state (record about { styles = styles }) now ds locale language tables) (sheet_of its_sheet.0) its_sheet.2 its_sheet.3
               (ap (λ (m : ModelState). m.book) value_state)
-
--- where styles that were added are taken back, and the sheets stayed, a model is as it was
-pub state_again : (about : About) (ws : List HeldSheet) (ds : List Definition) (locale : NamedLocale) (language : Language) (tables : TableSet) (styles : List Style) (now : List HeldSheet) → styles ≡ about.styles → now ≡ ws
-    → held_state (record about { styles = styles }) now ds locale language tables ≡ held_state about ws ds locale language tables
-state_again about ws ds locale language tables styles now same sheets =
-    ap₂ (λ (st : List Style) (ss : List HeldSheet). held_state (record about { styles = st }) ss ds locale language tables) same sheets
-
--- values are values
-pub value_is : (count : ℕ) (value : Value) → IsValueCell count (value_cell value)
-value_is count (values.Boolean truth) = record { loose = λ k. refl; style = λ k. refl; formula = λ k. refl; string = λ k. tt }
-value_is count (values.Number amount) = record { loose = λ k. refl; style = λ k. refl; formula = λ k. refl; string = λ k. tt }

@@ -1,12 +1,11 @@
 -- A formula that is written into a cell, as the whole machine writes it.
-use Rattle.std.proofs.Common.{◌≡◌, ℕ, zero, suc, pos, ◌<◌, ◌≤◌, ◌⊎◌, inl, inr, List, [], ◌∷◌, ◌++◌, ◌||◌, ◌==◌, Bool, true, false, not, length, Option, Some, None, is_some, option_map, Result, Ok, Err, refl, sym, ap, ap₂, subst, ◌∙◌, if◌then◌else◌, codes, IfSome, OnOk, OnErr, rules, arith}
-use Rattle.std.specs.Prelude.{is_none, unwrap_or}
+use Rattle.std.proofs.Common.{◌≡◌, ℕ, zero, suc, pos, ◌<◌, ◌≤◌, ◌⊎◌, inl, inr, List, [], ◌∷◌, ◌++◌, Bool, true, false, not, length, Option, Some, None, is_some, option_map, Result, Ok, Err, refl, sym, ap, ap₂, subst, ◌∙◌, if◌then◌else◌, codes, IfSome, OnOk, OnErr, arith}
+use Rattle.std.specs.Prelude.{unwrap_or}
 use Rattle.std.specs.List.{slice_get}
 use Rattle.std.proofs.lemmas.Option.{slice_get-map}
 use Rattle.ic_laws.proofs.core.Lists.{all_updated}
-use Rattle.ic_laws.specs.Character.{equals}
 use Rattle.ic_laws.specs.CoreBook.{CellPlace, CoreBook}
-use Rattle.ic_laws.specs.FormulaReading.{cell_formula, is_formula_text, without_equals}
+use Rattle.ic_laws.specs.FormulaReading.{cell_formula}
 use Rattle.ic_laws.specs.Notations.{english}
 use Rattle.ic_laws.specs.Position.{is_column, is_row}
 use Rattle.ic_laws.specs.declared.tree.Formula.{Formula}
@@ -20,39 +19,34 @@ use Rattle.ic_tree.proofs.NotationLaws.{knows_language_is, knows_locale_is}
 use Rattle.ic_cells.specs.declared.cell.ArrayKind.TheVariants as arrays
 use Rattle.ic_cells.specs.declared.cell.Cell.{Cell}
 use Rattle.ic_cells.specs.declared.value.FormulaValue.TheVariants as fvalues
-use Rattle.ic_grid.specs.Arrays.{is_fixed_at}
 use Rattle.ic_grid.specs.Contents.{Contents}
 use Rattle.ic_grid.specs.Merges.{is_covered}
 use Rattle.ic_grid.specs.Prepare.{written}
 use Rattle.ic_grid.specs.Shape.{celled}
-use Rattle.ic_input.specs.Convention.{is_sign}
-use Rattle.ic_input.specs.Number.{unsigned_number}
-use Rattle.ic_input.specs.Typed.{formula_of, unless_number}
 use Rattle.ic_machine.proofs.AlikeGrid.{is_fixed_at-seen, style_at-seen, written-seen}
 use Rattle.ic_machine.proofs.AlikeLemmas.{cells_are_contents}
 use Rattle.ic_machine.proofs.WritingSteps.{text_good, write_stays}
 use Rattle.ic_machine.specs.Book as machine
 use Rattle.ic_machine.specs.Book.{Stepped, found_or, style_number_at, unless, with_sheet}
 use Rattle.ic_machine.specs.Content.{AnchorContent, Content, FormulaContent, content_of, held}
-use Rattle.ic_machine.specs.InForce.{InForce, all_there, by_notation, formula_typed, in_force}
+use Rattle.ic_machine.specs.InForce.{InForce, all_there, in_force}
 use Rattle.ic_machine.specs.Kept.{StaysValid}
 use Rattle.ic_machine.specs.Placed.{index_in_pool, is_dynamic, pool_with}
-use Rattle.ic_machine.specs.Refusal.{ArrayPart, Causes, InvalidColumn, InvalidRow, InvalidSheet, MergedPart, NotAFormula, Refusal, first_refusal}
+use Rattle.ic_machine.specs.Refusal.{ArrayPart, Causes, InvalidColumn, InvalidRow, InvalidSheet, MergedPart, Refusal, first_refusal}
 use Rattle.ic_machine.specs.Styling.{Numbered, restyled}
-use Rattle.ic_machine.specs.subjects.Writing.{UpdateCellWithFormula, formula_at_place, formula_content, formula_written, place_causes, unquoted, with_content, with_written, write_causes}
+use Rattle.ic_machine.specs.subjects.Writing.{formula_at_place, formula_content, formula_written, place_causes, unquoted, with_content, with_written, write_causes}
 use Rattle.ic_pool.proofs.PlacedLemmas.{below_length, first_found, first_pushed}
 use Rattle.ic_pool.specs.Code.{code}
 use Rattle.ic_pool.specs.Pool.{IsFirstAt, IsPlaced, first_place}
 use Rattle.ic_sheets.specs.Sheet.{BookSheet, formula_cell, with_cell_in}
 use Rattle.ic_sheets.specs.declared.sheet.FormulaKind.TheVariants as kinds_of
 use Rattle.ic_book.specs.Book.{Book, HasStrings, IsPlain, IsValidBook, ModelState, notations_in, whole_of, whole_sheet, whole_tab}
-use Rattle.ic_book.specs.Does.{DoesIn, IsDone, Refused, WantedIn}
+use Rattle.ic_book.specs.Does.{DoesStep, IsDone, Refused, WantedIn}
 use Rattle.ic_book.specs.Fields.{no_fields}
 use Rattle.ic_book.specs.Refused.{Tells, refusal_of}
-use Rattle.ic_book.specs.Served.{begins_with_sign, served_formula_step, served_writing_step}
-use Rattle.ic_book.specs.Written.{WritesFormula, kind_of, refusal_in, text_causes, with_cell, write_refusal, written_formula, written_style}
+use Rattle.ic_book.specs.Written.{WritesFormula, kind_of, put_formula_step, value_causes, value_refusal, value_refusal_in, with_cell, written_formula, written_style}
 use Rattle.ic_book.specs.declared.error.BookError.{BookError}
-use Rattle.ic_book.proofs.GridLemmas.{plain_written, strings_written, text_clear}
+use Rattle.ic_book.proofs.GridLemmas.{plain_written, strings_written}
 use Rattle.ic_book.proofs.WholeLemmas.{whole_core}
 use Rattle.ic_book.proofs.WrittenLemmas.{updated_alike}
 
@@ -99,44 +93,24 @@ there : {X : Type 0} (o : Option X) → is_some o ≡ true → (x : X) × (o ≡
 there None h = cc
 there (Some x) h = (x, refl)
 
+-- English is there
+pub english_there : (book : Book) → IsValidBook book → (l : Language) × (language_of book.tables english ≡ Some l)
+english_there book valid = there (language_of book.tables english) (is_some-find (λ (l : Language). l.code) (codes "en") book.tables.languages ∙ (has_english book.tables valid.whole.tables).0)
+
 pub in_force_there : (book : Book) → IsValidBook book → (f : InForce) × (in_force (whole_of book) ≡ Some f)
 in_force_there book valid =
     let l = there (locale_of book.tables book.locale) (sym (knows_locale_is book.tables book.locale) ∙ valid.whole.locale) in
     let language = there (language_of book.tables book.language) (sym (knows_language_is book.tables book.language) ∙ valid.whole.language) in
-    let beside = there (language_of book.tables english) (is_some-find (λ (l : Language). l.code) (codes "en") book.tables.languages ∙ (has_english book.tables valid.whole.tables).0) in (
+    let beside = english_there book valid in (
       record { locale = l.0.locale; language = language.0; beside = beside.0 },
       ap (λ (o : Option NamedLocale). all_there o (language_of book.tables book.language) (language_of book.tables english)) l.1
           ∙ ap (λ (o : Option Language). all_there (Some l.0) o (language_of book.tables english)) language.1
           ∙ ap (λ (o : Option Language). all_there (Some l.0) (Some language.0) o) beside.1,
     )
 
--- a text is a formula to what is served where it begins with an equals sign, and not alone
-module _ (f : InForce) where
-  no_sign : (c : ℕ) → (c == equals) ≡ true → is_sign c ≡ false
-  no_sign c e = let is : c ≡ equals = nat_is c equals e in subst (λ k. is_sign k ≡ false) (sym is) refl
-    where
-      nat_is : (m k : ℕ) → (m == k) ≡ true → m ≡ k
-      nat_is m k e = search (rules, arith)
-
-  typed_so : (text : List ℕ) → (begins_with_sign text || is_none (formula_of f.locale text)) ≡ not (is_formula_text text)
-  unfolding formula_of
-  typed_so [] = refl
-  typed_so (c ∷ []) = elim (is_sign c) as (λ b. (b || true) ≡ true) [ true ↦ refl | false ↦ refl ]
-  typed_so (c ∷ d ∷ cs) =
-      elim (c == equals) as (λ b. (c == equals) ≡ b → (is_sign c || is_none (if b then Some (d ∷ cs) else (if is_sign c then unless_number (c ∷ d ∷ cs) (unsigned_number f.locale (d ∷ cs)) else None))) ≡ not b) [
-        | true ↦ λ e. ap (λ s. s || false) (no_sign c e)
-        | false ↦ λ e. elim (is_sign c) as (λ s. (s || is_none (if s then unless_number (c ∷ d ∷ cs) (unsigned_number f.locale (d ∷ cs)) else None)) ≡ true) [ true ↦ refl | false ↦ refl ]
-      ] refl
-
-  body_so : (text : List ℕ) → is_formula_text text ≡ true → unwrap_or (formula_of f.locale text) [] ≡ without_equals text
-  unfolding formula_of
-  body_so [] e = cc
-  body_so (c ∷ []) e = cc
-  body_so (c ∷ d ∷ cs) e = rw e refl
-
 -- what refuses a write ----
 
-module _ (book : Book) (valid : IsValidBook book) (index : ℕ) (place : CellPlace) (text : List ℕ) where
+module _ (book : Book) (valid : IsValidBook book) (index : ℕ) (place : CellPlace) (body : List ℕ) where
   abbrev whole : machine.Book
   whole = whole_of book
 
@@ -148,63 +122,57 @@ module _ (book : Book) (valid : IsValidBook book) (index : ℕ) (place : CellPla
 
   -- the step on a sheet that is there
   abbrev causes_at : BookSheet → Causes
-  causes_at s = place_causes place ++ (write_causes (seen s) place ++ ((begins_with_sign text || is_none (formula_typed whole text), NotAFormula) ∷ []))
+  causes_at s = place_causes place ++ (write_causes (seen s) place ++ [])
 
   abbrev its_formula : BookSheet → Formula
-  its_formula s = formula_at_place whole (seen s) place (unwrap_or (formula_typed whole text) [])
+  its_formula s = formula_at_place whole (seen s) place body
 
   abbrev left_at : BookSheet → machine.Book
   left_at s = with_written whole index (seen s) place (formula_written whole (seen s) (its_formula s))
 
   abbrev step_at : Option machine.Sheet → Stepped machine.Book
   step_at o =
-      found_or InvalidSheet (option_map (λ sheet. unless (first_refusal (place_causes place ++ (write_causes sheet place ++ ((begins_with_sign text || is_none (formula_typed whole text), NotAFormula) ∷ []))))
-      (with_written whole index sheet place (formula_written whole sheet (formula_at_place whole sheet place (unwrap_or (formula_typed whole text) [])))) []) o)
+      found_or InvalidSheet (option_map (λ sheet. unless (first_refusal (place_causes place ++ (write_causes sheet place ++ [])))
+      (with_written whole index sheet place (formula_written whole sheet (formula_at_place whole sheet place body))) []) o)
 
-  step_is : served_formula_step index place text whole ≡ step_at (option_map seen (slice_get book.sheets index))
-  unfolding served_formula_step
+  step_is : put_formula_step whole index place body ≡ step_at (option_map seen (slice_get book.sheets index))
   step_is = ap step_at (slice_get-map seen book.sheets index)
 
-  typed_is : formula_typed whole text ≡ formula_of (in_force_there book valid).0.locale text
-  typed_is = ap (λ (o : Option InForce). by_notation None (λ (f : InForce). formula_of f.locale text) o) (in_force_there book valid).1
-
-  causes_are : (s : BookSheet) → first_refusal (causes_at s) ≡ first_refusal (text_causes s.grid place text)
+  causes_are : (s : BookSheet) → first_refusal (causes_at s) ≡ first_refusal (value_causes s.grid place)
   causes_are s =
-      ap₂ (λ (fixed bad : Bool). first_refusal ((not (is_row place.0), InvalidRow) ∷ (not (is_column place.1), InvalidColumn) ∷ (is_covered s.grid.merged_cells place, MergedPart) ∷ (fixed, ArrayPart) ∷ (bad, NotAFormula) ∷ []))
+      ap (λ (fixed : Bool). first_refusal ((not (is_row place.0), InvalidRow) ∷ (not (is_column place.1), InvalidColumn) ∷ (is_covered s.grid.merged_cells place, MergedPart) ∷ (fixed, ArrayPart) ∷ []))
       (is_fixed_at-seen (content_of book.strings) celled held (cells_are_contents book.strings) s.grid.cells place)
-      (ap (λ o. begins_with_sign text || is_none o) typed_is ∙ typed_so (in_force_there book valid).0 text)
 
-  step_told : (o : Option BookSheet) (r : Refusal) → refusal_in place text o ≡ Some r → step_at (option_map seen o) ≡ Err r
+  step_told : (o : Option BookSheet) (r : Refusal) → value_refusal_in place o ≡ Some r → step_at (option_map seen o) ≡ Err r
   step_told None r e = let is : InvalidSheet ≡ r = cc in ap (λ (x : Refusal). let made : Stepped machine.Book = Err x in made) is
   step_told (Some s) r e = ap (λ o. unless o (left_at s) []) (causes_are s ∙ e)
 
-  step_done : (s : BookSheet) → first_refusal (text_causes s.grid place text) ≡ None → step_at (Some (seen s)) ≡ Ok (left_at s, [])
+  step_done : (s : BookSheet) → first_refusal (value_causes s.grid place) ≡ None → step_at (Some (seen s)) ≡ Ok (left_at s, [])
   step_done s e = ap (λ o. unless o (left_at s) []) (causes_are s ∙ e)
 
   -- a refused write
-  pub write_refused : (r : Refusal) → write_refusal book index place text ≡ Some r → served_formula_step index place text (whole_of book) ≡ Err r
+  pub write_refused : (r : Refusal) → value_refusal book index place.0 place.1 ≡ Some r → put_formula_step (whole_of book) index place body ≡ Err r
   write_refused r e = step_is ∙ step_told (slice_get book.sheets index) r e
 
   -- one that isn't
-  sheet_there : (o : Option BookSheet) → refusal_in place text o ≡ None → (s : BookSheet) × (o ≡ Some s) × (first_refusal (text_causes s.grid place text) ≡ None)
+  sheet_there : (o : Option BookSheet) → value_refusal_in place o ≡ None → (s : BookSheet) × (o ≡ Some s) × (first_refusal (value_causes s.grid place) ≡ None)
   sheet_there None e = cc
   sheet_there (Some s) e = (s, refl, e)
 
-  pub write_accepted : write_refusal book index place text ≡ None → IsDone (served_formula_step index place text (whole_of book))
+  pub write_accepted : value_refusal book index place.0 place.1 ≡ None → IsDone (put_formula_step (whole_of book) index place body)
   write_accepted e =
       let found = sheet_there (slice_get book.sheets index) e in
       subst IsDone (sym (step_is ∙ ap (λ o. step_at (option_map seen o)) found.1 ∙ step_done found.0 found.2)) tt
 
   -- the whole book stays valid
-  served_stays : StaysValid (served_formula_step index place text (whole_of book))
-  unfolding served_formula_step
+  served_stays : StaysValid (put_formula_step (whole_of book) index place body)
   served_stays =
-      write_stays whole valid.whole index place (λ sheet. formula_written whole sheet (formula_at_place whole sheet place (unwrap_or (formula_typed whole text) [])))
-      ((begins_with_sign text || is_none (formula_typed whole text), NotAFormula) ∷ []) (λ sheet e r c. text_good whole valid.whole index sheet e place (unwrap_or (formula_typed whole text) []))
+      write_stays whole valid.whole index place (λ sheet. formula_written whole sheet (formula_at_place whole sheet place body))
+      [] (λ sheet e r c. text_good whole valid.whole index sheet e place body)
 
-  module _ (s : BookSheet) (at_index : slice_get book.sheets index ≡ Some s) (new : Book) (w : WritesFormula index s place text book new) (none : first_refusal (text_causes s.grid place text) ≡ None) where
+  module _ (s : BookSheet) (at_index : slice_get book.sheets index ≡ Some s) (new : Book) (w : WritesFormula index s place body book new) (none : first_refusal (value_causes s.grid place) ≡ None) where
     abbrev formula : Formula
-    formula = written_formula book s place text
+    formula = written_formula book s place body
 
     abbrev styled : Numbered
     styled = written_style book s place
@@ -214,8 +182,7 @@ module _ (book : Book) (valid : IsValidBook book) (index : ℕ) (place : CellPla
 
     formula_is : its_formula s ≡ formula
     formula_is =
-        ap₂ (λ (c : CoreBook) (body : List ℕ). cell_formula (notations_in book) c s.id place.0 place.1 body) (whole_core book)
-        (ap (λ o. unwrap_or o []) typed_is ∙ body_so (in_force_there book valid).0 text (text_clear (is_row place.0) (is_column place.1) (is_covered s.grid.merged_cells place) (is_fixed_at celled s.grid.cells place) (is_formula_text text) none).4)
+        ap (λ (c : CoreBook). cell_formula (notations_in book) c s.id place.0 place.1 body) (whole_core book)
 
     abbrev sheet_with : Formula → List Formula → ℕ → Numbered → machine.Sheet
     sheet_with f p i by = with_content place p (formula_content kinds f i by.number) (seen s)
@@ -255,7 +222,7 @@ module _ (book : Book) (valid : IsValidBook book) (index : ℕ) (place : CellPla
     abbrev left : Book
     left = with_cell index w.pool place cell styled.styles book
 
-    left_done : served_formula_step index place text (whole_of book) ≡ Ok (whole_of left, [])
+    left_done : put_formula_step (whole_of book) index place body ≡ Ok (whole_of left, [])
     left_done =
         step_is ∙ ap (λ o. step_at (option_map seen o)) at_index ∙ step_done s none
         ∙ ap (λ (b : machine.Book). let made : Stepped machine.Book = Ok (b, []) in made)
@@ -263,7 +230,7 @@ module _ (book : Book) (valid : IsValidBook book) (index : ℕ) (place : CellPla
         ∙ ap (λ (sheets : List machine.Sheet). let b : machine.Book = record whole { sheets = sheets; styles = styled.styles } in b)
         (sym (updated_alike seen put_in_sheet (λ old. sheet_with formula w.pool w.at styled) index book.sheets s at_index sheet_put)))
 
-    pub write_done : served_formula_step index place text (whole_of book) ≡ Ok (whole_of new, [])
+    pub write_done : put_formula_step (whole_of book) index place body ≡ Ok (whole_of new, [])
     write_done = left_done ∙ ap (λ (b : Book). let made : Stepped machine.Book = Ok (whole_of b, []) in made) (sym w.is)
 
     pub written_valid : IsValidBook new
@@ -274,27 +241,27 @@ module _ (book : Book) (valid : IsValidBook book) (index : ℕ) (place : CellPla
     })
 
 -- the call that writes
-module _ (result : Result (Unit {0}) BookError) (old new : ModelState) (valid : IsValidBook old.book) (index : ℕ) (place : CellPlace) (text : List ℕ) where
+module _ (result : Result (Unit {0}) BookError) (old new : ModelState) (valid : IsValidBook old.book) (index : ℕ) (place : CellPlace) (body : List ℕ) where
   -- what it says of a sheet that is there
   abbrev Writes : BookSheet → Type 0
-  Writes s = WritesFormula index s place text old.book new.book
+  Writes s = WritesFormula index s place body old.book new.book
 
-  writes_so : (r : Result (Unit {0}) BookError) → OnOk r (IfSome (slice_get old.book.sheets index) Writes) → Tells r (write_refusal old.book index place text)
-      → ((refusal : Refusal) → write_refusal old.book index place text ≡ Some refusal → new ≡ old) → OnErr r (new.book ≡ old.book) → DoesIn served_writing_step (UpdateCellWithFormula index place.0 place.1 text) no_fields r old new
+  writes_so : (r : Result (Unit {0}) BookError) → OnOk r (IfSome (slice_get old.book.sheets index) Writes) → Tells r (value_refusal old.book index place.0 place.1)
+      → ((refusal : Refusal) → value_refusal old.book index place.0 place.1 ≡ Some refusal → new ≡ old) → OnErr r (new.book ≡ old.book) → DoesStep WantedIn (put_formula_step (whole_of old.book) index place body) no_fields r old new
   writes_so (Ok done) written e untouched same =
-      let found = sheet_there old.book valid index place text (slice_get old.book.sheets index) e in
+      let found = sheet_there old.book valid index place body (slice_get old.book.sheets index) e in
       let w : Writes found.0 = subst (λ o. IfSome o Writes) found.1 written in
       record {
-        done = write_done old.book valid index place text found.0 found.1 new.book w found.2;
+        done = write_done old.book valid index place body found.0 found.1 new.book w found.2;
         before = valid;
-        after = written_valid old.book valid index place text found.0 found.1 new.book w found.2;
+        after = written_valid old.book valid index place body found.0 found.1 new.book w found.2;
       }
   writes_so (Err error) written e untouched same = record { done = told_so (refusal_of error) e; before = valid; after = subst IsValidBook (sym same) valid }
     where
-      told_so : (o : Option Refusal) → write_refusal old.book index place text ≡ o → Refused WantedIn (served_formula_step index place text (whole_of old.book)) old new o
-      told_so None e = (write_accepted old.book valid index place text e, same)
-      told_so (Some r) e = (write_refused old.book valid index place text r e, untouched r e)
+      told_so : (o : Option Refusal) → value_refusal old.book index place.0 place.1 ≡ o → Refused WantedIn (put_formula_step (whole_of old.book) index place body) old new o
+      told_so None e = (write_accepted old.book valid index place body e, same)
+      told_so (Some r) e = (write_refused old.book valid index place body r e, untouched r e)
 
-  pub writes : OnOk result (IfSome (slice_get old.book.sheets index) (λ s. WritesFormula index s place text old.book new.book)) → Tells result (write_refusal old.book index place text)
-      → ((refusal : Refusal) → write_refusal old.book index place text ≡ Some refusal → new ≡ old) → OnErr result (new.book ≡ old.book) → DoesIn served_writing_step (UpdateCellWithFormula index place.0 place.1 text) no_fields result old new
+  pub writes : OnOk result (IfSome (slice_get old.book.sheets index) (λ s. WritesFormula index s place body old.book new.book)) → Tells result (value_refusal old.book index place.0 place.1)
+      → ((refusal : Refusal) → value_refusal old.book index place.0 place.1 ≡ Some refusal → new ≡ old) → OnErr result (new.book ≡ old.book) → DoesStep WantedIn (put_formula_step (whole_of old.book) index place body) no_fields result old new
   writes = writes_so result

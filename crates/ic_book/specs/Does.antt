@@ -15,11 +15,13 @@ use Rattle.ic_book.specs.Book.{whole_grid}
 use Rattle.ic_book.specs.declared.error.BookError.{BookError}
 
 -- when a call may run out of memory: never; only where its step isn't refused; there, or where this refusal holds, which
--- needs memory to be seen; and only where it isn't refused, but what formulas are found by may have grown then
+-- needs memory to be seen, whether the core machine has it or not; and only where it isn't refused, but what formulas are
+-- found by may have grown then
 pub data Memory : Type 0 where
   Never : Memory
   Wanted : Memory
   WantedOr : (late : core.Refusal) → Memory
+  WantedOrWhole : (late : Refusal) → Memory
   WantedIn : Memory
 
 -- a step isn't refused
@@ -32,6 +34,7 @@ abbrev pub Wants : Memory → Stepped machine.Book → ModelState → ModelState
 Wants Never made old new = ⊥
 Wants Wanted made old new = IsDone made × (new ≡ old)
 Wants (WantedOr late) made old new = (IsDone made ⊎ (made ≡ Err (OfCore late))) × (new ≡ old)
+Wants (WantedOrWhole late) made old new = (IsDone made ⊎ (made ≡ Err late)) × (new ≡ old)
 Wants WantedIn made old new = IsDone made × (new.book ≡ old.book)
 
 -- a call answered an error that tells this refusal, or none: the step's refusal, or want of memory
@@ -63,6 +66,10 @@ DoesOnly step command fields result old new = DoesStep Never (step (whole_of old
 -- of one that needs memory to see whether a refusal holds
 abbrev pub DoesOr : core.Refusal → {C T : Type 0} → (machine.Book → C → Stepped machine.Book) → C → (T → List Field) → Result T BookError → ModelState → ModelState → Type 0
 DoesOr late step command fields result old new = DoesStep (WantedOr late) (step (whole_of old.book) command) fields result old new
+
+-- of one that needs memory to see whether a refusal holds that the core machine doesn't have
+abbrev pub DoesOrWhole : Refusal → {C T : Type 0} → (machine.Book → C → Stepped machine.Book) → C → (T → List Field) → Result T BookError → ModelState → ModelState → Type 0
+DoesOrWhole late step command fields result old new = DoesStep (WantedOrWhole late) (step (whole_of old.book) command) fields result old new
 
 -- and of one that may leave more to find formulas by where memory runs out
 abbrev pub DoesIn : {C T : Type 0} → (machine.Book → C → Stepped machine.Book) → C → (T → List Field) → Result T BookError → ModelState → ModelState → Type 0

@@ -40,6 +40,10 @@ pub enum BookError {
     NameNotFound,
     /// The body is neither a reference to a sheet of the book nor a LAMBDA.
     InvalidNameFormula,
+    /// The text names no cell.
+    BadReference,
+    /// The text reads neither in the notation in force nor in English.
+    InvalidFormula,
     /// The text doesn't begin with `=`, or is `=` alone.
     NotAFormula,
     /// No locale of the tables has the id.
@@ -82,6 +86,8 @@ impl BookError {
             BookError::NameExists => "Name: Defined name already exists",
             BookError::NameNotFound => "Defined name not found",
             BookError::InvalidNameFormula => "Formula: Invalid defined name formula",
+            BookError::BadReference => "Error parsing reference",
+            BookError::InvalidFormula => "Invalid formula",
             BookError::NotAFormula => "Not a valid formula",
             BookError::InvalidLocale => "Invalid locale",
             BookError::InvalidLanguage => "Invalid language",
@@ -120,6 +126,8 @@ impl BookError {
             BookError::NameExists => "NameExists",
             BookError::NameNotFound => "NameNotFound",
             BookError::InvalidNameFormula => "InvalidNameFormula",
+            BookError::BadReference => "BadReference",
+            BookError::InvalidFormula => "InvalidFormula",
             BookError::NotAFormula => "NotAFormula",
             BookError::InvalidLocale => "InvalidLocale",
             BookError::InvalidLanguage => "InvalidLanguage",

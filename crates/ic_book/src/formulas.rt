@@ -1,11 +1,11 @@
-ghost use Rattle.std.specs.Prelude.{◌≡◌, ◌+◌, ◌≤◌, ◌<◌, List, [], ◌∷◌, ℤ, ℕ, Some, true, false, chars, length, option_map, string_bytes, IfOk, IfSome, OnErr, OnOk, MatchOption, ◌++◌, codes};
+ghost use Rattle.std.specs.Prelude.{◌≡◌, ◌+◌, ◌≤◌, ◌<◌, List, [], ◌∷◌, Some, true, chars, length, option_map, string_bytes, IfOk, IfSome, OnErr, OnOk, ◌++◌, codes};
 ghost use Rattle.std.specs.FinMap as finite;
 ghost use Rattle.std.specs.List.{slice_get};
 ghost use Rattle.ic_laws.specs.Binding.{bound};
 ghost use Rattle.ic_laws.specs.Character.{equals};
 ghost use Rattle.ic_laws.specs.CoreBook.{formula_at};
 ghost use Rattle.ic_laws.specs.CoreStep.{formula_of, lacks_sheet, updated_at};
-ghost use Rattle.ic_laws.specs.FormulaReading.{cell_formula, cell_tree, is_formula_text, shown_at, shown_body, shown_formula, without_equals};
+ghost use Rattle.ic_laws.specs.FormulaReading.{cell_formula, cell_tree, shown_at, shown_body, shown_formula};
 ghost use Rattle.ic_laws.specs.Notations.{english_function};
 ghost use Rattle.ic_laws.specs.ReadAs.{read_as};
 ghost use Rattle.ic_laws.specs.Refusal as core;
@@ -18,21 +18,21 @@ ghost use Rattle.ic_sheets.specs.Sheet.{HasPlaces, cells_of};
 ghost use Rattle.ic_machine.specs.Refusal.{Refusal, first_refusal};
 ghost use Rattle.ic_machine.specs.Styling.{restyled};
 ghost use Rattle.ic_machine.specs.subjects.Reading.{GetCellFormula, reading_step};
-ghost use Rattle.ic_machine.specs.subjects.Writing.{UpdateCellWithFormula, unquoted};
+ghost use Rattle.ic_machine.specs.subjects.Writing.{UpdateCellWithFormula, unquoted, writing_step};
 ghost use Rattle.ic_book.specs.Book.{IsValidBook, core_of, notations_in, scene_in};
 ghost use Rattle.ic_book.specs.Does.{Does, DoesIn};
 ghost use Rattle.ic_book.specs.Fields.{no_fields, string_field};
 ghost use Rattle.ic_book.specs.LookUps.{LooksUpAsBefore};
 ghost use Rattle.ic_book.specs.Refused.{Refuses, Tells, TellsOnly};
-ghost use Rattle.ic_book.specs.Served.{served_writing_step};
-ghost use Rattle.ic_book.specs.Written.{WritesFormula, cell_causes, kind_of, pool_at, text_causes, with_pool, write_refusal};
+ghost use Rattle.ic_book.specs.Written.{WritesFormula, cell_causes, kind_of, pool_at, value_refusal, with_pool};
 
 use crate::values::with_quote;
 use crate::{BookError, Model};
 use ic_cells::Styles;
 use ic_grid::{Grid, GridError};
-use ic_laws::scan::{first_char, push_char, push_text};
-use ic_laws::{Bound, Dialect, Formula, LAST_COLUMN, LAST_ROW, OutOfMemory, Spelled, Text};
+use ic_input::formula_without_prefix;
+use ic_laws::scan::{push_char, push_text};
+use ic_laws::{Bound, Dialect, Formula, OutOfMemory, Spelled, Text};
 use ic_names::Definition;
 use ic_pool::Steps;
 use ic_sheets::{FormulaKind, Sheet};
@@ -43,16 +43,17 @@ use std::sync::ledger::Ledger;
 
 impl<'a> Model<'a> {
     /// Writes a formula into the cell at a row and a column, both from 1, of the sheet at an index, from 0. The text is
-    /// `=` and a formula in the notation in force; where it doesn't read, it is read with a `)` added, and else kept as it
-    /// is. Sheets that it names are found now, and found again under every later name.
+    /// `=` and a formula in the notation in force, or a formula that begins with `+` or `-`; where it doesn't read, it is
+    /// read with a `)` added, and else kept as it is. Sheets that it names are found now, and found again under every later
+    /// name.
     ///
     /// The array that the cell belongs to is released. A formula that may have several values gets the area of its own
     /// cell; the cell keeps the style that it shows, without its quote flag.
     ///
     /// `InvalidSheet`, `InvalidRow`, `InvalidColumn`, `MergedPart` (merged cells cover the cell), `ArrayPart` (it belongs to
-    /// a Cse array of more than one cell), `NotAFormula` (the text doesn't begin with `=`, or is `=` alone), in this order,
-    /// each exactly where it holds; `OutOfMemory` only where none of them does. An error leaves the book, and a refusal all
-    /// that a model is.
+    /// a Cse array of more than one cell), `NotAFormula` (the text begins neither with `=` nor with a sign, nothing follows
+    /// that, or a number follows the sign), in this order, each exactly where it holds; `OutOfMemory` only where none of
+    /// them does. An error leaves the book, and a refusal all that a model is.
     pub fn update_cell_with_formula(
         &mut self,
         sheet: u32,
@@ -60,7 +61,7 @@ impl<'a> Model<'a> {
         column: i32,
         formula: String,
     ) -> Result<(), BookError>
-        ensures does { DoesIn served_writing_step
+        ensures does { DoesIn writing_step
             (UpdateCellWithFormula sheet row column (chars (string_bytes formula))) no_fields
             result self.old self.new }
         ensures looks_up { OnOk result
@@ -70,7 +71,11 @@ impl<'a> Model<'a> {
         // After an error the look-up of this sheet may be there; the others are as before.
         ensures left { OnErr result (LooksUpAsBefore sheet self.old self.new) }
     {
-        self.write_formula(sheet, row, column, formula)
+        self.style_to_write(sheet, row, column)?;
+        let Some(body) = formula_without_prefix(formula.as_str(), &self.locale.locale) else {
+            return Err(BookError::NotAFormula);
+        };
+        self.write_formula(sheet, row, column, body)
     }
 
     /// What is shown of the formula in the cell at a row and a column, both from 1, of the sheet at an index, from 0: `=`
@@ -138,34 +143,30 @@ impl<'a> Model<'a> {
         Ok(self.sheets.place_copy(sheet as usize, tree, steps)?)
     }
 
-    /// Writes a formula into a cell.
-    fn write_formula(
+    /// Writes the formula of a body, which stands after `=`, into a cell.
+    pub(crate) fn write_formula(
         &mut self,
         sheet: u32,
         row: i32,
         column: i32,
-        formula: String,
+        body: &str,
     ) -> Result<(), BookError>
         ensures written { OnOk result (IfSome (slice_get self.old.book.sheets sheet) (λ s.
-            WritesFormula sheet s (row, column) (chars (string_bytes formula))
-            self.old.book self.new.book)) }
+            WritesFormula sheet s (row, column) (chars body.now) self.old.book self.new.book)) }
         ensures looks_up { OnOk result
             (self.new.has_all ≡ updated_at (λ _. true) sheet self.old.has_all) }
         ensures whole { OnOk result (slice_get self.new.has_all sheet ≡ Some true) }
-        ensures refused { Tells result
-            (write_refusal self.old.book sheet (row, column) (chars (string_bytes formula))) }
-        ensures untouched { (refusal : Refusal) → write_refusal
-            self.old.book sheet (row, column) (chars (string_bytes formula)) ≡ Some refusal
-            → self.new ≡ self.old }
+        ensures refused { Tells result (value_refusal self.old.book sheet row column) }
+        ensures untouched { (refusal : Refusal) → value_refusal self.old.book sheet row column
+            ≡ Some refusal → self.new ≡ self.old }
         ensures err { OnErr result (self.new.book ≡ self.old.book) }
         ensures valid { IsValidBook self.old.book }
 
         // After an error the look-up of this sheet may be there; the others are as before.
         ensures left { OnErr result (LooksUpAsBefore sheet self.old self.new) }
     {
-        let body = self.body_to_write(sheet, row, column, formula.as_str())?;
+        let shown = self.style_to_write(sheet, row, column)?;
         let worksheet = &self.sheets.as_slice()[sheet as usize];
-        let shown = worksheet.grid.style_at(row, column);
         let formula = self.formula_of(worksheet.id, row, column, body)?;
         let kind = kind_of(&formula, self.tables);
         let count = self.about.styles.len();
@@ -204,24 +205,6 @@ impl<'a> Model<'a> {
         Ok(Some(self.show(row, column, formula)?))
     }
 
-    /// What stands after `=` in a text that may be written into a cell.
-    fn body_to_write<'t>(
-        &self,
-        sheet: u32,
-        row: i32,
-        column: i32,
-        text: &'t str,
-    ) -> Result<&'t str, BookError>
-        ensures body { IfOk result (λ body. chars body.now ≡ without_equals (chars text.now)) }
-        ensures refused { TellsOnly result
-            (write_refusal self.now.book sheet (row, column) (chars text.now)) }
-    {
-        let Some(worksheet) = self.sheets.as_slice().get(sheet as usize) else {
-            return Err(BookError::InvalidSheet);
-        };
-        body_in(&worksheet.grid, row, column, text)
-    }
-
     /// The formula of a text in a cell of the sheet with this id.
     fn formula_of(&self, id: u32, row: i32, column: i32, body: &str) -> Result<Formula, OutOfMemory>
         ensures { IfOk result (λ f. f ≡ cell_formula (notations_in self.now.book)
@@ -234,7 +217,7 @@ impl<'a> Model<'a> {
     }
 
     /// A formula of the sheet with this id, bound to what it finds in the book.
-    fn bound(&self, id: u32, tree: &Spelled) -> Result<Bound, OutOfMemory>
+    pub(crate) fn bound(&self, id: u32, tree: &Spelled) -> Result<Bound, OutOfMemory>
         ensures { IfOk result (λ t. t ≡ bound (english_function (notations_in self.now.book))
             (scene_in self.now.book) (Some id) tree.now) }
     {
@@ -251,7 +234,12 @@ impl<'a> Model<'a> {
     }
 
     /// `=` and a formula as it is shown in the cell at a row and a column.
-    fn show(&self, row: i32, column: i32, formula: &Formula) -> Result<String, OutOfMemory>
+    pub(crate) fn show(
+        &self,
+        row: i32,
+        column: i32,
+        formula: &Formula,
+    ) -> Result<String, OutOfMemory>
         ensures { IfOk result (λ text. chars (string_bytes text) ≡ equals ∷ shown_formula
             (notations_in self.now.book) (core_of self.now.book) row column formula.now) }
     {
@@ -292,20 +280,6 @@ impl<'a> Model<'a> {
     }
 }
 
-/// What stands after `=` in a text that is `=` and something after it; None for every other text.
-fn after_equals(text: &str) -> Option<&str>
-    ensures { MatchOption result (is_formula_text (chars text.now) ≡ false) (λ body.
-        (is_formula_text (chars text.now) ≡ true) × (chars body.now ≡ without_equals
-        (chars text.now))) }
-{
-    let (first, body) = first_char(text)?;
-    if first != '=' {
-        return None;
-    }
-    first_char(body)?;
-    Some(body)
-}
-
 /// The tree of a text in a cell: as it stands, or else with a `)` added.
 fn read_cell<D: Dialect>(alloc: Global, d: &D, text: &str) -> Result<Option<Spelled>, OutOfMemory>
     ensures { IfOk result (λ t. t ≡ cell_tree (D.meaning d.now) (chars text.now)) }
@@ -327,7 +301,7 @@ fn read_closed<D: Dialect>(alloc: Global, d: &D, text: &str) -> Result<Option<Sp
 }
 
 /// The formula in a cell of a sheet.
-fn formula_at(worksheet: &Sheet, row: i32, column: i32) -> Option<&Formula>
+pub(crate) fn formula_at(worksheet: &Sheet, row: i32, column: i32) -> Option<&Formula>
     requires { HasPlaces (length worksheet.now.pool.formulas) worksheet.now.grid }
     ensures { option_map (λ f. f.now) result ≡ formula_at
         (cells_of worksheet.now.pool.formulas (finite.entries worksheet.now.grid.cells)) row column }
@@ -335,25 +309,6 @@ fn formula_at(worksheet: &Sheet, row: i32, column: i32) -> Option<&Formula>
     let cell = worksheet.grid.cells.get(row, column)?;
     let place = cell.get_formula()?;
     worksheet.pool.get(place)
-}
-
-/// What stands after `=` in a text that may be written into a cell of a sheet.
-fn body_in<'t>(grid: &Grid, row: i32, column: i32, text: &'t str) -> Result<&'t str, BookError>
-    ensures body { IfOk result (λ body. chars body.now ≡ without_equals (chars text.now)) }
-    ensures refused { TellsOnly result
-        (first_refusal (text_causes grid.now (row, column) (chars text.now))) }
-{
-    if row < 1 || row > LAST_ROW {
-        return Err(BookError::InvalidRow);
-    }
-    if column < 1 || column > LAST_COLUMN {
-        return Err(BookError::InvalidColumn);
-    }
-    can_write(grid, row, column)?;
-    match after_equals(text) {
-        Some(body) => Ok(body),
-        None => Err(BookError::NotAFormula),
-    }
 }
 
 /// Whether merged cells or an array forbid to write a cell of a sheet.
@@ -394,7 +349,7 @@ fn without_quote(styles: &mut Styles, style: usize) -> Result<usize, OutOfMemory
 }
 
 /// A text after a sign.
-fn after_sign(alloc: Global, sign: &str, text: &str) -> Result<String, OutOfMemory>
+pub(crate) fn after_sign(alloc: Global, sign: &str, text: &str) -> Result<String, OutOfMemory>
     ensures { IfOk result (λ s. chars (string_bytes s) ≡ chars sign.now ++ chars text.now) }
 {
     let mut out = String::with_capacity(alloc, text.len())?;

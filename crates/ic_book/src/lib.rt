@@ -10,18 +10,24 @@
 
 mod about;
 mod cells;
+mod content;
 mod error;
+mod extend;
 mod formulas;
+mod input;
 mod law;
 mod layout;
 mod line_styles;
 mod lines;
+mod markup;
 mod model;
 mod names;
 mod notation;
 mod parts;
 mod properties;
+mod references;
 mod scene;
+mod settings;
 mod sheet_changes;
 mod styled;
 mod styles;

@@ -1,39 +1,51 @@
 //! Values that are written into cells.
-ghost use Rattle.std.specs.Prelude.{◌≡◌, ◌<◌, IfOk, OnErr, OnOk, false, length, true};
-ghost use Rattle.ic_cells.specs.Style.{with_quote_prefix};
+ghost use Rattle.std.specs.Prelude.{◌≡◌, ◌<◌, IfOk, OnErr, OnOk, Some, chars, false, length, true};
+ghost use Rattle.ic_cells.specs.Strings.{string_index, with_string};
+ghost use Rattle.ic_cells.specs.Style.{style_at, with_format, with_quote_prefix};
+ghost use Rattle.ic_cells.specs.declared.cell.Cell.TheVariants as cells;
 ghost use Rattle.ic_grid.specs.Shape.{celled};
-ghost use Rattle.ic_grid.specs.Style.{style_at};
+ghost use Rattle.ic_grid.specs.Style as grid_style;
 ghost use Rattle.ic_machine.specs.Refusal.{first_refusal};
 ghost use Rattle.ic_machine.specs.Styling.{restyled};
-ghost use Rattle.ic_machine.specs.subjects.Writing.{UpdateCellWithBool, UpdateCellWithNumber, writing_step};
+ghost use Rattle.ic_machine.specs.subjects.Writing.{UpdateCellWithBool, UpdateCellWithNumber, coded, unquoted, writing_step};
+ghost use Rattle.ic_book.specs.Book.{IsValidBook};
 ghost use Rattle.ic_book.specs.Does.{Does, DoesStep, Wanted};
 ghost use Rattle.ic_book.specs.Fields.{no_fields};
 ghost use Rattle.ic_book.specs.Refused.{TellsOnly};
-ghost use Rattle.ic_book.specs.Values.{Shows, value_causes, value_cell, value_refusal, value_step};
+ghost use Rattle.ic_book.specs.Values.{Shows, keeps_code, put_step, style_change, value_causes, value_cell, value_content, value_refusal, value_strings, with_put};
+ghost use Rattle.ic_book.specs.Whole.{whole_of};
 
+use crate::about::About;
 use crate::formulas::can_write;
+use crate::styled::copy_of;
 use crate::{BookError, Model};
-use ic_cells::{Cell, Styles};
+use ic_cells::{Cell, SharedStrings, Style, Styles};
 use ic_grid::Grid;
-use ic_laws::{Amount, LAST_COLUMN, LAST_ROW, OutOfMemory};
+use ic_input::is_date_code;
+use ic_laws::{Amount, Error, LAST_COLUMN, LAST_ROW, OutOfMemory, Text};
+use std::alloc::Global;
 
 /// What may be written into a cell and is no formula.
-#[derive(Clone, Copy)]
-pub(crate) enum Value {
+#[derive(Drop)]
+pub(crate) enum Value<'t> {
+    /// Nothing.
+    Empty,
     Boolean(bool),
     Number(Amount),
+    Error(Error),
+    /// A text, which cells share.
+    Text(&'t str),
 }
 
-impl Value {
-    /// Its cell, in the style of a number.
-    fn cell(self, style: usize) -> Cell
-        ensures { result ≡ value_cell self style }
-    {
-        match self {
-            Value::Boolean(truth) => Cell::new_boolean(truth, style),
-            Value::Number(amount) => Cell::new_number(amount, style),
-        }
-    }
+/// What becomes of the style that a cell shows.
+#[derive(Drop)]
+pub(crate) enum Restyle<'t> {
+    /// Nothing, also of its quote flag.
+    Nothing,
+    /// It gets the quote flag or loses it.
+    Quote(bool),
+    /// It gets the code of a typed number, and loses the quote flag.
+    Code(&'t str),
 }
 
 impl<'a> Model<'a> {
@@ -54,7 +66,9 @@ impl<'a> Model<'a> {
             result self.old self.new }
         ensures looks_up { self.new.has_all ≡ self.old.has_all }
     {
-        self.write_value(sheet, row, column, Value::Boolean(value), false)
+        let value = Value::Boolean(value);
+        let change = Restyle::Quote(false);
+        self.write_value(sheet, row, column, &value, &change)
     }
 
     /// Writes a number into the cell at a row and a column, both from 1, of the sheet at an index, from 0. The array that
@@ -74,42 +88,49 @@ impl<'a> Model<'a> {
             result self.old self.new }
         ensures looks_up { self.new.has_all ≡ self.old.has_all }
     {
-        self.write_value(sheet, row, column, Value::Number(value), false)
+        let value = Value::Number(value);
+        let change = Restyle::Quote(false);
+        self.write_value(sheet, row, column, &value, &change)
     }
 
-    /// Writes a value into a cell, whose style gets the quote flag or loses it.
-    fn write_value(
+    /// Writes a value into a cell, whose style is changed.
+    pub(crate) fn write_value(
         &mut self,
         sheet: u32,
         row: i32,
         column: i32,
-        value: Value,
-        quoted: bool,
+        value: &Value<'_>,
+        change: &Restyle<'_>,
     ) -> Result<(), BookError>
         ensures does { DoesStep Wanted
-            (value_step self.old.book sheet row column quoted (value_cell value)) no_fields
-            result self.old self.new }
+            (put_step (whole_of self.old.book) sheet row column (style_change change.now)
+            (value_content value.now)) no_fields result self.old self.new }
         ensures looks_up { self.new.has_all ≡ self.old.has_all }
     {
         let count = self.about.styles.len();
+        let texts = self.about.strings.len();
         let shown = self.style_to_write(sheet, row, column)?;
-        let style = with_quote(&mut self.about.styles, shown, quoted)?;
-        match self
-            .sheets
-            .write_cell(sheet as usize, row, column, value.cell(style))
-        {
+        let cell = new_cell(self.alloc, &mut self.about, shown, value, change)?;
+        match self.sheets.write_cell(sheet as usize, row, column, cell) {
             Ok(()) => Ok(()),
             Err(error) => {
                 self.about.styles.truncate(count);
+                self.about.strings.truncate(texts);
                 Err(BookError::from(error))
             }
         }
     }
 
     /// The number of the style that a cell shows which may be written.
-    fn style_to_write(&self, sheet: u32, row: i32, column: i32) -> Result<usize, BookError>
+    pub(crate) fn style_to_write(
+        &self,
+        sheet: u32,
+        row: i32,
+        column: i32,
+    ) -> Result<usize, BookError>
         ensures shows { IfOk result (λ n. Shows self.now.book sheet row column n) }
         ensures refused { TellsOnly result (value_refusal self.now.book sheet row column) }
+        ensures valid { IsValidBook self.now.book }
     {
         match self.sheets.as_slice().get(sheet as usize) {
             Some(sheet) => style_in(&sheet.grid, row, column),
@@ -121,7 +142,7 @@ impl<'a> Model<'a> {
 /// The number of the style that a cell of a sheet shows which may be written.
 fn style_in(grid: &Grid, row: i32, column: i32) -> Result<usize, BookError>
     ensures shown { IfOk result (λ n. n
-        ≡ style_at celled grid.now.cells grid.now.rows grid.now.columns (row, column)) }
+        ≡ grid_style.style_at celled grid.now.cells grid.now.rows grid.now.columns (row, column)) }
     ensures refused { TellsOnly result (first_refusal (value_causes grid.now (row, column))) }
 {
     if row < 1 || row > LAST_ROW {
@@ -132,6 +153,142 @@ fn style_in(grid: &Grid, row: i32, column: i32) -> Result<usize, BookError>
     }
     can_write(grid, row, column)?;
     Ok(grid.style_at(row, column))
+}
+
+/// The cell of a value in a style that is changed from the one of a number. The style, and the text that cells share, may
+/// be new. Memory can be missing, and then nothing has changed.
+fn new_cell(
+    alloc: Global,
+    about: &mut About<'_>,
+    shown: usize,
+    value: &Value<'_>,
+    change: &Restyle<'_>,
+) -> Result<Cell, OutOfMemory>
+    requires { shown < length about.old.styles }
+    ensures cell { IfOk result (λ cell. cell ≡ value_cell about.old.strings value.now
+        (restyled (style_change change.now) shown about.old.styles).number) }
+    ensures about { OnOk result (about.new ≡ with_put value.now
+        (restyled (style_change change.now) shown about.old.styles) about.old) }
+    ensures err { OnErr result (about.new ≡ about.old) }
+{
+    let count = about.styles.len();
+    let style = changed_style(alloc, &mut about.styles, shown, change)?;
+    match value_cell(&mut about.strings, value, style) {
+        Ok(cell) => Ok(cell),
+        Err(error) => {
+            about.styles.truncate(count);
+            Err(error)
+        }
+    }
+}
+
+/// The cell of a value in the style of a number. Its text may be new among the shared ones. Memory can be missing, and
+/// then nothing has changed.
+fn value_cell(
+    strings: &mut SharedStrings,
+    value: &Value<'_>,
+    style: usize,
+) -> Result<Cell, OutOfMemory>
+    ensures cell { IfOk result (λ cell. cell ≡ value_cell strings.old value.now style) }
+    ensures strings { OnOk result (strings.new ≡ value_strings value.now strings.old) }
+    ensures err { OnErr result (strings.new ≡ strings.old) }
+{
+    match value {
+        Value::Empty => Ok(Cell::EmptyCell { s: style }),
+        Value::Boolean(truth) => Ok(Cell::new_boolean(*truth, style)),
+        Value::Number(amount) => Ok(Cell::new_number(*amount, style)),
+        Value::Error(error) => Ok(Cell::new_error(*error, style)),
+        Value::Text(text) => text_cell(strings, text, style),
+    }
+}
+
+/// The cell of a text in the style of a number.
+fn text_cell(strings: &mut SharedStrings, text: &str, style: usize) -> Result<Cell, OutOfMemory>
+    ensures cell { IfOk result (λ cell. cell ≡ cells.SharedString
+        (string_index (chars text.now) strings.old) style) }
+    ensures strings { OnOk result (strings.new ≡ with_string (chars text.now) strings.old) }
+    ensures err { OnErr result (strings.new ≡ strings.old) }
+{
+    let place = strings.index_of_or_create(text)?;
+    Ok(Cell::new_string(place, style))
+}
+
+/// The number of a style that is changed from the one of a number, which may be new. Memory can be missing, and then
+/// nothing has changed.
+fn changed_style(
+    alloc: Global,
+    styles: &mut Styles,
+    style: usize,
+    change: &Restyle<'_>,
+) -> Result<usize, OutOfMemory>
+    requires { style < length styles.old }
+    ensures number { IfOk result
+        (λ n. n ≡ (restyled (style_change change.now) style styles.old).number) }
+    ensures styles { OnOk result
+        (styles.new ≡ (restyled (style_change change.now) style styles.old).styles) }
+    ensures err { OnErr result (styles.new ≡ styles.old) }
+{
+    match change {
+        Restyle::Nothing => Ok(style),
+        Restyle::Quote(quoted) => with_quote(styles, style, *quoted),
+        Restyle::Code(code) => with_code(alloc, styles, style, code),
+    }
+}
+
+/// The number of a style with the code of a typed number and without its quote flag, which may be new; a date leaves a code
+/// of dates as it is. Memory can be missing, and then nothing has changed.
+fn with_code(
+    alloc: Global,
+    styles: &mut Styles,
+    style: usize,
+    code: &str,
+) -> Result<usize, OutOfMemory>
+    requires { style < length styles.old }
+    ensures number { IfOk result (λ n. n ≡ (restyled
+        (λ s. unquoted (coded (Some (chars code.now)) s)) style styles.old).number) }
+    ensures styles { OnOk result (styles.new ≡ (restyled
+        (λ s. unquoted (coded (Some (chars code.now)) s)) style styles.old).styles) }
+    ensures err { OnErr result (styles.new ≡ styles.old) }
+{
+    if keeps_code(styles, style, code) {
+        return with_quote(styles, style, false);
+    }
+    let coded = coded_style(alloc, styles, style, code)?;
+    styles.get_style_index_or_create(&coded)
+}
+
+/// Whether the style of a number keeps its code where a number of this code is typed.
+fn keeps_code(styles: &Styles, style: usize, code: &str) -> bool
+    requires { style < length styles.now }
+    ensures { result ≡ keeps_code (chars code.now) (style_at styles.now style) }
+{
+    match styles.get_style(style) {
+        Some(style) => {
+            style.num_fmt.is(code) || (is_date_code(code) && is_date_code(style.num_fmt.as_str()))
+        }
+        None => unreachable!(),
+    }
+}
+
+/// The style of a number with this code and without its quote flag.
+fn coded_style(
+    alloc: Global,
+    styles: &Styles,
+    style: usize,
+    code: &str,
+) -> Result<Style, OutOfMemory>
+    requires { style < length styles.now }
+    ensures { IfOk result (λ s. s
+        ≡ unquoted (with_format (chars code.now) (style_at styles.now style))) }
+{
+    let old = copy_of(styles, alloc, style)?;
+    let num_fmt = Text::from_str(alloc, code)?;
+    Ok(Style {
+        num_fmt,
+        quote_prefix: false,
+        bold: old.bold,
+        fill: old.fill.copy(alloc)?,
+    })
 }
 
 /// The number of a style with this quote flag, which may be new. Memory can be missing, and then nothing has changed.

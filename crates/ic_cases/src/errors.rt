@@ -68,7 +68,7 @@ fn put_run_error(row: &mut Row<'_>) {
 }
 
 /// The errors of the book.
-const BOOK_ERRORS: [BookError; 26] = [
+const BOOK_ERRORS: [BookError; 28] = [
     BookError::BadLine,
     BookError::InvalidSheet,
     BookError::InvalidRow,
@@ -85,6 +85,8 @@ const BOOK_ERRORS: [BookError; 26] = [
     BookError::NameExists,
     BookError::NameNotFound,
     BookError::InvalidNameFormula,
+    BookError::InvalidFormula,
+    BookError::BadReference,
     BookError::NotAFormula,
     BookError::InvalidLocale,
     BookError::InvalidLanguage,

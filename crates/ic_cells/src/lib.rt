@@ -31,4 +31,4 @@ pub use strings::SharedStrings;
 pub use style::{Color, Style};
 pub use styles::Styles;
 pub use value::{CellType, CellValue, FormulaValue, SpillValue, law_equal_values};
-pub use workbook::{DefinedName, Metadata, Theme, Workbook, WorkbookSettings};
+pub use workbook::{DefinedName, FmtSettings, Metadata, Theme, Workbook, WorkbookSettings};

@@ -75,6 +75,43 @@ pub struct Theme {
     pub name: Text,
 }
 
+/// The formats of a locale, each with an example: 15 December 2025, and the amount 1234.567.
+pub struct FmtSettings {
+    /// The code of its currency, such as `USD`.
+    pub currency: Text,
+    /// The format of currencies, such as `"$"#,##0.00`.
+    pub currency_format: Text,
+    pub short_date: Text,
+    pub short_date_example: Text,
+    pub long_date: Text,
+    pub long_date_example: Text,
+    pub number_fmt: Text,
+    pub number_example: Text,
+}
+
+impl Drop for FmtSettings {
+    fn drop(self) {
+        let Self {
+            currency,
+            currency_format,
+            short_date,
+            short_date_example,
+            long_date,
+            long_date_example,
+            number_fmt,
+            number_example,
+        } = self;
+        drop(currency);
+        drop(currency_format);
+        drop(short_date);
+        drop(short_date_example);
+        drop(long_date);
+        drop(long_date_example);
+        drop(number_fmt);
+        drop(number_example);
+    }
+}
+
 /// A workbook as plain data.
 pub struct Workbook {
     pub name: Text,

@@ -15,7 +15,7 @@ use Rattle.ic_book.specs.Refused.{refusal_of}
 use Rattle.ic_book.specs.declared.error.BookError.{BookError}
 use Rattle.ic_book.specs.declared.error.BookError.TheVariants as errors
 use Rattle.ic_commands.specs.Answered.{Answers, IsAnswered, Keeps, Stays, Tells, is_on_notation}
-use Rattle.ic_book.specs.Does.{DoesStep, Memory, Never, Refused, Wanted, WantedIn, WantedOr}
+use Rattle.ic_book.specs.Does.{DoesStep, Memory, Never, Refused, Wanted, WantedIn, WantedOr, WantedOrWhole}
 use Rattle.ic_book.specs.Served.{served_command_step, served_step}
 use Rattle.ic_book.specs.Whole.{whole_of}
 
@@ -30,6 +30,7 @@ refused_book wants made old new (Some refusal) h = ap (λ (m : ModelState). m.bo
 refused_book Never made old new None h = absurd h
 refused_book Wanted made old new None h = ap (λ (m : ModelState). m.book) h.1
 refused_book (WantedOr late) made old new None h = ap (λ (m : ModelState). m.book) h.1
+refused_book (WantedOrWhole late) made old new None h = ap (λ (m : ModelState). m.book) h.1
 refused_book WantedIn made old new None h = h.1
 
 module _ {T : Type 0} (wants : Memory) (fields : T → List Field) (command : Command) (old new : ModelState) (before after : List ℕ) where

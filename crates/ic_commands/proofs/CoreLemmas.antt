@@ -15,12 +15,12 @@ use Rattle.ic_machine.specs.Refusal.{InvalidSheet, NotAFormula, Refusal, first_r
 use Rattle.ic_machine.specs.Reply.{Field, field_word, of_core_field, of_core_fields, reply_text}
 use Rattle.ic_machine.specs.Step.{outcome_of}
 use Rattle.ic_machine.specs.InForce.{formula_typed}
-use Rattle.ic_machine.specs.subjects.Writing.{formula_at_place, formula_written, place_causes, with_written, write_causes}
+use Rattle.ic_machine.specs.subjects.Writing.{formula_at_place, formula_step, formula_written, place_causes, with_written, write_causes}
 use Rattle.ic_machine.specs.subjects.Definitions.{delete_name_step, list_step, new_name_step, valid_name_step, with_new_name}
 use Rattle.ic_machine.specs.subjects.Notation.{set_language_step, set_locale_step}
 use Rattle.ic_machine.specs.subjects.Reading.{cell_formula_step}
 use Rattle.ic_machine.specs.subjects.Sheets.{with_new_sheet, add_sheet_step, delete_by_id_step, delete_by_name_step, delete_sheet_step, move_sheet_step, new_sheet_id_step, rename_by_index_step, rename_sheet_step}
-use Rattle.ic_book.specs.Served.{begins_with_sign, served_formula_step, served_step}
+use Rattle.ic_book.specs.Served.{served_step}
 
 -- Replies of both machines ----
 
@@ -100,7 +100,7 @@ module _ (b : Book) where
 
   -- a served command leaves what stands beside the core
   pub served_stands : (k : core.Command) → StandsBeside b (outcome_of b (served_step b (whole_command k))).0
-  unfolding add_sheet_step rename_sheet_step rename_by_index_step move_sheet_step delete_sheet_step delete_by_name_step delete_by_id_step new_sheet_id_step new_name_step delete_name_step valid_name_step list_step set_locale_step set_language_step cell_formula_step served_formula_step
+  unfolding add_sheet_step rename_sheet_step rename_by_index_step move_sheet_step delete_sheet_step delete_by_name_step delete_by_id_step new_sheet_id_step new_name_step delete_name_step valid_name_step list_step set_locale_step set_language_step cell_formula_step formula_step
   served_stands (core.AddSheet name) = core_stands (core_step (notations_in b) (core_of b) (core.AddSheet name)) (changed_by (with_new_sheet name) b) (record { name = refl; zone = refl; theme = refl; metadata = refl; tables = refl })
   served_stands (core.RenameSheet old new) = core_stands (core_step (notations_in b) (core_of b) (core.RenameSheet old new)) (changed_by (with_renamed_sheet (unwrap_or (index_of_name (core_of b) old) 0) new) b) (record { name = refl; zone = refl; theme = refl; metadata = refl; tables = refl })
   served_stands (core.RenameSheetByIndex sheet name) = core_stands (core_step (notations_in b) (core_of b) (core.RenameSheetByIndex sheet name)) (changed_by (with_renamed_sheet sheet name) b) (record { name = refl; zone = refl; theme = refl; metadata = refl; tables = refl })
@@ -120,6 +120,6 @@ module _ (b : Book) where
   served_stands (core.GetCellFormula sheet row column) = core_stands (core_step (notations_in b) (core_of b) (core.GetCellFormula sheet row column)) b (stands b)
   served_stands (core.UpdateCellWithFormula sheet row column text) =
       let w = λ (s : Sheet). formula_written b s (formula_at_place b s (row, column) (unwrap_or (formula_typed b text) [])) in
-      let causes = λ (s : Sheet). place_causes (row, column) ++ (write_causes s (row, column) ++ (begins_with_sign text || is_none (formula_typed b text), NotAFormula) ∷ []) in
+      let causes = λ (s : Sheet). place_causes (row, column) ++ (write_causes s (row, column) ++ (is_none (formula_typed b text), NotAFormula) ∷ []) in
       let left = λ (s : Sheet). with_written b sheet s (row, column) (w s) in
       found_stands InvalidSheet (slice_get b.sheets sheet) (λ s. unless_refused (causes s) (left s) []) (λ s. unless_stands (first_refusal (causes s)) (left s) [] (record { name = refl; zone = refl; theme = refl; metadata = refl; tables = refl }))

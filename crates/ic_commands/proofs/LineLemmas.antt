@@ -15,7 +15,7 @@ use Rattle.ic_words.specs.Reply.{IsLineText}
 use Rattle.ic_words.specs.Served.{served}
 use Rattle.ic_words.proofs.ReplyLemmas.{refusal_line}
 use Rattle.ic_book.specs.Book.{Book, IsSameBeside, ModelState, StepsTo, core_of, notations_in}
-use Rattle.ic_commands.specs.Answered.{DoesLine, IsAnswered, IsCore, StaysAfter}
+use Rattle.ic_commands.specs.Answered.{DoesLine, HasNoSign, IsAnswered, IsCore, StaysAfter, WritesNoSign}
 use Rattle.ic_book.specs.Served.{served_command_step, served_step}
 use Rattle.ic_book.specs.Whole.{whole_of}
 use Rattle.ic_commands.proofs.CoreLemmas.{StandsBeside, core_left, served_stands, text_told}
@@ -38,12 +38,12 @@ same_beside old new left is beside = record {
 }
 
 -- a command that was answered is answered as the core machine answers it
-pub core_half : (k : core.Command) (old new : ModelState) (reply : List ℕ) → IsAnswered (whole_command k) old new [] reply → IsAnsweredAs (Some k) old.book new.book reply
-core_half k old new reply a =
+pub core_half : (k : core.Command) (old new : ModelState) (reply : List ℕ) → IsAnswered (whole_command k) old new [] reply → HasNoSign (whole_command k) → IsAnsweredAs (Some k) old.book new.book reply
+core_half k old new reply a plain =
     let w = whole_of old.book in
     let made = served_step w (whole_command k) in
     let o = core_step (notations_in old.book) (core_of old.book) k in
-    let told = served_core old.book a.valid_before k in
+    let told = served_core old.book a.valid_before k plain in
     let is = whole_core old.book in
     let text : reply_text (outcome_of w made).1 ≡ lines.reply_text (lines.outcome_of (core_of old.book) o).1 = text_told w (core_of old.book) is made o told in
     record {
@@ -75,8 +75,8 @@ module _ (line : List ℕ) where
   pub line_answered : (command : Command) (old new : ModelState) (reply : List ℕ) → Some command ≡ command_in (english_errors (whole_of old.book)) table.served line → IsAnswered command old new [] reply → IsCore old.book.tables line
       → IsAnsweredAs (lines.command_of served line) old.book new.book reply
   line_answered command old new reply is a is_core =
-      let k = as_core_command (lines.command_of (core.rows_named core_names) line) command (is ∙ served_is (english_errors (whole_of old.book)) line is_core) in
-      subst (λ o. IsAnsweredAs o old.book new.book reply) (sym (command_of_core ∙ k.2)) (core_half k.0 old new reply (subst (λ c. IsAnswered c old new [] reply) k.1 a))
+      let k = as_core_command (lines.command_of (core.rows_named core_names) line) command (is ∙ served_is (english_errors (whole_of old.book)) line is_core.0) in
+      subst (λ o. IsAnsweredAs o old.book new.book reply) (sym (command_of_core ∙ k.2)) (core_half k.0 old new reply (subst (λ c. IsAnswered c old new [] reply) k.1 a) (subst HasNoSign k.1 (subst WritesNoSign (sym is) is_core.1)))
 
   pub line_done : (command : Command) (old new : ModelState) (reply : List ℕ) → Some command ≡ command_in (english_errors (whole_of old.book)) table.served line → IsAnswered command old new [] reply → DoesLine line old new reply
   line_done command old new reply is a = record {
@@ -90,7 +90,7 @@ module _ (line : List ℕ) where
   pub bad_answered : (state : ModelState) (reply : List ℕ) → None ≡ command_in (english_errors (whole_of state.book)) table.served line → reply ≡ reply_bytes (Err BadLine) → IsCore state.book.tables line
       → IsAnsweredAs (lines.command_of served line) state.book state.book reply
   bad_answered state reply is told is_core =
-      subst (λ o. IsAnsweredAs o state.book state.book reply) (sym (command_of_core ∙ no_core_command (lines.command_of (core.rows_named core_names) line) (is ∙ served_is (english_errors (whole_of state.book)) line is_core)))
+      subst (λ o. IsAnsweredAs o state.book state.book reply) (sym (command_of_core ∙ no_core_command (lines.command_of (core.rows_named core_names) line) (is ∙ served_is (english_errors (whole_of state.book)) line is_core.0)))
       (record {
         reply = told;
         line = refusal_line BadLine;

@@ -14,11 +14,12 @@ use Rattle.ic_machine.specs.Core.{IsFree, TakesFormula, told_by, told_by_core, w
 use Rattle.ic_machine.specs.Valid.{HasCellFormulas, HasFormula}
 use Rattle.ic_machine.proofs.AlikeGrid.{is_fixed_at-seen}
 use Rattle.ic_machine.proofs.AlikeLemmas.{cells_are_contents}
-use Rattle.ic_machine.proofs.FormulaStepped.{served_formula_told}
+use Rattle.ic_machine.proofs.FormulaStepped.{formula_told}
 use Rattle.ic_machine.proofs.SteppedLemmas.{stepped}
 use Rattle.ic_sheets.specs.Sheet.{BookSheet}
 use Rattle.ic_book.specs.Book.{Book, IsPlain, IsValidBook, core_of, notations_in, whole_of, whole_sheet}
-use Rattle.ic_book.specs.Served.{served_formula_step, served_step}
+use Rattle.ic_book.specs.Served.{served_step}
+use Rattle.ic_commands.specs.Answered.{HasNoSign}
 use Rattle.ic_book.proofs.GridLemmas.{none_fixed}
 use Rattle.ic_book.proofs.WholeLemmas.{whole_core}
 use Rattle.ic_book.proofs.WholeWritten.{in_force_there}
@@ -48,25 +49,24 @@ takes b v index place = record {
 }
 
 -- of the whole book's own core
-by_whole : (b : Book) → IsValidBook b → (k : core.Command) → told_by (served_step (whole_of b) (whole_command k)) ≡ told_by_core (core_step (notations_in b) (machine.core_of (whole_of b)) k)
-unfolding served_formula_step
-by_whole b v (core.UpdateCellWithFormula sheet row column text) = served_formula_told (whole_of b) sheet (row, column) text (takes b v sheet (row, column))
-by_whole b v (core.AddSheet name) = stepped (whole_of b) (whole_command (core.AddSheet name))
-by_whole b v (core.RenameSheet old new) = stepped (whole_of b) (whole_command (core.RenameSheet old new))
-by_whole b v (core.RenameSheetByIndex sheet name) = stepped (whole_of b) (whole_command (core.RenameSheetByIndex sheet name))
-by_whole b v (core.MoveSheet sheet to) = stepped (whole_of b) (whole_command (core.MoveSheet sheet to))
-by_whole b v (core.DeleteSheet sheet) = stepped (whole_of b) (whole_command (core.DeleteSheet sheet))
-by_whole b v (core.DeleteSheetByName name) = stepped (whole_of b) (whole_command (core.DeleteSheetByName name))
-by_whole b v (core.DeleteSheetBySheetId id) = stepped (whole_of b) (whole_command (core.DeleteSheetBySheetId id))
-by_whole b v (core.NewDefinedName name scope body) = stepped (whole_of b) (whole_command (core.NewDefinedName name scope body))
-by_whole b v (core.DeleteDefinedName name scope) = stepped (whole_of b) (whole_command (core.DeleteDefinedName name scope))
-by_whole b v (core.IsValidDefinedName name scope body) = stepped (whole_of b) (whole_command (core.IsValidDefinedName name scope body))
-by_whole b v core.GetDefinedNameList = stepped (whole_of b) (whole_command core.GetDefinedNameList)
-by_whole b v core.GetNewSheetId = stepped (whole_of b) (whole_command core.GetNewSheetId)
-by_whole b v (core.SetLocale id) = stepped (whole_of b) (whole_command (core.SetLocale id))
-by_whole b v (core.SetLanguage id) = stepped (whole_of b) (whole_command (core.SetLanguage id))
-by_whole b v (core.GetCellFormula sheet row column) = stepped (whole_of b) (whole_command (core.GetCellFormula sheet row column))
+by_whole : (b : Book) → IsValidBook b → (k : core.Command) → HasNoSign (whole_command k) → told_by (served_step (whole_of b) (whole_command k)) ≡ told_by_core (core_step (notations_in b) (machine.core_of (whole_of b)) k)
+by_whole b v (core.UpdateCellWithFormula sheet row column text) plain = formula_told (whole_of b) sheet (row, column) text (takes b v sheet (row, column)) plain
+by_whole b v (core.AddSheet name) plain = stepped (whole_of b) (whole_command (core.AddSheet name))
+by_whole b v (core.RenameSheet old new) plain = stepped (whole_of b) (whole_command (core.RenameSheet old new))
+by_whole b v (core.RenameSheetByIndex sheet name) plain = stepped (whole_of b) (whole_command (core.RenameSheetByIndex sheet name))
+by_whole b v (core.MoveSheet sheet to) plain = stepped (whole_of b) (whole_command (core.MoveSheet sheet to))
+by_whole b v (core.DeleteSheet sheet) plain = stepped (whole_of b) (whole_command (core.DeleteSheet sheet))
+by_whole b v (core.DeleteSheetByName name) plain = stepped (whole_of b) (whole_command (core.DeleteSheetByName name))
+by_whole b v (core.DeleteSheetBySheetId id) plain = stepped (whole_of b) (whole_command (core.DeleteSheetBySheetId id))
+by_whole b v (core.NewDefinedName name scope body) plain = stepped (whole_of b) (whole_command (core.NewDefinedName name scope body))
+by_whole b v (core.DeleteDefinedName name scope) plain = stepped (whole_of b) (whole_command (core.DeleteDefinedName name scope))
+by_whole b v (core.IsValidDefinedName name scope body) plain = stepped (whole_of b) (whole_command (core.IsValidDefinedName name scope body))
+by_whole b v core.GetDefinedNameList plain = stepped (whole_of b) (whole_command core.GetDefinedNameList)
+by_whole b v core.GetNewSheetId plain = stepped (whole_of b) (whole_command core.GetNewSheetId)
+by_whole b v (core.SetLocale id) plain = stepped (whole_of b) (whole_command (core.SetLocale id))
+by_whole b v (core.SetLanguage id) plain = stepped (whole_of b) (whole_command (core.SetLanguage id))
+by_whole b v (core.GetCellFormula sheet row column) plain = stepped (whole_of b) (whole_command (core.GetCellFormula sheet row column))
 
-pub served_core : (b : Book) → IsValidBook b → (k : core.Command) → told_by (served_step (whole_of b) (whole_command k)) ≡ told_by_core (core_step (notations_in b) (core_of b) k)
-served_core b v k =
-    subst (λ (c : CoreBook). told_by (served_step (whole_of b) (whole_command k)) ≡ told_by_core (core_step (notations_in b) c k)) (whole_core b) (by_whole b v k)
+pub served_core : (b : Book) → IsValidBook b → (k : core.Command) → HasNoSign (whole_command k) → told_by (served_step (whole_of b) (whole_command k)) ≡ told_by_core (core_step (notations_in b) (core_of b) k)
+served_core b v k plain =
+    subst (λ (c : CoreBook). told_by (served_step (whole_of b) (whole_command k)) ≡ told_by_core (core_step (notations_in b) c k)) (whole_core b) (by_whole b v k plain)

@@ -5,11 +5,12 @@ use Rattle.ic_laws.specs.declared.memory.OutOfMemory.{OutOfMemory}
 use Rattle.ic_tables.specs.Tables.{TableSet, english, error_words_in}
 use Rattle.ic_machine.specs.Book as machine
 use Rattle.ic_machine.specs.Book.{Stepped}
-use Rattle.ic_machine.specs.Command.{Command, OnNotation, command_in, served}
-use Rattle.ic_machine.specs.Core.{is_core_line}
+use Rattle.ic_machine.specs.Command.{Command, OnNotation, OnWriting, command_in, served}
+use Rattle.ic_machine.specs.Core.{begins_with_sign, is_core_line}
 use Rattle.ic_machine.specs.Readers.{is_reader}
 use Rattle.ic_machine.specs.Reply.{Field, Reply, reply_bytes, reply_text}
 use Rattle.ic_machine.specs.Step.{english_errors}
+use Rattle.ic_machine.specs.subjects.Writing.{UpdateCellWithFormula}
 use Rattle.ic_words.specs.Reply.{IsLineText}
 use Rattle.ic_book.specs.Book.{IsValidBook, ModelState}
 use Rattle.ic_book.specs.declared.error.BookError.{BookError}
@@ -17,9 +18,20 @@ use Rattle.ic_book.specs.Does.{DoesStep, Memory}
 use Rattle.ic_book.specs.Served.{served_command_step, served_line_step, served_step}
 use Rattle.ic_book.specs.Whole.{whole_of}
 
--- A line is a core line, by the tables of a book: it is no command that is served, or one that the core machine has.
+-- no text that is written as a formula begins with a sign
+abbrev pub HasNoSign : Command → Type 0
+HasNoSign (OnWriting (UpdateCellWithFormula sheet row column text)) = begins_with_sign text ≡ false
+HasNoSign command = Unit {0}
+
+abbrev pub WritesNoSign : Option Command → Type 0
+WritesNoSign (Some command) = HasNoSign command
+WritesNoSign None = Unit {0}
+
+-- A line is a core line, by the tables of a book: it is no command that is served, or one that the core machine has, and it
+-- writes no formula that begins with a sign, which the core machine doesn't know.
 abbrev pub IsCore : TableSet → List ℕ → Type 0
-IsCore tables line = is_core_line (error_words_in (english tables.languages)) line ≡ true
+IsCore tables line =
+    (is_core_line (error_words_in (english tables.languages)) line ≡ true) × WritesNoSign (command_in (error_words_in (english tables.languages)) served line)
 
 -- a command on the locale, the language and the zone
 abbrev pub is_on_notation : Command → Bool

@@ -11,6 +11,7 @@ ghost use Rattle.ic_book.specs.Whole.{whole_of};
 ghost use Rattle.ic_commands.specs.Answered.{Answers, DoesLine, IsCore, LeavesLine};
 
 mod definitions;
+mod extending;
 mod layout;
 mod notation;
 mod reading;
@@ -20,6 +21,7 @@ mod tabs;
 mod writing;
 
 use definitions::answer_definitions;
+use extending::answer_extending;
 use ic_book::{BookError, Model};
 use ic_laws::{OutOfMemory, Text};
 use ic_lines::Line;
@@ -95,6 +97,7 @@ fn answer(
         Command::Notation(command) => answer_notation(model, command, reply),
         Command::Writing(command) => answer_writing(alloc, model, command, reply),
         Command::Reading(command) => answer_reading(model, command, reply),
+        Command::Extending(command) => answer_extending(model, command, reply),
         Command::Styles(command) => answer_styles(alloc, model, command, reply),
         Command::Layout(command) => answer_layout(model, command, reply),
         Command::Tabs(command) => answer_tabs(alloc, model, command, reply),

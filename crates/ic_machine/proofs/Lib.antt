@@ -12,6 +12,7 @@ pub mod CopyNames
 pub mod CoreLemmas
 pub mod CoreValid
 pub mod DuplicatedStays
+pub mod ExtendedLemmas
 pub mod FormulaLemmas
 pub mod FormulaStepped
 pub mod HaveLemmas

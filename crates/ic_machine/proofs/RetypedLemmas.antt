@@ -214,12 +214,12 @@ module _ (b : Book) (valid : IsValidBook b) where
         no_tree : {A : Type 0} {x : A} → None ≡ Some x → ⊥
         no_tree h = cc
 
-    read_again : formula_at_place b s place shown ≡ formulas.Tree t
+    pub read_again : formula_at_place b s place shown ≡ formulas.Tree t
     read_again =
         ap (λ (o : Option Spelled). tree_or_raw (λ u. formulas.Tree (bound (english_function (notations_in b)) (scene_in b) (Some s.id) u)) shown (option_or o (read_as d (shown ++ codes ")")))) reads
         ∙ ap (λ (u : Bound). formulas.Tree u) kept.settled
 
-    formula_typed : typed_in b (equals ∷ shown) ≡ kinds.Formula shown
+    pub formula_typed : typed_in b (equals ∷ shown) ≡ kinds.Formula shown
     formula_typed = typed_is (equals ∷ shown) ∙ formulas_again f.locale f.language f.beside shown some
 
     held_again : (w : Written) → w ≡ typed_written b s place (typed_in b (equals ∷ shown)) → (k : ℕ) → option_map (formula_in w.pool) (formula_index (w.content k)) ≡ Some (formulas.Tree t)

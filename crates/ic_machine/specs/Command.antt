@@ -49,7 +49,9 @@ more_names =
     ∷ codes "get_style_for_cell" ∷ codes "get_cell_style_or_none" ∷ codes "set_column_style" ∷ codes "set_row_style" ∷ codes "get_column_style"
     ∷ codes "get_row_style" ∷ codes "delete_column_style" ∷ codes "delete_row_style" ∷ codes "set_column_width" ∷ codes "set_row_height"
     ∷ codes "get_column_width" ∷ codes "get_row_height" ∷ codes "set_column_hidden" ∷ codes "set_row_hidden" ∷ codes "is_column_hidden"
-    ∷ codes "is_row_hidden" ∷ []
+    ∷ codes "is_row_hidden" ∷ codes "set_user_input" ∷ codes "update_cell_with_text" ∷ codes "get_localized_cell_content" ∷ codes "get_formatted_cell_value"
+    ∷ codes "get_cell_value_by_ref" ∷ codes "get_sheet_markup" ∷ codes "extend_to" ∷ codes "extend_copied_value" ∷ codes "parse_reference"
+    ∷ codes "get_fmt_settings" ∷ []
 
 -- the names of all commands that are served
 abbrev pub served_names : List (List ℕ)

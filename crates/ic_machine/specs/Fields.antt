@@ -1,12 +1,14 @@
 -- The fields of replies, by the values that calls answer.
-use Rattle.std.specs.Prelude.{String, ℕ, List, [], ◌∷◌, Option, Some, chars, flat_map, option_map, string_bytes}
+use Rattle.std.specs.Prelude.{String, ℕ, List, [], ◌∷◌, ◌++◌, Option, Some, chars, flat_map, option_map, string_bytes}
 use Rattle.std.specs.Option.{option_map_or}
 use Rattle.std.specs.declared.alloc.Global.{Global}
 use Rattle.std.specs.Global.{Vec}
+use Rattle.ic_refs.specs.declared.reference.CellReferenceIndex.{CellReferenceIndex}
 use Rattle.ic_cells.specs.declared.sheet.CellIndex.{CellIndex}
 use Rattle.ic_cells.specs.declared.sheet.SheetProperties.{SheetProperties}
 use Rattle.ic_cells.specs.declared.style.Style.{Style}
 use Rattle.ic_cells.specs.declared.value.CellType.{CellType}
+use Rattle.ic_cells.specs.declared.workbook.FmtSettings.{FmtSettings}
 use Rattle.ic_cells.specs.declared.workbook.Theme.{Theme}
 use Rattle.ic_machine.specs.Reply.{Field, NumberField, PositionField, TextField, optional_text_field, text_field}
 use Rattle.ic_machine.specs.Styling.{color_text, style_fields}
@@ -60,3 +62,20 @@ fields_of_place place = NumberField (Some place.index) ∷ PositionField place.r
 
 abbrev pub places_fields : Vec CellIndex → List Field
 places_fields places = flat_map fields_of_place places.items
+
+-- a cell that a text names, if it names one: the index of its sheet, its row and its column
+abbrev pub fields_of_cell : CellReferenceIndex → List Field
+fields_of_cell cell = NumberField (Some cell.sheet) ∷ PositionField cell.row ∷ PositionField cell.column ∷ []
+
+abbrev pub optional_cell_fields : Option CellReferenceIndex → List Field
+optional_cell_fields cell = option_map_or fields_of_cell cell []
+
+-- the formats of a locale with an example each: of the currency and the short date, and of the long date and the number
+abbrev pub front_settings : FmtSettings → List Field
+front_settings settings = TextField settings.currency ∷ TextField settings.currency_format ∷ TextField settings.short_date ∷ TextField settings.short_date_example ∷ []
+
+abbrev pub back_settings : FmtSettings → List Field
+back_settings settings = TextField settings.long_date ∷ TextField settings.long_date_example ∷ TextField settings.number_fmt ∷ TextField settings.number_example ∷ []
+
+abbrev pub fields_of_settings : FmtSettings → List Field
+fields_of_settings settings = front_settings settings ++ back_settings settings

@@ -6,6 +6,7 @@ pub mod Changed
 pub mod Command
 pub mod Content
 pub mod Core
+pub mod Extended
 pub mod Fields
 pub mod Format
 pub mod InForce

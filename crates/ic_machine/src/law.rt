@@ -9,6 +9,7 @@ ghost use Rattle.ic_machine.specs.Book.{Book};
 ghost use Rattle.ic_machine.specs.Command.{Command};
 ghost use Rattle.ic_machine.specs.Content.{content_of, held};
 ghost use Rattle.ic_machine.specs.Core.{FormulaIsStepped, IsSteppedAs, core_command};
+ghost use Rattle.ic_machine.specs.Extended.{ExtendedIsSame};
 ghost use Rattle.ic_machine.specs.Kept.{CoreIsValid, CoreStaysValid, KeepsValid, KeepsValidIf};
 ghost use Rattle.ic_machine.specs.Kept.{gives_id};
 ghost use Rattle.ic_machine.specs.Laws.{BadLineStays, CounterpartsAreBack, NumbersAreSmall};
@@ -135,4 +136,10 @@ pub fn law_bound_is_named()
 /// spill.
 pub fn law_retyped_stays()
     ensures { RetypedStays }
+{}
+
+/// A cell's formula that is extended to another cell is typed there as the same tree, with the same offsets and the same
+/// fixed positions, unless a reference leaves the sheet or a name is a word of the language in force.
+pub fn law_extended_is_same()
+    ensures { ExtendedIsSame }
 {}

@@ -7,6 +7,7 @@ use Rattle.std.specs.List.{list_all}
 use Rattle.std.specs.Str.{all_ascii_digits}
 use Rattle.std.proofs.lemmas.Bool.{and_parts, cases_Bool, ltb-true}
 use Rattle.std.proofs.lemmas.Bool.Decides.{eqb_tells, nat_tests}
+use Rattle.std.proofs.lemmas.Grind.{flat_map-append}
 use Rattle.std.proofs.lemmas.Str.{IsUtf8-from_ascii, IsUtf8-string_bytes, chars-IsAscii, chars-encodes, encodes-IsAscii, encodes-append, encodes-chars, scalars-chars}
 use Rattle.std.proofs.lemmas.Str.Ascii.{IsAscii-cons, IsAscii-nil}
 use Rattle.std.specs.declared.alloc.Global.{Global}
@@ -37,6 +38,12 @@ fields_reply old first second new fields u v is_first is_second is_new =
     ∙ ap (λ front. front ++ encode_utf8_all words) (encodes-chars first u ∙ is_first) in
     is_new ∙ ap (λ front. front ++ 10 ∷ []) (grown ∙ append_assoc old (codes "ok") (encode_utf8_all words))
     ∙ append_assoc old (codes "ok" ++ encode_utf8_all words) (10 ∷ [])
+
+-- fields, and others after them
+pub more_fields : (old between new : List ℕ) (front back : List Field) → between ≡ old ++ flat_map field_word front → new ≡ between ++ flat_map field_word back → new ≡ old ++ flat_map field_word (front ++ back)
+more_fields old between new front back first then =
+    then ∙ ap (λ (t : List ℕ). t ++ flat_map field_word back) first ∙ append_assoc old (flat_map field_word front) (flat_map field_word back)
+    ∙ ap (λ (t : List ℕ). old ++ t) (sym (flat_map-append field_word front back))
 
 -- Digits need no escape ----
 

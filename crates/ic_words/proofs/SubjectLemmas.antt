@@ -3,10 +3,11 @@ use Rattle.std.proofs.Common.{◌≡◌, ℕ, List, [], ◌∷◌, ◌++◌, Boo
 use Rattle.std.specs.List.{find, list_all}
 use Rattle.std.proofs.lemmas.Bool.{and_parts, cases_Bool}
 use Rattle.ic_laws.specs.Lines.{word_texts, words_of}
-use Rattle.ic_machine.specs.Command.{Command, OnDefinitions, OnLayout, OnNotation, OnReading, OnSheets, OnStyles, OnTabs, OnWriting, command_in, commands, served, served_names}
+use Rattle.ic_machine.specs.Command.{Command, OnDefinitions, OnExtending, OnLayout, OnNotation, OnReading, OnSheets, OnStyles, OnTabs, OnWriting, command_in, commands, served, served_names}
 use Rattle.ic_machine.specs.Row.{Row, joined, named, row_in, rows_named, spelled}
 use Rattle.ic_machine.specs.Word.{Done, Many, OfAmount, OfBool, OfColor, OfFlag, OfIndex, OfPosition, OfScope, OfSpill, OfState, OfText, OfValue, Then, WordForm, Words, all_said, each_said, said, some_said, words_said}
 use Rattle.ic_machine.specs.subjects.Definitions.{definition_rows}
+use Rattle.ic_machine.specs.subjects.Extending.{extending_rows}
 use Rattle.ic_machine.specs.subjects.Layout.{layout_rows}
 use Rattle.ic_machine.specs.subjects.Notation.{notation_rows}
 use Rattle.ic_machine.specs.subjects.Reading.{reading_rows}
@@ -57,8 +58,11 @@ from_layout = served_of OnLayout layout_rows ++ from_tabs
 abbrev from_styles : List (Row Command)
 from_styles = served_of OnStyles style_rows ++ from_layout
 
+abbrev from_extending : List (Row Command)
+from_extending = served_of OnExtending extending_rows ++ from_styles
+
 abbrev from_reading : List (Row Command)
-from_reading = served_of OnReading reading_rows ++ from_styles
+from_reading = served_of OnReading reading_rows ++ from_extending
 
 abbrev from_writing : List (Row Command)
 from_writing = served_of OnWriting writing_rows ++ from_reading
@@ -82,8 +86,11 @@ later_layout name words = or_later OnLayout (served_in layout_rows name words) (
 abbrev pub later_styles : List ℕ → List (List ℕ) → Option (Option Command)
 later_styles name words = or_later OnStyles (served_in style_rows name words) (later_layout name words)
 
+abbrev pub later_extending : List ℕ → List (List ℕ) → Option (Option Command)
+later_extending name words = or_later OnExtending (served_in extending_rows name words) (later_styles name words)
+
 abbrev pub later_reading : List ℕ → List (List ℕ) → Option (Option Command)
-later_reading name words = or_later OnReading (served_in reading_rows name words) (later_styles name words)
+later_reading name words = or_later OnReading (served_in reading_rows name words) (later_extending name words)
 
 abbrev pub later_writing : List ℕ → List (List ℕ) → Option (Option Command)
 later_writing name words = or_later OnWriting (served_in writing_rows name words) (later_reading name words)
@@ -109,8 +116,9 @@ module _ (name : List ℕ) (words : List (List ℕ)) where
       found_same_named name words u ∙ ap (λ rows. named [] rows name words) by_rows
       ∙ after_one OnSheets sheet_rows from_definitions (later_definitions name words) (after_one OnDefinitions definition_rows from_notation (later_notation name words)
       (after_one OnNotation notation_rows from_writing (later_writing name words) (after_one OnWriting writing_rows from_reading (later_reading name words)
-      (after_one OnReading reading_rows from_styles (later_styles name words) (after_one OnStyles style_rows from_layout (later_layout name words)
-      (after_one OnLayout layout_rows from_tabs (later_tabs name words) (after_one OnTabs tab_rows [] None refl)))))))
+      (after_one OnReading reading_rows from_extending (later_extending name words) (after_one OnExtending extending_rows from_styles (later_styles name words)
+      (after_one OnStyles style_rows from_layout (later_layout name words) (after_one OnLayout layout_rows from_tabs (later_tabs name words)
+      (after_one OnTabs tab_rows [] None refl))))))))
 
 -- what the code has of the subject that is next
 module _ {X C D : Type 0} (subject : C → D) (meant : X → C) (o : Option (Option X)) (has : Option (Option C)) (table later : Option (Option D)) (chain : table ≡ or_later subject has later) (e : option_map (option_map meant) o ≡ has) where

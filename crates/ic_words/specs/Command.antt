@@ -1,6 +1,7 @@
 -- Commands as the code has them.
 use Rattle.ic_machine.specs.Command as laws
 use Rattle.ic_words.specs.subjects.Definitions.{definitions_meant}
+use Rattle.ic_words.specs.subjects.Extending.{extending_meant}
 use Rattle.ic_words.specs.subjects.Layout.{layout_meant}
 use Rattle.ic_words.specs.subjects.Notation.{notation_meant}
 use Rattle.ic_words.specs.subjects.Reading.{reading_meant}
@@ -18,6 +19,7 @@ command_meant (commands.Definitions command) = laws.OnDefinitions (definitions_m
 command_meant (commands.Notation command) = laws.OnNotation (notation_meant command)
 command_meant (commands.Writing command) = laws.OnWriting (writing_meant command)
 command_meant (commands.Reading command) = laws.OnReading (reading_meant command)
+command_meant (commands.Extending command) = laws.OnExtending (extending_meant command)
 command_meant (commands.Styles command) = laws.OnStyles (styles_meant command)
 command_meant (commands.Layout command) = laws.OnLayout (layout_meant command)
 command_meant (commands.Tabs command) = laws.OnTabs (tabs_meant command)

@@ -1,4 +1,5 @@
 pub mod Definitions
+pub mod Extending
 pub mod Layout
 pub mod Notation
 pub mod Reading

@@ -28,6 +28,7 @@ macro_rules! try_subject {
 }
 
 pub mod definitions;
+pub mod extending;
 pub mod layout;
 pub mod notation;
 pub mod reading;
@@ -38,6 +39,7 @@ pub mod writing;
 
 use crate::words::first_word;
 use definitions::{Definitions, definitions_named};
+use extending::{Extending, extending_named};
 use ic_laws::OutOfMemory;
 use layout::{Layout, layout_named};
 use notation::{Notation, notation_named};
@@ -57,7 +59,8 @@ pub enum Command<'l> {
     Definitions(Definitions<'l>),
     Notation(Notation<'l>),
     Writing(Writing<'l>),
-    Reading(Reading),
+    Reading(Reading<'l>),
+    Extending(Extending<'l>),
     Styles(Styles<'l>),
     Layout(Layout),
     Tabs(Tabs<'l>),
@@ -91,6 +94,7 @@ fn command_named<'l>(
     try_subject!(notation_named(alloc, name, rest), Command::Notation);
     try_subject!(writing_named(alloc, name, rest), Command::Writing);
     try_subject!(reading_named(alloc, name, rest), Command::Reading);
+    try_subject!(extending_named(alloc, name, rest), Command::Extending);
     try_subject!(styles_named(alloc, name, rest), Command::Styles);
     try_subject!(layout_named(alloc, name, rest), Command::Layout);
     try_subject!(tabs_named(alloc, name, rest), Command::Tabs);

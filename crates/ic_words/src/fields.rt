@@ -7,6 +7,7 @@ ghost use Rattle.ic_machine.specs.Styling.{color_text};
 ghost use Rattle.ic_words.specs.Reply.{AreTexts};
 
 mod cells;
+mod settings;
 mod styles;
 
 use crate::reply::{push_field, push_index, push_number, push_position, push_truth};

@@ -16,6 +16,7 @@ mod word;
 mod words;
 
 pub use command::definitions::Definitions;
+pub use command::extending::Extending;
 pub use command::layout::Layout;
 pub use command::notation::Notation;
 pub use command::reading::Reading;

@@ -28,5 +28,6 @@ pub(crate) fn answer_notation(
         Notation::GetLocale => told(model.get_locale(), reply),
         Notation::GetLanguage => told(model.get_language(), reply),
         Notation::GetTimezone => told(model.get_timezone(), reply),
+        Notation::GetFmtSettings => told(model.get_fmt_settings(), reply),
     }
 }

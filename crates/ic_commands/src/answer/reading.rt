@@ -13,20 +13,32 @@ use ic_words::Reading;
 #[tactic(auto, using(crate::proofs::AnswerLemmas::only_read))]
 pub(crate) fn answer_reading(
     model: &mut Model<'_>,
-    command: Reading,
+    command: Reading<'_>,
     reply: String,
 ) -> Result<String, OutOfMemory>
     requires { string_len reply + reply_room ≤ string_capacity reply }
-    ensures { Answers (OnReading (reading_meant command)) model.old model.new (string_bytes reply)
-        result }
+    ensures { Answers (OnReading (reading_meant command.entry)) model.old model.new
+        (string_bytes reply) result }
 {
     match command {
         Reading::GetCellFormula { sheet, row, column } => told(
             model.get_cell_formula(sheet, row, column),
             reply,
         ),
+        Reading::GetLocalizedCellContent { sheet, row, column } => told(
+            model.get_localized_cell_content(sheet, row, column),
+            reply,
+        ),
+        Reading::GetFormattedCellValue { sheet, row, column } => told(
+            model.get_formatted_cell_value(sheet, row, column),
+            reply,
+        ),
         Reading::GetCellValueByIndex { sheet, row, column } => told(
             model.get_cell_value_by_index(sheet, row, column),
+            reply,
+        ),
+        Reading::GetCellValueByRef { text } => told(
+            model.get_cell_value_by_ref(text.as_str()),
             reply,
         ),
         Reading::GetCellType { sheet, row, column } => told(
@@ -38,5 +50,6 @@ pub(crate) fn answer_reading(
             reply,
         ),
         Reading::GetAllCells => told(model.get_all_cells(), reply),
+        Reading::GetSheetMarkup { sheet } => told(model.get_sheet_markup(sheet), reply),
     }
 }

@@ -23,6 +23,24 @@ pub(crate) fn answer_writing(
         (string_bytes reply) result }
 {
     match command {
+        Writing::SetUserInput {
+            sheet,
+            row,
+            column,
+            text,
+        } => {
+            let text = text.into_string(alloc)?;
+            told(model.set_user_input(sheet, row, column, text), reply)
+        }
+        Writing::UpdateCellWithText {
+            sheet,
+            row,
+            column,
+            text,
+        } => told(
+            model.update_cell_with_text(sheet, row, column, text.as_str()),
+            reply,
+        ),
         Writing::UpdateCellWithFormula {
             sheet,
             row,

@@ -10,3 +10,4 @@ notation_meant (commands.SetTimezone id) = laws.SetTimezone id
 notation_meant commands.GetLocale = laws.GetLocale
 notation_meant commands.GetLanguage = laws.GetLanguage
 notation_meant commands.GetTimezone = laws.GetTimezone
+notation_meant commands.GetFmtSettings = laws.GetFmtSettings

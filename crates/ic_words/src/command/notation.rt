@@ -18,6 +18,7 @@ pub enum Notation<'l> {
     GetLocale,
     GetLanguage,
     GetTimezone,
+    GetFmtSettings,
 }
 
 /// The served command on the locale, the language and the time zone of this name, with the words that are left; inside that
@@ -39,6 +40,7 @@ pub(crate) fn notation_named<'l>(
         "get_locale" => said!(alloc, rest, () => Notation::GetLocale),
         "get_language" => said!(alloc, rest, () => Notation::GetLanguage),
         "get_timezone" => said!(alloc, rest, () => Notation::GetTimezone),
+        "get_fmt_settings" => said!(alloc, rest, () => Notation::GetFmtSettings),
         _ => Ok(None),
     }
 }

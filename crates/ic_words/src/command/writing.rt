@@ -12,6 +12,18 @@ use std::alloc::Global;
 /// A served command that writes a cell.
 #[derive(Drop)]
 pub enum Writing<'l> {
+    SetUserInput {
+        sheet: u32,
+        row: i32,
+        column: i32,
+        text: WordText<'l>,
+    },
+    UpdateCellWithText {
+        sheet: u32,
+        row: i32,
+        column: i32,
+        text: WordText<'l>,
+    },
     UpdateCellWithFormula {
         sheet: u32,
         row: i32,
@@ -44,6 +56,10 @@ pub(crate) fn writing_named<'l>(
     ensures memory { OnErr result (HaveEscape (words_left rest.entry)) }
 {
     match name {
+        "set_user_input" =>
+            said!(alloc, rest, (sheet, (row, (column, (text, ())))) => Writing::SetUserInput { sheet, row, column, text }),
+        "update_cell_with_text" =>
+            said!(alloc, rest, (sheet, (row, (column, (text, ())))) => Writing::UpdateCellWithText { sheet, row, column, text }),
         "update_cell_with_formula" =>
             said!(alloc, rest, (sheet, (row, (column, (text, ())))) => Writing::UpdateCellWithFormula { sheet, row, column, text }),
         "update_cell_with_bool" =>

@@ -1,6 +1,6 @@
-//! Values, types and places of cells, as the fields of replies.
+//! Values, types, places and names of cells, as the fields of replies.
 ghost use Rattle.std.specs.Prelude.{◌≡◌, ◌++◌, OnOk, chars, codes, flat_map, string_bytes, true};
-ghost use Rattle.ic_machine.specs.Fields.{fields_of_place, places_fields, type_field};
+ghost use Rattle.ic_machine.specs.Fields.{fields_of_cell, fields_of_place, optional_cell_fields, places_fields, type_field};
 ghost use Rattle.ic_machine.specs.Reply.{TextField, field_text, field_word};
 ghost use Rattle.ic_machine.specs.subjects.Reading.{type_name, value_fields};
 ghost use Rattle.ic_words.specs.Reply.{AreTexts};
@@ -9,6 +9,7 @@ use crate::fields::Fields;
 use crate::reply::{push_amount, push_field, push_number, push_position, push_truth};
 use ic_cells::{CellIndex, CellType, CellValue};
 use ic_laws::OutOfMemory;
+use ic_refs::CellReferenceIndex;
 
 /// A value: `none`; or `string`, `number` or `boolean`, and in a second field the text, the amount with a dot before its
 /// decimals, or `true` or `false`.
@@ -84,4 +85,29 @@ fn push_place(reply: &mut String, place: CellIndex) -> Result<(), OutOfMemory>
     push_number(reply, Some(place.index))?;
     push_position(reply, place.row)?;
     push_position(reply, place.column)
+}
+
+/// A cell, if there is one, with three fields in this order: the index of its sheet from 0, its row and its column from 1.
+impl Fields for Option<CellReferenceIndex> {
+    ghost fields = { optional_cell_fields };
+
+    ghost memory = { true };
+
+    fn write(&self, reply: &mut String) -> Result<(), OutOfMemory> {
+        match self {
+            Some(cell) => push_cell(reply, *cell),
+            None => Ok(()),
+        }
+    }
+}
+
+/// Appends the three fields of a cell.
+fn push_cell(reply: &mut String, cell: CellReferenceIndex) -> Result<(), OutOfMemory>
+    ensures ok { OnOk result (chars (string_bytes reply.new) ≡ chars (string_bytes reply.old)
+        ++ flat_map field_word (fields_of_cell cell)) }
+    ensures texts { OnOk result (AreTexts (fields_of_cell cell)) }
+{
+    push_number(reply, Some(cell.sheet))?;
+    push_position(reply, cell.row)?;
+    push_position(reply, cell.column)
 }

@@ -1,12 +1,10 @@
-use Rattle.std.proofs.Common.{◌<◌, ℕ, List, IfSome, true, chars, length, map, take, option_map, refl, string_bytes, sym, ap, ap₂, subst, ◌∙◌}
+use Rattle.std.proofs.Common.{◌≡◌, ◌<◌, ℕ, List, None, IfSome, true, chars, length, map, take, option_map, refl, sym, ap, ap₂, subst, ◌∙◌}
 use Rattle.std.specs.List.{slice_get}
 use Rattle.std.proofs.lemmas.Option.{slice_get-map}
 use Rattle.ic_laws.specs.CoreBook.{CellPlace}
 use Rattle.ic_laws.specs.CoreStep.{updated_at}
-use Rattle.ic_laws.specs.FormulaReading.{cell_formula, without_equals}
+use Rattle.ic_laws.specs.FormulaReading.{cell_formula}
 use Rattle.ic_cells.specs.declared.style.Style.{Style}
-use Rattle.ic_grid.specs.Shape.{celled}
-use Rattle.ic_grid.specs.Style.{style_at}
 use Rattle.ic_machine.specs.Styling.{restyled}
 use Rattle.ic_machine.specs.subjects.Writing.{unquoted}
 use Rattle.ic_sheets.proofs.CellLemmas.{stored_pair}
@@ -15,75 +13,61 @@ use Rattle.ic_sheets.specs.declared.sheet.Sheet.{Sheet as HeldSheet}
 use Rattle.ic_book.specs.Book.{ModelState, core_of, notations_in}
 use Rattle.ic_book.specs.Inside.{held, held_state}
 use Rattle.ic_book.specs.LookUps.{LooksUpAsBefore}
-use Rattle.ic_book.specs.Written.{WritesFormula, write_refusal}
+use Rattle.ic_book.specs.Values.{Shows, shown_style}
+use Rattle.ic_book.specs.Written.{WritesFormula, value_refusal}
 use Rattle.ic_book.proofs.GridLemmas.{taken_back}
 use Rattle.ic_book.proofs.HeldLemmas.{book_again, clear_at, entry_at, held_again, is_within, style_within, takes_there, whole_at, whole_updated, written, written_held}
 use Rattle.ic_book.proofs.LookUpLemmas.{look_ups_left}
+use Rattle.ic_book.proofs.ValueLemmas.{refusal_there, shows_there}
 use Rattle.ic_book.proofs.model.Model.write_formula.Goals as goal
 
 pub without_quote-requires : goal.without_quote-requires
 without_quote-requires c =
     let sheet = c.args.sheet in
     let place : CellPlace = (c.args.row, c.args.column) in
-    let text = chars (string_bytes c.args.formula) in
+    let body = chars c.args.body.now in
     let cell = stored_pair c.args.row c.args.column c.ranges.row c.ranges.column in
-    let none =
-    ap (λ (m : ModelState). write_refusal m.book sheet place text) c.self.view_is
-    ∙ ap (λ t. write_refusal c.args.self.now.book sheet place (chars t)) (sym c.as_str.ensures.value)
-    ∙ ap (λ (p : CellPlace). write_refusal c.args.self.now.book sheet p (chars c.as_str.result.now)) (sym cell)
-    ∙ c.in_ok-body.ensures.refused in
+    let none = ap (λ (m : ModelState). value_refusal m.book sheet c.args.row c.args.column) c.self.view_is ∙ refusal_there c.args.self.now.book sheet c.args.row c.args.column _ (stored_pair c.args.row c.args.column c.ranges.row c.ranges.column) None c.in_ok-shown.ensures.refused in
     let entry = c.index-as_slice-sheet.result in
-    let there = entry_at c.self.inside.about c.self.inside.sheets c.self.inside.names c.self.inside.locale.now c.self.inside.language.now c.self.inside.tables.now c.self.invariant sheet place text none c.as_slice.result.now entry c.as_slice.ensures.sheets c.index-as_slice-sheet.is in
+    let there = entry_at c.self.inside.about c.self.inside.sheets c.self.inside.names c.self.inside.locale.now c.self.inside.language.now c.self.inside.tables.now c.self.invariant sheet place none c.as_slice.result.now entry c.as_slice.ensures.sheets c.index-as_slice-sheet.is in
     let shown =
-    c.style_at-shown.ensures
-    ∙ ap (style_at celled entry.grid.cells entry.grid.rows entry.grid.columns) cell in
+    subst (λ o. IfSome o (λ (s : BookSheet). c.in_ok-shown.shown ≡ shown_style s c.args.row c.args.column)) (slice_get-map sheet_of c.self.inside.sheets sheet ∙ ap (option_map sheet_of) there)
+    (subst (λ (m : ModelState). Shows m.book sheet c.args.row c.args.column c.in_ok-shown.shown) (sym c.self.view_is) (shows_there c.args.self.now.book sheet c.args.row c.args.column c.in_ok-shown.shown _ (stored_pair c.args.row c.args.column c.ranges.row c.ranges.column) c.in_ok-shown.ensures.shows)) in
     subst (λ k. k < length c.self.inside.about.styles) (sym shown) (style_within c.self.inside.about c.self.inside.sheets c.self.inside.names c.self.inside.locale.now c.self.inside.language.now c.self.inside.tables.now c.self.invariant sheet place entry there)
 
 pub write-requires-clause-within : goal.write-requires-clause-within
 write-requires-clause-within c =
     let sheet = c.args.sheet in
     let place : CellPlace = (c.args.row, c.args.column) in
-    let text = chars (string_bytes c.args.formula) in
+    let body = chars c.args.body.now in
     let cell = stored_pair c.args.row c.args.column c.ranges.row c.ranges.column in
-    let none =
-    ap (λ (m : ModelState). write_refusal m.book sheet place text) c.self.view_is
-    ∙ ap (λ t. write_refusal c.args.self.now.book sheet place (chars t)) (sym c.as_str.ensures.value)
-    ∙ ap (λ (p : CellPlace). write_refusal c.args.self.now.book sheet p (chars c.as_str.result.now)) (sym cell)
-    ∙ c.in_ok-body.ensures.refused in
-    is_within c.self.inside.about c.self.inside.sheets c.self.inside.names c.self.inside.locale.now c.self.inside.language.now c.self.inside.tables.now c.self.invariant sheet place text none
+    let none = ap (λ (m : ModelState). value_refusal m.book sheet c.args.row c.args.column) c.self.view_is ∙ refusal_there c.args.self.now.book sheet c.args.row c.args.column _ (stored_pair c.args.row c.args.column c.ranges.row c.ranges.column) None c.in_ok-shown.ensures.refused in
+    is_within c.self.inside.about c.self.inside.sheets c.self.inside.names c.self.inside.locale.now c.self.inside.language.now c.self.inside.tables.now c.self.invariant sheet place none
 
 pub write-requires-clause-takes : goal.write-requires-clause-takes
 write-requires-clause-takes c =
     let sheet = c.args.sheet in
     let place : CellPlace = (c.args.row, c.args.column) in
-    let text = chars (string_bytes c.args.formula) in
+    let body = chars c.args.body.now in
     let cell = stored_pair c.args.row c.args.column c.ranges.row c.ranges.column in
-    let none =
-    ap (λ (m : ModelState). write_refusal m.book sheet place text) c.self.view_is
-    ∙ ap (λ t. write_refusal c.args.self.now.book sheet place (chars t)) (sym c.as_str.ensures.value)
-    ∙ ap (λ (p : CellPlace). write_refusal c.args.self.now.book sheet p (chars c.as_str.result.now)) (sym cell)
-    ∙ c.in_ok-body.ensures.refused in
+    let none = ap (λ (m : ModelState). value_refusal m.book sheet c.args.row c.args.column) c.self.view_is ∙ refusal_there c.args.self.now.book sheet c.args.row c.args.column _ (stored_pair c.args.row c.args.column c.ranges.row c.ranges.column) None c.in_ok-shown.ensures.refused in
     let entry = c.index-as_slice-sheet.result in
-    let there = entry_at c.self.inside.about c.self.inside.sheets c.self.inside.names c.self.inside.locale.now c.self.inside.language.now c.self.inside.tables.now c.self.invariant sheet place text none c.as_slice.result.now entry c.as_slice.ensures.sheets c.index-as_slice-sheet.is in
+    let there = entry_at c.self.inside.about c.self.inside.sheets c.self.inside.names c.self.inside.locale.now c.self.inside.language.now c.self.inside.tables.now c.self.invariant sheet place none c.as_slice.result.now entry c.as_slice.ensures.sheets c.index-as_slice-sheet.is in
     subst (λ (p : CellPlace). IfSome (slice_get c.self.inside.sheets sheet) (λ (s : HeldSheet). TakesCell p s.grid)) (sym cell)
-    (takes_there c.self.inside.about c.self.inside.sheets c.self.inside.names c.self.inside.locale.now c.self.inside.language.now c.self.inside.tables.now c.self.invariant sheet place text none entry there)
+    (takes_there c.self.inside.about c.self.inside.sheets c.self.inside.names c.self.inside.locale.now c.self.inside.language.now c.self.inside.tables.now c.self.invariant sheet place none entry there)
 
 pub invariant_of-self-in-Ok : goal.invariant_of-self-in-Ok
 invariant_of-self-in-Ok c =
     let sheet = c.args.sheet in
     let place : CellPlace = (c.args.row, c.args.column) in
-    let text = chars (string_bytes c.args.formula) in
+    let body = chars c.args.body.now in
     let cell = stored_pair c.args.row c.args.column c.ranges.row c.ranges.column in
-    let none =
-    ap (λ (m : ModelState). write_refusal m.book sheet place text) c.self.view_is
-    ∙ ap (λ t. write_refusal c.args.self.now.book sheet place (chars t)) (sym c.as_str.ensures.value)
-    ∙ ap (λ (p : CellPlace). write_refusal c.args.self.now.book sheet p (chars c.as_str.result.now)) (sym cell)
-    ∙ c.in_ok-body.ensures.refused in
+    let none = ap (λ (m : ModelState). value_refusal m.book sheet c.args.row c.args.column) c.self.view_is ∙ refusal_there c.args.self.now.book sheet c.args.row c.args.column _ (stored_pair c.args.row c.args.column c.ranges.row c.ranges.column) None c.in_ok-shown.ensures.refused in
     let entry = c.index-as_slice-sheet.result in
-    let there = entry_at c.self.inside.about c.self.inside.sheets c.self.inside.names c.self.inside.locale.now c.self.inside.language.now c.self.inside.tables.now c.self.invariant sheet place text none c.as_slice.result.now entry c.as_slice.ensures.sheets c.index-as_slice-sheet.is in
+    let there = entry_at c.self.inside.about c.self.inside.sheets c.self.inside.names c.self.inside.locale.now c.self.inside.language.now c.self.inside.tables.now c.self.invariant sheet place none c.as_slice.result.now entry c.as_slice.ensures.sheets c.index-as_slice-sheet.is in
     let shown =
-    c.style_at-shown.ensures
-    ∙ ap (style_at celled entry.grid.cells entry.grid.rows entry.grid.columns) cell in
+    subst (λ o. IfSome o (λ (s : BookSheet). c.in_ok-shown.shown ≡ shown_style s c.args.row c.args.column)) (slice_get-map sheet_of c.self.inside.sheets sheet ∙ ap (option_map sheet_of) there)
+    (subst (λ (m : ModelState). Shows m.book sheet c.args.row c.args.column c.in_ok-shown.shown) (sym c.self.view_is) (shows_there c.args.self.now.book sheet c.args.row c.args.column c.in_ok-shown.shown _ (stored_pair c.args.row c.args.column c.ranges.row c.ranges.column) c.in_ok-shown.ensures.shows)) in
     let book = c.args.self.now.book in
     let styles = c.self.inside.about.styles in
     let pool = c.in-Ok.ensures.ok.0 in
@@ -92,33 +76,28 @@ invariant_of-self-in-Ok c =
     let number = c.in_ok-style.style in
     let is =
     c.in_ok-formula.ensures
-    ∙ ap (λ (p : CellPlace). cell_formula (notations_in book) (core_of book) entry.id p.0 p.1 (chars c.in_ok-body.body.now)) cell
-    ∙ ap (cell_formula (notations_in book) (core_of book) entry.id c.args.row c.args.column) (c.in_ok-body.ensures.body ∙ ap (λ b. without_equals (chars b)) c.as_str.ensures.value)
-    ∙ ap (λ (m : ModelState). cell_formula (notations_in m.book) (core_of m.book) entry.id c.args.row c.args.column (without_equals text)) (sym c.self.view_is) in
+    ∙ ap (λ (p : CellPlace). cell_formula (notations_in book) (core_of book) entry.id p.0 p.1 body) cell
+    ∙ ap (λ (m : ModelState). cell_formula (notations_in m.book) (core_of m.book) entry.id c.args.row c.args.column body) (sym c.self.view_is) in
     let numbered = c.in_ok-style.ensures.number ∙ ap (λ k. (restyled unquoted k styles).number) shown in
     let styled = c.in_ok-style.ensures.styles ∙ ap (λ k. (restyled unquoted k styles).styles) shown in
     let after =
     c.in-Ok.ensures.ok.3
     ∙ ap (λ (p : CellPlace). updated_at (λ (s : HeldSheet). record s { pool = record { formulas = pool; is_whole = true }; grid = with_cell_in p (formula_cell kind k number) s.grid }) sheet c.self.inside.sheets) cell in
-    written_held c.self.inside.about c.self.inside.sheets c.self.inside.names c.self.inside.locale.now c.self.inside.language.now c.self.inside.tables.now c.self.invariant c.write.new.self sheet entry there place text c.in_ok-formula.formula kind number c.without_quote.new.styles k pool c.in-Ok.ensures.ok.2 is c.kind_of-kind.ensures numbered styled after
-    (clear_at c.self.inside.about c.self.inside.sheets c.self.inside.names c.self.inside.locale.now c.self.inside.language.now c.self.inside.tables.now c.self.invariant sheet place text none entry there)
+    written_held c.self.inside.about c.self.inside.sheets c.self.inside.names c.self.inside.locale.now c.self.inside.language.now c.self.inside.tables.now c.self.invariant c.write.new.self sheet entry there place body c.in_ok-formula.formula kind number c.without_quote.new.styles k pool c.in-Ok.ensures.ok.2 is c.kind_of-kind.ensures numbered styled after
+    (clear_at c.self.inside.about c.self.inside.sheets c.self.inside.names c.self.inside.locale.now c.self.inside.language.now c.self.inside.tables.now c.self.invariant sheet place none entry there)
 
 pub returns-in-Ok-clause-written : goal.returns-in-Ok-clause-written
 returns-in-Ok-clause-written c =
     let sheet = c.args.sheet in
     let place : CellPlace = (c.args.row, c.args.column) in
-    let text = chars (string_bytes c.args.formula) in
+    let body = chars c.args.body.now in
     let cell = stored_pair c.args.row c.args.column c.ranges.row c.ranges.column in
-    let none =
-    ap (λ (m : ModelState). write_refusal m.book sheet place text) c.self.view_is
-    ∙ ap (λ t. write_refusal c.args.self.now.book sheet place (chars t)) (sym c.as_str.ensures.value)
-    ∙ ap (λ (p : CellPlace). write_refusal c.args.self.now.book sheet p (chars c.as_str.result.now)) (sym cell)
-    ∙ c.in_ok-body.ensures.refused in
+    let none = ap (λ (m : ModelState). value_refusal m.book sheet c.args.row c.args.column) c.self.view_is ∙ refusal_there c.args.self.now.book sheet c.args.row c.args.column _ (stored_pair c.args.row c.args.column c.ranges.row c.ranges.column) None c.in_ok-shown.ensures.refused in
     let entry = c.index-as_slice-sheet.result in
-    let there = entry_at c.self.inside.about c.self.inside.sheets c.self.inside.names c.self.inside.locale.now c.self.inside.language.now c.self.inside.tables.now c.self.invariant sheet place text none c.as_slice.result.now entry c.as_slice.ensures.sheets c.index-as_slice-sheet.is in
+    let there = entry_at c.self.inside.about c.self.inside.sheets c.self.inside.names c.self.inside.locale.now c.self.inside.language.now c.self.inside.tables.now c.self.invariant sheet place none c.as_slice.result.now entry c.as_slice.ensures.sheets c.index-as_slice-sheet.is in
     let shown =
-    c.style_at-shown.ensures
-    ∙ ap (style_at celled entry.grid.cells entry.grid.rows entry.grid.columns) cell in
+    subst (λ o. IfSome o (λ (s : BookSheet). c.in_ok-shown.shown ≡ shown_style s c.args.row c.args.column)) (slice_get-map sheet_of c.self.inside.sheets sheet ∙ ap (option_map sheet_of) there)
+    (subst (λ (m : ModelState). Shows m.book sheet c.args.row c.args.column c.in_ok-shown.shown) (sym c.self.view_is) (shows_there c.args.self.now.book sheet c.args.row c.args.column c.in_ok-shown.shown _ (stored_pair c.args.row c.args.column c.ranges.row c.ranges.column) c.in_ok-shown.ensures.shows)) in
     let book = c.args.self.now.book in
     let styles = c.self.inside.about.styles in
     let pool = c.in-Ok.ensures.ok.0 in
@@ -127,9 +106,8 @@ returns-in-Ok-clause-written c =
     let number = c.in_ok-style.style in
     let is =
     c.in_ok-formula.ensures
-    ∙ ap (λ (p : CellPlace). cell_formula (notations_in book) (core_of book) entry.id p.0 p.1 (chars c.in_ok-body.body.now)) cell
-    ∙ ap (cell_formula (notations_in book) (core_of book) entry.id c.args.row c.args.column) (c.in_ok-body.ensures.body ∙ ap (λ b. without_equals (chars b)) c.as_str.ensures.value)
-    ∙ ap (λ (m : ModelState). cell_formula (notations_in m.book) (core_of m.book) entry.id c.args.row c.args.column (without_equals text)) (sym c.self.view_is) in
+    ∙ ap (λ (p : CellPlace). cell_formula (notations_in book) (core_of book) entry.id p.0 p.1 body) cell
+    ∙ ap (λ (m : ModelState). cell_formula (notations_in m.book) (core_of m.book) entry.id c.args.row c.args.column body) (sym c.self.view_is) in
     let numbered = c.in_ok-style.ensures.number ∙ ap (λ k. (restyled unquoted k styles).number) shown in
     let styled = c.in_ok-style.ensures.styles ∙ ap (λ k. (restyled unquoted k styles).styles) shown in
     let after =
@@ -137,9 +115,9 @@ returns-in-Ok-clause-written c =
     ∙ ap (λ (p : CellPlace). updated_at (λ (s : HeldSheet). record s { pool = record { formulas = pool; is_whole = true }; grid = with_cell_in p (formula_cell kind k number) s.grid }) sheet c.self.inside.sheets) cell in
     let now = held c.self.inside.about c.self.inside.sheets c.self.inside.names c.self.inside.locale.now c.self.inside.language.now c.self.inside.tables.now in
     let new = held (record c.self.inside.about { styles = c.without_quote.new.styles }) c.write.new.self c.self.inside.names c.self.inside.locale.now c.self.inside.language.now c.self.inside.tables.now in
-    subst (λ (m : ModelState). IfSome (slice_get m.book.sheets sheet) (λ s. WritesFormula sheet s place text m.book new)) c.self.view_is
-    (subst (λ o. IfSome o (λ (s : BookSheet). WritesFormula sheet s place text now new)) (sym (slice_get-map sheet_of c.self.inside.sheets sheet ∙ ap (option_map sheet_of) there))
-    (written c.self.inside.about c.self.inside.sheets c.self.inside.names c.self.inside.locale.now c.self.inside.language.now c.self.inside.tables.now c.self.invariant c.write.new.self sheet entry there place text c.in_ok-formula.formula kind number c.without_quote.new.styles k pool c.in-Ok.ensures.ok.2 is c.kind_of-kind.ensures numbered styled after))
+    subst (λ (m : ModelState). IfSome (slice_get m.book.sheets sheet) (λ s. WritesFormula sheet s place body m.book new)) c.self.view_is
+    (subst (λ o. IfSome o (λ (s : BookSheet). WritesFormula sheet s place body now new)) (sym (slice_get-map sheet_of c.self.inside.sheets sheet ∙ ap (option_map sheet_of) there))
+    (written c.self.inside.about c.self.inside.sheets c.self.inside.names c.self.inside.locale.now c.self.inside.language.now c.self.inside.tables.now c.self.invariant c.write.new.self sheet entry there place body c.in_ok-formula.formula kind number c.without_quote.new.styles k pool c.in-Ok.ensures.ok.2 is c.kind_of-kind.ensures numbered styled after))
 
 pub returns-in-Ok-clause-looks_up : goal.returns-in-Ok-clause-looks_up
 returns-in-Ok-clause-looks_up c =
@@ -149,29 +127,25 @@ pub returns-in-Ok-clause-whole : goal.returns-in-Ok-clause-whole
 returns-in-Ok-clause-whole c =
     let sheet = c.args.sheet in
     let place : CellPlace = (c.args.row, c.args.column) in
-    let text = chars (string_bytes c.args.formula) in
+    let body = chars c.args.body.now in
     let cell = stored_pair c.args.row c.args.column c.ranges.row c.ranges.column in
-    let none =
-    ap (λ (m : ModelState). write_refusal m.book sheet place text) c.self.view_is
-    ∙ ap (λ t. write_refusal c.args.self.now.book sheet place (chars t)) (sym c.as_str.ensures.value)
-    ∙ ap (λ (p : CellPlace). write_refusal c.args.self.now.book sheet p (chars c.as_str.result.now)) (sym cell)
-    ∙ c.in_ok-body.ensures.refused in
+    let none = ap (λ (m : ModelState). value_refusal m.book sheet c.args.row c.args.column) c.self.view_is ∙ refusal_there c.args.self.now.book sheet c.args.row c.args.column _ (stored_pair c.args.row c.args.column c.ranges.row c.ranges.column) None c.in_ok-shown.ensures.refused in
     let entry = c.index-as_slice-sheet.result in
-    let there = entry_at c.self.inside.about c.self.inside.sheets c.self.inside.names c.self.inside.locale.now c.self.inside.language.now c.self.inside.tables.now c.self.invariant sheet place text none c.as_slice.result.now entry c.as_slice.ensures.sheets c.index-as_slice-sheet.is in
+    let there = entry_at c.self.inside.about c.self.inside.sheets c.self.inside.names c.self.inside.locale.now c.self.inside.language.now c.self.inside.tables.now c.self.invariant sheet place none c.as_slice.result.now entry c.as_slice.ensures.sheets c.index-as_slice-sheet.is in
     ap (λ (ws : List HeldSheet). slice_get (map (λ (s : HeldSheet). s.pool.is_whole) ws) sheet) c.in-Ok.ensures.ok.3 ∙ whole_at _ (λ s. refl) sheet c.self.inside.sheets entry there
 
 pub invariant_of-self-in-Err : goal.invariant_of-self-in-Err
 invariant_of-self-in-Err c =
-    let same = c.truncate.ensures ∙ ap₂ (λ (n : ℕ) (xs : List Style). take n xs) c.len-count.ensures.exact c.in_ok-style.ensures.styles ∙ taken_back c.self.inside.about.styles c.style_at-shown.result in
+    let same = c.truncate.ensures ∙ ap₂ (λ (n : ℕ) (xs : List Style). take n xs) c.len-count.ensures.exact c.in_ok-style.ensures.styles ∙ taken_back c.self.inside.about.styles c.in_ok-shown.shown in
     held_again c.self.inside.about c.self.inside.sheets c.self.inside.names c.self.inside.locale.now c.self.inside.language.now c.self.inside.tables.now c.self.invariant c.truncate.new.self c.write.new.self same c.in-Err.ensures.err
 
-pub returns-clause-err : goal.returns-clause-err
-returns-clause-err c =
-    let same = c.truncate.ensures ∙ ap₂ (λ (n : ℕ) (xs : List Style). take n xs) c.len-count.ensures.exact c.in_ok-style.ensures.styles ∙ taken_back c.self.inside.about.styles c.style_at-shown.result in
+pub returns-in-Err-clause-err : goal.returns-in-Err-clause-err
+returns-in-Err-clause-err c =
+    let same = c.truncate.ensures ∙ ap₂ (λ (n : ℕ) (xs : List Style). take n xs) c.len-count.ensures.exact c.in_ok-style.ensures.styles ∙ taken_back c.self.inside.about.styles c.in_ok-shown.shown in
     book_again c.self.inside.about c.self.inside.sheets c.self.inside.names c.self.inside.locale.now c.self.inside.language.now c.self.inside.tables.now c.self.invariant c.truncate.new.self c.write.new.self same c.in-Err.ensures.err
     ∙ ap (λ (m : ModelState). m.book) c.self.view_is
 
-pub returns-clause-left : goal.returns-clause-left
-returns-clause-left c =
+pub returns-in-Err-clause-left : goal.returns-in-Err-clause-left
+returns-in-Err-clause-left c =
     subst (λ (m : ModelState). LooksUpAsBefore c.args.sheet m (held_state (record c.self.inside.about { styles = c.truncate.new.self }) c.write.new.self c.self.inside.names c.self.inside.locale.now c.self.inside.language.now c.self.inside.tables.now)) c.self.view_is
     (look_ups_left c.args.sheet c.self.inside.sheets c.write.new.self c.in-Err.ensures.looks_up)

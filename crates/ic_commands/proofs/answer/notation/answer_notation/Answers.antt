@@ -21,3 +21,6 @@ returns-in-GetLanguage c = only_read c.told-in-GetLanguage.ensures c.get_languag
 
 pub returns-in-GetTimezone : goal.returns-in-GetTimezone
 returns-in-GetTimezone c = only_read c.told-in-GetTimezone.ensures c.get_timezone.ensures.does (search rules)
+
+pub returns-in-GetFmtSettings : goal.returns-in-GetFmtSettings
+returns-in-GetFmtSettings c = only_read c.told-in-GetFmtSettings.ensures c.get_fmt_settings.ensures.does (search rules)

@@ -1,0 +1,41 @@
+use Rattle.std.proofs.Common.{[], refl, ap, subst, ◌∙◌}
+use Rattle.ic_laws.specs.CoreBook.{CellPlace}
+use Rattle.ic_machine.specs.Reply.{text_field}
+use Rattle.ic_machine.specs.subjects.Reading.{content_step}
+use Rattle.ic_sheets.proofs.CellLemmas.{stored_pair}
+use Rattle.ic_sheets.specs.Sheet.{sheet_of}
+use Rattle.ic_book.specs.Book.{IsValidBook, ModelState}
+use Rattle.ic_book.specs.Does.{Wanted}
+use Rattle.ic_book.specs.Fields.{string_only}
+use Rattle.ic_book.specs.Shown.{content_shown}
+use Rattle.ic_book.specs.Whole.{whole_of}
+use Rattle.ic_book.proofs.ReadLemmas.{sheet_told}
+use Rattle.ic_book.proofs.ShownLemmas.{content_told}
+use Rattle.ic_book.proofs.StyleLemmas.{passes_memory, passes_missing}
+use Rattle.ic_book.proofs.model.Model.get_localized_cell_content.Goals as goal
+
+pub returns-in_err-worksheet : goal.returns-in_err-worksheet
+unfolding content_step
+returns-in_err-worksheet c = record {
+  does =
+      passes_missing c.args.self.now (subst (λ (m : ModelState). IsValidBook m.book) c.self.view_is c.self.invariant.valid) c.args.sheet Wanted string_only [] (content_told (whole_of c.args.self.now.book) (c.args.row, c.args.column)) c.in_err-worksheet.field-0.0 c.in_err-worksheet.ensures
+      c.from_residual.result c.from_residual.ensures;
+}
+
+pub content_in-requires : goal.content_in-requires
+content_in-requires c = (c.args.sheet, c.in_ok-worksheet.ensures)
+
+pub returns-in_err-content_in : goal.returns-in_err-content_in
+unfolding content_step
+returns-in_err-content_in c = record {
+  does =
+      passes_memory c.args.self.now (subst (λ (m : ModelState). IsValidBook m.book) c.self.view_is c.self.invariant.valid) c.args.sheet string_only [] (content_told (whole_of c.args.self.now.book) (c.args.row, c.args.column)) (sheet_of c.in_ok-worksheet.worksheet.now) c.in_ok-worksheet.ensures refl
+      c.from_residual-in_err-content_in.result c.from_residual-in_err-content_in.ensures;
+}
+
+pub returns : goal.returns
+unfolding content_step
+returns c = record {
+  does =
+      sheet_told c.args.self.now c.args.sheet (subst (λ (m : ModelState). IsValidBook m.book) c.self.view_is c.self.invariant.valid) Wanted string_only [] (content_told (whole_of c.args.self.now.book) (c.args.row, c.args.column)) (sheet_of c.in_ok-worksheet.worksheet.now) c.in_ok-worksheet.ensures refl c.in_ok-content_in.field-0 (ap text_field (c.in_ok-content_in.ensures ∙ ap (λ (p : CellPlace). content_shown c.args.self.now.book (sheet_of c.in_ok-worksheet.worksheet.now) p) (stored_pair c.args.row c.args.column c.ranges.row c.ranges.column)));
+}

@@ -1,0 +1,15 @@
+use Rattle.std.proofs.Common.{chars, sym, ap, ◌∙◌}
+use Rattle.ic_input.specs.Typed.{needs_quoting}
+use Rattle.ic_input.specs.declared.input.Typed.{Typed}
+use Rattle.ic_machine.specs.InForce.{typed_in}
+use Rattle.ic_book.specs.Book.{ModelState}
+use Rattle.ic_book.specs.Whole.{whole_of}
+use Rattle.ic_book.proofs.InForceLemmas.{typed_is}
+use Rattle.ic_book.proofs.model.Model.needs_quote.Goals as goal
+
+pub returns : goal.returns
+returns c =
+    c.in-Ok.ensures.value
+    ∙ ap (λ (t : Typed). needs_quoting (chars c.args.text.now) t)
+    (sym (typed_is c.self.inside.about c.self.inside.sheets c.self.inside.names c.self.inside.locale.now c.self.inside.language.now c.self.inside.tables.now c.self.invariant c.get_default_language-english.result.now c.get_default_language-english.ensures.found (chars c.args.text.now))
+    ∙ ap (λ (m : ModelState). typed_in (whole_of m.book) (chars c.args.text.now)) c.self.view_is)

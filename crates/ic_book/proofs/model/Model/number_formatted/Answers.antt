@@ -1,0 +1,16 @@
+use Rattle.std.proofs.Common.{chars, ap, ◌∙◌}
+use Rattle.std.proofs.lemmas.Result.{IfOk-weaker}
+use Rattle.ic_machine.specs.InForce.{formatted_in}
+use Rattle.ic_book.specs.Book.{ModelState}
+use Rattle.ic_book.specs.Whole.{whole_of}
+use Rattle.ic_book.proofs.FormatLemmas.{formatted_is}
+use Rattle.ic_book.proofs.ShownLemmas.{formatted_there}
+use Rattle.ic_book.proofs.model.Model.number_formatted.Goals as goal
+
+pub returns : goal.returns
+returns c =
+    IfOk-weaker c.format_amount.result _ _
+    (λ text h. formatted_is _ _ _ _ h
+    ∙ formatted_there _ c.self.invariant.valid _ _ c.self.invariant.locale_found c.self.invariant.language_found (chars c.args.code.now) c.args.amount
+    ∙ ap (λ (m : ModelState). formatted_in (whole_of m.book) (chars c.args.code.now) c.args.amount) c.self.view_is)
+    c.format_amount.ensures.shown

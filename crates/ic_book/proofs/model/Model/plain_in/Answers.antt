@@ -1,0 +1,29 @@
+use Rattle.std.proofs.Common.{None, Option, sym, ap, subst, ◌∙◌}
+use Rattle.std.specs.Str.{chars}
+use Rattle.std.proofs.lemmas.Result.{IfOk-weaker}
+use Rattle.ic_laws.specs.CoreBook.{CellPlace}
+use Rattle.std.specs.FinMap as finite
+use Rattle.std.specs.Prelude.{option_copied}
+use Rattle.ic_cells.specs.declared.cell.Cell.{Cell}
+use Rattle.ic_sheets.proofs.CellLemmas.{stored_pair}
+use Rattle.ic_sheets.specs.Sheet.{sheet_of}
+use Rattle.ic_book.specs.Book.{IsValidBook, ModelState}
+use Rattle.ic_book.specs.Markup.{plain_shown}
+use Rattle.ic_book.proofs.MarkupLemmas.{plain_there}
+use Rattle.ic_book.proofs.model.Model.plain_in.Goals as goal
+
+pub cell_plain-requires-clause-there : goal.cell_plain-requires-clause-there
+cell_plain-requires-clause-there c = sym c.get.ensures ∙ ap option_copied c.in-Some.is
+
+pub returns-in-Some : goal.returns-in-Some
+returns-in-Some c =
+    IfOk-weaker c.cell_plain.result _ _
+    (λ text e. e ∙ ap (λ (p : CellPlace). plain_shown c.args.self.now.book (sheet_of c.args.worksheet.now) p) (stored_pair c.args.row c.args.column c.ranges.row c.ranges.column))
+    c.cell_plain.ensures
+
+pub returns-in-None : goal.returns-in-None
+unfolding chars
+returns-in-None c =
+    ap chars c.new.ensures.bytes
+    ∙ plain_there c.args.self.now (subst (λ (m : ModelState). IsValidBook m.book) c.self.view_is c.self.invariant.valid) (sheet_of c.args.worksheet.now) c.requires (c.args.row, c.args.column) None
+    (ap (finite.get c.args.worksheet.now.grid.cells) (sym (stored_pair c.args.row c.args.column c.ranges.row c.ranges.column)) ∙ sym c.get.ensures ∙ ap option_copied c.in-None.is)

@@ -1,0 +1,49 @@
+use Rattle.std.proofs.Common.{◌∙◌, None, Some, chars, inl, refl, string_bytes, ap, subst}
+use Rattle.ic_laws.specs.CoreBook.{CellPlace}
+use Rattle.ic_machine.specs.Book as machine
+use Rattle.ic_machine.specs.Book.{Stepped}
+use Rattle.ic_machine.specs.InForce.{typed_in}
+use Rattle.ic_machine.specs.subjects.Writing.{input_step}
+use Rattle.ic_sheets.proofs.CellLemmas.{stored_pair}
+use Rattle.ic_book.specs.Book.{whole_of}
+use Rattle.ic_book.specs.Does.{DoesStep, WantedIn}
+use Rattle.ic_book.specs.Fields.{no_fields}
+use Rattle.ic_book.specs.Refused.{refusal_of}
+use Rattle.ic_book.specs.Values.{typed_step}
+use Rattle.ic_book.proofs.CellReads.{of_error}
+use Rattle.ic_book.proofs.TypedSteps.{input_is, input_told, input_wants}
+use Rattle.ic_book.proofs.ValueLemmas.{refusal_there}
+use Rattle.ic_book.proofs.model.Model.set_user_input.Goals as goal
+
+pub returns-in_err-style_to_write-clause-does : goal.returns-in_err-style_to_write-clause-does
+returns-in_err-style_to_write-clause-does c =
+    let now = c.args.self.now in
+    let text = chars (string_bytes c.args.value) in
+    let t = c.in_err-style_to_write.ensures.refused in
+    of_error (λ r. DoesStep WantedIn (input_step c.args.sheet (c.args.row, c.args.column) text (whole_of now.book)) no_fields r now now) c.from_residual.result c.from_residual.ensures
+    (λ f same. input_told now c.style_to_write.ensures.valid c.args.sheet c.args.row c.args.column text no_fields f (t.0, ap refusal_of same ∙ t.1, refusal_there now.book c.args.sheet c.args.row c.args.column _ (stored_pair c.args.row c.args.column c.ranges.row c.ranges.column) (Some t.0) t.2))
+
+pub returns-in_err-typed-clause-does : goal.returns-in_err-typed-clause-does
+returns-in_err-typed-clause-does c =
+    let now = c.args.self.now in
+    let text = chars (string_bytes c.args.value) in
+    of_error (λ r. DoesStep WantedIn (input_step c.args.sheet (c.args.row, c.args.column) text (whole_of now.book)) no_fields r now now) c.from_residual-in_err-typed.result c.from_residual-in_err-typed.ensures
+    (λ f out. input_wants now c.style_to_write.ensures.valid c.args.sheet c.args.row c.args.column text no_fields (refusal_there now.book c.args.sheet c.args.row c.args.column _ (stored_pair c.args.row c.args.column c.ranges.row c.ranges.column) None c.in_ok-style_to_write.ensures.refused) f out)
+
+pub returns-in_err-style_to_write-clause-looks_up : goal.returns-in_err-style_to_write-clause-looks_up
+returns-in_err-style_to_write-clause-looks_up c = inl refl
+
+pub returns-in_err-typed-clause-looks_up : goal.returns-in_err-typed-clause-looks_up
+returns-in_err-typed-clause-looks_up c = inl refl
+
+pub returns-clause-does : goal.returns-clause-does
+returns-clause-does c =
+    let old = c.args.self.now in
+    let text = chars (string_bytes c.args.value) in
+    let is = c.in_ok-typed.ensures ∙ ap (λ b. typed_in (whole_of old.book) (chars b)) c.as_str.ensures.value in
+    subst (λ (made : Stepped machine.Book). DoesStep WantedIn made no_fields c.write_typed.result old c.write_typed.new.self)
+    (input_is (whole_of old.book) c.args.sheet c.args.row c.args.column text c.in_ok-typed.typed is)
+    (subst (λ (p : CellPlace). DoesStep WantedIn (typed_step (whole_of old.book) c.args.sheet p.0 p.1 c.in_ok-typed.typed) no_fields c.write_typed.result old c.write_typed.new.self) (stored_pair c.args.row c.args.column c.ranges.row c.ranges.column) c.write_typed.ensures.does)
+
+pub returns-clause-looks_up : goal.returns-clause-looks_up
+returns-clause-looks_up c = c.write_typed.ensures.looks_up

@@ -1,0 +1,331 @@
+//! What cells show: so that it can be typed again, and by their formats.
+ghost use Rattle.std.specs.Prelude.{◌≡◌, ◌<◌, ℕ, List, IfOk, Some, chars, length, option_and_then, option_map, string_bytes};
+ghost use Rattle.std.specs.FinMap as finite;
+ghost use Rattle.std.specs.List.{slice_get};
+ghost use Rattle.ic_cells.specs.Cell.{formula_of, string_at, style_of};
+ghost use Rattle.ic_input.specs.Typed.{needs_quoting};
+ghost use Rattle.ic_machine.specs.InForce.{formatted_in, is_number, is_text, shown_number, shown_words, typed_in};
+ghost use Rattle.ic_machine.specs.subjects.Reading.{GetFormattedCellValue, GetLocalizedCellContent, reading_step};
+ghost use Rattle.ic_sheets.specs.Sheet.{sheet_of};
+ghost use Rattle.ic_book.specs.Does.{Does};
+ghost use Rattle.ic_book.specs.Fields.{string_only};
+ghost use Rattle.ic_book.specs.Shown.{StandsIn, cell_formatted, code_at, content_formatted, content_shown, date_shown, formula_number, localized, number_kept, spill_number, spill_text, text_kept, value_shown};
+ghost use Rattle.ic_book.specs.Whole.{whole_of};
+
+use crate::formulas::after_sign;
+use crate::{BookError, Model};
+use ic_cells::{Cell, FormulaValue, SpillValue};
+use ic_input::{Typed, amount_text, classify, format_amount, is_date_code, value_needs_quoting};
+use ic_laws::scan::is_nothing;
+use ic_laws::{Amount, Formula, OutOfMemory, Text};
+use ic_sheets::Sheet;
+
+impl<'a> Model<'a> {
+    /// What is shown of the cell at a row and a column, both from 1, of the sheet at an index, from 0, so that typing it
+    /// there gives the same: a formula as `get_cell_formula` shows it; a number as its shortest decimal, or as its date
+    /// where its code is one of dates and that date, typed, is the number; the word of a boolean or an error value in the
+    /// language in force; a text, with a quote before it where it would be something else without one. Nothing of a cell
+    /// that is empty or isn't there, also outside the sheet.
+    ///
+    /// `InvalidSheet` exactly where no sheet stands at the index; `OutOfMemory` only where one does.
+    pub fn get_localized_cell_content(
+        &self,
+        sheet: u32,
+        row: i32,
+        column: i32,
+    ) -> Result<String, BookError>
+        ensures does { Does reading_step (GetLocalizedCellContent sheet row column) string_only
+            result self.now self.now }
+    {
+        // What always holds of a model is known from here on.
+        let _ = &self.sheets;
+        let worksheet = self.sheet_at(sheet)?;
+        Ok(self.content_in(worksheet, row, column)?)
+    }
+
+    /// The value of the cell at a row and a column, both from 1, of the sheet at an index, from 0, as its format shows it:
+    /// a number by the code of its style; the word of a boolean or an error value in the language in force, `#ERROR!` for
+    /// a formula without a value; a text as it is. Nothing of a cell that is empty or isn't there, also outside the sheet.
+    ///
+    /// `InvalidSheet` exactly where no sheet stands at the index; `OutOfMemory` only where one does.
+    pub fn get_formatted_cell_value(
+        &self,
+        sheet: u32,
+        row: i32,
+        column: i32,
+    ) -> Result<String, BookError>
+        ensures does { Does reading_step (GetFormattedCellValue sheet row column) string_only
+            result self.now self.now }
+    {
+        // What always holds of a model is known from here on.
+        let _ = &self.sheets;
+        let worksheet = self.sheet_at(sheet)?;
+        Ok(self.formatted_in(worksheet, row, column)?)
+    }
+
+    /// What is shown of a place of a sheet of the book.
+    fn content_in(&self, worksheet: &Sheet, row: i32, column: i32) -> Result<String, OutOfMemory>
+        requires { StandsIn (sheet_of worksheet.now) self.now.book }
+        ensures { IfOk result (λ s. chars (string_bytes s)
+            ≡ content_shown self.now.book (sheet_of worksheet.now) (row, column)) }
+    {
+        // What always holds of a model is known from here on.
+        let _ = &self.sheets;
+        match worksheet.grid.cells.get(row, column) {
+            Some(cell) => self.cell_shown(worksheet, row, column, cell),
+            None => Ok(String::new(self.alloc)),
+        }
+    }
+
+    /// What is shown of the cell at a place of a sheet of the book.
+    fn cell_shown(
+        &self,
+        worksheet: &Sheet,
+        row: i32,
+        column: i32,
+        cell: &Cell,
+    ) -> Result<String, OutOfMemory>
+        requires stands { StandsIn (sheet_of worksheet.now) self.now.book }
+        requires there { finite.get worksheet.now.grid.cells (row, column) ≡ Some cell.now }
+        ensures { IfOk result (λ s. chars (string_bytes s)
+            ≡ content_shown self.now.book (sheet_of worksheet.now) (row, column)) }
+    {
+        // What always holds of a model is known from here on.
+        let _ = &self.sheets;
+        match formula_in(worksheet, cell) {
+            Some(formula) => self.show(row, column, formula),
+            None => self.value_shown(cell),
+        }
+    }
+
+    /// What its format shows of a place of a sheet of the book.
+    fn formatted_in(&self, worksheet: &Sheet, row: i32, column: i32) -> Result<String, OutOfMemory>
+        requires { StandsIn (sheet_of worksheet.now) self.now.book }
+        ensures { IfOk result (λ s. chars (string_bytes s)
+            ≡ content_formatted self.now.book (sheet_of worksheet.now) (row, column)) }
+    {
+        // What always holds of a model is known from here on.
+        let _ = &self.sheets;
+        match worksheet.grid.cells.get(row, column) {
+            Some(cell) => self.formatted(cell),
+            None => Ok(String::new(self.alloc)),
+        }
+    }
+
+    /// What is shown of a cell without a formula.
+    fn value_shown(&self, cell: &Cell) -> Result<String, OutOfMemory>
+        requires { style_of cell.now < length self.now.book.styles }
+        ensures { IfOk result (λ s. chars (string_bytes s)
+            ≡ value_shown self.now.book cell.now) }
+    {
+        if let Some(text) = text_kept(cell, self.about.strings.as_items().as_slice()) {
+            return self.words_shown(text);
+        }
+        match number_kept(cell) {
+            Some(amount) => self.number_shown(self.code_at(cell.get_style()), amount),
+            None => self.localized(cell),
+        }
+    }
+
+    /// A cell as its format shows it.
+    pub(crate) fn formatted(&self, cell: &Cell) -> Result<String, OutOfMemory>
+        requires { style_of cell.now < length self.now.book.styles }
+        ensures { IfOk result (λ s. chars (string_bytes s)
+            ≡ cell_formatted self.now.book cell.now) }
+    {
+        match number_kept(cell) {
+            Some(amount) => self.number_formatted(self.code_at(cell.get_style()), amount),
+            None => self.localized(cell),
+        }
+    }
+
+    /// The text of a cell's value in the notation in force.
+    fn localized(&self, cell: &Cell) -> Result<String, OutOfMemory>
+        ensures { IfOk result (λ s. chars (string_bytes s) ≡ localized self.now.book cell.now) }
+    {
+        let strings = self.about.strings.as_items();
+        cell.get_localized_text(self.alloc, strings, &self.locale.locale, self.language)
+    }
+
+    /// The code of the style of a number.
+    fn code_at(&self, number: usize) -> &str
+        requires { number < length self.now.book.styles }
+        ensures { chars result.now ≡ code_at self.now.book number }
+    {
+        match self.about.styles.get_style(number) {
+            Some(style) => style.num_fmt.as_str(),
+            None => unreachable!(),
+        }
+    }
+
+    /// A number by a code.
+    fn number_formatted(&self, code: &str, amount: Amount) -> Result<String, OutOfMemory>
+        ensures { IfOk result (λ s. chars (string_bytes s)
+            ≡ formatted_in (whole_of self.now.book) (chars code.now) amount) }
+    {
+        format_amount(self.alloc, amount, code, &self.locale.locale)
+    }
+
+    /// A number so that it can be typed again: by its date, or as its shortest decimal.
+    fn number_shown(&self, code: &str, amount: Amount) -> Result<String, OutOfMemory>
+        ensures { IfOk result (λ s. chars (string_bytes s)
+            ≡ shown_number (whole_of self.now.book) (chars code.now) amount) }
+    {
+        match self.date_shown(code, amount)? {
+            Some(date) => Ok(date),
+            None => amount_text(self.alloc, amount, self.locale.locale.decimal_separator()),
+        }
+    }
+
+    /// A number by a code of dates, where that, typed, is the number.
+    fn date_shown(&self, code: &str, amount: Amount) -> Result<Option<String>, OutOfMemory>
+        ensures { IfOk result (λ o. option_map (λ s. chars (string_bytes s)) o
+            ≡ date_shown (whole_of self.now.book) (chars code.now) amount) }
+    {
+        if !is_date_code(code) {
+            return Ok(None);
+        }
+        let date = self.number_formatted(code, amount)?;
+        match self.is_typed_as(date.as_str(), amount) {
+            Ok(true) => Ok(Some(date)),
+            Ok(false) => Ok(None),
+            Err(error) => Err(error),
+        }
+    }
+
+    /// A text so that it can be typed again: with a quote before it where it would be something else without one.
+    fn words_shown(&self, text: &str) -> Result<String, OutOfMemory>
+        ensures { IfOk result (λ s. chars (string_bytes s)
+            ≡ shown_words (whole_of self.now.book) (chars text.now)) }
+    {
+        if self.is_typed_text(text)? {
+            return after_sign(self.alloc, "", text);
+        }
+        after_sign(self.alloc, "'", text)
+    }
+
+    /// Whether a text is typed as this number.
+    fn is_typed_as(&self, text: &str, amount: Amount) -> Result<bool, OutOfMemory>
+        ensures { IfOk result (λ b. b
+            ≡ is_number amount (typed_in (whole_of self.now.book) (chars text.now))) }
+    {
+        Ok(is_number(&self.typed(text)?, amount))
+    }
+
+    /// Whether a text is typed as a text.
+    fn is_typed_text(&self, text: &str) -> Result<bool, OutOfMemory>
+        ensures { IfOk result (λ b. b
+            ≡ is_text (typed_in (whole_of self.now.book) (chars text.now))) }
+    {
+        // What always holds of a model is known from here on.
+        let _ = &self.sheets;
+        if self.needs_quoting(text)? {
+            return Ok(is_text(&self.typed(text)?));
+        }
+        Ok(!is_nothing(text))
+    }
+
+    /// Whether a text has to be typed after a quote to stay a text.
+    fn needs_quoting(&self, text: &str) -> Result<bool, OutOfMemory>
+        ensures { IfOk result (λ b. b ≡ needs_quoting (chars text.now)
+            (typed_in (whole_of self.now.book) (chars text.now))) }
+    {
+        let english = self.tables.get_default_language();
+        value_needs_quoting(
+            self.alloc,
+            text,
+            &self.locale.locale,
+            self.language,
+            english,
+        )
+    }
+}
+
+/// Whether it is this number.
+fn is_number(typed: &Typed, amount: Amount) -> bool
+    ensures { result ≡ is_number amount typed.now }
+{
+    match typed {
+        Typed::Number(typed, _) => typed.units() == amount.units(),
+        _ => false,
+    }
+}
+
+/// Whether it is a text.
+fn is_text(typed: &Typed) -> bool
+    ensures { result ≡ is_text typed.now }
+{
+    matches!(typed, Typed::Text(_))
+}
+
+/// The formula of a cell of a sheet.
+pub(crate) fn formula_in<'s>(worksheet: &'s Sheet, cell: &Cell) -> Option<&'s Formula>
+    ensures { option_map (λ f. f.now) result ≡ option_and_then
+        (slice_get worksheet.entry.now.pool.formulas) (formula_of cell.now) }
+{
+    worksheet.pool.get(cell.get_formula()?)
+}
+
+/// The text that a cell without a formula keeps.
+fn text_kept<'c>(cell: &'c Cell, strings: &'c [Text]) -> Option<&'c str>
+    ensures { option_map (λ t. chars t.now) result ≡ text_kept strings.entry.now cell.entry.now }
+{
+    match cell {
+        Cell::SharedString { si, .. } => Some(string_at(strings, *si)),
+        Cell::SpillCell { v, .. } => spill_text(v),
+        _ => None,
+    }
+}
+
+/// The number that a cell's value is.
+fn number_kept(cell: &Cell) -> Option<Amount>
+    ensures { result ≡ number_kept cell.now }
+{
+    match cell {
+        Cell::NumberCell { v, .. } => Some(*v),
+        Cell::CellFormula { v, .. } => formula_number(v),
+        Cell::ArrayFormula { v, .. } => formula_number(v),
+        Cell::SpillCell { v, .. } => spill_number(v),
+        _ => None,
+    }
+}
+
+/// The text of a cell of a spill.
+fn spill_text(value: &SpillValue) -> Option<&str>
+    ensures { option_map (λ t. chars t.now) result ≡ spill_text value.entry.now }
+{
+    match value {
+        SpillValue::Text(text) => Some(text.as_str()),
+        _ => None,
+    }
+}
+
+/// The number that the value of a cell of a spill is.
+fn spill_number(value: &SpillValue) -> Option<Amount>
+    ensures { result ≡ spill_number value.now }
+{
+    match value {
+        SpillValue::Number(amount) => Some(*amount),
+        _ => None,
+    }
+}
+
+/// The number that the value of a formula is.
+fn formula_number(value: &FormulaValue) -> Option<Amount>
+    ensures { result ≡ formula_number value.now }
+{
+    match value {
+        FormulaValue::Number(amount) => Some(*amount),
+        _ => None,
+    }
+}
+
+/// The shared string at an index. There is none past the last, and then it is the empty text.
+fn string_at(strings: &[Text], index: usize) -> &str
+    ensures { chars result.now ≡ string_at strings.entry.now index }
+{
+    match strings.get(index) {
+        Some(text) => text.as_str(),
+        None => "",
+    }
+}

@@ -1,0 +1,150 @@
+//! Texts that are typed into cells, or given to them.
+ghost use Rattle.std.specs.Prelude.{◌≡◌, IfOk, chars, option_map, string_bytes};
+ghost use Rattle.ic_input.specs.Typed.{needs_quoting};
+ghost use Rattle.ic_machine.specs.InForce.{typed_in};
+ghost use Rattle.ic_machine.specs.subjects.Writing.{SetUserInput, UpdateCellWithText, writing_step};
+ghost use Rattle.ic_book.specs.Does.{Does, DoesIn, DoesStep, WantedIn};
+ghost use Rattle.ic_book.specs.Fields.{no_fields};
+ghost use Rattle.ic_book.specs.LookUps.{LooksUpAsBefore};
+ghost use Rattle.ic_book.specs.Values.{style_change, typed_change, typed_content, typed_formula, typed_step, value_content};
+ghost use Rattle.ic_book.specs.Whole.{whole_of};
+
+use crate::values::{Restyle, Value};
+use crate::{BookError, Model};
+use ic_input::{Typed, classify, value_needs_quoting};
+use ic_laws::OutOfMemory;
+
+impl<'a> Model<'a> {
+    /// Writes a text into the cell at a row and a column, both from 1, of the sheet at an index, from 0, as it stands,
+    /// whatever it would be if it were typed. The array that the cell belongs to is released; the cell keeps the style that
+    /// it shows, with the quote flag where the text would have to be typed after a quote to stay a text, and else without.
+    ///
+    /// `InvalidSheet`, `InvalidRow`, `InvalidColumn`, `MergedPart` (merged cells cover the cell), `ArrayPart` (it belongs to
+    /// a Cse array of more than one cell), in this order, each exactly where it holds; `OutOfMemory` only where none of them
+    /// does. An error changes nothing.
+    pub fn update_cell_with_text(
+        &mut self,
+        sheet: u32,
+        row: i32,
+        column: i32,
+        value: &str,
+    ) -> Result<(), BookError>
+        ensures does { Does writing_step (UpdateCellWithText sheet row column (chars value.now))
+            no_fields result self.old self.new }
+        ensures looks_up { self.new.has_all ≡ self.old.has_all }
+    {
+        let quoted = self.needs_quote(value);
+        let value = Value::Text(value);
+        let change = Restyle::Quote(quoted);
+        self.write_value(sheet, row, column, &value, &change)
+    }
+
+    /// Types a text into the cell at a row and a column, both from 1, of the sheet at an index, from 0, in the notation in
+    /// force: nothing, a text after a quote, a formula, a number with its format code, a date, a boolean, an error or a text,
+    /// the first of these that it is. The array that the cell belongs to is released.
+    ///
+    /// The cell keeps the style that it shows. A number that needs a format code to be shown as it was typed gives the style
+    /// this code, but a date leaves a code of dates as it is. The quote flag comes with a text after a quote, and goes with
+    /// everything else but nothing.
+    ///
+    /// `InvalidSheet`, `InvalidRow`, `InvalidColumn`, `MergedPart` (merged cells cover the cell), `ArrayPart` (it belongs to
+    /// a Cse array of more than one cell), in this order, each exactly where it holds; `OutOfMemory` only where none of them
+    /// does. An error leaves the book, and a refusal all that a model is.
+    pub fn set_user_input(
+        &mut self,
+        sheet: u32,
+        row: i32,
+        column: i32,
+        value: String,
+    ) -> Result<(), BookError>
+        ensures does { DoesIn writing_step
+            (SetUserInput sheet row column (chars (string_bytes value))) no_fields
+            result self.old self.new }
+
+        // The look-up of this sheet's formulas may be there then; the others are as before.
+        ensures looks_up { LooksUpAsBefore sheet self.old self.new }
+    {
+        self.style_to_write(sheet, row, column)?;
+        let typed = self.typed(value.as_str())?;
+        self.write_typed(sheet, row, column, &typed)
+    }
+
+    /// What a typed text is, in the notation in force.
+    pub(crate) fn typed(&self, text: &str) -> Result<Typed, OutOfMemory>
+        ensures { IfOk result
+            (λ t. t ≡ typed_in (whole_of self.now.book) (chars text.now)) }
+    {
+        let locale = &self.locale.locale;
+        let english = self.tables.get_default_language();
+        classify(self.alloc, text, locale, self.language, english)
+    }
+
+    /// Writes what a typed text is into a cell.
+    fn write_typed(
+        &mut self,
+        sheet: u32,
+        row: i32,
+        column: i32,
+        typed: &Typed,
+    ) -> Result<(), BookError>
+        ensures does { DoesStep WantedIn
+            (typed_step (whole_of self.old.book) sheet row column typed.now) no_fields
+            result self.old self.new }
+        ensures looks_up { LooksUpAsBefore sheet self.old self.new }
+    {
+        let Some(body) = typed_formula(typed) else {
+            let value = typed_value(typed);
+            let change = typed_change(typed);
+            return self.write_value(sheet, row, column, &value, &change);
+        };
+        self.write_formula(sheet, row, column, body)
+    }
+
+    /// Whether a text has to be typed after a quote to stay a text, in the notation in force.
+    fn needs_quote(&self, text: &str) -> bool
+        ensures { result ≡ needs_quoting (chars text.now)
+            (typed_in (whole_of self.now.book) (chars text.now)) }
+    {
+        let locale = &self.locale.locale;
+        let english = self.tables.get_default_language();
+        match value_needs_quoting(self.alloc, text, locale, self.language, english) {
+            Ok(needs) => needs,
+            Err(_) => unreachable!(),
+        }
+    }
+}
+
+/// The formula that a typed text is, as it stands after `=`.
+fn typed_formula(typed: &Typed) -> Option<&str>
+    ensures { option_map (λ f. chars f.now) result ≡ typed_formula typed.now }
+{
+    match typed {
+        Typed::Formula(body) => Some(body.as_str()),
+        _ => None,
+    }
+}
+
+/// What a typed text that is no formula writes.
+fn typed_value(typed: &Typed) -> Value<'_>
+    ensures { value_content result ≡ typed_content typed.now }
+{
+    match typed {
+        Typed::Empty | Typed::Formula(_) => Value::Empty,
+        Typed::Number(amount, _) => Value::Number(*amount),
+        Typed::Boolean(truth) => Value::Boolean(*truth),
+        Typed::Error(error) => Value::Error(*error),
+        Typed::Quoted(text) | Typed::Text(text) => Value::Text(text.as_str()),
+    }
+}
+
+/// What becomes of the style where a typed text that is no formula is written.
+fn typed_change(typed: &Typed) -> Restyle<'_>
+    ensures { style_change result ≡ typed_change typed.now }
+{
+    match typed {
+        Typed::Empty => Restyle::Nothing,
+        Typed::Quoted(_) => Restyle::Quote(true),
+        Typed::Number(_, Some(code)) => Restyle::Code(code.as_str()),
+        _ => Restyle::Quote(false),
+    }
+}

@@ -1,0 +1,201 @@
+//! A sheet as a table of texts.
+ghost use Rattle.std.specs.Prelude.{◌≡◌, ◌<◌, ◌≤◌, ◌++◌, [], ◌∷◌, IfOk, OnOk, Some, chars, length, string_bytes};
+ghost use Rattle.std.specs.BTreeMap.{keys};
+ghost use Rattle.std.specs.FinMap as finite;
+ghost use Rattle.std.specs.List.{join_by, range_with_len};
+ghost use Rattle.ic_cells.specs.Style.{style_at};
+ghost use Rattle.ic_laws.specs.Character.{line_feed};
+ghost use Rattle.ic_laws.specs.Position.{column_count, row_count};
+ghost use Rattle.ic_machine.specs.subjects.Reading.{GetSheetMarkup, emphasized, reading_step};
+ghost use Rattle.ic_sheets.specs.Sheet.{sheet_of};
+ghost use Rattle.ic_book.specs.Does.{Does};
+ghost use Rattle.ic_book.specs.Fields.{string_only};
+ghost use Rattle.ic_book.specs.Markup.{last_of, place_shown, plain_shown, row_shown, sheet_shown, shows_bold};
+ghost use Rattle.ic_book.specs.Shown.{StandsIn};
+
+use crate::content::formula_in;
+use crate::{BookError, Model};
+use ic_cells::Cell;
+use ic_laws::OutOfMemory;
+use ic_laws::scan::{push_char, push_text};
+use ic_sheets::Sheet;
+use std::collections::BTreeMap;
+
+impl<'a> Model<'a> {
+    /// The sheet at an index, from 0, as a table: the cells of a row with `|` between them, and the rows with line feeds, up
+    /// to the last row and the last column that hold a cell, which are the first ones where none does. A cell is its formula
+    /// as `get_cell_formula` shows it, or else its value as `get_formatted_cell_value` does; between `**` where its style is
+    /// bold.
+    ///
+    /// `InvalidSheet` exactly where no sheet stands at the index; `OutOfMemory` only where one does.
+    pub fn get_sheet_markup(&self, sheet: u32) -> Result<String, BookError>
+        ensures does { Does reading_step (GetSheetMarkup sheet) string_only
+            result self.now self.now }
+    {
+        // What always holds of a model is known from here on.
+        let _ = &self.sheets;
+        let worksheet = self.sheet_at(sheet)?;
+        Ok(self.markup(worksheet)?)
+    }
+
+    /// A sheet of the book as a table.
+    fn markup(&self, worksheet: &Sheet) -> Result<String, OutOfMemory>
+        requires { StandsIn (sheet_of worksheet.now) self.now.book }
+        ensures { IfOk result (λ s. chars (string_bytes s)
+            ≡ sheet_shown self.now.book (sheet_of worksheet.now)) }
+    {
+        // What always holds of a model is known from here on.
+        let _ = &self.sheets;
+        let (rows, columns) = last_of(worksheet.grid.cells.as_map());
+        let mut text = String::new(self.alloc);
+        self.push_rows(&mut text, worksheet, rows, columns)?;
+        Ok(text)
+    }
+
+    /// Appends the rows of a sheet up to this row and this column.
+    fn push_rows(
+        &self,
+        text: &mut String,
+        worksheet: &Sheet,
+        rows: u32,
+        columns: u32,
+    ) -> Result<(), OutOfMemory>
+        requires stands { StandsIn (sheet_of worksheet.now) self.now.book }
+        requires rows { (1 ≤ rows) × (rows ≤ row_count) }
+        requires columns { (1 ≤ columns) × (columns ≤ column_count) }
+        ensures { OnOk result (chars (string_bytes text.new) ≡ chars (string_bytes text.old)
+            ++ join_by (row_shown self.now.book (sheet_of worksheet.now) columns)
+            (line_feed ∷ []) (range_with_len 1 rows)) }
+    {
+        self.push_row(text, worksheet, 1, columns)?;
+        let mut row = 1;
+        'rows: while row < rows {
+            row += 1;
+            push_char(text, '\n')?;
+            self.push_row(text, worksheet, row, columns)?;
+        }
+        Ok(())
+    }
+
+    /// Appends a row of a sheet up to this column.
+    fn push_row(
+        &self,
+        text: &mut String,
+        worksheet: &Sheet,
+        row: u32,
+        columns: u32,
+    ) -> Result<(), OutOfMemory>
+        requires stands { StandsIn (sheet_of worksheet.now) self.now.book }
+        requires row { row ≤ row_count }
+        requires columns { (1 ≤ columns) × (columns ≤ column_count) }
+        ensures { OnOk result (chars (string_bytes text.new) ≡ chars (string_bytes text.old)
+            ++ row_shown self.now.book (sheet_of worksheet.now) columns row) }
+    {
+        self.push_place(text, worksheet, row as i32, 1)?;
+        let mut column = 1;
+        'columns: while column < columns {
+            column += 1;
+            push_char(text, '|')?;
+            self.push_place(text, worksheet, row as i32, column as i32)?;
+        }
+        Ok(())
+    }
+
+    /// Appends what is shown of a place of a sheet.
+    fn push_place(
+        &self,
+        text: &mut String,
+        worksheet: &Sheet,
+        row: i32,
+        column: i32,
+    ) -> Result<(), OutOfMemory>
+        requires { StandsIn (sheet_of worksheet.now) self.now.book }
+        ensures { OnOk result (chars (string_bytes text.new) ≡ chars (string_bytes text.old)
+            ++ place_shown self.now.book (sheet_of worksheet.now) row column) }
+    {
+        let shown = self.plain_in(worksheet, row, column)?;
+        push_marked(text, shown.as_str(), self.is_bold(worksheet, row, column))
+    }
+
+    /// What is shown of a place of a sheet, without stars.
+    fn plain_in(&self, worksheet: &Sheet, row: i32, column: i32) -> Result<String, OutOfMemory>
+        requires { StandsIn (sheet_of worksheet.now) self.now.book }
+        ensures { IfOk result (λ s. chars (string_bytes s)
+            ≡ plain_shown self.now.book (sheet_of worksheet.now) (row, column)) }
+    {
+        // What always holds of a model is known from here on.
+        let _ = &self.sheets;
+        match worksheet.grid.cells.get(row, column) {
+            Some(cell) => self.cell_plain(worksheet, row, column, cell),
+            None => Ok(String::new(self.alloc)),
+        }
+    }
+
+    /// The same of the cell that stands there.
+    fn cell_plain(
+        &self,
+        worksheet: &Sheet,
+        row: i32,
+        column: i32,
+        cell: &Cell,
+    ) -> Result<String, OutOfMemory>
+        requires stands { StandsIn (sheet_of worksheet.now) self.now.book }
+        requires there { finite.get worksheet.now.grid.cells (row, column) ≡ Some cell.now }
+        ensures { IfOk result (λ s. chars (string_bytes s)
+            ≡ plain_shown self.now.book (sheet_of worksheet.now) (row, column)) }
+    {
+        // What always holds of a model is known from here on.
+        let _ = &self.sheets;
+        match formula_in(worksheet, cell) {
+            Some(formula) => self.show(row, column, formula),
+            None => self.formatted(cell),
+        }
+    }
+
+    /// Whether a place of a sheet shows a bold style.
+    fn is_bold(&self, worksheet: &Sheet, row: i32, column: i32) -> bool
+        requires { StandsIn (sheet_of worksheet.now) self.now.book }
+        ensures { result ≡ shows_bold self.now.book (sheet_of worksheet.now) (row, column) }
+    {
+        // What always holds of a model is known from here on.
+        let _ = &self.sheets;
+        self.bold_at(worksheet.grid.style_at(row, column))
+    }
+
+    /// Whether the style of a number is bold.
+    fn bold_at(&self, number: usize) -> bool
+        requires { number < length self.now.book.styles }
+        ensures { result ≡ (style_at self.now.book.styles number).bold }
+    {
+        match self.about.styles.get_style(number) {
+            Some(style) => style.bold,
+            None => unreachable!(),
+        }
+    }
+}
+
+/// Appends a text, between two pairs of stars where it is bold.
+fn push_marked(text: &mut String, shown: &str, bold: bool) -> Result<(), OutOfMemory>
+    ensures { OnOk result (chars (string_bytes text.new) ≡ chars (string_bytes text.old)
+        ++ emphasized bold (chars shown.now)) }
+{
+    if !bold {
+        return push_text(text, shown);
+    }
+    push_text(text, "**")?;
+    push_text(text, shown)?;
+    push_text(text, "**")
+}
+
+/// The greatest row and column that hold a cell, and 1 where none does.
+fn last_of(cells: &BTreeMap<(i32, i32), Cell>) -> (u32, u32)
+    ensures { result ≡ last_of (keys cells.now) }
+{
+    let mut row: u32 = 1;
+    let mut column: u32 = 1;
+    for place in cells.keys() {
+        row = row.max(place.0.unsigned_abs());
+        column = column.max(place.1.unsigned_abs());
+    }
+    (row, column)
+}

@@ -1,0 +1,108 @@
+//! Cells that a text names: by its sheet, the letters of its column and its row.
+ghost use Rattle.std.specs.Prelude.{◌≡◌, chars, option_map};
+ghost use Rattle.ic_laws.specs.Scan.{past_run};
+ghost use Rattle.ic_refs.specs.Column.{column_number};
+ghost use Rattle.ic_machine.specs.Parsed.{column_or_none, is_no_bang, parsed_place, parsed_reference, parsed_row, row_if};
+ghost use Rattle.ic_machine.specs.subjects.Extending.{ParseReference, extending_step};
+ghost use Rattle.ic_machine.specs.subjects.Reading.{GetCellValueByRef, reading_step, value_fields};
+ghost use Rattle.ic_book.specs.Book.{IsValidBook, core_of};
+ghost use Rattle.ic_book.specs.Does.{Does};
+ghost use Rattle.ic_book.specs.References.{parsed_of, reference_fields};
+
+use crate::{BookError, Model};
+use ic_cells::CellValue;
+use ic_laws::LAST_ROW;
+use ic_laws::scan::{first_char, front_of, letters_run, past_letters};
+use ic_refs::{CellReferenceIndex, column_to_number};
+
+impl<'a> Model<'a> {
+    /// The cell that a text names, as `Sheet1!D40`: what stands before the first `!` agrees with the sheet's name,
+    /// without quotes; then come the letters of the column, in upper case, and the digits of the row, after a `+` or
+    /// without one. The sheet is an index from 0, the row and the column are from 1. None exactly where the text is no
+    /// such thing, no sheet has the name, or the column or the row lies outside of a sheet. It takes no memory.
+    pub fn parse_reference(&self, s: &str) -> Result<Option<CellReferenceIndex>, BookError>
+        ensures does { Does extending_step (ParseReference (chars s.now)) reference_fields
+            result self.now self.now }
+    {
+        Ok(self.parsed(s))
+    }
+
+    /// The value of the cell that a text names by `parse_reference`, as `get_cell_value_by_index` gives it.
+    ///
+    /// `BadReference` exactly where the text names none; `OutOfMemory` only where it names one.
+    pub fn get_cell_value_by_ref(&self, cell_ref: &str) -> Result<CellValue, BookError>
+        ensures does { Does reading_step (GetCellValueByRef (chars cell_ref.now)) value_fields
+            result self.now self.now }
+    {
+        match self.parsed(cell_ref) {
+            Some(cell) => self.get_cell_value_by_index(cell.sheet, cell.row, cell.column),
+            None => Err(BookError::BadReference),
+        }
+    }
+
+    /// The cell that a text names.
+    fn parsed(&self, text: &str) -> Option<CellReferenceIndex>
+        ensures parsed { option_map parsed_of result
+            ≡ parsed_reference (core_of self.now.book) (chars text.now) }
+        ensures valid { IsValidBook self.now.book }
+    {
+        let rest = past_name(text);
+        let index = self.sheets.index_of_name(front_of(text, rest))?;
+        place_after(index as u32, rest)
+    }
+}
+
+/// What stands from the first exclamation mark on.
+fn past_name(text: &str) -> &str
+    ensures { chars result.now ≡ past_run is_no_bang (chars text.now) }
+{
+    let mut rest = text;
+    while let Some((c, after)) = first_char(rest) {
+        if c == '!' {
+            break;
+        }
+        rest = after;
+    }
+    rest
+}
+
+/// The cell of a sheet that is named after a mark.
+fn place_after(sheet: u32, text: &str) -> Option<CellReferenceIndex>
+    ensures { option_map parsed_of result ≡ parsed_place sheet (chars text.now) }
+{
+    let (_, text) = first_char(text)?;
+    let column = column_of(letters_run(text))?;
+    let row = row_of(past_letters(text))?;
+    Some(CellReferenceIndex { sheet, row, column })
+}
+
+/// The column with these letters.
+fn column_of(letters: &str) -> Option<i32>
+    ensures { result ≡ column_or_none (column_number (chars letters.now)) }
+{
+    match column_to_number(letters) {
+        Ok(column) => Some(column),
+        Err(_) => None,
+    }
+}
+
+/// The row of these digits, after a plus or without one.
+fn row_of(text: &str) -> Option<i32>
+    ensures { result ≡ parsed_row (chars text.now) }
+{
+    match text.parse::<u32>().ok() {
+        Some(row) => row_if(row),
+        None => None,
+    }
+}
+
+/// The row of a number, if a sheet has it.
+fn row_if(row: u32) -> Option<i32>
+    ensures { result ≡ row_if row }
+{
+    if 1 <= row && row <= LAST_ROW as u32 {
+        Some(row as i32)
+    } else {
+        None
+    }
+}
