@@ -10,7 +10,7 @@ use Rattle.ic_laws.specs.Name.{fold}
 use Rattle.ic_laws.specs.Scene.{definition_at, same_scope}
 use Rattle.ic_laws.specs.declared.scene.NameSpelling.{NameSpelling}
 use Rattle.ic_laws.specs.declared.scene.Scene.{Scene}
-use Rattle.ic_names.specs.Named.{names_scene}
+use Rattle.ic_definitions.specs.Named.{definitions_scene}
 use Rattle.ic_sheets.specs.declared.sheet.Sheet.{Sheet as HeldSheet}
 use Rattle.ic_book.specs.Scene.{scene_of_parts, scene_with}
 
@@ -34,17 +34,17 @@ module _ {X : Type 0} (g : NameSpelling → X) where
     abbrev found : Option NameSpelling
     found = find (λ (x : NameSpelling). bytes_eq (fold x.name) folded && same_scope x.scope scope) (map spelling_of ds ++ new ∷ [])
 
-    either : found ≡ option_or (definition_at (names_scene ds) folded scope) (cond is_it (Some new) None)
+    either : found ≡ option_or (definition_at (definitions_scene ds) folded scope) (cond is_it (Some new) None)
     either = find-append (λ (x : NameSpelling). bytes_eq (fold x.name) folded && same_scope x.scope scope) (map spelling_of ds) (new ∷ [])
 
     -- what was found is found
-    pub other_found : (x : X) → Some x ≡ option_map g (definition_at (names_scene ds) folded scope) → Some x ≡ option_map g found
-    other_found x e = or_first (definition_at (names_scene ds) folded scope) (cond is_it (Some new) None) x e ∙ ap (option_map g) (sym either)
+    pub other_found : (x : X) → Some x ≡ option_map g (definition_at (definitions_scene ds) folded scope) → Some x ≡ option_map g found
+    other_found x e = or_first (definition_at (definitions_scene ds) folded scope) (cond is_it (Some new) None) x e ∙ ap (option_map g) (sym either)
 
     -- and else the one at the end, where it is that
-    pub it_is_found : (b : Bool) → None ≡ option_map g (definition_at (names_scene ds) folded scope) → is_it ≡ b → cond b (Some (g new)) None ≡ option_map g found
+    pub it_is_found : (b : Bool) → None ≡ option_map g (definition_at (definitions_scene ds) folded scope) → is_it ≡ b → cond b (Some (g new)) None ≡ option_map g found
     it_is_found b e is =
-        sym (ap (option_map g) either ∙ or_second (definition_at (names_scene ds) folded scope) (cond is_it (Some new) None) e ∙ ap (λ t. option_map g (cond t (Some new) None)) is ∙ by_test b)
+        sym (ap (option_map g) either ∙ or_second (definition_at (definitions_scene ds) folded scope) (cond is_it (Some new) None) e ∙ ap (λ t. option_map g (cond t (Some new) None)) is ∙ by_test b)
       where
         by_test : (b : Bool) → option_map g (cond b (Some new) None) ≡ cond b (Some (g new)) None
         by_test true = refl

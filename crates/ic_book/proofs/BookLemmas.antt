@@ -7,7 +7,7 @@ use Rattle.std.proofs.lemmas.List.{map-append}
 use Rattle.std.proofs.lemmas.Option.{slice_get-map}
 use Rattle.ic_laws.proofs.core.KeptBook.{in_body}
 use Rattle.ic_laws.proofs.core.Lists.{removed_seen, updated_seen}
-use Rattle.ic_laws.specs.CoreBook.{CellPlace, CoreBook, Definition, Sheet, greatest_id, scene_of}
+use Rattle.ic_laws.specs.CoreBook.{CellPlace, CoreBook, Definition, Sheet as CoreSheet, greatest_id, scene_of}
 use Rattle.ic_laws.specs.CoreStep.{changed_by, moved, put_back, with_definition, with_new_sheet, with_sheet_name, without_definition, without_sheet}
 use Rattle.ic_laws.specs.Greatest.{greatest}
 use Rattle.ic_laws.specs.Keeping.{kept_in_body, same_keys, with_kept}
@@ -15,9 +15,9 @@ use Rattle.ic_laws.specs.Notations.{Notations}
 use Rattle.ic_laws.specs.declared.scene.Scene.{Scene}
 use Rattle.ic_cells.specs.declared.cell.Cell.{Cell}
 use Rattle.ic_machine.proofs.AlikeGrid.{entries-empty}
-use Rattle.ic_sheets.specs.Sheet.{BookSheet, cells_of, empty_grid, kept_pool, plain_tab, sheet_core}
+use Rattle.ic_sheets.specs.Sheet.{Sheet, cells_of, empty_grid, kept_pool, plain_tab, sheet_core}
 use Rattle.ic_book.specs.Book.{Book, core_of, scene_in}
-use Rattle.ic_book.specs.Change.{with_added_sheet, with_kept_pools, with_moved_sheet, with_name, with_removed_sheet, with_renamed_sheet, without_name}
+use Rattle.ic_book.specs.Change.{with_added_definition, with_added_sheet, with_kept_pools, with_moved_sheet, with_removed_definition, with_removed_sheet, with_renamed_sheet}
 use Rattle.ic_sheets.proofs.PoolLemmas.{sheet_cores-kept}
 
 -- a change of the sheets or the definitions of a book, over which all formulas are kept as these notations say
@@ -27,14 +27,14 @@ changed_in n change book = change (with_kept_pools n (scene_in book) (scene_in (
 -- a book's core, over all formulas kept
 pub core_of-kept : (n : Notations) (before after : Scene) (book : Book) → core_of (with_kept_pools n before after book) ≡ with_kept n before after same_keys (core_of book)
 core_of-kept n before after book =
-    ap (λ (sheets : List Sheet). let core : CoreBook = record { sheets = sheets; definitions = map (kept_in_body n before after same_keys) book.definitions; locale = book.locale; language = book.language } in core)
+    ap (λ (sheets : List CoreSheet). let core : CoreBook = record { sheets = sheets; definitions = map (kept_in_body n before after same_keys) book.definitions; locale = book.locale; language = book.language } in core)
     (sheet_cores-kept n before after book.sheets)
 
-abbrev ids : List BookSheet → List ℕ
-ids sheets = map (λ (s : Sheet). s.id) (map sheet_core sheets)
+abbrev ids : List Sheet → List ℕ
+ids sheets = map (λ (s : CoreSheet). s.id) (map sheet_core sheets)
 
 module _ (n : Notations) (before after : Scene) where
-  ids-kept : (sheets : List BookSheet) → ids (map (kept_pool n before after) sheets) ≡ ids sheets
+  ids-kept : (sheets : List Sheet) → ids (map (kept_pool n before after) sheets) ≡ ids sheets
   ids-kept [] = refl
   ids-kept (s ∷ sheets) = ap (λ rest. s.id ∷ rest) (ids-kept sheets)
 
@@ -50,12 +50,12 @@ abbrev pub IsBookChange : (Book → Book) → (CoreBook → CoreBook) → Type 0
 IsBookChange change of_core = (book : Book) → core_of (change book) ≡ of_core (core_of book)
 
 -- a book's core, by its sheets
-abbrev with_sheets : Book → List Sheet → CoreBook
+abbrev with_sheets : Book → List CoreSheet → CoreBook
 with_sheets book sheets = record { sheets = sheets; definitions = book.definitions; locale = book.locale; language = book.language }
 
 -- a new sheet has no formulas
 no_cells : (id : ℕ) (name : List ℕ) → sheet_core (record { id = id; name = name; pool = []; grid = empty_grid; tab = plain_tab }) ≡ record { id = id; name = name; cells = [] }
-no_cells id name = ap (λ (es : List (CellPlace × Cell)). let s : Sheet = record { id = id; name = name; cells = cells_of [] es } in s) (entries-empty Cell)
+no_cells id name = ap (λ (es : List (CellPlace × Cell)). let s : CoreSheet = record { id = id; name = name; cells = cells_of [] es } in s) (entries-empty Cell)
 
 pub added_change : (name : List ℕ) → IsBookChange (with_added_sheet name) (with_new_sheet name)
 added_change name book =
@@ -69,10 +69,10 @@ renamed_change index name book = ap (with_sheets book) (updated_seen sheet_core 
 pub removed_change : (index : ℕ) → IsBookChange (with_removed_sheet index) (without_sheet index)
 removed_change index book = ap (with_sheets book) (removed_seen sheet_core book.sheets index)
 
-pub defined_change : (new : Definition) → IsBookChange (with_name new) (with_definition new)
+pub defined_change : (new : Definition) → IsBookChange (with_added_definition new) (with_definition new)
 defined_change new book = refl
 
-pub undefined_change : (index : ℕ) → IsBookChange (without_name (Some index)) (without_definition (Some index))
+pub undefined_change : (index : ℕ) → IsBookChange (with_removed_definition (Some index)) (without_definition (Some index))
 undefined_change index book = refl
 
 -- over such a change the book's core is changed as the machine's is

@@ -37,10 +37,10 @@ use Rattle.ic_machine.specs.subjects.Sheets as sheets
 use Rattle.ic_machine.specs.subjects.Sheets.{add_sheet_step, delete_sheet_step, move_sheet_step, rename_by_index_step, with_new_sheet}
 use Rattle.ic_pool.specs.Pool.{IsPlaced}
 use Rattle.ic_sheets.proofs.PoolLemmas.{all_placed, has_placed}
-use Rattle.ic_sheets.specs.Sheet.{BookSheet, IsValidPool, empty_grid, kept_pool, plain_tab}
+use Rattle.ic_sheets.specs.Sheet.{IsValidPool, Sheet, empty_grid, kept_pool, plain_tab}
 use Rattle.ic_tree.proofs.NotationLaws.{notations_are}
 use Rattle.ic_book.specs.Book.{Book, HasStrings, IsPlain, IsValidBook, core_of, notations_in, scene_in, whole_of, whole_sheet}
-use Rattle.ic_book.specs.Change.{book_changed_by, with_added_sheet, with_kept_pools, with_language, with_locale, with_moved_sheet, with_name, with_removed_sheet, with_renamed_sheet, without_name}
+use Rattle.ic_book.specs.Change.{book_changed_by, with_added_definition, with_added_sheet, with_kept_pools, with_language, with_locale, with_moved_sheet, with_removed_definition, with_removed_sheet, with_renamed_sheet}
 use Rattle.ic_book.specs.Written.{with_pool}
 use Rattle.ic_book.proofs.Accepted.{add_accepted, delete_accepted, delete_name_accepted, language_accepted, locale_accepted, move_accepted, new_name_accepted, rename_accepted}
 use Rattle.ic_book.proofs.WholeLemmas.{index_seen, whole_added, whole_changed, whole_core, whole_defined, whole_moved, whole_removed, whole_renamed, whole_scene, whole_undefined}
@@ -49,7 +49,7 @@ use Rattle.ic_book.proofs.WrittenLemmas.{updated_alike}
 -- What holds of the grid of each sheet, over changes that leave grids, and new ones empty. ----
 
 module _ (P : Grid → Type 0) where
-  pub grids_kept : (n : Notations) (before after : Scene) (sheets : List BookSheet) → AllByRecursion (λ (s : BookSheet). P s.grid) sheets → AllByRecursion (λ (s : BookSheet). P s.grid) (map (kept_pool n before after) sheets)
+  pub grids_kept : (n : Notations) (before after : Scene) (sheets : List Sheet) → AllByRecursion (λ (s : Sheet). P s.grid) sheets → AllByRecursion (λ (s : Sheet). P s.grid) (map (kept_pool n before after) sheets)
   grids_kept n before after [] h = tt
   grids_kept n before after (s ∷ sheets) h = (h.0, grids_kept n before after sheets h.1)
 
@@ -62,16 +62,16 @@ is_plain = record { merges = refl; loose = λ place cell e. let none : None ≡ 
 
 -- the pools of sheets, by those of their whole sheets
 module _ (n : Notations) (scene : Scene) (strings : List (List ℕ)) where
-  placed_in : (sheet : BookSheet) (place : CellPlace) (o : Option ℕ) (at : ℕ) → o ≡ Some at → HasFormula n scene (whole_sheet strings sheet) place o → at < length sheet.pool
+  placed_in : (sheet : Sheet) (place : CellPlace) (o : Option ℕ) (at : ℕ) → o ≡ Some at → HasFormula n scene (whole_sheet strings sheet) place o → at < length sheet.pool
   placed_in sheet place None at e h = cc
   placed_in sheet place (Some k) at e h = let same : k ≡ at = cc in subst (λ i. i < length sheet.pool) same h.0
 
-  pools_of : (sheets : List BookSheet) → AllByRecursion (IsKeptPool n scene) (map (whole_sheet strings) sheets) → AllByRecursion (HasCellFormulas n scene) (map (whole_sheet strings) sheets) → AllByRecursion (IsValidPool n scene) sheets
+  pools_of : (sheets : List Sheet) → AllByRecursion (IsKeptPool n scene) (map (whole_sheet strings) sheets) → AllByRecursion (HasCellFormulas n scene) (map (whole_sheet strings) sheets) → AllByRecursion (IsValidPool n scene) sheets
   pools_of [] h g = tt
   pools_of (s ∷ sheets) h g = (
     record {
       formulas = h.0;
-      places = λ place cell at e is.
+      indexes = λ place cell at e is.
           placed_in s place (formula_index (content_of strings cell)) at (index_seen strings cell ∙ is) (g.0 place (content_of strings cell) (get-seen (content_of strings) s.grid.cells place ∙ ap (option_map (content_of strings)) e));
     },
     pools_of sheets h.1 g.1,
@@ -114,8 +114,8 @@ module _ (book : Book) (valid : IsValidBook book) where
       let after : Scene = scene_in (with_added_sheet name book) in
       record {
         whole = subst valid_machine.IsValidBook (sym (whole_changed (with_added_sheet name) (with_new_sheet name) (whole_added name) book)) (added_whole name e);
-        strings = all_pushed (λ (s : BookSheet). HasStrings (length book.strings) s.grid) (map (kept_pool n (scene_in book) after) book.sheets) (record { id = greatest_id (core_of (with_kept_pools n (scene_in book) after book)) + 1; name = name; pool = []; grid = empty_grid; tab = plain_tab }) (grids_kept (HasStrings (length book.strings)) n (scene_in book) after book.sheets valid.strings) (no_strings (length book.strings));
-        plain = all_pushed (λ (s : BookSheet). IsPlain s.grid) (map (kept_pool n (scene_in book) after) book.sheets) (record { id = greatest_id (core_of (with_kept_pools n (scene_in book) after book)) + 1; name = name; pool = []; grid = empty_grid; tab = plain_tab }) (grids_kept IsPlain n (scene_in book) after book.sheets valid.plain) is_plain;
+        strings = all_pushed (λ (s : Sheet). HasStrings (length book.strings) s.grid) (map (kept_pool n (scene_in book) after) book.sheets) (record { id = greatest_id (core_of (with_kept_pools n (scene_in book) after book)) + 1; name = name; pool = []; grid = empty_grid; tab = plain_tab }) (grids_kept (HasStrings (length book.strings)) n (scene_in book) after book.sheets valid.strings) (no_strings (length book.strings));
+        plain = all_pushed (λ (s : Sheet). IsPlain s.grid) (map (kept_pool n (scene_in book) after) book.sheets) (record { id = greatest_id (core_of (with_kept_pools n (scene_in book) after book)) + 1; name = name; pool = []; grid = empty_grid; tab = plain_tab }) (grids_kept IsPlain n (scene_in book) after book.sheets valid.plain) is_plain;
       }
 
   renamed_whole : (index : ℕ) (name : List ℕ) → rename_refusal core index name ≡ None → valid_machine.IsValidBook (changed.changed_by (changed.with_renamed_sheet index name) whole)
@@ -127,8 +127,8 @@ module _ (book : Book) (valid : IsValidBook book) where
       let after : Scene = scene_in (with_renamed_sheet index name book) in
       record {
         whole = subst valid_machine.IsValidBook (sym (whole_changed (with_renamed_sheet index name) (changed.with_renamed_sheet index name) (whole_renamed index name) book)) (renamed_whole index name e);
-        strings = all_updated (λ (s : BookSheet). HasStrings (length book.strings) s.grid) (λ s. record s { name = name }) (λ s h. h) index (map (kept_pool n (scene_in book) after) book.sheets) (grids_kept (HasStrings (length book.strings)) n (scene_in book) after book.sheets valid.strings);
-        plain = all_updated (λ (s : BookSheet). IsPlain s.grid) (λ s. record s { name = name }) (λ s h. h) index (map (kept_pool n (scene_in book) after) book.sheets) (grids_kept IsPlain n (scene_in book) after book.sheets valid.plain);
+        strings = all_updated (λ (s : Sheet). HasStrings (length book.strings) s.grid) (λ s. record s { name = name }) (λ s h. h) index (map (kept_pool n (scene_in book) after) book.sheets) (grids_kept (HasStrings (length book.strings)) n (scene_in book) after book.sheets valid.strings);
+        plain = all_updated (λ (s : Sheet). IsPlain s.grid) (λ s. record s { name = name }) (λ s h. h) index (map (kept_pool n (scene_in book) after) book.sheets) (grids_kept IsPlain n (scene_in book) after book.sheets valid.plain);
       }
 
   removed_whole : (index : ℕ) → delete_refusal core index ≡ None → valid_machine.IsValidBook (changed.changed_by (changed.with_removed_sheet index) whole)
@@ -140,8 +140,8 @@ module _ (book : Book) (valid : IsValidBook book) where
       let after : Scene = scene_in (with_removed_sheet index book) in
       record {
         whole = subst valid_machine.IsValidBook (sym (whole_changed (with_removed_sheet index) (changed.with_removed_sheet index) (whole_removed index) book)) (removed_whole index e);
-        strings = all_removed (λ (s : BookSheet). HasStrings (length book.strings) s.grid) (map (kept_pool n (scene_in book) after) book.sheets) index (grids_kept (HasStrings (length book.strings)) n (scene_in book) after book.sheets valid.strings);
-        plain = all_removed (λ (s : BookSheet). IsPlain s.grid) (map (kept_pool n (scene_in book) after) book.sheets) index (grids_kept IsPlain n (scene_in book) after book.sheets valid.plain);
+        strings = all_removed (λ (s : Sheet). HasStrings (length book.strings) s.grid) (map (kept_pool n (scene_in book) after) book.sheets) index (grids_kept (HasStrings (length book.strings)) n (scene_in book) after book.sheets valid.strings);
+        plain = all_removed (λ (s : Sheet). IsPlain s.grid) (map (kept_pool n (scene_in book) after) book.sheets) index (grids_kept IsPlain n (scene_in book) after book.sheets valid.plain);
       }
 
   moved_whole : (from to : ℕ) → move_refusal core from to ≡ None → valid_machine.IsValidBook (changed.with_moved_sheet from to whole)
@@ -151,8 +151,8 @@ module _ (book : Book) (valid : IsValidBook book) where
   pub moved_valid : (from to : ℕ) → move_refusal core from to ≡ None → IsValidBook (with_moved_sheet from to book)
   moved_valid from to e = record {
     whole = subst valid_machine.IsValidBook (sym (whole_moved from to book)) (moved_whole from to e);
-    strings = all_moved (λ (s : BookSheet). HasStrings (length book.strings) s.grid) from to book.sheets valid.strings;
-    plain = all_moved (λ (s : BookSheet). IsPlain s.grid) from to book.sheets valid.plain;
+    strings = all_moved (λ (s : Sheet). HasStrings (length book.strings) s.grid) from to book.sheets valid.strings;
+    plain = all_moved (λ (s : Sheet). IsPlain s.grid) from to book.sheets valid.plain;
   }
 
   -- definitions ----
@@ -165,15 +165,15 @@ module _ (book : Book) (valid : IsValidBook book) where
       (lifted_valid (NewDefinedName name index text) _ _ (new_name_accepted n core name index text e) (definitions_stay whole valid.whole (definitions.NewDefinedName name index text)))
 
   pub defined_valid : (name : List ℕ) (index : Option ℕ) (text : List ℕ) (body : Body) → new_name_refusal n core name index text ≡ None → body_of n core text ≡ Some body
-      → IsValidBook (book_changed_by (with_name (new_definition n core name (scope_or_none core index) body)) book)
+      → IsValidBook (book_changed_by (with_added_definition (new_definition n core name (scope_or_none core index) body)) book)
   defined_valid name index text body e typed =
       let new : Definition = new_definition n core name (scope_or_none core index) body in
-      let after : Scene = scene_in (with_name new book) in
+      let after : Scene = scene_in (with_added_definition new book) in
       record {
         whole =
             subst valid_machine.IsValidBook
             (sym
-            (whole_changed (with_name new) (changed.with_definition new) (whole_defined new) book
+            (whole_changed (with_added_definition new) (changed.with_definition new) (whole_defined new) book
             ∙ ap (λ (c : CoreBook). changed.changed_by (changed.with_definition (new_definition n c name (scope_or_none core index) body)) whole) (sym (whole_core book))))
             (named_whole name index text body e typed);
         strings = grids_kept (HasStrings (length book.strings)) n (scene_in book) after book.sheets valid.strings;
@@ -188,11 +188,11 @@ module _ (book : Book) (valid : IsValidBook book) where
       (lifted_valid (DeleteDefinedName name index) _ _ (delete_name_accepted n core name index e) (definitions_stay whole valid.whole (definitions.DeleteDefinedName name index)))
 
   pub undefined_valid : (name : List ℕ) (index : Option ℕ) (at : ℕ) → delete_name_refusal core name index ≡ None → index_of_definition core name (scope_or_none core index) ≡ Some at
-      → IsValidBook (book_changed_by (without_name (Some at)) book)
+      → IsValidBook (book_changed_by (with_removed_definition (Some at)) book)
   undefined_valid name index at e found =
-      let after : Scene = scene_in (without_name (Some at) book) in
+      let after : Scene = scene_in (with_removed_definition (Some at) book) in
       record {
-        whole = subst valid_machine.IsValidBook (sym (whole_changed (without_name (Some at)) (changed.without_definition (Some at)) (whole_undefined (Some at)) book)) (unnamed_whole name index at e found);
+        whole = subst valid_machine.IsValidBook (sym (whole_changed (with_removed_definition (Some at)) (changed.without_definition (Some at)) (whole_undefined (Some at)) book)) (unnamed_whole name index at e found);
         strings = grids_kept (HasStrings (length book.strings)) n (scene_in book) after book.sheets valid.strings;
         plain = grids_kept IsPlain n (scene_in book) after book.sheets valid.plain;
       }
@@ -217,7 +217,7 @@ module _ (book : Book) (valid : IsValidBook book) where
 
   -- a formula that gets its place in a pool ----
 
-  module _ (index : ℕ) (sheet : BookSheet) (at_index : slice_get book.sheets index ≡ Some sheet) (place : ℕ) (pool : List Formula) (formula : Formula) (placed : IsPlaced formula place sheet.pool pool) (pooled : IsPooled n (scene_in book) (Some sheet.id) formula) where
+  module _ (index : ℕ) (sheet : Sheet) (at_index : slice_get book.sheets index ≡ Some sheet) (place : ℕ) (pool : List Formula) (formula : Formula) (placed : IsPlaced formula place sheet.pool pool) (pooled : IsPooled n (scene_in book) (Some sheet.id) formula) where
     abbrev old : machine.Sheet
     old = whole_sheet book.strings sheet
 
@@ -255,6 +255,6 @@ module _ (book : Book) (valid : IsValidBook book) where
           subst valid_machine.IsValidBook
           (ap (λ (all : List machine.Sheet). let b : machine.Book = record whole { sheets = all } in b) (sym (updated_alike (whole_sheet book.strings) (λ s. record s { pool = pool }) (λ s. new) index book.sheets sheet at_index refl)))
           (same_styles whole valid.whole index old new there refl refl new_holds);
-      strings = all_updated (λ (s : BookSheet). HasStrings (length book.strings) s.grid) (λ s. record s { pool = pool }) (λ s h. h) index book.sheets valid.strings;
-      plain = all_updated (λ (s : BookSheet). IsPlain s.grid) (λ s. record s { pool = pool }) (λ s h. h) index book.sheets valid.plain;
+      strings = all_updated (λ (s : Sheet). HasStrings (length book.strings) s.grid) (λ s. record s { pool = pool }) (λ s h. h) index book.sheets valid.strings;
+      plain = all_updated (λ (s : Sheet). IsPlain s.grid) (λ s. record s { pool = pool }) (λ s h. h) index book.sheets valid.plain;
     }

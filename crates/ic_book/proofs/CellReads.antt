@@ -40,7 +40,7 @@ use Rattle.ic_machine.specs.Fields.{fields_of_place, type_field}
 use Rattle.ic_machine.specs.InForce.{InForce, all_there, by_notation, in_force, value_in}
 use Rattle.ic_machine.specs.Reply.{Field, bool_field}
 use Rattle.ic_machine.specs.subjects.Reading.{empty_step, place_fields, read_sheet, sheet_places, type_step, value_at, value_fields, value_step}
-use Rattle.ic_sheets.specs.Sheet.{BookSheet, sheet_of}
+use Rattle.ic_sheets.specs.Sheet.{Sheet, sheet_of}
 use Rattle.ic_sheets.specs.declared.sheet.Sheet.{Sheet as HeldSheet}
 use Rattle.ic_book.specs.Book.{Book, IsValidBook, ModelState}
 use Rattle.ic_book.specs.Cells.{FindsCell, place_in, places_from}
@@ -84,7 +84,7 @@ module _ {A : Type 0} (strings : List (List ℕ)) (one : Cell → A) (other : Co
   seen_or None = refl
   seen_or (Some x) = same x
 
-  pub read_same : (s : BookSheet) (row column : ℤ) → option_map_or other (machine.content_at (whole_sheet strings s) row column) none ≡ option_map_or one (finite.get s.grid.cells (row, column)) none
+  pub read_same : (s : Sheet) (row column : ℤ) → option_map_or other (machine.content_at (whole_sheet strings s) row column) none ≡ option_map_or one (finite.get s.grid.cells (row, column)) none
   read_same s row column = ap (λ o. option_map_or other o none) (get-seen (content_of strings) s.grid.cells (row, column)) ∙ seen_or (finite.get s.grid.cells (row, column))
 
 -- the value of a content in the language of the model
@@ -102,17 +102,17 @@ value_in_force book valid l found x =
     ap (λ (o : Option InForce). by_notation values.None (λ (f : InForce). contents.value_of f.language (content_of book.strings x)) o) there.1
     ∙ value_same book.strings there.0.language x ∙ ap (λ l. value_of book.strings l x) same
 
-pub type_read : (strings : List (List ℕ)) (s : BookSheet) (row column : ℤ) → option_map_or contents.type_of (machine.content_at (whole_sheet strings s) row column) types.Number ≡ option_map_or type_of (finite.get s.grid.cells (row, column)) types.Number
+pub type_read : (strings : List (List ℕ)) (s : Sheet) (row column : ℤ) → option_map_or contents.type_of (machine.content_at (whole_sheet strings s) row column) types.Number ≡ option_map_or type_of (finite.get s.grid.cells (row, column)) types.Number
 type_read strings = read_same strings type_of contents.type_of (type_same strings) types.Number
 
-pub empty_read : (strings : List (List ℕ)) (s : BookSheet) (row column : ℤ)
+pub empty_read : (strings : List (List ℕ)) (s : Sheet) (row column : ℤ)
     → option_map_or (λ (x : Content). is_empty (contents.shape_of x)) (machine.content_at (whole_sheet strings s) row column) true ≡ option_map_or (λ x. is_empty (shape_of x)) (finite.get s.grid.cells (row, column)) true
 empty_read strings = read_same strings (λ x. is_empty (shape_of x)) (λ x. is_empty (contents.shape_of x)) (λ x. ap is_empty ((cells_are_contents strings).shape x)) true
 
 -- a reader of a cell ----
 
 module _ (now : ModelState) (valid : IsValidBook now.book) (index : ℕ) (row column : ℤ) {T A : Type 0} (fields : T → List Field) (as_field : A → List Field) (told : machine.Sheet → A) (of_cell : Option Cell → A)
-    (same : (s : BookSheet) → told (whole_sheet now.book.strings s) ≡ of_cell (finite.get s.grid.cells (row, column)))
+    (same : (s : Sheet) → told (whole_sheet now.book.strings s) ≡ of_cell (finite.get s.grid.cells (row, column)))
   where
     abbrev its_fields : machine.Sheet → List Field
     its_fields sheet = as_field (told sheet)
@@ -171,7 +171,7 @@ places_next all items new index ws s places left so_far put keys =
 
 -- a cell that is found at a place, which is this one
 pub found_there : (now : ModelState) (index : ℕ) (row column : ℤ) (cell : Option (Bor Cell)) (place : CellPlace) → place ≡ (row, column)
-    → (x : BookSheet) × (slice_get now.book.sheets index ≡ Some x) × (option_copied cell ≡ finite.get x.grid.cells place) → FindsCell index row column (Ok cell) now
+    → (x : Sheet) × (slice_get now.book.sheets index ≡ Some x) × (option_copied cell ≡ finite.get x.grid.cells place) → FindsCell index row column (Ok cell) now
 found_there now index row column cell place same found = (found.0, found.1, found.2 ∙ ap (finite.get found.0.grid.cells) same)
 
 -- the readers of a place ----
@@ -204,7 +204,7 @@ module _ (now : ModelState) (valid : IsValidBook now.book) (index : ℕ) (row co
       (λ f same. sheet_missing now index valid Never type_field [] (λ sheet. type_field (option_map_or contents.type_of (machine.content_at sheet row column) types.Number)) found.0 f (same ∙ found.1))
 
   module _ (l : Language) (in_force : language_of now.book.tables now.book.language ≡ Some l) where
-    value_read : (s : BookSheet) → value_at (whole_of now.book) (whole_sheet now.book.strings s) (row, column) ≡ option_map_or (value_of now.book.strings l) (finite.get s.grid.cells (row, column)) values.None
+    value_read : (s : Sheet) → value_at (whole_of now.book) (whole_sheet now.book.strings s) (row, column) ≡ option_map_or (value_of now.book.strings l) (finite.get s.grid.cells (row, column)) values.None
     value_read s = read_same now.book.strings (value_of now.book.strings l) (value_in (whole_of now.book)) (λ x. value_in_force now.book valid l in_force x) values.None s row column
 
     pub tells_value : (cell : Option (Bor Cell)) → FindsCell index row column (Ok cell) now → (value : CellValue) → value ≡ option_map_or (value_of now.book.strings l) (option_copied cell) values.None

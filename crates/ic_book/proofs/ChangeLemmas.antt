@@ -21,24 +21,24 @@ use Rattle.ic_laws.specs.Scene.{key_of, same_key}
 use Rattle.ic_laws.specs.ValidCore.{IsValidCore}
 use Rattle.ic_laws.specs.declared.scene.Scene.{Scene}
 use Rattle.ic_sheets.specs.Rewriting.{changed_pool}
-use Rattle.ic_sheets.specs.Sheet.{BookSheet, IsValidPool, empty_grid, kept_pool, plain_tab, sheet_core}
+use Rattle.ic_sheets.specs.Sheet.{IsValidPool, Sheet, empty_grid, kept_pool, plain_tab, sheet_core}
 use Rattle.ic_book.specs.Book.{Book, core_of, scene_in}
-use Rattle.ic_book.specs.Change.{changed_book, with_added_sheet, with_kept_pools, with_name, with_removed_sheet, with_renamed_sheet, without_name}
+use Rattle.ic_book.specs.Change.{changed_book, with_added_definition, with_added_sheet, with_kept_pools, with_removed_definition, with_removed_sheet, with_renamed_sheet}
 use Rattle.ic_book.proofs.BookLemmas.{added_change, changed_in, greatest-kept, removed_change, renamed_change, same_scene_after}
 use Rattle.ic_sheets.proofs.PoolLemmas.{pool_changed}
 
 module _ (n : Notations) (are : AreNotations n) (before after : Scene) (change : Change) (become : (scope : Option ℕ) → Become before after scope (changed_sheet change) (changed_word change scope)) where
   -- the pools of a valid book are kept as each formula is changed
-  pub pools_changed : (sheets : List BookSheet) → AllByRecursion (IsValidPool n before) sheets → map (kept_pool n before after) sheets ≡ map (changed_pool change) sheets
+  pub pools_changed : (sheets : List Sheet) → AllByRecursion (IsValidPool n before) sheets → map (kept_pool n before after) sheets ≡ map (changed_pool change) sheets
   pools_changed [] h = refl
   pools_changed (s ∷ sheets) h =
-      ap₂ ◌∷◌ (ap (λ pool. let one : BookSheet = record s { pool = pool } in one) (pool_changed n before after are change become (Some s.id) s.pool h.0.formulas)) (pools_changed sheets h.1)
+      ap₂ ◌∷◌ (ap (λ pool. let one : Sheet = record s { pool = pool } in one) (pool_changed n before after are change become (Some s.id) s.pool h.0.formulas)) (pools_changed sheets h.1)
 
 module _ (n : Notations) (are : AreNotations n) (book : Book) (core : IsValidCore n (core_of book)) (valid : AllByRecursion (IsValidPool n (scene_in book)) book.sheets) where
   -- all formulas of the book, in its pools and in the bodies of its definitions
   kept_is : (after : Scene) (change : Change) → ((scope : Option ℕ) → Become (scene_in book) after scope (changed_sheet change) (changed_word change scope)) → with_kept_pools n (scene_in book) after book ≡ changed_book change book
   kept_is after change become =
-      ap₂ (λ (ss : List BookSheet) (ds : List Definition). let b : Book = record book { sheets = ss; definitions = ds } in b)
+      ap₂ (λ (ss : List Sheet) (ds : List Definition). let b : Book = record book { sheets = ss; definitions = ds } in b)
       (pools_changed n are (scene_in book) after change become book.sheets valid) (ap (λ (c : CoreBook). c.definitions) (kept_changed n (core_of book) after change are core become))
 
   -- a book with a new sheet
@@ -54,7 +54,7 @@ module _ (n : Notations) (are : AreNotations n) (book : Book) (core : IsValidCor
       (ap (λ k. k + 1) (greatest-kept n (scene_in book) after book) ∙ sym is)
 
   -- with a sheet renamed
-  pub renamed_is : (index : ℕ) (name : List ℕ) (sheet : BookSheet) → slice_get book.sheets index ≡ Some sheet → has_other_sheet (core_of book) index name ≡ false
+  pub renamed_is : (index : ℕ) (name : List ℕ) (sheet : Sheet) → slice_get book.sheets index ≡ Some sheet → has_other_sheet (core_of book) index name ≡ false
       → changed_in n (with_renamed_sheet index name) book ≡ with_renamed_sheet index name (changed_book (sheet_named sheet.id name) book)
   renamed_is index name sheet at new =
       let after : Scene = scene_in (with_renamed_sheet index name book) in
@@ -64,7 +64,7 @@ module _ (n : Notations) (are : AreNotations n) (book : Book) (core : IsValidCor
       ap (with_renamed_sheet index name) (kept_is after (sheet_named sheet.id name) (named_becomes (scene_in book) after sheet.id name naming))
 
   -- with a sheet taken out
-  pub removed_is : (index : ℕ) (sheet : BookSheet) → slice_get book.sheets index ≡ Some sheet
+  pub removed_is : (index : ℕ) (sheet : Sheet) → slice_get book.sheets index ≡ Some sheet
       → changed_in n (with_removed_sheet index) book ≡ with_removed_sheet index (changed_book (sheet_gone sheet.id sheet.name) book)
   removed_is index sheet at =
       let after : Scene = scene_in (with_removed_sheet index book) in
@@ -74,19 +74,19 @@ module _ (n : Notations) (are : AreNotations n) (book : Book) (core : IsValidCor
       ap (with_removed_sheet index) (kept_is after (sheet_gone sheet.id sheet.name) (gone_becomes (scene_in book) after sheet.id sheet.name going))
 
   -- with a new definition
-  pub defined_is : (new : Definition) → changed_in n (with_name new) book ≡ with_name new (changed_book (name_added (spelling_of new)) book)
+  pub defined_is : (new : Definition) → changed_in n (with_added_definition new) book ≡ with_added_definition new (changed_book (name_added (spelling_of new)) book)
   defined_is new =
-      let after : Scene = scene_in (with_name new book) in
-      ap (with_name new)
+      let after : Scene = scene_in (with_added_definition new book) in
+      ap (with_added_definition new)
       (kept_is after (name_added (spelling_of new))
       (added_becomes (scene_in book) after (spelling_of new) (record { sheets = refl; differ = sheets_differ (core_of book) core.names_differ; names = map-append spelling_of book.definitions (new ∷ []) })))
 
   -- with a definition taken out
   pub undefined_is : (index : ℕ) (d : Definition) → slice_get book.definitions index ≡ Some d
-      → changed_in n (without_name (Some index)) book ≡ without_name (Some index) (changed_book (name_gone (scene_in (without_name (Some index) book)) (spelling_of d)) book)
+      → changed_in n (with_removed_definition (Some index)) book ≡ with_removed_definition (Some index) (changed_book (name_gone (scene_in (with_removed_definition (Some index) book)) (spelling_of d)) book)
   undefined_is index d at =
-      let after : Scene = scene_in (without_name (Some index) book) in
-      ap (without_name (Some index))
+      let after : Scene = scene_in (with_removed_definition (Some index) book) in
+      ap (with_removed_definition (Some index))
       (kept_is after (name_gone after (spelling_of d))
       (gone_name_becomes (scene_in book) after index (spelling_of d) (record {
         sheets = refl;

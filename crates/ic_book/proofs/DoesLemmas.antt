@@ -25,12 +25,12 @@ use Rattle.ic_machine.specs.subjects.Definitions.{DeleteDefinedName, GetDefinedN
 use Rattle.ic_machine.specs.subjects.Notation.{SetLanguage, SetLocale, notation_step, set_language_step, set_locale_step}
 use Rattle.ic_machine.specs.subjects.Reading.{GetCellFormula, cell_formula_step, reading_step}
 use Rattle.ic_machine.specs.subjects.Sheets.{AddSheet, DeleteSheet, DeleteSheetByName, DeleteSheetBySheetId, GetNewSheetId, MoveSheet, RenameSheet, RenameSheetByIndex, add_sheet_step, delete_by_id_step, delete_by_name_step, delete_sheet_step, move_sheet_step, new_sheet_id_step, rename_by_index_step, rename_sheet_step, sheet_step, with_new_sheet}
-use Rattle.ic_names.proofs.NamesFacts.{position_any}
+use Rattle.ic_definitions.proofs.NamesFacts.{position_any}
 use Rattle.ic_book.specs.Book.{Book, IsValidBook, ModelState, core_of, notations_in}
-use Rattle.ic_book.specs.Change.{book_changed_by, with_added_sheet, with_language, with_locale, with_moved_sheet, with_name, with_removed_sheet, with_renamed_sheet, without_name}
+use Rattle.ic_book.specs.Change.{book_changed_by, with_added_definition, with_added_sheet, with_language, with_locale, with_moved_sheet, with_removed_definition, with_removed_sheet, with_renamed_sheet}
 use Rattle.ic_book.specs.Does.{Does, DoesOnly, DoesOr, DoesStep, IsDone, Made, Never, Refused, Wanted, WantedOr}
 use Rattle.ic_book.specs.Fields.{fields_of_listed, listed_fields, no_fields, scope_field, string_field}
-use Rattle.ic_book.specs.Names.{Listed, listed, listed_definition, listed_names}
+use Rattle.ic_book.specs.Definitions.{Listed, listed, listed_definition, listed_definitions}
 use Rattle.ic_book.specs.Refused.{Refuses, RefusesOnly, RefusesOr, TellsCore, refusal_of}
 use Rattle.ic_book.specs.Whole.{whole_of}
 use Rattle.ic_book.specs.declared.error.BookError.{BookError}
@@ -230,25 +230,25 @@ module _ (result : Result (Unit {0}) BookError) (old new : ModelState) (valid : 
 
   -- the book without a definition that is looked up
   abbrev undefined_book : List ℕ → Option ℕ → Book
-  undefined_book name scope = book_changed_by (without_name (index_of_definition (core_of old.book) name (scope_or_none (core_of old.book) scope))) old.book
+  undefined_book name scope = book_changed_by (with_removed_definition (index_of_definition (core_of old.book) name (scope_or_none (core_of old.book) scope))) old.book
 
   undefined_after : (name : List ℕ) (scope : Option ℕ) → delete_name_refusal (core_of old.book) name scope ≡ None → IsValidBook (undefined_book name scope)
   undefined_after name scope e =
       let has = not_false _ (none_holds (delete_name_causes (core_of old.book) name scope) e).1.0 in
       at_index (index_of_definition (core_of old.book) name (scope_or_none (core_of old.book) scope)) refl (position_any (is_named name (scope_or_none (core_of old.book) scope)) old.book.definitions ∙ has)
     where
-      at_index : (o : Option ℕ) → index_of_definition (core_of old.book) name (scope_or_none (core_of old.book) scope) ≡ o → is_some o ≡ true → IsValidBook (book_changed_by (without_name o) old.book)
+      at_index : (o : Option ℕ) → index_of_definition (core_of old.book) name (scope_or_none (core_of old.book) scope) ≡ o → is_some o ≡ true → IsValidBook (book_changed_by (with_removed_definition o) old.book)
       at_index None found h = cc
       at_index (Some index) found h = undefined_valid old.book valid name scope index e found
 
-  pub undefines : (name : List ℕ) (scope : Option ℕ) → OnOk result (new.book ≡ book_changed_by (without_name (index_of_definition (core_of old.book) name (scope_or_none (core_of old.book) scope))) old.book)
+  pub undefines : (name : List ℕ) (scope : Option ℕ) → OnOk result (new.book ≡ book_changed_by (with_removed_definition (index_of_definition (core_of old.book) name (scope_or_none (core_of old.book) scope))) old.book)
       → Refuses result (delete_name_refusal (core_of old.book) name scope) → Does definition_step (DeleteDefinedName name scope) no_fields result old new
   unfolding core_step delete_name_step
   undefines name scope is refused =
       let index : Option ℕ = index_of_definition (core_of old.book) name (scope_or_none (core_of old.book) scope) in
       step_wanted (undefined_book name scope) is (λ c. delete_name_refusal c name scope) (λ c. core.changed_by n (core.without_definition (index_of_definition c name (scope_or_none c scope))) c)
       (changed.changed_by (changed.without_definition (index_of_definition (machine.core_of whole) name (scope_or_none (machine.core_of whole) scope))) whole)
-      (whole_changed (without_name index) (changed.without_definition index) (whole_undefined index) old.book
+      (whole_changed (with_removed_definition index) (changed.without_definition index) (whole_undefined index) old.book
       ∙ ap (λ c. changed.changed_by (changed.without_definition (index_of_definition c name (scope_or_none c scope))) whole) (sym seen)) refused (undefined_after name scope)
 
   -- the book with a new definition, where its body reads
@@ -258,12 +258,12 @@ module _ (result : Result (Unit {0}) BookError) (old new : ModelState) (valid : 
 
     abbrev defined_book : Option Body → Book
     defined_book None = old.book
-    defined_book (Some body) = book_changed_by (with_name (new_in (core_of old.book) body)) old.book
+    defined_book (Some body) = book_changed_by (with_added_definition (new_in (core_of old.book) body)) old.book
 
     whole_with : (o : Option Body) → whole_of (defined_book o) ≡ with_new_name whole name (scope_or_none (core_of old.book) scope) o
     whole_with None = refl
     whole_with (Some body) =
-        whole_changed (with_name (new_in (core_of old.book) body)) (changed.with_definition (new_in (core_of old.book) body)) (whole_defined (new_in (core_of old.book) body)) old.book
+        whole_changed (with_added_definition (new_in (core_of old.book) body)) (changed.with_definition (new_in (core_of old.book) body)) (whole_defined (new_in (core_of old.book) body)) old.book
         ∙ ap (λ c. changed.changed_by (changed.with_definition (new_definition n c name (scope_or_none (core_of old.book) scope) body)) whole) (sym seen)
 
     module _ (text : List ℕ) where
@@ -287,7 +287,7 @@ module _ (result : Result (Unit {0}) BookError) (old new : ModelState) (valid : 
           with_body (Some body) read = is body read
 
       pub defines : OnOk result ((body : Body) → body_of (notations_in old.book) (core_of old.book) text ≡ Some body
-          → new.book ≡ book_changed_by (with_name (new_definition (notations_in old.book) (core_of old.book) name (scope_or_none (core_of old.book) scope) body)) old.book)
+          → new.book ≡ book_changed_by (with_added_definition (new_definition (notations_in old.book) (core_of old.book) name (scope_or_none (core_of old.book) scope) body)) old.book)
           → RefusesOr InvalidNameFormula result (new_name_refusal (notations_in old.book) (core_of old.book) name scope text) → DoesOr InvalidNameFormula definition_step (NewDefinedName name scope text) no_fields result old new
       unfolding core_step new_name_step
       defines is refused =
@@ -409,13 +409,13 @@ module _ (now : ModelState) (valid : IsValidBook now.book) where
       ∙ ap₂ (λ (a b : List Field). a ++ b) (one_listed d (listed_scope (core_of now.book) d.scope)) (all_listed ds)
       ∙ sym (map-append of_core_field (fields_in_scope notation (core_of now.book) d (listed_scope (core_of now.book) d.scope)) (flat_map (λ d. fields_in_scope notation (core_of now.book) d (listed_scope (core_of now.book) d.scope)) ds))
 
-  pub lists : (result : Result (Vec (String Global × Option ℕ × String Global)) BookError) → IfOk result (λ names. map listed names.items ≡ listed_names (notations_in now.book) (core_of now.book)) → Refuses result None
+  pub lists : (result : Result (Vec (String Global × Option ℕ × String Global)) BookError) → IfOk result (λ names. map listed names.items ≡ listed_definitions (notations_in now.book) (core_of now.book)) → Refuses result None
       → Does definition_step GetDefinedNameList listed_fields result now now
   unfolding core_step list_step
   lists result is refused = record {
     done =
         made_wanted None (machine.core_of all) (list_fields notation (machine.core_of all)) all listed_fields now now result refused
-        (reads result all (of_core_fields (list_fields notation (machine.core_of all))) listed_fields (λ names. map listed names.items ≡ listed_names notation (core_of now.book))
+        (reads result all (of_core_fields (list_fields notation (machine.core_of all))) listed_fields (λ names. map listed names.items ≡ listed_definitions notation (core_of now.book))
         (λ names e. sym (flat_map-map fields_of_listed listed names.items) ∙ ap (flat_map fields_of_listed) e ∙ all_listed now.book.definitions ∙ ap (λ c. of_core_fields (list_fields notation c)) (sym all_seen)) is) (unchanged result now);
     before = valid;
     after = valid;

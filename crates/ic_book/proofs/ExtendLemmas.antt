@@ -37,7 +37,7 @@ use Rattle.ic_machine.specs.Reply.{Field, text_field}
 use Rattle.ic_machine.specs.subjects.Extending.{CellOf, cell_of, copied_text, copied_tree, extend_copied_step, extend_step, extended, localized_text, reads_not, source_id, tree_extended}
 use Rattle.ic_machine.specs.subjects.Notation.{settings_fields}
 use Rattle.ic_machine.specs.subjects.Reading.{formula_text}
-use Rattle.ic_sheets.specs.Sheet.{BookSheet, HasPlaces, IsValidPool, cells_of, formula_in}
+use Rattle.ic_sheets.specs.Sheet.{HasIndexes, IsValidPool, Sheet, cells_of, formula_in}
 use Rattle.ic_book.specs.Book.{IsValidBook, ModelState, core_of, notations_in, scene_in}
 use Rattle.ic_book.specs.Does.{DoesStep, IsDone, Refused, Wanted, Wants, WantedOrWhole}
 use Rattle.ic_book.specs.Extended.{CopiesFormula, cell_at, cells_causes, inside_causes, tree_at, tree_shown, value_text}
@@ -82,7 +82,7 @@ module _ (now : ModelState) (source target : CellReferenceIndex) where
   lacks i none =
       ap not (none_past (whole_of now.book).sheets i (slice_get-map (whole_sheet now.book.strings) now.book.sheets i ∙ ap (option_map (whole_sheet now.book.strings)) none))
 
-  stands : (i : ℕ) (s : BookSheet) → slice_get now.book.sheets i ≡ Some s → lacks_sheet (whole_of now.book) i ≡ false
+  stands : (i : ℕ) (s : Sheet) → slice_get now.book.sheets i ≡ Some s → lacks_sheet (whole_of now.book) i ≡ false
   stands i s at =
       ap not (some_within (whole_of now.book).sheets i (whole_sheet now.book.strings s) (slice_get-map (whole_sheet now.book.strings) now.book.sheets i ∙ ap (option_map (whole_sheet now.book.strings)) at))
 
@@ -92,16 +92,16 @@ module _ (now : ModelState) (source target : CellReferenceIndex) where
   pub source_lacks : slice_get now.book.sheets source.sheet ≡ None → first_refusal (cells_causes now.book source target) ≡ Some InvalidSheet
   source_lacks none = ap (λ b. refused_by b (lacks_sheet (whole_of now.book) target.sheet)) (lacks source.sheet none)
 
-  module _ (s : BookSheet) (at : slice_get now.book.sheets source.sheet ≡ Some s) where
+  module _ (s : Sheet) (at : slice_get now.book.sheets source.sheet ≡ Some s) where
     pub target_lacks : slice_get now.book.sheets target.sheet ≡ None → first_refusal (cells_causes now.book source target) ≡ Some InvalidSheet
     target_lacks none = ap₂ refused_by (stands source.sheet s at) (lacks target.sheet none)
 
-    pub sheets_stand : (t : BookSheet) → slice_get now.book.sheets target.sheet ≡ Some t → first_refusal (cells_causes now.book source target) ≡ first_refusal (inside_causes source target)
+    pub sheets_stand : (t : Sheet) → slice_get now.book.sheets target.sheet ≡ Some t → first_refusal (cells_causes now.book source target) ≡ first_refusal (inside_causes source target)
     sheets_stand t there = ap₂ refused_by (stands source.sheet s at) (stands target.sheet t there)
 
 -- the formulas of a sheet's cells are of its pool
-pub places_at : (now : ModelState) → IsValidBook now.book → (index : ℕ) (s : BookSheet) → slice_get now.book.sheets index ≡ Some s → HasPlaces (length s.pool) s.grid
-places_at now valid index s at = (one_of_all (IsValidPool (notations_in now.book) (scene_in now.book)) index now.book.sheets s at (pools_valid now.book valid)).places
+pub places_at : (now : ModelState) → IsValidBook now.book → (index : ℕ) (s : Sheet) → slice_get now.book.sheets index ≡ Some s → HasIndexes (length s.pool) s.grid
+places_at now valid index s at = (one_of_all (IsValidPool (notations_in now.book) (scene_in now.book)) index now.book.sheets s at (pools_valid now.book valid)).indexes
 
 -- what is told of a cell of a sheet, in another
 abbrev pub extended_told : machine.Book → ℤ → ℤ → CellPlace → machine.Sheet → List Field
@@ -157,7 +157,7 @@ module _ (now : ModelState) (valid : IsValidBook now.book) (l : NamedLocale) (g 
 
   -- a cell in another ----
 
-  module _ (index : ℕ) (row column : ℤ) (target : CellPlace) (s : BookSheet) (at : slice_get now.book.sheets index ≡ Some s) where
+  module _ (index : ℕ) (row column : ℤ) (target : CellPlace) (s : Sheet) (at : slice_get now.book.sheets index ≡ Some s) where
     abbrev seen : machine.Sheet
     seen = whole_sheet strings s
 
@@ -258,12 +258,12 @@ module _ (now : ModelState) (valid : IsValidBook now.book) (l : NamedLocale) (g 
       }
 
       -- one with a formula
-      module _ (formula : List ℕ) (typed : formula_of l.locale text ≡ Some formula) (id : ℕ) (its_id : option_map (λ (s : BookSheet). s.id) (slice_get now.book.sheets source.sheet) ≡ Some id) where
+      module _ (formula : List ℕ) (typed : formula_of l.locale text ≡ Some formula) (id : ℕ) (its_id : option_map (λ (s : Sheet). s.id) (slice_get now.book.sheets source.sheet) ≡ Some id) where
         id_is : source_id whole from to ≡ Some id
         id_is =
             ap (option_map (λ (s : machine.Sheet). s.id)) (slice_get-map (whole_sheet strings) now.book.sheets source.sheet) ∙ id_seen (slice_get now.book.sheets source.sheet) ∙ its_id
           where
-            id_seen : (o : Option BookSheet) → option_map (λ (s : machine.Sheet). s.id) (option_map (whole_sheet strings) o) ≡ option_map (λ (s : BookSheet). s.id) o
+            id_seen : (o : Option Sheet) → option_map (λ (s : machine.Sheet). s.id) (option_map (whole_sheet strings) o) ≡ option_map (λ (s : Sheet). s.id) o
             id_seen None = refl
             id_seen (Some s) = refl
 

@@ -15,7 +15,7 @@ use Rattle.ic_laws.specs.Scene.{definition_at, found_name, key_of, same_key, sam
 use Rattle.ic_laws.specs.declared.scene.NameSpelling.{NameSpelling}
 use Rattle.ic_laws.specs.declared.tree.NameKey.{NameKey}
 use Rattle.ic_laws.specs.declared.tree.NameMention.{NameMention}
-use Rattle.ic_names.specs.Named.{key_in, names_scene}
+use Rattle.ic_definitions.specs.Named.{definitions_scene, key_in}
 
 never : (a : Bool) → (a && false) ≡ false
 never true = refl
@@ -32,16 +32,16 @@ module _ (ds : List Definition) (index : ℕ) (d : Definition) (at : slice_get d
   seen : slice_get (map spelling_of ds) index ≡ Some (spelling_of d)
   seen = slice_get-map spelling_of ds index ∙ ap (option_map spelling_of) at
 
-  left : (o : Option NameSpelling) → find p (remove (map spelling_of ds) index) ≡ o → found_name (names_scene (remove ds index)) None d.name ≡ option_map key_of o
+  left : (o : Option NameSpelling) → find p (remove (map spelling_of ds) index) ≡ o → found_name (definitions_scene (remove ds index)) None d.name ≡ option_map key_of o
   left o e = twice (find p (map spelling_of (remove ds index))) ∙ ap (λ xs. option_map key_of (find p xs)) (remove_map spelling_of ds index) ∙ ap (option_map key_of) e
 
   -- a local one leaves the one that is local to none
-  pub local_gone : (id : ℕ) → d.scope ≡ Some id → option_map key_of (definition_at (names_scene ds) (fold d.name) None) ≡ found_name (names_scene (remove ds index)) None d.name
+  pub local_gone : (id : ℕ) → d.scope ≡ Some id → option_map key_of (definition_at (definitions_scene ds) (fold d.name) None) ≡ found_name (definitions_scene (remove ds index)) None d.name
   local_gone id local =
       sym (left (find p (map spelling_of ds)) (removed_finds p (map spelling_of ds) index (spelling_of d) seen (ap (λ s. bytes_eq (fold d.name) (fold d.name) && same_scope s None) local ∙ never (bytes_eq (fold d.name) (fold d.name)))))
 
   -- and that leaves none
-  pub global_gone : IsDistinct same_key (map key_in ds) → d.scope ≡ None → None ≡ found_name (names_scene (remove ds index)) None d.name
+  pub global_gone : IsDistinct same_key (map key_in ds) → d.scope ≡ None → None ≡ found_name (definitions_scene (remove ds index)) None d.name
   global_gone differ global =
       sym (left None
       (subst (λ s. find (λ (x : NameSpelling). bytes_eq (fold x.name) (fold d.name) && same_scope x.scope s) (remove (map spelling_of ds) index) ≡ None) global
@@ -51,9 +51,9 @@ module _ (ds : List Definition) (index : ℕ) (d : Definition) (at : slice_get d
   same_read read e = cc
 
   -- so this is what the change makes of a word
-  pub change_is : (read : Definition) (key : NameKey) (mention : NameMention) → slice_get ds index ≡ Some read → key ≡ key_of (spelling_of read) → mention ≡ name_or_dangling read.name (found_name (names_scene (remove ds index)) None read.name)
-      → OfWords (λ scope m. is_of_name key m) mention ≡ name_gone (names_scene (remove ds index)) (spelling_of d)
+  pub change_is : (read : Definition) (key : NameKey) (mention : NameMention) → slice_get ds index ≡ Some read → key ≡ key_of (spelling_of read) → mention ≡ name_or_dangling read.name (found_name (definitions_scene (remove ds index)) None read.name)
+      → OfWords (λ scope m. is_of_name key m) mention ≡ name_gone (definitions_scene (remove ds index)) (spelling_of d)
   change_is read key mention there e f =
       let same : read ≡ d = same_read read (sym there ∙ at) in
       ap₂ (λ (k : NameKey) (becomes : NameMention). OfWords (λ scope m. is_of_name k m) becomes) (e ∙ ap (λ (x : Definition). key_of (spelling_of x)) same)
-      (f ∙ ap (λ (x : Definition). name_or_dangling x.name (found_name (names_scene (remove ds index)) None x.name)) same)
+      (f ∙ ap (λ (x : Definition). name_or_dangling x.name (found_name (definitions_scene (remove ds index)) None x.name)) same)

@@ -39,7 +39,7 @@ use Rattle.ic_machine.specs.Content.{content_of, held}
 use Rattle.ic_machine.specs.Refusal.{ArrayPart, InvalidColumn, InvalidRow, MergedPart, Refusal, first_refusal}
 use Rattle.ic_machine.specs.Styling.{Numbered, numbered, restyled}
 use Rattle.ic_machine.specs.subjects.Writing.{coded, unquoted}
-use Rattle.ic_sheets.specs.Sheet.{BookSheet, TakesCell, formula_cell, with_cell_in}
+use Rattle.ic_sheets.specs.Sheet.{Sheet, TakesCell, formula_cell, with_cell_in}
 use Rattle.ic_sheets.specs.declared.sheet.FormulaKind.{FormulaKind}
 use Rattle.ic_sheets.specs.declared.sheet.FormulaKind.TheVariants as kinds
 use Rattle.ic_sheets.proofs.CellLemmas.{formula_loose}
@@ -151,7 +151,7 @@ none_fixed grid h p = at_anchor (anchor_at celled grid.cells p)
 
 -- A sheet of a valid book. ----
 
-module _ (book : Book) (valid : IsValidBook book) (index : ℕ) (s : BookSheet) (at : slice_get book.sheets index ≡ Some s) where
+module _ (book : Book) (valid : IsValidBook book) (index : ℕ) (s : Sheet) (at : slice_get book.sheets index ≡ Some s) where
   its_holds : HoldsOf (notations_in book) (machine.scene_in (whole_of book)) (length book.styles) (whole_sheet book.strings s)
   its_holds = holds_at (whole_of book) valid.whole index (whole_sheet book.strings s) (slice_get-map (whole_sheet book.strings) book.sheets index ∙ ap (option_map (whole_sheet book.strings)) at)
 

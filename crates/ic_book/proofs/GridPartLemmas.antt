@@ -23,7 +23,7 @@ use Rattle.ic_machine.proofs.ValidLemmas.{AreLines, HoldsOf, lines_held, lines_o
 use Rattle.ic_machine.specs.Refusal.{Refusal}
 use Rattle.ic_machine.specs.Reply.{Field}
 use Rattle.ic_machine.specs.Valid as valid_machine
-use Rattle.ic_sheets.specs.Sheet.{BookSheet, sheet_of}
+use Rattle.ic_sheets.specs.Sheet.{Sheet, sheet_of}
 use Rattle.ic_sheets.specs.declared.sheet.Sheet.{Sheet as HeldSheet}
 use Rattle.ic_book.specs.Book.{Book, HasString, HasStrings, IsPlain, IsValidBook, ModelState, notations_in, whole_grid}
 use Rattle.ic_book.specs.declared.about.About.{About}
@@ -62,7 +62,7 @@ same_laid_out before after same = subst (StaysLaidOut before) (sym same) (record
 abbrev pub with_grid : ℕ → Grid → Book → Book
 with_grid index grid book = record book { sheets = updated_at (λ s. record s { grid = grid }) index book.sheets }
 
-module _ (index : ℕ) (grid : Grid) (book : Book) (valid : IsValidBook book) (sheet : BookSheet) (at : slice_get book.sheets index ≡ Some sheet) where
+module _ (index : ℕ) (grid : Grid) (book : Book) (valid : IsValidBook book) (sheet : Sheet) (at : slice_get book.sheets index ≡ Some sheet) where
   abbrev old_sheet : machine.Sheet
   old_sheet = whole_sheet book.strings sheet
 
@@ -101,11 +101,11 @@ module _ (index : ℕ) (grid : Grid) (book : Book) (valid : IsValidBook book) (s
     its_strings : HasStrings (length book.strings) grid
     its_strings =
         subst (λ (cells : Contents Cell). (place : CellPlace) (cell : Cell) → finite.get cells place ≡ Some cell → HasString (length book.strings) cell) (sym stays.cells)
-        (one_of_all (λ (s : BookSheet). HasStrings (length book.strings) s.grid) index book.sheets sheet at valid.strings)
+        (one_of_all (λ (s : Sheet). HasStrings (length book.strings) s.grid) index book.sheets sheet at valid.strings)
 
     its_plain : IsPlain grid
     its_plain =
-        let plain : IsPlain sheet.grid = one_of_all (λ (s : BookSheet). IsPlain s.grid) index book.sheets sheet at valid.plain in
+        let plain : IsPlain sheet.grid = one_of_all (λ (s : Sheet). IsPlain s.grid) index book.sheets sheet at valid.plain in
         record {
           merges = stays.merges ∙ plain.merges;
           loose = subst (λ (cells : Contents Cell). (place : CellPlace) (cell : Cell) → finite.get cells place ≡ Some cell → is_loose (shape_of cell) ≡ true) (sym stays.cells) plain.loose;
@@ -116,8 +116,8 @@ module _ (index : ℕ) (grid : Grid) (book : Book) (valid : IsValidBook book) (s
       whole =
           subst valid_machine.IsValidBook (sym whole_with_grid)
           (subst (λ (g : machine.Grid). valid_machine.IsValidBook (with_sheet (whole_of book) index (sheet_with g))) grid_laid laid_valid);
-      strings = all_updated (λ (s : BookSheet). HasStrings (length book.strings) s.grid) (λ s. record s { grid = grid }) (λ s h. its_strings) index book.sheets valid.strings;
-      plain = all_updated (λ (s : BookSheet). IsPlain s.grid) (λ s. record s { grid = grid }) (λ s h. its_plain) index book.sheets valid.plain;
+      strings = all_updated (λ (s : Sheet). HasStrings (length book.strings) s.grid) (λ s. record s { grid = grid }) (λ s h. its_strings) index book.sheets valid.strings;
+      plain = all_updated (λ (s : Sheet). IsPlain s.grid) (λ s. record s { grid = grid }) (λ s h. its_plain) index book.sheets valid.plain;
     }
 
 -- what is done to the grid of a sheet is done to the book ----
@@ -131,7 +131,7 @@ module _ (old : ModelState) (valid : IsValidBook old.book) (index : ℕ) {T : Ty
   unfolding on_grid
   grid_missing none = record { done = (missing old.book index (grid_on step) none, refl); before = valid; after = valid }
 
-  module _ (sheet : BookSheet) (is : slice_get old.book.sheets index ≡ Some sheet) (after : Grid) (stays : StaysLaidOut sheet.grid after) (new : ModelState) (becomes : new ≡ record old { book = with_grid index after old.book }) where
+  module _ (sheet : Sheet) (is : slice_get old.book.sheets index ≡ Some sheet) (after : Grid) (stays : StaysLaidOut sheet.grid after) (new : ModelState) (becomes : new ≡ record old { book = with_grid index after old.book }) where
     abbrev whole : machine.Book
     whole = whole_of old.book
 
@@ -156,7 +156,7 @@ module _ (old : ModelState) (valid : IsValidBook old.book) (index : ℕ) {T : Ty
     done_so (Err e) h =
         let unchanged : with_grid index after old.book ≡ old.book =
         ap (λ (g : Grid). with_grid index g old.book) h.1
-        ∙ ap (λ (sheets : List BookSheet). let b : Book = record old.book { sheets = sheets } in b) (updated_same (λ s. record s { grid = sheet.grid }) index old.book.sheets sheet is refl) in
+        ∙ ap (λ (sheets : List Sheet). let b : Book = record old.book { sheets = sheets } in b) (updated_same (λ s. record s { grid = sheet.grid }) index old.book.sheets sheet is refl) in
         let same : new ≡ old = becomes ∙ ap (λ (b : Book). let m : ModelState = record old { book = b } in m) unchanged in
         record {
           done =
@@ -170,10 +170,10 @@ module _ (old : ModelState) (valid : IsValidBook old.book) (index : ℕ) {T : Ty
     grid_does r h = done_so r (h.done old.book.strings)
 
   -- the same of what only reads it
-  pub grid_reads : (sheet : BookSheet) → slice_get old.book.sheets index ≡ Some sheet → (r : Result T BookError) → DoesGrid memory step fields r sheet.grid sheet.grid → DoesStep (wants memory) (on_grid (whole_of old.book) index step) fields r old old
+  pub grid_reads : (sheet : Sheet) → slice_get old.book.sheets index ≡ Some sheet → (r : Result T BookError) → DoesGrid memory step fields r sheet.grid sheet.grid → DoesStep (wants memory) (on_grid (whole_of old.book) index step) fields r old old
   grid_reads sheet is r h =
       let same : updated_at (λ s. record s { grid = sheet.grid }) index old.book.sheets ≡ old.book.sheets = updated_same (λ s. record s { grid = sheet.grid }) index old.book.sheets sheet is refl in
-      grid_does sheet is sheet.grid (same_laid_out sheet.grid sheet.grid refl) old (ap (λ (sheets : List BookSheet). let m : ModelState = record old { book = record old.book { sheets = sheets } } in m) (sym same)) r h
+      grid_does sheet is sheet.grid (same_laid_out sheet.grid sheet.grid refl) old (ap (λ (sheets : List Sheet). let m : ModelState = record old { book = record old.book { sheets = sheets } } in m) (sym same)) r h
 
 -- the same of a model's sheets ----
 
@@ -184,7 +184,7 @@ module _ (about : About) (ws : List HeldSheet) (ds : List Definition) (locale : 
   module _ (now : List HeldSheet) (grid : Grid) (is : now ≡ updated_at (λ s. record s { grid = grid }) index ws) where
     pub grid_state : held_state about now ds locale language tables ≡ record its_state { book = with_grid index grid its_state.book }
     grid_state =
-        ap₂ (λ (sheets : List BookSheet) (all : List Bool). let m : ModelState = record { book = record its_state.book { sheets = sheets }; has_all = all } in m)
+        ap₂ (λ (sheets : List Sheet) (all : List Bool). let m : ModelState = record { book = record its_state.book { sheets = sheets }; has_all = all } in m)
         (ap (map sheet_of) is ∙ updated_seen sheet_of (λ s. record s { grid = grid }) (λ s. record s { grid = grid }) (λ s. refl) index ws)
         (ap (map (λ (s : HeldSheet). s.pool.is_whole)) is ∙ look_ups_same index ws)
       where

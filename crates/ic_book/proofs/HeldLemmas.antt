@@ -12,7 +12,7 @@ use Rattle.ic_laws.proofs.keeping.Moves.{move_keeps}
 use Rattle.ic_laws.proofs.keeping.Renames.{add_binds, rename_binds, rename_keeps}
 use Rattle.ic_laws.specs.BookTrees.{BookKeepsFound, IsMoved, with_body_tree, with_sheet_at_end, with_trees}
 use Rattle.ic_laws.specs.Changes.{changed_tree, name_added, name_gone, sheet_gone, sheet_named}
-use Rattle.ic_laws.specs.CoreBook.{CellPlace, CoreBook, Definition, formula_at, Sheet, fresh_id, greatest_id, has_sheet, scene_of, spelling_of}
+use Rattle.ic_laws.specs.CoreBook.{CellPlace, CoreBook, Definition, Sheet as CoreSheet, formula_at, fresh_id, greatest_id, has_sheet, scene_of, spelling_of}
 use Rattle.ic_laws.specs.CoreStep.{add_sheet_causes, add_sheet_refusal, changed_by, delete_refusal, formula_of, has_other_sheet, lacks_sheet, move_refusal, moved, rename_causes, rename_refusal, unless_refused, updated_at, with_new_sheet, with_sheet_name, without_sheet}
 use Rattle.ic_laws.specs.Greatest.{greatest}
 use Rattle.ic_laws.specs.Name.{agrees, is_sheet_name}
@@ -27,11 +27,11 @@ use Rattle.ic_tables.specs.declared.locale.NamedLocale.{NamedLocale}
 use Rattle.ic_tables.proofs.WellFormed.{language_found, locale_found}
 use Rattle.ic_tree.proofs.NotationLaws.{knows_language_is, knows_locale_is, notations_are}
 use Rattle.ic_tree.specs.Notations.{notations_of}
-use Rattle.ic_names.specs.Named.{names_scene, scopes_of}
+use Rattle.ic_definitions.specs.Named.{definitions_scene, scopes_of}
 use Rattle.ic_sheets.proofs.RewritingLemmas.{read_there}
 use Rattle.ic_sheets.specs.Rewriting.{changed_pool, sheets_of}
 use Rattle.ic_sheets.specs.Sheet as sheets
-use Rattle.ic_sheets.specs.Sheet.{BookSheet, HasPlaces, IsValidPool, TakesCell, cells_of, empty_grid, formula_cell, plain_tab, sheet_core, sheet_of, with_cell_in}
+use Rattle.ic_sheets.specs.Sheet.{HasIndexes, IsValidPool, Sheet, TakesCell, cells_of, empty_grid, formula_cell, plain_tab, sheet_core, sheet_of, with_cell_in}
 use Rattle.ic_sheets.specs.declared.sheet.FormulaKind.{FormulaKind}
 use Rattle.ic_pool.specs.Pool.{IsPlaced}
 use Rattle.ic_laws.specs.declared.tree.Formula.{Formula}
@@ -49,7 +49,7 @@ use Rattle.ic_book.proofs.WrittenLemmas.{core_of-pool, one_of_all}
 use Rattle.ic_sheets.specs.declared.sheet.Sheet.{Sheet as HeldSheet}
 use Rattle.ic_book.specs.declared.about.About.{About}
 use Rattle.ic_book.specs.Book.{Book, IsValidBook, core_of, first_sheet_name_in, new_book, notations_in, scene_in}
-use Rattle.ic_book.specs.Change.{book_changed_by, with_added_sheet, with_moved_sheet, with_name, with_removed_sheet, with_renamed_sheet, without_name}
+use Rattle.ic_book.specs.Change.{book_changed_by, with_added_definition, with_added_sheet, with_moved_sheet, with_removed_definition, with_removed_sheet, with_renamed_sheet}
 use Rattle.ic_book.specs.Inside.{IsHeld, held}
 use Rattle.ic_book.proofs.BookLemmas.{moved-map}
 use Rattle.ic_book.proofs.BookValid.{core_valid, placed_valid, pools_valid}
@@ -62,11 +62,11 @@ use Rattle.ic_book.specs.declared.error.BookError.TheVariants as errors
 
 -- ---- the sheets as the core sees them
 
-pub seen_names : (ws : List HeldSheet) → map (λ s. s.name) ws ≡ map (λ (s : Sheet). s.name) (map sheet_core (map sheet_of ws))
+pub seen_names : (ws : List HeldSheet) → map (λ s. s.name) ws ≡ map (λ (s : CoreSheet). s.name) (map sheet_core (map sheet_of ws))
 seen_names [] = refl
 seen_names (s ∷ ws) = ap (λ (rest : List (List ℕ)). s.name ∷ rest) (seen_names ws)
 
-pub seen_ids : (ws : List HeldSheet) → map (λ s. s.id) ws ≡ map (λ (s : Sheet). s.id) (map sheet_core (map sheet_of ws))
+pub seen_ids : (ws : List HeldSheet) → map (λ s. s.id) ws ≡ map (λ (s : CoreSheet). s.id) (map sheet_core (map sheet_of ws))
 seen_ids [] = refl
 seen_ids (s ∷ ws) = ap (λ (rest : List ℕ). s.id ∷ rest) (seen_ids ws)
 
@@ -74,11 +74,11 @@ pub seen_length : (ws : List HeldSheet) → length ws ≡ length (map sheet_core
 seen_length [] = refl
 seen_length (s ∷ ws) = ap suc (seen_length ws)
 
-pub found_by_name : (ws : List HeldSheet) (name : List ℕ) → position (λ s. agrees s.name name) ws ≡ position (λ (s : Sheet). agrees s.name name) (map sheet_core (map sheet_of ws))
-found_by_name ws name = sym (position-map sheet_core (λ (s : Sheet). agrees s.name name) (map sheet_of ws) ∙ position-map sheet_of (λ (s : BookSheet). agrees s.name name) ws)
+pub found_by_name : (ws : List HeldSheet) (name : List ℕ) → position (λ s. agrees s.name name) ws ≡ position (λ (s : CoreSheet). agrees s.name name) (map sheet_core (map sheet_of ws))
+found_by_name ws name = sym (position-map sheet_core (λ (s : CoreSheet). agrees s.name name) (map sheet_of ws) ∙ position-map sheet_of (λ (s : Sheet). agrees s.name name) ws)
 
-pub found_by_id : (ws : List HeldSheet) (id : ℕ) → position (λ s. nat_eq s.id id) ws ≡ position (λ (s : Sheet). nat_eq s.id id) (map sheet_core (map sheet_of ws))
-found_by_id ws id = sym (position-map sheet_core (λ (s : Sheet). nat_eq s.id id) (map sheet_of ws) ∙ position-map sheet_of (λ (s : BookSheet). nat_eq s.id id) ws)
+pub found_by_id : (ws : List HeldSheet) (id : ℕ) → position (λ s. nat_eq s.id id) ws ≡ position (λ (s : CoreSheet). nat_eq s.id id) (map sheet_core (map sheet_of ws))
+found_by_id ws id = sym (position-map sheet_core (λ (s : CoreSheet). nat_eq s.id id) (map sheet_of ws) ∙ position-map sheet_of (λ (s : Sheet). nat_eq s.id id) ws)
 
 -- ---- refusals
 
@@ -219,10 +219,10 @@ start_is a name ws ds locale language locale_id language_id zone_id zone tables 
     given : About
     given = record { name = name; zone = zone; theme = []; created = a.created; styles = default_style ∷ []; strings = [] }
 
-    first : List ℕ → List BookSheet
+    first : List ℕ → List Sheet
     first code = record { id = 1; name = first_sheet_name_in code; pool = []; grid = empty_grid; tab = plain_tab } ∷ []
 
-    make : About → List BookSheet → List Definition → List ℕ → List ℕ → Book
+    make : About → List Sheet → List Definition → List ℕ → List ℕ → Book
     make b ss ds l g = record { name = b.name; sheets = ss; definitions = ds; locale = l; language = g; zone = b.zone.now; theme = b.theme; created = b.created; styles = b.styles; strings = b.strings; tables = tables }
 
 pub whole_updated : (f : HeldSheet → HeldSheet) → ((s : HeldSheet) → (f s).pool.is_whole ≡ true) → (i : ℕ) (ws : List HeldSheet) → map (λ (s : HeldSheet). s.pool.is_whole) (updated_at f i ws) ≡ updated_at (λ b. true) i (map (λ (s : HeldSheet). s.pool.is_whole) ws)
@@ -282,11 +282,11 @@ module _ (about : About) (ws : List HeldSheet) (ds : List Definition) (locale : 
   pub held_after : (now : List HeldSheet) (nds : List Definition) (becomes : Book) → after now nds ≡ becomes → IsValidBook becomes → IsHeld about now nds locale language tables
   held_after now nds becomes e valid = record { valid = subst IsValidBook (sym e) valid; locale_found = h.locale_found; language_found = h.language_found }
 
-  of_parts : (now : List HeldSheet) (nds : List Definition) (sheets : List BookSheet) (definitions : List Definition) → sheets_of now ≡ sheets → nds ≡ definitions → after now nds ≡ record book { sheets = sheets; definitions = definitions }
-  of_parts now nds sheets definitions e f = ap₂ (λ (sheets : List BookSheet) (definitions : List Definition). let b : Book = record book { sheets = sheets; definitions = definitions } in b) e f
+  of_parts : (now : List HeldSheet) (nds : List Definition) (sheets : List Sheet) (definitions : List Definition) → sheets_of now ≡ sheets → nds ≡ definitions → after now nds ≡ record book { sheets = sheets; definitions = definitions }
+  of_parts now nds sheets definitions e f = ap₂ (λ (sheets : List Sheet) (definitions : List Definition). let b : Book = record book { sheets = sheets; definitions = definitions } in b) e f
 
-  of_sheets : (now : List HeldSheet) (sheets : List BookSheet) → sheets_of now ≡ sheets → after now ds ≡ record book { sheets = sheets }
-  of_sheets now sheets e = ap (λ (sheets : List BookSheet). let b : Book = record book { sheets = sheets } in b) e
+  of_sheets : (now : List HeldSheet) (sheets : List Sheet) → sheets_of now ≡ sheets → after now ds ≡ record book { sheets = sheets }
+  of_sheets now sheets e = ap (λ (sheets : List Sheet). let b : Book = record book { sheets = sheets } in b) e
 
   module _ (now : List HeldSheet) (nds : List Definition) where
     pub added : (called : List ℕ) (id : ℕ) → add_sheet_refusal (core_of book) called ≡ None → fresh_id (core_of book) ≡ Some id
@@ -309,11 +309,11 @@ module _ (about : About) (ws : List HeldSheet) (ds : List Definition) (locale : 
         of_parts now nds _ _ e f ∙ sym (removed_is n are book (core_valid book h.valid) (pools_valid book h.valid) index (sheet_of s) (slice_get-map sheet_of ws index ∙ ap (option_map sheet_of) at))
 
     pub defined : (new : Definition) → sheets_of now ≡ map (changed_pool (name_added (spelling_of new))) (sheets_of ws) → nds ≡ map (with_body_tree (changed_tree (name_added (spelling_of new)))) ds ++ new ∷ []
-        → after now nds ≡ book_changed_by (with_name new) book
+        → after now nds ≡ book_changed_by (with_added_definition new) book
     defined new e f = of_parts now nds _ _ e f ∙ sym (defined_is n are book (core_valid book h.valid) (pools_valid book h.valid) new)
 
-    pub undefined : (index : ℕ) (d : Definition) → slice_get ds index ≡ Some d → sheets_of now ≡ map (changed_pool (name_gone (names_scene (remove ds index)) (spelling_of d))) (sheets_of ws)
-        → nds ≡ remove (map (with_body_tree (changed_tree (name_gone (names_scene (remove ds index)) (spelling_of d)))) ds) index → after now nds ≡ book_changed_by (without_name (Some index)) book
+    pub undefined : (index : ℕ) (d : Definition) → slice_get ds index ≡ Some d → sheets_of now ≡ map (changed_pool (name_gone (definitions_scene (remove ds index)) (spelling_of d))) (sheets_of ws)
+        → nds ≡ remove (map (with_body_tree (changed_tree (name_gone (definitions_scene (remove ds index)) (spelling_of d)))) ds) index → after now nds ≡ book_changed_by (with_removed_definition (Some index)) book
     undefined index d at e f = of_parts now nds _ _ e f ∙ sym (undefined_is n are book (core_valid book h.valid) (pools_valid book h.valid) index d at)
 
   pub put : (now : List HeldSheet) (from to : ℕ) → now ≡ moved from to ws → after now ds ≡ with_moved_sheet from to book
@@ -326,11 +326,11 @@ module _ (about : About) (ws : List HeldSheet) (ds : List Definition) (locale : 
   pub keeps_renamed : (index : ℕ) (called : List ℕ) → rename_refusal (core_of book) index called ≡ None → BookKeepsFound (core_of book) (changed_by n (with_sheet_name index called) (core_of book))
   keeps_renamed index called none = rename_keeps n (core_of book) _ index called [] are (core_valid book h.valid) (ap (λ r. unless_refused r (changed_by n (with_sheet_name index called) (core_of book)) []) none)
 
-  pub binds_renamed : (index : ℕ) (called : List ℕ) (sheet : Sheet) → rename_refusal (core_of book) index called ≡ None → slice_get (core_of book).sheets index ≡ Some sheet
+  pub binds_renamed : (index : ℕ) (called : List ℕ) (sheet : CoreSheet) → rename_refusal (core_of book) index called ≡ None → slice_get (core_of book).sheets index ≡ Some sheet
       → changed_by n (with_sheet_name index called) (core_of book) ≡ with_sheet_name index called (with_trees (changed_tree (sheet_named sheet.id called)) (core_of book))
   binds_renamed index called sheet none at = rename_binds n (core_of book) _ index called sheet [] are (core_valid book h.valid) at (ap (λ r. unless_refused r (changed_by n (with_sheet_name index called) (core_of book)) []) none)
 
-  pub dangles_removed : (index : ℕ) (sheet : Sheet) → delete_refusal (core_of book) index ≡ None → slice_get (core_of book).sheets index ≡ Some sheet
+  pub dangles_removed : (index : ℕ) (sheet : CoreSheet) → delete_refusal (core_of book) index ≡ None → slice_get (core_of book).sheets index ≡ Some sheet
       → changed_by n (without_sheet index) (core_of book) ≡ without_sheet index (with_trees (changed_tree (sheet_gone sheet.id sheet.name)) (core_of book))
   dangles_removed index sheet none at = delete_dangles n (core_of book) _ index sheet [] are (core_valid book h.valid) at (ap (λ r. unless_refused r (changed_by n (without_sheet index) (core_of book)) []) none)
 
@@ -343,13 +343,13 @@ module _ (about : About) (ws : List HeldSheet) (ds : List Definition) (locale : 
     in_book : slice_get ws index ≡ Some s → slice_get book.sheets index ≡ Some (sheet_of s)
     in_book at = slice_get-map sheet_of ws index ∙ ap (option_map sheet_of) at
 
-    pub places_of : slice_get ws index ≡ Some s → HasPlaces (length s.pool.formulas) s.grid
-    places_of at = (one_of_all (IsValidPool n (scene_in book)) index book.sheets (sheet_of s) (in_book at) (pools_valid book h.valid)).places
+    pub places_of : slice_get ws index ≡ Some s → HasIndexes (length s.pool.formulas) s.grid
+    places_of at = (one_of_all (IsValidPool n (scene_in book)) index book.sheets (sheet_of s) (in_book at) (pools_valid book h.valid)).indexes
 
     -- a formula that it keeps is settled there
     pub pooled_at : slice_get ws index ≡ Some s → (place : ℕ) (formula : Formula) → slice_get s.pool.formulas place ≡ Some formula → IfSome (slice_get book.sheets index) (λ s. IsPooled n (scene_in book) (Some s.id) formula)
     pooled_at at place formula there =
-        subst (λ o. IfSome o (λ (s : BookSheet). IsPooled n (scene_in book) (Some s.id) formula)) (sym (in_book at))
+        subst (λ o. IfSome o (λ (s : Sheet). IsPooled n (scene_in book) (Some s.id) formula)) (sym (in_book at))
         (one_of_all (IsPooled n (scene_in book) (Some s.id)) place s.pool.formulas formula there (one_of_all (IsValidPool n (scene_in book)) index book.sheets (sheet_of s) (in_book at) (pools_valid book h.valid)).formulas)
 
     -- the same of what is lent of its pool
@@ -357,15 +357,15 @@ module _ (about : About) (ws : List HeldSheet) (ds : List Definition) (locale : 
     pooled_of None place at e = tt
     pooled_of (Some f) place at e = pooled_at at place f.now (sym e)
 
-    pub formula_in_pool : (place : ℕ) → slice_get ws index ≡ Some s → slice_get s.pool.formulas place ≡ option_and_then (λ (s : BookSheet). slice_get s.pool place) (slice_get book.sheets index)
-    formula_in_pool place at = sym (ap (option_and_then (λ (s : BookSheet). slice_get s.pool place)) (in_book at))
+    pub formula_in_pool : (place : ℕ) → slice_get ws index ≡ Some s → slice_get s.pool.formulas place ≡ option_and_then (λ (s : Sheet). slice_get s.pool place) (slice_get book.sheets index)
+    formula_in_pool place at = sym (ap (option_and_then (λ (s : Sheet). slice_get s.pool place)) (in_book at))
 
     pub formula_of_is : (row column : ℤ) → slice_get ws index ≡ Some s → formula_of (core_of book) index row column ≡ formula_at (cells_of s.pool.formulas (finite.entries s.grid.cells)) row column
     formula_of_is row column at =
-        ap (option_and_then (λ (sheet : Sheet). formula_at sheet.cells row column)) (slice_get-map sheet_core book.sheets index ∙ ap (option_map sheet_core) (in_book at))
+        ap (option_and_then (λ (sheet : CoreSheet). formula_at sheet.cells row column)) (slice_get-map sheet_core book.sheets index ∙ ap (option_map sheet_core) (in_book at))
 
   pub pool_at_is : (index : ℕ) → sheets.pool_at ws index ≡ pool_at book index
-  pool_at_is index = ap (λ o. unwrap_or o []) (sym (ap (option_map (λ (s : BookSheet). s.pool)) (slice_get-map sheet_of ws index) ∙ option_map-twice sheet_of (λ (s : BookSheet). s.pool) (slice_get ws index)))
+  pool_at_is index = ap (λ o. unwrap_or o []) (sym (ap (option_map (λ (s : Sheet). s.pool)) (slice_get-map sheet_of ws index) ∙ option_map-twice sheet_of (λ (s : Sheet). s.pool) (slice_get ws index)))
 
   module _ (now : List HeldSheet) (index : ℕ) where
     pub placed : (pool : List Formula) → now ≡ updated_at (λ s. record s { pool = record { formulas = pool; is_whole = true } }) index ws → after now ds ≡ with_pool index pool book
@@ -396,7 +396,7 @@ module _ (about : About) (ws : List HeldSheet) (ds : List Definition) (locale : 
         at = k;
         placed = subst (λ f. IsPlaced f k s.pool.formulas pool) is (there now index s at formula k pool is_placed);
         is =
-            ap₂ (λ (ss : List BookSheet) (st : List Style). let b : Book = record book { sheets = ss; styles = st } in b)
+            ap₂ (λ (ss : List Sheet) (st : List Style). let b : Book = record book { sheets = ss; styles = st } in b)
             (ap sheets_of e
             ∙ updated_seen sheet_of (λ s. record s { pool = record { formulas = pool; is_whole = true }; grid = with_cell_in place (formula_cell kind k number) s.grid }) (λ s. record s { pool = pool; grid = with_cell_in place (formula_cell kind k number) s.grid }) (λ s. refl) index ws)
             styled
@@ -412,7 +412,7 @@ module _ (about : About) (ws : List HeldSheet) (ds : List Definition) (locale : 
 
   -- a place that nothing refuses finds its sheet, which takes a cell there
   module _ (index : ℕ) (place : CellPlace) (none : value_refusal (held about ws ds locale language tables) index place.0 place.1 ≡ None) where
-    some_sheet : (o : Option BookSheet) → value_refusal_in place o ≡ None → (s : BookSheet) × (o ≡ Some s)
+    some_sheet : (o : Option Sheet) → value_refusal_in place o ≡ None → (s : Sheet) × (o ≡ Some s)
     some_sheet None e = cc
     some_sheet (Some s) e = (s, refl)
 
@@ -436,7 +436,7 @@ module _ (about : About) (ws : List HeldSheet) (ds : List Definition) (locale : 
 
   -- the same book, where styles that were added are taken back
   pub book_again : (styles : List Style) (now : List HeldSheet) → styles ≡ about.styles → sheets_of now ≡ sheets_of ws → held (record about { styles = styles }) now ds locale language tables ≡ held about ws ds locale language tables
-  book_again styles now same sheets = ap₂ (λ (ss : List BookSheet) (st : List Style). let b : Book = record book { sheets = ss; styles = st } in b) sheets same
+  book_again styles now same sheets = ap₂ (λ (ss : List Sheet) (st : List Style). let b : Book = record book { sheets = ss; styles = st } in b) sheets same
 
   pub held_again : (styles : List Style) (now : List HeldSheet) → styles ≡ about.styles → sheets_of now ≡ sheets_of ws → IsHeld (record about { styles = styles }) now ds locale language tables
   held_again styles now same sheets = record { valid = subst IsValidBook (sym (book_again styles now same sheets)) h.valid; locale_found = h.locale_found; language_found = h.language_found }

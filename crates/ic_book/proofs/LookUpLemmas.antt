@@ -5,7 +5,7 @@ use Rattle.std.proofs.lemmas.Option.{slice_get-map}
 use Rattle.ic_laws.specs.Changes.{Change}
 use Rattle.ic_laws.specs.CoreStep.{updated_at}
 use Rattle.ic_sheets.specs.Rewriting.{look_ups, looks_up_after}
-use Rattle.ic_sheets.specs.Sheet.{AreSameOrLookUp, BookSheet, looking_up, sheet_of}
+use Rattle.ic_sheets.specs.Sheet.{AreSameOrLookUp, Sheet, looking_up, sheet_of}
 use Rattle.ic_sheets.specs.declared.sheet.Sheet.{Sheet as HeldSheet}
 use Rattle.ic_book.specs.LookUps.{looks_up_over}
 use Rattle.ic_book.proofs.HeldLemmas.{whole_updated}
@@ -16,11 +16,11 @@ looks_up_is change [] = refl
 looks_up_is change (s ∷ ws) = ap (λ more. looks_up_after change s ∷ more) (looks_up_is change ws)
 
 -- where the change depends on the sheet at an index
-pub looks_up_at : (change : BookSheet → Change) (left : List Bool → List Bool) (ws : List HeldSheet) (index : ℕ) (s : HeldSheet) → slice_get ws index ≡ Some s
+pub looks_up_at : (change : Sheet → Change) (left : List Bool → List Bool) (ws : List HeldSheet) (index : ℕ) (s : HeldSheet) → slice_get ws index ≡ Some s
     → (now : List Bool) → now ≡ left (map (looks_up_after (change (sheet_of s))) ws)
     → IfSome (slice_get (map sheet_of ws) index) (λ b. now ≡ left (looks_up_over (change b) (map sheet_of ws) (look_ups ws)))
 looks_up_at change left ws index s at now e =
-    subst (λ o. IfSome o (λ (b : BookSheet). now ≡ left (looks_up_over (change b) (map sheet_of ws) (look_ups ws)))) (sym (slice_get-map sheet_of ws index ∙ ap (option_map sheet_of) at))
+    subst (λ o. IfSome o (λ (b : Sheet). now ≡ left (looks_up_over (change b) (map sheet_of ws) (look_ups ws)))) (sym (slice_get-map sheet_of ws index ∙ ap (option_map sheet_of) at))
     (e ∙ ap left (sym (looks_up_is (change (sheet_of s)) ws)))
 
 -- where that of one sheet alone may be there now

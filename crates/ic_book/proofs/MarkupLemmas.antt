@@ -11,7 +11,7 @@ use Rattle.ic_laws.specs.CoreBook.{CellPlace, CoreBook}
 use Rattle.ic_laws.specs.FormulaReading.{shown_formula}
 use Rattle.ic_laws.specs.declared.tree.Formula.{Formula}
 use Rattle.ic_laws.specs.declared.tree.Formula.TheVariants as kept
-use Rattle.ic_cells.specs.Cell.{formula_of}
+use Rattle.ic_cells.specs.Cell.{cell_formula_index}
 use Rattle.ic_cells.specs.declared.cell.Cell.{Cell}
 use Rattle.ic_cells.specs.declared.cell.Cell.TheVariants as cells
 use Rattle.ic_machine.proofs.AlikeGrid.{get-seen}
@@ -19,14 +19,14 @@ use Rattle.ic_machine.specs.Book as machine
 use Rattle.ic_machine.specs.Content.{content_of}
 use Rattle.ic_machine.specs.Reply.{Field, text_field}
 use Rattle.ic_machine.specs.subjects.Reading.{content_markup, formatted_content, formula_text, sheet_markup}
-use Rattle.ic_sheets.specs.Sheet.{BookSheet}
+use Rattle.ic_sheets.specs.Sheet.{Sheet}
 use Rattle.ic_book.specs.Book.{IsValidBook, ModelState, core_of, notations_in}
 use Rattle.ic_book.specs.Markup.{plain_shown}
 use Rattle.ic_book.specs.Shown.{StandsIn}
 use Rattle.ic_book.specs.Whole.{whole_of, whole_sheet}
 use Rattle.ic_book.proofs.WholeLemmas.{whole_core}
 
-module _ (now : ModelState) (valid : IsValidBook now.book) (s : BookSheet) (stands : StandsIn s now.book) (place : CellPlace) where
+module _ (now : ModelState) (valid : IsValidBook now.book) (s : Sheet) (stands : StandsIn s now.book) (place : CellPlace) where
   abbrev whole : machine.Book
   whole = whole_of now.book
 
@@ -37,7 +37,7 @@ module _ (now : ModelState) (valid : IsValidBook now.book) (s : BookSheet) (stan
   plain_there o there = ap (λ c. option_map_or (content_markup whole seen place) c []) (sym (get-seen (content_of now.book.strings) s.grid.cells place ∙ ap (option_map (content_of now.book.strings)) there))
 
   module _ (cell : Cell) (there : finite.get s.grid.cells place ≡ Some cell) where
-    pub formula_marked : (f : Formula) → option_and_then (slice_get s.pool) (formula_of cell) ≡ Some f
+    pub formula_marked : (f : Formula) → option_and_then (slice_get s.pool) (cell_formula_index cell) ≡ Some f
         → equals ∷ shown_formula (notations_in now.book) (core_of now.book) place.0 place.1 f ≡ content_markup whole seen place (content_of now.book.strings cell)
     formula_marked f e =
         ap (λ (c : CoreBook). equals ∷ shown_formula (notations_in now.book) c place.0 place.1 f) (sym (whole_core now.book)) ∙ by_cell cell e
@@ -45,7 +45,7 @@ module _ (now : ModelState) (valid : IsValidBook now.book) (s : BookSheet) (stan
         held_text : (i : ℕ) → slice_get s.pool i ≡ Some f → formula_text whole place f ≡ formula_text whole place (unwrap_or (slice_get s.pool i) (kept.Raw []))
         held_text i e = sym (ap (λ (o : Option Formula). formula_text whole place (unwrap_or o (kept.Raw []))) e)
 
-        by_cell : (x : Cell) → option_and_then (slice_get s.pool) (formula_of x) ≡ Some f → formula_text whole place f ≡ content_markup whole seen place (content_of now.book.strings x)
+        by_cell : (x : Cell) → option_and_then (slice_get s.pool) (cell_formula_index x) ≡ Some f → formula_text whole place f ≡ content_markup whole seen place (content_of now.book.strings x)
         by_cell (cells.EmptyCell n) e = cc
         by_cell (cells.BooleanCell v n) e = cc
         by_cell (cells.NumberCell v n) e = cc
@@ -55,10 +55,10 @@ module _ (now : ModelState) (valid : IsValidBook now.book) (s : BookSheet) (stan
         by_cell (cells.ArrayFormula i n r kind v) e = held_text i e
         by_cell (cells.SpillCell n a v) e = cc
 
-    pub value_marked : formula_of cell ≡ None → formatted_content whole (content_of now.book.strings cell) ≡ content_markup whole seen place (content_of now.book.strings cell)
+    pub value_marked : cell_formula_index cell ≡ None → formatted_content whole (content_of now.book.strings cell) ≡ content_markup whole seen place (content_of now.book.strings cell)
     value_marked e = by_cell cell e
       where
-        by_cell : (x : Cell) → formula_of x ≡ None → formatted_content whole (content_of now.book.strings x) ≡ content_markup whole seen place (content_of now.book.strings x)
+        by_cell : (x : Cell) → cell_formula_index x ≡ None → formatted_content whole (content_of now.book.strings x) ≡ content_markup whole seen place (content_of now.book.strings x)
         by_cell (cells.EmptyCell n) e = refl
         by_cell (cells.BooleanCell v n) e = refl
         by_cell (cells.NumberCell v n) e = refl

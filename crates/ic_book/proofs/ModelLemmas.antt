@@ -12,7 +12,7 @@ use Rattle.ic_laws.proofs.core.KeptBook.{mentioned}
 use Rattle.ic_laws.specs.CoreBook.{CellPlace, formula_at, place_cmp}
 use Rattle.ic_laws.specs.declared.scene.SheetName.{SheetName}
 use Rattle.ic_laws.specs.declared.tree.Formula.{Formula}
-use Rattle.ic_cells.specs.Cell.{formula_of}
+use Rattle.ic_cells.specs.Cell.{cell_formula_index}
 use Rattle.ic_cells.specs.declared.cell.Cell.{Cell}
 use Rattle.ic_grid.specs.Contents.{Contents}
 use Rattle.ic_machine.proofs.FormulaLemmas.{find-made}
@@ -36,11 +36,11 @@ lookup_is q [] = refl
 lookup_is q (e ∷ es) = ap (cond (eq_by_cmp place_cmp q e.0) (Some e.1)) (lookup_is q es)
 
 pub formula_by_cell : (pool : List Formula) (cells : Contents Cell) (row column : ℤ)
-    → formula_at (cells_of pool (finite.entries cells)) row column ≡ option_map (formula_in pool) (option_and_then formula_of (finite.get cells (row, column)))
+    → formula_at (cells_of pool (finite.entries cells)) row column ≡ option_map (formula_in pool) (option_and_then cell_formula_index (finite.get cells (row, column)))
 formula_by_cell pool cells row column =
     lookup_is (row, column) (cells_of pool (finite.entries cells))
-    ∙ find-made place_cmp formula_of (formula_in pool) place_cmp_total (row, column) (finite.entries cells) (finite.entries_sorted cells)
-    ∙ ap (λ o. option_map (formula_in pool) (option_and_then formula_of o)) (sym (finite.get-entries cells (row, column)))
+    ∙ find-made place_cmp cell_formula_index (formula_in pool) place_cmp_total (row, column) (finite.entries cells) (finite.entries_sorted cells)
+    ∙ ap (λ o. option_map (formula_in pool) (option_and_then cell_formula_index o)) (sym (finite.get-entries cells (row, column)))
 
 -- a formula at a place of the pool
 pub got_formula : (pool : List Formula) (at : ℕ) → at < length pool → slice_get pool at ≡ Some (formula_in pool at)

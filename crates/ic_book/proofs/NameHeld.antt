@@ -9,16 +9,16 @@ use Rattle.ic_laws.specs.CoreBook.{CoreBook, Definition, scene_of, spelling_of}
 use Rattle.ic_laws.specs.CoreStep.{changed_by, delete_name_refusal, index_of_definition, is_named, new_definition, new_name_refusal, scope_of, scope_or_none, unless_refused, with_definition, with_new_name, without_definition}
 use Rattle.ic_laws.specs.FormulaReading.{Body, body_of}
 use Rattle.ic_laws.specs.Notations.{Notations}
-use Rattle.ic_names.proofs.NamesFacts.{item_at_position}
-use Rattle.ic_names.specs.Bodies.{StaysWhereFound}
-use Rattle.ic_names.specs.Named.{names_scene}
+use Rattle.ic_definitions.proofs.NamesFacts.{item_at_position}
+use Rattle.ic_definitions.specs.Bodies.{StaysWhereFound}
+use Rattle.ic_definitions.specs.Named.{definitions_scene}
 use Rattle.ic_sheets.specs.Rewriting.{changed_pool, look_ups, looks_up_after, sheets_of}
 use Rattle.ic_sheets.specs.declared.sheet.Sheet.{Sheet as HeldSheet}
 use Rattle.ic_tables.specs.Tables.{TableSet}
 use Rattle.ic_tables.specs.declared.language.Language.{Language}
 use Rattle.ic_tables.specs.declared.locale.NamedLocale.{NamedLocale}
 use Rattle.ic_book.specs.Book.{Book, IsValidBook, ModelState, core_of, notations_in}
-use Rattle.ic_book.specs.Change.{book_changed_by, with_name, without_name}
+use Rattle.ic_book.specs.Change.{book_changed_by, with_added_definition, with_removed_definition}
 use Rattle.ic_book.specs.declared.about.About.{About}
 use Rattle.ic_book.specs.Inside.{IsHeld, held, held_state}
 use Rattle.ic_book.specs.LookUps.{looks_up_in}
@@ -100,23 +100,23 @@ module _ (about : About) (ws : List HeldSheet) (ds : List Definition) (locale : 
         e ∙ sym (looks_up_is (name_added (spelling_of new)) ws) ∙ ap (looks_up_in (name_added (spelling_of new))) is ∙ ap (λ (d : Definition). looks_up_in (name_added (spelling_of d)) m) made_again
 
     module _ (now : List HeldSheet) (nds : List Definition) (sheets : sheets_of now ≡ map (changed_pool (name_added (spelling_of new))) (sheets_of ws)) (names : nds ≡ map (with_body_tree (changed_tree (name_added (spelling_of new)))) ds ++ new ∷ []) where
-      left : held about now nds locale language tables ≡ book_changed_by (with_name new) held_book
+      left : held about now nds locale language tables ≡ book_changed_by (with_added_definition new) held_book
       left = defined about ws ds locale language tables h now nds new sheets names
 
       pub defined_held : IsHeld about now nds locale language tables
       defined_held =
-          held_after about ws ds locale language tables h now nds (book_changed_by (with_name new) held_book) left
-          (subst (λ (d : Definition). IsValidBook (book_changed_by (with_name d) held_book)) (sym made_here)
+          held_after about ws ds locale language tables h now nds (book_changed_by (with_added_definition new) held_book) left
+          (subst (λ (d : Definition). IsValidBook (book_changed_by (with_added_definition d) held_book)) (sym made_here)
           (defined_valid held_book h.valid called index text typed none_here (ap (λ (k : ModelState). body_of (notations_in k.book) (core_of k.book) text) is ∙ reads)))
 
-      left_there : held about now nds locale language tables ≡ book_changed_by (with_name made_new) m.book
-      left_there = left ∙ ap (λ (k : ModelState). book_changed_by (with_name new) k.book) is ∙ ap (λ (d : Definition). book_changed_by (with_name d) m.book) made_again
+      left_there : held about now nds locale language tables ≡ book_changed_by (with_added_definition made_new) m.book
+      left_there = left ∙ ap (λ (k : ModelState). book_changed_by (with_added_definition new) k.book) is ∙ ap (λ (d : Definition). book_changed_by (with_added_definition d) m.book) made_again
 
-      pub defined_book : (body : Body) → body_of n core text ≡ Some body → held about now nds locale language tables ≡ book_changed_by (with_name (new_definition n core called (scope_or_none core index) body)) m.book
-      defined_book body e = left_there ∙ ap (λ b. book_changed_by (with_name (new_definition n core called (scope_or_none core index) b)) m.book) (same_body body e)
+      pub defined_book : (body : Body) → body_of n core text ≡ Some body → held about now nds locale language tables ≡ book_changed_by (with_added_definition (new_definition n core called (scope_or_none core index) body)) m.book
+      defined_book body e = left_there ∙ ap (λ b. book_changed_by (with_added_definition (new_definition n core called (scope_or_none core index) b)) m.book) (same_body body e)
 
       pub defined_core : core_of (held about now nds locale language tables) ≡ with_new_name n core called (scope_or_none core index) (body_of n core text)
-      defined_core = ap core_of left_there ∙ core_of-changed n (with_name made_new) (with_definition made_new) (defined_change made_new) m.book ∙ ap (with_new_name n core called (scope_or_none core index)) (sym reads)
+      defined_core = ap core_of left_there ∙ core_of-changed n (with_added_definition made_new) (with_definition made_new) (defined_change made_new) m.book ∙ ap (with_new_name n core called (scope_or_none core index)) (sym reads)
 
       pub defined_binds : (body : Body) → body_of n core text ≡ Some body → core_of (held about now nds locale language tables)
           ≡ with_definition (new_definition n core called (scope_or_none core index) body) (with_trees (changed_tree (name_added (record { name = called; scope = scope_or_none core index }))) core)
@@ -141,34 +141,34 @@ module _ (about : About) (ws : List HeldSheet) (ds : List Definition) (locale : 
     it_goes = name_there core called index id scope at found_there
 
     -- the look-ups that it leaves
-    pub undefined_looks_up : (now : List HeldSheet) → ((d : Definition) → slice_get ds at ≡ Some d → look_ups now ≡ map (looks_up_after (name_gone (names_scene (remove ds at)) (spelling_of d))) ws)
+    pub undefined_looks_up : (now : List HeldSheet) → ((d : Definition) → slice_get ds at ≡ Some d → look_ups now ≡ map (looks_up_after (name_gone (definitions_scene (remove ds at)) (spelling_of d))) ws)
         → IfSome (index_of_definition core called (scope_or_none core index)) (λ i. IfSome (slice_get m.book.definitions i)
         (λ d. look_ups now ≡ looks_up_in (name_gone (scene_of (without_definition (Some i) core)) (spelling_of d)) m))
     undefined_looks_up now e =
         subst (λ o. IfSome o (λ i. IfSome (slice_get m.book.definitions i) (λ (d : Definition). look_ups now ≡ looks_up_in (name_gone (scene_of (without_definition (Some i) core)) (spelling_of d)) m))) (sym its_index)
         (subst (λ (k : ModelState). IfSome (slice_get k.book.definitions at) (λ (d : Definition). look_ups now ≡ looks_up_in (name_gone (scene_of (without_definition (Some at) (core_of k.book))) (spelling_of d)) k)) is
         (subst (λ o. IfSome o (λ (d : Definition). look_ups now ≡ looks_up_in (name_gone (scene_of (without_definition (Some at) (core_of held_book))) (spelling_of d)) (held_state about ws ds locale language tables))) (sym there.1)
-        (e there.0 there.1 ∙ sym (looks_up_is (name_gone (names_scene (remove ds at)) (spelling_of there.0)) ws))))
+        (e there.0 there.1 ∙ sym (looks_up_is (name_gone (definitions_scene (remove ds at)) (spelling_of there.0)) ws))))
 
-    module _ (now : List HeldSheet) (nds : List Definition) (sheets : (d : Definition) → slice_get ds at ≡ Some d → sheets_of now ≡ map (changed_pool (name_gone (names_scene (remove ds at)) (spelling_of d))) (sheets_of ws))
-        (names : (d : Definition) → slice_get ds at ≡ Some d → nds ≡ remove (map (with_body_tree (changed_tree (name_gone (names_scene (remove ds at)) (spelling_of d)))) ds) at) where
-      remains : held about now nds locale language tables ≡ book_changed_by (without_name (Some at)) held_book
+    module _ (now : List HeldSheet) (nds : List Definition) (sheets : (d : Definition) → slice_get ds at ≡ Some d → sheets_of now ≡ map (changed_pool (name_gone (definitions_scene (remove ds at)) (spelling_of d))) (sheets_of ws))
+        (names : (d : Definition) → slice_get ds at ≡ Some d → nds ≡ remove (map (with_body_tree (changed_tree (name_gone (definitions_scene (remove ds at)) (spelling_of d)))) ds) at) where
+      remains : held about now nds locale language tables ≡ book_changed_by (with_removed_definition (Some at)) held_book
       remains = undefined about ws ds locale language tables h now nds at there.0 there.1 (sheets there.0 there.1) (names there.0 there.1)
 
       pub undefined_held : IsHeld about now nds locale language tables
       undefined_held =
-          held_after about ws ds locale language tables h now nds (book_changed_by (without_name (Some at)) held_book) remains
+          held_after about ws ds locale language tables h now nds (book_changed_by (with_removed_definition (Some at)) held_book) remains
           (undefined_valid held_book h.valid called index at (ap (λ (k : ModelState). delete_name_refusal (core_of k.book) called index) is ∙ it_goes)
           (ap (λ (k : ModelState). index_of_definition (core_of k.book) called (scope_or_none (core_of k.book) index)) is ∙ its_index))
 
-      remains_there : held about now nds locale language tables ≡ book_changed_by (without_name (Some at)) m.book
-      remains_there = remains ∙ ap (λ (k : ModelState). book_changed_by (without_name (Some at)) k.book) is
+      remains_there : held about now nds locale language tables ≡ book_changed_by (with_removed_definition (Some at)) m.book
+      remains_there = remains ∙ ap (λ (k : ModelState). book_changed_by (with_removed_definition (Some at)) k.book) is
 
-      pub undefined_book : held about now nds locale language tables ≡ book_changed_by (without_name (index_of_definition core called (scope_or_none core index))) m.book
-      undefined_book = remains_there ∙ ap (λ o. book_changed_by (without_name o) m.book) (sym its_index)
+      pub undefined_book : held about now nds locale language tables ≡ book_changed_by (with_removed_definition (index_of_definition core called (scope_or_none core index))) m.book
+      undefined_book = remains_there ∙ ap (λ o. book_changed_by (with_removed_definition o) m.book) (sym its_index)
 
       pub undefined_core : core_of (held about now nds locale language tables) ≡ changed_by n (without_definition (index_of_definition core called (scope_or_none core index))) core
-      undefined_core = ap core_of remains_there ∙ core_of-changed n (without_name (Some at)) (without_definition (Some at)) (undefined_change at) m.book ∙ ap (λ o. changed_by n (without_definition o) core) (sym its_index)
+      undefined_core = ap core_of remains_there ∙ core_of-changed n (with_removed_definition (Some at)) (without_definition (Some at)) (undefined_change at) m.book ∙ ap (λ o. changed_by n (without_definition o) core) (sym its_index)
 
       pub undefined_dangles : (i : ℕ) (d : Definition) → index_of_definition core called (scope_or_none core index) ≡ Some i → slice_get core.definitions i ≡ Some d
           → core_of (held about now nds locale language tables) ≡ without_definition (Some i) (with_trees (changed_tree (name_gone (scene_of (without_definition (Some i) core)) (spelling_of d))) core)

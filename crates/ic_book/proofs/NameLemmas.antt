@@ -14,7 +14,7 @@ use Rattle.ic_laws.specs.FormulaReading.{Body, body_of, lambda_tree, reference_t
 use Rattle.ic_laws.specs.Name.{is_identifier}
 use Rattle.ic_laws.specs.Notations.{Notations, english}
 use Rattle.ic_laws.specs.Refusal.{InvalidName, InvalidNameFormula, InvalidScope, InvalidSheet, NameExists, NameNotFound, Refusal}
-use Rattle.ic_names.proofs.NamesFacts.{position_none, some_position}
+use Rattle.ic_definitions.proofs.NamesFacts.{position_none, some_position}
 use Rattle.ic_sheets.specs.Sheet.{sheet_core, sheet_of}
 use Rattle.ic_sheets.specs.declared.sheet.Sheet.{Sheet as HeldSheet}
 use Rattle.ic_book.specs.Refused.{RefusesOr}

@@ -17,7 +17,7 @@ use Rattle.ic_machine.specs.Refusal.{InvalidSheet, Refusal}
 use Rattle.ic_machine.specs.Reply.{Field}
 use Rattle.ic_machine.specs.Valid as valid_machine
 use Rattle.ic_machine.specs.Valid.{IsFrozen}
-use Rattle.ic_sheets.specs.Sheet.{BookSheet, sheet_of}
+use Rattle.ic_sheets.specs.Sheet.{Sheet, sheet_of}
 use Rattle.ic_sheets.specs.declared.sheet.Sheet.{Sheet as HeldSheet}
 use Rattle.ic_sheets.specs.declared.tab.Tab.{Tab}
 use Rattle.ic_book.specs.Book.{Book, HasStrings, IsPlain, IsValidBook, ModelState, notations_in}
@@ -42,7 +42,7 @@ updated_same f (suc i) (y ∷ xs) x at e = ap (λ rest. y ∷ rest) (updated_sam
 abbrev pub with_tab : ℕ → Tab → Book → Book
 with_tab index tab book = record book { sheets = updated_at (λ s. record s { tab = tab }) index book.sheets }
 
-module _ (index : ℕ) (tab : Tab) (book : Book) (valid : IsValidBook book) (sheet : BookSheet) (at : slice_get book.sheets index ≡ Some sheet) where
+module _ (index : ℕ) (tab : Tab) (book : Book) (valid : IsValidBook book) (sheet : Sheet) (at : slice_get book.sheets index ≡ Some sheet) where
   abbrev pub old_sheet : machine.Sheet
   old_sheet = whole_sheet book.strings sheet
 
@@ -78,8 +78,8 @@ module _ (index : ℕ) (tab : Tab) (book : Book) (valid : IsValidBook book) (she
           merges = old_holds.merges;
           layout = record { frozen = frozen; lines = old_holds.layout.lines };
         }));
-    strings = all_updated (λ (s : BookSheet). HasStrings (length book.strings) s.grid) (λ s. record s { tab = tab }) (λ s h. h) index book.sheets valid.strings;
-    plain = all_updated (λ (s : BookSheet). IsPlain s.grid) (λ s. record s { tab = tab }) (λ s h. h) index book.sheets valid.plain;
+    strings = all_updated (λ (s : Sheet). HasStrings (length book.strings) s.grid) (λ s. record s { tab = tab }) (λ s h. h) index book.sheets valid.strings;
+    plain = all_updated (λ (s : Sheet). IsPlain s.grid) (λ s. record s { tab = tab }) (λ s h. h) index book.sheets valid.plain;
   }
 
 -- a tab with other looks stays frozen
@@ -97,7 +97,7 @@ module _ (book : Book) (index : ℕ) where
   abbrev strings : List (List ℕ)
   strings = book.strings
 
-  pub found : (step : machine.Sheet → Stepped machine.Sheet) (sheet : BookSheet) → slice_get book.sheets index ≡ Some sheet
+  pub found : (step : machine.Sheet → Stepped machine.Sheet) (sheet : Sheet) → slice_get book.sheets index ≡ Some sheet
       → on_sheet (whole_of book) index step ≡ put_in (with_sheet (whole_of book) index) (step (whole_sheet strings sheet))
   found step sheet is =
       ap (λ o. found_or InvalidSheet (option_map (λ s. put_in (with_sheet (whole_of book) index) (step s)) o)) (slice_get-map (whole_sheet strings) book.sheets index ∙ ap (option_map (whole_sheet strings)) is)
@@ -128,7 +128,7 @@ module _ (old : ModelState) (valid : IsValidBook old.book) (index : ℕ) {T : Ty
   unfolding on_tab
   tab_missing none = record { done = (missing old.book index (tab_on step) none, refl); before = valid; after = valid }
 
-  module _ (sheet : BookSheet) (is : slice_get old.book.sheets index ≡ Some sheet) (after : Tab) (frozen : IsFrozen (whole_tab after)) (new : ModelState) (becomes : new ≡ record old { book = with_tab index after old.book }) where
+  module _ (sheet : Sheet) (is : slice_get old.book.sheets index ≡ Some sheet) (after : Tab) (frozen : IsFrozen (whole_tab after)) (new : ModelState) (becomes : new ≡ record old { book = with_tab index after old.book }) where
     abbrev whole : machine.Book
     whole = whole_of old.book
 
@@ -148,7 +148,7 @@ module _ (old : ModelState) (valid : IsValidBook old.book) (index : ℕ) {T : Ty
     done_so (Err e) h =
         let unchanged : with_tab index after old.book ≡ old.book =
         ap (λ (t : Tab). with_tab index t old.book) h.1
-        ∙ ap (λ (sheets : List BookSheet). let b : Book = record old.book { sheets = sheets } in b) (updated_same (λ s. record s { tab = sheet.tab }) index old.book.sheets sheet is refl) in
+        ∙ ap (λ (sheets : List Sheet). let b : Book = record old.book { sheets = sheets } in b) (updated_same (λ s. record s { tab = sheet.tab }) index old.book.sheets sheet is refl) in
         let same : new ≡ old = becomes ∙ ap (λ (b : Book). let m : ModelState = record old { book = b } in m) unchanged in
         record {
           done =
@@ -162,10 +162,10 @@ module _ (old : ModelState) (valid : IsValidBook old.book) (index : ℕ) {T : Ty
     tab_does r h = done_so r h.done
 
   -- the same of what only reads it
-  pub tab_reads : (sheet : BookSheet) → slice_get old.book.sheets index ≡ Some sheet → (r : Result T BookError) → DoesTab memory step fields r sheet.tab sheet.tab → DoesStep (wants memory) (on_tab (whole_of old.book) index step) fields r old old
+  pub tab_reads : (sheet : Sheet) → slice_get old.book.sheets index ≡ Some sheet → (r : Result T BookError) → DoesTab memory step fields r sheet.tab sheet.tab → DoesStep (wants memory) (on_tab (whole_of old.book) index step) fields r old old
   tab_reads sheet is r h =
       let same : updated_at (λ s. record s { tab = sheet.tab }) index old.book.sheets ≡ old.book.sheets = updated_same (λ s. record s { tab = sheet.tab }) index old.book.sheets sheet is refl in
-      tab_does sheet is sheet.tab (frozen_there index sheet.tab old.book valid sheet is) old (ap (λ (sheets : List BookSheet). let m : ModelState = record old { book = record old.book { sheets = sheets } } in m) (sym same)) r h
+      tab_does sheet is sheet.tab (frozen_there index sheet.tab old.book valid sheet is) old (ap (λ (sheets : List Sheet). let m : ModelState = record old { book = record old.book { sheets = sheets } } in m) (sym same)) r h
 
 -- no sheet stands past the end
 pub past_end : (index count : ℕ) → false ≡ nat_lt index count → count ≤ index
@@ -189,7 +189,7 @@ module _ (about : About) (ws : List HeldSheet) (ds : List Definition) (locale : 
   module _ (now : List HeldSheet) (tab : Tab) (is : now ≡ updated_at (λ s. record s { tab = tab }) index ws) where
     pub tab_state : held_state about now ds locale language tables ≡ record its_state { book = with_tab index tab its_state.book }
     tab_state =
-        ap₂ (λ (sheets : List BookSheet) (all : List Bool). let m : ModelState = record { book = record its_state.book { sheets = sheets }; has_all = all } in m)
+        ap₂ (λ (sheets : List Sheet) (all : List Bool). let m : ModelState = record { book = record its_state.book { sheets = sheets }; has_all = all } in m)
         (ap (map sheet_of) is ∙ updated_seen sheet_of (λ s. record s { tab = tab }) (λ s. record s { tab = tab }) (λ s. refl) index ws)
         (ap (map (λ (s : HeldSheet). s.pool.is_whole)) is ∙ look_ups_same index ws)
       where

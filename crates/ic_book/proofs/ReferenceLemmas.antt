@@ -16,7 +16,7 @@ use Rattle.ic_laws.specs.Command.{number_said}
 use Rattle.ic_laws.specs.Position.{is_row}
 use Rattle.std.proofs.lemmas.Option.{slice_get-map}
 use Rattle.std.proofs.Common.{append-nil}
-use Rattle.ic_laws.specs.CoreBook.{CoreBook, Sheet}
+use Rattle.ic_laws.specs.CoreBook.{CoreBook, Sheet as CoreSheet}
 use Rattle.ic_laws.specs.CoreStep.{index_of_name}
 use Rattle.ic_laws.specs.Name.{agrees}
 use Rattle.ic_laws.specs.Scan.{past_run, run_of}
@@ -37,8 +37,8 @@ use Rattle.std.specs.Prelude.{nat_le}
 use Rattle.std.proofs.Common.{w32}
 use mir.Val.{SFits}
 use Rattle.ic_laws.specs.Scan as scan
-use Rattle.ic_names.proofs.NamesFacts.{item_at_position}
-use Rattle.ic_sheets.specs.Sheet.{BookSheet, sheet_core}
+use Rattle.ic_definitions.proofs.NamesFacts.{item_at_position}
+use Rattle.ic_sheets.specs.Sheet.{Sheet, sheet_core}
 use Rattle.ic_refs.specs.declared.reference.CellReferenceIndex.{CellReferenceIndex}
 use Rattle.ic_machine.specs.subjects.Extending.{parse_step, parsed_fields}
 use Rattle.ic_book.specs.Book.{Book, IsValidBook, ModelState, core_of}
@@ -184,13 +184,13 @@ named_place book text p e = by_index (index_of_name (core_of book) (run_of is_no
     by_index None e = cc
     by_index (Some n) e = its_place n (past_run is_no_bang text) p e
 
-sheet_named : (book : Book) (text : List ℕ) (p : Parsed) → parsed_reference (core_of book) text ≡ Some p → (s : BookSheet) × (slice_get book.sheets p.sheet ≡ Some s)
+sheet_named : (book : Book) (text : List ℕ) (p : Parsed) → parsed_reference (core_of book) text ≡ Some p → (s : Sheet) × (slice_get book.sheets p.sheet ≡ Some s)
 sheet_named book text p e = by_index (index_of_name (core_of book) (run_of is_no_bang text)) refl e
   where
-    by_index : (o : Option ℕ) → index_of_name (core_of book) (run_of is_no_bang text) ≡ o → option_and_then (λ n. parsed_place n (past_run is_no_bang text)) o ≡ Some p → (s : BookSheet) × (slice_get book.sheets p.sheet ≡ Some s)
+    by_index : (o : Option ℕ) → index_of_name (core_of book) (run_of is_no_bang text) ≡ o → option_and_then (λ n. parsed_place n (past_run is_no_bang text)) o ≡ Some p → (s : Sheet) × (slice_get book.sheets p.sheet ≡ Some s)
     by_index None is e = cc
     by_index (Some n) is e =
-        let item = item_at_position (λ (s : BookSheet). agrees s.name (run_of is_no_bang text)) book.sheets n (sym (position-map sheet_core (λ (s : Sheet). agrees s.name (run_of is_no_bang text)) book.sheets) ∙ is) in
+        let item = item_at_position (λ (s : Sheet). agrees s.name (run_of is_no_bang text)) book.sheets n (sym (position-map sheet_core (λ (s : CoreSheet). agrees s.name (run_of is_no_bang text)) book.sheets) ∙ is) in
         (item.0, subst (λ k. slice_get book.sheets k ≡ Some item.0) (its_sheet n (past_run is_no_bang text) p e) item.1)
 
 module _ (now : ModelState) (text : List ℕ) where

@@ -22,7 +22,7 @@ use Rattle.ic_machine.specs.Book as machine
 use Rattle.ic_machine.specs.Content.{Content, TextContent, content_of}
 use Rattle.ic_machine.specs.Styling.{restyled}
 use Rattle.ic_machine.specs.Valid as valid_machine
-use Rattle.ic_sheets.specs.Sheet.{BookSheet, sheet_of, with_cell_in}
+use Rattle.ic_sheets.specs.Sheet.{Sheet, sheet_of, with_cell_in}
 use Rattle.ic_sheets.specs.declared.sheet.Sheet.{Sheet as HeldSheet}
 use Rattle.ic_book.specs.Book.{HasString, HasStrings, IsValidBook, whole_of, whole_sheet, whole_tab}
 use Rattle.ic_book.specs.Does.{DoesStep, Wanted}
@@ -156,7 +156,7 @@ module _ (old strings : List (List ℕ)) (more : IsLonger old strings) where
   contents_same : (m : Contents Cell) → ((place : CellPlace) (x : Cell) → finite.get m place ≡ Some x → HasString (length old) x) → seen_by (content_of strings) m ≡ seen_by (content_of old) m
   contents_same m has = same_contents _ _ (λ q. get-seen (content_of strings) m q ∙ found_same (finite.get m q) (has q) ∙ sym (get-seen (content_of old) m q))
 
-  sheets_same : (sheets : List BookSheet) → AllByRecursion (λ (s : BookSheet). HasStrings (length old) s.grid) sheets → map (whole_sheet strings) sheets ≡ map (whole_sheet old) sheets
+  sheets_same : (sheets : List Sheet) → AllByRecursion (λ (s : Sheet). HasStrings (length old) s.grid) sheets → map (whole_sheet strings) sheets ≡ map (whole_sheet old) sheets
   sheets_same [] h = refl
   sheets_same (s ∷ sheets) h =
       ap₂ (λ (m : Contents Content) (rest : List machine.Sheet). let sheet : machine.Sheet = record { id = s.id; name = s.name; pool = s.pool; grid = record { contents = m; rows = s.grid.rows; columns = s.grid.columns; merges = s.grid.merged_cells }; tab = whole_tab s.tab } in sheet ∷ rest)
@@ -172,7 +172,7 @@ module _ (old strings : List (List ℕ)) (more : IsLonger old strings) where
   has_longer (cells.ArrayFormula f s r kind v) h = tt
   has_longer (cells.SpillCell s a v) h = tt
 
-  all_longer : (sheets : List BookSheet) → AllByRecursion (λ (s : BookSheet). HasStrings (length old) s.grid) sheets → AllByRecursion (λ (s : BookSheet). HasStrings (length strings) s.grid) sheets
+  all_longer : (sheets : List Sheet) → AllByRecursion (λ (s : Sheet). HasStrings (length old) s.grid) sheets → AllByRecursion (λ (s : Sheet). HasStrings (length strings) s.grid) sheets
   all_longer [] h = tt
   all_longer (s ∷ sheets) h = (λ place x e. has_longer x (h.0 place x e), all_longer sheets h.1)
 

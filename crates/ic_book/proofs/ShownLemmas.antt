@@ -16,7 +16,7 @@ use Rattle.ic_tables.specs.Tables.{language_of, locale_of}
 use Rattle.ic_tables.specs.declared.language.Language.{Language}
 use Rattle.ic_tables.specs.declared.locale.Locale.{Locale}
 use Rattle.ic_tables.specs.declared.locale.NamedLocale.{NamedLocale}
-use Rattle.ic_cells.specs.Cell.{formula_of, style_of, value_of}
+use Rattle.ic_cells.specs.Cell.{cell_formula_index, style_of, value_of}
 use Rattle.ic_cells.specs.Value.{boolean_word, shown_text}
 use Rattle.ic_cells.specs.declared.cell.Cell.{Cell}
 use Rattle.ic_cells.specs.declared.cell.Cell.TheVariants as cells
@@ -35,7 +35,7 @@ use Rattle.ic_machine.specs.InForce.{InForce, all_there, by_notation, decimal_in
 use Rattle.ic_machine.specs.Reply.{Field, text_field}
 use Rattle.ic_machine.specs.Valid.{IsStyleNumber}
 use Rattle.ic_machine.specs.subjects.Reading.{format_of, formatted_content, formatted_value, formula_text, shown_content}
-use Rattle.ic_sheets.specs.Sheet.{BookSheet, IsValidPool}
+use Rattle.ic_sheets.specs.Sheet.{IsValidPool, Sheet}
 use Rattle.ic_book.specs.Book.{Book, IsValidBook, ModelState, core_of, notations_in, scene_in}
 use Rattle.ic_book.specs.Shown.{StandsIn, cell_formatted, code_at, content_formatted, content_shown, date_shown, localized, number_kept, number_or, value_shown}
 use Rattle.ic_book.specs.Whole.{whole_of, whole_sheet}
@@ -126,7 +126,7 @@ module _ (book : Book) (valid : IsValidBook book) (l : NamedLocale) (language : 
       (sym (by_it values.None (λ k g. contents.value_of g (content_of book.strings cell)) ∙ value_same book.strings language cell))
 
   -- a cell without a formula
-  pub value_shown_is : (s : BookSheet) (place : CellPlace) (cell : Cell) → formula_of cell ≡ None → value_shown book cell ≡ shown_content (whole_of book) (whole_sheet book.strings s) place (content_of book.strings cell)
+  pub value_shown_is : (s : Sheet) (place : CellPlace) (cell : Cell) → cell_formula_index cell ≡ None → value_shown book cell ≡ shown_content (whole_of book) (whole_sheet book.strings s) place (content_of book.strings cell)
   value_shown_is s place (cells.EmptyCell n) e = sym (localized_is (cells.EmptyCell n))
   value_shown_is s place (cells.BooleanCell v n) e = refl
   value_shown_is s place (cells.NumberCell v n) e = refl
@@ -151,7 +151,7 @@ number_shown_by whole code v o e =
 
 -- what stands at a place ----
 
-module _ (now : ModelState) (valid : IsValidBook now.book) (s : BookSheet) (stands : StandsIn s now.book) (place : CellPlace) where
+module _ (now : ModelState) (valid : IsValidBook now.book) (s : Sheet) (stands : StandsIn s now.book) (place : CellPlace) where
   abbrev whole : machine.Book
   whole = whole_of now.book
 
@@ -173,7 +173,7 @@ module _ (now : ModelState) (valid : IsValidBook now.book) (s : BookSheet) (stan
     style_there = subst (IsStyleNumber (length now.book.styles)) (ap (option_map style_of) there) (own_below now valid stands.0 s stands.1 place)
 
     -- its formula, and that it has none
-    pub formula_shown : (f : Formula) → option_and_then (slice_get s.pool) (formula_of cell) ≡ Some f
+    pub formula_shown : (f : Formula) → option_and_then (slice_get s.pool) (cell_formula_index cell) ≡ Some f
         → equals ∷ shown_formula (notations_in now.book) (core_of now.book) place.0 place.1 f ≡ shown_content whole seen place (content_of now.book.strings cell)
     formula_shown f e =
         ap (λ (c : CoreBook). equals ∷ shown_formula (notations_in now.book) c place.0 place.1 f) (sym (whole_core now.book)) ∙ by_cell cell e
@@ -181,7 +181,7 @@ module _ (now : ModelState) (valid : IsValidBook now.book) (s : BookSheet) (stan
         held_text : (i : ℕ) → slice_get s.pool i ≡ Some f → formula_text whole place f ≡ formula_text whole place (unwrap_or (slice_get s.pool i) (kept.Raw []))
         held_text i e = sym (ap (λ (o : Option Formula). formula_text whole place (unwrap_or o (kept.Raw []))) e)
 
-        by_cell : (x : Cell) → option_and_then (slice_get s.pool) (formula_of x) ≡ Some f → formula_text whole place f ≡ shown_content whole seen place (content_of now.book.strings x)
+        by_cell : (x : Cell) → option_and_then (slice_get s.pool) (cell_formula_index x) ≡ Some f → formula_text whole place f ≡ shown_content whole seen place (content_of now.book.strings x)
         by_cell (cells.EmptyCell n) e = cc
         by_cell (cells.BooleanCell v n) e = cc
         by_cell (cells.NumberCell v n) e = cc
@@ -191,13 +191,13 @@ module _ (now : ModelState) (valid : IsValidBook now.book) (s : BookSheet) (stan
         by_cell (cells.ArrayFormula i n r kind v) e = held_text i e
         by_cell (cells.SpillCell n a v) e = cc
 
-    pub formula_lacking : option_and_then (slice_get s.pool) (formula_of cell) ≡ None → formula_of cell ≡ None
-    formula_lacking e = at (formula_of cell) refl e
+    pub formula_lacking : option_and_then (slice_get s.pool) (cell_formula_index cell) ≡ None → cell_formula_index cell ≡ None
+    formula_lacking e = at (cell_formula_index cell) refl e
       where
-        at : (o : Option ℕ) → formula_of cell ≡ o → option_and_then (slice_get s.pool) o ≡ None → formula_of cell ≡ None
+        at : (o : Option ℕ) → cell_formula_index cell ≡ o → option_and_then (slice_get s.pool) o ≡ None → cell_formula_index cell ≡ None
         at None is e = is
         at (Some i) is e =
-            let within = (one_of_all (IsValidPool (notations_in now.book) (scene_in now.book)) stands.0 now.book.sheets s stands.1 (pools_valid now.book valid)).places place cell i there is in
+            let within = (one_of_all (IsValidPool (notations_in now.book) (scene_in now.book)) stands.0 now.book.sheets s stands.1 (pools_valid now.book valid)).indexes place cell i there is in
             let got = got_formula s.pool i within in
             cc
 

@@ -30,14 +30,14 @@ use Rattle.ic_laws.specs.declared.tree.NameMention.{NameMention}
 use Rattle.ic_laws.specs.declared.tree.NameMention.TheVariants as names
 use Rattle.ic_laws.specs.declared.tree.SheetMention.{SheetMention}
 use Rattle.ic_laws.specs.declared.tree.Tree.TheOpen as one
-use Rattle.ic_names.specs.Bodies.{StaysWhereFound}
+use Rattle.ic_definitions.specs.Bodies.{StaysWhereFound}
 use Rattle.ic_pool.proofs.ChangeLemmas.{naming_spares_found, spared_stays}
 use Rattle.ic_pool.specs.Mentions.{formula_after, has_dangling, is_changed_by, is_dangling, is_dangling_word}
 use Rattle.ic_pool.specs.Rewrites.{RewritesState, rewritten_by}
 use Rattle.ic_sheets.proofs.RewritingLemmas.{prepared_makes}
 use Rattle.ic_sheets.proofs.SearchLemmas.{ids}
 use Rattle.ic_sheets.specs.Rewriting.{IsPrepared, changed_pool, look_ups, looks_up_after, sheets_of, with_rewrites}
-use Rattle.ic_sheets.specs.Sheet.{BookSheet, sheet_of}
+use Rattle.ic_sheets.specs.Sheet.{Sheet, sheet_of}
 use Rattle.ic_sheets.specs.declared.sheet.Sheet.{Sheet as HeldSheet}
 use Rattle.ic_book.proofs.MentionPairs.{mentions_both}
 use Rattle.ic_book.proofs.NeverMentioned.{never_mentioned}
@@ -137,7 +137,7 @@ module _ (d : NameSpelling) (id : ℕ) (local : d.scope ≡ Some id) where
   pool_stays other apart (f ∷ pool) = ap₂ ◌∷◌ (formula_stays other apart f) (pool_stays other apart pool)
 
   sheet_stays : (s : HeldSheet) → nat_eq id s.id ≡ false → sheet_of s ≡ changed_pool (name_added d) (sheet_of s)
-  sheet_stays s apart = sym (ap (λ (pool : List Formula). let one : BookSheet = record (sheet_of s) { pool = pool } in one) (pool_stays s.id apart s.pool.formulas))
+  sheet_stays s apart = sym (ap (λ (pool : List Formula). let one : Sheet = record (sheet_of s) { pool = pool } in one) (pool_stays s.id apart s.pool.formulas))
 
   others_stay : (ws : List HeldSheet) → AllByRecursion (λ y. nat_eq id y ≡ false) (ids ws) → sheets_of ws ≡ map (changed_pool (name_added d)) (sheets_of ws)
   others_stay [] h = refl
@@ -160,7 +160,7 @@ module _ (d : NameSpelling) (id : ℕ) (local : d.scope ≡ Some id) where
       let made_x : rewritten_by w x.pool.formulas ≡ map (formula_after (name_added d) (Some x.id)) x.pool.formulas =
       subst (λ (y : HeldSheet). rewritten_by w y.pool.formulas ≡ map (formula_after (name_added d) (Some y.id)) y.pool.formulas) same made in
       let its_x : x.id ≡ id = ap (λ (y : HeldSheet). y.id) (sym same) ∙ its in
-      ap₂ ◌∷◌ (ap (λ (pool : List Formula). let one : BookSheet = record (sheet_of x) { pool = pool } in one) made_x)
+      ap₂ ◌∷◌ (ap (λ (pool : List Formula). let one : Sheet = record (sheet_of x) { pool = pool } in one) made_x)
       (others_stay ws (subst (λ k. AllByRecursion (λ y. nat_eq k y ≡ false) (ids ws)) its_x (IsDistinct-head nat_eq x.id (ids ws) differ)))
   local_made w (x ∷ ws) (suc index) s at its differ made =
       let apart : nat_eq x.id id ≡ false = subst (λ k. nat_eq x.id k ≡ false) its (apart_from x.id ws index s at (IsDistinct-head nat_eq x.id (ids ws) differ)) in

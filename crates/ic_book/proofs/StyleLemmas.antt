@@ -28,7 +28,7 @@ use Rattle.ic_machine.specs.Reply.{Field, number_field}
 use Rattle.ic_machine.specs.Styling.{style_fields}
 use Rattle.ic_machine.specs.Valid.{IsStyleNumber}
 use Rattle.ic_machine.specs.subjects.Styles.{cell_style_step, optional_style, own_style_step, style_index_step}
-use Rattle.ic_sheets.specs.Sheet.{BookSheet}
+use Rattle.ic_sheets.specs.Sheet.{Sheet}
 use Rattle.ic_book.specs.Book.{IsValidBook, ModelState, notations_in, whole_grid}
 use Rattle.ic_book.specs.Does.{DoesStep, Memory, Never, Wanted}
 use Rattle.ic_book.specs.Refused.{TellsOnly, refusal_of}
@@ -92,17 +92,17 @@ module _ (now : ModelState) (valid : IsValidBook now.book) (index : ℕ) where
     passes_missing e none (Ok value) is = let no : false ≡ true = is.0 in cc
     passes_missing e none (Err f) is = sheet_missing now index valid memory fields causes told none.0 f (is.1 ∙ none.1)
 
-    pub passes_refusal : (s : BookSheet) → slice_get now.book.sheets index ≡ Some s → (e : BookError) → TellsOnly (let r : Result T BookError = Err e in r) (first_refusal causes) → (r : Result T BookError) → IsErr r × IsErrAnd r (λ f. f ≡ e)
+    pub passes_refusal : (s : Sheet) → slice_get now.book.sheets index ≡ Some s → (e : BookError) → TellsOnly (let r : Result T BookError = Err e in r) (first_refusal causes) → (r : Result T BookError) → IsErr r × IsErrAnd r (λ f. f ≡ e)
         → DoesStep memory (at_sheet (whole_of now.book) index (λ sheet. unless_refused causes (whole_of now.book) (told sheet))) fields r now now
     passes_refusal s at e tells (Ok value) is = let no : false ≡ true = is.0 in cc
     passes_refusal s at e tells (Err f) is = sheet_refused now index valid memory fields causes told s at tells.0 tells.2 f (ap refusal_of is.1 ∙ tells.1)
 
-  pub passes_memory : {T : Type 0} (fields : T → List Field) (causes : Causes) (told : machine.Sheet → List Field) (s : BookSheet) → slice_get now.book.sheets index ≡ Some s → first_refusal causes ≡ None → (r : Result T BookError) → IsErr r × IsErrAnd r (λ f. f ≡ errors.OutOfMemory)
+  pub passes_memory : {T : Type 0} (fields : T → List Field) (causes : Causes) (told : machine.Sheet → List Field) (s : Sheet) → slice_get now.book.sheets index ≡ Some s → first_refusal causes ≡ None → (r : Result T BookError) → IsErr r × IsErrAnd r (λ f. f ≡ errors.OutOfMemory)
       → DoesStep Wanted (at_sheet (whole_of now.book) index (λ sheet. unless_refused causes (whole_of now.book) (told sheet))) fields r now now
   passes_memory fields causes told s at none (Ok value) is = let no : false ≡ true = is.0 in cc
   passes_memory fields causes told s at none (Err f) is = sheet_wants now index valid fields causes told s at none f is.1
 
-  module _ (s : BookSheet) (at : slice_get now.book.sheets index ≡ Some s) where
+  module _ (s : Sheet) (at : slice_get now.book.sheets index ≡ Some s) where
     -- the numbers are those of styles ----
 
     its_holds : HoldsOf (notations_in now.book) (machine.scene_in (whole_of now.book)) (length now.book.styles) (whole_sheet now.book.strings s)

@@ -22,7 +22,7 @@ use Rattle.ic_machine.specs.Styling.{numbered}
 use Rattle.ic_machine.specs.Valid as valid_machine
 use Rattle.ic_machine.specs.subjects.Styles as styles
 use Rattle.ic_machine.specs.subjects.Styles.{set_column_step, set_row_step, with_grid_style}
-use Rattle.ic_sheets.specs.Sheet.{BookSheet, sheet_of}
+use Rattle.ic_sheets.specs.Sheet.{Sheet, sheet_of}
 use Rattle.ic_sheets.specs.declared.sheet.Sheet.{Sheet as HeldSheet}
 use Rattle.ic_book.specs.Book.{Book, HasStrings, IsPlain, IsValidBook, ModelState, whole_grid}
 use Rattle.ic_book.specs.Does.{DoesStep, IsDone, Refused, Wanted}
@@ -81,7 +81,7 @@ with_line index line number all book = record book { sheets = updated_at (λ s. 
 abbrev pub styled_book : ℕ → Line → Style → Book → Book
 styled_book index line style book = with_line index line (style_number style book.styles) (with_style_in style book.styles) book
 
-module _ (book : Book) (valid : IsValidBook book) (index : ℕ) (line : Line) (style : Style) (s : BookSheet) (at : slice_get book.sheets index ≡ Some s) where
+module _ (book : Book) (valid : IsValidBook book) (index : ℕ) (line : Line) (style : Style) (s : Sheet) (at : slice_get book.sheets index ≡ Some s) where
   abbrev number : ℕ
   number = style_number style book.styles
 
@@ -105,8 +105,8 @@ module _ (book : Book) (valid : IsValidBook book) (index : ℕ) (line : Line) (s
   styled_valid : first_refusal (line_causes line) ≡ None → IsValidBook (styled_book index line style book)
   styled_valid clear = record {
     whole = subst valid_machine.IsValidBook (sym whole_left) (subst StaysValid (line_step None clear) (line_stays (whole_of book) index line style valid.whole));
-    strings = all_updated (λ (s : BookSheet). HasStrings (length book.strings) s.grid) (λ s. record s { grid = with_line_style line number s.grid }) (λ s h. line_strings (length book.strings) line number s.grid h) index book.sheets valid.strings;
-    plain = all_updated (λ (s : BookSheet). IsPlain s.grid) (λ s. record s { grid = with_line_style line number s.grid }) (λ s h. line_plain line number s.grid h) index book.sheets valid.plain;
+    strings = all_updated (λ (s : Sheet). HasStrings (length book.strings) s.grid) (λ s. record s { grid = with_line_style line number s.grid }) (λ s h. line_strings (length book.strings) line number s.grid h) index book.sheets valid.strings;
+    plain = all_updated (λ (s : Sheet). IsPlain s.grid) (λ s. record s { grid = with_line_style line number s.grid }) (λ s h. line_plain line number s.grid h) index book.sheets valid.plain;
   }
 
 -- of a model ----
@@ -122,7 +122,7 @@ module _ (old : ModelState) (valid : IsValidBook old.book) (index : ℕ) (line :
     after = valid;
   }
 
-  module _ (s : BookSheet) (at : slice_get old.book.sheets index ≡ Some s) where
+  module _ (s : Sheet) (at : slice_get old.book.sheets index ≡ Some s) where
     pub refuses_line : (e : BookError) → TellsOnly (let r : Result (Unit {0}) BookError = Err e in r) (first_refusal (line_causes line)) → (r : Result (Unit {0}) BookError) → IsErr r × IsErrAnd r (λ f. f ≡ e)
         → DoesStep Wanted (set_line_step index line style (whole_of old.book)) no_fields r old old
     refuses_line e tells (Ok value) is = let no : false ≡ true = is.0 in cc
@@ -186,7 +186,7 @@ module _ (about : About) (ws : List HeldSheet) (ds : List Definition) (locale : 
       abbrev its_number : ℕ
       its_number = style_number style about.styles
 
-      sheets_then : map sheet_of now ≡ updated_at (λ (b : BookSheet). record b { grid = with_line_style line its_number b.grid }) index (map sheet_of ws)
+      sheets_then : map sheet_of now ≡ updated_at (λ (b : Sheet). record b { grid = with_line_style line its_number b.grid }) index (map sheet_of ws)
       sheets_then =
           ap (map sheet_of)
           (is
@@ -196,7 +196,7 @@ module _ (about : About) (ws : List HeldSheet) (ds : List Definition) (locale : 
 
       pub styled_state : held_state (record about { styles = all }) now ds locale language tables ≡ record its_state { book = styled_book index line style its_state.book }
       styled_state =
-          ap₂ (λ (sheets : List BookSheet) (st : List Style). let m : ModelState = record { book = record its_state.book { sheets = sheets; styles = st }; has_all = then_state.has_all } in m) sheets_then styled
+          ap₂ (λ (sheets : List Sheet) (st : List Style). let m : ModelState = record { book = record its_state.book { sheets = sheets; styles = st }; has_all = then_state.has_all } in m) sheets_then styled
           ∙ ap (λ (had : List Bool). let m : ModelState = record { book = styled_book index line style its_state.book; has_all = had } in m) same_look_ups
 
       pub styled_held : first_refusal (line_causes line) ≡ None → IsHeld (record about { styles = all }) now ds locale language tables

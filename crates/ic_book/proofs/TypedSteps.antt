@@ -20,7 +20,7 @@ use Rattle.ic_machine.specs.InForce.{formula_typed, typed_in}
 use Rattle.ic_machine.specs.Refusal.{ArrayPart, InvalidColumn, InvalidRow, InvalidSheet, MergedPart, NotAFormula, Refusal, first_refusal}
 use Rattle.ic_machine.specs.Reply.{Field}
 use Rattle.ic_machine.specs.subjects.Writing.{Written, formula_at_place, formula_step, formula_written, input_step, place_causes, typed_written, with_written, write_causes, write_step}
-use Rattle.ic_sheets.specs.Sheet.{BookSheet}
+use Rattle.ic_sheets.specs.Sheet.{Sheet}
 use Rattle.ic_book.specs.Book.{Book, IsValidBook, ModelState, whole_of, whole_sheet}
 use Rattle.ic_book.specs.Does.{DoesStep, IsDone, Refused, Wanted, WantedIn}
 use Rattle.ic_book.specs.LookUps.{LooksUpAsBefore}
@@ -90,7 +90,7 @@ module _ (book : Book) (index : ℕ) (place : CellPlace) (text : List ℕ) where
   abbrev whole : machine.Book
   whole = whole_of book
 
-  abbrev seen : BookSheet → machine.Sheet
+  abbrev seen : Sheet → machine.Sheet
   seen s = whole_sheet book.strings s
 
   by_formula : Option (List ℕ) → Stepped machine.Book
@@ -109,23 +109,23 @@ module _ (book : Book) (index : ℕ) (place : CellPlace) (text : List ℕ) where
   unfolding formula_step by_formula
   formula_is = refl
 
-  fixed_seen : (bad : Bool) (s : BookSheet) → first_refusal (place_causes place ++ (write_causes (seen s) place ++ ((bad, NotAFormula) ∷ [])))
+  fixed_seen : (bad : Bool) (s : Sheet) → first_refusal (place_causes place ++ (write_causes (seen s) place ++ ((bad, NotAFormula) ∷ [])))
       ≡ first_refusal ((not (is_row place.0), InvalidRow) ∷ (not (is_column place.1), InvalidColumn) ∷ (is_covered s.grid.merged_cells place, MergedPart) ∷ (is_fixed_at celled s.grid.cells place, ArrayPart) ∷ (bad, NotAFormula) ∷ [])
   fixed_seen bad s =
       ap (λ (fixed : Bool). first_refusal ((not (is_row place.0), InvalidRow) ∷ (not (is_column place.1), InvalidColumn) ∷ (is_covered s.grid.merged_cells place, MergedPart) ∷ (fixed, ArrayPart) ∷ (bad, NotAFormula) ∷ []))
       (is_fixed_at-seen (content_of book.strings) celled held (cells_are_contents book.strings) s.grid.cells place)
 
-  left_at : Option (List ℕ) → BookSheet → machine.Book
+  left_at : Option (List ℕ) → Sheet → machine.Book
   left_at typed s = with_written whole index (seen s) place (formula_written whole (seen s) (formula_at_place whole (seen s) place (unwrap_or typed [])))
 
-  told : (typed : Option (List ℕ)) (o : Option BookSheet) (r : Refusal) → value_refusal_in place o ≡ Some r → step_at typed (option_map seen o) ≡ Err r
+  told : (typed : Option (List ℕ)) (o : Option Sheet) (r : Refusal) → value_refusal_in place o ≡ Some r → step_at typed (option_map seen o) ≡ Err r
   unfolding step_at left_at
   told typed None r e = let is : InvalidSheet ≡ r = cc in ap (λ (x : Refusal). let made : Stepped machine.Book = Err x in made) is
   told typed (Some s) r e =
       ap (λ o. unless o (left_at typed s) [])
       (fixed_seen (is_none typed) s ∙ first_told (is_row place.0) (is_column place.1) (is_covered s.grid.merged_cells place) (is_fixed_at celled s.grid.cells place) (is_none typed) r e)
 
-  none_told : (s : BookSheet) → first_refusal (value_causes s.grid place) ≡ None → step_at None (Some (seen s)) ≡ Err NotAFormula
+  none_told : (s : Sheet) → first_refusal (value_causes s.grid place) ≡ None → step_at None (Some (seen s)) ≡ Err NotAFormula
   unfolding step_at left_at
   none_told s e =
       ap (λ o. unless o (left_at None s) [])

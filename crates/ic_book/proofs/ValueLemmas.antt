@@ -28,7 +28,7 @@ use Rattle.ic_machine.specs.Refusal.{ArrayPart, InvalidColumn, InvalidRow, Inval
 use Rattle.ic_machine.specs.Styling.{Numbered, restyled}
 use Rattle.ic_machine.specs.Valid.{HasFormula}
 use Rattle.ic_machine.specs.subjects.Writing.{Written, place_causes, with_content, with_written, write_causes, write_step}
-use Rattle.ic_sheets.specs.Sheet.{BookSheet, TakesCell, sheet_of, with_cell_in}
+use Rattle.ic_sheets.specs.Sheet.{Sheet, TakesCell, sheet_of, with_cell_in}
 use Rattle.ic_sheets.specs.declared.sheet.Sheet.{Sheet as HeldSheet}
 use Rattle.ic_book.specs.Book.{Book, HasStrings, IsPlain, IsValidBook, ModelState}
 use Rattle.ic_book.specs.Does.{DoesStep, IsDone, Refused, Wanted}
@@ -45,7 +45,7 @@ use Rattle.ic_book.proofs.WholeLemmas.{index_seen}
 use Rattle.ic_book.proofs.WrittenLemmas.{updated_alike}
 
 -- a sheet stands there where nothing refuses a value
-pub there_in : (place : CellPlace) (o : Option BookSheet) → value_refusal_in place o ≡ None → (s : BookSheet) × (o ≡ Some s) × (first_refusal (value_causes s.grid place) ≡ None)
+pub there_in : (place : CellPlace) (o : Option Sheet) → value_refusal_in place o ≡ None → (s : Sheet) × (o ≡ Some s) × (first_refusal (value_causes s.grid place) ≡ None)
 there_in place None e = cc
 there_in place (Some s) e = (s, refl, e)
 
@@ -55,8 +55,8 @@ pub refusal_there : (book : Book) (index : ℕ) (row column : ℤ) (p : CellPlac
 refusal_there book index row column p same o e = ap (λ p. value_refusal_in p (slice_get book.sheets index)) (sym same) ∙ e
 
 pub shows_there : (book : Book) (index : ℕ) (row column : ℤ) (n : ℕ) (p : CellPlace) → p ≡ (row, column)
-    → IfSome (slice_get book.sheets index) (λ (s : BookSheet). n ≡ style_at celled s.grid.cells s.grid.rows s.grid.columns p) → Shows book index row column n
-shows_there book index row column n p same e = subst (λ (p : CellPlace). IfSome (slice_get book.sheets index) (λ (s : BookSheet). n ≡ style_at celled s.grid.cells s.grid.rows s.grid.columns p)) same e
+    → IfSome (slice_get book.sheets index) (λ (s : Sheet). n ≡ style_at celled s.grid.cells s.grid.rows s.grid.columns p) → Shows book index row column n
+shows_there book index row column n p same e = subst (λ (p : CellPlace). IfSome (slice_get book.sheets index) (λ (s : Sheet). n ≡ style_at celled s.grid.cells s.grid.rows s.grid.columns p)) same e
 
 -- The machine's step. ----
 
@@ -67,10 +67,10 @@ module _ (book : Book) (index : ℕ) (row column : ℤ) (w : machine.Sheet → W
   abbrev whole : machine.Book
   whole = whole_of book
 
-  abbrev seen : BookSheet → machine.Sheet
+  abbrev seen : Sheet → machine.Sheet
   seen s = whole_sheet book.strings s
 
-  abbrev left_at : BookSheet → machine.Book
+  abbrev left_at : Sheet → machine.Book
   left_at s = with_written whole index (seen s) place (w (seen s))
 
   abbrev step_at : Option machine.Sheet → Stepped machine.Book
@@ -79,16 +79,16 @@ module _ (book : Book) (index : ℕ) (row column : ℤ) (w : machine.Sheet → W
   step_is : write_step whole index place w [] ≡ step_at (option_map seen (slice_get book.sheets index))
   step_is = ap step_at (slice_get-map seen book.sheets index)
 
-  causes_are : (s : BookSheet) → first_refusal (place_causes place ++ (write_causes (seen s) place ++ [])) ≡ first_refusal (value_causes s.grid place)
+  causes_are : (s : Sheet) → first_refusal (place_causes place ++ (write_causes (seen s) place ++ [])) ≡ first_refusal (value_causes s.grid place)
   causes_are s =
       ap (λ (fixed : Bool). first_refusal ((not (is_row row), InvalidRow) ∷ (not (is_column column), InvalidColumn) ∷ (is_covered s.grid.merged_cells place, MergedPart) ∷ (fixed, ArrayPart) ∷ []))
       (is_fixed_at-seen (content_of book.strings) celled held (cells_are_contents book.strings) s.grid.cells place)
 
-  step_told : (o : Option BookSheet) (r : Refusal) → value_refusal_in place o ≡ Some r → step_at (option_map seen o) ≡ Err r
+  step_told : (o : Option Sheet) (r : Refusal) → value_refusal_in place o ≡ Some r → step_at (option_map seen o) ≡ Err r
   step_told None r e = let is : InvalidSheet ≡ r = cc in ap (λ (x : Refusal). let made : Stepped machine.Book = Err x in made) is
   step_told (Some s) r e = ap (λ o. unless o (left_at s) []) (causes_are s ∙ e)
 
-  step_done : (s : BookSheet) → first_refusal (value_causes s.grid place) ≡ None → step_at (Some (seen s)) ≡ Ok (left_at s, [])
+  step_done : (s : Sheet) → first_refusal (value_causes s.grid place) ≡ None → step_at (Some (seen s)) ≡ Ok (left_at s, [])
   step_done s e = ap (λ o. unless o (left_at s) []) (causes_are s ∙ e)
 
   pub step_refused : (r : Refusal) → value_refusal book index row column ≡ Some r → write_step (whole_of book) index (row, column) w [] ≡ Err r
@@ -109,7 +109,7 @@ module _ (book : Book) (valid : IsValidBook book) (index : ℕ) (row column : �
   abbrev its_whole : machine.Book
   its_whole = whole_of book
 
-  abbrev as_seen : BookSheet → machine.Sheet
+  abbrev as_seen : Sheet → machine.Sheet
   as_seen s = whole_sheet book.strings s
 
   module _ (is_value : IsValueCell (length book.strings) cell) where
@@ -126,7 +126,7 @@ module _ (book : Book) (valid : IsValidBook book) (index : ℕ) (row column : �
     stays : StaysValid (value_step book index row column change cell)
     stays = write_stays its_whole valid.whole index its_place (content_written change its_content) [] (λ s e r c. good s e)
 
-    module _ (s : BookSheet) (at_index : slice_get book.sheets index ≡ Some s) (none : first_refusal (value_causes s.grid its_place) ≡ None) where
+    module _ (s : Sheet) (at_index : slice_get book.sheets index ≡ Some s) (none : first_refusal (value_causes s.grid its_place) ≡ None) where
       abbrev styled : Numbered
       styled = changed_style book s row column change
 
@@ -154,8 +154,8 @@ module _ (book : Book) (valid : IsValidBook book) (index : ℕ) (row column : �
       pub value_valid : IsValidBook (with_value index its_place cell styled book)
       value_valid = record {
         whole = subst StaysValid step_leaves stays;
-        strings = all_updated (λ (s : BookSheet). HasStrings (length book.strings) s.grid) (λ s. record s { grid = with_cell_in its_place (cell styled.number) s.grid }) (λ s h. strings_with (length book.strings) its_place (cell styled.number) (is_value.string styled.number) s.grid h) index book.sheets valid.strings;
-        plain = all_updated (λ (s : BookSheet). IsPlain s.grid) (λ s. record s { grid = with_cell_in its_place (cell styled.number) s.grid }) (λ s h. plain_with its_place (cell styled.number) (is_value.loose styled.number) s.grid h) index book.sheets valid.plain;
+        strings = all_updated (λ (s : Sheet). HasStrings (length book.strings) s.grid) (λ s. record s { grid = with_cell_in its_place (cell styled.number) s.grid }) (λ s h. strings_with (length book.strings) its_place (cell styled.number) (is_value.string styled.number) s.grid h) index book.sheets valid.strings;
+        plain = all_updated (λ (s : Sheet). IsPlain s.grid) (λ s. record s { grid = with_cell_in its_place (cell styled.number) s.grid }) (λ s h. plain_with its_place (cell styled.number) (is_value.loose styled.number) s.grid h) index book.sheets valid.plain;
       }
 
 -- What the call does. ----
@@ -182,7 +182,7 @@ module _ (old : ModelState) (valid : IsValidBook old.book) (index : ℕ) (row co
 
 module _ (old : ModelState) (valid : IsValidBook old.book) (index : ℕ) (row column : ℤ) (change : Style → Style) (cell : ℕ → Cell) where
   -- it is done
-  pub value_does : IsValueCell (length old.book.strings) cell → (new : ModelState) (s : BookSheet) → slice_get old.book.sheets index ≡ Some s → first_refusal (value_causes s.grid (row, column)) ≡ None
+  pub value_does : IsValueCell (length old.book.strings) cell → (new : ModelState) (s : Sheet) → slice_get old.book.sheets index ≡ Some s → first_refusal (value_causes s.grid (row, column)) ≡ None
       → new.book ≡ with_value index (row, column) cell (changed_style old.book s row column change) old.book → DoesStep Wanted (value_step old.book index row column change cell) no_fields (Ok tt) old new
   value_does is_value new s at none is = record {
     done = step_leaves old.book valid index row column change cell is_value s at none ∙ ap (λ (b : Book). let made : Stepped machine.Book = Ok (whole_of b, []) in made) (sym is);
@@ -198,7 +198,7 @@ module _ (about : About) (ws : List HeldSheet) (ds : List Definition) (locale : 
     abbrev its_state : ModelState
     its_state = held_state about ws ds locale language tables
 
-    held_in : (o : Option HeldSheet) (s : BookSheet) → option_map sheet_of o ≡ Some s → (x : HeldSheet) × (o ≡ Some x) × (sheet_of x ≡ s)
+    held_in : (o : Option HeldSheet) (s : Sheet) → option_map sheet_of o ≡ Some s → (x : HeldSheet) × (o ≡ Some x) × (sheet_of x ≡ s)
     held_in None s e = cc
     held_in (Some x) s e = let same : sheet_of x ≡ s = cc in (x, refl, same)
 
@@ -210,7 +210,7 @@ module _ (about : About) (ws : List HeldSheet) (ds : List Definition) (locale : 
           x.0,
           x.1,
           slice_get-map sheet_of ws index ∙ ap (option_map sheet_of) x.1,
-          ap (λ (s : BookSheet). first_refusal (value_causes s.grid (row, column))) x.2 ∙ found.2,
+          ap (λ (s : Sheet). first_refusal (value_causes s.grid (row, column))) x.2 ∙ found.2,
         )
 
     pub is_within : index < length ws
@@ -223,7 +223,7 @@ module _ (about : About) (ws : List HeldSheet) (ds : List Definition) (locale : 
 
     module _ (n : ℕ) (shows : Shows (held_state about ws ds locale language tables).book index row column n) where
       shown_is : n ≡ shown_style (sheet_of its_sheet.0) row column
-      shown_is = subst (λ o. IfSome o (λ (s : BookSheet). n ≡ shown_style s row column)) its_sheet.2 shows
+      shown_is = subst (λ o. IfSome o (λ (s : Sheet). n ≡ shown_style s row column)) its_sheet.2 shows
 
       pub style_within : n < length about.styles
       style_within = subst (λ k. k < length about.styles) (sym shown_is) (style_below its_state.book h.valid index (sheet_of its_sheet.0) its_sheet.2 (row, column))
@@ -234,14 +234,14 @@ module _ (about : About) (ws : List HeldSheet) (ds : List Definition) (locale : 
           abbrev by : Numbered
           by = changed_style its_state.book (sheet_of its_sheet.0) row column change
 
-          make : List BookSheet → List Style → List Bool → ModelState
+          make : List Sheet → List Style → List Bool → ModelState
           make sheets styles all = record { book = record its_state.book { sheets = sheets; styles = styles }; has_all = all }
 
           sheets_are : map sheet_of now ≡ (with_value index (row, column) cell by its_state.book).sheets
           sheets_are =
               ap (map sheet_of) e
               ∙ updated_seen sheet_of (λ s. record s { grid = with_cell_in (row, column) (cell number) s.grid }) (λ s. record s { grid = with_cell_in (row, column) (cell number) s.grid }) (λ s. refl) index ws
-              ∙ ap (λ (k : ℕ). updated_at (λ (s : BookSheet). record s { grid = with_cell_in (row, column) (cell k) s.grid }) index (map sheet_of ws)) (numbered ∙ ap (λ k. (restyled change k about.styles).number) shown_is)
+              ∙ ap (λ (k : ℕ). updated_at (λ (s : Sheet). record s { grid = with_cell_in (row, column) (cell k) s.grid }) index (map sheet_of ws)) (numbered ∙ ap (λ k. (restyled change k about.styles).number) shown_is)
 
           look_ups_are : map (λ (s : HeldSheet). s.pool.is_whole) now ≡ its_state.has_all
           look_ups_are = ap (map (λ (s : HeldSheet). s.pool.is_whole)) e ∙ updated_unseen (λ (s : HeldSheet). s.pool.is_whole) (λ s. record s { grid = with_cell_in (row, column) (cell number) s.grid }) (λ s. refl) index ws
@@ -249,7 +249,7 @@ module _ (about : About) (ws : List HeldSheet) (ds : List Definition) (locale : 
           pub value_state : held_state (record about { styles = styles }) now ds locale language tables ≡ record its_state { book = with_value index (row, column) cell by its_state.book }
           unfolding make
           value_state =
-              ap (λ (sheets : List BookSheet). make sheets styles (map (λ (s : HeldSheet). s.pool.is_whole) now)) sheets_are
+              ap (λ (sheets : List Sheet). make sheets styles (map (λ (s : HeldSheet). s.pool.is_whole) now)) sheets_are
               ∙ ap (λ (st : List Style). make (with_value index (row, column) cell by its_state.book).sheets st (map (λ (s : HeldSheet). s.pool.is_whole) now)) (styled ∙ ap (λ k. (restyled change k about.styles).styles) shown_is)
               ∙ ap (make (with_value index (row, column) cell by its_state.book).sheets by.styles) look_ups_are
 

@@ -5,12 +5,12 @@ use Rattle.std.specs.Prelude.{option_map}
 use Rattle.std.specs.Option.{option_to_list}
 use Rattle.std.proofs.lemmas.List.{map-append}
 use Rattle.ic_laws.proofs.core.Lists.{removed_seen, updated_seen}
-use Rattle.ic_laws.specs.CoreBook.{CellPlace, Cells, CoreBook, Definition, Sheet, greatest_id, scene_of}
+use Rattle.ic_laws.specs.CoreBook.{CellPlace, Cells, CoreBook, Definition, Sheet as CoreSheet, greatest_id, scene_of}
 use Rattle.ic_laws.specs.Keeping.{kept_in_body, same_keys}
 use Rattle.ic_laws.specs.Notations.{Notations}
 use Rattle.ic_laws.specs.declared.scene.Scene.{Scene}
 use Rattle.ic_laws.specs.declared.tree.Formula.{Formula}
-use Rattle.ic_cells.specs.Cell.{formula_of}
+use Rattle.ic_cells.specs.Cell.{cell_formula_index}
 use Rattle.ic_cells.specs.declared.cell.Cell.{Cell}
 use Rattle.ic_cells.specs.declared.cell.Cell.TheVariants as cells
 use Rattle.ic_grid.specs.Contents.{Contents}
@@ -21,15 +21,15 @@ use Rattle.ic_machine.specs.Changed as changed
 use Rattle.ic_machine.specs.Changed.{with_kept_formulas, with_kept_pool}
 use Rattle.ic_machine.specs.Content.{Content, content_of, formula_in, formula_index}
 use Rattle.ic_machine.specs.subjects.Sheets.{with_new_sheet}
-use Rattle.ic_sheets.specs.Sheet.{BookSheet, cells_of, empty_grid, kept_pool, plain_tab, sheet_core}
+use Rattle.ic_sheets.specs.Sheet.{Sheet, cells_of, empty_grid, kept_pool, plain_tab, sheet_core}
 use Rattle.ic_book.specs.Book.{Book, core_of, notations_in, scene_in, whole_of, whole_sheet}
-use Rattle.ic_book.specs.Change.{book_changed_by, with_added_sheet, with_kept_pools, with_moved_sheet, with_name, with_removed_sheet, with_renamed_sheet, without_name}
+use Rattle.ic_book.specs.Change.{book_changed_by, with_added_definition, with_added_sheet, with_kept_pools, with_moved_sheet, with_removed_definition, with_removed_sheet, with_renamed_sheet}
 use Rattle.ic_book.proofs.BookLemmas.{moved-map}
 
 -- the core ----
 
 -- a cell's content has its formula
-pub index_seen : (strings : List (List ℕ)) (cell : Cell) → formula_index (content_of strings cell) ≡ formula_of cell
+pub index_seen : (strings : List (List ℕ)) (cell : Cell) → formula_index (content_of strings cell) ≡ cell_formula_index cell
 index_seen strings (cells.EmptyCell s) = refl
 index_seen strings (cells.BooleanCell v s) = refl
 index_seen strings (cells.NumberCell v s) = refl
@@ -46,19 +46,19 @@ cells_seen strings pool (e ∷ es) =
     ap₂ (λ (o : Option ℕ) (rest : Cells). let all : Cells = option_to_list (option_map (λ index. (e.0, formula_in pool index)) o) ++ rest in all)
     (index_seen strings e.1) (cells_seen strings pool es)
 
-sheet_seen : (strings : List (List ℕ)) (sheet : BookSheet) → core_sheet (whole_sheet strings sheet) ≡ sheet_core sheet
+sheet_seen : (strings : List (List ℕ)) (sheet : Sheet) → core_sheet (whole_sheet strings sheet) ≡ sheet_core sheet
 sheet_seen strings sheet =
-    ap (λ (cells : Cells). let s : Sheet = record { id = sheet.id; name = sheet.name; cells = cells } in s)
+    ap (λ (cells : Cells). let s : CoreSheet = record { id = sheet.id; name = sheet.name; cells = cells } in s)
     (ap (core_cells sheet.pool) (entries-seen (content_of strings) sheet.grid.cells) ∙ cells_seen strings sheet.pool (finite.entries sheet.grid.cells))
 
-sheets_seen : (strings : List (List ℕ)) (sheets : List BookSheet) → map core_sheet (map (whole_sheet strings) sheets) ≡ map sheet_core sheets
+sheets_seen : (strings : List (List ℕ)) (sheets : List Sheet) → map core_sheet (map (whole_sheet strings) sheets) ≡ map sheet_core sheets
 sheets_seen strings [] = refl
 sheets_seen strings (s ∷ sheets) = ap₂ ◌∷◌ (sheet_seen strings s) (sheets_seen strings sheets)
 
 -- the core of the whole book of a book is that one's; so are what formulas can mention and the greatest id
 pub whole_core : (book : Book) → machine.core_of (whole_of book) ≡ core_of book
 whole_core book =
-    ap (λ (sheets : List Sheet). let core : CoreBook = record { sheets = sheets; definitions = book.definitions; locale = book.locale; language = book.language } in core)
+    ap (λ (sheets : List CoreSheet). let core : CoreBook = record { sheets = sheets; definitions = book.definitions; locale = book.locale; language = book.language } in core)
     (sheets_seen book.strings book.sheets)
 
 pub whole_scene : (book : Book) → machine.scene_in (whole_of book) ≡ scene_in book
@@ -66,7 +66,7 @@ whole_scene book = ap scene_of (whole_core book)
 
 -- all formulas kept ----
 
-sheets_kept : (strings : List (List ℕ)) (n : Notations) (before after : Scene) (sheets : List BookSheet)
+sheets_kept : (strings : List (List ℕ)) (n : Notations) (before after : Scene) (sheets : List Sheet)
     → map (whole_sheet strings) (map (kept_pool n before after) sheets) ≡ map (with_kept_pool n before after same_keys) (map (whole_sheet strings) sheets)
 sheets_kept strings n before after [] = refl
 sheets_kept strings n before after (s ∷ sheets) = ap (λ rest. with_kept_pool n before after same_keys (whole_sheet strings s) ∷ rest) (sheets_kept strings n before after sheets)
@@ -115,9 +115,9 @@ whole_removed index book = ap (with_sheets book) (removed_seen (whole_sheet book
 pub whole_moved : (from to : ℕ) (book : Book) → whole_of (with_moved_sheet from to book) ≡ changed.with_moved_sheet from to (whole_of book)
 whole_moved from to book = ap (with_sheets book) (moved-map (whole_sheet book.strings) from to book.sheets)
 
-pub whole_defined : (new : Definition) (book : Book) → whole_of (with_name new book) ≡ changed.with_definition new (whole_of book)
+pub whole_defined : (new : Definition) (book : Book) → whole_of (with_added_definition new book) ≡ changed.with_definition new (whole_of book)
 whole_defined new book = refl
 
-pub whole_undefined : (index : Option ℕ) (book : Book) → whole_of (without_name index book) ≡ changed.without_definition index (whole_of book)
+pub whole_undefined : (index : Option ℕ) (book : Book) → whole_of (with_removed_definition index book) ≡ changed.without_definition index (whole_of book)
 whole_undefined None book = refl
 whole_undefined (Some index) book = refl

@@ -38,7 +38,7 @@ use Rattle.ic_machine.specs.subjects.Writing.{formula_at_place, formula_content,
 use Rattle.ic_pool.proofs.PlacedLemmas.{below_length, first_found, first_pushed}
 use Rattle.ic_pool.specs.Code.{code}
 use Rattle.ic_pool.specs.Pool.{IsFirstAt, IsPlaced, first_place}
-use Rattle.ic_sheets.specs.Sheet.{BookSheet, formula_cell, with_cell_in}
+use Rattle.ic_sheets.specs.Sheet.{Sheet, formula_cell, with_cell_in}
 use Rattle.ic_sheets.specs.declared.sheet.FormulaKind.TheVariants as kinds_of
 use Rattle.ic_book.specs.Book.{Book, HasStrings, IsPlain, IsValidBook, ModelState, notations_in, whole_of, whole_sheet, whole_tab}
 use Rattle.ic_book.specs.Does.{DoesStep, IsDone, Refused, WantedIn}
@@ -114,20 +114,20 @@ module _ (book : Book) (valid : IsValidBook book) (index : ℕ) (place : CellPla
   abbrev whole : machine.Book
   whole = whole_of book
 
-  abbrev seen : BookSheet → machine.Sheet
+  abbrev seen : Sheet → machine.Sheet
   seen s = whole_sheet book.strings s
 
   abbrev kinds : List FunctionKind
   kinds = book.tables.kinds
 
   -- the step on a sheet that is there
-  abbrev causes_at : BookSheet → Causes
+  abbrev causes_at : Sheet → Causes
   causes_at s = place_causes place ++ (write_causes (seen s) place ++ [])
 
-  abbrev its_formula : BookSheet → Formula
+  abbrev its_formula : Sheet → Formula
   its_formula s = formula_at_place whole (seen s) place body
 
-  abbrev left_at : BookSheet → machine.Book
+  abbrev left_at : Sheet → machine.Book
   left_at s = with_written whole index (seen s) place (formula_written whole (seen s) (its_formula s))
 
   abbrev step_at : Option machine.Sheet → Stepped machine.Book
@@ -138,16 +138,16 @@ module _ (book : Book) (valid : IsValidBook book) (index : ℕ) (place : CellPla
   step_is : put_formula_step whole index place body ≡ step_at (option_map seen (slice_get book.sheets index))
   step_is = ap step_at (slice_get-map seen book.sheets index)
 
-  causes_are : (s : BookSheet) → first_refusal (causes_at s) ≡ first_refusal (value_causes s.grid place)
+  causes_are : (s : Sheet) → first_refusal (causes_at s) ≡ first_refusal (value_causes s.grid place)
   causes_are s =
       ap (λ (fixed : Bool). first_refusal ((not (is_row place.0), InvalidRow) ∷ (not (is_column place.1), InvalidColumn) ∷ (is_covered s.grid.merged_cells place, MergedPart) ∷ (fixed, ArrayPart) ∷ []))
       (is_fixed_at-seen (content_of book.strings) celled held (cells_are_contents book.strings) s.grid.cells place)
 
-  step_told : (o : Option BookSheet) (r : Refusal) → value_refusal_in place o ≡ Some r → step_at (option_map seen o) ≡ Err r
+  step_told : (o : Option Sheet) (r : Refusal) → value_refusal_in place o ≡ Some r → step_at (option_map seen o) ≡ Err r
   step_told None r e = let is : InvalidSheet ≡ r = cc in ap (λ (x : Refusal). let made : Stepped machine.Book = Err x in made) is
   step_told (Some s) r e = ap (λ o. unless o (left_at s) []) (causes_are s ∙ e)
 
-  step_done : (s : BookSheet) → first_refusal (value_causes s.grid place) ≡ None → step_at (Some (seen s)) ≡ Ok (left_at s, [])
+  step_done : (s : Sheet) → first_refusal (value_causes s.grid place) ≡ None → step_at (Some (seen s)) ≡ Ok (left_at s, [])
   step_done s e = ap (λ o. unless o (left_at s) []) (causes_are s ∙ e)
 
   -- a refused write
@@ -155,7 +155,7 @@ module _ (book : Book) (valid : IsValidBook book) (index : ℕ) (place : CellPla
   write_refused r e = step_is ∙ step_told (slice_get book.sheets index) r e
 
   -- one that isn't
-  sheet_there : (o : Option BookSheet) → value_refusal_in place o ≡ None → (s : BookSheet) × (o ≡ Some s) × (first_refusal (value_causes s.grid place) ≡ None)
+  sheet_there : (o : Option Sheet) → value_refusal_in place o ≡ None → (s : Sheet) × (o ≡ Some s) × (first_refusal (value_causes s.grid place) ≡ None)
   sheet_there None e = cc
   sheet_there (Some s) e = (s, refl, e)
 
@@ -170,7 +170,7 @@ module _ (book : Book) (valid : IsValidBook book) (index : ℕ) (place : CellPla
       write_stays whole valid.whole index place (λ sheet. formula_written whole sheet (formula_at_place whole sheet place body))
       [] (λ sheet e r c. text_good whole valid.whole index sheet e place body)
 
-  module _ (s : BookSheet) (at_index : slice_get book.sheets index ≡ Some s) (new : Book) (w : WritesFormula index s place body book new) (none : first_refusal (value_causes s.grid place) ≡ None) where
+  module _ (s : Sheet) (at_index : slice_get book.sheets index ≡ Some s) (new : Book) (w : WritesFormula index s place body book new) (none : first_refusal (value_causes s.grid place) ≡ None) where
     abbrev formula : Formula
     formula = written_formula book s place body
 
@@ -210,7 +210,7 @@ module _ (book : Book) (valid : IsValidBook book) (index : ℕ) (place : CellPla
         ]
 
     -- the sheet with the cell, as a whole one
-    abbrev put_in_sheet : BookSheet → BookSheet
+    abbrev put_in_sheet : Sheet → Sheet
     put_in_sheet s = record s { pool = w.pool; grid = with_cell_in place cell s.grid }
 
     sheet_put : seen (put_in_sheet s) ≡ sheet_with formula w.pool w.at styled
@@ -236,14 +236,14 @@ module _ (book : Book) (valid : IsValidBook book) (index : ℕ) (place : CellPla
     pub written_valid : IsValidBook new
     written_valid = subst IsValidBook (sym w.is) (record {
       whole = subst StaysValid left_done served_stays;
-      strings = all_updated (λ (s : BookSheet). HasStrings (length book.strings) s.grid) put_in_sheet (λ s h. strings_written (length book.strings) place (kind_of kinds formula) w.at styled.number s.grid h) index book.sheets valid.strings;
-      plain = all_updated (λ (s : BookSheet). IsPlain s.grid) put_in_sheet (λ s h. plain_written place (kind_of kinds formula) w.at styled.number s.grid h) index book.sheets valid.plain;
+      strings = all_updated (λ (s : Sheet). HasStrings (length book.strings) s.grid) put_in_sheet (λ s h. strings_written (length book.strings) place (kind_of kinds formula) w.at styled.number s.grid h) index book.sheets valid.strings;
+      plain = all_updated (λ (s : Sheet). IsPlain s.grid) put_in_sheet (λ s h. plain_written place (kind_of kinds formula) w.at styled.number s.grid h) index book.sheets valid.plain;
     })
 
 -- the call that writes
 module _ (result : Result (Unit {0}) BookError) (old new : ModelState) (valid : IsValidBook old.book) (index : ℕ) (place : CellPlace) (body : List ℕ) where
   -- what it says of a sheet that is there
-  abbrev Writes : BookSheet → Type 0
+  abbrev Writes : Sheet → Type 0
   Writes s = WritesFormula index s place body old.book new.book
 
   writes_so : (r : Result (Unit {0}) BookError) → OnOk r (IfSome (slice_get old.book.sheets index) Writes) → Tells r (value_refusal old.book index place.0 place.1)

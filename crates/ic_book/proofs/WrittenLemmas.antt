@@ -3,17 +3,17 @@ use Rattle.std.proofs.Common.{◌≡◌, ℕ, zero, suc, ◌<◌, List, [], ◌�
 use Rattle.std.specs.FinMap as finite
 use Rattle.std.specs.List.{AllByRecursion, slice_get}
 use Rattle.ic_laws.proofs.core.CellWritten.{place_cmp_total}
-use Rattle.ic_laws.specs.CoreBook.{CellPlace, Cells, CoreBook, Sheet}
+use Rattle.ic_laws.specs.CoreBook.{CellPlace, Cells, CoreBook, Sheet as CoreSheet}
 use Rattle.ic_laws.specs.CoreStep.{updated_at}
 use Rattle.ic_laws.specs.Notations.{Notations}
 use Rattle.ic_laws.specs.declared.tree.Formula.{Formula}
-use Rattle.ic_cells.specs.Cell.{formula_of}
+use Rattle.ic_cells.specs.Cell.{cell_formula_index}
 use Rattle.ic_cells.specs.Maps.{place_cmp}
 use Rattle.ic_cells.specs.declared.cell.Cell.{Cell}
 use Rattle.ic_machine.proofs.CoreValid.{each_found}
 use Rattle.ic_pool.specs.Pool.{IsPlaced}
 use Rattle.ic_sheets.proofs.PoolLemmas.{IsBelow, cells_same, has_placed}
-use Rattle.ic_sheets.specs.Sheet.{BookSheet, HasPlaces, IsValidPool, sheet_core}
+use Rattle.ic_sheets.specs.Sheet.{HasIndexes, IsValidPool, Sheet, sheet_core}
 use Rattle.ic_book.specs.Book.{Book, core_of, scene_in}
 use Rattle.ic_book.specs.Written.{with_pool}
 
@@ -34,22 +34,22 @@ below : (count : ℕ) (o : Option ℕ) → ((at : ℕ) → o ≡ Some at → at 
 below count None h = tt
 below count (Some at) h = h at refl
 
-all_below : (sheet : BookSheet) → HasPlaces (length sheet.pool) sheet.grid → AllByRecursion (λ (e : CellPlace × Cell). IsBelow (length sheet.pool) (formula_of e.1)) (finite.entries sheet.grid.cells)
+all_below : (sheet : Sheet) → HasIndexes (length sheet.pool) sheet.grid → AllByRecursion (λ (e : CellPlace × Cell). IsBelow (length sheet.pool) (cell_formula_index e.1)) (finite.entries sheet.grid.cells)
 all_below sheet places =
-    each_found place_cmp place_cmp_total (λ (p : CellPlace) (x : Cell). IsBelow (length sheet.pool) (formula_of x)) (finite.entries sheet.grid.cells) (finite.entries_sorted sheet.grid.cells)
-    (λ p x e. below (length sheet.pool) (formula_of x) (λ at is. places p x at (finite.get-entries sheet.grid.cells p ∙ e) is))
+    each_found place_cmp place_cmp_total (λ (p : CellPlace) (x : Cell). IsBelow (length sheet.pool) (cell_formula_index x)) (finite.entries sheet.grid.cells) (finite.entries_sorted sheet.grid.cells)
+    (λ p x e. below (length sheet.pool) (cell_formula_index x) (λ at is. places p x at (finite.get-entries sheet.grid.cells p ∙ e) is))
 
 -- the core doesn't see a formula that no cell has
-pub core_of-pool : (n : Notations) (book : Book) (index : ℕ) (sheet : BookSheet) → slice_get book.sheets index ≡ Some sheet → (formula : Formula) (place : ℕ) (pool : List Formula) → IsPlaced formula place sheet.pool pool
+pub core_of-pool : (n : Notations) (book : Book) (index : ℕ) (sheet : Sheet) → slice_get book.sheets index ≡ Some sheet → (formula : Formula) (place : ℕ) (pool : List Formula) → IsPlaced formula place sheet.pool pool
     → AllByRecursion (IsValidPool n (scene_in book)) book.sheets → core_of (with_pool index pool book) ≡ core_of book
 core_of-pool n book index sheet at_index formula place pool placed valid =
     let its = one_of_all (IsValidPool n (scene_in book)) index book.sheets sheet at_index valid in
-    ap (λ (sheets : List Sheet). let core : CoreBook = record { sheets = sheets; definitions = book.definitions; locale = book.locale; language = book.language } in core)
+    ap (λ (sheets : List CoreSheet). let core : CoreBook = record { sheets = sheets; definitions = book.definitions; locale = book.locale; language = book.language } in core)
     (updated_alike sheet_core (λ s. record s { pool = pool }) (λ s. s) index book.sheets sheet at_index
-    (ap (λ (cells : Cells). let s : Sheet = record { id = sheet.id; name = sheet.name; cells = cells } in s) (cells_same sheet.pool pool (has_placed formula place sheet.pool pool placed).others (finite.entries sheet.grid.cells) (all_below sheet its.places)))
+    (ap (λ (cells : Cells). let s : CoreSheet = record { id = sheet.id; name = sheet.name; cells = cells } in s) (cells_same sheet.pool pool (has_placed formula place sheet.pool pool placed).others (finite.entries sheet.grid.cells) (all_below sheet its.indexes)))
     ∙ unchanged index (map sheet_core book.sheets))
   where
-    unchanged : (i : ℕ) (sheets : List Sheet) → updated_at (λ s. s) i sheets ≡ sheets
+    unchanged : (i : ℕ) (sheets : List CoreSheet) → updated_at (λ s. s) i sheets ≡ sheets
     unchanged i [] = refl
     unchanged zero (s ∷ sheets) = refl
     unchanged (suc i) (s ∷ sheets) = ap (λ rest. s ∷ rest) (unchanged i sheets)

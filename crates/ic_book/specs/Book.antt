@@ -19,7 +19,7 @@ use Rattle.ic_machine.specs.Alike.{seen_by}
 use Rattle.ic_machine.specs.Book as machine
 use Rattle.ic_machine.specs.Content.{content_of}
 use Rattle.ic_machine.specs.Valid as valid
-use Rattle.ic_sheets.specs.Sheet.{BookSheet, empty_grid, plain_tab, sheet_core}
+use Rattle.ic_sheets.specs.Sheet.{Sheet, empty_grid, plain_tab, sheet_core}
 use Rattle.ic_sheets.specs.declared.tab.Tab.{Tab}
 
 -- a book: its name, its sheets and its definitions in their order, the ids of the locale and the language in force, the
@@ -27,7 +27,7 @@ use Rattle.ic_sheets.specs.declared.tab.Tab.{Tab}
 -- borrows
 pub record Book : Type 0 where
   pub name : List ℕ
-  pub sheets : List BookSheet
+  pub sheets : List Sheet
   pub definitions : List Definition
   pub locale : List ℕ
   pub language : List ℕ
@@ -54,7 +54,7 @@ whole_tab tab = record {
 abbrev pub whole_grid : List (List ℕ) → Grid → machine.Grid
 whole_grid strings grid = record { contents = seen_by (content_of strings) grid.cells; rows = grid.rows; columns = grid.columns; merges = grid.merged_cells }
 
-abbrev pub whole_sheet : List (List ℕ) → BookSheet → machine.Sheet
+abbrev pub whole_sheet : List (List ℕ) → Sheet → machine.Sheet
 whole_sheet strings sheet = record { id = sheet.id; name = sheet.name; pool = sheet.pool; grid = whole_grid strings sheet.grid; tab = whole_tab sheet.tab }
 
 -- who makes a new workbook, and with what
@@ -124,8 +124,8 @@ pub record IsPlain (grid : Grid) : Type 0 where
 -- what always holds of its whole book, that each shared string of a cell is one of the book's, and that its sheets are plain
 pub record IsValidBook (book : Book) : Type 0 where
   pub whole : valid.IsValidBook (whole_of book)
-  pub strings : AllByRecursion (λ (sheet : BookSheet). HasStrings (length book.strings) sheet.grid) book.sheets
-  pub plain : AllByRecursion (λ (sheet : BookSheet). IsPlain sheet.grid) book.sheets
+  pub strings : AllByRecursion (λ (sheet : Sheet). HasStrings (length book.strings) sheet.grid) book.sheets
+  pub plain : AllByRecursion (λ (sheet : Sheet). IsPlain sheet.grid) book.sheets
 
 -- what contracts see of a model: the book, and for each sheet whether the look-up of its formulas has all of them
 pub record ModelState : Type 0 where

@@ -7,7 +7,7 @@ use Rattle.std.specs.Option.{option_copied}
 use Rattle.ic_laws.specs.CoreBook.{CellPlace}
 use Rattle.ic_cells.specs.declared.cell.Cell.{Cell}
 use Rattle.ic_cells.specs.declared.sheet.CellIndex.{CellIndex}
-use Rattle.ic_sheets.specs.Sheet.{BookSheet}
+use Rattle.ic_sheets.specs.Sheet.{Sheet}
 use Rattle.ic_sheets.specs.declared.sheet.Sheet.{Sheet as HeldSheet}
 use Rattle.ic_book.specs.Book.{ModelState}
 use Rattle.ic_book.specs.declared.error.BookError.{BookError}
@@ -15,7 +15,7 @@ use Rattle.ic_book.specs.declared.error.BookError.TheVariants as errors
 
 -- the cell at a place of the sheet at an index, from 0, if one stands there; or that there is no such sheet
 abbrev pub FindsCell : ℕ → ℤ → ℤ → Result (Option (Bor Cell)) BookError → ModelState → Type 0
-FindsCell index row column (Ok cell) now = (sheet : BookSheet) × (slice_get now.book.sheets index ≡ Some sheet) × (option_copied cell ≡ finite.get sheet.grid.cells (row, column))
+FindsCell index row column (Ok cell) now = (sheet : Sheet) × (slice_get now.book.sheets index ≡ Some sheet) × (option_copied cell ≡ finite.get sheet.grid.cells (row, column))
 FindsCell index row column (Err e) now = (slice_get now.book.sheets index ≡ None) × (e ≡ errors.InvalidSheet)
 
 -- a place of the sheet at an index

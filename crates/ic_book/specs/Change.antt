@@ -38,13 +38,13 @@ abbrev pub with_moved_sheet : ℕ → ℕ → Book → Book
 with_moved_sheet from to book = record book { sheets = moved from to book.sheets }
 
 -- with a new definition at its end
-abbrev pub with_name : Definition → Book → Book
-with_name definition book = record book { definitions = book.definitions ++ definition ∷ [] }
+abbrev pub with_added_definition : Definition → Book → Book
+with_added_definition definition book = record book { definitions = book.definitions ++ definition ∷ [] }
 
 -- without the definition at an index; as it is where there is none
-abbrev pub without_name : Option ℕ → Book → Book
-without_name None book = book
-without_name (Some index) book = record book { definitions = remove book.definitions index }
+abbrev pub with_removed_definition : Option ℕ → Book → Book
+with_removed_definition None book = book
+with_removed_definition (Some index) book = record book { definitions = remove book.definitions index }
 
 -- a book with each tree replaced by what a change makes of it
 abbrev pub changed_book : Change → Book → Book

@@ -8,7 +8,7 @@ pub use Rattle.ic_machine.specs.Fields.{fields_of_sheet, no_fields, scope_field,
 use Rattle.ic_machine.specs.Reply.{Field, NumberField, TextField}
 use Rattle.ic_machine.specs.Styling.{color_text}
 use Rattle.ic_sheets.specs.declared.sheet.Sheet.{Sheet as HeldSheet}
-use Rattle.ic_book.specs.Names.{Listed, listed}
+use Rattle.ic_book.specs.Definitions.{Listed, listed}
 
 -- what is told of a sheet of the book: its name, the word of its state, its color and its id
 abbrev pub told_sheet : HeldSheet → List Field

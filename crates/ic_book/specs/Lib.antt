@@ -1,6 +1,7 @@
 pub mod Book
 pub mod Cells
 pub mod Change
+pub mod Definitions
 pub mod Does
 pub mod Extended
 pub mod Fields
@@ -8,7 +9,6 @@ pub mod Inside
 pub mod LookUps
 pub mod Markup
 pub mod Mentioned
-pub mod Names
 pub mod Parts
 pub mod References
 pub mod Refused

@@ -5,11 +5,11 @@ use Rattle.ic_laws.specs.Changes.{Change, name_added, name_gone, sheet_gone, she
 use Rattle.ic_laws.specs.CoreBook.{greatest_id, scene_of, spelling_of}
 use Rattle.ic_laws.specs.CoreStep.{index_of_definition, scope_or_none, updated_at, without_definition}
 use Rattle.ic_pool.specs.Mentions.{is_changed_by}
-use Rattle.ic_sheets.specs.Sheet.{BookSheet}
+use Rattle.ic_sheets.specs.Sheet.{Sheet}
 use Rattle.ic_book.specs.Book.{ModelState, core_of}
 
 -- The look-up of each sheet has all of its formulas after a change where it had all before, and no mention of them changes.
-abbrev pub looks_up_over : Change → List BookSheet → List Bool → List Bool
+abbrev pub looks_up_over : Change → List Sheet → List Bool → List Bool
 looks_up_over change [] had = []
 looks_up_over change (sheet ∷ sheets) [] = []
 looks_up_over change (sheet ∷ sheets) (had ∷ more) =

@@ -5,27 +5,27 @@ use Rattle.ic_laws.specs.CoreBook.{CellPlace}
 use Rattle.ic_laws.specs.Greatest.{greatest}
 use Rattle.ic_machine.specs.Book.{content_at}
 use Rattle.ic_machine.specs.subjects.Reading.{cell_markup, content_markup, is_bold, row_markup, sheet_markup}
-use Rattle.ic_sheets.specs.Sheet.{BookSheet}
+use Rattle.ic_sheets.specs.Sheet.{Sheet}
 use Rattle.ic_book.specs.Book.{Book}
 use Rattle.ic_book.specs.Whole.{whole_of, whole_sheet}
 
 -- a sheet, a row of it up to a column, and a place of it
-abbrev pub sheet_shown : Book → BookSheet → List ℕ
+abbrev pub sheet_shown : Book → Sheet → List ℕ
 sheet_shown book s = sheet_markup (whole_of book) (whole_sheet book.strings s)
 
-abbrev pub row_shown : Book → BookSheet → ℕ → ℕ → List ℕ
+abbrev pub row_shown : Book → Sheet → ℕ → ℕ → List ℕ
 row_shown book s columns row = row_markup (whole_of book) (whole_sheet book.strings s) columns row
 
-abbrev pub place_shown : Book → BookSheet → ℤ → ℤ → List ℕ
+abbrev pub place_shown : Book → Sheet → ℤ → ℤ → List ℕ
 place_shown book s row column = cell_markup (whole_of book) (whole_sheet book.strings s) (row, column)
 
 -- the same without stars
-abbrev pub plain_shown : Book → BookSheet → CellPlace → List ℕ
+abbrev pub plain_shown : Book → Sheet → CellPlace → List ℕ
 plain_shown book s place =
     option_map_or (content_markup (whole_of book) (whole_sheet book.strings s) place) (content_at (whole_sheet book.strings s) place.0 place.1) []
 
 -- whether a place shows a bold style
-abbrev pub shows_bold : Book → BookSheet → CellPlace → Bool
+abbrev pub shows_bold : Book → Sheet → CellPlace → Bool
 shows_bold book s place = is_bold (whole_of book) (whole_sheet book.strings s) place
 
 -- the greatest row and column of some places, and 1 where there is none

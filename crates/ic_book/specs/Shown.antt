@@ -18,12 +18,12 @@ use Rattle.ic_machine.specs.Book as machine
 use Rattle.ic_machine.specs.Book.{content_at}
 use Rattle.ic_machine.specs.InForce.{by_notation, formatted_in, in_force, is_number, shown_number, shown_words, typed_in}
 use Rattle.ic_machine.specs.subjects.Reading.{formatted_content, shown_content}
-use Rattle.ic_sheets.specs.Sheet.{BookSheet}
+use Rattle.ic_sheets.specs.Sheet.{Sheet}
 use Rattle.ic_book.specs.Book.{Book}
 use Rattle.ic_book.specs.Whole.{whole_of, whole_sheet}
 
 -- a sheet stands in a book
-abbrev pub StandsIn : BookSheet → Book → Type 0
+abbrev pub StandsIn : Sheet → Book → Type 0
 StandsIn s book = (index : ℕ) × (slice_get book.sheets index ≡ Some s)
 
 -- the text that a cell without a formula keeps, by the shared strings
@@ -86,9 +86,9 @@ abbrev pub cell_formatted : Book → Cell → List ℕ
 cell_formatted book cell = number_or (formatted_in (whole_of book) (code_at book (style_of cell))) (localized book cell) (number_kept cell)
 
 -- what the machine shows of a place of a sheet
-abbrev pub content_shown : Book → BookSheet → CellPlace → List ℕ
+abbrev pub content_shown : Book → Sheet → CellPlace → List ℕ
 content_shown book s place =
     option_map_or (shown_content (whole_of book) (whole_sheet book.strings s) place) (content_at (whole_sheet book.strings s) place.0 place.1) []
 
-abbrev pub content_formatted : Book → BookSheet → CellPlace → List ℕ
+abbrev pub content_formatted : Book → Sheet → CellPlace → List ℕ
 content_formatted book s place = option_map_or (formatted_content (whole_of book)) (content_at (whole_sheet book.strings s) place.0 place.1) []

@@ -3,7 +3,7 @@ use Rattle.std.specs.Prelude.{◌≡◌, ◌<◌, ◌≤◌, ◌&&◌, ◌||◌,
 use Rattle.std.specs.List.{slice_get}
 use Rattle.ic_laws.specs.CoreBook.{CellPlace}
 use Rattle.ic_laws.specs.CoreStep.{updated_at}
-use Rattle.ic_cells.specs.Cell.{formula_of, style_of}
+use Rattle.ic_cells.specs.Cell.{cell_formula_index, style_of}
 use Rattle.ic_cells.specs.Strings.{string_index, with_string}
 use Rattle.ic_cells.specs.Style.{with_quote_prefix}
 use Rattle.ic_cells.specs.declared.cell.Cell.{Cell}
@@ -19,7 +19,7 @@ use Rattle.ic_machine.specs.Book.{Stepped}
 use Rattle.ic_machine.specs.Content.{BoolContent, Content, EmptyContent, ErrContent, NumContent, TextContent, content_of}
 use Rattle.ic_machine.specs.Styling.{Numbered, restyled}
 use Rattle.ic_machine.specs.subjects.Writing.{Written, coded, typed_written, unquoted, write_step}
-use Rattle.ic_sheets.specs.Sheet.{BookSheet, with_cell_in}
+use Rattle.ic_sheets.specs.Sheet.{Sheet, with_cell_in}
 use Rattle.ic_book.specs.Book.{Book, HasString}
 use Rattle.ic_book.specs.Whole.{whole_of}
 pub use Rattle.ic_book.specs.Written.{value_causes, value_refusal, value_refusal_in}
@@ -68,7 +68,7 @@ keeps_code code style = bytes_eq style.num_fmt code || (is_date_code code && is_
 pub record IsValueCell (count : ℕ) (cell : ℕ → Cell) : Type 0 where
   pub loose : (style : ℕ) → is_loose (shape_of (cell style)) ≡ true
   pub style : (style : ℕ) → style_of (cell style) ≡ style
-  pub formula : (style : ℕ) → formula_of (cell style) ≡ None
+  pub formula : (style : ℕ) → cell_formula_index (cell style) ≡ None
   pub string : (style : ℕ) → HasString count (cell style)
 
 -- each shared string stays where it is, and more may stand behind them
@@ -113,10 +113,10 @@ typed_change (kinds.Number amount code) = λ style. unquoted (coded code style)
 typed_change typed = unquoted
 
 -- the number of the style that a place shows, and the style that is written
-abbrev pub shown_style : BookSheet → ℤ → ℤ → ℕ
+abbrev pub shown_style : Sheet → ℤ → ℤ → ℕ
 shown_style s row column = style_at celled s.grid.cells s.grid.rows s.grid.columns (row, column)
 
-abbrev pub changed_style : Book → BookSheet → ℤ → ℤ → (Style → Style) → Numbered
+abbrev pub changed_style : Book → Sheet → ℤ → ℤ → (Style → Style) → Numbered
 changed_style book s row column change = restyled change (shown_style s row column) book.styles
 
 -- a book with a cell at a place of the sheet at an index, in the style of a number, and with these styles

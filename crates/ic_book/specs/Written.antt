@@ -21,14 +21,14 @@ use Rattle.ic_machine.specs.Refusal.{ArrayPart, Causes, InvalidColumn, InvalidRo
 use Rattle.ic_machine.specs.Styling.{Numbered, restyled}
 use Rattle.ic_machine.specs.subjects.Writing.{formula_at_place, formula_written, unquoted, write_step}
 use Rattle.ic_pool.specs.Pool.{IsPlaced}
-use Rattle.ic_sheets.specs.Sheet.{BookSheet, formula_cell, with_cell_in}
+use Rattle.ic_sheets.specs.Sheet.{Sheet, formula_cell, with_cell_in}
 use Rattle.ic_sheets.specs.declared.sheet.FormulaKind.{FormulaKind}
 use Rattle.ic_sheets.specs.declared.sheet.FormulaKind.TheVariants as kinds
 use Rattle.ic_book.specs.Book.{Book, core_of, notations_in}
 
 -- the pool of the sheet at an index
 abbrev pub pool_at : Book → ℕ → List Formula
-pool_at book index = unwrap_or (option_map (λ (s : BookSheet). s.pool) (slice_get book.sheets index)) []
+pool_at book index = unwrap_or (option_map (λ (s : Sheet). s.pool) (slice_get book.sheets index)) []
 
 -- with this pool for the sheet at an index
 abbrev pub with_pool : ℕ → List Formula → Book → Book
@@ -42,7 +42,7 @@ with_cell index pool place cell styles book =
 -- What a text writes. ----
 
 -- the formula of a body, which stands after an equals sign, in a cell
-abbrev pub written_formula : Book → BookSheet → CellPlace → List ℕ → Formula
+abbrev pub written_formula : Book → Sheet → CellPlace → List ℕ → Formula
 written_formula book s place body = cell_formula (notations_in book) (core_of book) s.id place.0 place.1 body
 
 -- whether it may spill
@@ -50,11 +50,11 @@ abbrev pub kind_of : List FunctionKind → Formula → FormulaKind
 kind_of functions formula = if is_dynamic functions formula then kinds.Dynamic else kinds.Single
 
 -- the style that a place shows, without its quote flag
-abbrev pub written_style : Book → BookSheet → CellPlace → Numbered
+abbrev pub written_style : Book → Sheet → CellPlace → Numbered
 written_style book s place = restyled unquoted (style_at celled s.grid.cells s.grid.rows s.grid.columns place) book.styles
 
 -- The formula of a body is written into a cell of a sheet: it has got its place among those that the sheet keeps.
-pub record WritesFormula (index : ℕ) (s : BookSheet) (place : CellPlace) (body : List ℕ) (old new : Book) : Type 0 where
+pub record WritesFormula (index : ℕ) (s : Sheet) (place : CellPlace) (body : List ℕ) (old new : Book) : Type 0 where
   pub pool : List Formula
   pub at : ℕ
   pub placed : IsPlaced (written_formula old s place body) at s.pool pool
@@ -69,7 +69,7 @@ abbrev pub value_causes : Grid → CellPlace → Causes
 value_causes grid place = (not (is_row place.0), InvalidRow) ∷ (not (is_column place.1), InvalidColumn) ∷ cell_causes grid place
 
 -- by the sheet, if there is one
-abbrev pub value_refusal_in : CellPlace → Option BookSheet → Option Refusal
+abbrev pub value_refusal_in : CellPlace → Option Sheet → Option Refusal
 value_refusal_in place None = Some InvalidSheet
 value_refusal_in place (Some s) = first_refusal (value_causes s.grid place)
 

@@ -2,7 +2,7 @@
 ghost use Rattle.std.specs.Prelude.{◌≡◌, ◌<◌, ℕ, List, IfOk, Some, chars, length, option_and_then, option_map, string_bytes};
 ghost use Rattle.std.specs.FinMap as finite;
 ghost use Rattle.std.specs.List.{slice_get};
-ghost use Rattle.ic_cells.specs.Cell.{formula_of, string_at, style_of};
+ghost use Rattle.ic_cells.specs.Cell.{cell_formula_index, string_at, style_of};
 ghost use Rattle.ic_input.specs.Typed.{needs_quoting};
 ghost use Rattle.ic_machine.specs.InForce.{formatted_in, is_number, is_text, shown_number, shown_words, typed_in};
 ghost use Rattle.ic_machine.specs.subjects.Reading.{GetFormattedCellValue, GetLocalizedCellContent, reading_step};
@@ -261,7 +261,7 @@ fn is_text(typed: &Typed) -> bool
 /// The formula of a cell of a sheet.
 pub(crate) fn formula_in<'s>(worksheet: &'s Sheet, cell: &Cell) -> Option<&'s Formula>
     ensures { option_map (λ f. f.now) result ≡ option_and_then
-        (slice_get worksheet.entry.now.pool.formulas) (formula_of cell.now) }
+        (slice_get worksheet.entry.now.pool.formulas) (cell_formula_index cell.now) }
 {
     worksheet.pool.get(cell.get_formula()?)
 }

@@ -14,7 +14,7 @@ ghost use Rattle.ic_laws.specs.Tree as trees;
 ghost use Rattle.ic_laws.specs.ValidCore.{IsPooled};
 ghost use Rattle.ic_laws.specs.declared.tree.Formula as kept;
 ghost use Rattle.ic_pool.specs.Pool.{IsPlaced};
-ghost use Rattle.ic_sheets.specs.Sheet.{HasPlaces, cells_of};
+ghost use Rattle.ic_sheets.specs.Sheet.{HasIndexes, cells_of};
 ghost use Rattle.ic_machine.specs.Refusal.{Refusal, first_refusal};
 ghost use Rattle.ic_machine.specs.Styling.{restyled};
 ghost use Rattle.ic_machine.specs.subjects.Reading.{GetCellFormula, reading_step};
@@ -33,7 +33,7 @@ use ic_grid::{Grid, GridError};
 use ic_input::formula_without_prefix;
 use ic_laws::scan::{push_char, push_text};
 use ic_laws::{Bound, Dialect, Formula, OutOfMemory, Spelled, Text};
-use ic_names::Definition;
+use ic_definitions::Definition;
 use ic_pool::Steps;
 use ic_sheets::{FormulaKind, Sheet};
 use ic_tables::Tables;
@@ -167,7 +167,7 @@ impl<'a> Model<'a> {
     {
         let shown = self.style_to_write(sheet, row, column)?;
         let worksheet = &self.sheets.as_slice()[sheet as usize];
-        let formula = self.formula_of(worksheet.id, row, column, body)?;
+        let formula = self.formula_of_text(worksheet.id, row, column, body)?;
         let kind = kind_of(&formula, self.tables);
         let count = self.about.styles.len();
         let style = without_quote(&mut self.about.styles, shown)?;
@@ -206,7 +206,7 @@ impl<'a> Model<'a> {
     }
 
     /// The formula of a text in a cell of the sheet with this id.
-    fn formula_of(&self, id: u32, row: i32, column: i32, body: &str) -> Result<Formula, OutOfMemory>
+    fn formula_of_text(&self, id: u32, row: i32, column: i32, body: &str) -> Result<Formula, OutOfMemory>
         ensures { IfOk result (λ f. f ≡ cell_formula (notations_in self.now.book)
             (core_of self.now.book) id row column (chars body.now)) }
     {
@@ -302,7 +302,7 @@ fn read_closed<D: Dialect>(alloc: Global, d: &D, text: &str) -> Result<Option<Sp
 
 /// The formula in a cell of a sheet.
 pub(crate) fn formula_at(worksheet: &Sheet, row: i32, column: i32) -> Option<&Formula>
-    requires { HasPlaces (length worksheet.now.pool.formulas) worksheet.now.grid }
+    requires { HasIndexes (length worksheet.now.pool.formulas) worksheet.now.grid }
     ensures { option_map (λ f. f.now) result ≡ formula_at
         (cells_of worksheet.now.pool.formulas (finite.entries worksheet.now.grid.cells)) row column }
 {

@@ -21,7 +21,7 @@ mod line_styles;
 mod lines;
 mod markup;
 mod model;
-mod names;
+mod definitions;
 mod notation;
 mod parts;
 mod properties;

@@ -16,7 +16,7 @@ use crate::about::About;
 use crate::scene::BookScene;
 use ic_cells::{SharedStrings, Styles};
 use ic_laws::{Finder, Formula, OutOfMemory, Text};
-use ic_names::Definitions;
+use ic_definitions::Definitions;
 use ic_sheets::Sheets;
 use ic_tables::{Language, NamedLocale, Tables};
 use jiff::Timestamp;
@@ -30,7 +30,7 @@ pub struct Model<'a> {
     pub(crate) tables: &'a Tables,
     pub(crate) about: About<'a>,
     pub(crate) sheets: Sheets,
-    pub(crate) names: Definitions,
+    pub(crate) definitions: Definitions,
     pub(crate) locale: &'a NamedLocale,
     pub(crate) language: &'a Language,
 }
@@ -42,14 +42,14 @@ impl Drop for Model<'_> {
             tables: _,
             about,
             sheets,
-            names,
+            definitions,
             locale: _,
             language: _,
         } = self;
         drop(alloc);
         drop(about);
         drop(sheets);
-        drop(names);
+        drop(definitions);
     }
 }
 
@@ -67,9 +67,9 @@ impl<'a> marker::Model for Model<'a> {
 
     ghost coded = { Prim.hlevel (codes, formula.the_row.coded, style.the_row.coded, grid.the_row.coded, tab.the_row.coded) };
 
-    ghost view = { λ m. held_state m.about m.sheets m.names m.locale.now m.language.now m.tables.now };
+    ghost view = { λ m. held_state m.about m.sheets m.definitions m.locale.now m.language.now m.tables.now };
 
-    ghost invariant = { λ m. IsHeld m.about m.sheets m.names m.locale.now m.language.now m.tables.now };
+    ghost invariant = { λ m. IsHeld m.about m.sheets m.definitions m.locale.now m.language.now m.tables.now };
 }
 
 impl<'a> Model<'a> {
@@ -108,7 +108,7 @@ impl<'a> Model<'a> {
             tables,
             about,
             sheets,
-            names: Definitions::new(alloc),
+            definitions: Definitions::new(alloc),
             locale,
             language,
         })
@@ -129,7 +129,7 @@ impl<'a> Model<'a> {
         ensures unused { IfSome result (λ id. All (λ used. used < id) (used_ids
             (core_of self.now.book))) }
     {
-        let greatest = self.sheets.greatest_id().max(self.names.greatest_scope());
+        let greatest = self.sheets.greatest_id().max(self.definitions.greatest_scope());
         greatest.checked_add(1)
     }
 
@@ -137,10 +137,10 @@ impl<'a> Model<'a> {
     pub(crate) fn scene<'b>(&'b self) -> BookScene<'b>
         ensures { ⟦<BookScene<'b> as Finder>⟧.scene result ≡ scene_in self.now.book }
     {
-        BookScene::new(&self.sheets, &self.names)
+        BookScene::new(&self.sheets, &self.definitions)
     }
 
-    /// The formula at a place of the formulas that the sheet at an index keeps, both from 0. None exactly where there is
+    /// The formula at an index of the formulas that the sheet at an index keeps, both from 0. None exactly where there is
     /// no such sheet or no such place.
     pub fn parsed_formula(&self, sheet: u32, index: usize) -> Option<&Formula>
         ensures formula { option_map (λ f. f.now) result ≡ option_and_then
@@ -166,7 +166,7 @@ fn first_sheet(alloc: Global, language: &Language) -> Result<Sheets, OutOfMemory
         ≡ record { id = 1; name = first_sheet_name_in language.now.code; pool = record { formulas = []; is_whole = true }; grid = empty_grid; tab = plain_tab } ∷ []) }
 {
     let mut sheets = Sheets::new(alloc);
-    sheets.push(1, first_sheet_name(&language.code))?;
+    sheets.add_leaving_formulas(1, first_sheet_name(&language.code))?;
     Ok(sheets)
 }
 

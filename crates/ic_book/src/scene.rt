@@ -4,7 +4,7 @@ ghost use Rattle.ic_laws.specs.Scene.{definition_at, key_of, same_scope};
 ghost use Rattle.ic_book.specs.Scene.{scene_with};
 
 use ic_laws::{Finder, NameKey, OutOfMemory, agree};
-use ic_names::Definitions;
+use ic_definitions::Definitions;
 use ic_pool::{copy_key, same_key, same_scope};
 use ic_sheets::Sheets;
 use std::alloc::Global;
@@ -14,23 +14,23 @@ use std::alloc::Global;
 #[derive(Clone, Copy)]
 pub struct BookScene<'b> {
     sheets: &'b Sheets,
-    names: &'b Definitions,
+    definitions: &'b Definitions,
 }
 
 impl<'b> BookScene<'b> {
     /// The scene of a book with these sheets and these definitions.
-    pub fn new(sheets: &'b Sheets, names: &'b Definitions) -> BookScene<'b>
+    pub fn new(sheets: &'b Sheets, definitions: &'b Definitions) -> BookScene<'b>
         ensures sheets { result.sheets.now ≡ sheets.now }
-        ensures names { result.names.now ≡ names.now }
+        ensures definitions { result.definitions.now ≡ definitions.now }
     {
-        BookScene { sheets, names }
+        BookScene { sheets, definitions }
     }
 }
 
 impl<'b> Finder for BookScene<'b> {
     ghost use Rattle.ic_book.specs.Scene.{scene_of_parts};
 
-    ghost scene = { λ s. scene_of_parts s.sheets.now s.names.now };
+    ghost scene = { λ s. scene_of_parts s.sheets.now s.definitions.now };
 
     fn find_sheet(&self, _alloc: Global, name: &str) -> Result<Option<u32>, OutOfMemory> {
         Ok(self.sheets.find(name))
@@ -42,7 +42,7 @@ impl<'b> Finder for BookScene<'b> {
         scope: Option<u32>,
         word: &str,
     ) -> Result<Option<NameKey>, OutOfMemory> {
-        self.names.find(scope, word)
+        self.definitions.find(scope, word)
     }
 
     fn sheet_spelling(&self, id: u32) -> Option<&str> {
@@ -50,28 +50,28 @@ impl<'b> Finder for BookScene<'b> {
     }
 
     fn name_spelling(&self, key: &NameKey) -> Option<&str> {
-        self.names.name_of(key)
+        self.definitions.name_of(key)
     }
 }
 
 /// The same where one definition more stands at the end: the name and the key of that.
 #[derive(Clone, Copy)]
-pub struct SceneWithName<'b> {
+pub struct SceneWithDefinition<'b> {
     book: BookScene<'b>,
     name: &'b str,
     key: &'b NameKey,
     ghost own: { key.now.name ≡ fold (chars name.now) },
 }
 
-impl<'b> SceneWithName<'b> {
+impl<'b> SceneWithDefinition<'b> {
     /// The scene of a book with one definition more. The key must be that of the name.
-    pub fn new(book: BookScene<'b>, name: &'b str, key: &'b NameKey) -> SceneWithName<'b>
+    pub fn new(book: BookScene<'b>, name: &'b str, key: &'b NameKey) -> SceneWithDefinition<'b>
         requires { key.now.name ≡ fold (chars name.now) }
         ensures book { result.book ≡ book.entry }
         ensures name { result.name.now ≡ name.now }
         ensures key { result.key.now ≡ key.now }
     {
-        SceneWithName { book, name, key }
+        SceneWithDefinition { book, name, key }
     }
 
     /// The key of the definition of an agreeing name that is local to the sheet with this id, or to none.
@@ -82,10 +82,10 @@ impl<'b> SceneWithName<'b> {
         word: &str,
     ) -> Result<Option<NameKey>, OutOfMemory>
         ensures { IfOk result (λ key. key ≡ option_map key_of (definition_at
-            (scene_with self.now.book.sheets.now self.now.book.names.now
+            (scene_with self.now.book.sheets.now self.now.book.definitions.now
             (chars self.now.name.now) self.now.key.now.scope) (fold (chars word.now)) scope)) }
     {
-        if let Some(key) = self.book.names.key_at(scope, word)? {
+        if let Some(key) = self.book.definitions.key_at(scope, word)? {
             return Ok(Some(key));
         }
         if self.is_named(scope, word) {
@@ -103,11 +103,11 @@ impl<'b> SceneWithName<'b> {
     }
 }
 
-impl<'b> Finder for SceneWithName<'b> {
+impl<'b> Finder for SceneWithDefinition<'b> {
     ghost use Rattle.std.specs.Prelude.{chars};
     ghost use Rattle.ic_book.specs.Scene.{scene_with};
 
-    ghost scene = { λ s. scene_with s.book.sheets.now s.book.names.now (chars s.name.now) s.key.now.scope };
+    ghost scene = { λ s. scene_with s.book.sheets.now s.book.definitions.now (chars s.name.now) s.key.now.scope };
 
     fn find_sheet(&self, alloc: Global, name: &str) -> Result<Option<u32>, OutOfMemory> {
         self.book.find_sheet(alloc, name)

@@ -12,7 +12,7 @@ ghost use Rattle.ic_book.specs.LookUps.{LooksUpAdded, LooksUpNamed, LooksUpWitho
 ghost use Rattle.ic_book.specs.Mentioned.{AtId, AtName, BindsAdded, BindsNamed, DanglesWithout};
 ghost use Rattle.ic_book.specs.Refused.{Refuses, RefusesOnly};
 
-use crate::names::bodies_without;
+use crate::definitions::bodies_without;
 use crate::{BookError, Model};
 use ic_pool::SheetNamed;
 use ic_refs::is_valid_sheet_name;
@@ -204,9 +204,9 @@ impl<'a> Model<'a> {
             id,
             name: sheet_name,
         };
-        let bodies = self.names.rewrites_of_dangling(&named)?;
+        let bodies = self.definitions.prepare_dangling(&named)?;
         self.sheets.add_sheet(id, sheet_name)?;
-        self.names.apply(bodies);
+        self.definitions.apply(bodies);
         Ok(())
     }
 
@@ -269,9 +269,9 @@ impl<'a> Model<'a> {
             id: self.sheets.as_slice()[index].id,
             name: new_name,
         };
-        let bodies = self.names.rewrites_of_dangling(&named)?;
+        let bodies = self.definitions.prepare_dangling(&named)?;
         self.sheets.rename_sheet(index, new_name)?;
-        self.names.apply(bodies);
+        self.definitions.apply(bodies);
         Ok(())
     }
 
@@ -293,9 +293,9 @@ impl<'a> Model<'a> {
         if index >= self.sheets.len() {
             return Err(BookError::SheetIndexTooLarge);
         }
-        let bodies = bodies_without(&self.sheets, &self.names, index)?;
+        let bodies = bodies_without(&self.sheets, &self.definitions, index)?;
         self.sheets.delete_sheet(index)?;
-        self.names.apply(bodies);
+        self.definitions.apply(bodies);
         Ok(())
     }
 }

@@ -9,7 +9,7 @@ use Rattle.ic_tables.specs.LocaleWords.{numbers, symbols}
 use Rattle.ic_tables.specs.Sample.{european, german_words}
 use Rattle.ic_tables.specs.WordList.{words_in}
 use Rattle.ic_tables.specs.declared.language.Language.{Language}
-use Rattle.ic_cells.specs.Cell.{formula_of, type_of, value_of}
+use Rattle.ic_cells.specs.Cell.{cell_formula_index, type_of, value_of}
 use Rattle.ic_cells.specs.Style.{default_style, is_style, style_number, with_format, with_quote_prefix, with_style_in}
 use Rattle.ic_cells.specs.Value.{error_word, shown_text}
 use Rattle.ic_tables.specs.Formats.{decimal_separator}
@@ -58,7 +58,7 @@ strings l = refl
 spilled : (l : Language) → value_of [] l (cells.SpillCell 0 (pos 1, pos 3) (spills.Number (pos 2000000000))) ≡ values.Number (pos 2000000000)
 spilled l = refl
 
-no_formula : map formula_of (cells.SpillCell 0 (pos 1, pos 3) (spills.Boolean true) ∷ cells.ArrayFormula 7 0 (pos 1, pos 3) kinds.Cse formulas.Unevaluated ∷ []) ≡ map (λ o. o) (formula_of (cells.EmptyCell 0) ∷ Some 7 ∷ [])
+no_formula : map cell_formula_index (cells.SpillCell 0 (pos 1, pos 3) (spills.Boolean true) ∷ cells.ArrayFormula 7 0 (pos 1, pos 3) kinds.Cse formulas.Unevaluated ∷ []) ≡ map (λ o. o) (cell_formula_index (cells.EmptyCell 0) ∷ Some 7 ∷ [])
 no_formula = refl
 
 -- styles: the default, and one in bold

@@ -11,11 +11,11 @@ use Rattle.ic_cells.specs.declared.value.CellType.TheVariants as types
 use Rattle.ic_cells.specs.declared.value.CellValue.{CellValue}
 use Rattle.ic_cells.specs.declared.value.CellValue.TheVariants as values
 
--- the place of a cell's formula
-abbrev pub formula_of : Cell → Option ℕ
-formula_of (cells.CellFormula f s v) = Some f
-formula_of (cells.ArrayFormula f s r kind v) = Some f
-formula_of cell = None
+-- the index of a cell's formula
+abbrev pub cell_formula_index : Cell → Option ℕ
+cell_formula_index (cells.CellFormula f s v) = Some f
+cell_formula_index (cells.ArrayFormula f s r kind v) = Some f
+cell_formula_index cell = None
 
 -- the number of a cell's style
 abbrev pub style_of : Cell → ℕ

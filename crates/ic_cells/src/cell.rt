@@ -1,5 +1,5 @@
 ghost use Rattle.std.specs.Prelude.{◌≡◌, List, ℕ, Some, Ok, IfOk, chars, is_some, string_bytes};
-ghost use Rattle.ic_cells.specs.Cell.{formula_of, style_of, type_of, value_of, with_style};
+ghost use Rattle.ic_cells.specs.Cell.{cell_formula_index, style_of, type_of, value_of, with_style};
 ghost use Rattle.ic_cells.specs.Value.{AsShown, FitsType, shown_text};
 ghost use Rattle.ic_tables.specs.Formats.{decimal_separator};
 
@@ -35,12 +35,12 @@ pub enum Cell {
         ei: Error,
         s: usize,
     },
-    /// The text at place `si` of the workbook's shared strings, from 0.
+    /// The text at index `si` of the workbook's shared strings, from 0.
     SharedString {
         si: usize,
         s: usize,
     },
-    /// The formula at place `f` of the sheet's formulas, from 0, and its value.
+    /// The formula at index `f` of the sheet's formulas, from 0, and its value.
     CellFormula {
         f: usize,
         s: usize,
@@ -85,7 +85,7 @@ impl Drop for Cell {
 }
 
 impl Cell {
-    /// The shared string at a place, from 0.
+    /// The shared string at an index, from 0.
     pub fn new_string(si: usize, s: usize) -> Cell
         ensures { result ≡ Cell.SharedString si s }
     {
@@ -113,7 +113,7 @@ impl Cell {
         Cell::ErrorCell { ei, s }
     }
 
-    /// The formula at a place, from 0, without a value.
+    /// The formula at an index, from 0, without a value.
     pub fn new_formula(f: usize, s: usize) -> Cell
         ensures { result ≡ Cell.CellFormula f s FormulaValue.Unevaluated }
     {
@@ -124,9 +124,9 @@ impl Cell {
         }
     }
 
-    /// The place of its formula in the sheet's list, from 0. None exactly where it has none; a cell of a spill has none.
+    /// The index of its formula in the sheet's list, from 0. None exactly where it has none; a cell of a spill has none.
     pub fn get_formula(&self) -> Option<usize>
-        ensures { result ≡ formula_of self.now }
+        ensures { result ≡ cell_formula_index self.now }
     {
         match self {
             Cell::CellFormula { f, .. } => Some(*f),
@@ -137,7 +137,7 @@ impl Cell {
 
     /// Whether it has a formula.
     pub fn has_formula(&self) -> bool
-        ensures { result ≡ is_some (formula_of self.now) }
+        ensures { result ≡ is_some (cell_formula_index self.now) }
     {
         self.get_formula().is_some()
     }

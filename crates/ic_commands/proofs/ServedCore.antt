@@ -16,7 +16,7 @@ use Rattle.ic_machine.proofs.AlikeGrid.{is_fixed_at-seen}
 use Rattle.ic_machine.proofs.AlikeLemmas.{cells_are_contents}
 use Rattle.ic_machine.proofs.FormulaStepped.{formula_told}
 use Rattle.ic_machine.proofs.SteppedLemmas.{stepped}
-use Rattle.ic_sheets.specs.Sheet.{BookSheet}
+use Rattle.ic_sheets.specs.Sheet.{Sheet}
 use Rattle.ic_book.specs.Book.{Book, IsPlain, IsValidBook, core_of, notations_in, whole_of, whole_sheet}
 use Rattle.ic_book.specs.Served.{served_step}
 use Rattle.ic_commands.specs.Answered.{HasNoSign}
@@ -29,14 +29,14 @@ pooled : (n : Notations) (scene : Scene) (sheet : machine.Sheet) (place : CellPl
 pooled n scene sheet place None index e h = cc
 pooled n scene sheet place (Some k) index e h = let same : k ≡ index = cc in subst (λ i. i < length sheet.pool) same h.0
 
-is_free : (n : Notations) (scene : Scene) (strings : List (List ℕ)) (place : CellPlace) (s : BookSheet) → IsPlain s.grid → HasCellFormulas n scene (whole_sheet strings s) → IsFree (whole_sheet strings s) place
+is_free : (n : Notations) (scene : Scene) (strings : List (List ℕ)) (place : CellPlace) (s : Sheet) → IsPlain s.grid → HasCellFormulas n scene (whole_sheet strings s) → IsFree (whole_sheet strings s) place
 is_free n scene strings place s plain formulas = record {
   uncovered = ap (λ merges. is_covered merges place) plain.merges;
   loose = is_fixed_at-seen (content_of strings) celled held (cells_are_contents strings) s.grid.cells place ∙ none_fixed s.grid plain place;
   pooled = λ p content index at is. pooled n scene (whole_sheet strings s) p (formula_index content) index is (formulas p content at);
 }
 
-free_at : (n : Notations) (scene : Scene) (strings : List (List ℕ)) (place : CellPlace) (sheets : List BookSheet) → AllByRecursion (λ (s : BookSheet). IsPlain s.grid) sheets → AllByRecursion (HasCellFormulas n scene) (map (whole_sheet strings) sheets)
+free_at : (n : Notations) (scene : Scene) (strings : List (List ℕ)) (place : CellPlace) (sheets : List Sheet) → AllByRecursion (λ (s : Sheet). IsPlain s.grid) sheets → AllByRecursion (HasCellFormulas n scene) (map (whole_sheet strings) sheets)
     → (index : ℕ) (sheet : machine.Sheet) → slice_get (map (whole_sheet strings) sheets) index ≡ Some sheet → IsFree sheet place
 free_at n scene strings place [] plain formulas index sheet e = cc
 free_at n scene strings place (s ∷ sheets) plain formulas zero sheet e = let same : whole_sheet strings s ≡ sheet = cc in subst (λ s. IsFree s place) same (is_free n scene strings place s plain.0 formulas.0)

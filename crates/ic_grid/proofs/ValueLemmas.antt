@@ -21,7 +21,7 @@ use Rattle.ic_grid.specs.Conditions.{AreArrays, Has}
 use Rattle.ic_grid.specs.Contents.{Contents, changed_where}
 use Rattle.ic_grid.specs.Prepare.{unspilled, without_spill}
 use Rattle.ic_grid.specs.Rows.{IsFull, place_count, placed, spread_from}
-use Rattle.ic_grid.specs.Shape.{Anchor, Empty, Formula, SpillOf, celled, emptied, formula_of, is_cse, is_spill_of, shape_of, spread}
+use Rattle.ic_grid.specs.Shape.{Anchor, Empty, Formula, SpillOf, celled, emptied, is_cse, is_spill_of, shape_of, single_formula, spread}
 use Rattle.ic_grid.specs.Value.{IsArrayThere, formula_array, is_cse_anchor, shape_at, valued, valued_cell}
 use Rattle.ic_grid.specs.declared.block.Array.{Array}
 
@@ -153,7 +153,7 @@ pub valued_there : (m after : Contents Cell) (p : Place) (f s : ℕ) (array : Ar
 valued_there m after p f s array value e h = h ∙ ap (λ (q : Place). valued celled q value m) (there_place p (finite.get m p) f s array e)
 
 -- a formula with one value
-single_there : (o : Option Cell) (f s : ℕ) → formula_of o ≡ Some (f, s) → (v : FormulaValue) × (o ≡ Some (cells.CellFormula f s v))
+single_there : (o : Option Cell) (f s : ℕ) → single_formula o ≡ Some (f, s) → (v : FormulaValue) × (o ≡ Some (cells.CellFormula f s v))
 single_there None f s e = cc
 single_there (Some (cells.EmptyCell n)) f s e = cc
 single_there (Some (cells.BooleanCell v n)) f s e = cc
@@ -166,7 +166,7 @@ single_there (Some (cells.CellFormula g n v)) f s e =
     let same : ◌≡◌ {A = ℕ × ℕ} (g, n) (f, s) = cc in
     (v, ap (λ (z : ℕ × ℕ). Some (cells.CellFormula z.0 z.1 v)) same)
 
-module _ (m : Contents Cell) (ok : AreArrays celled m) (a : Place) (f s : ℕ) (is : formula_of (finite.get m a) ≡ Some (f, s)) (value : FormulaValue) where
+module _ (m : Contents Cell) (ok : AreArrays celled m) (a : Place) (f s : ℕ) (is : single_formula (finite.get m a) ≡ Some (f, s)) (value : FormulaValue) where
   found_single : (v : FormulaValue) × (finite.get m a ≡ Some (cells.CellFormula f s v))
   found_single = single_there (finite.get m a) f s is
 

@@ -25,7 +25,7 @@ pub data Shape : Type 0 where
 
 -- How something is held in a place: its shape and the number of its style; an empty cell with a style; the same formula
 -- with another value, and the same array with another area; a spill's cell with a style, an anchor and a value; an array
--- formula without a value, with the place of its formula, a style, a width, a height and a kind.
+-- formula without a value, with the index of its formula, a style, a width, a height and a kind.
 pub record Holding (X : Type 0) : Type 0 where
   pub shape : X → Shape
   pub style : X → ℕ
@@ -119,10 +119,10 @@ abbrev pub spill_of : Option Cell → Option (ℕ × Place)
 spill_of (Some (cells.SpillCell s a v)) = Some (s, a)
 spill_of cell = None
 
--- the place of the formula and the style of a formula with one value
-abbrev pub formula_of : Option Cell → Option (ℕ × ℕ)
-formula_of (Some (cells.CellFormula f s v)) = Some (f, s)
-formula_of cell = None
+-- the index of the formula and the style of a formula with one value
+abbrev pub single_formula : Option Cell → Option (ℕ × ℕ)
+single_formula (Some (cells.CellFormula f s v)) = Some (f, s)
+single_formula cell = None
 
 -- how cells are held
 abbrev pub celled : Holding Cell

@@ -6,7 +6,7 @@ ghost use Rattle.ic_grid.specs.Block.{first_place, is_area};
 ghost use Rattle.ic_grid.specs.Calls.{IsRefusal, can_write_value};
 ghost use Rattle.ic_grid.specs.Conditions.{AreArrays};
 ghost use Rattle.ic_grid.specs.Rows.{place_count, spread_from};
-ghost use Rattle.ic_grid.specs.Shape.{celled, formula_of, spread};
+ghost use Rattle.ic_grid.specs.Shape.{celled, single_formula, spread};
 ghost use Rattle.ic_grid.specs.Value.{IsArrayThere, valued};
 ghost use Rattle.ic_grid.specs.Whole.{IsGrid};
 
@@ -71,7 +71,7 @@ fn spread_cells(
 
 /// The formula with one value at a place, and its style, if one stands there.
 fn single_at(cells: &PlaceMap<Cell>, place: (i32, i32)) -> Option<(usize, usize)>
-    ensures { result ≡ formula_of (finite.get cells.now place) }
+    ensures { result ≡ single_formula (finite.get cells.now place) }
 {
     match cells.get(place.0, place.1) {
         Some(Cell::CellFormula { f, s, .. }) => Some((*f, *s)),
@@ -157,7 +157,7 @@ fn value_single(
     value: FormulaValue,
 )
     requires arrays { AreArrays celled cells.old }
-    requires formula { formula_of (finite.get cells.old place) ≡ Some (f, s) }
+    requires formula { single_formula (finite.get cells.old place) ≡ Some (f, s) }
     ensures { cells.new ≡ valued celled place value cells.old }
 {
     replace(cells, place, Cell::CellFormula { f, s, v: value });

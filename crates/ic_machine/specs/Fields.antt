@@ -35,11 +35,11 @@ abbrev pub theme_field : Theme → List Field
 theme_field theme = text_field theme.name
 
 -- a listed definition: its name, the index of the sheet that it is for, or none, and its body
-abbrev pub fields_of_name : String Global × Option ℕ × String Global → List Field
-fields_of_name listed = TextField (chars (string_bytes listed.0)) ∷ NumberField listed.1 ∷ TextField (chars (string_bytes listed.2)) ∷ []
+abbrev pub fields_of_definition : String Global × Option ℕ × String Global → List Field
+fields_of_definition listed = TextField (chars (string_bytes listed.0)) ∷ NumberField listed.1 ∷ TextField (chars (string_bytes listed.2)) ∷ []
 
-abbrev pub names_fields : Vec (String Global × Option ℕ × String Global) → List Field
-names_fields names = flat_map fields_of_name names.items
+abbrev pub definitions_fields : Vec (String Global × Option ℕ × String Global) → List Field
+definitions_fields names = flat_map fields_of_definition names.items
 
 -- what is told of each sheet: its name, the word of its state, its color and its id
 abbrev pub fields_of_sheet : SheetProperties → List Field

@@ -138,17 +138,17 @@ sheet_back sheets.Own = refl
 sheet_back (sheets.Sheet id) = refl
 sheet_back (sheets.Dangling name) = refl
 
-abbrev scope_of : List ℕ → Option ℕ
-scope_of [] = None
-scope_of (id ∷ rest) = Some id
+abbrev scope_from : List ℕ → Option ℕ
+scope_from [] = None
+scope_from (id ∷ rest) = Some id
 
-scope_back : (o : Option ℕ) → scope_of (scope_numbers o) ≡ o
+scope_back : (o : Option ℕ) → scope_from (scope_numbers o) ≡ o
 scope_back None = refl
 scope_back (Some id) = refl
 
 abbrev word_of : List ℕ → List ℕ → NameMention
 word_of (kind ∷ scope) name =
-    if kind == 0 then words.Var name else if kind == 1 then words.Name (record { name = name; scope = scope_of scope }) else words.Dangling name
+    if kind == 0 then words.Var name else if kind == 1 then words.Name (record { name = name; scope = scope_from scope }) else words.Dangling name
 word_of [] name = words.Var name
 
 word_back : (word : NameMention) → word_of (word_numbers word) (word_text word) ≡ word

@@ -5,13 +5,13 @@ ghost use Rattle.ic_laws.specs.Changes as laws;
 ghost use Rattle.ic_laws.specs.Changes.{changed_sheet, changed_word, changes_sheet, changes_word};
 ghost use Rattle.ic_pool.specs.Mentions.{formula_after, is_changed_by};
 
-mod names;
+mod definitions;
 mod sheets;
 
 use crate::copies::{MentionChange, copy_changed};
 use crate::mentions::{MentionTest, some_in};
 use ic_laws::{Formula, NameMention, OutOfMemory, SheetMention};
-pub use names::{NameAdded, NameGone, same_key, same_scope};
+pub use definitions::{DefinitionAdded, DefinitionGone, same_key, same_scope};
 pub use sheets::{SheetGone, SheetNamed};
 use std::alloc::Global;
 

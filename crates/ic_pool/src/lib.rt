@@ -2,9 +2,9 @@
 //! a formula. Two that a change makes equal both stay.
 //! `Pool` keeps them in their places. `IsPlaced` of `place` is its promise: an equal formula is found at its first place,
 //! a new one is put at the end, and nothing else moves. It looks formulas up by their keys, and `law_code_determines`
-//! says that equal keys are keys of equal formulas. `rewrites` prepares a change of all formulas, `made` says to what, and
-//! `apply` then can't fail. The four changes are `SheetNamed`, `SheetGone`, `NameAdded` and `NameGone`; `changed_formula`
-//! says what one makes of a formula. Keys of definitions are `name_key`'s.
+//! says that equal keys are keys of equal formulas. `prepare` makes ready a change of all formulas, `made` says to what, and
+//! `apply` then can't fail. The four changes are `SheetNamed`, `SheetGone`, `DefinitionAdded` and `DefinitionGone`;
+//! `changed_formula` says what one makes of a formula. Keys of definitions are `name_key`'s.
 #![tactic(auto)]
 
 mod changes;
@@ -17,7 +17,7 @@ mod pool;
 mod steps;
 
 pub use changes::{
-    BookChange, NameAdded, NameGone, SheetGone, SheetNamed, changed_formula, same_key, same_scope,
+    BookChange, DefinitionAdded, DefinitionGone, SheetGone, SheetNamed, changed_formula, same_key, same_scope,
 };
 pub use code::{key_of, name_key};
 pub use copies::{copy_formula, copy_key};

@@ -92,7 +92,7 @@ impl Pool {
         self.formulas.len()
     }
 
-    /// The formula at a place, from 0. None past the end.
+    /// The formula at an index, from 0. None past the end.
     pub fn get(&self, at: usize) -> Option<&Formula>
         ensures { option_map (λ f. f.now) result ≡ slice_get self.now.formulas at }
     {
@@ -212,7 +212,7 @@ impl Pool {
 
     /// What a change will do to its formulas, whose words are looked up from the sheet with this id, or from none; all
     /// prepared before any of them changes.
-    pub fn rewrites<C: BookChange>(
+    pub fn prepare<C: BookChange>(
         &self,
         change: &C,
         scope: Option<u32>,
@@ -225,7 +225,7 @@ impl Pool {
     }
 
     /// The same for a change that leaves each formula in which all was found: it looks at the others alone.
-    pub fn rewrites_of_dangling<C: BookChange>(
+    pub fn prepare_dangling<C: BookChange>(
         &self,
         change: &C,
         scope: Option<u32>,

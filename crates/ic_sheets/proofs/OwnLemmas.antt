@@ -23,9 +23,9 @@ use Rattle.ic_sheets.proofs.RewritingLemmas.{and_true, called, looked_up, pool_s
 use Rattle.ic_sheets.proofs.SearchLemmas.{ids}
 use Rattle.ic_sheets.specs.Index.{AreDangling, dangles, dangles_at, is_listed}
 use Rattle.ic_sheets.specs.Rewriting.{FitOwn, FitsSheet, IsPrepared, ListsIf, Makes, PreparesEach, changed_pool, is_id, look_ups, looks_up_after, own_rewrites, rewritten_if, sheets_of, with_own_rewrites, with_rewrites}
-use Rattle.ic_sheets.specs.Search.{place_of}
-use Rattle.ic_sheets.specs.Sheet.{BookSheet, sheet_of}
-use Rattle.ic_sheets.specs.declared.sheet.Sheet.{Sheet}
+use Rattle.ic_sheets.specs.Search.{index_with_id}
+use Rattle.ic_sheets.specs.Sheet.{Sheet, sheet_of}
+use Rattle.ic_sheets.specs.declared.sheet.Sheet.{Sheet as HeldSheet}
 
 abbrev pub Own : Type 0
 Own = List (ℕ × RewritesState)
@@ -79,16 +79,16 @@ own_other q id w (p ∷ ps) e = ap (cond (nat_eq q p.0) (Some p.1)) (own_other q
 
 -- ---- prepared one after another
 
-module _ (change : Change) (ps : Own) (id : ℕ) (w : RewritesState) (sheets : List Sheet) (s : Sheet) (found : find (λ x. nat_eq x.id id) sheets ≡ Some s) (prepared : IsPrepared change w s) where
-  last_made : (q : ℕ) (v : RewritesState) (t : Sheet) (b : Bool) → nat_eq q id ≡ b → cond b (Some w) None ≡ Some v → find (λ x. nat_eq x.id q) sheets ≡ Some t → IsPrepared change v t
+module _ (change : Change) (ps : Own) (id : ℕ) (w : RewritesState) (sheets : List HeldSheet) (s : HeldSheet) (found : find (λ x. nat_eq x.id id) sheets ≡ Some s) (prepared : IsPrepared change w s) where
+  last_made : (q : ℕ) (v : RewritesState) (t : HeldSheet) (b : Bool) → nat_eq q id ≡ b → cond b (Some w) None ≡ Some v → find (λ x. nat_eq x.id q) sheets ≡ Some t → IsPrepared change v t
   last_made q v t true e is at =
       let same : w ≡ v = cc in
-      let here : Some s ≡ Some t = sym found ∙ ap (λ k. find (λ (x : Sheet). nat_eq x.id k) sheets) (sym (eqb-true q id e)) ∙ at in
+      let here : Some s ≡ Some t = sym found ∙ ap (λ k. find (λ (x : HeldSheet). nat_eq x.id k) sheets) (sym (eqb-true q id e)) ∙ at in
       let one : s ≡ t = cc in
       subst (λ v. IsPrepared change v t) same (subst (IsPrepared change w) one prepared)
   last_made q v t false e is at = cc
 
-  each_made : (now : List ℕ) → PreparesEach change ps now sheets → (q : ℕ) (v : RewritesState) (t : Sheet) (o : Option RewritesState) → own_rewrites q ps ≡ o → own_rewrites q (ps ++ (id, w) ∷ []) ≡ Some v
+  each_made : (now : List ℕ) → PreparesEach change ps now sheets → (q : ℕ) (v : RewritesState) (t : HeldSheet) (o : Option RewritesState) → own_rewrites q ps ≡ o → own_rewrites q (ps ++ (id, w) ∷ []) ≡ Some v
       → find (λ x. nat_eq x.id q) sheets ≡ Some t → IsPrepared change v t
   each_made now each q v t (Some u) e is at =
       let both : Some u ≡ Some v = sym (own_kept q ps ((id, w) ∷ []) u e) ∙ is in
@@ -108,7 +108,7 @@ listed_there id [] i lt e = absurd (omega arith)
 listed_there id (x ∷ xs) zero lt e = ap (λ b. b || is_listed id xs) (ap (nat_eq id) (sym e) ∙ nat_eq_equiv.refl id)
 listed_there id (x ∷ xs) (suc i) lt e = ap (λ b. nat_eq id x || b) (listed_there id xs i (omega arith) e) ∙ or_true (nat_eq id x)
 
-dangles_nowhere : (id : ℕ) (xs : List Sheet) → find (λ s. nat_eq s.id id) xs ≡ None → dangles_at id xs ≡ false
+dangles_nowhere : (id : ℕ) (xs : List HeldSheet) → find (λ s. nat_eq s.id id) xs ≡ None → dangles_at id xs ≡ false
 dangles_nowhere id [] e = refl
 dangles_nowhere id (x ∷ xs) e = step (nat_eq x.id id) refl e (dangles_nowhere id xs)
   where
@@ -117,11 +117,11 @@ dangles_nowhere id (x ∷ xs) e = step (nat_eq x.id id) refl e (dangles_nowhere 
     step false is e rest = ap₂ (λ a b. a && dangles x || b) (nat_eq_equiv.symm id x.id ∙ is) (rest e)
 
 -- each of the ids is that of a sheet
-pub some_sheet : (now : List ℕ) (i id : ℕ) (sheets : List Sheet) → AreDangling now sheets → i < length now → id ≡ get_or now i 0 → find (λ s. nat_eq s.id id) sheets ≡ None → ⊥
+pub some_sheet : (now : List ℕ) (i id : ℕ) (sheets : List HeldSheet) → AreDangling now sheets → i < length now → id ≡ get_or now i 0 → find (λ s. nat_eq s.id id) sheets ≡ None → ⊥
 some_sheet now i id sheets d lt read none = clash (dangles_at id sheets) (sym (d.finds id) ∙ listed_there id now i lt read) (dangles_nowhere id sheets none)
 
 -- whether something dangles in the sheet that was found
-pub dangles_found : (id : ℕ) (xs : List Sheet) (s : Sheet) → IsDistinct nat_eq (ids xs) → find (λ x. nat_eq x.id id) xs ≡ Some s → dangles s ≡ dangles_at id xs
+pub dangles_found : (id : ℕ) (xs : List HeldSheet) (s : HeldSheet) → IsDistinct nat_eq (ids xs) → find (λ x. nat_eq x.id id) xs ≡ Some s → dangles s ≡ dangles_at id xs
 dangles_found id [] s d e = cc
 dangles_found id (x ∷ xs) s d e = step (nat_eq x.id id) refl e (dangles_found id xs s (IsDistinct-tail nat_eq x.id (ids xs) d))
   where
@@ -134,28 +134,28 @@ dangles_found id (x ∷ xs) s d e = step (nat_eq x.id id) refl e (dangles_found 
         ap dangles (sym same) ∙ sym (ap₂ (λ a b. a && dangles x || b) (nat_eq_equiv.symm id x.id ∙ is) (alone_here is) ∙ or_false (dangles x))
     step false is e rest = rest e ∙ sym (ap (λ a. a && dangles x || dangles_at id xs) (nat_eq_equiv.symm id x.id ∙ is))
 
-pub dangles_not_found : (id : ℕ) (xs : List Sheet) → find (λ s. nat_eq s.id id) xs ≡ None → false ≡ dangles_at id xs
+pub dangles_not_found : (id : ℕ) (xs : List HeldSheet) → find (λ s. nat_eq s.id id) xs ≡ None → false ≡ dangles_at id xs
 dangles_not_found id xs e = sym (dangles_nowhere id xs e)
 
 -- ---- what it makes of all sheets
 
-no_places : (places : List ℕ) → nat_lt 0 (length places) ≡ false → places ≡ []
+no_places : (indexes : List ℕ) → nat_lt 0 (length indexes) ≡ false → indexes ≡ []
 no_places [] e = refl
-no_places (p ∷ places) e = let past : suc (length places) ≤ 0 = ltb-false 0 (suc (length places)) e in absurd (omega (arith, past))
+no_places (p ∷ indexes) e = let past : suc (length indexes) ≤ 0 = ltb-false 0 (suc (length indexes)) e in absurd (omega (arith, past))
 
 -- what is known of a sheet by what was prepared for it
-abbrev IsOwn : Change → Option RewritesState → Sheet → Type 0
+abbrev IsOwn : Change → Option RewritesState → HeldSheet → Type 0
 IsOwn change None s = dangling_places s.pool.formulas ≡ []
 IsOwn change (Some w) s = IsPrepared change w s × (dangles s ≡ true)
 
-found_here : (front back : List Sheet) (s : Sheet) → list_any (nat_eq s.id) (ids (front ++ back)) ≡ false → find (λ x. nat_eq x.id s.id) (front ++ s ∷ back) ≡ Some s
+found_here : (front back : List HeldSheet) (s : HeldSheet) → list_any (nat_eq s.id) (ids (front ++ back)) ≡ false → find (λ x. nat_eq x.id s.id) (front ++ s ∷ back) ≡ Some s
 found_here [] back s free = ap (λ b. cond b (Some s) (find (λ x. nat_eq x.id s.id) back)) (nat_eq_equiv.refl s.id)
 found_here (x ∷ front) back s free =
     let parts = or_parts (nat_eq s.id x.id) (list_any (nat_eq s.id) (ids (front ++ back))) free in
     ap (λ b. cond b (Some x) (find (λ y. nat_eq y.id s.id) (front ++ s ∷ back))) (nat_eq_equiv.symm x.id s.id ∙ parts.0) ∙ found_here front back s parts.1
 
-module _ (change : Change) (now : List ℕ) (ps : Own) (sheets : List Sheet) (each : PreparesEach change ps now sheets) (d : AreDangling now sheets) (differ : IsDistinct nat_eq (ids sheets)) where
-  one_own : (front back : List Sheet) (s : Sheet) → sheets ≡ front ++ s ∷ back → (o : Option RewritesState) → own_rewrites s.id ps ≡ o → IsOwn change o s
+module _ (change : Change) (now : List ℕ) (ps : Own) (sheets : List HeldSheet) (each : PreparesEach change ps now sheets) (d : AreDangling now sheets) (differ : IsDistinct nat_eq (ids sheets)) where
+  one_own : (front back : List HeldSheet) (s : HeldSheet) → sheets ≡ front ++ s ∷ back → (o : Option RewritesState) → own_rewrites s.id ps ≡ o → IsOwn change o s
   one_own front back s e o is = step o is
     where
       listed : is_listed s.id now ≡ dangles s
@@ -168,7 +168,7 @@ module _ (change : Change) (now : List ℕ) (ps : Own) (sheets : List Sheet) (ea
         sym listed ∙ ap (is_listed s.id) (sym each.each) ∙ some_own s.id ps w is,
       )
 
-  all_own : (front xs : List Sheet) → sheets ≡ front ++ xs → AllByRecursion (λ s. IsOwn change (own_rewrites s.id ps) s) xs
+  all_own : (front xs : List HeldSheet) → sheets ≡ front ++ xs → AllByRecursion (λ s. IsOwn change (own_rewrites s.id ps) s) xs
   all_own front [] e = tt
   all_own front (s ∷ back) e = (one_own front back s e (own_rewrites s.id ps) refl, all_own (front ++ s ∷ []) back (e ∙ sym (append_assoc front (s ∷ []) back)))
 
@@ -182,7 +182,7 @@ module _ (change : Change) (now : List ℕ) (ps : Own) (sheets : List Sheet) (ea
         all_known ns (λ q h. known q (ap (λ b. nat_eq q n || b) h ∙ or_true (nat_eq q n))) ps rest,
       )
 
-  is_known : (q : ℕ) (xs : List Sheet) → dangles_at q xs ≡ true → is_id q xs ≡ true
+  is_known : (q : ℕ) (xs : List HeldSheet) → dangles_at q xs ≡ true → is_id q xs ≡ true
   is_known q [] e = e
   is_known q (x ∷ xs) e = step (nat_eq q x.id) (dangles x) e (is_known q xs)
     where
@@ -205,7 +205,7 @@ module _ (change : Change) (now : List ℕ) (ps : Own) (sheets : List Sheet) (ea
       own : AllByRecursion (λ s. IsOwn change (own_rewrites s.id ps) s) sheets
       own = all_own [] sheets refl
 
-      fits : (xs : List Sheet) → AllByRecursion (λ s. IsOwn change (own_rewrites s.id ps) s) xs → AllByRecursion (λ s. FitsSheet (own_rewrites s.id ps) s) xs
+      fits : (xs : List HeldSheet) → AllByRecursion (λ s. IsOwn change (own_rewrites s.id ps) s) xs → AllByRecursion (λ s. FitsSheet (own_rewrites s.id ps) s) xs
       fits [] h = tt
       fits (s ∷ xs) h = (step (own_rewrites s.id ps) h.0, fits xs h.1)
         where
@@ -213,7 +213,7 @@ module _ (change : Change) (now : List ℕ) (ps : Own) (sheets : List Sheet) (ea
           step None i = tt
           step (Some w) i = (i.0.fits, i.1)
 
-      listed : (xs : List Sheet) → AllByRecursion (λ s. IsOwn change (own_rewrites s.id ps) s) xs → AllByRecursion (λ s. ListsIf change (own_rewrites s.id ps) s) xs
+      listed : (xs : List HeldSheet) → AllByRecursion (λ s. IsOwn change (own_rewrites s.id ps) s) xs → AllByRecursion (λ s. ListsIf change (own_rewrites s.id ps) s) xs
       listed [] h = tt
       listed (s ∷ xs) h = (step (own_rewrites s.id ps) h.0, listed xs h.1)
         where
@@ -221,18 +221,18 @@ module _ (change : Change) (now : List ℕ) (ps : Own) (sheets : List Sheet) (ea
           step None i = pool_untouched change (Some s.id) (spares s.id) 0 s.pool.formulas i
           step (Some w) i = i.0.listed
 
-      made : (xs : List Sheet) → AllByRecursion (λ s. IsOwn change (own_rewrites s.id ps) s) xs → sheets_of (with_own_rewrites ps xs) ≡ map (changed_pool change) (sheets_of xs)
+      made : (xs : List HeldSheet) → AllByRecursion (λ s. IsOwn change (own_rewrites s.id ps) s) xs → sheets_of (with_own_rewrites ps xs) ≡ map (changed_pool change) (sheets_of xs)
       made [] h = refl
       made (s ∷ xs) h = ap₂ ◌∷◌ (step (own_rewrites s.id ps) h.0) (made xs h.1)
         where
-          filled : (pool : List Formula) → BookSheet
+          filled : (pool : List Formula) → Sheet
           filled pool = record (sheet_of s) { pool = pool }
 
           step : (o : Option RewritesState) → IsOwn change o s → sheet_of (rewritten_if o s) ≡ changed_pool change (sheet_of s)
           step None i = ap filled (pool_spared change (Some s.id) (spares s.id) 0 s.pool.formulas i)
           step (Some w) i = ap filled i.0.made
 
-      kept : (xs : List Sheet) → AllByRecursion (λ s. IsOwn change (own_rewrites s.id ps) s) xs → look_ups (with_own_rewrites ps xs) ≡ map (looks_up_after change) xs
+      kept : (xs : List HeldSheet) → AllByRecursion (λ s. IsOwn change (own_rewrites s.id ps) s) xs → look_ups (with_own_rewrites ps xs) ≡ map (looks_up_after change) xs
       kept [] h = refl
       kept (s ∷ xs) h = ap₂ ◌∷◌ (step (own_rewrites s.id ps) h.0) (kept xs h.1)
         where
@@ -242,7 +242,7 @@ module _ (change : Change) (now : List ℕ) (ps : Own) (sheets : List Sheet) (ea
 
 -- ---- done from the last one on
 
-pub same_ids : (ps : Own) (sheets : List Sheet) → ids (with_own_rewrites ps sheets) ≡ ids sheets
+pub same_ids : (ps : Own) (sheets : List HeldSheet) → ids (with_own_rewrites ps sheets) ≡ ids sheets
 same_ids ps [] = refl
 same_ids ps (s ∷ sheets) = ap₂ ◌∷◌ (step (own_rewrites s.id ps)) (same_ids ps sheets)
   where
@@ -250,7 +250,7 @@ same_ids ps (s ∷ sheets) = ap₂ ◌∷◌ (step (own_rewrites s.id ps)) (same
     step None = refl
     step (Some w) = refl
 
-pub same_names : (ps : Own) (sheets : List Sheet) → map (λ (s : Sheet). s.name) (with_own_rewrites ps sheets) ≡ map (λ (s : Sheet). s.name) sheets
+pub same_names : (ps : Own) (sheets : List HeldSheet) → map (λ (s : HeldSheet). s.name) (with_own_rewrites ps sheets) ≡ map (λ (s : HeldSheet). s.name) sheets
 same_names ps [] = refl
 same_names ps (s ∷ sheets) = ap₂ ◌∷◌ (step (own_rewrites s.id ps)) (same_names ps sheets)
   where
@@ -265,7 +265,7 @@ either_dangles true false false r t one more e = more e
 either_dangles false b c r t one more e = more e
 
 -- where something dangles after it, something did before
-pub fewer_dangle : (ps : Own) (q : ℕ) (xs : List Sheet) → AllByRecursion (λ s. FitsSheet (own_rewrites s.id ps) s) xs → dangles_at q (with_own_rewrites ps xs) ≡ true → dangles_at q xs ≡ true
+pub fewer_dangle : (ps : Own) (q : ℕ) (xs : List HeldSheet) → AllByRecursion (λ s. FitsSheet (own_rewrites s.id ps) s) xs → dangles_at q (with_own_rewrites ps xs) ≡ true → dangles_at q xs ≡ true
 fewer_dangle ps q [] f e = e
 fewer_dangle ps q (s ∷ xs) f e = step (own_rewrites s.id ps) f.0 e (fewer_dangle ps q xs f.1)
   where
@@ -285,38 +285,38 @@ known_init P [] more h = tt
 known_init P (p ∷ ps) more h = (h.0, known_init P ps more h.1)
 
 -- a sheet that was found by its id
-place_within : (id : ℕ) (sheets : List Sheet) (i : ℕ) → place_of id sheets ≡ Some i → (i < length sheets) × ((s : Sheet) → s ≡ get_or sheets i s → s.id ≡ id)
+place_within : (id : ℕ) (sheets : List HeldSheet) (i : ℕ) → index_with_id id sheets ≡ Some i → (i < length sheets) × ((s : HeldSheet) → s ≡ get_or sheets i s → s.id ≡ id)
 place_within id [] i e = cc
-place_within id (x ∷ sheets) i e = step (nat_eq x.id id) refl (place_of id sheets) refl e (place_within id sheets)
+place_within id (x ∷ sheets) i e = step (nat_eq x.id id) refl (index_with_id id sheets) refl e (place_within id sheets)
   where
-    step : (b : Bool) → nat_eq x.id id ≡ b → (o : Option ℕ) → place_of id sheets ≡ o → cond b (Some 0) (option_map suc o) ≡ Some i
-        → ((k : ℕ) → place_of id sheets ≡ Some k → (k < length sheets) × ((s : Sheet) → s ≡ get_or sheets k s → s.id ≡ id)) → (i < length (x ∷ sheets)) × ((s : Sheet) → s ≡ get_or (x ∷ sheets) i s → s.id ≡ id)
+    step : (b : Bool) → nat_eq x.id id ≡ b → (o : Option ℕ) → index_with_id id sheets ≡ o → cond b (Some 0) (option_map suc o) ≡ Some i
+        → ((k : ℕ) → index_with_id id sheets ≡ Some k → (k < length sheets) × ((s : HeldSheet) → s ≡ get_or sheets k s → s.id ≡ id)) → (i < length (x ∷ sheets)) × ((s : HeldSheet) → s ≡ get_or (x ∷ sheets) i s → s.id ≡ id)
     step true is o at e rest =
         let first : 0 ≡ i = cc in
-        subst (λ i. (i < length (x ∷ sheets)) × ((s : Sheet) → s ≡ get_or (x ∷ sheets) i s → s.id ≡ id)) first (omega arith, λ s r. ap (λ (y : Sheet). y.id) r ∙ eqb-true x.id id is)
+        subst (λ i. (i < length (x ∷ sheets)) × ((s : HeldSheet) → s ≡ get_or (x ∷ sheets) i s → s.id ≡ id)) first (omega arith, λ s r. ap (λ (y : HeldSheet). y.id) r ∙ eqb-true x.id id is)
     step false is None at e rest = cc
     step false is (Some k) at e rest =
         let next : suc k ≡ i = cc in
         let later = rest k at in
-        subst (λ i. (i < length (x ∷ sheets)) × ((s : Sheet) → s ≡ get_or (x ∷ sheets) i s → s.id ≡ id)) next (omega (arith, later.0), later.1)
+        subst (λ i. (i < length (x ∷ sheets)) × ((s : HeldSheet) → s ≡ get_or (x ∷ sheets) i s → s.id ≡ id)) next (omega (arith, later.0), later.1)
 
-pub no_sheet : (id : ℕ) (sheets : List Sheet) → place_of id sheets ≡ None → list_any (nat_eq id) (ids sheets) ≡ false
+pub no_sheet : (id : ℕ) (sheets : List HeldSheet) → index_with_id id sheets ≡ None → list_any (nat_eq id) (ids sheets) ≡ false
 no_sheet id [] e = refl
-no_sheet id (x ∷ sheets) e = step (nat_eq x.id id) refl (place_of id sheets) refl e (no_sheet id sheets)
+no_sheet id (x ∷ sheets) e = step (nat_eq x.id id) refl (index_with_id id sheets) refl e (no_sheet id sheets)
   where
-    step : (b : Bool) → nat_eq x.id id ≡ b → (o : Option ℕ) → place_of id sheets ≡ o → cond b (Some 0) (option_map suc o) ≡ None → (place_of id sheets ≡ None → list_any (nat_eq id) (ids sheets) ≡ false) → (nat_eq id x.id || list_any (nat_eq id) (ids sheets)) ≡ false
+    step : (b : Bool) → nat_eq x.id id ≡ b → (o : Option ℕ) → index_with_id id sheets ≡ o → cond b (Some 0) (option_map suc o) ≡ None → (index_with_id id sheets ≡ None → list_any (nat_eq id) (ids sheets) ≡ false) → (nat_eq id x.id || list_any (nat_eq id) (ids sheets)) ≡ false
     step true is o at e rest = cc
     step false is None at e rest = ap₂ ◌||◌ (nat_eq_equiv.symm id x.id ∙ is) (rest at)
     step false is (Some k) at e rest = cc
 
 -- nothing is left to be done
-pub nothing_left : (ps : Own) (sheets : List Sheet) → length ps ≡ 0 → with_own_rewrites ps sheets ≡ sheets
+pub nothing_left : (ps : Own) (sheets : List HeldSheet) → length ps ≡ 0 → with_own_rewrites ps sheets ≡ sheets
 nothing_left (p ∷ ps) sheets e = absurd (omega (arith, e))
 nothing_left [] [] e = refl
-nothing_left [] (s ∷ sheets) e = ap (λ (xs : List Sheet). s ∷ xs) (nothing_left [] sheets e)
+nothing_left [] (s ∷ sheets) e = ap (λ (xs : List HeldSheet). s ∷ xs) (nothing_left [] sheets e)
 
 -- the last of them is taken
-module _ (all ps : Own) (id : ℕ) (w : RewritesState) (sheets : List Sheet) (popped : all ≡ ps ++ (id, w) ∷ []) (fits : FitOwn all sheets) where
+module _ (all ps : Own) (id : ℕ) (w : RewritesState) (sheets : List HeldSheet) (popped : all ≡ ps ++ (id, w) ∷ []) (fits : FitOwn all sheets) where
   abbrev both : Own
   both = ps ++ (id, w) ∷ []
 
@@ -330,20 +330,20 @@ module _ (all ps : Own) (id : ℕ) (w : RewritesState) (sheets : List Sheet) (po
   own_last = own_new id ps ((id, w) ∷ []) (own_none id ps init.1) ∙ ap (λ b. cond b (Some w) None) (nat_eq_equiv.refl id)
 
   -- sheets with other ids
-  others_left : (xs : List Sheet) → list_any (nat_eq id) (ids xs) ≡ false → with_own_rewrites ps xs ≡ with_own_rewrites both xs
+  others_left : (xs : List HeldSheet) → list_any (nat_eq id) (ids xs) ≡ false → with_own_rewrites ps xs ≡ with_own_rewrites both xs
   others_left [] e = refl
   others_left (x ∷ xs) e =
       let parts = or_parts (nat_eq id x.id) (list_any (nat_eq id) (ids xs)) e in
       ap₂ ◌∷◌ (ap (λ o. rewritten_if o x) (sym (own_other x.id id w ps (nat_eq_equiv.symm x.id id ∙ parts.0)))) (others_left xs parts.1)
 
-  others_fit : (xs : List Sheet) → list_any (nat_eq id) (ids xs) ≡ false → AllByRecursion (λ s. FitsSheet (own_rewrites s.id both) s) xs → AllByRecursion (λ s. FitsSheet (own_rewrites s.id ps) s) xs
+  others_fit : (xs : List HeldSheet) → list_any (nat_eq id) (ids xs) ≡ false → AllByRecursion (λ s. FitsSheet (own_rewrites s.id both) s) xs → AllByRecursion (λ s. FitsSheet (own_rewrites s.id ps) s) xs
   others_fit [] e h = tt
   others_fit (x ∷ xs) e h =
       let parts = or_parts (nat_eq id x.id) (list_any (nat_eq id) (ids xs)) e in
       (subst (λ o. FitsSheet o x) (own_other x.id id w ps (nat_eq_equiv.symm x.id id ∙ parts.0)) h.0, others_fit xs parts.1 h.1)
 
   -- no sheet has the id
-  pub missed : place_of id sheets ≡ None → (with_own_rewrites ps sheets ≡ with_own_rewrites all sheets) × FitOwn ps sheets
+  pub missed : index_with_id id sheets ≡ None → (with_own_rewrites ps sheets ≡ with_own_rewrites all sheets) × FitOwn ps sheets
   missed none =
       let free = no_sheet id sheets none in (
         others_left sheets free ∙ ap (λ ps. with_own_rewrites ps sheets) (sym popped),
@@ -351,18 +351,18 @@ module _ (all ps : Own) (id : ℕ) (w : RewritesState) (sheets : List Sheet) (po
       )
 
   -- a sheet has it
-  module _ (at : ℕ) (placed : place_of id sheets ≡ Some at) where
+  module _ (at : ℕ) (placed : index_with_id id sheets ≡ Some at) where
     pub own_within : at < length sheets
     own_within = (place_within id sheets at placed).0
 
-    module _ (s : Sheet) (read : s ≡ get_or sheets at s) where
+    module _ (s : HeldSheet) (read : s ≡ get_or sheets at s) where
       its_id : s.id ≡ id
       its_id = (place_within id sheets at placed).1 s read
 
-      abbrev front : List Sheet
+      abbrev front : List HeldSheet
       front = take at sheets
 
-      abbrev back : List Sheet
+      abbrev back : List HeldSheet
       back = drop (suc at) sheets
 
       parts : sheets ≡ front ++ s ∷ back
@@ -377,11 +377,11 @@ module _ (all ps : Own) (id : ℕ) (w : RewritesState) (sheets : List Sheet) (po
       pub own_fits : FitsPool w s.pool.formulas
       own_fits = (subst (λ o. FitsSheet o s) own_of_it (inside front fit_parts)).0
         where
-          inside : (xs : List Sheet) → AllByRecursion (λ x. FitsSheet (own_rewrites x.id both) x) (xs ++ s ∷ back) → FitsSheet (own_rewrites s.id both) s
+          inside : (xs : List HeldSheet) → AllByRecursion (λ x. FitsSheet (own_rewrites x.id both) x) (xs ++ s ∷ back) → FitsSheet (own_rewrites s.id both) s
           inside [] h = h.0
           inside (x ∷ xs) h = inside xs h.1
 
-      pub own_done : IsDistinct nat_eq (ids sheets) → (t : Sheet) → t ≡ with_rewrites w s
+      pub own_done : IsDistinct nat_eq (ids sheets) → (t : HeldSheet) → t ≡ with_rewrites w s
           → (with_own_rewrites ps (slice_set sheets at t) ≡ with_own_rewrites all sheets) × FitOwn ps (slice_set sheets at t) × (ids (slice_set sheets at t) ≡ ids sheets)
       own_done differ t done = (
         ap (with_own_rewrites ps) set ∙ left front free ∙ sym (ap₂ with_own_rewrites popped parts),
@@ -397,12 +397,12 @@ module _ (all ps : Own) (id : ℕ) (w : RewritesState) (sheets : List Sheet) (po
           set = set_parts sheets at t own_within
 
           id_same : t.id ≡ s.id
-          id_same = ap (λ (x : Sheet). x.id) done
+          id_same = ap (λ (x : HeldSheet). x.id) done
 
           ids_same : ids (slice_set sheets at t) ≡ ids sheets
           ids_same = ap ids set ∙ go front ∙ sym (ap ids parts)
             where
-              go : (xs : List Sheet) → ids (xs ++ t ∷ back) ≡ ids (xs ++ s ∷ back)
+              go : (xs : List HeldSheet) → ids (xs ++ t ∷ back) ≡ ids (xs ++ s ∷ back)
               go [] = ap (λ n. n ∷ ids back) id_same
               go (x ∷ xs) = ap (λ ns. x.id ∷ ns) (go xs)
 
@@ -412,27 +412,27 @@ module _ (all ps : Own) (id : ℕ) (w : RewritesState) (sheets : List Sheet) (po
           none_left : own_rewrites t.id ps ≡ None
           none_left = ap (λ k. own_rewrites k ps) (id_same ∙ its_id) ∙ own_none id ps init.1
 
-          left : (xs : List Sheet) → list_any (nat_eq id) (ids (xs ++ back)) ≡ false → with_own_rewrites ps (xs ++ t ∷ back) ≡ with_own_rewrites both (xs ++ s ∷ back)
+          left : (xs : List HeldSheet) → list_any (nat_eq id) (ids (xs ++ back)) ≡ false → with_own_rewrites ps (xs ++ t ∷ back) ≡ with_own_rewrites both (xs ++ s ∷ back)
           left [] e = ap₂ ◌∷◌ (ap (λ o. rewritten_if o t) none_left ∙ done ∙ sym (ap (λ o. rewritten_if o s) own_of_it)) (others_left back e)
           left (x ∷ xs) e =
               let parts = or_parts (nat_eq id x.id) (list_any (nat_eq id) (ids (xs ++ back))) e in
               ap₂ ◌∷◌ (ap (λ o. rewritten_if o x) (sym (own_other x.id id w ps (nat_eq_equiv.symm x.id id ∙ parts.0)))) (left xs parts.1)
 
-          fit : (xs : List Sheet) → list_any (nat_eq id) (ids (xs ++ back)) ≡ false → AllByRecursion (λ x. FitsSheet (own_rewrites x.id both) x) (xs ++ s ∷ back) → AllByRecursion (λ x. FitsSheet (own_rewrites x.id ps) x) (xs ++ t ∷ back)
+          fit : (xs : List HeldSheet) → list_any (nat_eq id) (ids (xs ++ back)) ≡ false → AllByRecursion (λ x. FitsSheet (own_rewrites x.id both) x) (xs ++ s ∷ back) → AllByRecursion (λ x. FitsSheet (own_rewrites x.id ps) x) (xs ++ t ∷ back)
           fit [] e h = (subst (λ o. FitsSheet o t) (sym none_left) tt, others_fit back e h.1)
           fit (x ∷ xs) e h =
               let parts = or_parts (nat_eq id x.id) (list_any (nat_eq id) (ids (xs ++ back))) e in
               (subst (λ o. FitsSheet o x) (own_other x.id id w ps (nat_eq_equiv.symm x.id id ∙ parts.0)) h.0, fit xs parts.1 h.1)
 
 -- a vector whose elements were rewritten through a slice
-pub own_back : (n : ℕ) (ps : Own) (old now new : List Sheet) → new ≡ with_own_rewrites ps now → now ≡ old → n ≡ length old → take n (new ++ drop (length new) old) ≡ with_own_rewrites ps old
+pub own_back : (n : ℕ) (ps : Own) (old now new : List HeldSheet) → new ≡ with_own_rewrites ps now → now ≡ old → n ≡ length old → take n (new ++ drop (length new) old) ≡ with_own_rewrites ps old
 own_back n ps old now new made same counted =
     let is : new ≡ with_own_rewrites ps old = made ∙ ap (with_own_rewrites ps) same in
     ap (λ k. take k (new ++ drop (length new) old)) (counted ∙ sym (ap length is ∙ length-map old (λ s. rewritten_if (own_rewrites s.id ps) s))) ∙ take_at new (drop (length new) old) (length new) refl ∙ is
 
 -- ---- whole changes
 
-module _ (change : Change) (ps : Own) (old : List Sheet) (makes : Makes change ps old) where
+module _ (change : Change) (ps : Own) (old : List HeldSheet) (makes : Makes change ps old) where
   -- a new id
   fresh_own : (q : ℕ) → greatest (ids old) < q → own_rewrites q ps ≡ None
   fresh_own q lt = own_none q ps (go ps makes.fits.known)
@@ -447,7 +447,7 @@ module _ (change : Change) (ps : Own) (old : List Sheet) (makes : Makes change p
           ] in
           ap₂ ◌||◌ other (go ps h.1)
 
-  module _ (s : Sheet) (fresh : greatest (ids old) < s.id) where
+  module _ (s : HeldSheet) (fresh : greatest (ids old) < s.id) where
     pub own_fits_pushed : FitOwn ps (old ++ s ∷ [])
     own_fits_pushed = record {
       known = more ps makes.fits.known;
@@ -458,14 +458,14 @@ module _ (change : Change) (ps : Own) (old : List Sheet) (makes : Makes change p
         more : (ps : Own) → AllByRecursion (λ p. is_id p.0 old ≡ true) ps → AllByRecursion (λ p. is_id p.0 (old ++ s ∷ []) ≡ true) ps
         more [] h = tt
         more (p ∷ ps) h = (
-          ap (list_any (nat_eq p.0)) (map-append (λ (x : Sheet). x.id) old (s ∷ [])) ∙ list_any-append (nat_eq p.0) (ids old) (s.id ∷ []) ∙ ap (λ b. b || (nat_eq p.0 s.id || false)) h.0,
+          ap (list_any (nat_eq p.0)) (map-append (λ (x : HeldSheet). x.id) old (s ∷ [])) ∙ list_any-append (nat_eq p.0) (ids old) (s.id ∷ []) ∙ ap (λ b. b || (nat_eq p.0 s.id || false)) h.0,
           more ps h.1,
         )
 
     own_pushed : with_own_rewrites ps (old ++ s ∷ []) ≡ with_own_rewrites ps old ++ s ∷ []
     own_pushed = map-append (λ x. rewritten_if (own_rewrites x.id ps) x) old (s ∷ []) ∙ ap (λ o. with_own_rewrites ps old ++ rewritten_if o s ∷ []) (fresh_own s.id fresh)
 
-    module _ (between new : List Sheet) (pushed : between ≡ old ++ s ∷ []) (done : new ≡ with_own_rewrites ps between) where
+    module _ (between new : List HeldSheet) (pushed : between ≡ old ++ s ∷ []) (done : new ≡ with_own_rewrites ps between) where
       all_done : new ≡ with_own_rewrites ps old ++ s ∷ []
       all_done = done ∙ ap (with_own_rewrites ps) pushed ∙ own_pushed
 
@@ -474,11 +474,11 @@ module _ (change : Change) (ps : Own) (old : List Sheet) (makes : Makes change p
 
       pub added_looks_up : s.pool.is_whole ≡ true → look_ups new ≡ map (looks_up_after change) old ++ true ∷ []
       added_looks_up whole =
-          ap look_ups all_done ∙ map-append (λ (x : Sheet). x.pool.is_whole) (with_own_rewrites ps old) (s ∷ []) ∙ ap₂ (λ bs b. bs ++ b ∷ []) makes.looks_up whole
+          ap look_ups all_done ∙ map-append (λ (x : HeldSheet). x.pool.is_whole) (with_own_rewrites ps old) (s ∷ []) ∙ ap₂ (λ bs b. bs ++ b ∷ []) makes.looks_up whole
 
   module _ (index : ℕ) (name : List ℕ) where
     ids_called : ids (updated_at (called name) index old) ≡ ids old
-    ids_called = updated_unseen (λ (x : Sheet). x.id) (called name) (λ x. refl) index old
+    ids_called = updated_unseen (λ (x : HeldSheet). x.id) (called name) (λ x. refl) index old
 
     pub own_fits_called : FitOwn ps (updated_at (called name) index old)
     own_fits_called = record {
@@ -487,25 +487,25 @@ module _ (change : Change) (ps : Own) (old : List Sheet) (makes : Makes change p
       fits = go index old makes.fits.fits;
     }
       where
-        one : (o : Option RewritesState) (x : Sheet) → FitsSheet o x → FitsSheet o (called name x)
+        one : (o : Option RewritesState) (x : HeldSheet) → FitsSheet o x → FitsSheet o (called name x)
         one None x h = tt
         one (Some w) x h = h
 
-        go : (i : ℕ) (xs : List Sheet) → AllByRecursion (λ x. FitsSheet (own_rewrites x.id ps) x) xs → AllByRecursion (λ x. FitsSheet (own_rewrites x.id ps) x) (updated_at (called name) i xs)
+        go : (i : ℕ) (xs : List HeldSheet) → AllByRecursion (λ x. FitsSheet (own_rewrites x.id ps) x) xs → AllByRecursion (λ x. FitsSheet (own_rewrites x.id ps) x) (updated_at (called name) i xs)
         go i [] h = tt
         go zero (x ∷ xs) h = (one (own_rewrites x.id ps) x h.0, h.1)
         go (suc i) (x ∷ xs) h = (h.0, go i xs h.1)
 
-    own_called : (i : ℕ) (xs : List Sheet) → with_own_rewrites ps (updated_at (called name) i xs) ≡ updated_at (called name) i (with_own_rewrites ps xs)
+    own_called : (i : ℕ) (xs : List HeldSheet) → with_own_rewrites ps (updated_at (called name) i xs) ≡ updated_at (called name) i (with_own_rewrites ps xs)
     own_called i [] = refl
-    own_called zero (x ∷ xs) = ap (λ (y : Sheet). y ∷ with_own_rewrites ps xs) (one (own_rewrites x.id ps))
+    own_called zero (x ∷ xs) = ap (λ (y : HeldSheet). y ∷ with_own_rewrites ps xs) (one (own_rewrites x.id ps))
       where
         one : (o : Option RewritesState) → rewritten_if o (called name x) ≡ called name (rewritten_if o x)
         one None = refl
         one (Some w) = refl
     own_called (suc i) (x ∷ xs) = ap (λ ys. rewritten_if (own_rewrites x.id ps) x ∷ ys) (own_called i xs)
 
-    module _ (between new : List Sheet) (renamed : between ≡ updated_at (called name) index old) (done : new ≡ with_own_rewrites ps between) where
+    module _ (between new : List HeldSheet) (renamed : between ≡ updated_at (called name) index old) (done : new ≡ with_own_rewrites ps between) where
       both_done : new ≡ updated_at (called name) index (with_own_rewrites ps old)
       both_done = done ∙ ap (with_own_rewrites ps) renamed ∙ own_called index old
 
@@ -513,4 +513,4 @@ module _ (change : Change) (ps : Own) (old : List Sheet) (makes : Makes change p
       renamed_made = ap sheets_of both_done ∙ sheets_called name index (with_own_rewrites ps old) ∙ ap (updated_at (sheet_called name) index) makes.made
 
       pub renamed_looks_up : look_ups new ≡ map (looks_up_after change) old
-      renamed_looks_up = ap look_ups both_done ∙ updated_unseen (λ (x : Sheet). x.pool.is_whole) (called name) (λ x. refl) index (with_own_rewrites ps old) ∙ makes.looks_up
+      renamed_looks_up = ap look_ups both_done ∙ updated_unseen (λ (x : HeldSheet). x.pool.is_whole) (called name) (λ x. refl) index (with_own_rewrites ps old) ∙ makes.looks_up

@@ -14,8 +14,8 @@ use Rattle.std.proofs.lemmas.List.Sorted.{IsPermutation-map, IsPermutation-middl
 use Rattle.std.proofs.lemmas.Map.Keys.{IsDistinct-IsPermutation, IsDistinct-head}
 use Rattle.ic_laws.proofs.CoreLemmas.{above_greatest}
 use Rattle.ic_laws.specs.Greatest.{greatest}
-use Rattle.ic_sheets.specs.Index.{ArePlaced, lowered, moved_place, raised}
-use Rattle.ic_sheets.specs.Search.{place_of}
+use Rattle.ic_sheets.specs.Index.{AreAtIndexes, lowered, moved_index, raised}
+use Rattle.ic_sheets.specs.Search.{index_with_id}
 use Rattle.ic_sheets.specs.declared.sheet.Sheet.{Sheet}
 use Rattle.ic_sheets.proofs.IndexLemmas.{clash, split_at}
 use Rattle.ic_sheets.proofs.SearchLemmas.{ids}
@@ -40,13 +40,13 @@ position_step : (id : ℕ) (s : Sheet) (sheets : List Sheet) → position (has_i
 position_step id s sheets =
     position_from-zero (has_id id) (s ∷ sheets) ∙ ap (cond (nat_eq s.id id) (Some 0)) (counted_later (has_id id) 0 sheets ∙ ap (option_map suc) (sym (position_from-zero (has_id id) sheets)))
 
-pub place_is : (id : ℕ) (sheets : List Sheet) → place_of id sheets ≡ position (λ s. nat_eq s.id id) sheets
+pub place_is : (id : ℕ) (sheets : List Sheet) → index_with_id id sheets ≡ position (λ s. nat_eq s.id id) sheets
 place_is id [] = refl
 place_is id (s ∷ sheets) = ap (λ o. cond (nat_eq s.id id) (Some 0) (option_map suc o)) (place_is id sheets) ∙ sym (position_step id s sheets)
 
-first_there : (id : ℕ) (sheets : List Sheet) → option_and_then (slice_get sheets) (place_of id sheets) ≡ find (λ s. nat_eq s.id id) sheets
+first_there : (id : ℕ) (sheets : List Sheet) → option_and_then (slice_get sheets) (index_with_id id sheets) ≡ find (λ s. nat_eq s.id id) sheets
 first_there id [] = refl
-first_there id (s ∷ sheets) = step (nat_eq s.id id) (place_of id sheets) (first_there id sheets)
+first_there id (s ∷ sheets) = step (nat_eq s.id id) (index_with_id id sheets) (first_there id sheets)
   where
     step : (b : Bool) (place : Option ℕ) → option_and_then (slice_get sheets) place ≡ find (has_id id) sheets → option_and_then (slice_get (s ∷ sheets)) (cond b (Some 0) (option_map suc place)) ≡ cond b (Some s) (find (has_id id) sheets)
     step true place e = refl
@@ -71,11 +71,11 @@ same_number k q = step (nat_lt k q) refl (nat_eq k q) refl
 updated : (before after : Places) (key : ℕ) (w : Option ℕ) → Updates nat_cmp before after key w → (q : ℕ) → get nat_cmp after q ≡ cond (nat_eq key q) w (get nat_cmp before q)
 updated before after key w u q = u.0 q ∙ ap (λ b. cond b w (get nat_cmp before q)) (same_number key q)
 
-pub placed_empty : (places : Places) (sheets : List Sheet) → IsEmpty places → sheets ≡ [] → ArePlaced places sheets
-placed_empty places sheets empty none = subst (ArePlaced places) (sym none) (record { finds = λ id. ap (lookup _) empty })
+pub placed_empty : (indexes : Places) (sheets : List Sheet) → IsEmpty indexes → sheets ≡ [] → AreAtIndexes indexes sheets
+placed_empty indexes sheets empty none = subst (AreAtIndexes indexes) (sym none) (record { finds = λ id. ap (lookup _) empty })
 
 -- other formulas and names
-same_place : (xs ys : List Sheet) → ids xs ≡ ids ys → (id : ℕ) → place_of id xs ≡ place_of id ys
+same_place : (xs ys : List Sheet) → ids xs ≡ ids ys → (id : ℕ) → index_with_id id xs ≡ index_with_id id ys
 same_place [] [] e id = refl
 same_place [] (y ∷ ys) e id = cc
 same_place (x ∷ xs) [] e id = cc
@@ -84,12 +84,12 @@ same_place (x ∷ xs) (y ∷ ys) e id =
     let others : ids xs ≡ ids ys = cc in
     ap₂ (λ k place. cond (nat_eq k id) (Some 0) (option_map suc place)) first (same_place xs ys others id)
 
-pub placed_same : (places : Places) (sheets list : List Sheet) → ArePlaced places sheets → ids list ≡ ids sheets → ArePlaced places list
-placed_same places sheets list placed same = record { finds = λ id. placed.finds id ∙ sym (same_place list sheets same id) }
+pub placed_same : (indexes : Places) (sheets list : List Sheet) → AreAtIndexes indexes sheets → ids list ≡ ids sheets → AreAtIndexes indexes list
+placed_same indexes sheets list placed same = record { finds = λ id. placed.finds id ∙ sym (same_place list sheets same id) }
 
 -- ---- a sheet comes
 
-no_place : (id : ℕ) (sheets : List Sheet) → list_any (nat_eq id) (ids sheets) ≡ false → place_of id sheets ≡ None
+no_place : (id : ℕ) (sheets : List Sheet) → list_any (nat_eq id) (ids sheets) ≡ false → index_with_id id sheets ≡ None
 no_place id [] e = refl
 no_place id (s ∷ sheets) e =
     let parts = or_parts (nat_eq id s.id) (list_any (nat_eq id) (ids sheets)) e in
@@ -101,17 +101,17 @@ either_first true false n place h = refl
 either_first false true n place h = refl
 either_first false false n place h = refl
 
-place_pushed : (s : Sheet) (sheets : List Sheet) → list_any (nat_eq s.id) (ids sheets) ≡ false → (q : ℕ) → place_of q (sheets ++ s ∷ []) ≡ cond (nat_eq s.id q) (Some (length sheets)) (place_of q sheets)
+place_pushed : (s : Sheet) (sheets : List Sheet) → list_any (nat_eq s.id) (ids sheets) ≡ false → (q : ℕ) → index_with_id q (sheets ++ s ∷ []) ≡ cond (nat_eq s.id q) (Some (length sheets)) (index_with_id q sheets)
 place_pushed s [] free q = refl
 place_pushed s (x ∷ sheets) free q =
     let parts = or_parts (nat_eq s.id x.id) (list_any (nat_eq s.id) (ids sheets)) free in
     ap (λ place. cond (nat_eq x.id q) (Some 0) (option_map suc place)) (place_pushed s sheets parts.1 q)
-    ∙ either_first (nat_eq x.id q) (nat_eq s.id q) (length sheets) (place_of q sheets)
+    ∙ either_first (nat_eq x.id q) (nat_eq s.id q) (length sheets) (index_with_id q sheets)
     (λ t u. clash (nat_eq s.id x.id) (eq-eqb s.id x.id (eqb-true s.id q u ∙ sym (eqb-true x.id q t))) parts.0)
 
-pub placed_pushed : (before after : Places) (sheets list : List Sheet) (s : Sheet) (at : ℕ) → ArePlaced before sheets → greatest (ids sheets) < s.id → at ≡ length sheets → Updates nat_cmp before after s.id (Some at) → list ≡ sheets ++ s ∷ [] → ArePlaced after list
+pub placed_pushed : (before after : Places) (sheets list : List Sheet) (s : Sheet) (at : ℕ) → AreAtIndexes before sheets → greatest (ids sheets) < s.id → at ≡ length sheets → Updates nat_cmp before after s.id (Some at) → list ≡ sheets ++ s ∷ [] → AreAtIndexes after list
 placed_pushed before after sheets list s at placed fresh end u pushed =
-    subst (ArePlaced after) (sym pushed)
+    subst (AreAtIndexes after) (sym pushed)
     (record {
       finds = λ q.
           updated before after s.id (Some at) u q ∙ ap₂ (λ n o. cond (nat_eq s.id q) (Some n) o) end (placed.finds q)
@@ -119,17 +119,17 @@ placed_pushed before after sheets list s at placed fresh end u pushed =
     })
 
 -- a place that was put in, and taken out again
-pub placed_undone : (before between after : Places) (sheets list : List Sheet) (id : ℕ) (at : Option ℕ) → ArePlaced before sheets → greatest (ids sheets) < id → Updates nat_cmp before between id at → Updates nat_cmp between after id None → list ≡ sheets → ArePlaced after list
+pub placed_undone : (before between after : Places) (sheets list : List Sheet) (id : ℕ) (at : Option ℕ) → AreAtIndexes before sheets → greatest (ids sheets) < id → Updates nat_cmp before between id at → Updates nat_cmp between after id None → list ≡ sheets → AreAtIndexes after list
 placed_undone before between after sheets list id at placed fresh u v same =
-    subst (ArePlaced after) (sym same)
+    subst (AreAtIndexes after) (sym same)
     (record {
       finds = λ q.
           updated between after id None v q ∙ ap (cond (nat_eq id q) None) (updated before between id at u q ∙ ap (cond (nat_eq id q) at) (placed.finds q))
           ∙ step q (nat_eq id q) refl;
     })
   where
-    step : (q : ℕ) (b : Bool) → nat_eq id q ≡ b → cond b None (cond b at (place_of q sheets)) ≡ place_of q sheets
-    step q true e = sym (ap (λ k. place_of k sheets) (sym (eqb-true id q e)) ∙ no_place id sheets (above_greatest id (ids sheets) fresh))
+    step : (q : ℕ) (b : Bool) → nat_eq id q ≡ b → cond b None (cond b at (index_with_id q sheets)) ≡ index_with_id q sheets
+    step q true e = sym (ap (λ k. index_with_id k sheets) (sym (eqb-true id q e)) ∙ no_place id sheets (above_greatest id (ids sheets) fresh))
     step q false e = refl
 
 -- ---- a sheet among others
@@ -151,14 +151,14 @@ raised_later at (Some n) = ap (λ k. Some k) (more at n)
 first_stays : (at : ℕ) → raised (suc at) 0 ≡ 0
 first_stays at = grind arith
 
-place_middle : (front back : List Sheet) (s : Sheet) → list_any (nat_eq s.id) (ids (front ++ back)) ≡ false → (q : ℕ) → place_of q (front ++ s ∷ back) ≡ cond (nat_eq s.id q) (Some (length front)) (option_map (raised (length front)) (place_of q (front ++ back)))
-place_middle [] back s free q = ap (cond (nat_eq s.id q) (Some 0)) (raised_first (place_of q back))
+place_middle : (front back : List Sheet) (s : Sheet) → list_any (nat_eq s.id) (ids (front ++ back)) ≡ false → (q : ℕ) → index_with_id q (front ++ s ∷ back) ≡ cond (nat_eq s.id q) (Some (length front)) (option_map (raised (length front)) (index_with_id q (front ++ back)))
+place_middle [] back s free q = ap (cond (nat_eq s.id q) (Some 0)) (raised_first (index_with_id q back))
 place_middle (x ∷ front) back s free q =
     let parts = or_parts (nat_eq s.id x.id) (list_any (nat_eq s.id) (ids (front ++ back))) free in
     ap (λ place. cond (nat_eq x.id q) (Some 0) (option_map suc place)) (place_middle front back s parts.1 q)
-    ∙ either_first (nat_eq x.id q) (nat_eq s.id q) (length front) (option_map (raised (length front)) (place_of q (front ++ back)))
+    ∙ either_first (nat_eq x.id q) (nat_eq s.id q) (length front) (option_map (raised (length front)) (index_with_id q (front ++ back)))
     (λ t u. clash (nat_eq s.id x.id) (eq-eqb s.id x.id (eqb-true s.id q u ∙ sym (eqb-true x.id q t))) parts.0)
-    ∙ ap (cond (nat_eq s.id q) (Some (suc (length front)))) (inner (nat_eq x.id q) (length front) (place_of q (front ++ back)))
+    ∙ ap (cond (nat_eq s.id q) (Some (suc (length front)))) (inner (nat_eq x.id q) (length front) (index_with_id q (front ++ back)))
   where
     inner : (b : Bool) (at : ℕ) (o : Option ℕ) → cond b (Some 0) (option_map suc (option_map (raised at) o)) ≡ option_map (raised (suc at)) (cond b (Some 0) (option_map suc o))
     inner true at o = ap (λ k. Some k) (sym (first_stays at))
@@ -183,10 +183,10 @@ longer : (s : Sheet) (xs ys : List Sheet) → length (xs ++ s ∷ ys) ≡ suc (l
 longer s [] ys = refl
 longer s (x ∷ xs) ys = ap suc (longer s xs ys)
 
-goes_there : (from to : ℕ) → moved_place from to from ≡ to
+goes_there : (from to : ℕ) → moved_index from to from ≡ to
 goes_there from to = ap (λ b. cond b to (raised to (lowered from from))) (eq-eqb from from refl)
 
-others_follow : (from to k : ℕ) → moved_place from to (raised from k) ≡ raised to k
+others_follow : (from to k : ℕ) → moved_index from to (raised from k) ≡ raised to k
 others_follow from to k =
     ap (λ b. cond b to (raised to (lowered from (raised from k)))) (apart (nat_eq (raised from k) from) refl) ∙ ap (raised to) (back_again from k)
   where
@@ -214,29 +214,29 @@ module _ (sheets : List Sheet) (at : ℕ) (s : Sheet) (differ : IsDistinct nat_e
   counted = omega (arith, length-take at sheets)
 
   -- the sheet itself, or one of the others
-  there : (q : ℕ) → place_of q sheets ≡ cond (nat_eq s.id q) (Some at) (option_map (raised at) (place_of q (front ++ back)))
-  there q = ap (place_of q) parts ∙ place_middle front back s free q ∙ ap (λ n. cond (nat_eq s.id q) (Some n) (option_map (raised n) (place_of q (front ++ back)))) counted
+  there : (q : ℕ) → index_with_id q sheets ≡ cond (nat_eq s.id q) (Some at) (option_map (raised at) (index_with_id q (front ++ back)))
+  there q = ap (index_with_id q) parts ∙ place_middle front back s free q ∙ ap (λ n. cond (nat_eq s.id q) (Some n) (option_map (raised n) (index_with_id q (front ++ back)))) counted
 
-  left : (q : ℕ) (b : Bool) → nat_eq s.id q ≡ b → (o : Option ℕ) → place_of q (front ++ back) ≡ o → option_map (lowered at) (cond b None (cond b (Some at) (option_map (raised at) o))) ≡ o
-  left q true e o f = sym (ap (λ k. place_of k (front ++ back)) (sym (eqb-true s.id q e)) ∙ no_place s.id (front ++ back) free) ∙ f
+  left : (q : ℕ) (b : Bool) → nat_eq s.id q ≡ b → (o : Option ℕ) → index_with_id q (front ++ back) ≡ o → option_map (lowered at) (cond b None (cond b (Some at) (option_map (raised at) o))) ≡ o
+  left q true e o f = sym (ap (λ k. index_with_id k (front ++ back)) (sym (eqb-true s.id q e)) ∙ no_place s.id (front ++ back) free) ∙ f
   left q false e None f = refl
   left q false e (Some k) f = ap (λ n. Some n) (back_again at k)
 
-  pub placed_removed : (before between after : Places) (list : List Sheet) → ArePlaced before sheets → list ≡ remove sheets at → Updates nat_cmp before between s.id None → ((q : ℕ) → get nat_cmp after q ≡ option_map (lowered at) (get nat_cmp between q)) → ArePlaced after list
+  pub placed_removed : (before between after : Places) (list : List Sheet) → AreAtIndexes before sheets → list ≡ remove sheets at → Updates nat_cmp before between s.id None → ((q : ℕ) → get nat_cmp after q ≡ option_map (lowered at) (get nat_cmp between q)) → AreAtIndexes after list
   placed_removed before between after list placed removed u low =
-      subst (ArePlaced after) (sym removed)
+      subst (AreAtIndexes after) (sym removed)
       (record {
         finds = λ q.
             low q ∙ ap (option_map (lowered at)) (updated before between s.id None u q ∙ ap (cond (nat_eq s.id q) None) (placed.finds q ∙ there q))
-            ∙ left q (nat_eq s.id q) refl (place_of q (front ++ back)) refl;
+            ∙ left q (nat_eq s.id q) refl (index_with_id q (front ++ back)) refl;
       })
 
-  follows : (to : ℕ) (b : Bool) (o : Option ℕ) → option_map (moved_place at to) (cond b (Some at) (option_map (raised at) o)) ≡ cond b (Some to) (option_map (raised to) o)
+  follows : (to : ℕ) (b : Bool) (o : Option ℕ) → option_map (moved_index at to) (cond b (Some at) (option_map (raised at) o)) ≡ cond b (Some to) (option_map (raised to) o)
   follows to true o = ap (λ n. Some n) (goes_there at to)
   follows to false None = refl
   follows to false (Some k) = ap (λ n. Some n) (others_follow at to k)
 
-  pub placed_moved : (before after : Places) (list : List Sheet) (to : ℕ) → ArePlaced before sheets → to < length sheets → list ≡ insert (remove sheets at) to s → ((q : ℕ) → get nat_cmp after q ≡ option_map (moved_place at to) (get nat_cmp before q)) → ArePlaced after list
+  pub placed_moved : (before after : Places) (list : List Sheet) (to : ℕ) → AreAtIndexes before sheets → to < length sheets → list ≡ insert (remove sheets at) to s → ((q : ℕ) → get nat_cmp after q ≡ option_map (moved_index at to) (get nat_cmp before q)) → AreAtIndexes after list
   placed_moved before after list to placed within put moves =
       let first : List Sheet = take to (front ++ back) in
       let rest : List Sheet = drop to (front ++ back) in
@@ -244,9 +244,9 @@ module _ (sheets : List Sheet) (at : ℕ) (s : Sheet) (differ : IsDistinct nat_e
       let free_too : list_any (nat_eq s.id) (ids (first ++ rest)) ≡ false = ap (λ xs. list_any (nat_eq s.id) (ids xs)) same ∙ free in
       let all : length sheets ≡ suc (length (front ++ back)) = ap length parts ∙ longer s front back in
       let counted_too : length first ≡ to = omega (arith, length-take to (front ++ back), all) in
-      subst (ArePlaced after) (sym put)
+      subst (AreAtIndexes after) (sym put)
       (record {
         finds = λ q.
-            moves q ∙ ap (option_map (moved_place at to)) (placed.finds q ∙ there q) ∙ follows to (nat_eq s.id q) (place_of q (front ++ back))
-            ∙ sym (place_middle first rest s free_too q ∙ ap₂ (λ n xs. cond (nat_eq s.id q) (Some n) (option_map (raised n) (place_of q xs))) counted_too same);
+            moves q ∙ ap (option_map (moved_index at to)) (placed.finds q ∙ there q) ∙ follows to (nat_eq s.id q) (index_with_id q (front ++ back))
+            ∙ sym (place_middle first rest s free_too q ∙ ap₂ (λ n xs. cond (nat_eq s.id q) (Some n) (option_map (raised n) (index_with_id q xs))) counted_too same);
       })

@@ -18,9 +18,9 @@ use Rattle.ic_laws.specs.ValidCore.{IsPooled}
 use Rattle.ic_laws.specs.declared.scene.Scene.{Scene}
 use Rattle.ic_laws.specs.declared.tree.Formula.{Formula}
 use Rattle.ic_laws.specs.declared.tree.Formula.TheVariants as formulas
-use Rattle.ic_cells.specs.Cell.{formula_of}
+use Rattle.ic_cells.specs.Cell.{cell_formula_index}
 use Rattle.ic_cells.specs.declared.cell.Cell.{Cell}
-use Rattle.ic_sheets.specs.Sheet.{BookSheet, cell_of, cells_of, formula_in, kept_pool, sheet_core}
+use Rattle.ic_sheets.specs.Sheet.{Sheet, cell_of, cells_of, formula_in, kept_pool, sheet_core}
 use Rattle.ic_pool.specs.Pool.{IsPlaced}
 
 -- formulas that are replaced, each by its own ----
@@ -42,18 +42,18 @@ one_cell-map f blank pool place (Some at) = ap (λ (g : Formula). let all : Cell
 pub cells_of-map : (f : Formula → Formula) → f (formulas.Raw []) ≡ formulas.Raw [] → (pool : List Formula) (entries : List (CellPlace × Cell)) → cells_of (map f pool) entries ≡ mapped_cells f (cells_of pool entries)
 cells_of-map f blank pool [] = refl
 cells_of-map f blank pool (e ∷ es) =
-    ap₂ (λ (a b : Cells). let all : Cells = a ++ b in all) (one_cell-map f blank pool e.0 (formula_of e.1)) (cells_of-map f blank pool es)
+    ap₂ (λ (a b : Cells). let all : Cells = a ++ b in all) (one_cell-map f blank pool e.0 (cell_formula_index e.1)) (cells_of-map f blank pool es)
     ∙ sym (map-append (λ (cell : CellPlace × Formula). (cell.0, f cell.1)) (cell_of pool e) (cells_of pool es))
 
 -- over a change of the book ----
 
 module _ (n : Notations) (before after : Scene) where
-  sheet_core-kept : (sheet : BookSheet) → sheet_core (kept_pool n before after sheet) ≡ kept_on_sheet n before after same_keys (sheet_core sheet)
+  sheet_core-kept : (sheet : Sheet) → sheet_core (kept_pool n before after sheet) ≡ kept_on_sheet n before after same_keys (sheet_core sheet)
   sheet_core-kept sheet =
       ap (λ (cells : Cells). let s : core.Sheet = record { id = sheet.id; name = sheet.name; cells = cells } in s)
       (cells_of-map (kept_formula (english_function n) before after same_keys (Some sheet.id)) refl sheet.pool (finite.entries sheet.grid.cells))
 
-  pub sheet_cores-kept : (sheets : List BookSheet) → map sheet_core (map (kept_pool n before after) sheets) ≡ map (kept_on_sheet n before after same_keys) (map sheet_core sheets)
+  pub sheet_cores-kept : (sheets : List Sheet) → map sheet_core (map (kept_pool n before after) sheets) ≡ map (kept_on_sheet n before after same_keys) (map sheet_core sheets)
   sheet_cores-kept [] = refl
   sheet_cores-kept (s ∷ sheets) = ap₂ ◌∷◌ (sheet_core-kept s) (sheet_cores-kept sheets)
 
@@ -122,10 +122,10 @@ one_same before after same place None h = refl
 one_same before after same place (Some at) h = ap (λ (g : Formula). let all : Cells = (place, g) ∷ [] in all) (same at h)
 
 pub cells_same : (before after : List Formula) → ((k : ℕ) → k < length before → formula_in after k ≡ formula_in before k) → (entries : List (CellPlace × Cell))
-    → AllByRecursion (λ (e : CellPlace × Cell). IsBelow (length before) (formula_of e.1)) entries → cells_of after entries ≡ cells_of before entries
+    → AllByRecursion (λ (e : CellPlace × Cell). IsBelow (length before) (cell_formula_index e.1)) entries → cells_of after entries ≡ cells_of before entries
 cells_same before after same [] h = refl
 cells_same before after same (e ∷ es) h =
-    ap₂ (λ (a b : Cells). let all : Cells = a ++ b in all) (one_same before after same e.0 (formula_of e.1) h.0) (cells_same before after same es h.1)
+    ap₂ (λ (a b : Cells). let all : Cells = a ++ b in all) (one_same before after same e.0 (cell_formula_index e.1) h.0) (cells_same before after same es h.1)
 
 pub all_placed : (P : Formula → Type 0) (formula : Formula) (at : ℕ) (before after : List Formula) → IsPlaced formula at before after → P formula → AllByRecursion P before → AllByRecursion P after
 all_placed P formula at before after p new h =

@@ -15,8 +15,8 @@ use Rattle.ic_pool.specs.declared.pool.rewrites.Replacement.{Replacement}
 use Rattle.ic_pool.proofs.ChangeLemmas.{spared_stays}
 use Rattle.ic_sheets.proofs.SearchLemmas.{ids, names}
 use Rattle.ic_sheets.specs.Rewriting.{ArePrepared, FitSheets, IsPrepared, changed_pool, look_ups, looks_up_after, sheets_of, with_all_rewrites, with_rewrites}
-use Rattle.ic_sheets.specs.Sheet.{BookSheet, sheet_of}
-use Rattle.ic_sheets.specs.declared.sheet.Sheet.{Sheet}
+use Rattle.ic_sheets.specs.Sheet.{Sheet, sheet_of}
+use Rattle.ic_sheets.specs.declared.sheet.Sheet.{Sheet as HeldSheet}
 
 -- ---- formulas that stay
 
@@ -58,100 +58,100 @@ none_listed test at (x ∷ pool) changes e = by_test (test x) e (none_listed tes
         some_listed (c ∷ changes) e = refl
     by_test false e rest = rest e
 
-pub looked_up : (change : Change) (w : RewritesState) (s : Sheet) → IsPrepared change w s → (s.pool.is_whole && changes_nothing w) ≡ looks_up_after change s
+pub looked_up : (change : Change) (w : RewritesState) (s : HeldSheet) → IsPrepared change w s → (s.pool.is_whole && changes_nothing w) ≡ looks_up_after change s
 looked_up change w s h = ap (λ b. s.pool.is_whole && b) (none_listed (is_changed_by change (Some s.id)) 0 s.pool.formulas w.changes h.listed)
 
 -- ---- what was prepared
 
-pub prepared_push : (change : Change) (ws : List RewritesState) (w : RewritesState) (sheets : List Sheet) (s : Sheet) → ArePrepared change ws sheets → IsPrepared change w s → ArePrepared change (ws ++ w ∷ []) (sheets ++ s ∷ [])
+pub prepared_push : (change : Change) (ws : List RewritesState) (w : RewritesState) (sheets : List HeldSheet) (s : HeldSheet) → ArePrepared change ws sheets → IsPrepared change w s → ArePrepared change (ws ++ w ∷ []) (sheets ++ s ∷ [])
 prepared_push change [] w [] s h one = (one, tt)
 prepared_push change [] w (x ∷ sheets) s h one = absurd h
 prepared_push change (v ∷ ws) w [] s h one = absurd h
 prepared_push change (v ∷ ws) w (x ∷ sheets) s h one = (h.0, prepared_push change ws w sheets s h.1 one)
 
-pub prepared_fits : (change : Change) (ws : List RewritesState) (sheets : List Sheet) → ArePrepared change ws sheets → FitSheets ws sheets
+pub prepared_fits : (change : Change) (ws : List RewritesState) (sheets : List HeldSheet) → ArePrepared change ws sheets → FitSheets ws sheets
 prepared_fits change [] sheets h = tt
 prepared_fits change (w ∷ ws) [] h = absurd h
 prepared_fits change (w ∷ ws) (s ∷ sheets) h = (h.0.fits, prepared_fits change ws sheets h.1)
 
-pub prepared_length : (change : Change) (ws : List RewritesState) (sheets : List Sheet) → ArePrepared change ws sheets → length ws ≡ length sheets
+pub prepared_length : (change : Change) (ws : List RewritesState) (sheets : List HeldSheet) → ArePrepared change ws sheets → length ws ≡ length sheets
 prepared_length change [] [] h = refl
 prepared_length change [] (s ∷ sheets) h = absurd h
 prepared_length change (w ∷ ws) [] h = absurd h
 prepared_length change (w ∷ ws) (s ∷ sheets) h = ap suc (prepared_length change ws sheets h.1)
 
-pub prepared_more : (change : Change) (ws more : List RewritesState) (w : RewritesState) (sheets : List Sheet) (i : ℕ) (s : Sheet) → i < length sheets → s ≡ get_or sheets i s → more ≡ ws ++ w ∷ [] → ArePrepared change ws (take i sheets) → IsPrepared change w s → ArePrepared change more (take (i + 1) sheets)
+pub prepared_more : (change : Change) (ws more : List RewritesState) (w : RewritesState) (sheets : List HeldSheet) (i : ℕ) (s : HeldSheet) → i < length sheets → s ≡ get_or sheets i s → more ≡ ws ++ w ∷ [] → ArePrepared change ws (take i sheets) → IsPrepared change w s → ArePrepared change more (take (i + 1) sheets)
 prepared_more change ws more w sheets i s within item pushed h one =
     subst₂ (ArePrepared change) (sym pushed) (ap (λ y. take i sheets ++ y ∷ []) item ∙ sym (take_more sheets i s within)) (prepared_push change ws w (take i sheets) s h one)
 
 -- what it makes of the sheets
-pub record MakesAll (change : Change) (ws : List RewritesState) (sheets : List Sheet) : Type 0 where
+pub record MakesAll (change : Change) (ws : List RewritesState) (sheets : List HeldSheet) : Type 0 where
   pub made : sheets_of (with_all_rewrites ws sheets) ≡ map (changed_pool change) (sheets_of sheets)
   pub looks_up : look_ups (with_all_rewrites ws sheets) ≡ map (looks_up_after change) sheets
 
-pub prepared_makes : (change : Change) (ws : List RewritesState) (sheets : List Sheet) → ArePrepared change ws sheets → MakesAll change ws sheets
+pub prepared_makes : (change : Change) (ws : List RewritesState) (sheets : List HeldSheet) → ArePrepared change ws sheets → MakesAll change ws sheets
 prepared_makes change ws sheets h = record { made = made ws sheets h; looks_up = kept ws sheets h }
   where
-    kept : (ws : List RewritesState) (sheets : List Sheet) → ArePrepared change ws sheets → look_ups (with_all_rewrites ws sheets) ≡ map (looks_up_after change) sheets
+    kept : (ws : List RewritesState) (sheets : List HeldSheet) → ArePrepared change ws sheets → look_ups (with_all_rewrites ws sheets) ≡ map (looks_up_after change) sheets
     kept [] [] h = refl
     kept [] (s ∷ sheets) h = absurd h
     kept (w ∷ ws) [] h = absurd h
     kept (w ∷ ws) (s ∷ sheets) h = ap₂ ◌∷◌ (looked_up change w s h.0) (kept ws sheets h.1)
 
-    made : (ws : List RewritesState) (sheets : List Sheet) → ArePrepared change ws sheets → sheets_of (with_all_rewrites ws sheets) ≡ map (changed_pool change) (sheets_of sheets)
+    made : (ws : List RewritesState) (sheets : List HeldSheet) → ArePrepared change ws sheets → sheets_of (with_all_rewrites ws sheets) ≡ map (changed_pool change) (sheets_of sheets)
     made [] [] h = refl
     made [] (s ∷ sheets) h = absurd h
     made (w ∷ ws) [] h = absurd h
-    made (w ∷ ws) (s ∷ sheets) h = ap₂ ◌∷◌ (ap (λ (pool : List Formula). let one : BookSheet = record (sheet_of s) { pool = pool } in one) h.0.made) (made ws sheets h.1)
+    made (w ∷ ws) (s ∷ sheets) h = ap₂ ◌∷◌ (ap (λ (pool : List Formula). let one : Sheet = record (sheet_of s) { pool = pool } in one) h.0.made) (made ws sheets h.1)
 
 -- ---- done from the last one on
 
-pub last_within : (ws : List RewritesState) (w : RewritesState) (sheets : List Sheet) → FitSheets (ws ++ w ∷ []) sheets → length ws < length sheets
+pub last_within : (ws : List RewritesState) (w : RewritesState) (sheets : List HeldSheet) → FitSheets (ws ++ w ∷ []) sheets → length ws < length sheets
 last_within [] w [] h = absurd h
 last_within [] w (s ∷ sheets) h = omega arith
 last_within (v ∷ ws) w [] h = absurd h
 last_within (v ∷ ws) w (s ∷ sheets) h = let rest = last_within ws w sheets h.1 in omega (arith, rest)
 
-pub last_fits : (ws : List RewritesState) (w : RewritesState) (sheets : List Sheet) (s : Sheet) → FitSheets (ws ++ w ∷ []) sheets → s ≡ get_or sheets (length ws) s → FitsPool w s.pool.formulas
+pub last_fits : (ws : List RewritesState) (w : RewritesState) (sheets : List HeldSheet) (s : HeldSheet) → FitSheets (ws ++ w ∷ []) sheets → s ≡ get_or sheets (length ws) s → FitsPool w s.pool.formulas
 last_fits [] w [] s h is = absurd h
-last_fits [] w (x ∷ sheets) s h is = subst (λ (y : Sheet). FitsPool w y.pool.formulas) (sym is) h.0
+last_fits [] w (x ∷ sheets) s h is = subst (λ (y : HeldSheet). FitsPool w y.pool.formulas) (sym is) h.0
 last_fits (v ∷ ws) w [] s h is = absurd h
 last_fits (v ∷ ws) w (x ∷ sheets) s h is = last_fits ws w sheets s h.1 is
 
-pub rest_fits : (ws : List RewritesState) (w : RewritesState) (sheets : List Sheet) (s : Sheet) → FitSheets (ws ++ w ∷ []) sheets → FitSheets ws (slice_set sheets (length ws) s)
+pub rest_fits : (ws : List RewritesState) (w : RewritesState) (sheets : List HeldSheet) (s : HeldSheet) → FitSheets (ws ++ w ∷ []) sheets → FitSheets ws (slice_set sheets (length ws) s)
 rest_fits [] w sheets s h = tt
 rest_fits (v ∷ ws) w [] s h = absurd h
 rest_fits (v ∷ ws) w (x ∷ sheets) s h = (h.0, rest_fits ws w sheets s h.1)
 
-pub rest_left : (ws : List RewritesState) (w : RewritesState) (sheets : List Sheet) (s : Sheet) → FitSheets (ws ++ w ∷ []) sheets → s ≡ get_or sheets (length ws) s
+pub rest_left : (ws : List RewritesState) (w : RewritesState) (sheets : List HeldSheet) (s : HeldSheet) → FitSheets (ws ++ w ∷ []) sheets → s ≡ get_or sheets (length ws) s
     → with_all_rewrites ws (slice_set sheets (length ws) (with_rewrites w s)) ≡ with_all_rewrites (ws ++ w ∷ []) sheets
 rest_left [] w [] s h is = absurd h
-rest_left [] w (x ∷ sheets) s h is = ap (λ (y : Sheet). with_rewrites w y ∷ sheets) is
+rest_left [] w (x ∷ sheets) s h is = ap (λ (y : HeldSheet). with_rewrites w y ∷ sheets) is
 rest_left (v ∷ ws) w [] s h is = absurd h
-rest_left (v ∷ ws) w (x ∷ sheets) s h is = ap (λ (rest : List Sheet). with_rewrites v x ∷ rest) (rest_left ws w sheets s h.1 is)
+rest_left (v ∷ ws) w (x ∷ sheets) s h is = ap (λ (rest : List HeldSheet). with_rewrites v x ∷ rest) (rest_left ws w sheets s h.1 is)
 
 -- a sheet whose pool was rewritten
-pub filled : (w : RewritesState) (s there : Sheet) (pool : PoolState) → s ≡ there → pool.formulas ≡ rewritten_by w there.pool.formulas → pool.is_whole ≡ (there.pool.is_whole && changes_nothing w)
+pub filled : (w : RewritesState) (s there : HeldSheet) (pool : PoolState) → s ≡ there → pool.formulas ≡ rewritten_by w there.pool.formulas → pool.is_whole ≡ (there.pool.is_whole && changes_nothing w)
     → record there { pool = pool } ≡ with_rewrites w s
 filled w s there pool same made whole =
-    ap₂ (λ (formulas : List Formula) (is_whole : Bool). let one : Sheet = record there { pool = record { formulas = formulas; is_whole = is_whole } } in one) made whole ∙ ap (with_rewrites w) (sym same)
+    ap₂ (λ (formulas : List Formula) (is_whole : Bool). let one : HeldSheet = record there { pool = record { formulas = formulas; is_whole = is_whole } } in one) made whole ∙ ap (with_rewrites w) (sym same)
 
 -- the last of them is taken and done
-module _ (all ws : List RewritesState) (w : RewritesState) (sheets : List Sheet) (n : ℕ) (popped : all ≡ ws ++ w ∷ []) (counted : n ≡ length ws) (fits : FitSheets all sheets) where
+module _ (all ws : List RewritesState) (w : RewritesState) (sheets : List HeldSheet) (n : ℕ) (popped : all ≡ ws ++ w ∷ []) (counted : n ≡ length ws) (fits : FitSheets all sheets) where
   abbrev AllFit : FitSheets (ws ++ w ∷ []) sheets
   AllFit = subst (λ all. FitSheets all sheets) popped fits
 
   pub taken_within : n < length sheets
   taken_within = subst (λ k. k < length sheets) (sym counted) (last_within ws w sheets AllFit)
 
-  module _ (s : Sheet) (is : s ≡ get_or sheets n s) where
+  module _ (s : HeldSheet) (is : s ≡ get_or sheets n s) where
     here : s ≡ get_or sheets (length ws) s
     here = is ∙ ap (λ k. get_or sheets k s) counted
 
     pub taken_fits : FitsPool w s.pool.formulas
     taken_fits = last_fits ws w sheets s AllFit here
 
-    pub taken_left : (t : Sheet) → t ≡ with_rewrites w s → (with_all_rewrites ws (slice_set sheets n t) ≡ with_all_rewrites all sheets) × FitSheets ws (slice_set sheets n t)
+    pub taken_left : (t : HeldSheet) → t ≡ with_rewrites w s → (with_all_rewrites ws (slice_set sheets n t) ≡ with_all_rewrites all sheets) × FitSheets ws (slice_set sheets n t)
     taken_left t done = (
       ap₂ (λ k y. with_all_rewrites ws (slice_set sheets k y)) counted done ∙ rest_left ws w sheets s AllFit here ∙ ap (λ all. with_all_rewrites all sheets) (sym popped),
       subst (λ k. FitSheets ws (slice_set sheets k t)) (sym counted) (rest_fits ws w sheets t AllFit),
@@ -160,93 +160,93 @@ module _ (all ws : List RewritesState) (w : RewritesState) (sheets : List Sheet)
 -- ---- done after a sheet got another name or went
 
 module _ (name : List ℕ) where
-  abbrev pub called : Sheet → Sheet
+  abbrev pub called : HeldSheet → HeldSheet
   called s = record s { name = name }
 
-  abbrev pub sheet_called : BookSheet → BookSheet
+  abbrev pub sheet_called : Sheet → Sheet
   sheet_called s = record s { name = name }
 
-  pub sheets_called : (index : ℕ) (sheets : List Sheet) → sheets_of (updated_at called index sheets) ≡ updated_at sheet_called index (sheets_of sheets)
+  pub sheets_called : (index : ℕ) (sheets : List HeldSheet) → sheets_of (updated_at called index sheets) ≡ updated_at sheet_called index (sheets_of sheets)
   sheets_called index [] = refl
   sheets_called zero (s ∷ sheets) = refl
-  sheets_called (suc index) (s ∷ sheets) = ap (λ (rest : List BookSheet). sheet_of s ∷ rest) (sheets_called index sheets)
+  sheets_called (suc index) (s ∷ sheets) = ap (λ (rest : List Sheet). sheet_of s ∷ rest) (sheets_called index sheets)
 
-pub fits_removed : (change : Change) (ws : List RewritesState) (sheets : List Sheet) (index : ℕ) → ArePrepared change ws sheets → FitSheets (remove ws index) (remove sheets index)
+pub fits_removed : (change : Change) (ws : List RewritesState) (sheets : List HeldSheet) (index : ℕ) → ArePrepared change ws sheets → FitSheets (remove ws index) (remove sheets index)
 fits_removed change [] sheets zero h = tt
 fits_removed change [] sheets (suc index) h = tt
 fits_removed change (w ∷ ws) [] index h = absurd h
 fits_removed change (w ∷ ws) (s ∷ sheets) zero h = prepared_fits change ws sheets h.1
 fits_removed change (w ∷ ws) (s ∷ sheets) (suc index) h = (h.0.fits, fits_removed change ws sheets index h.1)
 
-pub made_removed : (change : Change) (ws : List RewritesState) (sheets : List Sheet) (index : ℕ) → ArePrepared change ws sheets → with_all_rewrites (remove ws index) (remove sheets index) ≡ remove (with_all_rewrites ws sheets) index
+pub made_removed : (change : Change) (ws : List RewritesState) (sheets : List HeldSheet) (index : ℕ) → ArePrepared change ws sheets → with_all_rewrites (remove ws index) (remove sheets index) ≡ remove (with_all_rewrites ws sheets) index
 made_removed change [] sheets zero h = refl
 made_removed change [] sheets (suc index) h = refl
 made_removed change (w ∷ ws) [] index h = absurd h
 made_removed change (w ∷ ws) (s ∷ sheets) zero h = refl
-made_removed change (w ∷ ws) (s ∷ sheets) (suc index) h = ap (λ (rest : List Sheet). with_rewrites w s ∷ rest) (made_removed change ws sheets index h.1)
+made_removed change (w ∷ ws) (s ∷ sheets) (suc index) h = ap (λ (rest : List HeldSheet). with_rewrites w s ∷ rest) (made_removed change ws sheets index h.1)
 
 -- ---- ids and names stay
 
-pub names_rewritten : (ws : List RewritesState) (sheets : List Sheet) → names (with_all_rewrites ws sheets) ≡ names sheets
+pub names_rewritten : (ws : List RewritesState) (sheets : List HeldSheet) → names (with_all_rewrites ws sheets) ≡ names sheets
 names_rewritten [] sheets = refl
 names_rewritten (w ∷ ws) [] = refl
 names_rewritten (w ∷ ws) (s ∷ sheets) = ap (λ (rest : List (List ℕ)). s.name ∷ rest) (names_rewritten ws sheets)
 
-pub ids_rewritten : (ws : List RewritesState) (sheets : List Sheet) → ids (with_all_rewrites ws sheets) ≡ ids sheets
+pub ids_rewritten : (ws : List RewritesState) (sheets : List HeldSheet) → ids (with_all_rewrites ws sheets) ≡ ids sheets
 ids_rewritten [] sheets = refl
 ids_rewritten (w ∷ ws) [] = refl
 ids_rewritten (w ∷ ws) (s ∷ sheets) = ap (λ (rest : List ℕ). s.id ∷ rest) (ids_rewritten ws sheets)
 
-pub length_rewritten : (ws : List RewritesState) (sheets : List Sheet) → length (with_all_rewrites ws sheets) ≡ length sheets
+pub length_rewritten : (ws : List RewritesState) (sheets : List HeldSheet) → length (with_all_rewrites ws sheets) ≡ length sheets
 length_rewritten [] sheets = refl
 length_rewritten (w ∷ ws) [] = refl
 length_rewritten (w ∷ ws) (s ∷ sheets) = ap suc (length_rewritten ws sheets)
 
 -- a vector whose elements were rewritten through a slice
-pub written_back : (n : ℕ) (ws : List RewritesState) (old now new : List Sheet) → new ≡ with_all_rewrites ws now → now ≡ old → n ≡ length old → take n (new ++ drop (length new) old) ≡ with_all_rewrites ws old
+pub written_back : (n : ℕ) (ws : List RewritesState) (old now new : List HeldSheet) → new ≡ with_all_rewrites ws now → now ≡ old → n ≡ length old → take n (new ++ drop (length new) old) ≡ with_all_rewrites ws old
 written_back n ws old now new made same counted =
     let is : new ≡ with_all_rewrites ws old = made ∙ ap (with_all_rewrites ws) same in
     ap (λ k. take k (new ++ drop (length new) old)) (counted ∙ sym (ap length is ∙ length_rewritten ws old)) ∙ take_at new (drop (length new) old) (length new) refl ∙ is
 
 -- ---- whole changes
 
-pub sheet_there : (sheets : List Sheet) (index : ℕ) → index < length sheets → (s : Sheet) × (slice_get sheets index ≡ Some s)
+pub sheet_there : (sheets : List HeldSheet) (index : ℕ) → index < length sheets → (s : HeldSheet) × (slice_get sheets index ≡ Some s)
 sheet_there [] index lt = absurd (omega arith)
 sheet_there (s ∷ sheets) zero lt = (s, refl)
 sheet_there (s ∷ sheets) (suc index) lt = sheet_there sheets index (omega arith)
 
-pub deleted_made : (change : Change) (ws rest : List RewritesState) (old between new : List Sheet) (index : ℕ) → ArePrepared change ws old → rest ≡ remove ws index → between ≡ remove old index → new ≡ with_all_rewrites rest between
+pub deleted_made : (change : Change) (ws rest : List RewritesState) (old between new : List HeldSheet) (index : ℕ) → ArePrepared change ws old → rest ≡ remove ws index → between ≡ remove old index → new ≡ with_all_rewrites rest between
     → sheets_of new ≡ remove (map (changed_pool change) (sheets_of old)) index
 deleted_made change ws rest old between new index prepared taken removed done =
     ap sheets_of (done ∙ ap₂ with_all_rewrites taken removed ∙ made_removed change ws old index prepared) ∙ removed_seen sheet_of (with_all_rewrites ws old) index
     ∙ ap (λ xs. remove xs index) (prepared_makes change ws old prepared).made
 
-pub deleted_looks_up : (change : Change) (ws rest : List RewritesState) (old between new : List Sheet) (index : ℕ) → ArePrepared change ws old → rest ≡ remove ws index → between ≡ remove old index → new ≡ with_all_rewrites rest between
+pub deleted_looks_up : (change : Change) (ws rest : List RewritesState) (old between new : List HeldSheet) (index : ℕ) → ArePrepared change ws old → rest ≡ remove ws index → between ≡ remove old index → new ≡ with_all_rewrites rest between
     → look_ups new ≡ remove (map (looks_up_after change) old) index
 deleted_looks_up change ws rest old between new index prepared taken removed done =
-    ap look_ups (done ∙ ap₂ with_all_rewrites taken removed ∙ made_removed change ws old index prepared) ∙ removed_seen (λ (x : Sheet). x.pool.is_whole) (with_all_rewrites ws old) index
+    ap look_ups (done ∙ ap₂ with_all_rewrites taken removed ∙ made_removed change ws old index prepared) ∙ removed_seen (λ (x : HeldSheet). x.pool.is_whole) (with_all_rewrites ws old) index
     ∙ ap (λ xs. remove xs index) (prepared_makes change ws old prepared).looks_up
 
-same_some : (s sheet : Sheet) → Some s ≡ Some sheet → s ≡ sheet
+same_some : (s sheet : HeldSheet) → Some s ≡ Some sheet → s ≡ sheet
 same_some s sheet e = cc
 
 -- the sheet that was read at a place is the one there
-pub read_there : (sheets : List Sheet) (index : ℕ) (s sheet : Sheet) → index < length sheets → s ≡ get_or sheets index s → slice_get sheets index ≡ Some sheet → s ≡ sheet
+pub read_there : (sheets : List HeldSheet) (index : ℕ) (s sheet : HeldSheet) → index < length sheets → s ≡ get_or sheets index s → slice_get sheets index ≡ Some sheet → s ≡ sheet
 read_there sheets index s sheet lt read at = same_some s sheet (sym (slice_get_read sheets (length sheets) index s refl lt read) ∙ at)
 
 -- a sheet that is changed in place
-pub rewritten_there : (w : RewritesState) (s : Sheet) (pool : PoolState) (index : ℕ) (sheets : List Sheet) → s ≡ get_or sheets index s → pool.formulas ≡ rewritten_by w s.pool.formulas → pool.is_whole ≡ (s.pool.is_whole && changes_nothing w)
+pub rewritten_there : (w : RewritesState) (s : HeldSheet) (pool : PoolState) (index : ℕ) (sheets : List HeldSheet) → s ≡ get_or sheets index s → pool.formulas ≡ rewritten_by w s.pool.formulas → pool.is_whole ≡ (s.pool.is_whole && changes_nothing w)
     → slice_set sheets index (record s { pool = pool }) ≡ updated_at (with_rewrites w) index sheets
 rewritten_there w s pool index sheets read made whole =
     ap (slice_set sheets index) (filled w s s pool refl made whole) ∙ set_there index sheets read
   where
-    set_there : (i : ℕ) (xs : List Sheet) → s ≡ get_or xs i s → slice_set xs i (with_rewrites w s) ≡ updated_at (with_rewrites w) i xs
+    set_there : (i : ℕ) (xs : List HeldSheet) → s ≡ get_or xs i s → slice_set xs i (with_rewrites w s) ≡ updated_at (with_rewrites w) i xs
     set_there i [] e = refl
-    set_there zero (x ∷ xs) e = ap (λ (y : Sheet). with_rewrites w y ∷ xs) e
-    set_there (suc i) (x ∷ xs) e = ap (λ (rest : List Sheet). x ∷ rest) (set_there i xs e)
+    set_there zero (x ∷ xs) e = ap (λ (y : HeldSheet). with_rewrites w y ∷ xs) e
+    set_there (suc i) (x ∷ xs) e = ap (λ (rest : List HeldSheet). x ∷ rest) (set_there i xs e)
 
-pub names_there : (w : RewritesState) (index : ℕ) (sheets : List Sheet) → names (updated_at (with_rewrites w) index sheets) ≡ names sheets
-names_there w index sheets = updated_unseen (λ (s : Sheet). s.name) (with_rewrites w) (λ s. refl) index sheets
+pub names_there : (w : RewritesState) (index : ℕ) (sheets : List HeldSheet) → names (updated_at (with_rewrites w) index sheets) ≡ names sheets
+names_there w index sheets = updated_unseen (λ (s : HeldSheet). s.name) (with_rewrites w) (λ s. refl) index sheets
 
-pub ids_there : (w : RewritesState) (index : ℕ) (sheets : List Sheet) → ids (updated_at (with_rewrites w) index sheets) ≡ ids sheets
-ids_there w index sheets = updated_unseen (λ (s : Sheet). s.id) (with_rewrites w) (λ s. refl) index sheets
+pub ids_there : (w : RewritesState) (index : ℕ) (sheets : List HeldSheet) → ids (updated_at (with_rewrites w) index sheets) ≡ ids sheets
+ids_there w index sheets = updated_unseen (λ (s : HeldSheet). s.id) (with_rewrites w) (λ s. refl) index sheets

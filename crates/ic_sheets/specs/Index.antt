@@ -7,7 +7,7 @@ use Rattle.std.specs.declared.alloc.Global.{Global}
 use Rattle.ic_laws.specs.Greatest.{greatest}
 use Rattle.ic_laws.specs.Name.{agrees}
 use Rattle.ic_pool.specs.Pool.{dangling_places}
-use Rattle.ic_sheets.specs.Search.{id_of, place_of}
+use Rattle.ic_sheets.specs.Search.{id_of, index_with_id}
 use Rattle.ic_sheets.specs.declared.sheet.Sheet.{Sheet}
 
 -- at each key the look-up has the id of the first sheet whose folded name is that key, and no two names agree
@@ -15,21 +15,21 @@ pub record IsIndexed (ids : BTreeMap (String Global) ℕ) (sheets : List Sheet) 
   pub finds : (key : List ℕ) → get_by_text ids (encode_utf8_all key) ≡ id_of key sheets
   pub differ : IsDistinct agrees (map (λ s. s.name) sheets)
 
--- at each id the look-up has the place of the sheet with that id
-pub record ArePlaced (places : BTreeMap ℕ ℕ) (sheets : List Sheet) : Type 0 where
-  pub finds : (id : ℕ) → get nat_cmp places id ≡ place_of id sheets
+-- at each id the look-up has the index of the sheet with that id
+pub record AreAtIndexes (indexes : BTreeMap ℕ ℕ) (sheets : List Sheet) : Type 0 where
+  pub finds : (id : ℕ) → get nat_cmp indexes id ≡ index_with_id id sheets
 
--- a place, lowered by one where it is past this one
+-- an index, lowered by one where it is past this one
 abbrev pub lowered : ℕ → ℕ → ℕ
 lowered index place = if nat_lt index place then place - 1 else place
 
--- a place, raised by one unless it is before this one
+-- an index, raised by one unless it is before this one
 abbrev pub raised : ℕ → ℕ → ℕ
 raised index place = if nat_lt place index then place else place + 1
 
--- where the sheet at a place stands after the one at the first place was put to the second
-abbrev pub moved_place : ℕ → ℕ → ℕ → ℕ
-moved_place from to place = if nat_eq place from then to else raised to (lowered from place)
+-- where the sheet at an index stands after the one at the first index was put to the second
+abbrev pub moved_index : ℕ → ℕ → ℕ → ℕ
+moved_index from to place = if nat_eq place from then to else raised to (lowered from place)
 
 -- some formula of a sheet mentions something that wasn't found
 abbrev pub dangles : Sheet → Bool

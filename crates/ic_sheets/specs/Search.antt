@@ -8,7 +8,7 @@ abbrev pub id_of : List ℕ → List Sheet → Option ℕ
 id_of key [] = None
 id_of key (s ∷ sheets) = if bytes_eq key (fold s.name) then Some s.id else id_of key sheets
 
--- the place of the first sheet with this id, from 0
-abbrev pub place_of : ℕ → List Sheet → Option ℕ
-place_of id [] = None
-place_of id (s ∷ sheets) = if nat_eq s.id id then Some 0 else option_map suc (place_of id sheets)
+-- the index of the first sheet with this id, from 0
+abbrev pub index_with_id : ℕ → List Sheet → Option ℕ
+index_with_id id [] = None
+index_with_id id (s ∷ sheets) = if nat_eq s.id id then Some 0 else option_map suc (index_with_id id sheets)

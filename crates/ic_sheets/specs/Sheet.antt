@@ -14,7 +14,7 @@ use Rattle.ic_laws.specs.ValidCore.{IsPooled}
 use Rattle.ic_laws.specs.declared.scene.Scene.{Scene}
 use Rattle.ic_laws.specs.declared.tree.Formula.{Formula}
 use Rattle.ic_laws.specs.declared.tree.Formula.TheVariants as formulas
-use Rattle.ic_cells.specs.Cell.{formula_of}
+use Rattle.ic_cells.specs.Cell.{cell_formula_index}
 use Rattle.ic_cells.specs.declared.cell.ArrayKind.TheVariants as arrays
 use Rattle.ic_cells.specs.declared.cell.Cell.{Cell}
 use Rattle.ic_cells.specs.declared.cell.Cell.TheVariants as cells
@@ -30,7 +30,7 @@ use Rattle.ic_grid.specs.declared.grid.Grid.{Grid}
 use Rattle.ic_pool.specs.Pool.{IsPlaced}
 use Rattle.ic_sheets.specs.declared.sheet.FormulaKind.{FormulaKind}
 use Rattle.ic_sheets.specs.declared.sheet.FormulaKind.TheVariants as kinds
-use Rattle.ic_sheets.specs.declared.sheet.Sheet.{Sheet}
+use Rattle.ic_sheets.specs.declared.sheet.Sheet.{Sheet as HeldSheet}
 use Rattle.ic_sheets.specs.declared.tab.Tab.{Tab}
 
 -- a sheet that is seen, whose tab has no color, where nothing stays in sight and lines part the cells
@@ -38,7 +38,7 @@ abbrev pub plain_tab : Tab
 plain_tab = record { state = states.Visible; color = colors.None; frozen_rows = pos 0; frozen_columns = pos 0; shows_grid_lines = true }
 
 -- a sheet's id and name, its formulas in their places, its cells with its rows, columns and merged cells, and its tab
-pub record BookSheet : Type 0 where
+pub record Sheet : Type 0 where
   pub id : ℕ
   pub name : List ℕ
   pub pool : List Formula
@@ -46,14 +46,14 @@ pub record BookSheet : Type 0 where
   pub tab : Tab
 
 -- a sheet without what it keeps to find formulas by
-abbrev pub sheet_of : Sheet → BookSheet
+abbrev pub sheet_of : HeldSheet → Sheet
 sheet_of sheet = record { id = sheet.id; name = sheet.name; pool = sheet.pool.formulas; grid = sheet.grid; tab = sheet.tab }
 
 -- no cells and no merged cells, and nothing is set for a row or a column
 abbrev pub empty_grid : Grid
 empty_grid = record { cells = finite.empty; rows = finite.empty; columns = finite.empty; merged_cells = [] }
 
--- the cell of a formula without a value, by its place and the number of a style; one that may spill is an array of one cell
+-- the cell of a formula without a value, by its index and the number of a style; one that may spill is an array of one cell
 abbrev pub formula_cell : FormulaKind → ℕ → ℕ → Cell
 formula_cell kinds.Single at style = cells.CellFormula at style fvalues.Unevaluated
 formula_cell kinds.Dynamic at style = cells.ArrayFormula at style (pos 1, pos 1) arrays.Dynamic fvalues.Unevaluated
@@ -69,67 +69,67 @@ pub record TakesCell (place : CellPlace) (grid : Grid) : Type 0 where
   pub free : can_write celled grid.merged_cells grid.cells place ≡ Ok tt
 
 -- the formulas of the sheet at an index, from 0, in their places; none past the end
-abbrev pub pool_at : List Sheet → ℕ → List Formula
+abbrev pub pool_at : List HeldSheet → ℕ → List Formula
 pool_at sheets index = unwrap_or (option_map (λ s. s.pool.formulas) (slice_get sheets index)) []
 
 -- A cell of a sheet has got a formula, which has got its place among those that the sheet keeps.
-abbrev pub IsWritten : Formula → FormulaKind → ℕ → CellPlace → Sheet → Sheet → Type 0
+abbrev pub IsWritten : Formula → FormulaKind → ℕ → CellPlace → HeldSheet → HeldSheet → Type 0
 IsWritten formula kind style cell before after =
     (place : ℕ) × IsPlaced formula place before.pool.formulas after.pool.formulas
     × (after ≡ record before { pool = record { formulas = after.pool.formulas; is_whole = true }; grid = with_cell_in cell (formula_cell kind place style) before.grid })
 
 -- a sheet whose look-up has all of its formulas
-abbrev pub looking_up : Sheet → Sheet
+abbrev pub looking_up : HeldSheet → HeldSheet
 looking_up sheet = record sheet { pool = record sheet.pool { is_whole = true } }
 
 -- A sheet is as it was, but that its look-up may have all of its formulas now.
-abbrev pub IsSameOrLooksUp : Sheet → Sheet → Type 0
+abbrev pub IsSameOrLooksUp : HeldSheet → HeldSheet → Type 0
 IsSameOrLooksUp before after = (after ≡ before) ⊎ (after ≡ looking_up before)
 
 -- Sheets are as they were, but that the look-up of the one at this index, from 0, may have all of its formulas now.
-abbrev pub AreSameOrLookUp : ℕ → List Sheet → List Sheet → Type 0
+abbrev pub AreSameOrLookUp : ℕ → List HeldSheet → List HeldSheet → Type 0
 AreSameOrLookUp index before after = (after ≡ before) ⊎ (after ≡ updated_at looking_up index before)
 
--- the formula at a place; past the end, an empty text
+-- the formula at an index; past the end, an empty text
 abbrev pub formula_in : List Formula → ℕ → Formula
 formula_in pool at = unwrap_or (slice_get pool at) (formulas.Raw [])
 
 -- each cell that has a formula, with it
 abbrev pub cell_of : List Formula → CellPlace × Cell → Cells
-cell_of pool entry = option_to_list (option_map (λ at. (entry.0, formula_in pool at)) (formula_of entry.1))
+cell_of pool entry = option_to_list (option_map (λ at. (entry.0, formula_in pool at)) (cell_formula_index entry.1))
 
 abbrev pub cells_of : List Formula → List (CellPlace × Cell) → Cells
 cells_of pool entries = flat_map (cell_of pool) entries
 
 -- the sheet as a book's core has it
-abbrev pub sheet_core : BookSheet → core.Sheet
+abbrev pub sheet_core : Sheet → core.Sheet
 sheet_core sheet = record { id = sheet.id; name = sheet.name; cells = cells_of sheet.pool (finite.entries sheet.grid.cells) }
 
 -- the formula of each cell is one of so many
-abbrev pub HasPlaces : ℕ → Grid → Type 0
-HasPlaces count grid = (place : CellPlace) (cell : Cell) (at : ℕ) → finite.get grid.cells place ≡ Some cell → formula_of cell ≡ Some at → at < count
+abbrev pub HasIndexes : ℕ → Grid → Type 0
+HasIndexes count grid = (place : CellPlace) (cell : Cell) (at : ℕ) → finite.get grid.cells place ≡ Some cell → cell_formula_index cell ≡ Some at → at < count
 
 -- What holds of each formula that a sheet keeps, whether a cell has it or none; and each cell has one of them, or none.
-pub record IsValidPool (n : Notations) (scene : Scene) (sheet : BookSheet) : Type 0 where
+pub record IsValidPool (n : Notations) (scene : Scene) (sheet : Sheet) : Type 0 where
   pub formulas : AllByRecursion (IsPooled n scene (Some sheet.id)) sheet.pool
-  pub places : HasPlaces (length sheet.pool) sheet.grid
+  pub indexes : HasIndexes (length sheet.pool) sheet.grid
 
 -- a sheet with each formula kept over a change of its book
-abbrev pub kept_pool : Notations → Scene → Scene → BookSheet → BookSheet
+abbrev pub kept_pool : Notations → Scene → Scene → Sheet → Sheet
 kept_pool n before after sheet = record sheet { pool = map (kept_formula (english_function n) before after same_keys (Some sheet.id)) sheet.pool }
 
 -- A change was called with the tab of the sheet at an index, from 0, answered this and left another there; all else is as
 -- it was.
-pub record ChangesTab {F T : Type 0} (calls : Once F (MutBor Tab × Unit {0}) (T × (MutBor Tab × Unit {0}))) (change : F) (index : ℕ) (result : T) (old new : List Sheet) : Type 0 where
-  pub sheet : Sheet
+pub record ChangesTab {F T : Type 0} (calls : Once F (MutBor Tab × Unit {0}) (T × (MutBor Tab × Unit {0}))) (change : F) (index : ℕ) (result : T) (old new : List HeldSheet) : Type 0 where
+  pub sheet : HeldSheet
   pub after : Tab
   pub there : slice_get old index ≡ Some sheet
   pub called : FnOnceReturnsAtMut calls change sheet.tab result after
   pub becomes : new ≡ updated_at (λ s. record s { tab = after }) index old
 
 -- the same of its cells with its rows and columns
-pub record ChangesGrid {F T : Type 0} (calls : Once F (MutBor Grid × Unit {0}) (T × (MutBor Grid × Unit {0}))) (change : F) (index : ℕ) (result : T) (old new : List Sheet) : Type 0 where
-  pub sheet : Sheet
+pub record ChangesGrid {F T : Type 0} (calls : Once F (MutBor Grid × Unit {0}) (T × (MutBor Grid × Unit {0}))) (change : F) (index : ℕ) (result : T) (old new : List HeldSheet) : Type 0 where
+  pub sheet : HeldSheet
   pub after : Grid
   pub there : slice_get old index ≡ Some sheet
   pub called : FnOnceReturnsAtMut calls change sheet.grid result after

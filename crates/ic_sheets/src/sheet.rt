@@ -45,7 +45,7 @@ pub enum FormulaKind {
     Dynamic,
 }
 
-/// The cell of a formula that has no value yet: the formula at a place, from 0, in the style of a number.
+/// The cell of a formula that has no value yet: the formula at an index, from 0, in the style of a number.
 fn formula_cell(kind: FormulaKind, f: usize, s: usize) -> Cell
     ensures { result ≡ formula_cell kind f s }
 {
@@ -154,7 +154,7 @@ impl Sheet {
         }
     }
 
-    /// The place, from 0, of an equal formula among those that the sheet keeps; where there is none, a copy gets one. What
+    /// The index, from 0, of an equal formula among those that the sheet keeps; where there is none, a copy gets one. What
     /// formulas are found by is made first, in as many steps as there are formulas, or in none where it is there.
     /// `OutOfMemory` changes nothing but that.
     pub fn place_copy<L: Ledger>(

@@ -27,8 +27,8 @@ pub struct Sheets {
     list: Vec<Sheet>,
     /// The id of each sheet, by its folded name.
     ids: BTreeMap<String, u32>,
-    /// The place of each sheet, from 0, by its id.
-    places: BTreeMap<u32, usize>,
+    /// The index of each sheet, from 0, by its id.
+    indexes: BTreeMap<u32, usize>,
     /// The greatest id of a sheet, 0 where there is none.
     greatest: u32,
     /// The ids of the sheets in which something dangles, each once, with room for those of all sheets.
@@ -41,14 +41,14 @@ impl Drop for Sheets {
             alloc,
             list,
             ids,
-            places,
+            indexes,
             greatest: _,
             dangling,
         } = self;
         drop(alloc);
         drop(list);
         drop(ids);
-        drop(places);
+        drop(indexes);
         drop(dangling);
     }
 }
@@ -56,7 +56,7 @@ impl Drop for Sheets {
 impl Model for Sheets {
     ghost use Rattle.std.specs.Prelude.{◌≤◌, List, length, vec_capacity};
     ghost use Rattle.std.specs.Coded.{codes};
-    ghost use Rattle.ic_sheets.specs.Index.{AreDangling, AreKept, ArePlaced};
+    ghost use Rattle.ic_sheets.specs.Index.{AreAtIndexes, AreDangling, AreKept};
     ghost use Rattle.ic_sheets.specs.contracts.sheet.Sheet as sheet;
     ghost use Rattle.ic_sheets.specs.declared.sheet.Sheet.{Sheet};
 
@@ -66,7 +66,7 @@ impl Model for Sheets {
 
     ghost view = { λ s. s.list.items };
 
-    ghost invariant = { λ s. AreKept s.ids s.greatest s.list.items × ArePlaced s.places s.list.items
+    ghost invariant = { λ s. AreKept s.ids s.greatest s.list.items × AreAtIndexes s.indexes s.list.items
         × AreDangling s.dangling.items s.list.items
         × (length s.list.items ≤ vec_capacity s.dangling) };
 }
@@ -89,14 +89,14 @@ fn first_named(sheets: &[Sheet], name: &str) -> Option<u32>
     Some(sheet.id)
 }
 
-/// What a look-up of places has at an id.
-fn place_in(places: &BTreeMap<u32, usize>, id: u32) -> Option<usize>
-    ensures { result ≡ get nat_cmp places.now id }
+/// What a look-up of indexes has at an id.
+fn index_in(indexes: &BTreeMap<u32, usize>, id: u32) -> Option<usize>
+    ensures { result ≡ get nat_cmp indexes.now id }
 {
-    places.get(&id).copied()
+    indexes.get(&id).copied()
 }
 
-/// The sheet at a place, from 0. None past the end.
+/// The sheet at an index, from 0. None past the end.
 fn sheet_at(sheets: &[Sheet], index: usize) -> Option<&Sheet>
     ensures { option_map (λ s. s.now) result ≡ slice_get sheets.now index }
 {
@@ -112,7 +112,7 @@ impl Sheets {
             alloc,
             list: Vec::new(alloc),
             ids: BTreeMap::new(alloc),
-            places: BTreeMap::new(alloc),
+            indexes: BTreeMap::new(alloc),
             greatest: 0,
             dangling: Vec::new(alloc),
         }
@@ -160,19 +160,19 @@ impl Sheets {
         self.ids.get(key).copied()
     }
 
-    /// The place of the sheet with this id, from 0. None exactly where no sheet has it.
+    /// The index of the sheet with this id, from 0. None exactly where no sheet has it.
     pub fn index_of_id(&self, id: u32) -> Option<usize>
         ensures { result ≡ position (λ s. nat_eq s.id id) self.now }
     {
-        place_in(&self.places, id)
+        index_in(&self.indexes, id)
     }
 
-    /// The place of the sheet whose name agrees with this one, from 0. None exactly where there is none.
+    /// The index of the sheet whose name agrees with this one, from 0. None exactly where there is none.
     pub fn index_of_name(&self, name: &str) -> Option<usize>
         ensures { result ≡ position (λ s. agrees s.name (chars name.now)) self.now }
     {
         let id = self.find(name)?;
-        place_in(&self.places, id)
+        index_in(&self.indexes, id)
     }
 
     /// The name of the sheet with this id. None exactly where no sheet has it.
@@ -200,7 +200,7 @@ impl Sheets {
         self.find(name).is_some()
     }
 
-    /// Whether the name of a sheet agrees with this one, other than the sheet at this place, from 0. Past the end no sheet
+    /// Whether the name of a sheet agrees with this one, other than the sheet at this index, from 0. Past the end no sheet
     /// is left out.
     pub fn is_taken_by_other(&self, index: usize, name: &str) -> bool
         ensures { result ≡ list_any (agrees (chars name.now)) (remove (map (λ s. s.name) self.now) index) }

@@ -1,6 +1,6 @@
 //! What calls answer, as the fields of replies.
 ghost use Rattle.std.specs.Prelude.{◌≡◌, ◌++◌, Bool, List, OnErr, OnOk, chars, false, flat_map, string_bytes, true};
-ghost use Rattle.ic_machine.specs.Fields.{fields_of_name, fields_of_sheet, names_fields, no_fields, scope_field};
+ghost use Rattle.ic_machine.specs.Fields.{definitions_fields, fields_of_definition, fields_of_sheet, no_fields, scope_field};
 ghost use Rattle.ic_machine.specs.Fields.{sheets_fields, string_field, string_only, theme_field};
 ghost use Rattle.ic_machine.specs.Reply.{Field, bool_field, field_word, number_field, position_field};
 ghost use Rattle.ic_machine.specs.Styling.{color_text};
@@ -128,23 +128,23 @@ impl Fields for Theme {
 /// Definitions, with three fields for each in this order: its name, the index from 0 of the sheet that it is for, or `-`
 /// where that is the whole book, and its body.
 impl Fields for Vec<(String, Option<u32>, String)> {
-    ghost fields = { names_fields };
+    ghost fields = { definitions_fields };
 
     ghost memory = { true };
 
     fn write(&self, reply: &mut String) -> Result<(), OutOfMemory> {
         for listed in self {
-            push_name(reply, listed)?;
+            push_definition(reply, listed)?;
         }
         Ok(())
     }
 }
 
 /// Appends the three fields of a listed definition.
-fn push_name(reply: &mut String, listed: &(String, Option<u32>, String)) -> Result<(), OutOfMemory>
+fn push_definition(reply: &mut String, listed: &(String, Option<u32>, String)) -> Result<(), OutOfMemory>
     ensures ok { OnOk result (chars (string_bytes reply.new) ≡ chars (string_bytes reply.old)
-        ++ flat_map field_word (fields_of_name listed.now)) }
-    ensures texts { OnOk result (AreTexts (fields_of_name listed.now)) }
+        ++ flat_map field_word (fields_of_definition listed.now)) }
+    ensures texts { OnOk result (AreTexts (fields_of_definition listed.now)) }
 {
     push_field(reply, listed.0.as_str())?;
     push_number(reply, listed.1)?;

@@ -32,7 +32,7 @@ pub fn position_of(word: &str) -> Option<i32>
 
 /// The scope that a word says: `-` for the whole book, which is the inner None, else the index of a sheet from 0, as
 /// `index_of` reads it. None for any other word.
-pub fn scope_of(word: &str) -> Option<Option<u32>>
+pub fn scope_said(word: &str) -> Option<Option<u32>>
     ensures exact { result ≡ scope_said (chars word.now) }
 
     // No escape stands for a digit or a minus, so it is the same to read what the word spells.

@@ -6,7 +6,7 @@ ghost use Rattle.ic_machine.specs.Word.{Said, WordForm};
 ghost use Rattle.ic_words.specs.Words.{HasEscape, color_meant, word_said};
 
 use crate::choices::{bool_in, flag_in, state_in};
-use crate::numbers::{index_of, position_of, scope_of};
+use crate::numbers::{index_of, position_of, scope_said};
 use crate::text::{WordText, text_of};
 use ic_cells::SheetState;
 use ic_input::read_amount;
@@ -62,7 +62,7 @@ impl<'l> Word<'l> for Option<u32> {
     ghost says = { λ scope. scope };
 
     fn of(_: Global, word: &'l str) -> Result<Option<Option<u32>>, OutOfMemory> {
-        Ok(scope_of(word))
+        Ok(scope_said(word))
     }
 }
 

@@ -56,7 +56,7 @@ pub fn put_late<L: Ledger>(
     Ok(())
 }
 
-/// Puts the formula at a place, from 0, into a look-up, where no equal one is found at a place before; past the end there
+/// Puts the formula at an index, from 0, into a look-up, where no equal one is found at a place before; past the end there
 /// is none.
 fn put_place(
     alloc: Global,
@@ -78,7 +78,7 @@ fn put_place(
     Ok(())
 }
 
-/// The formula at a place, from 0. None past the end.
+/// The formula at an index, from 0. None past the end.
 fn formula_in(formulas: &[Formula], at: usize) -> Option<&Formula>
     ensures { option_map (λ f. f.now) result ≡ slice_get formulas.now at }
 {

@@ -1,9 +1,9 @@
 //! Which sheets have formulas that mention something that wasn't found, told by their ids.
 ghost use Rattle.std.specs.Prelude.{◌≡◌, ◌<◌, ◌≤◌, ℕ, false, filter, find, length, map, nat_eq, not, option_map, vec_capacity, vec_len, if◌then◌else◌};
 ghost use Rattle.std.specs.List.{IsDistinct};
-ghost use Rattle.ic_sheets.specs.Index.{ArePlaced, dangles, dangles_at, dangling_ids, is_listed};
+ghost use Rattle.ic_sheets.specs.Index.{AreAtIndexes, dangles, dangles_at, dangling_ids, is_listed};
 
-use super::{place_in, sheet_at};
+use super::{index_in, sheet_at};
 use crate::Sheet;
 use std::collections::BTreeMap;
 
@@ -55,21 +55,21 @@ pub fn note_dangling(ids: &mut Vec<u32>, sheets: &[Sheet])
 }
 
 /// Leaves those of the ids alone whose sheet has something that dangles.
-pub fn keep_dangling(ids: &mut Vec<u32>, sheets: &[Sheet], places: &BTreeMap<u32, usize>)
-    requires placed { ArePlaced places.now sheets.now }
+pub fn keep_dangling(ids: &mut Vec<u32>, sheets: &[Sheet], indexes: &BTreeMap<u32, usize>)
+    requires placed { AreAtIndexes indexes.now sheets.now }
     requires differ { IsDistinct nat_eq (map (λ s. s.id) sheets.now) }
     ensures ids { ids.new.items ≡ filter (λ id. dangles_at id sheets.now) ids.old.items }
     ensures capacity { vec_capacity ids.new ≡ vec_capacity ids.old }
 {
-    ids.retain(|id| dangles_with(sheets, places, *id));
+    ids.retain(|id| dangles_with(sheets, indexes, *id));
 }
 
 /// Whether something dangles in the sheet with this id.
-fn dangles_with(sheets: &[Sheet], places: &BTreeMap<u32, usize>, id: u32) -> bool
-    ensures { ArePlaced places.now sheets.now → IsDistinct nat_eq (map (λ s. s.id) sheets.now)
+fn dangles_with(sheets: &[Sheet], indexes: &BTreeMap<u32, usize>, id: u32) -> bool
+    ensures { AreAtIndexes indexes.now sheets.now → IsDistinct nat_eq (map (λ s. s.id) sheets.now)
         → result ≡ dangles_at id sheets.now }
 {
-    match sheet_with(sheets, places, id) {
+    match sheet_with(sheets, indexes, id) {
         Some(sheet) => dangles(sheet),
         None => false,
     }
@@ -78,13 +78,13 @@ fn dangles_with(sheets: &[Sheet], places: &BTreeMap<u32, usize>, id: u32) -> boo
 /// The sheet with this id.
 pub fn sheet_with<'s>(
     sheets: &'s [Sheet],
-    places: &BTreeMap<u32, usize>,
+    indexes: &BTreeMap<u32, usize>,
     id: u32,
 ) -> Option<&'s Sheet>
-    ensures { ArePlaced places.now sheets.now
+    ensures { AreAtIndexes indexes.now sheets.now
         → option_map (λ s. s.now) result ≡ find (λ s. nat_eq s.id id) sheets.now }
 {
-    match place_in(places, id) {
+    match index_in(indexes, id) {
         Some(index) => sheet_at(sheets, index),
         None => None,
     }

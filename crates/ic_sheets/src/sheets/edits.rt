@@ -1,4 +1,4 @@
-//! Sheets come, go, get other names and stand at other places.
+//! Sheets come, go, get other names and stand at other indexes.
 ghost use Rattle.std.specs.Prelude.{◌≡◌, ◌<◌, ◌++◌, ℕ, List, [], ◌∷◌, Some, None, OnOk, OnErr, bytes_eq, chars, cond, false, true, length, map, option_map, remove, string_bytes};
 ghost use Rattle.std.specs.BTreeMap.{get, get_by_text};
 ghost use Rattle.std.specs.List.{list_any};
@@ -6,7 +6,7 @@ ghost use Rattle.std.specs.Ordering.{nat_cmp};
 ghost use Rattle.ic_laws.specs.CoreStep.{moved, updated_at};
 ghost use Rattle.ic_laws.specs.Greatest.{greatest};
 ghost use Rattle.ic_laws.specs.Name.{agrees};
-ghost use Rattle.ic_sheets.specs.Index.{lowered, moved_place};
+ghost use Rattle.ic_sheets.specs.Index.{lowered, moved_index};
 ghost use Rattle.ic_sheets.specs.Sheet.{empty_grid, plain_tab};
 
 use super::dangling::{dangles, settle};
@@ -18,7 +18,7 @@ use std::collections::BTreeMap;
 impl Sheets {
     /// Adds a sheet at the end, which keeps no formulas, and leaves the formulas of the others: a new book begins with it.
     /// `OutOfMemory` changes nothing.
-    pub fn push(&mut self, id: u32, name: &str) -> Result<(), OutOfMemory>
+    pub fn add_leaving_formulas(&mut self, id: u32, name: &str) -> Result<(), OutOfMemory>
         requires free { list_any (agrees (chars name.now)) (map (λ s. s.name) self.old) ≡ false }
         requires fresh { greatest (map (λ s. s.id) self.old) < id }
         ensures ok { OnOk result (self.new ≡ self.old ++ record { id = id; name = chars name.now; pool = record { formulas = []; is_whole = true }; grid = empty_grid; tab = plain_tab } ∷ []) }
@@ -29,7 +29,7 @@ impl Sheets {
         self.list.reserve(1)?;
         let place = self.list.len();
         self.dangling.reserve(place + 1)?;
-        self.places.insert(id, place)?;
+        self.indexes.insert(id, place)?;
         match put_id(&mut self.ids, key, id) {
             Ok(()) => {
                 self.list.push_reserved(Sheet::new(self.alloc, id, name));
@@ -37,14 +37,14 @@ impl Sheets {
                 Ok(())
             }
             Err(error) => {
-                self.places.remove(&id);
+                self.indexes.remove(&id);
                 Err(error)
             }
         }
     }
 
-    /// Gives the sheet at a place, from 0, another name, and leaves all formulas. `OutOfMemory` changes nothing.
-    pub(crate) fn rename(&mut self, index: usize, name: &str) -> Result<(), OutOfMemory>
+    /// Gives the sheet at an index, from 0, another name, and leaves all formulas. `OutOfMemory` changes nothing.
+    pub(crate) fn rename_leaving_formulas(&mut self, index: usize, name: &str) -> Result<(), OutOfMemory>
         requires within { index < length self.old }
         requires free { list_any (agrees (chars name.now)) (remove (map (λ s. s.name) self.old) index) ≡ false }
         ensures ok { OnOk result (self.new ≡ updated_at (λ s. record s { name = chars name.now }) index self.old) }
@@ -61,8 +61,8 @@ impl Sheets {
         Ok(())
     }
 
-    /// Takes the sheet at a place away, from 0, and leaves the formulas of the others. `OutOfMemory` changes nothing.
-    pub(crate) fn remove(&mut self, index: usize) -> Result<(), OutOfMemory>
+    /// Takes the sheet at an index away, from 0, and leaves the formulas of the others. `OutOfMemory` changes nothing.
+    pub(crate) fn delete_leaving_formulas(&mut self, index: usize) -> Result<(), OutOfMemory>
         requires { index < length self.old }
         ensures ok { OnOk result (self.new ≡ remove self.old index) }
         ensures err { OnErr result (self.new ≡ self.old) }
@@ -72,20 +72,20 @@ impl Sheets {
         let id = sheet.id;
         settle(&mut self.dangling, id, dangles(sheet), false);
         self.ids.remove(old_key.as_str());
-        self.places.remove(&id);
-        lower_places(&mut self.places, index);
+        self.indexes.remove(&id);
+        lower_indexes(&mut self.indexes, index);
         self.list.remove(index);
         self.greatest = greatest_of(&self.list);
         Ok(())
     }
 
-    /// Puts the sheet at a place to another, both from 0; the others keep their order. It takes no memory.
+    /// Puts the sheet at an index to another, both from 0; the others keep their order. It takes no memory.
     pub fn move_to(&mut self, from: usize, to: usize)
         requires from { from < length self.old }
         requires to { to < length self.old }
         ensures { self.new ≡ moved from to self.old }
     {
-        move_places(&mut self.places, from, to);
+        move_indexes(&mut self.indexes, from, to);
         let sheet = self.list.remove(from);
         // There is room for it, where it was.
         let _ = self.list.insert(to, sheet);
@@ -101,36 +101,36 @@ fn put_id(ids: &mut BTreeMap<String, u32>, key: String, id: u32) -> Result<(), O
     Ok(())
 }
 
-/// The places after the one that is taken away are lowered by one.
-fn lower_places(places: &mut BTreeMap<u32, usize>, index: usize)
-    ensures { (id : ℕ) → get nat_cmp places.new id ≡ option_map (lowered index) (get nat_cmp places.old id) }
+/// The indexes after the one that is taken away are lowered by one.
+fn lower_indexes(indexes: &mut BTreeMap<u32, usize>, index: usize)
+    ensures { (id : ℕ) → get nat_cmp indexes.new id ≡ option_map (lowered index) (get nat_cmp indexes.old id) }
 {
-    places.retain(|_, place| {
+    indexes.retain(|_, place| {
         *place = lowered(*place, index);
         true
     });
 }
 
-/// The places follow the sheet that is put from one to another.
-fn move_places(places: &mut BTreeMap<u32, usize>, from: usize, to: usize)
-    ensures { (id : ℕ) → get nat_cmp places.new id ≡ option_map (moved_place from to) (get nat_cmp places.old id) }
+/// The indexes follow the sheet that is put from one to another.
+fn move_indexes(indexes: &mut BTreeMap<u32, usize>, from: usize, to: usize)
+    ensures { (id : ℕ) → get nat_cmp indexes.new id ≡ option_map (moved_index from to) (get nat_cmp indexes.old id) }
 {
-    places.retain(|_, place| {
-        *place = moved_place(*place, from, to);
+    indexes.retain(|_, place| {
+        *place = moved_index(*place, from, to);
         true
     });
 }
 
-/// A place, lowered by one where it is past this one.
+/// An index, lowered by one where it is past this one.
 fn lowered(place: usize, index: usize) -> usize
     ensures { result ≡ lowered index place }
 {
     if place > index { place - 1 } else { place }
 }
 
-/// Where the sheet at a place stands after the one at `from` was put to `to`.
-fn moved_place(place: usize, from: usize, to: usize) -> usize
-    ensures { result ≡ moved_place from to place }
+/// Where the sheet at an index stands after the one at `from` was put to `to`.
+fn moved_index(place: usize, from: usize, to: usize) -> usize
+    ensures { result ≡ moved_index from to place }
 {
     if place == from {
         return to;

@@ -13,7 +13,7 @@ use ic_pool::Steps;
 use std::sync::ledger::Ledger;
 
 impl Sheets {
-    /// Writes a formula into a cell of the sheet at a place, from 0: the cell of this row and this column, from 1, in the
+    /// Writes a formula into a cell of the sheet at an index, from 0: the cell of this row and this column, from 1, in the
     /// style of a number. `OutOfMemory` changes nothing but what formulas are found by.
     pub fn write(
         &mut self,
@@ -37,7 +37,7 @@ impl Sheets {
         written
     }
 
-    /// The place, from 0, of an equal formula among those that the sheet at a place, from 0, keeps; where there is none, a
+    /// The index, from 0, of an equal formula among those that the sheet at an index, from 0, keeps; where there is none, a
     /// copy gets one. What formulas are found by is made first, in as many steps as there are formulas, or in none where
     /// it is there. `OutOfMemory` changes nothing but that.
     pub fn place_copy<L: Ledger>(

@@ -3,11 +3,11 @@
 ghost use Rattle.std.specs.Prelude.{◌≡◌, ℕ, IfOk, Some, map, nat_eq};
 ghost use Rattle.std.specs.List.{IsDistinct};
 ghost use Rattle.ic_pool.specs.Mentions.{SparesFound};
-ghost use Rattle.ic_sheets.specs.Index.{AreDangling, ArePlaced};
+ghost use Rattle.ic_sheets.specs.Index.{AreAtIndexes, AreDangling};
 ghost use Rattle.ic_sheets.specs.Rewriting.{ArePrepared, FitOwn, FitSheets, PreparesEach, with_all_rewrites, with_own_rewrites};
 
 use super::dangling::sheet_with;
-use super::place_in;
+use super::index_in;
 use crate::Sheet;
 use ic_laws::OutOfMemory;
 use ic_pool::{BookChange, Rewrites};
@@ -24,7 +24,7 @@ pub fn prepare<C: BookChange>(
 {
     let mut prepared = Vec::new(alloc);
     for sheet in sheets {
-        prepared.push(sheet.pool.rewrites(change, Some(sheet.id))?)?;
+        prepared.push(sheet.pool.prepare(change, Some(sheet.id))?)?;
     }
     Ok(prepared)
 }
@@ -34,12 +34,12 @@ pub fn prepare<C: BookChange>(
 pub fn prepare_dangling<C: BookChange>(
     alloc: Global,
     sheets: &[Sheet],
-    places: &BTreeMap<u32, usize>,
+    indexes: &BTreeMap<u32, usize>,
     ids: &[u32],
     change: &C,
 ) -> Result<Vec<(u32, Rewrites)>, OutOfMemory>
     requires spares { (id : ℕ) → SparesFound (C.change change.now) (Some id) }
-    requires placed { ArePlaced places.now sheets.now }
+    requires placed { AreAtIndexes indexes.now sheets.now }
     requires ids { AreDangling ids.now sheets.now }
     ensures { IfOk result (λ prepared.
         PreparesEach (C.change change.now) prepared.items ids.now sheets.now) }
@@ -47,8 +47,8 @@ pub fn prepare_dangling<C: BookChange>(
     let mut prepared = Vec::new(alloc);
     for id in ids {
         // Each of them is the id of a sheet.
-        if let Some(sheet) = sheet_with(sheets, places, *id) {
-            let rewrites = sheet.pool.rewrites_of_dangling(change, Some(sheet.id))?;
+        if let Some(sheet) = sheet_with(sheets, indexes, *id) {
+            let rewrites = sheet.pool.prepare_dangling(change, Some(sheet.id))?;
             prepared.push((*id, rewrites))?;
         }
     }
@@ -69,16 +69,16 @@ pub fn apply_all(sheets: &mut [Sheet], mut prepared: Vec<Rewrites>)
 /// Does to the formulas of each sheet what was prepared for its id, from the last one on. The others stay.
 pub fn apply_own(
     sheets: &mut [Sheet],
-    places: &BTreeMap<u32, usize>,
+    indexes: &BTreeMap<u32, usize>,
     mut prepared: Vec<(u32, Rewrites)>,
 )
-    requires placed { ArePlaced places.now sheets.old }
+    requires placed { AreAtIndexes indexes.now sheets.old }
     requires differ { IsDistinct nat_eq (map (λ s. s.id) sheets.old) }
     requires fits { FitOwn prepared.items sheets.old }
     ensures { sheets.new ≡ with_own_rewrites prepared.items sheets.old }
 {
     while let Some((id, rewrites)) = prepared.pop() {
-        if let Some(index) = place_in(places, id) {
+        if let Some(index) = index_in(indexes, id) {
             let sheet = &mut sheets[index];
             sheet.pool.apply(rewrites);
         }

@@ -12,12 +12,12 @@ use Rattle.ic_book.proofs.model.Model.set_locale.Goals as goal
 pub invariant_of-self : goal.invariant_of-self
 invariant_of-self c =
     let none = locale_accepted c.self.inside.tables.now (chars c.args.locale_id.now) c.in-Ok.locale.now c.in-Ok.ensures.found in
-    record { valid = subst (λ i. IsValidBook (record (held c.self.inside.about c.self.inside.sheets c.self.inside.names c.self.inside.locale.now c.self.inside.language.now c.self.inside.tables.now) { locale = i })) (sym (locale_is c.self.inside.tables.now (chars c.args.locale_id.now) c.in-Ok.locale.now c.in-Ok.ensures.found).0) (in_locale (held c.self.inside.about c.self.inside.sheets c.self.inside.names c.self.inside.locale.now c.self.inside.language.now c.self.inside.tables.now) c.self.invariant.valid (chars c.args.locale_id.now) none); locale_found = (locale_is c.self.inside.tables.now (chars c.args.locale_id.now) c.in-Ok.locale.now c.in-Ok.ensures.found).1; language_found = c.self.invariant.language_found }
+    record { valid = subst (λ i. IsValidBook (record (held c.self.inside.about c.self.inside.sheets c.self.inside.definitions c.self.inside.locale.now c.self.inside.language.now c.self.inside.tables.now) { locale = i })) (sym (locale_is c.self.inside.tables.now (chars c.args.locale_id.now) c.in-Ok.locale.now c.in-Ok.ensures.found).0) (in_locale (held c.self.inside.about c.self.inside.sheets c.self.inside.definitions c.self.inside.locale.now c.self.inside.language.now c.self.inside.tables.now) c.self.invariant.valid (chars c.args.locale_id.now) none); locale_found = (locale_is c.self.inside.tables.now (chars c.args.locale_id.now) c.in-Ok.locale.now c.in-Ok.ensures.found).1; language_found = c.self.invariant.language_found }
 
 pub returns-in-Ok-clause-does : goal.returns-in-Ok-clause-does
 returns-in-Ok-clause-does c =
-    let new : ModelState = held_state c.self.inside.about c.self.inside.sheets c.self.inside.names c.in-Ok.locale.now c.self.inside.language.now c.self.inside.tables.now in
-    let old : Book = held c.self.inside.about c.self.inside.sheets c.self.inside.names c.self.inside.locale.now c.self.inside.language.now c.self.inside.tables.now in
+    let new : ModelState = held_state c.self.inside.about c.self.inside.sheets c.self.inside.definitions c.in-Ok.locale.now c.self.inside.language.now c.self.inside.tables.now in
+    let old : Book = held c.self.inside.about c.self.inside.sheets c.self.inside.definitions c.self.inside.locale.now c.self.inside.language.now c.self.inside.tables.now in
     puts_locale (Ok tt) c.args.self.now new (subst (λ (m : ModelState). IsValidBook m.book) c.self.view_is c.self.invariant.valid) tt (chars c.args.locale_id.now)
     (ap (λ i. let b : Book = record old { locale = i } in b) (locale_is c.self.inside.tables.now (chars c.args.locale_id.now) c.in-Ok.locale.now c.in-Ok.ensures.found).0
     ∙ ap (λ (m : ModelState). with_locale (chars c.args.locale_id.now) m.book) c.self.view_is)

@@ -6,7 +6,7 @@ use Rattle.ic_book.proofs.model.Model.set_theme.Goals as goal
 
 pub invariant_of-self : goal.invariant_of-self
 invariant_of-self c = record {
-  valid = theme_valid (held c.self.inside.about c.self.inside.sheets c.self.inside.names c.self.inside.locale.now c.self.inside.language.now c.self.inside.tables.now) c.args.theme.name c.self.invariant.valid;
+  valid = theme_valid (held c.self.inside.about c.self.inside.sheets c.self.inside.definitions c.self.inside.locale.now c.self.inside.language.now c.self.inside.tables.now) c.args.theme.name c.self.invariant.valid;
   locale_found = c.self.invariant.locale_found;
   language_found = c.self.invariant.language_found;
 }

@@ -14,5 +14,5 @@ new-requires-clause-locale c = formats_of_named c.self.inside.tables.now c.self.
 pub returns : goal.returns
 returns c =
     shown_notation c.self.inside.tables.now c.self.inside.locale.now.id c.self.inside.language.now.code c.self.inside.locale.now.locale c.self.inside.language.now _ _ _ (ap (option_map (λ n. n.locale)) c.self.invariant.locale_found) c.self.invariant.language_found c.new.ensures
-    ∙ ap (λ (p : CellPlace). shown_at (notations_in (held c.self.inside.about c.self.inside.sheets c.self.inside.names c.self.inside.locale.now c.self.inside.language.now c.self.inside.tables.now)) (core_of (held c.self.inside.about c.self.inside.sheets c.self.inside.names c.self.inside.locale.now c.self.inside.language.now c.self.inside.tables.now)) p.0 p.1) (stored_pair c.args.row c.args.column c.ranges.row c.ranges.column)
+    ∙ ap (λ (p : CellPlace). shown_at (notations_in (held c.self.inside.about c.self.inside.sheets c.self.inside.definitions c.self.inside.locale.now c.self.inside.language.now c.self.inside.tables.now)) (core_of (held c.self.inside.about c.self.inside.sheets c.self.inside.definitions c.self.inside.locale.now c.self.inside.language.now c.self.inside.tables.now)) p.0 p.1) (stored_pair c.args.row c.args.column c.ranges.row c.ranges.column)
     ∙ ap (λ (m : ModelState). shown_at (notations_in m.book) (core_of m.book) c.args.row c.args.column) c.self.view_is

@@ -30,7 +30,7 @@ pub returns-in_default-clause-does : goal.returns-in_default-clause-does
 returns-in_default-clause-does c =
     let text = chars (string_bytes c.args.formula) in
     let typed =
-    ap (λ (m : ModelState). formula_typed (whole_of m.book) text) (sym c.self.view_is) ∙ formula_is c.self.inside.about c.self.inside.sheets c.self.inside.names c.self.inside.locale.now c.self.inside.language.now c.self.inside.tables.now c.self.invariant text
+    ap (λ (m : ModelState). formula_typed (whole_of m.book) text) (sym c.self.view_is) ∙ formula_is c.self.inside.about c.self.inside.sheets c.self.inside.definitions c.self.inside.locale.now c.self.inside.language.now c.self.inside.tables.now c.self.invariant text
     ∙ sym (c.formula_without_prefix.ensures.exact ∙ ap (λ b. formula_of c.self.inside.locale.now.locale (chars b)) c.as_str.ensures.value)
     ∙ ap (option_map (λ f. chars f.now)) c.in_default.is in
     no_formula_told c.args.self.now (subst (λ (m : ModelState). IsValidBook m.book) c.self.view_is c.self.invariant.valid) c.args.sheet (c.args.row, c.args.column) text no_fields typed (refusal_there c.args.self.now.book c.args.sheet c.args.row c.args.column _ (stored_pair c.args.row c.args.column c.ranges.row c.ranges.column) None c.in_ok-style_to_write.ensures.refused)
@@ -44,7 +44,7 @@ returns-clause-does c =
     let text = chars (string_bytes c.args.formula) in
     let body = chars c.in-Some.body.now in
     let typed =
-    ap (λ (m : ModelState). formula_typed (whole_of m.book) text) (sym c.self.view_is) ∙ formula_is c.self.inside.about c.self.inside.sheets c.self.inside.names c.self.inside.locale.now c.self.inside.language.now c.self.inside.tables.now c.self.invariant text
+    ap (λ (m : ModelState). formula_typed (whole_of m.book) text) (sym c.self.view_is) ∙ formula_is c.self.inside.about c.self.inside.sheets c.self.inside.definitions c.self.inside.locale.now c.self.inside.language.now c.self.inside.tables.now c.self.invariant text
     ∙ sym (c.formula_without_prefix.ensures.exact ∙ ap (λ b. formula_of c.self.inside.locale.now.locale (chars b)) c.as_str.ensures.value)
     ∙ ap (option_map (λ f. chars f.now)) c.in-Some.is in
     let did =

@@ -4,14 +4,14 @@ use Rattle.ic_sheets.proofs.OwnLemmas.{added_looks_up, added_made, own_fits_push
 use Rattle.ic_sheets.specs.Rewriting.{FitOwn}
 use Rattle.ic_sheets.proofs.sheets.Sheets.add_sheet.Goals as goal
 
-pub rewrites_of_dangling-requires : goal.rewrites_of_dangling-requires
-rewrites_of_dangling-requires c = λ id. naming_spares_found c.args.id (chars c.args.name.now) (Some id)
+pub prepare_dangling-requires : goal.prepare_dangling-requires
+prepare_dangling-requires c = λ id. naming_spares_found c.args.id (chars c.args.name.now) (Some id)
 
 pub apply_own-requires : goal.apply_own-requires
-apply_own-requires c = subst (FitOwn c.in_ok-prepared.prepared.items) (sym c.in_ok-push.ensures.ok) (own_fits_pushed _ c.in_ok-prepared.prepared.items c.args.self.now c.in_ok-prepared.ensures _ c.requires.fresh)
+apply_own-requires c = subst (FitOwn c.in_ok-prepared.prepared.items) (sym c.in_ok-add_leaving_formulas.ensures.ok) (own_fits_pushed _ c.in_ok-prepared.prepared.items c.args.self.now c.in_ok-prepared.ensures _ c.requires.fresh)
 
 pub returns-clause-ok : goal.returns-clause-ok
-returns-clause-ok c = added_made _ c.in_ok-prepared.prepared.items c.args.self.now c.in_ok-prepared.ensures _ c.requires.fresh c.push.new.self c.apply_own.new.self c.in_ok-push.ensures.ok c.apply_own.ensures
+returns-clause-ok c = added_made _ c.in_ok-prepared.prepared.items c.args.self.now c.in_ok-prepared.ensures _ c.requires.fresh c.add_leaving_formulas.new.self c.apply_own.new.self c.in_ok-add_leaving_formulas.ensures.ok c.apply_own.ensures
 
 pub returns-clause-looks_up : goal.returns-clause-looks_up
-returns-clause-looks_up c = added_looks_up _ c.in_ok-prepared.prepared.items c.args.self.now c.in_ok-prepared.ensures _ c.requires.fresh c.push.new.self c.apply_own.new.self c.in_ok-push.ensures.ok c.apply_own.ensures refl
+returns-clause-looks_up c = added_looks_up _ c.in_ok-prepared.prepared.items c.args.self.now c.in_ok-prepared.ensures _ c.requires.fresh c.add_leaving_formulas.new.self c.apply_own.new.self c.in_ok-add_leaving_formulas.ensures.ok c.apply_own.ensures refl

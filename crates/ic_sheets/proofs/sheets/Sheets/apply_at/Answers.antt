@@ -27,7 +27,7 @@ invariant_of-self c =
     let y : Sheet = record s { pool = c.apply.new.self } in
     let same_ids = ap ids there ∙ ids_there c.args.rewrites c.args.index sheets in (
       kept_same c.self.inside.ids c.self.inside.greatest sheets _ c.self.invariant.0 (ap names there ∙ names_there c.args.rewrites c.args.index sheets) same_ids,
-      placed_same c.self.inside.places sheets _ c.self.invariant.1 same_ids,
+      placed_same c.self.inside.indexes sheets _ c.self.invariant.1 same_ids,
       dangling_over c.self.inside.dangling.items sheets c.args.index s c.self.invariant.2 c.self.invariant.0.ids_differ lt c.index_mut-sheet.ensures.value c.settle.new.ids.items c.dangles.result
           c.settle.ensures.finds c.settle.ensures.differ y refl c.dangles.ensures,
       omega (arith, c.settle.ensures.capacity, c.self.invariant.3, length_over sheets c.args.index y),

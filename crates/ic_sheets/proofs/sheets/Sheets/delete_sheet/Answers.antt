@@ -5,28 +5,28 @@ use Rattle.ic_sheets.specs.Rewriting.{ArePrepared, FitSheets}
 use Rattle.ic_sheets.specs.declared.sheet.Sheet.{Sheet}
 use Rattle.ic_sheets.proofs.sheets.Sheets.delete_sheet.Goals as goal
 
-pub remove-requires-2 : goal.remove-requires-2
-remove-requires-2 c =
+pub remove-requires : goal.remove-requires
+remove-requires c =
     subst (λ n. c.args.index < n) (sym (c.in_ok-prepared.prepared.ok.0 ∙ prepared_length _ c.in_ok-prepared.prepared.items c.args.self.now c.in_ok-prepared.ensures)) c.requires
 
 pub apply-requires : goal.apply-requires
 apply-requires c =
-    subst₂ FitSheets (sym c.remove-2.ensures.items) (sym c.in_ok-remove.ensures.ok) (fits_removed _ c.in_ok-prepared.prepared.items c.args.self.now c.args.index c.in_ok-prepared.ensures)
+    subst₂ FitSheets (sym c.remove.ensures.items) (sym c.in_ok-delete_leaving_formulas.ensures.ok) (fits_removed _ c.in_ok-prepared.prepared.items c.args.self.now c.args.index c.in_ok-prepared.ensures)
 
 pub returns-clause-ok : goal.returns-clause-ok
 returns-clause-ok c = λ sheet at.
     let s = c.index-sheet.result.now in
-    deleted_made (sheet_gone sheet.id sheet.name) c.in_ok-prepared.prepared.items c.remove-2.new.self.items c.args.self.now c.remove.new.self c.apply.new.self c.args.index
+    deleted_made (sheet_gone sheet.id sheet.name) c.in_ok-prepared.prepared.items c.remove.new.self.items c.args.self.now c.delete_leaving_formulas.new.self c.apply.new.self c.args.index
     (subst (λ (s : Sheet). ArePrepared (sheet_gone s.id s.name) c.in_ok-prepared.prepared.items c.args.self.now)
     (read_there c.args.self.now c.args.index s sheet c.requires (c.index-sheet.ensures ∙ ap (λ xs. get_or xs c.args.index s) c.self.view_is) at)
     (subst (λ n. ArePrepared (sheet_gone s.id n) c.in_ok-prepared.prepared.items c.args.self.now) c.as_str-name.ensures.characters c.in_ok-prepared.ensures))
-    c.remove-2.ensures.items c.in_ok-remove.ensures.ok c.apply.ensures
+    c.remove.ensures.items c.in_ok-delete_leaving_formulas.ensures.ok c.apply.ensures
 
 pub returns-clause-looks_up : goal.returns-clause-looks_up
 returns-clause-looks_up c = λ sheet at.
     let s = c.index-sheet.result.now in
-    deleted_looks_up (sheet_gone sheet.id sheet.name) c.in_ok-prepared.prepared.items c.remove-2.new.self.items c.args.self.now c.remove.new.self c.apply.new.self c.args.index
+    deleted_looks_up (sheet_gone sheet.id sheet.name) c.in_ok-prepared.prepared.items c.remove.new.self.items c.args.self.now c.delete_leaving_formulas.new.self c.apply.new.self c.args.index
     (subst (λ (s : Sheet). ArePrepared (sheet_gone s.id s.name) c.in_ok-prepared.prepared.items c.args.self.now)
     (read_there c.args.self.now c.args.index s sheet c.requires (c.index-sheet.ensures ∙ ap (λ xs. get_or xs c.args.index s) c.self.view_is) at)
     (subst (λ n. ArePrepared (sheet_gone s.id n) c.in_ok-prepared.prepared.items c.args.self.now) c.as_str-name.ensures.characters c.in_ok-prepared.ensures))
-    c.remove-2.ensures.items c.in_ok-remove.ensures.ok c.apply.ensures
+    c.remove.ensures.items c.in_ok-delete_leaving_formulas.ensures.ok c.apply.ensures

@@ -11,5 +11,5 @@ returns-in_err-id c = c.from_residual.ensures ∙ sym (index_none (λ s. agrees 
 pub returns : goal.returns
 returns c =
     let sheets = c.args.self.now in
-    c.place_in.ensures ∙ c.self.invariant.1.finds c.in_ok-id.id ∙ place_is c.in_ok-id.id c.self.inside.list.items ∙ ap (position (λ s. nat_eq s.id c.in_ok-id.id)) c.self.view_is
+    c.index_in.ensures ∙ c.self.invariant.1.finds c.in_ok-id.id ∙ place_is c.in_ok-id.id c.self.inside.list.items ∙ ap (position (λ s. nat_eq s.id c.in_ok-id.id)) c.self.view_is
     ∙ index_by_id (λ s. agrees s.name (chars c.args.name.now)) c.in_ok-id.id sheets (subst (λ xs. IsDistinct nat_eq (ids xs)) c.self.view_is c.self.invariant.0.ids_differ) (sym c.in_ok-id.ensures)

@@ -22,7 +22,7 @@ invariant_of-self c =
     let lt : c.args.from < length sheets = subst (λ xs. c.args.from < length xs) (sym c.self.view_is) c.requires.from in
     let within : c.args.to < length sheets = subst (λ xs. c.args.to < length xs) (sym c.self.view_is) c.requires.to in (
       kept_moved c.self.inside.ids c.self.inside.greatest sheets c.insert.new.self.items c.args.from c.args.to c.remove-sheet.result c.self.invariant.0 lt c.remove-sheet.ensures.value (put c),
-      placed_moved sheets c.args.from c.remove-sheet.result c.self.invariant.0.ids_differ lt c.remove-sheet.ensures.value c.self.inside.places c.move_places.new.places c.insert.new.self.items c.args.to c.self.invariant.1 within (put c) c.move_places.ensures,
+      placed_moved sheets c.args.from c.remove-sheet.result c.self.invariant.0.ids_differ lt c.remove-sheet.ensures.value c.self.inside.indexes c.move_indexes.new.indexes c.insert.new.self.items c.args.to c.self.invariant.1 within (put c) c.move_indexes.ensures,
       dangling_moved c.self.inside.dangling.items sheets c.args.from c.remove-sheet.result c.self.invariant.2 c.self.invariant.0.ids_differ lt c.remove-sheet.ensures.value c.insert.new.self.items c.args.to (put c),
       omega (arith, c.self.invariant.3, ap length (put c), length-insert (remove sheets c.args.from) c.args.to c.remove-sheet.result, length-remove sheets c.args.from lt),
     )

@@ -7,23 +7,23 @@ use Rattle.ic_sheets.specs.Rewriting.{FitOwn, Makes}
 use Rattle.ic_sheets.specs.declared.sheet.Sheet.{Sheet}
 use Rattle.ic_sheets.proofs.sheets.Sheets.rename_sheet.Goals as goal
 
-pub rewrites_of_dangling-requires : goal.rewrites_of_dangling-requires
-rewrites_of_dangling-requires c = λ id. naming_spares_found c.index.result.now.id (chars c.args.name.now) (Some id)
+pub prepare_dangling-requires : goal.prepare_dangling-requires
+prepare_dangling-requires c = λ id. naming_spares_found c.index.result.now.id (chars c.args.name.now) (Some id)
 
 pub apply_own-requires : goal.apply_own-requires
 apply_own-requires c =
-    subst (FitOwn c.in_ok-prepared.prepared.items) (sym c.in_ok-rename.ensures.ok) (own_fits_called _ c.in_ok-prepared.prepared.items c.args.self.now c.in_ok-prepared.ensures c.args.index (chars c.args.name.now))
+    subst (FitOwn c.in_ok-prepared.prepared.items) (sym c.in_ok-rename_leaving_formulas.ensures.ok) (own_fits_called _ c.in_ok-prepared.prepared.items c.args.self.now c.in_ok-prepared.ensures c.args.index (chars c.args.name.now))
 
 pub returns-clause-ok : goal.returns-clause-ok
 returns-clause-ok c = λ sheet at.
     renamed_made (sheet_named sheet.id (chars c.args.name.now)) c.in_ok-prepared.prepared.items c.args.self.now
     (subst (λ (s : Sheet). Makes (sheet_named s.id (chars c.args.name.now)) c.in_ok-prepared.prepared.items c.args.self.now)
     (read_there c.args.self.now c.args.index c.index.result.now sheet c.requires.within (c.index.ensures ∙ ap (λ xs. get_or xs c.args.index c.index.result.now) c.self.view_is) at) c.in_ok-prepared.ensures)
-    c.args.index (chars c.args.name.now) c.rename.new.self c.apply_own.new.self c.in_ok-rename.ensures.ok c.apply_own.ensures
+    c.args.index (chars c.args.name.now) c.rename_leaving_formulas.new.self c.apply_own.new.self c.in_ok-rename_leaving_formulas.ensures.ok c.apply_own.ensures
 
 pub returns-clause-looks_up : goal.returns-clause-looks_up
 returns-clause-looks_up c = λ sheet at.
     renamed_looks_up (sheet_named sheet.id (chars c.args.name.now)) c.in_ok-prepared.prepared.items c.args.self.now
     (subst (λ (s : Sheet). Makes (sheet_named s.id (chars c.args.name.now)) c.in_ok-prepared.prepared.items c.args.self.now)
     (read_there c.args.self.now c.args.index c.index.result.now sheet c.requires.within (c.index.ensures ∙ ap (λ xs. get_or xs c.args.index c.index.result.now) c.self.view_is) at) c.in_ok-prepared.ensures)
-    c.args.index (chars c.args.name.now) c.rename.new.self c.apply_own.new.self c.in_ok-rename.ensures.ok c.apply_own.ensures
+    c.args.index (chars c.args.name.now) c.rename_leaving_formulas.new.self c.apply_own.new.self c.in_ok-rename_leaving_formulas.ensures.ok c.apply_own.ensures

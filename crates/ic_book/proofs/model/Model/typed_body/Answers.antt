@@ -1,0 +1,27 @@
+use Rattle.std.proofs.Common.{None, Some, ap, ap₂, chars, pos, refl, sym, ◌∙◌}
+use Rattle.ic_laws.specs.FormulaReading.{lambda_tree, reference_tree, shown_at}
+use Rattle.ic_laws.specs.Notations.{english}
+use Rattle.ic_book.specs.Book.{core_of, notations_in}
+use Rattle.ic_book.proofs.NameLemmas.{body_is}
+use Rattle.ic_book.proofs.model.Model.typed_body.Goals as goal
+
+pub returns-in-Some : goal.returns-in-Some
+returns-in-Some c =
+    body_is (notations_in c.args.self.now.book) (core_of c.args.self.now.book) (chars c.args.text.now) (Some c.in-Some.tree) _ _
+    (ap₂ (λ d s. reference_tree d s (chars c.args.text.now)) (sym c.shown-shown.ensures) (sym c.scene.ensures) ∙ sym c.in_ok-tree.ensures ∙ c.in-Some.is) refl refl
+
+pub returns-in-Some-2 : goal.returns-in-Some-2
+returns-in-Some-2 c =
+    body_is (notations_in c.args.self.now.book) (core_of c.args.self.now.book) (chars c.args.text.now) None (Some c.in-Some-2.tree) c.past_equals-has_equals.result.0
+    (ap₂ (λ d s. reference_tree d s (chars c.args.text.now)) (sym c.shown-shown.ensures) (sym c.scene.ensures) ∙ sym c.in_ok-tree.ensures ∙ c.in_default.is)
+    (ap (λ t. lambda_tree (shown_at (notations_in c.args.self.now.book) (core_of c.args.self.now.book) (pos 1) (pos 1)) ((notations_in c.args.self.now.book).shown english english (pos 1) (pos 1)) t) (sym c.past_equals-has_equals.ensures.rest)
+    ∙ ap₂ (λ d e. lambda_tree d e (chars c.past_equals-has_equals.result.1.now)) (sym c.shown-shown.ensures) (sym c.english.ensures) ∙ sym c.in_ok-tree-2.ensures ∙ c.in-Some-2.is)
+    (sym c.past_equals-has_equals.ensures.has)
+
+pub returns-in-None : goal.returns-in-None
+returns-in-None c =
+    body_is (notations_in c.args.self.now.book) (core_of c.args.self.now.book) (chars c.args.text.now) None None c.past_equals-has_equals.result.0
+    (ap₂ (λ d s. reference_tree d s (chars c.args.text.now)) (sym c.shown-shown.ensures) (sym c.scene.ensures) ∙ sym c.in_ok-tree.ensures ∙ c.in_default.is)
+    (ap (λ t. lambda_tree (shown_at (notations_in c.args.self.now.book) (core_of c.args.self.now.book) (pos 1) (pos 1)) ((notations_in c.args.self.now.book).shown english english (pos 1) (pos 1)) t) (sym c.past_equals-has_equals.ensures.rest)
+    ∙ ap₂ (λ d e. lambda_tree d e (chars c.past_equals-has_equals.result.1.now)) (sym c.shown-shown.ensures) (sym c.english.ensures) ∙ sym c.in_ok-tree-2.ensures ∙ c.in-None.is)
+    (sym c.past_equals-has_equals.ensures.has)

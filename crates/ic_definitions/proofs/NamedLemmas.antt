@@ -1,0 +1,211 @@
+-- What the definitions keep beside them stays true when definitions come and go, and when their bodies change.
+use Rattle.std.proofs.Common.{◌≡◌, ℕ, zero, suc, ◌<◌, List, [], ◌∷◌, ◌++◌, map, Bool, true, false, cond, ◌||◌, Option, Some, None, option_map, option_to_list, max, length, get_or, refl, sym, ap, ap₂, subst, ◌∙◌, bytes_eq, remove, arith}
+use Rattle.std.specs.BTreeMap.{BTreeMap, IsEmpty, Updates, get}
+use Rattle.std.specs.Cmp.Lexicographic.{slice_cmp}
+use Rattle.std.specs.List.{AllByRecursion, IsDistinct, list_any}
+use Rattle.std.specs.Map.{lookup}
+use Rattle.std.specs.Ordering.{nat_cmp}
+use Rattle.std.proofs.lemmas.Bool.{or_parts}
+use Rattle.std.proofs.lemmas.Grind.{flat_map-append}
+use Rattle.std.proofs.lemmas.List.{map-append}
+use Rattle.std.proofs.lemmas.Map.Keys.{IsDistinct-head, IsDistinct-push, IsDistinct-tail}
+use Rattle.std.proofs.lemmas.Map.Text.{is_eq-slice_cmp}
+use Rattle.ic_laws.proofs.core.Defined.{same_key_equiv}
+use Rattle.ic_laws.proofs.core.Lists.{all_pushed, all_removed, distinct_removed, removed_seen}
+use Rattle.ic_laws.proofs.keeping.NameChanges.{same_key_from}
+use Rattle.ic_laws.specs.CoreBook.{Definition}
+use Rattle.ic_laws.specs.CoreStep.{is_named}
+use Rattle.ic_laws.specs.Greatest.{greatest}
+use Rattle.ic_laws.specs.Scene.{same_key}
+use Rattle.ic_laws.specs.declared.tree.NameKey.{NameKey}
+use Rattle.ic_pool.proofs.KeyLemmas.{clash, same_name_code}
+use Rattle.ic_pool.specs.Code.{name_code}
+use Rattle.ic_definitions.specs.Bodies.{HasFoundAll}
+use Rattle.ic_definitions.specs.Named.{AreNamed, index_with_key, key_in, lowered, scopes_of}
+use Rattle.ic_definitions.proofs.FindingLemmas.{has_key}
+
+abbrev pub Places : Type 0
+Places = BTreeMap (List ℕ) ℕ
+
+abbrev pub keys : List Definition → List NameKey
+keys definitions = map key_in definitions
+
+none_apart : IsDistinct same_key []
+unfolding IsDistinct
+none_apart = tt
+
+pub named_empty : (indexes : Places) (ds : List Definition) → IsEmpty indexes → ds ≡ [] → AreNamed indexes 0 false ds
+named_empty indexes ds empty none =
+    subst (AreNamed indexes 0 false) (sym none)
+    (record { finds = λ key. ap (lookup _) empty; differ = none_apart; greatest = refl; dangles = λ e. tt })
+
+-- ---- keys
+
+-- what is found and the scopes go by the keys alone
+same_place : (xs ys : List Definition) → keys xs ≡ keys ys → (key : NameKey) → index_with_key key xs ≡ index_with_key key ys
+same_place [] [] e key = refl
+same_place [] (y ∷ ys) e key = cc
+same_place (x ∷ xs) [] e key = cc
+same_place (x ∷ xs) (y ∷ ys) e key =
+    let first : key_in x ≡ key_in y = cc in
+    let others : keys xs ≡ keys ys = cc in
+    ap₂ (λ k place. cond (same_key k key) (Some 0) (option_map suc place)) first (same_place xs ys others key)
+
+same_scopes : (xs ys : List Definition) → keys xs ≡ keys ys → scopes_of xs ≡ scopes_of ys
+same_scopes [] [] e = refl
+same_scopes [] (y ∷ ys) e = cc
+same_scopes (x ∷ xs) [] e = cc
+same_scopes (x ∷ xs) (y ∷ ys) e =
+    let first : key_in x ≡ key_in y = cc in
+    let others : keys xs ≡ keys ys = cc in
+    ap₂ (λ (k : NameKey) scopes. option_to_list k.scope ++ scopes) first (same_scopes xs ys others)
+
+-- other bodies
+pub named_same : (indexes : Places) (last : ℕ) (may may_now : Bool) (ds list : List Definition) → AreNamed indexes last may ds → keys list ≡ keys ds → (may_now ≡ false → AllByRecursion HasFoundAll list) → AreNamed indexes last may_now list
+named_same indexes last may may_now ds list named same clean = record {
+  finds = λ key. named.finds key ∙ sym (same_place list ds same key);
+  differ = subst (IsDistinct same_key) (sym same) named.differ;
+  greatest = named.greatest ∙ sym (ap greatest (same_scopes list ds same));
+  dangles = clean;
+}
+
+-- ---- the look-up
+
+-- what it has at a key after a change at a key
+updated : (before after : Places) (bytes : List ℕ) (key : NameKey) (place : Option ℕ) → Updates (slice_cmp nat_cmp) before after bytes place → bytes ≡ name_code key
+    → (q : NameKey) → get (slice_cmp nat_cmp) after (name_code q) ≡ cond (same_key key q) place (get (slice_cmp nat_cmp) before (name_code q))
+updated before after bytes key place u same q =
+    u.0 (name_code q)
+    ∙ ap (λ b. cond b place (get (slice_cmp nat_cmp) before (name_code q))) (is_eq-slice_cmp bytes (name_code q) ∙ ap (λ x. bytes_eq x (name_code q)) same ∙ same_name_code key q)
+
+-- ---- a definition comes
+
+-- no definition has this key
+parted : (key : NameKey) (d : Definition) (ds : List Definition) → list_any (has_key key) (d ∷ ds) ≡ false → (has_key key d ≡ false) × (list_any (has_key key) ds ≡ false)
+parted key d ds e = or_parts (has_key key d) (list_any (has_key key) ds) e
+
+key_free : (key : NameKey) (ds : List Definition) → list_any (has_key key) ds ≡ false → list_any (same_key key) (keys ds) ≡ false
+key_free key [] e = refl
+key_free key (d ∷ ds) e =
+    let parts = parted key d ds e in ap₂ ◌||◌ (same_key_equiv.symm key (key_in d) ∙ parts.0) (key_free key ds parts.1)
+
+pub free_has_no_place : (key : NameKey) (ds : List Definition) → list_any (has_key key) ds ≡ false → index_with_key key ds ≡ None
+free_has_no_place key [] e = refl
+free_has_no_place key (d ∷ ds) e =
+    let parts = parted key d ds e in ap₂ (λ b place. cond b (Some 0) (option_map suc place)) parts.0 (free_has_no_place key ds parts.1)
+
+place_pushed : (d : Definition) (ds : List Definition) → list_any (has_key (key_in d)) ds ≡ false → (q : NameKey) → index_with_key q (ds ++ d ∷ []) ≡ cond (same_key (key_in d) q) (Some (length ds)) (index_with_key q ds)
+place_pushed d [] free q = refl
+place_pushed d (x ∷ ds) free q =
+    let parts = parted (key_in d) x ds free in
+    ap (λ place. cond (same_key (key_in x) q) (Some 0) (option_map suc place)) (place_pushed d ds parts.1 q)
+    ∙ step (same_key (key_in x) q) (same_key (key_in d) q) (index_with_key q ds)
+    (λ t u. clash (same_key (key_in x) (key_in d)) (ap (same_key (key_in x)) (same_key_from (key_in d) q u) ∙ t) parts.0)
+  where
+    step : (b c : Bool) (place : Option ℕ) → (b ≡ true → c ≡ true → ⊥) → cond b (Some 0) (option_map suc (cond c (Some (length ds)) place)) ≡ cond c (Some (suc (length ds))) (cond b (Some 0) (option_map suc place))
+    step true true place h = absurd (h refl refl)
+    step true false place h = refl
+    step false true place h = refl
+    step false false place h = refl
+
+pub greatest_joined : (xs ys : List ℕ) → greatest (xs ++ ys) ≡ max (greatest xs) (greatest ys)
+greatest_joined [] ys = omega arith
+greatest_joined (x ∷ xs) ys = let rest = greatest_joined xs ys in omega (arith, rest)
+
+scopes_pushed : (ds : List Definition) (d : Definition) → greatest (scopes_of (ds ++ d ∷ [])) ≡ max (greatest (scopes_of ds)) (greatest (option_to_list d.scope))
+scopes_pushed ds d =
+    ap greatest (flat_map-append (λ (x : Definition). option_to_list x.scope) ds (d ∷ [])) ∙ greatest_joined (scopes_of ds) (scopes_of (d ∷ [])) ∙ ap (max (greatest (scopes_of ds))) (alone d.scope)
+  where
+    alone : (scope : Option ℕ) → greatest (option_to_list scope ++ []) ≡ greatest (option_to_list scope)
+    alone None = refl
+    alone (Some id) = refl
+
+-- behind others, which may have got other bodies
+pub named_pushed : (before after : Places) (last now_last place : ℕ) (may may_now : Bool) (ds others list : List Definition) (d : Definition) (bytes : List ℕ) → AreNamed before last may ds → keys others ≡ keys ds
+    → list_any (is_named d.name d.scope) ds ≡ false → bytes ≡ name_code (key_in d) → place ≡ length ds → Updates (slice_cmp nat_cmp) before after bytes (Some place) → now_last ≡ max last (greatest (option_to_list d.scope))
+    → (may_now ≡ false → AllByRecursion HasFoundAll others × HasFoundAll d) → list ≡ others ++ d ∷ [] → AreNamed after now_last may_now list
+named_pushed before after last now_last place may may_now ds others list d bytes named same free coded end u most clean pushed =
+    let more : keys list ≡ keys (ds ++ d ∷ []) = ap keys pushed ∙ map-append key_in others (d ∷ []) ∙ ap (λ ks. ks ++ key_in d ∷ []) same ∙ sym (map-append key_in ds (d ∷ [])) in
+    named_same after now_last true may_now (ds ++ d ∷ []) list
+    (record {
+      finds = λ q.
+          updated before after bytes (key_in d) (Some place) u coded q
+          ∙ ap₂ (λ n o. cond (same_key (key_in d) q) (Some n) o) end (named.finds q)
+          ∙ sym (place_pushed d ds free q);
+      differ = subst (IsDistinct same_key) (sym (map-append key_in ds (d ∷ []))) (IsDistinct-push same_key_equiv (keys ds) (key_in d) named.differ (key_free (key_in d) ds free));
+      greatest = most ∙ ap (λ n. max n (greatest (option_to_list d.scope))) named.greatest ∙ sym (scopes_pushed ds d);
+      dangles = λ e. absurd (clash true refl e);
+    })
+    more (λ e. let parts = clean e in subst (AllByRecursion HasFoundAll) (sym pushed) (all_pushed HasFoundAll others d parts.0 parts.1))
+
+-- ---- a definition goes
+
+lowered_first : (place : Option ℕ) → option_map (lowered 0) (option_map suc place) ≡ place
+lowered_first None = refl
+lowered_first (Some n) = ap (λ k. Some k) (less n)
+  where
+    less : (n : ℕ) → lowered 0 (suc n) ≡ n
+    less n = grind arith
+
+lowered_later : (index : ℕ) (place : Option ℕ) → option_map (lowered (suc index)) (option_map suc place) ≡ option_map suc (option_map (lowered index) place)
+lowered_later index None = refl
+lowered_later index (Some n) = ap (λ k. Some k) (less index n)
+  where
+    less : (index n : ℕ) → lowered (suc index) (suc n) ≡ suc (lowered index n)
+    less index n = grind arith
+
+-- a key that others have apart from it
+no_place : (key : NameKey) (ds : List Definition) → AllByRecursion (λ k. same_key key k ≡ false) (keys ds) → index_with_key key ds ≡ None
+no_place key [] h = refl
+no_place key (d ∷ ds) h = ap₂ (λ b place. cond b (Some 0) (option_map suc place)) (same_key_equiv.symm (key_in d) key ∙ h.0) (no_place key ds h.1)
+
+one_of : (P : NameKey → Type 0) (ds : List Definition) (index : ℕ) (d : Definition) → index < length ds → d ≡ get_or ds index d → AllByRecursion P (keys ds) → P (key_in d)
+one_of P [] index d lt read h = absurd (omega arith)
+one_of P (x ∷ ds) zero d lt read h = subst (λ y. P (key_in y)) (sym read) h.0
+one_of P (x ∷ ds) (suc index) d lt read h = one_of P ds index d (omega arith) read h.1
+
+-- its key finds nothing then, and later ones stand one place lower
+place_removed : (ds : List Definition) (index : ℕ) (d : Definition) → index < length ds → d ≡ get_or ds index d → IsDistinct same_key (keys ds)
+    → (q : NameKey) → index_with_key q (remove ds index) ≡ option_map (lowered index) (cond (same_key (key_in d) q) None (index_with_key q ds))
+place_removed [] index d lt read differ q = absurd (omega arith)
+place_removed (x ∷ ds) zero d lt read differ q =
+    subst (λ y. index_with_key q ds ≡ option_map (lowered 0) (cond (same_key (key_in y) q) None (index_with_key q (x ∷ ds)))) (sym read)
+    (step (same_key (key_in x) q) (λ t. ap (λ k. index_with_key k ds) (sym (same_key_from (key_in x) q t)) ∙ no_place (key_in x) ds (IsDistinct-head same_key (key_in x) (keys ds) differ)))
+  where
+    step : (b : Bool) → (b ≡ true → index_with_key q ds ≡ None) → index_with_key q ds ≡ option_map (lowered 0) (cond b None (cond b (Some 0) (option_map suc (index_with_key q ds))))
+    step true none = none refl
+    step false none = sym (lowered_first (index_with_key q ds))
+place_removed (x ∷ ds) (suc index) d lt read differ q =
+    let apart : same_key (key_in x) (key_in d) ≡ false = one_of (λ k. same_key (key_in x) k ≡ false) ds index d (omega arith) read (IsDistinct-head same_key (key_in x) (keys ds) differ) in
+    ap (λ place. cond (same_key (key_in x) q) (Some 0) (option_map suc place)) (place_removed ds index d (omega arith) read (IsDistinct-tail same_key (key_in x) (keys ds) differ) q)
+    ∙ step (same_key (key_in x) q) (same_key (key_in d) q) (index_with_key q ds)
+    (λ t u. clash (same_key (key_in x) (key_in d)) (ap (same_key (key_in x)) (same_key_from (key_in d) q u) ∙ t) apart)
+  where
+    first_stays : (index : ℕ) → lowered (suc index) 0 ≡ 0
+    first_stays index = grind arith
+
+    step : (b c : Bool) (place : Option ℕ) → (b ≡ true → c ≡ true → ⊥)
+        → cond b (Some 0) (option_map suc (option_map (lowered index) (cond c None place))) ≡ option_map (lowered (suc index)) (cond c None (cond b (Some 0) (option_map suc place)))
+    step true true place h = absurd (h refl refl)
+    step true false place h = ap (λ n. Some n) (sym (first_stays index))
+    step false true place h = refl
+    step false false place h = sym (lowered_later index place)
+
+-- from among others, which may have got other bodies
+pub named_removed : (before between after : Places) (last now_last index : ℕ) (may may_now : Bool) (ds others list : List Definition) (d : Definition) (bytes : List ℕ) → AreNamed before last may ds → keys others ≡ keys ds
+    → index < length ds → d ≡ get_or ds index d → bytes ≡ name_code (key_in d) → Updates (slice_cmp nat_cmp) before between bytes None
+    → ((key : List ℕ) → get (slice_cmp nat_cmp) after key ≡ option_map (lowered index) (get (slice_cmp nat_cmp) between key))
+    → now_last ≡ greatest (scopes_of list) → (may_now ≡ false → AllByRecursion HasFoundAll others) → list ≡ remove others index → AreNamed after now_last may_now list
+named_removed before between after last now_last index may may_now ds others list d bytes named same lt read coded u low most clean removed = record {
+  finds = λ q.
+      low (name_code q)
+      ∙ ap (option_map (lowered index)) (updated before between bytes (key_in d) None u coded q ∙ ap (cond (same_key (key_in d) q) None) (named.finds q))
+      ∙ sym (place_removed ds index d lt read named.differ q)
+      ∙ same_place (remove ds index) list (removed_seen key_in ds index ∙ ap (λ ks. remove ks index) (sym same) ∙ sym left) q;
+  differ = subst (IsDistinct same_key) (sym left) (distinct_removed same_key_equiv (keys others) index (subst (IsDistinct same_key) (sym same) named.differ));
+  greatest = most;
+  dangles = λ e. subst (AllByRecursion HasFoundAll) (sym removed) (all_removed HasFoundAll others index (clean e));
+}
+  where
+    left : keys list ≡ remove (keys others) index
+    left = ap keys removed ∙ removed_seen key_in others index

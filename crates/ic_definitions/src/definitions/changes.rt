@@ -1,0 +1,137 @@
+//! Definitions come and go, and what their bodies mention changes.
+ghost use Rattle.std.specs.Prelude.{◌≡◌, ◌<◌, ◌++◌, ℕ, List, [], ◌∷◌, IfOk, OnErr, OnOk, false, length, map, option_map, option_to_list, remove};
+ghost use Rattle.std.specs.BTreeMap.{get};
+ghost use Rattle.std.specs.Cmp.Lexicographic.{slice_cmp};
+ghost use Rattle.std.specs.List.{AllByRecursion, list_any};
+ghost use Rattle.std.specs.Ordering.{nat_cmp};
+ghost use Rattle.ic_laws.specs.BookTrees.{with_body_tree};
+ghost use Rattle.ic_laws.specs.Changes.{changed_tree};
+ghost use Rattle.ic_laws.specs.CoreStep.{is_named};
+ghost use Rattle.ic_laws.specs.Greatest.{greatest};
+ghost use Rattle.ic_definitions.specs.Bodies.{FitsBodies, StaysWhereFound, with_bodies};
+ghost use Rattle.ic_definitions.specs.Named.{key_in, lowered, scopes_of};
+ghost use Rattle.ic_pool.specs.Code.{name_code};
+
+use super::Definitions;
+use crate::bodies::rewrites_of;
+use crate::{BodyRewrites, Definition};
+use ic_laws::OutOfMemory;
+use ic_pool::{BookChange, Key, has_dangling, name_key};
+use std::alloc::Global;
+use std::collections::BTreeMap;
+
+impl Definitions {
+    /// What a change does to the bodies of all definitions, prepared before any of them changes.
+    pub fn prepare<C: BookChange>(&self, change: &C) -> Result<BodyRewrites, OutOfMemory>
+        ensures made { IfOk result (λ w. with_bodies w.bodies.items self.now ≡ map (with_body_tree (changed_tree (C.change change.now))) self.now) }
+        ensures fits { IfOk result (λ w. FitsBodies w self.now) }
+    {
+        rewrites_of(self.alloc, &self.list, change)
+    }
+
+    /// The same for a change that leaves each body in which all was found: where no body may dangle it looks at none.
+    pub fn prepare_dangling<C: BookChange>(
+        &self,
+        change: &C,
+    ) -> Result<BodyRewrites, OutOfMemory>
+        requires { AllByRecursion (StaysWhereFound (C.change change.now)) self.now }
+        ensures made { IfOk result (λ w. with_bodies w.bodies.items self.now ≡ map (with_body_tree (changed_tree (C.change change.now))) self.now) }
+        ensures fits { IfOk result (λ w. FitsBodies w self.now) }
+    {
+        if !self.may_dangle {
+            return Ok(BodyRewrites::new(self.alloc));
+        }
+        self.prepare(change)
+    }
+
+    /// Gives the definitions the bodies that were prepared.
+    pub fn apply(&mut self, rewrites: BodyRewrites)
+        requires { FitsBodies rewrites self.old }
+        ensures { self.new ≡ with_bodies rewrites.bodies.items self.old }
+    {
+        self.may_dangle = rewrites.may_dangle;
+        rewrites.put(&mut self.list);
+    }
+
+    /// Adds a definition at the end, and gives the others the bodies that were prepared. `OutOfMemory` changes nothing.
+    pub fn add(&mut self, definition: Definition, rewrites: BodyRewrites) -> Result<(), OutOfMemory>
+        requires free { list_any (is_named definition.name definition.scope) self.old ≡ false }
+        requires fits { FitsBodies rewrites self.old }
+        ensures ok { OnOk result (self.new ≡ with_bodies rewrites.bodies.items self.old ++ definition ∷ []) }
+        ensures err { OnErr result (self.new ≡ self.old) }
+    {
+        let key = key_in(self.alloc, &definition)?;
+        self.list.reserve(1)?;
+        let place = self.list.len();
+        self.indexes.insert(key, place)?;
+        self.may_dangle = rewrites.may_dangle | has_dangling(definition.body());
+        self.greatest = self.greatest.max(scope_or_zero(&definition));
+        rewrites.put(&mut self.list);
+        self.list.push_reserved(definition);
+        Ok(())
+    }
+
+    /// Takes the definition at an index away, from 0, and gives the others the bodies that were prepared. `OutOfMemory`
+    /// changes nothing.
+    pub fn delete(&mut self, index: usize, rewrites: BodyRewrites) -> Result<(), OutOfMemory>
+        requires within { index < length self.old }
+        requires fits { FitsBodies rewrites self.old }
+        ensures ok { OnOk result (self.new ≡ remove (with_bodies rewrites.bodies.items self.old) index) }
+        ensures err { OnErr result (self.new ≡ self.old) }
+    {
+        let key = key_in(self.alloc, &self.list[index])?;
+        self.may_dangle = rewrites.may_dangle;
+        rewrites.put(&mut self.list);
+        self.indexes.remove(&key);
+        renumber(&mut self.indexes, index);
+        self.list.remove(index);
+        self.greatest = greatest_of(&self.list);
+        Ok(())
+    }
+}
+
+/// The key of a definition in the look-up.
+fn key_in(alloc: Global, definition: &Definition) -> Result<Key, OutOfMemory>
+    ensures { IfOk result (λ key. key ≡ name_code (key_in definition.now)) }
+{
+    let key = definition.key();
+    name_key(alloc, key.name.as_str(), key.scope)
+}
+
+/// The indexes after the one that is taken away are lowered by one.
+fn renumber(indexes: &mut BTreeMap<Key, usize>, index: usize)
+    ensures { (key : List ℕ) → get (slice_cmp nat_cmp) indexes.new key ≡ option_map (lowered index) (get (slice_cmp nat_cmp) indexes.old key) }
+{
+    indexes.retain(|_, place| {
+        *place = lowered(*place, index);
+        true
+    });
+}
+
+/// An index, lowered by one where it is past this one.
+fn lowered(place: usize, index: usize) -> usize
+    ensures { result ≡ lowered index place }
+{
+    if place > index { place - 1 } else { place }
+}
+
+/// The id that a definition is local to, 0 where it is local to none.
+fn scope_or_zero(definition: &Definition) -> u32
+    ensures { result ≡ greatest (option_to_list definition.now.scope) }
+{
+    match definition.scope() {
+        Some(id) => id,
+        None => 0,
+    }
+}
+
+/// The greatest id that one of these is local to, 0 where none is.
+fn greatest_of(definitions: &[Definition]) -> u32
+    ensures { result ≡ greatest (scopes_of definitions.now) }
+{
+    let mut most = 0;
+    for definition in definitions {
+        most = most.max(scope_or_zero(definition));
+    }
+    most
+}

@@ -1,0 +1,122 @@
+//! Definitions are found.
+ghost use Rattle.std.specs.Prelude.{◌≡◌, IfOk, chars, find, option_map, position, slice_get};
+ghost use Rattle.ic_laws.specs.CoreStep.{is_named};
+ghost use Rattle.ic_laws.specs.Name.{fold};
+ghost use Rattle.ic_laws.specs.Scene.{definition_at, found_name, key_of, name_of_key, same_key};
+ghost use Rattle.ic_definitions.specs.Named.{definitions_scene, index_with_key, key_in};
+
+use super::Definitions;
+use crate::Definition;
+use crate::definition::{fold_name, key_with};
+use ic_laws::{NameKey, OutOfMemory, agree};
+use ic_pool::{name_key, same_key, same_scope};
+
+impl Definitions {
+    /// The index, from 0, of the definition of an agreeing name that is local to the sheet with this id, or to none. None
+    /// exactly where there is no such one. Where there is no memory for a key of the look-up, all names are compared.
+    pub fn index_of(&self, name: &str, scope: Option<u32>) -> Option<usize>
+        ensures { result ≡ position (is_named (chars name.now) scope) self.now }
+    {
+        if self.list.is_empty() {
+            return None;
+        }
+        match self.index_by_key(name, scope) {
+            Ok(index) => index,
+            Err(_) => first_named(&self.list, name, scope),
+        }
+    }
+
+    /// The same, by the key of the name.
+    fn index_by_key(&self, name: &str, scope: Option<u32>) -> Result<Option<usize>, OutOfMemory>
+        ensures { IfOk result (λ index. index ≡ position (is_named (chars name.now) scope) self.now) }
+    {
+        let folded = fold_name(self.alloc, name)?;
+        self.index_at(folded.as_str(), scope)
+    }
+
+    /// The key of the definition that a word means in a formula whose words are looked up from the sheet with this id, or
+    /// from none: the local one, else the one that is local to none. None exactly where it means none.
+    pub fn find(&self, scope: Option<u32>, word: &str) -> Result<Option<NameKey>, OutOfMemory>
+        ensures { IfOk result (λ key. key ≡ found_name (definitions_scene self.now) scope (chars word.now)) }
+    {
+        if self.list.is_empty() {
+            return Ok(None);
+        }
+        let folded = fold_name(self.alloc, word)?;
+        let local = self.index_at(folded.as_str(), scope)?;
+        if local.is_some() {
+            return Ok(Some(key_with(folded, scope)));
+        }
+        let global = self.index_at(folded.as_str(), None)?;
+        if global.is_some() {
+            return Ok(Some(key_with(folded, None)));
+        }
+        Ok(None)
+    }
+
+    /// The key of the definition of an agreeing name that is local to the sheet with this id, or to none. None exactly where
+    /// there is no such one.
+    pub fn key_at(&self, scope: Option<u32>, word: &str) -> Result<Option<NameKey>, OutOfMemory>
+        ensures { IfOk result (λ key. key ≡ option_map key_of (definition_at (definitions_scene self.now) (fold (chars word.now)) scope)) }
+    {
+        if self.list.is_empty() {
+            return Ok(None);
+        }
+        let folded = fold_name(self.alloc, word)?;
+        if self.index_at(folded.as_str(), scope)?.is_some() {
+            return Ok(Some(key_with(folded, scope)));
+        }
+        Ok(None)
+    }
+
+    /// The name of the definition with this key, as it was given. None exactly where no definition has it. Where there is no
+    /// memory for a key of the look-up, all keys are compared.
+    pub fn name_of(&self, key: &NameKey) -> Option<&str>
+        ensures { option_map (λ name. chars name.now) result ≡ name_of_key (definitions_scene self.now) key.now }
+    {
+        let definition = self.with_key(key)?;
+        Some(definition.name())
+    }
+
+    /// The definition with this key.
+    fn with_key(&self, key: &NameKey) -> Option<&Definition>
+        ensures { option_map (λ d. d.now) result ≡ find (λ d. same_key (key_in d) key.now) self.now }
+    {
+        match self.index_at(key.name.as_str(), key.scope) {
+            Ok(place) => definition_in(&self.list, place?),
+            Err(_) => first_with_key(&self.list, key),
+        }
+    }
+
+    /// The index, from 0, of the definition with this folded name that is local to the sheet with this id, or to none.
+    fn index_at(&self, folded: &str, scope: Option<u32>) -> Result<Option<usize>, OutOfMemory>
+        ensures { IfOk result (λ place. place ≡ index_with_key (record { name = chars folded.now; scope = scope }) self.now) }
+    {
+        let key = name_key(self.alloc, folded, scope)?;
+        Ok(self.indexes.get(&key).copied())
+    }
+}
+
+/// The definition at an index, from 0. None past the end.
+fn definition_in(definitions: &[Definition], place: usize) -> Option<&Definition>
+    ensures { option_map (λ d. d.now) result ≡ slice_get definitions.now place }
+{
+    definitions.get(place)
+}
+
+/// The index, from 0, of the first definition of an agreeing name that is local to the sheet with this id, or to none.
+fn first_named(definitions: &[Definition], name: &str, scope: Option<u32>) -> Option<usize>
+    ensures { result ≡ position (is_named (chars name.now) scope) definitions.now }
+{
+    definitions.iter().position(|definition| agree(definition.name(), name)
+        && same_scope(definition.scope(), scope))
+}
+
+/// The first definition with this key.
+fn first_with_key<'d>(definitions: &'d [Definition], key: &NameKey) -> Option<&'d Definition>
+    ensures { option_map (λ d. d.now) result ≡ find (λ d. same_key (key_in d) key.now) definitions.now }
+{
+    definitions
+        .iter()
+        .find(|definition| same_key(definition.key(), key))
+}

@@ -1,5 +1,0 @@
-use Rattle.ic_names.proofs.NamedLemmas.{named_empty}
-use Rattle.ic_names.proofs.definitions.Definitions.new.Goals as goal
-
-pub invariant_of-result : goal.invariant_of-result
-invariant_of-result c = named_empty c.new-2.result c.new.result.items c.new-2.ensures.empty c.new.ensures.items

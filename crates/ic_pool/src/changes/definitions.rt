@@ -1,0 +1,166 @@
+//! A definition comes, and a definition goes.
+ghost use Rattle.std.specs.Prelude.{◌≡◌, ◌||◌, None, chars};
+ghost use Rattle.ic_laws.specs.Changes.{could_mean, is_of_name};
+ghost use Rattle.ic_laws.specs.Name.{fold};
+ghost use Rattle.ic_laws.specs.Scene.{key_of, same_key, same_scope};
+
+use crate::changes::BookChange;
+use crate::copies::{copy_key, copy_sheet, copy_word};
+use ic_laws::{NameKey, NameMention, OutOfMemory, SheetMention, agree};
+use std::alloc::Global;
+use std::marker::Model;
+
+/// A definition comes, by the name that it was given and its key: words that could mean it do. Contracts see its name and
+/// the id of the sheet that it is local to, if there is one.
+#[derive(Drop)]
+pub struct DefinitionAdded<'n> {
+    name: &'n str,
+    key: &'n NameKey,
+}
+
+impl<'n> Model for DefinitionAdded<'n> {
+    ghost use Rattle.std.specs.Prelude.{◌≡◌, chars};
+    ghost use Rattle.ic_laws.specs.Name.{fold};
+    ghost use Rattle.ic_laws.specs.declared.scene.NameSpelling.{NameSpelling};
+
+    ghost Value = { NameSpelling };
+
+    ghost view = { λ a. record { name = chars a.name.now; scope = a.key.now.scope } };
+
+    ghost invariant = { λ a. a.key.now.name ≡ fold (chars a.name.now) };
+}
+
+impl<'n> DefinitionAdded<'n> {
+    /// The change that this definition makes. The key must be its own.
+    pub fn new(name: &'n str, key: &'n NameKey) -> DefinitionAdded<'n>
+        requires { key.now.name ≡ fold (chars name.now) }
+        ensures { result ≡ record { name = chars name.now; scope = key.now.scope } }
+    {
+        DefinitionAdded { name, key }
+    }
+
+    /// Whether a word could mean it.
+    fn could_mean(&self, scope: Option<u32>, mention: &NameMention) -> bool
+        ensures { result ≡ could_mean (key_of self.now) scope mention.now }
+    {
+        match mention {
+            NameMention::Var(_) => false,
+            NameMention::Name(found) => {
+                self.key.name == found.name && same_scope(self.key.scope, scope)
+            }
+            NameMention::Dangling(word) => {
+                agree(self.name, word.as_str()) && self.reaches(scope)
+            }
+        }
+    }
+
+    /// Whether formulas whose words are looked up from this sheet find it where they find no other.
+    fn reaches(&self, scope: Option<u32>) -> bool
+        ensures { result ≡ (same_scope self.now.scope scope || same_scope self.now.scope None) }
+    {
+        same_scope(self.key.scope, scope) || self.key.scope.is_none()
+    }
+}
+
+impl<'n> BookChange for DefinitionAdded<'n> {
+    ghost use Rattle.ic_laws.specs.Changes.{name_added};
+
+    ghost change = { λ added. name_added added };
+
+    fn changes_sheet(&self, _mention: &SheetMention) -> bool {
+        false
+    }
+
+    fn changes_word(&self, scope: Option<u32>, mention: &NameMention) -> bool {
+        self.could_mean(scope, mention)
+    }
+
+    fn changed_sheet(
+        &self,
+        alloc: Global,
+        mention: &SheetMention,
+    ) -> Result<SheetMention, OutOfMemory> {
+        copy_sheet(alloc, mention)
+    }
+
+    fn changed_word(
+        &self,
+        alloc: Global,
+        scope: Option<u32>,
+        mention: &NameMention,
+    ) -> Result<NameMention, OutOfMemory> {
+        if self.could_mean(scope, mention) {
+            return Ok(NameMention::Name(copy_key(alloc, self.key)?));
+        }
+        copy_word(alloc, mention)
+    }
+}
+
+/// The definition with this key goes: words that mean it become this mention.
+#[derive(Drop)]
+pub struct DefinitionGone<'n> {
+    pub key: &'n NameKey,
+    pub becomes: &'n NameMention,
+}
+
+impl<'n> BookChange for DefinitionGone<'n> {
+    ghost use Rattle.ic_laws.specs.Changes.{OfWords, is_of_name};
+
+    ghost change = { λ gone. OfWords (λ scope mention. is_of_name gone.key.now mention) gone.becomes.now };
+
+    fn changes_sheet(&self, _mention: &SheetMention) -> bool {
+        false
+    }
+
+    fn changes_word(&self, _scope: Option<u32>, mention: &NameMention) -> bool {
+        is_of_name(self.key, mention)
+    }
+
+    fn changed_sheet(
+        &self,
+        alloc: Global,
+        mention: &SheetMention,
+    ) -> Result<SheetMention, OutOfMemory> {
+        copy_sheet(alloc, mention)
+    }
+
+    fn changed_word(
+        &self,
+        alloc: Global,
+        _scope: Option<u32>,
+        mention: &NameMention,
+    ) -> Result<NameMention, OutOfMemory> {
+        if is_of_name(self.key, mention) {
+            return copy_word(alloc, self.becomes);
+        }
+        copy_word(alloc, mention)
+    }
+}
+
+/// Whether a word means the definition with this key.
+fn is_of_name(key: &NameKey, mention: &NameMention) -> bool
+    ensures { result ≡ is_of_name key.now mention.now }
+{
+    match mention {
+        NameMention::Name(found) => same_key(found, key),
+        _ => false,
+    }
+}
+
+/// Whether two keys of definitions are equal.
+pub fn same_key(a: &NameKey, b: &NameKey) -> bool
+    ensures { result ≡ same_key a.now b.now }
+{
+    a.name == b.name && same_scope(a.scope, b.scope)
+}
+
+/// Whether both are local to one sheet, or to none.
+pub fn same_scope(a: Option<u32>, b: Option<u32>) -> bool
+    ensures { result ≡ same_scope a b }
+{
+    match (a, b) {
+        (None, None) => true,
+        (Some(a), Some(b)) => a == b,
+        _ => false,
+    }
+}
