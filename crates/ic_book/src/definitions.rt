@@ -18,9 +18,9 @@ mod parts;
 
 use crate::{BookError, Model};
 use body::TypedBody;
+use ic_definitions::Definition;
 use ic_laws::OutOfMemory;
 use ic_laws::scan::push_text;
-use ic_definitions::Definition;
 use ic_refs::is_valid_identifier;
 pub(crate) use parts::bodies_without;
 use parts::{add_for_all, add_for_sheet, delete_at};

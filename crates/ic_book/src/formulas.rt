@@ -29,11 +29,11 @@ ghost use Rattle.ic_book.specs.Written.{WritesFormula, cell_causes, kind_of, poo
 use crate::values::with_quote;
 use crate::{BookError, Model};
 use ic_cells::Styles;
+use ic_definitions::Definition;
 use ic_grid::{Grid, GridError};
 use ic_input::formula_without_prefix;
 use ic_laws::scan::{push_char, push_text};
 use ic_laws::{Bound, Dialect, Formula, OutOfMemory, Spelled, Text};
-use ic_definitions::Definition;
 use ic_pool::Steps;
 use ic_sheets::{FormulaKind, Sheet};
 use ic_tables::Tables;
@@ -206,7 +206,13 @@ impl<'a> Model<'a> {
     }
 
     /// The formula of a text in a cell of the sheet with this id.
-    fn formula_of_text(&self, id: u32, row: i32, column: i32, body: &str) -> Result<Formula, OutOfMemory>
+    fn formula_of_text(
+        &self,
+        id: u32,
+        row: i32,
+        column: i32,
+        body: &str,
+    ) -> Result<Formula, OutOfMemory>
         ensures { IfOk result (λ f. f ≡ cell_formula (notations_in self.now.book)
             (core_of self.now.book) id row column (chars body.now)) }
     {

@@ -11,6 +11,7 @@
 mod about;
 mod cells;
 mod content;
+mod definitions;
 mod error;
 mod extend;
 mod formulas;
@@ -21,7 +22,6 @@ mod line_styles;
 mod lines;
 mod markup;
 mod model;
-mod definitions;
 mod notation;
 mod parts;
 mod properties;

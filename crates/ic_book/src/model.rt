@@ -15,8 +15,8 @@ use crate::BookError;
 use crate::about::About;
 use crate::scene::BookScene;
 use ic_cells::{SharedStrings, Styles};
-use ic_laws::{Finder, Formula, OutOfMemory, Text};
 use ic_definitions::Definitions;
+use ic_laws::{Finder, Formula, OutOfMemory, Text};
 use ic_sheets::Sheets;
 use ic_tables::{Language, NamedLocale, Tables};
 use jiff::Timestamp;
@@ -129,7 +129,10 @@ impl<'a> Model<'a> {
         ensures unused { IfSome result (λ id. All (λ used. used < id) (used_ids
             (core_of self.now.book))) }
     {
-        let greatest = self.sheets.greatest_id().max(self.definitions.greatest_scope());
+        let greatest = self
+            .sheets
+            .greatest_id()
+            .max(self.definitions.greatest_scope());
         greatest.checked_add(1)
     }
 

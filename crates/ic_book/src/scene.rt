@@ -3,8 +3,8 @@ ghost use Rattle.ic_laws.specs.Name.{agrees, fold};
 ghost use Rattle.ic_laws.specs.Scene.{definition_at, key_of, same_scope};
 ghost use Rattle.ic_book.specs.Scene.{scene_with};
 
-use ic_laws::{Finder, NameKey, OutOfMemory, agree};
 use ic_definitions::Definitions;
+use ic_laws::{Finder, NameKey, OutOfMemory, agree};
 use ic_pool::{copy_key, same_key, same_scope};
 use ic_sheets::Sheets;
 use std::alloc::Global;
@@ -23,7 +23,10 @@ impl<'b> BookScene<'b> {
         ensures sheets { result.sheets.now ≡ sheets.now }
         ensures definitions { result.definitions.now ≡ definitions.now }
     {
-        BookScene { sheets, definitions }
+        BookScene {
+            sheets,
+            definitions,
+        }
     }
 }
 

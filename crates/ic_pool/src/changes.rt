@@ -10,8 +10,8 @@ mod sheets;
 
 use crate::copies::{MentionChange, copy_changed};
 use crate::mentions::{MentionTest, some_in};
-use ic_laws::{Formula, NameMention, OutOfMemory, SheetMention};
 pub use definitions::{DefinitionAdded, DefinitionGone, same_key, same_scope};
+use ic_laws::{Formula, NameMention, OutOfMemory, SheetMention};
 pub use sheets::{SheetGone, SheetNamed};
 use std::alloc::Global;
 

@@ -17,7 +17,8 @@ mod pool;
 mod steps;
 
 pub use changes::{
-    BookChange, DefinitionAdded, DefinitionGone, SheetGone, SheetNamed, changed_formula, same_key, same_scope,
+    BookChange, DefinitionAdded, DefinitionGone, SheetGone, SheetNamed, changed_formula, same_key,
+    same_scope,
 };
 pub use code::{key_of, name_key};
 pub use copies::{copy_formula, copy_key};

@@ -141,7 +141,10 @@ impl Fields for Vec<(String, Option<u32>, String)> {
 }
 
 /// Appends the three fields of a listed definition.
-fn push_definition(reply: &mut String, listed: &(String, Option<u32>, String)) -> Result<(), OutOfMemory>
+fn push_definition(
+    reply: &mut String,
+    listed: &(String, Option<u32>, String),
+) -> Result<(), OutOfMemory>
     ensures ok { OnOk result (chars (string_bytes reply.new) ≡ chars (string_bytes reply.old)
         ++ flat_map field_word (fields_of_definition listed.now)) }
     ensures texts { OnOk result (AreTexts (fields_of_definition listed.now)) }

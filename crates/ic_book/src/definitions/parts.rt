@@ -14,8 +14,8 @@ ghost use Rattle.ic_definitions.specs.Named.{definitions_scene, key_in};
 ghost use Rattle.ic_sheets.specs.Rewriting.{changed_pool, look_ups, looks_up_after, sheets_of};
 ghost use Rattle.ic_sheets.specs.declared.sheet.Sheet.{Sheet};
 
-use ic_laws::{NameKey, NameMention, OutOfMemory, Text};
 use ic_definitions::{BodyRewrites, Definition, Definitions};
+use ic_laws::{NameKey, NameMention, OutOfMemory, Text};
 use ic_pool::{DefinitionAdded, DefinitionGone, SheetGone};
 use ic_sheets::Sheets;
 use std::alloc::Global;
@@ -124,7 +124,10 @@ fn mention_without(
 }
 
 /// The key that such a word finds without this definition.
-fn key_without(definitions: &Definitions, definition: &Definition) -> Result<Option<NameKey>, OutOfMemory>
+fn key_without(
+    definitions: &Definitions,
+    definition: &Definition,
+) -> Result<Option<NameKey>, OutOfMemory>
     ensures { IfOk result (λ key. (index : ℕ) → IsDistinct same_key (map key_in definitions.now)
         → slice_get definitions.now index ≡ Some definition.now
         → key ≡ found_name (definitions_scene (remove definitions.now index)) None definition.now.name) }

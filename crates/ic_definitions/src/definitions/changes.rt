@@ -30,10 +30,7 @@ impl Definitions {
     }
 
     /// The same for a change that leaves each body in which all was found: where no body may dangle it looks at none.
-    pub fn prepare_dangling<C: BookChange>(
-        &self,
-        change: &C,
-    ) -> Result<BodyRewrites, OutOfMemory>
+    pub fn prepare_dangling<C: BookChange>(&self, change: &C) -> Result<BodyRewrites, OutOfMemory>
         requires { AllByRecursion (StaysWhereFound (C.change change.now)) self.now }
         ensures made { IfOk result (λ w. with_bodies w.bodies.items self.now ≡ map (with_body_tree (changed_tree (C.change change.now))) self.now) }
         ensures fits { IfOk result (λ w. FitsBodies w self.now) }

@@ -84,7 +84,13 @@ impl Sheets {
         requires { (id : ℕ) → SparesFound (C.change change.now) (Some id) }
         ensures { IfOk result (λ prepared. Makes (C.change change.now) prepared.items self.now) }
     {
-        prepare_dangling(self.alloc, &self.list, &self.indexes, &self.dangling, change)
+        prepare_dangling(
+            self.alloc,
+            &self.list,
+            &self.indexes,
+            &self.dangling,
+            change,
+        )
     }
 
     /// What a change does to the formulas of the sheet at an index, from 0.

@@ -44,7 +44,11 @@ impl Sheets {
     }
 
     /// Gives the sheet at an index, from 0, another name, and leaves all formulas. `OutOfMemory` changes nothing.
-    pub(crate) fn rename_leaving_formulas(&mut self, index: usize, name: &str) -> Result<(), OutOfMemory>
+    pub(crate) fn rename_leaving_formulas(
+        &mut self,
+        index: usize,
+        name: &str,
+    ) -> Result<(), OutOfMemory>
         requires within { index < length self.old }
         requires free { list_any (agrees (chars name.now)) (remove (map (λ s. s.name) self.old) index) ≡ false }
         ensures ok { OnOk result (self.new ≡ updated_at (λ s. record s { name = chars name.now }) index self.old) }
