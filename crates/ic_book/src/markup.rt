@@ -1,8 +1,9 @@
 //! A sheet as a table of texts.
 ghost use Rattle.std.specs.Prelude.{◌≡◌, ◌<◌, ◌≤◌, ◌++◌, [], ◌∷◌, IfOk, OnOk, Some, chars, length, string_bytes};
-ghost use Rattle.std.specs.BTreeMap.{keys};
+ghost use Rattle.std.specs.BTreeMap.{IsOrdered, keys};
 ghost use Rattle.std.specs.FinMap as finite;
 ghost use Rattle.std.specs.List.{join_by, range_with_len};
+ghost use Rattle.ic_cells.specs.Maps.{place_cmp};
 ghost use Rattle.ic_cells.specs.Style.{style_at};
 ghost use Rattle.ic_laws.specs.Character.{line_feed};
 ghost use Rattle.ic_laws.specs.Position.{column_count, row_count};
@@ -189,7 +190,8 @@ fn push_marked(text: &mut String, shown: &str, bold: bool) -> Result<(), OutOfMe
 
 /// The greatest row and column that hold a cell, and 1 where none does.
 fn last_of(cells: &BTreeMap<(i32, i32), Cell>) -> (u32, u32)
-    ensures { result ≡ last_of (keys cells.now) }
+    ensures last { result ≡ last_of (keys cells.now) }
+    ensures ordered { IsOrdered place_cmp cells.now }
 {
     let mut row: u32 = 1;
     let mut column: u32 = 1;

@@ -1,15 +1,15 @@
 use Rattle.std.proofs.Common.{◌≡◌, ◌-◌, ◌≤◌, ◌++◌, [], ◌∷◌, chars, string_bytes}
-use Rattle.std.specs.List.{join_by, range_with_len}
 use Rattle.ic_laws.specs.Character.{line_feed}
 use Rattle.ic_sheets.specs.Sheet.{sheet_of}
 use Rattle.ic_book.specs.Markup.{row_shown}
+use Rattle.ic_book.proofs.MarkupLemmas.{followed}
 use Rattle.ic_book.proofs.model.Model.push_rows.Given as goal
 
--- the rows so far
+-- the rows after the first so far
 abbrev pub invariant-rows : goal.invariant-rows
 invariant-rows l =
     (1 ≤ l.row) × (l.row ≤ l.rows)
-    × (chars (string_bytes l.text) ≡ chars (string_bytes l.initial.text) ++ join_by (row_shown l.self.book (sheet_of l.worksheet) l.columns) (line_feed ∷ []) (range_with_len 1 l.row))
+    × (chars (string_bytes l.text) ≡ chars (string_bytes l.initial.text) ++ followed (row_shown l.self.book (sheet_of l.worksheet) l.columns) (line_feed ∷ []) l.row)
 
 abbrev pub decreases-rows : goal.decreases-rows
 decreases-rows l = l.rows - l.row
