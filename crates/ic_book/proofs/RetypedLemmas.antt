@@ -1,5 +1,5 @@
 -- A cell that is typed what it showed holds what it held.
-use Rattle.std.proofs.Common.{ℕ, ℤ, List, Result, Ok, Err, Unit}
+use Rattle.std.proofs.Common.{ℕ, ℤ, List, Result, Ok, Err}
 use Rattle.std.specs.Result.{OnOk}
 use Rattle.ic_machine.proofs.RetypedLemmas.{retyped_stays}
 use Rattle.ic_machine.specs.subjects.Writing.{SetUserInput, writing_step}

@@ -17,10 +17,13 @@ columns-preserved c =
     let test = c.columns-test.true in
     let from : 1 ≤ c.columns.column + 1 = omega (arith, here.0) in
     let upto : c.columns.column + 1 ≤ c.args.columns = omega (arith, test) in
-    let below : c.columns.column + 1 ≤ column_count = omega (arith, upto, c.requires.columns.1) in
-    (from, upto, one_more (λ column. place_shown c.args.self.now.book (sheet_of c.args.worksheet.now) (pos c.args.row) (pos column)) (codes "|") c.columns.column here.0
-    (chars (string_bytes c.push_place.new.text)) (chars (string_bytes c.columns.text)) (chars (string_bytes c.push_char.new.text)) (chars (string_bytes c.push_place-in-columns.new.text)) here.2 c.in_ok-push_char.ensures.ok
-    (c.in_ok-push_place-2.ensures ∙ ap₂ (λ r k. chars (string_bytes c.push_char.new.text) ++ place_shown c.args.self.now.book (sheet_of c.args.worksheet.now) r k) (row_small c.args.row c.requires.row) (column_small (c.columns.column + 1) below)))
+    let below : c.columns.column + 1 ≤ column_count = omega (arith, upto, c.requires.columns.1) in (
+      from,
+      upto,
+      one_more (λ column. place_shown c.args.self.now.book (sheet_of c.args.worksheet.now) (pos c.args.row) (pos column)) (codes "|") c.columns.column here.0
+          (chars (string_bytes c.push_place.new.text)) (chars (string_bytes c.columns.text)) (chars (string_bytes c.push_char.new.text)) (chars (string_bytes c.push_place-in-columns.new.text)) here.2 c.in_ok-push_char.ensures.ok
+          (c.in_ok-push_place-2.ensures ∙ ap₂ (λ r k. chars (string_bytes c.push_char.new.text) ++ place_shown c.args.self.now.book (sheet_of c.args.worksheet.now) r k) (row_small c.args.row c.requires.row) (column_small (c.columns.column + 1) below)),
+    )
 
 pub returns : goal.returns
 returns c =
