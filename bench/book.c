@@ -692,6 +692,7 @@ static void answer(char* s, size_t n) {
         u32* v = sh >= 0 && sh < pool_count ? cell(pools + sh, r, c, 0) : 0;
         if (!v) {
             reply(1);
+            if (IS("get_localized_cell_content")) memcpy(t - 1, "\t\n", 2), t++;
             return;
         }
         row = r;
