@@ -138,14 +138,11 @@ impl<'a> Model<'a> {
         // After an error the look-up of this sheet may be there; the others are as before.
         ensures left { OnErr result (LooksUpAsBefore sheet self.old self.new) }
     {
-        if sheet as usize >= self.contents.sheets.len() {
+        let index = sheet as usize;
+        if index >= self.contents.sheets.len() {
             return Err(BookError::InvalidSheet);
         }
-        Ok(
-            self.contents
-                .sheets
-                .place_copy(sheet as usize, tree, steps)?,
-        )
+        Ok(self.contents.sheets.place_copy(index, tree, steps)?)
     }
 
     /// Writes the formula of a body, which stands after `=`, into a cell.

@@ -10,7 +10,7 @@ pub returns : goal.returns
 unfolding get_language_step
 returns c = record {
   does = tells c.args.self.now (subst (λ (m : ModelState). IsValidBook m.book) c.self.view_is c.self.invariant) string_only (text_field c.args.self.now.book.language) c.in_ok-string_of.field-0
-      (ap text_field (c.in_ok-string_of.ensures ∙ ap (λ (m : ModelState). m.book.language) c.self.view_is));
+      (ap text_field (c.in_ok-string_of.ensures ∙ c.language.ensures.code ∙ ap (λ (m : ModelState). m.book.language) c.self.view_is));
 }
 
 pub returns-in_err-string_of : goal.returns-in_err-string_of

@@ -10,11 +10,12 @@ use Rattle.ic_machine.specs.subjects.Writing.{unquoted}
 use Rattle.ic_sheets.proofs.CellLemmas.{stored_pair}
 use Rattle.ic_sheets.specs.Sheet.{Sheet, TakesCell, formula_cell, sheet_of, with_cell_in}
 use Rattle.ic_sheets.specs.declared.sheet.Sheet.{Sheet as HeldSheet}
+use Rattle.ic_tables.specs.Tables.{TableSet}
 use Rattle.ic_book.specs.Book.{ModelState, core_of, notations_in}
 use Rattle.ic_book.specs.Inside.{held, held_state, with_sheets, with_styles}
 use Rattle.ic_book.specs.LookUps.{LooksUpAsBefore}
 use Rattle.ic_book.specs.Values.{Shows, shown_style}
-use Rattle.ic_book.specs.Written.{WritesFormula, value_refusal}
+use Rattle.ic_book.specs.Written.{WritesFormula, kind_of, value_refusal}
 use Rattle.ic_book.proofs.GridLemmas.{taken_back}
 use Rattle.ic_book.proofs.HeldLemmas.{book_again, clear_at, entry_at, held_again, is_within, style_within, takes_there, whole_at, whole_updated, written, written_held}
 use Rattle.ic_book.proofs.LookUpLemmas.{look_ups_left}
@@ -83,7 +84,7 @@ invariant_of-self-in-Ok c =
     let after =
     c.in-Ok.ensures.ok.3
     ∙ ap (λ (p : CellPlace). updated_at (λ (s : HeldSheet). record s { pool = record { formulas = pool; is_whole = true }; grid = with_cell_in p (formula_cell kind k number) s.grid }) sheet c.self.inside.contents.sheets) cell in
-    written_held c.self.inside c.self.invariant c.write.new.self sheet entry there place body c.in_ok-formula.formula kind number c.without_quote.new.styles k pool c.in-Ok.ensures.ok.2 is c.kind_of-kind.ensures numbered styled after
+    written_held c.self.inside c.self.invariant c.write.new.self sheet entry there place body c.in_ok-formula.formula kind number c.without_quote.new.styles k pool c.in-Ok.ensures.ok.2 is (c.kind_of-kind.ensures ∙ ap (λ (t : TableSet). kind_of t.kinds c.in_ok-formula.formula) c.tables.ensures) numbered styled after
     (clear_at c.self.inside c.self.invariant sheet place none entry there)
 
 pub returns-in-Ok-clause-written : goal.returns-in-Ok-clause-written
@@ -117,7 +118,7 @@ returns-in-Ok-clause-written c =
     let new = held (with_styles c.without_quote.new.styles (with_sheets c.write.new.self c.self.inside)) in
     subst (λ (m : ModelState). IfSome (slice_get m.book.sheets sheet) (λ s. WritesFormula sheet s place body m.book new)) c.self.view_is
     (subst (λ o. IfSome o (λ (s : Sheet). WritesFormula sheet s place body now new)) (sym (slice_get-map sheet_of c.self.inside.contents.sheets sheet ∙ ap (option_map sheet_of) there))
-    (written c.self.inside c.self.invariant c.write.new.self sheet entry there place body c.in_ok-formula.formula kind number c.without_quote.new.styles k pool c.in-Ok.ensures.ok.2 is c.kind_of-kind.ensures numbered styled after))
+    (written c.self.inside c.self.invariant c.write.new.self sheet entry there place body c.in_ok-formula.formula kind number c.without_quote.new.styles k pool c.in-Ok.ensures.ok.2 is (c.kind_of-kind.ensures ∙ ap (λ (t : TableSet). kind_of t.kinds c.in_ok-formula.formula) c.tables.ensures) numbered styled after))
 
 pub returns-in-Ok-clause-looks_up : goal.returns-in-Ok-clause-looks_up
 returns-in-Ok-clause-looks_up c =
