@@ -25,6 +25,7 @@ pub mod PartLemmas
 pub mod PartUses
 pub mod ReadLemmas
 pub mod ReferenceLemmas
+pub mod RetypedLemmas
 pub mod SettingLemmas
 pub mod SharedLemmas
 pub mod ShownLemmas

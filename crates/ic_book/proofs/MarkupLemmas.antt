@@ -1,9 +1,11 @@
 -- A sheet as a table.
-use Rattle.std.proofs.Common.{◌≡◌, ◌∷◌, ◌++◌, ◌+◌, ◌-◌, ◌≤◌, ◌≤ℤ◌, ℕ, ℤ, pos, negsuc, nat_abs, zero, suc, arith, ints, nat_tests, append-nil, append_assoc, codes, List, [], Bool, true, false, not, ◌&&◌, ◌||◌, map, Option, Some, None, is_some, option_map, refl, sym, ap, ap₂, subst, ◌∙◌}
+use Rattle.std.proofs.Common.{◌≡◌, ◌∷◌, ◌++◌, ◌+◌, ◌-◌, ◌≤◌, ◌≤ℤ◌, ℕ, ℤ, pos, negsuc, nat_abs, zero, suc, arith, to_z, w32, append-nil, append_assoc, codes, List, [], Bool, true, false, ◌&&◌, ◌||◌, map, Option, Some, None, is_some, option_map, refl, sym, ap, ap₂, subst, ◌∙◌}
 use Rattle.std.specs.Prelude.{flat_map, int_le, max, option_and_then, unwrap_or}
 use Rattle.std.specs.List.{join_by, list_any, range_with_len, slice_get}
 use Rattle.std.proofs.lemmas.Bool.{and_parts}
+use Rattle.std.proofs.lemmas.Bool.Decides.{nat_tests}
 use Rattle.std.proofs.lemmas.Grind.{flat_map-append}
+use Rattle.std.proofs.lemmas.Int.{ints, to_z_pos}
 use Rattle.std.proofs.Math.Nat.{le-max_left, max-le}
 use Rattle.std.specs.FinMap as finite
 use Rattle.std.specs.Option.{option_map_or}
@@ -96,7 +98,7 @@ module _ (f : ℕ → List ℕ) (sep : List ℕ) where
       let last : 2 + n ≡ suc n + 1 = omega arith in
       ap (λ k. flat_map (λ y. sep ++ f y) (range_with_len 2 k)) more
       ∙ ap (flat_map (λ y. sep ++ f y)) (range_more 2 n)
-      ∙ flat_map-append (λ y. sep ++ f y) (range_with_len 2 n) (2 + n ∷ [])
+      ∙ flat_map-append (λ y. sep ++ f y) (range_with_len 2 n) ((2 + n) ∷ [])
       ∙ ap (λ rest. flat_map (λ y. sep ++ f y) (range_with_len 2 n) ++ rest) (append-nil (sep ++ f (2 + n)) ∙ ap (λ k. sep ++ f k) last)
       ∙ ap (λ k. flat_map (λ y. sep ++ f y) (range_with_len 2 k) ++ (sep ++ f (suc n + 1))) (sym less)
 
@@ -122,7 +124,7 @@ module _ (f : ℕ → List ℕ) (sep : List ℕ) where
 
 -- between stars ----
 
-pub is_marked : (bold : Bool) → not bold ≡ false → (shown before first second third : List ℕ) → first ≡ before ++ codes "**" → second ≡ first ++ shown → third ≡ second ++ codes "**" → third ≡ before ++ emphasized bold shown
+pub is_marked : (bold : Bool) → bold ≡ true → (shown before first second third : List ℕ) → first ≡ before ++ codes "**" → second ≡ first ++ shown → third ≡ second ++ codes "**" → third ≡ before ++ emphasized bold shown
 is_marked false h shown before first second third a b c = cc
 is_marked true h shown before first second third a b c =
     c ∙ ap (λ t. t ++ codes "**") (b ∙ ap (λ t. t ++ shown) a) ∙ append_assoc (before ++ codes "**") shown (codes "**") ∙ append_assoc before (codes "**") (shown ++ codes "**")
@@ -149,6 +151,13 @@ up_to (pos k) most e = let below = (and_parts (int_le (pos 1) (pos k)) (int_le (
 up_to (negsuc k) most e = absurd (grind (arith, ints, nat_tests, e))
 
 -- the places of a sheet's cells
+-- so their numbers are as small as a row and a column
+pub row_small : (n : ℕ) → n ≤ row_count → to_z w32 n ≡ pos n
+row_small n h = to_z_pos w32 n (omega (arith, h))
+
+pub column_small : (n : ℕ) → n ≤ column_count → to_z w32 n ≡ pos n
+column_small n h = to_z_pos w32 n (omega (arith, h))
+
 some_there : {X : Type 0} (o : Option X) → is_some o ≡ true → (x : X) × (o ≡ Some x)
 some_there None e = cc
 some_there (Some x) e = (x, refl)

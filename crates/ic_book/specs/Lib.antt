@@ -12,6 +12,7 @@ pub mod Mentioned
 pub mod Parts
 pub mod References
 pub mod Refused
+pub mod Retyped
 pub mod Scene
 pub mod Served
 pub mod Shown

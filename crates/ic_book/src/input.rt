@@ -1,11 +1,12 @@
 //! Texts that are typed into cells, or given to them.
-ghost use Rattle.std.specs.Prelude.{◌≡◌, IfOk, chars, option_map, string_bytes};
+ghost use Rattle.std.specs.Prelude.{◌≡◌, IfOk, OnOk, chars, option_map, string_bytes};
 ghost use Rattle.ic_input.specs.Typed.{needs_quoting};
 ghost use Rattle.ic_machine.specs.InForce.{typed_in};
 ghost use Rattle.ic_machine.specs.subjects.Writing.{SetUserInput, UpdateCellWithText, writing_step};
 ghost use Rattle.ic_book.specs.Does.{Does, DoesIn, DoesStep, WantedIn};
 ghost use Rattle.ic_book.specs.Fields.{no_fields};
 ghost use Rattle.ic_book.specs.LookUps.{LooksUpAsBefore};
+ghost use Rattle.ic_book.specs.Retyped.{Retypes};
 ghost use Rattle.ic_book.specs.Values.{style_change, typed_change, typed_content, typed_formula, typed_step, value_content};
 ghost use Rattle.ic_book.specs.Whole.{whole_of};
 
@@ -60,6 +61,10 @@ impl<'a> Model<'a> {
         ensures does { DoesIn writing_step
             (SetUserInput sheet row column (chars (string_bytes value))) no_fields
             result self.old self.new }
+
+        // What the cell showed leaves in it what it held.
+        ensures retyped { OnOk result
+            (Retypes sheet row column (chars (string_bytes value)) self.old self.new) }
 
         // The look-up of this sheet's formulas may be there then; the others are as before.
         ensures looks_up { LooksUpAsBefore sheet self.old self.new }

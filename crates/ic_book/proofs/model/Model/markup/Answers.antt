@@ -1,9 +1,10 @@
-use Rattle.std.proofs.Common.{◌≡◌, ◌∙◌, ◌++◌, ap, chars, string_bytes, subst}
+use Rattle.std.proofs.Common.{◌≡◌, ◌∙◌, ◌++◌, [], ◌∷◌, ap, chars, string_bytes, subst}
 use Rattle.std.specs.List.{join_by, range_with_len}
 use Rattle.std.proofs.lemmas.Str.{chars-nil}
+use Rattle.ic_laws.specs.Character.{line_feed}
 use Rattle.ic_sheets.specs.Sheet.{sheet_of}
 use Rattle.ic_book.specs.Book.{IsValidBook, ModelState}
-use Rattle.ic_book.specs.Markup.{last_of}
+use Rattle.ic_book.specs.Markup.{last_of, row_shown}
 use Rattle.ic_book.proofs.CellReads.{same_keys}
 use Rattle.ic_book.proofs.GridLemmas.{its_grid}
 use Rattle.ic_book.proofs.MarkupLemmas.{columns_within, rows_within, table_told}
@@ -28,6 +29,6 @@ returns c =
     let s = sheet_of c.args.worksheet.now in
     let keys = same_keys c.as_map.result.now s.grid.cells c.last_of-rows.ensures.ordered c.as_map.ensures in
     c.in_ok-push_rows.ensures
-    ∙ ap (λ b. chars b ++ join_by _ _ (range_with_len 1 c.last_of-rows.result.0)) c.new-text.ensures.bytes
-    ∙ ap (λ t. t ++ join_by _ _ (range_with_len 1 c.last_of-rows.result.0)) chars-nil
+    ∙ ap (λ b. chars b ++ join_by (row_shown c.args.self.now.book s c.last_of-rows.result.1) (line_feed ∷ []) (range_with_len 1 c.last_of-rows.result.0)) c.new-text.ensures.bytes
+    ∙ ap (λ t. t ++ join_by (row_shown c.args.self.now.book s c.last_of-rows.result.1) (line_feed ∷ []) (range_with_len 1 c.last_of-rows.result.0)) chars-nil
     ∙ table_told c.args.self.now.book s c.last_of-rows.result.0 c.last_of-rows.result.1 (ap (λ p. p.0) (c.last_of-rows.ensures.last ∙ ap last_of keys)) (ap (λ p. p.1) (c.last_of-rows.ensures.last ∙ ap last_of keys))

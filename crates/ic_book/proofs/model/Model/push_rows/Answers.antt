@@ -16,9 +16,12 @@ rows-preserved c =
     let here = c.rows.invariant in
     let test = c.rows-test.true in
     let from : 1 ≤ c.rows.row + 1 = omega (arith, here.0) in
-    let upto : c.rows.row + 1 ≤ c.args.rows = omega (arith, test) in
-    (from, upto, one_more (row_shown c.args.self.now.book (sheet_of c.args.worksheet.now) c.args.columns) (line_feed ∷ []) c.rows.row here.0
-    (chars (string_bytes c.push_row.new.text)) (chars (string_bytes c.rows.text)) (chars (string_bytes c.push_char.new.text)) (chars (string_bytes c.push_row-in-rows.new.text)) here.2 c.in_ok-push_char.ensures.ok c.in_ok-push_row-2.ensures)
+    let upto : c.rows.row + 1 ≤ c.args.rows = omega (arith, test) in (
+      from,
+      upto,
+      one_more (row_shown c.args.self.now.book (sheet_of c.args.worksheet.now) c.args.columns) (line_feed ∷ []) c.rows.row here.0
+          (chars (string_bytes c.push_row.new.text)) (chars (string_bytes c.rows.text)) (chars (string_bytes c.push_char.new.text)) (chars (string_bytes c.push_row-in-rows.new.text)) here.2 c.in_ok-push_char.ensures.ok c.in_ok-push_row-2.ensures,
+    )
 
 pub returns : goal.returns
 returns c =

@@ -11,6 +11,7 @@ use Rattle.ic_book.specs.Fields.{no_fields}
 use Rattle.ic_book.specs.Refused.{refusal_of}
 use Rattle.ic_book.specs.Values.{typed_step}
 use Rattle.ic_book.proofs.CellReads.{of_error}
+use Rattle.ic_book.proofs.RetypedLemmas.{retyped_so}
 use Rattle.ic_book.proofs.TypedSteps.{input_is, input_told, input_wants}
 use Rattle.ic_book.proofs.ValueLemmas.{refusal_there}
 use Rattle.ic_book.proofs.model.Model.set_user_input.Goals as goal
@@ -47,3 +48,12 @@ returns-clause-does c =
 
 pub returns-clause-looks_up : goal.returns-clause-looks_up
 returns-clause-looks_up c = c.write_typed.ensures.looks_up
+
+pub returns-in_err-style_to_write-clause-retyped : goal.returns-in_err-style_to_write-clause-retyped
+returns-in_err-style_to_write-clause-retyped c = retyped_so c.args.sheet c.args.row c.args.column (chars (string_bytes c.args.value)) c.args.self.now c.args.self.now c.from_residual.result (returns-in_err-style_to_write-clause-does c)
+
+pub returns-in_err-typed-clause-retyped : goal.returns-in_err-typed-clause-retyped
+returns-in_err-typed-clause-retyped c = retyped_so c.args.sheet c.args.row c.args.column (chars (string_bytes c.args.value)) c.args.self.now c.args.self.now c.from_residual-in_err-typed.result (returns-in_err-typed-clause-does c)
+
+pub returns-clause-retyped : goal.returns-clause-retyped
+returns-clause-retyped c = retyped_so c.args.sheet c.args.row c.args.column (chars (string_bytes c.args.value)) c.args.self.now c.write_typed.new.self c.write_typed.result (returns-clause-does c)
