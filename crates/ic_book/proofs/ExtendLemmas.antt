@@ -170,21 +170,21 @@ module _ (now : ModelState) (valid : IsValidBook now.book) (l : NamedLocale) (g 
     content_is : option_map_or (extended whole seen target) (content_at seen row column) [] ≡ option_map_or (extended whole seen target) (option_map (content_of strings) held) []
     content_is = ap (λ o. option_map_or (extended whole seen target) o []) (get-seen (content_of strings) s.grid.cells (row, column))
 
-    by_formula : (x : Cell) (o : Option Formula) → option_map (formula_in s.pool) (cells.formula_of x) ≡ o
+    by_formula : (x : Cell) (o : Option Formula) → option_map (formula_in s.pool) (cells.cell_formula_index x) ≡ o
         → extended whole seen target (content_of strings x) ≡ option_map_or (formula_text whole target) o (localized_text whole (content_of strings x))
     by_formula x o e =
         ap (λ (i : Option ℕ). option_map_or (formula_text whole target) (option_map (formula_in s.pool) i) (localized_text whole (content_of strings x))) (index_seen strings x)
         ∙ ap (λ (o : Option Formula). option_map_or (formula_text whole target) o (localized_text whole (content_of strings x))) e
 
-    with_formula : (o : Option Cell) (f : Formula) → option_map (formula_in s.pool) (option_and_then cells.formula_of o) ≡ Some f → option_map_or (extended whole seen target) (option_map (content_of strings) o) [] ≡ formula_text whole target f
+    with_formula : (o : Option Cell) (f : Formula) → option_map (formula_in s.pool) (option_and_then cells.cell_formula_index o) ≡ Some f → option_map_or (extended whole seen target) (option_map (content_of strings) o) [] ≡ formula_text whole target f
     with_formula None f e = cc
     with_formula (Some x) f e = by_formula x (Some f) e
 
-    without_formula : (o : Option Cell) → option_map (formula_in s.pool) (option_and_then cells.formula_of o) ≡ None → option_map_or (extended whole seen target) (option_map (content_of strings) o) [] ≡ value_text strings l.locale g o
+    without_formula : (o : Option Cell) → option_map (formula_in s.pool) (option_and_then cells.cell_formula_index o) ≡ None → option_map_or (extended whole seen target) (option_map (content_of strings) o) [] ≡ value_text strings l.locale g o
     without_formula None e = refl
     without_formula (Some x) e = by_formula x None e ∙ text_is x
 
-    its_formula : (o : Option Formula) → formula_at (cells_of s.pool (finite.entries s.grid.cells)) row column ≡ o → option_map (formula_in s.pool) (option_and_then cells.formula_of held) ≡ o
+    its_formula : (o : Option Formula) → formula_at (cells_of s.pool (finite.entries s.grid.cells)) row column ≡ o → option_map (formula_in s.pool) (option_and_then cells.cell_formula_index held) ≡ o
     its_formula o e = sym (formula_by_cell s.pool s.grid.cells row column) ∙ e
 
     pub extends_formula : (f : Formula) → formula_at (cells_of s.pool (finite.entries s.grid.cells)) row column ≡ Some f → (text : String Global)

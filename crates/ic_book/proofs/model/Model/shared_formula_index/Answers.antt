@@ -19,7 +19,7 @@ use Rattle.ic_book.proofs.model.Model.shared_formula_index.Goals as goal
 
 pub invariant_of-self-2 : goal.invariant_of-self-2
 invariant_of-self-2 g c =
-    let at = (sheet_there c.self.inside.contents.sheets c.args.sheet (within_of c.self.inside.contents.sheets c.len.result c.args.sheet c.len.ensures c.if-sheet-len.false)) in
+    let at = (sheet_there c.self.inside.contents.sheets c.args.sheet (within_of c.self.inside.contents.sheets c.len.result c.args.sheet c.len.ensures c.if-index-len.false)) in
     placed_held c.self.inside c.self.invariant c.place_copy.new.self c.args.sheet at.0 at.1 c.args.tree.now c.in_ok-place_copy.field-0 c.in_ok-place_copy.ensures.ok.0 c.in_ok-place_copy.ensures.ok.1 c.in_ok-place_copy.ensures.ok.2
     (subst (λ o. IfSome o (λ (s : Sheet). IsPooled (notations_in (held c.self.inside)) (scene_in (held c.self.inside)) (Some s.id) c.args.tree.now)) (slice_get-map sheets.sheet_of c.self.inside.contents.sheets c.args.sheet ∙ ap (option_map sheets.sheet_of) at.1)
     (subst (λ (m : ModelState). IfSome (slice_get m.book.sheets c.args.sheet) (λ s. IsPooled (notations_in m.book) (scene_in m.book) (Some s.id) c.args.tree.now)) (sym c.self.view_is) c.requires))
@@ -33,7 +33,7 @@ returns-clause-placed g c = (
 
 pub returns-clause-core : goal.returns-clause-core
 returns-clause-core g c =
-    let at = (sheet_there c.self.inside.contents.sheets c.args.sheet (within_of c.self.inside.contents.sheets c.len.result c.args.sheet c.len.ensures c.if-sheet-len.false)) in
+    let at = (sheet_there c.self.inside.contents.sheets c.args.sheet (within_of c.self.inside.contents.sheets c.len.result c.args.sheet c.len.ensures c.if-index-len.false)) in
     placed_core c.self.inside c.self.invariant c.place_copy.new.self c.args.sheet at.0 at.1 c.args.tree.now c.in_ok-place_copy.field-0 c.in_ok-place_copy.ensures.ok.0 c.in_ok-place_copy.ensures.ok.1 c.in_ok-place_copy.ensures.ok.2 ∙ ap (λ (m : ModelState). core_of m.book) c.self.view_is
 
 pub returns-clause-looks_up : goal.returns-clause-looks_up
@@ -47,7 +47,7 @@ returns-clause-cost g c = subst (λ pool. c.place_copy.new.steps ≤ c.args.step
 
 pub returns-clause-whole : goal.returns-clause-whole
 returns-clause-whole g c =
-    let at = sheet_there c.self.inside.contents.sheets c.args.sheet (within_of c.self.inside.contents.sheets c.len.result c.args.sheet c.len.ensures c.if-sheet-len.false) in
+    let at = sheet_there c.self.inside.contents.sheets c.args.sheet (within_of c.self.inside.contents.sheets c.len.result c.args.sheet c.len.ensures c.if-index-len.false) in
     ap (λ (ws : List HeldSheet). slice_get (map (λ (s : HeldSheet). s.pool.is_whole) ws) c.args.sheet) c.in_ok-place_copy.ensures.ok.2 ∙ whole_at _ (λ s. refl) c.args.sheet c.self.inside.contents.sheets at.0 at.1
 
 pub returns-in_err-place_copy-clause-left : goal.returns-in_err-place_copy-clause-left
