@@ -1,17 +1,12 @@
 -- What a change of a sheet's rows and columns does to the model.
-use Rattle.std.proofs.Common.{◌≡◌, ℕ, ℤ, zero, suc, ◌≤◌, List, [], ◌∷◌, Bool, true, length, map, Option, Some, None, Result, Ok, Err, option_map, refl, ap, ap₂, sym, subst, ◌∙◌, arith}
+use Rattle.std.proofs.Common.{◌≡◌, ℕ, zero, suc, List, [], ◌∷◌, Bool, true, length, map, Some, None, Result, Ok, Err, refl, ap, ap₂, sym, subst, ◌∙◌, arith}
 use Rattle.std.specs.FinMap as finite
 use Rattle.std.specs.List.{slice_get}
 use Rattle.ic_laws.proofs.core.Lists.{all_updated, updated_seen}
-use Rattle.ic_laws.specs.CoreBook.{CellPlace, Definition}
+use Rattle.ic_laws.specs.CoreBook.{CellPlace}
 use Rattle.ic_laws.specs.CoreStep.{updated_at}
-use Rattle.ic_tables.specs.Tables.{TableSet}
-use Rattle.ic_tables.specs.declared.language.Language.{Language}
-use Rattle.ic_tables.specs.declared.locale.NamedLocale.{NamedLocale}
 use Rattle.ic_cells.specs.declared.cell.Cell.{Cell}
-use Rattle.ic_cells.specs.declared.layout.ColumnProps.{ColumnProps}
 use Rattle.ic_cells.specs.declared.layout.Merge.{Merge}
-use Rattle.ic_cells.specs.declared.layout.RowProps.{RowProps}
 use Rattle.ic_grid.specs.Contents.{Contents}
 use Rattle.ic_grid.specs.Shape.{is_loose, shape_of}
 use Rattle.ic_grid.specs.declared.grid.Grid.{Grid}
@@ -20,7 +15,6 @@ use Rattle.ic_machine.specs.Book.{Stepped, on_grid, on_sheet, put_in, with_sheet
 use Rattle.ic_machine.specs.Content.{content_of}
 use Rattle.ic_machine.specs.Alike.{seen_by}
 use Rattle.ic_machine.proofs.ValidLemmas.{AreLines, HoldsOf, lines_held, lines_of, same_styles}
-use Rattle.ic_machine.specs.Refusal.{Refusal}
 use Rattle.ic_machine.specs.Reply.{Field}
 use Rattle.ic_machine.specs.Valid as valid_machine
 use Rattle.ic_sheets.specs.Sheet.{Sheet, sheet_of}

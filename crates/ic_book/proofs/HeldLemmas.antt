@@ -52,7 +52,7 @@ use Rattle.ic_book.specs.declared.lists.Lists.{Lists}
 use Rattle.ic_book.specs.declared.model.Model.TheInside.{Inside}
 use Rattle.ic_book.specs.Book.{Book, IsValidBook, NotationState, core_of, first_sheet_name_in, new_book, notations_in, scene_in}
 use Rattle.ic_book.specs.Change.{book_changed_by, with_added_definition, with_added_sheet, with_moved_sheet, with_removed_definition, with_removed_sheet, with_renamed_sheet}
-use Rattle.ic_book.specs.Inside.{IsHeld, held, with_contents, with_lists, with_sheets, with_styles}
+use Rattle.ic_book.specs.Inside.{IsHeld, held, with_contents, with_sheets, with_styles}
 use Rattle.ic_book.proofs.BookLemmas.{moved-map}
 use Rattle.ic_book.proofs.BookValid.{core_valid, placed_valid, pools_valid}
 use Rattle.ic_book.proofs.ChangeLemmas.{added_is, defined_is, removed_is, renamed_is, undefined_is}

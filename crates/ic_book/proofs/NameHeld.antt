@@ -14,9 +14,6 @@ use Rattle.ic_definitions.specs.Bodies.{StaysWhereFound}
 use Rattle.ic_definitions.specs.Named.{definitions_scene}
 use Rattle.ic_sheets.specs.Rewriting.{changed_pool, look_ups, looks_up_after, sheets_of}
 use Rattle.ic_sheets.specs.declared.sheet.Sheet.{Sheet as HeldSheet}
-use Rattle.ic_tables.specs.Tables.{TableSet}
-use Rattle.ic_tables.specs.declared.language.Language.{Language}
-use Rattle.ic_tables.specs.declared.locale.NamedLocale.{NamedLocale}
 use Rattle.ic_book.specs.Book.{Book, IsValidBook, ModelState, core_of, notations_in}
 use Rattle.ic_book.specs.Change.{book_changed_by, with_added_definition, with_removed_definition}
 use Rattle.ic_book.specs.declared.model.Model.TheInside.{Inside}

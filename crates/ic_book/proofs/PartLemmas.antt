@@ -4,12 +4,8 @@ use Rattle.std.specs.List.{slice_get}
 use Rattle.std.specs.Prelude.{◌≤ℤ◌, ◌<ℤ◌}
 use Rattle.std.proofs.lemmas.Option.{slice_get-map, slice_get_past}
 use Rattle.ic_laws.proofs.core.Lists.{all_updated, updated_seen}
-use Rattle.ic_laws.specs.CoreBook.{Definition}
 use Rattle.ic_laws.specs.CoreStep.{updated_at}
 use Rattle.ic_laws.specs.declared.reference.TheConstants.{LAST_COLUMN, LAST_ROW}
-use Rattle.ic_tables.specs.Tables.{TableSet}
-use Rattle.ic_tables.specs.declared.language.Language.{Language}
-use Rattle.ic_tables.specs.declared.locale.NamedLocale.{NamedLocale}
 use Rattle.ic_machine.specs.Book as machine
 use Rattle.ic_machine.specs.Book.{Stepped, found_or, on_sheet, on_tab, put_in, with_sheet}
 use Rattle.ic_machine.proofs.ValidLemmas.{HoldsOf, holds_at, same_styles}

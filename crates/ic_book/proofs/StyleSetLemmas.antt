@@ -5,11 +5,7 @@ use Rattle.std.specs.Prelude.{is_some, option_map}
 use Rattle.std.proofs.lemmas.List.{take_all, take-append-le}
 use Rattle.std.proofs.lemmas.Option.{slice_get-map}
 use Rattle.ic_laws.proofs.core.Lists.{all_updated, updated_seen, updated_unseen}
-use Rattle.ic_laws.specs.CoreBook.{Definition}
 use Rattle.ic_laws.specs.CoreStep.{updated_at}
-use Rattle.ic_tables.specs.Tables.{TableSet}
-use Rattle.ic_tables.specs.declared.language.Language.{Language}
-use Rattle.ic_tables.specs.declared.locale.NamedLocale.{NamedLocale}
 use Rattle.ic_cells.specs.Style.{first_place, style_number, with_style_in}
 use Rattle.ic_cells.specs.declared.style.Style.{Style}
 use Rattle.ic_grid.specs.declared.grid.Grid.{Grid}

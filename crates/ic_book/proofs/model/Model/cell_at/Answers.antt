@@ -1,12 +1,10 @@
-use Rattle.std.proofs.Common.{◌≡◌, ◌≤◌, ◌∙◌, None, Some, ap, length, option_map, sym}
+use Rattle.std.proofs.Common.{◌∙◌, ap, option_map, sym}
 use Rattle.std.specs.FinMap as finite
 use Rattle.std.specs.List.{slice_get}
 use Rattle.std.proofs.lemmas.Option.{slice_get-map}
-use Rattle.ic_laws.specs.CoreBook.{CellPlace}
 use Rattle.ic_sheets.proofs.CellLemmas.{stored_pair}
 use Rattle.ic_sheets.specs.Sheet.{sheet_of}
 use Rattle.ic_book.specs.Book.{ModelState}
-use Rattle.ic_book.specs.Cells.{FindsCell}
 use Rattle.ic_book.proofs.HeldLemmas.{at_index}
 use Rattle.ic_book.proofs.model.Model.cell_at.Goals as goal
 

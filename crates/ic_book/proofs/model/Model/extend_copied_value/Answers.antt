@@ -1,5 +1,5 @@
 use Rattle.std.proofs.Common.{◌≡◌, ◌∙◌, Some, ap, chars, option_map, subst, sym}
-use Rattle.ic_tables.specs.Tables.{language_of, locale_of}
+use Rattle.ic_tables.specs.Tables.{locale_of}
 use Rattle.ic_book.specs.Book.{IsValidBook, ModelState}
 use Rattle.ic_book.proofs.ExtendLemmas.{copies_formula, copies_refused, copies_text, text_wants}
 use Rattle.ic_book.proofs.WholeWritten.{language_there}

@@ -1,7 +1,6 @@
-use Rattle.std.proofs.Common.{◌≡◌, None, Some, sym, ap, subst, ◌∙◌}
+use Rattle.std.proofs.Common.{None, Some, sym, ap, subst, ◌∙◌}
 use Rattle.std.specs.Str.{chars}
 use Rattle.std.proofs.lemmas.Result.{IfOk-weaker}
-use Rattle.ic_tables.specs.Tables.{language_of, locale_of}
 use Rattle.std.specs.FinMap as finite
 use Rattle.std.specs.Prelude.{option_copied}
 use Rattle.ic_sheets.proofs.CellLemmas.{stored_pair}

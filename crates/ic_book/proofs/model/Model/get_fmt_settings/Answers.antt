@@ -1,5 +1,5 @@
 use Rattle.std.proofs.Common.{◌≡◌, [], Some, subst, sym, ◌∙◌}
-use Rattle.ic_tables.specs.Tables.{language_of, locale_of}
+use Rattle.ic_tables.specs.Tables.{locale_of}
 use Rattle.ic_machine.specs.Fields.{fields_of_settings}
 use Rattle.ic_machine.specs.InForce.{by_notation, in_force}
 use Rattle.ic_machine.specs.subjects.Notation.{settings_fields, settings_step}

@@ -1,4 +1,4 @@
-use Rattle.std.proofs.Common.{[], refl, ap, subst, ◌∙◌}
+use Rattle.std.proofs.Common.{[], refl, ap, subst}
 use Rattle.ic_machine.specs.Reply.{text_field}
 use Rattle.ic_machine.specs.subjects.Reading.{markup_step}
 use Rattle.ic_sheets.specs.Sheet.{sheet_of}

@@ -1,4 +1,4 @@
-use Rattle.std.proofs.Common.{◌≡◌, ◌∙◌, ◌++◌, [], ◌∷◌, ap, chars, string_bytes, subst}
+use Rattle.std.proofs.Common.{◌∙◌, ◌++◌, [], ◌∷◌, ap, chars, subst}
 use Rattle.std.specs.List.{join_by, range_with_len}
 use Rattle.std.proofs.lemmas.Str.{chars-nil}
 use Rattle.ic_laws.specs.Character.{line_feed}

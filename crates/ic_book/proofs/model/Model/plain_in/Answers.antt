@@ -1,10 +1,9 @@
-use Rattle.std.proofs.Common.{None, Option, sym, ap, subst, ◌∙◌}
+use Rattle.std.proofs.Common.{None, sym, ap, subst, ◌∙◌}
 use Rattle.std.specs.Str.{chars}
 use Rattle.std.proofs.lemmas.Result.{IfOk-weaker}
 use Rattle.ic_laws.specs.CoreBook.{CellPlace}
 use Rattle.std.specs.FinMap as finite
 use Rattle.std.specs.Prelude.{option_copied}
-use Rattle.ic_cells.specs.declared.cell.Cell.{Cell}
 use Rattle.ic_sheets.proofs.CellLemmas.{stored_pair}
 use Rattle.ic_sheets.specs.Sheet.{sheet_of}
 use Rattle.ic_book.specs.Book.{IsValidBook, ModelState}

@@ -1,4 +1,4 @@
-use Rattle.std.proofs.Common.{◌≡◌, ◌≤◌, ◌∙◌, None, Some, ap, length, option_map, refl, subst, sym}
+use Rattle.std.proofs.Common.{◌≡◌, ◌≤◌, ◌∙◌, None, ap, length, option_map, refl, subst, sym}
 use Rattle.std.specs.List.{slice_get}
 use Rattle.std.proofs.lemmas.Option.{slice_get-map}
 use Rattle.ic_laws.specs.CoreBook.{CellPlace}
