@@ -50,6 +50,7 @@ impl<'a> Notation<'a> {
         }
     }
 
+    /// The tables that texts are read and shown by.
     pub fn tables(&self) -> &'a Tables
         ensures { result.now ≡ self.now.tables }
     {

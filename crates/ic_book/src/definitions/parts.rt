@@ -22,7 +22,8 @@ use std::alloc::Global;
 
 /// Adds a definition that is local to no sheet. Words that found nothing, and could mean it, do.
 pub fn add_for_all(contents: &mut Contents, definition: Definition) -> Result<(), OutOfMemory>
-    requires free { list_any (is_named definition.name definition.scope) contents.old.definitions ≡ false }
+    requires free { list_any (is_named definition.name definition.scope)
+        contents.old.definitions ≡ false }
     requires scope { definition.scope ≡ None }
     requires spares { AllByRecursion (StaysWhereFound (name_added
         (spelling_of definition))) contents.old.definitions }
@@ -30,8 +31,9 @@ pub fn add_for_all(contents: &mut Contents, definition: Definition) -> Result<()
         (spelling_of definition))) (sheets_of contents.old.sheets)) }
     ensures looks_up { OnOk result (look_ups contents.new.sheets
         ≡ map (looks_up_after (name_added (spelling_of definition))) contents.old.sheets) }
-    ensures definitions { OnOk result (contents.new.definitions ≡ map (with_body_tree (changed_tree (name_added
-        (spelling_of definition)))) contents.old.definitions ++ definition ∷ []) }
+    ensures definitions { OnOk result (contents.new.definitions
+        ≡ map (with_body_tree (changed_tree (name_added (spelling_of definition))))
+        contents.old.definitions ++ definition ∷ []) }
     ensures err { OnErr result (contents.new ≡ contents.old) }
 {
     let added = DefinitionAdded::new(definition.name(), definition.key());
@@ -48,7 +50,8 @@ pub fn add_for_sheet(
     index: usize,
     definition: Definition,
 ) -> Result<(), OutOfMemory>
-    requires free { list_any (is_named definition.name definition.scope) contents.old.definitions ≡ false }
+    requires free { list_any (is_named definition.name definition.scope)
+        contents.old.definitions ≡ false }
     requires within { index < length contents.old.sheets }
     requires ids { IsDistinct nat_eq (map (λ s. s.id) contents.old.sheets) }
     requires scope { (sheet : Sheet) → slice_get contents.old.sheets index ≡ Some sheet
@@ -57,8 +60,9 @@ pub fn add_for_sheet(
         (spelling_of definition))) (sheets_of contents.old.sheets)) }
     ensures looks_up { OnOk result (look_ups contents.new.sheets
         ≡ map (looks_up_after (name_added (spelling_of definition))) contents.old.sheets) }
-    ensures definitions { OnOk result (contents.new.definitions ≡ map (with_body_tree (changed_tree (name_added
-        (spelling_of definition)))) contents.old.definitions ++ definition ∷ []) }
+    ensures definitions { OnOk result (contents.new.definitions
+        ≡ map (with_body_tree (changed_tree (name_added (spelling_of definition))))
+        contents.old.definitions ++ definition ∷ []) }
     ensures err { OnErr result (contents.new ≡ contents.old) }
 {
     let added = DefinitionAdded::new(definition.name(), definition.key());
@@ -74,13 +78,21 @@ pub fn add_for_sheet(
 pub fn delete_at(alloc: Global, contents: &mut Contents, index: usize) -> Result<(), OutOfMemory>
     requires within { index < length contents.old.definitions }
     requires differ { IsDistinct same_key (map key_in contents.old.definitions) }
-    ensures sheets { OnOk result ((d : core.Definition) → slice_get contents.old.definitions index ≡ Some d
-        → sheets_of contents.new.sheets ≡ map (changed_pool (name_gone (definitions_scene (remove contents.old.definitions index)) (spelling_of d))) (sheets_of contents.old.sheets)) }
-    ensures looks_up { OnOk result ((d : core.Definition) → slice_get contents.old.definitions index ≡ Some d
-        → look_ups contents.new.sheets ≡ map (looks_up_after
-        (name_gone (definitions_scene (remove contents.old.definitions index)) (spelling_of d))) contents.old.sheets) }
-    ensures definitions { OnOk result ((d : core.Definition) → slice_get contents.old.definitions index ≡ Some d
-        → contents.new.definitions ≡ remove (map (with_body_tree (changed_tree (name_gone (definitions_scene (remove contents.old.definitions index)) (spelling_of d)))) contents.old.definitions) index) }
+    ensures sheets { OnOk result ((d : core.Definition)
+        → slice_get contents.old.definitions index ≡ Some d
+        → sheets_of contents.new.sheets ≡ map (changed_pool (name_gone
+        (definitions_scene (remove contents.old.definitions index)) (spelling_of d)))
+        (sheets_of contents.old.sheets)) }
+    ensures looks_up { OnOk result ((d : core.Definition)
+        → slice_get contents.old.definitions index ≡ Some d
+        → look_ups contents.new.sheets ≡ map (looks_up_after (name_gone
+        (definitions_scene (remove contents.old.definitions index)) (spelling_of d)))
+        contents.old.sheets) }
+    ensures definitions { OnOk result ((d : core.Definition)
+        → slice_get contents.old.definitions index ≡ Some d
+        → contents.new.definitions ≡ remove (map (with_body_tree (changed_tree (name_gone
+        (definitions_scene (remove contents.old.definitions index)) (spelling_of d))))
+        contents.old.definitions) index) }
     ensures err { OnErr result (contents.new ≡ contents.old) }
 {
     let definition = &contents.definitions.as_slice()[index];
@@ -105,7 +117,8 @@ fn mention_without(
 ) -> Result<NameMention, OutOfMemory>
     ensures { IfOk result (λ mention. (index : ℕ) → IsDistinct same_key (map key_in definitions.now)
         → slice_get definitions.now index ≡ Some definition.now
-        → mention ≡ name_or_dangling definition.now.name (found_name (definitions_scene (remove definitions.now index)) None definition.now.name)) }
+        → mention ≡ name_or_dangling definition.now.name (found_name
+        (definitions_scene (remove definitions.now index)) None definition.now.name)) }
 {
     match key_without(definitions, definition)? {
         Some(key) => Ok(NameMention::Name(key)),
@@ -120,7 +133,8 @@ fn key_without(
 ) -> Result<Option<NameKey>, OutOfMemory>
     ensures { IfOk result (λ key. (index : ℕ) → IsDistinct same_key (map key_in definitions.now)
         → slice_get definitions.now index ≡ Some definition.now
-        → key ≡ found_name (definitions_scene (remove definitions.now index)) None definition.now.name) }
+        → key ≡ found_name (definitions_scene (remove definitions.now index)) None
+        definition.now.name) }
 {
     match definition.scope() {
         Some(_) => definitions.key_at(None, definition.name()),
@@ -131,8 +145,10 @@ fn key_without(
 /// What the bodies of definitions become where the sheet at an index, from 0, goes.
 pub fn bodies_without(contents: &Contents, index: usize) -> Result<BodyRewrites, OutOfMemory>
     requires { index < length contents.now.sheets }
-    ensures made { IfOk result (λ w. (sheet : Sheet) → slice_get contents.now.sheets index ≡ Some sheet
-        → with_bodies w.bodies.items contents.now.definitions ≡ map (with_body_tree (changed_tree (sheet_gone sheet.id sheet.name))) contents.now.definitions) }
+    ensures made { IfOk result (λ w. (sheet : Sheet)
+        → slice_get contents.now.sheets index ≡ Some sheet
+        → with_bodies w.bodies.items contents.now.definitions ≡ map (with_body_tree
+        (changed_tree (sheet_gone sheet.id sheet.name))) contents.now.definitions) }
     ensures fits { IfOk result (λ w. FitsBodies w contents.now.definitions) }
 {
     let sheet = &contents.sheets.as_slice()[index];
