@@ -1,7 +1,7 @@
 /* A book by hand in C, the floor of a book that keeps formulas, with the same duties on ASCII: a formula is checked
    by recursive descent and kept as the flat list of its bound tokens, which is its key too; sheets and definitions
-   are found by hash. It knows add_sheet, new_defined_name, update_cell_with_formula and get_cell_formula, and writes
-   one reply a line, many at once. Text that it reads stands from p to e, tokens that it writes from out to o, replies
+   are found by hash. It knows add_sheet, new_defined_name, update_cell_with_formula, get_cell_formula, and
+   set_user_input and get_localized_cell_content as the same on formulas, and writes one reply a line, many at once. Text that it reads stands from p to e, tokens that it writes from out to o, replies
    from replies to t. It tests nothing that a floor needn't. */
 #include <stdint.h>
 #include <stdio.h>
@@ -666,7 +666,7 @@ static void answer(char* s, size_t n) {
         q = b + 1;
     }
 #define IS(x) (l[0] == sizeof x - 1 && !memcmp(w[0], x, sizeof x - 1))
-    if (k == 5 && IS("update_cell_with_formula")) {
+    if (k == 5 && (IS("update_cell_with_formula") || IS("set_user_input"))) {
         long sh = in(w[1], w[1] + l[1]), r = in(w[2], w[2] + l[2]), c = in(w[3], w[3] + l[3]);
         if (sh < 0 || sh >= pool_count || r < 1 || r > 1048576 || c < 1 || c > 16384 || l[4] < 2 || w[4][0] != '=') {
             reply(0);
@@ -687,11 +687,12 @@ static void answer(char* s, size_t n) {
         Pool* P = pools + sh;
         *cell(P, r, c, 1) = place(P, out, o - out);
         reply(1);
-    } else if (k == 4 && IS("get_cell_formula")) {
+    } else if (k == 4 && (IS("get_cell_formula") || IS("get_localized_cell_content"))) {
         long sh = in(w[1], w[1] + l[1]), r = in(w[2], w[2] + l[2]), c = in(w[3], w[3] + l[3]);
         u32* v = sh >= 0 && sh < pool_count ? cell(pools + sh, r, c, 0) : 0;
         if (!v) {
             reply(1);
+            if (IS("get_localized_cell_content")) memcpy(t - 1, "\t\n", 2), t++;
             return;
         }
         row = r;

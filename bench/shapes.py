@@ -234,6 +234,62 @@ def values(count):
         yield f"get_cell_value_by_index\t{cell(i)}"
 
 
+def typed(texts):
+    """Texts as one types them, each into another cell."""
+    for i, text in enumerate(texts):
+        yield f"set_user_input\t{cell(i)}\t{text}"
+
+
+def typed_numbers(count):
+    """Different numbers: plain, in groups, as a percentage and with a currency."""
+    for i in range(count):
+        whole, sign = i * 7919 % 1_000_003, "-" if i % 5 == 0 else ""
+        yield sign + (f"{whole}.{i % 97:02}", f"{whole + 1_000_000:,}.{i % 97:02}", f"{whole}.5%", f"${whole:,}.{i % 97:02}")[i % 4]
+
+
+def typed_texts(count):
+    """Different texts: plain ones, codes after a quote, and such as begin like a number."""
+    for i in range(count):
+        yield (f"Invoice {i} of the second quarter", f"'00{i}", f"{i} of {count} pieces")[i % 3]
+
+
+def typed_dates(count):
+    """Different days in turns by both forms."""
+    for i in range(count):
+        year, month, day = i % 8_000 + 1900, i // 8_000 % 12 + 1, i // 96_000 % 28 + 1
+        yield f"{year}-{month:02}-{day:02}" if i % 2 else f"{month}/{day}/{year}"
+
+
+def typed_formulas(count):
+    for text in formulas(count):
+        yield f"={text}"
+
+
+def read_back(count, command):
+    """A command on the cells of these numbers."""
+    for i in range(count):
+        yield f"{command}\t{cell(i)}"
+
+
+def mixed(count):
+    """Numbers, texts and dates in turns in ten columns, every third row bold."""
+    for row in range(1, count // 10 + 1, 3):
+        yield f"set_row_style\t0\t{row}\tGeneral\t0\t1\t-"
+    texts = zip(typed_numbers(count), typed_texts(count), typed_dates(count))
+    for i, three in enumerate(texts):
+        yield f"set_user_input\t0\t{i // 10 + 1}\t{i % 10 + 1}\t{three[i % 3]}"
+
+
+def markups(count):
+    return ["get_sheet_markup\t0"] * count
+
+
+def long_texts(count, many):
+    """So many different texts of 100 characters, typed in turns."""
+    for i in range(count):
+        yield f"Text {i % many} ".ljust(100, "x")
+
+
 def row_heights(count):
     for i in range(count):
         yield f"set_row_height\t0\t{i * 7919 % 1_000_003 + 1}\t{i % 5_000}"
