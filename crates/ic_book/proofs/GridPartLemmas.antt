@@ -1,17 +1,12 @@
 -- What a change of a sheet's rows and columns does to the model.
-use Rattle.std.proofs.Common.{◌≡◌, ℕ, ℤ, zero, suc, ◌≤◌, List, [], ◌∷◌, Bool, true, length, map, Option, Some, None, Result, Ok, Err, option_map, refl, ap, ap₂, sym, subst, ◌∙◌, arith}
+use Rattle.std.proofs.Common.{◌≡◌, ℕ, zero, suc, List, [], ◌∷◌, Bool, true, length, map, Some, None, Result, Ok, Err, refl, ap, ap₂, sym, subst, ◌∙◌, arith}
 use Rattle.std.specs.FinMap as finite
 use Rattle.std.specs.List.{slice_get}
 use Rattle.ic_laws.proofs.core.Lists.{all_updated, updated_seen}
-use Rattle.ic_laws.specs.CoreBook.{CellPlace, Definition}
+use Rattle.ic_laws.specs.CoreBook.{CellPlace}
 use Rattle.ic_laws.specs.CoreStep.{updated_at}
-use Rattle.ic_tables.specs.Tables.{TableSet}
-use Rattle.ic_tables.specs.declared.language.Language.{Language}
-use Rattle.ic_tables.specs.declared.locale.NamedLocale.{NamedLocale}
 use Rattle.ic_cells.specs.declared.cell.Cell.{Cell}
-use Rattle.ic_cells.specs.declared.layout.ColumnProps.{ColumnProps}
 use Rattle.ic_cells.specs.declared.layout.Merge.{Merge}
-use Rattle.ic_cells.specs.declared.layout.RowProps.{RowProps}
 use Rattle.ic_grid.specs.Contents.{Contents}
 use Rattle.ic_grid.specs.Shape.{is_loose, shape_of}
 use Rattle.ic_grid.specs.declared.grid.Grid.{Grid}
@@ -20,14 +15,13 @@ use Rattle.ic_machine.specs.Book.{Stepped, on_grid, on_sheet, put_in, with_sheet
 use Rattle.ic_machine.specs.Content.{content_of}
 use Rattle.ic_machine.specs.Alike.{seen_by}
 use Rattle.ic_machine.proofs.ValidLemmas.{AreLines, HoldsOf, lines_held, lines_of, same_styles}
-use Rattle.ic_machine.specs.Refusal.{Refusal}
 use Rattle.ic_machine.specs.Reply.{Field}
 use Rattle.ic_machine.specs.Valid as valid_machine
 use Rattle.ic_sheets.specs.Sheet.{Sheet, sheet_of}
 use Rattle.ic_sheets.specs.declared.sheet.Sheet.{Sheet as HeldSheet}
 use Rattle.ic_book.specs.Book.{Book, HasString, HasStrings, IsPlain, IsValidBook, ModelState, notations_in, whole_grid}
-use Rattle.ic_book.specs.declared.about.About.{About}
-use Rattle.ic_book.specs.Inside.{IsHeld, held_state}
+use Rattle.ic_book.specs.declared.model.Model.TheInside.{Inside}
+use Rattle.ic_book.specs.Inside.{IsHeld, held_state, with_sheets}
 use Rattle.ic_book.specs.Does.{DoesGrid, DoesStep, PartMade, Refused, wants}
 use Rattle.ic_book.specs.Parts.{IsLaidOut, StaysLaidOut}
 use Rattle.ic_book.specs.Refused.{refusal_of}
@@ -177,12 +171,15 @@ module _ (old : ModelState) (valid : IsValidBook old.book) (index : ℕ) {T : Ty
 
 -- the same of a model's sheets ----
 
-module _ (about : About) (ws : List HeldSheet) (ds : List Definition) (locale : NamedLocale) (language : Language) (tables : TableSet) (h : IsHeld about ws ds locale language tables) (index : ℕ) where
+module _ (inside : Inside) (h : IsHeld inside) (index : ℕ) where
+  abbrev ws : List HeldSheet
+  ws = inside.contents.sheets
+
   abbrev its_state : ModelState
-  its_state = held_state about ws ds locale language tables
+  its_state = held_state inside
 
   module _ (now : List HeldSheet) (grid : Grid) (is : now ≡ updated_at (λ s. record s { grid = grid }) index ws) where
-    pub grid_state : held_state about now ds locale language tables ≡ record its_state { book = with_grid index grid its_state.book }
+    pub grid_state : held_state (with_sheets now inside) ≡ record its_state { book = with_grid index grid its_state.book }
     grid_state =
         ap₂ (λ (sheets : List Sheet) (all : List Bool). let m : ModelState = record { book = record its_state.book { sheets = sheets }; has_all = all } in m)
         (ap (map sheet_of) is ∙ updated_seen sheet_of (λ s. record s { grid = grid }) (λ s. record s { grid = grid }) (λ s. refl) index ws)
@@ -193,9 +190,5 @@ module _ (about : About) (ws : List HeldSheet) (ds : List Definition) (locale : 
         look_ups_same zero (s ∷ xs) = refl
         look_ups_same (suc i) (s ∷ xs) = ap (λ more. s.pool.is_whole ∷ more) (look_ups_same i xs)
 
-    pub grid_held : (s : HeldSheet) → slice_get ws index ≡ Some s → StaysLaidOut s.grid grid → IsHeld about now ds locale language tables
-    grid_held s at stays = record {
-      valid = subst (λ (m : ModelState). IsValidBook m.book) (sym grid_state) (valid_with_grid index grid its_state.book h.valid (sheet_of s) (in_state about ws ds locale language tables h index s at) stays);
-      locale_found = h.locale_found;
-      language_found = h.language_found;
-    }
+    pub grid_held : (s : HeldSheet) → slice_get ws index ≡ Some s → StaysLaidOut s.grid grid → IsHeld (with_sheets now inside)
+    grid_held s at stays = subst (λ (m : ModelState). IsValidBook m.book) (sym grid_state) (valid_with_grid index grid its_state.book h (sheet_of s) (in_state inside h index s at) stays)

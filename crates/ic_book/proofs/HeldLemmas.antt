@@ -48,9 +48,11 @@ use Rattle.ic_book.proofs.WholeWritten.{written_valid}
 use Rattle.ic_book.proofs.WrittenLemmas.{core_of-pool, one_of_all}
 use Rattle.ic_sheets.specs.declared.sheet.Sheet.{Sheet as HeldSheet}
 use Rattle.ic_book.specs.declared.about.About.{About}
-use Rattle.ic_book.specs.Book.{Book, IsValidBook, core_of, first_sheet_name_in, new_book, notations_in, scene_in}
+use Rattle.ic_book.specs.declared.lists.Lists.{Lists}
+use Rattle.ic_book.specs.declared.model.Model.TheInside.{Inside}
+use Rattle.ic_book.specs.Book.{Book, IsValidBook, NotationState, core_of, first_sheet_name_in, new_book, notations_in, scene_in}
 use Rattle.ic_book.specs.Change.{book_changed_by, with_added_definition, with_added_sheet, with_moved_sheet, with_removed_definition, with_removed_sheet, with_renamed_sheet}
-use Rattle.ic_book.specs.Inside.{IsHeld, held}
+use Rattle.ic_book.specs.Inside.{IsHeld, held, with_contents, with_sheets, with_styles}
 use Rattle.ic_book.proofs.BookLemmas.{moved-map}
 use Rattle.ic_book.proofs.BookValid.{core_valid, placed_valid, pools_valid}
 use Rattle.ic_book.proofs.ChangeLemmas.{added_is, defined_is, removed_is, renamed_is, undefined_is}
@@ -207,23 +209,41 @@ pub read_is : (slice ws : List HeldSheet) (i : ℕ) (s sheet : HeldSheet) → sl
 read_is slice ws i s sheet e lt read at = read_there ws i s sheet lt (read ∙ ap (λ (xs : List HeldSheet). get_or xs i s) e) at
 
 -- a new book
-pub start_is : (a : About) (name : List ℕ) (ws : List HeldSheet) (ds : List Definition) (locale : NamedLocale) (language : Language) (locale_id language_id zone_id : List ℕ) (zone : Bor (List ℕ)) (tables : TableSet)
-    → a ≡ record { name = name; zone = zone; theme = []; created = a.created; styles = default_style ∷ []; strings = [] } → zone.now ≡ zone_id
-    → ws ≡ record { id = 1; name = first_sheet_name_in language.code; pool = record { formulas = []; is_whole = true }; grid = empty_grid; tab = plain_tab } ∷ [] → ds ≡ [] → locale.id ≡ locale_id → language.code ≡ language_id
-    → held a ws ds locale language tables ≡ new_book name locale_id zone_id language_id a.created tables
-start_is a name ws ds locale language locale_id language_id zone_id zone tables one there two none three four =
-    ap (λ (b : About). make b (map sheet_of ws) ds locale.id language.code) one ∙ ap (λ (xs : List HeldSheet). make given (map sheet_of xs) ds locale.id language.code) two
-    ∙ ap (λ (xs : List Definition). make given (first language.code) xs locale.id language.code) none ∙ ap (λ l. make given (first language.code) [] l language.code) three
-    ∙ ap (λ g. make given (first g) [] locale_id g) four ∙ ap (λ z. new_book name locale_id z language_id a.created tables) there
+pub start_is : (inside : Inside) (name locale_id language_id zone_id : List ℕ) (zone : Bor (List ℕ)) (locale : NamedLocale) (language : Language) (tables : TableSet)
+    → inside.about ≡ record { name = name; zone = zone; theme = []; created = inside.about.created } → zone.now ≡ zone_id
+    → inside.contents.sheets ≡ record { id = 1; name = first_sheet_name_in language.code; pool = record { formulas = []; is_whole = true }; grid = empty_grid; tab = plain_tab } ∷ []
+    → inside.contents.definitions ≡ [] → inside.lists ≡ record { styles = default_style ∷ []; strings = [] } → inside.notation ≡ record { tables = tables; locale = locale.id; language = language.code } → locale.id ≡ locale_id → language.code ≡ language_id
+    → held inside ≡ new_book name locale_id zone_id language_id inside.about.created tables
+start_is inside name locale_id language_id zone_id zone locale language tables one there two none lists its three four =
+    ap (λ (a : About). make a (map sheet_of inside.contents.sheets) inside.contents.definitions inside.lists inside.notation) one
+    ∙ ap (λ (xs : List HeldSheet). make given (map sheet_of xs) inside.contents.definitions inside.lists inside.notation) two
+    ∙ ap (λ (xs : List Definition). make given (first language.code) xs inside.lists inside.notation) none ∙ ap (λ (ls : Lists). make given (first language.code) [] ls inside.notation) lists
+    ∙ ap (λ (n : NotationState). make given (first language.code) [] empty n) its ∙ ap (λ l. make given (first language.code) [] empty (record { tables = tables; locale = l; language = language.code })) three
+    ∙ ap (λ g. make given (first g) [] empty (record { tables = tables; locale = locale_id; language = g })) four ∙ ap (λ z. new_book name locale_id z language_id inside.about.created tables) there
   where
     given : About
-    given = record { name = name; zone = zone; theme = []; created = a.created; styles = default_style ∷ []; strings = [] }
+    given = record { name = name; zone = zone; theme = []; created = inside.about.created }
+
+    empty : Lists
+    empty = record { styles = default_style ∷ []; strings = [] }
 
     first : List ℕ → List Sheet
     first code = record { id = 1; name = first_sheet_name_in code; pool = []; grid = empty_grid; tab = plain_tab } ∷ []
 
-    make : About → List Sheet → List Definition → List ℕ → List ℕ → Book
-    make b ss ds l g = record { name = b.name; sheets = ss; definitions = ds; locale = l; language = g; zone = b.zone.now; theme = b.theme; created = b.created; styles = b.styles; strings = b.strings; tables = tables }
+    make : About → List Sheet → List Definition → Lists → NotationState → Book
+    make a ss ds ls n = record {
+      name = a.name;
+      sheets = ss;
+      definitions = ds;
+      locale = n.locale;
+      language = n.language;
+      zone = a.zone.now;
+      theme = a.theme;
+      created = a.created;
+      styles = ls.styles;
+      strings = ls.strings;
+      tables = n.tables;
+    }
 
 pub whole_updated : (f : HeldSheet → HeldSheet) → ((s : HeldSheet) → (f s).pool.is_whole ≡ true) → (i : ℕ) (ws : List HeldSheet) → map (λ (s : HeldSheet). s.pool.is_whole) (updated_at f i ws) ≡ updated_at (λ b. true) i (map (λ (s : HeldSheet). s.pool.is_whole) ws)
 whole_updated f whole i ws = updated_seen (λ (s : HeldSheet). s.pool.is_whole) f (λ b. true) whole i ws
@@ -256,18 +276,27 @@ language_unknown tables id none = rw (knows_language_is tables id ∙ ap is_some
 
 -- ---- changes of the sheets
 
-module _ (about : About) (ws : List HeldSheet) (ds : List Definition) (locale : NamedLocale) (language : Language) (tables : TableSet) (h : IsHeld about ws ds locale language tables) where
+module _ (inside : Inside) (h : IsHeld inside) where
+  abbrev ws : List HeldSheet
+  ws = inside.contents.sheets
+
+  abbrev ds : List Definition
+  ds = inside.contents.definitions
+
+  abbrev tables : TableSet
+  tables = inside.notation.tables
+
   abbrev book : Book
-  book = held about ws ds locale language tables
+  book = held inside
 
   abbrev pub after : List HeldSheet → List Definition → Book
-  after now nds = held about now nds locale language tables
+  after now nds = held (with_contents now nds inside)
 
   abbrev n : Notations
   n = notations_in book
 
   are : AreNotations (notations_in book)
-  are = notations_are tables h.valid.whole.tables
+  are = notations_are tables h.whole.tables
 
   pub notations : AreNotations (notations_in book)
   notations = are
@@ -279,8 +308,8 @@ module _ (about : About) (ws : List HeldSheet) (ds : List Definition) (locale : 
   fresh_above id e = let g = fresh_is _ (greatest_id (core_of book)) id e in let same = greatest_is in omega (arith, g, same)
 
   -- the same with other sheets and definitions
-  pub held_after : (now : List HeldSheet) (nds : List Definition) (becomes : Book) → after now nds ≡ becomes → IsValidBook becomes → IsHeld about now nds locale language tables
-  held_after now nds becomes e valid = record { valid = subst IsValidBook (sym e) valid; locale_found = h.locale_found; language_found = h.language_found }
+  pub held_after : (now : List HeldSheet) (nds : List Definition) (becomes : Book) → after now nds ≡ becomes → IsValidBook becomes → IsHeld (with_contents now nds inside)
+  held_after now nds becomes e valid = subst IsValidBook (sym e) valid
 
   of_parts : (now : List HeldSheet) (nds : List Definition) (sheets : List Sheet) (definitions : List Definition) → sheets_of now ≡ sheets → nds ≡ definitions → after now nds ≡ record book { sheets = sheets; definitions = definitions }
   of_parts now nds sheets definitions e f = ap₂ (λ (sheets : List Sheet) (definitions : List Definition). let b : Book = record book { sheets = sheets; definitions = definitions } in b) e f
@@ -294,48 +323,48 @@ module _ (about : About) (ws : List HeldSheet) (ds : List Definition) (locale : 
         → after now nds ≡ book_changed_by (with_added_sheet called) book
     added called id none fresh e f =
         of_parts now nds _ _ e f
-        ∙ sym (added_is n are book (core_valid book h.valid) (pools_valid book h.valid) called id (none_holds (add_sheet_causes (core_of book) called) none).1.0 (fresh_is _ (greatest_id (core_of book)) id fresh))
+        ∙ sym (added_is n are book (core_valid book h) (pools_valid book h) called id (none_holds (add_sheet_causes (core_of book) called) none).1.0 (fresh_is _ (greatest_id (core_of book)) id fresh))
 
     pub renamed : (index : ℕ) (called : List ℕ) (s : HeldSheet) → rename_refusal (core_of book) index called ≡ None → slice_get ws index ≡ Some s
         → sheets_of now ≡ updated_at (λ s. record s { name = called }) index (map (changed_pool (sheet_named s.id called)) (sheets_of ws)) → nds ≡ map (with_body_tree (changed_tree (sheet_named s.id called))) ds
         → after now nds ≡ book_changed_by (with_renamed_sheet index called) book
     renamed index called s none at e f =
         of_parts now nds _ _ e f
-        ∙ sym (renamed_is n are book (core_valid book h.valid) (pools_valid book h.valid) index called (sheet_of s) (slice_get-map sheet_of ws index ∙ ap (option_map sheet_of) at) (none_holds (rename_causes (core_of book) index called) none).1.0)
+        ∙ sym (renamed_is n are book (core_valid book h) (pools_valid book h) index called (sheet_of s) (slice_get-map sheet_of ws index ∙ ap (option_map sheet_of) at) (none_holds (rename_causes (core_of book) index called) none).1.0)
 
     pub removed : (index : ℕ) (s : HeldSheet) → slice_get ws index ≡ Some s → sheets_of now ≡ remove (map (changed_pool (sheet_gone s.id s.name)) (sheets_of ws)) index → nds ≡ map (with_body_tree (changed_tree (sheet_gone s.id s.name))) ds
         → after now nds ≡ book_changed_by (with_removed_sheet index) book
     removed index s at e f =
-        of_parts now nds _ _ e f ∙ sym (removed_is n are book (core_valid book h.valid) (pools_valid book h.valid) index (sheet_of s) (slice_get-map sheet_of ws index ∙ ap (option_map sheet_of) at))
+        of_parts now nds _ _ e f ∙ sym (removed_is n are book (core_valid book h) (pools_valid book h) index (sheet_of s) (slice_get-map sheet_of ws index ∙ ap (option_map sheet_of) at))
 
     pub defined : (new : Definition) → sheets_of now ≡ map (changed_pool (name_added (spelling_of new))) (sheets_of ws) → nds ≡ map (with_body_tree (changed_tree (name_added (spelling_of new)))) ds ++ new ∷ []
         → after now nds ≡ book_changed_by (with_added_definition new) book
-    defined new e f = of_parts now nds _ _ e f ∙ sym (defined_is n are book (core_valid book h.valid) (pools_valid book h.valid) new)
+    defined new e f = of_parts now nds _ _ e f ∙ sym (defined_is n are book (core_valid book h) (pools_valid book h) new)
 
     pub undefined : (index : ℕ) (d : Definition) → slice_get ds index ≡ Some d → sheets_of now ≡ map (changed_pool (name_gone (definitions_scene (remove ds index)) (spelling_of d))) (sheets_of ws)
         → nds ≡ remove (map (with_body_tree (changed_tree (name_gone (definitions_scene (remove ds index)) (spelling_of d)))) ds) index → after now nds ≡ book_changed_by (with_removed_definition (Some index)) book
-    undefined index d at e f = of_parts now nds _ _ e f ∙ sym (undefined_is n are book (core_valid book h.valid) (pools_valid book h.valid) index d at)
+    undefined index d at e f = of_parts now nds _ _ e f ∙ sym (undefined_is n are book (core_valid book h) (pools_valid book h) index d at)
 
   pub put : (now : List HeldSheet) (from to : ℕ) → now ≡ moved from to ws → after now ds ≡ with_moved_sheet from to book
   put now from to e = of_sheets now _ (ap sheets_of e ∙ moved-map sheet_of from to ws)
 
   pub binds_added : (called : List ℕ) → add_sheet_refusal (core_of book) called ≡ None
       → changed_by n (with_new_sheet called) (core_of book) ≡ with_sheet_at_end (greatest_id (core_of book) + 1) called (with_trees (changed_tree (sheet_named (greatest_id (core_of book) + 1) called)) (core_of book))
-  binds_added called none = add_binds n (core_of book) _ called [] are (core_valid book h.valid) (ap (λ r. unless_refused r (changed_by n (with_new_sheet called) (core_of book)) []) none)
+  binds_added called none = add_binds n (core_of book) _ called [] are (core_valid book h) (ap (λ r. unless_refused r (changed_by n (with_new_sheet called) (core_of book)) []) none)
 
   pub keeps_renamed : (index : ℕ) (called : List ℕ) → rename_refusal (core_of book) index called ≡ None → BookKeepsFound (core_of book) (changed_by n (with_sheet_name index called) (core_of book))
-  keeps_renamed index called none = rename_keeps n (core_of book) _ index called [] are (core_valid book h.valid) (ap (λ r. unless_refused r (changed_by n (with_sheet_name index called) (core_of book)) []) none)
+  keeps_renamed index called none = rename_keeps n (core_of book) _ index called [] are (core_valid book h) (ap (λ r. unless_refused r (changed_by n (with_sheet_name index called) (core_of book)) []) none)
 
   pub binds_renamed : (index : ℕ) (called : List ℕ) (sheet : CoreSheet) → rename_refusal (core_of book) index called ≡ None → slice_get (core_of book).sheets index ≡ Some sheet
       → changed_by n (with_sheet_name index called) (core_of book) ≡ with_sheet_name index called (with_trees (changed_tree (sheet_named sheet.id called)) (core_of book))
-  binds_renamed index called sheet none at = rename_binds n (core_of book) _ index called sheet [] are (core_valid book h.valid) at (ap (λ r. unless_refused r (changed_by n (with_sheet_name index called) (core_of book)) []) none)
+  binds_renamed index called sheet none at = rename_binds n (core_of book) _ index called sheet [] are (core_valid book h) at (ap (λ r. unless_refused r (changed_by n (with_sheet_name index called) (core_of book)) []) none)
 
   pub dangles_removed : (index : ℕ) (sheet : CoreSheet) → delete_refusal (core_of book) index ≡ None → slice_get (core_of book).sheets index ≡ Some sheet
       → changed_by n (without_sheet index) (core_of book) ≡ without_sheet index (with_trees (changed_tree (sheet_gone sheet.id sheet.name)) (core_of book))
-  dangles_removed index sheet none at = delete_dangles n (core_of book) _ index sheet [] are (core_valid book h.valid) at (ap (λ r. unless_refused r (changed_by n (without_sheet index) (core_of book)) []) none)
+  dangles_removed index sheet none at = delete_dangles n (core_of book) _ index sheet [] are (core_valid book h) at (ap (λ r. unless_refused r (changed_by n (without_sheet index) (core_of book)) []) none)
 
   pub keeps_moved : (from to : ℕ) → move_refusal (core_of book) from to ≡ None → IsMoved from to (core_of book) (record (core_of book) { sheets = moved from to (core_of book).sheets })
-  keeps_moved from to none = move_keeps n (core_of book) _ from to [] (core_valid book h.valid) (ap (λ r. unless_refused r (record (core_of book) { sheets = moved from to (core_of book).sheets }) []) none)
+  keeps_moved from to none = move_keeps n (core_of book) _ from to [] (core_valid book h) (ap (λ r. unless_refused r (record (core_of book) { sheets = moved from to (core_of book).sheets }) []) none)
 
   -- ---- formulas
 
@@ -344,13 +373,13 @@ module _ (about : About) (ws : List HeldSheet) (ds : List Definition) (locale : 
     in_book at = slice_get-map sheet_of ws index ∙ ap (option_map sheet_of) at
 
     pub places_of : slice_get ws index ≡ Some s → HasIndexes (length s.pool.formulas) s.grid
-    places_of at = (one_of_all (IsValidPool n (scene_in book)) index book.sheets (sheet_of s) (in_book at) (pools_valid book h.valid)).indexes
+    places_of at = (one_of_all (IsValidPool n (scene_in book)) index book.sheets (sheet_of s) (in_book at) (pools_valid book h)).indexes
 
     -- a formula that it keeps is settled there
     pub pooled_at : slice_get ws index ≡ Some s → (place : ℕ) (formula : Formula) → slice_get s.pool.formulas place ≡ Some formula → IfSome (slice_get book.sheets index) (λ s. IsPooled n (scene_in book) (Some s.id) formula)
     pooled_at at place formula there =
         subst (λ o. IfSome o (λ (s : Sheet). IsPooled n (scene_in book) (Some s.id) formula)) (sym (in_book at))
-        (one_of_all (IsPooled n (scene_in book) (Some s.id)) place s.pool.formulas formula there (one_of_all (IsValidPool n (scene_in book)) index book.sheets (sheet_of s) (in_book at) (pools_valid book h.valid)).formulas)
+        (one_of_all (IsPooled n (scene_in book) (Some s.id)) place s.pool.formulas formula there (one_of_all (IsValidPool n (scene_in book)) index book.sheets (sheet_of s) (in_book at) (pools_valid book h)).formulas)
 
     -- the same of what is lent of its pool
     pub pooled_of : (lent : Option (Bor Formula)) (place : ℕ) → slice_get ws index ≡ Some s → option_map (λ f. f.now) lent ≡ slice_get s.pool.formulas place → IfSome lent (λ f. IfSome (slice_get book.sheets index) (λ s. IsPooled n (scene_in book) (Some s.id) f.now))
@@ -376,10 +405,10 @@ module _ (about : About) (ws : List HeldSheet) (ds : List Definition) (locale : 
       there = subst (λ o. IsPlaced formula place (unwrap_or (option_map (λ (s : HeldSheet). s.pool.formulas) o) []) pool) at is_placed
 
       pub placed_core : now ≡ updated_at (λ s. record s { pool = record { formulas = pool; is_whole = true } }) index ws → core_of (after now ds) ≡ core_of book
-      placed_core e = ap core_of (placed pool e) ∙ core_of-pool n book index (sheet_of s) (in_book index s at) formula place pool there (pools_valid book h.valid)
+      placed_core e = ap core_of (placed pool e) ∙ core_of-pool n book index (sheet_of s) (in_book index s at) formula place pool there (pools_valid book h)
 
-      pub placed_held : now ≡ updated_at (λ s. record s { pool = record { formulas = pool; is_whole = true } }) index ws → IsPooled n (scene_in book) (Some s.id) formula → IsHeld about now ds locale language tables
-      placed_held e pooled = held_after now ds (with_pool index pool book) (placed pool e) (placed_valid book h.valid index (sheet_of s) (in_book index s at) place pool formula there pooled)
+      pub placed_held : now ≡ updated_at (λ s. record s { pool = record { formulas = pool; is_whole = true } }) index ws → IsPooled n (scene_in book) (Some s.id) formula → IsHeld (with_sheets now inside)
+      placed_held e pooled = held_after now ds (with_pool index pool book) (placed pool e) (placed_valid book h index (sheet_of s) (in_book index s at) place pool formula there pooled)
 
   -- a formula that is written, in the style of this number, by these styles
   module _ (now : List HeldSheet) (index : ℕ) (s : HeldSheet) (at : slice_get ws index ≡ Some s) (place : CellPlace) (body : List ℕ) (formula : Formula) (kind : FormulaKind) (number : ℕ) (styles : List Style) (k : ℕ) (pool : List Formula)
@@ -387,10 +416,7 @@ module _ (about : About) (ws : List HeldSheet) (ds : List Definition) (locale : 
       (numbered : number ≡ (written_style book (sheet_of s) place).number) (styled : styles ≡ (written_style book (sheet_of s) place).styles)
       (e : now ≡ updated_at (λ s. record s { pool = record { formulas = pool; is_whole = true }; grid = with_cell_in place (formula_cell kind k number) s.grid }) index ws)
     where
-      abbrev about_then : About
-      about_then = record about { styles = styles }
-
-      pub written : WritesFormula index (sheet_of s) place body (held about ws ds locale language tables) (held (record about { styles = styles }) now ds locale language tables)
+      pub written : WritesFormula index (sheet_of s) place body (held inside) (held (with_styles styles (with_sheets now inside)))
       written = record {
         pool = pool;
         at = k;
@@ -403,15 +429,11 @@ module _ (about : About) (ws : List HeldSheet) (ds : List Definition) (locale : 
             ∙ ap₂ (λ (kd : FormulaKind) (nr : ℕ). with_cell index pool place (formula_cell kd k nr) (written_style book (sheet_of s) place).styles book) (of_kind ∙ ap (kind_of tables.kinds) is) numbered;
       }
 
-      pub written_held : machine.first_refusal (value_causes s.grid place) ≡ None → IsHeld (record about { styles = styles }) now ds locale language tables
-      written_held none = record {
-        valid = written_valid book h.valid index place body (sheet_of s) (in_book index s at) (held about_then now ds locale language tables) written none;
-        locale_found = h.locale_found;
-        language_found = h.language_found;
-      }
+      pub written_held : machine.first_refusal (value_causes s.grid place) ≡ None → IsHeld (with_styles styles (with_sheets now inside))
+      written_held none = written_valid book h index place body (sheet_of s) (in_book index s at) (held (with_styles styles (with_sheets now inside))) written none
 
   -- a place that nothing refuses finds its sheet, which takes a cell there
-  module _ (index : ℕ) (place : CellPlace) (none : value_refusal (held about ws ds locale language tables) index place.0 place.1 ≡ None) where
+  module _ (index : ℕ) (place : CellPlace) (none : value_refusal (held inside) index place.0 place.1 ≡ None) where
     some_sheet : (o : Option Sheet) → value_refusal_in place o ≡ None → (s : Sheet) × (o ≡ Some s)
     some_sheet None e = cc
     some_sheet (Some s) e = (s, refl)
@@ -429,14 +451,14 @@ module _ (about : About) (ws : List HeldSheet) (ds : List Definition) (locale : 
       clear_at = sym (ap (value_refusal_in place) (in_book index s at)) ∙ none
 
       pub takes_there : IfSome (slice_get ws index) (λ (s : HeldSheet). TakesCell place s.grid)
-      takes_there = subst (λ o. IfSome o (λ (s : HeldSheet). TakesCell place s.grid)) (sym at) (takes_cell s.grid place (its_grid book h.valid index (sheet_of s) (in_book index s at)) clear_at)
+      takes_there = subst (λ o. IfSome o (λ (s : HeldSheet). TakesCell place s.grid)) (sym at) (takes_cell s.grid place (its_grid book h index (sheet_of s) (in_book index s at)) clear_at)
 
-  pub style_within : (index : ℕ) (place : CellPlace) (s : HeldSheet) → slice_get ws index ≡ Some s → style_at celled s.grid.cells s.grid.rows s.grid.columns place < length about.styles
-  style_within index place s at = style_below book h.valid index (sheet_of s) (in_book index s at) place
+  pub style_within : (index : ℕ) (place : CellPlace) (s : HeldSheet) → slice_get ws index ≡ Some s → style_at celled s.grid.cells s.grid.rows s.grid.columns place < length inside.lists.styles
+  style_within index place s at = style_below book h index (sheet_of s) (in_book index s at) place
 
   -- the same book, where styles that were added are taken back
-  pub book_again : (styles : List Style) (now : List HeldSheet) → styles ≡ about.styles → sheets_of now ≡ sheets_of ws → held (record about { styles = styles }) now ds locale language tables ≡ held about ws ds locale language tables
+  pub book_again : (styles : List Style) (now : List HeldSheet) → styles ≡ inside.lists.styles → sheets_of now ≡ sheets_of ws → held (with_styles styles (with_sheets now inside)) ≡ held inside
   book_again styles now same sheets = ap₂ (λ (ss : List Sheet) (st : List Style). let b : Book = record book { sheets = ss; styles = st } in b) sheets same
 
-  pub held_again : (styles : List Style) (now : List HeldSheet) → styles ≡ about.styles → sheets_of now ≡ sheets_of ws → IsHeld (record about { styles = styles }) now ds locale language tables
-  held_again styles now same sheets = record { valid = subst IsValidBook (sym (book_again styles now same sheets)) h.valid; locale_found = h.locale_found; language_found = h.language_found }
+  pub held_again : (styles : List Style) (now : List HeldSheet) → styles ≡ inside.lists.styles → sheets_of now ≡ sheets_of ws → IsHeld (with_styles styles (with_sheets now inside))
+  held_again styles now same sheets = subst IsValidBook (sym (book_again styles now same sheets)) h

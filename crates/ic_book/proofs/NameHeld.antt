@@ -14,13 +14,10 @@ use Rattle.ic_definitions.specs.Bodies.{StaysWhereFound}
 use Rattle.ic_definitions.specs.Named.{definitions_scene}
 use Rattle.ic_sheets.specs.Rewriting.{changed_pool, look_ups, looks_up_after, sheets_of}
 use Rattle.ic_sheets.specs.declared.sheet.Sheet.{Sheet as HeldSheet}
-use Rattle.ic_tables.specs.Tables.{TableSet}
-use Rattle.ic_tables.specs.declared.language.Language.{Language}
-use Rattle.ic_tables.specs.declared.locale.NamedLocale.{NamedLocale}
 use Rattle.ic_book.specs.Book.{Book, IsValidBook, ModelState, core_of, notations_in}
 use Rattle.ic_book.specs.Change.{book_changed_by, with_added_definition, with_removed_definition}
-use Rattle.ic_book.specs.declared.about.About.{About}
-use Rattle.ic_book.specs.Inside.{IsHeld, held, held_state}
+use Rattle.ic_book.specs.declared.model.Model.TheInside.{Inside}
+use Rattle.ic_book.specs.Inside.{IsHeld, held, held_state, with_contents}
 use Rattle.ic_book.specs.LookUps.{looks_up_in}
 use Rattle.ic_book.proofs.BookLemmas.{core_of-changed, defined_change, undefined_change}
 use Rattle.ic_book.proofs.BookValid.{core_valid, defined_valid, notations, undefined_valid}
@@ -30,18 +27,24 @@ use Rattle.ic_book.proofs.NameLemmas.{index_is, key_free, name_there, scope_is, 
 use Rattle.ic_book.proofs.SparedBodies.{adding_bodies}
 
 -- the index of a sheet is less than the number of sheets
-inside : (ws : List HeldSheet) (i : ℕ) (id : Option ℕ) → option_map (λ (s : HeldSheet). let id : Option ℕ = Some s.id in id) (slice_get ws i) ≡ Some id → i < length ws
-inside [] i id e = cc
-inside (s ∷ ws) zero id e = omega arith
-inside (s ∷ ws) (suc i) id e = let lt = inside ws i id e in omega (arith, lt)
+falls_inside : (ws : List HeldSheet) (i : ℕ) (id : Option ℕ) → option_map (λ (s : HeldSheet). let id : Option ℕ = Some s.id in id) (slice_get ws i) ≡ Some id → i < length ws
+falls_inside [] i id e = cc
+falls_inside (s ∷ ws) zero id e = omega arith
+falls_inside (s ∷ ws) (suc i) id e = let lt = falls_inside ws i id e in omega (arith, lt)
 
 some_is : (a b : Body) → Some a ≡ Some b → a ≡ b
 some_is a b e = cc
 
-module _ (about : About) (ws : List HeldSheet) (ds : List Definition) (locale : NamedLocale) (language : Language) (tables : TableSet) (h : IsHeld about ws ds locale language tables)
-    (m : ModelState) (is : held_state about ws ds locale language tables ≡ m) (called : List ℕ) (index : Option ℕ) (id : Option ℕ) (scope : scope_of (core_of m.book) index ≡ Some id) where
+module _ (inside : Inside) (h : IsHeld inside)
+    (m : ModelState) (is : held_state inside ≡ m) (called : List ℕ) (index : Option ℕ) (id : Option ℕ) (scope : scope_of (core_of m.book) index ≡ Some id) where
+  abbrev ws : List HeldSheet
+  ws = inside.contents.sheets
+
+  abbrev ds : List Definition
+  ds = inside.contents.definitions
+
   abbrev held_book : Book
-  held_book = held about ws ds locale language tables
+  held_book = held inside
 
   abbrev core : CoreBook
   core = core_of m.book
@@ -50,7 +53,7 @@ module _ (about : About) (ws : List HeldSheet) (ds : List Definition) (locale : 
   n = notations_in m.book
 
   valid : IsValidBook m.book
-  valid = subst (λ (k : ModelState). IsValidBook k.book) is h.valid
+  valid = subst (λ (k : ModelState). IsValidBook k.book) is h
 
   its_scope : scope_or_none core index ≡ id
   its_scope = scope_is core index id scope
@@ -84,11 +87,11 @@ module _ (about : About) (ws : List HeldSheet) (ds : List Definition) (locale : 
     pub it_spares : index ≡ None → AllByRecursion (StaysWhereFound (name_added (spelling_of new))) ds
     it_spares given =
         let global : new.scope ≡ None = ap (λ (d : Definition). d.scope) made ∙ sym its_scope ∙ ap (scope_or_none core) given in
-        adding_bodies (core_of held_book) (spelling_of new) global (ap (λ s. list_any (is_named new.name s) ds) (sym global) ∙ is_free) (notations_in held_book) (core_valid held_book h.valid)
+        adding_bodies (core_of held_book) (spelling_of new) global (ap (λ s. list_any (is_named new.name s) ds) (sym global) ∙ is_free) (notations_in held_book) (core_valid held_book h)
 
     -- and one that is local to a sheet is so to one that is there
     pub it_is_within : (i : ℕ) → index ≡ Some i → i < length ws
-    it_is_within i given = inside ws i id (sym (scope_seen ws i) ∙ ap (scope_of (core_of held_book)) (sym given) ∙ scope_here)
+    it_is_within i given = falls_inside ws i id (sym (scope_seen ws i) ∙ ap (scope_of (core_of held_book)) (sym given) ∙ scope_here)
 
     pub its_sheet : (i : ℕ) → index ≡ Some i → (s : HeldSheet) → slice_get ws i ≡ Some s → new.scope ≡ Some s.id
     its_sheet i given s at = ap (λ (d : Definition). d.scope) made ∙ sym (ap (λ o. unwrap_or o None) (scope_there (core_of held_book) ws index i s refl given at ∙ scope_here))
@@ -100,25 +103,25 @@ module _ (about : About) (ws : List HeldSheet) (ds : List Definition) (locale : 
         e ∙ sym (looks_up_is (name_added (spelling_of new)) ws) ∙ ap (looks_up_in (name_added (spelling_of new))) is ∙ ap (λ (d : Definition). looks_up_in (name_added (spelling_of d)) m) made_again
 
     module _ (now : List HeldSheet) (nds : List Definition) (sheets : sheets_of now ≡ map (changed_pool (name_added (spelling_of new))) (sheets_of ws)) (names : nds ≡ map (with_body_tree (changed_tree (name_added (spelling_of new)))) ds ++ new ∷ []) where
-      left : held about now nds locale language tables ≡ book_changed_by (with_added_definition new) held_book
-      left = defined about ws ds locale language tables h now nds new sheets names
+      left : held (with_contents now nds inside) ≡ book_changed_by (with_added_definition new) held_book
+      left = defined inside h now nds new sheets names
 
-      pub defined_held : IsHeld about now nds locale language tables
+      pub defined_held : IsHeld (with_contents now nds inside)
       defined_held =
-          held_after about ws ds locale language tables h now nds (book_changed_by (with_added_definition new) held_book) left
+          held_after inside h now nds (book_changed_by (with_added_definition new) held_book) left
           (subst (λ (d : Definition). IsValidBook (book_changed_by (with_added_definition d) held_book)) (sym made_here)
-          (defined_valid held_book h.valid called index text typed none_here (ap (λ (k : ModelState). body_of (notations_in k.book) (core_of k.book) text) is ∙ reads)))
+          (defined_valid held_book h called index text typed none_here (ap (λ (k : ModelState). body_of (notations_in k.book) (core_of k.book) text) is ∙ reads)))
 
-      left_there : held about now nds locale language tables ≡ book_changed_by (with_added_definition made_new) m.book
+      left_there : held (with_contents now nds inside) ≡ book_changed_by (with_added_definition made_new) m.book
       left_there = left ∙ ap (λ (k : ModelState). book_changed_by (with_added_definition new) k.book) is ∙ ap (λ (d : Definition). book_changed_by (with_added_definition d) m.book) made_again
 
-      pub defined_book : (body : Body) → body_of n core text ≡ Some body → held about now nds locale language tables ≡ book_changed_by (with_added_definition (new_definition n core called (scope_or_none core index) body)) m.book
+      pub defined_book : (body : Body) → body_of n core text ≡ Some body → held (with_contents now nds inside) ≡ book_changed_by (with_added_definition (new_definition n core called (scope_or_none core index) body)) m.book
       defined_book body e = left_there ∙ ap (λ b. book_changed_by (with_added_definition (new_definition n core called (scope_or_none core index) b)) m.book) (same_body body e)
 
-      pub defined_core : core_of (held about now nds locale language tables) ≡ with_new_name n core called (scope_or_none core index) (body_of n core text)
+      pub defined_core : core_of (held (with_contents now nds inside)) ≡ with_new_name n core called (scope_or_none core index) (body_of n core text)
       defined_core = ap core_of left_there ∙ core_of-changed n (with_added_definition made_new) (with_definition made_new) (defined_change made_new) m.book ∙ ap (with_new_name n core called (scope_or_none core index)) (sym reads)
 
-      pub defined_binds : (body : Body) → body_of n core text ≡ Some body → core_of (held about now nds locale language tables)
+      pub defined_binds : (body : Body) → body_of n core text ≡ Some body → core_of (held (with_contents now nds inside))
           ≡ with_definition (new_definition n core called (scope_or_none core index) body) (with_trees (changed_tree (name_added (record { name = called; scope = scope_or_none core index }))) core)
       defined_binds body e =
           defined_core
@@ -147,31 +150,31 @@ module _ (about : About) (ws : List HeldSheet) (ds : List Definition) (locale : 
     undefined_looks_up now e =
         subst (λ o. IfSome o (λ i. IfSome (slice_get m.book.definitions i) (λ (d : Definition). look_ups now ≡ looks_up_in (name_gone (scene_of (without_definition (Some i) core)) (spelling_of d)) m))) (sym its_index)
         (subst (λ (k : ModelState). IfSome (slice_get k.book.definitions at) (λ (d : Definition). look_ups now ≡ looks_up_in (name_gone (scene_of (without_definition (Some at) (core_of k.book))) (spelling_of d)) k)) is
-        (subst (λ o. IfSome o (λ (d : Definition). look_ups now ≡ looks_up_in (name_gone (scene_of (without_definition (Some at) (core_of held_book))) (spelling_of d)) (held_state about ws ds locale language tables))) (sym there.1)
+        (subst (λ o. IfSome o (λ (d : Definition). look_ups now ≡ looks_up_in (name_gone (scene_of (without_definition (Some at) (core_of held_book))) (spelling_of d)) (held_state inside))) (sym there.1)
         (e there.0 there.1 ∙ sym (looks_up_is (name_gone (definitions_scene (remove ds at)) (spelling_of there.0)) ws))))
 
     module _ (now : List HeldSheet) (nds : List Definition) (sheets : (d : Definition) → slice_get ds at ≡ Some d → sheets_of now ≡ map (changed_pool (name_gone (definitions_scene (remove ds at)) (spelling_of d))) (sheets_of ws))
         (names : (d : Definition) → slice_get ds at ≡ Some d → nds ≡ remove (map (with_body_tree (changed_tree (name_gone (definitions_scene (remove ds at)) (spelling_of d)))) ds) at) where
-      remains : held about now nds locale language tables ≡ book_changed_by (with_removed_definition (Some at)) held_book
-      remains = undefined about ws ds locale language tables h now nds at there.0 there.1 (sheets there.0 there.1) (names there.0 there.1)
+      remains : held (with_contents now nds inside) ≡ book_changed_by (with_removed_definition (Some at)) held_book
+      remains = undefined inside h now nds at there.0 there.1 (sheets there.0 there.1) (names there.0 there.1)
 
-      pub undefined_held : IsHeld about now nds locale language tables
+      pub undefined_held : IsHeld (with_contents now nds inside)
       undefined_held =
-          held_after about ws ds locale language tables h now nds (book_changed_by (with_removed_definition (Some at)) held_book) remains
-          (undefined_valid held_book h.valid called index at (ap (λ (k : ModelState). delete_name_refusal (core_of k.book) called index) is ∙ it_goes)
+          held_after inside h now nds (book_changed_by (with_removed_definition (Some at)) held_book) remains
+          (undefined_valid held_book h called index at (ap (λ (k : ModelState). delete_name_refusal (core_of k.book) called index) is ∙ it_goes)
           (ap (λ (k : ModelState). index_of_definition (core_of k.book) called (scope_or_none (core_of k.book) index)) is ∙ its_index))
 
-      remains_there : held about now nds locale language tables ≡ book_changed_by (with_removed_definition (Some at)) m.book
+      remains_there : held (with_contents now nds inside) ≡ book_changed_by (with_removed_definition (Some at)) m.book
       remains_there = remains ∙ ap (λ (k : ModelState). book_changed_by (with_removed_definition (Some at)) k.book) is
 
-      pub undefined_book : held about now nds locale language tables ≡ book_changed_by (with_removed_definition (index_of_definition core called (scope_or_none core index))) m.book
+      pub undefined_book : held (with_contents now nds inside) ≡ book_changed_by (with_removed_definition (index_of_definition core called (scope_or_none core index))) m.book
       undefined_book = remains_there ∙ ap (λ o. book_changed_by (with_removed_definition o) m.book) (sym its_index)
 
-      pub undefined_core : core_of (held about now nds locale language tables) ≡ changed_by n (without_definition (index_of_definition core called (scope_or_none core index))) core
+      pub undefined_core : core_of (held (with_contents now nds inside)) ≡ changed_by n (without_definition (index_of_definition core called (scope_or_none core index))) core
       undefined_core = ap core_of remains_there ∙ core_of-changed n (with_removed_definition (Some at)) (without_definition (Some at)) (undefined_change at) m.book ∙ ap (λ o. changed_by n (without_definition o) core) (sym its_index)
 
       pub undefined_dangles : (i : ℕ) (d : Definition) → index_of_definition core called (scope_or_none core index) ≡ Some i → slice_get core.definitions i ≡ Some d
-          → core_of (held about now nds locale language tables) ≡ without_definition (Some i) (with_trees (changed_tree (name_gone (scene_of (without_definition (Some i) core)) (spelling_of d))) core)
+          → core_of (held (with_contents now nds inside)) ≡ without_definition (Some i) (with_trees (changed_tree (name_gone (scene_of (without_definition (Some i) core)) (spelling_of d))) core)
       undefined_dangles i d e f =
           undefined_core
           ∙ delete_name_dangles n core _ called index i d [] (notations m.book valid) (core_valid m.book valid) e f (ap (λ r. unless_refused r (changed_by n (without_definition (index_of_definition core called (scope_or_none core index))) core) []) it_goes)

@@ -4,12 +4,8 @@ use Rattle.std.specs.List.{slice_get}
 use Rattle.std.specs.Prelude.{◌≤ℤ◌, ◌<ℤ◌}
 use Rattle.std.proofs.lemmas.Option.{slice_get-map, slice_get_past}
 use Rattle.ic_laws.proofs.core.Lists.{all_updated, updated_seen}
-use Rattle.ic_laws.specs.CoreBook.{Definition}
 use Rattle.ic_laws.specs.CoreStep.{updated_at}
 use Rattle.ic_laws.specs.declared.reference.TheConstants.{LAST_COLUMN, LAST_ROW}
-use Rattle.ic_tables.specs.Tables.{TableSet}
-use Rattle.ic_tables.specs.declared.language.Language.{Language}
-use Rattle.ic_tables.specs.declared.locale.NamedLocale.{NamedLocale}
 use Rattle.ic_machine.specs.Book as machine
 use Rattle.ic_machine.specs.Book.{Stepped, found_or, on_sheet, on_tab, put_in, with_sheet}
 use Rattle.ic_machine.proofs.ValidLemmas.{HoldsOf, holds_at, same_styles}
@@ -21,8 +17,8 @@ use Rattle.ic_sheets.specs.Sheet.{Sheet, sheet_of}
 use Rattle.ic_sheets.specs.declared.sheet.Sheet.{Sheet as HeldSheet}
 use Rattle.ic_sheets.specs.declared.tab.Tab.{Tab}
 use Rattle.ic_book.specs.Book.{Book, HasStrings, IsPlain, IsValidBook, ModelState, notations_in}
-use Rattle.ic_book.specs.declared.about.About.{About}
-use Rattle.ic_book.specs.Inside.{IsHeld, held_state}
+use Rattle.ic_book.specs.declared.model.Model.TheInside.{Inside}
+use Rattle.ic_book.specs.Inside.{IsHeld, held_state, with_sheets}
 use Rattle.ic_book.specs.Does.{DoesStep, DoesTab, IsDone, PartMade, PartRefused, Refused, wants}
 use Rattle.ic_book.specs.Parts.{StaysFrozen}
 use Rattle.ic_book.specs.Refused.{refusal_of}
@@ -173,9 +169,12 @@ past_end index count e = search (rules, arith)
 
 -- the same of a model's sheets ----
 
-module _ (about : About) (ws : List HeldSheet) (ds : List Definition) (locale : NamedLocale) (language : Language) (tables : TableSet) (h : IsHeld about ws ds locale language tables) (index : ℕ) where
+module _ (inside : Inside) (h : IsHeld inside) (index : ℕ) where
+  abbrev ws : List HeldSheet
+  ws = inside.contents.sheets
+
   abbrev its_state : ModelState
-  its_state = held_state about ws ds locale language tables
+  its_state = held_state inside
 
   pub not_held : length ws ≤ index → slice_get its_state.book.sheets index ≡ None
   not_held past = slice_get-map sheet_of ws index ∙ ap (option_map sheet_of) (slice_get_past ws index past)
@@ -184,10 +183,10 @@ module _ (about : About) (ws : List HeldSheet) (ds : List Definition) (locale : 
   in_state s at = slice_get-map sheet_of ws index ∙ ap (option_map sheet_of) at
 
   pub frozen_in : (s : HeldSheet) → slice_get ws index ≡ Some s → IsFrozen (whole_tab s.tab)
-  frozen_in s at = frozen_there index s.tab its_state.book h.valid (sheet_of s) (in_state s at)
+  frozen_in s at = frozen_there index s.tab its_state.book h (sheet_of s) (in_state s at)
 
   module _ (now : List HeldSheet) (tab : Tab) (is : now ≡ updated_at (λ s. record s { tab = tab }) index ws) where
-    pub tab_state : held_state about now ds locale language tables ≡ record its_state { book = with_tab index tab its_state.book }
+    pub tab_state : held_state (with_sheets now inside) ≡ record its_state { book = with_tab index tab its_state.book }
     tab_state =
         ap₂ (λ (sheets : List Sheet) (all : List Bool). let m : ModelState = record { book = record its_state.book { sheets = sheets }; has_all = all } in m)
         (ap (map sheet_of) is ∙ updated_seen sheet_of (λ s. record s { tab = tab }) (λ s. record s { tab = tab }) (λ s. refl) index ws)
@@ -198,9 +197,5 @@ module _ (about : About) (ws : List HeldSheet) (ds : List Definition) (locale : 
         look_ups_same zero (s ∷ xs) = refl
         look_ups_same (suc i) (s ∷ xs) = ap (λ more. s.pool.is_whole ∷ more) (look_ups_same i xs)
 
-    pub tab_held : (s : HeldSheet) → slice_get ws index ≡ Some s → StaysFrozen s.tab tab → IsHeld about now ds locale language tables
-    tab_held s at stays = record {
-      valid = subst (λ (m : ModelState). IsValidBook m.book) (sym tab_state) (valid_with_tab index tab its_state.book h.valid (sheet_of s) (in_state s at) (stays (frozen_in s at)));
-      locale_found = h.locale_found;
-      language_found = h.language_found;
-    }
+    pub tab_held : (s : HeldSheet) → slice_get ws index ≡ Some s → StaysFrozen s.tab tab → IsHeld (with_sheets now inside)
+    tab_held s at stays = subst (λ (m : ModelState). IsValidBook m.book) (sym tab_state) (valid_with_tab index tab its_state.book h (sheet_of s) (in_state s at) (stays (frozen_in s at)))

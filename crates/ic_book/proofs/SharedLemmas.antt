@@ -4,11 +4,8 @@ use Rattle.std.proofs.lemmas.Option.{slice_get_within}
 use Rattle.std.proofs.lemmas.Slice.Eq.{bytes_eq-Decides}
 use Rattle.std.specs.FinMap as finite
 use Rattle.std.specs.List.{AllByRecursion, slice_get}
-use Rattle.ic_laws.specs.CoreBook.{CellPlace, Definition}
+use Rattle.ic_laws.specs.CoreBook.{CellPlace}
 use Rattle.ic_laws.specs.CoreStep.{updated_at}
-use Rattle.ic_tables.specs.Tables.{TableSet}
-use Rattle.ic_tables.specs.declared.language.Language.{Language}
-use Rattle.ic_tables.specs.declared.locale.NamedLocale.{NamedLocale}
 use Rattle.ic_cells.specs.Listed.{place_in}
 use Rattle.ic_cells.specs.Strings.{string_index, with_string}
 use Rattle.ic_cells.specs.declared.cell.Cell.{Cell}
@@ -24,12 +21,13 @@ use Rattle.ic_machine.specs.Styling.{restyled}
 use Rattle.ic_machine.specs.Valid as valid_machine
 use Rattle.ic_sheets.specs.Sheet.{Sheet, sheet_of, with_cell_in}
 use Rattle.ic_sheets.specs.declared.sheet.Sheet.{Sheet as HeldSheet}
-use Rattle.ic_book.specs.Book.{HasString, HasStrings, IsValidBook, whole_of, whole_sheet, whole_tab}
+use Rattle.ic_book.specs.Book.{HasString, HasStrings, whole_of, whole_sheet, whole_tab}
 use Rattle.ic_book.specs.Does.{DoesStep, Wanted}
 use Rattle.ic_book.specs.Fields.{no_fields}
-use Rattle.ic_book.specs.Inside.{IsHeld, held, held_state}
+use Rattle.ic_book.specs.Inside.{IsHeld, held, held_state, with_lists, with_sheets}
 use Rattle.ic_book.specs.Values.{IsLonger, IsValueCell, Shows, put_step, value_cell, value_content, value_refusal, value_step, value_strings, with_put}
-use Rattle.ic_book.specs.declared.about.About.{About}
+use Rattle.ic_book.specs.declared.lists.Lists.{Lists}
+use Rattle.ic_book.specs.declared.model.Model.TheInside.{Inside}
 use Rattle.ic_book.specs.declared.values.Value.{Value}
 use Rattle.ic_book.specs.declared.values.Value.TheVariants as values
 use Rattle.ic_book.proofs.GridLemmas.{all_taken_back, take_all, take_front}
@@ -176,73 +174,72 @@ module _ (old strings : List (List ℕ)) (more : IsLonger old strings) where
   all_longer [] h = tt
   all_longer (s ∷ sheets) h = (λ place x e. has_longer x (h.0 place x e), all_longer sheets h.1)
 
-module _ (about : About) (ws : List HeldSheet) (ds : List Definition) (locale : NamedLocale) (language : Language) (tables : TableSet) (h : IsHeld about ws ds locale language tables) where
-  module _ (strings : List (List ℕ)) (more : IsLonger about.strings strings) where
-    pub shared_whole : whole_of (held (record about { strings = strings }) ws ds locale language tables) ≡ whole_of (held about ws ds locale language tables)
-    shared_whole =
-        ap (λ (sheets : List machine.Sheet). let b : machine.Book = record (whole_of (held about ws ds locale language tables)) { sheets = sheets } in b)
-        (sheets_same about.strings strings more (map sheet_of ws) h.valid.strings)
+module _ (inside : Inside) (h : IsHeld inside) where
+  abbrev ws : List HeldSheet
+  ws = inside.contents.sheets
 
-    pub shared_held : IsHeld (record about { strings = strings }) ws ds locale language tables
+  module _ (strings : List (List ℕ)) (more : IsLonger inside.lists.strings strings) where
+    pub shared_whole : whole_of (held (with_lists (record inside.lists { strings = strings }) inside)) ≡ whole_of (held inside)
+    shared_whole =
+        ap (λ (sheets : List machine.Sheet). let b : machine.Book = record (whole_of (held inside)) { sheets = sheets } in b)
+        (sheets_same inside.lists.strings strings more (map sheet_of ws) h.strings)
+
+    pub shared_held : IsHeld (with_lists (record inside.lists { strings = strings }) inside)
     shared_held = record {
-      valid = record {
-        whole = subst valid_machine.IsValidBook (sym shared_whole) h.valid.whole;
-        strings = all_longer about.strings strings more (map sheet_of ws) h.valid.strings;
-        plain = h.valid.plain;
-      };
-      locale_found = h.locale_found;
-      language_found = h.language_found;
+      whole = subst valid_machine.IsValidBook (sym shared_whole) h.whole;
+      strings = all_longer inside.lists.strings strings more (map sheet_of ws) h.strings;
+      plain = h.plain;
     }
 
   -- What a model holds where a value was put into a cell. ----
 
-  module _ (index : ℕ) (row column : ℤ) (none : value_refusal (held about ws ds locale language tables) index row column ≡ None) (n : ℕ) (shows : Shows (held about ws ds locale language tables) index row column n) (value : Value) (change : Style → Style)
-      (cell : Cell) (then : About) (now : List HeldSheet) (is_cell : cell ≡ value_cell about.strings value (restyled change n about.styles).number) (put_about : then ≡ with_put value (restyled change n about.styles) about)
+  module _ (index : ℕ) (row column : ℤ) (none : value_refusal (held inside) index row column ≡ None) (n : ℕ) (shows : Shows (held inside) index row column n) (value : Value) (change : Style → Style)
+      (cell : Cell) (then : Lists) (now : List HeldSheet) (is_cell : cell ≡ value_cell inside.lists.strings value (restyled change n inside.lists.styles).number) (put_lists : then ≡ with_put value (restyled change n inside.lists.styles) inside.lists)
       (e : now ≡ updated_at (λ s. record s { grid = with_cell_in (row, column) cell s.grid }) index ws)
     where
-      abbrev other : About
-      other = record about { strings = value_strings value about.strings }
+      abbrev other : Lists
+      other = record inside.lists { strings = value_strings value inside.lists.strings }
 
-      put : now ≡ updated_at (λ s. record s { grid = with_cell_in (row, column) (value_cell about.strings value (restyled change n about.styles).number) s.grid }) index ws
+      put : now ≡ updated_at (λ s. record s { grid = with_cell_in (row, column) (value_cell inside.lists.strings value (restyled change n inside.lists.styles).number) s.grid }) index ws
       put = e ∙ ap (λ (x : Cell). updated_at (λ (s : HeldSheet). record s { grid = with_cell_in (row, column) x s.grid }) index ws) is_cell
 
-      other_held : IsHeld other ws ds locale language tables
-      other_held = shared_held (value_strings value about.strings) (value_longer value about.strings)
+      other_held : IsHeld (with_lists other inside)
+      other_held = shared_held (value_strings value inside.lists.strings) (value_longer value inside.lists.strings)
 
-      step_same : value_step (held other ws ds locale language tables) index row column change (value_cell about.strings value) ≡ put_step (whole_of (held about ws ds locale language tables)) index row column change (value_content value)
+      step_same : value_step (held (with_lists other inside)) index row column change (value_cell inside.lists.strings value) ≡ put_step (whole_of (held inside)) index row column change (value_content value)
       step_same =
-          ap₂ (λ (b : machine.Book) (content : ℕ → Content). put_step b index row column change content) (shared_whole (value_strings value about.strings) (value_longer value about.strings)) (content_is value about.strings)
+          ap₂ (λ (b : machine.Book) (content : ℕ → Content). put_step b index row column change content) (shared_whole (value_strings value inside.lists.strings) (value_longer value inside.lists.strings)) (content_is value inside.lists.strings)
 
-      pub put_held : IsHeld then now ds locale language tables
+      pub put_held : IsHeld (with_lists then (with_sheets now inside))
       put_held =
-          subst (λ (a : About). IsHeld a now ds locale language tables) (sym put_about)
-          (value_held other ws ds locale language tables other_held index row column none n shows change (value_cell about.strings value) (restyled change n about.styles).number (restyled change n about.styles).styles now refl refl put (value_is value about.strings))
+          subst (λ (a : Lists). IsHeld (with_lists a (with_sheets now inside))) (sym put_lists)
+          (value_held (with_lists other inside) other_held index row column none n shows change (value_cell inside.lists.strings value) (restyled change n inside.lists.styles).number (restyled change n inside.lists.styles).styles now refl refl put (value_is value inside.lists.strings))
 
-      pub put_done : DoesStep Wanted (put_step (whole_of (held about ws ds locale language tables)) index row column change (value_content value)) no_fields (Ok tt) (held_state about ws ds locale language tables) (held_state then now ds locale language tables)
+      pub put_done : DoesStep Wanted (put_step (whole_of (held inside)) index row column change (value_content value)) no_fields (Ok tt) (held_state inside) (held_state (with_lists then (with_sheets now inside)))
       put_done =
-          let d = value_done other ws ds locale language tables other_held index row column none n shows change (value_cell about.strings value) (restyled change n about.styles).number (restyled change n about.styles).styles now refl refl put (value_is value about.strings) in
-          subst (λ (a : About). DoesStep Wanted (put_step (whole_of (held about ws ds locale language tables)) index row column change (value_content value)) no_fields (Ok tt) (held_state about ws ds locale language tables) (held_state a now ds locale language tables))
-          (sym put_about) (record { done = sym step_same ∙ d.done; before = h.valid; after = d.after })
+          let d = value_done (with_lists other inside) other_held index row column none n shows change (value_cell inside.lists.strings value) (restyled change n inside.lists.styles).number (restyled change n inside.lists.styles).styles now refl refl put (value_is value inside.lists.strings) in
+          subst (λ (a : Lists). DoesStep Wanted (put_step (whole_of (held inside)) index row column change (value_content value)) no_fields (Ok tt) (held_state inside) (held_state (with_lists a (with_sheets now inside))))
+          (sym put_lists) (record { done = sym step_same ∙ d.done; before = h; after = d.after })
 
       pub put_look_ups : map (λ (s : HeldSheet). s.pool.is_whole) now ≡ map (λ (s : HeldSheet). s.pool.is_whole) ws
-      put_look_ups = ap (λ m. m.has_all) (value_state other ws ds locale language tables other_held index row column none n shows change (value_cell about.strings value) (restyled change n about.styles).number (restyled change n about.styles).styles now refl refl put)
+      put_look_ups = ap (λ m. m.has_all) (value_state (with_lists other inside) other_held index row column none n shows change (value_cell inside.lists.strings value) (restyled change n inside.lists.styles).number (restyled change n inside.lists.styles).styles now refl refl put)
 
   -- Where nothing was added, or that was taken back, and the sheets stayed, a model is as it was. ----
 
-  module _ (then : About) (now : List HeldSheet) (same_about : then ≡ about) (same : now ≡ ws) where
-    pub state_again : held_state then now ds locale language tables ≡ held_state about ws ds locale language tables
-    state_again = ap₂ (λ (a : About) (ss : List HeldSheet). held_state a ss ds locale language tables) same_about same
+  module _ (then : Lists) (now : List HeldSheet) (same_lists : then ≡ inside.lists) (same : now ≡ ws) where
+    pub state_again : held_state (with_lists then (with_sheets now inside)) ≡ held_state inside
+    state_again = ap₂ (λ (a : Lists) (ss : List HeldSheet). held_state (with_lists a (with_sheets ss inside))) same_lists same
 
-    pub held_as_before : IsHeld then now ds locale language tables
+    pub held_as_before : IsHeld (with_lists then (with_sheets now inside))
     held_as_before =
-        subst (λ (ss : List HeldSheet). IsHeld then ss ds locale language tables) (sym same)
-        (subst (λ (a : About). IsHeld a ws ds locale language tables) (sym same_about) h)
+        subst (λ (ss : List HeldSheet). IsHeld (with_lists then (with_sheets ss inside))) (sym same)
+        (subst (λ (a : Lists). IsHeld (with_lists a inside)) (sym same_lists) h)
 
 -- what was added is taken back
-pub taken_away : (about then : About) (value : Value) (change : Style → Style) (n : ℕ) → then ≡ with_put value (restyled change n about.styles) about → (styles : List Style) (strings : List (List ℕ))
-    → styles ≡ take (length about.styles) then.styles → strings ≡ take (length about.strings) then.strings → record then { styles = styles; strings = strings } ≡ about
-taken_away about then value change n e styles strings by_styles by_strings =
-    ap (λ (a : About). let b : About = record a { styles = styles; strings = strings } in b) e
-    ∙ ap₂ (λ (st : List Style) (ss : List (List ℕ)). let b : About = record about { styles = st; strings = ss } in b)
-    (by_styles ∙ ap (λ (a : About). take (length about.styles) a.styles) e ∙ all_taken_back change about.styles n)
-    (by_strings ∙ ap (λ (a : About). take (length about.strings) a.strings) e ∙ strings_back value about.strings)
+pub taken_away : (lists then : Lists) (value : Value) (change : Style → Style) (n : ℕ) → then ≡ with_put value (restyled change n lists.styles) lists → (styles : List Style) (strings : List (List ℕ))
+    → styles ≡ take (length lists.styles) then.styles → strings ≡ take (length lists.strings) then.strings → record then { styles = styles; strings = strings } ≡ lists
+taken_away lists then value change n e styles strings by_styles by_strings =
+    ap (λ (a : Lists). let b : Lists = record a { styles = styles; strings = strings } in b) e
+    ∙ ap₂ (λ (st : List Style) (ss : List (List ℕ)). let b : Lists = record lists { styles = st; strings = ss } in b)
+    (by_styles ∙ ap (λ (a : Lists). take (length lists.styles) a.styles) e ∙ all_taken_back change lists.styles n)
+    (by_strings ∙ ap (λ (a : Lists). take (length lists.strings) a.strings) e ∙ strings_back value lists.strings)

@@ -44,7 +44,7 @@ use Rattle.ic_book.proofs.CellReads.{value_same}
 use Rattle.ic_book.proofs.ModelLemmas.{got_formula}
 use Rattle.ic_book.proofs.StyleLemmas.{own_below}
 use Rattle.ic_book.proofs.WholeLemmas.{whole_core}
-use Rattle.ic_book.proofs.WholeWritten.{in_force_there}
+use Rattle.ic_book.proofs.WholeWritten.{in_force_there, language_there, locale_there}
 use Rattle.ic_book.proofs.WrittenLemmas.{one_of_all}
 
 -- the notation in force, by the entries of the tables ----
@@ -118,26 +118,38 @@ module _ (book : Book) (valid : IsValidBook book) (l : NamedLocale) (language : 
   code_same (cells.ArrayFormula f s r kind v) = refl
   code_same (cells.SpillCell s a v) = refl
 
-  pub cell_formatted_is : (cell : Cell) → cell_formatted book cell ≡ formatted_content (whole_of book) (content_of book.strings cell)
-  cell_formatted_is cell =
+  formatted_is_it : (cell : Cell) → cell_formatted book cell ≡ formatted_content (whole_of book) (content_of book.strings cell)
+  formatted_is_it cell =
       ap₂ (λ (text : List ℕ) (o : Option ℤ). number_or (formatted_in (whole_of book) (code_at book (style_of cell))) text o) (sym (localized_is cell)) (sym (number_same cell))
       ∙ sym (value_formatted (code_at book (style_of cell)) (value_of book.strings language cell))
       ∙ ap₂ (λ (code : List ℕ) (v : CellValue). formatted_value (whole_of book) code v) (sym (code_same cell))
       (sym (by_it values.None (λ k g. contents.value_of g (content_of book.strings cell)) ∙ value_same book.strings language cell))
 
   -- a cell without a formula
-  pub value_shown_is : (s : Sheet) (place : CellPlace) (cell : Cell) → cell_formula_index cell ≡ None → value_shown book cell ≡ shown_content (whole_of book) (whole_sheet book.strings s) place (content_of book.strings cell)
-  value_shown_is s place (cells.EmptyCell n) e = sym (localized_is (cells.EmptyCell n))
-  value_shown_is s place (cells.BooleanCell v n) e = refl
-  value_shown_is s place (cells.NumberCell v n) e = refl
-  value_shown_is s place (cells.ErrorCell v n) e = refl
-  value_shown_is s place (cells.SharedString i n) e = refl
-  value_shown_is s place (cells.CellFormula f n v) e = cc
-  value_shown_is s place (cells.ArrayFormula f n r kind v) e = cc
-  value_shown_is s place (cells.SpillCell n a (spills.Boolean b)) e = refl
-  value_shown_is s place (cells.SpillCell n a (spills.Number v)) e = refl
-  value_shown_is s place (cells.SpillCell n a (spills.Text t)) e = refl
-  value_shown_is s place (cells.SpillCell n a (spills.Error v)) e = refl
+  shown_is_it : (s : Sheet) (place : CellPlace) (cell : Cell) → cell_formula_index cell ≡ None → value_shown book cell ≡ shown_content (whole_of book) (whole_sheet book.strings s) place (content_of book.strings cell)
+  shown_is_it s place (cells.EmptyCell n) e = sym (localized_is (cells.EmptyCell n))
+  shown_is_it s place (cells.BooleanCell v n) e = refl
+  shown_is_it s place (cells.NumberCell v n) e = refl
+  shown_is_it s place (cells.ErrorCell v n) e = refl
+  shown_is_it s place (cells.SharedString i n) e = refl
+  shown_is_it s place (cells.CellFormula f n v) e = cc
+  shown_is_it s place (cells.ArrayFormula f n r kind v) e = cc
+  shown_is_it s place (cells.SpillCell n a (spills.Boolean b)) e = refl
+  shown_is_it s place (cells.SpillCell n a (spills.Number v)) e = refl
+  shown_is_it s place (cells.SpillCell n a (spills.Text t)) e = refl
+  shown_is_it s place (cells.SpillCell n a (spills.Error v)) e = refl
+
+pub cell_formatted_is : (book : Book) → IsValidBook book → (cell : Cell) → cell_formatted book cell ≡ formatted_content (whole_of book) (content_of book.strings cell)
+cell_formatted_is book valid cell =
+    let l = locale_there book valid in
+    let language = language_there book valid in
+    formatted_is_it book valid l.0 language.0 l.1 language.1 cell
+
+pub value_shown_is : (book : Book) → IsValidBook book → (s : Sheet) (place : CellPlace) (cell : Cell) → cell_formula_index cell ≡ None → value_shown book cell ≡ shown_content (whole_of book) (whole_sheet book.strings s) place (content_of book.strings cell)
+value_shown_is book valid s place cell lacks =
+    let l = locale_there book valid in
+    let language = language_there book valid in
+    shown_is_it book valid l.0 language.0 l.1 language.1 s place cell lacks
 
 -- a number by its date, where that is typed as it ----
 

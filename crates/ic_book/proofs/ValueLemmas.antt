@@ -3,17 +3,13 @@ use Rattle.std.proofs.Common.{◌≡◌, ℕ, ℤ, ◌<◌, ◌++◌, List, [], 
 use Rattle.std.proofs.lemmas.Option.{slice_get-map, slice_get_within}
 use Rattle.std.specs.List.{slice_get}
 use Rattle.ic_laws.proofs.core.Lists.{all_updated, updated_seen, updated_unseen}
-use Rattle.ic_laws.specs.CoreBook.{CellPlace, Definition}
+use Rattle.ic_laws.specs.CoreBook.{CellPlace}
 use Rattle.ic_laws.specs.CoreStep.{updated_at}
 use Rattle.ic_laws.specs.Position.{is_column, is_row}
-use Rattle.ic_tables.specs.Tables.{TableSet}
-use Rattle.ic_tables.specs.declared.language.Language.{Language}
-use Rattle.ic_tables.specs.declared.locale.NamedLocale.{NamedLocale}
 use Rattle.ic_cells.specs.declared.cell.Cell.{Cell}
 use Rattle.ic_cells.specs.declared.style.Style.{Style}
 use Rattle.ic_grid.specs.Contents.{Contents}
 use Rattle.ic_grid.specs.Merges.{is_covered}
-use Rattle.ic_grid.specs.Prepare.{written}
 use Rattle.ic_grid.specs.Shape.{celled, is_loose}
 use Rattle.ic_grid.specs.Style.{style_at}
 use Rattle.ic_machine.proofs.AlikeGrid.{is_fixed_at-seen, style_at-seen, written-seen}
@@ -33,11 +29,11 @@ use Rattle.ic_sheets.specs.declared.sheet.Sheet.{Sheet as HeldSheet}
 use Rattle.ic_book.specs.Book.{Book, HasStrings, IsPlain, IsValidBook, ModelState}
 use Rattle.ic_book.specs.Does.{DoesStep, IsDone, Refused, Wanted}
 use Rattle.ic_book.specs.Fields.{no_fields}
-use Rattle.ic_book.specs.Inside.{IsHeld, held_state}
+use Rattle.ic_book.specs.Inside.{IsHeld, held_state, with_sheets, with_styles}
 use Rattle.ic_book.specs.Refused.{refusal_of}
 use Rattle.ic_book.specs.Values.{IsValueCell, Shows, changed_style, content_written, put_step, shown_style, value_causes, value_refusal, value_refusal_in, value_step, with_value}
 use Rattle.ic_book.specs.Whole.{whole_of, whole_sheet, whole_tab}
-use Rattle.ic_book.specs.declared.about.About.{About}
+use Rattle.ic_book.specs.declared.model.Model.TheInside.{Inside}
 use Rattle.ic_book.specs.declared.error.BookError.{BookError}
 use Rattle.ic_book.specs.declared.error.BookError.TheVariants as errors
 use Rattle.ic_book.proofs.GridLemmas.{its_grid, plain_with, strings_with, style_below, takes_cell}
@@ -192,11 +188,14 @@ module _ (old : ModelState) (valid : IsValidBook old.book) (index : ℕ) (row co
 
 -- What a model holds then. ----
 
-module _ (about : About) (ws : List HeldSheet) (ds : List Definition) (locale : NamedLocale) (language : Language) (tables : TableSet) (h : IsHeld about ws ds locale language tables) (index : ℕ) (row column : ℤ)
-    (none : value_refusal (held_state about ws ds locale language tables).book index row column ≡ None)
+module _ (inside : Inside) (h : IsHeld inside) (index : ℕ) (row column : ℤ)
+    (none : value_refusal (held_state inside).book index row column ≡ None)
   where
+    abbrev ws : List HeldSheet
+    ws = inside.contents.sheets
+
     abbrev its_state : ModelState
-    its_state = held_state about ws ds locale language tables
+    its_state = held_state inside
 
     held_in : (o : Option HeldSheet) (s : Sheet) → option_map sheet_of o ≡ Some s → (x : HeldSheet) × (o ≡ Some x) × (sheet_of x ≡ s)
     held_in None s e = cc
@@ -219,16 +218,16 @@ module _ (about : About) (ws : List HeldSheet) (ds : List Definition) (locale : 
     pub takes_there : IfSome (slice_get ws index) (λ (s : HeldSheet). TakesCell (row, column) s.grid)
     takes_there =
         subst (λ o. IfSome o (λ (s : HeldSheet). TakesCell (row, column) s.grid)) (sym its_sheet.1)
-        (takes_cell its_sheet.0.grid (row, column) (its_grid its_state.book h.valid index (sheet_of its_sheet.0) its_sheet.2) its_sheet.3)
+        (takes_cell its_sheet.0.grid (row, column) (its_grid its_state.book h index (sheet_of its_sheet.0) its_sheet.2) its_sheet.3)
 
-    module _ (n : ℕ) (shows : Shows (held_state about ws ds locale language tables).book index row column n) where
+    module _ (n : ℕ) (shows : Shows (held_state inside).book index row column n) where
       shown_is : n ≡ shown_style (sheet_of its_sheet.0) row column
       shown_is = subst (λ o. IfSome o (λ (s : Sheet). n ≡ shown_style s row column)) its_sheet.2 shows
 
-      pub style_within : n < length about.styles
-      style_within = subst (λ k. k < length about.styles) (sym shown_is) (style_below its_state.book h.valid index (sheet_of its_sheet.0) its_sheet.2 (row, column))
+      pub style_within : n < length inside.lists.styles
+      style_within = subst (λ k. k < length inside.lists.styles) (sym shown_is) (style_below its_state.book h index (sheet_of its_sheet.0) its_sheet.2 (row, column))
 
-      module _ (change : Style → Style) (cell : ℕ → Cell) (number : ℕ) (styles : List Style) (now : List HeldSheet) (numbered : number ≡ (restyled change n about.styles).number) (styled : styles ≡ (restyled change n about.styles).styles)
+      module _ (change : Style → Style) (cell : ℕ → Cell) (number : ℕ) (styles : List Style) (now : List HeldSheet) (numbered : number ≡ (restyled change n inside.lists.styles).number) (styled : styles ≡ (restyled change n inside.lists.styles).styles)
           (e : now ≡ updated_at (λ s. record s { grid = with_cell_in (row, column) (cell number) s.grid }) index ws)
         where
           abbrev by : Numbered
@@ -241,26 +240,22 @@ module _ (about : About) (ws : List HeldSheet) (ds : List Definition) (locale : 
           sheets_are =
               ap (map sheet_of) e
               ∙ updated_seen sheet_of (λ s. record s { grid = with_cell_in (row, column) (cell number) s.grid }) (λ s. record s { grid = with_cell_in (row, column) (cell number) s.grid }) (λ s. refl) index ws
-              ∙ ap (λ (k : ℕ). updated_at (λ (s : Sheet). record s { grid = with_cell_in (row, column) (cell k) s.grid }) index (map sheet_of ws)) (numbered ∙ ap (λ k. (restyled change k about.styles).number) shown_is)
+              ∙ ap (λ (k : ℕ). updated_at (λ (s : Sheet). record s { grid = with_cell_in (row, column) (cell k) s.grid }) index (map sheet_of ws)) (numbered ∙ ap (λ k. (restyled change k inside.lists.styles).number) shown_is)
 
           look_ups_are : map (λ (s : HeldSheet). s.pool.is_whole) now ≡ its_state.has_all
           look_ups_are = ap (map (λ (s : HeldSheet). s.pool.is_whole)) e ∙ updated_unseen (λ (s : HeldSheet). s.pool.is_whole) (λ s. record s { grid = with_cell_in (row, column) (cell number) s.grid }) (λ s. refl) index ws
 
-          pub value_state : held_state (record about { styles = styles }) now ds locale language tables ≡ record its_state { book = with_value index (row, column) cell by its_state.book }
+          pub value_state : held_state (with_styles styles (with_sheets now inside)) ≡ record its_state { book = with_value index (row, column) cell by its_state.book }
           unfolding make
           value_state =
               ap (λ (sheets : List Sheet). make sheets styles (map (λ (s : HeldSheet). s.pool.is_whole) now)) sheets_are
-              ∙ ap (λ (st : List Style). make (with_value index (row, column) cell by its_state.book).sheets st (map (λ (s : HeldSheet). s.pool.is_whole) now)) (styled ∙ ap (λ k. (restyled change k about.styles).styles) shown_is)
+              ∙ ap (λ (st : List Style). make (with_value index (row, column) cell by its_state.book).sheets st (map (λ (s : HeldSheet). s.pool.is_whole) now)) (styled ∙ ap (λ k. (restyled change k inside.lists.styles).styles) shown_is)
               ∙ ap (make (with_value index (row, column) cell by its_state.book).sheets by.styles) look_ups_are
 
-          pub value_held : IsValueCell (length about.strings) cell → IsHeld (record about { styles = styles }) now ds locale language tables
-          value_held is_value = record {
-            valid = subst (λ (m : ModelState). IsValidBook m.book) (sym value_state) (value_valid its_state.book h.valid index row column change cell is_value (sheet_of its_sheet.0) its_sheet.2 its_sheet.3);
-            locale_found = h.locale_found;
-            language_found = h.language_found;
-          }
+          pub value_held : IsValueCell (length inside.lists.strings) cell → IsHeld (with_styles styles (with_sheets now inside))
+          value_held is_value = subst (λ (m : ModelState). IsValidBook m.book) (sym value_state) (value_valid its_state.book h index row column change cell is_value (sheet_of its_sheet.0) its_sheet.2 its_sheet.3)
 
-          pub value_done : IsValueCell (length about.strings) cell → DoesStep Wanted (value_step its_state.book index row column change cell) no_fields (Ok tt) its_state (held_state (record about { styles = styles }) now ds locale language tables)
+          pub value_done : IsValueCell (length inside.lists.strings) cell → DoesStep Wanted (value_step its_state.book index row column change cell) no_fields (Ok tt) its_state (held_state (with_styles styles (with_sheets now inside)))
           value_done is_value =
-              value_does its_state h.valid index row column change cell is_value (held_state (record about { styles = styles }) now ds locale language tables) (sheet_of its_sheet.0) its_sheet.2 its_sheet.3
+              value_does its_state h index row column change cell is_value (held_state (with_styles styles (with_sheets now inside))) (sheet_of its_sheet.0) its_sheet.2 its_sheet.3
               (ap (λ (m : ModelState). m.book) value_state)

@@ -97,10 +97,17 @@ there (Some x) h = (x, refl)
 pub english_there : (book : Book) → IsValidBook book → (l : Language) × (language_of book.tables english ≡ Some l)
 english_there book valid = there (language_of book.tables english) (is_some-find (λ (l : Language). l.code) (codes "en") book.tables.languages ∙ (has_english book.tables valid.whole.tables).0)
 
+-- and so are the locale and the language in force
+pub locale_there : (book : Book) → IsValidBook book → (l : NamedLocale) × (locale_of book.tables book.locale ≡ Some l)
+locale_there book valid = there (locale_of book.tables book.locale) (sym (knows_locale_is book.tables book.locale) ∙ valid.whole.locale)
+
+pub language_there : (book : Book) → IsValidBook book → (l : Language) × (language_of book.tables book.language ≡ Some l)
+language_there book valid = there (language_of book.tables book.language) (sym (knows_language_is book.tables book.language) ∙ valid.whole.language)
+
 pub in_force_there : (book : Book) → IsValidBook book → (f : InForce) × (in_force (whole_of book) ≡ Some f)
 in_force_there book valid =
-    let l = there (locale_of book.tables book.locale) (sym (knows_locale_is book.tables book.locale) ∙ valid.whole.locale) in
-    let language = there (language_of book.tables book.language) (sym (knows_language_is book.tables book.language) ∙ valid.whole.language) in
+    let l = locale_there book valid in
+    let language = language_there book valid in
     let beside = english_there book valid in (
       record { locale = l.0.locale; language = language.0; beside = beside.0 },
       ap (λ (o : Option NamedLocale). all_there o (language_of book.tables book.language) (language_of book.tables english)) l.1

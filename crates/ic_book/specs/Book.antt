@@ -127,6 +127,12 @@ pub record IsValidBook (book : Book) : Type 0 where
   pub strings : AllByRecursion (λ (sheet : Sheet). HasStrings (length book.strings) sheet.grid) book.sheets
   pub plain : AllByRecursion (λ (sheet : Sheet). IsPlain sheet.grid) book.sheets
 
+-- what contracts see of the notation in force: the tables, and the ids of the locale and the language
+pub record NotationState : Type 0 where
+  pub tables : TableSet
+  pub locale : List ℕ
+  pub language : List ℕ
+
 -- what contracts see of a model: the book, and for each sheet whether the look-up of its formulas has all of them
 pub record ModelState : Type 0 where
   pub book : Book

@@ -23,7 +23,7 @@ use Rattle.ic_sheets.specs.Sheet.{Sheet, with_cell_in}
 use Rattle.ic_book.specs.Book.{Book, HasString}
 use Rattle.ic_book.specs.Whole.{whole_of}
 pub use Rattle.ic_book.specs.Written.{value_causes, value_refusal, value_refusal_in}
-use Rattle.ic_book.specs.declared.about.About.{About}
+use Rattle.ic_book.specs.declared.lists.Lists.{Lists}
 use Rattle.ic_book.specs.declared.values.Restyle.{Restyle}
 use Rattle.ic_book.specs.declared.values.Restyle.TheVariants as restyles
 use Rattle.ic_book.specs.declared.values.Value.{Value}
@@ -49,9 +49,9 @@ abbrev pub value_strings : Value → List (List ℕ) → List (List ℕ)
 value_strings (values.Text text) strings = with_string (chars text.now) strings
 value_strings value strings = strings
 
--- what a workbook has beside its sheets, with the shared strings and the styles that a value takes
-abbrev pub with_put : Value → Numbered → About → About
-with_put value styled about = record about { styles = styled.styles; strings = value_strings value about.strings }
+-- the lists of a workbook with the shared strings and the styles that a value takes
+abbrev pub with_put : Value → Numbered → Lists → Lists
+with_put value styled lists = record { styles = styled.styles; strings = value_strings value lists.strings }
 
 -- what becomes of the style that the place shows
 abbrev pub style_change : Restyle → Style → Style

@@ -1,7 +1,6 @@
-use ic_cells::{SharedStrings, Styles};
 use ic_laws::Text;
 
-/// What a workbook has beside its sheets, its definitions and its notation.
+/// What a workbook has beside its contents, its lists and its notation.
 pub struct About<'a> {
     /// What it is called.
     pub name: Text,
@@ -11,10 +10,6 @@ pub struct About<'a> {
     pub theme: Text,
     /// When it was made, as `Timestamp` displays it.
     pub created: Text,
-    /// By number, from 0.
-    pub styles: Styles,
-    /// The texts that its cells share, by number from 0.
-    pub strings: SharedStrings,
 }
 
 impl Drop for About<'_> {
@@ -24,13 +19,9 @@ impl Drop for About<'_> {
             zone: _,
             theme,
             created,
-            styles,
-            strings,
         } = self;
         drop(name);
         drop(theme);
         drop(created);
-        drop(styles);
-        drop(strings);
     }
 }

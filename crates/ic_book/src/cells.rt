@@ -37,8 +37,8 @@ impl<'a> Model<'a> {
             result self.now self.now }
     {
         let cell = self.cell_at(sheet_index, row, column)?;
-        let strings = self.about.strings.as_items();
-        Ok(value_in(self.alloc, cell, strings, self.language)?)
+        let strings = self.lists.strings.as_items();
+        Ok(value_in(self.alloc, cell, strings, self.notation.language())?)
     }
 
     /// The type of the value of the cell at a row and a column, both from 1, of the sheet at an index, from 0. `Number`
@@ -68,7 +68,7 @@ impl<'a> Model<'a> {
     pub fn get_all_cells(&self) -> Result<Vec<CellIndex>, BookError>
         ensures does { Does reading_step GetAllCells places_fields result self.now self.now }
     {
-        Ok(all_places(self.alloc, self.sheets.as_slice())?)
+        Ok(all_places(self.alloc, self.contents.sheets.as_slice())?)
     }
 
     /// The cell at a place, which may lie outside of its sheet.
@@ -76,7 +76,7 @@ impl<'a> Model<'a> {
         ensures finds { FindsCell sheet row column result self.now }
         ensures valid { IsValidBook self.now.book }
     {
-        match self.sheets.as_slice().get(sheet as usize) {
+        match self.contents.sheets.as_slice().get(sheet as usize) {
             Some(sheet) => Ok(sheet.grid.cells.get(row, column)),
             None => Err(BookError::InvalidSheet),
         }

@@ -38,7 +38,7 @@ impl<'a> Model<'a> {
             result self.now self.now }
     {
         // What always holds of a model is known from here on.
-        let _ = &self.sheets;
+        let _ = &self.contents;
         let worksheet = self.sheet_at(sheet)?;
         Ok(self.content_in(worksheet, row, column)?)
     }
@@ -58,7 +58,7 @@ impl<'a> Model<'a> {
             result self.now self.now }
     {
         // What always holds of a model is known from here on.
-        let _ = &self.sheets;
+        let _ = &self.contents;
         let worksheet = self.sheet_at(sheet)?;
         Ok(self.formatted_in(worksheet, row, column)?)
     }
@@ -70,7 +70,7 @@ impl<'a> Model<'a> {
             ≡ content_shown self.now.book (sheet_of worksheet.now) (row, column)) }
     {
         // What always holds of a model is known from here on.
-        let _ = &self.sheets;
+        let _ = &self.contents;
         match worksheet.grid.cells.get(row, column) {
             Some(cell) => self.cell_shown(worksheet, row, column, cell),
             None => Ok(String::new(self.alloc)),
@@ -91,7 +91,7 @@ impl<'a> Model<'a> {
             ≡ content_shown self.now.book (sheet_of worksheet.now) (row, column)) }
     {
         // What always holds of a model is known from here on.
-        let _ = &self.sheets;
+        let _ = &self.contents;
         match formula_in(worksheet, cell) {
             Some(formula) => self.show(row, column, formula),
             None => self.value_shown(cell),
@@ -105,7 +105,7 @@ impl<'a> Model<'a> {
             ≡ content_formatted self.now.book (sheet_of worksheet.now) (row, column)) }
     {
         // What always holds of a model is known from here on.
-        let _ = &self.sheets;
+        let _ = &self.contents;
         match worksheet.grid.cells.get(row, column) {
             Some(cell) => self.formatted(cell),
             None => Ok(String::new(self.alloc)),
@@ -118,7 +118,7 @@ impl<'a> Model<'a> {
         ensures { IfOk result (λ s. chars (string_bytes s)
             ≡ value_shown self.now.book cell.now) }
     {
-        if let Some(text) = text_kept(cell, self.about.strings.as_items().as_slice()) {
+        if let Some(text) = text_kept(cell, self.lists.strings.as_items().as_slice()) {
             return self.words_shown(text);
         }
         match number_kept(cell) {
@@ -143,8 +143,13 @@ impl<'a> Model<'a> {
     fn localized(&self, cell: &Cell) -> Result<String, OutOfMemory>
         ensures { IfOk result (λ s. chars (string_bytes s) ≡ localized self.now.book cell.now) }
     {
-        let strings = self.about.strings.as_items();
-        cell.get_localized_text(self.alloc, strings, &self.locale.locale, self.language)
+        let strings = self.lists.strings.as_items();
+        cell.get_localized_text(
+            self.alloc,
+            strings,
+            &self.notation.locale().locale,
+            self.notation.language(),
+        )
     }
 
     /// The code of the style of a number.
@@ -152,7 +157,7 @@ impl<'a> Model<'a> {
         requires { number < length self.now.book.styles }
         ensures { chars result.now ≡ code_at self.now.book number }
     {
-        match self.about.styles.get_style(number) {
+        match self.lists.styles.get_style(number) {
             Some(style) => style.num_fmt.as_str(),
             None => unreachable!(),
         }
@@ -163,7 +168,7 @@ impl<'a> Model<'a> {
         ensures { IfOk result (λ s. chars (string_bytes s)
             ≡ formatted_in (whole_of self.now.book) (chars code.now) amount) }
     {
-        format_amount(self.alloc, amount, code, &self.locale.locale)
+        format_amount(self.alloc, amount, code, &self.notation.locale().locale)
     }
 
     /// A number so that it can be typed again: by its date, or as its shortest decimal.
@@ -173,7 +178,11 @@ impl<'a> Model<'a> {
     {
         match self.date_shown(code, amount)? {
             Some(date) => Ok(date),
-            None => amount_text(self.alloc, amount, self.locale.locale.decimal_separator()),
+            None => amount_text(
+                self.alloc,
+                amount,
+                self.notation.locale().locale.decimal_separator(),
+            ),
         }
     }
 
@@ -218,7 +227,7 @@ impl<'a> Model<'a> {
             ≡ is_text (typed_in (whole_of self.now.book) (chars text.now))) }
     {
         // What always holds of a model is known from here on.
-        let _ = &self.sheets;
+        let _ = &self.contents;
         if self.needs_quoting(text)? {
             return Ok(is_text(&self.typed(text)?));
         }
@@ -230,12 +239,12 @@ impl<'a> Model<'a> {
         ensures { IfOk result (λ b. b ≡ needs_quoting (chars text.now)
             (typed_in (whole_of self.now.book) (chars text.now))) }
     {
-        let english = self.tables.get_default_language();
+        let english = self.notation.get_default_language();
         value_needs_quoting(
             self.alloc,
             text,
-            &self.locale.locale,
-            self.language,
+            &self.notation.locale().locale,
+            self.notation.language(),
             english,
         )
     }

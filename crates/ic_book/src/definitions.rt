@@ -125,14 +125,9 @@ impl<'a> Model<'a> {
         let (id, body) = self.checked_definition(name, scope, formula)?;
         let definition = self.definition_of(name, id, &body)?;
         match scope {
-            None => add_for_all(&mut self.sheets, &mut self.definitions, definition)?,
+            None => add_for_all(&mut self.contents, definition)?,
             Some(index) => {
-                add_for_sheet(
-                    &mut self.sheets,
-                    &mut self.definitions,
-                    index as usize,
-                    definition,
-                )?;
+                add_for_sheet(&mut self.contents, index as usize, definition)?;
             }
         }
         Ok(())
@@ -175,10 +170,10 @@ impl<'a> Model<'a> {
         let Some(id) = self.scope_id(scope) else {
             return Err(BookError::InvalidSheet);
         };
-        let Some(index) = self.definitions.index_of(name, id) else {
+        let Some(index) = self.contents.definitions.index_of(name, id) else {
             return Err(BookError::NameNotFound);
         };
-        delete_at(self.alloc, &mut self.sheets, &mut self.definitions, index)?;
+        delete_at(self.alloc, &mut self.contents, index)?;
         Ok(())
     }
 
@@ -190,7 +185,7 @@ impl<'a> Model<'a> {
         ensures valid { IsValidBook self.now.book }
     {
         let mut names = Vec::new(self.alloc);
-        let definitions = self.definitions.as_slice();
+        let definitions = self.contents.definitions.as_slice();
         for definition in definitions {
             if let Some(scope) = self.listed_scope(definition.scope()) {
                 names.push(self.listed(definition, scope)?)?;
@@ -215,14 +210,14 @@ impl<'a> Model<'a> {
         ensures valid { IsValidBook self.now.book }
     {
         // What always holds of a model is known from here on.
-        let _ = &self.sheets;
+        let _ = &self.contents;
         if !is_valid_identifier(name) {
             return Err(BookError::InvalidName);
         }
         let Some(id) = self.scope_id(scope) else {
             return Err(BookError::InvalidScope);
         };
-        if self.definitions.index_of(name, id).is_some() {
+        if self.contents.definitions.index_of(name, id).is_some() {
             return Err(BookError::NameExists);
         }
         match self.typed_body(formula)? {
@@ -238,7 +233,7 @@ impl<'a> Model<'a> {
         match scope {
             None => Some(None),
             Some(index) => {
-                let sheet = self.sheets.as_slice().get(index as usize)?;
+                let sheet = self.contents.sheets.as_slice().get(index as usize)?;
                 Some(Some(sheet.id))
             }
         }
@@ -251,7 +246,7 @@ impl<'a> Model<'a> {
         match scope {
             None => Some(None),
             Some(id) => {
-                let index = self.sheets.index_of_id(id)?;
+                let index = self.contents.sheets.index_of_id(id)?;
                 Some(Some(index as u32))
             }
         }

@@ -40,7 +40,7 @@ impl<'a> Model<'a> {
             (ExtendTo (cell_of sheet row column) target_row target_column) string_only
             result self.now self.now }
     {
-        let strings = self.about.strings.as_items();
+        let strings = self.lists.strings.as_items();
         let worksheet = self.sheet_at(sheet)?;
         if let Some(formula) = formula_at(worksheet, row, column) {
             return Ok(self.show(target_row, target_column, formula)?);
@@ -50,8 +50,8 @@ impl<'a> Model<'a> {
             self.alloc,
             cell,
             strings,
-            &self.locale.locale,
-            self.language,
+            &self.notation.locale().locale,
+            self.notation.language(),
         )?)
     }
 
@@ -72,7 +72,7 @@ impl<'a> Model<'a> {
             (ExtendCopiedValue (chars value.now) (cell_at source.now) (cell_at target.now))
             string_only result self.now self.now }
     {
-        let locale = &self.locale.locale;
+        let locale = &self.notation.locale().locale;
         let id = self.copied_from(source, target)?;
         match formula_without_prefix(value, locale) {
             Some(formula) => self.formula_copied(id, source, target, formula),
@@ -150,9 +150,9 @@ impl<'a> Model<'a> {
         ensures { ⟦<Shown<'a> as Dialect>⟧.meaning result ≡
             (notations_in self.now.book).shown english english row column }
     {
-        let locale = self.tables.get_default_locale();
-        let language = self.tables.get_default_language();
-        Shown::new(self.tables, locale, language, row, column)
+        let locale = self.notation.get_default_locale();
+        let language = self.notation.get_default_language();
+        Shown::new(self.notation.tables(), locale, language, row, column)
     }
 }
 

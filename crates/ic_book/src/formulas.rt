@@ -72,7 +72,8 @@ impl<'a> Model<'a> {
         ensures left { OnErr result (LooksUpAsBefore sheet self.old self.new) }
     {
         self.style_to_write(sheet, row, column)?;
-        let Some(body) = formula_without_prefix(formula.as_str(), &self.locale.locale) else {
+        let locale = &self.notation.locale().locale;
+        let Some(body) = formula_without_prefix(formula.as_str(), locale) else {
             return Err(BookError::NotAFormula);
         };
         self.write_formula(sheet, row, column, body)
@@ -137,10 +138,11 @@ impl<'a> Model<'a> {
         // After an error the look-up of this sheet may be there; the others are as before.
         ensures left { OnErr result (LooksUpAsBefore sheet self.old self.new) }
     {
-        if sheet as usize >= self.sheets.len() {
+        let index = sheet as usize;
+        if index >= self.contents.sheets.len() {
             return Err(BookError::InvalidSheet);
         }
-        Ok(self.sheets.place_copy(sheet as usize, tree, steps)?)
+        Ok(self.contents.sheets.place_copy(index, tree, steps)?)
     }
 
     /// Writes the formula of a body, which stands after `=`, into a cell.
@@ -166,18 +168,19 @@ impl<'a> Model<'a> {
         ensures left { OnErr result (LooksUpAsBefore sheet self.old self.new) }
     {
         let shown = self.style_to_write(sheet, row, column)?;
-        let worksheet = &self.sheets.as_slice()[sheet as usize];
+        let worksheet = &self.contents.sheets.as_slice()[sheet as usize];
         let formula = self.formula_of_text(worksheet.id, row, column, body)?;
-        let kind = kind_of(&formula, self.tables);
-        let count = self.about.styles.len();
-        let style = without_quote(&mut self.about.styles, shown)?;
+        let kind = kind_of(&formula, self.notation.tables());
+        let count = self.lists.styles.len();
+        let style = without_quote(&mut self.lists.styles, shown)?;
         match self
+            .contents
             .sheets
             .write(sheet as usize, row, column, formula, kind, style)
         {
             Ok(()) => Ok(()),
             Err(error) => {
-                self.about.styles.truncate(count);
+                self.lists.styles.truncate(count);
                 Err(BookError::from(error))
             }
         }
@@ -196,7 +199,7 @@ impl<'a> Model<'a> {
         ) ∷ [])) }
         ensures valid { IsValidBook self.now.book }
     {
-        let Some(worksheet) = self.sheets.as_slice().get(sheet as usize) else {
+        let Some(worksheet) = self.contents.sheets.as_slice().get(sheet as usize) else {
             return Err(BookError::InvalidSheet);
         };
         let Some(formula) = formula_at(worksheet, row, column) else {
@@ -227,7 +230,7 @@ impl<'a> Model<'a> {
         ensures { IfOk result (λ t. t ≡ bound (english_function (notations_in self.now.book))
             (scene_in self.now.book) (Some id) tree.now) }
     {
-        let english = self.tables.get_default_language();
+        let english = self.notation.get_default_language();
         bind(self.alloc, &self.scene(), english, Some(id), tree)
     }
 
@@ -236,7 +239,9 @@ impl<'a> Model<'a> {
         ensures { ⟦<Shown<'a> as Dialect>⟧.meaning result ≡ shown_at (notations_in self.now.book)
             (core_of self.now.book) row column }
     {
-        Shown::new(self.tables, &self.locale.locale, self.language, row, column)
+        let notation = &self.notation;
+        let locale = &notation.locale().locale;
+        Shown::new(notation.tables(), locale, notation.language(), row, column)
     }
 
     /// `=` and a formula as it is shown in the cell at a row and a column.

@@ -79,9 +79,9 @@ impl<'a> Model<'a> {
         ensures { IfOk result
             (λ t. t ≡ typed_in (whole_of self.now.book) (chars text.now)) }
     {
-        let locale = &self.locale.locale;
-        let english = self.tables.get_default_language();
-        classify(self.alloc, text, locale, self.language, english)
+        let locale = &self.notation.locale().locale;
+        let english = self.notation.get_default_language();
+        classify(self.alloc, text, locale, self.notation.language(), english)
     }
 
     /// Writes what a typed text is into a cell.
@@ -110,9 +110,9 @@ impl<'a> Model<'a> {
         ensures { result ≡ needs_quoting (chars text.now)
             (typed_in (whole_of self.now.book) (chars text.now)) }
     {
-        let locale = &self.locale.locale;
-        let english = self.tables.get_default_language();
-        match value_needs_quoting(self.alloc, text, locale, self.language, english) {
+        let locale = &self.notation.locale().locale;
+        let english = self.notation.get_default_language();
+        match value_needs_quoting(self.alloc, text, locale, self.notation.language(), english) {
             Ok(needs) => needs,
             Err(_) => unreachable!(),
         }

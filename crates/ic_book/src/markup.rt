@@ -34,7 +34,7 @@ impl<'a> Model<'a> {
             result self.now self.now }
     {
         // What always holds of a model is known from here on.
-        let _ = &self.sheets;
+        let _ = &self.contents;
         let worksheet = self.sheet_at(sheet)?;
         Ok(self.markup(worksheet)?)
     }
@@ -46,7 +46,7 @@ impl<'a> Model<'a> {
             ≡ sheet_shown self.now.book (sheet_of worksheet.now)) }
     {
         // What always holds of a model is known from here on.
-        let _ = &self.sheets;
+        let _ = &self.contents;
         let (rows, columns) = last_of(worksheet.grid.cells.as_map());
         let mut text = String::new(self.alloc);
         self.push_rows(&mut text, worksheet, rows, columns)?;
@@ -125,7 +125,7 @@ impl<'a> Model<'a> {
             ≡ plain_shown self.now.book (sheet_of worksheet.now) (row, column)) }
     {
         // What always holds of a model is known from here on.
-        let _ = &self.sheets;
+        let _ = &self.contents;
         match worksheet.grid.cells.get(row, column) {
             Some(cell) => self.cell_plain(worksheet, row, column, cell),
             None => Ok(String::new(self.alloc)),
@@ -146,7 +146,7 @@ impl<'a> Model<'a> {
             ≡ plain_shown self.now.book (sheet_of worksheet.now) (row, column)) }
     {
         // What always holds of a model is known from here on.
-        let _ = &self.sheets;
+        let _ = &self.contents;
         match formula_in(worksheet, cell) {
             Some(formula) => self.show(row, column, formula),
             None => self.formatted(cell),
@@ -159,7 +159,7 @@ impl<'a> Model<'a> {
         ensures { result ≡ shows_bold self.now.book (sheet_of worksheet.now) (row, column) }
     {
         // What always holds of a model is known from here on.
-        let _ = &self.sheets;
+        let _ = &self.contents;
         self.bold_at(worksheet.grid.style_at(row, column))
     }
 
@@ -168,7 +168,7 @@ impl<'a> Model<'a> {
         requires { number < length self.now.book.styles }
         ensures { result ≡ (style_at self.now.book.styles number).bold }
     {
-        match self.about.styles.get_style(number) {
+        match self.lists.styles.get_style(number) {
             Some(style) => style.bold,
             None => unreachable!(),
         }

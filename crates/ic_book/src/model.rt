@@ -13,43 +13,42 @@ ghost use Rattle.ic_sheets.specs.Sheet.{empty_grid, plain_tab};
 
 use crate::BookError;
 use crate::about::About;
+use crate::contents::Contents;
+use crate::in_force::Notation;
+use crate::lists::Lists;
 use crate::scene::BookScene;
 use ic_cells::{SharedStrings, Styles};
 use ic_definitions::Definitions;
 use ic_laws::{Finder, Formula, OutOfMemory, Text};
 use ic_sheets::Sheets;
-use ic_tables::{Language, NamedLocale, Tables};
+use ic_tables::{Language, Tables};
 use jiff::Timestamp;
 use std::alloc::Global;
 use std::marker;
 
-/// A workbook. It borrows the tables that it is read and shown by, and their entries of the locale and the language in
-/// force.
+/// A workbook. It borrows the tables that it is read and shown by.
 pub struct Model<'a> {
     pub(crate) alloc: Global,
-    pub(crate) tables: &'a Tables,
+    pub(crate) notation: Notation<'a>,
+    pub(crate) contents: Contents,
+    pub(crate) lists: Lists,
     pub(crate) about: About<'a>,
-    pub(crate) sheets: Sheets,
-    pub(crate) definitions: Definitions,
-    pub(crate) locale: &'a NamedLocale,
-    pub(crate) language: &'a Language,
 }
 
 impl Drop for Model<'_> {
     fn drop(self) {
         let Self {
             alloc,
-            tables: _,
+            notation,
+            contents,
+            lists,
             about,
-            sheets,
-            definitions,
-            locale: _,
-            language: _,
         } = self;
         drop(alloc);
+        drop(notation);
+        drop(contents);
+        drop(lists);
         drop(about);
-        drop(sheets);
-        drop(definitions);
     }
 }
 
@@ -67,9 +66,9 @@ impl<'a> marker::Model for Model<'a> {
 
     ghost coded = { Prim.hlevel (codes, formula.the_row.coded, style.the_row.coded, grid.the_row.coded, tab.the_row.coded) };
 
-    ghost view = { λ m. held_state m.about m.sheets m.definitions m.locale.now m.language.now m.tables.now };
+    ghost view = { held_state };
 
-    ghost invariant = { λ m. IsHeld m.about m.sheets m.definitions m.locale.now m.language.now m.tables.now };
+    ghost invariant = { IsHeld };
 }
 
 impl<'a> Model<'a> {
@@ -103,14 +102,16 @@ impl<'a> Model<'a> {
         };
         let sheets = first_sheet(alloc, language)?;
         let about = about(alloc, name, zone, moment)?;
+        let lists = lists(alloc)?;
         Ok(Model {
             alloc,
-            tables,
+            notation: Notation::new(tables, locale, language),
+            contents: Contents {
+                sheets,
+                definitions: Definitions::new(alloc),
+            },
+            lists,
             about,
-            sheets,
-            definitions: Definitions::new(alloc),
-            locale,
-            language,
         })
     }
 
@@ -130,9 +131,10 @@ impl<'a> Model<'a> {
             (core_of self.now.book))) }
     {
         let greatest = self
+            .contents
             .sheets
             .greatest_id()
-            .max(self.definitions.greatest_scope());
+            .max(self.contents.definitions.greatest_scope());
         greatest.checked_add(1)
     }
 
@@ -140,7 +142,7 @@ impl<'a> Model<'a> {
     pub(crate) fn scene<'b>(&'b self) -> BookScene<'b>
         ensures { ⟦<BookScene<'b> as Finder>⟧.scene result ≡ scene_in self.now.book }
     {
-        BookScene::new(&self.sheets, &self.definitions)
+        BookScene::new(&self.contents.sheets, &self.contents.definitions)
     }
 
     /// The formula at an index of the formulas that the sheet at an index keeps, both from 0. None exactly where there is
@@ -158,7 +160,7 @@ impl<'a> Model<'a> {
         ensures valid { IsValidBook self.now.book }
         ensures notations { AreNotations (notations_in self.now.book) }
     {
-        let worksheet = self.sheets.as_slice().get(sheet as usize)?;
+        let worksheet = self.contents.sheets.as_slice().get(sheet as usize)?;
         worksheet.pool.get(index)
     }
 }
@@ -190,7 +192,17 @@ fn first_sheet_name(language: &Text) -> &'static str
     }
 }
 
-/// What a new workbook of this name has beside its contents: a theme without a name, the default style, no shared strings.
+/// The lists of a new workbook: the default style, no shared strings.
+fn lists(alloc: Global) -> Result<Lists, OutOfMemory>
+    ensures { IfOk result (λ lists. lists ≡ record { styles = default_style ∷ []; strings = [] }) }
+{
+    Ok(Lists {
+        styles: Styles::new(alloc)?,
+        strings: SharedStrings::new(alloc),
+    })
+}
+
+/// What a new workbook of this name has beside them: a theme without a name.
 fn about<'a>(
     alloc: Global,
     name: &str,
@@ -202,8 +214,6 @@ fn about<'a>(
       zone = zone.entry;
       theme = [];
       created = about.created;
-      styles = default_style ∷ [];
-      strings = [];
     }) }
 {
     Ok(About {
@@ -211,8 +221,6 @@ fn about<'a>(
         zone,
         theme: Text::from(String::new(alloc)),
         created: moment_text(alloc, moment)?,
-        styles: Styles::new(alloc)?,
-        strings: SharedStrings::new(alloc),
     })
 }
 

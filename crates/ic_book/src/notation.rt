@@ -22,9 +22,9 @@ impl<'a> Model<'a> {
         ensures definitions { (core_of self.new.book).definitions ≡
             (core_of self.old.book).definitions }
     {
-        match self.tables.get_named_locale(locale_id) {
+        match self.notation.tables().get_named_locale(locale_id) {
             Ok(locale) => {
-                self.locale = locale;
+                self.notation.put_locale(locale);
                 Ok(())
             }
             Err(_) => Err(BookError::InvalidLocale),
@@ -44,9 +44,9 @@ impl<'a> Model<'a> {
         ensures definitions { (core_of self.new.book).definitions ≡
             (core_of self.old.book).definitions }
     {
-        match self.tables.get_language(language_id) {
+        match self.notation.tables().get_language(language_id) {
             Ok(language) => {
-                self.language = language;
+                self.notation.put_language(language);
                 Ok(())
             }
             Err(_) => Err(BookError::InvalidLanguage),
@@ -57,14 +57,14 @@ impl<'a> Model<'a> {
     pub fn get_locale(&self) -> Result<String, BookError>
         ensures does { Does notation_step GetLocale string_only result self.now self.now }
     {
-        Ok(string_of(self.alloc, &self.locale.id)?)
+        Ok(string_of(self.alloc, &self.notation.locale().id)?)
     }
 
     /// The code of the language in force. Only memory can be missing.
     pub fn get_language(&self) -> Result<String, BookError>
         ensures does { Does notation_step GetLanguage string_only result self.now self.now }
     {
-        Ok(string_of(self.alloc, &self.language.code)?)
+        Ok(string_of(self.alloc, &self.notation.language().code)?)
     }
 
     /// Puts the book into another time zone, by its name.
@@ -75,7 +75,7 @@ impl<'a> Model<'a> {
             result self.old self.new }
         ensures looks_up { self.new.has_all ≡ self.old.has_all }
     {
-        match self.tables.get_zone(timezone) {
+        match self.notation.tables().get_zone(timezone) {
             Some(zone) => {
                 self.about.zone = zone;
                 Ok(())

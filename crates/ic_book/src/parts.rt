@@ -16,7 +16,7 @@ impl<'a> Model<'a> {
     pub(crate) fn sheet_at(&self, sheet: u32) -> Result<&Sheet, BookError>
         ensures { FindsSheet sheet result self.now }
     {
-        match self.sheets.as_slice().get(sheet as usize) {
+        match self.contents.sheets.as_slice().get(sheet as usize) {
             Some(sheet) => Ok(sheet),
             None => Err(BookError::InvalidSheet),
         }
@@ -34,10 +34,10 @@ impl<'a> Model<'a> {
         ensures changes { ChangesTab F.FnOnce change sheet result self.old self.new }
         ensures looks_up { self.new.has_all ≡ self.old.has_all }
     {
-        if sheet as usize >= self.sheets.len() {
+        if sheet as usize >= self.contents.sheets.len() {
             return Err(BookError::InvalidSheet);
         }
-        self.sheets.change_tab(sheet as usize, change)
+        self.contents.sheets.change_tab(sheet as usize, change)
     }
 
     /// Reads the tab of the sheet at an index, from 0. `InvalidSheet` exactly where there is none.
@@ -49,7 +49,7 @@ impl<'a> Model<'a> {
         requires { (tab : Tab) → FnOnceTakesAt F.FnOnce read tab }
         ensures { ReadsTab F.FnOnce read sheet result self.now }
     {
-        let Some(sheet) = self.sheets.as_slice().get(sheet as usize) else {
+        let Some(sheet) = self.contents.sheets.as_slice().get(sheet as usize) else {
             return Err(BookError::InvalidSheet);
         };
         read(&sheet.tab)
@@ -67,10 +67,10 @@ impl<'a> Model<'a> {
         ensures changes { ChangesGrid F.FnOnce change sheet result self.old self.new }
         ensures looks_up { self.new.has_all ≡ self.old.has_all }
     {
-        if sheet as usize >= self.sheets.len() {
+        if sheet as usize >= self.contents.sheets.len() {
             return Err(BookError::InvalidSheet);
         }
-        self.sheets.change_grid(sheet as usize, change)
+        self.contents.sheets.change_grid(sheet as usize, change)
     }
 
     /// Reads what is set for the rows and columns of the sheet at an index, from 0. `InvalidSheet` exactly where there is none.
@@ -82,7 +82,7 @@ impl<'a> Model<'a> {
         requires { (grid : Grid) → FnOnceTakesAt F.FnOnce read grid }
         ensures { ReadsGrid F.FnOnce read sheet result self.now }
     {
-        let Some(sheet) = self.sheets.as_slice().get(sheet as usize) else {
+        let Some(sheet) = self.contents.sheets.as_slice().get(sheet as usize) else {
             return Err(BookError::InvalidSheet);
         };
         read(&sheet.grid)

@@ -18,7 +18,7 @@ impl<'a> Model<'a> {
         ensures does { Does sheet_step GetWorksheetsProperties sheets_fields
             result self.now self.now }
     {
-        Ok(properties_of(self.alloc, self.sheets.as_slice())?)
+        Ok(properties_of(self.alloc, self.contents.sheets.as_slice())?)
     }
 }
 

@@ -47,7 +47,7 @@ impl<'a> Model<'a> {
         ensures valid { IsValidBook self.now.book }
     {
         let rest = past_name(text);
-        let index = self.sheets.index_of_name(front_of(text, rest))?;
+        let index = self.contents.sheets.index_of_name(front_of(text, rest))?;
         place_after(index as u32, rest)
     }
 }

@@ -23,7 +23,7 @@ impl<'a> Model<'a> {
         ensures does { Does notation_step GetFmtSettings fields_of_settings
             result self.now self.now }
     {
-        Ok(settings_of(self.alloc, &self.locale.locale)?)
+        Ok(settings_of(self.alloc, &self.notation.locale().locale)?)
     }
 }
 

@@ -87,7 +87,7 @@ impl<'a> Model<'a> {
         ensures looks_up { OnOk result (AtName (chars old_name.now) self.old.book
             (λ index. LooksUpNamed index (chars new_name.now) self.old self.new)) }
     {
-        let Some(index) = self.sheets.index_of_name(old_name) else {
+        let Some(index) = self.contents.sheets.index_of_name(old_name) else {
             return Err(BookError::SheetNotFound);
         };
         self.rename_at(index, new_name)
@@ -145,7 +145,7 @@ impl<'a> Model<'a> {
         ensures looks_up { OnOk result (AtName (chars name.now) self.old.book
             (λ index. LooksUpWithout index self.old self.new)) }
     {
-        let Some(index) = self.sheets.index_of_name(name) else {
+        let Some(index) = self.contents.sheets.index_of_name(name) else {
             return Err(BookError::SheetNotFound);
         };
         self.delete_at(index)
@@ -167,7 +167,7 @@ impl<'a> Model<'a> {
         ensures looks_up { OnOk result (AtId sheet_id self.old.book
             (λ index. LooksUpWithout index self.old self.new)) }
     {
-        let Some(index) = self.sheets.index_of_id(sheet_id) else {
+        let Some(index) = self.contents.sheets.index_of_id(sheet_id) else {
             return Err(BookError::SheetNotFound);
         };
         self.delete_at(index)
@@ -190,11 +190,11 @@ impl<'a> Model<'a> {
         ensures valid { IsValidBook self.old.book }
     {
         // What always holds of a model is known from here on.
-        let _ = &self.sheets;
+        let _ = &self.contents;
         if !is_valid_sheet_name(sheet_name) {
             return Err(BookError::InvalidSheetName);
         }
-        if self.sheets.is_taken(sheet_name) {
+        if self.contents.sheets.is_taken(sheet_name) {
             return Err(BookError::SheetExists);
         }
         let Some(id) = self.get_new_sheet_id() else {
@@ -204,9 +204,9 @@ impl<'a> Model<'a> {
             id,
             name: sheet_name,
         };
-        let bodies = self.definitions.prepare_dangling(&named)?;
-        self.sheets.add_sheet(id, sheet_name)?;
-        self.definitions.apply(bodies);
+        let bodies = self.contents.definitions.prepare_dangling(&named)?;
+        self.contents.sheets.add_sheet(id, sheet_name)?;
+        self.contents.definitions.apply(bodies);
         Ok(())
     }
 
@@ -226,13 +226,14 @@ impl<'a> Model<'a> {
         ensures err { OnErr result (self.new ≡ self.old) }
         ensures valid { IsValidBook self.old.book }
     {
-        if sheet_index as usize >= self.sheets.len() {
+        if sheet_index as usize >= self.contents.sheets.len() {
             return Err(BookError::SheetIndexTooLarge);
         }
-        if new_index as usize >= self.sheets.len() {
+        if new_index as usize >= self.contents.sheets.len() {
             return Err(BookError::TargetTooLarge);
         }
-        self.sheets
+        self.contents
+            .sheets
             .move_to(sheet_index as usize, new_index as usize);
         Ok(())
     }
@@ -255,23 +256,23 @@ impl<'a> Model<'a> {
         ensures valid { IsValidBook self.old.book }
     {
         // What always holds of a model is known from here on.
-        let _ = &self.sheets;
+        let _ = &self.contents;
         if !is_valid_sheet_name(new_name) {
             return Err(BookError::InvalidSheetName);
         }
-        if self.sheets.is_taken_by_other(index, new_name) {
+        if self.contents.sheets.is_taken_by_other(index, new_name) {
             return Err(BookError::SheetExists);
         }
-        if index >= self.sheets.len() {
+        if index >= self.contents.sheets.len() {
             return Err(BookError::InvalidSheet);
         }
         let named = SheetNamed {
-            id: self.sheets.as_slice()[index].id,
+            id: self.contents.sheets.as_slice()[index].id,
             name: new_name,
         };
-        let bodies = self.definitions.prepare_dangling(&named)?;
-        self.sheets.rename_sheet(index, new_name)?;
-        self.definitions.apply(bodies);
+        let bodies = self.contents.definitions.prepare_dangling(&named)?;
+        self.contents.sheets.rename_sheet(index, new_name)?;
+        self.contents.definitions.apply(bodies);
         Ok(())
     }
 
@@ -287,15 +288,15 @@ impl<'a> Model<'a> {
         ensures err { OnErr result (self.new ≡ self.old) }
         ensures valid { IsValidBook self.old.book }
     {
-        if self.sheets.len() == 1 {
+        if self.contents.sheets.len() == 1 {
             return Err(BookError::OnlySheet);
         }
-        if index >= self.sheets.len() {
+        if index >= self.contents.sheets.len() {
             return Err(BookError::SheetIndexTooLarge);
         }
-        let bodies = bodies_without(&self.sheets, &self.definitions, index)?;
-        self.sheets.delete_sheet(index)?;
-        self.definitions.apply(bodies);
+        let bodies = bodies_without(&self.contents, index)?;
+        self.contents.sheets.delete_sheet(index)?;
+        self.contents.definitions.apply(bodies);
         Ok(())
     }
 }

@@ -28,7 +28,7 @@ impl<'a> Model<'a> {
             result self.now self.now }
     {
         // What always holds of a model is known from here on.
-        let _ = &self.sheets;
+        let _ = &self.contents;
         let worksheet = self.sheet_at(sheet)?;
         Ok(worksheet.grid.style_at(row, column))
     }
@@ -41,7 +41,7 @@ impl<'a> Model<'a> {
         ensures does { Does style_step (GetStyleForCell sheet row column) style_fields
             result self.now self.now }
     {
-        let styles = &self.about.styles;
+        let styles = &self.lists.styles;
         let worksheet = self.sheet_at(sheet)?;
         let number = worksheet.grid.style_at(row, column);
         Ok(copy_of(styles, self.alloc, number)?)
@@ -60,7 +60,7 @@ impl<'a> Model<'a> {
         ensures does { Does style_step (GetCellStyleOrNone sheet row column) optional_style_fields
             result self.now self.now }
     {
-        let styles = &self.about.styles;
+        let styles = &self.lists.styles;
         let worksheet = self.sheet_at(sheet)?;
         let number = own_style(&worksheet.grid, row, column);
         Ok(copy_if_set(styles, self.alloc, number)?)
@@ -124,19 +124,20 @@ impl<'a> Model<'a> {
             result self.old self.new }
         ensures looks_up { self.new.has_all ≡ self.old.has_all }
     {
-        if sheet as usize >= self.sheets.len() {
+        if sheet as usize >= self.contents.sheets.len() {
             return Err(BookError::InvalidSheet);
         }
         check_line(line)?;
-        let count = self.about.styles.len();
-        let number = self.about.styles.get_style_index_or_create(style)?;
+        let count = self.lists.styles.len();
+        let number = self.lists.styles.get_style_index_or_create(style)?;
         match self
+            .contents
             .sheets
             .change_grid(sheet as usize, |grid| style_line(grid, line, number))
         {
             Ok(()) => Ok(()),
             Err(error) => {
-                self.about.styles.truncate(count);
+                self.lists.styles.truncate(count);
                 Err(BookError::from(error))
             }
         }
@@ -147,7 +148,7 @@ impl<'a> Model<'a> {
         ensures does { DoesStep Wanted (line_style_step sheet line (whole_of self.now.book))
             optional_style_fields result self.now self.now }
     {
-        let styles = &self.about.styles;
+        let styles = &self.lists.styles;
         let worksheet = self.sheet_at(sheet)?;
         check_line(line)?;
         let number = line_style(&worksheet.grid, line);

@@ -15,8 +15,8 @@ ghost use Rattle.ic_book.specs.Refused.{TellsOnly};
 ghost use Rattle.ic_book.specs.Values.{Shows, keeps_code, put_step, style_change, value_causes, value_cell, value_content, value_refusal, value_strings, with_put};
 ghost use Rattle.ic_book.specs.Whole.{whole_of};
 
-use crate::about::About;
 use crate::formulas::can_write;
+use crate::lists::Lists;
 use crate::styled::copy_of;
 use crate::{BookError, Model};
 use ic_cells::{Cell, SharedStrings, Style, Styles};
@@ -107,15 +107,19 @@ impl<'a> Model<'a> {
             (value_content value.now)) no_fields result self.old self.new }
         ensures looks_up { self.new.has_all ≡ self.old.has_all }
     {
-        let count = self.about.styles.len();
-        let texts = self.about.strings.len();
+        let count = self.lists.styles.len();
+        let texts = self.lists.strings.len();
         let shown = self.style_to_write(sheet, row, column)?;
-        let cell = new_cell(self.alloc, &mut self.about, shown, value, change)?;
-        match self.sheets.write_cell(sheet as usize, row, column, cell) {
+        let cell = new_cell(self.alloc, &mut self.lists, shown, value, change)?;
+        match self
+            .contents
+            .sheets
+            .write_cell(sheet as usize, row, column, cell)
+        {
             Ok(()) => Ok(()),
             Err(error) => {
-                self.about.styles.truncate(count);
-                self.about.strings.truncate(texts);
+                self.lists.styles.truncate(count);
+                self.lists.strings.truncate(texts);
                 Err(BookError::from(error))
             }
         }
@@ -132,7 +136,7 @@ impl<'a> Model<'a> {
         ensures refused { TellsOnly result (value_refusal self.now.book sheet row column) }
         ensures valid { IsValidBook self.now.book }
     {
-        match self.sheets.as_slice().get(sheet as usize) {
+        match self.contents.sheets.as_slice().get(sheet as usize) {
             Some(sheet) => style_in(&sheet.grid, row, column),
             None => Err(BookError::InvalidSheet),
         }
@@ -159,24 +163,24 @@ fn style_in(grid: &Grid, row: i32, column: i32) -> Result<usize, BookError>
 /// be new. Memory can be missing, and then nothing has changed.
 fn new_cell(
     alloc: Global,
-    about: &mut About<'_>,
+    lists: &mut Lists,
     shown: usize,
     value: &Value<'_>,
     change: &Restyle<'_>,
 ) -> Result<Cell, OutOfMemory>
-    requires { shown < length about.old.styles }
-    ensures cell { IfOk result (λ cell. cell ≡ value_cell about.old.strings value.now
-        (restyled (style_change change.now) shown about.old.styles).number) }
-    ensures about { OnOk result (about.new ≡ with_put value.now
-        (restyled (style_change change.now) shown about.old.styles) about.old) }
-    ensures err { OnErr result (about.new ≡ about.old) }
+    requires { shown < length lists.old.styles }
+    ensures cell { IfOk result (λ cell. cell ≡ value_cell lists.old.strings value.now
+        (restyled (style_change change.now) shown lists.old.styles).number) }
+    ensures lists { OnOk result (lists.new ≡ with_put value.now
+        (restyled (style_change change.now) shown lists.old.styles) lists.old) }
+    ensures err { OnErr result (lists.new ≡ lists.old) }
 {
-    let count = about.styles.len();
-    let style = changed_style(alloc, &mut about.styles, shown, change)?;
-    match value_cell(&mut about.strings, value, style) {
+    let count = lists.styles.len();
+    let style = changed_style(alloc, &mut lists.styles, shown, change)?;
+    match value_cell(&mut lists.strings, value, style) {
         Ok(cell) => Ok(cell),
         Err(error) => {
-            about.styles.truncate(count);
+            lists.styles.truncate(count);
             Err(error)
         }
     }

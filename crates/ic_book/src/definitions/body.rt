@@ -62,7 +62,7 @@ impl<'a> Model<'a> {
             scope,
         };
         let scene = SceneWithDefinition::new(self.scene(), name, &key);
-        let english = self.tables.get_default_language();
+        let english = self.notation.get_default_language();
         let tree = bind(self.alloc, &scene, english, scope, &body.tree)?;
         Definition::new(
             self.alloc,
@@ -78,11 +78,11 @@ impl<'a> Model<'a> {
         ensures { ⟦<Shown<'a> as Dialect>⟧.meaning result ≡
             (notations_in self.now.book).shown english english (pos 1) (pos 1) }
     {
-        let locale = self.tables.get_default_locale();
+        let locale = self.notation.get_default_locale();
         Shown::new(
-            self.tables,
+            self.notation.tables(),
             locale,
-            self.tables.get_default_language(),
+            self.notation.get_default_language(),
             1,
             1,
         )

@@ -16,4 +16,4 @@ returns-clause-looks_up c =
     let added : c.new-added.result ≡ spelling_of c.args.definition =
     c.new-added.ensures
     ∙ ap₂ (λ (name : List ℕ) (scope : Option ℕ). let spelling : NameSpelling = record { name = name; scope = scope } in spelling) c.name.ensures (ap (λ (key : NameKey). key.scope) c.key.ensures) in
-    ap look_ups c.apply_own.ensures ∙ c.in_ok-formulas.ensures.looks_up ∙ ap (λ (d : NameSpelling). map (looks_up_after (name_added d)) c.args.sheets.now) added
+    ap look_ups c.apply_own.ensures ∙ c.in_ok-formulas.ensures.looks_up ∙ ap (λ (d : NameSpelling). map (looks_up_after (name_added d)) c.args.contents.now.sheets) added

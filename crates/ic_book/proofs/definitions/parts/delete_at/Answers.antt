@@ -10,28 +10,28 @@ use Rattle.ic_book.proofs.GoneNames.{change_is}
 use Rattle.ic_book.proofs.definitions.parts.delete_at.Goals as goal
 
 pub apply-requires : goal.apply-requires
-apply-requires c = prepared_fits _ c.in_ok-formulas.formulas.items c.args.sheets.now c.in_ok-formulas.ensures
+apply-requires c = prepared_fits _ c.in_ok-formulas.formulas.items c.args.contents.now.sheets c.in_ok-formulas.ensures
 
 pub returns-clause-sheets : goal.returns-clause-sheets
 returns-clause-sheets c = λ d at.
-    let there : slice_get c.args.definitions.now c.args.index ≡ Some c.index-as_slice-index.result =
-    slice_get_read c.args.definitions.now (length c.args.definitions.now) c.args.index c.index-as_slice-index.result refl c.requires.within
+    let there : slice_get c.args.contents.now.definitions c.args.index ≡ Some c.index-as_slice-index.result =
+    slice_get_read c.args.contents.now.definitions (length c.args.contents.now.definitions) c.args.index c.index-as_slice-index.result refl c.requires.within
     (c.index-as_slice-index.is ∙ ap (λ (ds : List Definition). get_or ds c.args.index c.index-as_slice-index.result) c.as_slice.ensures) in
-    ap sheets_of c.apply.ensures ∙ (prepared_makes _ c.in_ok-formulas.formulas.items c.args.sheets.now c.in_ok-formulas.ensures).made
-    ∙ ap (λ (change : Change). map (changed_pool change) (sheets_of c.args.sheets.now)) (change_is c.args.definitions.now c.args.index d at c.index-as_slice-index.result c.key.result.now c.in_ok-becomes.becomes there c.key.ensures (c.in_ok-becomes.ensures c.args.index c.requires.differ there))
+    ap sheets_of c.apply.ensures ∙ (prepared_makes _ c.in_ok-formulas.formulas.items c.args.contents.now.sheets c.in_ok-formulas.ensures).made
+    ∙ ap (λ (change : Change). map (changed_pool change) (sheets_of c.args.contents.now.sheets)) (change_is c.args.contents.now.definitions c.args.index d at c.index-as_slice-index.result c.key.result.now c.in_ok-becomes.becomes there c.key.ensures (c.in_ok-becomes.ensures c.args.index c.requires.differ there))
 
 pub returns-clause-definitions : goal.returns-clause-definitions
 returns-clause-definitions c = λ d at.
-    let there : slice_get c.args.definitions.now c.args.index ≡ Some c.index-as_slice-index.result =
-    slice_get_read c.args.definitions.now (length c.args.definitions.now) c.args.index c.index-as_slice-index.result refl c.requires.within
+    let there : slice_get c.args.contents.now.definitions c.args.index ≡ Some c.index-as_slice-index.result =
+    slice_get_read c.args.contents.now.definitions (length c.args.contents.now.definitions) c.args.index c.index-as_slice-index.result refl c.requires.within
     (c.index-as_slice-index.is ∙ ap (λ (ds : List Definition). get_or ds c.args.index c.index-as_slice-index.result) c.as_slice.ensures) in
     c.in_ok-delete.ensures.ok
-    ∙ ap (λ (ds : List Definition). remove ds c.args.index) (c.in_ok-bodies.ensures.made ∙ ap (λ (change : Change). map (with_body_tree (changed_tree change)) c.args.definitions.now) (change_is c.args.definitions.now c.args.index d at c.index-as_slice-index.result c.key.result.now c.in_ok-becomes.becomes there c.key.ensures (c.in_ok-becomes.ensures c.args.index c.requires.differ there)))
+    ∙ ap (λ (ds : List Definition). remove ds c.args.index) (c.in_ok-bodies.ensures.made ∙ ap (λ (change : Change). map (with_body_tree (changed_tree change)) c.args.contents.now.definitions) (change_is c.args.contents.now.definitions c.args.index d at c.index-as_slice-index.result c.key.result.now c.in_ok-becomes.becomes there c.key.ensures (c.in_ok-becomes.ensures c.args.index c.requires.differ there)))
 
 pub returns-clause-looks_up : goal.returns-clause-looks_up
 returns-clause-looks_up c = λ d at.
-    let there : slice_get c.args.definitions.now c.args.index ≡ Some c.index-as_slice-index.result =
-    slice_get_read c.args.definitions.now (length c.args.definitions.now) c.args.index c.index-as_slice-index.result refl c.requires.within
+    let there : slice_get c.args.contents.now.definitions c.args.index ≡ Some c.index-as_slice-index.result =
+    slice_get_read c.args.contents.now.definitions (length c.args.contents.now.definitions) c.args.index c.index-as_slice-index.result refl c.requires.within
     (c.index-as_slice-index.is ∙ ap (λ (ds : List Definition). get_or ds c.args.index c.index-as_slice-index.result) c.as_slice.ensures) in
-    ap look_ups c.apply.ensures ∙ (prepared_makes _ c.in_ok-formulas.formulas.items c.args.sheets.now c.in_ok-formulas.ensures).looks_up
-    ∙ ap (λ (change : Change). map (looks_up_after change) c.args.sheets.now) (change_is c.args.definitions.now c.args.index d at c.index-as_slice-index.result c.key.result.now c.in_ok-becomes.becomes there c.key.ensures (c.in_ok-becomes.ensures c.args.index c.requires.differ there))
+    ap look_ups c.apply.ensures ∙ (prepared_makes _ c.in_ok-formulas.formulas.items c.args.contents.now.sheets c.in_ok-formulas.ensures).looks_up
+    ∙ ap (λ (change : Change). map (looks_up_after change) c.args.contents.now.sheets) (change_is c.args.contents.now.definitions c.args.index d at c.index-as_slice-index.result c.key.result.now c.in_ok-becomes.becomes there c.key.ensures (c.in_ok-becomes.ensures c.args.index c.requires.differ there))

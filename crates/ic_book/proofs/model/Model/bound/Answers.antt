@@ -10,6 +10,6 @@ pub returns : goal.returns
 returns c =
     IfOk-weaker c.bind.result _ _
     (λ t e. e
-    ∙ ap₂ (λ f scene. bound f scene (Some c.args.id) c.args.tree.now) (sym (english_function_is c.self.inside.tables.now c.get_default_language-english.result.now c.get_default_language-english.ensures.found)) c.scene.ensures
+    ∙ ap₂ (λ f scene. bound f scene (Some c.args.id) c.args.tree.now) (sym (english_function_is c.self.inside.notation.tables c.get_default_language-english.result.now c.get_default_language-english.ensures.found)) c.scene.ensures
     ∙ ap (λ (m : ModelState). bound (english_function (notations_in m.book)) (scene_in c.args.self.now.book) (Some c.args.id) c.args.tree.now) c.self.view_is)
     c.bind.ensures

@@ -1,7 +1,5 @@
-use Rattle.std.proofs.Common.{◌≡◌, ◌∷◌, Some, option_and_then, option_map, sym, ap, subst, ◌∙◌}
-use Rattle.std.specs.List.{slice_get}
+use Rattle.std.proofs.Common.{◌∷◌, Some, option_map, sym, ap, subst, ◌∙◌}
 use Rattle.std.proofs.lemmas.Result.{IfOk-weaker}
-use Rattle.ic_tables.specs.Tables.{language_of, locale_of}
 use Rattle.ic_laws.specs.Character.{equals}
 use Rattle.ic_laws.specs.CoreBook.{CellPlace}
 use Rattle.ic_laws.specs.FormulaReading.{shown_formula}
@@ -14,11 +12,11 @@ use Rattle.ic_book.proofs.model.Model.cell_plain.Goals as goal
 
 pub formatted-requires : goal.formatted-requires
 formatted-requires c =
-    style_there c.args.self.now (subst (λ (m : ModelState). IsValidBook m.book) c.self.view_is c.self.invariant.valid) (sheet_of c.args.worksheet.now) c.requires.stands (c.args.row, c.args.column) c.args.cell.now c.requires.there
+    style_there c.args.self.now (subst (λ (m : ModelState). IsValidBook m.book) c.self.view_is c.self.invariant) (sheet_of c.args.worksheet.now) c.requires.stands (c.args.row, c.args.column) c.args.cell.now c.requires.there
 
 pub returns-in-Some : goal.returns-in-Some
 returns-in-Some c =
-    let valid = (subst (λ (m : ModelState). IsValidBook m.book) c.self.view_is c.self.invariant.valid) in
+    let valid = (subst (λ (m : ModelState). IsValidBook m.book) c.self.view_is c.self.invariant) in
     let s = sheet_of c.args.worksheet.now in
     IfOk-weaker c.show.result _ _
     (λ text e. e ∙ ap (λ (p : CellPlace). equals ∷ shown_formula (notations_in c.args.self.now.book) (core_of c.args.self.now.book) p.0 p.1 c.in-Some.formula.now) (stored_pair c.args.row c.args.column c.ranges.row c.ranges.column)
@@ -28,10 +26,10 @@ returns-in-Some c =
 
 pub returns-in-None : goal.returns-in-None
 returns-in-None c =
-    let valid = (subst (λ (m : ModelState). IsValidBook m.book) c.self.view_is c.self.invariant.valid) in
+    let valid = (subst (λ (m : ModelState). IsValidBook m.book) c.self.view_is c.self.invariant) in
     let s = sheet_of c.args.worksheet.now in
     let lacks = formula_lacking c.args.self.now valid s c.requires.stands (c.args.row, c.args.column) c.args.cell.now c.requires.there (sym c.formula_in.ensures ∙ ap (option_map (λ f. f.now)) c.in-None.is) in
     IfOk-weaker c.formatted.result _ _
-    (λ text e. e ∙ cell_formatted_is c.args.self.now.book valid c.self.inside.locale.now c.self.inside.language.now (subst (λ (m : ModelState). locale_of m.book.tables m.book.locale ≡ Some c.self.inside.locale.now) c.self.view_is c.self.invariant.locale_found) (subst (λ (m : ModelState). language_of m.book.tables m.book.language ≡ Some c.self.inside.language.now) c.self.view_is c.self.invariant.language_found) c.args.cell.now ∙ value_marked c.args.self.now valid s c.requires.stands (c.args.row, c.args.column) c.args.cell.now c.requires.there lacks
+    (λ text e. e ∙ cell_formatted_is c.args.self.now.book valid c.args.cell.now ∙ value_marked c.args.self.now valid s c.requires.stands (c.args.row, c.args.column) c.args.cell.now c.requires.there lacks
     ∙ plain_there c.args.self.now valid s c.requires.stands (c.args.row, c.args.column) (Some c.args.cell.now) c.requires.there)
     c.formatted.ensures

@@ -1,18 +1,23 @@
-use Rattle.std.proofs.Common.{ap, codes, ◌∙◌}
+use Rattle.std.proofs.Common.{◌≡◌, Some, ap, codes, subst, sym, ◌∙◌}
+use Rattle.ic_tables.specs.Tables.{HasGoodFormats, language_of}
 use Rattle.ic_laws.specs.CoreBook.{CellPlace}
 use Rattle.ic_laws.specs.Notations.{english}
-use Rattle.ic_tree.proofs.NotationLaws.{shown_notation}
 use Rattle.ic_tree.specs.Notations.{notations_of}
 use Rattle.ic_sheets.proofs.CellLemmas.{stored_pair}
 use Rattle.ic_book.specs.Book.{ModelState, notations_in}
 use Rattle.ic_book.proofs.HeldLemmas.{language_is}
+use Rattle.ic_book.proofs.InForceLemmas.{shown_by}
 use Rattle.ic_book.proofs.model.Model.english_at.Goals as goal
 
 pub new-requires-clause-language : goal.new-requires-clause-language
-new-requires-clause-language c = (language_is c.self.inside.tables.now (codes "en") c.get_default_language-language.result.now c.get_default_language-language.ensures.found).1
+new-requires-clause-language c =
+    subst (λ t. language_of t c.get_default_language-language.result.now.code ≡ Some c.get_default_language-language.result.now) (sym c.tables.ensures) (language_is c.self.inside.notation.tables (codes "en") c.get_default_language-language.result.now c.get_default_language-language.ensures.found).1
+
+pub new-requires-clause-locale : goal.new-requires-clause-locale
+new-requires-clause-locale c = subst (λ t. HasGoodFormats t c.get_default_locale-locale.result.now) (sym c.tables.ensures) c.get_default_locale-locale.ensures.formats
 
 pub returns : goal.returns
 returns c =
-    shown_notation c.self.inside.tables.now (codes "en") (codes "en") c.get_default_locale-locale.result.now c.get_default_language-language.result.now _ _ _ c.get_default_locale-locale.ensures.found c.get_default_language-language.ensures.found c.new.ensures
-    ∙ ap (λ (p : CellPlace). (notations_of c.self.inside.tables.now).shown english english p.0 p.1) (stored_pair c.args.row c.args.column c.ranges.row c.ranges.column)
+    shown_by _ c.self.inside.notation.tables c.tables.ensures (codes "en") (codes "en") c.get_default_locale-locale.result.now c.get_default_language-language.result.now _ _ _ c.get_default_locale-locale.ensures.found c.get_default_language-language.ensures.found c.new.ensures
+    ∙ ap (λ (p : CellPlace). (notations_of c.self.inside.notation.tables).shown english english p.0 p.1) (stored_pair c.args.row c.args.column c.ranges.row c.ranges.column)
     ∙ ap (λ (m : ModelState). (notations_in m.book).shown english english c.args.row c.args.column) c.self.view_is

@@ -3,7 +3,7 @@ use Rattle.std.specs.Option.{option_copied, option_map_or}
 use Rattle.ic_tables.specs.Tables.{language_of}
 use Rattle.ic_cells.specs.Cell.{value_of}
 use Rattle.ic_cells.specs.declared.value.CellValue.TheVariants as values
-use Rattle.ic_book.specs.Book.{IsValidBook, ModelState}
+use Rattle.ic_book.specs.Book.{ModelState}
 use Rattle.ic_sheets.proofs.CellLemmas.{stored_pair}
 use Rattle.ic_book.proofs.CellReads.{found_there, lacks_value, tells_value, wants_value}
 use Rattle.ic_book.proofs.model.Model.get_cell_value_by_index.Goals as goal
@@ -11,9 +11,9 @@ use Rattle.ic_book.proofs.model.Model.get_cell_value_by_index.Goals as goal
 pub returns : goal.returns
 returns c = record {
   does =
-      tells_value c.args.self.now c.cell_at.ensures.valid c.args.sheet_index c.args.row c.args.column c.self.inside.language.now
-      (subst (λ (m : ModelState). language_of m.book.tables m.book.language ≡ Some c.self.inside.language.now) c.self.view_is c.self.invariant.language_found) c.in_ok-cell.cell (found_there c.args.self.now c.args.sheet_index c.args.row c.args.column c.in_ok-cell.cell _ (stored_pair c.args.row c.args.column c.ranges.row c.ranges.column) c.in_ok-cell.ensures.finds) c.in_ok-value_in.field-0
-      (c.in_ok-value_in.ensures ∙ ap (λ strings. option_map_or (value_of strings c.self.inside.language.now) (option_copied c.in_ok-cell.cell) values.None) c.as_items-strings.ensures ∙ ap (λ (m : ModelState). option_map_or (value_of m.book.strings c.self.inside.language.now) (option_copied c.in_ok-cell.cell) values.None) c.self.view_is);
+      tells_value c.args.self.now c.cell_at.ensures.valid c.args.sheet_index c.args.row c.args.column c.language.result.now
+      (subst (λ (m : ModelState). language_of m.book.tables m.book.language ≡ Some c.language.result.now) c.self.view_is c.language.ensures.found) c.in_ok-cell.cell (found_there c.args.self.now c.args.sheet_index c.args.row c.args.column c.in_ok-cell.cell _ (stored_pair c.args.row c.args.column c.ranges.row c.ranges.column) c.in_ok-cell.ensures.finds) c.in_ok-value_in.field-0
+      (c.in_ok-value_in.ensures ∙ ap (λ strings. option_map_or (value_of strings c.language.result.now) (option_copied c.in_ok-cell.cell) values.None) c.as_items-strings.ensures ∙ ap (λ (m : ModelState). option_map_or (value_of m.book.strings c.language.result.now) (option_copied c.in_ok-cell.cell) values.None) c.self.view_is);
 }
 
 pub returns-in_err-cell : goal.returns-in_err-cell

@@ -11,5 +11,5 @@ pub returns : goal.returns
 returns c =
     c.in-Ok.ensures.value
     ∙ ap (λ (t : Typed). needs_quoting (chars c.args.text.now) t)
-    (sym (typed_is c.self.inside.about c.self.inside.sheets c.self.inside.definitions c.self.inside.locale.now c.self.inside.language.now c.self.inside.tables.now c.self.invariant c.get_default_language-english.result.now c.get_default_language-english.ensures.found (chars c.args.text.now))
+    (sym (typed_is c.self.inside c.locale.result.now c.language.result.now c.get_default_language-english.result.now c.locale.ensures.found c.language.ensures.found c.get_default_language-english.ensures.found (chars c.args.text.now))
     ∙ ap (λ (m : ModelState). typed_in (whole_of m.book) (chars c.args.text.now)) c.self.view_is)

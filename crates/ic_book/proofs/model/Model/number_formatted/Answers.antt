@@ -5,12 +5,13 @@ use Rattle.ic_book.specs.Book.{ModelState}
 use Rattle.ic_book.specs.Whole.{whole_of}
 use Rattle.ic_book.proofs.FormatLemmas.{formatted_is}
 use Rattle.ic_book.proofs.ShownLemmas.{formatted_there}
+use Rattle.ic_book.proofs.WholeWritten.{language_there}
 use Rattle.ic_book.proofs.model.Model.number_formatted.Goals as goal
 
 pub returns : goal.returns
 returns c =
     IfOk-weaker c.format_amount.result _ _
     (λ text h. formatted_is _ _ _ _ h
-    ∙ formatted_there _ c.self.invariant.valid _ _ c.self.invariant.locale_found c.self.invariant.language_found (chars c.args.code.now) c.args.amount
+    ∙ formatted_there _ c.self.invariant _ _ c.locale.ensures.found (language_there _ c.self.invariant).1 (chars c.args.code.now) c.args.amount
     ∙ ap (λ (m : ModelState). formatted_in (whole_of m.book) (chars c.args.code.now) c.args.amount) c.self.view_is)
     c.format_amount.ensures.shown

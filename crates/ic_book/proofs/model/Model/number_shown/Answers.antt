@@ -5,6 +5,7 @@ use Rattle.ic_machine.specs.InForce.{decimal_in}
 use Rattle.ic_book.specs.Book.{ModelState}
 use Rattle.ic_book.specs.Whole.{whole_of}
 use Rattle.ic_book.proofs.ShownLemmas.{decimal_is, number_shown_by}
+use Rattle.ic_book.proofs.WholeWritten.{language_there}
 use Rattle.ic_book.proofs.model.Model.number_shown.Goals as goal
 
 pub returns-in-Some : goal.returns-in-Some
@@ -15,7 +16,7 @@ returns-in-Some c =
 pub returns-in-None : goal.returns-in-None
 returns-in-None c =
     IfOk-weaker c.amount_text.result _ _
-    (λ text e. e ∙ ap (λ d. amount_text d c.args.amount) (c.decimal_separator.ensures ∙ decimal_is _ c.self.invariant.valid _ _ c.self.invariant.locale_found c.self.invariant.language_found
+    (λ text e. e ∙ ap (λ d. amount_text d c.args.amount) (c.decimal_separator.ensures ∙ decimal_is _ c.self.invariant _ _ c.locale.ensures.found (language_there _ c.self.invariant).1
     ∙ ap (λ (m : ModelState). decimal_in (whole_of m.book)) c.self.view_is)
     ∙ number_shown_by (whole_of c.args.self.now.book) (chars c.args.code.now) c.args.amount None (sym (ap (option_map (λ s. chars (string_bytes s))) c.in-None.is) ∙ c.in_ok-date.ensures))
     c.amount_text.ensures

@@ -19,8 +19,8 @@ returns-in_err-index-clause-parsed c =
     let front : chars c.front_of.result.now ≡ run_of is_no_bang text = run_before_rest is_no_bang text (chars c.front_of.result.now) (chars c.past_name-rest.result.now) c.past_name-rest.ensures c.front_of.ensures in
     ap (option_map parsed_of) c.from_residual.ensures
     ∙ sym (ap (option_and_then (λ n. parsed_place n (past_run is_no_bang text)))
-    (ap (λ (m : ModelState). index_of_name (core_of m.book) (run_of is_no_bang text)) (sym c.self.view_is) ∙ sym (found_by_name c.self.inside.sheets (run_of is_no_bang text))
-    ∙ ap (λ (name : List ℕ). position (λ (s : HeldSheet). agrees s.name name) c.self.inside.sheets) (sym front) ∙ sym c.index_of_name.ensures ∙ c.in_err-index.was))
+    (ap (λ (m : ModelState). index_of_name (core_of m.book) (run_of is_no_bang text)) (sym c.self.view_is) ∙ sym (found_by_name c.self.inside.contents.sheets (run_of is_no_bang text))
+    ∙ ap (λ (name : List ℕ). position (λ (s : HeldSheet). agrees s.name name) c.self.inside.contents.sheets) (sym front) ∙ sym c.index_of_name.ensures ∙ c.in_err-index.was))
 
 pub returns-clause-parsed : goal.returns-clause-parsed
 returns-clause-parsed c =
@@ -28,5 +28,5 @@ returns-clause-parsed c =
     let front : chars c.front_of.result.now ≡ run_of is_no_bang text = run_before_rest is_no_bang text (chars c.front_of.result.now) (chars c.past_name-rest.result.now) c.past_name-rest.ensures c.front_of.ensures in
     c.place_after.ensures ∙ ap (parsed_place c.in_ok-index.index) c.past_name-rest.ensures
     ∙ sym (ap (option_and_then (λ n. parsed_place n (past_run is_no_bang text)))
-    (ap (λ (m : ModelState). index_of_name (core_of m.book) (run_of is_no_bang text)) (sym c.self.view_is) ∙ sym (found_by_name c.self.inside.sheets (run_of is_no_bang text))
-    ∙ ap (λ (name : List ℕ). position (λ (s : HeldSheet). agrees s.name name) c.self.inside.sheets) (sym front) ∙ sym c.index_of_name.ensures ∙ c.in_ok-index.was))
+    (ap (λ (m : ModelState). index_of_name (core_of m.book) (run_of is_no_bang text)) (sym c.self.view_is) ∙ sym (found_by_name c.self.inside.contents.sheets (run_of is_no_bang text))
+    ∙ ap (λ (name : List ℕ). position (λ (s : HeldSheet). agrees s.name name) c.self.inside.contents.sheets) (sym front) ∙ sym c.index_of_name.ensures ∙ c.in_ok-index.was))

@@ -1,10 +1,9 @@
-use Rattle.std.proofs.Common.{None, Option, sym, ap, subst, ◌∙◌}
+use Rattle.std.proofs.Common.{None, sym, ap, subst, ◌∙◌}
 use Rattle.std.specs.Str.{chars}
 use Rattle.std.proofs.lemmas.Result.{IfOk-weaker}
 use Rattle.ic_laws.specs.CoreBook.{CellPlace}
 use Rattle.std.specs.FinMap as finite
 use Rattle.std.specs.Prelude.{option_copied}
-use Rattle.ic_cells.specs.declared.cell.Cell.{Cell}
 use Rattle.ic_sheets.proofs.CellLemmas.{stored_pair}
 use Rattle.ic_sheets.specs.Sheet.{sheet_of}
 use Rattle.ic_book.specs.Book.{IsValidBook, ModelState}
@@ -25,5 +24,5 @@ pub returns-in-None : goal.returns-in-None
 unfolding chars
 returns-in-None c =
     ap chars c.new.ensures.bytes
-    ∙ plain_there c.args.self.now (subst (λ (m : ModelState). IsValidBook m.book) c.self.view_is c.self.invariant.valid) (sheet_of c.args.worksheet.now) c.requires (c.args.row, c.args.column) None
+    ∙ plain_there c.args.self.now (subst (λ (m : ModelState). IsValidBook m.book) c.self.view_is c.self.invariant) (sheet_of c.args.worksheet.now) c.requires (c.args.row, c.args.column) None
     (ap (finite.get c.args.worksheet.now.grid.cells) (sym (stored_pair c.args.row c.args.column c.ranges.row c.ranges.column)) ∙ sym c.get.ensures ∙ ap option_copied c.in-None.is)

@@ -12,7 +12,7 @@ use Rattle.ic_sheets.specs.Sheet.{Sheet}
 use Rattle.ic_sheets.specs.declared.sheet.Sheet.{Sheet as HeldSheet}
 use Rattle.ic_book.specs.Book.{ModelState, core_of, notations_in}
 use Rattle.ic_book.specs.Change.{book_changed_by, with_renamed_sheet}
-use Rattle.ic_book.specs.Inside.{held, held_state}
+use Rattle.ic_book.specs.Inside.{held, held_state, with_contents}
 use Rattle.ic_book.specs.LookUps.{LooksUpNamed}
 use Rattle.ic_book.specs.Refused.{Refuses}
 use Rattle.ic_book.proofs.BookLemmas.{core_of-changed, renamed_change}
@@ -25,40 +25,40 @@ use Rattle.ic_book.proofs.model.Model.rename_at.Goals as goal
 pub returns-then-is_taken_by_other-clause-refused : goal.returns-then-is_taken_by_other-clause-refused
 returns-then-is_taken_by_other-clause-refused c =
     let name = chars c.args.new_name.now in
-    subst (λ (m : ModelState). rename_refusal (core_of m.book) c.args.index name ≡ Some SheetExists) c.self.view_is (rename_taken (core_of (held c.self.inside.about c.self.inside.sheets c.self.inside.definitions c.self.inside.locale.now c.self.inside.language.now c.self.inside.tables.now)) c.args.index name (sym c.is_valid_sheet_name.ensures ∙ c.if-not-is_valid_sheet_name.false) (ap (λ xs. list_any (agrees name) (remove xs c.args.index)) (sym (seen_names c.self.inside.sheets)) ∙ sym c.is_taken_by_other.ensures ∙ c.if-is_taken_by_other.true))
+    subst (λ (m : ModelState). rename_refusal (core_of m.book) c.args.index name ≡ Some SheetExists) c.self.view_is (rename_taken (core_of (held c.self.inside)) c.args.index name (sym c.is_valid_sheet_name.ensures ∙ c.if-not-is_valid_sheet_name.false) (ap (λ xs. list_any (agrees name) (remove xs c.args.index)) (sym (seen_names c.self.inside.contents.sheets)) ∙ sym c.is_taken_by_other.ensures ∙ c.if-is_taken_by_other.true))
 
 pub returns-then-index-len-clause-refused : goal.returns-then-index-len-clause-refused
 returns-then-index-len-clause-refused c =
     let name = chars c.args.new_name.now in
-    subst (λ (m : ModelState). rename_refusal (core_of m.book) c.args.index name ≡ Some InvalidSheet) c.self.view_is (rename_lacks (core_of (held c.self.inside.about c.self.inside.sheets c.self.inside.definitions c.self.inside.locale.now c.self.inside.language.now c.self.inside.tables.now)) c.args.index name (sym c.is_valid_sheet_name.ensures ∙ c.if-not-is_valid_sheet_name.false) (ap (λ xs. list_any (agrees name) (remove xs c.args.index)) (sym (seen_names c.self.inside.sheets)) ∙ sym c.is_taken_by_other.ensures ∙ c.if-is_taken_by_other.false) (lacks_is c.self.inside.sheets c.args.index (past_of c.self.inside.sheets c.len.result c.args.index c.len.ensures c.if-index-len.true)))
+    subst (λ (m : ModelState). rename_refusal (core_of m.book) c.args.index name ≡ Some InvalidSheet) c.self.view_is (rename_lacks (core_of (held c.self.inside)) c.args.index name (sym c.is_valid_sheet_name.ensures ∙ c.if-not-is_valid_sheet_name.false) (ap (λ xs. list_any (agrees name) (remove xs c.args.index)) (sym (seen_names c.self.inside.contents.sheets)) ∙ sym c.is_taken_by_other.ensures ∙ c.if-is_taken_by_other.false) (lacks_is c.self.inside.contents.sheets c.args.index (past_of c.self.inside.contents.sheets c.len.result c.args.index c.len.ensures c.if-index-len.true)))
 
 pub returns-in_err-bodies-clause-refused : goal.returns-in_err-bodies-clause-refused
 returns-in_err-bodies-clause-refused c =
     let name = chars c.args.new_name.now in
-    subst (λ (m : ModelState). Refuses c.from_residual.result (rename_refusal (core_of m.book) c.args.index name)) c.self.view_is (subst (Refuses c.from_residual.result) (sym (rename_accepts (core_of (held c.self.inside.about c.self.inside.sheets c.self.inside.definitions c.self.inside.locale.now c.self.inside.language.now c.self.inside.tables.now)) c.args.index name (sym c.is_valid_sheet_name.ensures ∙ c.if-not-is_valid_sheet_name.false) (ap (λ xs. list_any (agrees name) (remove xs c.args.index)) (sym (seen_names c.self.inside.sheets)) ∙ sym c.is_taken_by_other.ensures ∙ c.if-is_taken_by_other.false) (there_is c.self.inside.sheets c.args.index (within_of c.self.inside.sheets c.len.result c.args.index c.len.ensures c.if-index-len.false)))) (no_memory c.from_residual.result c.from_residual.ensures))
+    subst (λ (m : ModelState). Refuses c.from_residual.result (rename_refusal (core_of m.book) c.args.index name)) c.self.view_is (subst (Refuses c.from_residual.result) (sym (rename_accepts (core_of (held c.self.inside)) c.args.index name (sym c.is_valid_sheet_name.ensures ∙ c.if-not-is_valid_sheet_name.false) (ap (λ xs. list_any (agrees name) (remove xs c.args.index)) (sym (seen_names c.self.inside.contents.sheets)) ∙ sym c.is_taken_by_other.ensures ∙ c.if-is_taken_by_other.false) (there_is c.self.inside.contents.sheets c.args.index (within_of c.self.inside.contents.sheets c.len.result c.args.index c.len.ensures c.if-index-len.false)))) (no_memory c.from_residual.result c.from_residual.ensures))
 
 pub prepare_dangling-requires : goal.prepare_dangling-requires
-prepare_dangling-requires c = naming_bodies _ _ c.self.inside.definitions
+prepare_dangling-requires c = naming_bodies _ _ c.self.inside.contents.definitions
 
 pub returns-in_err-rename_sheet-clause-refused : goal.returns-in_err-rename_sheet-clause-refused
 returns-in_err-rename_sheet-clause-refused c =
     let name = chars c.args.new_name.now in
-    subst (λ (m : ModelState). Refuses c.from_residual-in_err-rename_sheet.result (rename_refusal (core_of m.book) c.args.index name)) c.self.view_is (subst (Refuses c.from_residual-in_err-rename_sheet.result) (sym (rename_accepts (core_of (held c.self.inside.about c.self.inside.sheets c.self.inside.definitions c.self.inside.locale.now c.self.inside.language.now c.self.inside.tables.now)) c.args.index name (sym c.is_valid_sheet_name.ensures ∙ c.if-not-is_valid_sheet_name.false) (ap (λ xs. list_any (agrees name) (remove xs c.args.index)) (sym (seen_names c.self.inside.sheets)) ∙ sym c.is_taken_by_other.ensures ∙ c.if-is_taken_by_other.false) (there_is c.self.inside.sheets c.args.index (within_of c.self.inside.sheets c.len.result c.args.index c.len.ensures c.if-index-len.false)))) (no_memory c.from_residual-in_err-rename_sheet.result c.from_residual-in_err-rename_sheet.ensures))
+    subst (λ (m : ModelState). Refuses c.from_residual-in_err-rename_sheet.result (rename_refusal (core_of m.book) c.args.index name)) c.self.view_is (subst (Refuses c.from_residual-in_err-rename_sheet.result) (sym (rename_accepts (core_of (held c.self.inside)) c.args.index name (sym c.is_valid_sheet_name.ensures ∙ c.if-not-is_valid_sheet_name.false) (ap (λ xs. list_any (agrees name) (remove xs c.args.index)) (sym (seen_names c.self.inside.contents.sheets)) ∙ sym c.is_taken_by_other.ensures ∙ c.if-is_taken_by_other.false) (there_is c.self.inside.contents.sheets c.args.index (within_of c.self.inside.contents.sheets c.len.result c.args.index c.len.ensures c.if-index-len.false)))) (no_memory c.from_residual-in_err-rename_sheet.result c.from_residual-in_err-rename_sheet.ensures))
 
 pub invariant_of-self-2 : goal.invariant_of-self-2
 invariant_of-self-2 c =
     let name = chars c.args.new_name.now in
-    let none = (rename_accepts (core_of (held c.self.inside.about c.self.inside.sheets c.self.inside.definitions c.self.inside.locale.now c.self.inside.language.now c.self.inside.tables.now)) c.args.index name (sym c.is_valid_sheet_name.ensures ∙ c.if-not-is_valid_sheet_name.false) (ap (λ xs. list_any (agrees name) (remove xs c.args.index)) (sym (seen_names c.self.inside.sheets)) ∙ sym c.is_taken_by_other.ensures ∙ c.if-is_taken_by_other.false) (there_is c.self.inside.sheets c.args.index (within_of c.self.inside.sheets c.len.result c.args.index c.len.ensures c.if-index-len.false))) in
-    let at = sheet_there c.self.inside.sheets c.args.index (within_of c.self.inside.sheets c.len.result c.args.index c.len.ensures c.if-index-len.false) in
-    held_after c.self.inside.about c.self.inside.sheets c.self.inside.definitions c.self.inside.locale.now c.self.inside.language.now c.self.inside.tables.now c.self.invariant c.rename_sheet.new.self c.apply.new.self (book_changed_by (with_renamed_sheet c.args.index name) (held c.self.inside.about c.self.inside.sheets c.self.inside.definitions c.self.inside.locale.now c.self.inside.language.now c.self.inside.tables.now))
-    (renamed c.self.inside.about c.self.inside.sheets c.self.inside.definitions c.self.inside.locale.now c.self.inside.language.now c.self.inside.tables.now c.self.invariant c.rename_sheet.new.self c.apply.new.self c.args.index name at.0 none at.1 (c.in_ok-rename_sheet.ensures.ok at.0 at.1) (c.apply.ensures ∙ c.in_ok-bodies.ensures.made ∙ ap (λ (s : HeldSheet). map (with_body_tree (changed_tree (sheet_named s.id name))) c.self.inside.definitions) (sym c.index-as_slice-index.is ∙ read_is c.as_slice.result.now c.self.inside.sheets c.args.index c.index-as_slice-index.result at.0 c.as_slice.ensures.sheets (within_of c.self.inside.sheets c.len.result c.args.index c.len.ensures c.if-index-len.false) c.index-as_slice-index.is at.1)))
-    (renamed_valid (held c.self.inside.about c.self.inside.sheets c.self.inside.definitions c.self.inside.locale.now c.self.inside.language.now c.self.inside.tables.now) c.self.invariant.valid c.args.index name none)
+    let none = (rename_accepts (core_of (held c.self.inside)) c.args.index name (sym c.is_valid_sheet_name.ensures ∙ c.if-not-is_valid_sheet_name.false) (ap (λ xs. list_any (agrees name) (remove xs c.args.index)) (sym (seen_names c.self.inside.contents.sheets)) ∙ sym c.is_taken_by_other.ensures ∙ c.if-is_taken_by_other.false) (there_is c.self.inside.contents.sheets c.args.index (within_of c.self.inside.contents.sheets c.len.result c.args.index c.len.ensures c.if-index-len.false))) in
+    let at = sheet_there c.self.inside.contents.sheets c.args.index (within_of c.self.inside.contents.sheets c.len.result c.args.index c.len.ensures c.if-index-len.false) in
+    held_after c.self.inside c.self.invariant c.rename_sheet.new.self c.apply.new.self (book_changed_by (with_renamed_sheet c.args.index name) (held c.self.inside))
+    (renamed c.self.inside c.self.invariant c.rename_sheet.new.self c.apply.new.self c.args.index name at.0 none at.1 (c.in_ok-rename_sheet.ensures.ok at.0 at.1) (c.apply.ensures ∙ c.in_ok-bodies.ensures.made ∙ ap (λ (s : HeldSheet). map (with_body_tree (changed_tree (sheet_named s.id name))) c.self.inside.contents.definitions) (sym c.index-as_slice-index.is ∙ read_is c.as_slice.result.now c.self.inside.contents.sheets c.args.index c.index-as_slice-index.result at.0 c.as_slice.ensures.sheets (within_of c.self.inside.contents.sheets c.len.result c.args.index c.len.ensures c.if-index-len.false) c.index-as_slice-index.is at.1)))
+    (renamed_valid (held c.self.inside) c.self.invariant c.args.index name none)
 
 pub returns-clause-ok : goal.returns-clause-ok
 returns-clause-ok c =
     let name = chars c.args.new_name.now in
-    let at = sheet_there c.self.inside.sheets c.args.index (within_of c.self.inside.sheets c.len.result c.args.index c.len.ensures c.if-index-len.false) in
-    renamed c.self.inside.about c.self.inside.sheets c.self.inside.definitions c.self.inside.locale.now c.self.inside.language.now c.self.inside.tables.now c.self.invariant c.rename_sheet.new.self c.apply.new.self c.args.index name at.0 (rename_accepts (core_of (held c.self.inside.about c.self.inside.sheets c.self.inside.definitions c.self.inside.locale.now c.self.inside.language.now c.self.inside.tables.now)) c.args.index name (sym c.is_valid_sheet_name.ensures ∙ c.if-not-is_valid_sheet_name.false) (ap (λ xs. list_any (agrees name) (remove xs c.args.index)) (sym (seen_names c.self.inside.sheets)) ∙ sym c.is_taken_by_other.ensures ∙ c.if-is_taken_by_other.false) (there_is c.self.inside.sheets c.args.index (within_of c.self.inside.sheets c.len.result c.args.index c.len.ensures c.if-index-len.false))) at.1 (c.in_ok-rename_sheet.ensures.ok at.0 at.1) (c.apply.ensures ∙ c.in_ok-bodies.ensures.made ∙ ap (λ (s : HeldSheet). map (with_body_tree (changed_tree (sheet_named s.id name))) c.self.inside.definitions) (sym c.index-as_slice-index.is ∙ read_is c.as_slice.result.now c.self.inside.sheets c.args.index c.index-as_slice-index.result at.0 c.as_slice.ensures.sheets (within_of c.self.inside.sheets c.len.result c.args.index c.len.ensures c.if-index-len.false) c.index-as_slice-index.is at.1))
+    let at = sheet_there c.self.inside.contents.sheets c.args.index (within_of c.self.inside.contents.sheets c.len.result c.args.index c.len.ensures c.if-index-len.false) in
+    renamed c.self.inside c.self.invariant c.rename_sheet.new.self c.apply.new.self c.args.index name at.0 (rename_accepts (core_of (held c.self.inside)) c.args.index name (sym c.is_valid_sheet_name.ensures ∙ c.if-not-is_valid_sheet_name.false) (ap (λ xs. list_any (agrees name) (remove xs c.args.index)) (sym (seen_names c.self.inside.contents.sheets)) ∙ sym c.is_taken_by_other.ensures ∙ c.if-is_taken_by_other.false) (there_is c.self.inside.contents.sheets c.args.index (within_of c.self.inside.contents.sheets c.len.result c.args.index c.len.ensures c.if-index-len.false))) at.1 (c.in_ok-rename_sheet.ensures.ok at.0 at.1) (c.apply.ensures ∙ c.in_ok-bodies.ensures.made ∙ ap (λ (s : HeldSheet). map (with_body_tree (changed_tree (sheet_named s.id name))) c.self.inside.contents.definitions) (sym c.index-as_slice-index.is ∙ read_is c.as_slice.result.now c.self.inside.contents.sheets c.args.index c.index-as_slice-index.result at.0 c.as_slice.ensures.sheets (within_of c.self.inside.contents.sheets c.len.result c.args.index c.len.ensures c.if-index-len.false) c.index-as_slice-index.is at.1))
     ∙ ap (λ (m : ModelState). book_changed_by (with_renamed_sheet c.args.index name) m.book) c.self.view_is
 
 pub returns-clause-core : goal.returns-clause-core
@@ -70,24 +70,24 @@ pub returns-clause-found : goal.returns-clause-found
 returns-clause-found c =
     let name = chars c.args.new_name.now in
     subst (BookKeepsFound (core_of c.args.self.now.book)) (sym (returns-clause-core c))
-    (subst (λ (m : ModelState). BookKeepsFound (core_of m.book) (changed_by (notations_in m.book) (with_sheet_name c.args.index name) (core_of m.book))) c.self.view_is (keeps_renamed c.self.inside.about c.self.inside.sheets c.self.inside.definitions c.self.inside.locale.now c.self.inside.language.now c.self.inside.tables.now c.self.invariant c.args.index name (rename_accepts (core_of (held c.self.inside.about c.self.inside.sheets c.self.inside.definitions c.self.inside.locale.now c.self.inside.language.now c.self.inside.tables.now)) c.args.index name (sym c.is_valid_sheet_name.ensures ∙ c.if-not-is_valid_sheet_name.false) (ap (λ xs. list_any (agrees name) (remove xs c.args.index)) (sym (seen_names c.self.inside.sheets)) ∙ sym c.is_taken_by_other.ensures ∙ c.if-is_taken_by_other.false) (there_is c.self.inside.sheets c.args.index (within_of c.self.inside.sheets c.len.result c.args.index c.len.ensures c.if-index-len.false)))))
+    (subst (λ (m : ModelState). BookKeepsFound (core_of m.book) (changed_by (notations_in m.book) (with_sheet_name c.args.index name) (core_of m.book))) c.self.view_is (keeps_renamed c.self.inside c.self.invariant c.args.index name (rename_accepts (core_of (held c.self.inside)) c.args.index name (sym c.is_valid_sheet_name.ensures ∙ c.if-not-is_valid_sheet_name.false) (ap (λ xs. list_any (agrees name) (remove xs c.args.index)) (sym (seen_names c.self.inside.contents.sheets)) ∙ sym c.is_taken_by_other.ensures ∙ c.if-is_taken_by_other.false) (there_is c.self.inside.contents.sheets c.args.index (within_of c.self.inside.contents.sheets c.len.result c.args.index c.len.ensures c.if-index-len.false)))))
 
 pub returns-clause-binds : goal.returns-clause-binds
 returns-clause-binds c = λ sheet at.
     let name = chars c.args.new_name.now in
     returns-clause-core c
     ∙ subst (λ (m : ModelState). slice_get (core_of m.book).sheets c.args.index ≡ Some sheet → changed_by (notations_in m.book) (with_sheet_name c.args.index name) (core_of m.book) ≡ with_sheet_name c.args.index name (with_trees (changed_tree (sheet_named sheet.id name)) (core_of m.book))) c.self.view_is
-    (binds_renamed c.self.inside.about c.self.inside.sheets c.self.inside.definitions c.self.inside.locale.now c.self.inside.language.now c.self.inside.tables.now c.self.invariant c.args.index name sheet (rename_accepts (core_of (held c.self.inside.about c.self.inside.sheets c.self.inside.definitions c.self.inside.locale.now c.self.inside.language.now c.self.inside.tables.now)) c.args.index name (sym c.is_valid_sheet_name.ensures ∙ c.if-not-is_valid_sheet_name.false) (ap (λ xs. list_any (agrees name) (remove xs c.args.index)) (sym (seen_names c.self.inside.sheets)) ∙ sym c.is_taken_by_other.ensures ∙ c.if-is_taken_by_other.false) (there_is c.self.inside.sheets c.args.index (within_of c.self.inside.sheets c.len.result c.args.index c.len.ensures c.if-index-len.false)))) at
+    (binds_renamed c.self.inside c.self.invariant c.args.index name sheet (rename_accepts (core_of (held c.self.inside)) c.args.index name (sym c.is_valid_sheet_name.ensures ∙ c.if-not-is_valid_sheet_name.false) (ap (λ xs. list_any (agrees name) (remove xs c.args.index)) (sym (seen_names c.self.inside.contents.sheets)) ∙ sym c.is_taken_by_other.ensures ∙ c.if-is_taken_by_other.false) (there_is c.self.inside.contents.sheets c.args.index (within_of c.self.inside.contents.sheets c.len.result c.args.index c.len.ensures c.if-index-len.false)))) at
 
 pub returns-clause-refused : goal.returns-clause-refused
 returns-clause-refused c =
     let name = chars c.args.new_name.now in
-    subst (λ (m : ModelState). rename_refusal (core_of m.book) c.args.index name ≡ None) c.self.view_is (rename_accepts (core_of (held c.self.inside.about c.self.inside.sheets c.self.inside.definitions c.self.inside.locale.now c.self.inside.language.now c.self.inside.tables.now)) c.args.index name (sym c.is_valid_sheet_name.ensures ∙ c.if-not-is_valid_sheet_name.false) (ap (λ xs. list_any (agrees name) (remove xs c.args.index)) (sym (seen_names c.self.inside.sheets)) ∙ sym c.is_taken_by_other.ensures ∙ c.if-is_taken_by_other.false) (there_is c.self.inside.sheets c.args.index (within_of c.self.inside.sheets c.len.result c.args.index c.len.ensures c.if-index-len.false)))
+    subst (λ (m : ModelState). rename_refusal (core_of m.book) c.args.index name ≡ None) c.self.view_is (rename_accepts (core_of (held c.self.inside)) c.args.index name (sym c.is_valid_sheet_name.ensures ∙ c.if-not-is_valid_sheet_name.false) (ap (λ xs. list_any (agrees name) (remove xs c.args.index)) (sym (seen_names c.self.inside.contents.sheets)) ∙ sym c.is_taken_by_other.ensures ∙ c.if-is_taken_by_other.false) (there_is c.self.inside.contents.sheets c.args.index (within_of c.self.inside.contents.sheets c.len.result c.args.index c.len.ensures c.if-index-len.false)))
 
 pub returns-clause-looks_up : goal.returns-clause-looks_up
 returns-clause-looks_up c =
     let name = chars c.args.new_name.now in
-    let at = sheet_there c.self.inside.sheets c.args.index (within_of c.self.inside.sheets c.len.result c.args.index c.len.ensures c.if-index-len.false) in
-    let new = held_state c.self.inside.about c.rename_sheet.new.self c.apply.new.self c.self.inside.locale.now c.self.inside.language.now c.self.inside.tables.now in
+    let at = sheet_there c.self.inside.contents.sheets c.args.index (within_of c.self.inside.contents.sheets c.len.result c.args.index c.len.ensures c.if-index-len.false) in
+    let new = held_state (with_contents c.rename_sheet.new.self c.apply.new.self c.self.inside) in
     subst (λ (m : ModelState). LooksUpNamed c.args.index name m new) c.self.view_is
-    (looks_up_at (λ (s : Sheet). sheet_named s.id name) (λ (had : List Bool). had) c.self.inside.sheets c.args.index at.0 at.1 (look_ups c.rename_sheet.new.self) (c.in_ok-rename_sheet.ensures.looks_up at.0 at.1))
+    (looks_up_at (λ (s : Sheet). sheet_named s.id name) (λ (had : List Bool). had) c.self.inside.contents.sheets c.args.index at.0 at.1 (look_ups c.rename_sheet.new.self) (c.in_ok-rename_sheet.ensures.looks_up at.0 at.1))

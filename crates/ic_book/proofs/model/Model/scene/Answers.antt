@@ -10,4 +10,4 @@ use Rattle.ic_book.proofs.model.Model.scene.Goals as goal
 pub returns : goal.returns
 returns c =
     ap₂ (λ (ws : List HeldSheet) (ds : List Definition). scene_of_parts ws ds) c.new.ensures.sheets c.new.ensures.definitions
-    ∙ (scene_held c.self.inside.sheets (held c.self.inside.about c.self.inside.sheets c.self.inside.definitions c.self.inside.locale.now c.self.inside.language.now c.self.inside.tables.now) refl ∙ ap (λ (m : ModelState). scene_in m.book) c.self.view_is)
+    ∙ (scene_held c.self.inside.contents.sheets (held c.self.inside) refl ∙ ap (λ (m : ModelState). scene_in m.book) c.self.view_is)

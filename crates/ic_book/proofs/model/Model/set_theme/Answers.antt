@@ -5,12 +5,8 @@ use Rattle.ic_book.proofs.SettingLemmas.{puts_theme, theme_valid, with_theme}
 use Rattle.ic_book.proofs.model.Model.set_theme.Goals as goal
 
 pub invariant_of-self : goal.invariant_of-self
-invariant_of-self c = record {
-  valid = theme_valid (held c.self.inside.about c.self.inside.sheets c.self.inside.definitions c.self.inside.locale.now c.self.inside.language.now c.self.inside.tables.now) c.args.theme.name c.self.invariant.valid;
-  locale_found = c.self.invariant.locale_found;
-  language_found = c.self.invariant.language_found;
-}
+invariant_of-self c = theme_valid (held c.self.inside) c.args.theme.name c.self.invariant
 
 pub returns-clause-does : goal.returns-clause-does
 returns-clause-does c =
-    puts_theme c.args.self.now (subst (λ (m : ModelState). IsValidBook m.book) c.self.view_is c.self.invariant.valid) c.args.theme.name _ (ap (λ (m : ModelState). let left : ModelState = record m { book = with_theme c.args.theme.name m.book } in left) c.self.view_is)
+    puts_theme c.args.self.now (subst (λ (m : ModelState). IsValidBook m.book) c.self.view_is c.self.invariant) c.args.theme.name _ (ap (λ (m : ModelState). let left : ModelState = record m { book = with_theme c.args.theme.name m.book } in left) c.self.view_is)

@@ -10,7 +10,7 @@ use Rattle.ic_sheets.specs.Sheet as sheets
 use Rattle.ic_sheets.specs.Sheet.{Sheet}
 use Rattle.ic_sheets.specs.declared.sheet.Sheet.{Sheet as HeldSheet}
 use Rattle.ic_book.specs.Book.{ModelState, core_of, notations_in, scene_in}
-use Rattle.ic_book.specs.Inside.{held, held_state}
+use Rattle.ic_book.specs.Inside.{held, held_state, with_sheets}
 use Rattle.ic_book.specs.LookUps.{LooksUpAsBefore}
 use Rattle.ic_book.specs.Written.{pool_at, with_pool}
 use Rattle.ic_book.proofs.HeldLemmas.{placed, placed_core, placed_held, pool_at_is, whole_at, whole_updated, within_of}
@@ -19,39 +19,39 @@ use Rattle.ic_book.proofs.model.Model.shared_formula_index.Goals as goal
 
 pub invariant_of-self-2 : goal.invariant_of-self-2
 invariant_of-self-2 g c =
-    let at = (sheet_there c.self.inside.sheets c.args.sheet (within_of c.self.inside.sheets c.len.result c.args.sheet c.len.ensures c.if-sheet-len.false)) in
-    placed_held c.self.inside.about c.self.inside.sheets c.self.inside.definitions c.self.inside.locale.now c.self.inside.language.now c.self.inside.tables.now c.self.invariant c.place_copy.new.self c.args.sheet at.0 at.1 c.args.tree.now c.in_ok-place_copy.field-0 c.in_ok-place_copy.ensures.ok.0 c.in_ok-place_copy.ensures.ok.1 c.in_ok-place_copy.ensures.ok.2
-    (subst (λ o. IfSome o (λ (s : Sheet). IsPooled (notations_in (held c.self.inside.about c.self.inside.sheets c.self.inside.definitions c.self.inside.locale.now c.self.inside.language.now c.self.inside.tables.now)) (scene_in (held c.self.inside.about c.self.inside.sheets c.self.inside.definitions c.self.inside.locale.now c.self.inside.language.now c.self.inside.tables.now)) (Some s.id) c.args.tree.now)) (slice_get-map sheets.sheet_of c.self.inside.sheets c.args.sheet ∙ ap (option_map sheets.sheet_of) at.1)
+    let at = (sheet_there c.self.inside.contents.sheets c.args.sheet (within_of c.self.inside.contents.sheets c.len.result c.args.sheet c.len.ensures c.if-index-len.false)) in
+    placed_held c.self.inside c.self.invariant c.place_copy.new.self c.args.sheet at.0 at.1 c.args.tree.now c.in_ok-place_copy.field-0 c.in_ok-place_copy.ensures.ok.0 c.in_ok-place_copy.ensures.ok.1 c.in_ok-place_copy.ensures.ok.2
+    (subst (λ o. IfSome o (λ (s : Sheet). IsPooled (notations_in (held c.self.inside)) (scene_in (held c.self.inside)) (Some s.id) c.args.tree.now)) (slice_get-map sheets.sheet_of c.self.inside.contents.sheets c.args.sheet ∙ ap (option_map sheets.sheet_of) at.1)
     (subst (λ (m : ModelState). IfSome (slice_get m.book.sheets c.args.sheet) (λ s. IsPooled (notations_in m.book) (scene_in m.book) (Some s.id) c.args.tree.now)) (sym c.self.view_is) c.requires))
 
 pub returns-clause-placed : goal.returns-clause-placed
 returns-clause-placed g c = (
   c.in_ok-place_copy.ensures.ok.0,
-  subst (λ pool. IsPlaced c.args.tree.now c.in_ok-place_copy.field-0 pool c.in_ok-place_copy.ensures.ok.0) (pool_at_is c.self.inside.about c.self.inside.sheets c.self.inside.definitions c.self.inside.locale.now c.self.inside.language.now c.self.inside.tables.now c.self.invariant c.args.sheet ∙ ap (λ (m : ModelState). pool_at m.book c.args.sheet) c.self.view_is) c.in_ok-place_copy.ensures.ok.1,
-  placed c.self.inside.about c.self.inside.sheets c.self.inside.definitions c.self.inside.locale.now c.self.inside.language.now c.self.inside.tables.now c.self.invariant c.place_copy.new.self c.args.sheet c.in_ok-place_copy.ensures.ok.0 c.in_ok-place_copy.ensures.ok.2 ∙ ap (λ (m : ModelState). with_pool c.args.sheet c.in_ok-place_copy.ensures.ok.0 m.book) c.self.view_is,
+  subst (λ pool. IsPlaced c.args.tree.now c.in_ok-place_copy.field-0 pool c.in_ok-place_copy.ensures.ok.0) (pool_at_is c.self.inside c.self.invariant c.args.sheet ∙ ap (λ (m : ModelState). pool_at m.book c.args.sheet) c.self.view_is) c.in_ok-place_copy.ensures.ok.1,
+  placed c.self.inside c.self.invariant c.place_copy.new.self c.args.sheet c.in_ok-place_copy.ensures.ok.0 c.in_ok-place_copy.ensures.ok.2 ∙ ap (λ (m : ModelState). with_pool c.args.sheet c.in_ok-place_copy.ensures.ok.0 m.book) c.self.view_is,
 )
 
 pub returns-clause-core : goal.returns-clause-core
 returns-clause-core g c =
-    let at = (sheet_there c.self.inside.sheets c.args.sheet (within_of c.self.inside.sheets c.len.result c.args.sheet c.len.ensures c.if-sheet-len.false)) in
-    placed_core c.self.inside.about c.self.inside.sheets c.self.inside.definitions c.self.inside.locale.now c.self.inside.language.now c.self.inside.tables.now c.self.invariant c.place_copy.new.self c.args.sheet at.0 at.1 c.args.tree.now c.in_ok-place_copy.field-0 c.in_ok-place_copy.ensures.ok.0 c.in_ok-place_copy.ensures.ok.1 c.in_ok-place_copy.ensures.ok.2 ∙ ap (λ (m : ModelState). core_of m.book) c.self.view_is
+    let at = (sheet_there c.self.inside.contents.sheets c.args.sheet (within_of c.self.inside.contents.sheets c.len.result c.args.sheet c.len.ensures c.if-index-len.false)) in
+    placed_core c.self.inside c.self.invariant c.place_copy.new.self c.args.sheet at.0 at.1 c.args.tree.now c.in_ok-place_copy.field-0 c.in_ok-place_copy.ensures.ok.0 c.in_ok-place_copy.ensures.ok.1 c.in_ok-place_copy.ensures.ok.2 ∙ ap (λ (m : ModelState). core_of m.book) c.self.view_is
 
 pub returns-clause-looks_up : goal.returns-clause-looks_up
-returns-clause-looks_up g c = ap (map (λ (s : HeldSheet). s.pool.is_whole)) c.in_ok-place_copy.ensures.ok.2 ∙ whole_updated _ (λ s. refl) c.args.sheet c.self.inside.sheets ∙ ap (λ (m : ModelState). updated_at (λ b. true) c.args.sheet m.has_all) c.self.view_is
+returns-clause-looks_up g c = ap (map (λ (s : HeldSheet). s.pool.is_whole)) c.in_ok-place_copy.ensures.ok.2 ∙ whole_updated _ (λ s. refl) c.args.sheet c.self.inside.contents.sheets ∙ ap (λ (m : ModelState). updated_at (λ b. true) c.args.sheet m.has_all) c.self.view_is
 
 pub returns-clause-still : goal.returns-clause-still
-returns-clause-still g c = λ e. c.in_ok-place_copy.ensures.still (sym (slice_get-map (λ (s : HeldSheet). s.pool.is_whole) c.self.inside.sheets c.args.sheet) ∙ ap (λ (m : ModelState). slice_get m.has_all c.args.sheet) c.self.view_is ∙ e)
+returns-clause-still g c = λ e. c.in_ok-place_copy.ensures.still (sym (slice_get-map (λ (s : HeldSheet). s.pool.is_whole) c.self.inside.contents.sheets c.args.sheet) ∙ ap (λ (m : ModelState). slice_get m.has_all c.args.sheet) c.self.view_is ∙ e)
 
 pub returns-clause-cost : goal.returns-clause-cost
-returns-clause-cost g c = subst (λ pool. c.place_copy.new.steps ≤ c.args.steps.now + length pool) (pool_at_is c.self.inside.about c.self.inside.sheets c.self.inside.definitions c.self.inside.locale.now c.self.inside.language.now c.self.inside.tables.now c.self.invariant c.args.sheet ∙ ap (λ (m : ModelState). pool_at m.book c.args.sheet) c.self.view_is) c.in_ok-place_copy.ensures.cost
+returns-clause-cost g c = subst (λ pool. c.place_copy.new.steps ≤ c.args.steps.now + length pool) (pool_at_is c.self.inside c.self.invariant c.args.sheet ∙ ap (λ (m : ModelState). pool_at m.book c.args.sheet) c.self.view_is) c.in_ok-place_copy.ensures.cost
 
 pub returns-clause-whole : goal.returns-clause-whole
 returns-clause-whole g c =
-    let at = sheet_there c.self.inside.sheets c.args.sheet (within_of c.self.inside.sheets c.len.result c.args.sheet c.len.ensures c.if-sheet-len.false) in
-    ap (λ (ws : List HeldSheet). slice_get (map (λ (s : HeldSheet). s.pool.is_whole) ws) c.args.sheet) c.in_ok-place_copy.ensures.ok.2 ∙ whole_at _ (λ s. refl) c.args.sheet c.self.inside.sheets at.0 at.1
+    let at = sheet_there c.self.inside.contents.sheets c.args.sheet (within_of c.self.inside.contents.sheets c.len.result c.args.sheet c.len.ensures c.if-index-len.false) in
+    ap (λ (ws : List HeldSheet). slice_get (map (λ (s : HeldSheet). s.pool.is_whole) ws) c.args.sheet) c.in_ok-place_copy.ensures.ok.2 ∙ whole_at _ (λ s. refl) c.args.sheet c.self.inside.contents.sheets at.0 at.1
 
 pub returns-in_err-place_copy-clause-left : goal.returns-in_err-place_copy-clause-left
 returns-in_err-place_copy-clause-left g c =
     at_err c.from_residual.result _
-    (subst (λ (m : ModelState). LooksUpAsBefore c.args.sheet m (held_state c.self.inside.about c.place_copy.new.self c.self.inside.definitions c.self.inside.locale.now c.self.inside.language.now c.self.inside.tables.now)) c.self.view_is
-    (look_ups_left c.args.sheet c.self.inside.sheets c.place_copy.new.self c.in_err-place_copy.ensures.looks_up))
+    (subst (λ (m : ModelState). LooksUpAsBefore c.args.sheet m (held_state (with_sheets c.place_copy.new.self c.self.inside))) c.self.view_is
+    (look_ups_left c.args.sheet c.self.inside.contents.sheets c.place_copy.new.self c.in_err-place_copy.ensures.looks_up))

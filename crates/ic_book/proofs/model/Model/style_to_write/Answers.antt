@@ -1,4 +1,4 @@
-use Rattle.std.proofs.Common.{◌≡◌, ◌≤◌, ◌∙◌, None, Some, ap, length, option_map, refl, subst, sym}
+use Rattle.std.proofs.Common.{◌≡◌, ◌≤◌, ◌∙◌, None, ap, length, option_map, refl, subst, sym}
 use Rattle.std.specs.List.{slice_get}
 use Rattle.std.proofs.lemmas.Option.{slice_get-map}
 use Rattle.ic_laws.specs.CoreBook.{CellPlace}
@@ -16,8 +16,8 @@ pub returns-in-Some-clause-refused : goal.returns-in-Some-clause-refused
 returns-in-Some-clause-refused c =
     let entry = c.in-Some.sheet.now in
     let place : CellPlace = (c.args.row, c.args.column) in
-    let there = at_index c.as_slice.result.now c.self.inside.sheets c.args.sheet entry c.as_slice.ensures.sheets c.in-Some.ensures.lookup.0 c.in-Some.ensures.lookup.1 in
-    let found = ap (λ (m : ModelState). slice_get m.book.sheets c.args.sheet) (sym c.self.view_is) ∙ slice_get-map sheet_of c.self.inside.sheets c.args.sheet ∙ ap (option_map sheet_of) there in
+    let there = at_index c.as_slice.result.now c.self.inside.contents.sheets c.args.sheet entry c.as_slice.ensures.sheets c.in-Some.ensures.lookup.0 c.in-Some.ensures.lookup.1 in
+    let found = ap (λ (m : ModelState). slice_get m.book.sheets c.args.sheet) (sym c.self.view_is) ∙ slice_get-map sheet_of c.self.inside.contents.sheets c.args.sheet ∙ ap (option_map sheet_of) there in
     subst (TellsOnly c.style_in.result)
     (ap (λ (p : CellPlace). first_refusal (value_causes entry.grid p)) (stored_pair c.args.row c.args.column c.ranges.row c.ranges.column) ∙ sym (ap (value_refusal_in place) found))
     c.style_in.ensures.refused
@@ -27,6 +27,6 @@ returns-in-None-clause-refused c =
     let place : CellPlace = (c.args.row, c.args.column) in
     let none =
     subst (λ (m : ModelState). slice_get m.book.sheets c.args.sheet ≡ None) c.self.view_is
-    (not_held c.self.inside.about c.self.inside.sheets c.self.inside.definitions c.self.inside.locale.now c.self.inside.language.now c.self.inside.tables.now c.self.invariant c.args.sheet
+    (not_held c.self.inside c.self.invariant c.args.sheet
     (subst (λ ws. length ws ≤ c.args.sheet) c.as_slice.ensures.sheets (past_end c.args.sheet (length c.as_slice.result.now) c.in-None.ensures.lookup.0))) in
     (InvalidSheet, refl, ap (value_refusal_in place) none)

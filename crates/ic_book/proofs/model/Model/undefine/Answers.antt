@@ -14,22 +14,22 @@ returns-in_default-index_of-clause-refused c =
 
 pub returns-in_err-delete_at-clause-refused : goal.returns-in_err-delete_at-clause-refused
 returns-in_err-delete_at-clause-refused c =
-    subst (Refuses c.from_residual.result) (sym (it_goes c.self.inside.about c.self.inside.sheets c.self.inside.definitions c.self.inside.locale.now c.self.inside.language.now c.self.inside.tables.now c.self.invariant c.args.self.now c.self.view_is (chars c.args.name.now) c.args.scope c.in-Some.id (sym c.scope_id.ensures ∙ c.in-Some.is) c.in-Some-index_of.index (sym c.index_of.ensures ∙ c.in-Some-index_of.is))) (no_memory c.from_residual.result c.from_residual.ensures)
+    subst (Refuses c.from_residual.result) (sym (it_goes c.self.inside c.self.invariant c.args.self.now c.self.view_is (chars c.args.name.now) c.args.scope c.in-Some.id (sym c.scope_id.ensures ∙ c.in-Some.is) c.in-Some-index_of.index (sym c.index_of.ensures ∙ c.in-Some-index_of.is))) (no_memory c.from_residual.result c.from_residual.ensures)
 
 pub invariant_of-self-2 : goal.invariant_of-self-2
-invariant_of-self-2 c = undefined_held c.self.inside.about c.self.inside.sheets c.self.inside.definitions c.self.inside.locale.now c.self.inside.language.now c.self.inside.tables.now c.self.invariant c.args.self.now c.self.view_is (chars c.args.name.now) c.args.scope c.in-Some.id (sym c.scope_id.ensures ∙ c.in-Some.is) c.in-Some-index_of.index (sym c.index_of.ensures ∙ c.in-Some-index_of.is) c.delete_at.new.sheets c.delete_at.new.definitions c.in_ok-delete_at.ensures.sheets c.in_ok-delete_at.ensures.definitions
+invariant_of-self-2 c = undefined_held c.self.inside c.self.invariant c.args.self.now c.self.view_is (chars c.args.name.now) c.args.scope c.in-Some.id (sym c.scope_id.ensures ∙ c.in-Some.is) c.in-Some-index_of.index (sym c.index_of.ensures ∙ c.in-Some-index_of.is) c.delete_at.new.contents.sheets c.delete_at.new.contents.definitions c.in_ok-delete_at.ensures.sheets c.in_ok-delete_at.ensures.definitions
 
 pub returns-clause-ok : goal.returns-clause-ok
-returns-clause-ok c = undefined_book c.self.inside.about c.self.inside.sheets c.self.inside.definitions c.self.inside.locale.now c.self.inside.language.now c.self.inside.tables.now c.self.invariant c.args.self.now c.self.view_is (chars c.args.name.now) c.args.scope c.in-Some.id (sym c.scope_id.ensures ∙ c.in-Some.is) c.in-Some-index_of.index (sym c.index_of.ensures ∙ c.in-Some-index_of.is) c.delete_at.new.sheets c.delete_at.new.definitions c.in_ok-delete_at.ensures.sheets c.in_ok-delete_at.ensures.definitions
+returns-clause-ok c = undefined_book c.self.inside c.self.invariant c.args.self.now c.self.view_is (chars c.args.name.now) c.args.scope c.in-Some.id (sym c.scope_id.ensures ∙ c.in-Some.is) c.in-Some-index_of.index (sym c.index_of.ensures ∙ c.in-Some-index_of.is) c.delete_at.new.contents.sheets c.delete_at.new.contents.definitions c.in_ok-delete_at.ensures.sheets c.in_ok-delete_at.ensures.definitions
 
 pub returns-clause-core : goal.returns-clause-core
-returns-clause-core c = undefined_core c.self.inside.about c.self.inside.sheets c.self.inside.definitions c.self.inside.locale.now c.self.inside.language.now c.self.inside.tables.now c.self.invariant c.args.self.now c.self.view_is (chars c.args.name.now) c.args.scope c.in-Some.id (sym c.scope_id.ensures ∙ c.in-Some.is) c.in-Some-index_of.index (sym c.index_of.ensures ∙ c.in-Some-index_of.is) c.delete_at.new.sheets c.delete_at.new.definitions c.in_ok-delete_at.ensures.sheets c.in_ok-delete_at.ensures.definitions
+returns-clause-core c = undefined_core c.self.inside c.self.invariant c.args.self.now c.self.view_is (chars c.args.name.now) c.args.scope c.in-Some.id (sym c.scope_id.ensures ∙ c.in-Some.is) c.in-Some-index_of.index (sym c.index_of.ensures ∙ c.in-Some-index_of.is) c.delete_at.new.contents.sheets c.delete_at.new.contents.definitions c.in_ok-delete_at.ensures.sheets c.in_ok-delete_at.ensures.definitions
 
 pub returns-clause-dangles : goal.returns-clause-dangles
-returns-clause-dangles c = undefined_dangles c.self.inside.about c.self.inside.sheets c.self.inside.definitions c.self.inside.locale.now c.self.inside.language.now c.self.inside.tables.now c.self.invariant c.args.self.now c.self.view_is (chars c.args.name.now) c.args.scope c.in-Some.id (sym c.scope_id.ensures ∙ c.in-Some.is) c.in-Some-index_of.index (sym c.index_of.ensures ∙ c.in-Some-index_of.is) c.delete_at.new.sheets c.delete_at.new.definitions c.in_ok-delete_at.ensures.sheets c.in_ok-delete_at.ensures.definitions
+returns-clause-dangles c = undefined_dangles c.self.inside c.self.invariant c.args.self.now c.self.view_is (chars c.args.name.now) c.args.scope c.in-Some.id (sym c.scope_id.ensures ∙ c.in-Some.is) c.in-Some-index_of.index (sym c.index_of.ensures ∙ c.in-Some-index_of.is) c.delete_at.new.contents.sheets c.delete_at.new.contents.definitions c.in_ok-delete_at.ensures.sheets c.in_ok-delete_at.ensures.definitions
 
 pub returns-clause-refused : goal.returns-clause-refused
-returns-clause-refused c = it_goes c.self.inside.about c.self.inside.sheets c.self.inside.definitions c.self.inside.locale.now c.self.inside.language.now c.self.inside.tables.now c.self.invariant c.args.self.now c.self.view_is (chars c.args.name.now) c.args.scope c.in-Some.id (sym c.scope_id.ensures ∙ c.in-Some.is) c.in-Some-index_of.index (sym c.index_of.ensures ∙ c.in-Some-index_of.is)
+returns-clause-refused c = it_goes c.self.inside c.self.invariant c.args.self.now c.self.view_is (chars c.args.name.now) c.args.scope c.in-Some.id (sym c.scope_id.ensures ∙ c.in-Some.is) c.in-Some-index_of.index (sym c.index_of.ensures ∙ c.in-Some-index_of.is)
 
 pub returns-clause-looks_up : goal.returns-clause-looks_up
-returns-clause-looks_up c = undefined_looks_up c.self.inside.about c.self.inside.sheets c.self.inside.definitions c.self.inside.locale.now c.self.inside.language.now c.self.inside.tables.now c.self.invariant c.args.self.now c.self.view_is (chars c.args.name.now) c.args.scope c.in-Some.id (sym c.scope_id.ensures ∙ c.in-Some.is) c.in-Some-index_of.index (sym c.index_of.ensures ∙ c.in-Some-index_of.is) c.delete_at.new.sheets c.in_ok-delete_at.ensures.looks_up
+returns-clause-looks_up c = undefined_looks_up c.self.inside c.self.invariant c.args.self.now c.self.view_is (chars c.args.name.now) c.args.scope c.in-Some.id (sym c.scope_id.ensures ∙ c.in-Some.is) c.in-Some-index_of.index (sym c.index_of.ensures ∙ c.in-Some-index_of.is) c.delete_at.new.contents.sheets c.in_ok-delete_at.ensures.looks_up

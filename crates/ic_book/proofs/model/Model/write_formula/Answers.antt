@@ -10,11 +10,12 @@ use Rattle.ic_machine.specs.subjects.Writing.{unquoted}
 use Rattle.ic_sheets.proofs.CellLemmas.{stored_pair}
 use Rattle.ic_sheets.specs.Sheet.{Sheet, TakesCell, formula_cell, sheet_of, with_cell_in}
 use Rattle.ic_sheets.specs.declared.sheet.Sheet.{Sheet as HeldSheet}
+use Rattle.ic_tables.specs.Tables.{TableSet}
 use Rattle.ic_book.specs.Book.{ModelState, core_of, notations_in}
-use Rattle.ic_book.specs.Inside.{held, held_state}
+use Rattle.ic_book.specs.Inside.{held, held_state, with_sheets, with_styles}
 use Rattle.ic_book.specs.LookUps.{LooksUpAsBefore}
 use Rattle.ic_book.specs.Values.{Shows, shown_style}
-use Rattle.ic_book.specs.Written.{WritesFormula, value_refusal}
+use Rattle.ic_book.specs.Written.{WritesFormula, kind_of, value_refusal}
 use Rattle.ic_book.proofs.GridLemmas.{taken_back}
 use Rattle.ic_book.proofs.HeldLemmas.{book_again, clear_at, entry_at, held_again, is_within, style_within, takes_there, whole_at, whole_updated, written, written_held}
 use Rattle.ic_book.proofs.LookUpLemmas.{look_ups_left}
@@ -29,11 +30,11 @@ without_quote-requires c =
     let cell = stored_pair c.args.row c.args.column c.ranges.row c.ranges.column in
     let none = ap (λ (m : ModelState). value_refusal m.book sheet c.args.row c.args.column) c.self.view_is ∙ refusal_there c.args.self.now.book sheet c.args.row c.args.column _ (stored_pair c.args.row c.args.column c.ranges.row c.ranges.column) None c.in_ok-shown.ensures.refused in
     let entry = c.index-as_slice-sheet.result in
-    let there = entry_at c.self.inside.about c.self.inside.sheets c.self.inside.definitions c.self.inside.locale.now c.self.inside.language.now c.self.inside.tables.now c.self.invariant sheet place none c.as_slice.result.now entry c.as_slice.ensures.sheets c.index-as_slice-sheet.is in
+    let there = entry_at c.self.inside c.self.invariant sheet place none c.as_slice.result.now entry c.as_slice.ensures.sheets c.index-as_slice-sheet.is in
     let shown =
-    subst (λ o. IfSome o (λ (s : Sheet). c.in_ok-shown.shown ≡ shown_style s c.args.row c.args.column)) (slice_get-map sheet_of c.self.inside.sheets sheet ∙ ap (option_map sheet_of) there)
+    subst (λ o. IfSome o (λ (s : Sheet). c.in_ok-shown.shown ≡ shown_style s c.args.row c.args.column)) (slice_get-map sheet_of c.self.inside.contents.sheets sheet ∙ ap (option_map sheet_of) there)
     (subst (λ (m : ModelState). Shows m.book sheet c.args.row c.args.column c.in_ok-shown.shown) (sym c.self.view_is) (shows_there c.args.self.now.book sheet c.args.row c.args.column c.in_ok-shown.shown _ (stored_pair c.args.row c.args.column c.ranges.row c.ranges.column) c.in_ok-shown.ensures.shows)) in
-    subst (λ k. k < length c.self.inside.about.styles) (sym shown) (style_within c.self.inside.about c.self.inside.sheets c.self.inside.definitions c.self.inside.locale.now c.self.inside.language.now c.self.inside.tables.now c.self.invariant sheet place entry there)
+    subst (λ k. k < length c.self.inside.lists.styles) (sym shown) (style_within c.self.inside c.self.invariant sheet place entry there)
 
 pub write-requires-clause-within : goal.write-requires-clause-within
 write-requires-clause-within c =
@@ -42,7 +43,7 @@ write-requires-clause-within c =
     let body = chars c.args.body.now in
     let cell = stored_pair c.args.row c.args.column c.ranges.row c.ranges.column in
     let none = ap (λ (m : ModelState). value_refusal m.book sheet c.args.row c.args.column) c.self.view_is ∙ refusal_there c.args.self.now.book sheet c.args.row c.args.column _ (stored_pair c.args.row c.args.column c.ranges.row c.ranges.column) None c.in_ok-shown.ensures.refused in
-    is_within c.self.inside.about c.self.inside.sheets c.self.inside.definitions c.self.inside.locale.now c.self.inside.language.now c.self.inside.tables.now c.self.invariant sheet place none
+    is_within c.self.inside c.self.invariant sheet place none
 
 pub write-requires-clause-takes : goal.write-requires-clause-takes
 write-requires-clause-takes c =
@@ -52,9 +53,9 @@ write-requires-clause-takes c =
     let cell = stored_pair c.args.row c.args.column c.ranges.row c.ranges.column in
     let none = ap (λ (m : ModelState). value_refusal m.book sheet c.args.row c.args.column) c.self.view_is ∙ refusal_there c.args.self.now.book sheet c.args.row c.args.column _ (stored_pair c.args.row c.args.column c.ranges.row c.ranges.column) None c.in_ok-shown.ensures.refused in
     let entry = c.index-as_slice-sheet.result in
-    let there = entry_at c.self.inside.about c.self.inside.sheets c.self.inside.definitions c.self.inside.locale.now c.self.inside.language.now c.self.inside.tables.now c.self.invariant sheet place none c.as_slice.result.now entry c.as_slice.ensures.sheets c.index-as_slice-sheet.is in
-    subst (λ (p : CellPlace). IfSome (slice_get c.self.inside.sheets sheet) (λ (s : HeldSheet). TakesCell p s.grid)) (sym cell)
-    (takes_there c.self.inside.about c.self.inside.sheets c.self.inside.definitions c.self.inside.locale.now c.self.inside.language.now c.self.inside.tables.now c.self.invariant sheet place none entry there)
+    let there = entry_at c.self.inside c.self.invariant sheet place none c.as_slice.result.now entry c.as_slice.ensures.sheets c.index-as_slice-sheet.is in
+    subst (λ (p : CellPlace). IfSome (slice_get c.self.inside.contents.sheets sheet) (λ (s : HeldSheet). TakesCell p s.grid)) (sym cell)
+    (takes_there c.self.inside c.self.invariant sheet place none entry there)
 
 pub invariant_of-self-in-Ok : goal.invariant_of-self-in-Ok
 invariant_of-self-in-Ok c =
@@ -64,12 +65,12 @@ invariant_of-self-in-Ok c =
     let cell = stored_pair c.args.row c.args.column c.ranges.row c.ranges.column in
     let none = ap (λ (m : ModelState). value_refusal m.book sheet c.args.row c.args.column) c.self.view_is ∙ refusal_there c.args.self.now.book sheet c.args.row c.args.column _ (stored_pair c.args.row c.args.column c.ranges.row c.ranges.column) None c.in_ok-shown.ensures.refused in
     let entry = c.index-as_slice-sheet.result in
-    let there = entry_at c.self.inside.about c.self.inside.sheets c.self.inside.definitions c.self.inside.locale.now c.self.inside.language.now c.self.inside.tables.now c.self.invariant sheet place none c.as_slice.result.now entry c.as_slice.ensures.sheets c.index-as_slice-sheet.is in
+    let there = entry_at c.self.inside c.self.invariant sheet place none c.as_slice.result.now entry c.as_slice.ensures.sheets c.index-as_slice-sheet.is in
     let shown =
-    subst (λ o. IfSome o (λ (s : Sheet). c.in_ok-shown.shown ≡ shown_style s c.args.row c.args.column)) (slice_get-map sheet_of c.self.inside.sheets sheet ∙ ap (option_map sheet_of) there)
+    subst (λ o. IfSome o (λ (s : Sheet). c.in_ok-shown.shown ≡ shown_style s c.args.row c.args.column)) (slice_get-map sheet_of c.self.inside.contents.sheets sheet ∙ ap (option_map sheet_of) there)
     (subst (λ (m : ModelState). Shows m.book sheet c.args.row c.args.column c.in_ok-shown.shown) (sym c.self.view_is) (shows_there c.args.self.now.book sheet c.args.row c.args.column c.in_ok-shown.shown _ (stored_pair c.args.row c.args.column c.ranges.row c.ranges.column) c.in_ok-shown.ensures.shows)) in
     let book = c.args.self.now.book in
-    let styles = c.self.inside.about.styles in
+    let styles = c.self.inside.lists.styles in
     let pool = c.in-Ok.ensures.ok.0 in
     let k = c.in-Ok.ensures.ok.1 in
     let kind = c.kind_of-kind.result in
@@ -82,9 +83,9 @@ invariant_of-self-in-Ok c =
     let styled = c.in_ok-style.ensures.styles ∙ ap (λ k. (restyled unquoted k styles).styles) shown in
     let after =
     c.in-Ok.ensures.ok.3
-    ∙ ap (λ (p : CellPlace). updated_at (λ (s : HeldSheet). record s { pool = record { formulas = pool; is_whole = true }; grid = with_cell_in p (formula_cell kind k number) s.grid }) sheet c.self.inside.sheets) cell in
-    written_held c.self.inside.about c.self.inside.sheets c.self.inside.definitions c.self.inside.locale.now c.self.inside.language.now c.self.inside.tables.now c.self.invariant c.write.new.self sheet entry there place body c.in_ok-formula.formula kind number c.without_quote.new.styles k pool c.in-Ok.ensures.ok.2 is c.kind_of-kind.ensures numbered styled after
-    (clear_at c.self.inside.about c.self.inside.sheets c.self.inside.definitions c.self.inside.locale.now c.self.inside.language.now c.self.inside.tables.now c.self.invariant sheet place none entry there)
+    ∙ ap (λ (p : CellPlace). updated_at (λ (s : HeldSheet). record s { pool = record { formulas = pool; is_whole = true }; grid = with_cell_in p (formula_cell kind k number) s.grid }) sheet c.self.inside.contents.sheets) cell in
+    written_held c.self.inside c.self.invariant c.write.new.self sheet entry there place body c.in_ok-formula.formula kind number c.without_quote.new.styles k pool c.in-Ok.ensures.ok.2 is (c.kind_of-kind.ensures ∙ ap (λ (t : TableSet). kind_of t.kinds c.in_ok-formula.formula) c.tables.ensures) numbered styled after
+    (clear_at c.self.inside c.self.invariant sheet place none entry there)
 
 pub returns-in-Ok-clause-written : goal.returns-in-Ok-clause-written
 returns-in-Ok-clause-written c =
@@ -94,12 +95,12 @@ returns-in-Ok-clause-written c =
     let cell = stored_pair c.args.row c.args.column c.ranges.row c.ranges.column in
     let none = ap (λ (m : ModelState). value_refusal m.book sheet c.args.row c.args.column) c.self.view_is ∙ refusal_there c.args.self.now.book sheet c.args.row c.args.column _ (stored_pair c.args.row c.args.column c.ranges.row c.ranges.column) None c.in_ok-shown.ensures.refused in
     let entry = c.index-as_slice-sheet.result in
-    let there = entry_at c.self.inside.about c.self.inside.sheets c.self.inside.definitions c.self.inside.locale.now c.self.inside.language.now c.self.inside.tables.now c.self.invariant sheet place none c.as_slice.result.now entry c.as_slice.ensures.sheets c.index-as_slice-sheet.is in
+    let there = entry_at c.self.inside c.self.invariant sheet place none c.as_slice.result.now entry c.as_slice.ensures.sheets c.index-as_slice-sheet.is in
     let shown =
-    subst (λ o. IfSome o (λ (s : Sheet). c.in_ok-shown.shown ≡ shown_style s c.args.row c.args.column)) (slice_get-map sheet_of c.self.inside.sheets sheet ∙ ap (option_map sheet_of) there)
+    subst (λ o. IfSome o (λ (s : Sheet). c.in_ok-shown.shown ≡ shown_style s c.args.row c.args.column)) (slice_get-map sheet_of c.self.inside.contents.sheets sheet ∙ ap (option_map sheet_of) there)
     (subst (λ (m : ModelState). Shows m.book sheet c.args.row c.args.column c.in_ok-shown.shown) (sym c.self.view_is) (shows_there c.args.self.now.book sheet c.args.row c.args.column c.in_ok-shown.shown _ (stored_pair c.args.row c.args.column c.ranges.row c.ranges.column) c.in_ok-shown.ensures.shows)) in
     let book = c.args.self.now.book in
-    let styles = c.self.inside.about.styles in
+    let styles = c.self.inside.lists.styles in
     let pool = c.in-Ok.ensures.ok.0 in
     let k = c.in-Ok.ensures.ok.1 in
     let kind = c.kind_of-kind.result in
@@ -112,16 +113,16 @@ returns-in-Ok-clause-written c =
     let styled = c.in_ok-style.ensures.styles ∙ ap (λ k. (restyled unquoted k styles).styles) shown in
     let after =
     c.in-Ok.ensures.ok.3
-    ∙ ap (λ (p : CellPlace). updated_at (λ (s : HeldSheet). record s { pool = record { formulas = pool; is_whole = true }; grid = with_cell_in p (formula_cell kind k number) s.grid }) sheet c.self.inside.sheets) cell in
-    let now = held c.self.inside.about c.self.inside.sheets c.self.inside.definitions c.self.inside.locale.now c.self.inside.language.now c.self.inside.tables.now in
-    let new = held (record c.self.inside.about { styles = c.without_quote.new.styles }) c.write.new.self c.self.inside.definitions c.self.inside.locale.now c.self.inside.language.now c.self.inside.tables.now in
+    ∙ ap (λ (p : CellPlace). updated_at (λ (s : HeldSheet). record s { pool = record { formulas = pool; is_whole = true }; grid = with_cell_in p (formula_cell kind k number) s.grid }) sheet c.self.inside.contents.sheets) cell in
+    let now = held c.self.inside in
+    let new = held (with_styles c.without_quote.new.styles (with_sheets c.write.new.self c.self.inside)) in
     subst (λ (m : ModelState). IfSome (slice_get m.book.sheets sheet) (λ s. WritesFormula sheet s place body m.book new)) c.self.view_is
-    (subst (λ o. IfSome o (λ (s : Sheet). WritesFormula sheet s place body now new)) (sym (slice_get-map sheet_of c.self.inside.sheets sheet ∙ ap (option_map sheet_of) there))
-    (written c.self.inside.about c.self.inside.sheets c.self.inside.definitions c.self.inside.locale.now c.self.inside.language.now c.self.inside.tables.now c.self.invariant c.write.new.self sheet entry there place body c.in_ok-formula.formula kind number c.without_quote.new.styles k pool c.in-Ok.ensures.ok.2 is c.kind_of-kind.ensures numbered styled after))
+    (subst (λ o. IfSome o (λ (s : Sheet). WritesFormula sheet s place body now new)) (sym (slice_get-map sheet_of c.self.inside.contents.sheets sheet ∙ ap (option_map sheet_of) there))
+    (written c.self.inside c.self.invariant c.write.new.self sheet entry there place body c.in_ok-formula.formula kind number c.without_quote.new.styles k pool c.in-Ok.ensures.ok.2 is (c.kind_of-kind.ensures ∙ ap (λ (t : TableSet). kind_of t.kinds c.in_ok-formula.formula) c.tables.ensures) numbered styled after))
 
 pub returns-in-Ok-clause-looks_up : goal.returns-in-Ok-clause-looks_up
 returns-in-Ok-clause-looks_up c =
-    ap (map (λ (s : HeldSheet). s.pool.is_whole)) c.in-Ok.ensures.ok.3 ∙ whole_updated _ (λ s. refl) c.args.sheet c.self.inside.sheets ∙ ap (λ (m : ModelState). updated_at (λ b. true) c.args.sheet m.has_all) c.self.view_is
+    ap (map (λ (s : HeldSheet). s.pool.is_whole)) c.in-Ok.ensures.ok.3 ∙ whole_updated _ (λ s. refl) c.args.sheet c.self.inside.contents.sheets ∙ ap (λ (m : ModelState). updated_at (λ b. true) c.args.sheet m.has_all) c.self.view_is
 
 pub returns-in-Ok-clause-whole : goal.returns-in-Ok-clause-whole
 returns-in-Ok-clause-whole c =
@@ -131,21 +132,21 @@ returns-in-Ok-clause-whole c =
     let cell = stored_pair c.args.row c.args.column c.ranges.row c.ranges.column in
     let none = ap (λ (m : ModelState). value_refusal m.book sheet c.args.row c.args.column) c.self.view_is ∙ refusal_there c.args.self.now.book sheet c.args.row c.args.column _ (stored_pair c.args.row c.args.column c.ranges.row c.ranges.column) None c.in_ok-shown.ensures.refused in
     let entry = c.index-as_slice-sheet.result in
-    let there = entry_at c.self.inside.about c.self.inside.sheets c.self.inside.definitions c.self.inside.locale.now c.self.inside.language.now c.self.inside.tables.now c.self.invariant sheet place none c.as_slice.result.now entry c.as_slice.ensures.sheets c.index-as_slice-sheet.is in
-    ap (λ (ws : List HeldSheet). slice_get (map (λ (s : HeldSheet). s.pool.is_whole) ws) sheet) c.in-Ok.ensures.ok.3 ∙ whole_at _ (λ s. refl) sheet c.self.inside.sheets entry there
+    let there = entry_at c.self.inside c.self.invariant sheet place none c.as_slice.result.now entry c.as_slice.ensures.sheets c.index-as_slice-sheet.is in
+    ap (λ (ws : List HeldSheet). slice_get (map (λ (s : HeldSheet). s.pool.is_whole) ws) sheet) c.in-Ok.ensures.ok.3 ∙ whole_at _ (λ s. refl) sheet c.self.inside.contents.sheets entry there
 
 pub invariant_of-self-in-Err : goal.invariant_of-self-in-Err
 invariant_of-self-in-Err c =
-    let same = c.truncate.ensures ∙ ap₂ (λ (n : ℕ) (xs : List Style). take n xs) c.len-count.ensures.exact c.in_ok-style.ensures.styles ∙ taken_back c.self.inside.about.styles c.in_ok-shown.shown in
-    held_again c.self.inside.about c.self.inside.sheets c.self.inside.definitions c.self.inside.locale.now c.self.inside.language.now c.self.inside.tables.now c.self.invariant c.truncate.new.self c.write.new.self same c.in-Err.ensures.err
+    let same = c.truncate.ensures ∙ ap₂ (λ (n : ℕ) (xs : List Style). take n xs) c.len-count.ensures.exact c.in_ok-style.ensures.styles ∙ taken_back c.self.inside.lists.styles c.in_ok-shown.shown in
+    held_again c.self.inside c.self.invariant c.truncate.new.self c.write.new.self same c.in-Err.ensures.err
 
 pub returns-in-Err-clause-err : goal.returns-in-Err-clause-err
 returns-in-Err-clause-err c =
-    let same = c.truncate.ensures ∙ ap₂ (λ (n : ℕ) (xs : List Style). take n xs) c.len-count.ensures.exact c.in_ok-style.ensures.styles ∙ taken_back c.self.inside.about.styles c.in_ok-shown.shown in
-    book_again c.self.inside.about c.self.inside.sheets c.self.inside.definitions c.self.inside.locale.now c.self.inside.language.now c.self.inside.tables.now c.self.invariant c.truncate.new.self c.write.new.self same c.in-Err.ensures.err
+    let same = c.truncate.ensures ∙ ap₂ (λ (n : ℕ) (xs : List Style). take n xs) c.len-count.ensures.exact c.in_ok-style.ensures.styles ∙ taken_back c.self.inside.lists.styles c.in_ok-shown.shown in
+    book_again c.self.inside c.self.invariant c.truncate.new.self c.write.new.self same c.in-Err.ensures.err
     ∙ ap (λ (m : ModelState). m.book) c.self.view_is
 
 pub returns-in-Err-clause-left : goal.returns-in-Err-clause-left
 returns-in-Err-clause-left c =
-    subst (λ (m : ModelState). LooksUpAsBefore c.args.sheet m (held_state (record c.self.inside.about { styles = c.truncate.new.self }) c.write.new.self c.self.inside.definitions c.self.inside.locale.now c.self.inside.language.now c.self.inside.tables.now)) c.self.view_is
-    (look_ups_left c.args.sheet c.self.inside.sheets c.write.new.self c.in-Err.ensures.looks_up)
+    subst (λ (m : ModelState). LooksUpAsBefore c.args.sheet m (held_state (with_styles c.truncate.new.self (with_sheets c.write.new.self c.self.inside)))) c.self.view_is
+    (look_ups_left c.args.sheet c.self.inside.contents.sheets c.write.new.self c.in-Err.ensures.looks_up)
