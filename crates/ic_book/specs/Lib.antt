@@ -19,4 +19,5 @@ pub mod Shown
 pub mod Styled
 pub mod Values
 pub mod Whole
+pub mod Workbook
 pub mod Written

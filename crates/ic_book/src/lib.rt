@@ -11,6 +11,7 @@
 mod about;
 mod cells;
 mod content;
+mod copies;
 mod definitions;
 mod error;
 mod extend;
@@ -34,8 +35,10 @@ mod styles;
 mod tab;
 mod tabs;
 mod values;
+mod workbook;
 
 pub use error::BookError;
 pub use ic_pool::Steps;
 pub use law::law_whole_book;
 pub use model::Model;
+pub use workbook::{APPLICATION, APP_VERSION, IRONCALC_USER};
