@@ -4,6 +4,7 @@ pub mod BookLemmas
 pub mod BookValid
 pub mod CellReads
 pub mod ChangeLemmas
+pub mod CopyLemmas
 pub mod DoesLemmas
 pub mod ExtendLemmas
 pub mod FormatLemmas
@@ -38,4 +39,5 @@ pub mod TypedSteps
 pub mod ValueLemmas
 pub mod WholeLemmas
 pub mod WholeWritten
+pub mod WorkbookLemmas
 pub mod WrittenLemmas

@@ -1,10 +1,10 @@
 //! Copies of plain records and of what they hold. Only memory can be missing.
-ghost use Rattle.std.specs.Prelude.{◌≡◌, IfOk};
+ghost use Rattle.std.specs.Prelude.{◌≡◌, IfOk, OnOk};
+ghost use Rattle.std.specs.FinMap as finite;
 
 use ic_cells::{Cell, FormulaValue, LineMap, Merge, PlaceMap, SpillValue, Styles};
 use ic_laws::{Items, OutOfMemory, Text};
 use std::alloc::Global;
-use std::collections::BTreeMap;
 
 /// A copy of a text.
 pub(crate) fn copy_text(alloc: Global, text: &Text) -> Result<Text, OutOfMemory>
@@ -103,10 +103,23 @@ pub(crate) fn copy_cells(
     ensures { IfOk result (λ copies. copies ≡ cells.now) }
 {
     let mut out = PlaceMap::new(alloc);
-    for ((row, column), cell) in cells.as_map() {
-        out.insert(*row, *column, copy_cell(alloc, cell)?)?;
+    for (place, cell) in cells.as_map().iter() {
+        put_copy(alloc, &mut out, *place, cell)?;
     }
     Ok(out)
+}
+
+/// Puts a copy of a cell at a place.
+fn put_copy(
+    alloc: Global,
+    cells: &mut PlaceMap<Cell>,
+    place: (i32, i32),
+    cell: &Cell,
+) -> Result<(), OutOfMemory>
+    ensures { OnOk result (cells.new ≡ finite.insert cells.old place cell.now) }
+{
+    cells.insert(place.0, place.1, copy_cell(alloc, cell)?)?;
+    Ok(())
 }
 
 /// A copy of what was set for the rows or the columns of a sheet.
@@ -117,10 +130,22 @@ pub(crate) fn copy_lines<T: Copy + Drop>(
     ensures { IfOk result (λ copies. copies ≡ lines.now) }
 {
     let mut out = LineMap::new(alloc);
-    for (number, props) in lines.as_map() {
-        out.insert(*number, *props)?;
+    for (number, props) in lines.as_map().iter() {
+        put_line(&mut out, number, *props)?;
     }
     Ok(out)
+}
+
+/// Puts what was set for a row or a column at its number.
+fn put_line<T: Copy + Drop>(
+    lines: &mut LineMap<T>,
+    number: &i32,
+    props: T,
+) -> Result<(), OutOfMemory>
+    ensures { OnOk result (lines.new ≡ finite.insert lines.old number.now props) }
+{
+    lines.insert(*number, props)?;
+    Ok(())
 }
 
 /// A copy of the styles of a book.

@@ -1,5 +1,6 @@
 //! A book as the plain records of a workbook.
-ghost use Rattle.std.specs.Prelude.{◌≡◌, IfOk, None, chars, map, string_bytes};
+ghost use Rattle.std.specs.Prelude.{◌≡◌, [], ◌∷◌, IfOk, None, chars, if◌then◌else◌, map};
+ghost use Rattle.ic_laws.specs.Character.{equals};
 ghost use Rattle.ic_sheets.specs.Sheet.{sheet_of};
 ghost use Rattle.ic_book.specs.Book.{metadata_made, notations_in, scene_in};
 ghost use Rattle.ic_book.specs.Refused.{Refuses};
@@ -100,7 +101,7 @@ impl<'a> Model<'a> {
             ≡ body_text self.now.book definition.now.has_equals definition.now.body) }
     {
         let body = self.body_in_english(definition.body())?;
-        let sign = if definition.has_equals() { "=" } else { "" };
+        let sign = sign_of(definition.has_equals());
         Ok(Text::from(after_sign(self.alloc, sign, body.as_str())?))
     }
 
@@ -125,7 +126,7 @@ impl<'a> Model<'a> {
 
     /// The record of a sheet.
     fn worksheet(&self, sheet: &Sheet) -> Result<Worksheet, OutOfMemory>
-        ensures { IfOk result (λ record. record
+        ensures { IfOk result (λ made. made
             ≡ worksheet_of self.now.book (sheet_of sheet.now)) }
     {
         let alloc = self.alloc;
@@ -198,6 +199,13 @@ fn text_in<D: Dialect, N: Finder>(
         }
         Formula::Raw(text) => Ok(Text::from(after_sign(alloc, ")", text.as_str())?)),
     }
+}
+
+/// The equals sign of a body that was typed with one, and nothing for another.
+fn sign_of(has_equals: bool) -> &'static str
+    ensures { chars result.now ≡ (if has_equals then equals ∷ [] else []) }
+{
+    if has_equals { "=" } else { "" }
 }
 
 /// The settings of a workbook.
