@@ -25,12 +25,15 @@ text_in d scene (formulas.Raw text) = codes ")" ++ text
 abbrev pub stored_text : Book → Formula → List ℕ
 stored_text book formula = stored_formula (notations_in book) (scene_in book) formula
 
--- the text of a definition's body: in English, for the cell at row 1 and column 1, with the `=` that it was typed with
+-- the text of a definition's body: in English, for the cell at row 1 and column 1; and with the `=` that it was typed with
 abbrev pub body_in_english : Book → Formula → List ℕ
 body_in_english book body = text_in (in_english book.tables (pos 1) (pos 1)) (scene_in book) body
 
+abbrev pub sign_of : Bool → List ℕ
+sign_of has_equals = if has_equals then equals ∷ [] else []
+
 abbrev pub body_text : Book → Bool → Formula → List ℕ
-body_text book has_equals body = (if has_equals then equals ∷ [] else []) ++ body_in_english book body
+body_text book has_equals body = sign_of has_equals ++ body_in_english book body
 
 abbrev pub defined_name_of : Book → Definition → DefinedName
 defined_name_of book definition = record { name = definition.name; formula = body_text book definition.has_equals definition.body; sheet_id = definition.scope }

@@ -136,7 +136,7 @@ pub(crate) fn copy_lines<T: Copy + Drop>(
     Ok(out)
 }
 
-/// Puts what was set for a row or a column at its number.
+/// Puts what was set for a row or a column at its number, which a map lends.
 fn put_line<T: Copy + Drop>(
     lines: &mut LineMap<T>,
     number: &i32,

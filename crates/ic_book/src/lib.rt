@@ -41,4 +41,4 @@ pub use error::BookError;
 pub use ic_pool::Steps;
 pub use law::law_whole_book;
 pub use model::Model;
-pub use workbook::{APPLICATION, APP_VERSION, IRONCALC_USER};
+pub use workbook::{APP_VERSION, APPLICATION, IRONCALC_USER};

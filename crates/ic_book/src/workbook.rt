@@ -1,10 +1,9 @@
 //! A book as the plain records of a workbook.
-ghost use Rattle.std.specs.Prelude.{◌≡◌, [], ◌∷◌, IfOk, None, chars, if◌then◌else◌, map};
-ghost use Rattle.ic_laws.specs.Character.{equals};
+ghost use Rattle.std.specs.Prelude.{◌≡◌, IfOk, None, chars, map};
 ghost use Rattle.ic_sheets.specs.Sheet.{sheet_of};
-ghost use Rattle.ic_book.specs.Book.{metadata_made, notations_in, scene_in};
+ghost use Rattle.ic_book.specs.Book.{metadata_made, notations_in};
 ghost use Rattle.ic_book.specs.Refused.{Refuses};
-ghost use Rattle.ic_book.specs.Workbook.{body_in_english, body_text, defined_name_of, stored_text, text_in, workbook_of, worksheet_of};
+ghost use Rattle.ic_book.specs.Workbook.{body_in_english, body_text, defined_name_of, sign_of, stored_text, text_in, workbook_of, worksheet_of};
 
 use crate::copies::{copy_cells, copy_lines, copy_merges, copy_styles, copy_text, copy_texts};
 use crate::formulas::after_sign;
@@ -203,7 +202,7 @@ fn text_in<D: Dialect, N: Finder>(
 
 /// The equals sign of a body that was typed with one, and nothing for another.
 fn sign_of(has_equals: bool) -> &'static str
-    ensures { chars result.now ≡ (if has_equals then equals ∷ [] else []) }
+    ensures { chars result.now ≡ sign_of has_equals }
 {
     if has_equals { "=" } else { "" }
 }

@@ -1,4 +1,4 @@
-use Rattle.std.proofs.Common.{sym, ap, ap₂, ◌∙◌}
+use Rattle.std.proofs.Common.{◌∙◌}
 use Rattle.ic_laws.proofs.core.CellWritten.{place_cmp_total, place_tied}
 use Rattle.ic_book.proofs.CopyLemmas.{inserted_all, inserted_last, inserted_next}
 use Rattle.ic_book.proofs.copies.copy_cells.Goals as goal

@@ -1,8 +1,5 @@
-use Rattle.std.proofs.Common.{◌≡◌, ◌+◌, ◌<◌, ◌∙◌, Option, Some, None, ap, length, subst, sym, take}
-use Rattle.std.specs.List.{slice_get}
+use Rattle.std.proofs.Common.{◌≡◌, ◌+◌, ◌<◌, ◌∙◌, ap, subst, sym, take}
 use Rattle.std.specs.Option.{option_copied}
-use Rattle.ic_cells.specs.Listed.{IsPlaced}
-use Rattle.ic_cells.specs.declared.style.Style.{Style}
 use Rattle.ic_book.proofs.CopyLemmas.{next_style, within}
 use Rattle.ic_book.proofs.copies.copy_styles.Goals as goal
 use Rattle.ic_book.proofs.copies.copy_styles.Goals.{in-Some+in_ok-get_style_index_or_create, in_default}

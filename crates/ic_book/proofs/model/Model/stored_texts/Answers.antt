@@ -1,5 +1,4 @@
-use Rattle.std.proofs.Common.{◌≡◌, ◌+◌, ◌<◌, ◌∙◌, Option, None, Some, ap, map, option_map, subst, sym, take}
-use Rattle.ic_laws.specs.declared.tree.Formula.{Formula}
+use Rattle.std.proofs.Common.{◌≡◌, ◌+◌, ◌<◌, ◌∙◌, ap, map, option_map, subst, sym, take}
 use Rattle.ic_book.specs.Workbook.{stored_text}
 use Rattle.ic_book.proofs.CopyLemmas.{next_mapped, within}
 use Rattle.ic_book.proofs.model.Model.stored_texts.Goals as goal
