@@ -11,6 +11,7 @@ pub mod FormatLemmas
 pub mod GoneNames
 pub mod GridLemmas
 pub mod GridPartLemmas
+pub mod HandedInLemmas
 pub mod HeldLemmas
 pub mod InForceLemmas
 pub mod LineLemmas
@@ -36,6 +37,7 @@ pub mod StyleLemmas
 pub mod StyleSetLemmas
 pub mod TypedLemmas
 pub mod TypedSteps
+pub mod UnreadLemmas
 pub mod ValueLemmas
 pub mod WholeLemmas
 pub mod WholeWritten

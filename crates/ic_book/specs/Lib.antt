@@ -5,6 +5,7 @@ pub mod Definitions
 pub mod Does
 pub mod Extended
 pub mod Fields
+pub mod HandedIn
 pub mod Inside
 pub mod LookUps
 pub mod Markup
