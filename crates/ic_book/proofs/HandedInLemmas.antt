@@ -169,3 +169,51 @@ module _ (book : Book) (valid : IsValidBook book) where
   -- so the records stand for the whole book
   pub read_back : book_of taken book.language book.tables ≡ whole_of book
   read_back = ap₂ (λ (sheets : List machine.Sheet) (definitions : List Definition). record (whole_of book) { sheets = sheets; definitions = definitions }) (sheets_back book.sheets (pools_valid book valid)) (definitions_back book.definitions bodies_kept)
+
+  -- and meet each condition
+  inside : (functions : Notations) (scene : Scene) (scope : Option ℕ) (row column : ℤ) (formula : Formula) → IsKeptFormula functions scene scope row column formula → RefersInside row column formula
+  inside functions scene scope row column (formulas.Tree t) h =
+      every_both (LiesWhere functions (IsPlaceInside row column)) (λ pair. Unit {0}) (LiesWhere functions (IsPlaceInside row column)) (λ pair. Unit {0}) (IsReferenceInside row column) (λ pair. Unit {0})
+      (λ kind a b. by_kind kind a) (λ pair a b. tt) t h.parts h.parts
+    where
+      by_kind : (kind : Kind SheetMention NameMention) → LiesWhere functions (IsPlaceInside row column) kind → IsReferenceInside row column kind
+      by_kind (one.Reference sheet place) h = h
+      by_kind kind h = tt
+  inside functions scene scope row column (formulas.Raw text) h = tt
+
+  formulas_there : (functions : Notations) (scene : Scene) (s : machine.Sheet) → valid_machine.HasCellFormulas functions scene s → HasFormulas s
+  formulas_there functions scene s h = λ place content e. at place (formula_index content) (h place content e)
+    where
+      at : (place : CellPlace) (index : Option ℕ) → valid_machine.HasFormula functions scene s place index → HasFormulaAt s.pool place index
+      at place None h = tt
+      at place (Some index) h = (h.0, inside functions scene (Some s.id) place.0 place.1 (formula_in s.pool index) h.1)
+
+  texts_there : HasTexts taken book.tables
+  texts_there = record {
+    sheets = all_mapped (λ (s : Worksheet). AllByRecursion (λ text. IsFormula (sheet_formula taken book.tables s.sheet_id text)) s.shared_formulas) (worksheet_of book) book.sheets
+        (all_of (IsValidPool n (scene_in book)) (λ (s : Sheet). AllByRecursion (λ text. IsFormula (sheet_formula taken book.tables s.id text)) (map (stored_text book) s.pool))
+        (λ s h. all_mapped (λ text. IsFormula (sheet_formula taken book.tables s.id text)) (stored_text book) s.pool
+        (all_of (IsPooled n (scene_in book) (Some s.id)) (λ formula. IsFormula (sheet_formula taken book.tables s.id (stored_text book formula))) (λ formula kept. formula_there _ formula (sheet_back s.id formula kept)) s.pool h.formulas))
+        book.sheets (pools_valid book valid));
+    bodies = all_mapped (λ (name : DefinedName). IsFormula (body_formula taken book.tables name.sheet_id name.formula)) (defined_name_of book) book.definitions
+        (all_of (IsKeptBody n (scene_in book)) (λ (d : Definition). IsFormula (body_formula taken book.tables d.scope (body_text book d.has_equals d.body))) (λ d kept. formula_there _ d.body (body_back d kept)) book.definitions bodies_kept);
+  }
+
+  back : (P : machine.Book → Type 0) → P (whole_of book) → P (book_of taken book.language book.tables)
+  back P h = subst P (sym read_back) h
+
+  pub meets_all : MeetsAll taken book.language book.tables
+  meets_all SheetCount = back valid_machine.HasSheets valid.whole.sheets
+  meets_all SheetNames = back valid_machine.HasSheetNames valid.whole.sheet_names
+  meets_all SheetIds = back valid_machine.HasSheetIds valid.whole.sheet_ids
+  meets_all Definitions = back valid_machine.HasDefinitions valid.whole.definitions
+  meets_all Texts = texts_there
+  meets_all Places = back valid_machine.HoldsInSheet valid.whole.inside
+  meets_all Formulas =
+      back (λ (b : machine.Book). AllByRecursion HasFormulas b.sheets)
+      (all_of (valid_machine.HasCellFormulas n (machine.scene_in (whole_of book))) HasFormulas (formulas_there n (machine.scene_in (whole_of book))) (whole_of book).sheets valid.whole.formulas)
+  meets_all Strings = all_mapped (HasStrings (length book.strings)) (worksheet_of book) book.sheets valid.strings
+  meets_all Styles = back valid_machine.HasStyles valid.whole.styles
+  meets_all Arrays = back valid_machine.HasArrays valid.whole.arrays
+  meets_all Merges = back valid_machine.HasMerges valid.whole.merges
+  meets_all Layout = back (λ (b : machine.Book). AllByRecursion valid_machine.HasLayout b.sheets) valid.whole.layout

@@ -1,6 +1,6 @@
 ghost use Rattle.std.specs.Prelude.{◌≡◌};
 ghost use Rattle.ic_book.specs.Book.{Book, IsValidBook, whole_of};
-ghost use Rattle.ic_book.specs.HandedIn.{book_of};
+ghost use Rattle.ic_book.specs.HandedIn.{MeetsAll, book_of};
 ghost use Rattle.ic_book.specs.Whole.{HasCore};
 ghost use Rattle.ic_book.specs.Workbook.{workbook_of};
 
@@ -9,8 +9,11 @@ pub fn law_whole_book()
     ensures { HasCore }
 {}
 
-/// What `workbook` gives of a book stands for the same whole book.
+/// What `workbook` gives of a book meets the twelve conditions that are asked of a workbook which is handed in, and stands
+/// for the same whole book.
 pub fn law_workbook()
+    ensures meets { (book : Book) → IsValidBook book
+        → MeetsAll (workbook_of book) book.language book.tables }
     ensures stands { (book : Book) → IsValidBook book
         → book_of (workbook_of book) book.language book.tables ≡ whole_of book }
 {}
