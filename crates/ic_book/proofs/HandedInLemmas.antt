@@ -3,20 +3,18 @@ use Rattle.std.proofs.Common.{◌≡◌, ◌∙◌, ◌++◌, ◌==◌, ℕ, ℤ
 use Rattle.std.proofs.lemmas.Slice.Eq.{bytes_eq-Decides}
 use Rattle.std.specs.List.{AllByRecursion}
 use Rattle.std.specs.Option.{option_or}
-use Rattle.std.specs.Prelude.{codes, option_and_then}
+use Rattle.std.specs.Prelude.{option_and_then}
 use Rattle.ic_laws.specs.Binding.{bound, spelled}
 use Rattle.ic_laws.specs.Character.{equals}
 use Rattle.ic_laws.specs.CoreBook.{CellPlace, Definition, Sheet as CoreSheet, spelling_of}
 use Rattle.ic_laws.specs.Dialect.{DialectMeaning, IsLawful}
 use Rattle.ic_laws.specs.FormulaReading.{without_equals}
-use Rattle.ic_laws.specs.Notations.{AreNotations, Notations, english, english_function}
+use Rattle.ic_laws.specs.Notations.{Notations, english, english_function}
 use Rattle.ic_laws.specs.ReadAs.{read_as}
 use Rattle.ic_laws.specs.Reading.{printed}
 use Rattle.ic_laws.specs.Scan.{first_is}
-use Rattle.ic_laws.specs.Scene.{past_front}
 use Rattle.ic_laws.specs.Tree.{Bound, Kind, Spelled}
-use Rattle.ic_laws.specs.ValidCore.{IsKept, IsKeptBody, IsKeptFormula, IsPlaceInside, IsPooled, LiesWhere}
-use Rattle.ic_laws.specs.declared.reference.Place.{Place}
+use Rattle.ic_laws.specs.ValidCore.{IsKeptBody, IsKeptFormula, IsPlaceInside, IsPooled, LiesWhere}
 use Rattle.ic_laws.specs.declared.scene.NameSpelling.{NameSpelling}
 use Rattle.ic_laws.specs.declared.scene.Scene.{Scene}
 use Rattle.ic_laws.specs.declared.scene.SheetName.{SheetName}
@@ -28,20 +26,18 @@ use Rattle.ic_laws.specs.declared.tree.Tree.TheOpen as one
 use Rattle.ic_laws.proofs.core.Named.{book_named}
 use Rattle.ic_laws.proofs.kept.Everywhere.{every_both}
 use Rattle.ic_laws.proofs.kept.Written.{stored_text_binds}
-use Rattle.ic_tables.specs.Tables.{TableSet}
-use Rattle.ic_cells.specs.declared.cell.Cell.{Cell}
 use Rattle.ic_cells.specs.declared.sheet.Worksheet.{Worksheet}
 use Rattle.ic_cells.specs.declared.workbook.DefinedName.{DefinedName}
 use Rattle.ic_cells.specs.declared.workbook.Workbook.{Workbook}
 use Rattle.ic_tree.proofs.ClashLemmas.{english_binds}
-use Rattle.ic_tree.specs.Notations.{in_english, notations_of}
+use Rattle.ic_tree.specs.Notations.{in_english}
 use Rattle.ic_machine.proofs.ValidLemmas.{all_of}
 use Rattle.ic_machine.specs.Book as machine
-use Rattle.ic_machine.specs.Content.{Content, content_of, formula_in, formula_index}
+use Rattle.ic_machine.specs.Content.{formula_in, formula_index}
 use Rattle.ic_machine.specs.Valid as valid_machine
 use Rattle.ic_sheets.specs.Sheet.{IsValidPool, Sheet, sheet_core}
 use Rattle.ic_book.specs.Book.{Book, IsValidBook, core_of, notations_in, scene_in, whole_grid, whole_of, whole_sheet, whole_tab}
-use Rattle.ic_book.specs.HandedIn.{Arrays, Condition, Definitions, Formulas, HasFormulaAt, HasFormulas, HasStrings, HasTexts, IsFormula, IsReferenceInside, Layout, Meets, MeetsAll, Merges, Places, RefersInside, SheetCount, SheetIds, SheetNames, Strings, Styles, Texts, body_formula, book_of, definition_of, formula_of, formula_or_none, formula_read, if_own, scene_of, sheet_formula, sheet_of}
+use Rattle.ic_book.specs.HandedIn.{Arrays, Definitions, Formulas, HasFormulaAt, HasFormulas, HasStrings, HasTexts, IsFormula, IsReferenceInside, Layout, MeetsAll, Merges, Places, RefersInside, SheetCount, SheetIds, SheetNames, Strings, Styles, Texts, body_formula, book_of, definition_of, formula_of, formula_or_none, if_own, scene_of, sheet_formula, sheet_of}
 use Rattle.ic_book.specs.Workbook.{body_in_english, body_text, defined_name_of, sign_of, stored_text, text_in, workbook_of, worksheet_of}
 use Rattle.ic_book.proofs.BookValid.{core_valid, notations, pools_valid}
 use Rattle.ic_book.proofs.UnreadLemmas.{all_without_equals, not_past_bracket, unclosed, unequal}
@@ -84,7 +80,7 @@ module _ (d : DialectMeaning) (n : IsLawful d) (functions : List ℕ → Option 
 
 -- lists ----
 
-all_mapped : {X Y : Type 0} (P : Y → Type 0) (f : X → Y) (xs : List X) → AllByRecursion (λ x. P (f x)) xs → AllByRecursion P (map f xs)
+pub all_mapped : {X Y : Type 0} (P : Y → Type 0) (f : X → Y) (xs : List X) → AllByRecursion (λ x. P (f x)) xs → AllByRecursion P (map f xs)
 all_mapped P f [] h = tt
 all_mapped P f (x ∷ xs) h = (h.0, all_mapped P f xs h.1)
 

@@ -1,4 +1,5 @@
 pub mod Accepted
+pub mod AcceptedWorkbook
 pub mod AddedNames
 pub mod BookLemmas
 pub mod BookValid

@@ -1,5 +1,5 @@
 -- No formula begins with a closing bracket or with an equals sign.
-use Rattle.std.proofs.Common.{◌≡◌, ◌∙◌, ℕ, zero, suc, ◌+◌, ◌<◌, ◌==◌, List, [], ◌∷◌, length, Bool, true, false, Option, Some, None, if◌then◌else◌, inl, inr, option_map, refl, sym, ap, ap₂, ◌||◌, arith}
+use Rattle.std.proofs.Common.{◌≡◌, ◌∙◌, ℕ, zero, suc, ◌+◌, ◌<◌, ◌==◌, List, [], ◌∷◌, length, Bool, true, false, Some, None, if◌then◌else◌, refl, sym, ap, ap₂, ◌||◌, arith}
 use Rattle.std.proofs.lemmas.Bool.Decides.{Decides-eqb}
 use Rattle.std.specs.Prelude.{codes}
 use Rattle.ic_laws.specs.Character.{equals}
@@ -10,7 +10,7 @@ use Rattle.ic_laws.specs.ReadAs.{read_as}
 use Rattle.ic_laws.specs.Scan.{first_is}
 use Rattle.ic_laws.specs.Scene.{past_front}
 use Rattle.ic_laws.specs.Token.{Token, Operator}
-use Rattle.ic_laws.specs.TokenKinds.{one_at, token_by_kinds, two_at}
+use Rattle.ic_laws.specs.TokenKinds.{token_by_kinds}
 use Rattle.ic_laws.specs.Tree.{Spelled}
 use Rattle.ic_laws.specs.declared.tree.BinarySign.TheVariants as signs
 use Rattle.ic_laws.proofs.printing.Signs.{eqb_swap, mark_begins_none, not_decimal, two_none}

@@ -1,6 +1,6 @@
 -- A workbook that is handed in as plain records: the whole book that the records stand for, and the twelve conditions that
 -- they must meet. Texts that are numbered stand in the book as themselves.
-use Rattle.std.specs.Prelude.{◌≡◌, ◌<◌, ℕ, ℤ, pos, List, [], ◌∷◌, map, length, Bool, true, not, Option, Some, None, is_none, option_map, option_and_then, codes, bytes_eq, if◌then◌else◌, ◌==◌}
+use Rattle.std.specs.Prelude.{◌≡◌, ◌<◌, ℕ, ℤ, pos, List, [], ◌∷◌, map, length, true, not, Option, Some, None, is_none, option_map, option_and_then, codes, bytes_eq, if◌then◌else◌, ◌==◌}
 use Rattle.std.specs.FinMap as finite
 use Rattle.std.specs.List.{AllByRecursion}
 use Rattle.std.specs.Option.{option_or, unwrap_or}

@@ -39,6 +39,6 @@ mod workbook;
 
 pub use error::BookError;
 pub use ic_pool::Steps;
-pub use law::{law_whole_book, law_workbook};
+pub use law::{law_handed_in, law_whole_book, law_workbook};
 pub use model::Model;
 pub use workbook::{APP_VERSION, APPLICATION, IRONCALC_USER};

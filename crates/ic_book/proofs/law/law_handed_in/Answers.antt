@@ -1,0 +1,5 @@
+use Rattle.ic_book.proofs.AcceptedWorkbook.{accepted_valid}
+use Rattle.ic_book.proofs.law.law_handed_in.Goals as goal
+
+pub returns : goal.returns
+returns c = accepted_valid
