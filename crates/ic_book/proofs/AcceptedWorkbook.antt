@@ -1,10 +1,10 @@
 -- A workbook that meets what is asked of it stands for a valid book.
-use Rattle.std.proofs.Common.{◌≡◌, ◌∙◌, ◌<◌, ℕ, zero, suc, ℤ, pos, List, [], ◌∷◌, map, length, Bool, true, false, not, Option, Some, None, is_none, is_some, option_map, refl, sym, ap, ap₂, subst, if◌then◌else◌, arith}
+use Rattle.std.proofs.Common.{◌≡◌, ◌∙◌, ◌<◌, ℕ, zero, suc, ℤ, pos, List, [], ◌∷◌, map, length, Bool, true, false, not, Option, Some, None, is_none, is_some, option_map, refl, sym, ap, ap₂, subst, arith, if◌then◌else◌}
 use Rattle.std.specs.List.{AllByRecursion, IsDistinct}
 use Rattle.std.specs.Option.{option_or}
 use Rattle.std.specs.Prelude.{bytes_eq, codes, option_and_then}
 use Rattle.ic_laws.specs.Binding.{bound}
-use Rattle.ic_laws.specs.CoreBook.{CellPlace, CoreBook, Definition, Sheet as CoreSheet, spelling_of}
+use Rattle.ic_laws.specs.CoreBook.{CellPlace, Sheet as CoreSheet, spelling_of}
 use Rattle.ic_laws.specs.Dialect.{DialectMeaning}
 use Rattle.ic_laws.specs.FormulaReading.{without_equals}
 use Rattle.ic_laws.specs.Name.{agrees}
@@ -15,9 +15,8 @@ use Rattle.ic_laws.specs.Refusal.{Refusal, InvalidLocale, InvalidLanguage, Inval
 use Rattle.ic_laws.specs.Scene.{SheetsDiffer, past_front}
 use Rattle.ic_laws.specs.Token.{FunHead, Ref, Spells, Token}
 use Rattle.ic_laws.specs.Tree.{Kind, Spelled}
-use Rattle.ic_laws.specs.ValidCore.{IsKept, IsKeptBody, IsKeptFormula, IsKeptWhere, IsPlaceInside, IsPooled, LiesWhere}
+use Rattle.ic_laws.specs.ValidCore.{IsKeptBody, IsKeptFormula, IsPlaceInside, IsPooled, LiesWhere}
 use Rattle.ic_laws.specs.Yield.{yield}
-use Rattle.ic_laws.specs.declared.reference.Place.{Place}
 use Rattle.ic_laws.specs.declared.scene.NameSpelling.{NameSpelling}
 use Rattle.ic_laws.specs.declared.scene.Scene.{Scene}
 use Rattle.ic_laws.specs.declared.scene.SheetName.{SheetName}
@@ -41,7 +40,7 @@ use Rattle.ic_machine.specs.Book as machine
 use Rattle.ic_machine.specs.Book.{core_sheet}
 use Rattle.ic_machine.specs.Content.{formula_in, formula_index}
 use Rattle.ic_machine.specs.Valid as valid_machine
-use Rattle.ic_book.specs.HandedIn.{Arrays, Definitions, Formulas, HasFormulaAt, HasFormulas, IsFormula, IsReferenceInside, Layout, MeetsAll, Merges, Places, RefersInside, SheetCount, SheetIds, SheetNames, Styles, Texts, body_formula, book_of, definition_of, formula_of, formula_or_none, formula_read, if_own, notation_refusal, scene_of, sheet_formula, sheet_of}
+use Rattle.ic_book.specs.HandedIn.{Arrays, Definitions, Formulas, HasFormulaAt, HasFormulas, IsFormula, IsReferenceInside, Layout, MeetsAll, Merges, Places, RefersInside, SheetCount, SheetIds, SheetNames, Styles, Texts, body_formula, book_of, definition_of, formula_of, formula_or_none, if_own, notation_refusal, scene_of, sheet_formula, sheet_of}
 use Rattle.ic_book.specs.Workbook.{text_in}
 use Rattle.ic_book.proofs.HandedInLemmas.{all_mapped}
 
@@ -66,7 +65,7 @@ module _ (d : DialectMeaning) (functions : List ℕ → Option ℕ) (scene : Sce
       by_front None (Some t) reads e = subst P (own_is (formulas.Tree (bound functions scene scope t)) formula e) (tree t reads)
       by_front None None reads e = cc
 
-formula_here : (o : Option Formula) → IsFormula o → (formula : Formula) × (o ≡ Some formula)
+pub formula_here : (o : Option Formula) → IsFormula o → (formula : Formula) × (o ≡ Some formula)
 formula_here None h = absurd h
 formula_here (Some formula) h = (formula, refl)
 
@@ -156,7 +155,7 @@ module _ (w : Workbook) (language : List ℕ) (tables : TableSet) where
   names_spelled [] = refl
   names_spelled (d ∷ names) = ap (λ (rest : List NameSpelling). let spelling : NameSpelling = record { name = d.name; scope = d.sheet_id } in spelling ∷ rest) (names_spelled names)
 
-  same_scene : machine.scene_in book ≡ scene_of w
+  pub same_scene : machine.scene_in book ≡ scene_of w
   same_scene = ap₂ (λ (sheets : List SheetName) (names : List NameSpelling). let scene : Scene = record { sheets = sheets; names = names } in scene) (sheets_named w.worksheets) (names_spelled w.defined_names)
 
   same_names : (sheets : List Worksheet) → map (λ (m : SheetName). m.name) (map (λ (s : Worksheet). let named : SheetName = record { id = s.sheet_id; name = s.name } in named) sheets)

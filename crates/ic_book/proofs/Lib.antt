@@ -29,6 +29,7 @@ pub mod PartUses
 pub mod ReadLemmas
 pub mod ReferenceLemmas
 pub mod RetypedLemmas
+pub mod SameTexts
 pub mod SettingLemmas
 pub mod SharedLemmas
 pub mod ShownLemmas

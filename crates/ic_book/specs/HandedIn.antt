@@ -166,7 +166,7 @@ HasStrings count s = (place : CellPlace) (cell : Cell) → finite.get s.cells pl
 -- The conditions in the order in which they are asked for: how many sheets there are; their names; their ids; the names and
 -- the scopes of definitions; the texts of formulas; the places of cells; the formulas, the shared strings and the styles
 -- that are told by their indexes; arrays; merged cells; what stays in sight, and which rows and columns something was set
--- for.
+-- for. That no style stands twice is asked of no workbook, since it always holds of its list of styles.
 pub data Condition : Type 0 where
   SheetCount : Condition
   SheetNames : Condition
@@ -221,3 +221,9 @@ module _ (w : Workbook) (language : List ℕ) (tables : TableSet) where
     pub numbered : number_of condition ≡ number
     pub broken : Meets condition → ⊥
     pub before : (other : Condition) → number_of other < number → Meets other
+
+-- Two workbooks have the same texts of formulas, those of sheets in their order and those of definitions with their names
+-- and scopes.
+pub record HaveSameTexts (one other : Workbook) : Type 0 where
+  pub sheets : map (λ (s : Worksheet). s.shared_formulas) one.worksheets ≡ map (λ (s : Worksheet). s.shared_formulas) other.worksheets
+  pub definitions : one.defined_names ≡ other.defined_names
