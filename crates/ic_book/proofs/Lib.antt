@@ -1,15 +1,18 @@
 pub mod Accepted
+pub mod AcceptedWorkbook
 pub mod AddedNames
 pub mod BookLemmas
 pub mod BookValid
 pub mod CellReads
 pub mod ChangeLemmas
+pub mod CopyLemmas
 pub mod DoesLemmas
 pub mod ExtendLemmas
 pub mod FormatLemmas
 pub mod GoneNames
 pub mod GridLemmas
 pub mod GridPartLemmas
+pub mod HandedInLemmas
 pub mod HeldLemmas
 pub mod InForceLemmas
 pub mod LineLemmas
@@ -26,6 +29,7 @@ pub mod PartUses
 pub mod ReadLemmas
 pub mod ReferenceLemmas
 pub mod RetypedLemmas
+pub mod SameTexts
 pub mod SettingLemmas
 pub mod SharedLemmas
 pub mod ShownLemmas
@@ -35,7 +39,9 @@ pub mod StyleLemmas
 pub mod StyleSetLemmas
 pub mod TypedLemmas
 pub mod TypedSteps
+pub mod UnreadLemmas
 pub mod ValueLemmas
 pub mod WholeLemmas
 pub mod WholeWritten
+pub mod WorkbookLemmas
 pub mod WrittenLemmas

@@ -5,6 +5,7 @@ pub mod Definitions
 pub mod Does
 pub mod Extended
 pub mod Fields
+pub mod HandedIn
 pub mod Inside
 pub mod LookUps
 pub mod Markup
@@ -19,4 +20,5 @@ pub mod Shown
 pub mod Styled
 pub mod Values
 pub mod Whole
+pub mod Workbook
 pub mod Written

@@ -146,7 +146,7 @@ impl<'a> Model<'a> {
     }
 
     /// How formulas are written in English in the cell at a row and a column.
-    fn english_at(&self, row: i32, column: i32) -> Shown<'a>
+    pub(crate) fn english_at(&self, row: i32, column: i32) -> Shown<'a>
         ensures { ⟦<Shown<'a> as Dialect>⟧.meaning result ≡
             (notations_in self.now.book).shown english english row column }
     {

@@ -1,0 +1,7 @@
+use Rattle.std.proofs.Common.{ap, ◌∙◌}
+use Rattle.ic_tree.proofs.NotationLaws.{stored_notation}
+use Rattle.ic_book.specs.Book.{ModelState, notations_in}
+use Rattle.ic_book.proofs.model.Model.stored_form.Goals as goal
+
+pub returns : goal.returns
+returns c = stored_notation c.self.inside.tables.now _ c.new.ensures ∙ ap (λ (m : ModelState). (notations_in m.book).stored) c.self.view_is
