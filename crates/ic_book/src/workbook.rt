@@ -49,14 +49,14 @@ impl<'a> Model<'a> {
     {
         let alloc = self.alloc;
         let about = &self.about;
-        let settings = settings_with(alloc, about.zone, &self.locale.id)?;
+        let settings = settings_with(alloc, about.zone, &self.notation.locale().id)?;
         let metadata = metadata_made(alloc, &about.created)?;
         let name = copy_text(alloc, &about.name)?;
         let theme = copy_text(alloc, &about.theme)?;
-        let styles = copy_styles(alloc, &about.styles)?;
-        let shared_strings = copy_texts(alloc, about.strings.as_items().as_slice())?;
-        let defined_names = self.defined_names(self.definitions.as_slice())?;
-        let worksheets = self.worksheets(self.sheets.as_slice())?;
+        let styles = copy_styles(alloc, &self.lists.styles)?;
+        let shared_strings = copy_texts(alloc, self.lists.strings.as_items().as_slice())?;
+        let defined_names = self.defined_names(self.contents.definitions.as_slice())?;
+        let worksheets = self.worksheets(self.contents.sheets.as_slice())?;
         Ok(Workbook {
             name,
             shared_strings,
@@ -177,7 +177,7 @@ impl<'a> Model<'a> {
     fn stored_form(&self) -> Stored<'a>
         ensures { ⟦<Stored<'a> as Dialect>⟧.meaning result ≡ (notations_in self.now.book).stored }
     {
-        Stored::new(self.tables)
+        Stored::new(self.notation.tables())
     }
 }
 
