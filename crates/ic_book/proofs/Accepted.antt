@@ -2,7 +2,7 @@
 use Rattle.std.proofs.Common.{◌≡◌, ℕ, List, [], ◌∷◌, not, Option, None, Ok, ap}
 use Rattle.ic_laws.specs.Command.{AddSheet, DeleteDefinedName, DeleteSheet, MoveSheet, NewDefinedName, RenameSheetByIndex, SetLanguage, SetLocale}
 use Rattle.ic_laws.specs.CoreBook.{CoreBook}
-use Rattle.ic_laws.specs.CoreStep.{add_sheet_refusal, changed_by, core_step, delete_name_refusal, delete_refusal, index_of_definition, move_refusal, moved, new_name_refusal, scope_or_none, with_new_name, without_definition, rename_refusal, unless_refused, with_new_sheet, with_sheet_name, without_sheet}
+use Rattle.ic_laws.specs.CoreStep.{add_sheet_refusal, changed_by, core_step, delete_definition_refusal, delete_refusal, index_of_definition, move_refusal, moved, new_definition_refusal, scope_or_none, with_new_definition, without_definition, rename_refusal, unless_refused, with_new_sheet, with_sheet_name, without_sheet}
 use Rattle.ic_laws.specs.FormulaReading.{body_of}
 use Rattle.ic_laws.specs.Notations.{Notations}
 use Rattle.ic_laws.specs.Refusal.{InvalidLanguage, InvalidLocale, first_refusal}
@@ -16,15 +16,15 @@ module _ (n : Notations) (core : CoreBook) where
   unfolding core_step
   rename_accepted index name e = ap (λ r. unless_refused r (changed_by n (with_sheet_name index name) core) []) e
 
-  pub new_name_accepted : (name : List ℕ) (index : Option ℕ) (text : List ℕ) → new_name_refusal n core name index text ≡ None
-      → core_step n core (NewDefinedName name index text) ≡ Ok (with_new_name n core name (scope_or_none core index) (body_of n core text), [])
+  pub new_definition_accepted : (name : List ℕ) (index : Option ℕ) (text : List ℕ) → new_definition_refusal n core name index text ≡ None
+      → core_step n core (NewDefinedName name index text) ≡ Ok (with_new_definition n core name (scope_or_none core index) (body_of n core text), [])
   unfolding core_step
-  new_name_accepted name index text e = ap (λ r. unless_refused r (with_new_name n core name (scope_or_none core index) (body_of n core text)) []) e
+  new_definition_accepted name index text e = ap (λ r. unless_refused r (with_new_definition n core name (scope_or_none core index) (body_of n core text)) []) e
 
-  pub delete_name_accepted : (name : List ℕ) (index : Option ℕ) → delete_name_refusal core name index ≡ None
+  pub delete_definition_accepted : (name : List ℕ) (index : Option ℕ) → delete_definition_refusal core name index ≡ None
       → core_step n core (DeleteDefinedName name index) ≡ Ok (changed_by n (without_definition (index_of_definition core name (scope_or_none core index))) core, [])
   unfolding core_step
-  delete_name_accepted name index e = ap (λ r. unless_refused r (changed_by n (without_definition (index_of_definition core name (scope_or_none core index))) core) []) e
+  delete_definition_accepted name index e = ap (λ r. unless_refused r (changed_by n (without_definition (index_of_definition core name (scope_or_none core index))) core) []) e
 
   pub move_accepted : (from to : ℕ) → move_refusal core from to ≡ None → core_step n core (MoveSheet from to) ≡ Ok (record core { sheets = moved from to core.sheets }, [])
   unfolding core_step

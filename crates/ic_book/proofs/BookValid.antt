@@ -8,7 +8,7 @@ use Rattle.ic_laws.proofs.core.Lists.{all_pushed, all_removed, all_updated}
 use Rattle.ic_laws.specs.Command.{AddSheet, Command, DeleteDefinedName, DeleteSheet, MoveSheet, NewDefinedName, RenameSheetByIndex, SetLanguage, SetLocale}
 use Rattle.ic_laws.specs.CoreBook.{CellPlace, CoreBook, Definition, greatest_id}
 use Rattle.ic_laws.specs.CoreStep as core_step
-use Rattle.ic_laws.specs.CoreStep.{add_sheet_refusal, delete_name_refusal, delete_refusal, index_of_definition, move_refusal, new_definition, new_name_refusal, rename_refusal, scope_or_none, updated_at}
+use Rattle.ic_laws.specs.CoreStep.{add_sheet_refusal, delete_definition_refusal, delete_refusal, index_of_definition, move_refusal, new_definition, new_definition_refusal, rename_refusal, scope_or_none, updated_at}
 use Rattle.ic_laws.specs.FormulaReading.{Body, body_of}
 use Rattle.ic_laws.specs.Notations.{AreNotations, Notations}
 use Rattle.ic_laws.specs.Refusal.{InvalidLanguage, InvalidLocale, first_refusal}
@@ -30,7 +30,7 @@ use Rattle.ic_machine.specs.Kept.{StaysValid}
 use Rattle.ic_machine.specs.Valid as valid_machine
 use Rattle.ic_machine.specs.Valid.{HasCellFormulas, HasFormula, IsKeptPool}
 use Rattle.ic_machine.specs.subjects.Definitions as definitions
-use Rattle.ic_machine.specs.subjects.Definitions.{delete_name_step, new_name_step, with_new_name}
+use Rattle.ic_machine.specs.subjects.Definitions.{delete_definition_step, new_definition_step, with_new_definition}
 use Rattle.ic_machine.specs.subjects.Notation as notation
 use Rattle.ic_machine.specs.subjects.Notation.{set_language_step, set_locale_step}
 use Rattle.ic_machine.specs.subjects.Sheets as sheets
@@ -42,7 +42,7 @@ use Rattle.ic_tree.proofs.NotationLaws.{notations_are}
 use Rattle.ic_book.specs.Book.{Book, HasStrings, IsPlain, IsValidBook, core_of, notations_in, scene_in, whole_of, whole_sheet}
 use Rattle.ic_book.specs.Change.{book_changed_by, with_added_definition, with_added_sheet, with_kept_pools, with_language, with_locale, with_moved_sheet, with_removed_definition, with_removed_sheet, with_renamed_sheet}
 use Rattle.ic_book.specs.Written.{with_pool}
-use Rattle.ic_book.proofs.Accepted.{add_accepted, delete_accepted, delete_name_accepted, language_accepted, locale_accepted, move_accepted, new_name_accepted, rename_accepted}
+use Rattle.ic_book.proofs.Accepted.{add_accepted, delete_accepted, delete_definition_accepted, language_accepted, locale_accepted, move_accepted, new_definition_accepted, rename_accepted}
 use Rattle.ic_book.proofs.WholeLemmas.{index_seen, whole_added, whole_changed, whole_core, whole_defined, whole_moved, whole_removed, whole_renamed, whole_scene, whole_undefined}
 use Rattle.ic_book.proofs.WrittenLemmas.{updated_alike}
 
@@ -157,14 +157,14 @@ module _ (book : Book) (valid : IsValidBook book) where
 
   -- definitions ----
 
-  named_whole : (name : List ℕ) (index : Option ℕ) (text : List ℕ) (body : Body) → new_name_refusal n core name index text ≡ None → body_of n core text ≡ Some body
-      → valid_machine.IsValidBook (with_new_name whole name (scope_or_none core index) (Some body))
-  unfolding new_name_step
+  named_whole : (name : List ℕ) (index : Option ℕ) (text : List ℕ) (body : Body) → new_definition_refusal n core name index text ≡ None → body_of n core text ≡ Some body
+      → valid_machine.IsValidBook (with_new_definition whole name (scope_or_none core index) (Some body))
+  unfolding new_definition_step
   named_whole name index text body e typed =
-      subst valid_machine.IsValidBook (ap (λ (c : CoreBook). with_new_name whole name (scope_or_none c index) (body_of n c text)) (whole_core book) ∙ ap (with_new_name whole name (scope_or_none core index)) typed)
-      (lifted_valid (NewDefinedName name index text) _ _ (new_name_accepted n core name index text e) (definitions_stay whole valid.whole (definitions.NewDefinedName name index text)))
+      subst valid_machine.IsValidBook (ap (λ (c : CoreBook). with_new_definition whole name (scope_or_none c index) (body_of n c text)) (whole_core book) ∙ ap (with_new_definition whole name (scope_or_none core index)) typed)
+      (lifted_valid (NewDefinedName name index text) _ _ (new_definition_accepted n core name index text e) (definitions_stay whole valid.whole (definitions.NewDefinedName name index text)))
 
-  pub defined_valid : (name : List ℕ) (index : Option ℕ) (text : List ℕ) (body : Body) → new_name_refusal n core name index text ≡ None → body_of n core text ≡ Some body
+  pub defined_valid : (name : List ℕ) (index : Option ℕ) (text : List ℕ) (body : Body) → new_definition_refusal n core name index text ≡ None → body_of n core text ≡ Some body
       → IsValidBook (book_changed_by (with_added_definition (new_definition n core name (scope_or_none core index) body)) book)
   defined_valid name index text body e typed =
       let new : Definition = new_definition n core name (scope_or_none core index) body in
@@ -180,14 +180,14 @@ module _ (book : Book) (valid : IsValidBook book) where
         plain = grids_kept IsPlain n (scene_in book) after book.sheets valid.plain;
       }
 
-  unnamed_whole : (name : List ℕ) (index : Option ℕ) (at : ℕ) → delete_name_refusal core name index ≡ None → index_of_definition core name (scope_or_none core index) ≡ Some at
+  unnamed_whole : (name : List ℕ) (index : Option ℕ) (at : ℕ) → delete_definition_refusal core name index ≡ None → index_of_definition core name (scope_or_none core index) ≡ Some at
       → valid_machine.IsValidBook (changed.changed_by (changed.without_definition (Some at)) whole)
-  unfolding delete_name_step
+  unfolding delete_definition_step
   unnamed_whole name index at e found =
       subst valid_machine.IsValidBook (ap (λ (o : Option ℕ). changed.changed_by (changed.without_definition o) whole) (ap (λ (c : CoreBook). index_of_definition c name (scope_or_none c index)) (whole_core book) ∙ found))
-      (lifted_valid (DeleteDefinedName name index) _ _ (delete_name_accepted n core name index e) (definitions_stay whole valid.whole (definitions.DeleteDefinedName name index)))
+      (lifted_valid (DeleteDefinedName name index) _ _ (delete_definition_accepted n core name index e) (definitions_stay whole valid.whole (definitions.DeleteDefinedName name index)))
 
-  pub undefined_valid : (name : List ℕ) (index : Option ℕ) (at : ℕ) → delete_name_refusal core name index ≡ None → index_of_definition core name (scope_or_none core index) ≡ Some at
+  pub undefined_valid : (name : List ℕ) (index : Option ℕ) (at : ℕ) → delete_definition_refusal core name index ≡ None → index_of_definition core name (scope_or_none core index) ≡ Some at
       → IsValidBook (book_changed_by (with_removed_definition (Some at)) book)
   undefined_valid name index at e found =
       let after : Scene = scene_in (with_removed_definition (Some at) book) in

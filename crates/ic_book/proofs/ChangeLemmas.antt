@@ -12,7 +12,7 @@ use Rattle.ic_laws.proofs.keeping.Namings.{add_naming, kept_changed, rename_nami
 use Rattle.ic_laws.proofs.keeping.Removing.{remove_map}
 use Rattle.ic_laws.proofs.keeping.SheetChanges.{Going, Naming, gone_becomes, named_becomes}
 use Rattle.ic_laws.proofs.keeping.Sheets.{sheets_differ}
-use Rattle.ic_laws.specs.Changes.{Change, changed_sheet, changed_word, name_added, name_gone, sheet_gone, sheet_named}
+use Rattle.ic_laws.specs.Changes.{Change, changed_sheet, changed_word, definition_added, definition_gone, sheet_gone, sheet_named}
 use Rattle.ic_laws.specs.CoreBook.{CoreBook, Definition, greatest_id, has_sheet, spelling_of}
 use Rattle.ic_laws.specs.CoreStep as core_step
 use Rattle.ic_laws.specs.CoreStep.{has_other_sheet}
@@ -74,20 +74,20 @@ module _ (n : Notations) (are : AreNotations n) (book : Book) (core : IsValidCor
       ap (with_removed_sheet index) (kept_is after (sheet_gone sheet.id sheet.name) (gone_becomes (scene_in book) after sheet.id sheet.name going))
 
   -- with a new definition
-  pub defined_is : (new : Definition) → changed_in n (with_added_definition new) book ≡ with_added_definition new (changed_book (name_added (spelling_of new)) book)
+  pub defined_is : (new : Definition) → changed_in n (with_added_definition new) book ≡ with_added_definition new (changed_book (definition_added (spelling_of new)) book)
   defined_is new =
       let after : Scene = scene_in (with_added_definition new book) in
       ap (with_added_definition new)
-      (kept_is after (name_added (spelling_of new))
+      (kept_is after (definition_added (spelling_of new))
       (added_becomes (scene_in book) after (spelling_of new) (record { sheets = refl; differ = sheets_differ (core_of book) core.names_differ; names = map-append spelling_of book.definitions (new ∷ []) })))
 
   -- with a definition taken out
   pub undefined_is : (index : ℕ) (d : Definition) → slice_get book.definitions index ≡ Some d
-      → changed_in n (with_removed_definition (Some index)) book ≡ with_removed_definition (Some index) (changed_book (name_gone (scene_in (with_removed_definition (Some index) book)) (spelling_of d)) book)
+      → changed_in n (with_removed_definition (Some index)) book ≡ with_removed_definition (Some index) (changed_book (definition_gone (scene_in (with_removed_definition (Some index) book)) (spelling_of d)) book)
   undefined_is index d at =
       let after : Scene = scene_in (with_removed_definition (Some index) book) in
       ap (with_removed_definition (Some index))
-      (kept_is after (name_gone after (spelling_of d))
+      (kept_is after (definition_gone after (spelling_of d))
       (gone_name_becomes (scene_in book) after index (spelling_of d) (record {
         sheets = refl;
         differ = sheets_differ (core_of book) core.names_differ;

@@ -11,7 +11,7 @@ use Rattle.ic_laws.specs.Character.{equals}
 use Rattle.ic_laws.specs.Command as commands
 use Rattle.ic_laws.specs.CoreBook.{CoreBook, Definition, fresh_id}
 use Rattle.ic_laws.specs.CoreStep as core
-use Rattle.ic_laws.specs.CoreStep.{add_sheet_refusal, core_step, delete_name_causes, delete_name_refusal, delete_refusal, fields_in_scope, formula_of, index_of_definition, index_of_id, index_of_name, is_named, lacks_sheet, list_fields, listed_scope, move_causes, move_refusal, moved, new_definition, new_name_causes, new_name_refusal, rename_refusal, scope_or_none, shown_field, with_sheet_name, without_sheet}
+use Rattle.ic_laws.specs.CoreStep.{add_sheet_refusal, core_step, delete_definition_causes, delete_definition_refusal, delete_refusal, fields_in_scope, formula_of, index_of_definition, index_of_id, index_of_name, is_named, lacks_sheet, list_fields, listed_scope, move_causes, move_refusal, moved, new_definition, new_definition_causes, new_definition_refusal, rename_refusal, scope_or_none, shown_field, with_sheet_name, without_sheet}
 use Rattle.ic_laws.specs.FormulaReading.{Body, body_of, shown_body, shown_formula}
 use Rattle.ic_laws.specs.Notations.{Notations}
 use Rattle.ic_laws.specs.Refusal.{InvalidLanguage, InvalidLocale, InvalidNameFormula, InvalidSheet, Refusal, first_refusal}
@@ -21,7 +21,7 @@ use Rattle.ic_machine.specs.Book.{Stepped, as_core}
 use Rattle.ic_machine.specs.Changed as changed
 use Rattle.ic_machine.specs.Refusal.{OfCore}
 use Rattle.ic_machine.specs.Reply.{Field, NumberField, of_core_field, of_core_fields, optional_text_field}
-use Rattle.ic_machine.specs.subjects.Definitions.{DeleteDefinedName, GetDefinedNameList, IsValidDefinedName, NewDefinedName, definition_step, delete_name_step, list_step, new_name_step, valid_name_step, with_new_name}
+use Rattle.ic_machine.specs.subjects.Definitions.{DeleteDefinedName, GetDefinedNameList, IsValidDefinedName, NewDefinedName, definition_step, delete_definition_step, list_step, new_definition_step, valid_definition_step, with_new_definition}
 use Rattle.ic_machine.specs.subjects.Notation.{SetLanguage, SetLocale, notation_step, set_language_step, set_locale_step}
 use Rattle.ic_machine.specs.subjects.Reading.{GetCellFormula, cell_formula_step, reading_step}
 use Rattle.ic_machine.specs.subjects.Sheets.{AddSheet, DeleteSheet, DeleteSheetByName, DeleteSheetBySheetId, GetNewSheetId, MoveSheet, RenameSheet, RenameSheetByIndex, add_sheet_step, delete_by_id_step, delete_by_name_step, delete_sheet_step, move_sheet_step, new_sheet_id_step, rename_by_index_step, rename_sheet_step, sheet_step, with_new_sheet}
@@ -232,9 +232,9 @@ module _ (result : Result (Unit {0}) BookError) (old new : ModelState) (valid : 
   abbrev undefined_book : List ℕ → Option ℕ → Book
   undefined_book name scope = book_changed_by (with_removed_definition (index_of_definition (core_of old.book) name (scope_or_none (core_of old.book) scope))) old.book
 
-  undefined_after : (name : List ℕ) (scope : Option ℕ) → delete_name_refusal (core_of old.book) name scope ≡ None → IsValidBook (undefined_book name scope)
+  undefined_after : (name : List ℕ) (scope : Option ℕ) → delete_definition_refusal (core_of old.book) name scope ≡ None → IsValidBook (undefined_book name scope)
   undefined_after name scope e =
-      let has = not_false _ (none_holds (delete_name_causes (core_of old.book) name scope) e).1.0 in
+      let has = not_false _ (none_holds (delete_definition_causes (core_of old.book) name scope) e).1.0 in
       at_index (index_of_definition (core_of old.book) name (scope_or_none (core_of old.book) scope)) refl (position_any (is_named name (scope_or_none (core_of old.book) scope)) old.book.definitions ∙ has)
     where
       at_index : (o : Option ℕ) → index_of_definition (core_of old.book) name (scope_or_none (core_of old.book) scope) ≡ o → is_some o ≡ true → IsValidBook (book_changed_by (with_removed_definition o) old.book)
@@ -242,11 +242,11 @@ module _ (result : Result (Unit {0}) BookError) (old new : ModelState) (valid : 
       at_index (Some index) found h = undefined_valid old.book valid name scope index e found
 
   pub undefines : (name : List ℕ) (scope : Option ℕ) → OnOk result (new.book ≡ book_changed_by (with_removed_definition (index_of_definition (core_of old.book) name (scope_or_none (core_of old.book) scope))) old.book)
-      → Refuses result (delete_name_refusal (core_of old.book) name scope) → Does definition_step (DeleteDefinedName name scope) no_fields result old new
-  unfolding core_step delete_name_step
+      → Refuses result (delete_definition_refusal (core_of old.book) name scope) → Does definition_step (DeleteDefinedName name scope) no_fields result old new
+  unfolding core_step delete_definition_step
   undefines name scope is refused =
       let index : Option ℕ = index_of_definition (core_of old.book) name (scope_or_none (core_of old.book) scope) in
-      step_wanted (undefined_book name scope) is (λ c. delete_name_refusal c name scope) (λ c. core.changed_by n (core.without_definition (index_of_definition c name (scope_or_none c scope))) c)
+      step_wanted (undefined_book name scope) is (λ c. delete_definition_refusal c name scope) (λ c. core.changed_by n (core.without_definition (index_of_definition c name (scope_or_none c scope))) c)
       (changed.changed_by (changed.without_definition (index_of_definition (machine.core_of whole) name (scope_or_none (machine.core_of whole) scope))) whole)
       (whole_changed (with_removed_definition index) (changed.without_definition index) (whole_undefined index) old.book
       ∙ ap (λ c. changed.changed_by (changed.without_definition (index_of_definition c name (scope_or_none c scope))) whole) (sym seen)) refused (undefined_after name scope)
@@ -260,14 +260,14 @@ module _ (result : Result (Unit {0}) BookError) (old new : ModelState) (valid : 
     defined_book None = old.book
     defined_book (Some body) = book_changed_by (with_added_definition (new_in (core_of old.book) body)) old.book
 
-    whole_with : (o : Option Body) → whole_of (defined_book o) ≡ with_new_name whole name (scope_or_none (core_of old.book) scope) o
+    whole_with : (o : Option Body) → whole_of (defined_book o) ≡ with_new_definition whole name (scope_or_none (core_of old.book) scope) o
     whole_with None = refl
     whole_with (Some body) =
         whole_changed (with_added_definition (new_in (core_of old.book) body)) (changed.with_definition (new_in (core_of old.book) body)) (whole_defined (new_in (core_of old.book) body)) old.book
         ∙ ap (λ c. changed.changed_by (changed.with_definition (new_definition n c name (scope_or_none (core_of old.book) scope) body)) whole) (sym seen)
 
     module _ (text : List ℕ) where
-      defined_after : new_name_refusal n (core_of old.book) name scope text ≡ None → IsValidBook (defined_book (body_of n (core_of old.book) text))
+      defined_after : new_definition_refusal n (core_of old.book) name scope text ≡ None → IsValidBook (defined_book (body_of n (core_of old.book) text))
       defined_after e = with_body (body_of n (core_of old.book) text) refl
         where
           with_body : (o : Option Body) → body_of n (core_of old.book) text ≡ o → IsValidBook (defined_book o)
@@ -277,23 +277,23 @@ module _ (result : Result (Unit {0}) BookError) (old new : ModelState) (valid : 
       abbrev Read : Body → Type 0
       Read body = body_of n (core_of old.book) text ≡ Some body
 
-      defined_so : (r : Result (Unit {0}) BookError) → OnOk r ((body : Body) → Read body → new.book ≡ defined_book (Some body)) → RefusesOr InvalidNameFormula r (new_name_refusal n (core_of old.book) name scope text)
+      defined_so : (r : Result (Unit {0}) BookError) → OnOk r ((body : Body) → Read body → new.book ≡ defined_book (Some body)) → RefusesOr InvalidNameFormula r (new_definition_refusal n (core_of old.book) name scope text)
           → OnOk r (new.book ≡ defined_book (body_of n (core_of old.book) text))
       defined_so (Err error) is e = tt
       defined_so (Ok value) is e = with_body (body_of n (core_of old.book) text) refl
         where
           with_body : (o : Option Body) → body_of n (core_of old.book) text ≡ o → new.book ≡ defined_book o
-          with_body None read = let unread : is_none (body_of n (core_of old.book) text) ≡ false = (none_holds (new_name_causes n (core_of old.book) name scope text) e).1.1.1.0 in let no : true ≡ false = ap is_none (sym read) ∙ unread in cc
+          with_body None read = let unread : is_none (body_of n (core_of old.book) text) ≡ false = (none_holds (new_definition_causes n (core_of old.book) name scope text) e).1.1.1.0 in let no : true ≡ false = ap is_none (sym read) ∙ unread in cc
           with_body (Some body) read = is body read
 
       pub defines : OnOk result ((body : Body) → body_of (notations_in old.book) (core_of old.book) text ≡ Some body
           → new.book ≡ book_changed_by (with_added_definition (new_definition (notations_in old.book) (core_of old.book) name (scope_or_none (core_of old.book) scope) body)) old.book)
-          → RefusesOr InvalidNameFormula result (new_name_refusal (notations_in old.book) (core_of old.book) name scope text) → DoesOr InvalidNameFormula definition_step (NewDefinedName name scope text) no_fields result old new
-      unfolding core_step new_name_step
+          → RefusesOr InvalidNameFormula result (new_definition_refusal (notations_in old.book) (core_of old.book) name scope text) → DoesOr InvalidNameFormula definition_step (NewDefinedName name scope text) no_fields result old new
+      unfolding core_step new_definition_step
       defines is refused =
-          step_or (defined_book (body_of n (core_of old.book) text)) (defined_so result is refused) (λ c. new_name_refusal n c name scope text) (λ c. core.with_new_name n c name (scope_or_none c scope) (body_of n c text))
-          (with_new_name whole name (scope_or_none (machine.core_of whole) scope) (body_of n (machine.core_of whole) text))
-          (whole_with (body_of n (core_of old.book) text) ∙ ap (λ c. with_new_name whole name (scope_or_none c scope) (body_of n c text)) (sym seen)) InvalidNameFormula refused defined_after
+          step_or (defined_book (body_of n (core_of old.book) text)) (defined_so result is refused) (λ c. new_definition_refusal n c name scope text) (λ c. core.with_new_definition n c name (scope_or_none c scope) (body_of n c text))
+          (with_new_definition whole name (scope_or_none (machine.core_of whole) scope) (body_of n (machine.core_of whole) text))
+          (whole_with (body_of n (core_of old.book) text) ∙ ap (λ c. with_new_definition whole name (scope_or_none c scope) (body_of n c text)) (sym seen)) InvalidNameFormula refused defined_after
 
   -- without memory ----
 
@@ -384,12 +384,12 @@ module _ (now : ModelState) (valid : IsValidBook now.book) where
   }
 
   pub checks : (result : Result (Option ℕ) BookError) (name : List ℕ) (scope : Option ℕ) (text : List ℕ) → IfOk result (λ id. id ≡ scope_or_none (core_of now.book) scope)
-      → RefusesOr InvalidNameFormula result (new_name_refusal (notations_in now.book) (core_of now.book) name scope text) → DoesOr InvalidNameFormula definition_step (IsValidDefinedName name scope text) scope_field result now now
-  unfolding core_step valid_name_step
+      → RefusesOr InvalidNameFormula result (new_definition_refusal (notations_in now.book) (core_of now.book) name scope text) → DoesOr InvalidNameFormula definition_step (IsValidDefinedName name scope text) scope_field result now now
+  unfolding core_step valid_definition_step
   checks result name scope text is refused = record {
     done =
-        made_or (new_name_refusal notation (machine.core_of all) name scope text) (machine.core_of all) (commands.NumberField (scope_or_none (machine.core_of all) scope) ∷ []) all scope_field now now InvalidNameFormula result
-        (subst (λ c. RefusesOr InvalidNameFormula result (new_name_refusal notation c name scope text)) (sym all_seen) refused)
+        made_or (new_definition_refusal notation (machine.core_of all) name scope text) (machine.core_of all) (commands.NumberField (scope_or_none (machine.core_of all) scope) ∷ []) all scope_field now now InvalidNameFormula result
+        (subst (λ c. RefusesOr InvalidNameFormula result (new_definition_refusal notation c name scope text)) (sym all_seen) refused)
         (reads result all (NumberField (scope_or_none (machine.core_of all) scope) ∷ []) scope_field (λ id. id ≡ scope_or_none (core_of now.book) scope)
         (λ id e. ap (λ (o : Option ℕ). let fields : List Field = NumberField o ∷ [] in fields) (e ∙ ap (λ c. scope_or_none c scope) (sym all_seen))) is) (unchanged result now);
     before = valid;

@@ -11,7 +11,7 @@ use Rattle.ic_laws.proofs.keeping.Deletes.{delete_dangles}
 use Rattle.ic_laws.proofs.keeping.Moves.{move_keeps}
 use Rattle.ic_laws.proofs.keeping.Renames.{add_binds, rename_binds, rename_keeps}
 use Rattle.ic_laws.specs.BookTrees.{BookKeepsFound, IsMoved, with_body_tree, with_sheet_at_end, with_trees}
-use Rattle.ic_laws.specs.Changes.{changed_tree, name_added, name_gone, sheet_gone, sheet_named}
+use Rattle.ic_laws.specs.Changes.{changed_tree, definition_added, definition_gone, sheet_gone, sheet_named}
 use Rattle.ic_laws.specs.CoreBook.{CellPlace, CoreBook, Definition, Sheet as CoreSheet, formula_at, fresh_id, greatest_id, has_sheet, scene_of, spelling_of}
 use Rattle.ic_laws.specs.CoreStep.{add_sheet_causes, add_sheet_refusal, changed_by, delete_refusal, formula_of, has_other_sheet, lacks_sheet, move_refusal, moved, rename_causes, rename_refusal, unless_refused, updated_at, with_new_sheet, with_sheet_name, without_sheet}
 use Rattle.ic_laws.specs.Greatest.{greatest}
@@ -337,12 +337,12 @@ module _ (inside : Inside) (h : IsHeld inside) where
     removed index s at e f =
         of_parts now nds _ _ e f ∙ sym (removed_is n are book (core_valid book h) (pools_valid book h) index (sheet_of s) (slice_get-map sheet_of ws index ∙ ap (option_map sheet_of) at))
 
-    pub defined : (new : Definition) → sheets_of now ≡ map (changed_pool (name_added (spelling_of new))) (sheets_of ws) → nds ≡ map (with_body_tree (changed_tree (name_added (spelling_of new)))) ds ++ new ∷ []
+    pub defined : (new : Definition) → sheets_of now ≡ map (changed_pool (definition_added (spelling_of new))) (sheets_of ws) → nds ≡ map (with_body_tree (changed_tree (definition_added (spelling_of new)))) ds ++ new ∷ []
         → after now nds ≡ book_changed_by (with_added_definition new) book
     defined new e f = of_parts now nds _ _ e f ∙ sym (defined_is n are book (core_valid book h) (pools_valid book h) new)
 
-    pub undefined : (index : ℕ) (d : Definition) → slice_get ds index ≡ Some d → sheets_of now ≡ map (changed_pool (name_gone (definitions_scene (remove ds index)) (spelling_of d))) (sheets_of ws)
-        → nds ≡ remove (map (with_body_tree (changed_tree (name_gone (definitions_scene (remove ds index)) (spelling_of d)))) ds) index → after now nds ≡ book_changed_by (with_removed_definition (Some index)) book
+    pub undefined : (index : ℕ) (d : Definition) → slice_get ds index ≡ Some d → sheets_of now ≡ map (changed_pool (definition_gone (definitions_scene (remove ds index)) (spelling_of d))) (sheets_of ws)
+        → nds ≡ remove (map (with_body_tree (changed_tree (definition_gone (definitions_scene (remove ds index)) (spelling_of d)))) ds) index → after now nds ≡ book_changed_by (with_removed_definition (Some index)) book
     undefined index d at e f = of_parts now nds _ _ e f ∙ sym (undefined_is n are book (core_valid book h) (pools_valid book h) index d at)
 
   pub put : (now : List HeldSheet) (from to : ℕ) → now ≡ moved from to ws → after now ds ≡ with_moved_sheet from to book

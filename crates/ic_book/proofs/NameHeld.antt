@@ -2,11 +2,11 @@
 use Rattle.std.proofs.Common.{◌≡◌, ◌<◌, ◌++◌, List, [], ◌∷◌, Option, IfSome, Some, None, ℕ, zero, suc, arith, false, length, map, option_map, refl, true, sym, ap, subst, ◌∙◌}
 use Rattle.std.specs.Prelude.{position, remove, slice_get, unwrap_or}
 use Rattle.std.specs.List.{AllByRecursion, list_any}
-use Rattle.ic_laws.proofs.keeping.Deletes.{delete_name_dangles, new_name_binds}
+use Rattle.ic_laws.proofs.keeping.Deletes.{delete_definition_dangles, new_definition_binds}
 use Rattle.ic_laws.specs.BookTrees.{with_body_tree, with_trees}
-use Rattle.ic_laws.specs.Changes.{changed_tree, name_added, name_gone}
+use Rattle.ic_laws.specs.Changes.{changed_tree, definition_added, definition_gone}
 use Rattle.ic_laws.specs.CoreBook.{CoreBook, Definition, scene_of, spelling_of}
-use Rattle.ic_laws.specs.CoreStep.{changed_by, delete_name_refusal, index_of_definition, is_named, new_definition, new_name_refusal, scope_of, scope_or_none, unless_refused, with_definition, with_new_name, without_definition}
+use Rattle.ic_laws.specs.CoreStep.{changed_by, delete_definition_refusal, index_of_definition, is_named, new_definition, new_definition_refusal, scope_of, scope_or_none, unless_refused, with_definition, with_new_definition, without_definition}
 use Rattle.ic_laws.specs.FormulaReading.{Body, body_of}
 use Rattle.ic_laws.specs.Notations.{Notations}
 use Rattle.ic_definitions.proofs.NamesFacts.{item_at_position}
@@ -60,7 +60,7 @@ module _ (inside : Inside) (h : IsHeld inside)
 
   -- ---- one comes
 
-  module _ (text : List ℕ) (typed : Body) (new : Definition) (reads : body_of n core text ≡ Some typed) (none : new_name_refusal n core called index text ≡ None) (made : new ≡ new_definition n core called id typed) where
+  module _ (text : List ℕ) (typed : Body) (new : Definition) (reads : body_of n core text ≡ Some typed) (none : new_definition_refusal n core called index text ≡ None) (made : new ≡ new_definition n core called id typed) where
     abbrev made_new : Definition
     made_new = new_definition n core called (scope_or_none core index) typed
 
@@ -70,8 +70,8 @@ module _ (inside : Inside) (h : IsHeld inside)
     scope_here : scope_of (core_of held_book) index ≡ Some id
     scope_here = ap (λ (k : ModelState). scope_of (core_of k.book) index) is ∙ scope
 
-    none_here : new_name_refusal (notations_in held_book) (core_of held_book) called index text ≡ None
-    none_here = ap (λ (k : ModelState). new_name_refusal (notations_in k.book) (core_of k.book) called index text) is ∙ none
+    none_here : new_definition_refusal (notations_in held_book) (core_of held_book) called index text ≡ None
+    none_here = ap (λ (k : ModelState). new_definition_refusal (notations_in k.book) (core_of k.book) called index text) is ∙ none
 
     made_here : new ≡ new_definition (notations_in held_book) (core_of held_book) called (scope_or_none (core_of held_book) index) typed
     made_here = made_again ∙ ap (λ (k : ModelState). new_definition (notations_in k.book) (core_of k.book) called (scope_or_none (core_of k.book) index) typed) (sym is)
@@ -84,7 +84,7 @@ module _ (inside : Inside) (h : IsHeld inside)
     is_free = ap (λ (d : Definition). list_any (is_named d.name d.scope) ds) made ∙ key_free (notations_in held_book) (core_of held_book) called index text id scope_here none_here
 
     -- one that is local to none leaves the bodies in which all was found
-    pub it_spares : index ≡ None → AllByRecursion (StaysWhereFound (name_added (spelling_of new))) ds
+    pub it_spares : index ≡ None → AllByRecursion (StaysWhereFound (definition_added (spelling_of new))) ds
     it_spares given =
         let global : new.scope ≡ None = ap (λ (d : Definition). d.scope) made ∙ sym its_scope ∙ ap (scope_or_none core) given in
         adding_bodies (core_of held_book) (spelling_of new) global (ap (λ s. list_any (is_named new.name s) ds) (sym global) ∙ is_free) (notations_in held_book) (core_valid held_book h)
@@ -97,12 +97,12 @@ module _ (inside : Inside) (h : IsHeld inside)
     its_sheet i given s at = ap (λ (d : Definition). d.scope) made ∙ sym (ap (λ o. unwrap_or o None) (scope_there (core_of held_book) ws index i s refl given at ∙ scope_here))
 
     -- the look-ups that it leaves
-    pub defined_looks_up : (now : List HeldSheet) → look_ups now ≡ map (looks_up_after (name_added (spelling_of new))) ws
-        → look_ups now ≡ looks_up_in (name_added (record { name = called; scope = scope_or_none core index })) m
+    pub defined_looks_up : (now : List HeldSheet) → look_ups now ≡ map (looks_up_after (definition_added (spelling_of new))) ws
+        → look_ups now ≡ looks_up_in (definition_added (record { name = called; scope = scope_or_none core index })) m
     defined_looks_up now e =
-        e ∙ sym (looks_up_is (name_added (spelling_of new)) ws) ∙ ap (looks_up_in (name_added (spelling_of new))) is ∙ ap (λ (d : Definition). looks_up_in (name_added (spelling_of d)) m) made_again
+        e ∙ sym (looks_up_is (definition_added (spelling_of new)) ws) ∙ ap (looks_up_in (definition_added (spelling_of new))) is ∙ ap (λ (d : Definition). looks_up_in (definition_added (spelling_of d)) m) made_again
 
-    module _ (now : List HeldSheet) (nds : List Definition) (sheets : sheets_of now ≡ map (changed_pool (name_added (spelling_of new))) (sheets_of ws)) (names : nds ≡ map (with_body_tree (changed_tree (name_added (spelling_of new)))) ds ++ new ∷ []) where
+    module _ (now : List HeldSheet) (nds : List Definition) (sheets : sheets_of now ≡ map (changed_pool (definition_added (spelling_of new))) (sheets_of ws)) (names : nds ≡ map (with_body_tree (changed_tree (definition_added (spelling_of new)))) ds ++ new ∷ []) where
       left : held (with_contents now nds inside) ≡ book_changed_by (with_added_definition new) held_book
       left = defined inside h now nds new sheets names
 
@@ -118,14 +118,14 @@ module _ (inside : Inside) (h : IsHeld inside)
       pub defined_book : (body : Body) → body_of n core text ≡ Some body → held (with_contents now nds inside) ≡ book_changed_by (with_added_definition (new_definition n core called (scope_or_none core index) body)) m.book
       defined_book body e = left_there ∙ ap (λ b. book_changed_by (with_added_definition (new_definition n core called (scope_or_none core index) b)) m.book) (same_body body e)
 
-      pub defined_core : core_of (held (with_contents now nds inside)) ≡ with_new_name n core called (scope_or_none core index) (body_of n core text)
-      defined_core = ap core_of left_there ∙ core_of-changed n (with_added_definition made_new) (with_definition made_new) (defined_change made_new) m.book ∙ ap (with_new_name n core called (scope_or_none core index)) (sym reads)
+      pub defined_core : core_of (held (with_contents now nds inside)) ≡ with_new_definition n core called (scope_or_none core index) (body_of n core text)
+      defined_core = ap core_of left_there ∙ core_of-changed n (with_added_definition made_new) (with_definition made_new) (defined_change made_new) m.book ∙ ap (with_new_definition n core called (scope_or_none core index)) (sym reads)
 
       pub defined_binds : (body : Body) → body_of n core text ≡ Some body → core_of (held (with_contents now nds inside))
-          ≡ with_definition (new_definition n core called (scope_or_none core index) body) (with_trees (changed_tree (name_added (record { name = called; scope = scope_or_none core index }))) core)
+          ≡ with_definition (new_definition n core called (scope_or_none core index) body) (with_trees (changed_tree (definition_added (record { name = called; scope = scope_or_none core index }))) core)
       defined_binds body e =
           defined_core
-          ∙ new_name_binds n core _ called index text body [] (notations m.book valid) (core_valid m.book valid) e (ap (λ r. unless_refused r (with_new_name n core called (scope_or_none core index) (body_of n core text)) []) none)
+          ∙ new_definition_binds n core _ called index text body [] (notations m.book valid) (core_valid m.book valid) e (ap (λ r. unless_refused r (with_new_definition n core called (scope_or_none core index) (body_of n core text)) []) none)
 
   -- ---- one goes
 
@@ -140,28 +140,28 @@ module _ (inside : Inside) (h : IsHeld inside)
     its_index = index_is core called index id scope (Some at) found_there
 
     -- nothing refuses it
-    pub it_goes : delete_name_refusal core called index ≡ None
+    pub it_goes : delete_definition_refusal core called index ≡ None
     it_goes = name_there core called index id scope at found_there
 
     -- the look-ups that it leaves
-    pub undefined_looks_up : (now : List HeldSheet) → ((d : Definition) → slice_get ds at ≡ Some d → look_ups now ≡ map (looks_up_after (name_gone (definitions_scene (remove ds at)) (spelling_of d))) ws)
+    pub undefined_looks_up : (now : List HeldSheet) → ((d : Definition) → slice_get ds at ≡ Some d → look_ups now ≡ map (looks_up_after (definition_gone (definitions_scene (remove ds at)) (spelling_of d))) ws)
         → IfSome (index_of_definition core called (scope_or_none core index)) (λ i. IfSome (slice_get m.book.definitions i)
-        (λ d. look_ups now ≡ looks_up_in (name_gone (scene_of (without_definition (Some i) core)) (spelling_of d)) m))
+        (λ d. look_ups now ≡ looks_up_in (definition_gone (scene_of (without_definition (Some i) core)) (spelling_of d)) m))
     undefined_looks_up now e =
-        subst (λ o. IfSome o (λ i. IfSome (slice_get m.book.definitions i) (λ (d : Definition). look_ups now ≡ looks_up_in (name_gone (scene_of (without_definition (Some i) core)) (spelling_of d)) m))) (sym its_index)
-        (subst (λ (k : ModelState). IfSome (slice_get k.book.definitions at) (λ (d : Definition). look_ups now ≡ looks_up_in (name_gone (scene_of (without_definition (Some at) (core_of k.book))) (spelling_of d)) k)) is
-        (subst (λ o. IfSome o (λ (d : Definition). look_ups now ≡ looks_up_in (name_gone (scene_of (without_definition (Some at) (core_of held_book))) (spelling_of d)) (held_state inside))) (sym there.1)
-        (e there.0 there.1 ∙ sym (looks_up_is (name_gone (definitions_scene (remove ds at)) (spelling_of there.0)) ws))))
+        subst (λ o. IfSome o (λ i. IfSome (slice_get m.book.definitions i) (λ (d : Definition). look_ups now ≡ looks_up_in (definition_gone (scene_of (without_definition (Some i) core)) (spelling_of d)) m))) (sym its_index)
+        (subst (λ (k : ModelState). IfSome (slice_get k.book.definitions at) (λ (d : Definition). look_ups now ≡ looks_up_in (definition_gone (scene_of (without_definition (Some at) (core_of k.book))) (spelling_of d)) k)) is
+        (subst (λ o. IfSome o (λ (d : Definition). look_ups now ≡ looks_up_in (definition_gone (scene_of (without_definition (Some at) (core_of held_book))) (spelling_of d)) (held_state inside))) (sym there.1)
+        (e there.0 there.1 ∙ sym (looks_up_is (definition_gone (definitions_scene (remove ds at)) (spelling_of there.0)) ws))))
 
-    module _ (now : List HeldSheet) (nds : List Definition) (sheets : (d : Definition) → slice_get ds at ≡ Some d → sheets_of now ≡ map (changed_pool (name_gone (definitions_scene (remove ds at)) (spelling_of d))) (sheets_of ws))
-        (names : (d : Definition) → slice_get ds at ≡ Some d → nds ≡ remove (map (with_body_tree (changed_tree (name_gone (definitions_scene (remove ds at)) (spelling_of d)))) ds) at) where
+    module _ (now : List HeldSheet) (nds : List Definition) (sheets : (d : Definition) → slice_get ds at ≡ Some d → sheets_of now ≡ map (changed_pool (definition_gone (definitions_scene (remove ds at)) (spelling_of d))) (sheets_of ws))
+        (names : (d : Definition) → slice_get ds at ≡ Some d → nds ≡ remove (map (with_body_tree (changed_tree (definition_gone (definitions_scene (remove ds at)) (spelling_of d)))) ds) at) where
       remains : held (with_contents now nds inside) ≡ book_changed_by (with_removed_definition (Some at)) held_book
       remains = undefined inside h now nds at there.0 there.1 (sheets there.0 there.1) (names there.0 there.1)
 
       pub undefined_held : IsHeld (with_contents now nds inside)
       undefined_held =
           held_after inside h now nds (book_changed_by (with_removed_definition (Some at)) held_book) remains
-          (undefined_valid held_book h called index at (ap (λ (k : ModelState). delete_name_refusal (core_of k.book) called index) is ∙ it_goes)
+          (undefined_valid held_book h called index at (ap (λ (k : ModelState). delete_definition_refusal (core_of k.book) called index) is ∙ it_goes)
           (ap (λ (k : ModelState). index_of_definition (core_of k.book) called (scope_or_none (core_of k.book) index)) is ∙ its_index))
 
       remains_there : held (with_contents now nds inside) ≡ book_changed_by (with_removed_definition (Some at)) m.book
@@ -174,7 +174,7 @@ module _ (inside : Inside) (h : IsHeld inside)
       undefined_core = ap core_of remains_there ∙ core_of-changed n (with_removed_definition (Some at)) (without_definition (Some at)) (undefined_change at) m.book ∙ ap (λ o. changed_by n (without_definition o) core) (sym its_index)
 
       pub undefined_dangles : (i : ℕ) (d : Definition) → index_of_definition core called (scope_or_none core index) ≡ Some i → slice_get core.definitions i ≡ Some d
-          → core_of (held (with_contents now nds inside)) ≡ without_definition (Some i) (with_trees (changed_tree (name_gone (scene_of (without_definition (Some i) core)) (spelling_of d))) core)
+          → core_of (held (with_contents now nds inside)) ≡ without_definition (Some i) (with_trees (changed_tree (definition_gone (scene_of (without_definition (Some i) core)) (spelling_of d))) core)
       undefined_dangles i d e f =
           undefined_core
-          ∙ delete_name_dangles n core _ called index i d [] (notations m.book valid) (core_valid m.book valid) e f (ap (λ r. unless_refused r (changed_by n (without_definition (index_of_definition core called (scope_or_none core index))) core) []) it_goes)
+          ∙ delete_definition_dangles n core _ called index i d [] (notations m.book valid) (core_valid m.book valid) e f (ap (λ r. unless_refused r (changed_by n (without_definition (index_of_definition core called (scope_or_none core index))) core) []) it_goes)

@@ -8,7 +8,7 @@ use Rattle.ic_laws.specs.declared.tree.Formula.{Formula}
 use Rattle.ic_laws.specs.Tree.{Spelled}
 use Rattle.ic_laws.proofs.keeping.Accepted.{none_holds}
 use Rattle.ic_laws.specs.CoreBook.{CoreBook, Sheet, scene_of}
-use Rattle.ic_laws.specs.CoreStep.{delete_name_refusal, index_of_definition, is_named, listed_scope, new_name_causes, new_name_refusal, scope_of, scope_or_none}
+use Rattle.ic_laws.specs.CoreStep.{delete_definition_refusal, index_of_definition, is_named, listed_scope, new_definition_causes, new_definition_refusal, scope_of, scope_or_none}
 use Rattle.ic_laws.specs.Character.{equals}
 use Rattle.ic_laws.specs.FormulaReading.{Body, body_of, lambda_tree, reference_tree, shown_at, shown_body, shown_formula, without_equals}
 use Rattle.ic_laws.specs.Name.{is_identifier}
@@ -48,34 +48,34 @@ scope_is core index id e = ap (λ o. unwrap_or o None) e
 -- ---- what refuses a new definition
 
 module _ (n : Notations) (core : CoreBook) (name : List ℕ) (index : Option ℕ) (text : List ℕ) where
-  pub no_identifier : is_identifier name ≡ false → new_name_refusal n core name index text ≡ Some InvalidName
+  pub no_identifier : is_identifier name ≡ false → new_definition_refusal n core name index text ≡ Some InvalidName
   no_identifier bad = rw bad refl
 
-  pub no_scope : is_identifier name ≡ true → scope_of core index ≡ None → new_name_refusal n core name index text ≡ Some InvalidScope
+  pub no_scope : is_identifier name ≡ true → scope_of core index ≡ None → new_definition_refusal n core name index text ≡ Some InvalidScope
   no_scope good none = rw good (rw none refl)
 
   module _ (id : Option ℕ) (good : is_identifier name ≡ true) (scope : scope_of core index ≡ Some id) where
-    pub name_taken : list_any (is_named name id) core.definitions ≡ true → new_name_refusal n core name index text ≡ Some NameExists
+    pub name_taken : list_any (is_named name id) core.definitions ≡ true → new_definition_refusal n core name index text ≡ Some NameExists
     name_taken taken = rw good (rw scope (rw taken refl))
 
-    pub no_body : list_any (is_named name id) core.definitions ≡ false → body_of n core text ≡ None → new_name_refusal n core name index text ≡ Some InvalidNameFormula
+    pub no_body : list_any (is_named name id) core.definitions ≡ false → body_of n core text ≡ None → new_definition_refusal n core name index text ≡ Some InvalidNameFormula
     no_body free none = rw good (rw scope (rw free (rw none refl)))
 
-    pub name_accepted : list_any (is_named name id) core.definitions ≡ false → (body : Body) → body_of n core text ≡ Some body → new_name_refusal n core name index text ≡ None
+    pub name_accepted : list_any (is_named name id) core.definitions ≡ false → (body : Body) → body_of n core text ≡ Some body → new_definition_refusal n core name index text ≡ None
     name_accepted free body typed = rw good (rw scope (rw free (rw typed refl)))
 
     -- where memory ran out while the body was read, nothing else refuses
-    pub body_unread : {T : Type 0} (r : Result T BookError) → list_any (is_named name id) core.definitions ≡ false → IsErr r × IsErrAnd r (λ e. e ≡ errors.OutOfMemory) → RefusesOr InvalidNameFormula r (new_name_refusal n core name index text)
+    pub body_unread : {T : Type 0} (r : Result T BookError) → list_any (is_named name id) core.definitions ≡ false → IsErr r × IsErrAnd r (λ e. e ≡ errors.OutOfMemory) → RefusesOr InvalidNameFormula r (new_definition_refusal n core name index text)
     body_unread (Ok value) free h = let no : false ≡ true = h.0 in cc
     body_unread {T} (Err e) free h = by_body (body_of n core text) refl
       where
-        by_body : (o : Option Body) → body_of n core text ≡ o → RefusesOr InvalidNameFormula {T = T} (Err e) (new_name_refusal n core name index text)
+        by_body : (o : Option Body) → body_of n core text ≡ o → RefusesOr InvalidNameFormula {T = T} (Err e) (new_definition_refusal n core name index text)
         by_body None none = inr (no_body free none, h.1)
         by_body (Some body) typed = inl (none_told (name_accepted free body typed) h.1)
 
   -- where nothing refuses it, no definition has its key
-  pub key_free : (id : Option ℕ) → scope_of core index ≡ Some id → new_name_refusal n core name index text ≡ None → list_any (is_named name id) core.definitions ≡ false
-  key_free id scope none = subst (λ s. list_any (is_named name s) core.definitions ≡ false) (scope_is core index id scope) (none_holds (new_name_causes n core name index text) none).1.1.0
+  pub key_free : (id : Option ℕ) → scope_of core index ≡ Some id → new_definition_refusal n core name index text ≡ None → list_any (is_named name id) core.definitions ≡ false
+  key_free id scope none = subst (λ s. list_any (is_named name s) core.definitions ≡ false) (scope_is core index id scope) (none_holds (new_definition_causes n core name index text) none).1.1.0
 
 -- after the checks only want of memory is left
 pub accepted_then : {T : Type 0} (r : Result T BookError) (refusal : Option Refusal) → refusal ≡ None → IsErr r × IsErrAnd r (λ e. e ≡ errors.OutOfMemory) → RefusesOr InvalidNameFormula r refusal
@@ -85,14 +85,14 @@ accepted_then (Err e) refusal none h = inl (none_told none h.1)
 -- ---- what refuses a deletion
 
 module _ (core : CoreBook) (name : List ℕ) (index : Option ℕ) where
-  pub no_sheet : scope_of core index ≡ None → delete_name_refusal core name index ≡ Some InvalidSheet
+  pub no_sheet : scope_of core index ≡ None → delete_definition_refusal core name index ≡ Some InvalidSheet
   no_sheet none = rw none refl
 
   module _ (id : Option ℕ) (scope : scope_of core index ≡ Some id) where
-    pub no_name : position (is_named name id) core.definitions ≡ None → delete_name_refusal core name index ≡ Some NameNotFound
+    pub no_name : position (is_named name id) core.definitions ≡ None → delete_definition_refusal core name index ≡ Some NameNotFound
     no_name none = let free = position_none (is_named name id) core.definitions none in rw scope (rw free refl)
 
-    pub name_there : (at : ℕ) → position (is_named name id) core.definitions ≡ Some at → delete_name_refusal core name index ≡ None
+    pub name_there : (at : ℕ) → position (is_named name id) core.definitions ≡ Some at → delete_definition_refusal core name index ≡ None
     name_there at found = let taken = some_position (is_named name id) core.definitions at found in rw scope (rw taken refl)
 
     pub index_is : (o : Option ℕ) → position (is_named name id) core.definitions ≡ o → index_of_definition core name (scope_or_none core index) ≡ o

@@ -1,7 +1,7 @@
 -- Which look-ups of formulas are there after a change of the sheets or the definitions.
 use Rattle.std.specs.Prelude.{◌≡◌, ◌⊎◌, ◌+◌, ◌++◌, ◌&&◌, ℕ, Bool, true, List, [], ◌∷◌, IfSome, Option, Some, not, remove}
 use Rattle.std.specs.List.{list_any, slice_get}
-use Rattle.ic_laws.specs.Changes.{Change, name_added, name_gone, sheet_gone, sheet_named}
+use Rattle.ic_laws.specs.Changes.{Change, definition_added, definition_gone, sheet_gone, sheet_named}
 use Rattle.ic_laws.specs.CoreBook.{greatest_id, scene_of, spelling_of}
 use Rattle.ic_laws.specs.CoreStep.{index_of_definition, scope_or_none, updated_at, without_definition}
 use Rattle.ic_pool.specs.Mentions.{is_changed_by}
@@ -33,13 +33,13 @@ LooksUpWithout index old new = IfSome (slice_get old.book.sheets index) (λ shee
 
 -- A definition of this name came, local to the sheet at this index, from 0, or to none.
 abbrev pub LooksUpDefined : List ℕ → Option ℕ → ModelState → ModelState → Type 0
-LooksUpDefined name scope old new = new.has_all ≡ looks_up_in (name_added (record { name = name; scope = scope_or_none (core_of old.book) scope })) old
+LooksUpDefined name scope old new = new.has_all ≡ looks_up_in (definition_added (record { name = name; scope = scope_or_none (core_of old.book) scope })) old
 
 -- the definition of an agreeing name that is local to it went
 abbrev pub LooksUpUndefined : List ℕ → Option ℕ → ModelState → ModelState → Type 0
 LooksUpUndefined name scope old new =
     IfSome (index_of_definition (core_of old.book) name (scope_or_none (core_of old.book) scope)) (λ index. IfSome (slice_get old.book.definitions index)
-    (λ d. new.has_all ≡ looks_up_in (name_gone (scene_of (without_definition (Some index) (core_of old.book))) (spelling_of d)) old))
+    (λ d. new.has_all ≡ looks_up_in (definition_gone (scene_of (without_definition (Some index) (core_of old.book))) (spelling_of d)) old))
 
 -- The look-ups are there as before, but that of the sheet at an index, from 0, may be there now.
 abbrev pub LooksUpAsBefore : ℕ → ModelState → ModelState → Type 0

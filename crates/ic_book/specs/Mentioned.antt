@@ -3,7 +3,7 @@
 use Rattle.std.specs.Prelude.{◌≡◌, ◌+◌, ℕ, List, IfSome, Option, Some}
 use Rattle.std.specs.List.{slice_get}
 use Rattle.ic_laws.specs.BookTrees.{with_sheet_at_end, with_trees}
-use Rattle.ic_laws.specs.Changes.{changed_tree, name_added, name_gone, sheet_gone, sheet_named}
+use Rattle.ic_laws.specs.Changes.{changed_tree, definition_added, definition_gone, sheet_gone, sheet_named}
 use Rattle.ic_laws.specs.CoreBook.{Definition, Sheet, greatest_id, scene_of, spelling_of}
 use Rattle.ic_laws.specs.CoreStep.{index_of_definition, index_of_id, index_of_name, new_definition, scope_or_none, with_definition, with_sheet_name, without_definition, without_sheet}
 use Rattle.ic_laws.specs.FormulaReading.{Body, body_of}
@@ -29,14 +29,14 @@ abbrev pub BindsDefined : List ℕ → Option ℕ → List ℕ → Book → Book
 BindsDefined name scope text old new =
     (body : Body) → body_of (notations_in old) (core_of old) text ≡ Some body
     → core_of new ≡ with_definition (new_definition (notations_in old) (core_of old) name (scope_or_none (core_of old) scope) body)
-    (with_trees (changed_tree (name_added (record { name = name; scope = scope_or_none (core_of old) scope }))) (core_of old))
+    (with_trees (changed_tree (definition_added (record { name = name; scope = scope_or_none (core_of old) scope }))) (core_of old))
 
 -- The definition of an agreeing name in this scope went: what meant it means the one that is local to none, or dangles by
 -- its name.
 abbrev pub DanglesUndefined : List ℕ → Option ℕ → Book → Book → Type 0
 DanglesUndefined name scope old new =
     (index : ℕ) (definition : Definition) → index_of_definition (core_of old) name (scope_or_none (core_of old) scope) ≡ Some index → slice_get (core_of old).definitions index ≡ Some definition
-    → core_of new ≡ without_definition (Some index) (with_trees (changed_tree (name_gone (scene_of (without_definition (Some index) (core_of old))) (spelling_of definition))) (core_of old))
+    → core_of new ≡ without_definition (Some index) (with_trees (changed_tree (definition_gone (scene_of (without_definition (Some index) (core_of old))) (spelling_of definition))) (core_of old))
 
 -- what holds at the index of the sheet whose name agrees, and of the one with an id, where there is one
 abbrev pub AtName : List ℕ → Book → (ℕ → Type 0) → Type 0

@@ -1,6 +1,6 @@
 //! Definitions come and go, and are listed.
 ghost use Rattle.std.specs.Prelude.{◌≡◌, IfOk, IfSome, None, OnErr, OnOk, Some, chars, map};
-ghost use Rattle.ic_laws.specs.CoreStep.{changed_by, delete_name_refusal, index_of_definition, listed_scope, new_definition, new_name_refusal, scope_of, scope_or_none, with_new_name, without_definition};
+ghost use Rattle.ic_laws.specs.CoreStep.{changed_by, delete_definition_refusal, index_of_definition, listed_scope, new_definition, new_definition_refusal, scope_of, scope_or_none, with_new_definition, without_definition};
 ghost use Rattle.ic_laws.specs.FormulaReading.{Body, body_of, shown_body};
 ghost use Rattle.ic_laws.specs.Refusal.{InvalidNameFormula};
 ghost use Rattle.ic_machine.specs.subjects.Definitions.{DeleteDefinedName, GetDefinedNameList, IsValidDefinedName, NewDefinedName, definition_step};
@@ -109,14 +109,14 @@ impl<'a> Model<'a> {
             → self.new.book ≡ book_changed_by (with_added_definition (new_definition
             (notations_in self.old.book) (core_of self.old.book) (chars name.now) (scope_or_none
             (core_of self.old.book) scope) body)) self.old.book) }
-        ensures core { OnOk result (core_of self.new.book ≡ with_new_name
+        ensures core { OnOk result (core_of self.new.book ≡ with_new_definition
             (notations_in self.old.book) (core_of self.old.book) (chars name.now) (scope_or_none
             (core_of self.old.book) scope)
             (body_of (notations_in self.old.book) (core_of self.old.book) (chars formula.now))) }
         ensures binds { OnOk result (BindsDefined (chars name.now) scope (chars formula.now)
             self.old.book self.new.book) }
         ensures looks_up { OnOk result (LooksUpDefined (chars name.now) scope self.old self.new) }
-        ensures refused { RefusesOr InvalidNameFormula result (new_name_refusal
+        ensures refused { RefusesOr InvalidNameFormula result (new_definition_refusal
             (notations_in self.old.book) (core_of self.old.book) (chars name.now) scope
             (chars formula.now)) }
         ensures err { OnErr result (self.new ≡ self.old) }
@@ -141,7 +141,7 @@ impl<'a> Model<'a> {
         formula: &str,
     ) -> Result<Option<u32>, BookError>
         ensures id { IfOk result (λ id. id ≡ scope_or_none (core_of self.now.book) scope) }
-        ensures refused { RefusesOr InvalidNameFormula result (new_name_refusal
+        ensures refused { RefusesOr InvalidNameFormula result (new_definition_refusal
             (notations_in self.now.book) (core_of self.now.book) (chars name.now) scope
             (chars formula.now)) }
         ensures valid { IsValidBook self.now.book }
@@ -163,7 +163,7 @@ impl<'a> Model<'a> {
         ensures looks_up { OnOk result
             (LooksUpUndefined (chars name.now) scope self.old self.new) }
         ensures refused { Refuses result
-            (delete_name_refusal (core_of self.old.book) (chars name.now) scope) }
+            (delete_definition_refusal (core_of self.old.book) (chars name.now) scope) }
         ensures err { OnErr result (self.new ≡ self.old) }
         ensures valid { IsValidBook self.old.book }
     {
@@ -204,7 +204,7 @@ impl<'a> Model<'a> {
         ensures id { IfOk result (λ found. scope_of (core_of self.now.book) scope ≡ Some found.0) }
         ensures body { IfOk result (λ found. body_of (notations_in self.now.book)
             (core_of self.now.book) (chars formula.now) ≡ Some (body_of_typed found.1)) }
-        ensures refused { RefusesOr InvalidNameFormula result (new_name_refusal
+        ensures refused { RefusesOr InvalidNameFormula result (new_definition_refusal
             (notations_in self.now.book) (core_of self.now.book) (chars name.now) scope
             (chars formula.now)) }
         ensures valid { IsValidBook self.now.book }

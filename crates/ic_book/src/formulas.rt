@@ -315,7 +315,8 @@ fn read_closed<D: Dialect>(alloc: Global, d: &D, text: &str) -> Result<Option<Sp
 pub(crate) fn formula_at(worksheet: &Sheet, row: i32, column: i32) -> Option<&Formula>
     requires { HasIndexes (length worksheet.now.pool.formulas) worksheet.now.grid }
     ensures { option_map (λ f. f.now) result ≡ formula_at
-        (cells_of worksheet.now.pool.formulas (finite.entries worksheet.now.grid.cells)) row column }
+        (cells_of worksheet.now.pool.formulas (finite.entries worksheet.now.grid.cells)) row
+        column }
 {
     let cell = worksheet.grid.cells.get(row, column)?;
     let place = cell.get_formula()?;

@@ -168,7 +168,15 @@ impl<'a> Model<'a> {
 /// The sheets of a new book: one, with the id 1, named by the language.
 fn first_sheet(alloc: Global, language: &Language) -> Result<Sheets, OutOfMemory>
     ensures { IfOk result (λ sheets. sheets
-        ≡ record { id = 1; name = first_sheet_name_in language.now.code; pool = record { formulas = []; is_whole = true }; grid = empty_grid; tab = plain_tab } ∷ []) }
+        ≡ record {
+          id = 1;
+          name = first_sheet_name_in language.now.code;
+          pool
+              = record { formulas = []; is_whole = true };
+          grid = empty_grid;
+          tab = plain_tab;
+        }
+        ∷ []) }
 {
     let mut sheets = Sheets::new(alloc);
     sheets.add_leaving_formulas(1, first_sheet_name(&language.code))?;

@@ -52,7 +52,7 @@ impl<'b> Finder for BookScene<'b> {
         self.sheets.name_of(id)
     }
 
-    fn name_spelling(&self, key: &NameKey) -> Option<&str> {
+    fn definition_spelling(&self, key: &NameKey) -> Option<&str> {
         self.definitions.name_of(key)
     }
 }
@@ -132,8 +132,8 @@ impl<'b> Finder for SceneWithDefinition<'b> {
         self.book.sheet_spelling(id)
     }
 
-    fn name_spelling(&self, key: &NameKey) -> Option<&str> {
-        if let Some(name) = self.book.name_spelling(key) {
+    fn definition_spelling(&self, key: &NameKey) -> Option<&str> {
+        if let Some(name) = self.book.definition_spelling(key) {
             return Some(name);
         }
         if same_key(self.key, key) {

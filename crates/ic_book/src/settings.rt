@@ -119,7 +119,8 @@ fn currency_code(alloc: Global, locale: &Locale) -> Result<Text, OutOfMemory>
 /// Appends a format of currencies as a code.
 fn push_code(code: &mut String, symbol: &str, format: &str) -> Result<(), OutOfMemory>
     ensures { OnOk result (chars (string_bytes code.new)
-        ≡ chars (string_bytes code.old) ++ flat_map (as_code (chars symbol.now)) (chars format.now)) }
+        ≡ chars (string_bytes code.old) ++ flat_map (as_code (chars symbol.now))
+        (chars format.now)) }
 {
     let mut rest = format;
     while let Some((c, after)) = first_char(rest) {

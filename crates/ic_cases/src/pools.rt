@@ -102,7 +102,9 @@ fn copied(
     sheet: u32,
     place: usize,
 ) -> Result<Option<Formula>, OutOfMemory>
-    ensures { IfOk result (λ found. IfSome found (λ copy. IfSome (slice_get model.now.book.sheets sheet) (λ s. IsPooled (notations_in model.now.book) (scene_in model.now.book) (Some s.id) copy))) }
+    ensures { IfOk result (λ found. IfSome found
+        (λ copy. IfSome (slice_get model.now.book.sheets sheet)
+        (λ s. IsPooled (notations_in model.now.book) (scene_in model.now.book) (Some s.id) copy))) }
 {
     match model.parsed_formula(sheet, place) {
         Some(formula) => Ok(Some(copy_formula(alloc, formula)?)),
@@ -112,7 +114,9 @@ fn copied(
 
 /// The place of a formula that is settled in its sheet, by a count of its own.
 fn place_of(model: &mut Model<'_>, sheet: u32, formula: &Formula) -> Result<usize, BookError>
-    requires { IfSome (slice_get model.old.book.sheets sheet) (λ s. IsPooled (notations_in model.old.book) (scene_in model.old.book) (Some s.id) formula.now) }
+    requires { IfSome (slice_get model.old.book.sheets sheet)
+        (λ s. IsPooled (notations_in model.old.book) (scene_in model.old.book) (Some s.id)
+        formula.now) }
 {
     place_counted::<Brand>(model, sheet, formula, Blank::new(1))
 }
@@ -124,7 +128,9 @@ fn place_counted<L: Ledger>(
     formula: &Formula,
     blank: Blank,
 ) -> Result<usize, BookError>
-    requires settled { IfSome (slice_get model.old.book.sheets sheet) (λ s. IsPooled (notations_in model.old.book) (scene_in model.old.book) (Some s.id) formula.now) }
+    requires settled { IfSome (slice_get model.old.book.sheets sheet)
+        (λ s. IsPooled (notations_in model.old.book) (scene_in model.old.book) (Some s.id)
+        formula.now) }
     requires name { blank.name ≡ L.name }
     requires parts { blank.parts ≡ L.parts }
     requires some { 0 < blank.parts }

@@ -2,8 +2,8 @@
 use crate::formulas::shown_at;
 use crate::row::Row;
 use ic_laws::{
-    Bound, Dialect, Items, NameMention, NameSpelling, OutOfMemory, Scene, SheetMention, SheetName,
-    Tree,
+    Bound, DefinitionSpelling, Dialect, Items, NameMention, OutOfMemory, Scene, SheetMention,
+    SheetName, Tree,
 };
 use ic_tables::Tables;
 use ic_tree::{Shown, Stored, bind, clashes, is_dynamic, print, read, spell};
@@ -43,11 +43,11 @@ fn sheets_in(row: &mut Row<'_>, from: usize, kind: &str) -> Items<SheetName> {
     Items::from(sheets)
 }
 
-fn names_in(row: &mut Row<'_>, from: usize, kind: &str) -> Items<NameSpelling> {
+fn names_in(row: &mut Row<'_>, from: usize, kind: &str) -> Items<DefinitionSpelling> {
     let mut names = Vec::new(row.alloc);
     for at in (from..row.words.len()).step_by(3) {
         if row.word(at) == kind {
-            let name = NameSpelling {
+            let name = DefinitionSpelling {
                 name: row.text(row.word(at.saturating_add(1))),
                 scope: row.scope(at.saturating_add(2)),
             };

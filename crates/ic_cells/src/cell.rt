@@ -181,7 +181,8 @@ impl Cell {
         ensures exact { result ≡ type_of self.now }
 
         // It is that of the value, whatever the shared strings and the language are.
-        ensures of_value { (strings : List (List ℕ)) (l : Language) → FitsType (value_of strings l self.now) result }
+        ensures of_value { (strings : List (List ℕ)) (l : Language)
+            → FitsType (value_of strings l self.now) result }
     {
         match self {
             Cell::EmptyCell { .. } => CellType::Number,
@@ -219,7 +220,9 @@ impl Cell {
         locale: &Locale,
         language: &Language,
     ) -> Result<String, OutOfMemory>
-        ensures { IfOk result (λ s. chars (string_bytes s) ≡ shown_text (decimal_separator locale.now) language.now (value_of shared_strings.now language.now self.now)) }
+        ensures { IfOk result (λ s. chars (string_bytes s)
+            ≡ shown_text (decimal_separator locale.now) language.now
+            (value_of shared_strings.now language.now self.now)) }
     {
         match lent_from(self, shared_strings.as_slice(), language) {
             LentValue::Nothing => Ok(String::new(alloc)),
@@ -243,7 +246,9 @@ impl Cell {
         format_number: F,
     ) -> Result<String, OutOfMemory>
         requires { F.IsAlwaysCallable format_number }
-        ensures { IfOk result (λ s. AsShown (λ z. F.post format_number z (Ok s)) (λ t. chars (string_bytes s) ≡ t) language.now (value_of shared_strings.now language.now self.now)) }
+        ensures { IfOk result (λ s. AsShown (λ z. F.post format_number z (Ok s))
+            (λ t. chars (string_bytes s) ≡ t) language.now
+            (value_of shared_strings.now language.now self.now)) }
     {
         match lent_from(self, shared_strings.as_slice(), language) {
             LentValue::Nothing => Ok(String::new(alloc)),

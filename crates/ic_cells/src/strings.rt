@@ -108,8 +108,10 @@ fn put_place(
     text: &str,
     place: usize,
 ) -> Result<(), OutOfMemory>
-    ensures ok { OnOk result ((q : List ℕ) → get_by_text places.new q ≡ cond (bytes_eq text.now q) (Some place) (get_by_text places.old q)) }
-    ensures err { OnErr result ((q : List ℕ) → get_by_text places.new q ≡ get_by_text places.old q) }
+    ensures ok { OnOk result ((q : List ℕ) → get_by_text places.new q
+        ≡ cond (bytes_eq text.now q) (Some place) (get_by_text places.old q)) }
+    ensures err { OnErr result ((q : List ℕ) → get_by_text places.new q
+        ≡ get_by_text places.old q) }
 {
     let key = String::from_str(alloc, text)?;
     places.insert(key, place)?;

@@ -92,8 +92,10 @@ impl Styles {
     /// `get_style_index_or_create`.
     pub fn get_style_with_quote_prefix(&mut self, index: usize) -> Result<usize, OutOfMemory>
         requires { index < length self.old }
-        ensures number { IfOk result (λ n. n ≡ style_number (with_quote_prefix true (style_at self.old index)) self.old) }
-        ensures styles { OnOk result (self.new ≡ with_style_in (with_quote_prefix true (style_at self.old index)) self.old) }
+        ensures number { IfOk result (λ n. n ≡ style_number
+            (with_quote_prefix true (style_at self.old index)) self.old) }
+        ensures styles { OnOk result (self.new
+            ≡ with_style_in (with_quote_prefix true (style_at self.old index)) self.old) }
         ensures err { OnErr result (self.new ≡ self.old) }
     {
         let style = self.list[index].with_quote_prefix(self.alloc, true)?;
@@ -104,8 +106,10 @@ impl Styles {
     /// `get_style_index_or_create`.
     pub fn get_style_without_quote_prefix(&mut self, index: usize) -> Result<usize, OutOfMemory>
         requires { index < length self.old }
-        ensures number { IfOk result (λ n. n ≡ style_number (with_quote_prefix false (style_at self.old index)) self.old) }
-        ensures styles { OnOk result (self.new ≡ with_style_in (with_quote_prefix false (style_at self.old index)) self.old) }
+        ensures number { IfOk result (λ n. n ≡ style_number
+            (with_quote_prefix false (style_at self.old index)) self.old) }
+        ensures styles { OnOk result (self.new
+            ≡ with_style_in (with_quote_prefix false (style_at self.old index)) self.old) }
         ensures err { OnErr result (self.new ≡ self.old) }
     {
         let style = self.list[index].with_quote_prefix(self.alloc, false)?;
@@ -116,8 +120,10 @@ impl Styles {
     /// `get_style_index_or_create`.
     pub fn get_style_with_format(&mut self, index: usize, code: &str) -> Result<usize, OutOfMemory>
         requires { index < length self.old }
-        ensures number { IfOk result (λ n. n ≡ style_number (with_format (chars code.now) (style_at self.old index)) self.old) }
-        ensures styles { OnOk result (self.new ≡ with_style_in (with_format (chars code.now) (style_at self.old index)) self.old) }
+        ensures number { IfOk result (λ n. n ≡ style_number
+            (with_format (chars code.now) (style_at self.old index)) self.old) }
+        ensures styles { OnOk result (self.new
+            ≡ with_style_in (with_format (chars code.now) (style_at self.old index)) self.old) }
         ensures err { OnErr result (self.new ≡ self.old) }
     {
         let style = self.list[index].with_format(self.alloc, code)?;

@@ -16,7 +16,7 @@ use Rattle.ic_machine.specs.Reply.{Field, field_word, of_core_field, of_core_fie
 use Rattle.ic_machine.specs.Step.{outcome_of}
 use Rattle.ic_machine.specs.InForce.{formula_typed}
 use Rattle.ic_machine.specs.subjects.Writing.{formula_at_place, formula_step, formula_written, place_causes, with_written, write_causes}
-use Rattle.ic_machine.specs.subjects.Definitions.{delete_name_step, list_step, new_name_step, valid_name_step, with_new_name}
+use Rattle.ic_machine.specs.subjects.Definitions.{delete_definition_step, list_step, new_definition_step, valid_definition_step, with_new_definition}
 use Rattle.ic_machine.specs.subjects.Notation.{set_language_step, set_locale_step}
 use Rattle.ic_machine.specs.subjects.Reading.{cell_formula_step}
 use Rattle.ic_machine.specs.subjects.Sheets.{with_new_sheet, add_sheet_step, delete_by_id_step, delete_by_name_step, delete_sheet_step, move_sheet_step, new_sheet_id_step, rename_by_index_step, rename_sheet_step}
@@ -82,7 +82,7 @@ module _ (b : Book) where
   core_stands (Ok done) left h = h
   core_stands (Err refusal) left h = stands b
 
-  defined : (name : List ℕ) (scope : Option ℕ) (body : Option Body) → StandsBeside b (with_new_name b name scope body)
+  defined : (name : List ℕ) (scope : Option ℕ) (body : Option Body) → StandsBeside b (with_new_definition b name scope body)
   defined name scope None = stands b
   defined name scope (Some body) = record { name = refl; zone = refl; theme = refl; metadata = refl; tables = refl }
 
@@ -100,7 +100,7 @@ module _ (b : Book) where
 
   -- a served command leaves what stands beside the core
   pub served_stands : (k : core.Command) → StandsBeside b (outcome_of b (served_step b (whole_command k))).0
-  unfolding add_sheet_step rename_sheet_step rename_by_index_step move_sheet_step delete_sheet_step delete_by_name_step delete_by_id_step new_sheet_id_step new_name_step delete_name_step valid_name_step list_step set_locale_step set_language_step cell_formula_step formula_step
+  unfolding add_sheet_step rename_sheet_step rename_by_index_step move_sheet_step delete_sheet_step delete_by_name_step delete_by_id_step new_sheet_id_step new_definition_step delete_definition_step valid_definition_step list_step set_locale_step set_language_step cell_formula_step formula_step
   served_stands (core.AddSheet name) = core_stands (core_step (notations_in b) (core_of b) (core.AddSheet name)) (changed_by (with_new_sheet name) b) (record { name = refl; zone = refl; theme = refl; metadata = refl; tables = refl })
   served_stands (core.RenameSheet old new) = core_stands (core_step (notations_in b) (core_of b) (core.RenameSheet old new)) (changed_by (with_renamed_sheet (unwrap_or (index_of_name (core_of b) old) 0) new) b) (record { name = refl; zone = refl; theme = refl; metadata = refl; tables = refl })
   served_stands (core.RenameSheetByIndex sheet name) = core_stands (core_step (notations_in b) (core_of b) (core.RenameSheetByIndex sheet name)) (changed_by (with_renamed_sheet sheet name) b) (record { name = refl; zone = refl; theme = refl; metadata = refl; tables = refl })
@@ -111,7 +111,7 @@ module _ (b : Book) where
   served_stands (core.SetLocale id) = core_stands (core_step (notations_in b) (core_of b) (core.SetLocale id)) (record b { locale = id }) (record { name = refl; zone = refl; theme = refl; metadata = refl; tables = refl })
   served_stands (core.SetLanguage id) = core_stands (core_step (notations_in b) (core_of b) (core.SetLanguage id)) (record b { language = id }) (record { name = refl; zone = refl; theme = refl; metadata = refl; tables = refl })
   served_stands (core.NewDefinedName name scope body) =
-      core_stands (core_step (notations_in b) (core_of b) (core.NewDefinedName name scope body)) (with_new_name b name (scope_or_none (core_of b) scope) (body_of (notations_in b) (core_of b) body)) (defined name (scope_or_none (core_of b) scope) (body_of (notations_in b) (core_of b) body))
+      core_stands (core_step (notations_in b) (core_of b) (core.NewDefinedName name scope body)) (with_new_definition b name (scope_or_none (core_of b) scope) (body_of (notations_in b) (core_of b) body)) (defined name (scope_or_none (core_of b) scope) (body_of (notations_in b) (core_of b) body))
   served_stands (core.DeleteDefinedName name scope) =
       core_stands (core_step (notations_in b) (core_of b) (core.DeleteDefinedName name scope)) (changed_by (without_definition (index_of_definition (core_of b) name (scope_or_none (core_of b) scope))) b) (undefined (index_of_definition (core_of b) name (scope_or_none (core_of b) scope)))
   served_stands (core.IsValidDefinedName name scope body) = core_stands (core_step (notations_in b) (core_of b) (core.IsValidDefinedName name scope body)) b (stands b)

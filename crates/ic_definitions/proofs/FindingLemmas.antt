@@ -9,7 +9,7 @@ use Rattle.ic_laws.specs.CoreBook.{Definition, spelling_of}
 use Rattle.ic_laws.specs.CoreStep.{is_named}
 use Rattle.ic_laws.specs.Name.{fold}
 use Rattle.ic_laws.specs.Scene.{definition_at, found_name, key_of, name_of_key, same_key}
-use Rattle.ic_laws.specs.declared.scene.NameSpelling.{NameSpelling}
+use Rattle.ic_laws.specs.declared.scene.DefinitionSpelling.{DefinitionSpelling}
 use Rattle.ic_laws.specs.declared.tree.NameKey.{NameKey}
 use Rattle.ic_definitions.specs.Named.{definitions_scene, index_with_key, key_in}
 
@@ -60,7 +60,7 @@ name_of_first key [] = refl
 name_of_first key (d ∷ ds) = step (has_key key d) (name_of_first key ds)
   where
     step : (b : Bool) → option_map (λ x. x.name) (find (has_key key) ds) ≡ name_of_key (definitions_scene ds) key
-        → option_map (λ x. x.name) (cond b (Some d) (find (has_key key) ds)) ≡ option_map (λ (x : NameSpelling). x.name) (cond b (Some (spelling_of d)) (definition_at (definitions_scene ds) key.name key.scope))
+        → option_map (λ x. x.name) (cond b (Some d) (find (has_key key) ds)) ≡ option_map (λ (x : DefinitionSpelling). x.name) (cond b (Some (spelling_of d)) (definition_at (definitions_scene ds) key.name key.scope))
     step true e = refl
     step false e = e
 
@@ -90,7 +90,7 @@ key_lacking ds name folded scope place same looked_up f =
     sym (its_key ds name folded scope (key_at folded scope) place same refl looked_up ∙ ap (λ b. cond b (Some (key_at folded scope)) None) f)
 
 -- the local one, or else the one that is local to none
-either_first : (local global : Option NameSpelling) → option_map key_of (option_or local global) ≡ option_or (option_map key_of local) (option_map key_of global)
+either_first : (local global : Option DefinitionSpelling) → option_map key_of (option_or local global) ≡ option_or (option_map key_of local) (option_map key_of global)
 either_first None global = refl
 either_first (Some d) global = refl
 

@@ -45,7 +45,9 @@ impl BodyRewrites {
         at: usize,
         definition: &Definition,
     ) -> Result<(), OutOfMemory>
-        ensures { OnOk result (IsNoted at definition.now (with_body_tree (changed_tree (C.change change.now)) definition.now) self.old self.new) }
+        ensures { OnOk result (IsNoted at definition.now
+            (with_body_tree (changed_tree (C.change change.now)) definition.now) self.old
+            self.new) }
     {
         match changed_formula(alloc, change, definition.scope(), definition.body())? {
             None => self.may_dangle |= has_dangling(definition.body()),
@@ -75,7 +77,8 @@ pub fn rewrites_of<C: BookChange>(
     definitions: &[Definition],
     change: &C,
 ) -> Result<BodyRewrites, OutOfMemory>
-    ensures made { IfOk result (λ w. with_bodies w.bodies.items definitions.now ≡ map (with_body_tree (changed_tree (C.change change.now))) definitions.now) }
+    ensures made { IfOk result (λ w. with_bodies w.bodies.items definitions.now
+        ≡ map (with_body_tree (changed_tree (C.change change.now))) definitions.now) }
     ensures fits { IfOk result (λ w. FitsBodies w definitions.now) }
 {
     let mut rewrites = BodyRewrites::new(alloc);

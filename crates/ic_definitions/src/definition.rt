@@ -56,7 +56,13 @@ impl Definition {
         has_equals: bool,
         body: Formula,
     ) -> Result<Definition, OutOfMemory>
-        ensures { IfOk result (λ d. d ≡ record { name = chars name.now; scope = scope; has_equals = has_equals; body = body }) }
+        ensures { IfOk result (λ d. d ≡ record {
+          name = chars name.now;
+          scope = scope;
+          has_equals
+              = has_equals;
+          body = body;
+        }) }
     {
         let key = key_with(fold_name(alloc, name)?, scope);
         let name = Text::from_str(alloc, name)?;

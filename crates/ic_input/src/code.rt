@@ -136,7 +136,8 @@ fn past_symbol(text: &str) -> &str
 
 // What stands after this front of a text. None exactly where it begins otherwise.
 fn past_front<'t>(front: &str, text: &'t str) -> Option<&'t str>
-    ensures { option_map (λ rest. chars rest.now) result ≡ past_front (chars front.now) (chars text.now) }
+    ensures { option_map (λ rest. chars rest.now) result
+        ≡ past_front (chars front.now) (chars text.now) }
 {
     let mut front = front;
     let mut rest = text;
@@ -154,7 +155,8 @@ fn past_front<'t>(front: &str, text: &'t str) -> Option<&'t str>
 /// Appends the code that asks for these parts.
 #[tactic(auto, using(crate::proofs::LiteralLemmas::literals))]
 pub(crate) fn push_code(text: &mut String, code: &NumberCode<'_>) -> Result<(), OutOfMemory>
-    ensures { OnOk result (chars (string_bytes text.new) ≡ chars (string_bytes text.old) ++ code_text code.now) }
+    ensures { OnOk result (chars (string_bytes text.new) ≡ chars (string_bytes text.old)
+        ++ code_text code.now) }
 {
     push_text(text, code.before)?;
     push_text(text, digits_code(code.decimals))?;

@@ -50,7 +50,8 @@ pub(crate) fn short_number(text: &str, locale: &Locale) -> Option<u32>
 
 #[tactic(auto, using(crate::proofs::LiteralLemmas::literals))]
 fn short_day(date: &Fields, locale: &Locale) -> Option<u32>
-    requires { (date.now.first.value < 10000) × (date.now.second.value < 10000) × (date.now.third.value < 10000) }
+    requires { (date.now.first.value < 10000) × (date.now.second.value < 10000)
+        × (date.now.third.value < 10000) }
     ensures { result ≡ short_day_of (short_date locale.now) date.now }
 {
     if date.first.count < 1 || date.second.count < 1 || date.third.count != 4 {
@@ -68,7 +69,8 @@ fn three_fields(text: &str, mark: char, most: usize, last: usize) -> Option<Fiel
     requires first { most ≤ 4 }
     requires last { last ≤ 4 }
     ensures value { result ≡ three_fields mark most last (chars text.now) }
-    ensures small { IfSome result (λ f. (f.first.value < 10000) × (f.second.value < 10000) × (f.third.value < 10000)) }
+    ensures small { IfSome result (λ f. (f.first.value < 10000) × (f.second.value < 10000)
+        × (f.third.value < 10000)) }
 {
     let (first, rest) = field_at(most, text);
     let (second, rest) = field_at(2, past_mark(rest, mark)?);
@@ -105,7 +107,8 @@ fn field_at(most: usize, text: &str) -> (Field, &str)
 
 // The digit at the front of a text, if any more are read, and what stands after it.
 fn digit_at(left: usize, text: &str) -> Option<(u32, &str)>
-    ensures digit { MatchOption result (IsNoDigit left (chars text.now)) (λ p. IsDigit left p.0 (chars text.now) (chars p.1.now)) }
+    ensures digit { MatchOption result (IsNoDigit left (chars text.now))
+        (λ p. IsDigit left p.0 (chars text.now) (chars p.1.now)) }
     ensures shorter { IfSome result (λ p. length p.1.now < length text.now) }
 {
     if left == 0 {
@@ -181,7 +184,8 @@ pub(crate) fn civil_of(n: u32) -> Civil
 #[tactic(auto, using(crate::proofs::LiteralLemmas::literals))]
 pub(crate) fn push_day(text: &mut String, code: &str, day: &Civil) -> Result<(), OutOfMemory>
     requires { (day.now.year < 10000) × (day.now.month < 100) × (day.now.day < 100) }
-    ensures { OnOk result (chars (string_bytes text.new) ≡ chars (string_bytes text.old) ++ date_text (chars code.now) day.now.year day.now.month day.now.day) }
+    ensures { OnOk result (chars (string_bytes text.new) ≡ chars (string_bytes text.old)
+        ++ date_text (chars code.now) day.now.year day.now.month day.now.day) }
 {
     if same_text(code, "yyyy-mm-dd") {
         push_iso(text, day)
@@ -195,7 +199,9 @@ pub(crate) fn push_day(text: &mut String, code: &str, day: &Civil) -> Result<(),
 // Appends a day as `2026-01-15`.
 fn push_iso(text: &mut String, day: &Civil) -> Result<(), OutOfMemory>
     requires { (day.now.year < 10000) × (day.now.month < 100) × (day.now.day < 100) }
-    ensures { OnOk result (chars (string_bytes text.new) ≡ chars (string_bytes text.old) ++ joined minus (four_digits day.now.year) (two_digits day.now.month) (two_digits day.now.day)) }
+    ensures { OnOk result (chars (string_bytes text.new) ≡ chars (string_bytes text.old)
+        ++ joined minus (four_digits day.now.year) (two_digits day.now.month)
+        (two_digits day.now.day)) }
 {
     push_four_digits(text, day.year)?;
     push_char(text, '-')?;
@@ -207,7 +213,8 @@ fn push_iso(text: &mut String, day: &Civil) -> Result<(), OutOfMemory>
 // Appends a day as `1/15/2026`.
 fn push_american(text: &mut String, day: &Civil) -> Result<(), OutOfMemory>
     requires { (day.now.year < 10000) × (day.now.month < 100) × (day.now.day < 100) }
-    ensures { OnOk result (chars (string_bytes text.new) ≡ chars (string_bytes text.old) ++ joined slash (decimal day.now.month) (decimal day.now.day) (four_digits day.now.year)) }
+    ensures { OnOk result (chars (string_bytes text.new) ≡ chars (string_bytes text.old)
+        ++ joined slash (decimal day.now.month) (decimal day.now.day) (four_digits day.now.year)) }
 {
     push_number(text, u128::from(day.month))?;
     push_char(text, '/')?;
@@ -219,7 +226,9 @@ fn push_american(text: &mut String, day: &Civil) -> Result<(), OutOfMemory>
 // Appends a day as `15/01/2026`.
 fn push_day_first(text: &mut String, day: &Civil) -> Result<(), OutOfMemory>
     requires { (day.now.year < 10000) × (day.now.month < 100) × (day.now.day < 100) }
-    ensures { OnOk result (chars (string_bytes text.new) ≡ chars (string_bytes text.old) ++ joined slash (two_digits day.now.day) (two_digits day.now.month) (four_digits day.now.year)) }
+    ensures { OnOk result (chars (string_bytes text.new) ≡ chars (string_bytes text.old)
+        ++ joined slash (two_digits day.now.day) (two_digits day.now.month)
+        (four_digits day.now.year)) }
 {
     push_two_digits(text, day.day)?;
     push_char(text, '/')?;

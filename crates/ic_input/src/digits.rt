@@ -21,7 +21,8 @@ pub(crate) struct Digits<'t> {
 
 /// The digits at the front of a text.
 pub(crate) fn digits_at(text: &str) -> Digits<'_>
-    ensures value { result.value ≡ min (digits_value 10 (run_of is_digit (chars text.now))) (10 ^ 20) }
+    ensures value { result.value ≡ min (digits_value 10 (run_of is_digit (chars text.now)))
+        (10 ^ 20) }
     ensures count { result.count ≡ length (run_of is_digit (chars text.now)) }
     ensures rest { chars result.rest.now ≡ past_run is_digit (chars text.now) }
     ensures short { result.count + length result.rest.now ≤ length text.now }
@@ -52,7 +53,8 @@ pub(crate) struct Groups<'t> {
 /// The groups at the front of a text, after digits that write a number.
 pub(crate) fn groups_at(earlier: u128, text: &str, separator: char) -> Groups<'_>
     requires { earlier ≤ 10 ^ 20 }
-    ensures value { result.value ≡ min (digits_value_after 10 earlier (threes separator (chars text.now))) (10 ^ 20) }
+    ensures value { result.value ≡ min (digits_value_after 10 earlier
+        (threes separator (chars text.now))) (10 ^ 20) }
     ensures are_some { result.are_some ≡ not (is_nothing (threes separator (chars text.now))) }
     ensures rest { chars result.rest.now ≡ past_threes separator (chars text.now) }
 {
@@ -73,7 +75,8 @@ pub(crate) fn groups_at(earlier: u128, text: &str, separator: char) -> Groups<'_
 
 // The number of the three digits after a separator at the front of a text, and what stands after them.
 fn group_at(text: &str, separator: char) -> Option<(u32, &str)>
-    ensures value { option_map (λ p. (p.0, chars p.1.now)) result ≡ group_at separator (chars text.now) }
+    ensures value { option_map (λ p. (p.0, chars p.1.now)) result
+        ≡ group_at separator (chars text.now) }
     ensures shorter { IfSome result (λ p. (p.0 < 1000) × (length p.1.now < length text.now)) }
 {
     let (s, text) = first_char(text)?;
@@ -90,7 +93,8 @@ fn group_at(text: &str, separator: char) -> Option<(u32, &str)>
 // Whether three digits stand after a separator.
 fn is_group(separator: char, s: char, a: char, b: char, c: char) -> bool
     ensures value { result ≡ (s == separator && is_digit a && is_digit b && is_digit c) }
-    ensures digits { result ≡ true → (is_digit a ≡ true) × (is_digit b ≡ true) × (is_digit c ≡ true) }
+    ensures digits { result ≡ true → (is_digit a ≡ true) × (is_digit b ≡ true)
+        × (is_digit c ≡ true) }
 {
     s == separator && a.is_ascii_digit() && b.is_ascii_digit() && c.is_ascii_digit()
 }

@@ -31,15 +31,18 @@ pub fn format_amount(
     code: &str,
     locale: &Locale,
 ) -> Result<String, OutOfMemory>
-    ensures shown { IfOk result (λ s. IsFormatted locale.now (chars code.now) v (chars (string_bytes s))) }
-    ensures only { IfOk result (λ s. (text : List ℕ) → IsFormatted locale.now (chars code.now) v text → text ≡ chars (string_bytes s)) }
+    ensures shown { IfOk result (λ s. IsFormatted locale.now (chars code.now) v
+        (chars (string_bytes s))) }
+    ensures only { IfOk result (λ s. (text : List ℕ)
+        → IsFormatted locale.now (chars code.now) v text → text ≡ chars (string_bytes s)) }
 {
     formatted(alloc, v, code, locale)
 }
 
 // The same, with the clause that says that it is so shown.
 fn formatted(alloc: Global, v: Amount, code: &str, locale: &Locale) -> Result<String, OutOfMemory>
-    ensures { IfOk result (λ s. IsFormatted locale.now (chars code.now) v (chars (string_bytes s))) }
+    ensures { IfOk result (λ s. IsFormatted locale.now (chars code.now) v
+        (chars (string_bytes s))) }
 {
     match number_code(code) {
         Some(parts) => number_text(alloc, v.units(), &parts, locale),
@@ -49,7 +52,9 @@ fn formatted(alloc: Global, v: Amount, code: &str, locale: &Locale) -> Result<St
 
 // The text of an amount by a code that isn't one of numbers.
 fn other_text(alloc: Global, v: Amount, code: &str, locale: &Locale) -> Result<String, OutOfMemory>
-    ensures { IfOk result (λ s. (IsDateShown (chars code.now) v (chars (string_bytes s))) ⊎ ((IsNoDate (chars code.now) v) × (chars (string_bytes s) ≡ amount_text (formats.decimal_separator locale.now) v))) }
+    ensures { IfOk result (λ s. (IsDateShown (chars code.now) v (chars (string_bytes s)))
+        ⊎ ((IsNoDate (chars code.now) v) × (chars (string_bytes s)
+        ≡ amount_text (formats.decimal_separator locale.now) v))) }
 {
     match day_by(code, v.units()) {
         Some(n) => day_text(alloc, code, n),
@@ -59,7 +64,8 @@ fn other_text(alloc: Global, v: Amount, code: &str, locale: &Locale) -> Result<S
 
 // The day number that an amount is, if the code is one of dates.
 fn day_by(code: &str, units: i128) -> Option<u32>
-    ensures { MatchOption result (IsNoDate (chars code.now) units) (λ n. (is_date_code (chars code.now) ≡ true) × (IsWholeDay units n)) }
+    ensures { MatchOption result (IsNoDate (chars code.now) units)
+        (λ n. (is_date_code (chars code.now) ≡ true) × (IsWholeDay units n)) }
 {
     if is_date_code(code) {
         whole_day(units)
@@ -134,7 +140,8 @@ fn step_of(decimals: bool, after: &str) -> u128
 
 // Appends the minus of an amount below 0 that isn't rounded to 0.
 fn push_sign(text: &mut String, units: i128, places: u128) -> Result<(), OutOfMemory>
-    ensures { OnOk result (chars (string_bytes text.new) ≡ chars (string_bytes text.old) ++ sign_text units places) }
+    ensures { OnOk result (chars (string_bytes text.new) ≡ chars (string_bytes text.old)
+        ++ sign_text units places) }
 {
     if units < 0 && places != 0 {
         push_char(text, '-')?;
@@ -150,7 +157,9 @@ fn push_digits(
     places: u128,
 ) -> Result<(), OutOfMemory>
     requires { places < 10 ^ 30 }
-    ensures { OnOk result (chars (string_bytes text.new) ≡ chars (string_bytes text.old) ++ digits_text (conventions.group_of locale.now) (formats.decimal_separator locale.now) decimals places) }
+    ensures { OnOk result (chars (string_bytes text.new) ≡ chars (string_bytes text.old)
+        ++ digits_text (conventions.group_of locale.now) (formats.decimal_separator locale.now)
+        decimals places) }
 {
     if !decimals {
         return push_grouped(text, places, group_of(locale));
@@ -163,7 +172,8 @@ fn push_digits(
 // Appends a number in groups of three digits.
 fn push_grouped(text: &mut String, n: u128, group: char) -> Result<(), OutOfMemory>
     requires { n < 10 ^ 30 }
-    ensures { OnOk result (chars (string_bytes text.new) ≡ chars (string_bytes text.old) ++ in_threes group (decimal n)) }
+    ensures { OnOk result (chars (string_bytes text.new) ≡ chars (string_bytes text.old)
+        ++ in_threes group (decimal n)) }
 {
     if n < 1000 {
         return push_number(text, n);
@@ -177,7 +187,8 @@ fn push_grouped(text: &mut String, n: u128, group: char) -> Result<(), OutOfMemo
 // Appends a number below 1,000 in three digits.
 fn push_three_digits(text: &mut String, n: u32) -> Result<(), OutOfMemory>
     requires { n < 1000 }
-    ensures { OnOk result (chars (string_bytes text.new) ≡ chars (string_bytes text.old) ++ (48 + n / 100) ∷ two_digits (n % 100)) }
+    ensures { OnOk result (chars (string_bytes text.new) ≡ chars (string_bytes text.old)
+        ++ (48 + n / 100) ∷ two_digits (n % 100)) }
 {
     push_digit(text, n / 100)?;
     push_two_digits(text, n % 100)

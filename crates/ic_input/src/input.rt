@@ -63,10 +63,13 @@ pub fn classify(
     language: &Language,
     english: &Language,
 ) -> Result<Typed, OutOfMemory>
-    ensures exact { IfOk result (λ t. t ≡ typed locale.now language.now english.now (chars text.now)) }
+    ensures exact { IfOk result (λ t. t ≡ typed locale.now language.now english.now
+        (chars text.now)) }
 
     // By a locale of tables it is what the text is typed as, and nothing else.
-    ensures typed { (tables : TableSet) → HasGoodFormats tables locale.now → IfOk result (λ t. (u : Typed) → IsTyped locale.now language.now english.now (chars text.now) u ↔ (u ≡ t)) }
+    ensures typed { (tables : TableSet) → HasGoodFormats tables locale.now
+        → IfOk result (λ t. (u : Typed) → IsTyped locale.now language.now english.now
+        (chars text.now) u ↔ (u ≡ t)) }
 {
     to_typed(alloc, kind_of(text, locale, language, english))
 }
@@ -110,10 +113,13 @@ fn code_text(alloc: Global, code: &NumberCode<'_>) -> Result<Text, OutOfMemory>
 /// something follows that is no number. None exactly where it has none. It is what `classify` answers of a formula.
 #[tactic(auto, unfolding(crate::specs::Typed::formula_of))]
 pub fn formula_without_prefix<'t>(text: &'t str, locale: &Locale) -> Option<&'t str>
-    ensures exact { option_map (λ f. chars f.now) result ≡ formula_of locale.now (chars text.entry.now) }
+    ensures exact { option_map (λ f. chars f.now) result
+        ≡ formula_of locale.now (chars text.entry.now) }
 
     // By a locale of tables it is the formula of the text, and nothing else is.
-    ensures formula { (tables : TableSet) (f : List ℕ) → HasGoodFormats tables locale.now → IsFormula locale.now (chars text.entry.now) f ↔ (formula_of locale.now (chars text.entry.now) ≡ Some f) }
+    ensures formula { (tables : TableSet) (f : List ℕ) → HasGoodFormats tables locale.now
+        → IsFormula locale.now (chars text.entry.now) f
+        ↔ (formula_of locale.now (chars text.entry.now) ≡ Some f) }
 {
     let (c, rest) = first_char(text)?;
     formula_from(text, c, rest, locale)
@@ -122,7 +128,8 @@ pub fn formula_without_prefix<'t>(text: &'t str, locale: &Locale) -> Option<&'t 
 // The same by the first character and what stands after it.
 fn formula_from<'t>(text: &'t str, c: char, rest: &'t str, locale: &Locale) -> Option<&'t str>
     requires { chars text.now ≡ c ∷ chars rest.now }
-    ensures { option_map (λ f. chars f.now) result ≡ formula_from locale.now c (chars rest.entry.now) }
+    ensures { option_map (λ f. chars f.now) result
+        ≡ formula_from locale.now c (chars rest.entry.now) }
 {
     if is_nothing(rest) {
         None
@@ -137,7 +144,8 @@ fn formula_from<'t>(text: &'t str, c: char, rest: &'t str, locale: &Locale) -> O
 
 // A text that a sign begins, unless what follows is a number.
 fn unless_number<'t>(text: &'t str, rest: &str, locale: &Locale) -> Option<&'t str>
-    ensures { option_map (λ f. chars f.now) result ≡ unless_number (chars text.entry.now) (unsigned_number locale.now (chars rest.now)) }
+    ensures { option_map (λ f. chars f.now) result
+        ≡ unless_number (chars text.entry.now) (unsigned_number locale.now (chars rest.now)) }
 {
     match unsigned_number(rest, locale) {
         Some(_) => None,
@@ -154,7 +162,8 @@ pub fn value_needs_quoting(
     language: &Language,
     english: &Language,
 ) -> Result<bool, OutOfMemory>
-    ensures value { IfOk result (λ b. b ≡ needs_quoting (chars text.now) (typed locale.now language.now english.now (chars text.now))) }
+    ensures value { IfOk result (λ b. b ≡ needs_quoting (chars text.now)
+        (typed locale.now language.now english.now (chars text.now))) }
     ensures succeeds { IsOk result }
 {
     Ok(begins_formula(text) || !kind_of(text, locale, language, english).is_text())

@@ -34,7 +34,8 @@ pub(crate) fn kind_of<'t>(
     language: &Language,
     english: &Language,
 ) -> Kind<'t>
-    ensures { typed_as result ≡ typed locale.entry.now language.now english.now (chars text.entry.now) }
+    ensures { typed_as result ≡ typed locale.entry.now language.now english.now
+        (chars text.entry.now) }
 {
     match first_char(text) {
         None => Kind::Empty,
@@ -58,7 +59,8 @@ fn kind_from<'t>(
     english: &Language,
 ) -> Kind<'t>
     requires { chars text.now ≡ c ∷ chars rest.now }
-    ensures { typed_as result ≡ typed_from locale.entry.now language.now english.now c (chars rest.entry.now) }
+    ensures { typed_as result ≡ typed_from locale.entry.now language.now english.now c
+        (chars rest.entry.now) }
 {
     if is_nothing(rest) {
         kind_unsigned(text, locale, language, english)
@@ -74,7 +76,8 @@ fn kind_from<'t>(
 // The same of a text that a sign begins and something follows.
 fn kind_signed<'t>(text: &'t str, sign: char, rest: &'t str, locale: &Locale) -> Kind<'t>
     requires { chars text.now ≡ sign ∷ chars rest.now }
-    ensures { typed_as result ≡ as_signed (sign ∷ chars rest.entry.now) (sign_of sign) (unsigned_number locale.now (chars rest.entry.now)) }
+    ensures { typed_as result ≡ as_signed (sign ∷ chars rest.entry.now) (sign_of sign)
+        (unsigned_number locale.now (chars rest.entry.now)) }
 {
     match unsigned_number(rest, locale) {
         Some(number) => Kind::Number(with_sign(sign, number.amount), number.code),
@@ -103,7 +106,8 @@ fn kind_unsigned<'t>(
     language: &Language,
     english: &Language,
 ) -> Kind<'t>
-    ensures { typed_as result ≡ typed_unsigned locale.entry.now language.now english.now (chars text.entry.now) }
+    ensures { typed_as result ≡ typed_unsigned locale.entry.now language.now english.now
+        (chars text.entry.now) }
 {
     match unsigned_number(text, locale) {
         Some(number) => Kind::Number(number.amount, number.code),
@@ -119,7 +123,8 @@ fn kind_of_date<'t>(
     language: &Language,
     english: &Language,
 ) -> Kind<'t>
-    ensures { typed_as result ≡ as_date locale.entry.now language.now english.now (chars text.entry.now) (iso_number (chars text.entry.now)) }
+    ensures { typed_as result ≡ as_date locale.entry.now language.now english.now
+        (chars text.entry.now) (iso_number (chars text.entry.now)) }
 {
     if let Some(n) = iso_number(text) {
         return Kind::Date(amount_of_day(n), "yyyy-mm-dd");
@@ -150,7 +155,8 @@ fn kind_of_word<'t>(text: &'t str, language: &Language, english: &Language) -> K
 
 // The same of a text that may be the word of an error.
 fn kind_of_error<'t>(text: &'t str, language: &Language, english: &Language) -> Kind<'t>
-    ensures { typed_as result ≡ as_error (chars text.entry.now) (error_in (error_word language.now english.now (chars text.entry.now))) }
+    ensures { typed_as result ≡ as_error (chars text.entry.now)
+        (error_in (error_word language.now english.now (chars text.entry.now))) }
 {
     match error_of(text, language, english) {
         Some(e) => Kind::Error(e),
@@ -167,7 +173,8 @@ fn error_of(text: &str, language: &Language, english: &Language) -> Option<Error
 
 // The number of the word of a kind that agrees with the text: one of the language, or else an English one.
 fn word_of(kind: WordKind, text: &str, language: &Language, english: &Language) -> Option<usize>
-    ensures { result ≡ word_of (words_of language.now kind) (words_of english.now kind) (chars text.now) }
+    ensures { result ≡ word_of (words_of language.now kind) (words_of english.now kind)
+        (chars text.now) }
 {
     match find_word(language, kind, text) {
         Some(n) => Some(n),

@@ -13,13 +13,18 @@ ghost use Rattle.ic_input.specs.declared.input.Typed.TheVariants as kinds;
 
 /// An amount's text, by the decimal separator of a locale of tables, is typed there as that amount, in any language.
 pub fn law_amount_typed_again()
-    ensures { (tables : TableSet) (l : Locale) (language english : Language) (v : ℤ) → HasGoodFormats tables l → is_amount v ≡ true → typed l language english (amount_text (decimal_separator l) v) ≡ kinds.Number v None }
+    ensures { (tables : TableSet) (l : Locale) (language english : Language) (v : ℤ)
+        → HasGoodFormats tables l → is_amount v ≡ true
+        → typed l language english (amount_text (decimal_separator l) v) ≡ kinds.Number v None }
 {}
 
 /// What is shown of a day by `yyyy-mm-dd`, or by the code of the short dates of a locale of tables, is typed there as that
 /// day with that code, in any language.
 pub fn law_date_typed_again()
-    ensures { (tables : TableSet) (l : Locale) (language english : Language) (code text : List ℕ) (n : ℕ) → HasGoodFormats tables l → (code ≡ iso_date) ⊎ (code ≡ short_date l) → IsShownDay code n text → typed l language english text ≡ kinds.Number (amount_of_day n) (Some code) }
+    ensures { (tables : TableSet) (l : Locale) (language english : Language) (code text : List ℕ)
+        (n : ℕ) → HasGoodFormats tables l → (code ≡ iso_date) ⊎ (code ≡ short_date l)
+        → IsShownDay code n text → typed l language english text
+        ≡ kinds.Number (amount_of_day n) (Some code) }
 {}
 
 /// The word of a boolean, and that of an error value, in a language of tables is typed there as the boolean or the error

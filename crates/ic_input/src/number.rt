@@ -65,7 +65,8 @@ fn may_stand_before_groups(count: usize, groups: bool) -> bool
 
 // The digits after a separator at the front of a text, and what stands after them.
 fn decimals_at(text: &str, decimal: char) -> Digits<'_>
-    ensures value { result.value ≡ min (digits_value 10 (decimals_at decimal (chars text.now))) (10 ^ 20) }
+    ensures value { result.value ≡ min (digits_value 10 (decimals_at decimal (chars text.now)))
+        (10 ^ 20) }
     ensures count { result.count ≡ length (decimals_at decimal (chars text.now)) }
     ensures rest { chars result.rest.now ≡ past_decimals decimal (chars text.now) }
     ensures short { result.count + length result.rest.now ≤ length text.now }
@@ -105,7 +106,9 @@ fn with_after<'t>(
     requires whole { whole.now.value ≤ 10 ^ 20 }
     requires fraction { decimals.now.value ≤ 10 ^ 20 }
     requires few { whole_count + decimals.now.count < 2 ^ 64 }
-    ensures { result ≡ with_after locale.now (chars before.entry.now) whole.now.are_some whole.now.value whole_count decimals.now.value decimals.now.count (chars decimals.now.rest.now) }
+    ensures { result ≡ with_after locale.now (chars before.entry.now) whole.now.are_some
+        whole.now.value whole_count decimals.now.value decimals.now.count
+        (chars decimals.now.rest.now) }
 {
     let after = decimals.rest;
     if !is_beside(locale, before, after) {

@@ -31,7 +31,7 @@ impl<'k, B: Finder, A: Finder> Spelling for Change<'k, B, A> {
     }
 
     fn key_text(&self, alloc: Global, key: &NameKey) -> Result<Text, OutOfMemory> {
-        match self.after.name_spelling(changed_key(self.key, key)) {
+        match self.after.definition_spelling(changed_key(self.key, key)) {
             Some(name) => Ok(Text::from_str(alloc, name)?),
             None => spell_definition(alloc, self.before, key),
         }
@@ -52,7 +52,8 @@ pub fn keep<B: Finder, A: Finder>(
     scope: Option<u32>,
     tree: &Bound,
 ) -> Result<Bound, OutOfMemory>
-    ensures { IfOk result (λ r. r ≡ kept (function_of english.now) (B.scene before.now) (A.scene after.now) (change_of (option_copied change.entry)) scope tree.now) }
+    ensures { IfOk result (λ r. r ≡ kept (function_of english.now) (B.scene before.now)
+        (A.scene after.now) (change_of (option_copied change.entry)) scope tree.now) }
 {
     let change = Change {
         before,
@@ -73,7 +74,8 @@ pub fn keep_formula<B: Finder, A: Finder>(
     scope: Option<u32>,
     formula: &Formula,
 ) -> Result<Formula, OutOfMemory>
-    ensures { IfOk result (λ r. r ≡ kept_formula (function_of english.now) (B.scene before.now) (A.scene after.now) (change_of (option_copied change.entry)) scope formula.now) }
+    ensures { IfOk result (λ r. r ≡ kept_formula (function_of english.now) (B.scene before.now)
+        (A.scene after.now) (change_of (option_copied change.entry)) scope formula.now) }
 {
     match formula {
         Formula::Tree(tree) => Ok(Formula::Tree(keep(

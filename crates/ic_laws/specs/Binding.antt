@@ -4,7 +4,7 @@ use Rattle.std.specs.Prelude.{◌≡◌, ℕ, List, [], ◌∷◌, ◌++◌, map
 use Rattle.std.specs.List.{list_any}
 use Rattle.ic_laws.specs.Name.{Agree, agrees}
 use Rattle.ic_laws.specs.Parse.{Pair, pair_of}
-use Rattle.ic_laws.specs.Scene.{found_name, found_sheet, name_spelling, sheet_spelling}
+use Rattle.ic_laws.specs.Scene.{found_name, found_sheet, definition_spelling, sheet_spelling}
 use Rattle.ic_laws.specs.Tree.{Bound, Kind, Spelled}
 use Rattle.ic_laws.specs.declared.scene.Scene.{Scene}
 use Rattle.ic_laws.specs.declared.tree.LetPair.{LetPair, roll-LetPair}
@@ -174,7 +174,7 @@ module _ (sheet_text : ℕ → List ℕ) (key_text : NameKey → List ℕ) where
 
 -- a formula with all that it mentions in its own spelling
 abbrev pub spelled : Scene → Bound → Spelled
-spelled scene t = spelled_with (sheet_spelling scene) (name_spelling scene) t
+spelled scene t = spelled_with (sheet_spelling scene) (definition_spelling scene) t
 
 -- a formula that stays the same when it is written out and bound again
 abbrev pub IsSettled : (List ℕ → Option ℕ) → Scene → Option ℕ → Bound → Type 0

@@ -8,7 +8,7 @@ use Rattle.ic_laws.specs.Mentions.{AllMentions, mapped, some_mention}
 use Rattle.ic_laws.specs.Name.{agrees, fold}
 use Rattle.ic_laws.specs.Scene.{found_name, found_sheet, key_found, key_of, same_key, same_scope}
 use Rattle.ic_laws.specs.Tree.{Bound}
-use Rattle.ic_laws.specs.declared.scene.NameSpelling.{NameSpelling}
+use Rattle.ic_laws.specs.declared.scene.DefinitionSpelling.{DefinitionSpelling}
 use Rattle.ic_laws.specs.declared.scene.Scene.{Scene}
 use Rattle.ic_laws.specs.declared.tree.NameKey.{NameKey}
 use Rattle.ic_laws.specs.declared.tree.NameMention.{NameMention}
@@ -109,8 +109,8 @@ could_mean key scope (names.Name found) = bytes_eq key.name found.name && same_s
 could_mean key scope (names.Dangling word) = bytes_eq key.name (fold word) && (same_scope key.scope scope || same_scope key.scope None)
 
 -- A definition comes: what could mean it does.
-abbrev pub name_added : NameSpelling → Change
-name_added definition = OfWords (could_mean (key_of definition)) (names.Name (key_of definition))
+abbrev pub definition_added : DefinitionSpelling → Change
+definition_added definition = OfWords (could_mean (key_of definition)) (names.Name (key_of definition))
 
 -- it means the definition with this key
 abbrev pub is_of_name : NameKey → NameMention → Bool
@@ -119,6 +119,6 @@ is_of_name key mention = false
 
 -- A definition goes: what meant it means the one of an agreeing name that is local to none, and dangles by its name where
 -- there is no such one.
-abbrev pub name_gone : Scene → NameSpelling → Change
-name_gone after definition =
+abbrev pub definition_gone : Scene → DefinitionSpelling → Change
+definition_gone after definition =
     OfWords (λ scope mention. is_of_name (key_of definition) mention) (name_or_dangling definition.name (found_name after None definition.name))

@@ -145,59 +145,59 @@ has_definition book name scope = list_any (is_named name scope) book.definitions
 abbrev pub scope_or_none : CoreBook → Option ℕ → Option ℕ
 scope_or_none book index = unwrap_or (scope_of book index) None
 
-abbrev pub new_name_causes : Notations → CoreBook → List ℕ → Option ℕ → List ℕ → Causes
-new_name_causes n book name index body =
+abbrev pub new_definition_causes : Notations → CoreBook → List ℕ → Option ℕ → List ℕ → Causes
+new_definition_causes n book name index body =
     (not (is_identifier name), InvalidName) ∷ (is_none (scope_of book index), InvalidScope) ∷ (has_definition book name (scope_or_none book index), NameExists) ∷ (is_none (body_of n book body), InvalidNameFormula) ∷ []
 
-abbrev pub new_name_refusal : Notations → CoreBook → List ℕ → Option ℕ → List ℕ → Option Refusal
-new_name_refusal n book name index body = first_refusal (new_name_causes n book name index body)
+abbrev pub new_definition_refusal : Notations → CoreBook → List ℕ → Option ℕ → List ℕ → Option Refusal
+new_definition_refusal n book name index body = first_refusal (new_definition_causes n book name index body)
 
 -- the definitions with a new one at their end; its body is bound where the new definition is there too
 abbrev pub with_definition : Definition → CoreBook → CoreBook
 with_definition definition book = record book { definitions = book.definitions ++ definition ∷ [] }
 
 -- what formulas can mention where there is a definition of this name, too
-abbrev pub scene_with_name : CoreBook → List ℕ → Option ℕ → Scene
-scene_with_name book name scope = record (scene_of book) { names = (scene_of book).names ++ record { name = name; scope = scope } ∷ [] }
+abbrev pub scene_with_definition : CoreBook → List ℕ → Option ℕ → Scene
+scene_with_definition book name scope = record (scene_of book) { names = (scene_of book).names ++ record { name = name; scope = scope } ∷ [] }
 
 abbrev pub new_definition : Notations → CoreBook → List ℕ → Option ℕ → Body → Definition
 new_definition n book name scope body = record {
   name = name;
   scope = scope;
   has_equals = body.has_equals;
-  body = formulas.Tree (bound (english_function n) (scene_with_name book name scope) scope body.tree);
+  body = formulas.Tree (bound (english_function n) (scene_with_definition book name scope) scope body.tree);
 }
 
-abbrev pub with_new_name : Notations → CoreBook → List ℕ → Option ℕ → Option Body → CoreBook
-with_new_name n book name scope None = book
-with_new_name n book name scope (Some body) = changed_by n (with_definition (new_definition n book name scope body)) book
+abbrev pub with_new_definition : Notations → CoreBook → List ℕ → Option ℕ → Option Body → CoreBook
+with_new_definition n book name scope None = book
+with_new_definition n book name scope (Some body) = changed_by n (with_definition (new_definition n book name scope body)) book
 
-abbrev pub new_name_step : Notations → CoreBook → List ℕ → Option ℕ → List ℕ → Outcome
-new_name_step n book name index body =
-    unless_refused (new_name_refusal n book name index body) (with_new_name n book name (scope_or_none book index) (body_of n book body)) []
+abbrev pub new_definition_step : Notations → CoreBook → List ℕ → Option ℕ → List ℕ → Outcome
+new_definition_step n book name index body =
+    unless_refused (new_definition_refusal n book name index body) (with_new_definition n book name (scope_or_none book index) (body_of n book body)) []
 
 -- the same question, without a change: the id of the sheet that the definition would be local to
-abbrev pub valid_name_step : Notations → CoreBook → List ℕ → Option ℕ → List ℕ → Outcome
-valid_name_step n book name index body = unless_refused (new_name_refusal n book name index body) book (NumberField (scope_or_none book index) ∷ [])
+abbrev pub valid_definition_step : Notations → CoreBook → List ℕ → Option ℕ → List ℕ → Outcome
+valid_definition_step n book name index body = unless_refused (new_definition_refusal n book name index body) book (NumberField (scope_or_none book index) ∷ [])
 
 -- the index of the definition of an agreeing name in this scope
 abbrev pub index_of_definition : CoreBook → List ℕ → Option ℕ → Option ℕ
 index_of_definition book name scope = position (is_named name scope) book.definitions
 
-abbrev pub delete_name_causes : CoreBook → List ℕ → Option ℕ → Causes
-delete_name_causes book name index =
+abbrev pub delete_definition_causes : CoreBook → List ℕ → Option ℕ → Causes
+delete_definition_causes book name index =
     (is_none (scope_of book index), InvalidSheet) ∷ (not (has_definition book name (scope_or_none book index)), NameNotFound) ∷ []
 
-abbrev pub delete_name_refusal : CoreBook → List ℕ → Option ℕ → Option Refusal
-delete_name_refusal book name index = first_refusal (delete_name_causes book name index)
+abbrev pub delete_definition_refusal : CoreBook → List ℕ → Option ℕ → Option Refusal
+delete_definition_refusal book name index = first_refusal (delete_definition_causes book name index)
 
 abbrev pub without_definition : Option ℕ → CoreBook → CoreBook
 without_definition None book = book
 without_definition (Some index) book = record book { definitions = remove book.definitions index }
 
-abbrev pub delete_name_step : Notations → CoreBook → List ℕ → Option ℕ → Outcome
-delete_name_step n book name index =
-    unless_refused (delete_name_refusal book name index) (changed_by n (without_definition (index_of_definition book name (scope_or_none book index))) book) []
+abbrev pub delete_definition_step : Notations → CoreBook → List ℕ → Option ℕ → Outcome
+delete_definition_step n book name index =
+    unless_refused (delete_definition_refusal book name index) (changed_by n (without_definition (index_of_definition book name (scope_or_none book index))) book) []
 
 -- the index of the sheet that a definition is local to, as it stands now; none where that sheet is gone
 abbrev pub listed_scope : CoreBook → Option ℕ → Option (Option ℕ)
@@ -261,9 +261,9 @@ core_step n book (MoveSheet from to) = move_step book from to
 core_step n book (DeleteSheet index) = delete_step n book index
 core_step n book (DeleteSheetByName name) = at_found (index_of_name book name) (λ index. delete_step n book index)
 core_step n book (DeleteSheetBySheetId id) = at_found (index_of_id book id) (λ index. delete_step n book index)
-core_step n book (NewDefinedName name index body) = new_name_step n book name index body
-core_step n book (DeleteDefinedName name index) = delete_name_step n book name index
-core_step n book (IsValidDefinedName name index body) = valid_name_step n book name index body
+core_step n book (NewDefinedName name index body) = new_definition_step n book name index body
+core_step n book (DeleteDefinedName name index) = delete_definition_step n book name index
+core_step n book (IsValidDefinedName name index body) = valid_definition_step n book name index body
 core_step n book GetDefinedNameList = Ok (book, list_fields n book)
 core_step n book GetNewSheetId = Ok (book, NumberField (fresh_id book) ∷ [])
 core_step n book (SetLocale id) = locale_step n book id

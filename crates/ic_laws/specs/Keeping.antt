@@ -4,7 +4,7 @@ use Rattle.std.specs.Prelude.{ℕ, List, map, Option, Some, unwrap_or, if◌then
 use Rattle.ic_laws.specs.Binding.{bound, spelled_with}
 use Rattle.ic_laws.specs.CoreBook.{Cells, CoreBook, Definition, Sheet}
 use Rattle.ic_laws.specs.Notations.{Notations, english_function}
-use Rattle.ic_laws.specs.Scene.{name_of_key, name_of_sheet, name_spelling, same_key, sheet_spelling}
+use Rattle.ic_laws.specs.Scene.{name_of_key, name_of_sheet, definition_spelling, same_key, sheet_spelling}
 use Rattle.ic_laws.specs.Tree.{Bound}
 use Rattle.ic_laws.specs.declared.scene.Scene.{Scene}
 use Rattle.ic_laws.specs.declared.tree.Formula.{Formula}
@@ -29,7 +29,7 @@ kept_sheet before after id = unwrap_or (name_of_sheet after id) (sheet_spelling 
 
 -- so is a definition, by its key after the change
 abbrev pub kept_name : Scene → Scene → KeyChange → NameKey → List ℕ
-kept_name before after change key = unwrap_or (name_of_key after (change key)) (name_spelling before key)
+kept_name before after change key = unwrap_or (name_of_key after (change key)) (definition_spelling before key)
 
 -- A tree over the change of its book: written so, and bound in the book after it.
 abbrev pub kept : (List ℕ → Option ℕ) → Scene → Scene → KeyChange → Option ℕ → Bound → Bound

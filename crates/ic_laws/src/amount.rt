@@ -43,7 +43,8 @@ impl Amount {
 
     /// The amount of so many units. None exactly where they are 10^27 or more, or -10^27 or less.
     pub fn from_units(units: i128) -> Option<Amount>
-        ensures { MatchOption result (is_amount units ≡ false) (λ a. (a ≡ units) × (is_amount units ≡ true)) }
+        ensures { MatchOption result (is_amount units ≡ false)
+            (λ a. (a ≡ units) × (is_amount units ≡ true)) }
     {
         if units.unsigned_abs() < TOO_MANY {
             Some(Amount { units })
@@ -67,7 +68,8 @@ pub fn amount_spelling(alloc: Global, v: Amount, decimal: char) -> Result<String
     ensures exact { IfOk result (λ s. chars (string_bytes s) ≡ amount_text decimal v) }
 
     // An amount from 0 on is read back, by any separator that is no digit.
-    ensures read_back { (n : ℕ) → v ≡ pos n → is_digit decimal ≡ false → IfOk result (λ s. unsigned_amount decimal (chars (string_bytes s)) ≡ Some n) }
+    ensures read_back { (n : ℕ) → v ≡ pos n → is_digit decimal ≡ false
+        → IfOk result (λ s. unsigned_amount decimal (chars (string_bytes s)) ≡ Some n) }
 {
     spelled(alloc, v.units(), decimal)
 }
@@ -85,7 +87,8 @@ fn spelled(alloc: Global, units: i128, decimal: char) -> Result<String, OutOfMem
 // Appends the text of an amount.
 fn push_signed(text: &mut String, units: i128, decimal: char) -> Result<(), OutOfMemory>
     requires { is_amount units ≡ true }
-    ensures { OnOk result (chars (string_bytes text.new) ≡ chars (string_bytes text.old) ++ amount_text decimal units) }
+    ensures { OnOk result (chars (string_bytes text.new) ≡ chars (string_bytes text.old)
+        ++ amount_text decimal units) }
 {
     if units < 0 {
         push_char(text, '-')?;
@@ -98,7 +101,8 @@ fn push_signed(text: &mut String, units: i128, decimal: char) -> Result<(), OutO
 // Appends the text of an amount from 0 on.
 fn push_unsigned(text: &mut String, units: u128, decimal: char) -> Result<(), OutOfMemory>
     requires { units < 10 ^ 27 }
-    ensures { OnOk result (chars (string_bytes text.new) ≡ chars (string_bytes text.old) ++ unsigned_text decimal units) }
+    ensures { OnOk result (chars (string_bytes text.new) ≡ chars (string_bytes text.old)
+        ++ unsigned_text decimal units) }
 {
     push_number(text, (units / ONE) as u64)?;
     let fraction = (units % ONE) as u32;
@@ -111,7 +115,8 @@ fn push_unsigned(text: &mut String, units: u128, decimal: char) -> Result<(), Ou
 
 // Appends a number in decimal digits.
 fn push_number(text: &mut String, n: u64) -> Result<(), OutOfMemory>
-    ensures { OnOk result (chars (string_bytes text.new) ≡ chars (string_bytes text.old) ++ decimal n) }
+    ensures { OnOk result (chars (string_bytes text.new) ≡ chars (string_bytes text.old)
+        ++ decimal n) }
 {
     write!(text, "{n}")?;
     Ok(())
@@ -120,7 +125,8 @@ fn push_number(text: &mut String, n: u64) -> Result<(), OutOfMemory>
 // Appends the nine digits of a fraction, up to the last one that isn't zero.
 fn push_fraction(text: &mut String, fraction: u32) -> Result<(), OutOfMemory>
     requires { fraction < 10 ^ 9 }
-    ensures { OnOk result (chars (string_bytes text.new) ≡ chars (string_bytes text.old) ++ fraction_digits 9 fraction) }
+    ensures { OnOk result (chars (string_bytes text.new) ≡ chars (string_bytes text.old)
+        ++ fraction_digits 9 fraction) }
 {
     let mut places = 9;
     let mut rest = fraction;
@@ -136,7 +142,8 @@ fn push_fraction(text: &mut String, fraction: u32) -> Result<(), OutOfMemory>
 // Appends one digit.
 fn push_digit(text: &mut String, digit: u32) -> Result<(), OutOfMemory>
     requires { digit < 10 }
-    ensures { OnOk result (chars (string_bytes text.new) ≡ chars (string_bytes text.old) ++ (48 + digit) ∷ []) }
+    ensures { OnOk result (chars (string_bytes text.new) ≡ chars (string_bytes text.old)
+        ++ (48 + digit) ∷ []) }
 {
     push_char(text, (b'0' + digit as u8) as char)
 }
@@ -147,8 +154,10 @@ pub fn unsigned_amount(text: &str, decimal: char) -> Option<Amount>
     ensures exact { result ≡ option_map pos (unsigned_amount decimal (chars text.now)) }
 
     // What is answered is what the text writes; by a separator that is no digit, each amount that a text writes is answered.
-    ensures written { IfSome result (λ a. (n : ℕ) × (a ≡ pos n) × WritesUnits decimal (chars text.now) n) }
-    ensures each { (n : ℕ) → is_digit decimal ≡ false → WritesUnits decimal (chars text.now) n → result ≡ Some (pos n) }
+    ensures written { IfSome result (λ a. (n : ℕ) × (a ≡ pos n)
+        × WritesUnits decimal (chars text.now) n) }
+    ensures each { (n : ℕ) → is_digit decimal ≡ false → WritesUnits decimal (chars text.now) n
+        → result ≡ Some (pos n) }
 {
     amount_of(text, decimal)
 }
@@ -200,7 +209,10 @@ struct Digits<'t> {
 fn digits_at(text: &str, most: u64) -> Option<Digits<'_>>
     requires { most < 10 ^ 18 }
     ensures { let run = run_of is_digit (chars text.now) in
-        MatchOption result (most < digits_value 10 run) (λ d. (d.value ≡ digits_value 10 run) × (d.count ≡ length run) × (d.value ≤ most) × (chars d.rest.now ≡ past_run is_digit (chars text.now)) × (d.count + length d.rest.now ≤ length text.now)) }
+        MatchOption result (most < digits_value 10 run)
+        (λ d. (d.value ≡ digits_value 10 run) × (d.count ≡ length run) × (d.value ≤ most)
+        × (chars d.rest.now ≡ past_run is_digit (chars text.now))
+        × (d.count + length d.rest.now ≤ length text.now)) }
 {
     let mut value = 0;
     let mut count = 0;

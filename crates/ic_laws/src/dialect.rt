@@ -60,7 +60,8 @@ pub trait Dialect {
 
     /// The text of a reference; the word of `Error::REF` for one that the dialect can't spell.
     fn spell_ref(&self, alloc: Global, r: &RefToken) -> Result<String, OutOfMemory>
-        ensures { IfOk result (λ s. chars (string_bytes s) ≡ reference_text (meaning self.now) r.now) };
+        ensures { IfOk result (λ s. chars (string_bytes s)
+            ≡ reference_text (meaning self.now) r.now) };
 
     ghost laws: { (d : Self) → IsLawful (meaning d) };
 }

@@ -26,7 +26,7 @@
 //! (trees that a book keeps are equal where their stored texts are), `law_shown_text` (what is shown in a cell and typed
 //! there again is the same formula), `law_steps_stay_valid` (an accepted command leaves a valid book valid); and, for each
 //! command, just which mentions it changes, and to what: `law_add_sheet_binds`, `law_rename_binds`,
-//! `law_delete_sheet_dangles`, `law_new_name_binds`, `law_delete_name_dangles`; and what stays: `law_settled_holds`,
+//! `law_delete_sheet_dangles`, `law_new_definition_binds`, `law_delete_definition_dangles`; and what stays: `law_settled_holds`,
 //! `law_untouched_stays`, `law_rename_keeps`, `law_rename_back`, `law_move_keeps`, `law_notation_keeps`. The proofs are in
 //! `proofs/binding`, `proofs/kept`, `proofs/keeping` and `proofs/core`.
 #![tactic(auto)]
@@ -48,9 +48,10 @@ mod tree;
 
 pub use amount::{Amount, amount_spelling, unsigned_amount};
 pub use book_law::{
-    law_add_sheet_binds, law_delete_name_dangles, law_delete_sheet_dangles, law_move_keeps,
-    law_new_name_binds, law_notation_keeps, law_rename_back, law_rename_binds, law_rename_keeps,
-    law_settled_holds, law_shown_text, law_steps_stay_valid, law_stored_text, law_untouched_stays,
+    law_add_sheet_binds, law_delete_definition_dangles, law_delete_sheet_dangles, law_move_keeps,
+    law_new_definition_binds, law_notation_keeps, law_rename_back, law_rename_binds,
+    law_rename_keeps, law_settled_holds, law_shown_text, law_steps_stay_valid, law_stored_text,
+    law_untouched_stays,
 };
 pub use boxed::Boxed;
 pub use dialect::{Dialect, WordKind};
@@ -63,7 +64,7 @@ pub use law::{
 pub use memory::OutOfMemory;
 pub use name::agree;
 pub use reference::{LAST_COLUMN, LAST_ROW, Place, Position, RefPart, RefToken};
-pub use scene::{Finder, NameSpelling, Scene, SheetName};
+pub use scene::{DefinitionSpelling, Finder, Scene, SheetName};
 pub use text::Text;
 pub use tree::{
     BinarySign, Bound, Constant, Error, Formula, LetPair, NameKey, NameMention, PrefixSign,

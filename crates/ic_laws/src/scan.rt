@@ -14,7 +14,8 @@ use unicode::properties::is_alphabetic;
 /// The first character of a text, and what stands after it.
 #[tactic(auto, using(std::proofs::lemmas::Str::chars_past_char))]
 pub fn first_char(text: &str) -> Option<(char, &str)>
-    ensures parts { MatchOption result (chars text.now ≡ []) (λ p. chars text.now ≡ p.0 ∷ chars p.1.now) }
+    ensures parts { MatchOption result (chars text.now ≡ [])
+        (λ p. chars text.now ≡ p.0 ∷ chars p.1.now) }
     ensures shorter { IfSome result (λ p. length p.1.now < length text.now) }
 {
     let mut rest = text.chars();
@@ -31,7 +32,8 @@ pub fn same_text(a: &str, b: &str) -> bool
 
 /// Appends a character. Where memory runs out the text is as before.
 pub fn push_char(text: &mut String, c: char) -> Result<(), OutOfMemory>
-    ensures ok { OnOk result (chars (string_bytes text.new) ≡ chars (string_bytes text.old) ++ c ∷ []) }
+    ensures ok { OnOk result (chars (string_bytes text.new) ≡ chars (string_bytes text.old) ++ c
+        ∷ []) }
     ensures err { OnErr result (string_bytes text.new ≡ string_bytes text.old) }
 {
     text.push(c)?;
@@ -40,7 +42,8 @@ pub fn push_char(text: &mut String, c: char) -> Result<(), OutOfMemory>
 
 /// Appends a text. Where memory runs out the first text is as before.
 pub fn push_text(text: &mut String, more: &str) -> Result<(), OutOfMemory>
-    ensures ok { OnOk result (chars (string_bytes text.new) ≡ chars (string_bytes text.old) ++ chars more.now) }
+    ensures ok { OnOk result (chars (string_bytes text.new) ≡ chars (string_bytes text.old)
+        ++ chars more.now) }
     ensures err { OnErr result (string_bytes text.new ≡ string_bytes text.old) }
 {
     text.push_str(more)?;

@@ -19,7 +19,7 @@ pub struct SheetName {
 
 /// A definition as formulas see it: its name, and the id of the sheet that it is local to, if there is one.
 #[derive(Drop)]
-pub struct NameSpelling {
+pub struct DefinitionSpelling {
     pub name: Text,
     pub scope: Option<u32>,
 }
@@ -28,7 +28,7 @@ pub struct NameSpelling {
 #[derive(Drop)]
 pub struct Scene {
     pub sheets: Items<SheetName>,
-    pub names: Items<NameSpelling>,
+    pub names: Items<DefinitionSpelling>,
 }
 
 /// What finds the sheets and definitions that formulas mention. It stands for a scene, and each call answers what that
@@ -55,8 +55,9 @@ pub trait Finder {
         ensures { option_map (λ name. chars name.now) result ≡ name_of_sheet (scene self.now) id };
 
     /// The name of the definition with this key as it was given, None where no definition has it.
-    fn name_spelling(&self, key: &NameKey) -> Option<&str>
-        ensures { option_map (λ name. chars name.now) result ≡ name_of_key (scene self.now) key.now };
+    fn definition_spelling(&self, key: &NameKey) -> Option<&str>
+        ensures { option_map (λ name. chars name.now) result
+            ≡ name_of_key (scene self.now) key.now };
 }
 
 /// A scene finds by plain search.
@@ -88,7 +89,7 @@ impl Finder for Scene {
         Some(sheet.name.as_str())
     }
 
-    fn name_spelling(&self, key: &NameKey) -> Option<&str> {
+    fn definition_spelling(&self, key: &NameKey) -> Option<&str> {
         let definition = first_with_key(self.names.as_slice(), key)?;
         Some(definition.name.as_str())
     }
@@ -96,40 +97,49 @@ impl Finder for Scene {
 
 /// The first sheet whose name agrees.
 fn first_named<'a>(sheets: &'a [SheetName], name: &str) -> Option<&'a SheetName>
-    ensures { option_map (λ found. found.now) result ≡ find (λ sheet. agrees sheet.name (chars name.now)) sheets.now }
+    ensures { option_map (λ found. found.now) result
+        ≡ find (λ sheet. agrees sheet.name (chars name.now)) sheets.now }
 {
     sheets.iter().find(|sheet| agree(sheet.name.as_str(), name))
 }
 
 /// The sheet with this id.
 fn first_with_id(sheets: &[SheetName], id: u32) -> Option<&SheetName>
-    ensures { option_map (λ found. found.now) result ≡ find (λ sheet. nat_eq sheet.id id) sheets.now }
+    ensures { option_map (λ found. found.now) result
+        ≡ find (λ sheet. nat_eq sheet.id id) sheets.now }
 {
     sheets.iter().find(|sheet| sheet.id == id)
 }
 
 /// The first definition of an agreeing name that is local to this sheet, or to none.
 fn first_local<'a>(
-    names: &'a [NameSpelling],
+    names: &'a [DefinitionSpelling],
     scope: Option<u32>,
     word: &str,
-) -> Option<&'a NameSpelling>
-    ensures { option_map (λ found. found.now) result ≡ find (λ definition. bytes_eq (fold definition.name) (fold (chars word.now)) && same_scope definition.scope scope) names.now }
+) -> Option<&'a DefinitionSpelling>
+    ensures { option_map (λ found. found.now) result
+        ≡ find (λ definition. bytes_eq (fold definition.name) (fold (chars word.now))
+        && same_scope definition.scope scope) names.now }
 {
     names.iter().find(|definition| agree(definition.name.as_str(), word)
         && same_scope(definition.scope, scope))
 }
 
 /// The definition with this key.
-fn first_with_key<'a>(names: &'a [NameSpelling], key: &NameKey) -> Option<&'a NameSpelling>
-    ensures { option_map (λ found. found.now) result ≡ find (λ definition. bytes_eq (fold definition.name) key.now.name && same_scope definition.scope key.now.scope) names.now }
+fn first_with_key<'a>(
+    names: &'a [DefinitionSpelling],
+    key: &NameKey,
+) -> Option<&'a DefinitionSpelling>
+    ensures { option_map (λ found. found.now) result
+        ≡ find (λ definition. bytes_eq (fold definition.name) key.now.name
+        && same_scope definition.scope key.now.scope) names.now }
 {
     names.iter().find(|definition| folds_to(definition.name.as_str(), key.name.as_str())
         && same_scope(definition.scope, key.scope))
 }
 
 /// The key of a definition.
-fn key_of(alloc: Global, definition: &NameSpelling) -> Result<NameKey, OutOfMemory>
+fn key_of(alloc: Global, definition: &DefinitionSpelling) -> Result<NameKey, OutOfMemory>
     ensures { IfOk result (λ key. key ≡ key_of definition.now) }
 {
     let name = fold_text(alloc, definition.name.as_str())?;
@@ -178,7 +188,8 @@ fn folds_to(name: &str, folded: &str) -> bool
 
 /// What is left of a text after the folding of `c`, None where it doesn't begin with that.
 fn past_folding(c: char, text: &str) -> Option<&str>
-    ensures { option_map (λ rest. chars rest.now) result ≡ past_front (full_fold c) (chars text.now) }
+    ensures { option_map (λ rest. chars rest.now) result
+        ≡ past_front (full_fold c) (chars text.now) }
 {
     match full_folding(c) {
         [] => past_front(&[c], text),

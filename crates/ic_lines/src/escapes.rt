@@ -18,7 +18,8 @@ pub fn escape(alloc: Global, text: &str) -> Result<Text, OutOfMemory>
 
 /// Appends a text as it is written in a word. Where memory runs out a front of it may have been appended.
 pub fn push_escaped(word: &mut String, text: &str) -> Result<(), OutOfMemory>
-    ensures { OnOk result (chars (string_bytes word.new) ≡ chars (string_bytes word.old) ++ escaped (chars text.now)) }
+    ensures { OnOk result (chars (string_bytes word.new) ≡ chars (string_bytes word.old)
+        ++ escaped (chars text.now)) }
 {
     if !has_escaped(text) {
         return push_text(word, text);
@@ -37,7 +38,8 @@ pub fn unescape(alloc: Global, word: &str) -> Result<Option<Text>, OutOfMemory>
     ensures exact { IfOk result (λ text. text ≡ unescaped (chars word.now)) }
 
     // What `escape` gives is read back.
-    ensures spelled { (t : List ℕ) → chars word.now ≡ escaped t → IfOk result (λ text. text ≡ Some t) }
+    ensures spelled { (t : List ℕ) → chars word.now ≡ escaped t
+        → IfOk result (λ text. text ≡ Some t) }
     ensures wrong { IfOk result (λ text. IsNone text ↔ HasWrongEscape (chars word.now)) }
 {
     spelled_text(alloc, word)
@@ -83,7 +85,8 @@ fn is_escaped(b: u8) -> bool
 
 // Writes a character as it stands in a word.
 fn push_escape(word: &mut String, c: char) -> Result<(), OutOfMemory>
-    ensures { OnOk result (chars (string_bytes word.new) ≡ chars (string_bytes word.old) ++ escape_of c) }
+    ensures { OnOk result (chars (string_bytes word.new) ≡ chars (string_bytes word.old)
+        ++ escape_of c) }
 {
     match c {
         '\\' => word.push_str("\\\\")?,

@@ -24,7 +24,8 @@ impl Model for Line {
 impl Line {
     /// The line of this text; none exactly where it has a line feed.
     pub fn new(text: Text) -> Option<Line>
-        ensures { MatchOption result (has_line_feed text ≡ true) (λ l. (l ≡ text) × (has_line_feed text ≡ false)) }
+        ensures { MatchOption result (has_line_feed text ≡ true)
+            (λ l. (l ≡ text) × (has_line_feed text ≡ false)) }
     {
         if text.as_str().as_bytes().contains(&b'\n') {
             return None;

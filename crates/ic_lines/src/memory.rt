@@ -55,7 +55,15 @@ impl MemorySource {
         failing: &[u64],
     ) -> Result<MemorySource, OutOfMemory>
         requires { 1 ≤ chunk }
-        ensures { IfOk result (λ s. s ≡ record { left = bytes.now; chunk = chunk; calls = 0; failing = failing.now; faults = 0; ended = false }) }
+        ensures { IfOk result (λ s. s ≡ record {
+          left = bytes.now;
+          chunk = chunk;
+          calls = 0;
+          failing
+              = failing.now;
+          faults = 0;
+          ended = false;
+        }) }
     {
         Ok(MemorySource {
             bytes: Vec::from_slice(alloc, bytes)?,
@@ -139,7 +147,14 @@ impl MemorySink {
     /// A sink with room for `size` bytes, all of them taken now. It fails exactly at the calls that `failing`
     /// numbers, from 1 on.
     pub fn new(alloc: Global, size: usize, failing: &[u64]) -> Result<MemorySink, OutOfMemory>
-        ensures { IfOk result (λ s. s ≡ record { written = []; size = size; calls = 0; failing = failing.now; faults = 0 }) }
+        ensures { IfOk result (λ s. s ≡ record {
+          written = [];
+          size = size;
+          calls = 0;
+          failing
+              = failing.now;
+          faults = 0;
+        }) }
     {
         Ok(MemorySink {
             buffer: vec![in alloc; 0; size]?,
@@ -165,11 +180,14 @@ impl Sink for MemorySink {
 
     fn write(&mut self, piece: &[u8]) -> Result<usize, Failed>
         ensures within { IfOk result (λ n. n ≤ length piece.now) }
-        ensures moved { MovesWritten (Some self.old.written) (Some self.new.written) result piece.now }
+        ensures moved { MovesWritten (Some self.old.written) (Some self.new.written) result
+            piece.now }
         ensures counted { self.old.faults ≤ self.new.faults }
         ensures cause { OnErr result (HasFault self.old.faults self.new.faults) }
-        ensures stuck { IfOk result (λ n. n ≡ 0 → 0 < length piece.now → HasFault self.old.faults self.new.faults) }
-        ensures quiet { IfOk result (λ n. (0 < n) ⊎ (length piece.now ≡ 0) → self.new.faults ≡ self.old.faults) }
+        ensures stuck { IfOk result (λ n. n ≡ 0 → 0 < length piece.now
+            → HasFault self.old.faults self.new.faults) }
+        ensures quiet { IfOk result (λ n. (0 < n) ⊎ (length piece.now ≡ 0) → self.new.faults
+            ≡ self.old.faults) }
         ensures exact { (result, self.new) ≡ after_write self.old piece.now }
     {
         self.calls = self.calls.saturating_add(1);
@@ -190,7 +208,8 @@ impl Sink for MemorySink {
 // Writes a piece over the bytes from `at` on.
 fn put(buffer: &mut Vec<u8>, at: usize, piece: &[u8])
     requires { at + length piece.now ≤ vec_len buffer.old }
-    ensures items { buffer.new.items ≡ take at buffer.old.items ++ piece.now ++ drop (at + length piece.now) buffer.old.items }
+    ensures items { buffer.new.items ≡ take at buffer.old.items ++ piece.now
+        ++ drop (at + length piece.now) buffer.old.items }
     ensures len { vec_len buffer.new ≡ vec_len buffer.old }
 {
     buffer[at..at + piece.len()].copy_from_slice(piece);

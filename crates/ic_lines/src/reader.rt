@@ -90,15 +90,19 @@ impl LineReader {
 
         // It asks the source only where it has to, and no more once a line came; then it gives the line, or None at
         // the end, of what it holds, also where the source tells nothing.
-        ensures unasked { Contains self.old.held 10 ⊎ (self.old.ended ≡ true) → source.new ≡ source.old }
-        ensures taken { (asked : Reading) × TakesLine self.old asked (S.left source.old) (S.left source.new)
+        ensures unasked { Contains self.old.held 10 ⊎ (self.old.ended ≡ true) → source.new
+            ≡ source.old }
+        ensures taken { (asked : Reading) × TakesLine self.old asked (S.left source.old)
+            (S.left source.new)
             × MatchResult result (λ line. GivesHeld line asked self.new) (λ e. self.new ≡ asked) }
 
         // What an error leaves, and when each comes.
         ensures kept { OnErr result (IfTold (S.left source.old) (S.left source.new)
             (λ before now. unread self.new now ≡ unread self.old before)) }
-        ensures read_fault { result ≡ Err RunError.ReadFault → HasFault (S.faults source.old) (S.faults source.new) × HasToAsk self.new }
-        ensures too_many { result ≡ Err RunError.TooManyTurns → (self.new.turns ≡ most_turns) × HasToAsk self.new }
+        ensures read_fault { result ≡ Err RunError.ReadFault
+            → HasFault (S.faults source.old) (S.faults source.new) × HasToAsk self.new }
+        ensures too_many { result ≡ Err RunError.TooManyTurns → (self.new.turns ≡ most_turns)
+            × HasToAsk self.new }
         ensures no_write { result ≢ Err RunError.WriteFault }
 
         // Each turn took at least one byte.
@@ -124,7 +128,8 @@ impl LineReader {
     // How many of the bytes held stand before the first line feed.
     fn line_feed(&mut self) -> Option<usize>
         ensures same { self.new ≡ self.old }
-        ensures found { MatchOption result (has_line_feed self.old.held ≡ false) (IsFirstLineFeed self.old.held) }
+        ensures found { MatchOption result (has_line_feed self.old.held ≡ false)
+            (IsFirstLineFeed self.old.held) }
     {
         match first_line_feed(&self.bytes[self.scanned..]) {
             Some(place) => {
@@ -174,14 +179,16 @@ impl LineReader {
             (λ before now. unread self.new now ≡ unread self.old before) }
         ensures turns { IfTold (S.left source.old) (S.left source.new)
             (λ before now. self.new.turns + length now ≤ self.old.turns + length before) }
-        ensures ends { IfTold (S.left source.old) (S.left source.new) (λ before now. self.new.ended ≡ true → now ≡ []) }
+        ensures ends { IfTold (S.left source.old) (S.left source.new)
+            (λ before now. self.new.ended ≡ true → now ≡ []) }
         ensures shown { SeesEnd self.old.ended self.new.ended
             (S.ended source.old) (S.ended source.new) }
         ensures taken { TakesRead self.old self.new (S.left source.old) (S.left source.new) }
         ensures goes_on { OnOk result (GoesOn self.old self.new) }
         ensures err { OnErr result ((self.new.held ≡ self.old.held) × (self.new.ended ≡ false)) }
         ensures room { budget self.new ≤ budget self.old }
-        ensures read_fault { result ≡ Err RunError.ReadFault → HasFault (S.faults source.old) (S.faults source.new) }
+        ensures read_fault { result ≡ Err RunError.ReadFault
+            → HasFault (S.faults source.old) (S.faults source.new) }
         ensures too_many { result ≡ Err RunError.TooManyTurns → self.new.turns ≡ most_turns }
         ensures no_write { result ≢ Err RunError.WriteFault }
         ensures counted { S.faults source.old ≤ S.faults source.new }
@@ -260,13 +267,18 @@ fn drop_front(bytes: &mut Vec<u8>, count: usize)
 
 // Reads after the bytes that are there, and answers how many came.
 fn read_more<S: Source>(source: &mut S, bytes: &mut Vec<u8>) -> Result<usize, RunError>
-    ensures ok { OnOk result (TakesAfter (drop (vec_len bytes.old) bytes.new.items) bytes.old.items bytes.new.items (S.left source.old) (S.left source.new)) }
-    ensures end { IfOk result (λ n. n ≡ 0 → IfTold (S.left source.old) (S.left source.new) (λ before now. before ≡ [])) }
-    ensures ok_len { IfOk result (λ n. (n ≤ READ_SIZE) × (vec_len bytes.new ≡ vec_len bytes.old + n)) }
+    ensures ok { OnOk result (TakesAfter (drop (vec_len bytes.old) bytes.new.items) bytes.old.items
+        bytes.new.items (S.left source.old) (S.left source.new)) }
+    ensures end { IfOk result (λ n. n ≡ 0 → IfTold (S.left source.old) (S.left source.new)
+        (λ before now. before ≡ [])) }
+    ensures ok_len { IfOk result (λ n. (n ≤ READ_SIZE)
+        × (vec_len bytes.new ≡ vec_len bytes.old + n)) }
     ensures err { OnErr result (bytes.new.items ≡ bytes.old.items) }
-    ensures err_left { OnErr result (IfTold (S.left source.old) (S.left source.new) (λ before now. now ≡ before)) }
+    ensures err_left { OnErr result (IfTold (S.left source.old) (S.left source.new)
+        (λ before now. now ≡ before)) }
     ensures which { IfErr result (λ e. (e ≡ RunError.ReadFault) ⊎ (e ≡ RunError.OutOfMemory)) }
-    ensures read_fault { result ≡ Err RunError.ReadFault → HasFault (S.faults source.old) (S.faults source.new) }
+    ensures read_fault { result ≡ Err RunError.ReadFault
+        → HasFault (S.faults source.old) (S.faults source.new) }
     ensures counted { S.faults source.old ≤ S.faults source.new }
     ensures quiet { OnOk result (S.faults source.new ≡ S.faults source.old) }
     ensures shown { ShowsEnd (S.ended source.old) (S.ended source.new) result READ_SIZE }

@@ -18,16 +18,21 @@ pub trait Sink {
         ensures moved { MovesWritten (written self.old) (written self.new) result piece.now }
         ensures counted { faults self.old ≤ faults self.new }
         ensures cause { OnErr result (HasFault (faults self.old) (faults self.new)) }
-        ensures stuck { IfOk result (λ n. n ≡ 0 → 0 < length piece.now → HasFault (faults self.old) (faults self.new)) }
-        ensures quiet { IfOk result (λ n. (0 < n) ⊎ (length piece.now ≡ 0) → faults self.new ≡ faults self.old) };
+        ensures stuck { IfOk result (λ n. n ≡ 0 → 0 < length piece.now
+            → HasFault (faults self.old) (faults self.new)) }
+        ensures quiet { IfOk result (λ n. (0 < n) ⊎ (length piece.now ≡ 0) → faults self.new
+            ≡ faults self.old) };
 }
 
 /// Writes all of `bytes`. The only error is `WriteFault`: a write failed or took nothing, and a front of the bytes,
 /// not all of them, was appended. It takes no memory.
 pub fn write_all<K: Sink>(sink: &mut K, bytes: &[u8]) -> Result<(), RunError>
-    ensures ok { OnOk result (IfTold (K.written sink.old) (K.written sink.new) (λ old new. new ≡ old ++ bytes.now)) }
-    ensures front { OnErr result (IfTold (K.written sink.old) (K.written sink.new) (AppendsFront bytes.now)) }
-    ensures fault { IfErr result (λ e. (e ≡ RunError.WriteFault) × HasFault (K.faults sink.old) (K.faults sink.new)) }
+    ensures ok { OnOk result (IfTold (K.written sink.old) (K.written sink.new)
+        (λ old new. new ≡ old ++ bytes.now)) }
+    ensures front { OnErr result (IfTold (K.written sink.old) (K.written sink.new)
+        (AppendsFront bytes.now)) }
+    ensures fault { IfErr result (λ e. (e ≡ RunError.WriteFault)
+        × HasFault (K.faults sink.old) (K.faults sink.new)) }
     ensures counted { K.faults sink.old ≤ K.faults sink.new }
     ensures quiet { OnOk result (K.faults sink.new ≡ K.faults sink.old) }
 {

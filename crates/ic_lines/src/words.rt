@@ -6,7 +6,8 @@ use std::alloc::Global;
 
 /// The words of a line: what stands between its tabs.
 pub fn words_of(alloc: Global, line: &str) -> Result<Vec<&str>, OutOfMemory>
-    ensures { IfOk result (λ words. map (λ w. chars w.now) words.items ≡ words_in (chars line.now)) }
+    ensures { IfOk result (λ words. map (λ w. chars w.now) words.items
+        ≡ words_in (chars line.now)) }
 {
     Ok(line.split('\t').collect(alloc)?)
 }

@@ -2,7 +2,7 @@
 use Rattle.std.proofs.Common.{◌≡◌, ℕ, List, Option, Some, Ok, Err, refl, sym, ap, subst, ◌∙◌}
 use Rattle.std.proofs.lemmas.Option.{slice_get-map}
 use Rattle.std.specs.Prelude.{option_map}
-use Rattle.ic_laws.proofs.keeping.Deletes.{delete_name_dangles, new_name_binds}
+use Rattle.ic_laws.proofs.keeping.Deletes.{delete_definition_dangles, new_definition_binds}
 use Rattle.ic_laws.proofs.keeping.Renames.{add_binds, rename_binds}
 use Rattle.ic_laws.specs.Command as core
 use Rattle.ic_laws.specs.CoreBook.{CoreBook}
@@ -58,10 +58,10 @@ pub defined_is_meant : DefinedIsMeant
 unfolding core_step
 defined_is_meant b after name scope text body fields valid read e =
     let left = core_left b after (OnDefinitions (definitions.NewDefinedName name scope text)) (core.NewDefinedName name scope text) fields refl e in
-    new_name_binds (notations_in b) (core_of b) (core_of after) name scope text body left.0 (notations_are b.tables valid.tables) (core_valid b valid) read left.1
+    new_definition_binds (notations_in b) (core_of b) (core_of after) name scope text body left.0 (notations_are b.tables valid.tables) (core_valid b valid) read left.1
 
 pub deleted_is_not_meant : DeletedIsNotMeant
 unfolding core_step
 deleted_is_not_meant b after name scope index definition fields valid found at e =
     let left = core_left b after (OnDefinitions (definitions.DeleteDefinedName name scope)) (core.DeleteDefinedName name scope) fields refl e in
-    delete_name_dangles (notations_in b) (core_of b) (core_of after) name scope index definition left.0 (notations_are b.tables valid.tables) (core_valid b valid) found at left.1
+    delete_definition_dangles (notations_in b) (core_of b) (core_of after) name scope index definition left.0 (notations_are b.tables valid.tables) (core_valid b valid) found at left.1

@@ -10,7 +10,7 @@ use Rattle.ic_machine.specs.Command.{OnDefinitions, OnSheets}
 use Rattle.ic_machine.specs.Kept.{StaysValid, StaysValidIf, gives_id, is_given_id}
 use Rattle.ic_machine.specs.Valid.{IsValidBook}
 use Rattle.ic_machine.specs.subjects.Definitions as definitions
-use Rattle.ic_machine.specs.subjects.Definitions.{delete_name_step, definition_step, new_name_step, with_new_name}
+use Rattle.ic_machine.specs.subjects.Definitions.{delete_definition_step, definition_step, new_definition_step, with_new_definition}
 use Rattle.ic_machine.specs.subjects.Sheets as sheets
 use Rattle.ic_machine.specs.subjects.Sheets.{add_sheet_step, delete_by_id_step, delete_by_name_step, delete_sheet_step, move_sheet_step, rename_by_index_step, rename_sheet_step, sheet_step, with_new_sheet}
 use Rattle.ic_machine.proofs.ReaderLemmas.{readers_leave}
@@ -53,9 +53,9 @@ module _ (b : Book) (valid : IsValidBook b) where
   sheets_stay (sheets.DuplicateSheet sheet) = duplicate_stays b valid sheet
 
   pub definitions_stay : (command : definitions.Definitions) → StaysValid (definition_step b command)
-  unfolding new_name_step delete_name_step
+  unfolding new_definition_step delete_definition_step
   definitions_stay (definitions.NewDefinedName name scope body) =
-      let left : Book = with_new_name b name (scope_or_none (core_of b) scope) (body_of (notations_in b) (core_of b) body) in
+      let left : Book = with_new_definition b name (scope_or_none (core_of b) scope) (body_of (notations_in b) (core_of b) body) in
       stays_lifted b valid (OnDefinitions (definitions.NewDefinedName name scope body)) (core.NewDefinedName name scope body) left refl (core_step (notations_in b) (core_of b) (core.NewDefinedName name scope body)) refl
       (named_stays b valid name (scope_or_none (core_of b) scope) (body_of (notations_in b) (core_of b) body))
   definitions_stay (definitions.DeleteDefinedName name scope) =

@@ -12,7 +12,7 @@ use Rattle.ic_machine.specs.Refusal.{Causes, InvalidSheet, Refusal, first_refusa
 use Rattle.ic_machine.specs.Reply.{Field, bool_field, number_field}
 use Rattle.ic_machine.specs.Step.{step}
 use Rattle.ic_machine.specs.subjects.Definitions as definitions
-use Rattle.ic_machine.specs.subjects.Definitions.{list_step, valid_name_step, would_capture_step}
+use Rattle.ic_machine.specs.subjects.Definitions.{list_step, valid_definition_step, would_capture_step}
 use Rattle.ic_machine.specs.subjects.Extending as extending
 use Rattle.ic_machine.specs.subjects.Extending.{extend_copied_step, extend_step, parse_step}
 use Rattle.ic_machine.specs.subjects.Layout as layout
@@ -92,7 +92,7 @@ module _ (b : Book) where
   sheets_leave (sheets.DeleteSheetBySheetId id) = tt
 
   definitions_leave : (command : definitions.Definitions) → LeavesIf (is_reader (OnDefinitions command)) b (step b (OnDefinitions command))
-  unfolding would_capture_step valid_name_step list_step
+  unfolding would_capture_step valid_definition_step list_step
   definitions_leave (definitions.WouldCaptureName update) = leaves _ _
   definitions_leave (definitions.IsValidDefinedName name scope body) = leaves_core _
   definitions_leave definitions.GetDefinedNameList = leaves_core _

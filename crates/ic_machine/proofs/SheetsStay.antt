@@ -34,7 +34,7 @@ use Rattle.ic_machine.specs.Kept.{StaysValid}
 use Rattle.ic_machine.specs.Reply.{of_core_fields}
 use Rattle.ic_machine.specs.Step.{step}
 use Rattle.ic_machine.specs.Valid.{IsValidBook}
-use Rattle.ic_machine.specs.subjects.Definitions.{with_new_name}
+use Rattle.ic_machine.specs.subjects.Definitions.{with_new_definition}
 use Rattle.ic_machine.specs.subjects.Sheets as sheets
 use Rattle.ic_machine.specs.subjects.Sheets.{add_sheet_step, delete_by_id_step, delete_by_name_step, delete_sheet_step, move_sheet_step, rename_by_index_step, rename_sheet_step, sheet_step, with_new_sheet}
 use Rattle.ic_machine.proofs.ChangedStays.{all_hold, changed_stays, holds_alike, kept_definitions, kept_sheets, rebuilt, scene_same, seen, seen_kept, spelled_kept}
@@ -225,6 +225,6 @@ module _ (b : Book) (valid : IsValidBook b) where
       (removed_seen spelling_of bodies index ∙ ap (λ ms. remove ms index) (spelled_kept b valid later same_keys) ∙ sym (removed_seen spelling_of b.definitions index)))
       (λ holds. holds) core
 
-  pub named_stays : (name : List ℕ) (scope : Option ℕ) (body : Option Body) → IsValidCore (notations_in b) (core_of (with_new_name b name scope body)) → IsValidBook (with_new_name b name scope body)
+  pub named_stays : (name : List ℕ) (scope : Option ℕ) (body : Option Body) → IsValidCore (notations_in b) (core_of (with_new_definition b name scope body)) → IsValidBook (with_new_definition b name scope body)
   named_stays name scope None core = valid
   named_stays name scope (Some body) core = defined_stays (new_definition (notations_in b) (core_of b) name scope body) core

@@ -13,7 +13,7 @@ use Rattle.ic_machine.specs.Command.{Command, OnArrays, OnDefinitions, OnExtendi
 use Rattle.ic_machine.specs.Core.{IsSteppedAs, core_command, told_by, told_by_core}
 use Rattle.ic_machine.specs.Reply.{of_core_fields}
 use Rattle.ic_machine.specs.subjects.Definitions as definitions
-use Rattle.ic_machine.specs.subjects.Definitions.{delete_name_step, list_step, new_name_step, valid_name_step, with_new_name}
+use Rattle.ic_machine.specs.subjects.Definitions.{delete_definition_step, list_step, new_definition_step, valid_definition_step, with_new_definition}
 use Rattle.ic_machine.specs.subjects.Notation as notation
 use Rattle.ic_machine.specs.subjects.Notation.{set_language_step, set_locale_step}
 use Rattle.ic_machine.specs.subjects.Reading as reading
@@ -44,7 +44,7 @@ module _ (b : Book) where
       told (core.delete_refusal (core_of b) index) (core.changed_by (notations_in b) (core.without_sheet index) (core_of b)) [] (changed_by (with_removed_sheet index) b)
       (core_of-changed (with_removed_sheet index) (core.without_sheet index) (core_of-removed index) b)
 
-  named : (name : List ℕ) (scope : Option ℕ) (body : Option Body) → core_of (with_new_name b name scope body) ≡ core.with_new_name (notations_in b) (core_of b) name scope body
+  named : (name : List ℕ) (scope : Option ℕ) (body : Option Body) → core_of (with_new_definition b name scope body) ≡ core.with_new_definition (notations_in b) (core_of b) name scope body
   named name scope None = refl
   named name scope (Some body) =
       core_of-changed (with_definition (core.new_definition (notations_in b) (core_of b) name scope body)) (core.with_definition (core.new_definition (notations_in b) (core_of b) name scope body))
@@ -72,16 +72,16 @@ module _ (b : Book) where
   sheets_are sheets.GetWorksheetsProperties = tt
 
   definitions_are : (command : definitions.Definitions) → IsSteppedAs b (OnDefinitions command) (core_command (OnDefinitions command))
-  unfolding core_step new_name_step delete_name_step valid_name_step list_step
+  unfolding core_step new_definition_step delete_definition_step valid_definition_step list_step
   definitions_are (definitions.NewDefinedName name scope body) =
-      told (core.new_name_refusal (notations_in b) (core_of b) name scope body) (core.with_new_name (notations_in b) (core_of b) name (core.scope_or_none (core_of b) scope) (body_of (notations_in b) (core_of b) body)) []
-      (with_new_name b name (core.scope_or_none (core_of b) scope) (body_of (notations_in b) (core_of b) body)) (named name (core.scope_or_none (core_of b) scope) (body_of (notations_in b) (core_of b) body))
+      told (core.new_definition_refusal (notations_in b) (core_of b) name scope body) (core.with_new_definition (notations_in b) (core_of b) name (core.scope_or_none (core_of b) scope) (body_of (notations_in b) (core_of b) body)) []
+      (with_new_definition b name (core.scope_or_none (core_of b) scope) (body_of (notations_in b) (core_of b) body)) (named name (core.scope_or_none (core_of b) scope) (body_of (notations_in b) (core_of b) body))
   definitions_are (definitions.DeleteDefinedName name scope) =
-      told (core.delete_name_refusal (core_of b) name scope) (core.changed_by (notations_in b) (core.without_definition (core.index_of_definition (core_of b) name (core.scope_or_none (core_of b) scope))) (core_of b)) []
+      told (core.delete_definition_refusal (core_of b) name scope) (core.changed_by (notations_in b) (core.without_definition (core.index_of_definition (core_of b) name (core.scope_or_none (core_of b) scope))) (core_of b)) []
       (changed_by (without_definition (core.index_of_definition (core_of b) name (core.scope_or_none (core_of b) scope))) b)
       (core_of-changed (without_definition (core.index_of_definition (core_of b) name (core.scope_or_none (core_of b) scope))) (core.without_definition (core.index_of_definition (core_of b) name (core.scope_or_none (core_of b) scope)))
       (core_of-undefined (core.index_of_definition (core_of b) name (core.scope_or_none (core_of b) scope))) b)
-  definitions_are (definitions.IsValidDefinedName name scope body) = told (core.new_name_refusal (notations_in b) (core_of b) name scope body) (core_of b) (commands.NumberField (core.scope_or_none (core_of b) scope) ∷ []) b refl
+  definitions_are (definitions.IsValidDefinedName name scope body) = told (core.new_definition_refusal (notations_in b) (core_of b) name scope body) (core_of b) (commands.NumberField (core.scope_or_none (core_of b) scope) ∷ []) b refl
   definitions_are definitions.GetDefinedNameList = refl
   definitions_are (definitions.UpdateDefinedName update) = tt
   definitions_are (definitions.WouldCaptureName update) = tt

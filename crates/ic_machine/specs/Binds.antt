@@ -6,7 +6,7 @@ use Rattle.std.specs.Prelude.{◌≡◌, ◌⊎◌, ℕ, ◌+◌, ◌++◌, List
 use Rattle.std.specs.Bool.{OnFalse}
 use Rattle.std.specs.List.{AllZip, list_any}
 use Rattle.ic_laws.specs.BookTrees.{with_sheet_at_end, with_trees}
-use Rattle.ic_laws.specs.Changes.{changed_tree, name_added, name_gone, sheet_named}
+use Rattle.ic_laws.specs.Changes.{changed_tree, definition_added, definition_gone, sheet_named}
 use Rattle.ic_laws.specs.CoreBook as core_book
 use Rattle.ic_laws.specs.CoreBook.{CoreBook, Definition, greatest_id, scene_of, spelling_of}
 use Rattle.ic_laws.specs.CoreStep.{index_of_definition, index_of_name, new_definition, scope_or_none, with_definition, with_sheet_name, without_definition}
@@ -153,7 +153,7 @@ DefinedIsMeant =
     → body_of (notations_in book) (core_of book) text ≡ Some body → step book (OnDefinitions (definitions.NewDefinedName name scope text)) ≡ Ok (after, fields)
     → core_of after
     ≡ with_definition (new_definition (notations_in book) (core_of book) name (scope_or_none (core_of book) scope) body)
-    (with_trees (changed_tree (name_added (record { name = name; scope = scope_or_none (core_of book) scope }))) (core_of book))
+    (with_trees (changed_tree (definition_added (record { name = name; scope = scope_or_none (core_of book) scope }))) (core_of book))
 
 -- what meant a deleted one means the one for all sheets, or dangles
 abbrev pub DeletedIsNotMeant : Type 0
@@ -163,7 +163,7 @@ DeletedIsNotMeant =
     → step book (OnDefinitions (definitions.DeleteDefinedName name scope)) ≡ Ok (after, fields)
     → core_of after
     ≡ without_definition (Some index)
-    (with_trees (changed_tree (name_gone (scene_of (without_definition (Some index) (core_of book))) (spelling_of definition))) (core_of book))
+    (with_trees (changed_tree (definition_gone (scene_of (without_definition (Some index) (core_of book))) (spelling_of definition))) (core_of book))
 
 -- What becomes of a word when a definition is updated, which has this key then: what dangled dangles by the same word, or
 -- means that definition; a variable is the same, and a function that is called; of what meant a definition see below.

@@ -3,11 +3,11 @@ use Rattle.std.proofs.Common.{◌≡◌, ℕ, List, Bool, true, false, ◌&&◌,
 use Rattle.std.specs.Prelude.{bytes_eq}
 use Rattle.ic_laws.proofs.keeping.Kept.{spared_is_same}
 use Rattle.ic_laws.proofs.keeping.Spared.{untouched_is_spared}
-use Rattle.ic_laws.specs.Changes.{Change, changes_sheet, changes_word, could_mean, name_added, sheet_named}
+use Rattle.ic_laws.specs.Changes.{Change, changes_sheet, changes_word, could_mean, definition_added, sheet_named}
 use Rattle.ic_laws.specs.Name.{fold}
 use Rattle.ic_laws.specs.Scene.{key_of, same_scope}
 use Rattle.ic_laws.specs.Tree.{Bound}
-use Rattle.ic_laws.specs.declared.scene.NameSpelling.{NameSpelling}
+use Rattle.ic_laws.specs.declared.scene.DefinitionSpelling.{DefinitionSpelling}
 use Rattle.ic_laws.specs.declared.tree.Formula.{Formula}
 use Rattle.ic_laws.specs.declared.tree.Formula.TheVariants as formulas
 use Rattle.ic_laws.specs.declared.tree.NameMention.{NameMention}
@@ -43,8 +43,8 @@ naming_spares_found id name scope = spares_found (sheet_named id name) scope she
     sheet (sheets.Dangling typed) e = cc
 
 -- and that of a definition which is local to no sheet, in the formulas of a sheet
-pub adding_spares_found : (d : NameSpelling) (id : ℕ) → d.scope ≡ None → SparesFound (name_added d) (Some id)
-adding_spares_found d id none = spares_found (name_added d) (Some id) (λ m e. refl) word
+pub adding_spares_found : (d : DefinitionSpelling) (id : ℕ) → d.scope ≡ None → SparesFound (definition_added d) (Some id)
+adding_spares_found d id none = spares_found (definition_added d) (Some id) (λ m e. refl) word
   where
     both : (a : Bool) → (a && false) ≡ false
     both true = refl

@@ -93,8 +93,10 @@ pub fn changed_formula<C: BookChange>(
     scope: Option<u32>,
     formula: &Formula,
 ) -> Result<Option<Formula>, OutOfMemory>
-    ensures becomes { IfOk result (λ r. formula_after (C.change change.now) scope formula.now ≡ unwrap_or r formula.now) }
-    ensures anew { IfOk result (λ r. is_some r ≡ is_changed_by (C.change change.now) scope formula.now) }
+    ensures becomes { IfOk result (λ r. formula_after (C.change change.now) scope formula.now
+        ≡ unwrap_or r formula.now) }
+    ensures anew { IfOk result (λ r. is_some r
+        ≡ is_changed_by (C.change change.now) scope formula.now) }
 {
     let changing = Changing { change, scope };
     if !some_in(&changing, formula) {

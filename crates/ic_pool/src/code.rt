@@ -32,7 +32,8 @@ pub fn key_of(alloc: Global, formula: &Formula) -> Result<Key, OutOfMemory>
 /// The key that determines a definition among those of a book: its folded name, and the id of the sheet that it is local to,
 /// if there is one.
 pub fn name_key(alloc: Global, folded: &str, scope: Option<u32>) -> Result<Key, OutOfMemory>
-    ensures { IfOk result (λ key. key ≡ name_code (record { name = chars folded.now; scope = scope })) }
+    ensures { IfOk result (λ key. key ≡ name_code
+        (record { name = chars folded.now; scope = scope })) }
 {
     let mut key = Key::new(alloc);
     write_text(&mut key, folded)?;

@@ -63,7 +63,8 @@ pub fn copy_changed<C: MentionChange>(
     change: &C,
     tree: &Bound,
 ) -> Result<Bound, OutOfMemory>
-    ensures { IfOk result (λ copy. copy ≡ mapped (C.sheet_becomes change.now) (C.word_becomes change.now) tree.now) }
+    ensures { IfOk result (λ copy. copy ≡ mapped (C.sheet_becomes change.now)
+        (C.word_becomes change.now) tree.now) }
 {
     match tree {
         Tree::Num(amount) => Ok(Tree::Num(*amount)),
@@ -120,7 +121,8 @@ fn copy_boxed<C: MentionChange>(
     change: &C,
     tree: &Boxed<Bound>,
 ) -> Result<Boxed<Bound>, OutOfMemory>
-    ensures { IfOk result (λ copy. copy ≡ mapped (C.sheet_becomes change.now) (C.word_becomes change.now) tree.now) }
+    ensures { IfOk result (λ copy. copy ≡ mapped (C.sheet_becomes change.now)
+        (C.word_becomes change.now) tree.now) }
 {
     let copy = copy_changed(alloc, change, tree.as_ref())?;
     Ok(Boxed::from(Box::new(alloc, copy)?))
@@ -133,7 +135,8 @@ fn copy_all<C: MentionChange>(
     change: &C,
     trees: &[Bound],
 ) -> Result<Vec<Bound>, OutOfMemory>
-    ensures { IfOk result (λ copies. copies.items ≡ map (mapped (C.sheet_becomes change.now) (C.word_becomes change.now)) trees.now) }
+    ensures { IfOk result (λ copies. copies.items
+        ≡ map (mapped (C.sheet_becomes change.now) (C.word_becomes change.now)) trees.now) }
 {
     let mut out = Vec::new(alloc);
     for tree in trees {
@@ -150,7 +153,8 @@ fn copy_pairs<C: MentionChange>(
     change: &C,
     pairs: &[LetPair<SheetMention, NameMention>],
 ) -> Result<Vec<LetPair<SheetMention, NameMention>>, OutOfMemory>
-    ensures { IfOk result (λ copies. copies.items ≡ map (pair_mapped (C.sheet_becomes change.now) (C.word_becomes change.now)) pairs.now) }
+    ensures { IfOk result (λ copies. copies.items
+        ≡ map (pair_mapped (C.sheet_becomes change.now) (C.word_becomes change.now)) pairs.now) }
 {
     let mut out = Vec::new(alloc);
     for pair in pairs {

@@ -54,7 +54,8 @@ pub fn some_mention<T: MentionTest>(test: &T, tree: &Bound) -> bool
 /// Whether some mention of one of these formulas passes.
 #[cycle(some_mention)]
 fn some_of_all<T: MentionTest>(test: &T, trees: &[Bound]) -> bool
-    ensures { result ≡ list_any (λ b. b) (map (some_mention (T.is_sheet test.now) (T.is_word test.now)) trees.now) }
+    ensures { result ≡ list_any (λ b. b) (map
+        (some_mention (T.is_sheet test.now) (T.is_word test.now)) trees.now) }
 {
     for tree in trees {
         if some_mention(test, tree) {
@@ -67,7 +68,8 @@ fn some_of_all<T: MentionTest>(test: &T, trees: &[Bound]) -> bool
 /// Whether some mention in the values of these variables passes.
 #[cycle(some_mention)]
 fn some_of_values<T: MentionTest>(test: &T, pairs: &[LetPair<SheetMention, NameMention>]) -> bool
-    ensures { result ≡ list_any (λ b. b) (map (λ pair. some_mention (T.is_sheet test.now) (T.is_word test.now) pair.value) pairs.now) }
+    ensures { result ≡ list_any (λ b. b) (map
+        (λ pair. some_mention (T.is_sheet test.now) (T.is_word test.now) pair.value) pairs.now) }
 {
     for pair in pairs {
         if some_mention(test, &pair.value) {

@@ -195,7 +195,8 @@ impl Pool {
     /// The same for a formula that stays its owner's: where there is no equal one, a copy is put at the end.
     pub fn place_copy(&mut self, formula: &Formula) -> Result<usize, OutOfMemory>
         requires { self.old.is_whole ≡ true }
-        ensures ok { IfOk result (λ at. IsPlaced formula.now at self.old.formulas self.new.formulas) }
+        ensures ok { IfOk result (λ at. IsPlaced formula.now at self.old.formulas
+            self.new.formulas) }
         ensures within { IfOk result (λ at. at < length self.new.formulas) }
         ensures whole { OnOk result (self.new.is_whole ≡ true) }
         ensures err { OnErr result (self.new ≡ self.old) }
@@ -217,7 +218,8 @@ impl Pool {
         change: &C,
         scope: Option<u32>,
     ) -> Result<Rewrites, OutOfMemory>
-        ensures made { IfOk result (λ w. rewritten_by w self.now.formulas ≡ map (formula_after (C.change change.now) scope) self.now.formulas) }
+        ensures made { IfOk result (λ w. rewritten_by w self.now.formulas
+            ≡ map (formula_after (C.change change.now) scope) self.now.formulas) }
         ensures listed { IfOk result (ListsChanged (C.change change.now) scope self.now.formulas) }
         ensures fits { IfOk result (λ w. FitsPool w self.now.formulas) }
     {
@@ -231,7 +233,8 @@ impl Pool {
         scope: Option<u32>,
     ) -> Result<Rewrites, OutOfMemory>
         requires { SparesFound (C.change change.now) scope }
-        ensures made { IfOk result (λ w. rewritten_by w self.now.formulas ≡ map (formula_after (C.change change.now) scope) self.now.formulas) }
+        ensures made { IfOk result (λ w. rewritten_by w self.now.formulas
+            ≡ map (formula_after (C.change change.now) scope) self.now.formulas) }
         ensures listed { IfOk result (ListsChanged (C.change change.now) scope self.now.formulas) }
         ensures fits { IfOk result (λ w. FitsPool w self.now.formulas) }
     {

@@ -32,7 +32,8 @@ fn read_position(absolute: bool, origin: i32, number: u32, rest: &str) -> Option
     requires small { number ≤ row_count }
     requires low { pos 0 ≤ℤ origin }
     requires high { origin ≤ℤ LAST_ROW }
-    ensures { option_map (λ f. (f.0, chars f.1.now)) result ≡ read_position absolute origin (number, chars rest.now) }
+    ensures { option_map (λ f. (f.0, chars f.1.now)) result
+        ≡ read_position absolute origin (number, chars rest.now) }
 {
     if number == 0 {
         return None;
@@ -71,7 +72,8 @@ fn read_row(text: &str, row: i32) -> Option<(Position, &str)>
 // The cell at the front, read at a row and a column, and the rest.
 pub(crate) fn read_cell(text: &str, origin: Origin) -> Option<(RefPart, &str)>
     requires { IsAnOrigin origin.row origin.column }
-    ensures { option_map (λ f. (f.0, chars f.1.now)) result ≡ cell_at origin.row origin.column (chars text.now) }
+    ensures { option_map (λ f. (f.0, chars f.1.now)) result
+        ≡ cell_at origin.row origin.column (chars text.now) }
 {
     let (column, rest) = read_column(text, origin.column)?;
     let (row, rest) = read_row(rest, origin.row)?;
@@ -89,7 +91,8 @@ fn past_colon(text: &str) -> Option<&str>
 // Two cells with a colon between them.
 fn read_cells(text: &str, origin: Origin) -> Option<((RefPart, RefPart), &str)>
     requires { IsAnOrigin origin.row origin.column }
-    ensures { option_map (λ f. (f.0, chars f.1.now)) result ≡ pair_at (cell_at origin.row origin.column) (chars text.now) }
+    ensures { option_map (λ f. (f.0, chars f.1.now)) result
+        ≡ pair_at (cell_at origin.row origin.column) (chars text.now) }
 {
     let (first, rest) = read_cell(text, origin)?;
     let (last, rest) = read_cell(past_colon(rest)?, origin)?;
@@ -100,7 +103,8 @@ fn read_cells(text: &str, origin: Origin) -> Option<((RefPart, RefPart), &str)>
 fn read_columns(text: &str, column: i32) -> Option<((Position, Position), &str)>
     requires low { pos 0 ≤ℤ column }
     requires high { column ≤ℤ LAST_COLUMN }
-    ensures { option_map (λ f. (f.0, chars f.1.now)) result ≡ pair_at (column_at column) (chars text.now) }
+    ensures { option_map (λ f. (f.0, chars f.1.now)) result
+        ≡ pair_at (column_at column) (chars text.now) }
 {
     let (first, rest) = read_column(text, column)?;
     let (last, rest) = read_column(past_colon(rest)?, column)?;
@@ -111,7 +115,8 @@ fn read_columns(text: &str, column: i32) -> Option<((Position, Position), &str)>
 fn read_rows(text: &str, row: i32) -> Option<((Position, Position), &str)>
     requires low { pos 0 ≤ℤ row }
     requires high { row ≤ℤ LAST_ROW }
-    ensures { option_map (λ f. (f.0, chars f.1.now)) result ≡ pair_at (row_at row) (chars text.now) }
+    ensures { option_map (λ f. (f.0, chars f.1.now)) result
+        ≡ pair_at (row_at row) (chars text.now) }
 {
     let (first, rest) = read_row(text, row)?;
     let (last, rest) = read_row(past_colon(rest)?, row)?;
@@ -131,7 +136,8 @@ impl PlaceForm for Origin {
 // The longest place at the front, read at a row and a column, and the rest.
 fn read_place(text: &str, origin: Origin) -> Option<(Place, &str)>
     requires { IsAnOrigin origin.row origin.column }
-    ensures exact { option_map (λ f. (f.0, chars f.1.now)) result ≡ a1_place_at origin.row origin.column (chars text.now) }
+    ensures exact { option_map (λ f. (f.0, chars f.1.now)) result
+        ≡ a1_place_at origin.row origin.column (chars text.now) }
 {
     if let Some(((first, last), rest)) = read_cells(text, origin) {
         return Some((Place::Range(first, last), rest));

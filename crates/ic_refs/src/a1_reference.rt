@@ -46,14 +46,16 @@ pub fn read_a1(
     column: i32,
 ) -> Result<Option<(RefToken, usize)>, OutOfMemory>
     ensures exact { IfOk result (λ found. found ≡ read_at (a1_at row column) text.now at) }
-    ensures longest { IfOk result (λ found. FindsLongestAt (SpellsA1 row column) text.now at found) }
+    ensures longest { IfOk result (λ found. FindsLongestAt (SpellsA1 row column) text.now at
+        found) }
 {
     read_in_cell(alloc, text, at, Origin { row, column })
 }
 
 // The reference as it is written in a cell.
 fn spell_in_cell(alloc: Global, r: &RefToken, origin: Origin) -> Result<Option<String>, OutOfMemory>
-    ensures { IfOk result (λ text. option_map (λ t. chars (string_bytes t)) text ≡ a1_text origin.row origin.column r.now) }
+    ensures { IfOk result (λ text. option_map (λ t. chars (string_bytes t)) text
+        ≡ a1_text origin.row origin.column r.now) }
 {
     if !is_in_sheet(origin) || !is_inside(r.place, origin) {
         return Ok(None);
@@ -75,9 +77,11 @@ pub fn spell_a1(
     row: i32,
     column: i32,
 ) -> Result<Option<String>, OutOfMemory>
-    ensures exact { IfOk result (λ text. option_map (λ t. chars (string_bytes t)) text ≡ a1_text row column r.now) }
+    ensures exact { IfOk result (λ text. option_map (λ t. chars (string_bytes t)) text
+        ≡ a1_text row column r.now) }
     ensures none { IfOk result (λ text. IsNone text ↔ (is_spellable row column r.now ≡ false)) }
-    ensures again { is_shown_spellable row column r.now ≡ true → IfOk result (λ text. IfSome text (λ t. (rest : List ℕ) → IsEnd rest
+    ensures again { is_shown_spellable row column r.now ≡ true
+        → IfOk result (λ text. IfSome text (λ t. (rest : List ℕ) → IsEnd rest
         → a1_at row column (chars (string_bytes t) ++ rest) ≡ Some (r.now, rest))) }
 {
     spell_in_cell(alloc, r, Origin { row, column })

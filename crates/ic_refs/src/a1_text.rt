@@ -41,7 +41,8 @@ pub(crate) fn is_inside(place: Place, origin: Origin) -> bool
 
 // Appends the dollar sign of an absolute position.
 fn push_dollar(out: &mut String, position: Position) -> Result<(), OutOfMemory>
-    ensures { OnOk result (chars (string_bytes out.new) ≡ chars (string_bytes out.old) ++ dollar_of position) }
+    ensures { OnOk result (chars (string_bytes out.new) ≡ chars (string_bytes out.old)
+        ++ dollar_of position) }
 {
     match position {
         Position::Abs(_) => push_char(out, '$'),
@@ -51,7 +52,8 @@ fn push_dollar(out: &mut String, position: Position) -> Result<(), OutOfMemory>
 
 // Appends a number in decimal.
 fn push_number(alloc: Global, out: &mut String, number: u32) -> Result<(), OutOfMemory>
-    ensures { OnOk result (chars (string_bytes out.new) ≡ chars (string_bytes out.old) ++ decimal number) }
+    ensures { OnOk result (chars (string_bytes out.new) ≡ chars (string_bytes out.old)
+        ++ decimal number) }
 {
     let digits = number.to_string(alloc)?;
     push_text(out, digits.as_str())
@@ -78,7 +80,8 @@ fn number_of_row(position: Position, origin: Origin) -> u32
 // Appends a column as it is written in a cell of this column.
 fn push_column_at(out: &mut String, position: Position, origin: Origin) -> Result<(), OutOfMemory>
     requires { is_column (place_at position origin.column) ≡ true }
-    ensures { OnOk result (chars (string_bytes out.new) ≡ chars (string_bytes out.old) ++ column_text origin.column position) }
+    ensures { OnOk result (chars (string_bytes out.new) ≡ chars (string_bytes out.old)
+        ++ column_text origin.column position) }
 {
     push_dollar(out, position)?;
     push_column(out, number_of_column(position, origin))
@@ -92,7 +95,8 @@ fn push_row_at(
     origin: Origin,
 ) -> Result<(), OutOfMemory>
     requires { is_row (place_at position origin.row) ≡ true }
-    ensures { OnOk result (chars (string_bytes out.new) ≡ chars (string_bytes out.old) ++ row_text origin.row position) }
+    ensures { OnOk result (chars (string_bytes out.new) ≡ chars (string_bytes out.old)
+        ++ row_text origin.row position) }
 {
     push_dollar(out, position)?;
     push_number(alloc, out, number_of_row(position, origin))
@@ -106,7 +110,8 @@ fn push_cell(
     origin: Origin,
 ) -> Result<(), OutOfMemory>
     requires { is_part_inside part origin.row origin.column ≡ true }
-    ensures { OnOk result (chars (string_bytes out.new) ≡ chars (string_bytes out.old) ++ cell_text origin.row origin.column part) }
+    ensures { OnOk result (chars (string_bytes out.new) ≡ chars (string_bytes out.old)
+        ++ cell_text origin.row origin.column part) }
 {
     push_column_at(out, part.column, origin)?;
     push_row_at(alloc, out, part.row, origin)
@@ -145,7 +150,8 @@ fn push_columns(
 ) -> Result<(), OutOfMemory>
     requires first { is_column (place_at first origin.column) ≡ true }
     requires last { is_column (place_at last origin.column) ≡ true }
-    ensures { OnOk result (chars (string_bytes out.new) ≡ chars (string_bytes out.old) ++ (column_text origin.column first ++ colon ∷ column_text origin.column last)) }
+    ensures { OnOk result (chars (string_bytes out.new) ≡ chars (string_bytes out.old)
+        ++ (column_text origin.column first ++ colon ∷ column_text origin.column last)) }
 {
     push_column_at(out, first, origin)?;
     push_char(out, ':')?;
@@ -162,7 +168,8 @@ fn push_rows(
 ) -> Result<(), OutOfMemory>
     requires first { is_row (place_at first origin.row) ≡ true }
     requires last { is_row (place_at last origin.row) ≡ true }
-    ensures { OnOk result (chars (string_bytes out.new) ≡ chars (string_bytes out.old) ++ (row_text origin.row first ++ colon ∷ row_text origin.row last)) }
+    ensures { OnOk result (chars (string_bytes out.new) ≡ chars (string_bytes out.old)
+        ++ (row_text origin.row first ++ colon ∷ row_text origin.row last)) }
 {
     push_row_at(alloc, out, first, origin)?;
     push_char(out, ':')?;
@@ -179,7 +186,9 @@ fn push_cells(
 ) -> Result<(), OutOfMemory>
     requires first { is_part_inside first origin.row origin.column ≡ true }
     requires last { is_part_inside last origin.row origin.column ≡ true }
-    ensures { OnOk result (chars (string_bytes out.new) ≡ chars (string_bytes out.old) ++ (cell_text origin.row origin.column first ++ colon ∷ cell_text origin.row origin.column last)) }
+    ensures { OnOk result (chars (string_bytes out.new) ≡ chars (string_bytes out.old)
+        ++ (cell_text origin.row origin.column first ++ colon
+        ∷ cell_text origin.row origin.column last)) }
 {
     push_cell(alloc, out, first, origin)?;
     push_char(out, ':')?;
@@ -196,7 +205,8 @@ fn push_range(
 ) -> Result<(), OutOfMemory>
     requires first { is_part_inside first origin.row origin.column ≡ true }
     requires last { is_part_inside last origin.row origin.column ≡ true }
-    ensures { OnOk result (chars (string_bytes out.new) ≡ chars (string_bytes out.old) ++ range_text origin.row origin.column first last) }
+    ensures { OnOk result (chars (string_bytes out.new) ≡ chars (string_bytes out.old)
+        ++ range_text origin.row origin.column first last) }
 {
     if are_whole_columns(first, last) {
         push_columns(out, first.column, last.column, origin)
@@ -215,7 +225,8 @@ pub(crate) fn push_place(
     origin: Origin,
 ) -> Result<(), OutOfMemory>
     requires { is_inside place origin.row origin.column ≡ true }
-    ensures { OnOk result (chars (string_bytes out.new) ≡ chars (string_bytes out.old) ++ place_text origin.row origin.column place) }
+    ensures { OnOk result (chars (string_bytes out.new) ≡ chars (string_bytes out.old)
+        ++ place_text origin.row origin.column place) }
 {
     match place {
         Place::Cell(part) => push_cell(alloc, out, part, origin),

@@ -18,7 +18,8 @@ pub fn column_to_number(column: &str) -> Result<i32, ColumnError>
     ensures exact { result ≡ column_number (chars column.now) }
 
     // A text names a column exactly where the column has these letters.
-    ensures named { MatchResult result (λ n. column_name n ≡ Some (chars column.now)) (λ e. (n : ℤ) → column_name n ≡ Some (chars column.now) → ⊥) }
+    ensures named { MatchResult result (λ n. column_name n ≡ Some (chars column.now))
+        (λ e. (n : ℤ) → column_name n ≡ Some (chars column.now) → ⊥) }
 {
     number_of_letters(column)
 }
@@ -67,12 +68,14 @@ pub fn is_valid_row(row: i32) -> bool
 /// The letters, in upper case, of the column with this number. None exactly where no column has it, outside 1 to
 /// 16,384.
 pub fn number_to_column(alloc: Global, column: i32) -> Result<Option<String>, OutOfMemory>
-    ensures exact { IfOk result (λ name. option_map (λ letters. chars (string_bytes letters)) name ≡ column_name column) }
+    ensures exact { IfOk result (λ name. option_map (λ letters. chars (string_bytes letters)) name
+        ≡ column_name column) }
     ensures none { IfOk result (λ name. IsNone name ↔ (is_column column ≡ false)) }
 
     // The letters are in upper case and name this column.
     ensures letters { IfOk result (λ name. IfSome name (λ letters.
-        (list_all is_upper (chars (string_bytes letters)) ≡ true) × (pos (letters_number (chars (string_bytes letters))) ≡ column))) }
+        (list_all is_upper (chars (string_bytes letters)) ≡ true)
+        × (pos (letters_number (chars (string_bytes letters))) ≡ column))) }
 {
     if !is_valid_column_number(column) {
         return Ok(None);
@@ -87,7 +90,8 @@ pub fn number_to_column(alloc: Global, column: i32) -> Result<Option<String>, Ou
 pub(crate) fn push_column(text: &mut String, column: u32) -> Result<(), OutOfMemory>
     requires some { 1 ≤ column }
     requires few { column ≤ column_count }
-    ensures { OnOk result (chars (string_bytes text.new) ≡ chars (string_bytes text.old) ++ column_letters column) }
+    ensures { OnOk result (chars (string_bytes text.new) ≡ chars (string_bytes text.old)
+        ++ column_letters column) }
 {
     if column <= 26 {
         return push_letter(text, column);
@@ -105,7 +109,8 @@ pub(crate) fn push_column(text: &mut String, column: u32) -> Result<(), OutOfMem
 fn push_letter(text: &mut String, digit: u32) -> Result<(), OutOfMemory>
     requires some { 1 ≤ digit }
     requires few { digit ≤ 26 }
-    ensures { OnOk result (chars (string_bytes text.new) ≡ chars (string_bytes text.old) ++ letter digit ∷ []) }
+    ensures { OnOk result (chars (string_bytes text.new) ≡ chars (string_bytes text.old)
+        ++ letter digit ∷ []) }
 {
     push_char(text, (64 + digit as u8) as char)
 }

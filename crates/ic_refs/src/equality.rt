@@ -8,7 +8,9 @@ use crate::{A1Reference, CellReferenceIndex, ParsedReference};
 
 /// References of each of the three kinds are equal by `==` exactly where they are one reference.
 pub fn law_equal_references()
-    ensures cells { (a b : CellReferenceIndex) → Decides (⟦<CellReferenceIndex as PartialEq>⟧.eq a b) (a ≡ b) }
+    ensures cells { (a b : CellReferenceIndex)
+        → Decides (⟦<CellReferenceIndex as PartialEq>⟧.eq a b) (a ≡ b) }
     ensures written { (a b : A1Reference) → Decides (⟦<A1Reference as PartialEq>⟧.eq a b) (a ≡ b) }
-    ensures parsed { (a b : ParsedReference) → Decides (⟦<ParsedReference as PartialEq>⟧.eq a b) (a ≡ b) }
+    ensures parsed { (a b : ParsedReference) → Decides (⟦<ParsedReference as PartialEq>⟧.eq a b)
+        (a ≡ b) }
 {}

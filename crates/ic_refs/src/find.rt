@@ -19,7 +19,8 @@ pub(crate) trait PlaceForm {
     /// The longest place at the front, and the rest.
     fn read_place<'t>(&self, text: &'t str) -> Option<(Place, &'t str)>
         requires { is_usable self.now }
-        ensures { option_map (λ f. (f.0, chars f.1.now)) result ≡ place_at self.now (chars text.now) };
+        ensures { option_map (λ f. (f.0, chars f.1.now)) result
+            ≡ place_at self.now (chars text.now) };
 }
 
 /// A reference as it is written, and the rest.
@@ -34,7 +35,8 @@ pub(crate) struct FoundReference<'t> {
 fn find_named<'t, P: PlaceForm>(form: &P, text: &'t str) -> Option<FoundReference<'t>>
     requires { P.is_usable form.now }
     ensures { option_map (λ f. (token_of f, chars f.rest.now)) result
-        ≡ option_and_then (λ f. with_sheet (Some f.0) (P.place_at form.now f.1)) (sheet_at (chars text.now)) }
+        ≡ option_and_then (λ f. with_sheet (Some f.0) (P.place_at form.now f.1))
+        (sheet_at (chars text.now)) }
 {
     let (name, rest) = find_sheet(text)?;
     let (place, rest) = form.read_place(rest)?;
@@ -51,7 +53,8 @@ pub(crate) fn find_reference<'t, P: PlaceForm>(
     text: &'t str,
 ) -> Option<FoundReference<'t>>
     requires { P.is_usable form.now }
-    ensures { option_map (λ f. (token_of f, chars f.rest.now)) result ≡ reference_at (P.place_at form.now) (chars text.now) }
+    ensures { option_map (λ f. (token_of f, chars f.rest.now)) result
+        ≡ reference_at (P.place_at form.now) (chars text.now) }
 {
     if let Some(found) = find_named(form, text) {
         return Some(found);
@@ -83,7 +86,8 @@ pub(crate) fn read_reference<P: PlaceForm>(
     at: usize,
 ) -> Result<Option<(RefToken, usize)>, OutOfMemory>
     requires { P.is_usable form.now }
-    ensures { IfOk result (λ found. found ≡ read_at (reference_at (P.place_at form.now)) text.now at) }
+    ensures { IfOk result (λ found. found ≡ read_at (reference_at (P.place_at form.now)) text.now
+        at) }
 {
     let Some(rest) = text_from(text, at) else {
         return Ok(None);

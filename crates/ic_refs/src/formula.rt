@@ -25,8 +25,10 @@ const CORNER: Origin = Origin { row: 0, column: 0 };
 /// The cell that the whole text is in the A1 form. None exactly where it is none.
 pub fn parse_reference_a1(text: &str) -> Option<A1Reference>
     ensures exact { result ≡ a1_cell_of (chars text.now) }
-    ensures spelled { MatchOption result ((part : RefPart) → SpellsCell (pos 0) (pos 0) (chars text.now) part → ⊥)
-        (λ r. (part : RefPart) × SpellsCell (pos 0) (pos 0) (chars text.now) part × (r ≡ a1_reference part)) }
+    ensures spelled { MatchOption result ((part : RefPart)
+        → SpellsCell (pos 0) (pos 0) (chars text.now) part → ⊥)
+        (λ r. (part : RefPart) × SpellsCell (pos 0) (pos 0) (chars text.now) part
+        × (r ≡ a1_reference part)) }
 {
     whole_cell(text)
 }
@@ -86,10 +88,13 @@ impl ParsedReference {
         find: F,
     ) -> Result<ParsedReference, ReferenceError>
         requires { F.IsAlwaysCallable find }
-        ensures exact { UnlessMemory result (ParsesFormula (λ name answer. FnReturnsAt F.Fn find (encode_utf8_all name) answer) context (formula_token (chars text.now))) }
+        ensures exact { UnlessMemory result (ParsesFormula
+            (λ name answer. FnReturnsAt F.Fn find (encode_utf8_all name) answer) context
+            (formula_token (chars text.now))) }
 
         // What is answered is what the text spells.
-        ensures spelled { TellsFormula (λ name answer. FnReturnsAt F.Fn find (encode_utf8_all name) answer) context (chars text.now) result }
+        ensures spelled { TellsFormula (λ name answer. FnReturnsAt F.Fn find (encode_utf8_all name)
+            answer) context (chars text.now) result }
         ensures inside { IfOk result LiesInSheet }
     {
         whole_text(alloc, context, text, find)
@@ -104,7 +109,9 @@ fn whole_text<F: Fn(&str) -> Option<u32>>(
     find: F,
 ) -> Result<ParsedReference, ReferenceError>
     requires { F.IsAlwaysCallable find }
-    ensures { UnlessMemory result (ParsesFormula (λ name answer. FnReturnsAt F.Fn find (encode_utf8_all name) answer) context (formula_token (chars text.now))) }
+    ensures { UnlessMemory result (ParsesFormula
+        (λ name answer. FnReturnsAt F.Fn find (encode_utf8_all name) answer) context
+        (formula_token (chars text.now))) }
 {
     let token = trimmed(text);
     let Some(found) = whole_reference(token) else {
@@ -116,7 +123,8 @@ fn whole_text<F: Fn(&str) -> Option<u32>>(
 
 // The reference that the whole text is.
 fn whole_reference(text: &str) -> Option<FoundReference<'_>>
-    ensures { option_map token_of result ≡ whole_of (reference_at (a1_place_at (pos 0) (pos 0)) (chars text.now)) }
+    ensures { option_map token_of result ≡ whole_of
+        (reference_at (a1_place_at (pos 0) (pos 0)) (chars text.now)) }
 {
     let found = find_reference(&CORNER, text)?;
     if is_nothing(found.rest) {
@@ -145,7 +153,8 @@ pub(crate) fn sheet_of<F: Fn(&str) -> Option<u32>>(
     find: F,
 ) -> Result<u32, ReferenceError>
     requires { F.IsAlwaysCallable find }
-    ensures { UnlessMemory result (IsSheetOf (λ name answer. FnReturnsAt F.Fn find (encode_utf8_all name) answer) known (option_map name_of sheet.entry)) }
+    ensures { UnlessMemory result (IsSheetOf (λ name answer. FnReturnsAt F.Fn find
+        (encode_utf8_all name) answer) known (option_map name_of sheet.entry)) }
 {
     let Some(written) = sheet else {
         return known.ok_or(ReferenceError::NoSheetKnown);

@@ -38,7 +38,8 @@ pub fn is_valid_identifier(name: &str) -> bool
 /// Whether it agrees with `true` or `false`.
 #[tactic(auto, using(crate::proofs::NameLemmas::literals))]
 fn is_boolean(name: &str) -> bool
-    ensures { result ≡ (agrees (chars name.now) (codes "true") || agrees (chars name.now) (codes "false")) }
+    ensures { result ≡ (agrees (chars name.now) (codes "true")
+        || agrees (chars name.now) (codes "false")) }
 {
     agree(name, "true") || agree(name, "false")
 }
@@ -95,7 +96,8 @@ pub fn quote_name(alloc: Global, name: &str) -> Result<String, OutOfMemory>
 
 /// Appends the name as it stands before a reference.
 pub(crate) fn push_quoted(out: &mut String, name: &str) -> Result<(), OutOfMemory>
-    ensures { OnOk result (chars (string_bytes out.new) ≡ chars (string_bytes out.old) ++ quoted (chars name.now)) }
+    ensures { OnOk result (chars (string_bytes out.new) ≡ chars (string_bytes out.old)
+        ++ quoted (chars name.now)) }
 {
     if needs_quotes(name) {
         push_in_quotes(out, name)
@@ -106,7 +108,8 @@ pub(crate) fn push_quoted(out: &mut String, name: &str) -> Result<(), OutOfMemor
 
 /// Appends the name between quotes, each of its own doubled.
 fn push_in_quotes(out: &mut String, name: &str) -> Result<(), OutOfMemory>
-    ensures { OnOk result (chars (string_bytes out.new) ≡ chars (string_bytes out.old) ++ in_quotes (chars name.now)) }
+    ensures { OnOk result (chars (string_bytes out.new) ≡ chars (string_bytes out.old)
+        ++ in_quotes (chars name.now)) }
 {
     push_char(out, '\'')?;
     push_doubled(out, name)?;
@@ -115,7 +118,8 @@ fn push_in_quotes(out: &mut String, name: &str) -> Result<(), OutOfMemory>
 
 /// Appends the name, each quote doubled.
 fn push_doubled(out: &mut String, name: &str) -> Result<(), OutOfMemory>
-    ensures { OnOk result (chars (string_bytes out.new) ≡ chars (string_bytes out.old) ++ doubled (chars name.now)) }
+    ensures { OnOk result (chars (string_bytes out.new) ≡ chars (string_bytes out.old)
+        ++ doubled (chars name.now)) }
 {
     let mut rest = name;
     while let Some((c, after)) = first_char(rest) {
@@ -127,7 +131,8 @@ fn push_doubled(out: &mut String, name: &str) -> Result<(), OutOfMemory>
 
 /// Appends a character, a quote twice.
 fn push_char_doubled(out: &mut String, c: char) -> Result<(), OutOfMemory>
-    ensures { OnOk result (chars (string_bytes out.new) ≡ chars (string_bytes out.old) ++ doubled_char c) }
+    ensures { OnOk result (chars (string_bytes out.new) ≡ chars (string_bytes out.old)
+        ++ doubled_char c) }
 {
     if c == '\'' {
         push_char(out, '\'')?;

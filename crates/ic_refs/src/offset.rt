@@ -4,7 +4,8 @@ ghost use Rattle.ic_refs.specs.Longest.{is_char_boundary};
 /// The text from this byte on. None past the end and inside a character.
 #[tactic(auto, using(crate::proofs::OffsetLemmas::boundary_true, crate::proofs::OffsetLemmas::boundary_false))]
 pub(crate) fn text_from(text: &str, at: usize) -> Option<&str>
-    ensures { MatchOption result (is_char_boundary text.now at ≡ false) (λ rest. (is_char_boundary text.now at ≡ true) × (rest.now ≡ drop at text.now)) }
+    ensures { MatchOption result (is_char_boundary text.now at ≡ false)
+        (λ rest. (is_char_boundary text.now at ≡ true) × (rest.now ≡ drop at text.now)) }
 {
     let (_, rest) = text.split_at_checked(at)?;
     Some(rest)

@@ -39,10 +39,13 @@ impl ParsedReference {
         requires row { is_row cell.row ≡ true }
         requires column { is_column cell.column ≡ true }
         requires find { F.IsAlwaysCallable find }
-        ensures exact { UnlessMemory result (ParsesR1C1 (λ name answer. FnReturnsAt F.Fn find (encode_utf8_all name) answer) cell (split_sheet (chars text.now))) }
+        ensures exact { UnlessMemory result (ParsesR1C1
+            (λ name answer. FnReturnsAt F.Fn find (encode_utf8_all name) answer) cell
+            (split_sheet (chars text.now))) }
 
         // What is answered is what the text spells.
-        ensures spelled { TellsR1C1 (λ name answer. FnReturnsAt F.Fn find (encode_utf8_all name) answer) cell (chars text.now) result }
+        ensures spelled { TellsR1C1 (λ name answer. FnReturnsAt F.Fn find (encode_utf8_all name)
+            answer) cell (chars text.now) result }
         ensures inside { IfOk result LiesInSheet }
         ensures order { IfOk result HasCornersInOrder }
     {
@@ -60,7 +63,9 @@ fn referred_from<F: Fn(&str) -> Option<u32>>(
     requires row { is_row cell.row ≡ true }
     requires column { is_column cell.column ≡ true }
     requires find { F.IsAlwaysCallable find }
-    ensures { UnlessMemory result (ParsesR1C1 (λ name answer. FnReturnsAt F.Fn find (encode_utf8_all name) answer) cell (split_sheet (chars text.now))) }
+    ensures { UnlessMemory result (ParsesR1C1
+        (λ name answer. FnReturnsAt F.Fn find (encode_utf8_all name) answer) cell
+        (split_sheet (chars text.now))) }
 {
     match split_sheet(text) {
         Err(e) => Err(e),
@@ -79,7 +84,9 @@ fn refers_by_name<F: Fn(&str) -> Option<u32>>(
     requires row { is_row cell.row ≡ true }
     requires column { is_column cell.column ≡ true }
     requires find { F.IsAlwaysCallable find }
-    ensures { UnlessMemory result (ParsesR1C1 (λ name answer. FnReturnsAt F.Fn find (encode_utf8_all name) answer) cell (Ok (option_map name_of name.entry, chars text.now))) }
+    ensures { UnlessMemory result (ParsesR1C1
+        (λ name answer. FnReturnsAt F.Fn find (encode_utf8_all name) answer) cell
+        (Ok (option_map name_of name.entry, chars text.now))) }
 {
     let sheet = sheet_of(alloc, name, Some(cell.sheet), find)?;
     refers(cell, sheet, text)
@@ -101,7 +108,8 @@ fn refers(
 
 // The name of a sheet at the front, if there is one, and what stands after its `!`.
 fn split_sheet(text: &str) -> Result<(Option<WrittenName<'_>>, &str), ReferenceError>
-    ensures { Gives (λ f. (option_map name_of f.0, chars f.1.now)) result (split_sheet (chars text.now)) }
+    ensures { Gives (λ f. (option_map name_of f.0, chars f.1.now)) result
+        (split_sheet (chars text.now)) }
 {
     match first_char(text) {
         Some(('\'', after)) => split_quoted(after),
@@ -112,7 +120,8 @@ fn split_sheet(text: &str) -> Result<(Option<WrittenName<'_>>, &str), ReferenceE
 
 // The same after an opening quote.
 fn split_quoted(text: &str) -> Result<(Option<WrittenName<'_>>, &str), ReferenceError>
-    ensures { Gives (λ f. (option_map name_of f.0, chars f.1.now)) result (quoted_name (name_in_quotes (chars text.now))) }
+    ensures { Gives (λ f. (option_map name_of f.0, chars f.1.now)) result
+        (quoted_name (name_in_quotes (chars text.now))) }
 {
     let Some((name, rest)) = name_in_quotes(text) else {
         return Err(ReferenceError::NameNotClosed);
@@ -125,7 +134,8 @@ fn split_quoted(text: &str) -> Result<(Option<WrittenName<'_>>, &str), Reference
 
 // The same without quotes: the name ends at the first `!`.
 fn split_unquoted(text: &str) -> (Option<WrittenName<'_>>, &str)
-    ensures { unquoted_name (chars text.now) ≡ Ok (option_map name_of result.0, chars result.1.now) }
+    ensures { unquoted_name (chars text.now) ≡ Ok
+        (option_map name_of result.0, chars result.1.now) }
 {
     let rest = from_bang(text);
     let Some((_, after)) = first_char(rest) else {

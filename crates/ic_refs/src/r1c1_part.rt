@@ -11,7 +11,8 @@ use ic_laws::scan::{begins_with_digit, first_char};
 fn read_whole_number(most: u32, text: &str) -> Result<(u32, &str), ReferenceError>
     requires { most ≤ 2 ^ 31 }
     ensures { MatchResult result
-        (λ f. (number_at most (chars text.now) ≡ Ok f.0) × (chars f.1.now ≡ past_run is_digit (chars text.now)) × (f.0 ≤ most))
+        (λ f. (number_at most (chars text.now) ≡ Ok f.0)
+        × (chars f.1.now ≡ past_run is_digit (chars text.now)) × (f.0 ≤ most))
         (λ e. number_at most (chars text.now) ≡ Err e) }
 {
     if !begins_with_digit(text) {
@@ -94,7 +95,8 @@ fn read_offset_on(length: u32, origin: i32, text: &str) -> Result<(i32, &str), R
     requires most { length < 2 ^ 21 }
     requires low { pos 1 ≤ℤ origin }
     requires high { origin ≤ℤ pos length }
-    ensures { Gives (λ f. (f.0, chars f.1.now)) result (offset_on_at length origin (chars text.now)) }
+    ensures { Gives (λ f. (f.0, chars f.1.now)) result
+        (offset_on_at length origin (chars text.now)) }
 {
     let (number, rest) = read_whole_number(2_147_483_647, text)?;
     let place = offset(length, origin, i64::from(number), number)?;
@@ -107,7 +109,8 @@ fn read_offset_back(length: u32, origin: i32, text: &str) -> Result<(i32, &str),
     requires most { length < 2 ^ 21 }
     requires low { pos 1 ≤ℤ origin }
     requires high { origin ≤ℤ pos length }
-    ensures { Gives (λ f. (f.0, chars f.1.now)) result (offset_back_at length origin (chars text.now)) }
+    ensures { Gives (λ f. (f.0, chars f.1.now)) result
+        (offset_back_at length origin (chars text.now)) }
 {
     let (number, rest) = read_whole_number(2_147_483_648, text)?;
     let place = offset_back(length, origin, number)?;

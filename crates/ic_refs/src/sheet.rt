@@ -20,7 +20,8 @@ pub(crate) fn find_sheet(text: &str) -> Option<(WrittenName<'_>, &str)>
 
 /// The name at the front, as it may stand before a `!`, and the rest.
 fn written_name(text: &str) -> Option<(WrittenName<'_>, &str)>
-    ensures { option_map (λ f. (name_of f.0, chars f.1.now)) result ≡ written_name (chars text.now) }
+    ensures { option_map (λ f. (name_of f.0, chars f.1.now)) result
+        ≡ written_name (chars text.now) }
 {
     let (c, after) = first_char(text)?;
     if c == '\'' {
@@ -47,7 +48,8 @@ fn unquoted_name(text: &str) -> Option<(WrittenName<'_>, &str)>
 
 /// The name after an opening quote, and what stands after the quote that closes it. None where none does.
 pub(crate) fn name_in_quotes(text: &str) -> Option<(WrittenName<'_>, &str)>
-    ensures { option_map (λ f. (name_of f.0, chars f.1.now)) result ≡ name_in_quotes (chars text.now) }
+    ensures { option_map (λ f. (name_of f.0, chars f.1.now)) result
+        ≡ name_in_quotes (chars text.now) }
 {
     let closing = closing_quote(text)?;
     let (_, rest) = first_char(closing)?;
@@ -63,7 +65,8 @@ pub(crate) fn name_in_quotes(text: &str) -> Option<(WrittenName<'_>, &str)>
 
 /// What stands after an opening quote from the quote on that closes the name.
 fn closing_quote(text: &str) -> Option<&str>
-    ensures { MatchOption result (name_in_quotes (chars text.now) ≡ None) (λ closing. ClosesAt (chars text.now) (chars closing.now)) }
+    ensures { MatchOption result (name_in_quotes (chars text.now) ≡ None)
+        (λ closing. ClosesAt (chars text.now) (chars closing.now)) }
 {
     let mut rest = text;
     while let Some((c, after)) = first_char(rest) {
@@ -81,7 +84,8 @@ fn closing_quote(text: &str) -> Option<&str>
 
 /// What stands after the quote at the front, if there is one.
 fn past_quote(text: &str) -> Option<&str>
-    ensures cases { MatchOption result (first_is is_quote (chars text.now) ≡ false) (λ rest. chars text.now ≡ quote ∷ chars rest.now) }
+    ensures cases { MatchOption result (first_is is_quote (chars text.now) ≡ false)
+        (λ rest. chars text.now ≡ quote ∷ chars rest.now) }
     ensures shorter { IfSome result (λ rest. length rest.now < length text.now) }
 {
     let (c, after) = first_char(text)?;
@@ -90,7 +94,8 @@ fn past_quote(text: &str) -> Option<&str>
 
 /// What stands after the `!` that follows this name, if it is a sheet's name.
 fn past_bang<'t>(name: &WrittenName<'_>, rest: &'t str) -> Option<&'t str>
-    ensures { option_map (λ r. (name_of name.now, chars r.now)) result ≡ before_bang (name_of name.now) (chars rest.now) }
+    ensures { option_map (λ r. (name_of name.now, chars r.now)) result
+        ≡ before_bang (name_of name.now) (chars rest.now) }
 {
     let (c, after) = first_char(rest)?;
     if c == '!' && name.is_sheet_name() {
@@ -102,7 +107,8 @@ fn past_bang<'t>(name: &WrittenName<'_>, rest: &'t str) -> Option<&'t str>
 
 /// Appends a sheet's name as it is spelled before a reference, or nothing where there is none.
 pub(crate) fn push_sheet(out: &mut String, sheet: &Option<Text>) -> Result<(), OutOfMemory>
-    ensures { OnOk result (chars (string_bytes out.new) ≡ chars (string_bytes out.old) ++ sheet_text sheet.now) }
+    ensures { OnOk result (chars (string_bytes out.new) ≡ chars (string_bytes out.old)
+        ++ sheet_text sheet.now) }
 {
     let Some(name) = sheet else {
         return Ok(());

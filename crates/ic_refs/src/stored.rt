@@ -16,7 +16,8 @@ pub fn read_rc(
     text: &str,
     at: usize,
 ) -> Result<Option<(RefToken, usize)>, OutOfMemory>
-    ensures exact { IfOk result (λ found. found ≡ read_at (reference_at stored_place_at) text.now at) }
+    ensures exact { IfOk result (λ found. found
+        ≡ read_at (reference_at stored_place_at) text.now at) }
     ensures longest { IfOk result (λ found. FindsLongestAt SpellsStored text.now at found) }
 {
     read_stored(alloc, text, at)
@@ -49,7 +50,8 @@ impl PlaceForm for StoredForm {
 // The digits of a distance less than the length, and what stands after the bracket that closes it.
 fn read_digits(length: u32, text: &str) -> Option<(u32, &str)>
     requires { length < 2 ^ 31 }
-    ensures exact { option_map (λ f. (f.0, chars f.1.now)) result ≡ digits_at length (chars text.now) }
+    ensures exact { option_map (λ f. (f.0, chars f.1.now)) result
+        ≡ digits_at length (chars text.now) }
     ensures within { IfSome result (λ f. f.0 ≤ length) }
 {
     let (first, _) = first_char(text)?;
@@ -98,7 +100,8 @@ fn read_part(length: u32, text: &str) -> Option<(Position, &str)>
 // The row or the column at the front, by its letter.
 fn read_position(letter: char, length: u32, text: &str) -> Option<(Position, &str)>
     requires { length < 2 ^ 31 }
-    ensures { option_map (λ f. (f.0, chars f.1.now)) result ≡ position_at letter length (chars text.now) }
+    ensures { option_map (λ f. (f.0, chars f.1.now)) result
+        ≡ position_at letter length (chars text.now) }
 {
     let (c, after) = first_char(text)?;
     if c == letter {

@@ -15,7 +15,8 @@ pub fn spell_rc(alloc: Global, reference: &RefToken) -> Result<String, OutOfMemo
 
     // What is spelled is read back, wherever it ends, if the numbers are within the limits and the name is a sheet's.
     ensures again { is_stored_spellable reference.now ≡ true → (rest : List ℕ) → IsEnd rest
-        → IfOk result (λ text. reference_at stored_place_at (chars (string_bytes text) ++ rest) ≡ Some (reference.now, rest)) }
+        → IfOk result (λ text. reference_at stored_place_at (chars (string_bytes text) ++ rest)
+        ≡ Some (reference.now, rest)) }
 {
     spelled_reference(alloc, reference)
 }
@@ -32,7 +33,8 @@ fn spelled_reference(alloc: Global, reference: &RefToken) -> Result<String, OutO
 
 // Appends a place.
 fn push_place(out: &mut String, place: Place) -> Result<(), OutOfMemory>
-    ensures { OnOk result (chars (string_bytes out.new) ≡ chars (string_bytes out.old) ++ place_text place) }
+    ensures { OnOk result (chars (string_bytes out.new) ≡ chars (string_bytes out.old)
+        ++ place_text place) }
 {
     match place {
         Place::Cell(part) => push_cell(out, part),
@@ -46,7 +48,8 @@ fn push_place(out: &mut String, place: Place) -> Result<(), OutOfMemory>
 
 // Appends a cell.
 fn push_cell(out: &mut String, part: RefPart) -> Result<(), OutOfMemory>
-    ensures { OnOk result (chars (string_bytes out.new) ≡ chars (string_bytes out.old) ++ cell_text part) }
+    ensures { OnOk result (chars (string_bytes out.new) ≡ chars (string_bytes out.old)
+        ++ cell_text part) }
 {
     push_position(out, 'R', part.row)?;
     push_position(out, 'C', part.column)
@@ -54,7 +57,8 @@ fn push_cell(out: &mut String, part: RefPart) -> Result<(), OutOfMemory>
 
 // Appends a row or a column after its letter.
 fn push_position(out: &mut String, letter: char, position: Position) -> Result<(), OutOfMemory>
-    ensures { OnOk result (chars (string_bytes out.new) ≡ chars (string_bytes out.old) ++ position_text letter position) }
+    ensures { OnOk result (chars (string_bytes out.new) ≡ chars (string_bytes out.old)
+        ++ position_text letter position) }
 {
     push_char(out, letter)?;
     match position {
@@ -69,7 +73,8 @@ fn push_position(out: &mut String, letter: char, position: Position) -> Result<(
 
 // Appends a number in decimal.
 fn push_number(out: &mut String, number: i32) -> Result<(), OutOfMemory>
-    ensures { OnOk result (chars (string_bytes out.new) ≡ chars (string_bytes out.old) ++ signed_decimal number) }
+    ensures { OnOk result (chars (string_bytes out.new) ≡ chars (string_bytes out.old)
+        ++ signed_decimal number) }
 {
     write!(out, "{number}")?;
     Ok(())

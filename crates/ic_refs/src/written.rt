@@ -43,7 +43,8 @@ impl<'t> WrittenName<'t> {
 
 /// Appends the name that is written so.
 fn push_spelled(out: &mut String, inside: &str, quoting: Quoting) -> Result<(), OutOfMemory>
-    ensures { OnOk result (chars (string_bytes out.new) ≡ chars (string_bytes out.old) ++ spelled quoting (chars inside.now)) }
+    ensures { OnOk result (chars (string_bytes out.new) ≡ chars (string_bytes out.old)
+        ++ spelled quoting (chars inside.now)) }
 {
     let mut rest = inside;
     while let Some((c, after)) = first_spelled(rest, quoting) {
@@ -81,7 +82,8 @@ fn is_forbidden(c: char) -> bool
 
 /// The first character of a name that is written so, and what is written after it.
 fn first_spelled(inside: &str, quoting: Quoting) -> Option<(char, &str)>
-    ensures parts { MatchOption result (spelled quoting (chars inside.now) ≡ []) (λ p. spelled quoting (chars inside.now) ≡ p.0 ∷ spelled quoting (chars p.1.now)) }
+    ensures parts { MatchOption result (spelled quoting (chars inside.now) ≡ [])
+        (λ p. spelled quoting (chars inside.now) ≡ p.0 ∷ spelled quoting (chars p.1.now)) }
     ensures shorter { IfSome result (λ p. length p.1.now < length inside.now) }
 {
     match quoting {
@@ -92,7 +94,8 @@ fn first_spelled(inside: &str, quoting: Quoting) -> Option<(char, &str)>
 
 /// The first character of a name whose quotes are doubled, and what is written after it.
 fn first_undoubled(inside: &str) -> Option<(char, &str)>
-    ensures parts { MatchOption result (undoubled (chars inside.now) ≡ []) (λ p. undoubled (chars inside.now) ≡ p.0 ∷ undoubled (chars p.1.now)) }
+    ensures parts { MatchOption result (undoubled (chars inside.now) ≡ [])
+        (λ p. undoubled (chars inside.now) ≡ p.0 ∷ undoubled (chars p.1.now)) }
     ensures shorter { IfSome result (λ p. length p.1.now < length inside.now) }
 {
     let (c, after) = first_char(inside)?;

@@ -64,7 +64,14 @@ fn formula_cell(kind: FormulaKind, f: usize, s: usize) -> Cell
 impl Sheet {
     /// A sheet that keeps no formulas and holds nothing, with a plain tab.
     pub fn new(alloc: Global, id: u32, name: Text) -> Sheet
-        ensures { result ≡ record { id = id; name = name; pool = record { formulas = []; is_whole = true }; grid = empty_grid; tab = plain_tab } }
+        ensures { result ≡ record {
+          id = id;
+          name = name;
+          pool
+              = record { formulas = []; is_whole = true };
+          grid = empty_grid;
+          tab = plain_tab;
+        } }
     {
         Sheet {
             id,
@@ -162,7 +169,11 @@ impl Sheet {
         formula: &Formula,
         steps: &mut Steps<L>,
     ) -> Result<usize, OutOfMemory>
-        ensures ok { IfOk result (λ at. IsPlaced formula.now at self.old.pool.formulas self.new.pool.formulas × (self.new ≡ record self.old { pool = record { formulas = self.new.pool.formulas; is_whole = true } })) }
+        ensures ok { IfOk result (λ at. IsPlaced formula.now at self.old.pool.formulas
+            self.new.pool.formulas × (self.new
+            ≡ record self.old {
+              pool = record { formulas = self.new.pool.formulas; is_whole = true };
+            })) }
         ensures err { OnErr result (sheet_of self.new ≡ sheet_of self.old) }
         ensures looks_up { OnErr result (IsSameOrLooksUp self.old self.new) }
         ensures still { self.old.pool.is_whole ≡ true → steps.new ≡ steps.old }

@@ -81,7 +81,8 @@ fn folded(alloc: Global, name: &str) -> Result<String, OutOfMemory>
 
 /// The id of the first sheet whose name agrees with this one.
 fn first_named(sheets: &[Sheet], name: &str) -> Option<u32>
-    ensures { result ≡ option_map (λ s. s.id) (find (λ s. agrees s.name (chars name.now)) sheets.now) }
+    ensures { result ≡ option_map (λ s. s.id)
+        (find (λ s. agrees s.name (chars name.now)) sheets.now) }
 {
     let sheet = sheets
         .iter()
@@ -144,7 +145,8 @@ impl Sheets {
     /// The id of the sheet whose name agrees with this one. None exactly where there is none. Where there is no memory for
     /// the folded name, all names are compared.
     pub fn find(&self, name: &str) -> Option<u32>
-        ensures { result ≡ option_map (λ s. s.id) (find (λ s. agrees s.name (chars name.now)) self.now) }
+        ensures { result ≡ option_map (λ s. s.id)
+            (find (λ s. agrees s.name (chars name.now)) self.now) }
     {
         match folded(self.alloc, name) {
             Ok(key) => self.find_by_key(key.as_str(), name),
@@ -155,7 +157,8 @@ impl Sheets {
     /// The same, by the key of the name.
     fn find_by_key(&self, key: &str, name: &str) -> Option<u32>
         requires { key.now ≡ encode_utf8_all (fold (chars name.now)) }
-        ensures { result ≡ option_map (λ s. s.id) (find (λ s. agrees s.name (chars name.now)) self.now) }
+        ensures { result ≡ option_map (λ s. s.id)
+            (find (λ s. agrees s.name (chars name.now)) self.now) }
     {
         self.ids.get(key).copied()
     }
@@ -177,7 +180,8 @@ impl Sheets {
 
     /// The name of the sheet with this id. None exactly where no sheet has it.
     pub fn name_of(&self, id: u32) -> Option<&str>
-        ensures { option_map (λ name. chars name.now) result ≡ option_map (λ s. s.name) (find (λ s. nat_eq s.id id) self.now) }
+        ensures { option_map (λ name. chars name.now) result
+            ≡ option_map (λ s. s.name) (find (λ s. nat_eq s.id id) self.now) }
     {
         let sheet = self.with_id(id)?;
         Some(sheet.name.as_str())
@@ -203,7 +207,8 @@ impl Sheets {
     /// Whether the name of a sheet agrees with this one, other than the sheet at this index, from 0. Past the end no sheet
     /// is left out.
     pub fn is_taken_by_other(&self, index: usize, name: &str) -> bool
-        ensures { result ≡ list_any (agrees (chars name.now)) (remove (map (λ s. s.name) self.now) index) }
+        ensures { result ≡ list_any (agrees (chars name.now))
+            (remove (map (λ s. s.name) self.now) index) }
     {
         match (self.find(name), sheet_at(&self.list, index)) {
             (None, _) => false,

@@ -58,7 +58,8 @@ pub fn past_folded<'t>(text: &'t str, folded: &str) -> Option<&'t str>
 /// character is its lower case.
 #[tactic(auto, using(crate::proofs::CompareLemmas::fold_steps))]
 fn past_folding(c: char, folded: &str) -> Result<&str, Ordering>
-    ensures { MatchResult result (λ rest. chars folded.now ≡ full_fold c ++ chars rest.now) (ComparesBy (full_fold c) (chars folded.now)) }
+    ensures { MatchResult result (λ rest. chars folded.now ≡ full_fold c ++ chars rest.now)
+        (ComparesBy (full_fold c) (chars folded.now)) }
 {
     if c.is_ascii() {
         return past_char(c.to_ascii_lowercase(), folded);
@@ -72,7 +73,8 @@ fn past_folding(c: char, folded: &str) -> Result<&str, Ordering>
 /// What stands in a text after these characters, or how they compare with it.
 #[tactic(auto, using(crate::proofs::CompareLemmas::past_steps))]
 fn past_chars<'t>(front: &[char], text: &'t str) -> Result<&'t str, Ordering>
-    ensures { MatchResult result (λ rest. chars text.now ≡ front.now ++ chars rest.now) (ComparesBy front.now (chars text.now)) }
+    ensures { MatchResult result (λ rest. chars text.now ≡ front.now ++ chars rest.now)
+        (ComparesBy front.now (chars text.now)) }
 {
     let mut rest = text;
     for c in front {
@@ -86,7 +88,8 @@ fn past_chars<'t>(front: &[char], text: &'t str) -> Result<&'t str, Ordering>
 
 /// What stands in a text after this character, or how it compares with the text.
 fn past_char(c: char, text: &str) -> Result<&str, Ordering>
-    ensures { MatchResult result (λ rest. chars text.now ≡ (c ∷ []) ++ chars rest.now) (ComparesBy (c ∷ []) (chars text.now)) }
+    ensures { MatchResult result (λ rest. chars text.now ≡ (c ∷ []) ++ chars rest.now)
+        (ComparesBy (c ∷ []) (chars text.now)) }
 {
     match first_char(text) {
         None => Err(Ordering::Greater),

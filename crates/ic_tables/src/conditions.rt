@@ -22,7 +22,13 @@ pub fn check(
     zones: &[Text],
     kinds: &[FunctionKind],
 ) -> Result<(), TablesError>
-    ensures { let set : TableSet = record { languages = languages.now; locales = locales.now; zones = zones.now; kinds = kinds.now } in
+    ensures { let set : TableSet = record {
+      languages = languages.now;
+      locales = locales.now;
+      zones
+          = zones.now;
+      kinds = kinds.now;
+    } in
         Checks 1 (conditions set) result }
 {
     if !has_good_ids(languages) || !has_good_ids(locales) {
@@ -123,7 +129,8 @@ fn have_dates(locales: &[NamedLocale]) -> bool
 }
 
 fn has_numbers(languages: &[Language], count: usize) -> bool
-    ensures { result ≡ (list_all (numbers_functions count) languages.now && share_numbers languages.now) }
+    ensures { result ≡ (list_all (numbers_functions count) languages.now
+        && share_numbers languages.now) }
 {
     number_functions(languages, count) && share_numbers(languages)
 }
@@ -148,7 +155,8 @@ fn share_numbers(languages: &[Language]) -> bool
 }
 
 fn have_numbers_of(first: &Language, others: &[Language]) -> bool
-    ensures { result ≡ list_all (λ l. bytes_eq (named_numbers l) (named_numbers first.now)) others.now }
+    ensures { result ≡ list_all (λ l. bytes_eq (named_numbers l) (named_numbers first.now))
+        others.now }
 {
     others
         .iter()
@@ -156,14 +164,16 @@ fn have_numbers_of(first: &Language, others: &[Language]) -> bool
 }
 
 fn has_english_words(languages: &[Language]) -> bool
-    ensures { result ≡ list_all (λ l. not (bytes_eq l.code (codes "en")) || has_stored_words l) languages.now }
+    ensures { result ≡ list_all (λ l. not (bytes_eq l.code (codes "en")) || has_stored_words l)
+        languages.now }
 {
     languages.iter().all(is_other_or_stored)
 }
 
 /// Whether the language isn't English, or has the words of formulas as they are stored.
 fn is_other_or_stored(language: &Language) -> bool
-    ensures { result ≡ (not (bytes_eq language.now.code (codes "en")) || has_stored_words language.now) }
+    ensures { result ≡ (not (bytes_eq language.now.code (codes "en"))
+        || has_stored_words language.now) }
 {
     !language.code.is("en") || has_stored_words(language)
 }
@@ -204,7 +214,8 @@ fn have_error_words(alloc: Global, languages: &[Language]) -> Result<bool, OutOf
 
 /// Whether in each language no word of an error value begins another of that language or of English.
 fn tell_errors(alloc: Global, languages: &[Language]) -> Result<bool, OutOfMemory>
-    ensures { IfOk result (λ tell. tell ≡ list_all (tells_errors (error_words_in (english languages.now))) languages.now) }
+    ensures { IfOk result (λ tell. tell ≡ list_all
+        (tells_errors (error_words_in (english languages.now))) languages.now) }
 {
     let english = english(languages);
     for language in languages {

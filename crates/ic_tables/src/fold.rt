@@ -24,7 +24,8 @@ pub fn fold_onto<T: HasId>(
     folded: &mut Vec<Text>,
     words: &[T],
 ) -> Result<(), OutOfMemory>
-    ensures { OnOk result (folded.new.items ≡ folded.old.items ++ map fold (map T.id_of words.now)) }
+    ensures { OnOk result (folded.new.items ≡ folded.old.items
+        ++ map fold (map T.id_of words.now)) }
 {
     for word in words {
         folded.push(fold_word(alloc, word.id().as_str())?)?;
@@ -50,7 +51,8 @@ pub fn is_prefix_free(texts: &[Text]) -> bool
 
 /// Whether the text begins none of these, longer ones.
 fn begins_no_other(text: &str, others: &[Text]) -> bool
-    ensures { result ≡ list_all (λ other. not (is_proper_prefix (chars text.now) other)) others.now }
+    ensures { result ≡ list_all (λ other. not (is_proper_prefix (chars text.now) other))
+        others.now }
 {
     others
         .iter()

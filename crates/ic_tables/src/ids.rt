@@ -55,7 +55,8 @@ pub fn has_id<T: HasId>(items: &[T], id: &str) -> bool
 
 /// The first that is listed under `id`.
 pub fn find_id<'a, T: HasId>(items: &'a [T], id: &str) -> Option<&'a T>
-    ensures { option_map (λ found. found.now) result ≡ find (λ item. bytes_eq (T.id_of item) (chars id.now)) items.now }
+    ensures { option_map (λ found. found.now) result
+        ≡ find (λ item. bytes_eq (T.id_of item) (chars id.now)) items.now }
 {
     let mut rest = items;
     while let Some((first, others)) = rest.split_first() {
@@ -91,7 +92,8 @@ pub fn has_good_ids<T: HasId>(items: &[T]) -> bool
 
 /// The texts that they are listed under, in their order.
 pub fn copy_ids<T: HasId>(alloc: Global, items: &[T]) -> Result<Vec<String>, OutOfMemory>
-    ensures { IfOk result (λ ids. map (λ s. chars (string_bytes s)) ids.items ≡ map T.id_of items.now) }
+    ensures { IfOk result (λ ids. map (λ s. chars (string_bytes s)) ids.items
+        ≡ map T.id_of items.now) }
 {
     let mut ids = Vec::new(alloc);
     for item in items {

@@ -22,7 +22,9 @@ impl Language {
         errors: &str,
         functions: &str,
     ) -> Result<Option<Language>, OutOfMemory>
-        ensures { IfOk result (λ language. language ≡ language_in (chars code.now) (chars name.now) (chars booleans.now) (chars errors.now) (chars functions.now)) }
+        ensures { IfOk result (λ language. language
+            ≡ language_in (chars code.now) (chars name.now) (chars booleans.now) (chars errors.now)
+            (chars functions.now)) }
     {
         let name = Text::from_str(alloc, name)?;
         let code = Text::from_str(alloc, code)?;
@@ -40,7 +42,8 @@ fn with_parts(
     booleans: Vec<Text>,
     errors: Vec<Text>,
 ) -> Option<Language>
-    ensures { result ≡ with_parts name code (numbered functions.items) (booleans_of booleans.items) (errors_of errors.items) }
+    ensures { result ≡ with_parts name code (numbered functions.items) (booleans_of booleans.items)
+        (errors_of errors.items) }
 {
     let booleans = booleans_of(booleans)?;
     let errors = errors_of(errors)?;

@@ -51,7 +51,8 @@ impl Languages {
 
     /// The words of the language with this code. None exactly where there is none.
     pub fn words(&self, code: &str) -> Option<Words<'_>>
-        ensures { option_map (λ w. w.language.now) result ≡ find (λ l. bytes_eq l.code (chars code.now)) self.now }
+        ensures { option_map (λ w. w.language.now) result
+            ≡ find (λ l. bytes_eq l.code (chars code.now)) self.now }
     {
         words_among(self.list.as_slice(), self.orders.as_slice(), code)
     }

@@ -71,7 +71,8 @@ fn locale_in(alloc: Global, words: &LocaleWords) -> Result<Locale, OutOfMemory>
 
 #[tactic(auto, unfolding(crate::specs::LocaleWords::numbers, crate::specs::LocaleWords::currency_formats))]
 fn numbers_in(alloc: Global, words: &LocaleWords) -> Result<NumbersProperties, OutOfMemory>
-    ensures { IfOk result (λ n. n ≡ numbers (symbols (chars words.now.decimal.now) (chars words.now.group.now) (chars words.now.list.now)) (chars words.now.money.now)) }
+    ensures { IfOk result (λ n. n ≡ numbers (symbols (chars words.now.decimal.now)
+        (chars words.now.group.now) (chars words.now.list.now)) (chars words.now.money.now)) }
 {
     let money = words.money;
     let formats = four_texts(alloc, [money, money, money, money])?;
@@ -92,7 +93,8 @@ fn symbols(
     group: &str,
     list: &str,
 ) -> Result<NumbersSymbols, OutOfMemory>
-    ensures { IfOk result (λ s. s ≡ symbols (chars decimal.now) (chars group.now) (chars list.now)) }
+    ensures { IfOk result (λ s. s ≡ symbols (chars decimal.now) (chars group.now)
+        (chars list.now)) }
 {
     let separators = four_texts(alloc, [decimal, group, list, TIME_SEPARATOR])?;
     let signs = shared_signs(alloc)?;

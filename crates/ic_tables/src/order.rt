@@ -92,7 +92,8 @@ fn put_first(
     number: usize,
 ) -> Result<(), OutOfMemory>
     requires { is_sorted entries.old.items ≡ true }
-    ensures { OnOk result (IsPutFirst (fold (chars word.now)) number entries.old.items entries.new.items) }
+    ensures { OnOk result (IsPutFirst (fold (chars word.now)) number entries.old.items
+        entries.new.items) }
 {
     let place = place_of(entries.as_slice(), word);
     let folded = fold_word(alloc, word)?;
@@ -118,8 +119,10 @@ pub fn find_number(entries: &[WordEntry], text: &str) -> Option<usize>
 
 /// The number of the first of these entries that a front of the text folds to, and the rest of the text.
 pub fn find_front<'t>(entries: &[WordEntry], text: &'t str) -> Option<(usize, &'t str)>
-    ensures { MatchOption result (BeginsWithNone (λ front. number_at entries.now (fold front)) (chars text.now))
-        (λ p. BeginsWithFound (λ front. number_at entries.now (fold front)) (chars text.now) (chars p.1.now) p.0) }
+    ensures { MatchOption result (BeginsWithNone (λ front. number_at entries.now (fold front))
+        (chars text.now))
+        (λ p. BeginsWithFound (λ front. number_at entries.now (fold front)) (chars text.now)
+        (chars p.1.now) p.0) }
 {
     for entry in entries {
         if let Some(rest) = past_folded(text, entry.folded.as_str()) {
@@ -134,8 +137,10 @@ pub fn find_front<'t>(entries: &[WordEntry], text: &'t str) -> Option<(usize, &'
 fn place_of(entries: &[WordEntry], text: &str) -> usize
     requires { is_sorted entries.now ≡ true }
     ensures within { result ≤ length entries.now }
-    ensures before { list_all (λ e. comes_before e.folded (fold (chars text.now))) (take result entries.now) ≡ true }
-    ensures after { list_all (λ e. not (comes_before e.folded (fold (chars text.now)))) (drop result entries.now) ≡ true }
+    ensures before { list_all (λ e. comes_before e.folded (fold (chars text.now)))
+        (take result entries.now) ≡ true }
+    ensures after { list_all (λ e. not (comes_before e.folded (fold (chars text.now))))
+        (drop result entries.now) ≡ true }
 {
     let mut low = 0;
     let mut high = entries.len();

@@ -57,8 +57,18 @@ impl Tables {
         zones: Items<Text>,
         kinds: Items<FunctionKind>,
     ) -> Result<Tables, TablesError>
-        ensures made { IfOk result (λ t. t ≡ record { languages = languages; locales = locales; zones = zones; kinds = kinds }) }
-        ensures failed { let set : TableSet = record { languages = languages; locales = locales; zones = zones; kinds = kinds } in
+        ensures made { IfOk result (λ t. t ≡ record {
+          languages = languages;
+          locales = locales;
+          zones = zones;
+          kinds = kinds;
+        }) }
+        ensures failed { let set : TableSet = record {
+          languages = languages;
+          locales = locales;
+          zones = zones;
+          kinds = kinds;
+        } in
             MatchResult result (λ _. first_failed set ≡ None) (λ e. Tells e (first_failed set)) }
     {
         check(
@@ -81,7 +91,8 @@ impl Tables {
     /// The language with this code.
     pub fn get_language(&self, id: &str) -> Result<&Language, BookIdError>
         ensures found { MatchResult result (λ l. language_of self.now (chars id.now) ≡ Some l.now)
-            (λ e. (e ≡ BookIdError.InvalidLanguage) × (language_of self.now (chars id.now) ≡ None)) }
+            (λ e. (e ≡ BookIdError.InvalidLanguage)
+            × (language_of self.now (chars id.now) ≡ None)) }
 
         // Its words meet the conditions on words.
         ensures words { IfOk result (λ l. HasGoodWords self.now l.now) }
@@ -91,8 +102,10 @@ impl Tables {
 
     /// The words of the language with this code.
     pub fn get_words(&self, id: &str) -> Result<Words<'_>, BookIdError>
-        ensures found { MatchResult result (λ w. language_of self.now (chars id.now) ≡ Some w.language.now)
-            (λ e. (e ≡ BookIdError.InvalidLanguage) × (language_of self.now (chars id.now) ≡ None)) }
+        ensures found { MatchResult result (λ w. language_of self.now (chars id.now)
+            ≡ Some w.language.now)
+            (λ e. (e ≡ BookIdError.InvalidLanguage)
+            × (language_of self.now (chars id.now) ≡ None)) }
 
         // They meet the conditions on words.
         ensures words { IfOk result (λ w. HasGoodWords self.now w.language.now) }
@@ -113,7 +126,8 @@ impl Tables {
 
     /// The locale with this id.
     pub fn get_locale(&self, id: &str) -> Result<&Locale, BookIdError>
-        ensures found { MatchResult result (λ l. option_map (λ n. n.locale) (locale_of self.now (chars id.now)) ≡ Some l.now)
+        ensures found { MatchResult result (λ l. option_map (λ n. n.locale)
+            (locale_of self.now (chars id.now)) ≡ Some l.now)
             (λ e. (e ≡ BookIdError.InvalidLocale) × (locale_of self.now (chars id.now) ≡ None)) }
 
         // Its formats meet the conditions on locales.
@@ -146,7 +160,8 @@ impl Tables {
 
     /// The locale `en`, which is always there.
     pub fn get_default_locale(&self) -> &Locale
-        ensures found { option_map (λ n. n.locale) (locale_of self.now (codes "en")) ≡ Some result.now }
+        ensures found { option_map (λ n. n.locale) (locale_of self.now (codes "en"))
+            ≡ Some result.now }
 
         // Its formats meet the conditions on locales.
         ensures formats { HasGoodFormats self.now result.now }
@@ -180,14 +195,16 @@ impl Tables {
 
     /// The ids of the locales, in the order of the tables.
     pub fn get_supported_locales(&self) -> Result<Vec<String>, OutOfMemory>
-        ensures { IfOk result (λ ids. map (λ s. chars (string_bytes s)) ids.items ≡ ids_of self.now) }
+        ensures { IfOk result (λ ids. map (λ s. chars (string_bytes s)) ids.items
+            ≡ ids_of self.now) }
     {
         copy_ids(self.alloc, self.locales.as_slice())
     }
 
     /// The names of the time zones, in the order of the tables.
     pub fn get_all_timezones(&self) -> Result<Vec<String>, OutOfMemory>
-        ensures { IfOk result (λ names. map (λ s. chars (string_bytes s)) names.items ≡ self.now.zones) }
+        ensures { IfOk result (λ names. map (λ s. chars (string_bytes s)) names.items
+            ≡ self.now.zones) }
     {
         copy_ids(self.alloc, self.zones.as_slice())
     }

@@ -37,7 +37,8 @@ impl<'t> Words<'t> {
 
     /// The word of a kind at place `n`, from 0. None exactly where the language has no such word.
     pub fn word(&self, kind: WordKind, n: usize) -> Option<&'t str>
-        ensures { option_map (λ w. chars w.now) result ≡ slice_get (words_of self.now.language.now kind) n }
+        ensures { option_map (λ w. chars w.now) result
+            ≡ slice_get (words_of self.now.language.now kind) n }
     {
         word(self.language, kind, n)
     }
@@ -56,8 +57,10 @@ impl<'t> Words<'t> {
     /// The error value whose word begins a text, by its number, and the rest of the text. None exactly where no front
     /// of the text agrees with such a word. It looks at no more of the text than such a word can have.
     pub fn find_error<'a>(&self, text: &'a str) -> Option<(usize, &'a str)>
-        ensures { MatchOption result (BeginsWithNone (first_agreeing (words_of self.now.language.now Error)) (chars text.now))
-            (λ p. BeginsWithFound (first_agreeing (words_of self.now.language.now Error)) (chars text.now) (chars p.1.now) p.0) }
+        ensures { MatchOption result (BeginsWithNone
+            (first_agreeing (words_of self.now.language.now Error)) (chars text.now))
+            (λ p. BeginsWithFound (first_agreeing (words_of self.now.language.now Error))
+            (chars text.now) (chars p.1.now) p.0) }
     {
         find_front(self.order.errors.as_slice(), text)
     }
@@ -70,7 +73,8 @@ pub fn words_among<'t>(
     code: &str,
 ) -> Option<Words<'t>>
     requires { AreOrdered languages.now orders.now }
-    ensures { option_map (λ w. w.language.now) result ≡ find (λ l. bytes_eq l.code (chars code.now)) languages.now }
+    ensures { option_map (λ w. w.language.now) result
+        ≡ find (λ l. bytes_eq l.code (chars code.now)) languages.now }
 {
     for (i, language) in languages.iter().enumerate() {
         if language.code.is(code) {

@@ -218,7 +218,8 @@ pub fn tells_errors(
     english: Option<&Language>,
     language: &Language,
 ) -> Result<bool, OutOfMemory>
-    ensures { IfOk result (λ tells. tells ≡ tells_errors (error_words_in (option_copied english.entry)) language.now) }
+    ensures { IfOk result (λ tells. tells ≡ tells_errors
+        (error_words_in (option_copied english.entry)) language.now) }
 {
     let mut folded = Vec::new(alloc);
     if let Some(english) = english {

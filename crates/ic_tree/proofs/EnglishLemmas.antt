@@ -10,7 +10,7 @@ use Rattle.ic_laws.specs.CoreBook.{CoreBook, scene_of}
 use Rattle.ic_laws.specs.Dialect.{DialectMeaning}
 use Rattle.ic_laws.specs.Name.{Agree, fold, is_identifier, is_variable}
 use Rattle.ic_laws.specs.Notations.{AreNotations, Notations, english_function}
-use Rattle.ic_laws.specs.Scene.{name_spelling}
+use Rattle.ic_laws.specs.Scene.{definition_spelling}
 use Rattle.ic_laws.specs.Tree.{Bound, IsKindWell, IsPairWell, bound_names, is_word_mention}
 use Rattle.ic_laws.specs.ValidCore.{IsKept, IsKeptWhere, IsPlaceInside, IsValidCore}
 use Rattle.ic_laws.specs.declared.dialect.WordKind.TheVariants as kinds
@@ -133,21 +133,21 @@ module _ (n : Notations) (notations : AreNotations n) (scene : Scene) (named : I
       both_false (english_boolean word) (list_any english_boolean words) (no_boolean word parts.0) (no_booleans words parts.1)
 
   -- a key is told as the name that the definition has
-  told_alike : (key : NameKey) → KeyStays scene scope key → Agree key.name (name_spelling scene key)
-  told_alike key stays = ap fold (sym (spelled_alike scene scope key.name key key.name stays.found)) ∙ fold_again (name_spelling scene key)
+  told_alike : (key : NameKey) → KeyStays scene scope key → Agree key.name (definition_spelling scene key)
+  told_alike key stays = ap fold (sym (spelled_alike scene scope key.name key key.name stays.found)) ∙ fold_again (definition_spelling scene key)
 
   word_apart : (word : NameMention) → is_word_mention is_variable word ≡ true → NameStays scene scope word → english_boolean (mentioned_name word) ≡ false
   word_apart (names.Var word) good stays = no_boolean word good
   word_apart (names.Dangling word) good stays = no_boolean word good
   word_apart (names.Name key) good stays =
-      ap is_some (notations.stored.finds_agreeing kinds.Boolean key.name (name_spelling scene key) (told_alike key stays))
-      ∙ no_boolean (name_spelling scene key) (identifier_is_variable (name_spelling scene key) ((spelling_writes scene named).definition key stays.named))
+      ap is_some (notations.stored.finds_agreeing kinds.Boolean key.name (definition_spelling scene key) (told_alike key stays))
+      ∙ no_boolean (definition_spelling scene key) (identifier_is_variable (definition_spelling scene key) ((spelling_writes scene named).definition key stays.named))
 
   call_apart : (word : NameMention) → CallStays (english_function n) scene scope word → calls_english (mentioned_name word) ≡ false
   call_apart (names.Var word) stays = ap is_some stays.no_function
   call_apart (names.Dangling word) stays = ap is_some stays.no_function
   call_apart (names.Name key) stays =
-      ap is_some (notations.stored.finds_agreeing kinds.Function key.name (name_spelling scene key) (told_alike key stays.stays)) ∙ ap is_some stays.no_function
+      ap is_some (notations.stored.finds_agreeing kinds.Function key.name (definition_spelling scene key) (told_alike key stays.stays)) ∙ ap is_some stays.no_function
 
   node_apart : (kind : BoundKind) → IsKindWell bound_names n.stored.let_fn n.stored.lambda_fn kind → Stays (english_function n) scene scope kind → Apart english_boolean calls_english kind
   node_apart (one.Word word) well stays = word_apart word well.words stays

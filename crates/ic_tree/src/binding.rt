@@ -23,7 +23,8 @@ pub fn bind<N: Finder>(
     scope: Option<u32>,
     tree: &Spelled,
 ) -> Result<Bound, OutOfMemory>
-    ensures { IfOk result (λ r. r ≡ bound (function_of english.now) (N.scene names.now) scope tree.now) }
+    ensures { IfOk result (λ r. r ≡ bound (function_of english.now) (N.scene names.now) scope
+        tree.now) }
 {
     let mut seen = Binders::new(alloc);
     bind_under(alloc, names, english, scope, &mut seen, tree)
@@ -75,7 +76,8 @@ fn bind_under<N: Finder>(
     seen: &mut Binders,
     tree: &Spelled,
 ) -> Result<Bound, OutOfMemory>
-    ensures bound { IfOk result (λ r. r ≡ bound_under (function_of english.now) (N.scene names.now) scope tree.now seen.old) }
+    ensures bound { IfOk result (λ r. r ≡ bound_under (function_of english.now) (N.scene names.now)
+        scope tree.now seen.old) }
     ensures seen { OnOk result (seen.new ≡ seen.old) }
 {
     match tree {
@@ -159,7 +161,8 @@ fn bind_boxed<N: Finder>(
     seen: &mut Binders,
     tree: &Boxed<Spelled>,
 ) -> Result<Boxed<Bound>, OutOfMemory>
-    ensures bound { IfOk result (λ r. r ≡ bound_under (function_of english.now) (N.scene names.now) scope tree.now seen.old) }
+    ensures bound { IfOk result (λ r. r ≡ bound_under (function_of english.now) (N.scene names.now)
+        scope tree.now seen.old) }
     ensures seen { OnOk result (seen.new ≡ seen.old) }
 {
     let bound = bind_under(alloc, names, english, scope, seen, tree.as_ref())?;
@@ -176,7 +179,9 @@ fn bind_all<N: Finder>(
     seen: &mut Binders,
     ts: &[Spelled],
 ) -> Result<Vec<Bound>, OutOfMemory>
-    ensures bound { IfOk result (λ r. r.items ≡ all_bound (map (bound_under (function_of english.now) (N.scene names.now) scope) ts.now) seen.old) }
+    ensures bound { IfOk result (λ r. r.items
+        ≡ all_bound (map (bound_under (function_of english.now) (N.scene names.now) scope) ts.now)
+        seen.old) }
     ensures seen { OnOk result (seen.new ≡ seen.old) }
 {
     let mut out = Vec::new(alloc);
@@ -197,8 +202,12 @@ fn bind_pairs<N: Finder>(
     seen: &mut Binders,
     pairs: &[LetPair<Option<Text>, Text>],
 ) -> Result<Vec<LetPair<SheetMention, NameMention>>, OutOfMemory>
-    ensures values { IfOk result (λ r. r.items ≡ pairs_bound (map (pair_binds (function_of english.now) (N.scene names.now) scope) pairs.now) seen.old) }
-    ensures variables { OnOk result (seen.new ≡ with_variables (map (pair_binds (function_of english.now) (N.scene names.now) scope) pairs.now) seen.old) }
+    ensures values { IfOk result (λ r. r.items
+        ≡ pairs_bound (map (pair_binds (function_of english.now) (N.scene names.now) scope)
+        pairs.now) seen.old) }
+    ensures variables { OnOk result (seen.new
+        ≡ with_variables (map (pair_binds (function_of english.now) (N.scene names.now) scope)
+        pairs.now) seen.old) }
 {
     let mut out = Vec::new(alloc);
     for pair in pairs {

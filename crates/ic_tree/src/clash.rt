@@ -11,7 +11,8 @@ use ic_tables::Language;
 /// language's word for true or false, or some called word with one of its function words.
 #[cycle(clashes)]
 pub fn clashes(tree: &Bound, language: &Language) -> bool
-    ensures { result ≡ clashes_with (is_boolean_word language.now) (is_function_word language.now) tree.now }
+    ensures { result ≡ clashes_with (is_boolean_word language.now) (is_function_word language.now)
+        tree.now }
 {
     match tree {
         Tree::Word(word) => is_boolean(mentioned_name(word), language),
@@ -41,7 +42,8 @@ pub fn clashes(tree: &Bound, language: &Language) -> bool
 /// Whether one of these formulas clashes.
 #[cycle(clashes)]
 fn one_clashes(trees: &[Bound], language: &Language) -> bool
-    ensures { result ≡ one_clashes (map (clashes_with (is_boolean_word language.now) (is_function_word language.now)) trees.now) }
+    ensures { result ≡ one_clashes (map (clashes_with (is_boolean_word language.now)
+        (is_function_word language.now)) trees.now) }
 {
     for tree in trees {
         if clashes(tree, language) {
@@ -54,7 +56,9 @@ fn one_clashes(trees: &[Bound], language: &Language) -> bool
 /// Whether one of these variables, or its value, clashes.
 #[cycle(clashes)]
 fn one_pair_clashes(pairs: &[LetPair<SheetMention, NameMention>], language: &Language) -> bool
-    ensures { result ≡ one_clashes (map (λ pair. is_boolean_word language.now pair.variable || clashes_with (is_boolean_word language.now) (is_function_word language.now) pair.value) pairs.now) }
+    ensures { result ≡ one_clashes (map (λ pair. is_boolean_word language.now pair.variable
+        || clashes_with (is_boolean_word language.now) (is_function_word language.now) pair.value)
+        pairs.now) }
 {
     for pair in pairs {
         if is_boolean(&pair.variable, language) || clashes(&pair.value, language) {

@@ -12,7 +12,8 @@ use std::alloc::Global;
 
 /// Appends what stands before the text of this number among several: nothing before the first one, number 0.
 pub fn push_separator(out: &mut String, separator: char, n: usize) -> Result<(), OutOfMemory>
-    ensures { OnOk result (chars (string_bytes out.new) ≡ chars (string_bytes out.old) ++ separator_before separator n) }
+    ensures { OnOk result (chars (string_bytes out.new) ≡ chars (string_bytes out.old)
+        ++ separator_before separator n) }
 {
     if n == 0 {
         Ok(())
@@ -28,7 +29,8 @@ pub fn push_amount(
     amount: Amount,
     decimal: char,
 ) -> Result<(), OutOfMemory>
-    ensures { OnOk result (chars (string_bytes out.new) ≡ chars (string_bytes out.old) ++ amount_text decimal amount) }
+    ensures { OnOk result (chars (string_bytes out.new) ≡ chars (string_bytes out.old)
+        ++ amount_text decimal amount) }
 {
     let text = amount_spelling(alloc, amount, decimal)?;
     push_text(out, text.as_str())
@@ -36,7 +38,8 @@ pub fn push_amount(
 
 /// Appends a text between quotes, each quote in it doubled.
 pub fn push_string(out: &mut String, text: &str) -> Result<(), OutOfMemory>
-    ensures { OnOk result (chars (string_bytes out.new) ≡ chars (string_bytes out.old) ++ string_text (chars text.now)) }
+    ensures { OnOk result (chars (string_bytes out.new) ≡ chars (string_bytes out.old)
+        ++ string_text (chars text.now)) }
 {
     push_char(out, '"')?;
     push_doubled(out, text)?;
@@ -45,7 +48,8 @@ pub fn push_string(out: &mut String, text: &str) -> Result<(), OutOfMemory>
 
 // Appends a text with each quote in it doubled.
 fn push_doubled(out: &mut String, text: &str) -> Result<(), OutOfMemory>
-    ensures { OnOk result (chars (string_bytes out.new) ≡ chars (string_bytes out.old) ++ doubled (chars text.now)) }
+    ensures { OnOk result (chars (string_bytes out.new) ≡ chars (string_bytes out.old)
+        ++ doubled (chars text.now)) }
 {
     let mut rest = text;
     while let Some((c, after)) = first_char(rest) {
@@ -57,7 +61,8 @@ fn push_doubled(out: &mut String, text: &str) -> Result<(), OutOfMemory>
 
 // Appends a character, a quote twice.
 fn push_char_doubled(out: &mut String, c: char) -> Result<(), OutOfMemory>
-    ensures { OnOk result (chars (string_bytes out.new) ≡ chars (string_bytes out.old) ++ doubled_char c) }
+    ensures { OnOk result (chars (string_bytes out.new) ≡ chars (string_bytes out.old)
+        ++ doubled_char c) }
 {
     if c == '"' {
         push_char(out, '"')?;
@@ -72,7 +77,8 @@ pub fn push_word<D: Dialect>(
     kind: WordKind,
     number: usize,
 ) -> Result<(), OutOfMemory>
-    ensures { OnOk result (chars (string_bytes out.new) ≡ chars (string_bytes out.old) ++ word_text (D.meaning d.now) kind number) }
+    ensures { OnOk result (chars (string_bytes out.new) ≡ chars (string_bytes out.old)
+        ++ word_text (D.meaning d.now) kind number) }
 {
     match d.word(kind, number) {
         Some(word) => push_text(out, word),
@@ -82,14 +88,16 @@ pub fn push_word<D: Dialect>(
 
 /// Appends a boolean.
 pub fn push_boolean<D: Dialect>(d: &D, out: &mut String, value: bool) -> Result<(), OutOfMemory>
-    ensures { OnOk result (chars (string_bytes out.new) ≡ chars (string_bytes out.old) ++ word_text (D.meaning d.now) kinds.Boolean (boolean_number value)) }
+    ensures { OnOk result (chars (string_bytes out.new) ≡ chars (string_bytes out.old)
+        ++ word_text (D.meaning d.now) kinds.Boolean (boolean_number value)) }
 {
     push_word(d, out, WordKind::Boolean, if value { 0 } else { 1 })
 }
 
 /// Appends an error.
 pub fn push_error<D: Dialect>(d: &D, out: &mut String, error: Error) -> Result<(), OutOfMemory>
-    ensures { OnOk result (chars (string_bytes out.new) ≡ chars (string_bytes out.old) ++ word_text (D.meaning d.now) kinds.Error (error_number error)) }
+    ensures { OnOk result (chars (string_bytes out.new) ≡ chars (string_bytes out.old)
+        ++ word_text (D.meaning d.now) kinds.Error (error_number error)) }
 {
     push_word(d, out, WordKind::Error, error_number(error))
 }
@@ -101,7 +109,8 @@ fn push_constant<D: Dialect>(
     out: &mut String,
     constant: &Constant,
 ) -> Result<(), OutOfMemory>
-    ensures { OnOk result (chars (string_bytes out.new) ≡ chars (string_bytes out.old) ++ constant_text (D.meaning d.now) constant.now) }
+    ensures { OnOk result (chars (string_bytes out.new) ≡ chars (string_bytes out.old)
+        ++ constant_text (D.meaning d.now) constant.now) }
 {
     match constant {
         Constant::Num { minus, amount } => {
@@ -123,7 +132,8 @@ fn push_row<D: Dialect>(
     out: &mut String,
     row: &[Constant],
 ) -> Result<(), OutOfMemory>
-    ensures { OnOk result (chars (string_bytes out.new) ≡ chars (string_bytes out.old) ++ row_text (D.meaning d.now) row.now) }
+    ensures { OnOk result (chars (string_bytes out.new) ≡ chars (string_bytes out.old)
+        ++ row_text (D.meaning d.now) row.now) }
 {
     for (n, constant) in row.iter().enumerate() {
         push_separator(out, d.list(), n)?;
@@ -146,7 +156,8 @@ pub fn push_rows<D: Dialect>(
     out: &mut String,
     rows: &[Items<Constant>],
 ) -> Result<(), OutOfMemory>
-    ensures { OnOk result (chars (string_bytes out.new) ≡ chars (string_bytes out.old) ++ all_between (row_separator (D.meaning d.now)) (row_text (D.meaning d.now)) rows.now) }
+    ensures { OnOk result (chars (string_bytes out.new) ≡ chars (string_bytes out.old)
+        ++ all_between (row_separator (D.meaning d.now)) (row_text (D.meaning d.now)) rows.now) }
 {
     for (n, row) in rows.iter().enumerate() {
         push_separator(out, row_separator(d), n)?;

@@ -51,7 +51,8 @@ fn one_dynamic(trees: &[Bound], tables: &Tables) -> bool
 /// Whether one of the values of these variables is dynamic.
 #[cycle(is_dynamic)]
 fn one_value_dynamic(pairs: &[LetPair<SheetMention, NameMention>], tables: &Tables) -> bool
-    ensures { result ≡ one_dynamic (map (λ pair. dynamic_with tables.now.kinds pair.value) pairs.now) }
+    ensures { result ≡ one_dynamic (map (λ pair. dynamic_with tables.now.kinds pair.value)
+        pairs.now) }
 {
     for pair in pairs {
         if is_dynamic(&pair.value, tables) {

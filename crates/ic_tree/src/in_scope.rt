@@ -140,8 +140,10 @@ impl Binders {
 
 /// Puts a place to a key that has none.
 fn note(places: &mut BTreeMap<String, usize>, key: String, place: usize) -> Result<(), OutOfMemory>
-    ensures ok { OnOk result ((q : List ℕ) → get_by_text places.new q ≡ or_last (bytes_eq (string_bytes key) q) place (get_by_text places.old q)) }
-    ensures err { OnErr result ((q : List ℕ) → get_by_text places.new q ≡ get_by_text places.old q) }
+    ensures ok { OnOk result ((q : List ℕ) → get_by_text places.new q
+        ≡ or_last (bytes_eq (string_bytes key) q) place (get_by_text places.old q)) }
+    ensures err { OnErr result ((q : List ℕ) → get_by_text places.new q
+        ≡ get_by_text places.old q) }
 {
     if places.contains_key(key.as_str()) {
         return Ok(());
@@ -152,7 +154,8 @@ fn note(places: &mut BTreeMap<String, usize>, key: String, place: usize) -> Resu
 
 /// Takes a key out that has this place.
 fn forget(places: &mut BTreeMap<String, usize>, key: &str, place: usize)
-    ensures { (q : List ℕ) → get_by_text places.new q ≡ but_last (bytes_eq key.now q) place (get_by_text places.old q) }
+    ensures { (q : List ℕ) → get_by_text places.new q
+        ≡ but_last (bytes_eq key.now q) place (get_by_text places.old q) }
 {
     if places.get(key).copied() == Some(place) {
         places.remove(key);

@@ -106,7 +106,8 @@ impl Measured {
 
     /// It between brackets.
     pub fn paren(self, alloc: Global, most: usize) -> Result<Option<Measured>, OutOfMemory>
-        ensures { IfOk result (λ r. (rest : List Token) → option_map (λ t. (t, rest)) r ≡ made most (one.Paren self) rest) }
+        ensures { IfOk result (λ r. (rest : List Token) → option_map (λ t. (t, rest)) r
+            ≡ made most (one.Paren self) rest) }
     {
         let tree = Tree::Paren(Boxed::from(self.tree));
         Ok(Measured::built(alloc, tree, self.nodes, most)?)
@@ -114,7 +115,8 @@ impl Measured {
 
     /// It with `%` after it.
     pub fn percent(self, alloc: Global, most: usize) -> Result<Option<Measured>, OutOfMemory>
-        ensures { IfOk result (λ r. (rest : List Token) → option_map (λ t. (t, rest)) r ≡ made most (one.Percent self) rest) }
+        ensures { IfOk result (λ r. (rest : List Token) → option_map (λ t. (t, rest)) r
+            ≡ made most (one.Percent self) rest) }
     {
         let tree = Tree::Percent(Boxed::from(self.tree));
         Ok(Measured::built(alloc, tree, self.nodes, most)?)
@@ -122,7 +124,8 @@ impl Measured {
 
     /// It with `#` after it.
     pub fn spill(self, alloc: Global, most: usize) -> Result<Option<Measured>, OutOfMemory>
-        ensures { IfOk result (λ r. (rest : List Token) → option_map (λ t. (t, rest)) r ≡ made most (one.Spill self) rest) }
+        ensures { IfOk result (λ r. (rest : List Token) → option_map (λ t. (t, rest)) r
+            ≡ made most (one.Spill self) rest) }
     {
         let tree = Tree::Spill(Boxed::from(self.tree));
         Ok(Measured::built(alloc, tree, self.nodes, most)?)
@@ -135,7 +138,8 @@ impl Measured {
         most: usize,
         sign: PrefixSign,
     ) -> Result<Option<Measured>, OutOfMemory>
-        ensures { IfOk result (λ r. (rest : List Token) → option_map (λ t. (t, rest)) r ≡ made most (one.Prefix sign self) rest) }
+        ensures { IfOk result (λ r. (rest : List Token) → option_map (λ t. (t, rest)) r
+            ≡ made most (one.Prefix sign self) rest) }
     {
         let tree = Tree::Prefix(sign, Boxed::from(self.tree));
         Ok(Measured::built(alloc, tree, self.nodes, most)?)
@@ -149,7 +153,8 @@ impl Measured {
         sign: BinarySign,
         right: Measured,
     ) -> Result<Option<Measured>, OutOfMemory>
-        ensures { IfOk result (λ r. (rest : List Token) → option_map (λ t. (t, rest)) r ≡ made most (one.Binary sign self right) rest) }
+        ensures { IfOk result (λ r. (rest : List Token) → option_map (λ t. (t, rest)) r
+            ≡ made most (one.Binary sign self right) rest) }
     {
         let below = self.nodes.max(right.nodes);
         let tree = Tree::Binary(sign, Boxed::from(self.tree), Boxed::from(right.tree));
@@ -163,7 +168,8 @@ impl Measured {
         number: usize,
         arguments: Arguments,
     ) -> Result<Option<Measured>, OutOfMemory>
-        ensures { IfOk result (λ r. (rest : List Token) → option_map (λ t. (t, rest)) r ≡ made most (one.Fun number arguments) rest) }
+        ensures { IfOk result (λ r. (rest : List Token) → option_map (λ t. (t, rest)) r
+            ≡ made most (one.Fun number arguments) rest) }
     {
         let (items, below) = arguments.into_parts();
         let tree = Tree::Fun(number, items);
@@ -177,7 +183,8 @@ impl Measured {
         name: Text,
         arguments: Arguments,
     ) -> Result<Option<Measured>, OutOfMemory>
-        ensures { IfOk result (λ r. (rest : List Token) → option_map (λ t. (t, rest)) r ≡ made most (one.Call name arguments) rest) }
+        ensures { IfOk result (λ r. (rest : List Token) → option_map (λ t. (t, rest)) r
+            ≡ made most (one.Call name arguments) rest) }
     {
         let (items, below) = arguments.into_parts();
         let tree = Tree::Call(name, items);
@@ -191,7 +198,8 @@ impl Measured {
         most: usize,
         arguments: Arguments,
     ) -> Result<Option<Measured>, OutOfMemory>
-        ensures { IfOk result (λ r. (rest : List Token) → option_map (λ t. (t, rest)) r ≡ made most (one.Apply self arguments) rest) }
+        ensures { IfOk result (λ r. (rest : List Token) → option_map (λ t. (t, rest)) r
+            ≡ made most (one.Apply self arguments) rest) }
     {
         let (items, highest) = arguments.into_parts();
         let below = self.nodes.max(highest);
@@ -206,7 +214,8 @@ impl Measured {
         most: usize,
         parameters: Vec<Text>,
     ) -> Result<Option<Measured>, OutOfMemory>
-        ensures { IfOk result (λ r. (rest : List Token) → option_map (λ t. (t, rest)) r ≡ made most (one.Lambda parameters.items self) rest) }
+        ensures { IfOk result (λ r. (rest : List Token) → option_map (λ t. (t, rest)) r
+            ≡ made most (one.Lambda parameters.items self) rest) }
     {
         let tree = Tree::Lambda(Items::from(parameters), Boxed::from(self.tree));
         Ok(Measured::built(alloc, tree, self.nodes, most)?)
@@ -219,7 +228,8 @@ impl Measured {
         most: usize,
         pairs: Pairs,
     ) -> Result<Option<Measured>, OutOfMemory>
-        ensures { IfOk result (λ r. (rest : List Token) → option_map (λ t. (t, rest)) r ≡ let_made most pairs self rest) }
+        ensures { IfOk result (λ r. (rest : List Token) → option_map (λ t. (t, rest)) r
+            ≡ let_made most pairs self rest) }
     {
         let (items, highest) = pairs.into_parts();
         if items.as_slice().is_empty() {

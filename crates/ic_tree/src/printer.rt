@@ -29,7 +29,8 @@ pub fn print<D: Dialect>(alloc: Global, d: &D, tree: &Spelled) -> Result<String,
 
 // Appends a sign that stands before an operand.
 fn push_prefix(out: &mut String, sign: PrefixSign) -> Result<(), OutOfMemory>
-    ensures { OnOk result (chars (string_bytes out.new) ≡ chars (string_bytes out.old) ++ prefix_sign sign ∷ []) }
+    ensures { OnOk result (chars (string_bytes out.new) ≡ chars (string_bytes out.old)
+        ++ prefix_sign sign ∷ []) }
 {
     let c = match sign {
         PrefixSign::Plus => '+',
@@ -68,7 +69,8 @@ fn push_reference<D: Dialect>(
     sheet: &Option<Text>,
     place: Place,
 ) -> Result<(), OutOfMemory>
-    ensures { OnOk result (chars (string_bytes out.new) ≡ chars (string_bytes out.old) ++ reference_text (D.meaning d.now) (record { sheet = sheet.now; place = place })) }
+    ensures { OnOk result (chars (string_bytes out.new) ≡ chars (string_bytes out.old)
+        ++ reference_text (D.meaning d.now) (record { sheet = sheet.now; place = place })) }
 {
     let sheet = copied(alloc, sheet)?;
     let text = d.spell_ref(alloc, &RefToken { sheet, place })?;
@@ -86,7 +88,8 @@ fn copied(alloc: Global, text: &Option<Text>) -> Result<Option<Text>, OutOfMemor
 
 // Appends the word of a function and the bracket that opens its arguments.
 fn push_head<D: Dialect>(d: &D, out: &mut String, number: usize) -> Result<(), OutOfMemory>
-    ensures { OnOk result (chars (string_bytes out.new) ≡ chars (string_bytes out.old) ++ (word_text (D.meaning d.now) kinds.Function number ++ codes "(")) }
+    ensures { OnOk result (chars (string_bytes out.new) ≡ chars (string_bytes out.old)
+        ++ (word_text (D.meaning d.now) kinds.Function number ++ codes "(")) }
 {
     push_word(d, out, WordKind::Function, number)?;
     push_char(out, '(')
@@ -94,7 +97,8 @@ fn push_head<D: Dialect>(d: &D, out: &mut String, number: usize) -> Result<(), O
 
 // Appends a name and the bracket that opens its arguments.
 fn push_name_head(out: &mut String, name: &Text) -> Result<(), OutOfMemory>
-    ensures { OnOk result (chars (string_bytes out.new) ≡ chars (string_bytes out.old) ++ (name.now ++ codes "(")) }
+    ensures { OnOk result (chars (string_bytes out.new) ≡ chars (string_bytes out.old)
+        ++ (name.now ++ codes "(")) }
 {
     push_text(out, name.as_str())?;
     push_char(out, '(')
@@ -106,7 +110,8 @@ fn push_parameters<D: Dialect>(
     out: &mut String,
     parameters: &[Text],
 ) -> Result<(), OutOfMemory>
-    ensures { OnOk result (chars (string_bytes out.new) ≡ chars (string_bytes out.old) ++ each_before (D.meaning d.now).list (λ p. p) parameters.now) }
+    ensures { OnOk result (chars (string_bytes out.new) ≡ chars (string_bytes out.old)
+        ++ each_before (D.meaning d.now).list (λ p. p) parameters.now) }
 {
     for parameter in parameters {
         push_text(out, parameter.as_str())?;
@@ -124,7 +129,8 @@ fn push_tree<D: Dialect>(
     out: &mut String,
     tree: &Spelled,
 ) -> Result<(), OutOfMemory>
-    ensures { OnOk result (chars (string_bytes out.new) ≡ chars (string_bytes out.old) ++ tree_text (D.meaning d.now) tree.now) }
+    ensures { OnOk result (chars (string_bytes out.new) ≡ chars (string_bytes out.old)
+        ++ tree_text (D.meaning d.now) tree.now) }
 {
     match tree {
         Tree::Num(amount) => push_amount(alloc, out, *amount, d.decimal()),
@@ -194,7 +200,8 @@ fn push_closed<D: Dialect>(
     out: &mut String,
     tree: &Spelled,
 ) -> Result<(), OutOfMemory>
-    ensures { OnOk result (chars (string_bytes out.new) ≡ chars (string_bytes out.old) ++ (tree_text (D.meaning d.now) tree.now ++ codes ")")) }
+    ensures { OnOk result (chars (string_bytes out.new) ≡ chars (string_bytes out.old)
+        ++ (tree_text (D.meaning d.now) tree.now ++ codes ")")) }
 {
     push_tree(alloc, d, out, tree)?;
     push_char(out, ')')
@@ -208,7 +215,8 @@ fn push_arguments<D: Dialect>(
     out: &mut String,
     arguments: &[Spelled],
 ) -> Result<(), OutOfMemory>
-    ensures { OnOk result (chars (string_bytes out.new) ≡ chars (string_bytes out.old) ++ (arguments_text (D.meaning d.now) arguments.now ++ codes ")")) }
+    ensures { OnOk result (chars (string_bytes out.new) ≡ chars (string_bytes out.old)
+        ++ (arguments_text (D.meaning d.now) arguments.now ++ codes ")")) }
 {
     for (n, argument) in arguments.iter().enumerate() {
         push_separator(out, d.list(), n)?;
@@ -225,7 +233,8 @@ fn push_pairs<D: Dialect>(
     out: &mut String,
     pairs: &[LetPair<Option<Text>, Text>],
 ) -> Result<(), OutOfMemory>
-    ensures { OnOk result (chars (string_bytes out.new) ≡ chars (string_bytes out.old) ++ each_before (D.meaning d.now).list (pair_text (D.meaning d.now)) pairs.now) }
+    ensures { OnOk result (chars (string_bytes out.new) ≡ chars (string_bytes out.old)
+        ++ each_before (D.meaning d.now).list (pair_text (D.meaning d.now)) pairs.now) }
 {
     for pair in pairs {
         push_text(out, pair.variable.as_str())?;

@@ -60,7 +60,8 @@ fn read<D: Dialect, S: TokenSource>(
     b: usize,
     least: usize,
 ) -> Result<Option<Measured>, OutOfMemory>
-    ensures { IfOk result (λ r. option_map (λ t. (t, S.left source.new)) r ≡ reader (D.meaning d.now) most b least (S.left source.old)) }
+    ensures { IfOk result (λ r. option_map (λ t. (t, S.left source.new)) r
+        ≡ reader (D.meaning d.now) most b least (S.left source.old)) }
 {
     let Some(token) = source.next(alloc)? else {
         return Ok(None);
@@ -79,7 +80,8 @@ fn read_from<D: Dialect, S: TokenSource>(
     least: usize,
     token: Token,
 ) -> Result<Option<Measured>, OutOfMemory>
-    ensures { IfOk result (λ r. option_map (λ t. (t, S.left source.new)) r ≡ reader (D.meaning d.now) most b least (token_of token ∷ S.left source.old)) }
+    ensures { IfOk result (λ r. option_map (λ t. (t, S.left source.new)) r
+        ≡ reader (D.meaning d.now) most b least (token_of token ∷ S.left source.old)) }
 {
     if most == 0 {
         return Ok(None);
@@ -101,7 +103,9 @@ fn read_operand<D: Dialect, S: TokenSource>(
     token: Token,
 ) -> Result<Option<Measured>, OutOfMemory>
     requires { 0 < most }
-    ensures { IfOk result (λ r. option_map (λ t. (t, S.left source.new)) r ≡ operand (D.meaning d.now) most (reader (D.meaning d.now) (most - 1)) b (token_of token ∷ S.left source.old)) }
+    ensures { IfOk result (λ r. option_map (λ t. (t, S.left source.new)) r
+        ≡ operand (D.meaning d.now) most (reader (D.meaning d.now) (most - 1)) b
+        (token_of token ∷ S.left source.old)) }
 {
     match sign_before(&token) {
         Some(sign) => {
@@ -130,7 +134,9 @@ fn read_primary<D: Dialect, S: TokenSource>(
     token: Token,
 ) -> Result<Option<Measured>, OutOfMemory>
     requires { 0 < most }
-    ensures { IfOk result (λ r. option_map (λ t. (t, S.left source.new)) r ≡ primary (D.meaning d.now) most (reader (D.meaning d.now) (most - 1)) b (token_of token) (S.left source.old)) }
+    ensures { IfOk result (λ r. option_map (λ t. (t, S.left source.new)) r
+        ≡ primary (D.meaning d.now) most (reader (D.meaning d.now) (most - 1)) b (token_of token)
+        (S.left source.old)) }
 {
     match token {
         Token::FunHead(number) => {
@@ -171,7 +177,8 @@ fn read_bracketed<D: Dialect, S: TokenSource>(
     b: usize,
 ) -> Result<Option<Measured>, OutOfMemory>
     requires { 0 < most }
-    ensures { IfOk result (λ r. option_map (λ t. (t, S.left source.new)) r ≡ bracketed most (reader (D.meaning d.now) (most - 1)) b (S.left source.old)) }
+    ensures { IfOk result (λ r. option_map (λ t. (t, S.left source.new)) r
+        ≡ bracketed most (reader (D.meaning d.now) (most - 1)) b (S.left source.old)) }
 {
     let Some(x) = read(alloc, d, source, most - 1, b, 1)? else {
         return Ok(None);
@@ -193,7 +200,9 @@ fn read_postfixes<D: Dialect, S: TokenSource>(
     first: Measured,
 ) -> Result<Option<Measured>, OutOfMemory>
     requires { 0 < most }
-    ensures { IfOk result (λ r. option_map (λ t. (t, S.left source.new)) r ≡ turns (postfix most (reader (D.meaning d.now) (most - 1)) b) most first (S.left source.old)) }
+    ensures { IfOk result (λ r. option_map (λ t. (t, S.left source.new)) r
+        ≡ turns (postfix most (reader (D.meaning d.now) (most - 1)) b) most first
+        (S.left source.old)) }
 {
     let mut left = first;
     'turns: for turn in 0..most {
@@ -217,7 +226,8 @@ fn read_postfix<D: Dialect, S: TokenSource>(
     left: Measured,
 ) -> Result<Turn, OutOfMemory>
     requires { 0 < most }
-    ensures { IfOk result (λ r. IsTurn (postfix most (reader (D.meaning d.now) (most - 1)) b left (S.left source.old)) left (S.left source.old) r (S.left source.new)) }
+    ensures { IfOk result (λ r. IsTurn (postfix most (reader (D.meaning d.now) (most - 1)) b left
+        (S.left source.old)) left (S.left source.old) r (S.left source.new)) }
 {
     match source.ahead() {
         Ahead::Percent => {
@@ -267,7 +277,9 @@ fn read_binaries<D: Dialect, S: TokenSource>(
     first: Measured,
 ) -> Result<Option<Measured>, OutOfMemory>
     requires { 0 < most }
-    ensures { IfOk result (λ r. option_map (λ t. (t, S.left source.new)) r ≡ turns (binary most (reader (D.meaning d.now) (most - 1)) b least) most first (S.left source.old)) }
+    ensures { IfOk result (λ r. option_map (λ t. (t, S.left source.new)) r
+        ≡ turns (binary most (reader (D.meaning d.now) (most - 1)) b least) most first
+        (S.left source.old)) }
 {
     let mut left = first;
     'turns: for turn in 0..most {
@@ -292,7 +304,8 @@ fn read_binary<D: Dialect, S: TokenSource>(
     left: Measured,
 ) -> Result<Turn, OutOfMemory>
     requires { 0 < most }
-    ensures { IfOk result (λ r. IsTurn (binary most (reader (D.meaning d.now) (most - 1)) b least left (S.left source.old)) left (S.left source.old) r (S.left source.new)) }
+    ensures { IfOk result (λ r. IsTurn (binary most (reader (D.meaning d.now) (most - 1)) b least
+        left (S.left source.old)) left (S.left source.old) r (S.left source.new)) }
 {
     let Ahead::Operator(sign) = source.ahead() else {
         return Ok(Turn::Stays(left));
@@ -318,7 +331,8 @@ fn read_arguments<D: Dialect, S: TokenSource>(
     b: usize,
 ) -> Result<Option<Arguments>, OutOfMemory>
     requires { 0 < most }
-    ensures { IfOk result (λ r. option_map (λ ts. (ts, S.left source.new)) r ≡ arguments (reader (D.meaning d.now) (most - 1)) b (S.left source.old)) }
+    ensures { IfOk result (λ r. option_map (λ ts. (ts, S.left source.new)) r
+        ≡ arguments (reader (D.meaning d.now) (most - 1)) b (S.left source.old)) }
 {
     let at_end = take_close(alloc, source)?;
     if at_end {
@@ -344,7 +358,9 @@ fn read_list<D: Dialect, S: TokenSource>(
     b: usize,
 ) -> Result<Option<Arguments>, OutOfMemory>
     requires { 0 < most }
-    ensures { IfOk result (λ r. option_map (λ ts. (ts, S.left source.new)) r ≡ all_listed (argument (reader (D.meaning d.now) (most - 1)) b) past_separator (S.left source.old)) }
+    ensures { IfOk result (λ r. option_map (λ ts. (ts, S.left source.new)) r
+        ≡ all_listed (argument (reader (D.meaning d.now) (most - 1)) b) past_separator
+        (S.left source.old)) }
 {
     let mut found = Arguments::new(alloc);
     'items: loop {
@@ -368,7 +384,8 @@ fn read_argument<D: Dialect, S: TokenSource>(
     b: usize,
 ) -> Result<Option<Measured>, OutOfMemory>
     requires { 0 < most }
-    ensures { IfOk result (λ r. option_map (λ t. (t, S.left source.new)) r ≡ argument (reader (D.meaning d.now) (most - 1)) b (S.left source.old)) }
+    ensures { IfOk result (λ r. option_map (λ t. (t, S.left source.new)) r
+        ≡ argument (reader (D.meaning d.now) (most - 1)) b (S.left source.old)) }
 {
     if ends_argument(source) {
         return Ok(Some(Measured::left_out(alloc)?));
@@ -387,7 +404,8 @@ fn read_name_call<D: Dialect, S: TokenSource>(
     name: Text,
 ) -> Result<Option<Measured>, OutOfMemory>
     requires { 0 < most }
-    ensures { IfOk result (λ r. option_map (λ t. (t, S.left source.new)) r ≡ name_call most (reader (D.meaning d.now) (most - 1)) b name (S.left source.old)) }
+    ensures { IfOk result (λ r. option_map (λ t. (t, S.left source.new)) r
+        ≡ name_call most (reader (D.meaning d.now) (most - 1)) b name (S.left source.old)) }
 {
     if !is_called_name(&name) {
         return Ok(None);
@@ -409,7 +427,9 @@ fn read_function<D: Dialect, S: TokenSource>(
     number: usize,
 ) -> Result<Option<Measured>, OutOfMemory>
     requires { 0 < most }
-    ensures { IfOk result (λ r. option_map (λ t. (t, S.left source.new)) r ≡ function_call (D.meaning d.now) most (reader (D.meaning d.now) (most - 1)) b number (S.left source.old)) }
+    ensures { IfOk result (λ r. option_map (λ t. (t, S.left source.new)) r
+        ≡ function_call (D.meaning d.now) most (reader (D.meaning d.now) (most - 1)) b number
+        (S.left source.old)) }
 {
     let special = d.let_fn();
     if number == special {
@@ -435,7 +455,8 @@ fn read_let<D: Dialect, S: TokenSource>(
     b: usize,
 ) -> Result<Option<Measured>, OutOfMemory>
     requires { 0 < most }
-    ensures { IfOk result (λ r. option_map (λ t. (t, S.left source.new)) r ≡ let_call most (reader (D.meaning d.now) (most - 1)) b (S.left source.old)) }
+    ensures { IfOk result (λ r. option_map (λ t. (t, S.left source.new)) r
+        ≡ let_call most (reader (D.meaning d.now) (most - 1)) b (S.left source.old)) }
 {
     let mut pairs = Pairs::new(alloc);
     'pairs: loop {
@@ -468,7 +489,8 @@ fn read_value<D: Dialect, S: TokenSource>(
     b: usize,
 ) -> Result<Option<Measured>, OutOfMemory>
     requires { 0 < most }
-    ensures { IfOk result (λ r. option_map (λ t. (t, S.left source.new)) r ≡ followed past_separator (reader (D.meaning d.now) (most - 1) b 1 (S.left source.old))) }
+    ensures { IfOk result (λ r. option_map (λ t. (t, S.left source.new)) r
+        ≡ followed past_separator (reader (D.meaning d.now) (most - 1) b 1 (S.left source.old))) }
 {
     let Some(value) = read(alloc, d, source, most - 1, b, 1)? else {
         return Ok(None);
@@ -490,7 +512,9 @@ fn read_body<D: Dialect, S: TokenSource>(
     token: Token,
 ) -> Result<Option<Measured>, OutOfMemory>
     requires { 0 < most }
-    ensures { IfOk result (λ r. option_map (λ t. (t, S.left source.new)) r ≡ followed past_close (reader (D.meaning d.now) (most - 1) b 1 (token_of token ∷ S.left source.old))) }
+    ensures { IfOk result (λ r. option_map (λ t. (t, S.left source.new)) r
+        ≡ followed past_close (reader (D.meaning d.now) (most - 1) b 1
+        (token_of token ∷ S.left source.old))) }
 {
     let Some(body) = read_from(alloc, d, source, most - 1, b, 1, token)? else {
         return Ok(None);
@@ -511,7 +535,8 @@ fn read_lambda<D: Dialect, S: TokenSource>(
     b: usize,
 ) -> Result<Option<Measured>, OutOfMemory>
     requires { 0 < most }
-    ensures { IfOk result (λ r. option_map (λ t. (t, S.left source.new)) r ≡ lambda_call most (reader (D.meaning d.now) (most - 1)) b (S.left source.old)) }
+    ensures { IfOk result (λ r. option_map (λ t. (t, S.left source.new)) r
+        ≡ lambda_call most (reader (D.meaning d.now) (most - 1)) b (S.left source.old)) }
 {
     let mut parameters = Vec::new(alloc);
     'parameters: loop {

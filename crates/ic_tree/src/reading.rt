@@ -19,7 +19,8 @@ use std::marker::Brand;
 pub fn read<D: Dialect>(alloc: Global, d: &D, text: &str) -> Result<Option<Spelled>, OutOfMemory>
     ensures exact { IfOk result (λ r. r ≡ read_as (D.meaning d.now) (chars text.now)) }
     ensures reads { IfOk result (λ r. IfSome r (λ t. Reads (D.meaning d.now) (chars text.now) t)) }
-    ensures none { IfOk result (λ r. MatchOption r ((t : trees.Spelled) → Reads (D.meaning d.now) (chars text.now) t → ⊥) (λ t. Unit {0})) }
+    ensures none { IfOk result (λ r. MatchOption r
+        ((t : trees.Spelled) → Reads (D.meaning d.now) (chars text.now) t → ⊥) (λ t. Unit {0})) }
 {
     read_text::<D, Brand>(alloc, d, &Unread { text })
 }
@@ -68,7 +69,8 @@ fn read_tokens<'t, D: Dialect, K: TextEnd>(
     d: &D,
     tokens: &mut Lexer<'t, D, K>,
 ) -> Result<Option<Spelled>, OutOfMemory>
-    ensures { IfOk result (λ r. r ≡ (if K.whole then parsed (D.meaning d.now) (⟦<Lexer<'t, D, K> as TokenSource>⟧.left tokens.old) else None)) }
+    ensures { IfOk result (λ r. r ≡ (if K.whole then parsed (D.meaning d.now)
+        (⟦<Lexer<'t, D, K> as TokenSource>⟧.left tokens.old) else None)) }
 {
     match parse(alloc, d, tokens) {
         Err(e) => Err(e),

@@ -45,7 +45,8 @@ impl<'t> Shown<'t> {
     ) -> Shown<'t>
         requires language { language_of tables.now language.now.code ≡ Some language.now }
         requires locale { HasGoodFormats tables.now locale.now }
-        ensures { option_map (λ english. shown_meaning language.now english (list_separator locale.now) (decimal_separator locale.now) row column)
+        ensures { option_map (λ english. shown_meaning language.now english
+            (list_separator locale.now) (decimal_separator locale.now) row column)
             (language_of tables.now (codes "en")) ≡ Some (⟦<Shown<'t> as Dialect>⟧.meaning result) }
     {
         Shown {
@@ -60,7 +61,8 @@ impl<'t> Shown<'t> {
     // The text of a reference in the cell. None exactly where it can't be spelled so that it is read back.
     fn spell_inside(&self, alloc: Global, r: &RefToken) -> Result<Option<String>, OutOfMemory>
         ensures { IfOk result (λ text. option_map (λ t. chars (string_bytes t)) text
-            ≡ (if is_shown_spellable self.now.row self.now.column r.now then Some (shown_text self.now.row self.now.column r.now) else None)) }
+            ≡ (if is_shown_spellable self.now.row self.now.column r.now then Some
+            (shown_text self.now.row self.now.column r.now) else None)) }
     {
         spell_in_cell(alloc, r, self.row, self.column)
     }
@@ -74,7 +76,8 @@ fn spell_in_cell(
     column: i32,
 ) -> Result<Option<String>, OutOfMemory>
     ensures { IfOk result (λ text. option_map (λ t. chars (string_bytes t)) text
-        ≡ (if is_shown_spellable row column r.now then Some (shown_text row column r.now) else None)) }
+        ≡ (if is_shown_spellable row column r.now then Some (shown_text row column r.now)
+        else None)) }
 {
     if is_written_sheet(&r.sheet) {
         spell_a1(alloc, r, row, column)
@@ -90,8 +93,10 @@ fn find_error_in<'a>(
     english: &Words<'_>,
     text: &'a str,
 ) -> Option<(usize, &'a str)>
-    ensures { MatchOption result (BeginsWithNone (found_in words.now.language.now english.now.language.now kinds.Error) (chars text.now))
-        (λ p. BeginsWithFound (found_in words.now.language.now english.now.language.now kinds.Error) (chars text.now) (chars p.1.now) p.0) }
+    ensures { MatchOption result (BeginsWithNone
+        (found_in words.now.language.now english.now.language.now kinds.Error) (chars text.now))
+        (λ p. BeginsWithFound (found_in words.now.language.now english.now.language.now kinds.Error)
+        (chars text.now) (chars p.1.now) p.0) }
 {
     match words.find_error(text) {
         Some(found) => Some(found),

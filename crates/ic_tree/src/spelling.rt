@@ -1,7 +1,7 @@
 ghost use Rattle.std.specs.Prelude.{◌≡◌, List, ℕ, IfOk, map};
 ghost use Rattle.std.specs.Fmt.{decimal};
 ghost use Rattle.ic_laws.specs.Binding.{spelled, spelled_sheet, spelled_with, spelled_word};
-ghost use Rattle.ic_laws.specs.Scene.{name_spelling, sheet_spelling};
+ghost use Rattle.ic_laws.specs.Scene.{definition_spelling, sheet_spelling};
 ghost use Rattle.ic_laws.specs.declared.tree.NameKey.{NameKey};
 ghost use Rattle.ic_laws.proofs.binding.Again.{pair_spelled};
 
@@ -36,7 +36,7 @@ struct Present<'n, N: Finder> {
 impl<'n, N: Finder> Spelling for Present<'n, N> {
     ghost sheet_text = { λ present. sheet_spelling (N.scene present.names.now) };
 
-    ghost key_text = { λ present. name_spelling (N.scene present.names.now) };
+    ghost key_text = { λ present. definition_spelling (N.scene present.names.now) };
 
     fn sheet_text(&self, alloc: Global, id: u32) -> Result<Text, OutOfMemory> {
         spell_sheet(alloc, self.names, id)
@@ -70,9 +70,9 @@ pub fn spell_definition<N: Finder>(
     names: &N,
     key: &NameKey,
 ) -> Result<Text, OutOfMemory>
-    ensures { IfOk result (λ r. r ≡ name_spelling (N.scene names.now) key.now) }
+    ensures { IfOk result (λ r. r ≡ definition_spelling (N.scene names.now) key.now) }
 {
-    match names.name_spelling(key) {
+    match names.definition_spelling(key) {
         Some(name) => Ok(Text::from_str(alloc, name)?),
         None => Ok(Text::from_str(alloc, key.name.as_str())?),
     }
@@ -124,7 +124,8 @@ pub fn spell_with<S: Spelling>(
     spelling: &S,
     tree: &Bound,
 ) -> Result<Spelled, OutOfMemory>
-    ensures { IfOk result (λ r. r ≡ spelled_with (S.sheet_text spelling.now) (S.key_text spelling.now) tree.now) }
+    ensures { IfOk result (λ r. r ≡ spelled_with (S.sheet_text spelling.now)
+        (S.key_text spelling.now) tree.now) }
 {
     match tree {
         Tree::Num(amount) => Ok(Tree::Num(*amount)),
@@ -184,7 +185,8 @@ fn spell_boxed<S: Spelling>(
     spelling: &S,
     tree: &Boxed<Bound>,
 ) -> Result<Boxed<Spelled>, OutOfMemory>
-    ensures { IfOk result (λ r. r ≡ spelled_with (S.sheet_text spelling.now) (S.key_text spelling.now) tree.now) }
+    ensures { IfOk result (λ r. r ≡ spelled_with (S.sheet_text spelling.now)
+        (S.key_text spelling.now) tree.now) }
 {
     let written = spell_with(alloc, spelling, tree.as_ref())?;
     Ok(Boxed::from(Box::new(alloc, written)?))
@@ -197,7 +199,8 @@ fn spell_all<S: Spelling>(
     spelling: &S,
     trees: &[Bound],
 ) -> Result<Vec<Spelled>, OutOfMemory>
-    ensures { IfOk result (λ r. r.items ≡ map (spelled_with (S.sheet_text spelling.now) (S.key_text spelling.now)) trees.now) }
+    ensures { IfOk result (λ r. r.items ≡ map
+        (spelled_with (S.sheet_text spelling.now) (S.key_text spelling.now)) trees.now) }
 {
     let mut out = Vec::new(alloc);
     for tree in trees {
@@ -214,7 +217,8 @@ fn spell_pairs<S: Spelling>(
     spelling: &S,
     pairs: &[LetPair<SheetMention, NameMention>],
 ) -> Result<Vec<LetPair<Option<Text>, Text>>, OutOfMemory>
-    ensures { IfOk result (λ r. r.items ≡ map (pair_spelled (S.sheet_text spelling.now) (S.key_text spelling.now)) pairs.now) }
+    ensures { IfOk result (λ r. r.items ≡ map
+        (pair_spelled (S.sheet_text spelling.now) (S.key_text spelling.now)) pairs.now) }
 {
     let mut out = Vec::new(alloc);
     for pair in pairs {

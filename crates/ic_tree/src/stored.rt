@@ -34,7 +34,8 @@ impl<'t> Stored<'t> {
     /// The stored form with the English of these tables.
     #[tactic(auto, using(crate::specs::laws::StoredLaws::speaks_well))]
     pub fn new(tables: &'t Tables) -> Stored<'t>
-        ensures { option_map stored_meaning (language_of tables.now (codes "en")) ≡ Some (⟦<Stored<'t> as Dialect>⟧.meaning result) }
+        ensures { option_map stored_meaning (language_of tables.now (codes "en"))
+            ≡ Some (⟦<Stored<'t> as Dialect>⟧.meaning result) }
     {
         Stored {
             words: tables.get_default_words(),
@@ -104,7 +105,8 @@ fn find_error_at(words: &Words<'_>, text: &str, at: usize) -> Option<(Error, usi
 // How many bytes stand before this rest of a text.
 pub fn bytes_before(text: &str, rest: &str) -> usize
     requires { EndsWith (chars text.now) (chars rest.now) }
-    ensures { (front : List ℕ) → chars text.now ≡ front ++ chars rest.now → result ≡ length (encode_utf8_all front) }
+    ensures { (front : List ℕ) → chars text.now ≡ front ++ chars rest.now → result
+        ≡ length (encode_utf8_all front) }
 {
     text.len() - rest.len()
 }

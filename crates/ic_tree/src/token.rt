@@ -59,5 +59,6 @@ pub trait TokenSource {
 
     /// Takes the next token; None at the end.
     fn next(&mut self, alloc: Global) -> Result<Option<Token>, OutOfMemory>
-        ensures { IfOk result (λ r. MatchOption r ((left self.old ≡ []) × (left self.new ≡ [])) (λ t. left self.old ≡ token_of t ∷ left self.new)) };
+        ensures { IfOk result (λ r. MatchOption r ((left self.old ≡ []) × (left self.new ≡ []))
+            (λ t. left self.old ≡ token_of t ∷ left self.new)) };
 }

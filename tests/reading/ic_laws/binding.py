@@ -3,7 +3,7 @@
 A mention of a sheet is ("Own",), ("Sheet", id) or ("Dangling", name); a mention of a word is ("Var", word), ("Name", key) or
 ("Dangling", word)."""
 from .name import agrees, fold
-from .scene import definition_at, found_name, found_sheet, key_of, name_spelling, sheet_spelling
+from .scene import definition_at, found_name, found_sheet, key_of, definition_spelling, sheet_spelling
 
 
 def is_bound_by(binders, word):
@@ -114,4 +114,4 @@ def spelled_with(sheet_text, key_text, t):
 
 
 def spelled(scene, t):
-    return spelled_with(lambda id: sheet_spelling(scene, id), lambda key: name_spelling(scene, key), t)
+    return spelled_with(lambda id: sheet_spelling(scene, id), lambda key: definition_spelling(scene, key), t)

@@ -2,7 +2,7 @@
 from typing import Any, NamedTuple
 
 from .name import agrees
-from .scene import NameSpelling, Scene, SheetName
+from .scene import DefinitionSpelling, Scene, SheetName
 
 LAST_ID = 4294967295
 
@@ -32,7 +32,7 @@ def has_sheet(book, name):
 
 
 def spelling_of(definition):
-    return NameSpelling(definition.name, definition.scope)
+    return DefinitionSpelling(definition.name, definition.scope)
 
 
 def scene_of(book):

@@ -92,7 +92,7 @@ def scope_or_none(book, index):
     return None if scope is None else scope[0]
 
 
-def new_name_causes(n, book, name, index, body):
+def new_definition_causes(n, book, name, index, body):
     return [(not is_identifier(name), "InvalidName"), (scope_of(book, index) is None, "InvalidScope"),
             (has_definition(book, name, scope_or_none(book, index)), "NameExists"),
             (body_of(n, book, body) is None, "InvalidNameFormula")]
@@ -102,7 +102,7 @@ def index_of_definition(book, name, scope):
     return next((i for i, d in enumerate(book.definitions) if is_named(name, scope, d)), None)
 
 
-def delete_name_causes(book, name, index):
+def delete_definition_causes(book, name, index):
     return [(scope_of(book, index) is None, "InvalidSheet"),
             (not has_definition(book, name, scope_or_none(book, index)), "NameNotFound")]
 
@@ -154,11 +154,11 @@ def core_step(n, book, command):
     if kind == "DeleteSheetBySheetId":
         return at_found(index_of_id(book, *words), lambda i: unless_refused(delete_causes(book, i), []))
     if kind == "NewDefinedName":
-        return unless_refused(new_name_causes(n, book, *words), [])
+        return unless_refused(new_definition_causes(n, book, *words), [])
     if kind == "DeleteDefinedName":
-        return unless_refused(delete_name_causes(book, *words), [])
+        return unless_refused(delete_definition_causes(book, *words), [])
     if kind == "IsValidDefinedName":
-        return unless_refused(new_name_causes(n, book, *words), [("Number", scope_or_none(book, words[1]))])
+        return unless_refused(new_definition_causes(n, book, *words), [("Number", scope_or_none(book, words[1]))])
     if kind == "GetDefinedNameList":
         return "Ok", list_fields(n, book)
     if kind == "GetNewSheetId":

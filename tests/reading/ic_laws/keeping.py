@@ -1,7 +1,7 @@
 """What becomes of a formula when the sheets or the definitions of its book change. A formula is ("Tree", tree) or
 ("Raw", text)."""
 from .binding import bound, spelled_with
-from .scene import name_of_key, name_of_sheet, name_spelling, same_key, sheet_spelling
+from .scene import name_of_key, name_of_sheet, definition_spelling, same_key, sheet_spelling
 
 
 def same_keys(key):
@@ -19,7 +19,7 @@ def kept_sheet(before, after, id):
 
 def kept_name(before, after, change, key):
     name = name_of_key(after, change(key))
-    return name_spelling(before, key) if name is None else name
+    return definition_spelling(before, key) if name is None else name
 
 
 def kept(english, before, after, change, scope, t):

@@ -9,7 +9,7 @@ class SheetName(NamedTuple):
     name: str
 
 
-class NameSpelling(NamedTuple):
+class DefinitionSpelling(NamedTuple):
     name: str
     scope: Any
 
@@ -67,6 +67,6 @@ def sheet_spelling(scene, id):
     return str(id) if name is None else name
 
 
-def name_spelling(scene, key):
+def definition_spelling(scene, key):
     name = name_of_key(scene, key)
     return key.name if name is None else name

@@ -4,7 +4,7 @@ ghost use Rattle.std.specs.Prelude.{◌≡◌, ◌<◌, ℕ, ◌++◌, [], ◌�
 ghost use Rattle.std.specs.List.{AllByRecursion, IsDistinct, list_any, slice_get};
 ghost use Rattle.ic_laws.specs.Binding.{name_or_dangling};
 ghost use Rattle.ic_laws.specs.BookTrees.{with_body_tree};
-ghost use Rattle.ic_laws.specs.Changes.{changed_tree, name_added, name_gone, sheet_gone};
+ghost use Rattle.ic_laws.specs.Changes.{changed_tree, definition_added, definition_gone, sheet_gone};
 ghost use Rattle.ic_laws.specs.CoreBook as core;
 ghost use Rattle.ic_laws.specs.CoreBook.{spelling_of};
 ghost use Rattle.ic_laws.specs.CoreStep.{is_named};
@@ -25,14 +25,15 @@ pub fn add_for_all(contents: &mut Contents, definition: Definition) -> Result<()
     requires free { list_any (is_named definition.name definition.scope)
         contents.old.definitions ≡ false }
     requires scope { definition.scope ≡ None }
-    requires spares { AllByRecursion (StaysWhereFound (name_added
+    requires spares { AllByRecursion (StaysWhereFound (definition_added
         (spelling_of definition))) contents.old.definitions }
-    ensures sheets { OnOk result (sheets_of contents.new.sheets ≡ map (changed_pool (name_added
+    ensures sheets { OnOk result (sheets_of contents.new.sheets
+        ≡ map (changed_pool (definition_added
         (spelling_of definition))) (sheets_of contents.old.sheets)) }
     ensures looks_up { OnOk result (look_ups contents.new.sheets
-        ≡ map (looks_up_after (name_added (spelling_of definition))) contents.old.sheets) }
+        ≡ map (looks_up_after (definition_added (spelling_of definition))) contents.old.sheets) }
     ensures definitions { OnOk result (contents.new.definitions
-        ≡ map (with_body_tree (changed_tree (name_added (spelling_of definition))))
+        ≡ map (with_body_tree (changed_tree (definition_added (spelling_of definition))))
         contents.old.definitions ++ definition ∷ []) }
     ensures err { OnErr result (contents.new ≡ contents.old) }
 {
@@ -56,12 +57,13 @@ pub fn add_for_sheet(
     requires ids { IsDistinct nat_eq (map (λ s. s.id) contents.old.sheets) }
     requires scope { (sheet : Sheet) → slice_get contents.old.sheets index ≡ Some sheet
         → definition.scope ≡ Some sheet.id }
-    ensures sheets { OnOk result (sheets_of contents.new.sheets ≡ map (changed_pool (name_added
+    ensures sheets { OnOk result (sheets_of contents.new.sheets
+        ≡ map (changed_pool (definition_added
         (spelling_of definition))) (sheets_of contents.old.sheets)) }
     ensures looks_up { OnOk result (look_ups contents.new.sheets
-        ≡ map (looks_up_after (name_added (spelling_of definition))) contents.old.sheets) }
+        ≡ map (looks_up_after (definition_added (spelling_of definition))) contents.old.sheets) }
     ensures definitions { OnOk result (contents.new.definitions
-        ≡ map (with_body_tree (changed_tree (name_added (spelling_of definition))))
+        ≡ map (with_body_tree (changed_tree (definition_added (spelling_of definition))))
         contents.old.definitions ++ definition ∷ []) }
     ensures err { OnErr result (contents.new ≡ contents.old) }
 {
@@ -80,17 +82,17 @@ pub fn delete_at(alloc: Global, contents: &mut Contents, index: usize) -> Result
     requires differ { IsDistinct same_key (map key_in contents.old.definitions) }
     ensures sheets { OnOk result ((d : core.Definition)
         → slice_get contents.old.definitions index ≡ Some d
-        → sheets_of contents.new.sheets ≡ map (changed_pool (name_gone
+        → sheets_of contents.new.sheets ≡ map (changed_pool (definition_gone
         (definitions_scene (remove contents.old.definitions index)) (spelling_of d)))
         (sheets_of contents.old.sheets)) }
     ensures looks_up { OnOk result ((d : core.Definition)
         → slice_get contents.old.definitions index ≡ Some d
-        → look_ups contents.new.sheets ≡ map (looks_up_after (name_gone
+        → look_ups contents.new.sheets ≡ map (looks_up_after (definition_gone
         (definitions_scene (remove contents.old.definitions index)) (spelling_of d)))
         contents.old.sheets) }
     ensures definitions { OnOk result ((d : core.Definition)
         → slice_get contents.old.definitions index ≡ Some d
-        → contents.new.definitions ≡ remove (map (with_body_tree (changed_tree (name_gone
+        → contents.new.definitions ≡ remove (map (with_body_tree (changed_tree (definition_gone
         (definitions_scene (remove contents.old.definitions index)) (spelling_of d))))
         contents.old.definitions) index) }
     ensures err { OnErr result (contents.new ≡ contents.old) }

@@ -23,7 +23,8 @@ use std::collections::BTreeMap;
 impl Definitions {
     /// What a change does to the bodies of all definitions, prepared before any of them changes.
     pub fn prepare<C: BookChange>(&self, change: &C) -> Result<BodyRewrites, OutOfMemory>
-        ensures made { IfOk result (λ w. with_bodies w.bodies.items self.now ≡ map (with_body_tree (changed_tree (C.change change.now))) self.now) }
+        ensures made { IfOk result (λ w. with_bodies w.bodies.items self.now
+            ≡ map (with_body_tree (changed_tree (C.change change.now))) self.now) }
         ensures fits { IfOk result (λ w. FitsBodies w self.now) }
     {
         rewrites_of(self.alloc, &self.list, change)
@@ -32,7 +33,8 @@ impl Definitions {
     /// The same for a change that leaves each body in which all was found: where no body may dangle it looks at none.
     pub fn prepare_dangling<C: BookChange>(&self, change: &C) -> Result<BodyRewrites, OutOfMemory>
         requires { AllByRecursion (StaysWhereFound (C.change change.now)) self.now }
-        ensures made { IfOk result (λ w. with_bodies w.bodies.items self.now ≡ map (with_body_tree (changed_tree (C.change change.now))) self.now) }
+        ensures made { IfOk result (λ w. with_bodies w.bodies.items self.now
+            ≡ map (with_body_tree (changed_tree (C.change change.now))) self.now) }
         ensures fits { IfOk result (λ w. FitsBodies w self.now) }
     {
         if !self.may_dangle {
@@ -54,7 +56,8 @@ impl Definitions {
     pub fn add(&mut self, definition: Definition, rewrites: BodyRewrites) -> Result<(), OutOfMemory>
         requires free { list_any (is_named definition.name definition.scope) self.old ≡ false }
         requires fits { FitsBodies rewrites self.old }
-        ensures ok { OnOk result (self.new ≡ with_bodies rewrites.bodies.items self.old ++ definition ∷ []) }
+        ensures ok { OnOk result (self.new ≡ with_bodies rewrites.bodies.items self.old
+            ++ definition ∷ []) }
         ensures err { OnErr result (self.new ≡ self.old) }
     {
         let key = key_in(self.alloc, &definition)?;
@@ -73,7 +76,8 @@ impl Definitions {
     pub fn delete(&mut self, index: usize, rewrites: BodyRewrites) -> Result<(), OutOfMemory>
         requires within { index < length self.old }
         requires fits { FitsBodies rewrites self.old }
-        ensures ok { OnOk result (self.new ≡ remove (with_bodies rewrites.bodies.items self.old) index) }
+        ensures ok { OnOk result (self.new ≡ remove (with_bodies rewrites.bodies.items self.old)
+            index) }
         ensures err { OnErr result (self.new ≡ self.old) }
     {
         let key = key_in(self.alloc, &self.list[index])?;
@@ -97,7 +101,8 @@ fn key_in(alloc: Global, definition: &Definition) -> Result<Key, OutOfMemory>
 
 /// The indexes after the one that is taken away are lowered by one.
 fn renumber(indexes: &mut BTreeMap<Key, usize>, index: usize)
-    ensures { (key : List ℕ) → get (slice_cmp nat_cmp) indexes.new key ≡ option_map (lowered index) (get (slice_cmp nat_cmp) indexes.old key) }
+    ensures { (key : List ℕ) → get (slice_cmp nat_cmp) indexes.new key
+        ≡ option_map (lowered index) (get (slice_cmp nat_cmp) indexes.old key) }
 {
     indexes.retain(|_, place| {
         *place = lowered(*place, index);

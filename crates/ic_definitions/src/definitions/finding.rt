@@ -28,7 +28,8 @@ impl Definitions {
 
     /// The same, by the key of the name.
     fn index_by_key(&self, name: &str, scope: Option<u32>) -> Result<Option<usize>, OutOfMemory>
-        ensures { IfOk result (λ index. index ≡ position (is_named (chars name.now) scope) self.now) }
+        ensures { IfOk result (λ index. index
+            ≡ position (is_named (chars name.now) scope) self.now) }
     {
         let folded = fold_name(self.alloc, name)?;
         self.index_at(folded.as_str(), scope)
@@ -37,7 +38,8 @@ impl Definitions {
     /// The key of the definition that a word means in a formula whose words are looked up from the sheet with this id, or
     /// from none: the local one, else the one that is local to none. None exactly where it means none.
     pub fn find(&self, scope: Option<u32>, word: &str) -> Result<Option<NameKey>, OutOfMemory>
-        ensures { IfOk result (λ key. key ≡ found_name (definitions_scene self.now) scope (chars word.now)) }
+        ensures { IfOk result (λ key. key ≡ found_name (definitions_scene self.now) scope
+            (chars word.now)) }
     {
         if self.list.is_empty() {
             return Ok(None);
@@ -57,7 +59,8 @@ impl Definitions {
     /// The key of the definition of an agreeing name that is local to the sheet with this id, or to none. None exactly where
     /// there is no such one.
     pub fn key_at(&self, scope: Option<u32>, word: &str) -> Result<Option<NameKey>, OutOfMemory>
-        ensures { IfOk result (λ key. key ≡ option_map key_of (definition_at (definitions_scene self.now) (fold (chars word.now)) scope)) }
+        ensures { IfOk result (λ key. key ≡ option_map key_of
+            (definition_at (definitions_scene self.now) (fold (chars word.now)) scope)) }
     {
         if self.list.is_empty() {
             return Ok(None);
@@ -72,7 +75,8 @@ impl Definitions {
     /// The name of the definition with this key, as it was given. None exactly where no definition has it. Where there is no
     /// memory for a key of the look-up, all keys are compared.
     pub fn name_of(&self, key: &NameKey) -> Option<&str>
-        ensures { option_map (λ name. chars name.now) result ≡ name_of_key (definitions_scene self.now) key.now }
+        ensures { option_map (λ name. chars name.now) result
+            ≡ name_of_key (definitions_scene self.now) key.now }
     {
         let definition = self.with_key(key)?;
         Some(definition.name())
@@ -80,7 +84,8 @@ impl Definitions {
 
     /// The definition with this key.
     fn with_key(&self, key: &NameKey) -> Option<&Definition>
-        ensures { option_map (λ d. d.now) result ≡ find (λ d. same_key (key_in d) key.now) self.now }
+        ensures { option_map (λ d. d.now) result
+            ≡ find (λ d. same_key (key_in d) key.now) self.now }
     {
         match self.index_at(key.name.as_str(), key.scope) {
             Ok(place) => definition_in(&self.list, place?),
@@ -90,7 +95,8 @@ impl Definitions {
 
     /// The index, from 0, of the definition with this folded name that is local to the sheet with this id, or to none.
     fn index_at(&self, folded: &str, scope: Option<u32>) -> Result<Option<usize>, OutOfMemory>
-        ensures { IfOk result (λ place. place ≡ index_with_key (record { name = chars folded.now; scope = scope }) self.now) }
+        ensures { IfOk result (λ place. place
+            ≡ index_with_key (record { name = chars folded.now; scope = scope }) self.now) }
     {
         let key = name_key(self.alloc, folded, scope)?;
         Ok(self.indexes.get(&key).copied())
@@ -114,7 +120,8 @@ fn first_named(definitions: &[Definition], name: &str, scope: Option<u32>) -> Op
 
 /// The first definition with this key.
 fn first_with_key<'d>(definitions: &'d [Definition], key: &NameKey) -> Option<&'d Definition>
-    ensures { option_map (λ d. d.now) result ≡ find (λ d. same_key (key_in d) key.now) definitions.now }
+    ensures { option_map (λ d. d.now) result ≡ find (λ d. same_key (key_in d) key.now)
+        definitions.now }
 {
     definitions
         .iter()

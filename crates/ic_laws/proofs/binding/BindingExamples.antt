@@ -7,7 +7,7 @@ use Rattle.ic_laws.proofs.binding.Again.{bound_node, bound-node, spelled-node}
 use Rattle.ic_laws.specs.Binding.{BoundPair, bound, bound_pair_of, bound_sheet, spelled, spelled_sheet}
 use Rattle.ic_laws.specs.Name.{agrees}
 use Rattle.ic_laws.specs.Parse.{Pair, node, pair_of}
-use Rattle.ic_laws.specs.Scene.{found_name, name_spelling, sheet_spelling}
+use Rattle.ic_laws.specs.Scene.{found_name, definition_spelling, sheet_spelling}
 use Rattle.ic_laws.specs.Tree.{Spelled, Bound}
 use Rattle.ic_laws.specs.declared.scene.Scene.{Scene}
 use Rattle.ic_laws.specs.declared.tree.BinarySign.TheVariants as signs
@@ -53,11 +53,11 @@ unfolding caseless
 global_elsewhere = refl
 
 -- each is shown in its own spelling; a key without a definition by its folded name, an id without a sheet by its digits
-own_spelling : name_spelling scene (record { name = codes "tax"; scope = Some 1 }) ≡ codes "Tax"
+own_spelling : definition_spelling scene (record { name = codes "tax"; scope = Some 1 }) ≡ codes "Tax"
 unfolding caseless
 own_spelling = refl
 
-no_definition : name_spelling scene (record { name = codes "rate"; scope = None }) ≡ codes "rate"
+no_definition : definition_spelling scene (record { name = codes "rate"; scope = None }) ≡ codes "rate"
 unfolding caseless
 no_definition = refl
 

@@ -9,7 +9,7 @@ use Rattle.ic_laws.proofs.binding.Induction.{every_of_all}
 use Rattle.ic_laws.proofs.binding.SceneLemmas.{sheet_settles, sheet_settles_by_ids, word_settles, word_fold}
 use Rattle.ic_laws.specs.Binding.{IsSettled, RespectsFolding, bound, bound_sheet, spelled_sheet}
 use Rattle.ic_laws.specs.Mentions.{OfMentions}
-use Rattle.ic_laws.specs.Scene.{IdsDiffer, SheetsDiffer, name_spelling, sheet_spelling}
+use Rattle.ic_laws.specs.Scene.{IdsDiffer, SheetsDiffer, definition_spelling, sheet_spelling}
 use Rattle.ic_laws.specs.declared.scene.Scene.{Scene}
 
 -- a fact of all mentions
@@ -27,17 +27,17 @@ none_asked kind = tt
 
 find_again : (english : List ℕ → Option ℕ) (scene : Scene) (scope : Option ℕ) → RespectsFolding english
     → ((sheet : Option (List ℕ)) → bound_sheet scene (spelled_sheet (sheet_spelling scene) (bound_sheet scene sheet)) ≡ bound_sheet scene sheet)
-    → FindAgain english scope scene scene (sheet_spelling scene) (name_spelling scene) (λ m. m) (λ m. m)
+    → FindAgain english scope scene scene (sheet_spelling scene) (definition_spelling scene) (λ m. m) (λ m. m)
 find_again english scene scope by_fold sheet = record {
   sheet = sheet;
   word = word_settles scene scope;
   called = λ binders word e. by_fold _ word (word_fold scene scope binders word) ∙ e;
 }
 
-settled_if : (english : List ℕ → Option ℕ) (scene : Scene) (scope : Option ℕ) → FindAgain english scope scene scene (sheet_spelling scene) (name_spelling scene) (λ m. m) (λ m. m)
+settled_if : (english : List ℕ → Option ℕ) (scene : Scene) (scope : Option ℕ) → FindAgain english scope scene scene (sheet_spelling scene) (definition_spelling scene) (λ m. m) (λ m. m)
     → (t : Spelled) → IsSettled english scene scope (bound english scene scope t)
 settled_if english scene scope again t =
-    bound_again english scope scene scene (sheet_spelling scene) (name_spelling scene) (λ m. m) (λ m. m) again t
+    bound_again english scope scene scene (sheet_spelling scene) (definition_spelling scene) (λ m. m) (λ m. m) again t
     ∙ mapped_same (λ m. m) (λ m. m) NoSheetFact NoNameFact (λ m h. refl) (λ m h. refl) (bound english scene scope t)
     (every_of_all (OfMentions NoSheetFact NoNameFact) (λ pair. Unit {0}) none_asked (λ pair. tt) (bound english scene scope t))
 

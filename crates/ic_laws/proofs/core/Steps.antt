@@ -18,7 +18,7 @@ use Rattle.ic_laws.proofs.keeping.Accepted.{accepted, none_holds}
 use Rattle.ic_laws.specs.Binding.{bound}
 use Rattle.ic_laws.specs.Command.{Command, AddSheet, RenameSheet, RenameSheetByIndex, MoveSheet, DeleteSheet, DeleteSheetByName, DeleteSheetBySheetId, NewDefinedName, DeleteDefinedName, IsValidDefinedName, GetDefinedNameList, GetNewSheetId, SetLocale, SetLanguage, UpdateCellWithFormula, GetCellFormula, Field, NumberField}
 use Rattle.ic_laws.specs.CoreBook.{CoreBook, Definition, Sheet, fresh_id, scene_of, spelling_of}
-use Rattle.ic_laws.specs.CoreStep.{Outcome, add_sheet_causes, add_sheet_step, at_found, changed_by, core_step, delete_causes, delete_name_step, delete_step, has_definition, index_of_definition, index_of_id, index_of_name, lacks_sheet, language_step, list_fields, locale_step, move_causes, move_step, moved, new_definition, new_name_causes, new_name_step, rename_causes, rename_step, scene_with_name, scope_of, scope_or_none, unless_refused, update_causes, update_step, with_definition, with_new_name, without_definition}
+use Rattle.ic_laws.specs.CoreStep.{Outcome, add_sheet_causes, add_sheet_step, at_found, changed_by, core_step, delete_causes, delete_definition_step, delete_step, has_definition, index_of_definition, index_of_id, index_of_name, lacks_sheet, language_step, list_fields, locale_step, move_causes, move_step, moved, new_definition, new_definition_causes, new_definition_step, rename_causes, rename_step, scene_with_definition, scope_of, scope_or_none, unless_refused, update_causes, update_step, with_definition, with_new_definition, without_definition}
 use Rattle.ic_laws.specs.Dialect.{DialectMeaning}
 use Rattle.ic_laws.specs.FormulaReading.{Body, body_of, cell_formula, shown_at, tree_or_raw, without_equals}
 use Rattle.ic_laws.specs.Notations.{AreNotations, IsShownForm, Notations, english_function, is_cell}
@@ -27,7 +27,7 @@ use Rattle.ic_laws.specs.ReadAs.{read_as}
 use Rattle.ic_laws.specs.Refusal.{InvalidLanguage, InvalidLocale}
 use Rattle.ic_laws.specs.Tree.{Spelled}
 use Rattle.ic_laws.specs.ValidCore.{IsKept, IsKeptFormula, IsScope, IsValidCore, IsValidDefinition, IsValidSheet}
-use Rattle.ic_laws.specs.declared.scene.NameSpelling.{NameSpelling}
+use Rattle.ic_laws.specs.declared.scene.DefinitionSpelling.{DefinitionSpelling}
 use Rattle.ic_laws.specs.declared.scene.Scene.{Scene}
 use Rattle.ic_laws.specs.declared.tree.Formula.TheVariants as formulas
 
@@ -133,36 +133,36 @@ module _ (n : Notations) (are : AreNotations n) (facts : TreeFacts n) (book : Co
       (written_valid n book index row column (λ id. cell_formula n book id row column body) valid inside
       (λ id. cell_kept id row column body (read_as (shown_at n book row column) body) (read_as (shown_at n book row column) (body ++ codes ")")) refl refl))
 
-  scene_named : (name : List ℕ) (scope : Option ℕ) (d : Definition) → spelling_of d ≡ record { name = name; scope = scope } → scene_of (with_definition d book) ≡ scene_with_name book name scope
+  scene_named : (name : List ℕ) (scope : Option ℕ) (d : Definition) → spelling_of d ≡ record { name = name; scope = scope } → scene_of (with_definition d book) ≡ scene_with_definition book name scope
   scene_named name scope d same =
-      ap (λ (x : List NameSpelling). record { sheets = (scene_of book).sheets; names = x })
+      ap (λ (x : List DefinitionSpelling). record { sheets = (scene_of book).sheets; names = x })
       (map-append spelling_of book.definitions (d ∷ []) ∙ ap (λ x. map spelling_of book.definitions ++ x ∷ []) same)
 
   scope_good : (index : Option ℕ) (scope : Option ℕ) → scope_of book index ≡ Some scope → IsScope scope
   scope_good None scope e = let same : None ≡ scope = cc in subst IsScope same tt
   scope_good (Some index) scope e = sheet_scope n (scene_of book) book.sheets index (slice_get book.sheets index) refl scope e valid.sheets
 
-  define_keeps : (name : List ℕ) (index : Option ℕ) (body : List ℕ) (after : CoreBook) (told : List Field) → new_name_step n book name index body ≡ Ok (after, told) → IsValidCore n after
+  define_keeps : (name : List ℕ) (index : Option ℕ) (body : List ℕ) (after : CoreBook) (told : List Field) → new_definition_step n book name index body ≡ Ok (after, told) → IsValidCore n after
   define_keeps name index body after told e =
       let a = accepted _ _ _ _ _ e in
-      let h = none_holds (new_name_causes n book name index body) a.unrefused in
+      let h = none_holds (new_definition_causes n book name index body) a.unrefused in
       let named = not_false _ h.0 in
       let scope = is_there (scope_of book index) h.1.0 in
       let b = is_there (body_of n book body) h.1.1.1.0 in
       let at : scope_or_none book index ≡ scope.0 = ap (λ o. unwrap_or o None) scope.1 in
       let new : Definition = new_definition n book name scope.0 b.0 in
-      let seen : scene_of (with_definition new book) ≡ scene_with_name book name scope.0 = scene_named name scope.0 new refl in
+      let seen : scene_of (with_definition new book) ≡ scene_with_definition book name scope.0 = scene_named name scope.0 new refl in
       let later = defined_named n book valid new named in
-      let kept_body : IsKept n (scene_of (with_definition new book)) scope.0 (pos 1) (pos 1) (bound (english_function n) (scene_with_name book name scope.0) scope.0 b.0.tree) =
+      let kept_body : IsKept n (scene_of (with_definition new book)) scope.0 (pos 1) (pos 1) (bound (english_function n) (scene_with_definition book name scope.0) scope.0 b.0.tree) =
       subst (λ s. IsKept n (scene_of (with_definition new book)) scope.0 (pos 1) (pos 1) (bound (english_function n) s scope.0 b.0.tree)) seen
       (facts.body book valid.locale valid.language (scene_of (with_definition new book)) later body b.0 b.1 scope.0) in
       let good : IsValidDefinition n (scene_of (with_definition new book)) new = record { name = named; scope = scope_good index scope.0 scope.1; body = kept_body } in
       let left : changed_by n (with_definition new) book ≡ after =
-      sym (ap (λ o. with_new_name n book name scope.0 o) b.1) ∙ sym (ap (λ s. with_new_name n book name s (body_of n book body)) at) ∙ sym a.left in
+      sym (ap (λ o. with_new_definition n book name scope.0 o) b.1) ∙ sym (ap (λ s. with_new_definition n book name s (body_of n book body)) at) ∙ sym a.left in
       let other : has_definition book name scope.0 ≡ false = sym (ap (has_definition book name) at) ∙ h.1.1.0 in
       subst (IsValidCore n) left (defined_valid n book new valid (facts.keeps _ _ (book_named n book valid) later) good other)
 
-  undefine_keeps : (name : List ℕ) (index : Option ℕ) (after : CoreBook) (told : List Field) → delete_name_step n book name index ≡ Ok (after, told) → IsValidCore n after
+  undefine_keeps : (name : List ℕ) (index : Option ℕ) (after : CoreBook) (told : List Field) → delete_definition_step n book name index ≡ Ok (after, told) → IsValidCore n after
   undefine_keeps name index after told e =
       let a = accepted _ _ _ _ _ e in
       subst (IsValidCore n) (sym a.left) (without (index_of_definition book name (scope_or_none book index)))

@@ -1,8 +1,8 @@
 -- What changes do to mentions, by example.
 use Rattle.std.proofs.Common.{◌≡◌, ℕ, [], ◌∷◌, Option, None, Some, codes, refl}
 use Rattle.caseless.proofs.Computing.{caseless}
-use Rattle.ic_laws.specs.Changes.{changed_sheet, changed_word, name_added, name_gone, sheet_gone, sheet_named}
-use Rattle.ic_laws.specs.declared.scene.NameSpelling.{NameSpelling}
+use Rattle.ic_laws.specs.Changes.{changed_sheet, changed_word, definition_added, definition_gone, sheet_gone, sheet_named}
+use Rattle.ic_laws.specs.declared.scene.DefinitionSpelling.{DefinitionSpelling}
 use Rattle.ic_laws.specs.declared.scene.Scene.{Scene}
 use Rattle.ic_laws.specs.declared.tree.NameMention.{NameMention}
 use Rattle.ic_laws.specs.declared.tree.NameMention.TheVariants as names
@@ -33,42 +33,42 @@ other_sheet : changed_sheet (sheet_gone 1 (codes "Data")) (sheets.Sheet 2) ≡ s
 other_sheet = refl
 
 -- a definition for all sheets, and one for sheet 1 alone
-abbrev everywhere : NameSpelling
+abbrev everywhere : DefinitionSpelling
 everywhere = record { name = codes "Tax"; scope = None }
 
-abbrev on_one : NameSpelling
+abbrev on_one : DefinitionSpelling
 on_one = record { name = codes "TAX"; scope = Some 1 }
 
 abbrev tax_at : Option ℕ → NameMention
 tax_at scope = names.Name (record { name = codes "tax"; scope = scope })
 
 -- the local one comes: on its sheet what meant the other means it, and what meant nothing; elsewhere nothing changes
-taken_over : changed_word (name_added on_one) (Some 1) (tax_at None) ≡ tax_at (Some 1)
+taken_over : changed_word (definition_added on_one) (Some 1) (tax_at None) ≡ tax_at (Some 1)
 unfolding caseless
 taken_over = refl
 
-bound_there : changed_word (name_added on_one) (Some 1) (names.Dangling (codes "taX")) ≡ tax_at (Some 1)
+bound_there : changed_word (definition_added on_one) (Some 1) (names.Dangling (codes "taX")) ≡ tax_at (Some 1)
 unfolding caseless
 bound_there = refl
 
-not_elsewhere : changed_word (name_added on_one) (Some 2) (tax_at None) ≡ tax_at None
+not_elsewhere : changed_word (definition_added on_one) (Some 2) (tax_at None) ≡ tax_at None
 unfolding caseless
 not_elsewhere = refl
 
-not_in_bodies : changed_word (name_added on_one) None (names.Dangling (codes "tax")) ≡ names.Dangling (codes "tax")
+not_in_bodies : changed_word (definition_added on_one) None (names.Dangling (codes "tax")) ≡ names.Dangling (codes "tax")
 unfolding caseless
 not_in_bodies = refl
 
 -- the one for all sheets comes: it is behind local ones, and never in place of a variable
-behind_local : changed_word (name_added everywhere) (Some 1) (tax_at (Some 1)) ≡ tax_at (Some 1)
+behind_local : changed_word (definition_added everywhere) (Some 1) (tax_at (Some 1)) ≡ tax_at (Some 1)
 unfolding caseless
 behind_local = refl
 
-bound_anywhere : changed_word (name_added everywhere) (Some 2) (names.Dangling (codes "TAX")) ≡ tax_at None
+bound_anywhere : changed_word (definition_added everywhere) (Some 2) (names.Dangling (codes "TAX")) ≡ tax_at None
 unfolding caseless
 bound_anywhere = refl
 
-variable_stays : changed_word (name_added everywhere) (Some 2) (names.Var (codes "tax")) ≡ names.Var (codes "tax")
+variable_stays : changed_word (definition_added everywhere) (Some 2) (names.Var (codes "tax")) ≡ names.Var (codes "tax")
 variable_stays = refl
 
 -- the local one goes: what meant it means the other where there is one, and dangles where there is none
@@ -78,10 +78,10 @@ one_left = record { sheets = []; names = everywhere ∷ [] }
 abbrev none_left : Scene
 none_left = record { sheets = []; names = [] }
 
-given_back : changed_word (name_gone one_left on_one) (Some 1) (tax_at (Some 1)) ≡ tax_at None
+given_back : changed_word (definition_gone one_left on_one) (Some 1) (tax_at (Some 1)) ≡ tax_at None
 unfolding caseless
 given_back = refl
 
-dangles : changed_word (name_gone none_left on_one) (Some 1) (tax_at (Some 1)) ≡ names.Dangling (codes "TAX")
+dangles : changed_word (definition_gone none_left on_one) (Some 1) (tax_at (Some 1)) ≡ names.Dangling (codes "TAX")
 unfolding caseless
 dangles = refl

@@ -16,16 +16,16 @@ use Rattle.ic_laws.proofs.keeping.Removing.{finds_itself, finds_no_other, remove
 use Rattle.ic_laws.proofs.keeping.SheetChanges.{Going, gone_becomes, has_id}
 use Rattle.ic_laws.proofs.keeping.Sheets.{nothing_found, seen, sheets_differ}
 use Rattle.ic_laws.specs.BookTrees.{with_trees}
-use Rattle.ic_laws.specs.Changes.{changed_tree, name_added, name_gone, sheet_gone}
+use Rattle.ic_laws.specs.Changes.{changed_tree, definition_added, definition_gone, sheet_gone}
 use Rattle.ic_laws.specs.Command.{Field}
 use Rattle.ic_laws.specs.CoreBook.{CoreBook, Definition, Sheet, scene_of, spelling_of}
-use Rattle.ic_laws.specs.CoreStep.{changed_by, delete_name_refusal, delete_name_step, delete_refusal, delete_step, index_of_definition, new_definition, new_name_refusal, new_name_step, scope_or_none, with_definition, with_new_name, without_definition, without_sheet}
+use Rattle.ic_laws.specs.CoreStep.{changed_by, delete_definition_refusal, delete_definition_step, delete_refusal, delete_step, index_of_definition, new_definition, new_definition_refusal, new_definition_step, scope_or_none, with_definition, with_new_definition, without_definition, without_sheet}
 use Rattle.ic_laws.specs.FormulaReading.{Body, body_of}
 use Rattle.ic_laws.specs.Name.{agrees}
 use Rattle.ic_laws.specs.Notations.{AreNotations, Notations}
 use Rattle.ic_laws.specs.Scene.{IdsDiffer, KeysDiffer, SheetsDiffer, key_of, same_key, sheet_spelling}
 use Rattle.ic_laws.specs.ValidCore.{IsValidCore}
-use Rattle.ic_laws.specs.declared.scene.NameSpelling.{NameSpelling}
+use Rattle.ic_laws.specs.declared.scene.DefinitionSpelling.{DefinitionSpelling}
 use Rattle.ic_laws.specs.declared.scene.Scene.{Scene}
 use Rattle.ic_laws.specs.declared.scene.SheetName.{SheetName}
 
@@ -58,31 +58,31 @@ delete_dangles n book after index sheet fields are valid at e =
     ∙ ap (without_sheet index) (kept_changed n book rest (sheet_gone sheet.id sheet.name) are valid (gone_becomes (scene_of book) rest sheet.id sheet.name (delete_going n book index sheet valid at)))
 
 -- an accepted new definition
-pub new_name_binds : (n : Notations) (book after : CoreBook) (name : List ℕ) (index : Option ℕ) (text : List ℕ) (body : Body) (fields : List Field) → AreNotations n → IsValidCore n book → body_of n book text ≡ Some body
-    → new_name_step n book name index text ≡ Ok (after, fields)
-    → after ≡ with_definition (new_definition n book name (scope_or_none book index) body) (with_trees (changed_tree (name_added (record { name = name; scope = scope_or_none book index }))) book)
-new_name_binds n book after name index text body fields are valid typed e =
+pub new_definition_binds : (n : Notations) (book after : CoreBook) (name : List ℕ) (index : Option ℕ) (text : List ℕ) (body : Body) (fields : List Field) → AreNotations n → IsValidCore n book → body_of n book text ≡ Some body
+    → new_definition_step n book name index text ≡ Ok (after, fields)
+    → after ≡ with_definition (new_definition n book name (scope_or_none book index) body) (with_trees (changed_tree (definition_added (record { name = name; scope = scope_or_none book index }))) book)
+new_definition_binds n book after name index text body fields are valid typed e =
     let scope : Option ℕ = scope_or_none book index in
-    let d : NameSpelling = record { name = name; scope = scope } in
+    let d : DefinitionSpelling = record { name = name; scope = scope } in
     let new : Definition = new_definition n book name scope body in
     let before : Scene = scene_of book in
     let more : Scene = scene_of (with_definition new book) in
-    (accepted (new_name_refusal n book name index text) (with_new_name n book name scope (body_of n book text)) after [] fields e).left
-    ∙ (ap (with_new_name n book name scope) typed
-    ∙ ap (with_definition new) (kept_changed n book more (name_added d) are valid
+    (accepted (new_definition_refusal n book name index text) (with_new_definition n book name scope (body_of n book text)) after [] fields e).left
+    ∙ (ap (with_new_definition n book name scope) typed
+    ∙ ap (with_definition new) (kept_changed n book more (definition_added d) are valid
     (added_becomes before more d (record { sheets = refl; differ = sheets_differ book valid.names_differ; names = map-append spelling_of book.definitions (new ∷ []) }))))
 
 -- an accepted deletion of a definition
-pub delete_name_dangles : (n : Notations) (book after : CoreBook) (name : List ℕ) (scope : Option ℕ) (index : ℕ) (definition : Definition) (fields : List Field) → AreNotations n → IsValidCore n book
-    → index_of_definition book name (scope_or_none book scope) ≡ Some index → slice_get book.definitions index ≡ Some definition → delete_name_step n book name scope ≡ Ok (after, fields)
-    → after ≡ without_definition (Some index) (with_trees (changed_tree (name_gone (scene_of (without_definition (Some index) book)) (spelling_of definition))) book)
-delete_name_dangles n book after name scope index definition fields are valid found at e =
+pub delete_definition_dangles : (n : Notations) (book after : CoreBook) (name : List ℕ) (scope : Option ℕ) (index : ℕ) (definition : Definition) (fields : List Field) → AreNotations n → IsValidCore n book
+    → index_of_definition book name (scope_or_none book scope) ≡ Some index → slice_get book.definitions index ≡ Some definition → delete_definition_step n book name scope ≡ Ok (after, fields)
+    → after ≡ without_definition (Some index) (with_trees (changed_tree (definition_gone (scene_of (without_definition (Some index) book)) (spelling_of definition))) book)
+delete_definition_dangles n book after name scope index definition fields are valid found at e =
     let before : Scene = scene_of book in
     let rest : Scene = scene_of (without_definition (Some index) book) in
     let keys : KeysDiffer before = subst (IsDistinct same_key) (sym (map-map key_of spelling_of book.definitions)) valid.keys_differ in
-    (accepted (delete_name_refusal book name scope) (changed_by n (without_definition (index_of_definition book name (scope_or_none book scope))) book) after [] fields e).left
+    (accepted (delete_definition_refusal book name scope) (changed_by n (without_definition (index_of_definition book name (scope_or_none book scope))) book) after [] fields e).left
     ∙ (ap (λ i. changed_by n (without_definition i) book) found
-    ∙ ap (without_definition (Some index)) (kept_changed n book rest (name_gone rest (spelling_of definition)) are valid
+    ∙ ap (without_definition (Some index)) (kept_changed n book rest (definition_gone rest (spelling_of definition)) are valid
     (gone_name_becomes before rest index (spelling_of definition) (record {
       sheets = refl;
       differ = sheets_differ book valid.names_differ;

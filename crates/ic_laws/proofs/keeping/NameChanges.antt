@@ -12,11 +12,11 @@ use Rattle.ic_laws.proofs.binding.SceneLemmas.{found_passes, same_scope_self}
 use Rattle.ic_laws.proofs.keeping.Kept.{Become, key_kept, sheet_stays, word_stays}
 use Rattle.ic_laws.proofs.keeping.Removing.{finds_itself, finds_no_other, removed_finds, removed_finds_none}
 use Rattle.ic_laws.specs.Binding.{name_or_dangling}
-use Rattle.ic_laws.specs.Changes.{SheetHolds, WordHolds, changed_sheet, changed_word, name_added, name_gone, word_after}
+use Rattle.ic_laws.specs.Changes.{SheetHolds, WordHolds, changed_sheet, changed_word, definition_added, definition_gone, word_after}
 use Rattle.ic_laws.specs.Keeping.{kept_name, same_keys}
 use Rattle.ic_laws.specs.Name.{fold}
-use Rattle.ic_laws.specs.Scene.{KeysDiffer, SheetsDiffer, definition_at, found_name, found_sheet, key_found, key_of, name_spelling, same_key, same_scope}
-use Rattle.ic_laws.specs.declared.scene.NameSpelling.{NameSpelling}
+use Rattle.ic_laws.specs.Scene.{KeysDiffer, SheetsDiffer, definition_at, found_name, found_sheet, key_found, key_of, definition_spelling, same_key, same_scope}
+use Rattle.ic_laws.specs.declared.scene.DefinitionSpelling.{DefinitionSpelling}
 use Rattle.ic_laws.specs.declared.scene.Scene.{Scene}
 use Rattle.ic_laws.specs.declared.scene.SheetName.{SheetName}
 use Rattle.ic_laws.specs.declared.tree.NameKey.{NameKey}
@@ -53,14 +53,14 @@ pub same_key_from : (a b : NameKey) → same_key a b ≡ true → a ≡ b
 same_key_from a b e = let parts = and_parts (bytes_eq a.name b.name) (same_scope a.scope b.scope) e in ap₂ key_at ((bytes_eq-Decides a.name b.name).0 parts.0) (same_scope_from a.scope b.scope parts.1)
 
 -- a definition that is found under a name and a scope has that key
-found_key : (scene : Scene) (folded : List ℕ) (scope : Option ℕ) (d : NameSpelling) → definition_at scene folded scope ≡ Some d → key_of d ≡ key_at folded scope
+found_key : (scene : Scene) (folded : List ℕ) (scope : Option ℕ) (d : DefinitionSpelling) → definition_at scene folded scope ≡ Some d → key_of d ≡ key_at folded scope
 found_key scene folded scope d e = same_key_from (key_of d) (key_at folded scope) (found_passes (λ x. same_key (key_of x) (key_at folded scope)) scene.names d e)
 
 -- the local one is found, else the one for all sheets
-abbrev either_key : Option NameSpelling → Option NameSpelling → Option NameKey
+abbrev either_key : Option DefinitionSpelling → Option DefinitionSpelling → Option NameKey
 either_key local global = option_map key_of (option_or local global)
 
-neither : (local global : Option NameSpelling) → either_key local global ≡ None → (local ≡ None) × (global ≡ None)
+neither : (local global : Option DefinitionSpelling) → either_key local global ≡ None → (local ≡ None) × (global ≡ None)
 neither None None e = (refl, refl)
 neither None (Some d) e = absurd (let no : Some (key_of d) ≡ None = e in cc)
 neither (Some d) global e = absurd (let no : Some (key_of d) ≡ None = e in cc)
@@ -73,16 +73,16 @@ sheets_hold before after e (sheets.Dangling name) h = ap (λ (ss : List SheetNam
 
 -- a definition comes ----
 
-pub record Adding (before after : Scene) (d : NameSpelling) : Type 0 where
+pub record Adding (before after : Scene) (d : DefinitionSpelling) : Type 0 where
   pub sheets : after.sheets ≡ before.sheets
   pub differ : SheetsDiffer after
   pub names : after.names ≡ before.names ++ d ∷ []
 
-module _ (before after : Scene) (d : NameSpelling) (adding : Adding before after d) (scope : Option ℕ) where
+module _ (before after : Scene) (d : DefinitionSpelling) (adding : Adding before after d) (scope : Option ℕ) where
   abbrev has_key : List ℕ → Option ℕ → Bool
   has_key folded at = same_key (key_of d) (key_at folded at)
 
-  abbrev new_at : List ℕ → Option ℕ → Option NameSpelling
+  abbrev new_at : List ℕ → Option ℕ → Option DefinitionSpelling
   new_at folded at = cond (has_key folded at) (Some d) None
 
   -- it is found where no other is
@@ -90,10 +90,10 @@ module _ (before after : Scene) (d : NameSpelling) (adding : Adding before after
   found_after folded = ap₂ either_key (at_after scope) (at_after None)
     where
       at_after : (at : Option ℕ) → definition_at after folded at ≡ option_or (definition_at before folded at) (new_at folded at)
-      at_after at = let p : NameSpelling → Bool = λ x. same_key (key_of x) (key_at folded at) in ap (find p) adding.names ∙ find-append p before.names (d ∷ [])
+      at_after at = let p : DefinitionSpelling → Bool = λ x. same_key (key_of x) (key_at folded at) in ap (find p) adding.names ∙ find-append p before.names (d ∷ [])
 
   -- a word that found nothing
-  dangling_becomes : (word : List ℕ) → WordHolds before scope (names.Dangling word) → word_after before after scope (names.Dangling word) ≡ changed_word (name_added d) scope (names.Dangling word)
+  dangling_becomes : (word : List ℕ) → WordHolds before scope (names.Dangling word) → word_after before after scope (names.Dangling word) ≡ changed_word (definition_added d) scope (names.Dangling word)
   dangling_becomes word h =
       let none = neither (definition_at before (fold word) scope) (definition_at before (fold word) None) h in
       ap (name_or_dangling word) (found_after (fold word) ∙ ap₂ (λ a b. either_key (option_or a (new_at (fold word) scope)) (option_or b (new_at (fold word) None))) none.0 none.1)
@@ -109,7 +109,7 @@ module _ (before after : Scene) (d : NameSpelling) (adding : Adding before after
   key_becomes : (key : NameKey) → key_found before scope key.name ≡ Some key → key_found after scope key.name ≡ Some (if has_key key.name scope then key_of d else key)
   key_becomes key h = found_after key.name ∙ go (definition_at before key.name scope) refl (definition_at before key.name None) h (has_key key.name scope) refl
     where
-      go : (local : Option NameSpelling) → definition_at before key.name scope ≡ local → (global : Option NameSpelling) → either_key local global ≡ Some key → (b : Bool) → has_key key.name scope ≡ b
+      go : (local : Option DefinitionSpelling) → definition_at before key.name scope ≡ local → (global : Option DefinitionSpelling) → either_key local global ≡ Some key → (b : Bool) → has_key key.name scope ≡ b
           → either_key (option_or local (cond b (Some d) None)) (option_or global (new_at key.name None)) ≡ Some (if b then key_of d else key)
       go (Some x) f global e true t = ap (λ k. Some k) (found_key before key.name scope x f ∙ sym (same_key_from (key_of d) (key_at key.name scope) t))
       go (Some x) f global e false t = e
@@ -117,7 +117,7 @@ module _ (before after : Scene) (d : NameSpelling) (adding : Adding before after
       go None f (Some y) e false t = e
       go None f None e false t = absurd (let no : None ≡ Some key = e in cc)
 
-  name_becomes : (key : NameKey) → WordHolds before scope (names.Name key) → word_after before after scope (names.Name key) ≡ changed_word (name_added d) scope (names.Name key)
+  name_becomes : (key : NameKey) → WordHolds before scope (names.Name key) → word_after before after scope (names.Name key) ≡ changed_word (definition_added d) scope (names.Name key)
   name_becomes key h =
       let spelling : List ℕ = kept_name before after same_keys key in
       ap (name_or_dangling spelling) (ap (key_found after scope) (key_kept before after scope key.name key h) ∙ key_becomes key h) ∙ go spelling (has_key key.name scope)
@@ -126,32 +126,32 @@ module _ (before after : Scene) (d : NameSpelling) (adding : Adding before after
       go spelling true = refl
       go spelling false = refl
 
-  pub added_becomes : Become before after scope (changed_sheet (name_added d)) (changed_word (name_added d) scope)
+  pub added_becomes : Become before after scope (changed_sheet (definition_added d)) (changed_word (definition_added d) scope)
   added_becomes = record { sheet = λ m h. sheet_stays before after adding.differ m (sheets_hold before after adding.sheets m h); word = word }
     where
-      word : (m : NameMention) → WordHolds before scope m → word_after before after scope m ≡ changed_word (name_added d) scope m
+      word : (m : NameMention) → WordHolds before scope m → word_after before after scope m ≡ changed_word (definition_added d) scope m
       word (names.Var w) h = refl
       word (names.Name key) h = name_becomes key h
       word (names.Dangling w) h = dangling_becomes w h
 
 -- a definition goes ----
 
-pub record Removing (before after : Scene) (index : ℕ) (d : NameSpelling) : Type 0 where
+pub record Removing (before after : Scene) (index : ℕ) (d : DefinitionSpelling) : Type 0 where
   pub sheets : after.sheets ≡ before.sheets
   pub differ : SheetsDiffer after
   pub keys : KeysDiffer before
   pub at : slice_get before.names index ≡ Some d
   pub names : after.names ≡ remove before.names index
 
-module _ (before after : Scene) (index : ℕ) (d : NameSpelling) (removing : Removing before after index d) (scope : Option ℕ) where
-  abbrev of_key : List ℕ → Option ℕ → NameSpelling → Bool
+module _ (before after : Scene) (index : ℕ) (d : DefinitionSpelling) (removing : Removing before after index d) (scope : Option ℕ) where
+  abbrev of_key : List ℕ → Option ℕ → DefinitionSpelling → Bool
   of_key folded at x = same_key (key_of x) (key_at folded at)
 
   none_after : (folded : List ℕ) (at : Option ℕ) → definition_at before folded at ≡ None → definition_at after folded at ≡ None
   none_after folded at e = ap (find (of_key folded at)) removing.names ∙ removed_finds_none (of_key folded at) before.names index e
 
   -- another definition is found as before
-  other_after : (key : NameKey) (at : Option ℕ) (x : NameSpelling) → same_key key (key_of d) ≡ false → definition_at before key.name at ≡ Some x → key_of x ≡ key → definition_at after key.name at ≡ Some x
+  other_after : (key : NameKey) (at : Option ℕ) (x : DefinitionSpelling) → same_key key (key_of d) ≡ false → definition_at before key.name at ≡ Some x → key_of x ≡ key → definition_at after key.name at ≡ Some x
   other_after key at x apart f e =
       ap (find (of_key key.name at)) removing.names
       ∙ (removed_finds (of_key key.name at) before.names index d removing.at not_it
@@ -169,10 +169,10 @@ module _ (before after : Scene) (index : ℕ) (d : NameSpelling) (removing : Rem
   other_holds : (key : NameKey) → same_key key (key_of d) ≡ false → WordHolds before scope (names.Name key) → WordHolds after scope (names.Name key)
   other_holds key apart h = go (definition_at before key.name scope) refl (definition_at before key.name None) refl h
     where
-      some : (x : NameSpelling) → Some (key_of x) ≡ Some key → key_of x ≡ key
+      some : (x : DefinitionSpelling) → Some (key_of x) ≡ Some key → key_of x ≡ key
       some x e = cc
 
-      go : (local : Option NameSpelling) → definition_at before key.name scope ≡ local → (global : Option NameSpelling) → definition_at before key.name None ≡ global → either_key local global ≡ Some key → key_found after scope key.name ≡ Some key
+      go : (local : Option DefinitionSpelling) → definition_at before key.name scope ≡ local → (global : Option DefinitionSpelling) → definition_at before key.name None ≡ global → either_key local global ≡ Some key → key_found after scope key.name ≡ Some key
       go (Some x) f global g e = ap (λ o. either_key o (definition_at after key.name None)) (other_after key scope x apart f (some x e)) ∙ e
       go None f (Some y) g e = ap₂ either_key (none_after key.name scope f) (other_after key None y apart g (some y e)) ∙ e
       go None f None g e = absurd (let no : None ≡ Some key = e in cc)
@@ -183,16 +183,16 @@ module _ (before after : Scene) (index : ℕ) (d : NameSpelling) (removing : Rem
 
   spelled_so : kept_name before after same_keys (key_of d) ≡ d.name
   spelled_so =
-      ap (λ o. unwrap_or (option_map (λ (x : NameSpelling). x.name) o) (name_spelling before (key_of d))) no_longer
-      ∙ ap (λ o. unwrap_or (option_map (λ (x : NameSpelling). x.name) o) (fold d.name)) (finds_itself key_of same_key same_key_flip key_itself before.names index d removing.keys removing.at)
+      ap (λ o. unwrap_or (option_map (λ (x : DefinitionSpelling). x.name) o) (definition_spelling before (key_of d))) no_longer
+      ∙ ap (λ o. unwrap_or (option_map (λ (x : DefinitionSpelling). x.name) o) (fold d.name)) (finds_itself key_of same_key same_key_flip key_itself before.names index d removing.keys removing.at)
 
   local_gone : key_found before scope (fold d.name) ≡ Some (key_of d) → definition_at after (fold d.name) scope ≡ None
   local_gone h = go (definition_at before (fold d.name) scope) refl (definition_at before (fold d.name) None) h
     where
-      some : (x : NameSpelling) → Some (key_of x) ≡ Some (key_of d) → key_of x ≡ key_of d
+      some : (x : DefinitionSpelling) → Some (key_of x) ≡ Some (key_of d) → key_of x ≡ key_of d
       some x e = cc
 
-      go : (local : Option NameSpelling) → definition_at before (fold d.name) scope ≡ local → (global : Option NameSpelling) → either_key local global ≡ Some (key_of d) → definition_at after (fold d.name) scope ≡ None
+      go : (local : Option DefinitionSpelling) → definition_at before (fold d.name) scope ≡ local → (global : Option DefinitionSpelling) → either_key local global ≡ Some (key_of d) → definition_at after (fold d.name) scope ≡ None
       go None f global e = none_after (fold d.name) scope f
       go (Some x) f global e =
           let same : key_of d ≡ key_at (fold d.name) scope = sym (some x e) ∙ found_key before (fold d.name) scope x f in
@@ -203,14 +203,14 @@ module _ (before after : Scene) (index : ℕ) (d : NameSpelling) (removing : Rem
       ap (λ text. name_or_dangling text (found_name after scope text)) spelled_so
       ∙ ap (name_or_dangling d.name) (ap (λ o. either_key o (definition_at after (fold d.name) None)) (local_gone h) ∙ ap (option_map key_of) (sym (twice (definition_at after (fold d.name) None))))
     where
-      twice : (o : Option NameSpelling) → option_or o o ≡ o
+      twice : (o : Option DefinitionSpelling) → option_or o o ≡ o
       twice None = refl
       twice (Some x) = refl
 
-  pub gone_name_becomes : Become before after scope (changed_sheet (name_gone after d)) (changed_word (name_gone after d) scope)
+  pub gone_name_becomes : Become before after scope (changed_sheet (definition_gone after d)) (changed_word (definition_gone after d) scope)
   gone_name_becomes = record { sheet = λ m h. sheet_stays before after removing.differ m (sheets_hold before after removing.sheets m h); word = word }
     where
-      word : (m : NameMention) → WordHolds before scope m → word_after before after scope m ≡ changed_word (name_gone after d) scope m
+      word : (m : NameMention) → WordHolds before scope m → word_after before after scope m ≡ changed_word (definition_gone after d) scope m
       word (names.Var w) h = refl
       word (names.Dangling w) h =
           let none = neither (definition_at before (fold w) scope) (definition_at before (fold w) None) h in

@@ -8,7 +8,7 @@ use Rattle.ic_laws.specs.Changes.{SheetHolds, WordHolds, changed_sheet, changed_
 use Rattle.ic_laws.specs.Keeping.{kept_sheet}
 use Rattle.ic_laws.specs.Name.{agrees, fold}
 use Rattle.ic_laws.specs.Scene.{SheetsDiffer, found_sheet, key_found}
-use Rattle.ic_laws.specs.declared.scene.NameSpelling.{NameSpelling}
+use Rattle.ic_laws.specs.declared.scene.DefinitionSpelling.{DefinitionSpelling}
 use Rattle.ic_laws.specs.declared.scene.Scene.{Scene}
 use Rattle.ic_laws.specs.declared.scene.SheetName.{SheetName}
 use Rattle.ic_laws.specs.declared.tree.NameMention.{NameMention}
@@ -25,7 +25,7 @@ words_hold : (before after : Scene) → after.names ≡ before.names → (scope 
 words_hold before after e scope m h = go m h
   where
     same : (folded : List ℕ) → key_found after scope folded ≡ key_found before scope folded
-    same folded = ap (λ (ns : List NameSpelling). let scene : Scene = record { sheets = before.sheets; names = ns } in key_found scene scope folded) e
+    same folded = ap (λ (ns : List DefinitionSpelling). let scene : Scene = record { sheets = before.sheets; names = ns } in key_found scene scope folded) e
 
     go : (m : NameMention) → WordHolds before scope m → WordHolds after scope m
     go (names.Var word) h = tt

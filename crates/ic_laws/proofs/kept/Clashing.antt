@@ -15,7 +15,7 @@ use Rattle.ic_laws.specs.Notations.{AreNotations, IsShownForm, Notations, englis
 use Rattle.ic_laws.specs.Parse.{SpelledKind}
 use Rattle.ic_laws.specs.ReadAs.{read_as}
 use Rattle.ic_laws.specs.Reading.{FitsPair, IsFreeWord, printed}
-use Rattle.ic_laws.specs.Scene.{name_spelling, sheet_spelling}
+use Rattle.ic_laws.specs.Scene.{definition_spelling, sheet_spelling}
 use Rattle.ic_laws.specs.Tree.{Bound, IsKindWell, IsPairWell, spelled_names}
 use Rattle.ic_laws.specs.ValidCore.{IsKept, IsPlaceInside, IsValidCore}
 use Rattle.ic_laws.specs.declared.dialect.WordKind.TheVariants as kinds
@@ -134,15 +134,15 @@ pub record TellsWords (n : Notations) (d : DialectMeaning) (is_boolean is_functi
 
 module _ (n : Notations) (notations : AreNotations n) (scene : Scene) (named : IsNamed scene) (scope : Option ℕ) (row column : ℤ) (d : DialectMeaning) (is_boolean is_function : List ℕ → Bool) (tells : TellsWords n d is_boolean is_function) where
   -- a definition that stays is spelled as its folded name is told
-  spelled_told : (is_word : List ℕ → Bool) → ((a b : List ℕ) → Agree a b → is_word a ≡ is_word b) → (mention : NameMention) → NameStays scene scope mention → is_word (mentioned_name mention) ≡ false → is_word (spelled_word (name_spelling scene) mention) ≡ false
+  spelled_told : (is_word : List ℕ → Bool) → ((a b : List ℕ) → Agree a b → is_word a ≡ is_word b) → (mention : NameMention) → NameStays scene scope mention → is_word (mentioned_name mention) ≡ false → is_word (spelled_word (definition_spelling scene) mention) ≡ false
   spelled_told is_word by_fold (names.Var word) stays e = e
   spelled_told is_word by_fold (names.Dangling word) stays e = e
   spelled_told is_word by_fold (names.Name key) stays e =
-      let folded : fold (name_spelling scene key) ≡ key.name = spelled_alike scene scope key.name key key.name stays.found in
-      by_fold (name_spelling scene key) key.name (sym (fold_again (name_spelling scene key)) ∙ ap fold folded) ∙ e
+      let folded : fold (definition_spelling scene key) ≡ key.name = spelled_alike scene scope key.name key key.name stays.found in
+      by_fold (definition_spelling scene key) key.name (sym (fold_again (definition_spelling scene key)) ∙ ap fold folded) ∙ e
 
   told_spelled : (kind : BoundKind) → NoClash is_boolean is_function kind → Stays (english_function n) scene scope kind
-      → SpelledNoClash is_boolean is_function (spelled_kind (sheet_spelling scene) (name_spelling scene) (children_spelled (sheet_spelling scene) (name_spelling scene) kind))
+      → SpelledNoClash is_boolean is_function (spelled_kind (sheet_spelling scene) (definition_spelling scene) (children_spelled (sheet_spelling scene) (definition_spelling scene) kind))
   told_spelled (one.Word word) e stays = spelled_told is_boolean tells.boolean_by_fold word stays e
   told_spelled (one.Call word arguments) e stays = spelled_told is_function tells.function_by_fold word stays.stays e
   told_spelled (one.Lambda parameters body) e stays = e
@@ -178,7 +178,7 @@ module _ (n : Notations) (notations : AreNotations n) (scene : Scene) (named : I
       (every_both (IsKindWell spelled_names n.stored.let_fn n.stored.lambda_fn) IsPairWell (CallsNoFunction n) (λ pair. Unit {0}) IsSpelledNode IsPairWell
       (λ kind well calls. record { well = well; calls = calls }) (λ pair well calls. well) (spelled scene t)
       (spelling_can_be_kept n notations scene named scope (IsPlaceInside row column) t h).well.nodes (calls_no_function n notations scene named scope (IsPlaceInside row column) t h))
-      (every_spelled (sheet_spelling scene) (name_spelling scene) IsBoundNode (NoPairClash is_boolean is_function) (SpelledNoClash is_boolean is_function) (SpelledNoPairClash is_boolean is_function)
+      (every_spelled (sheet_spelling scene) (definition_spelling scene) IsBoundNode (NoPairClash is_boolean is_function) (SpelledNoClash is_boolean is_function) (SpelledNoPairClash is_boolean is_function)
       (record { node = λ kind told. told_spelled kind told.free told.stays; pair = λ variable value free. free }) t
       (every_both (NoClash is_boolean is_function) (NoPairClash is_boolean is_function) (Stays (english_function n) scene scope) (λ pair. Unit {0}) IsBoundNode (NoPairClash is_boolean is_function)
       (λ kind free stays. record { free = free; stays = stays }) (λ pair free stays. free) t (all_no_clash is_boolean is_function t e) (settled_stays (english_function n) scene scope (english_by_fold n notations) t h.settled)))

@@ -13,7 +13,7 @@ use Rattle.ic_laws.specs.Parse.{SpelledKind, node}
 use Rattle.ic_laws.specs.Position.{is_inside}
 use Rattle.ic_laws.specs.ReadAs.{read_as}
 use Rattle.ic_laws.specs.Reading.{Reads}
-use Rattle.ic_laws.specs.Scene.{SheetsDiffer, definition_at, name_of_key, name_of_sheet, name_spelling, same_scope, sheet_spelling}
+use Rattle.ic_laws.specs.Scene.{SheetsDiffer, definition_at, name_of_key, name_of_sheet, definition_spelling, same_scope, sheet_spelling}
 use Rattle.ic_laws.specs.Token.{FunHead, Ref, Spells, Token}
 use Rattle.ic_laws.specs.Tree.{Bound, IsKindWell, IsPairWell, IsWellFormed, Spelled, bound_names, is_called_name, is_sheet_mention, is_word_mention, is_written_sheet, spelled_names}
 use Rattle.ic_laws.specs.ValidCore.{IsKept, IsKeptWhere, IsPlaceInside, LiesWhere}
@@ -21,7 +21,7 @@ use Rattle.ic_laws.specs.Yield.{yield}
 use Rattle.ic_laws.specs.declared.dialect.WordKind.TheVariants as kinds
 use Rattle.ic_laws.specs.declared.reference.Place.{Place}
 use Rattle.ic_laws.specs.declared.reference.RefToken.{RefToken}
-use Rattle.ic_laws.specs.declared.scene.NameSpelling.{NameSpelling}
+use Rattle.ic_laws.specs.declared.scene.DefinitionSpelling.{DefinitionSpelling}
 use Rattle.ic_laws.specs.declared.scene.Scene.{Scene}
 use Rattle.ic_laws.specs.declared.scene.SheetName.{SheetName}
 use Rattle.ic_laws.specs.declared.tree.NameKey.{NameKey}
@@ -201,8 +201,8 @@ found_has {X} P p (y ∷ ys) all x e =
 abbrev sheet_named : Option SheetName → Option (List ℕ)
 sheet_named o = option_map (λ (s : SheetName). s.name) o
 
-abbrev definition_named : Option NameSpelling → Option (List ℕ)
-definition_named o = option_map (λ (d : NameSpelling). d.name) o
+abbrev definition_named : Option DefinitionSpelling → Option (List ℕ)
+definition_named o = option_map (λ (d : DefinitionSpelling). d.name) o
 
 module _ (scene : Scene) (named : IsNamed scene) where
   -- the name of a sheet that has one is the name of a sheet, whatever one without a name is written by
@@ -218,13 +218,13 @@ module _ (scene : Scene) (named : IsNamed scene) where
   key_name_valid : (key : NameKey) (other : List ℕ) → (IsSome (name_of_key scene key)) ⊎ (is_identifier other ≡ true) → is_identifier (unwrap_or (name_of_key scene key) other) ≡ true
   key_name_valid key other h = at (definition_at scene key.name key.scope) refl h
     where
-      at : (o : Option NameSpelling) → definition_at scene key.name key.scope ≡ o → (IsSome (definition_named o)) ⊎ (is_identifier other ≡ true) → is_identifier (unwrap_or (definition_named o) other) ≡ true
-      at (Some d) e g = found_has (λ (x : NameSpelling). is_identifier x.name ≡ true) (λ (x : NameSpelling). bytes_eq (fold x.name) key.name && same_scope x.scope key.scope) scene.names named.names d e
+      at : (o : Option DefinitionSpelling) → definition_at scene key.name key.scope ≡ o → (IsSome (definition_named o)) ⊎ (is_identifier other ≡ true) → is_identifier (unwrap_or (definition_named o) other) ≡ true
+      at (Some d) e g = found_has (λ (x : DefinitionSpelling). is_identifier x.name ≡ true) (λ (x : DefinitionSpelling). bytes_eq (fold x.name) key.name && same_scope x.scope key.scope) scene.names named.names d e
       at None e (inl g) = cc
       at None e (inr g) = g
 
   -- a scene's own spelling writes names
-  pub spelling_writes : WritesNames scene (sheet_spelling scene) (name_spelling scene)
+  pub spelling_writes : WritesNames scene (sheet_spelling scene) (definition_spelling scene)
   spelling_writes = record {
     sheet = λ id there. sheet_name_valid id (decimal id) (inl there);
     definition = λ key there. key_name_valid key key.name (inl there);
@@ -234,7 +234,7 @@ module _ (scene : Scene) (named : IsNamed scene) where
 pub keeping_writes : (before after : Scene) → IsNamed before → IsNamed after → (change : KeyChange) → WritesNames before (kept_sheet before after) (kept_name before after change)
 keeping_writes before after valid valid_after change = record {
   sheet = λ id there. sheet_name_valid after valid_after id (sheet_spelling before id) (inr ((spelling_writes before valid).sheet id there));
-  definition = λ key there. key_name_valid after valid_after (change key) (name_spelling before key) (inr ((spelling_writes before valid).definition key there));
+  definition = λ key there. key_name_valid after valid_after (change key) (definition_spelling before key) (inr ((spelling_writes before valid).definition key there));
 }
 
 -- A kept tree over a change of its book is kept in the book after it, whatever keys change.

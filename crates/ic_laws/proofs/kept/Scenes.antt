@@ -16,7 +16,7 @@ use Rattle.ic_laws.specs.CoreBook.{CoreBook, ids_of, scene_of}
 use Rattle.ic_laws.specs.CoreStep.{moved}
 use Rattle.ic_laws.specs.Name.{agrees}
 use Rattle.ic_laws.specs.Notations.{Notations, english_function}
-use Rattle.ic_laws.specs.Scene.{IdsDiffer, SheetsDiffer, found_name, found_sheet, name_spelling, sheet_spelling}
+use Rattle.ic_laws.specs.Scene.{IdsDiffer, SheetsDiffer, found_name, found_sheet, definition_spelling, sheet_spelling}
 use Rattle.ic_laws.specs.Tree.{Bound, Spelled}
 use Rattle.ic_laws.specs.ValidCore.{IsKeptWhere, IsValidCore}
 use Rattle.ic_laws.specs.declared.reference.Place.{Place}
@@ -41,7 +41,7 @@ pub record FindsAlike (before after : Scene) : Type 0 where
   pub sheet : (name : List ℕ) → found_sheet before name ≡ found_sheet after name
   pub name : (scope : Option ℕ) (word : List ℕ) → found_name before scope word ≡ found_name after scope word
   pub sheet_text : (id : ℕ) → sheet_spelling before id ≡ sheet_spelling after id
-  pub key_text : (key : NameKey) → name_spelling before key ≡ name_spelling after key
+  pub key_text : (key : NameKey) → definition_spelling before key ≡ definition_spelling after key
 
 -- a node with what binds each child
 abbrev ToBind : Type 0
@@ -137,7 +137,7 @@ permuted_alike before after permuted same_names sheets_differ ids_differ = recor
   sheet = λ name. ap (option_map (λ (s : SheetName). s.id)) (found_permuted (λ (s : SheetName). s.name) agrees agrees_equiv name before.sheets after.sheets permuted sheets_differ);
   name = λ scope word. ap (λ definitions. found_name (record { sheets = after.sheets; names = definitions }) scope word) same_names;
   sheet_text = λ id. ap (λ o. unwrap_or (option_map (λ (s : SheetName). s.name) o) (decimal id)) (found_permuted (λ (s : SheetName). s.id) nat_eq nat_eq_equiv id before.sheets after.sheets permuted ids_differ);
-  key_text = λ key. ap (λ definitions. name_spelling (record { sheets = after.sheets; names = definitions }) key) same_names;
+  key_text = λ key. ap (λ definitions. definition_spelling (record { sheets = after.sheets; names = definitions }) key) same_names;
 }
 
 -- a book in which a sheet is moved ----

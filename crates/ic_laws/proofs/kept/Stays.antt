@@ -7,9 +7,9 @@ use Rattle.std.proofs.lemmas.Bool.{eq-eqb}
 use Rattle.ic_laws.specs.Binding.{Binders, IsSettled, RespectsFolding, bound, bound_call, bound_sheet, bound_word, is_bound_by, name_or_dangling, sheet_or_dangling, spelled, spelled_word}
 use Rattle.ic_laws.specs.Name.{agrees, fold}
 use Rattle.ic_laws.specs.Parse.{SpelledKind}
-use Rattle.ic_laws.specs.Scene.{definition_at, found_name, found_sheet, key_found, name_of_key, name_of_sheet, name_spelling}
+use Rattle.ic_laws.specs.Scene.{definition_at, found_name, found_sheet, key_found, name_of_key, name_of_sheet, definition_spelling}
 use Rattle.ic_laws.specs.Tree.{Bound, Spelled}
-use Rattle.ic_laws.specs.declared.scene.NameSpelling.{NameSpelling}
+use Rattle.ic_laws.specs.declared.scene.DefinitionSpelling.{DefinitionSpelling}
 use Rattle.ic_laws.specs.declared.scene.Scene.{Scene}
 use Rattle.ic_laws.specs.declared.scene.SheetName.{SheetName}
 use Rattle.ic_laws.specs.declared.tree.NameKey.{NameKey}
@@ -43,7 +43,7 @@ NameStays scene scope (names.Dangling word) = found_name scene scope word ≡ No
 -- what is called stays, and its spelling is no function
 pub record CallStays (english : List ℕ → Option ℕ) (scene : Scene) (scope : Option ℕ) (word : NameMention) : Type 0 where
   pub stays : NameStays scene scope word
-  pub no_function : english (spelled_word (name_spelling scene) word) ≡ None
+  pub no_function : english (spelled_word (definition_spelling scene) word) ≡ None
 
 -- each mention of a node stays
 abbrev pub Stays : (List ℕ → Option ℕ) → Scene → Option ℕ → BoundKind → Type 0
@@ -79,7 +79,7 @@ name_stays scene scope binders word = go (is_bound_by binders word) (found_name 
     go false None e = e
     go false (Some key) e =
         let has = found_has_definition scene scope (fold word) key e in record {
-          named = some_there (λ (d : NameSpelling). d.name) (definition_at scene key.name key.scope) has.definition has.found;
+          named = some_there (λ (d : DefinitionSpelling). d.name) (definition_at scene key.name key.scope) has.definition has.found;
           found = ap (key_found scene scope) has.same ∙ e;
         }
 

@@ -13,7 +13,7 @@ use Rattle.ic_laws.specs.Parse.{SpelledKind}
 use Rattle.ic_laws.specs.Position.{is_inside, is_place_within}
 use Rattle.ic_laws.specs.ReadAs.{read_as}
 use Rattle.ic_laws.specs.Reading.{Fits, FitsKind, FitsPair, IsFreeWord, printed}
-use Rattle.ic_laws.specs.Scene.{name_spelling, sheet_spelling}
+use Rattle.ic_laws.specs.Scene.{definition_spelling, sheet_spelling}
 use Rattle.ic_laws.specs.Tree.{Bound, IsKindWell, IsPairWell, IsWellFormed, Spelled, is_written_sheet, spelled_names}
 use Rattle.ic_laws.specs.ValidCore.{IsKept, IsKeptWhere, IsPlaceInside}
 use Rattle.ic_laws.specs.declared.dialect.WordKind.TheVariants as kinds
@@ -100,7 +100,7 @@ stored_writes n notations Inside = record {
 module _ (n : Notations) (notations : AreNotations n) (scene : Scene) (named : IsNamed scene) (scope : Option ℕ) (Inside : Place → Type 0) where
   -- a kept tree is spelled so that it can be kept
   pub spelling_can_be_kept : (t : Bound) → IsKeptWhere n Inside scene scope t → CanBeKeptWhere n Inside (spelled scene t)
-  spelling_can_be_kept t h = spelled_can_be_kept n scene scope Inside (sheet_spelling scene) (name_spelling scene) (spelling_writes scene named) notations t h
+  spelling_can_be_kept t h = spelled_can_be_kept n scene scope Inside (sheet_spelling scene) (definition_spelling scene) (spelling_writes scene named) notations t h
 
   -- the words of a kept tree are no words of the stored form ----
 
@@ -115,13 +115,13 @@ module _ (n : Notations) (notations : AreNotations n) (scene : Scene) (named : I
   free_words [] h = tt
   free_words (word ∷ words) h = let parts = and_parts (is_variable word) (list_all is_variable words) h in (free_word word parts.0, free_words words parts.1)
 
-  no_function : (kind : BoundKind) → Stays (english_function n) scene scope kind → CallsNoFunction n (spelled_kind (sheet_spelling scene) (name_spelling scene) (children_spelled (sheet_spelling scene) (name_spelling scene) kind))
+  no_function : (kind : BoundKind) → Stays (english_function n) scene scope kind → CallsNoFunction n (spelled_kind (sheet_spelling scene) (definition_spelling scene) (children_spelled (sheet_spelling scene) (definition_spelling scene) kind))
   no_function (one.Call word arguments) stays = subst IsNone (sym stays.no_function) refl
   no_function kind stays = tt
 
   pub calls_no_function : (t : Bound) → IsKeptWhere n Inside scene scope t → every-Tree (Option (List ℕ)) (List ℕ) (CallsNoFunction n) (λ pair. Unit {0}) (spelled scene t)
   calls_no_function t h =
-      every_spelled (sheet_spelling scene) (name_spelling scene) (Stays (english_function n) scene scope) (λ pair. Unit {0}) (CallsNoFunction n) (λ pair. Unit {0})
+      every_spelled (sheet_spelling scene) (definition_spelling scene) (Stays (english_function n) scene scope) (λ pair. Unit {0}) (CallsNoFunction n) (λ pair. Unit {0})
       (record { node = no_function; pair = λ variable value stays. tt }) t (settled_stays (english_function n) scene scope (english_by_fold n notations) t h.settled)
 
   no_stored_word : (kind : SpelledKind) → IsKindWell spelled_names n.stored.let_fn n.stored.lambda_fn kind → CallsNoFunction n kind → HasNoFormWord n.stored kind

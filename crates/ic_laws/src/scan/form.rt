@@ -47,7 +47,8 @@ pub fn begins_with_letter(text: &str) -> bool
 
 /// Whether it begins as a word does, and has the characters of a word alone.
 fn is_word(name: &str) -> bool
-    ensures { result ≡ (first_is begins_word (chars name.now) && list_all is_word_character (chars name.now)) }
+    ensures { result ≡ (first_is begins_word (chars name.now)
+        && list_all is_word_character (chars name.now)) }
 {
     let Some((c, _)) = first_char(name) else {
         return false;

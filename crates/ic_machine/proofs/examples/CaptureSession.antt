@@ -5,7 +5,7 @@ use Rattle.caseless.proofs.Computing.{caseless}
 use Rattle.ucd_derived.proofs.Computing.{ucd_derived}
 use Rattle.ic_laws.specs.Binding.{bound}
 use Rattle.ic_laws.specs.CoreBook.{Definition}
-use Rattle.ic_laws.specs.CoreStep.{core_step, scene_with_name}
+use Rattle.ic_laws.specs.CoreStep.{core_step, scene_with_definition}
 use Rattle.ic_laws.specs.FormulaReading.{Body, body_of, cell_formula}
 use Rattle.ic_laws.specs.NextToken.{plain_of, tokens_by}
 use Rattle.ic_laws.specs.Notations.{english_function}
@@ -38,7 +38,7 @@ use Rattle.ic_machine.specs.InForce.{formula_typed}
 use Rattle.ic_machine.specs.Refusal.{CellSite, WouldCapture}
 use Rattle.ic_machine.specs.Reply.{BoolField, Reply}
 use Rattle.ic_machine.specs.Step.{outcome_of}
-use Rattle.ic_machine.specs.subjects.Definitions.{new_name_step, update_body}
+use Rattle.ic_machine.specs.subjects.Definitions.{new_definition_step, update_body}
 use Rattle.ic_machine.specs.subjects.Writing.{formula_content}
 use Rattle.ic_machine.proofs.examples.CaptureExamples.{book, formula, key, place, refused_by_y, would_by_y, would_by_z}
 use Rattle.ic_machine.proofs.examples.Formulas.{body_by, dynamic-node, formula_is, in_english, low, made_by, reads, reads_reference, reference, small}
@@ -71,12 +71,12 @@ is_body : body_of small (core_of start) (codes "Sheet1!$A$1") ≡ Some body
 unfolding notations_of caseless ucd_derived
 is_body = refl
 
-own_bound : bound (english_function small) (scene_with_name (core_of start) (codes "x") None) None (reference first) ≡ own_body
+own_bound : bound (english_function small) (scene_with_definition (core_of start) (codes "x") None) None (reference first) ≡ own_body
 unfolding caseless notations_of
 own_bound = simp bound-node
 
 made : step start (codes "new_defined_name\tx\t-\tSheet1!$A$1") ≡ (defined definition, Ok [])
-unfolding step commands caseless ucd_derived core_step new_name_step
+unfolding step commands caseless ucd_derived core_step new_definition_step
 made =
     ap (λ (o : Option Body). outcome_of start (made_by start (codes "x") None o)) is_body
     ∙ ap (λ (t : Bound). let left : Book × Reply = (defined (record definition { body = formulas.Tree t }), Ok []) in left) own_bound

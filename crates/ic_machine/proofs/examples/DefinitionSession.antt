@@ -9,7 +9,7 @@ use Rattle.ic_laws.specs.Amount.{fraction_digits}
 use Rattle.ic_laws.specs.Binding.{bound}
 use Rattle.ic_laws.specs.Character.{equals}
 use Rattle.ic_laws.specs.CoreBook.{Definition}
-use Rattle.ic_laws.specs.CoreStep.{core_step, has_definition, scene_with_name}
+use Rattle.ic_laws.specs.CoreStep.{core_step, has_definition, scene_with_definition}
 use Rattle.ic_laws.specs.FormulaReading.{Body, body_of, if_lambda, is_lambda_kind, shown_body}
 use Rattle.ic_laws.specs.Keeping.{KeyChange, changed_key, kept, same_keys}
 use Rattle.ic_laws.specs.Name.{is_identifier}
@@ -44,7 +44,7 @@ use Rattle.ic_machine.specs.Content.{formula_index}
 use Rattle.ic_machine.specs.Refusal.{DefinitionSite, InvalidFormula, InvalidName, InvalidScope, NameExists, NameNotFound, OfCore, Site, WouldCapture}
 use Rattle.ic_machine.specs.Reply.{NumberField, Reply, TextField}
 use Rattle.ic_machine.specs.Step.{outcome_of}
-use Rattle.ic_machine.specs.subjects.Definitions.{Update, delete_name_step, keys_of_update, list_step, meets_other, new_name_step, old_key, update_body, update_name_step, update_of, with_body}
+use Rattle.ic_machine.specs.subjects.Definitions.{Update, delete_definition_step, keys_of_update, list_step, meets_other, new_definition_step, old_key, update_body, update_name_step, update_of, with_body}
 use Rattle.ic_machine.proofs.CoreLemmas.{no_cells}
 use Rattle.ic_machine.proofs.examples.CaptureExamples.{words-node}
 use Rattle.ic_machine.proofs.examples.Formulas.{body_by, in_english, lambda_or_none, low, made_by, reads, reads_reference, reference, shows, small}
@@ -149,29 +149,29 @@ total_read = reads_reference (in_english (pos 1) (pos 1)) (codes "Sheet1!B2") (o
 
 refused_before : (lines texts : List (List ℕ)) → answers start lines ≡ texts
     → answers start (codes "new_defined_name\tA23\t-\tSheet1!A1" ∷ codes "new_defined_name\ttot\t7\tSheet1!A1" ∷ lines) ≡ codes "error\tInvalidName" ∷ codes "error\tInvalidScope" ∷ texts
-unfolding answers step commands caseless ucd_derived core_step new_name_step
+unfolding answers step commands caseless ucd_derived core_step new_definition_step
 refused_before lines texts h = ap (λ (t : List (List ℕ)). codes "error\tInvalidName" ∷ codes "error\tInvalidScope" ∷ t) h
 
 no_reference : step start (codes "new_defined_name\ttot\t-\t=Sheet1!A1") ≡ (start, Err (OfCore refusals.InvalidNameFormula))
-unfolding step commands caseless ucd_derived core_step new_name_step
+unfolding step commands caseless ucd_derived core_step new_definition_step
 no_reference = ap (λ (o : Option Body). outcome_of start (made_by start (codes "tot") None o)) no_body
 
-tot_bound : bound (english_function small) (scene_with_name (core_of start) (codes "tot") None) None (reference (on (cell 0 0))) ≡ mention (cell 0 0)
+tot_bound : bound (english_function small) (scene_with_definition (core_of start) (codes "tot") None) None (reference (on (cell 0 0))) ≡ mention (cell 0 0)
 unfolding caseless notations_of
 tot_bound = simp bound-node
 
 tot_made : step start (codes "new_defined_name\ttot\t-\tSheet1!A1") ≡ (defined (tot ∷ []), Ok [])
-unfolding step commands caseless ucd_derived core_step new_name_step
+unfolding step commands caseless ucd_derived core_step new_definition_step
 tot_made =
     ap (λ (o : Option Body). outcome_of start (made_by start (codes "tot") None o)) is_body
     ∙ ap (λ (t : Bound). (defined (record tot { body = formulas.Tree t } ∷ []), Ok [])) tot_bound
 
 tot_again : step (defined (tot ∷ [])) (codes "new_defined_name\tTOT\t-\tSheet1!A1") ≡ (defined (tot ∷ []), Err NameExists)
-unfolding step commands caseless ucd_derived core_step new_name_step
+unfolding step commands caseless ucd_derived core_step new_definition_step
 tot_again = refl
 
 abbrev lambda_tree : Bound
-lambda_tree = bound (english_function small) (scene_with_name (core_of (defined (tot ∷ []))) (codes "twice") None) None (node lambda_kind)
+lambda_tree = bound (english_function small) (scene_with_definition (core_of (defined (tot ∷ []))) (codes "twice") None) None (node lambda_kind)
 
 lambda_bound : lambda_tree ≡ lambda_body
 unfolding caseless notations_of
@@ -182,14 +182,14 @@ unfolding caseless notations_of
 tot_stays = simp (spelled-node, bound-node)
 
 twice_made : step (defined (tot ∷ [])) (codes "new_defined_name\ttwice\t-\t=LAMBDA(x,x*2)") ≡ (defined (tot ∷ twice ∷ []), Ok [])
-unfolding step commands caseless ucd_derived core_step new_name_step
+unfolding step commands caseless ucd_derived core_step new_definition_step
 twice_made =
     ap (λ (o : Option Body). outcome_of (defined (tot ∷ [])) (made_by (defined (tot ∷ [])) (codes "twice") None o)) is_lambda_body
     ∙ ap (λ (t : Bound). (defined (record tot { body = formulas.Tree t } ∷ record twice { body = formulas.Tree lambda_tree } ∷ []), Ok [])) tot_stays
     ∙ ap (λ (t : Bound). (defined (tot ∷ record twice { body = formulas.Tree t } ∷ []), Ok [])) lambda_bound
 
 nothing_deleted : step (defined (tot ∷ twice ∷ [])) (codes "delete_defined_name\tnope\t-") ≡ (defined (tot ∷ twice ∷ []), Err NameNotFound)
-unfolding step commands caseless ucd_derived core_step delete_name_step
+unfolding step commands caseless ucd_derived core_step delete_definition_step
 nothing_deleted = refl
 
 -- ---- the update

@@ -36,7 +36,7 @@ use Rattle.ic_tree.specs.Dynamic.{dynamic_step, dynamic_with}
 use Rattle.ic_tree.specs.Notations.{notations_of}
 use Rattle.ic_tree.specs.Shown.{shown_meaning}
 use Rattle.ic_machine.specs.Book.{Book, Stepped, as_core, core_of, scene_in}
-use Rattle.ic_machine.specs.subjects.Definitions.{with_new_name}
+use Rattle.ic_machine.specs.subjects.Definitions.{with_new_definition}
 use Rattle.ic_machine.proofs.examples.Small.{english_words, tables}
 
 abbrev pub small : Notations
@@ -113,8 +113,8 @@ made_by book name index o =
     (refusals.first_refusal
     ((not (is_identifier name), refusals.InvalidName) ∷ (is_none (scope_of (core_of book) index), refusals.InvalidScope)
     ∷ (has_definition (core_of book) name (scope_or_none (core_of book) index), refusals.NameExists) ∷ (is_none o, refusals.InvalidNameFormula) ∷ []))
-    (core.with_new_name small (core_of book) name (scope_or_none (core_of book) index) o) [])
-    (with_new_name book name (scope_or_none (core_of book) index) o)
+    (core.with_new_definition small (core_of book) name (scope_or_none (core_of book) index) o) [])
+    (with_new_definition book name (scope_or_none (core_of book) index) o)
 
 -- the body of an update whose text has no equals sign before it and no blanks around it, by what that reads as in English
 abbrev pub body_by : Option Spelled → Option Body

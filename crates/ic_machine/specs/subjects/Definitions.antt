@@ -56,22 +56,22 @@ definition_rows =
 
 -- as the core machine has them ----
 
-abbrev pub with_new_name : Book → List ℕ → Option ℕ → Option Body → Book
-with_new_name book name scope None = book
-with_new_name book name scope (Some body) = changed_by (with_definition (new_definition (notations_in book) (core_of book) name scope body)) book
+abbrev pub with_new_definition : Book → List ℕ → Option ℕ → Option Body → Book
+with_new_definition book name scope None = book
+with_new_definition book name scope (Some body) = changed_by (with_definition (new_definition (notations_in book) (core_of book) name scope body)) book
 
-unfoldable pub new_name_step : List ℕ → Option ℕ → List ℕ → Book → Stepped Book
-new_name_step name index body book =
+unfoldable pub new_definition_step : List ℕ → Option ℕ → List ℕ → Book → Stepped Book
+new_definition_step name index body book =
     as_core (core_step (notations_in book) (core_of book) (core.NewDefinedName name index body))
-    (with_new_name book name (scope_or_none (core_of book) index) (body_of (notations_in book) (core_of book) body))
+    (with_new_definition book name (scope_or_none (core_of book) index) (body_of (notations_in book) (core_of book) body))
 
-unfoldable pub delete_name_step : List ℕ → Option ℕ → Book → Stepped Book
-delete_name_step name index book =
+unfoldable pub delete_definition_step : List ℕ → Option ℕ → Book → Stepped Book
+delete_definition_step name index book =
     as_core (core_step (notations_in book) (core_of book) (core.DeleteDefinedName name index))
     (changed_by (without_definition (index_of_definition (core_of book) name (scope_or_none (core_of book) index))) book)
 
-unfoldable pub valid_name_step : List ℕ → Option ℕ → List ℕ → Book → Stepped Book
-valid_name_step name index body book = as_core (core_step (notations_in book) (core_of book) (core.IsValidDefinedName name index body)) book
+unfoldable pub valid_definition_step : List ℕ → Option ℕ → List ℕ → Book → Stepped Book
+valid_definition_step name index body book = as_core (core_step (notations_in book) (core_of book) (core.IsValidDefinedName name index body)) book
 
 unfoldable pub list_step : Book → Stepped Book
 list_step book = as_core (core_step (notations_in book) (core_of book) core.GetDefinedNameList) book
@@ -154,9 +154,9 @@ unfoldable pub would_capture_step : Update → Book → Stepped Book
 would_capture_step update book = unless_refused (question_causes book update) book (bool_field (captures book update))
 
 abbrev pub definition_step : Book → Definitions → Stepped Book
-definition_step book (NewDefinedName name scope body) = new_name_step name scope body book
-definition_step book (DeleteDefinedName name scope) = delete_name_step name scope book
+definition_step book (NewDefinedName name scope body) = new_definition_step name scope body book
+definition_step book (DeleteDefinedName name scope) = delete_definition_step name scope book
 definition_step book (UpdateDefinedName update) = update_name_step update book
 definition_step book (WouldCaptureName update) = would_capture_step update book
-definition_step book (IsValidDefinedName name scope body) = valid_name_step name scope body book
+definition_step book (IsValidDefinedName name scope body) = valid_definition_step name scope body book
 definition_step book GetDefinedNameList = list_step book

@@ -10,7 +10,7 @@ use Rattle.ic_laws.specs.CoreStep.{core_step, index_of_id, index_of_name}
 use Rattle.ic_laws.specs.Mentions.{some_mention}
 use Rattle.ic_laws.specs.Name.{agrees, is_sheet_name}
 use Rattle.ic_laws.specs.Notations.{Notations, english_function}
-use Rattle.ic_laws.specs.Scene.{name_spelling, same_scope, sheet_spelling}
+use Rattle.ic_laws.specs.Scene.{definition_spelling, same_scope, sheet_spelling}
 use Rattle.ic_laws.specs.declared.scene.Scene.{Scene}
 use Rattle.ic_laws.specs.declared.tree.Formula.{Formula}
 use Rattle.ic_laws.specs.declared.tree.Formula.TheVariants as formulas
@@ -159,7 +159,7 @@ copy_spelling after source copy id = sheet_spelling after (if nat_eq id source t
 -- a copied formula: written so, and bound in the book with the copy, for the copy
 abbrev pub copied_formula : Notations → Scene → ℕ → ℕ → Formula → Formula
 copied_formula n after source copy (formulas.Tree t) =
-    formulas.Tree (bound (english_function n) after (Some copy) (spelled_with (copy_spelling after source copy) (name_spelling after) t))
+    formulas.Tree (bound (english_function n) after (Some copy) (spelled_with (copy_spelling after source copy) (definition_spelling after) t))
 copied_formula n after source copy (formulas.Raw text) = formulas.Raw text
 
 -- a definition as one of another scope, and with another body

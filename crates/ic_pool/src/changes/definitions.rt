@@ -21,9 +21,9 @@ pub struct DefinitionAdded<'n> {
 impl<'n> Model for DefinitionAdded<'n> {
     ghost use Rattle.std.specs.Prelude.{◌≡◌, chars};
     ghost use Rattle.ic_laws.specs.Name.{fold};
-    ghost use Rattle.ic_laws.specs.declared.scene.NameSpelling.{NameSpelling};
+    ghost use Rattle.ic_laws.specs.declared.scene.DefinitionSpelling.{DefinitionSpelling};
 
-    ghost Value = { NameSpelling };
+    ghost Value = { DefinitionSpelling };
 
     ghost view = { λ a. record { name = chars a.name.now; scope = a.key.now.scope } };
 
@@ -63,9 +63,9 @@ impl<'n> DefinitionAdded<'n> {
 }
 
 impl<'n> BookChange for DefinitionAdded<'n> {
-    ghost use Rattle.ic_laws.specs.Changes.{name_added};
+    ghost use Rattle.ic_laws.specs.Changes.{definition_added};
 
-    ghost change = { λ added. name_added added };
+    ghost change = { λ added. definition_added added };
 
     fn changes_sheet(&self, _mention: &SheetMention) -> bool {
         false

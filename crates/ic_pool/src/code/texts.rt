@@ -135,7 +135,8 @@ fn spelling(word: &NameMention) -> &str
 
 /// Writes the texts of a node.
 pub fn write_texts(key: &mut Key, tree: &Bound) -> Result<(), OutOfMemory>
-    ensures { OnOk result (key.new ≡ key.old ++ rows_bytes (texts (out-Tree SheetMention NameMention tree.now))) }
+    ensures { OnOk result (key.new ≡ key.old ++ rows_bytes
+        (texts (out-Tree SheetMention NameMention tree.now))) }
 {
     match tree {
         Tree::Str(text) => write_one(key, text.as_str()),

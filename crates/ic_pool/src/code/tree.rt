@@ -16,7 +16,8 @@ use std::alloc::Global;
 
 /// Writes two corners.
 fn write_parts(key: &mut Key, p: RefPart, q: RefPart) -> Result<(), OutOfMemory>
-    ensures { OnOk result (key.new ≡ key.old ++ joined number_bytes (part_numbers p ++ part_numbers q)) }
+    ensures { OnOk result (key.new ≡ key.old ++ joined number_bytes
+        (part_numbers p ++ part_numbers q)) }
 {
     key.extend(&part_of(p))?;
     key.extend(&part_of(q))
@@ -24,7 +25,8 @@ fn write_parts(key: &mut Key, p: RefPart, q: RefPart) -> Result<(), OutOfMemory>
 
 /// Writes a reference's numbers.
 fn write_reference(key: &mut Key, sheet: &SheetMention, place: Place) -> Result<(), OutOfMemory>
-    ensures { OnOk result (key.new ≡ key.old ++ text_bytes (4 ∷ sheet_kind sheet.now ∷ sheet_id sheet.now ∷ place_numbers place)) }
+    ensures { OnOk result (key.new ≡ key.old ++ text_bytes
+        (4 ∷ sheet_kind sheet.now ∷ sheet_id sheet.now ∷ place_numbers place)) }
 {
     let (mention, id) = (mention_of(sheet), id_of(sheet));
     match place {
@@ -55,7 +57,8 @@ fn write_word(key: &mut Key, tag: u64, word: &NameMention) -> Result<(), OutOfMe
 
 /// Writes the numbers of a node.
 fn write_node(key: &mut Key, tree: &Bound) -> Result<(), OutOfMemory>
-    ensures { OnOk result (key.new ≡ key.old ++ text_bytes (numbers (out-Tree SheetMention NameMention tree.now))) }
+    ensures { OnOk result (key.new ≡ key.old ++ text_bytes
+        (numbers (out-Tree SheetMention NameMention tree.now))) }
 {
     match tree {
         Tree::Num(amount) => {
@@ -96,7 +99,9 @@ pub fn write_tree(key: &mut Key, tree: &Bound) -> Result<(), OutOfMemory>
 /// Writes what stands below a node: its pairs, and its formulas.
 #[cycle(writing)]
 fn write_children(key: &mut Key, tree: &Bound) -> Result<(), OutOfMemory>
-    ensures { OnOk result (key.new ≡ key.old ++ (all_bytes pair_code (pairs_of (out-Tree SheetMention NameMention tree.now)) ++ all_bytes tree_code (trees_of (out-Tree SheetMention NameMention tree.now)))) }
+    ensures { OnOk result (key.new ≡ key.old ++ (all_bytes pair_code
+        (pairs_of (out-Tree SheetMention NameMention tree.now))
+        ++ all_bytes tree_code (trees_of (out-Tree SheetMention NameMention tree.now)))) }
 {
     match tree {
         Tree::Paren(x) => write_below(key, x.as_ref()),
@@ -134,7 +139,8 @@ fn write_children(key: &mut Key, tree: &Bound) -> Result<(), OutOfMemory>
 
 /// Writes that nothing stands below.
 fn write_nothing(key: &mut Key) -> Result<(), OutOfMemory>
-    ensures { OnOk result (key.new ≡ key.old ++ (all_bytes pair_code [] ++ all_bytes tree_code [])) }
+    ensures { OnOk result (key.new ≡ key.old ++ (all_bytes pair_code []
+        ++ all_bytes tree_code [])) }
 {
     key.extend(&[0, 0])
 }
@@ -151,7 +157,8 @@ fn write_body(key: &mut Key, tree: &Bound) -> Result<(), OutOfMemory>
 /// Writes one formula that stands below, and no pairs.
 #[cycle(writing)]
 fn write_below(key: &mut Key, tree: &Bound) -> Result<(), OutOfMemory>
-    ensures { OnOk result (key.new ≡ key.old ++ (all_bytes pair_code [] ++ all_bytes tree_code (tree.now ∷ []))) }
+    ensures { OnOk result (key.new ≡ key.old ++ (all_bytes pair_code []
+        ++ all_bytes tree_code (tree.now ∷ []))) }
 {
     key.extend(&[0, 1])?;
     write_tree(key, tree)
@@ -160,7 +167,8 @@ fn write_below(key: &mut Key, tree: &Bound) -> Result<(), OutOfMemory>
 /// Writes no pairs, and formulas behind their count.
 #[cycle(writing)]
 fn write_all(key: &mut Key, trees: &[Bound]) -> Result<(), OutOfMemory>
-    ensures { OnOk result (key.new ≡ key.old ++ (all_bytes pair_code [] ++ all_bytes tree_code trees.now)) }
+    ensures { OnOk result (key.new ≡ key.old ++ (all_bytes pair_code []
+        ++ all_bytes tree_code trees.now)) }
 {
     key.extend(&[0, trees.len() as u64])?;
     write_each(key, trees)

@@ -64,7 +64,8 @@ fn put_place(
     index: &mut BTreeMap<Key, usize>,
     at: usize,
 ) -> Result<(), OutOfMemory>
-    ensures ok { OnOk result ((late : List ℕ) → KnowsRest index.old (at ∷ late) formulas.now → KnowsRest index.new late formulas.now) }
+    ensures ok { OnOk result ((late : List ℕ) → KnowsRest index.old (at ∷ late) formulas.now
+        → KnowsRest index.new late formulas.now) }
     ensures err { OnErr result (index.new.entries ≡ index.old.entries) }
 {
     let Some(formula) = formula_in(formulas, at) else {
@@ -87,7 +88,8 @@ fn formula_in(formulas: &[Formula], at: usize) -> Option<&Formula>
 
 /// Whether a look-up has a key at this place or before.
 fn is_before(index: &BTreeMap<Key, usize>, key: &Key, at: usize) -> bool
-    ensures { MatchOption (get (slice_cmp nat_cmp) index.now key.now) (result ≡ false) (λ first. (result ≡ true → first ≤ at) × (result ≡ false → at ≤ first)) }
+    ensures { MatchOption (get (slice_cmp nat_cmp) index.now key.now) (result ≡ false)
+        (λ first. (result ≡ true → first ≤ at) × (result ≡ false → at ≤ first)) }
 {
     match index.get(key).copied() {
         Some(first) => first <= at,

@@ -96,7 +96,9 @@ impl Rewrites {
 
     /// Takes the keys that the changed formulas have out of a look-up.
     pub(super) fn take_out(&self, index: &mut BTreeMap<Key, usize>)
-        ensures { (key : List ℕ) → get (slice_cmp nat_cmp) index.new key ≡ cond (is_key_among key (old_keys self.now.changes)) None (get (slice_cmp nat_cmp) index.old key) }
+        ensures { (key : List ℕ) → get (slice_cmp nat_cmp) index.new key
+            ≡ cond (is_key_among key (old_keys self.now.changes)) None
+            (get (slice_cmp nat_cmp) index.old key) }
     {
         remove_keys(&self.changes, index);
     }
@@ -150,7 +152,9 @@ impl Rewrites {
         at: usize,
         formula: &Formula,
     ) -> Result<(), OutOfMemory>
-        ensures { OnOk result (IsNoted at formula.now (formula_after (C.change change.now) scope formula.now) (is_changed_by (C.change change.now) scope formula.now) self.old self.new) }
+        ensures { OnOk result (IsNoted at formula.now
+            (formula_after (C.change change.now) scope formula.now)
+            (is_changed_by (C.change change.now) scope formula.now) self.old self.new) }
     {
         match changed_formula(alloc, change, scope, formula)? {
             None => self.note_place(at, formula),
@@ -164,7 +168,9 @@ impl Rewrites {
 
     /// Puts a place behind the others where this formula, which will stand there, mentions something that isn't found.
     fn note_place(&mut self, at: usize, formula: &Formula) -> Result<(), OutOfMemory>
-        ensures { OnOk result (self.new ≡ record self.old { dangling = self.old.dangling ++ (if has_dangling formula.now then at ∷ [] else []) }) }
+        ensures { OnOk result (self.new ≡ record self.old {
+          dangling = self.old.dangling ++ (if has_dangling formula.now then at ∷ [] else []);
+        }) }
     {
         if has_dangling(formula) {
             self.dangling.push(at)?;
@@ -174,7 +180,11 @@ impl Rewrites {
 
     /// Puts a change behind the others.
     fn note_change(&mut self, at: usize, formula: Formula, old_key: Key) -> Result<(), OutOfMemory>
-        ensures { OnOk result (self.new ≡ record self.old { changes = self.old.changes ++ record { at = at; formula = formula; old_key = old_key } ∷ []; places = self.old.places ++ at ∷ [] }) }
+        ensures { OnOk result (self.new ≡ record self.old {
+          changes = self.old.changes ++ record { at = at; formula = formula; old_key = old_key }
+              ∷ [];
+          places = self.old.places ++ at ∷ [];
+        }) }
     {
         self.places.push_back(at)?;
         self.changes.push(Replacement {
@@ -193,7 +203,8 @@ pub fn rewrites_of<C: BookChange>(
     change: &C,
     scope: Option<u32>,
 ) -> Result<Rewrites, OutOfMemory>
-    ensures made { IfOk result (λ w. rewritten_by w formulas.now ≡ map (formula_after (C.change change.now) scope) formulas.now) }
+    ensures made { IfOk result (λ w. rewritten_by w formulas.now
+        ≡ map (formula_after (C.change change.now) scope) formulas.now) }
     ensures listed { IfOk result (ListsChanged (C.change change.now) scope formulas.now) }
     ensures fits { IfOk result (λ w. FitsPool w formulas.now) }
 {
@@ -214,7 +225,8 @@ pub fn rewrites_at<C: BookChange>(
 ) -> Result<Rewrites, OutOfMemory>
     requires spares { SparesFound (C.change change.now) scope }
     requires places { places.now ≡ dangling_places formulas.now }
-    ensures made { IfOk result (λ w. rewritten_by w formulas.now ≡ map (formula_after (C.change change.now) scope) formulas.now) }
+    ensures made { IfOk result (λ w. rewritten_by w formulas.now
+        ≡ map (formula_after (C.change change.now) scope) formulas.now) }
     ensures listed { IfOk result (ListsChanged (C.change change.now) scope formulas.now) }
     ensures fits { IfOk result (λ w. FitsPool w formulas.now) }
 {
@@ -227,7 +239,9 @@ pub fn rewrites_at<C: BookChange>(
 
 /// Takes the keys that these formulas have out of a look-up.
 fn remove_keys(changes: &[Replacement], index: &mut BTreeMap<Key, usize>)
-    ensures { (key : List ℕ) → get (slice_cmp nat_cmp) index.new key ≡ cond (is_key_among key (old_keys changes.now)) None (get (slice_cmp nat_cmp) index.old key) }
+    ensures { (key : List ℕ) → get (slice_cmp nat_cmp) index.new key
+        ≡ cond (is_key_among key (old_keys changes.now)) None
+        (get (slice_cmp nat_cmp) index.old key) }
 {
     for change in changes {
         index.remove(&change.old_key);

@@ -23,8 +23,18 @@ impl Sheets {
     pub fn add_sheet(&mut self, id: u32, name: &str) -> Result<(), OutOfMemory>
         requires free { list_any (agrees (chars name.now)) (map (λ s. s.name) self.old) ≡ false }
         requires fresh { greatest (map (λ s. s.id) self.old) < id }
-        ensures ok { OnOk result (sheets_of self.new ≡ map (changed_pool (sheet_named id (chars name.now))) (sheets_of self.old) ++ record { id = id; name = chars name.now; pool = []; grid = empty_grid; tab = plain_tab } ∷ []) }
-        ensures looks_up { OnOk result (look_ups self.new ≡ map (looks_up_after (sheet_named id (chars name.now))) self.old ++ true ∷ []) }
+        ensures ok { OnOk result (sheets_of self.new
+            ≡ map (changed_pool (sheet_named id (chars name.now))) (sheets_of self.old)
+            ++ record {
+              id = id;
+              name = chars name.now;
+              pool = [];
+              grid = empty_grid;
+              tab
+                  = plain_tab;
+            } ∷ []) }
+        ensures looks_up { OnOk result (look_ups self.new
+            ≡ map (looks_up_after (sheet_named id (chars name.now))) self.old ++ true ∷ []) }
         ensures err { OnErr result (self.new ≡ self.old) }
     {
         let prepared = self.prepare_dangling(&SheetNamed { id, name })?;
@@ -37,10 +47,14 @@ impl Sheets {
     /// references to it. `OutOfMemory` changes nothing.
     pub fn rename_sheet(&mut self, index: usize, name: &str) -> Result<(), OutOfMemory>
         requires within { index < length self.old }
-        requires free { list_any (agrees (chars name.now)) (remove (map (λ s. s.name) self.old) index) ≡ false }
+        requires free { list_any (agrees (chars name.now))
+            (remove (map (λ s. s.name) self.old) index) ≡ false }
         ensures ok { OnOk result ((sheet : HeldSheet) → slice_get self.old index ≡ Some sheet
-            → sheets_of self.new ≡ updated_at (λ s. record s { name = chars name.now }) index (map (changed_pool (sheet_named sheet.id (chars name.now))) (sheets_of self.old))) }
-        ensures looks_up { OnOk result ((sheet : HeldSheet) → slice_get self.old index ≡ Some sheet → look_ups self.new ≡ map (looks_up_after (sheet_named sheet.id (chars name.now))) self.old) }
+            → sheets_of self.new ≡ updated_at (λ s. record s { name = chars name.now }) index
+            (map (changed_pool (sheet_named sheet.id (chars name.now))) (sheets_of self.old))) }
+        ensures looks_up { OnOk result ((sheet : HeldSheet) → slice_get self.old index ≡ Some sheet
+            → look_ups self.new ≡ map (looks_up_after (sheet_named sheet.id (chars name.now)))
+            self.old) }
         ensures err { OnErr result (self.new ≡ self.old) }
     {
         let id = self.list[index].id;
@@ -55,8 +69,11 @@ impl Sheets {
     pub fn delete_sheet(&mut self, index: usize) -> Result<(), OutOfMemory>
         requires { index < length self.old }
         ensures ok { OnOk result ((sheet : HeldSheet) → slice_get self.old index ≡ Some sheet
-            → sheets_of self.new ≡ remove (map (changed_pool (sheet_gone sheet.id sheet.name)) (sheets_of self.old)) index) }
-        ensures looks_up { OnOk result ((sheet : HeldSheet) → slice_get self.old index ≡ Some sheet → look_ups self.new ≡ remove (map (looks_up_after (sheet_gone sheet.id sheet.name)) self.old) index) }
+            → sheets_of self.new ≡ remove (map (changed_pool (sheet_gone sheet.id sheet.name))
+            (sheets_of self.old)) index) }
+        ensures looks_up { OnOk result ((sheet : HeldSheet) → slice_get self.old index ≡ Some sheet
+            → look_ups self.new ≡ remove (map (looks_up_after (sheet_gone sheet.id sheet.name))
+            self.old) index) }
         ensures err { OnErr result (self.new ≡ self.old) }
     {
         let sheet = &self.list[index];
@@ -70,7 +87,8 @@ impl Sheets {
 
     /// What a change does to the formulas of each sheet, all prepared before any of them changes.
     pub fn prepare<C: BookChange>(&self, change: &C) -> Result<Vec<Rewrites>, OutOfMemory>
-        ensures { IfOk result (λ prepared. ArePrepared (C.change change.now) prepared.items self.now) }
+        ensures { IfOk result (λ prepared. ArePrepared (C.change change.now) prepared.items
+            self.now) }
     {
         prepare(self.alloc, &self.list, change)
     }
@@ -100,7 +118,8 @@ impl Sheets {
         change: &C,
     ) -> Result<Rewrites, OutOfMemory>
         requires { index < length self.now }
-        ensures { IfOk result (λ rewrites. (sheet : HeldSheet) → slice_get self.now index ≡ Some sheet → IsPrepared (C.change change.now) rewrites sheet) }
+        ensures { IfOk result (λ rewrites. (sheet : HeldSheet) → slice_get self.now index
+            ≡ Some sheet → IsPrepared (C.change change.now) rewrites sheet) }
     {
         let sheet = &self.list[index];
         sheet.pool.prepare(change, Some(sheet.id))
@@ -130,7 +149,8 @@ impl Sheets {
     /// Does to the formulas of the sheet at an index, from 0, what was prepared for it.
     pub fn apply_at(&mut self, index: usize, rewrites: Rewrites)
         requires within { index < length self.old }
-        requires fits { (sheet : HeldSheet) → slice_get self.old index ≡ Some sheet → FitsPool rewrites sheet.pool.formulas }
+        requires fits { (sheet : HeldSheet) → slice_get self.old index ≡ Some sheet
+            → FitsPool rewrites sheet.pool.formulas }
         ensures { self.new ≡ updated_at (with_rewrites rewrites) index self.old }
     {
         let sheet = &mut self.list[index];

@@ -21,7 +21,16 @@ impl Sheets {
     pub fn add_leaving_formulas(&mut self, id: u32, name: &str) -> Result<(), OutOfMemory>
         requires free { list_any (agrees (chars name.now)) (map (λ s. s.name) self.old) ≡ false }
         requires fresh { greatest (map (λ s. s.id) self.old) < id }
-        ensures ok { OnOk result (self.new ≡ self.old ++ record { id = id; name = chars name.now; pool = record { formulas = []; is_whole = true }; grid = empty_grid; tab = plain_tab } ∷ []) }
+        ensures ok { OnOk result (self.new ≡ self.old
+            ++ record {
+              id = id;
+              name = chars name.now;
+              pool
+                  = record { formulas = []; is_whole = true };
+              grid = empty_grid;
+              tab = plain_tab;
+            }
+            ∷ []) }
         ensures err { OnErr result (self.new ≡ self.old) }
     {
         let key = folded(self.alloc, name)?;
@@ -50,8 +59,10 @@ impl Sheets {
         name: &str,
     ) -> Result<(), OutOfMemory>
         requires within { index < length self.old }
-        requires free { list_any (agrees (chars name.now)) (remove (map (λ s. s.name) self.old) index) ≡ false }
-        ensures ok { OnOk result (self.new ≡ updated_at (λ s. record s { name = chars name.now }) index self.old) }
+        requires free { list_any (agrees (chars name.now))
+            (remove (map (λ s. s.name) self.old) index) ≡ false }
+        ensures ok { OnOk result (self.new ≡ updated_at (λ s. record s { name = chars name.now })
+            index self.old) }
         ensures err { OnErr result (self.new ≡ self.old) }
     {
         let key = folded(self.alloc, name)?;
@@ -98,7 +109,8 @@ impl Sheets {
 
 /// Puts a key and an id in. `OutOfMemory` changes nothing.
 fn put_id(ids: &mut BTreeMap<String, u32>, key: String, id: u32) -> Result<(), OutOfMemory>
-    ensures ok { OnOk result ((q : List ℕ) → get_by_text ids.new q ≡ cond (bytes_eq (string_bytes key) q) (Some id) (get_by_text ids.old q)) }
+    ensures ok { OnOk result ((q : List ℕ) → get_by_text ids.new q
+        ≡ cond (bytes_eq (string_bytes key) q) (Some id) (get_by_text ids.old q)) }
     ensures err { OnErr result ((q : List ℕ) → get_by_text ids.new q ≡ get_by_text ids.old q) }
 {
     ids.insert(key, id)?;
@@ -107,7 +119,8 @@ fn put_id(ids: &mut BTreeMap<String, u32>, key: String, id: u32) -> Result<(), O
 
 /// The indexes after the one that is taken away are lowered by one.
 fn lower_indexes(indexes: &mut BTreeMap<u32, usize>, index: usize)
-    ensures { (id : ℕ) → get nat_cmp indexes.new id ≡ option_map (lowered index) (get nat_cmp indexes.old id) }
+    ensures { (id : ℕ) → get nat_cmp indexes.new id
+        ≡ option_map (lowered index) (get nat_cmp indexes.old id) }
 {
     indexes.retain(|_, place| {
         *place = lowered(*place, index);
@@ -117,7 +130,8 @@ fn lower_indexes(indexes: &mut BTreeMap<u32, usize>, index: usize)
 
 /// The indexes follow the sheet that is put from one to another.
 fn move_indexes(indexes: &mut BTreeMap<u32, usize>, from: usize, to: usize)
-    ensures { (id : ℕ) → get nat_cmp indexes.new id ≡ option_map (moved_index from to) (get nat_cmp indexes.old id) }
+    ensures { (id : ℕ) → get nat_cmp indexes.new id
+        ≡ option_map (moved_index from to) (get nat_cmp indexes.old id) }
 {
     indexes.retain(|_, place| {
         *place = moved_index(*place, from, to);
@@ -152,7 +166,9 @@ fn rekey(
     key: String,
     id: u32,
 ) -> Result<(), OutOfMemory>
-    ensures ok { OnOk result ((q : List ℕ) → get_by_text ids.new q ≡ cond (bytes_eq (string_bytes key) q) (Some id) (cond (bytes_eq old_key.now q) None (get_by_text ids.old q))) }
+    ensures ok { OnOk result ((q : List ℕ) → get_by_text ids.new q
+        ≡ cond (bytes_eq (string_bytes key) q) (Some id)
+        (cond (bytes_eq old_key.now q) None (get_by_text ids.old q))) }
     ensures err { OnErr result ((q : List ℕ) → get_by_text ids.new q ≡ get_by_text ids.old q) }
 {
     let same = key.as_str() == old_key;

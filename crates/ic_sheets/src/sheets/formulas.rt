@@ -26,7 +26,13 @@ impl Sheets {
     ) -> Result<(), OutOfMemory>
         requires within { index < length self.old }
         requires takes { IfSome (slice_get self.old index) (λ s. TakesCell (row, column) s.grid) }
-        ensures ok { OnOk result ((pool : List Formula) × (place : ℕ) × IsPlaced formula place (pool_at self.old index) pool × (self.new ≡ updated_at (λ s. record s { pool = record { formulas = pool; is_whole = true }; grid = with_cell_in (row, column) (formula_cell kind place style) s.grid }) index self.old)) }
+        ensures ok { OnOk result ((pool : List Formula) × (place : ℕ)
+            × IsPlaced formula place (pool_at self.old index) pool
+            × (self.new ≡ updated_at (λ s. record s {
+              pool = record { formulas = pool; is_whole = true };
+              grid = with_cell_in (row, column)
+                  (formula_cell kind place style) s.grid;
+            }) index self.old)) }
         ensures err { OnErr result (map sheet_of self.new ≡ map sheet_of self.old) }
         ensures looks_up { OnErr result (AreSameOrLookUp index self.old self.new) }
     {
@@ -47,10 +53,14 @@ impl Sheets {
         steps: &mut Steps<L>,
     ) -> Result<usize, OutOfMemory>
         requires { index < length self.old }
-        ensures ok { IfOk result (λ at. (pool : List Formula) × IsPlaced formula.now at (pool_at self.old index) pool × (self.new ≡ updated_at (λ s. record s { pool = record { formulas = pool; is_whole = true } }) index self.old)) }
+        ensures ok { IfOk result (λ at. (pool : List Formula)
+            × IsPlaced formula.now at (pool_at self.old index) pool
+            × (self.new ≡ updated_at (λ s. record s
+            { pool = record { formulas = pool; is_whole = true } }) index self.old)) }
         ensures err { OnErr result (map sheet_of self.new ≡ map sheet_of self.old) }
         ensures looks_up { OnErr result (AreSameOrLookUp index self.old self.new) }
-        ensures still { option_map (λ s. s.pool.is_whole) (slice_get self.old index) ≡ Some true → steps.new ≡ steps.old }
+        ensures still { option_map (λ s. s.pool.is_whole) (slice_get self.old index) ≡ Some true
+            → steps.new ≡ steps.old }
         ensures cost { steps.new ≤ steps.old + length (pool_at self.old index) }
         ensures grows { steps.old ≤ steps.new }
     {

@@ -33,7 +33,8 @@ impl Sheets {
         requires within { index < length self.old }
         requires takes { IfSome (slice_get self.old index) (λ s. TakesCell (row, column) s.grid) }
         requires loose { is_loose (shape_of cell) ≡ true }
-        ensures ok { OnOk result (self.new ≡ updated_at (λ s. record s { grid = with_cell_in (row, column) cell s.grid }) index self.old) }
+        ensures ok { OnOk result (self.new ≡ updated_at
+            (λ s. record s { grid = with_cell_in (row, column) cell s.grid }) index self.old) }
         ensures err { OnErr result (self.new ≡ self.old) }
     {
         let sheet = &mut self.list[index];

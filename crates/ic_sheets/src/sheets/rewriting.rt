@@ -20,7 +20,8 @@ pub fn prepare<C: BookChange>(
     sheets: &[Sheet],
     change: &C,
 ) -> Result<Vec<Rewrites>, OutOfMemory>
-    ensures { IfOk result (λ prepared. ArePrepared (C.change change.now) prepared.items sheets.now) }
+    ensures { IfOk result (λ prepared. ArePrepared (C.change change.now) prepared.items
+        sheets.now) }
 {
     let mut prepared = Vec::new(alloc);
     for sheet in sheets {

@@ -7,7 +7,7 @@ use Rattle.ic_laws.specs.Binding.{bound}
 use Rattle.ic_laws.specs.Character.{equals}
 use Rattle.ic_laws.specs.Command.{NumberField, TextField, commands}
 use Rattle.ic_laws.specs.CoreBook.{CoreBook, Definition, Sheet, scene_of}
-use Rattle.ic_laws.specs.CoreStep.{core_step, scene_with_name}
+use Rattle.ic_laws.specs.CoreStep.{core_step, scene_with_definition}
 use Rattle.ic_laws.specs.FormulaReading.{body_of, if_lambda, is_lambda_kind, shown_body}
 use Rattle.ic_laws.specs.Keeping.{kept, same_keys}
 use Rattle.ic_laws.specs.Lines.{outcome_of}
@@ -115,7 +115,7 @@ is_body = lambda_or_none before (codes "=LAMBDA(x,x*tax)") (node rate_kind) (Som
 -- ---- and mentions the definition for all sheets, not the one for the first sheet
 
 abbrev rate_tree : Bound
-rate_tree = bound (english_function small) (scene_with_name before (codes "rate") None) None (node rate_kind)
+rate_tree = bound (english_function small) (scene_with_definition before (codes "rate") None) None (node rate_kind)
 
 rate_bound : rate_tree ≡ rate_body
 unfolding caseless notations_of

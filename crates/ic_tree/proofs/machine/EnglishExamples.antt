@@ -8,7 +8,7 @@ use Rattle.ic_laws.specs.Binding.{bound}
 use Rattle.ic_laws.specs.Character.{equals}
 use Rattle.ic_laws.specs.Command.{NumberField, TextField, commands}
 use Rattle.ic_laws.specs.CoreBook.{CoreBook, Definition}
-use Rattle.ic_laws.specs.CoreStep.{core_step, scene_with_name}
+use Rattle.ic_laws.specs.CoreStep.{core_step, scene_with_definition}
 use Rattle.ic_laws.specs.FormulaReading.{body_of, cell_formula, if_lambda, is_lambda_kind, shown_body}
 use Rattle.ic_laws.specs.Lines.{outcome_of}
 use Rattle.ic_laws.specs.NextToken.{plain_of, tokens_by, tokens_of}
@@ -106,7 +106,7 @@ is_body : body_of small spanish (codes "=LAMBDA(x,x*2)") ≡ Some (record { has_
 unfolding notations_of caseless ucd_derived
 is_body = english_lambda spanish (codes "=LAMBDA(x,x*2)") (node twice_kind) refl twice_unread twice_read is_lambda
 
-twice_bound : bound (english_function small) (scene_with_name spanish (codes "twice") None) None (node twice_kind) ≡ twice_body
+twice_bound : bound (english_function small) (scene_with_definition spanish (codes "twice") None) None (node twice_kind) ≡ twice_body
 unfolding caseless notations_of
 twice_bound = simp bound-node
 

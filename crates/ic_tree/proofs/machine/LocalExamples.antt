@@ -6,7 +6,7 @@ use Rattle.ic_laws.specs.Binding.{bound}
 use Rattle.ic_laws.specs.Character.{equals}
 use Rattle.ic_laws.specs.Command.{TextField, commands}
 use Rattle.ic_laws.specs.CoreBook.{CoreBook, Definition, scene_of}
-use Rattle.ic_laws.specs.CoreStep.{core_step, scene_with_name}
+use Rattle.ic_laws.specs.CoreStep.{core_step, scene_with_definition}
 use Rattle.ic_laws.specs.FormulaReading.{Body, body_of, cell_formula, shown_formula}
 use Rattle.ic_laws.specs.Keeping.{kept, same_keys}
 use Rattle.ic_laws.specs.Lines.{outcome_of}
@@ -100,7 +100,7 @@ is_body : body_of small (book (formulas.Tree dangling) []) (codes "Sheet1!$A$1")
 unfolding notations_of caseless ucd_derived
 is_body = refl
 
-body_bound : bound (english_function small) (scene_with_name (book (formulas.Tree dangling) []) (codes "tax") None) None (reference (record { sheet = Some (codes "Sheet1"); place = first_cell })) ≡ on_sheet first_cell
+body_bound : bound (english_function small) (scene_with_definition (book (formulas.Tree dangling) []) (codes "tax") None) None (reference (record { sheet = Some (codes "Sheet1"); place = first_cell })) ≡ on_sheet first_cell
 unfolding caseless notations_of
 body_bound = simp bound-node
 
@@ -112,7 +112,7 @@ for_all_made : step (book (formulas.Tree dangling) []) (codes "new_defined_name\
 unfolding step caseless ucd_derived commands core_step
 for_all_made =
     ap (λ o. outcome_of (book (formulas.Tree dangling) []) (by_body (book (formulas.Tree dangling) []) (codes "tax") None o)) is_body
-    ∙ ap (λ t. (book (formulas.Tree t) (record for_all { body = formulas.Tree (bound (english_function small) (scene_with_name (book (formulas.Tree dangling) []) (codes "tax") None) None (reference (record { sheet = Some (codes "Sheet1"); place = first_cell }))) } ∷ []), Ok [])) taken
+    ∙ ap (λ t. (book (formulas.Tree t) (record for_all { body = formulas.Tree (bound (english_function small) (scene_with_definition (book (formulas.Tree dangling) []) (codes "tax") None) None (reference (record { sheet = Some (codes "Sheet1"); place = first_cell }))) } ∷ []), Ok [])) taken
     ∙ ap (λ t. (book (formulas.Tree found) (record for_all { body = formulas.Tree t } ∷ []), Ok [])) body_bound
 
 shown : shown_formula small (book (formulas.Tree found) (for_all ∷ [])) (pos 1) (pos 1) (formulas.Tree found) ≡ codes "tax"
@@ -130,7 +130,7 @@ unfolding notations_of caseless ucd_derived
 is_local_body = refl
 
 abbrev second_tree : Bound
-second_tree = bound (english_function small) (scene_with_name (book (formulas.Tree found) (for_all ∷ [])) (codes "Tax") (Some 1)) (Some 1) (reference (record { sheet = Some (codes "Sheet1"); place = second_cell }))
+second_tree = bound (english_function small) (scene_with_definition (book (formulas.Tree found) (for_all ∷ [])) (codes "Tax") (Some 1)) (Some 1) (reference (record { sheet = Some (codes "Sheet1"); place = second_cell }))
 
 local_body_bound : second_tree ≡ on_sheet second_cell
 unfolding caseless notations_of

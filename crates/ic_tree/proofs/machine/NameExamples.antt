@@ -6,7 +6,7 @@ use Rattle.ucd_derived.proofs.Computing.{ucd_derived}
 use Rattle.ic_laws.specs.Binding.{bound}
 use Rattle.ic_laws.specs.Command.{commands}
 use Rattle.ic_laws.specs.CoreBook.{CoreBook, Definition, Sheet, scene_of}
-use Rattle.ic_laws.specs.CoreStep.{core_step, scene_with_name}
+use Rattle.ic_laws.specs.CoreStep.{core_step, scene_with_definition}
 use Rattle.ic_laws.specs.FormulaReading.{Body, body_of, if_lambda, is_lambda_kind}
 use Rattle.ic_laws.specs.Keeping.{kept, same_keys}
 use Rattle.ic_laws.specs.Lines.{outcome_of}
@@ -70,7 +70,7 @@ no_reference : step start (codes "new_defined_name\ttot\t-\t=Sheet1!A1") ≡ (st
 unfolding step caseless ucd_derived commands core_step
 no_reference = ap (λ o. outcome_of start (by_body start (codes "tot") None o)) no_body
 
-bound_tot : bound (english_function small) (scene_with_name start (codes "tot") None) None (reference (on (codes "Sheet1"))) ≡ mention (sheets.Sheet 1)
+bound_tot : bound (english_function small) (scene_with_definition start (codes "tot") None) None (reference (on (codes "Sheet1"))) ≡ mention (sheets.Sheet 1)
 unfolding caseless notations_of
 bound_tot = simp bound-node
 
@@ -116,7 +116,7 @@ is_local_body : body_of small (two []) (codes "Sheet1!A1") ≡ Some (body (codes
 unfolding notations_of caseless ucd_derived
 is_local_body = refl
 
-bound_local : bound (english_function small) (scene_with_name (two []) (codes "loc") (Some 2)) (Some 2) (reference (on (codes "Sheet1"))) ≡ mention (sheets.Sheet 1)
+bound_local : bound (english_function small) (scene_with_definition (two []) (codes "loc") (Some 2)) (Some 2) (reference (on (codes "Sheet1"))) ≡ mention (sheets.Sheet 1)
 unfolding caseless notations_of
 bound_local = simp bound-node
 

@@ -6,7 +6,7 @@ use Rattle.ic_laws.specs.Binding.{bound, spelled}
 use Rattle.ic_laws.specs.Character.{equals}
 use Rattle.ic_laws.specs.Command.{commands}
 use Rattle.ic_laws.specs.CoreBook.{CoreBook, scene_of}
-use Rattle.ic_laws.specs.CoreStep.{Outcome, has_definition, scope_of, scope_or_none, unless_refused, with_new_name}
+use Rattle.ic_laws.specs.CoreStep.{Outcome, has_definition, scope_of, scope_or_none, unless_refused, with_new_definition}
 use Rattle.ic_laws.specs.FormulaReading.{Body, body_of, cell_formula, if_lambda, reference_tree, shown_at, shown_formula, tree_or_raw, without_equals}
 use Rattle.ic_laws.specs.Following.{spelled_out}
 use Rattle.ic_laws.specs.Lines.{Reply, command_step, reply_text, spelled_command, words_of}
@@ -93,7 +93,7 @@ by_body book name index body =
     (first_refusal
     ((not (is_identifier name), InvalidName) ∷ (is_none (scope_of book index), InvalidScope)
     ∷ (has_definition book name (scope_or_none book index), NameExists) ∷ (is_none body, InvalidNameFormula) ∷ []))
-    (with_new_name small book name (scope_or_none book index) body) []
+    (with_new_definition small book name (scope_or_none book index) body) []
 
 -- a body that is no reference, by what it reads as after its equals sign
 pub lambda_or_none : (book : CoreBook) (text : List ℕ) (t : Spelled) (o : Option Spelled) → reference_tree (shown_at small book (pos 1) (pos 1)) (scene_of book) text ≡ None

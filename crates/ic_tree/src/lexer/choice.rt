@@ -21,7 +21,9 @@ pub(crate) fn longer_of<'t>(
 ) -> Result<Option<(Token, &'t str)>, OutOfMemory>
     requires reference_ends { EndsWith (chars text.now) (chars rest.now) }
     requires other_ends { EndsWith (chars text.now) (chars after.now) }
-    ensures { IfOk result (λ r. option_map (λ f. found (token_of f.0) (chars f.1.now)) r ≡ longer (Some (found (tokens.Ref reference) (chars rest.now))) (Some (found (seen_token seen.now) (chars after.now)))) }
+    ensures { IfOk result (λ r. option_map (λ f. found (token_of f.0) (chars f.1.now)) r
+        ≡ longer (Some (found (tokens.Ref reference) (chars rest.now)))
+        (Some (found (seen_token seen.now) (chars after.now)))) }
 {
     if leaves_no_more(text, rest, after) {
         Ok(Some((Token::Ref(reference), rest)))
@@ -36,7 +38,8 @@ pub(crate) fn kept_with<'t>(
     seen: &Seen,
     rest: &'t str,
 ) -> Result<Option<(Token, &'t str)>, OutOfMemory>
-    ensures { IfOk result (λ r. option_map (λ f. found (token_of f.0) (chars f.1.now)) r ≡ Some (found (seen_token seen.now) (chars rest.now))) }
+    ensures { IfOk result (λ r. option_map (λ f. found (token_of f.0) (chars f.1.now)) r
+        ≡ Some (found (seen_token seen.now) (chars rest.now))) }
 {
     match kept(alloc, seen) {
         Ok(token) => Ok(Some((token, rest))),

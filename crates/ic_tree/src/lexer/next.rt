@@ -29,7 +29,8 @@ pub fn next_token<'t, D: Dialect>(
     d: &D,
     text: &'t str,
 ) -> Result<Option<(Token, &'t str)>, OutOfMemory>
-    ensures { IfOk result (λ r. option_map (λ f. found (token_of f.0) (chars f.1.now)) r ≡ token_by_kinds (D.meaning d.now) (chars text.now)) }
+    ensures { IfOk result (λ r. option_map (λ f. found (token_of f.0) (chars f.1.now)) r
+        ≡ token_by_kinds (D.meaning d.now) (chars text.now)) }
 {
     let Some((c, after)) = first_char(text) else {
         return Ok(None);
@@ -56,7 +57,8 @@ fn begins_name(c: char) -> bool
 
 /// The text after an opening quote.
 fn quoted_token<'t>(alloc: Global, text: &'t str) -> Result<Option<(Token, &'t str)>, OutOfMemory>
-    ensures { IfOk result (λ r. option_map (λ f. found (token_of f.0) (chars f.1.now)) r ≡ option_map (λ f. found (tokens.Str f.0) f.1) (closed false (chars text.now))) }
+    ensures { IfOk result (λ r. option_map (λ f. found (token_of f.0) (chars f.1.now)) r
+        ≡ option_map (λ f. found (tokens.Str f.0) f.1) (closed false (chars text.now))) }
 {
     match quoted_at(alloc, text) {
         Ok(Some((inside, rest))) => Ok(Some((Token::Str(inside), rest))),
@@ -67,7 +69,9 @@ fn quoted_token<'t>(alloc: Global, text: &'t str) -> Result<Option<(Token, &'t s
 
 /// An error's word, or else the sign `#`, at the front of a text that begins with it.
 fn error_or_hash<'t, D: Dialect>(d: &D, text: &'t str, after: &'t str) -> Option<(Token, &'t str)>
-    ensures { option_map (λ f. found (token_of f.0) (chars f.1.now)) result ≡ or_else (error_at (D.meaning d.now) (chars text.now)) (Some (found tokens.Hash (chars after.now))) }
+    ensures { option_map (λ f. found (token_of f.0) (chars f.1.now)) result
+        ≡ or_else (error_at (D.meaning d.now) (chars text.now))
+        (Some (found tokens.Hash (chars after.now))) }
 {
     match error_at(d, text) {
         Some(found) => Some(found),
@@ -81,7 +85,8 @@ fn decimal_token<'t, D: Dialect>(
     d: &D,
     text: &'t str,
 ) -> Result<Option<(Token, &'t str)>, OutOfMemory>
-    ensures { IfOk result (λ r. option_map (λ f. found (token_of f.0) (chars f.1.now)) r ≡ number_in_one_pass (D.meaning d.now) (chars text.now)) }
+    ensures { IfOk result (λ r. option_map (λ f. found (token_of f.0) (chars f.1.now)) r
+        ≡ number_in_one_pass (D.meaning d.now) (chars text.now)) }
 {
     match number_at(d, text) {
         Some((seen, rest)) => kept_with(alloc, &seen, rest),
@@ -97,7 +102,9 @@ fn named_token<'t, D: Dialect>(
     text: &'t str,
 ) -> Result<Option<(Token, &'t str)>, OutOfMemory>
     requires { (cs : List ℕ) × (chars text.now ≡ c ∷ cs) }
-    ensures { IfOk result (λ r. option_map (λ f. found (token_of f.0) (chars f.1.now)) r ≡ longer (reference_at (D.meaning d.now) (chars text.now)) (named_at (D.meaning d.now) (chars text.now))) }
+    ensures { IfOk result (λ r. option_map (λ f. found (token_of f.0) (chars f.1.now)) r
+        ≡ longer (reference_at (D.meaning d.now) (chars text.now))
+        (named_at (D.meaning d.now) (chars text.now))) }
 {
     match reference_at(alloc, d, text) {
         Err(e) => Err(e),
@@ -115,7 +122,8 @@ fn named_token<'t, D: Dialect>(
 /// A head, a word or a number.
 fn named_at<'t, D: Dialect>(d: &D, c: char, text: &'t str) -> Option<(Seen<'t>, &'t str)>
     requires { (cs : List ℕ) × (chars text.now ≡ c ∷ cs) }
-    ensures { option_map (λ f. found (seen_token f.0) (chars f.1.now)) result ≡ named_at (D.meaning d.now) (chars text.now) }
+    ensures { option_map (λ f. found (seen_token f.0) (chars f.1.now)) result
+        ≡ named_at (D.meaning d.now) (chars text.now) }
 {
     if begins_word(c) {
         word_at(d, text)

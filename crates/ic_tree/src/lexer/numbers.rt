@@ -17,7 +17,8 @@ const GREATEST_WHOLE: u64 = 999_999_999_999_999_999;
 
 /// The longest amount at the front of a text, and the rest.
 pub(crate) fn number_at<'t, D: Dialect>(d: &D, text: &'t str) -> Option<(Seen<'t>, &'t str)>
-    ensures { option_map (λ f. (seen_token f.0, chars f.1.now)) result ≡ number_in_one_pass (D.meaning d.now) (chars text.now) }
+    ensures { option_map (λ f. (seen_token f.0, chars f.1.now)) result
+        ≡ number_in_one_pass (D.meaning d.now) (chars text.now) }
 {
     let whole = whole_part(text);
     let fraction = fraction_part(whole.rest, d.decimal());

@@ -14,7 +14,8 @@ pub(crate) fn quoted_at<'t>(
     alloc: Global,
     text: &'t str,
 ) -> Result<Option<(Text, &'t str)>, OutOfMemory>
-    ensures { IfOk result (λ r. option_map (λ f. (f.0, chars f.1.now)) r ≡ closed false (chars text.now)) }
+    ensures { IfOk result (λ r. option_map (λ f. (f.0, chars f.1.now)) r
+        ≡ closed false (chars text.now)) }
 {
     let mut inside = String::new(alloc);
     let mut rest = text;
@@ -33,7 +34,9 @@ pub(crate) fn quoted_at<'t>(
 
 /// What stands before the next quote, and after it. None where there is no quote.
 fn piece_at(text: &str) -> Option<(&str, &str)>
-    ensures parts { MatchOption result (list_all is_inside (chars text.now) ≡ true) (λ p. (chars text.now ≡ chars p.0.now ++ double_quote ∷ chars p.1.now) × (list_all is_inside (chars p.0.now) ≡ true)) }
+    ensures parts { MatchOption result (list_all is_inside (chars text.now) ≡ true)
+        (λ p. (chars text.now ≡ chars p.0.now ++ double_quote ∷ chars p.1.now)
+        × (list_all is_inside (chars p.0.now) ≡ true)) }
     ensures shorter { IfSome result (λ p. length p.1.now < length text.now) }
 {
     let quote = past_inside(text);
@@ -45,7 +48,8 @@ fn piece_at(text: &str) -> Option<(&str, &str)>
 
 /// What stands after a quote at the front; after a quote that is the last one there is none.
 fn past_quote(text: &str) -> Option<&str>
-    ensures parts { MatchOption result (closed true (chars text.now) ≡ Some ([], chars text.now)) (λ r. chars text.now ≡ double_quote ∷ chars r.now) }
+    ensures parts { MatchOption result (closed true (chars text.now) ≡ Some ([], chars text.now))
+        (λ r. chars text.now ≡ double_quote ∷ chars r.now) }
     ensures shorter { IfSome result (λ r. length r.now < length text.now) }
 {
     let (c, rest) = first_char(text)?;

@@ -10,7 +10,8 @@ pub(crate) fn reference_at<'t, D: Dialect>(
     d: &D,
     text: &'t str,
 ) -> Result<Option<(RefToken, &'t str)>, OutOfMemory>
-    ensures { IfOk result (λ r. option_map (λ f. (f.0, chars f.1.now)) r ≡ (D.meaning d.now).read_ref (chars text.now)) }
+    ensures { IfOk result (λ r. option_map (λ f. (f.0, chars f.1.now)) r
+        ≡ (D.meaning d.now).read_ref (chars text.now)) }
 {
     match d.read_ref(alloc, text, 0) {
         Err(e) => Err(e),

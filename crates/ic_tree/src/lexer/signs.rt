@@ -10,7 +10,8 @@ use ic_laws::{BinarySign, Dialect};
 
 /// The sign that begins with a character, and the rest of the text: the one of two characters, where there is one.
 pub(crate) fn sign_at<'t, D: Dialect>(d: &D, c: char, after: &'t str) -> Option<(Token, &'t str)>
-    ensures { option_map (λ f. (token_of f.0, chars f.1.now)) result ≡ longer (two_at (c ∷ chars after.now)) (one_at (D.meaning d.now) (c ∷ chars after.now)) }
+    ensures { option_map (λ f. (token_of f.0, chars f.1.now)) result
+        ≡ longer (two_at (c ∷ chars after.now)) (one_at (D.meaning d.now) (c ∷ chars after.now)) }
 {
     match sign_of_two(c, after) {
         Some(found) => Some(found),
@@ -23,7 +24,8 @@ pub(crate) fn sign_at<'t, D: Dialect>(d: &D, c: char, after: &'t str) -> Option<
 
 /// The sign of two characters.
 fn sign_of_two(c: char, after: &str) -> Option<(Token, &str)>
-    ensures { option_map (λ f. (token_of f.0, chars f.1.now)) result ≡ two_at (c ∷ chars after.now) }
+    ensures { option_map (λ f. (token_of f.0, chars f.1.now)) result
+        ≡ two_at (c ∷ chars after.now) }
 {
     let Some((e, rest)) = first_char(after) else {
         return None;

@@ -37,7 +37,8 @@ impl<'t, D: Dialect, K: TextEnd> Lexer<'t, D, K> {
     /// The lexer of a text, with its first token in sight.
     pub fn new(alloc: Global, dialect: &'t D, text: &'t str) -> Result<Lexer<'t, D, K>, OutOfMemory>
         requires { K.whole ≡ ends_whole (D.meaning dialect.now) (chars text.now) }
-        ensures { IfOk result (λ l. ⟦<Lexer<'t, D, K> as TokenSource>⟧.left l ≡ tokens_before (D.meaning dialect.now) (chars text.now)) }
+        ensures { IfOk result (λ l. ⟦<Lexer<'t, D, K> as TokenSource>⟧.left l
+            ≡ tokens_before (D.meaning dialect.now) (chars text.now)) }
     {
         let rest = past_blanks(text);
         match next_token(alloc, dialect, rest) {

@@ -15,7 +15,9 @@ use ic_refs::is_valid_a1_identifier;
 /// The head or the word at the front of a text that begins as a word does, and the rest. A head is longer than a word.
 pub(crate) fn word_at<'t, D: Dialect>(d: &D, text: &'t str) -> Option<(Seen<'t>, &'t str)>
     requires { first_is begins_word (chars text.now) ≡ true }
-    ensures { option_map (λ f. (seen_token f.0, chars f.1.now)) result ≡ longer (head_at (D.meaning d.now) (chars text.now)) (word_at (D.meaning d.now) (chars text.now)) }
+    ensures { option_map (λ f. (seen_token f.0, chars f.1.now)) result
+        ≡ longer (head_at (D.meaning d.now) (chars text.now))
+        (word_at (D.meaning d.now) (chars text.now)) }
 {
     let rest = past_word(text);
     let run = front_of(text, rest);
@@ -30,7 +32,8 @@ pub(crate) fn word_at<'t, D: Dialect>(d: &D, text: &'t str) -> Option<(Seen<'t>,
 
 /// The head of a name, where an open bracket stands in what follows it, blanks aside; and the rest.
 fn head_before<'t, D: Dialect>(d: &D, name: &'t str, after: &'t str) -> Option<(Seen<'t>, &'t str)>
-    ensures { option_map (λ f. (seen_token f.0, chars f.1.now)) result ≡ head_before (D.meaning d.now) (chars name.now) (past_run is_blank (chars after.now)) }
+    ensures { option_map (λ f. (seen_token f.0, chars f.1.now)) result
+        ≡ head_before (D.meaning d.now) (chars name.now) (past_run is_blank (chars after.now)) }
 {
     match first_char(past_blanks(after)) {
         Some(('(', rest)) => match head(d, name) {
@@ -43,7 +46,8 @@ fn head_before<'t, D: Dialect>(d: &D, name: &'t str, after: &'t str) -> Option<(
 
 /// What a name that is called is: a function, or a name that a variable may have.
 fn head<'t, D: Dialect>(d: &D, name: &'t str) -> Option<Seen<'t>>
-    ensures { option_map seen_token result ≡ head_token (chars name.now) ((D.meaning d.now).find kinds.Function (chars name.now)) }
+    ensures { option_map seen_token result ≡ head_token (chars name.now)
+        ((D.meaning d.now).find kinds.Function (chars name.now)) }
 {
     match d.find(WordKind::Function, name) {
         Some(number) => Some(Seen::FunHead(number)),
@@ -59,7 +63,8 @@ fn head<'t, D: Dialect>(d: &D, name: &'t str) -> Option<Seen<'t>>
 
 /// What a whole run is: a boolean, or a word that a variable may have.
 fn whole_word<'t, D: Dialect>(d: &D, run: &'t str) -> Option<Seen<'t>>
-    ensures { option_map seen_token result ≡ boolean_or_word (D.meaning d.now) (chars run.now) ((D.meaning d.now).find kinds.Boolean (chars run.now)) }
+    ensures { option_map seen_token result ≡ boolean_or_word (D.meaning d.now) (chars run.now)
+        ((D.meaning d.now).find kinds.Boolean (chars run.now)) }
 {
     match d.find(WordKind::Boolean, run) {
         Some(0) => Some(Seen::Boolean(true)),

@@ -14,7 +14,8 @@ fn read_negative<S: TokenSource>(
     source: &mut S,
     sign: BinarySign,
 ) -> Result<Option<Constant>, OutOfMemory>
-    ensures { IfOk result (λ r. option_map (λ c. (c, S.left source.new)) r ≡ constant (tokens.Operator sign ∷ S.left source.old)) }
+    ensures { IfOk result (λ r. option_map (λ c. (c, S.left source.new)) r
+        ≡ constant (tokens.Operator sign ∷ S.left source.old)) }
 {
     if sign != BinarySign::Minus {
         return Ok(None);
@@ -30,7 +31,8 @@ fn read_negative<S: TokenSource>(
 
 /// An amount of an array, from 0 on.
 fn number(minus: bool, amount: Amount) -> Option<Constant>
-    ensures { (rest : List tokens.Token) → option_map (λ c. (c, rest)) result ≡ amount_of minus (tokens.Num amount ∷ rest) }
+    ensures { (rest : List tokens.Token) → option_map (λ c. (c, rest)) result
+        ≡ amount_of minus (tokens.Num amount ∷ rest) }
 {
     if amount.units() < 0 {
         return None;
@@ -43,7 +45,8 @@ fn read_constant<S: TokenSource>(
     alloc: Global,
     source: &mut S,
 ) -> Result<Option<Constant>, OutOfMemory>
-    ensures { IfOk result (λ r. option_map (λ c. (c, S.left source.new)) r ≡ constant (S.left source.old)) }
+    ensures { IfOk result (λ r. option_map (λ c. (c, S.left source.new)) r
+        ≡ constant (S.left source.old)) }
 {
     let Some(token) = source.next(alloc)? else {
         return Ok(None);
@@ -63,7 +66,8 @@ fn read_row<S: TokenSource>(
     alloc: Global,
     source: &mut S,
 ) -> Result<Option<Items<Constant>>, OutOfMemory>
-    ensures { IfOk result (λ r. option_map (λ cs. (cs, S.left source.new)) r ≡ row (S.left source.old)) }
+    ensures { IfOk result (λ r. option_map (λ cs. (cs, S.left source.new)) r
+        ≡ row (S.left source.old)) }
 {
     let mut constants = Vec::new(alloc);
     'items: loop {
@@ -83,7 +87,8 @@ fn read_rows<D: Dialect, S: TokenSource>(
     d: &D,
     source: &mut S,
 ) -> Result<Option<Items<Items<Constant>>>, OutOfMemory>
-    ensures { IfOk result (λ r. option_map (λ rows. (rows, S.left source.new)) r ≡ all_listed row (past_row_sign (D.meaning d.now)) (S.left source.old)) }
+    ensures { IfOk result (λ r. option_map (λ rows. (rows, S.left source.new)) r
+        ≡ all_listed row (past_row_sign (D.meaning d.now)) (S.left source.old)) }
 {
     let mut rows = Vec::new(alloc);
     'items: loop {
@@ -105,7 +110,8 @@ pub fn read_array<D: Dialect, S: TokenSource>(
     source: &mut S,
     most: usize,
 ) -> Result<Option<Measured>, OutOfMemory>
-    ensures { IfOk result (λ r. option_map (λ t. (t, S.left source.new)) r ≡ array (D.meaning d.now) most (S.left source.old)) }
+    ensures { IfOk result (λ r. option_map (λ t. (t, S.left source.new)) r
+        ≡ array (D.meaning d.now) most (S.left source.old)) }
 {
     let Some(rows) = read_rows(alloc, d, source)? else {
         return Ok(None);

@@ -35,7 +35,8 @@ fn part_of<S: TokenSource>(
     source: &mut S,
     token: Token,
 ) -> Result<Begun, OutOfMemory>
-    ensures { IfOk result (λ begun. IsBegun (token_of token ∷ S.left source.old) begun (S.left source.new)) }
+    ensures { IfOk result (λ begun. IsBegun (token_of token ∷ S.left source.old) begun
+        (S.left source.new)) }
 {
     match token {
         Token::Word(name) => {

@@ -76,7 +76,8 @@ pub fn is_called_name(name: &Text) -> bool
 /// The leaf that a token is, where it is what it may be and a tree may be so high.
 #[tactic(auto, unfolding(crate::specs::Turned::leaf))]
 pub fn read_leaf(alloc: Global, most: usize, token: Token) -> Result<Option<Measured>, OutOfMemory>
-    ensures { IfOk result (λ r. (rest : List tokens.Token) → option_map (λ t. (t, rest)) r ≡ leaf most (token_of token) rest) }
+    ensures { IfOk result (λ r. (rest : List tokens.Token) → option_map (λ t. (t, rest)) r
+        ≡ leaf most (token_of token) rest) }
 {
     match token {
         Token::Num(amount) => {
@@ -105,7 +106,8 @@ fn read_reference(
     most: usize,
     reference: RefToken,
 ) -> Result<Option<Measured>, OutOfMemory>
-    ensures { IfOk result (λ r. (rest : List tokens.Token) → option_map (λ t. (t, rest)) r ≡ reference_leaf most reference rest) }
+    ensures { IfOk result (λ r. (rest : List tokens.Token) → option_map (λ t. (t, rest)) r
+        ≡ reference_leaf most reference rest) }
 {
     if !is_written_sheet(&reference.sheet) || !is_place_within(reference.place) {
         return Ok(None);

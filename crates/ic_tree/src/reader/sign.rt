@@ -44,7 +44,8 @@ pub fn sign_before(token: &Token) -> Option<PrefixSign>
 /// Takes the closing bracket that stands next; false where none does.
 #[tactic(auto, using(crate::proofs::Signs::close_stands, crate::proofs::Signs::close_lacks))]
 pub fn take_close<S: TokenSource>(alloc: Global, source: &mut S) -> Result<bool, OutOfMemory>
-    ensures { IfOk result (λ taken. Passes (past_close (S.left source.old)) taken (S.left source.old) (S.left source.new)) }
+    ensures { IfOk result (λ taken. Passes (past_close (S.left source.old)) taken
+        (S.left source.old) (S.left source.new)) }
 {
     if source.ahead() != Ahead::Close {
         return Ok(false);
@@ -56,7 +57,8 @@ pub fn take_close<S: TokenSource>(alloc: Global, source: &mut S) -> Result<bool,
 /// Takes the separator of arguments that stands next; false where none does.
 #[tactic(auto, using(crate::proofs::Signs::separator_stands, crate::proofs::Signs::separator_lacks))]
 pub fn take_separator<S: TokenSource>(alloc: Global, source: &mut S) -> Result<bool, OutOfMemory>
-    ensures { IfOk result (λ taken. Passes (past_separator (S.left source.old)) taken (S.left source.old) (S.left source.new)) }
+    ensures { IfOk result (λ taken. Passes (past_separator (S.left source.old)) taken
+        (S.left source.old) (S.left source.new)) }
 {
     if source.ahead() != Ahead::Separator {
         return Ok(false);
@@ -68,7 +70,8 @@ pub fn take_separator<S: TokenSource>(alloc: Global, source: &mut S) -> Result<b
 /// Takes the closing brace that stands next; false where none does.
 #[tactic(auto, using(crate::proofs::Signs::brace_stands, crate::proofs::Signs::brace_lacks))]
 pub fn take_brace<S: TokenSource>(alloc: Global, source: &mut S) -> Result<bool, OutOfMemory>
-    ensures { IfOk result (λ taken. Passes (past_brace (S.left source.old)) taken (S.left source.old) (S.left source.new)) }
+    ensures { IfOk result (λ taken. Passes (past_brace (S.left source.old)) taken
+        (S.left source.old) (S.left source.new)) }
 {
     if source.ahead() != Ahead::CloseBrace {
         return Ok(false);
@@ -85,7 +88,8 @@ pub fn take_row_sign<D: Dialect, S: TokenSource>(
     d: &D,
     source: &mut S,
 ) -> Result<bool, OutOfMemory>
-    ensures { IfOk result (λ taken. Passes (past_row_sign (D.meaning d.now) (S.left source.old)) taken (S.left source.old) (S.left source.new)) }
+    ensures { IfOk result (λ taken. Passes (past_row_sign (D.meaning d.now) (S.left source.old))
+        taken (S.left source.old) (S.left source.new)) }
 {
     let sign = if d.list() == ',' {
         Ahead::Semicolon

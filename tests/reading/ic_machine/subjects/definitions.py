@@ -10,7 +10,7 @@ from ic_laws.name import agrees, is_identifier
 from ic_laws.notations import ENGLISH, english_function
 from ic_laws.parse import read_as
 from ic_laws.scan import first_is
-from ic_laws.scene import NameSpelling, key_of, same_scope
+from ic_laws.scene import DefinitionSpelling, key_of, same_scope
 from ..book import as_core, core_of, notations_in, scene_in, unless_refused
 from ..capture import captured_sites, has_sites
 from ..changed import changed_by, changed_with, with_definition, without_definition
@@ -40,30 +40,30 @@ ROWS = [
 def new_definition(book, name, scope, body):
     """The body is bound where the new definition is there too."""
     scene = scene_in(book)
-    with_name = scene._replace(names=scene.names + (NameSpelling(name, scope),))
+    with_name = scene._replace(names=scene.names + (DefinitionSpelling(name, scope),))
     return Definition(name, scope, body.has_equals, ("Tree", bound(english_function(notations_in(book)), with_name, scope, body.tree)))
 
 
-def with_new_name(book, name, scope, body):
+def with_new_definition(book, name, scope, body):
     if body is None:
         return book
     return changed_by(lambda b: with_definition(new_definition(book, name, scope, body), b), book)
 
 
-def new_name_step(name, index, body, book):
+def new_definition_step(name, index, body, book):
     n, core = notations_in(book), core_of(book)
     return as_core(core_step(n, core, ("NewDefinedName", name, index, body)),
-                   lambda: with_new_name(book, name, scope_or_none(core, index), body_of(n, core, body)))
+                   lambda: with_new_definition(book, name, scope_or_none(core, index), body_of(n, core, body)))
 
 
-def delete_name_step(name, index, book):
+def delete_definition_step(name, index, book):
     core = core_of(book)
     found = index_of_definition(core, name, scope_or_none(core, index))
     return as_core(core_step(notations_in(book), core, ("DeleteDefinedName", name, index)),
                    lambda: changed_by(lambda b: without_definition(found, b), book))
 
 
-def valid_name_step(name, index, body, book):
+def valid_definition_step(name, index, body, book):
     return as_core(core_step(notations_in(book), core_of(book), ("IsValidDefinedName", name, index, body)), book)
 
 
@@ -88,8 +88,8 @@ class Updating:
         self.n, self.core = n, core
         self.old_scope = scope_or_none(core, update.scope)
         self.new_scope_id = scope_or_none(core, update.new_scope)
-        self.old_key = key_of(NameSpelling(update.name, self.old_scope))
-        self.new_key = key_of(NameSpelling(update.new_name, self.new_scope_id))
+        self.old_key = key_of(DefinitionSpelling(update.name, self.old_scope))
+        self.new_key = key_of(DefinitionSpelling(update.new_name, self.new_scope_id))
         self.keys_of_update = changed_key(self.old_key, self.new_key)
         self.updated_index = index_of_definition(core, update.name, self.old_scope)
         self.update_body = update_body(n, core, update.body)
@@ -141,8 +141,8 @@ def would_capture_step(update, book):
     return unless_refused(u.question_causes(), book, lambda: bool_field(u.captures()))
 
 
-STEPS = {"NewDefinedName": new_name_step, "DeleteDefinedName": delete_name_step, "UpdateDefinedName": update_name_step,
-         "WouldCaptureName": would_capture_step, "IsValidDefinedName": valid_name_step, "GetDefinedNameList": list_step}
+STEPS = {"NewDefinedName": new_definition_step, "DeleteDefinedName": delete_definition_step, "UpdateDefinedName": update_name_step,
+         "WouldCaptureName": would_capture_step, "IsValidDefinedName": valid_definition_step, "GetDefinedNameList": list_step}
 
 
 def step(book, command):

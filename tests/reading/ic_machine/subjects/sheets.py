@@ -5,7 +5,7 @@ from ic_laws.core_step import core_step, index_of_id, index_of_name, inserted
 from ic_laws.mentions import is_of_sheet, some_mention
 from ic_laws.name import agrees, is_sheet_name
 from ic_laws.notations import english_function
-from ic_laws.scene import name_spelling, same_scope, sheet_spelling
+from ic_laws.scene import definition_spelling, same_scope, sheet_spelling
 from ..book import as_core, core_of, empty_sheet, found_or, notations_in, scene_in, unless_refused
 from ..changed import changed_by, with_moved_sheet, with_removed_sheet, with_renamed_sheet
 from ..styling import color_text
@@ -134,7 +134,7 @@ def copy_spelling(after, source, copy, id):
 def copied_formula(n, after, source, copy, formula):
     if formula[0] == "Raw":
         return formula
-    spelled = spelled_with(lambda id: copy_spelling(after, source, copy, id), lambda key: name_spelling(after, key), formula[1])
+    spelled = spelled_with(lambda id: copy_spelling(after, source, copy, id), lambda key: definition_spelling(after, key), formula[1])
     return "Tree", bound(english_function(n), after, copy, spelled)
 
 

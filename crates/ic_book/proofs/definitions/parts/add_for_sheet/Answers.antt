@@ -1,7 +1,7 @@
 use Rattle.std.proofs.Common.{List, Option, Some, ap, ap₂, map, refl, subst, ℕ, ◌∙◌, ◌≡◌}
-use Rattle.ic_laws.specs.Changes.{name_added}
+use Rattle.ic_laws.specs.Changes.{definition_added}
 use Rattle.ic_laws.specs.CoreBook.{spelling_of}
-use Rattle.ic_laws.specs.declared.scene.NameSpelling.{NameSpelling}
+use Rattle.ic_laws.specs.declared.scene.DefinitionSpelling.{DefinitionSpelling}
 use Rattle.ic_laws.specs.declared.tree.NameKey.{NameKey}
 use Rattle.ic_pool.specs.Mentions.{formula_after}
 use Rattle.ic_sheets.proofs.RewritingLemmas.{sheet_there}
@@ -17,17 +17,17 @@ returns-clause-sheets c =
     let found = sheet_there c.args.contents.now.sheets c.args.index c.requires.within in
     let added : c.new-added.result ≡ spelling_of c.args.definition =
     c.new-added.ensures
-    ∙ ap₂ (λ (name : List ℕ) (scope : Option ℕ). let spelling : NameSpelling = record { name = name; scope = scope } in spelling) c.name.ensures (ap (λ (key : NameKey). key.scope) c.key.ensures) in
+    ∙ ap₂ (λ (name : List ℕ) (scope : Option ℕ). let spelling : DefinitionSpelling = record { name = name; scope = scope } in spelling) c.name.ensures (ap (λ (key : NameKey). key.scope) c.key.ensures) in
     ap sheets_of c.apply_at.ensures
     ∙ local_made (spelling_of c.args.definition) found.0.id (c.requires.scope found.0 found.1) c.in_ok-formulas.formulas c.args.contents.now.sheets c.args.index found.0 found.1 refl c.requires.ids
-    ((c.in_ok-formulas.ensures found.0 found.1).made ∙ ap (λ (d : NameSpelling). map (formula_after (name_added d) (Some found.0.id)) found.0.pool.formulas) added)
+    ((c.in_ok-formulas.ensures found.0 found.1).made ∙ ap (λ (d : DefinitionSpelling). map (formula_after (definition_added d) (Some found.0.id)) found.0.pool.formulas) added)
 
 pub returns-clause-looks_up : goal.returns-clause-looks_up
 returns-clause-looks_up c =
     let found = sheet_there c.args.contents.now.sheets c.args.index c.requires.within in
     let added : c.new-added.result ≡ spelling_of c.args.definition =
     c.new-added.ensures
-    ∙ ap₂ (λ (name : List ℕ) (scope : Option ℕ). let spelling : NameSpelling = record { name = name; scope = scope } in spelling) c.name.ensures (ap (λ (key : NameKey). key.scope) c.key.ensures) in
+    ∙ ap₂ (λ (name : List ℕ) (scope : Option ℕ). let spelling : DefinitionSpelling = record { name = name; scope = scope } in spelling) c.name.ensures (ap (λ (key : NameKey). key.scope) c.key.ensures) in
     ap look_ups c.apply_at.ensures
     ∙ local_looks_up (spelling_of c.args.definition) found.0.id (c.requires.scope found.0 found.1) c.in_ok-formulas.formulas c.args.contents.now.sheets c.args.index found.0 found.1 refl c.requires.ids
-    (subst (λ (d : NameSpelling). IsPrepared (name_added d) c.in_ok-formulas.formulas found.0) added (c.in_ok-formulas.ensures found.0 found.1))
+    (subst (λ (d : DefinitionSpelling). IsPrepared (definition_added d) c.in_ok-formulas.formulas found.0) added (c.in_ok-formulas.ensures found.0 found.1))

@@ -3,7 +3,7 @@ use Rattle.std.proofs.lemmas.Result.{IfOk-weaker}
 use Rattle.ic_laws.proofs.binding.FoldedTexts.{folding_spelled}
 use Rattle.ic_laws.specs.Binding.{bound}
 use Rattle.ic_laws.specs.CoreBook.{Definition}
-use Rattle.ic_laws.specs.CoreStep.{scene_with_name}
+use Rattle.ic_laws.specs.CoreStep.{scene_with_definition}
 use Rattle.ic_laws.specs.Notations.{english_function}
 use Rattle.ic_laws.specs.Tree.{Bound}
 use Rattle.ic_laws.specs.declared.tree.Formula.TheVariants as formulas
@@ -29,5 +29,5 @@ returns c =
     (ap (λ (b : BookScene). scene_with b.sheets.now b.definitions.now (chars c.new-scene.result.name.now) c.new-scene.result.key.now.scope) c.new-scene.ensures.book
     ∙ ap₂ (λ (t : List ℕ) (k : NameKey). scene_with c.scene.result.sheets.now c.scene.result.definitions.now (chars t) k.scope) c.new-scene.ensures.name c.new-scene.ensures.key
     ∙ scene_with_is c.scene.result.sheets.now c.scene.result.definitions.now (core_of c.args.self.now.book) name c.args.scope c.scene.ensures)
-    ∙ ap (λ (m : ModelState). bound (english_function (notations_in m.book)) (scene_with_name (core_of c.args.self.now.book) name c.args.scope) c.args.scope c.args.body.now.tree) c.self.view_is))
+    ∙ ap (λ (m : ModelState). bound (english_function (notations_in m.book)) (scene_with_definition (core_of c.args.self.now.book) name c.args.scope) c.args.scope c.args.body.now.tree) c.self.view_is))
     c.new.ensures
