@@ -8,7 +8,7 @@ use Rattle.ic_laws.proofs.core.Lists.{all_pushed, all_removed, all_updated}
 use Rattle.ic_laws.specs.Command.{AddSheet, Command, DeleteDefinedName, DeleteSheet, MoveSheet, NewDefinedName, RenameSheetByIndex, SetLanguage, SetLocale}
 use Rattle.ic_laws.specs.CoreBook.{CellPlace, CoreBook, Definition, greatest_id}
 use Rattle.ic_laws.specs.CoreStep as core_step
-use Rattle.ic_laws.specs.CoreStep.{add_sheet_refusal, delete_definition_refusal, delete_refusal, index_of_definition, move_refusal, new_definition, new_definition_refusal, rename_refusal, scope_or_none, updated_at}
+use Rattle.ic_laws.specs.CoreStep.{add_sheet_refusal, delete_definition_refusal, delete_refusal, index_of_definition, move_refusal, new_definition, new_definition_refusal, rename_refusal, scope_or_none}
 use Rattle.ic_laws.specs.FormulaReading.{Body, body_of}
 use Rattle.ic_laws.specs.Notations.{AreNotations, Notations}
 use Rattle.ic_laws.specs.Refusal.{InvalidLanguage, InvalidLocale, first_refusal}
@@ -23,7 +23,7 @@ use Rattle.ic_machine.proofs.SheetsStay.{all_moved}
 use Rattle.ic_machine.proofs.SubjectsStay.{notation_stays}
 use Rattle.ic_machine.proofs.ValidLemmas.{HoldsOf, holds_at, same_styles}
 use Rattle.ic_machine.specs.Book as machine
-use Rattle.ic_machine.specs.Book.{as_core, with_sheet}
+use Rattle.ic_machine.specs.Book.{as_core}
 use Rattle.ic_machine.specs.Changed as changed
 use Rattle.ic_machine.specs.Content.{content_of, formula_index}
 use Rattle.ic_machine.specs.Kept.{StaysValid}
@@ -39,7 +39,7 @@ use Rattle.ic_pool.specs.Pool.{IsPlaced}
 use Rattle.ic_sheets.proofs.PoolLemmas.{all_placed, has_placed}
 use Rattle.ic_sheets.specs.Sheet.{IsValidPool, Sheet, empty_grid, kept_pool, plain_tab}
 use Rattle.ic_tree.proofs.NotationLaws.{notations_are}
-use Rattle.ic_book.specs.Book.{Book, HasStrings, IsPlain, IsValidBook, core_of, notations_in, scene_in, whole_of, whole_sheet}
+use Rattle.ic_book.specs.Book.{Book, HasStrings, IsValidBook, core_of, notations_in, scene_in, whole_of, whole_sheet}
 use Rattle.ic_book.specs.Change.{book_changed_by, with_added_definition, with_added_sheet, with_kept_pools, with_language, with_locale, with_moved_sheet, with_removed_definition, with_removed_sheet, with_renamed_sheet}
 use Rattle.ic_book.specs.Written.{with_pool}
 use Rattle.ic_book.proofs.Accepted.{add_accepted, delete_accepted, delete_definition_accepted, language_accepted, locale_accepted, move_accepted, new_definition_accepted, rename_accepted}
@@ -53,12 +53,9 @@ module _ (P : Grid → Type 0) where
   grids_kept n before after [] h = tt
   grids_kept n before after (s ∷ sheets) h = (h.0, grids_kept n before after sheets h.1)
 
--- no cell, no string, nothing merged
+-- no cell, no string
 pub no_strings : (count : ℕ) → HasStrings count empty_grid
 no_strings count place cell e = let none : None ≡ Some cell = sym (finite.get-empty _ place) ∙ e in cc
-
-pub is_plain : IsPlain empty_grid
-is_plain = record { merges = refl; loose = λ place cell e. let none : None ≡ Some cell = sym (finite.get-empty _ place) ∙ e in cc }
 
 -- the pools of sheets, by those of their whole sheets
 module _ (n : Notations) (scene : Scene) (strings : List (List ℕ)) where
@@ -115,7 +112,6 @@ module _ (book : Book) (valid : IsValidBook book) where
       record {
         whole = subst valid_machine.IsValidBook (sym (whole_changed (with_added_sheet name) (with_new_sheet name) (whole_added name) book)) (added_whole name e);
         strings = all_pushed (λ (s : Sheet). HasStrings (length book.strings) s.grid) (map (kept_pool n (scene_in book) after) book.sheets) (record { id = greatest_id (core_of (with_kept_pools n (scene_in book) after book)) + 1; name = name; pool = []; grid = empty_grid; tab = plain_tab }) (grids_kept (HasStrings (length book.strings)) n (scene_in book) after book.sheets valid.strings) (no_strings (length book.strings));
-        plain = all_pushed (λ (s : Sheet). IsPlain s.grid) (map (kept_pool n (scene_in book) after) book.sheets) (record { id = greatest_id (core_of (with_kept_pools n (scene_in book) after book)) + 1; name = name; pool = []; grid = empty_grid; tab = plain_tab }) (grids_kept IsPlain n (scene_in book) after book.sheets valid.plain) is_plain;
       }
 
   renamed_whole : (index : ℕ) (name : List ℕ) → rename_refusal core index name ≡ None → valid_machine.IsValidBook (changed.changed_by (changed.with_renamed_sheet index name) whole)
@@ -128,7 +124,6 @@ module _ (book : Book) (valid : IsValidBook book) where
       record {
         whole = subst valid_machine.IsValidBook (sym (whole_changed (with_renamed_sheet index name) (changed.with_renamed_sheet index name) (whole_renamed index name) book)) (renamed_whole index name e);
         strings = all_updated (λ (s : Sheet). HasStrings (length book.strings) s.grid) (λ s. record s { name = name }) (λ s h. h) index (map (kept_pool n (scene_in book) after) book.sheets) (grids_kept (HasStrings (length book.strings)) n (scene_in book) after book.sheets valid.strings);
-        plain = all_updated (λ (s : Sheet). IsPlain s.grid) (λ s. record s { name = name }) (λ s h. h) index (map (kept_pool n (scene_in book) after) book.sheets) (grids_kept IsPlain n (scene_in book) after book.sheets valid.plain);
       }
 
   removed_whole : (index : ℕ) → delete_refusal core index ≡ None → valid_machine.IsValidBook (changed.changed_by (changed.with_removed_sheet index) whole)
@@ -141,7 +136,6 @@ module _ (book : Book) (valid : IsValidBook book) where
       record {
         whole = subst valid_machine.IsValidBook (sym (whole_changed (with_removed_sheet index) (changed.with_removed_sheet index) (whole_removed index) book)) (removed_whole index e);
         strings = all_removed (λ (s : Sheet). HasStrings (length book.strings) s.grid) (map (kept_pool n (scene_in book) after) book.sheets) index (grids_kept (HasStrings (length book.strings)) n (scene_in book) after book.sheets valid.strings);
-        plain = all_removed (λ (s : Sheet). IsPlain s.grid) (map (kept_pool n (scene_in book) after) book.sheets) index (grids_kept IsPlain n (scene_in book) after book.sheets valid.plain);
       }
 
   moved_whole : (from to : ℕ) → move_refusal core from to ≡ None → valid_machine.IsValidBook (changed.with_moved_sheet from to whole)
@@ -152,7 +146,6 @@ module _ (book : Book) (valid : IsValidBook book) where
   moved_valid from to e = record {
     whole = subst valid_machine.IsValidBook (sym (whole_moved from to book)) (moved_whole from to e);
     strings = all_moved (λ (s : Sheet). HasStrings (length book.strings) s.grid) from to book.sheets valid.strings;
-    plain = all_moved (λ (s : Sheet). IsPlain s.grid) from to book.sheets valid.plain;
   }
 
   -- definitions ----
@@ -177,7 +170,6 @@ module _ (book : Book) (valid : IsValidBook book) where
             ∙ ap (λ (c : CoreBook). changed.changed_by (changed.with_definition (new_definition n c name (scope_or_none core index) body)) whole) (sym (whole_core book))))
             (named_whole name index text body e typed);
         strings = grids_kept (HasStrings (length book.strings)) n (scene_in book) after book.sheets valid.strings;
-        plain = grids_kept IsPlain n (scene_in book) after book.sheets valid.plain;
       }
 
   unnamed_whole : (name : List ℕ) (index : Option ℕ) (at : ℕ) → delete_definition_refusal core name index ≡ None → index_of_definition core name (scope_or_none core index) ≡ Some at
@@ -194,7 +186,6 @@ module _ (book : Book) (valid : IsValidBook book) where
       record {
         whole = subst valid_machine.IsValidBook (sym (whole_changed (with_removed_definition (Some at)) (changed.without_definition (Some at)) (whole_undefined (Some at)) book)) (unnamed_whole name index at e found);
         strings = grids_kept (HasStrings (length book.strings)) n (scene_in book) after book.sheets valid.strings;
-        plain = grids_kept IsPlain n (scene_in book) after book.sheets valid.plain;
       }
 
   -- the notation ----
@@ -204,7 +195,6 @@ module _ (book : Book) (valid : IsValidBook book) where
   in_locale id e = record {
     whole = lifted_valid (SetLocale id) _ _ (locale_accepted n core id e) (notation_stays whole (notation.SetLocale id) valid.whole);
     strings = valid.strings;
-    plain = valid.plain;
   }
 
   pub in_language : (id : List ℕ) → first_refusal ((not (n.knows_language id), InvalidLanguage) ∷ []) ≡ None → IsValidBook (with_language id book)
@@ -212,7 +202,6 @@ module _ (book : Book) (valid : IsValidBook book) where
   in_language id e = record {
     whole = lifted_valid (SetLanguage id) _ _ (language_accepted n core id e) (notation_stays whole (notation.SetLanguage id) valid.whole);
     strings = valid.strings;
-    plain = valid.plain;
   }
 
   -- a formula that gets its place in a pool ----
@@ -256,5 +245,4 @@ module _ (book : Book) (valid : IsValidBook book) where
           (ap (λ (all : List machine.Sheet). let b : machine.Book = record whole { sheets = all } in b) (sym (updated_alike (whole_sheet book.strings) (λ s. record s { pool = pool }) (λ s. new) index book.sheets sheet at_index refl)))
           (same_styles whole valid.whole index old new there refl refl new_holds);
       strings = all_updated (λ (s : Sheet). HasStrings (length book.strings) s.grid) (λ s. record s { pool = pool }) (λ s h. h) index book.sheets valid.strings;
-      plain = all_updated (λ (s : Sheet). IsPlain s.grid) (λ s. record s { pool = pool }) (λ s h. h) index book.sheets valid.plain;
     }

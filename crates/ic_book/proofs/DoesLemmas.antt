@@ -44,6 +44,7 @@ told_whole errors.BadLine refusal h = ap (option_map OfCore) h
 told_whole errors.InvalidSheet refusal h = ap (option_map OfCore) h
 told_whole errors.InvalidRow refusal h = ap (option_map OfCore) h
 told_whole errors.InvalidColumn refusal h = ap (option_map OfCore) h
+told_whole errors.BadArea refusal h = absurd h
 told_whole errors.SheetIndexTooLarge refusal h = ap (option_map OfCore) h
 told_whole errors.TargetTooLarge refusal h = ap (option_map OfCore) h
 told_whole errors.InvalidSheetName refusal h = ap (option_map OfCore) h
@@ -64,9 +65,12 @@ told_whole errors.InvalidLanguage refusal h = ap (option_map OfCore) h
 told_whole errors.InvalidTimezone refusal h = ap (option_map OfCore) h
 told_whole errors.MergedPart refusal h = absurd h
 told_whole errors.ArrayPart refusal h = absurd h
+told_whole errors.ClearArray refusal h = absurd h
 told_whole errors.FrozenNegative refusal h = absurd h
 told_whole errors.TooManyRows refusal h = absurd h
 told_whole errors.TooManyColumns refusal h = absurd h
+told_whole errors.NoFormulaCell refusal h = absurd h
+told_whole (errors.SpillBlocked row column) refusal h = absurd h
 told_whole errors.OutOfMemory refusal h = ap (option_map OfCore) h
 
 -- A step of the core machine, seen as one of the whole, where nothing but this refuses it. ----

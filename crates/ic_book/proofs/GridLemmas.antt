@@ -18,19 +18,20 @@ use Rattle.ic_cells.specs.declared.style.Color.TheVariants as colors
 use Rattle.ic_cells.specs.declared.style.Style.{Style}
 use Rattle.ic_cells.specs.Cell.{style_of}
 use Rattle.ic_grid.proofs.WriteLemmas.{after_release, released_at}
-use Rattle.ic_grid.specs.Arrays.{anchor_at, array_from, array_of, is_fixed, is_fixed_at}
+use Rattle.ic_grid.specs.Arrays.{anchor_at, is_fixed_at}
 use Rattle.ic_grid.specs.Block.{Place, same_place}
 use Rattle.ic_grid.specs.Calls.{refused_by}
 use Rattle.ic_grid.specs.Contents.{Contents}
 use Rattle.ic_grid.specs.Merges.{is_covered}
 use Rattle.ic_grid.specs.Prepare.{prepared, released_if, unspilled, written}
-use Rattle.ic_grid.specs.Shape.{celled, is_anchor, is_cse, is_loose, is_spill_of, reset, shape_of}
+use Rattle.ic_grid.specs.Shape.{celled, is_anchor, is_spill_of, reset, shape_of}
 use Rattle.ic_grid.specs.Style as grid_style
-use Rattle.ic_grid.specs.Whole.{IsGrid}
+use Rattle.ic_grid.specs.Conditions.{IsStyleNumber}
+use Rattle.ic_grid.specs.Whole.{IsGrid, IsStyled}
 use Rattle.ic_grid.specs.declared.error.GridError.TheVariants as grid_errors
 use Rattle.ic_grid.specs.declared.grid.Grid.{Grid}
 use Rattle.ic_input.specs.Code.{is_date_code}
-use Rattle.ic_machine.proofs.AlikeGrid.{arrays_held, inside_held, merges_held, style_at-seen}
+use Rattle.ic_machine.proofs.AlikeGrid.{arrays_held, get-seen, inside_held, merges_held, style_at-seen}
 use Rattle.ic_machine.proofs.AlikeLemmas.{cells_are_contents}
 use Rattle.ic_machine.proofs.ValidLemmas.{HoldsOf, holds_at}
 use Rattle.ic_machine.proofs.WritingSteps.{number_below}
@@ -38,12 +39,12 @@ use Rattle.ic_machine.specs.Book as machine
 use Rattle.ic_machine.specs.Content.{content_of, held}
 use Rattle.ic_machine.specs.Refusal.{ArrayPart, InvalidColumn, InvalidRow, MergedPart, Refusal, first_refusal}
 use Rattle.ic_machine.specs.Styling.{Numbered, numbered, restyled}
+use Rattle.ic_machine.specs.Valid as valid_machine
 use Rattle.ic_machine.specs.subjects.Writing.{coded, unquoted}
 use Rattle.ic_sheets.specs.Sheet.{Sheet, TakesCell, formula_cell, with_cell_in}
 use Rattle.ic_sheets.specs.declared.sheet.FormulaKind.{FormulaKind}
 use Rattle.ic_sheets.specs.declared.sheet.FormulaKind.TheVariants as kinds
-use Rattle.ic_sheets.proofs.CellLemmas.{formula_loose}
-use Rattle.ic_book.specs.Book.{Book, HasString, HasStrings, IsPlain, IsValidBook, notations_in, whole_of, whole_sheet}
+use Rattle.ic_book.specs.Book.{Book, HasString, HasStrings, IsValidBook, notations_in, whole_of, whole_sheet}
 use Rattle.ic_book.specs.Refused.{TellsOnly, refusal_of}
 use Rattle.ic_book.specs.Values.{keeps_code, value_causes}
 use Rattle.ic_book.specs.Written.{cell_causes}
@@ -82,7 +83,7 @@ module _ (Q : Cell → Type 0) (empties : (s : ℕ) → Q (cells.EmptyCell s)) (
         at true f = let same : x ≡ y = cc in subst Q same h
         at false f = if_released (anchor_at celled m p) q y f
 
--- shared strings, and plain grids ----
+-- shared strings ----
 
 strings_reset : (count : ℕ) (x : Cell) → HasString count x → HasString count (reset celled x)
 strings_reset count (cells.EmptyCell s) h = tt
@@ -104,50 +105,10 @@ strings_with count place cell is grid h = written_so (HasString count) (λ s. tt
 pub strings_written : (count : ℕ) (place : CellPlace) (kind : FormulaKind) (at style : ℕ) (grid : Grid) → HasStrings count grid → HasStrings count (with_cell_in place (formula_cell kind at style) grid)
 strings_written count place kind at style = strings_with count place (formula_cell kind at style) (formula_string count kind at style)
 
-abbrev IsLooseCell : Cell → Type 0
-IsLooseCell x = is_loose (shape_of x) ≡ true
-
-loose_reset : (x : Cell) → IsLooseCell x → IsLooseCell (reset celled x)
-loose_reset (cells.EmptyCell s) h = refl
-loose_reset (cells.BooleanCell v s) h = refl
-loose_reset (cells.NumberCell v s) h = refl
-loose_reset (cells.ErrorCell e s) h = refl
-loose_reset (cells.SharedString i s) h = refl
-loose_reset (cells.CellFormula f s v) h = refl
-loose_reset (cells.ArrayFormula f s r kind v) h = refl
-loose_reset (cells.SpillCell s a v) h = h
-
-pub plain_with : (place : CellPlace) (cell : Cell) → is_loose (shape_of cell) ≡ true → (grid : Grid) → IsPlain grid → IsPlain (with_cell_in place cell grid)
-plain_with place cell loose grid h = record { merges = h.merges; loose = written_so IsLooseCell (λ s. refl) loose_reset grid.cells h.loose place cell loose }
-
-pub plain_written : (place : CellPlace) (kind : FormulaKind) (at style : ℕ) (grid : Grid) → IsPlain grid → IsPlain (with_cell_in place (formula_cell kind at style) grid)
-plain_written place kind at style = plain_with place (formula_cell kind at style) (formula_loose kind at style)
-
--- a plain grid has no array whose area is fixed
+-- nothing holds beside what doesn't
 no_and : (b : Bool) → (b && false) ≡ false
 no_and true = refl
 no_and false = refl
-
-single_free : (a : Place) (x : Cell) → IsLooseCell x → is_fixed (array_from a (shape_of x)) ≡ false
-single_free a (cells.EmptyCell s) h = refl
-single_free a (cells.BooleanCell v s) h = refl
-single_free a (cells.NumberCell v s) h = refl
-single_free a (cells.ErrorCell e s) h = refl
-single_free a (cells.SharedString i s) h = refl
-single_free a (cells.CellFormula f s v) h = refl
-single_free a (cells.ArrayFormula f s r kind v) h = ap (λ t. is_cse kind && not t) h ∙ no_and (is_cse kind)
-single_free a (cells.SpillCell s b v) h = refl
-
-pub none_fixed : (grid : Grid) → IsPlain grid → (p : CellPlace) → is_fixed_at celled grid.cells p ≡ false
-none_fixed grid h p = at_anchor (anchor_at celled grid.cells p)
-  where
-    at_cell : (a : Place) (o : Option Cell) → ((x : Cell) → o ≡ Some x → IsLooseCell x) → is_fixed (option_and_then (λ x. array_from a (shape_of x)) o) ≡ false
-    at_cell a None loose = refl
-    at_cell a (Some x) loose = single_free a x (loose x refl)
-
-    at_anchor : (o : Option Place) → is_fixed (option_and_then (array_of celled grid.cells) o) ≡ false
-    at_anchor None = refl
-    at_anchor (Some a) = at_cell a (finite.get grid.cells a) (h.loose a)
 
 -- A sheet of a valid book. ----
 
@@ -161,6 +122,20 @@ module _ (book : Book) (valid : IsValidBook book) (index : ℕ) (s : Sheet) (at 
     arrays = arrays_held (content_of book.strings) celled held (cells_are_contents book.strings) s.grid.cells its_holds.arrays;
     merges = merges_held (content_of book.strings) celled held (cells_are_contents book.strings) s.grid.cells s.grid.merged_cells its_holds.merges;
   }
+
+  -- each style that it names is one of the book's
+  pub its_styles : IsStyled book.styles s.grid
+  its_styles = record {
+    contents = λ p x e.
+        subst (λ k. k < length book.styles) ((cells_are_contents book.strings).style x)
+        (its_holds.styles.contents p (content_of book.strings x) (get-seen (content_of book.strings) s.grid.cells p ∙ ap (option_map (content_of book.strings)) e));
+    rows = λ row props e. is_number (length book.styles) props.style (its_holds.styles.rows row props e);
+    columns = λ column props e. is_number (length book.styles) props.style (its_holds.styles.columns column props e);
+  }
+    where
+      is_number : (count : ℕ) (o : Option ℕ) → valid_machine.IsStyleNumber count o → IsStyleNumber count o
+      is_number count None h = tt
+      is_number count (Some n) h = h
 
   -- the style of each place is one of the book's
   pub style_below : (place : CellPlace) → grid_style.style_at celled s.grid.cells s.grid.rows s.grid.columns place < length book.styles

@@ -1,5 +1,5 @@
 -- What a change of a sheet's rows and columns does to the model.
-use Rattle.std.proofs.Common.{◌≡◌, ℕ, zero, suc, List, [], ◌∷◌, Bool, true, length, map, Some, None, Result, Ok, Err, refl, ap, ap₂, sym, subst, ◌∙◌, arith}
+use Rattle.std.proofs.Common.{◌≡◌, ℕ, zero, suc, List, [], ◌∷◌, Bool, length, map, Some, None, Result, Ok, Err, refl, ap, ap₂, sym, subst, ◌∙◌, arith}
 use Rattle.std.specs.FinMap as finite
 use Rattle.std.specs.List.{slice_get}
 use Rattle.ic_laws.proofs.core.Lists.{all_updated, updated_seen}
@@ -8,7 +8,6 @@ use Rattle.ic_laws.specs.CoreStep.{updated_at}
 use Rattle.ic_cells.specs.declared.cell.Cell.{Cell}
 use Rattle.ic_cells.specs.declared.layout.Merge.{Merge}
 use Rattle.ic_grid.specs.Contents.{Contents}
-use Rattle.ic_grid.specs.Shape.{is_loose, shape_of}
 use Rattle.ic_grid.specs.declared.grid.Grid.{Grid}
 use Rattle.ic_machine.specs.Book as machine
 use Rattle.ic_machine.specs.Book.{Stepped, on_grid, on_sheet, put_in, with_sheet}
@@ -19,11 +18,11 @@ use Rattle.ic_machine.specs.Reply.{Field}
 use Rattle.ic_machine.specs.Valid as valid_machine
 use Rattle.ic_sheets.specs.Sheet.{Sheet, sheet_of}
 use Rattle.ic_sheets.specs.declared.sheet.Sheet.{Sheet as HeldSheet}
-use Rattle.ic_book.specs.Book.{Book, HasString, HasStrings, IsPlain, IsValidBook, ModelState, notations_in, whole_grid}
+use Rattle.ic_book.specs.Book.{Book, HasString, HasStrings, IsValidBook, ModelState, notations_in, whole_grid}
 use Rattle.ic_book.specs.declared.model.Model.TheInside.{Inside}
 use Rattle.ic_book.specs.Inside.{IsHeld, held_state, with_sheets}
 use Rattle.ic_book.specs.Does.{DoesGrid, DoesStep, PartMade, Refused, wants}
-use Rattle.ic_book.specs.Parts.{IsLaidOut, StaysLaidOut}
+use Rattle.ic_book.specs.Parts.{IsLaidOut, StaysHeld, StaysLaidOut, with_grid}
 use Rattle.ic_book.specs.Refused.{refusal_of}
 use Rattle.ic_book.specs.Whole.{whole_of, whole_sheet}
 use Rattle.ic_book.specs.declared.error.BookError.{BookError}
@@ -53,9 +52,6 @@ same_laid_out before after same = subst (StaysLaidOut before) (sym same) (record
 
 -- a book with another grid for the sheet at an index ----
 
-abbrev pub with_grid : ℕ → Grid → Book → Book
-with_grid index grid book = record book { sheets = updated_at (λ s. record s { grid = grid }) index book.sheets }
-
 module _ (index : ℕ) (grid : Grid) (book : Book) (valid : IsValidBook book) (sheet : Sheet) (at : slice_get book.sheets index ≡ Some sheet) where
   abbrev old_sheet : machine.Sheet
   old_sheet = whole_sheet book.strings sheet
@@ -66,7 +62,7 @@ module _ (index : ℕ) (grid : Grid) (book : Book) (valid : IsValidBook book) (s
   its_holds : HoldsOf (notations_in book) (machine.scene_in (whole_of book)) (length book.styles) old_sheet
   its_holds = old_holds index sheet.tab book valid sheet at
 
-  whole_with_grid : whole_of (with_grid index grid book) ≡ with_sheet (whole_of book) index (sheet_with (whole_grid book.strings grid))
+  pub whole_with_grid : whole_of (with_grid index grid book) ≡ with_sheet (whole_of book) index (sheet_with (whole_grid book.strings grid))
   whole_with_grid =
       ap (λ (sheets : List machine.Sheet). let b : machine.Book = record (whole_of book) { sheets = sheets } in b)
       (updated_alike (whole_sheet book.strings) (λ s. record s { grid = grid }) (λ s. sheet_with (whole_grid book.strings grid)) index book.sheets sheet at refl)
@@ -97,22 +93,20 @@ module _ (index : ℕ) (grid : Grid) (book : Book) (valid : IsValidBook book) (s
         subst (λ (cells : Contents Cell). (place : CellPlace) (cell : Cell) → finite.get cells place ≡ Some cell → HasString (length book.strings) cell) (sym stays.cells)
         (one_of_all (λ (s : Sheet). HasStrings (length book.strings) s.grid) index book.sheets sheet at valid.strings)
 
-    its_plain : IsPlain grid
-    its_plain =
-        let plain : IsPlain sheet.grid = one_of_all (λ (s : Sheet). IsPlain s.grid) index book.sheets sheet at valid.plain in
-        record {
-          merges = stays.merges ∙ plain.merges;
-          loose = subst (λ (cells : Contents Cell). (place : CellPlace) (cell : Cell) → finite.get cells place ≡ Some cell → is_loose (shape_of cell) ≡ true) (sym stays.cells) plain.loose;
-        }
-
     pub valid_with_grid : IsValidBook (with_grid index grid book)
     valid_with_grid = record {
       whole =
           subst valid_machine.IsValidBook (sym whole_with_grid)
           (subst (λ (g : machine.Grid). valid_machine.IsValidBook (with_sheet (whole_of book) index (sheet_with g))) grid_laid laid_valid);
       strings = all_updated (λ (s : Sheet). HasStrings (length book.strings) s.grid) (λ s. record s { grid = grid }) (λ s h. its_strings) index book.sheets valid.strings;
-      plain = all_updated (λ (s : Sheet). IsPlain s.grid) (λ s. record s { grid = grid }) (λ s h. its_plain) index book.sheets valid.plain;
     }
+
+-- rows and columns may change, or nothing at all
+pub laid_held : (before after : Grid) → StaysLaidOut before after → StaysHeld before after
+laid_held before after stays = record { valid = λ book index sheet at its valid. valid_with_grid index after book valid sheet at (subst (λ (g : Grid). StaysLaidOut g after) (sym its) stays) }
+
+pub same_held : (before after : Grid) → after ≡ before → StaysHeld before after
+same_held before after same = laid_held before after (same_laid_out before after same)
 
 -- what is done to the grid of a sheet is done to the book ----
 
@@ -125,7 +119,7 @@ module _ (old : ModelState) (valid : IsValidBook old.book) (index : ℕ) {T : Ty
   unfolding on_grid
   grid_missing none = record { done = (missing old.book index (grid_on step) none, refl); before = valid; after = valid }
 
-  module _ (sheet : Sheet) (is : slice_get old.book.sheets index ≡ Some sheet) (after : Grid) (stays : StaysLaidOut sheet.grid after) (new : ModelState) (becomes : new ≡ record old { book = with_grid index after old.book }) where
+  module _ (sheet : Sheet) (is : slice_get old.book.sheets index ≡ Some sheet) (after : Grid) (stays : StaysHeld sheet.grid after) (new : ModelState) (becomes : new ≡ record old { book = with_grid index after old.book }) where
     abbrev whole : machine.Book
     whole = whole_of old.book
 
@@ -145,7 +139,7 @@ module _ (old : ModelState) (valid : IsValidBook old.book) (index : ℕ) {T : Ty
           its_step ∙ ap (λ made. put_in (with_sheet whole index) (put_in put made)) h
           ∙ ap (λ (b : machine.Book). let made : Stepped machine.Book = Ok (b, fields value) in made) (sym (ap (λ (m : ModelState). whole_of m.book) becomes ∙ whole_with_grid index after old.book valid sheet is));
       before = valid;
-      after = subst (λ (m : ModelState). IsValidBook m.book) (sym becomes) (valid_with_grid index after old.book valid sheet is stays);
+      after = subst (λ (m : ModelState). IsValidBook m.book) (sym becomes) (stays.valid old.book index sheet is refl valid);
     }
     done_so (Err e) h =
         let unchanged : with_grid index after old.book ≡ old.book =
@@ -167,7 +161,7 @@ module _ (old : ModelState) (valid : IsValidBook old.book) (index : ℕ) {T : Ty
   pub grid_reads : (sheet : Sheet) → slice_get old.book.sheets index ≡ Some sheet → (r : Result T BookError) → DoesGrid memory step fields r sheet.grid sheet.grid → DoesStep (wants memory) (on_grid (whole_of old.book) index step) fields r old old
   grid_reads sheet is r h =
       let same : updated_at (λ s. record s { grid = sheet.grid }) index old.book.sheets ≡ old.book.sheets = updated_same (λ s. record s { grid = sheet.grid }) index old.book.sheets sheet is refl in
-      grid_does sheet is sheet.grid (same_laid_out sheet.grid sheet.grid refl) old (ap (λ (sheets : List Sheet). let m : ModelState = record old { book = record old.book { sheets = sheets } } in m) (sym same)) r h
+      grid_does sheet is sheet.grid (same_held sheet.grid sheet.grid refl) old (ap (λ (sheets : List Sheet). let m : ModelState = record old { book = record old.book { sheets = sheets } } in m) (sym same)) r h
 
 -- the same of a model's sheets ----
 
@@ -190,5 +184,5 @@ module _ (inside : Inside) (h : IsHeld inside) (index : ℕ) where
         look_ups_same zero (s ∷ xs) = refl
         look_ups_same (suc i) (s ∷ xs) = ap (λ more. s.pool.is_whole ∷ more) (look_ups_same i xs)
 
-    pub grid_held : (s : HeldSheet) → slice_get ws index ≡ Some s → StaysLaidOut s.grid grid → IsHeld (with_sheets now inside)
-    grid_held s at stays = subst (λ (m : ModelState). IsValidBook m.book) (sym grid_state) (valid_with_grid index grid its_state.book h (sheet_of s) (in_state inside h index s at) stays)
+    pub grid_held : (s : HeldSheet) → slice_get ws index ≡ Some s → StaysHeld s.grid grid → IsHeld (with_sheets now inside)
+    grid_held s at stays = subst (λ (m : ModelState). IsValidBook m.book) (sym grid_state) (stays.valid its_state.book index (sheet_of s) (in_state inside h index s at) refl h)

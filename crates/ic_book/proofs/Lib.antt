@@ -1,6 +1,8 @@
 pub mod Accepted
 pub mod AcceptedWorkbook
 pub mod AddedNames
+pub mod ArrayLemmas
+pub mod ArrayWritten
 pub mod BookLemmas
 pub mod BookValid
 pub mod CellReads
@@ -9,7 +11,6 @@ pub mod CopyLemmas
 pub mod DoesLemmas
 pub mod ExtendLemmas
 pub mod FormatLemmas
-pub mod GoneNames
 pub mod GridLemmas
 pub mod GridPartLemmas
 pub mod HandedInLemmas

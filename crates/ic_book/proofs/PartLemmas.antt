@@ -16,7 +16,7 @@ use Rattle.ic_machine.specs.Valid.{IsFrozen}
 use Rattle.ic_sheets.specs.Sheet.{Sheet, sheet_of}
 use Rattle.ic_sheets.specs.declared.sheet.Sheet.{Sheet as HeldSheet}
 use Rattle.ic_sheets.specs.declared.tab.Tab.{Tab}
-use Rattle.ic_book.specs.Book.{Book, HasStrings, IsPlain, IsValidBook, ModelState, notations_in}
+use Rattle.ic_book.specs.Book.{Book, HasStrings, IsValidBook, ModelState, notations_in}
 use Rattle.ic_book.specs.declared.model.Model.TheInside.{Inside}
 use Rattle.ic_book.specs.Inside.{IsHeld, held_state, with_sheets}
 use Rattle.ic_book.specs.Does.{DoesStep, DoesTab, IsDone, PartMade, PartRefused, Refused, wants}
@@ -75,7 +75,6 @@ module _ (index : ℕ) (tab : Tab) (book : Book) (valid : IsValidBook book) (she
           layout = record { frozen = frozen; lines = old_holds.layout.lines };
         }));
     strings = all_updated (λ (s : Sheet). HasStrings (length book.strings) s.grid) (λ s. record s { tab = tab }) (λ s h. h) index book.sheets valid.strings;
-    plain = all_updated (λ (s : Sheet). IsPlain s.grid) (λ s. record s { tab = tab }) (λ s h. h) index book.sheets valid.plain;
   }
 
 -- a tab with other looks stays frozen

@@ -47,7 +47,6 @@ pub zone_valid : (book : Book) (id : List ℕ) → IsValidBook book → lists_zo
 zone_valid book id valid listed = record {
   whole = subst StaysValid (zone_step book id true listed) (notation_stays (whole_of book) (SetTimezone id) valid.whole);
   strings = valid.strings;
-  plain = valid.plain;
 }
 
 module _ (old : ModelState) (valid : IsValidBook old.book) (id : List ℕ) where
@@ -71,7 +70,6 @@ unfolding set_theme_step
 theme_valid book name valid = record {
   whole = tabs_are (whole_of book) (SetTheme name) valid.whole;
   strings = valid.strings;
-  plain = valid.plain;
 }
 
 pub puts_theme : (old : ModelState) → IsValidBook old.book → (name : List ℕ) (new : ModelState) → new ≡ record old { book = with_theme name old.book } → DoesStep Never (set_theme_step name (whole_of old.book)) no_fields (Ok tt) old new

@@ -188,7 +188,6 @@ module _ (inside : Inside) (h : IsHeld inside) where
     shared_held = record {
       whole = subst valid_machine.IsValidBook (sym shared_whole) h.whole;
       strings = all_longer inside.lists.strings strings more (map sheet_of ws) h.strings;
-      plain = h.plain;
     }
 
   -- What a model holds where a value was put into a cell. ----

@@ -14,7 +14,7 @@ use Rattle.ic_machine.specs.Book as machine
 use Rattle.ic_machine.specs.Book.{empty_sheet}
 use Rattle.ic_machine.specs.Valid as valid_machine
 use Rattle.ic_book.specs.Book.{IsValidBook, first_sheet_name_in, new_book, whole_of}
-use Rattle.ic_book.proofs.BookValid.{is_plain, no_strings}
+use Rattle.ic_book.proofs.BookValid.{no_strings}
 use Rattle.ic_book.proofs.WholeLemmas.{whole_empty}
 
 -- the name of a new book's sheet is a sheet name
@@ -78,7 +78,6 @@ new_book_valid name locale zone language created tables l g z well = record {
       (ap (λ (s : machine.Sheet). let b : machine.Book = record (whole_of (new_book name locale zone language created tables)) { sheets = s ∷ [] } in b) (sym (whole_empty [] 1 (first_sheet_name_in language))))
       (start_whole name locale zone language created tables l g z well);
   strings = (no_strings 0, tt);
-  plain = (is_plain, tt);
 }
 
 -- a number one above the greatest id in use is above each

@@ -20,7 +20,7 @@ use Rattle.ic_machine.specs.subjects.Styles as styles
 use Rattle.ic_machine.specs.subjects.Styles.{set_column_step, set_row_step, with_grid_style}
 use Rattle.ic_sheets.specs.Sheet.{Sheet, sheet_of}
 use Rattle.ic_sheets.specs.declared.sheet.Sheet.{Sheet as HeldSheet}
-use Rattle.ic_book.specs.Book.{Book, HasStrings, IsPlain, IsValidBook, ModelState, whole_grid}
+use Rattle.ic_book.specs.Book.{Book, HasStrings, IsValidBook, ModelState, whole_grid}
 use Rattle.ic_book.specs.Does.{DoesStep, IsDone, Refused, Wanted}
 use Rattle.ic_book.specs.Fields.{no_fields}
 use Rattle.ic_book.specs.Inside.{IsHeld, held_state, with_sheets, with_styles}
@@ -60,10 +60,6 @@ line_strings : (count : ℕ) (line : Line) (number : ℕ) (grid : Grid) → HasS
 line_strings count (lines.Row row) number grid h = h
 line_strings count (lines.Column column) number grid h = h
 
-line_plain : (line : Line) (number : ℕ) (grid : Grid) → IsPlain grid → IsPlain (with_line_style line number grid)
-line_plain (lines.Row row) number grid h = record { merges = h.merges; loose = h.loose }
-line_plain (lines.Column column) number grid h = record { merges = h.merges; loose = h.loose }
-
 line_stays : (b : machine.Book) (index : ℕ) (line : Line) (style : Style) → valid_machine.IsValidBook b → StaysValid (set_line_step index line style b)
 unfolding set_row_step set_column_step
 line_stays b index (lines.Row row) style valid = styles_stay b (styles.SetRowStyle index row style) valid
@@ -102,7 +98,6 @@ module _ (book : Book) (valid : IsValidBook book) (index : ℕ) (line : Line) (s
   styled_valid clear = record {
     whole = subst valid_machine.IsValidBook (sym whole_left) (subst StaysValid (line_step None clear) (line_stays (whole_of book) index line style valid.whole));
     strings = all_updated (λ (s : Sheet). HasStrings (length book.strings) s.grid) (λ s. record s { grid = with_line_style line number s.grid }) (λ s h. line_strings (length book.strings) line number s.grid h) index book.sheets valid.strings;
-    plain = all_updated (λ (s : Sheet). IsPlain s.grid) (λ s. record s { grid = with_line_style line number s.grid }) (λ s h. line_plain line number s.grid h) index book.sheets valid.plain;
   }
 
 -- of a model ----

@@ -26,7 +26,7 @@ use Rattle.ic_machine.specs.Valid.{HasFormula}
 use Rattle.ic_machine.specs.subjects.Writing.{Written, place_causes, with_content, with_written, write_causes, write_step}
 use Rattle.ic_sheets.specs.Sheet.{Sheet, TakesCell, sheet_of, with_cell_in}
 use Rattle.ic_sheets.specs.declared.sheet.Sheet.{Sheet as HeldSheet}
-use Rattle.ic_book.specs.Book.{Book, HasStrings, IsPlain, IsValidBook, ModelState}
+use Rattle.ic_book.specs.Book.{Book, HasStrings, IsValidBook, ModelState}
 use Rattle.ic_book.specs.Does.{DoesStep, IsDone, Refused, Wanted}
 use Rattle.ic_book.specs.Fields.{no_fields}
 use Rattle.ic_book.specs.Inside.{IsHeld, held_state, with_sheets, with_styles}
@@ -36,7 +36,7 @@ use Rattle.ic_book.specs.Whole.{whole_of, whole_sheet, whole_tab}
 use Rattle.ic_book.specs.declared.model.Model.TheInside.{Inside}
 use Rattle.ic_book.specs.declared.error.BookError.{BookError}
 use Rattle.ic_book.specs.declared.error.BookError.TheVariants as errors
-use Rattle.ic_book.proofs.GridLemmas.{its_grid, plain_with, strings_with, style_below, takes_cell}
+use Rattle.ic_book.proofs.GridLemmas.{its_grid, strings_with, style_below, takes_cell}
 use Rattle.ic_book.proofs.WholeLemmas.{index_seen}
 use Rattle.ic_book.proofs.WrittenLemmas.{updated_alike}
 
@@ -151,7 +151,6 @@ module _ (book : Book) (valid : IsValidBook book) (index : ℕ) (row column : �
       value_valid = record {
         whole = subst StaysValid step_leaves stays;
         strings = all_updated (λ (s : Sheet). HasStrings (length book.strings) s.grid) (λ s. record s { grid = with_cell_in its_place (cell styled.number) s.grid }) (λ s h. strings_with (length book.strings) its_place (cell styled.number) (is_value.string styled.number) s.grid h) index book.sheets valid.strings;
-        plain = all_updated (λ (s : Sheet). IsPlain s.grid) (λ s. record s { grid = with_cell_in its_place (cell styled.number) s.grid }) (λ s h. plain_with its_place (cell styled.number) (is_value.loose styled.number) s.grid h) index book.sheets valid.plain;
       }
 
 -- What the call does. ----

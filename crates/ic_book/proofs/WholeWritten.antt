@@ -40,13 +40,13 @@ use Rattle.ic_pool.specs.Code.{code}
 use Rattle.ic_pool.specs.Pool.{IsFirstAt, IsPlaced, first_place}
 use Rattle.ic_sheets.specs.Sheet.{Sheet, formula_cell, with_cell_in}
 use Rattle.ic_sheets.specs.declared.sheet.FormulaKind.TheVariants as kinds_of
-use Rattle.ic_book.specs.Book.{Book, HasStrings, IsPlain, IsValidBook, ModelState, notations_in, whole_of, whole_sheet, whole_tab}
+use Rattle.ic_book.specs.Book.{Book, HasStrings, IsValidBook, ModelState, notations_in, whole_of, whole_sheet, whole_tab}
 use Rattle.ic_book.specs.Does.{DoesStep, IsDone, Refused, WantedIn}
 use Rattle.ic_book.specs.Fields.{no_fields}
 use Rattle.ic_book.specs.Refused.{Tells, refusal_of}
 use Rattle.ic_book.specs.Written.{WritesFormula, kind_of, put_formula_step, value_causes, value_refusal, value_refusal_in, with_cell, written_formula, written_style}
 use Rattle.ic_book.specs.declared.error.BookError.{BookError}
-use Rattle.ic_book.proofs.GridLemmas.{plain_written, strings_written}
+use Rattle.ic_book.proofs.GridLemmas.{strings_written}
 use Rattle.ic_book.proofs.WholeLemmas.{whole_core}
 use Rattle.ic_book.proofs.WrittenLemmas.{updated_alike}
 
@@ -62,7 +62,7 @@ got_in_front [] ys at lt = absurd (omega arith)
 got_in_front (x ∷ xs) ys zero lt = refl
 got_in_front (x ∷ xs) ys (suc at) lt = got_in_front xs ys at (omega arith)
 
-placed_index : (formula : Formula) (at : ℕ) (before after : List Formula) → IsPlaced formula at before after → (index_in_pool formula before ≡ at) × (pool_with formula before ≡ after)
+pub placed_index : (formula : Formula) (at : ℕ) (before after : List Formula) → IsPlaced formula at before after → (index_in_pool formula before ≡ at) × (pool_with formula before ≡ after)
 placed_index formula at before after placed = at_first (first_place (code formula) before) refl
   where
     same_first : (k : ℕ) (xs : List Formula) → IsFirstAt formula k xs → IsFirstAt formula at xs → k ≡ at
@@ -244,7 +244,6 @@ module _ (book : Book) (valid : IsValidBook book) (index : ℕ) (place : CellPla
     written_valid = subst IsValidBook (sym w.is) (record {
       whole = subst StaysValid left_done served_stays;
       strings = all_updated (λ (s : Sheet). HasStrings (length book.strings) s.grid) put_in_sheet (λ s h. strings_written (length book.strings) place (kind_of kinds formula) w.at styled.number s.grid h) index book.sheets valid.strings;
-      plain = all_updated (λ (s : Sheet). IsPlain s.grid) put_in_sheet (λ s h. plain_written place (kind_of kinds formula) w.at styled.number s.grid h) index book.sheets valid.plain;
     })
 
 -- the call that writes

@@ -1,5 +1,5 @@
 -- The whole book, how the machine sees it, and what always holds of it.
-use Rattle.std.specs.Prelude.{◌≡◌, ◌<◌, ℕ, Bool, true, List, [], ◌∷◌, ◌++◌, length, map, not, Option, Some, is_none, codes, bytes_eq, if◌then◌else◌}
+use Rattle.std.specs.Prelude.{◌≡◌, ◌<◌, ℕ, Bool, List, [], ◌∷◌, ◌++◌, length, map, not, Option, Some, is_none, codes, bytes_eq, if◌then◌else◌}
 use Rattle.std.specs.FinMap as finite
 use Rattle.std.specs.List.{AllByRecursion}
 use Rattle.ic_tables.specs.Tables.{TableSet, language_of, locale_of, lists_zone}
@@ -13,7 +13,6 @@ use Rattle.ic_cells.specs.declared.cell.Cell.{Cell}
 use Rattle.ic_cells.specs.declared.cell.Cell.TheVariants as cells
 use Rattle.ic_cells.specs.declared.style.Style.{Style}
 use Rattle.ic_cells.specs.declared.workbook.Metadata.{Metadata}
-use Rattle.ic_grid.specs.Shape.{is_loose, shape_of}
 use Rattle.ic_grid.specs.declared.grid.Grid.{Grid}
 use Rattle.ic_machine.specs.Alike.{seen_by}
 use Rattle.ic_machine.specs.Book as machine
@@ -116,16 +115,10 @@ HasString count cell = Unit {0}
 abbrev pub HasStrings : ℕ → Grid → Type 0
 HasStrings count grid = (place : CellPlace) (cell : Cell) → finite.get grid.cells place ≡ Some cell → HasString count cell
 
--- Until commands bring them: a sheet has no merged cells, and no arrays of several cells.
-pub record IsPlain (grid : Grid) : Type 0 where
-  pub merges : grid.merged_cells ≡ []
-  pub loose : (place : CellPlace) (cell : Cell) → finite.get grid.cells place ≡ Some cell → is_loose (shape_of cell) ≡ true
-
--- what always holds of its whole book, that each shared string of a cell is one of the book's, and that its sheets are plain
+-- what always holds of its whole book, and that each shared string of a cell is one of the book's
 pub record IsValidBook (book : Book) : Type 0 where
   pub whole : valid.IsValidBook (whole_of book)
   pub strings : AllByRecursion (λ (sheet : Sheet). HasStrings (length book.strings) sheet.grid) book.sheets
-  pub plain : AllByRecursion (λ (sheet : Sheet). IsPlain sheet.grid) book.sheets
 
 -- what contracts see of the notation in force: the tables, and the ids of the locale and the language
 pub record NotationState : Type 0 where

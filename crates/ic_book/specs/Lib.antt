@@ -1,3 +1,4 @@
+pub mod Arrays
 pub mod Book
 pub mod Cells
 pub mod Change

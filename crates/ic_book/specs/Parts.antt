@@ -16,10 +16,11 @@ use Rattle.ic_grid.specs.declared.grid.Grid.{Grid}
 use Rattle.ic_machine.specs.Book.{on_grid}
 use Rattle.ic_machine.specs.Valid.{IsStyleNumber}
 use Rattle.ic_book.specs.Does.{DoesGrid}
-use Rattle.ic_sheets.specs.Sheet.{sheet_of}
+use Rattle.ic_sheets.specs.Sheet.{Sheet, sheet_of}
 use Rattle.ic_sheets.specs.declared.sheet.Sheet.{Sheet as HeldSheet}
 use Rattle.ic_sheets.specs.declared.tab.Tab.{Tab}
-use Rattle.ic_book.specs.Book.{ModelState}
+use Rattle.ic_laws.specs.CoreStep.{updated_at}
+use Rattle.ic_book.specs.Book.{Book, IsValidBook, ModelState}
 use Rattle.ic_book.specs.Does.{DoesStep, DoesTab, wants}
 use Rattle.ic_book.specs.Whole.{whole_of, whole_tab}
 use Rattle.ic_book.specs.declared.error.BookError.{BookError}
@@ -59,7 +60,15 @@ pub record StaysLaidOut (before after : Grid) : Type 0 where
   pub merges : after.merged_cells ≡ before.merged_cells
   pub lines : (count : ℕ) → IsLaidOut count before → IsLaidOut count after
 
--- The change of a sheet's rows and columns is one of the model: where there is the sheet, what the change does to them is
+-- a book with this grid for the sheet at an index, from 0
+abbrev pub with_grid : ℕ → Grid → Book → Book
+with_grid index grid book = record book { sheets = updated_at (λ s. record s { grid = grid }) index book.sheets }
+
+-- A change of what a sheet has leaves a valid book valid.
+pub record StaysHeld (before after : Grid) : Type 0 where
+  pub valid : (book : Book) (index : ℕ) (sheet : Sheet) → slice_get book.sheets index ≡ Some sheet → sheet.grid ≡ before → IsValidBook book → IsValidBook (with_grid index after book)
+
+-- The change of what a sheet has is one of the model: where there is the sheet, what the change does to them is
 -- done.
 pub record ChangesGrid {F T : Type 0} (calls : Once F (MutBor Grid × Unit {0}) (Result T BookError × (MutBor Grid × Unit {0}))) (change : F) (sheet : ℕ) (result : Result T BookError) (old new : ModelState) : Type 0 where
   pub does : (memory : Bool) (step : machine.Grid → Stepped machine.Grid) (fields : T → List Field)

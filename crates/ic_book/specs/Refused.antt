@@ -2,6 +2,8 @@
 use Rattle.std.specs.Prelude.{◌≡◌, ◌⊎◌, ℕ, List, Option, Some, None, Result, Ok, Err, codes}
 use Rattle.std.specs.Option.{option_map_or}
 use Rattle.ic_laws.specs.Refusal as core
+use Rattle.ic_grid.specs.declared.error.GridError.{GridError}
+use Rattle.ic_grid.specs.declared.error.GridError.TheVariants as grid
 use Rattle.ic_machine.specs.Refusal as machine
 use Rattle.ic_machine.specs.Refusal.{OfCore, Refusal, refusal_name}
 use Rattle.ic_book.specs.declared.error.BookError.{BookError}
@@ -13,6 +15,7 @@ refusal_of errors.BadLine = Some (OfCore core.BadLine)
 refusal_of errors.InvalidSheet = Some (OfCore core.InvalidSheet)
 refusal_of errors.InvalidRow = Some (OfCore core.InvalidRow)
 refusal_of errors.InvalidColumn = Some (OfCore core.InvalidColumn)
+refusal_of errors.BadArea = Some machine.BadArea
 refusal_of errors.SheetIndexTooLarge = Some (OfCore core.SheetIndexTooLarge)
 refusal_of errors.TargetTooLarge = Some (OfCore core.TargetTooLarge)
 refusal_of errors.InvalidSheetName = Some (OfCore core.InvalidSheetName)
@@ -33,10 +36,23 @@ refusal_of errors.InvalidLanguage = Some (OfCore core.InvalidLanguage)
 refusal_of errors.InvalidTimezone = Some (OfCore core.InvalidTimezone)
 refusal_of errors.MergedPart = Some machine.MergedPart
 refusal_of errors.ArrayPart = Some machine.ArrayPart
+refusal_of errors.ClearArray = Some machine.ClearArray
 refusal_of errors.FrozenNegative = Some machine.FrozenNegative
 refusal_of errors.TooManyRows = Some machine.TooManyRows
 refusal_of errors.TooManyColumns = Some machine.TooManyColumns
+refusal_of errors.NoFormulaCell = Some machine.NoFormulaCell
+refusal_of (errors.SpillBlocked row column) = Some (machine.SpillBlocked row column)
 refusal_of errors.OutOfMemory = None
+
+-- the error that tells why a call on the cells of a sheet was refused
+abbrev pub of_grid : GridError → BookError
+of_grid grid.MergedPart = errors.MergedPart
+of_grid grid.ArrayPart = errors.ArrayPart
+of_grid grid.ClearArray = errors.ClearArray
+of_grid grid.NoFormulaCell = errors.NoFormulaCell
+of_grid grid.BadArea = errors.BadArea
+of_grid (grid.SpillBlocked row column) = errors.SpillBlocked row column
+of_grid grid.OutOfMemory = errors.OutOfMemory
 
 -- the name of an error's variant: that of its refusal
 abbrev pub error_name : BookError → List ℕ

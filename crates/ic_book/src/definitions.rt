@@ -173,7 +173,7 @@ impl<'a> Model<'a> {
         let Some(index) = self.contents.definitions.index_of(name, id) else {
             return Err(BookError::NameNotFound);
         };
-        delete_at(self.alloc, &mut self.contents, index)?;
+        delete_at(&mut self.contents, index)?;
         Ok(())
     }
 

@@ -1,5 +1,6 @@
 ghost use Rattle.std.specs.Prelude.{◌≡◌};
 
+use ic_grid::GridError;
 use ic_laws::OutOfMemory;
 use std::alloc::AllocFailed;
 use thiserror::Error;
@@ -16,6 +17,9 @@ pub enum BookError {
     InvalidRow,
     /// The column isn't 1 to 16,384.
     InvalidColumn,
+    /// The width or the height of an area is below 1; the area passes the edge of the sheet, which the values of a dynamic
+    /// array may; the number of values isn't width times height; or a Cse array has another area.
+    BadArea,
     /// No sheet stands at the index of the sheet that is to be moved or deleted.
     SheetIndexTooLarge,
     /// No sheet stands at the index that a sheet is to be moved to.
@@ -52,16 +56,22 @@ pub enum BookError {
     InvalidLanguage,
     /// The tables list no such zone.
     InvalidTimezone,
-    /// Merged cells cover the cell, but it isn't their first.
+    /// Merged cells cover the cell, but it isn't their first; or an area that an array is written into meets some.
     MergedPart,
-    /// The cell belongs to a Cse array of more than one cell.
+    /// A cell that is to be written belongs to a Cse array of more than one cell.
     ArrayPart,
+    /// A Cse array of more than one cell lies partly in the area that is to be cleared.
+    ClearArray,
     /// The number of rows or columns that stay in sight is below 0.
     FrozenNegative,
     /// A sheet has no more rows than are to stay in sight.
     TooManyRows,
     /// A sheet has no more columns than are to stay in sight.
     TooManyColumns,
+    /// The cell has no formula; for a spill, no array formula.
+    NoFormulaCell,
+    /// This is the first cell of the area, by rows, that keeps the array from spilling. Rows and columns count from 1.
+    SpillBlocked { row: i32, column: i32 },
     /// Memory ran out.
     OutOfMemory,
 }
@@ -74,6 +84,7 @@ impl BookError {
             BookError::InvalidSheet => "Invalid sheet index",
             BookError::InvalidRow => "Invalid row",
             BookError::InvalidColumn => "Invalid column",
+            BookError::BadArea => "Invalid area",
             BookError::SheetIndexTooLarge => "Sheet index too large",
             BookError::TargetTooLarge => "Target sheet index too large",
             BookError::InvalidSheetName => "Invalid name for a sheet",
@@ -94,9 +105,12 @@ impl BookError {
             BookError::InvalidTimezone => "Invalid timezone",
             BookError::MergedPart => "Cannot edit a cell that is part of a merged cell",
             BookError::ArrayPart => "Cannot write in a cell that is part of an array formula",
+            BookError::ClearArray => "Cannot clear the range because it contains array formulas",
             BookError::FrozenNegative => "Frozen rows or columns cannot be negative",
             BookError::TooManyRows => "Too many rows",
             BookError::TooManyColumns => "Too many columns",
+            BookError::NoFormulaCell => "No formula cell",
+            BookError::SpillBlocked { .. } => "Cannot spill array result",
             BookError::OutOfMemory => "Out of memory",
         }
     }
@@ -114,6 +128,7 @@ impl BookError {
             BookError::InvalidSheet => "InvalidSheet",
             BookError::InvalidRow => "InvalidRow",
             BookError::InvalidColumn => "InvalidColumn",
+            BookError::BadArea => "BadArea",
             BookError::SheetIndexTooLarge => "SheetIndexTooLarge",
             BookError::TargetTooLarge => "TargetTooLarge",
             BookError::InvalidSheetName => "InvalidSheetName",
@@ -134,9 +149,12 @@ impl BookError {
             BookError::InvalidTimezone => "InvalidTimezone",
             BookError::MergedPart => "MergedPart",
             BookError::ArrayPart => "ArrayPart",
+            BookError::ClearArray => "ClearArray",
             BookError::FrozenNegative => "FrozenNegative",
             BookError::TooManyRows => "TooManyRows",
             BookError::TooManyColumns => "TooManyColumns",
+            BookError::NoFormulaCell => "NoFormulaCell",
+            BookError::SpillBlocked { .. } => "SpillBlocked",
             BookError::OutOfMemory => "OutOfMemory",
         }
     }
@@ -150,6 +168,25 @@ impl From<OutOfMemory> for BookError {
 
     fn from(_: OutOfMemory) -> BookError {
         BookError::OutOfMemory
+    }
+}
+
+impl From<GridError> for BookError {
+    ghost use Rattle.std.specs.Prelude.{◌≡◌};
+    ghost use Rattle.ic_book.specs.Refused.{of_grid};
+
+    ghost from_gives = { λ refused e. e ≡ of_grid refused };
+
+    fn from(refused: GridError) -> BookError {
+        match refused {
+            GridError::MergedPart => BookError::MergedPart,
+            GridError::ArrayPart => BookError::ArrayPart,
+            GridError::ClearArray => BookError::ClearArray,
+            GridError::NoFormulaCell => BookError::NoFormulaCell,
+            GridError::BadArea => BookError::BadArea,
+            GridError::SpillBlocked { row, column } => BookError::SpillBlocked { row, column },
+            GridError::OutOfMemory => BookError::OutOfMemory,
+        }
     }
 }
 

@@ -209,7 +209,7 @@ impl<'a> Model<'a> {
     }
 
     /// The formula of a text in a cell of the sheet with this id.
-    fn formula_of_text(
+    pub(crate) fn formula_of_text(
         &self,
         id: u32,
         row: i32,

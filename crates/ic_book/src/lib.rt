@@ -9,6 +9,8 @@
 #![tactic(auto)]
 
 mod about;
+mod arrays;
+mod blocks;
 mod cells;
 mod content;
 mod contents;

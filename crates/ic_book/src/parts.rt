@@ -2,8 +2,9 @@
 ghost use Rattle.std.specs.Prelude.{◌≡◌, Result, option_map};
 ghost use Rattle.std.specs.Fn.{FnOnceReturnsAtMut, FnOnceTakesAt, FnOnceTakesAtMut};
 ghost use Rattle.std.specs.List.{slice_get};
-ghost use Rattle.ic_book.specs.Parts.{ChangesGrid, ChangesTab, FindsSheet, ReadsGrid, ReadsTab, StaysFrozen, StaysLaidOut};
+ghost use Rattle.ic_book.specs.Parts.{ChangesGrid, ChangesTab, FindsSheet, ReadsGrid, ReadsTab, StaysFrozen, StaysHeld, StaysLaidOut};
 ghost use Rattle.ic_book.specs.declared.error.BookError.{BookError};
+ghost use Rattle.ic_grid.specs.Whole.{IsGrid};
 ghost use Rattle.ic_grid.specs.declared.grid.Grid.{Grid};
 ghost use Rattle.ic_sheets.specs.declared.tab.Tab.{Tab};
 
@@ -64,6 +65,25 @@ impl<'a> Model<'a> {
         requires callable { (grid : Grid) → FnOnceTakesAtMut F.FnOnce change grid }
         requires laid_out { (before after : Grid) (r : Result T BookError)
             → FnOnceReturnsAtMut F.FnOnce change before r after → StaysLaidOut before after }
+        ensures changes { ChangesGrid F.FnOnce change sheet result self.old self.new }
+        ensures looks_up { self.new.has_all ≡ self.old.has_all }
+    {
+        if sheet as usize >= self.contents.sheets.len() {
+            return Err(BookError::InvalidSheet);
+        }
+        self.contents.sheets.change_grid(sheet as usize, change)
+    }
+
+    /// Changes the cells of the sheet at an index, from 0. `InvalidSheet` exactly where there is none.
+    pub(crate) fn on_cells<T, F: FnOnce(&mut Grid) -> Result<T, BookError> + Drop>(
+        &mut self,
+        sheet: u32,
+        change: F,
+    ) -> Result<T, BookError>
+        requires callable { (grid : Grid) → IsGrid grid
+            → FnOnceTakesAtMut F.FnOnce change grid }
+        requires held { (before after : Grid) (r : Result T BookError)
+            → FnOnceReturnsAtMut F.FnOnce change before r after → StaysHeld before after }
         ensures changes { ChangesGrid F.FnOnce change sheet result self.old self.new }
         ensures looks_up { self.new.has_all ≡ self.old.has_all }
     {

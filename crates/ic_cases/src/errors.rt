@@ -68,11 +68,12 @@ fn put_run_error(row: &mut Row<'_>) {
 }
 
 /// The errors of the book.
-const BOOK_ERRORS: [BookError; 28] = [
+const BOOK_ERRORS: [BookError; 32] = [
     BookError::BadLine,
     BookError::InvalidSheet,
     BookError::InvalidRow,
     BookError::InvalidColumn,
+    BookError::BadArea,
     BookError::SheetIndexTooLarge,
     BookError::TargetTooLarge,
     BookError::InvalidSheetName,
@@ -93,9 +94,12 @@ const BOOK_ERRORS: [BookError; 28] = [
     BookError::InvalidTimezone,
     BookError::MergedPart,
     BookError::ArrayPart,
+    BookError::ClearArray,
     BookError::FrozenNegative,
     BookError::TooManyRows,
     BookError::TooManyColumns,
+    BookError::NoFormulaCell,
+    BookError::SpillBlocked { row: 1, column: 1 },
     BookError::OutOfMemory,
 ];
 

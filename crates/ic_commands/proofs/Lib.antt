@@ -1,5 +1,6 @@
 pub mod AnswerLemmas
 pub mod CoreLemmas
 pub mod LineLemmas
+pub mod PlainLemmas
 pub mod ReplyLemmas
 pub mod ServedCore

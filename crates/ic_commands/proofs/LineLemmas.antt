@@ -16,6 +16,8 @@ use Rattle.ic_words.specs.Served.{served}
 use Rattle.ic_words.proofs.ReplyLemmas.{refusal_line}
 use Rattle.ic_book.specs.Book.{Book, IsSameBeside, ModelState, StepsTo, core_of, notations_in}
 use Rattle.ic_commands.specs.Answered.{DoesLine, HasNoSign, IsAnswered, IsCore, StaysAfter, WritesNoSign}
+use Rattle.ic_commands.specs.Plain.{IsPlainBook}
+use Rattle.ic_commands.proofs.PlainLemmas.{served_plain}
 use Rattle.ic_book.specs.Served.{served_command_step, served_step}
 use Rattle.ic_book.specs.Whole.{whole_of}
 use Rattle.ic_commands.proofs.CoreLemmas.{StandsBeside, core_left, served_stands, text_told}
@@ -27,6 +29,7 @@ pub record IsAnsweredAs (k : Option core.Command) (old new : Book) (told : List 
   pub reply : told ≡ lines.reply_bytes (lines.command_step (notations_in old) (core_of old) k).1
   pub line : IsLineText (lines.reply_text (lines.command_step (notations_in old) (core_of old) k).1)
   pub book : StepsTo old new (lines.command_step (notations_in old) (core_of old) k).0
+  pub plain : IsPlainBook (whole_of new)
 
 pub same_beside : (old new : Book) (left : machine.Book) → whole_of new ≡ left → StandsBeside (whole_of old) left → IsSameBeside old new
 same_beside old new left is beside = record {
@@ -38,12 +41,12 @@ same_beside old new left is beside = record {
 }
 
 -- a command that was answered is answered as the core machine answers it
-pub core_half : (k : core.Command) (old new : ModelState) (reply : List ℕ) → IsAnswered (whole_command k) old new [] reply → HasNoSign (whole_command k) → IsAnsweredAs (Some k) old.book new.book reply
-core_half k old new reply a plain =
+pub core_half : (k : core.Command) (old new : ModelState) (reply : List ℕ) → IsAnswered (whole_command k) old new [] reply → IsPlainBook (whole_of old.book) → HasNoSign (whole_command k) → IsAnsweredAs (Some k) old.book new.book reply
+core_half k old new reply a plain unsigned =
     let w = whole_of old.book in
     let made = served_step w (whole_command k) in
     let o = core_step (notations_in old.book) (core_of old.book) k in
-    let told = served_core old.book a.valid_before k plain in
+    let told = served_core old.book a.valid_before plain k unsigned in
     let is = whole_core old.book in
     let text : reply_text (outcome_of w made).1 ≡ lines.reply_text (lines.outcome_of (core_of old.book) o).1 = text_told w (core_of old.book) is made o told in
     record {
@@ -53,6 +56,7 @@ core_half k old new reply a plain =
         core = sym (whole_core new.book) ∙ ap machine.core_of a.book ∙ core_left w (core_of old.book) is made o told;
         beside = same_beside old.book new.book (outcome_of w made).0 a.book (served_stands w k);
       };
+      plain = subst IsPlainBook (sym a.book) (served_plain w plain k);
     }
 
 -- The command that a line is ----
@@ -72,11 +76,11 @@ module _ (line : List ℕ) where
   command_of_core = refl
 
   -- a line whose command was answered
-  pub line_answered : (command : Command) (old new : ModelState) (reply : List ℕ) → Some command ≡ command_in (english_errors (whole_of old.book)) table.served line → IsAnswered command old new [] reply → IsCore old.book.tables line
+  pub line_answered : (command : Command) (old new : ModelState) (reply : List ℕ) → Some command ≡ command_in (english_errors (whole_of old.book)) table.served line → IsAnswered command old new [] reply → IsPlainBook (whole_of old.book) → IsCore old.book.tables line
       → IsAnsweredAs (lines.command_of served line) old.book new.book reply
-  line_answered command old new reply is a is_core =
+  line_answered command old new reply is a plain is_core =
       let k = as_core_command (lines.command_of (core.rows_named core_names) line) command (is ∙ served_is (english_errors (whole_of old.book)) line is_core.0) in
-      subst (λ o. IsAnsweredAs o old.book new.book reply) (sym (command_of_core ∙ k.2)) (core_half k.0 old new reply (subst (λ c. IsAnswered c old new [] reply) k.1 a) (subst HasNoSign k.1 (subst WritesNoSign (sym is) is_core.1)))
+      subst (λ o. IsAnsweredAs o old.book new.book reply) (sym (command_of_core ∙ k.2)) (core_half k.0 old new reply (subst (λ c. IsAnswered c old new [] reply) k.1 a) plain (subst HasNoSign k.1 (subst WritesNoSign (sym is) is_core.1)))
 
   pub line_done : (command : Command) (old new : ModelState) (reply : List ℕ) → Some command ≡ command_in (english_errors (whole_of old.book)) table.served line → IsAnswered command old new [] reply → DoesLine line old new reply
   line_done command old new reply is a = record {
@@ -87,14 +91,15 @@ module _ (line : List ℕ) where
   }
 
   -- a line that is no command
-  pub bad_answered : (state : ModelState) (reply : List ℕ) → None ≡ command_in (english_errors (whole_of state.book)) table.served line → reply ≡ reply_bytes (Err BadLine) → IsCore state.book.tables line
+  pub bad_answered : (state : ModelState) (reply : List ℕ) → None ≡ command_in (english_errors (whole_of state.book)) table.served line → reply ≡ reply_bytes (Err BadLine) → IsPlainBook (whole_of state.book) → IsCore state.book.tables line
       → IsAnsweredAs (lines.command_of served line) state.book state.book reply
-  bad_answered state reply is told is_core =
+  bad_answered state reply is told plain is_core =
       subst (λ o. IsAnsweredAs o state.book state.book reply) (sym (command_of_core ∙ no_core_command (lines.command_of (core.rows_named core_names) line) (is ∙ served_is (english_errors (whole_of state.book)) line is_core.0)))
       (record {
         reply = told;
         line = refusal_line BadLine;
         book = record { core = refl; beside = record { name = refl; zone = refl; theme = refl; created = refl; tables = refl } };
+        plain = plain;
       })
 
   pub bad_done : (state : ModelState) (reply : List ℕ) → None ≡ command_in (english_errors (whole_of state.book)) table.served line → reply ≡ reply_bytes (Err BadLine) → DoesLine line state state reply

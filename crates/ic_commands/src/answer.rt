@@ -9,7 +9,9 @@ ghost use Rattle.ic_book.specs.Book.{StepsTo, core_of, notations_in};
 ghost use Rattle.ic_book.specs.Served.{served_line_step};
 ghost use Rattle.ic_book.specs.Whole.{whole_of};
 ghost use Rattle.ic_commands.specs.Answered.{Answers, DoesLine, IsCore, LeavesLine};
+ghost use Rattle.ic_commands.specs.Plain.{IsPlainBook};
 
+mod arrays;
 mod definitions;
 mod extending;
 mod layout;
@@ -20,6 +22,7 @@ mod styles;
 mod tabs;
 mod writing;
 
+use arrays::answer_arrays;
 use definitions::answer_definitions;
 use extending::answer_extending;
 use ic_book::{BookError, Model};
@@ -36,25 +39,32 @@ use tabs::answer_tabs;
 use writing::answer_writing;
 
 /// One step of the machine that is served: what a line does to the book, and its reply with the line feed at its end. For a
-/// core line, which is no command or one that the core machine has, that is the core machine's step. A line that is no
+/// core line, which is no command or one that the core machine has, that is the core machine's step, where no cells are
+/// merged and no array has several cells, which it knows nothing of; and that stays so. A line that is no
 /// command, is refused or only asks leaves all that a model is, the formulas that sheets keep and their look-ups too; one
 /// on the locale or the language leaves the look-ups. For the others the whole book is as the command leaves it. Where
 /// memory runs out the book is as it was.
 pub fn reply_to(alloc: Global, model: &mut Model<'_>, line: &Line) -> Result<String, OutOfMemory>
-    ensures reply { IsCore model.old.book.tables line.now → IfOk result
+    ensures reply { IsPlainBook (whole_of model.old.book)
+        → IsCore model.old.book.tables line.now → IfOk result
         (λ reply. string_bytes reply ≡ reply_bytes
         (line_step (notations_in model.old.book) served (core_of model.old.book) line.now).1) }
-    ensures line { IsCore model.old.book.tables line.now → IfOk result
+    ensures line { IsPlainBook (whole_of model.old.book)
+        → IsCore model.old.book.tables line.now → IfOk result
         (λ _. IsLineText (reply_text
         (line_step (notations_in model.old.book) served (core_of model.old.book) line.now).1)) }
-    ensures book { IsCore model.old.book.tables line.now → OnOk result
+    ensures book { IsPlainBook (whole_of model.old.book)
+        → IsCore model.old.book.tables line.now → OnOk result
         (StepsTo model.old.book model.new.book
         (line_step (notations_in model.old.book) served (core_of model.old.book) line.now).0) }
+    ensures plain { IsPlainBook (whole_of model.old.book)
+        → IsCore model.old.book.tables line.now → OnOk result
+        (IsPlainBook (whole_of model.new.book)) }
     ensures whole { IfOk result
         (λ reply. DoesLine line.now model.old model.new (string_bytes reply)) }
     ensures err { OnErr result (model.new.book ≡ model.old.book) }
 {
-    let command = command_in(alloc, line.text().as_str())?;
+    let command = command_in(alloc, model.english_language(), line.text().as_str())?;
     let reply = String::with_capacity(alloc, REPLY_ROOM)?;
     match command {
         Some(command) => answer(alloc, model, command, reply),
@@ -64,10 +74,12 @@ pub fn reply_to(alloc: Global, model: &mut Model<'_>, line: &Line) -> Result<Str
 
 /// The same, with the reply as a line: without the line feed at its end.
 pub fn answer_line(alloc: Global, model: &mut Model<'_>, line: &Line) -> Result<Line, OutOfMemory>
-    ensures reply { IsCore model.old.book.tables line.now → IfOk result
+    ensures reply { IsPlainBook (whole_of model.old.book)
+        → IsCore model.old.book.tables line.now → IfOk result
         (λ reply. reply ≡ reply_text
         (line_step (notations_in model.old.book) served (core_of model.old.book) line.now).1) }
-    ensures book { IsCore model.old.book.tables line.now → OnOk result
+    ensures book { IsPlainBook (whole_of model.old.book)
+        → IsCore model.old.book.tables line.now → OnOk result
         (StepsTo model.old.book model.new.book
         (line_step (notations_in model.old.book) served (core_of model.old.book) line.now).0) }
     ensures told { IfOk result
@@ -101,6 +113,7 @@ fn answer(
         Command::Styles(command) => answer_styles(alloc, model, command, reply),
         Command::Layout(command) => answer_layout(model, command, reply),
         Command::Tabs(command) => answer_tabs(alloc, model, command, reply),
+        Command::Arrays(command) => answer_arrays(model, command, reply),
     }
 }
 

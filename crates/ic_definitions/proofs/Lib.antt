@@ -1,4 +1,5 @@
 pub mod BodyLemmas
 pub mod FindingLemmas
+pub mod GoneDefinitions
 pub mod NamedLemmas
 pub mod NamesFacts

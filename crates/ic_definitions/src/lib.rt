@@ -1,7 +1,7 @@
 //! The definitions of a book in their order, found by their keys without a search.
 //! `Definitions` answers what the scene of these definitions finds (`find`, `key_at`, `name_of`, `index_of`), and keeps up
-//! with definitions that come and go (`add`, `delete`) and with changes of what their bodies mention: `prepare` makes ready a
-//! change of all bodies, `made` says to what, and `apply` then can't fail.
+//! with definitions that come and go (`add`, `delete`), which change the bodies of the others too, and with sheets that do:
+//! `prepare` makes ready what a change does to all bodies, `made` says to what, and `apply` then can't fail.
 #![tactic(auto)]
 
 mod bodies;

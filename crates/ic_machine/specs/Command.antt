@@ -51,7 +51,8 @@ more_names =
     ∷ codes "get_column_width" ∷ codes "get_row_height" ∷ codes "set_column_hidden" ∷ codes "set_row_hidden" ∷ codes "is_column_hidden"
     ∷ codes "is_row_hidden" ∷ codes "set_user_input" ∷ codes "update_cell_with_text" ∷ codes "get_localized_cell_content" ∷ codes "get_formatted_cell_value"
     ∷ codes "get_cell_value_by_ref" ∷ codes "get_sheet_markup" ∷ codes "extend_to" ∷ codes "extend_copied_value" ∷ codes "parse_reference"
-    ∷ codes "get_fmt_settings" ∷ []
+    ∷ codes "get_fmt_settings" ∷ codes "set_user_array_formula" ∷ codes "range_clear_contents" ∷ codes "range_clear_all" ∷ codes "put_formula_value"
+    ∷ codes "put_spill" ∷ []
 
 -- the names of all commands that are served
 abbrev pub served_names : List (List ℕ)

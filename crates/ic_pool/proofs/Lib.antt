@@ -1,3 +1,4 @@
+pub mod BackLemmas
 pub mod ByteLaws
 pub mod ChangeLemmas
 pub mod CodeLaws

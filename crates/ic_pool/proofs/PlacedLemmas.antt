@@ -64,7 +64,7 @@ swap_places true false n r h = refl
 swap_places false true n r h = refl
 swap_places false false n r h = refl
 
-first_place-push : (x : Formula) (xs : List Formula) → first_place (code x) xs ≡ None → (key : List ℕ) → first_place key (xs ++ x ∷ []) ≡ cond (bytes_eq (code x) key) (Some (length xs)) (first_place key xs)
+pub first_place-push : (x : Formula) (xs : List Formula) → first_place (code x) xs ≡ None → (key : List ℕ) → first_place key (xs ++ x ∷ []) ≡ cond (bytes_eq (code x) key) (Some (length xs)) (first_place key xs)
 first_place-push x [] none key = ap (λ b. cond b (Some 0) None) (bytes_eq-flip key (code x))
 first_place-push x (y ∷ xs) none key =
     let parts = none_left (bytes_eq (code x) (code y)) (first_place (code x) xs) none in

@@ -30,6 +30,14 @@ abbrev pub first_place : List ℕ → List Formula → Option ℕ
 first_place key [] = None
 first_place key (x ∷ xs) = if bytes_eq key (code x) then Some 0 else option_map suc (first_place key xs)
 
+-- The last formula has this key, and no other one does.
+pub record EndsWithNew (key : List ℕ) (formulas : List Formula) : Type 0 where
+  pub before : List Formula
+  pub formula : Formula
+  pub is : formulas ≡ before ++ formula ∷ []
+  pub its : key ≡ code formula
+  pub fresh : first_place key before ≡ None
+
 -- at each key the look-up has the first place of a formula with that key
 pub record KeepsPlaces (index : BTreeMap (List ℕ) ℕ) (formulas : List Formula) : Type 0 where
   pub finds : (key : List ℕ) → get (slice_cmp nat_cmp) index key ≡ first_place key formulas

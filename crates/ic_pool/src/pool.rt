@@ -1,10 +1,10 @@
-ghost use Rattle.std.specs.Prelude.{◌≡◌, ◌≤◌, ◌+◌, ◌<◌, ◌&&◌, [], None, false, true, length, map, option_map, IfOk, IsOk, OnErr, OnOk};
+ghost use Rattle.std.specs.Prelude.{◌≡◌, ◌≤◌, ◌+◌, ◌<◌, ◌&&◌, ◌++◌, List, [], ◌∷◌, None, false, true, length, map, option_map, IfOk, IsOk, OnErr, OnOk};
 ghost use Rattle.std.specs.List.{slice_get};
 ghost use Rattle.ic_laws.specs.declared.tree.Formula.{Formula};
 ghost use Rattle.ic_pool.specs.Code.{code};
 ghost use Rattle.ic_pool.specs.Mentions.{SparesFound, formula_after};
 ghost use Rattle.ic_pool.specs.Rewrites.{FitsPool, ListsChanged, changes_nothing, rewritten_by};
-ghost use Rattle.ic_pool.specs.Pool.{IsPlaced, dangling_places, first_place};
+ghost use Rattle.ic_pool.specs.Pool.{EndsWithNew, IsPlaced, dangling_places, first_place};
 
 mod index;
 mod rewrites;
@@ -207,6 +207,22 @@ impl Pool {
             None => {
                 let copy = copy_formula(self.alloc, formula)?;
                 self.append(key, copy)
+            }
+        }
+    }
+
+    /// Takes its last formula out again, where its key is this and no other formula has it. It takes no memory.
+    pub fn take_back(&mut self, key: &Key)
+        requires whole { self.old.is_whole ≡ true }
+        requires last { EndsWithNew key.now self.old.formulas }
+        ensures formulas { (formula : Formula) (before : List Formula)
+            → self.old.formulas ≡ before ++ formula ∷ [] → self.new.formulas ≡ before }
+        ensures whole { self.new.is_whole ≡ true }
+    {
+        self.index.remove(key);
+        if let Some(formula) = self.formulas.pop() {
+            if has_dangling(&formula) {
+                let _ = self.dangling.pop();
             }
         }
     }

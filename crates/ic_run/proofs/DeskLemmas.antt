@@ -1,5 +1,5 @@
 -- The program's words, its start and its statuses.
-use Rattle.std.proofs.Common.{String, ◌≡◌, ℕ, List, [], ◌∷◌, get_or, Option, Some, None, Result, Ok, Err, IfOk, IfErr, OnOk, bytes_eq, codes, string_bytes, refl, arith, length, ◌==◌, true, false, sym, ◌∙◌, ap}
+use Rattle.std.proofs.Common.{String, ◌≡◌, ℕ, List, [], ◌∷◌, get_or, Option, Some, None, Result, Ok, Err, IfOk, IfErr, OnOk, bytes_eq, codes, string_bytes, refl, arith, length, ◌==◌, true, false, option_map, sym, subst, ◌∙◌, ap}
 use Rattle.std.proofs.lemmas.Bool.{eqb-true}
 use Rattle.std.specs.Str.{chars}
 use Rattle.std.specs.declared.alloc.Global.{Global}
@@ -12,7 +12,11 @@ use Rattle.ic_run.specs.Desk.{setting_of, run_status, texts}
 use Rattle.ic_run.specs.Run.{Leaves, LeavesReplies, TakesAll}
 use Rattle.ic_laws.specs.CoreBook.{CellPlace, CoreBook}
 use Rattle.ic_cells.specs.declared.cell.Cell.{Cell}
-use Rattle.ic_machine.proofs.AlikeGrid.{entries-empty}
+use Rattle.std.specs.FinMap as finite
+use Rattle.ic_machine.proofs.AlikeGrid.{entries-empty, get-seen}
+use Rattle.ic_machine.specs.Content.{content_of}
+use Rattle.ic_book.specs.Whole.{whole_of}
+use Rattle.ic_commands.specs.Plain.{IsPlainBook}
 use Rattle.ic_sheets.specs.Sheet.{cells_of}
 use Rattle.ic_tables.specs.Tables.{TableSet}
 
@@ -23,6 +27,19 @@ start_core book name locale zone language created tables e =
     ap core_of e
     ∙ ap (λ (es : List (CellPlace × Cell)). let core : CoreBook = record { sheets = record { id = 1; name = first_sheet_name_in language; cells = cells_of [] es } ∷ []; definitions = []; locale = locale; language = language } in core)
     (entries-empty Cell)
+
+-- which has no merged cells and no arrays of several cells
+pub start_plain : (book : Book) (name locale zone language created : List ℕ) (tables : TableSet) → book ≡ new_book name locale zone language created tables → IsPlainBook (whole_of book)
+start_plain book name locale zone language created tables e =
+    subst (λ (b : Book). IsPlainBook (whole_of b)) (sym e) (
+      record {
+        merges = refl;
+        loose = λ place content at.
+            let none : None ≡ Some content = sym (get-seen (content_of []) finite.empty place ∙ ap (option_map (content_of [])) (finite.get-empty _ place)) ∙ at in
+            cc;
+      },
+      tt,
+    )
 
 -- the status 0 is that of Ok
 pub on_ok_at_0 : (r : Result ℕ RunError) (P : Type 0) → OnOk r P → run_status r ≡ 0 → P
@@ -113,17 +130,17 @@ at_error_status (Err run.OutOfMemory) run.TooManyTurns P same h = absurd (omega 
 at_error_status (Err run.OutOfMemory) run.OutOfMemory P same h = h
 
 -- what an error leaves of the replies alone
-leaves_replies : (e : RunError) (old new : Book) (bytes left : List ℕ) (before now : Option (List ℕ)) → Leaves e old new bytes left before now
+leaves_replies : (e : RunError) (old new : Book) (bytes left : List ℕ) (before now : Option (List ℕ)) → IsPlainBook (whole_of old) → Leaves e old new bytes left before now
     → LeavesReplies e old.tables (core_of old) bytes left before now
-leaves_replies run.ReadFault old new bytes left before now h = (h.0, h.2, h.1.replied)
-leaves_replies run.TooManyTurns old new bytes left before now h = (h.0, h.2, h.1.replied)
-leaves_replies run.OutOfMemory old new bytes left before now h = (h.0, h.1.read, h.1.replied)
-leaves_replies run.WriteFault old new bytes left before now h = (h.0, h.1.read, h.1.replied)
+leaves_replies run.ReadFault old new bytes left before now plain h = (h.0, h.2, h.1.replied plain)
+leaves_replies run.TooManyTurns old new bytes left before now plain h = (h.0, h.2, h.1.replied plain)
+leaves_replies run.OutOfMemory old new bytes left before now plain h = (h.0, h.1.read, h.1.replied plain)
+leaves_replies run.WriteFault old new bytes left before now plain h = (h.0, h.1.read, h.1.replied plain)
 
-pub leaves_replies_told : (r : Result ℕ RunError) (e : RunError) (old new : Book) (source left before now : Option (List ℕ)) → run_status r ≡ run_status (Err e)
+pub leaves_replies_told : (r : Result ℕ RunError) (e : RunError) (old new : Book) (source left before now : Option (List ℕ)) → IsPlainBook (whole_of old) → run_status r ≡ run_status (Err e)
     → IfErr r (λ x. IfTold source left (λ bytes rest. Leaves x old new bytes rest before now))
     → IfTold source left (λ bytes rest. LeavesReplies e old.tables (core_of old) bytes rest before now)
-leaves_replies_told r e old new source left before now same h =
+leaves_replies_told r e old new source left before now plain same h =
     IfTold-weaker source left (λ bytes rest. Leaves e old new bytes rest before now) (λ bytes rest. LeavesReplies e old.tables (core_of old) bytes rest before now)
-    (λ bytes rest p. leaves_replies e old new bytes rest before now p)
+    (λ bytes rest p. leaves_replies e old new bytes rest before now plain p)
     (at_error_status r e (λ x. IfTold source left (λ bytes rest. Leaves x old new bytes rest before now)) same h)

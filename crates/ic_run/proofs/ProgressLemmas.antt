@@ -16,6 +16,7 @@ use Rattle.ic_lines.proofs.ToldLemmas.{IfTold-join, IfTold-weaker}
 use Rattle.ic_book.specs.Book.{Book, ModelState, core_of, notations_in}
 use Rattle.ic_book.specs.Served.{served_machine}
 use Rattle.ic_book.specs.Whole.{whole_of}
+use Rattle.ic_commands.specs.Plain.{IsPlainBook}
 use Rattle.ic_run.specs.Run.{AppendsReplies, AppendsServed, AreCore, AreRead, HasAnswered, HasPartlyAnswered, HasPartlyReplied, HasReplied, IsAfterLines, Leaves, LineDoes, LinesDo, TakesAll, replies_core, replies_served}
 use Rattle.ic_run.proofs.RunLemmas.{next_rest, next_taken, next_within, replies-append}
 use Rattle.ic_run.proofs.ServedLemmas.{core_left, lines_leave, replies_same}
@@ -79,11 +80,11 @@ module _ (old new : ModelState) (count : ℕ) (lines : List (List ℕ)) (did : L
   is_after : count ≤ length lines → IsAfterLines old.book new.book count lines
   is_after within = record { within = within; whole = lines_leave (take count lines) old new did; book = core_left (take count lines) old new did }
 
-  core_told : (before now : Option (List ℕ)) → IfTold before now (HasReplied (replies_served old.book) count lines) → AreCore old.book.tables (take count lines)
+  core_told : (before now : Option (List ℕ)) → IfTold before now (HasReplied (replies_served old.book) count lines) → IsPlainBook (whole_of old.book) → AreCore old.book.tables (take count lines)
       → IfTold before now (HasReplied (replies_core (notations_in old.book) (core_of old.book)) count lines)
-  core_told before now told are =
+  core_told before now told plain are =
       IfTold-weaker before now (HasReplied (replies_served old.book) count lines) (HasReplied (replies_core (notations_in old.book) (core_of old.book)) count lines)
-      (λ x y q. q ∙ ap (λ v. x ++ v) (replies_same (take count lines) old new did are)) told
+      (λ x y q. q ∙ ap (λ v. x ++ v) (replies_same (take count lines) old new did plain are)) told
 
 has_answered : (old new : ModelState) (count : ℕ) (bytes left : List ℕ) (before now : Option (List ℕ)) → AreRead count bytes left → count ≤ length (texts_of bytes) → LinesDo (take count (texts_of bytes)) old new
     → IfTold before now (HasReplied (replies_served old.book) count (texts_of bytes)) → HasAnswered old.book new.book count bytes left before now
@@ -186,10 +187,10 @@ module _ (old mid : ModelState) (count : ℕ) (reader new_reader : Reading) (bef
         read = read_after;
         book = is_after old new (count + 1) (texts_of bytes) (did_after new does) within_after;
         told = told;
-        replied = λ are.
+        replied = λ plain are.
             let first = first_core old.book.tables (take count (texts_of bytes)) (line ∷ []) (subst (AreCore old.book.tables) taken are) in
             IfTold-weaker before written (HasPartlyReplied (replies_served old.book) count (texts_of bytes)) (HasPartlyReplied (replies_core (notations_in old.book) (core_of old.book)) count (texts_of bytes))
-            (λ x y q. partly_same (replies_served old.book) (replies_core (notations_in old.book) (core_of old.book)) count (texts_of bytes) x y (replies_same (take count (texts_of bytes)) old mid p.did first) (replies_same (take (count + 1) (texts_of bytes)) old new (did_after new does) are) q)
+            (λ x y q. partly_same (replies_served old.book) (replies_core (notations_in old.book) (core_of old.book)) count (texts_of bytes) x y (replies_same (take count (texts_of bytes)) old mid p.did plain first) (replies_same (take (count + 1) (texts_of bytes)) old new (did_after new does) plain are) q)
             told;
       }
 
@@ -286,10 +287,10 @@ module _ (old new : ModelState) (count : ℕ) (reader : Reading) (before now : O
   all_served =
       IfTold-weaker before now (HasReplied (replies_served old.book) count (texts_of bytes)) (AppendsServed (whole_of old.book) bytes) (λ x y q. q ∙ ap (λ v. x ++ replies_served old.book v) all_taken) p.told
 
-  all_replied : AreCore old.book.tables (texts_of bytes) → IfTold before now (AppendsReplies (notations_in old.book) (core_of old.book) bytes)
-  all_replied are =
+  all_replied : IsPlainBook (whole_of old.book) → AreCore old.book.tables (texts_of bytes) → IfTold before now (AppendsReplies (notations_in old.book) (core_of old.book) bytes)
+  all_replied plain are =
       IfTold-weaker before now (AppendsServed (whole_of old.book) bytes) (AppendsReplies (notations_in old.book) (core_of old.book) bytes)
-      (λ x y q. q ∙ ap (λ v. x ++ v) (replies_same (texts_of bytes) old new all_do are)) all_served
+      (λ x y q. q ∙ ap (λ v. x ++ v) (replies_same (texts_of bytes) old new all_do plain are)) all_served
 
 -- the end, over a source that tells its bytes
 module _ (old new : ModelState) (count : ℕ) (reader asked new_reader : Reading) (before now : Option (List ℕ)) (first a b : Option (List ℕ)) (p : IfTold first a (Progress old new count reader before now)) (t : TakesLine reader asked a b) (gives : IfTold a b (λ x y. GivesLine None (unread reader x) (unread new_reader y))) where
@@ -305,9 +306,9 @@ module _ (old new : ModelState) (count : ℕ) (reader asked new_reader : Reading
   pub takes_all_told : IfTold first b (TakesAll old.book new.book count)
   takes_all_told = at_end (TakesAll old.book new.book count) (λ bytes x y q none took. takes_all old new count reader before now bytes x y q (t.front ++ t.last) none took)
 
-  pub all_replied_told : IfTold first b (λ bytes _. AreCore old.book.tables (texts_of bytes) → IfTold before now (AppendsReplies (notations_in old.book) (core_of old.book) bytes))
+  pub all_replied_told : IfTold first b (λ bytes _. IsPlainBook (whole_of old.book) → AreCore old.book.tables (texts_of bytes) → IfTold before now (AppendsReplies (notations_in old.book) (core_of old.book) bytes))
   all_replied_told =
-      at_end (λ bytes _. AreCore old.book.tables (texts_of bytes) → IfTold before now (AppendsReplies (notations_in old.book) (core_of old.book) bytes))
+      at_end (λ bytes _. IsPlainBook (whole_of old.book) → AreCore old.book.tables (texts_of bytes) → IfTold before now (AppendsReplies (notations_in old.book) (core_of old.book) bytes))
       (λ bytes x y q none took. all_replied old new count reader before now bytes x y q (t.front ++ t.last) none took)
 
   pub all_served_told : IfTold first b (λ bytes _. IfTold before now (AppendsServed (whole_of old.book) bytes))

@@ -16,6 +16,7 @@ use Rattle.ic_book.specs.Book.{Book, IsSameBeside, ModelState, StepsTo, core_of,
 use Rattle.ic_book.specs.Served.{served_machine}
 use Rattle.ic_book.specs.Whole.{whole_of}
 use Rattle.ic_commands.specs.Answered.{DoesLine, IsCore}
+use Rattle.ic_commands.specs.Plain.{IsPlainBook}
 use Rattle.ic_run.specs.Run.{AppendsServed, AppendsServedFrom, AreCore, IsServed, LineDoes, LinesDo, replies_core, replies_served}
 
 pub lines_leave : (all : List (List ℕ)) (old new : ModelState) → LinesDo all old new → whole_of new.book ≡ runs.after served_machine (whole_of old.book) all
@@ -28,36 +29,39 @@ same_beside_again : (old mid new : Book) → IsSameBeside old mid → IsSameBesi
 same_beside_again old mid new p q = record { name = q.name ∙ p.name; zone = q.zone ∙ p.zone; theme = q.theme ∙ p.theme; created = q.created ∙ p.created; tables = q.tables ∙ p.tables }
 
 -- core lines leave what the core machine leaves
-pub core_left : (all : List (List ℕ)) (old new : ModelState) → LinesDo all old new → AreCore old.book.tables all → StepsTo old.book new.book (lines.after (notations_in old.book) served (core_of old.book) all)
-core_left [] old new did are =
+pub core_left : (all : List (List ℕ)) (old new : ModelState) → LinesDo all old new → IsPlainBook (whole_of old.book) → AreCore old.book.tables all → StepsTo old.book new.book (lines.after (notations_in old.book) served (core_of old.book) all)
+core_left [] old new did plain are =
     subst (λ (m : ModelState). StepsTo old.book m.book (core_of old.book)) (sym did) (record { core = refl; beside = record { name = refl; zone = refl; theme = refl; created = refl; tables = refl } })
-core_left (line ∷ all) old new did are =
-    let step = did.1.steps are.0 in
-    let later = core_left all did.0 new did.2 (subst (λ (t : TableSet). AreCore t all) (sym step.beside.tables) are.1) in
+core_left (line ∷ all) old new did plain are =
+    let step = did.1.steps plain are.0 in
+    let later = core_left all did.0 new did.2 (did.1.plain plain are.0) (subst (λ (t : TableSet). AreCore t all) (sym step.beside.tables) are.1) in
     record {
       core = later.core ∙ ap₂ (λ (n : Notations) (c : CoreBook). lines.after n served c all) (ap notations_of step.beside.tables) step.core;
       beside = same_beside_again old.book did.0.book new.book step.beside later.beside;
     }
 
 -- and both machines have the same replies to them
-pub replies_same : (all : List (List ℕ)) (old new : ModelState) → LinesDo all old new → AreCore old.book.tables all → replies_served old.book all ≡ replies_core (notations_in old.book) (core_of old.book) all
-replies_same [] old new did are = refl
-replies_same (line ∷ all) old new did are =
-    let step = did.1.steps are.0 in
+pub replies_same : (all : List (List ℕ)) (old new : ModelState) → LinesDo all old new → IsPlainBook (whole_of old.book) → AreCore old.book.tables all → replies_served old.book all ≡ replies_core (notations_in old.book) (core_of old.book) all
+replies_same [] old new did plain are = refl
+replies_same (line ∷ all) old new did plain are =
+    let step = did.1.steps plain are.0 in
     let same = ap notations_of step.beside.tables in
     let later : runs.replies served_machine (served_machine (whole_of old.book) line).0 all ≡ lines.replies (notations_in old.book) served (line_step (notations_in old.book) served (core_of old.book) line).0 all =
     ap (λ (b : machine.Book). runs.replies served_machine b all) (sym did.1.leaves.book)
-    ∙ replies_same all did.0 new did.2 (subst (λ (t : TableSet). AreCore t all) (sym step.beside.tables) are.1)
+    ∙ replies_same all did.0 new did.2 (did.1.plain plain are.0) (subst (λ (t : TableSet). AreCore t all) (sym step.beside.tables) are.1)
     ∙ ap₂ (λ (n : Notations) (c : CoreBook). lines.replies n served c all) same step.core in
-    ap₂ (λ (a b : List ℕ). a ++ b) (did.1.tells are.0) later
+    ap₂ (λ (a b : List ℕ). a ++ b) (did.1.tells plain are.0) later
 
 -- an answered line does what a line does
-pub line_does : (line : List ℕ) (old new : ModelState) (reply : List ℕ) → DoesLine line old new reply → (IsCore old.book.tables line → StepsTo old.book new.book (line_step (notations_in old.book) served (core_of old.book) line).0)
-    → (IsCore old.book.tables line → reply ≡ reply_bytes (line_step (notations_in old.book) served (core_of old.book) line).1) → LineDoes line old new
-line_does line old new reply does steps tells = record {
+pub line_does : (line : List ℕ) (old new : ModelState) (reply : List ℕ) → DoesLine line old new reply
+    → (IsPlainBook (whole_of old.book) → IsCore old.book.tables line → StepsTo old.book new.book (line_step (notations_in old.book) served (core_of old.book) line).0)
+    → (IsPlainBook (whole_of old.book) → IsCore old.book.tables line → reply ≡ reply_bytes (line_step (notations_in old.book) served (core_of old.book) line).1)
+    → (IsPlainBook (whole_of old.book) → IsCore old.book.tables line → IsPlainBook (whole_of new.book)) → LineDoes line old new
+line_does line old new reply does steps tells stays = record {
   leaves = record { book = does.book; stays = does.stays };
   steps = steps;
-  tells = λ core. sym does.reply ∙ tells core;
+  tells = λ plain core. sym does.reply ∙ tells plain core;
+  plain = stays;
 }
 
 -- over a source that tells its bytes

@@ -17,24 +17,26 @@ use Rattle.ic_book.specs.Whole.{whole_of}
 use Rattle.ic_book.specs.Book.{Book, ModelState, StepsTo, core_of, notations_in}
 use Rattle.ic_words.specs.Served.{served}
 use Rattle.ic_commands.specs.Answered.{IsCore, LeavesLine}
+use Rattle.ic_commands.specs.Plain.{IsPlainBook}
 
 -- lines are core lines, by the tables of a book
 abbrev pub AreCore : TableSet → List (List ℕ) → Type 0
 AreCore tables lines = AllByRecursion (IsCore tables) lines
 
--- a whole run: nothing is left of the bytes, their lines are counted, and if they are core lines, the book is the one that
--- the core machine leaves
+-- a whole run: nothing is left of the bytes, their lines are counted, and if they are core lines, and no cells were merged
+-- and no array had several cells, the book is the one that the core machine leaves
 pub record TakesAll (old new : Book) (lines : ℕ) (bytes left : List ℕ) : Type 0 where
   pub all : left ≡ []
   pub count : lines ≡ length (texts_of bytes)
-  pub book : AreCore old.tables (texts_of bytes) → StepsTo old new (after (notations_in old) served (core_of old) (texts_of bytes))
+  pub book : IsPlainBook (whole_of old) → AreCore old.tables (texts_of bytes) → StepsTo old new (after (notations_in old) served (core_of old) (texts_of bytes))
 
 -- A line left of the whole book what the machine that is served leaves. Of a core line that is what the core machine
--- leaves, and both have one reply. What changes nothing left the model as it was.
+-- leaves, and both have one reply, where no cells are merged and no array has several cells; and that stays so. What changes nothing left the model as it was.
 pub record LineDoes (line : List ℕ) (old new : ModelState) : Type 0 where
   pub leaves : LeavesLine line old new
-  pub steps : IsCore old.book.tables line → StepsTo old.book new.book (line_step (notations_in old.book) served (core_of old.book) line).0
-  pub tells : IsCore old.book.tables line → (served_machine (whole_of old.book) line).1 ≡ reply_bytes (line_step (notations_in old.book) served (core_of old.book) line).1
+  pub steps : IsPlainBook (whole_of old.book) → IsCore old.book.tables line → StepsTo old.book new.book (line_step (notations_in old.book) served (core_of old.book) line).0
+  pub tells : IsPlainBook (whole_of old.book) → IsCore old.book.tables line → (served_machine (whole_of old.book) line).1 ≡ reply_bytes (line_step (notations_in old.book) served (core_of old.book) line).1
+  pub plain : IsPlainBook (whole_of old.book) → IsCore old.book.tables line → IsPlainBook (whole_of new.book)
 
 -- lines one after another, each of which does so
 abbrev pub LinesDo : List (List ℕ) → ModelState → ModelState → Type 0
@@ -62,7 +64,7 @@ AreRead count bytes left = (left ≡ []) ⊎ (count + line_feeds left ≤ line_f
 pub record IsAfterLines (old new : Book) (count : ℕ) (lines : List (List ℕ)) : Type 0 where
   pub within : count ≤ length lines
   pub whole : whole_of new ≡ runs.after served_machine (whole_of old) (take count lines)
-  pub book : AreCore old.tables (take count lines) → StepsTo old new (after (notations_in old) served (core_of old) (take count lines))
+  pub book : IsPlainBook (whole_of old) → AreCore old.tables (take count lines) → StepsTo old new (after (notations_in old) served (core_of old) (take count lines))
 
 -- what lines are replied, from a book: by the machine that is served, and by the core machine
 abbrev pub replies_served : Book → List (List ℕ) → List ℕ
@@ -87,14 +89,14 @@ pub record HasAnswered (old new : Book) (count : ℕ) (bytes left : List ℕ) (b
   pub read : AreRead count bytes left
   pub book : IsAfterLines old new count (texts_of bytes)
   pub told : IfTold before now (HasReplied (replies_served old) count (texts_of bytes))
-  pub replied : AreCore old.tables (take count (texts_of bytes)) → IfTold before now (HasReplied (replies_core (notations_in old) (core_of old)) count (texts_of bytes))
+  pub replied : IsPlainBook (whole_of old) → AreCore old.tables (take count (texts_of bytes)) → IfTold before now (HasReplied (replies_core (notations_in old) (core_of old)) count (texts_of bytes))
 
 -- the same, and one line more, whose reply was appended in part
 pub record HasPartlyAnswered (old new : Book) (count : ℕ) (bytes left : List ℕ) (before now : Option (List ℕ)) : Type 0 where
   pub read : AreRead (count + 1) bytes left
   pub book : IsAfterLines old new (count + 1) (texts_of bytes)
   pub told : IfTold before now (HasPartlyReplied (replies_served old) count (texts_of bytes))
-  pub replied : AreCore old.tables (take (count + 1) (texts_of bytes)) → IfTold before now (HasPartlyReplied (replies_core (notations_in old) (core_of old)) count (texts_of bytes))
+  pub replied : IsPlainBook (whole_of old) → AreCore old.tables (take (count + 1) (texts_of bytes)) → IfTold before now (HasPartlyReplied (replies_core (notations_in old) (core_of old)) count (texts_of bytes))
 
 -- What an error leaves. Where a read failed or there were too many turns, each line whose line feed was read was
 -- answered; where memory ran out, some of the first lines were; where a write failed, the last of them in part.
@@ -104,8 +106,8 @@ Leaves errors.TooManyTurns old new bytes left before now = (count : ℕ) × HasA
 Leaves errors.OutOfMemory old new bytes left before now = (count : ℕ) × HasAnswered old new count bytes left before now
 Leaves errors.WriteFault old new bytes left before now = (count : ℕ) × HasPartlyAnswered old new count bytes left before now
 
--- What an error leaves of the core machine's replies alone, from a book with this core, if the lines that were answered are
--- core lines. Where a read failed or there were too many turns, each line whose line feed was read has its reply; where
+-- What an error leaves of the core machine's replies alone, from a book with this core, where no cells are merged and no
+-- array has several cells, if the lines that were answered are core lines. Where a read failed or there were too many turns, each line whose line feed was read has its reply; where
 -- memory ran out, some of the first lines have; where a write failed, the last of them in part.
 abbrev pub LeavesReplies : RunError → TableSet → CoreBook → List ℕ → List ℕ → Option (List ℕ) → Option (List ℕ) → Type 0
 LeavesReplies errors.ReadFault tables core bytes left before now =

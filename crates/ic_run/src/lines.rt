@@ -4,6 +4,7 @@ ghost use Rattle.ic_lines.specs.Bytes.{AppendsFront, HasFault, IfTold};
 ghost use Rattle.ic_book.specs.Book.{core_of, notations_in};
 ghost use Rattle.ic_book.specs.Served.{served_machine};
 ghost use Rattle.ic_book.specs.Whole.{whole_of};
+ghost use Rattle.ic_commands.specs.Plain.{IsPlainBook};
 ghost use Rattle.ic_run.specs.Run.{AppendsReplies, AppendsServed, AreCore, HasCause, IsServed, Leaves, LineDoes, LinesDo, TakesAll};
 
 use ic_book::Model;
@@ -23,13 +24,13 @@ pub fn run<S: Source, K: Sink>(
     source: &mut S,
     sink: &mut K,
 ) -> Result<u64, RunError>
-    // The identity theorem: all bytes were taken and their lines counted; and if these are core lines, the core machine's
-    // replies were appended, and its book left.
+    // The identity theorem: all bytes were taken and their lines counted; and if these are core lines, and the book had no
+    // merged cells and no arrays of several cells, the core machine's replies were appended, and its book left.
     ensures book { IfOk result
         (λ count. IfTold (S.left source.old) (S.left source.new)
         (TakesAll model.old.book model.new.book count)) }
     ensures replies { OnOk result (IfTold (S.left source.old) (S.left source.new) (λ bytes _.
-        AreCore model.old.book.tables (texts_of bytes)
+        IsPlainBook (whole_of model.old.book) → AreCore model.old.book.tables (texts_of bytes)
         → IfTold (K.written sink.old) (K.written sink.new)
         (AppendsReplies (notations_in model.old.book) (core_of model.old.book) bytes))) }
 

@@ -9,7 +9,7 @@ use Rattle.ic_laws.specs.declared.tree.Formula.{Formula}
 use Rattle.ic_cells.specs.declared.cell.Cell.{Cell}
 use Rattle.ic_grid.proofs.ContentsLemmas.{same_contents, same_is, same_itself}
 use Rattle.ic_grid.specs.Arrays.{anchor_of}
-use Rattle.ic_grid.specs.Block.{same_place}
+use Rattle.ic_grid.specs.Block.{Place, block_at, same_place}
 use Rattle.ic_grid.specs.Contents.{Contents}
 use Rattle.ic_grid.specs.Prepare.{released_if, written}
 use Rattle.ic_grid.specs.Shape.{celled, is_loose, shape_of}
@@ -23,6 +23,11 @@ use Rattle.ic_sheets.specs.declared.sheet.Sheet.{Sheet}
 -- a row and a column as they are stored
 pub stored_pair : (r c : ℤ) → SFits w32 r → SFits w32 c → ◌≡◌ {A = ℤ × ℤ} (to_z w32 (of_z w32 r), to_z w32 (of_z w32 c)) (r, c)
 stored_pair r c fits fits_too = ap₂ (λ (x y : ℤ). (x, y)) (to_z-of_z w32 r fits) (to_z-of_z w32 c fits_too)
+
+-- a block as it is stored
+pub stored_block : (row column width height : ℤ) → SFits w32 row → SFits w32 column → SFits w32 width → SFits w32 height
+    → block_at (to_z w32 (of_z w32 row), to_z w32 (of_z w32 column)) (to_z w32 (of_z w32 width)) (to_z w32 (of_z w32 height)) ≡ block_at (row, column) width height
+stored_block row column width height r c w h = ap₂ (λ (p size : Place). block_at p size.0 size.1) (stored_pair row column r c) (stored_pair width height w h)
 
 -- the cell of a formula is no part of an array of several cells
 pub formula_loose : (kind : FormulaKind) (at style : ℕ) → is_loose (shape_of (formula_cell kind at style)) ≡ true

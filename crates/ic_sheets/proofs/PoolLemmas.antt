@@ -21,7 +21,9 @@ use Rattle.ic_laws.specs.declared.tree.Formula.TheVariants as formulas
 use Rattle.ic_cells.specs.Cell.{cell_formula_index}
 use Rattle.ic_cells.specs.declared.cell.Cell.{Cell}
 use Rattle.ic_sheets.specs.Sheet.{Sheet, cell_of, cells_of, formula_in, kept_pool, sheet_core}
-use Rattle.ic_pool.specs.Pool.{IsPlaced}
+use Rattle.ic_pool.proofs.PlacedLemmas.{first_found}
+use Rattle.ic_pool.specs.Code.{code}
+use Rattle.ic_pool.specs.Pool.{EndsWithNew, IsPlaced, first_place}
 
 -- formulas that are replaced, each by its own ----
 
@@ -110,6 +112,41 @@ has_placed formula at before after p =
             others = λ k h. ap (λ pool. formula_in pool k) more ∙ ap (λ o. unwrap_or o (formulas.Raw [])) (got_in_front before (formula ∷ []) k h);
           }
     ]
+
+-- where it got a place that wasn't there before, it stands last, and nowhere else
+module _ (formula : Formula) (at : ℕ) (before after : List Formula) (p : IsPlaced formula at before after) where
+  pub put_last : length before < length after → after ≡ before ++ formula ∷ []
+  put_last longer =
+      elim (split_at at (length before)) [
+        | inl lt ↦ absurd (let e : length after ≡ length before = ap length (p.found lt) in omega (arith, e, longer))
+        | inr le ↦ p.pushed le
+      ]
+
+  pub none_put : length after ≤ length before → after ≡ before
+  none_put no_longer =
+      elim (split_at at (length before)) [
+        | inl lt ↦ p.found lt
+        | inr le ↦ absurd (let e : length after ≡ length (before ++ formula ∷ []) = ap length (p.pushed le) in omega (arith, e, length-append before (formula ∷ []), no_longer))
+      ]
+
+  pub ends_new : (key : List ℕ) → key ≡ code formula → length before < length after → EndsWithNew key after
+  ends_new key same longer = record {
+    before = before;
+    formula = formula;
+    is = put_last longer;
+    its = same;
+    fresh = ap (λ k. first_place k before) same ∙ by_place (split_at at (length before)) (first_place (code formula) before) refl;
+  }
+    where
+      by_place : (at < length before) ⊎ (length before ≤ at) → (o : Option ℕ) → first_place (code formula) before ≡ o → first_place (code formula) before ≡ None
+      by_place found None e = e
+      by_place (inl lt) (Some k) e = absurd (let same_length : length after ≡ length before = ap length (p.found lt) in omega (arith, same_length, longer))
+      by_place (inr le) (Some k) e =
+          let first = first_found formula before k e in
+          let lt : k < length before = got_within before k formula first.here in
+          absurd
+          (p.first.none_before k (omega (arith, lt, le))
+          (subst (λ xs. slice_get xs k ≡ Some formula) (sym (p.pushed le)) (got_in_front before (formula ∷ []) k lt ∙ first.here)))
 
 -- a place is one of so many, if there is one
 abbrev pub IsBelow : ℕ → Option ℕ → Type 0

@@ -7,11 +7,14 @@ use Rattle.ic_laws.specs.CoreBook.{CellPlace}
 use Rattle.ic_laws.specs.CoreStep.{updated_at}
 use Rattle.ic_laws.specs.declared.memory.OutOfMemory.{OutOfMemory}
 use Rattle.ic_laws.specs.declared.tree.Formula.{Formula}
+use Rattle.ic_cells.specs.declared.style.Style.{Style}
+use Rattle.ic_grid.specs.Written.{with_array}
+use Rattle.ic_grid.specs.declared.block.Block.{Block}
 use Rattle.ic_pool.specs.Pool.{IsPlaced, PoolState}
 use Rattle.ic_sheets.proofs.IndexLemmas.{Index, set_updated}
 use Rattle.ic_sheets.proofs.KeptLemmas.{kept_same}
 use Rattle.ic_sheets.specs.Index.{AreKept}
-use Rattle.ic_sheets.specs.Sheet.{AreSameOrLookUp, IsSameOrLooksUp, IsWritten, Sheet, TakesCell, formula_cell, looking_up, pool_at, sheet_of, with_cell_in}
+use Rattle.ic_sheets.specs.Sheet.{AreSameOrLookUp, IsArrayWritten, IsSameOrLooksUp, IsWritten, Sheet, TakesCell, WritesArrayAt, formula_cell, looking_up, pool_at, sheet_of, with_cell_in}
 use Rattle.ic_sheets.specs.declared.sheet.FormulaKind.{FormulaKind}
 use Rattle.ic_sheets.specs.declared.sheet.Sheet.{Sheet as HeldSheet}
 
@@ -72,6 +75,25 @@ takes_at stored cell place sheets now_sheets s same is lt read h =
 
 pub sheets_as_before : (sheets now_sheets : List HeldSheet) (place : ℕ) (s after : HeldSheet) → sheets ≡ now_sheets → s ≡ get_or sheets place s → sheet_of after ≡ sheet_of s → map sheet_of (slice_set sheets place after) ≡ map sheet_of now_sheets
 sheets_as_before sheets now_sheets place s after is read same = seen_over sheet_of sheets place s after read same ∙ ap (map sheet_of) is
+
+-- ---- an array is written
+
+pub like_array : (formula : Formula) (block : Block) (styles left : List Style) (s after : HeldSheet) (r : Result (Unit {0}) OutOfMemory) → OnOk r (IsArrayWritten formula block styles left s after) → OnErr r (sheet_of after ≡ sheet_of s) → IsLike s after
+like_array formula block styles left s after (Ok done) h e = record { id = ap (λ (x : HeldSheet). x.id) h.2; name = ap (λ (x : HeldSheet). x.name) h.2 }
+like_array formula block styles left s after (Err error) h e = like_same s after e
+
+pub array_at : (formula : Formula) (block : Block) (styles left : List Style) (place : ℕ) (sheets now_sheets : List HeldSheet) (s after : HeldSheet) → sheets ≡ now_sheets → place < length now_sheets → s ≡ get_or sheets place s → IsArrayWritten formula block styles left s after
+    → WritesArrayAt formula block styles left place now_sheets (slice_set sheets place after)
+array_at formula block styles left place sheets now_sheets s after is lt read h =
+    let put : HeldSheet → HeldSheet = λ x. record x { pool = record { formulas = after.pool.formulas; is_whole = true }; grid = (with_array s.grid block h.0 styles).0 } in (
+      s,
+      after.pool.formulas,
+      h.0,
+      slice_get_read now_sheets (length now_sheets) place s refl lt (read ∙ ap (λ xs. get_or xs place s) is),
+      h.1,
+      ap (slice_set sheets place) h.2 ∙ set_updated put sheets place s read ∙ ap (updated_at put place) is,
+      h.3,
+    )
 
 -- ---- a copy gets its place
 

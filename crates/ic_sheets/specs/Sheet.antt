@@ -20,12 +20,15 @@ use Rattle.ic_cells.specs.declared.cell.Cell.{Cell}
 use Rattle.ic_cells.specs.declared.cell.Cell.TheVariants as cells
 use Rattle.ic_cells.specs.declared.sheet.SheetState.TheVariants as states
 use Rattle.ic_cells.specs.declared.style.Color.TheVariants as colors
+use Rattle.ic_cells.specs.declared.style.Style.{Style}
 use Rattle.ic_cells.specs.declared.value.FormulaValue.TheVariants as fvalues
-use Rattle.ic_grid.specs.Block.{is_in_sheet}
-use Rattle.ic_grid.specs.Calls.{can_write}
+use Rattle.ic_grid.specs.Block.{is_area, is_in_sheet}
+use Rattle.ic_grid.specs.Calls.{can_write, can_write_array}
 use Rattle.ic_grid.specs.Prepare.{written}
 use Rattle.ic_grid.specs.Shape.{celled}
 use Rattle.ic_grid.specs.Whole.{IsGrid}
+use Rattle.ic_grid.specs.Written.{with_array}
+use Rattle.ic_grid.specs.declared.block.Block.{Block}
 use Rattle.ic_grid.specs.declared.grid.Grid.{Grid}
 use Rattle.ic_pool.specs.Pool.{IsPlaced}
 use Rattle.ic_sheets.specs.declared.sheet.FormulaKind.{FormulaKind}
@@ -68,6 +71,12 @@ pub record TakesCell (place : CellPlace) (grid : Grid) : Type 0 where
   pub inside : is_in_sheet place ≡ true
   pub free : can_write celled grid.merged_cells grid.cells place ≡ Ok tt
 
+-- An array may be written into a block of a sheet: the block lies in the sheet, and no merged cells or array forbid it.
+pub record TakesArray (block : Block) (grid : Grid) : Type 0 where
+  pub whole : IsGrid grid
+  pub area : is_area block ≡ true
+  pub free : can_write_array celled grid.merged_cells grid.cells block ≡ Ok tt
+
 -- the formulas of the sheet at an index, from 0, in their places; none past the end
 abbrev pub pool_at : List HeldSheet → ℕ → List Formula
 pool_at sheets index = unwrap_or (option_map (λ s. s.pool.formulas) (slice_get sheets index)) []
@@ -77,6 +86,21 @@ abbrev pub IsWritten : Formula → FormulaKind → ℕ → CellPlace → HeldShe
 IsWritten formula kind style cell before after =
     (place : ℕ) × IsPlaced formula place before.pool.formulas after.pool.formulas
     × (after ≡ record before { pool = record { formulas = after.pool.formulas; is_whole = true }; grid = with_cell_in cell (formula_cell kind place style) before.grid })
+
+-- An array has been written into a block of a sheet: its formula has got its place among those that the sheet keeps, and
+-- styles may have come.
+abbrev pub IsArrayWritten : Formula → Block → List Style → List Style → HeldSheet → HeldSheet → Type 0
+IsArrayWritten formula block styles left before after =
+    (place : ℕ) × IsPlaced formula place before.pool.formulas after.pool.formulas
+    × (after ≡ record before { pool = record { formulas = after.pool.formulas; is_whole = true }; grid = (with_array before.grid block place styles).0 })
+    × (left ≡ (with_array before.grid block place styles).1)
+
+-- the same of the sheet at an index, from 0, among others
+abbrev pub WritesArrayAt : Formula → Block → List Style → List Style → ℕ → List HeldSheet → List HeldSheet → Type 0
+WritesArrayAt formula block styles left index sheets list =
+    (sheet : HeldSheet) × (pool : List Formula) × (place : ℕ) × (slice_get sheets index ≡ Some sheet) × IsPlaced formula place sheet.pool.formulas pool
+    × (list ≡ updated_at (λ s. record s { pool = record { formulas = pool; is_whole = true }; grid = (with_array sheet.grid block place styles).0 }) index sheets)
+    × (left ≡ (with_array sheet.grid block place styles).1)
 
 -- a sheet whose look-up has all of its formulas
 abbrev pub looking_up : HeldSheet → HeldSheet

@@ -1,13 +1,15 @@
 ghost use Rattle.std.specs.Prelude.{◌≡◌, ◌≤◌, ◌+◌, [], IfOk, OnErr, OnOk, false, is_some, length, true};
 ghost use Rattle.std.specs.FinMap as finite;
+ghost use Rattle.ic_grid.specs.Whole.{IsStyled};
+ghost use Rattle.ic_grid.specs.Written.{with_array};
 ghost use Rattle.ic_pool.specs.Pool.{IsPlaced};
-ghost use Rattle.ic_sheets.specs.Sheet.{IsSameOrLooksUp, IsWritten, TakesCell, empty_grid, formula_cell, plain_tab, sheet_of};
+ghost use Rattle.ic_sheets.specs.Sheet.{IsArrayWritten, IsSameOrLooksUp, IsWritten, TakesArray, TakesCell, empty_grid, formula_cell, plain_tab, sheet_of};
 
 use crate::Tab;
-use ic_cells::{ArrayKind, Cell, FormulaValue};
-use ic_grid::Grid;
+use ic_cells::{ArrayKind, Cell, FormulaValue, Styles};
+use ic_grid::{Block, Grid};
 use ic_laws::{Formula, OutOfMemory, Text};
-use ic_pool::{Pool, Steps};
+use ic_pool::{Pool, Steps, key_of};
 use std::alloc::Global;
 use std::sync::ledger::Ledger;
 
@@ -58,6 +60,34 @@ fn formula_cell(kind: FormulaKind, f: usize, s: usize) -> Cell
             kind: ArrayKind::Dynamic,
             v: FormulaValue::Unevaluated,
         },
+    }
+}
+
+/// Writes a Cse array with the formula at an index, from 0, into a block of a sheet where none forbids it.
+fn enter_block(
+    grid: &mut Grid,
+    styles: &mut Styles,
+    block: &Block,
+    at: usize,
+) -> Result<(), OutOfMemory>
+    requires takes { TakesArray block.now grid.old }
+    requires styled { IsStyled styles.old grid.old }
+    ensures ok { OnOk result (grid.new ≡ (with_array grid.old block.now at styles.old).0) }
+    ensures styles { OnOk result (styles.new ≡ (with_array grid.old block.now at styles.old).1) }
+    ensures kept { OnErr result (grid.new ≡ grid.old) }
+    ensures kept_styles { OnErr result (styles.new ≡ styles.old) }
+{
+    match grid.write_array(
+        styles,
+        block.row,
+        block.column,
+        block.width,
+        block.height,
+        at,
+    ) {
+        Ok(()) => Ok(()),
+        // Nothing refuses it, so that memory ran out.
+        Err(_) => Err(OutOfMemory),
     }
 }
 
@@ -157,6 +187,56 @@ impl Sheet {
             Err(error) => {
                 self.grid.cells.remove(row, column);
                 Err(error)
+            }
+        }
+    }
+
+    /// Writes a Cse array with a formula into a block of the sheet, as the grid does (`Grid::write_array`); the formula gets its
+    /// place among those that the sheet keeps. `OutOfMemory` changes nothing but what formulas are found by.
+    pub fn write_array(
+        &mut self,
+        styles: &mut Styles,
+        block: &Block,
+        formula: Formula,
+    ) -> Result<(), OutOfMemory>
+        requires takes { TakesArray block.now self.old.grid }
+        requires styled { IsStyled styles.old self.old.grid }
+        ensures ok { OnOk result (IsArrayWritten formula block.now styles.old styles.new
+            self.old self.new) }
+        ensures err { OnErr result (sheet_of self.new ≡ sheet_of self.old) }
+        ensures looks_up { OnErr result (IsSameOrLooksUp self.old self.new) }
+        ensures kept_styles { OnErr result (styles.new ≡ styles.old) }
+    {
+        self.pool.make_whole_uncounted()?;
+        self.enter_array(styles, block, formula)
+    }
+
+    /// The same where the look-up of its formulas is whole: where memory runs out after the formula got its place, it is
+    /// taken out again.
+    fn enter_array(
+        &mut self,
+        styles: &mut Styles,
+        block: &Block,
+        formula: Formula,
+    ) -> Result<(), OutOfMemory>
+        requires whole { self.old.pool.is_whole ≡ true }
+        requires takes { TakesArray block.now self.old.grid }
+        requires styled { IsStyled styles.old self.old.grid }
+        ensures ok { OnOk result (IsArrayWritten formula block.now styles.old styles.new
+            self.old self.new) }
+        ensures err { OnErr result (self.new ≡ self.old) }
+        ensures kept_styles { OnErr result (styles.new ≡ styles.old) }
+    {
+        let key = key_of(self.grid.cells.alloc(), &formula)?;
+        let count = self.pool.len();
+        let at = self.pool.place(formula)?;
+        match enter_block(&mut self.grid, styles, block, at) {
+            Ok(()) => Ok(()),
+            Err(lack) => {
+                if self.pool.len() > count {
+                    self.pool.take_back(&key);
+                }
+                Err(lack)
             }
         }
     }

@@ -7,5 +7,6 @@ pub mod NumberLemmas
 pub mod ReplyLemmas
 pub mod ScopeLemmas
 pub mod SubjectLemmas
+pub mod ValueLemmas
 pub mod WordLemmas
 pub mod WordsLemmas

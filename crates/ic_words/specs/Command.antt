@@ -1,5 +1,6 @@
 -- Commands as the code has them.
 use Rattle.ic_machine.specs.Command as laws
+use Rattle.ic_words.specs.subjects.Arrays.{arrays_meant}
 use Rattle.ic_words.specs.subjects.Definitions.{definitions_meant}
 use Rattle.ic_words.specs.subjects.Extending.{extending_meant}
 use Rattle.ic_words.specs.subjects.Layout.{layout_meant}
@@ -23,3 +24,4 @@ command_meant (commands.Extending command) = laws.OnExtending (extending_meant c
 command_meant (commands.Styles command) = laws.OnStyles (styles_meant command)
 command_meant (commands.Layout command) = laws.OnLayout (layout_meant command)
 command_meant (commands.Tabs command) = laws.OnTabs (tabs_meant command)
+command_meant (commands.Arrays command) = laws.OnArrays (arrays_meant command)

@@ -9,6 +9,10 @@ use Rattle.ic_machine.specs.Row.{Row, rows_named}
 unfoldable pub served : List core.CommandRow
 served = core.rows_named served_names
 
--- what words after a name are by the served rows of a subject
+-- what words after a name are by the served rows of a subject, by the English words of the error values
+abbrev pub served_by : List (List ℕ) → {C : Type 0} → List (Row C) → List ℕ → List (List ℕ) → Option (Option C)
+served_by english all name words = rows.named english (rows_named served_names all) name words
+
+-- the same of a subject that has no error values among its words
 abbrev pub served_in : {C : Type 0} → List (Row C) → List ℕ → List (List ℕ) → Option (Option C)
-served_in all name words = rows.named [] (rows_named served_names all) name words
+served_in all name words = served_by [] all name words

@@ -1,3 +1,4 @@
+pub mod Arrays
 pub mod Definitions
 pub mod Extending
 pub mod Layout

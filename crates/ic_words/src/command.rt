@@ -1,9 +1,10 @@
-ghost use Rattle.std.specs.Prelude.{◌≡◌, ℕ, List, [], IfOk, OnErr, chars, option_map};
+ghost use Rattle.std.specs.Prelude.{◌≡◌, ◌⊎◌, IfOk, OnErr, chars, option_map, true};
 ghost use Rattle.ic_laws.specs.Lines.{words_of};
+ghost use Rattle.ic_tables.specs.Words.{error_words};
 ghost use Rattle.ic_machine.specs.Command.{command_in, served};
 ghost use Rattle.ic_machine.specs.Row.{joined, named};
 ghost use Rattle.ic_words.specs.Command.{command_meant};
-ghost use Rattle.ic_words.specs.Words.{HaveEscape, words_left};
+ghost use Rattle.ic_words.specs.Words.{CopyValues, HaveEscape, copies_values, words_left};
 
 // What the words that are left make, where they are of the shape of the pattern.
 macro_rules! said {
@@ -27,6 +28,7 @@ macro_rules! try_subject {
     };
 }
 
+pub mod arrays;
 pub mod definitions;
 pub mod extending;
 pub mod layout;
@@ -38,9 +40,11 @@ pub mod tabs;
 pub mod writing;
 
 use crate::words::first_word;
+use arrays::{Arrays, arrays_named};
 use definitions::{Definitions, definitions_named};
 use extending::{Extending, extending_named};
 use ic_laws::OutOfMemory;
+use ic_tables::Language;
 use layout::{Layout, layout_named};
 use notation::{Notation, notation_named};
 use reading::{Reading, reading_named};
@@ -64,30 +68,38 @@ pub enum Command<'l> {
     Styles(Styles<'l>),
     Layout(Layout),
     Tabs(Tabs<'l>),
+    Arrays(Arrays<'l>),
 }
 
-/// The command that a line is; None where it is none that is served: another name, fewer or more words, a number that
-/// isn't one of its type, or a wrong escape. Memory is asked for only for a text with an escape.
-pub fn command_in<'l>(alloc: Global, line: &'l str) -> Result<Option<Command<'l>>, OutOfMemory>
-    ensures exact { IfOk result
-        (λ command. (english : List (List ℕ)) → option_map command_meant command ≡ command_in
-        english served (chars line.now)) }
-    ensures memory { OnErr result (HaveEscape (words_of (chars line.now))) }
+/// The command that a line is, where this is the language `en`; None where it is none that is served: another name, fewer or
+/// more words, a number that isn't one of its type, a value that is none, or a wrong escape. Memory is asked for only for a
+/// text with an escape, and for values.
+pub fn command_in<'l>(
+    alloc: Global,
+    english: &Language,
+    line: &'l str,
+) -> Result<Option<Command<'l>>, OutOfMemory>
+    ensures exact { IfOk result (λ command. option_map command_meant command
+        ≡ command_in (error_words english.now) served (chars line.now)) }
+    ensures memory { OnErr result
+        (HaveEscape (words_of (chars line.now)) ⊎ CopyValues (words_of (chars line.now))) }
 {
     let (name, rest) = first_word(line);
-    command_named(alloc, name, rest)
+    command_named(alloc, english, name, rest)
 }
 
 /// The command of this name, with the words that are left: that of the one subject that has the name.
 fn command_named<'l>(
     alloc: Global,
+    english: &Language,
     name: &str,
     rest: Option<&'l str>,
 ) -> Result<Option<Command<'l>>, OutOfMemory>
     ensures exact { IfOk result
         (λ command. option_map command_meant command ≡ joined
-        (named [] served (chars name.now) (words_left rest.entry))) }
-    ensures memory { OnErr result (HaveEscape (words_left rest.entry)) }
+        (named (error_words english.now) served (chars name.now) (words_left rest.entry))) }
+    ensures memory { OnErr result
+        (HaveEscape (words_left rest.entry) ⊎ (copies_values (chars name.now) ≡ true)) }
 {
     try_subject!(sheets_named(alloc, name, rest), Command::Sheets);
     try_subject!(definitions_named(alloc, name, rest), Command::Definitions);
@@ -98,5 +110,6 @@ fn command_named<'l>(
     try_subject!(styles_named(alloc, name, rest), Command::Styles);
     try_subject!(layout_named(alloc, name, rest), Command::Layout);
     try_subject!(tabs_named(alloc, name, rest), Command::Tabs);
+    try_subject!(arrays_named(alloc, english, name, rest), Command::Arrays);
     Ok(None)
 }

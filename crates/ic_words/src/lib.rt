@@ -1,8 +1,8 @@
 //! Command lines read into commands, and replies written: what the program and the book share.
 //!
 //! A line of words a command: its name, the shape of its words and what they make; words are read and fields are written
-//! by one function each. A word is taken where it stands in its line, and only a text with an escape is copied. What each
-//! reader answers is by the table of `ic_machine/specs/Command`, both ways.
+//! by one function each. A word is taken where it stands in its line, and only a text with an escape and the text of a value
+//! are copied. What each reader answers is by the table of `ic_machine/specs/Command`, both ways.
 #![tactic(auto)]
 
 mod choices;
@@ -12,9 +12,11 @@ mod numbers;
 mod reply;
 mod styling;
 mod text;
+mod values;
 mod word;
 mod words;
 
+pub use command::arrays::Arrays;
 pub use command::definitions::Definitions;
 pub use command::extending::Extending;
 pub use command::layout::Layout;
@@ -30,5 +32,6 @@ pub use numbers::{index_of, position_of, scope_said};
 pub use reply::{REPLY_ROOM, error_reply, law_reply_room, ok_reply};
 pub use styling::{StyleWords, color_of};
 pub use text::{WordText, text_of};
+pub use values::ValueWords;
 pub use word::Word;
 pub use words::Words;

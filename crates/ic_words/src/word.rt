@@ -1,8 +1,8 @@
 //! One word, by its form.
-ghost use Rattle.std.specs.Prelude.{◌≡◌, IfOk, OnErr, chars, option_map};
+ghost use Rattle.std.specs.Prelude.{◌≡◌, ℕ, List, [], IfOk, OnErr, chars, option_map, refl};
 ghost use Rattle.ic_machine.specs.Word.{OfAmount, OfBool, OfColor, OfFlag, OfIndex, OfPosition};
 ghost use Rattle.ic_machine.specs.Word.{OfScope, OfState, OfText};
-ghost use Rattle.ic_machine.specs.Word.{Said, WordForm};
+ghost use Rattle.ic_machine.specs.Word.{Said, WordForm, said};
 ghost use Rattle.ic_words.specs.Words.{HasEscape, color_meant, word_said};
 
 use crate::choices::{bool_in, flag_in, state_in};
@@ -19,6 +19,9 @@ pub trait Word<'l>: Drop {
 
     ghost says: { Self → Said form };
 
+    // The English words of the error values don't matter.
+    ghost plain: { (english : List (List ℕ)) (text : List ℕ) → said english form text ≡ said [] form text };
+
     /// The value that a word says; None where the word isn't of the form. Memory is asked for only where it has an escape.
     fn of(alloc: Global, word: &'l str) -> Result<Option<Self>, OutOfMemory>
         ensures exact { IfOk result
@@ -31,6 +34,8 @@ impl<'l> Word<'l> for WordText<'l> {
 
     ghost says = { λ text. text };
 
+    ghost plain = { λ english text. refl };
+
     fn of(alloc: Global, word: &'l str) -> Result<Option<WordText<'l>>, OutOfMemory> {
         text_of(alloc, word)
     }
@@ -40,6 +45,8 @@ impl<'l> Word<'l> for u32 {
     ghost form = { OfIndex };
 
     ghost says = { λ index. index };
+
+    ghost plain = { λ english text. refl };
 
     fn of(_: Global, word: &'l str) -> Result<Option<u32>, OutOfMemory> {
         Ok(index_of(word))
@@ -51,6 +58,8 @@ impl<'l> Word<'l> for i32 {
 
     ghost says = { λ position. position };
 
+    ghost plain = { λ english text. refl };
+
     fn of(_: Global, word: &'l str) -> Result<Option<i32>, OutOfMemory> {
         Ok(position_of(word))
     }
@@ -61,6 +70,8 @@ impl<'l> Word<'l> for Option<u32> {
 
     ghost says = { λ scope. scope };
 
+    ghost plain = { λ english text. refl };
+
     fn of(_: Global, word: &'l str) -> Result<Option<Option<u32>>, OutOfMemory> {
         Ok(scope_said(word))
     }
@@ -70,6 +81,8 @@ impl<'l> Word<'l> for bool {
     ghost form = { OfBool };
 
     ghost says = { λ truth. truth };
+
+    ghost plain = { λ english text. refl };
 
     fn of(alloc: Global, word: &'l str) -> Result<Option<bool>, OutOfMemory> {
         let Some(text) = text_of(alloc, word)? else {
@@ -90,6 +103,8 @@ impl<'l> Word<'l> for Flag {
 
     ghost says = { λ flag. flag.set };
 
+    ghost plain = { λ english text. refl };
+
     fn of(alloc: Global, word: &'l str) -> Result<Option<Flag>, OutOfMemory> {
         let Some(text) = text_of(alloc, word)? else {
             return Ok(None);
@@ -107,6 +122,8 @@ impl<'l> Word<'l> for Amount {
 
     ghost says = { λ amount. amount };
 
+    ghost plain = { λ english text. refl };
+
     fn of(alloc: Global, word: &'l str) -> Result<Option<Amount>, OutOfMemory> {
         let Some(text) = text_of(alloc, word)? else {
             return Ok(None);
@@ -119,6 +136,8 @@ impl<'l> Word<'l> for SheetState {
     ghost form = { OfState };
 
     ghost says = { λ state. state };
+
+    ghost plain = { λ english text. refl };
 
     fn of(alloc: Global, word: &'l str) -> Result<Option<SheetState>, OutOfMemory> {
         let Some(text) = text_of(alloc, word)? else {
@@ -133,6 +152,8 @@ impl<'l> Word<'l> for Option<WordText<'l>> {
     ghost form = { OfColor };
 
     ghost says = { color_meant };
+
+    ghost plain = { λ english text. refl };
 
     fn of(alloc: Global, word: &'l str) -> Result<Option<Option<WordText<'l>>>, OutOfMemory> {
         let Some(text) = text_of(alloc, word)? else {

@@ -1,22 +1,26 @@
 //! Definitions come and go, and what their bodies mention changes.
-ghost use Rattle.std.specs.Prelude.{◌≡◌, ◌<◌, ◌++◌, ℕ, List, [], ◌∷◌, IfOk, OnErr, OnOk, false, length, map, option_map, option_to_list, remove};
+ghost use Rattle.std.specs.Prelude.{◌≡◌, ◌<◌, ◌++◌, ℕ, List, [], ◌∷◌, IfOk, None, OnErr, OnOk, Some, false, length, map, option_map, option_to_list, remove};
 ghost use Rattle.std.specs.BTreeMap.{get};
 ghost use Rattle.std.specs.Cmp.Lexicographic.{slice_cmp};
-ghost use Rattle.std.specs.List.{AllByRecursion, list_any};
+ghost use Rattle.std.specs.List.{AllByRecursion, list_any, slice_get};
 ghost use Rattle.std.specs.Ordering.{nat_cmp};
+ghost use Rattle.ic_laws.specs.Binding.{name_or_dangling};
 ghost use Rattle.ic_laws.specs.BookTrees.{with_body_tree};
-ghost use Rattle.ic_laws.specs.Changes.{changed_tree};
+ghost use Rattle.ic_laws.specs.Changes.{changed_tree, definition_added, definition_gone};
+ghost use Rattle.ic_laws.specs.CoreBook as core;
+ghost use Rattle.ic_laws.specs.CoreBook.{spelling_of};
 ghost use Rattle.ic_laws.specs.CoreStep.{is_named};
 ghost use Rattle.ic_laws.specs.Greatest.{greatest};
+ghost use Rattle.ic_laws.specs.Scene.{found_name};
 ghost use Rattle.ic_definitions.specs.Bodies.{FitsBodies, StaysWhereFound, with_bodies};
-ghost use Rattle.ic_definitions.specs.Named.{key_in, lowered, scopes_of};
+ghost use Rattle.ic_definitions.specs.Named.{definitions_scene, key_in, lowered, scopes_of};
 ghost use Rattle.ic_pool.specs.Code.{name_code};
 
 use super::Definitions;
 use crate::bodies::rewrites_of;
 use crate::{BodyRewrites, Definition};
-use ic_laws::OutOfMemory;
-use ic_pool::{BookChange, Key, has_dangling, name_key};
+use ic_laws::{NameKey, NameMention, OutOfMemory, Text};
+use ic_pool::{BookChange, DefinitionAdded, DefinitionGone, Key, has_dangling, name_key};
 use std::alloc::Global;
 use std::collections::BTreeMap;
 
@@ -52,8 +56,102 @@ impl Definitions {
         rewrites.put(&mut self.list);
     }
 
-    /// Adds a definition at the end, and gives the others the bodies that were prepared. `OutOfMemory` changes nothing.
-    pub fn add(&mut self, definition: Definition, rewrites: BodyRewrites) -> Result<(), OutOfMemory>
+    /// Adds a definition at the end. Words of the bodies that found nothing, and could mean it, do. Where it is local to a
+    /// sheet, so do words of that sheet's definitions that meant the one of an agreeing name without scope. Where it is local
+    /// to none, a body in which all was found must be one that it leaves. `OutOfMemory` changes nothing.
+    pub fn add(&mut self, definition: Definition) -> Result<(), OutOfMemory>
+        requires free { list_any (is_named definition.name definition.scope) self.old ≡ false }
+        requires spares { definition.scope ≡ None → AllByRecursion (StaysWhereFound
+            (definition_added (spelling_of definition))) self.old }
+        ensures ok { OnOk result (self.new ≡ map (with_body_tree (changed_tree (definition_added
+            (spelling_of definition)))) self.old ++ definition ∷ []) }
+        ensures err { OnErr result (self.new ≡ self.old) }
+    {
+        let bodies = self.prepare_added(&definition)?;
+        self.add_prepared(definition, bodies)
+    }
+
+    /// Takes the definition at an index away, from 0. Words of the bodies that meant it mean what `mention_without` tells.
+    /// `OutOfMemory` changes nothing.
+    pub fn delete(&mut self, index: usize) -> Result<(), OutOfMemory>
+        requires { index < length self.old }
+        ensures ok { OnOk result ((d : core.Definition) → slice_get self.old index ≡ Some d
+            → self.new ≡ remove (map (with_body_tree (changed_tree (definition_gone
+            (definitions_scene (remove self.old index)) (spelling_of d)))) self.old) index) }
+        ensures err { OnErr result (self.new ≡ self.old) }
+    {
+        let bodies = self.prepare_gone(index)?;
+        self.delete_prepared(index, bodies)
+    }
+
+    /// What a word that means the definition at an index, from 0, means without it: the one of an agreeing name that is local
+    /// to none, or nothing, by its name.
+    pub fn mention_without(&self, index: usize) -> Result<NameMention, OutOfMemory>
+        requires { index < length self.now }
+        ensures { IfOk result (λ mention. (d : core.Definition) → slice_get self.now index ≡ Some d
+            → mention ≡ name_or_dangling d.name (found_name (definitions_scene
+            (remove self.now index)) None d.name)) }
+    {
+        let definition = &self.as_slice()[index];
+        match self.key_without(definition)? {
+            Some(key) => Ok(NameMention::Name(key)),
+            None => Ok(NameMention::Dangling(Text::from_str(self.alloc, definition.name())?)),
+        }
+    }
+
+    /// The key that such a word finds without this definition, which is one of these.
+    fn key_without(&self, definition: &Definition) -> Result<Option<NameKey>, OutOfMemory>
+        ensures { IfOk result (λ key. (index : ℕ) → slice_get self.now index ≡ Some definition.now
+            → key ≡ found_name (definitions_scene (remove self.now index)) None
+            definition.now.name) }
+    {
+        // What always holds of definitions is known from here on.
+        let _ = &self.list;
+        match definition.scope() {
+            Some(_) => self.key_at(None, definition.name()),
+            None => Ok(None),
+        }
+    }
+
+    /// What a definition that comes does to the bodies.
+    fn prepare_added(&self, definition: &Definition) -> Result<BodyRewrites, OutOfMemory>
+        requires { definition.now.scope ≡ None → AllByRecursion (StaysWhereFound
+            (definition_added (spelling_of definition.now))) self.now }
+        ensures made { IfOk result (λ w. with_bodies w.bodies.items self.now
+            ≡ map (with_body_tree (changed_tree (definition_added
+            (spelling_of definition.now)))) self.now) }
+        ensures fits { IfOk result (λ w. FitsBodies w self.now) }
+    {
+        let added = DefinitionAdded::new(definition.name(), definition.key());
+        match definition.scope() {
+            None => self.prepare_dangling(&added),
+            Some(_) => self.prepare(&added),
+        }
+    }
+
+    /// What the definition at an index does to the bodies where it goes.
+    fn prepare_gone(&self, index: usize) -> Result<BodyRewrites, OutOfMemory>
+        requires { index < length self.now }
+        ensures made { IfOk result (λ w. (d : core.Definition) → slice_get self.now index ≡ Some d
+            → with_bodies w.bodies.items self.now ≡ map (with_body_tree (changed_tree
+            (definition_gone (definitions_scene (remove self.now index)) (spelling_of d))))
+            self.now) }
+        ensures fits { IfOk result (λ w. FitsBodies w self.now) }
+    {
+        let becomes = self.mention_without(index)?;
+        let gone = DefinitionGone {
+            key: self.as_slice()[index].key(),
+            becomes: &becomes,
+        };
+        self.prepare(&gone)
+    }
+
+    /// Adds a definition at the end, and gives the others the bodies that were prepared.
+    fn add_prepared(
+        &mut self,
+        definition: Definition,
+        rewrites: BodyRewrites,
+    ) -> Result<(), OutOfMemory>
         requires free { list_any (is_named definition.name definition.scope) self.old ≡ false }
         requires fits { FitsBodies rewrites self.old }
         ensures ok { OnOk result (self.new ≡ with_bodies rewrites.bodies.items self.old
@@ -71,9 +169,8 @@ impl Definitions {
         Ok(())
     }
 
-    /// Takes the definition at an index away, from 0, and gives the others the bodies that were prepared. `OutOfMemory`
-    /// changes nothing.
-    pub fn delete(&mut self, index: usize, rewrites: BodyRewrites) -> Result<(), OutOfMemory>
+    /// Takes the definition at an index away, and gives the others the bodies that were prepared.
+    fn delete_prepared(&mut self, index: usize, rewrites: BodyRewrites) -> Result<(), OutOfMemory>
         requires within { index < length self.old }
         requires fits { FitsBodies rewrites self.old }
         ensures ok { OnOk result (self.new ≡ remove (with_bodies rewrites.bodies.items self.old)

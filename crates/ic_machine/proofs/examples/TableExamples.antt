@@ -20,6 +20,7 @@ served_rows : map (λ row. row.name) served
     ∷ codes "get_column_width" ∷ codes "get_row_height" ∷ codes "set_column_hidden" ∷ codes "set_row_hidden" ∷ codes "is_column_hidden"
     ∷ codes "is_row_hidden" ∷ codes "set_theme" ∷ codes "get_theme" ∷ codes "set_frozen_rows" ∷ codes "set_frozen_columns"
     ∷ codes "get_frozen_rows_count" ∷ codes "get_frozen_columns_count" ∷ codes "set_sheet_color" ∷ codes "set_sheet_state"
-    ∷ codes "set_show_grid_lines" ∷ []
+    ∷ codes "set_show_grid_lines" ∷ codes "set_user_array_formula" ∷ codes "range_clear_contents" ∷ codes "range_clear_all"
+    ∷ codes "put_formula_value" ∷ codes "put_spill" ∷ []
 unfolding commands served
 served_rows = refl

@@ -2,12 +2,15 @@
 ghost use Rattle.std.specs.Prelude.{◌≡◌, ◌<◌, ◌≤◌, ◌+◌, ℕ, List, Some, IfOk, IfSome, OnErr, OnOk, length, map, option_map, slice_get, true};
 ghost use Rattle.ic_laws.specs.CoreStep.{updated_at};
 ghost use Rattle.ic_laws.specs.declared.tree.Formula.{Formula};
+ghost use Rattle.ic_grid.specs.Whole.{IsStyled};
 ghost use Rattle.ic_pool.specs.Pool.{IsPlaced};
-ghost use Rattle.ic_sheets.specs.Sheet.{AreSameOrLookUp, TakesCell, formula_cell, pool_at, sheet_of, with_cell_in};
+ghost use Rattle.ic_sheets.specs.Sheet.{AreSameOrLookUp, TakesArray, TakesCell, WritesArrayAt, formula_cell, pool_at, sheet_of, with_cell_in};
 
 use super::Sheets;
 use super::dangling::{dangles, settle};
 use crate::FormulaKind;
+use ic_cells::Styles;
+use ic_grid::Block;
 use ic_laws::{Formula, OutOfMemory};
 use ic_pool::Steps;
 use std::sync::ledger::Ledger;
@@ -39,6 +42,31 @@ impl Sheets {
         let sheet = &mut self.list[index];
         let was = dangles(sheet);
         let written = sheet.write(row, column, formula, kind, style);
+        settle(&mut self.dangling, sheet.id, was, dangles(sheet));
+        written
+    }
+
+    /// Writes a Cse array with a formula into a block of the sheet at an index, from 0, as its grid does. `OutOfMemory` changes
+    /// nothing but what formulas are found by.
+    pub fn write_array(
+        &mut self,
+        styles: &mut Styles,
+        index: usize,
+        block: &Block,
+        formula: Formula,
+    ) -> Result<(), OutOfMemory>
+        requires within { index < length self.old }
+        requires takes { IfSome (slice_get self.old index) (λ s. TakesArray block.now s.grid) }
+        requires styled { IfSome (slice_get self.old index) (λ s. IsStyled styles.old s.grid) }
+        ensures ok { OnOk result (WritesArrayAt formula block.now styles.old styles.new index
+            self.old self.new) }
+        ensures err { OnErr result (map sheet_of self.new ≡ map sheet_of self.old) }
+        ensures looks_up { OnErr result (AreSameOrLookUp index self.old self.new) }
+        ensures kept_styles { OnErr result (styles.new ≡ styles.old) }
+    {
+        let sheet = &mut self.list[index];
+        let was = dangles(sheet);
+        let written = sheet.write_array(styles, block, formula);
         settle(&mut self.dangling, sheet.id, was, dangles(sheet));
         written
     }

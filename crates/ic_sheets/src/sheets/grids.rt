@@ -2,7 +2,6 @@
 ghost use Rattle.std.specs.Prelude.{◌≡◌, ◌<◌, IfSome, OnErr, OnOk, length, slice_get, true};
 ghost use Rattle.std.specs.Fn.{FnOnceTakesAtMut};
 ghost use Rattle.ic_grid.specs.Shape.{is_loose, shape_of};
-ghost use Rattle.ic_grid.specs.declared.grid.Grid.{Grid};
 ghost use Rattle.ic_laws.specs.CoreStep.{updated_at};
 ghost use Rattle.ic_sheets.specs.Sheet.{ChangesGrid, TakesCell, with_cell_in};
 
@@ -15,7 +14,8 @@ impl Sheets {
     /// Changes the cells, rows and columns of the sheet at an index, from 0.
     pub fn change_grid<T, F: FnOnce(&mut Grid) -> T + Drop>(&mut self, index: usize, change: F) -> T
         requires within { index < length self.old }
-        requires callable { (grid : Grid) → FnOnceTakesAtMut F.FnOnce change grid }
+        requires callable { IfSome (slice_get self.old index)
+            (λ s. FnOnceTakesAtMut F.FnOnce change s.grid) }
         ensures { ChangesGrid F.FnOnce change index result self.old self.new }
     {
         let sheet = &mut self.list[index];

@@ -19,15 +19,15 @@ whole-requires c =
     (c.pop.ensures.ascii_bytes (some_byte front _ _ does.reply is_len) (last_byte front _ _ does.reply is_len))
 
 pub returns-clause-reply : goal.returns-clause-reply
-returns-clause-reply c core =
+returns-clause-reply c plain core =
     let book = c.args.model.now.book in
     let text = lines.reply_text (lines.line_step (notations_in book) served (core_of book) c.args.line.now).1 in
     let reply = c.in_ok-reply.reply in
-    let told = c.in_ok-reply.ensures.reply core in
+    let told = c.in_ok-reply.ensures.reply plain core in
     let front = encode_utf8_all text in
     let is_len : string_len reply ≡ length (string_bytes reply) = reply.bytes.ok.0 in
     c.whole.ensures
-    ∙ cut_reply text (string_bytes reply) _ (string_len reply) (c.in_ok-reply.ensures.line core) told is_len
+    ∙ cut_reply text (string_bytes reply) _ (string_len reply) (c.in_ok-reply.ensures.line plain core) told is_len
     (c.pop.ensures.ascii_bytes (some_byte front _ _ told is_len) (last_byte front _ _ told is_len))
 
 pub returns-clause-told : goal.returns-clause-told

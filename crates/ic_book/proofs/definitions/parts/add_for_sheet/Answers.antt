@@ -1,4 +1,4 @@
-use Rattle.std.proofs.Common.{List, Option, Some, ap, ap₂, map, refl, subst, ℕ, ◌∙◌, ◌≡◌}
+use Rattle.std.proofs.Common.{List, None, Option, Some, ap, ap₂, map, refl, subst, sym, ℕ, ◌∙◌, ◌≡◌}
 use Rattle.ic_laws.specs.Changes.{definition_added}
 use Rattle.ic_laws.specs.CoreBook.{spelling_of}
 use Rattle.ic_laws.specs.declared.scene.DefinitionSpelling.{DefinitionSpelling}
@@ -8,6 +8,14 @@ use Rattle.ic_sheets.proofs.RewritingLemmas.{sheet_there}
 use Rattle.ic_sheets.specs.Rewriting.{IsPrepared, look_ups, sheets_of}
 use Rattle.ic_book.proofs.SparedBodies.{local_looks_up, local_made}
 use Rattle.ic_book.proofs.definitions.parts.add_for_sheet.Goals as goal
+
+pub add-requires-clause-spares : goal.add-requires-clause-spares
+add-requires-clause-spares c = λ none.
+    let found = sheet_there c.args.contents.now.sheets c.args.index c.requires.within in
+    absurd (some_is_none (sym (c.requires.scope found.0 found.1) ∙ none))
+  where
+    some_is_none : {n : ℕ} → Some n ≡ None → ⊥
+    some_is_none e = cc
 
 pub apply_at-requires-clause-fits : goal.apply_at-requires-clause-fits
 apply_at-requires-clause-fits c = λ sheet at. (c.in_ok-formulas.ensures sheet at).fits

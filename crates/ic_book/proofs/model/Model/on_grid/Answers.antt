@@ -9,7 +9,7 @@ use Rattle.ic_book.specs.Inside.{held_state, with_sheets}
 use Rattle.ic_book.specs.Whole.{whole_of}
 use Rattle.ic_book.proofs.HeldLemmas.{past_of}
 use Rattle.ic_book.proofs.PartLemmas.{not_held}
-use Rattle.ic_book.proofs.GridPartLemmas.{grid_does, grid_held, grid_missing, grid_state}
+use Rattle.ic_book.proofs.GridPartLemmas.{grid_does, grid_held, grid_missing, grid_state, laid_held}
 use Rattle.ic_book.proofs.model.Model.on_grid.Goals as goal
 
 pub returns-then-sheet-len-clause-changes : goal.returns-then-sheet-len-clause-changes
@@ -22,7 +22,7 @@ returns-then-sheet-len-clause-changes g c = record {
 pub invariant_of-self : goal.invariant_of-self
 invariant_of-self g c =
     grid_held c.self.inside c.self.invariant c.args.sheet c.change_grid.new.self c.change_grid.ensures.after c.change_grid.ensures.becomes
-    c.change_grid.ensures.sheet c.change_grid.ensures.there (c.requires.laid_out c.change_grid.ensures.sheet.grid c.change_grid.ensures.after c.change_grid.result c.change_grid.ensures.called)
+    c.change_grid.ensures.sheet c.change_grid.ensures.there (laid_held c.change_grid.ensures.sheet.grid c.change_grid.ensures.after (c.requires.laid_out c.change_grid.ensures.sheet.grid c.change_grid.ensures.after c.change_grid.result c.change_grid.ensures.called))
 
 pub returns-clause-changes : goal.returns-clause-changes
 returns-clause-changes g c = record {
@@ -32,7 +32,7 @@ returns-clause-changes g c = record {
       let new : ModelState = held_state (with_sheets c.change_grid.new.self c.self.inside) in
       subst (λ (m : ModelState). DoesStep (wants memory) (on_grid (whole_of m.book) c.args.sheet step) fields c.change_grid.result m new) c.self.view_is
       (grid_does old c.self.invariant c.args.sheet memory step fields (sheet_of did.sheet) (slice_get-map sheet_of c.self.inside.contents.sheets c.args.sheet ∙ ap (option_map sheet_of) did.there) did.after
-      (c.requires.laid_out did.sheet.grid did.after c.change_grid.result did.called) new
+      (laid_held did.sheet.grid did.after (c.requires.laid_out did.sheet.grid did.after c.change_grid.result did.called)) new
       (grid_state c.self.inside c.self.invariant c.args.sheet c.change_grid.new.self did.after did.becomes) c.change_grid.result (h did.sheet.grid did.after c.change_grid.result did.called));
 }
 

@@ -1,0 +1,82 @@
+-- A formula that stands last, and nowhere before, is taken out again.
+use Rattle.std.proofs.Common.{◌≡◌, ℕ, suc, ◌<◌, ◌+◌, ◌-◌, List, [], ◌∷◌, ◌++◌, Bool, true, false, cond, Option, Some, None, refl, sym, ap, ap₂, ◌∙◌, length, length-append, take, bytes_eq, append-nil, arith}
+use Rattle.std.specs.BTreeMap.{Updates, get}
+use Rattle.std.specs.Cmp.Lexicographic.{slice_cmp}
+use Rattle.std.specs.Ordering.{nat_cmp}
+use Rattle.std.proofs.lemmas.List.{take_at}
+use Rattle.std.proofs.lemmas.Map.Text.{is_eq-slice_cmp}
+use Rattle.std.proofs.lemmas.Slice.Eq.{bytes_eq-Decides}
+use Rattle.ic_laws.specs.declared.tree.Formula.{Formula}
+use Rattle.ic_pool.specs.Code.{code}
+use Rattle.ic_pool.specs.Mentions.{has_dangling}
+use Rattle.ic_pool.specs.Pool.{EndsWithNew, IsKept, KeepsPlaces, dangling_places, first_place}
+use Rattle.ic_pool.proofs.IndexLemmas.{Index, places_from-push}
+use Rattle.ic_pool.proofs.LateLemmas.{whole_knows}
+use Rattle.ic_pool.proofs.PlacedLemmas.{first_place-push}
+
+-- two lists with their last items are equal where both parts are
+not_empty : {X : Type 0} (xs : List X) (x : X) → [] ≡ xs ++ x ∷ [] → ⊥
+not_empty [] x e = cc
+not_empty (y ∷ xs) x e = cc
+
+pub last_is : {X : Type 0} (xs ys : List X) (x y : X) → xs ++ x ∷ [] ≡ ys ++ y ∷ [] → (xs ≡ ys) × (x ≡ y)
+last_is [] [] x y e = (refl, cc)
+last_is [] (z ∷ ys) x y e = let rest : [] ≡ ys ++ y ∷ [] = cc in absurd (not_empty ys y rest)
+last_is (z ∷ xs) [] x y e = let rest : [] ≡ xs ++ x ∷ [] = cc in absurd (not_empty xs x rest)
+last_is {X} (z ∷ xs) (w ∷ ys) x y e =
+    let head : z ≡ w = cc in
+    let tail : xs ++ x ∷ [] ≡ ys ++ y ∷ [] = cc in
+    let rest = last_is xs ys x y tail in
+    (ap₂ (λ (a : X) (rest : List X). a ∷ rest) head rest.0, rest.1)
+
+module _ (before after : Index) (xs ys : List Formula) (x : Formula) (is : xs ≡ ys ++ x ∷ []) (key : List ℕ) (ends : EndsWithNew key xs) where
+  -- its key is this, and it stands nowhere before
+  parts : (ys ≡ ends.before) × (x ≡ ends.formula)
+  parts = last_is ys ends.before x ends.formula (sym is ∙ ends.is)
+
+  same : key ≡ code x
+  same = ends.its ∙ ap code (sym parts.1)
+
+  fresh : first_place (code x) ys ≡ None
+  fresh = ap₂ first_place (sym same) parts.0 ∙ ends.fresh
+
+  module _ (u : Updates (slice_cmp nat_cmp) before after key None) where
+    places_back : KeepsPlaces before xs → KeepsPlaces after ys
+    places_back kept = record {
+      finds = λ q.
+          u.0 q ∙ ap (λ b. cond b None (get (slice_cmp nat_cmp) before q)) (is_eq-slice_cmp key q ∙ ap (λ k. bytes_eq k q) same)
+          ∙ ap (cond (bytes_eq (code x) q) None) (kept.finds q ∙ ap (first_place q) is ∙ first_place-push x ys fresh q)
+          ∙ by_test q (bytes_eq (code x) q) refl;
+    }
+      where
+        by_test : (q : List ℕ) (b : Bool) → bytes_eq (code x) q ≡ b → cond b None (cond b (Some (length ys)) (first_place q ys)) ≡ first_place q ys
+        by_test q true e = sym (ap (λ k. first_place k ys) (sym ((bytes_eq-Decides (code x) q).0 e)) ∙ fresh)
+        by_test q false e = refl
+
+    module _ (is_whole knows_rest : Bool) (late places : List ℕ) (kept : IsKept before is_whole knows_rest late places xs) (whole : is_whole ≡ true) where
+      found : KeepsPlaces after ys
+      found = places_back (kept.finds whole)
+
+      noted : (b : Bool) → has_dangling x ≡ b → places ≡ dangling_places ys ++ cond b ((0 + length ys) ∷ []) []
+      noted b dangles =
+          kept.dangles ∙ ap dangling_places is ∙ places_from-push has_dangling 0 ys x
+          ∙ ap (λ c. dangling_places ys ++ cond c ((0 + length ys) ∷ []) []) dangles
+
+      -- where it mentions something that wasn't found, its place is the last one
+      pub kept_back_noted : has_dangling x ≡ true → (more : List ℕ) (n : ℕ) → n ≡ length places → more ≡ take (n - 1) places → IsKept after is_whole knows_rest late more ys
+      kept_back_noted dangles more n counted cut =
+          let listed = noted true dangles in
+          let longer : length places ≡ length (dangling_places ys) + 1 = ap length listed ∙ length-append (dangling_places ys) ((0 + length ys) ∷ []) in
+          let one_less : n - 1 ≡ length (dangling_places ys) = omega (arith, counted, longer) in
+          record {
+            finds = λ w. found;
+            rest = λ k. whole_knows after late ys found;
+            dangles = cut ∙ ap₂ take one_less listed ∙ take_at (dangling_places ys) ((0 + length ys) ∷ []) (length (dangling_places ys)) refl;
+          }
+
+      pub kept_back : has_dangling x ≡ false → IsKept after is_whole knows_rest late places ys
+      kept_back dangles = record {
+        finds = λ w. found;
+        rest = λ k. whole_knows after late ys found;
+        dangles = noted false dangles ∙ append-nil (dangling_places ys);
+      }
