@@ -7,5 +7,6 @@ pub mod ReadLemmas
 pub mod TakeLemmas
 pub mod TextLemmas
 pub mod ToldLemmas
+pub mod WholeLemmas
 pub mod WordLemmas
 pub mod WriteLemmas

@@ -19,3 +19,9 @@ IfTold-join None b c P Q R f h k = tt
 IfTold-join (Some x) None c P Q R f h k = absurd h
 IfTold-join (Some x) (Some y) None P Q R f h k = k
 IfTold-join (Some x) (Some y) (Some z) P Q R f h k = f x y z h k
+
+-- two things of one call
+pub IfTold-both : (a b : Option (List ℕ)) (P Q R : List ℕ → List ℕ → Type 0) → ((x y : List ℕ) → P x y → Q x y → R x y) → IfTold a b P → IfTold a b Q → IfTold a b R
+IfTold-both None b P Q R f h k = tt
+IfTold-both (Some x) None P Q R f h k = h
+IfTold-both (Some x) (Some y) P Q R f h k = f x y h k

@@ -25,6 +25,10 @@ pub record TakesFront (n : ℕ) (buffer before now : List ℕ) : Type 0 where
   -- no byte comes only at the end, or into no room
   pub end : n ≡ 0 → 0 < length buffer → before ≡ []
 
+-- a front of the bytes was taken
+abbrev pub TakesFirst : List ℕ → List ℕ → Type 0
+TakesFirst before now = (got : List ℕ) × (before ≡ got ++ now)
+
 -- what a read answers and does to the bytes that are left
 abbrev pub MovesRead : Option (List ℕ) → Option (List ℕ) → Result ℕ Failed → List ℕ → Type 0
 MovesRead before now (Ok n) buffer = IfTold before now (TakesFront n buffer)

@@ -2,3 +2,4 @@ pub mod Bytes
 pub mod Escapes
 pub mod Memory
 pub mod Reading
+pub mod Steady

@@ -14,6 +14,8 @@ mod reader;
 mod sink;
 mod source;
 mod standard;
+mod steady;
+mod whole;
 mod words;
 
 pub use error::{Failed, RunError};
@@ -25,4 +27,6 @@ pub use reader::LineReader;
 pub use sink::{Sink, write_all};
 pub use source::Source;
 pub use standard::{StdSink, StdSource};
+pub use steady::{SteadySink, SteadySource};
+pub use whole::{read_all, read_lines};
 pub use words::words_of;

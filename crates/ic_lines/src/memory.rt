@@ -206,7 +206,7 @@ impl Sink for MemorySink {
 }
 
 // Writes a piece over the bytes from `at` on.
-fn put(buffer: &mut Vec<u8>, at: usize, piece: &[u8])
+pub(crate) fn put(buffer: &mut Vec<u8>, at: usize, piece: &[u8])
     requires { at + length piece.now ≤ vec_len buffer.old }
     ensures items { buffer.new.items ≡ take at buffer.old.items ++ piece.now
         ++ drop (at + length piece.now) buffer.old.items }

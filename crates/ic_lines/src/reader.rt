@@ -125,6 +125,48 @@ impl LineReader {
         }
     }
 
+    // Reads until it sees the end.
+    pub(crate) fn fill_all<S: Source>(&mut self, source: &mut S) -> Result<(), RunError>
+        ensures kept { IfTold (S.left source.old) (S.left source.new)
+            (λ before now. unread self.new now ≡ unread self.old before) }
+        ensures turns { IfTold (S.left source.old) (S.left source.new)
+            (λ before now. self.new.turns + length now ≤ self.old.turns + length before) }
+        ensures ends { self.old.ended ≡ false → IfTold (S.left source.old) (S.left source.new)
+            (λ before now. self.new.ended ≡ true → now ≡ []) }
+        ensures shown { SeesEnd self.old.ended self.new.ended
+            (S.ended source.old) (S.ended source.new) }
+        ensures ok { OnOk result (self.new.ended ≡ true) }
+        ensures err { OnErr result (self.new.ended ≡ false) }
+        ensures read_fault { result ≡ Err RunError.ReadFault
+            → HasFault (S.faults source.old) (S.faults source.new) }
+        ensures too_many { result ≡ Err RunError.TooManyTurns → self.new.turns ≡ most_turns }
+        ensures no_write { result ≢ Err RunError.WriteFault }
+        ensures counted { S.faults source.old ≤ S.faults source.new }
+        ensures quiet { OnOk result (S.faults source.new ≡ S.faults source.old) }
+    {
+        'fills: while !self.ended {
+            self.fill(source)?;
+        }
+        Ok(())
+    }
+
+    // The bytes that it holds.
+    pub(crate) fn into_held(self) -> Vec<u8>
+        ensures { result.items ≡ self.held }
+    {
+        let Self {
+            alloc,
+            mut bytes,
+            start,
+            scanned: _,
+            ended: _,
+            turns: _,
+        } = self;
+        drop(alloc);
+        drop_front(&mut bytes, start);
+        bytes
+    }
+
     // How many of the bytes held stand before the first line feed.
     fn line_feed(&mut self) -> Option<usize>
         ensures same { self.new ≡ self.old }
