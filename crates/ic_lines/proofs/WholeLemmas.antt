@@ -1,11 +1,9 @@
 -- What is read of a whole source: its bytes, its lines, and what an error leaves.
-use Rattle.std.proofs.Common.{◌≡◌, ◌≢◌, ℕ, ◌+◌, ◌<◌, ◌≤◌, List, [], ◌∷◌, ◌++◌, length, Bool, true, false, Option, Some, None, IsSomeAnd, refl, sym, subst, ◌∙◌, ap, inl, inr, arith, append_assoc, append-nil, if◌then◌else◌}
+use Rattle.std.proofs.Common.{◌≡◌, ℕ, ◌+◌, ◌≤◌, List, [], ◌∷◌, ◌++◌, length, Bool, true, false, Option, Some, None, Result, Ok, Err, OnErr, refl, sym, subst, ◌∙◌, ap, inl, inr, arith, append_assoc, append-nil, if◌then◌else◌}
 use Rattle.std.proofs.lemmas.Bool.{cases_Bool}
 use Rattle.ic_laws.specs.Lines.{texts_of}
 use Rattle.ic_lines.specs.Bytes.{IfTold, TakesFirst}
-use Rattle.ic_lines.specs.Reading.{GivesLine, Reading, TakesLine, most_turns, unread}
-use Rattle.ic_lines.specs.declared.error.RunError.{RunError}
-use Rattle.ic_lines.specs.declared.error.RunError.TheVariants as errors
+use Rattle.ic_lines.specs.Reading.{GivesLine, Reading, TakesLine, unread}
 use Rattle.ic_lines.proofs.ToldLemmas.{IfTold-both, IfTold-join, IfTold-weaker}
 
 -- a reader that holds no byte and saw nothing yet
@@ -16,8 +14,10 @@ fresh = record { held = []; ended = false; turns = 0 }
 unread_at_end : (r : Reading) (left : List ℕ) → r.ended ≡ true → unread r left ≡ r.held
 unread_at_end r left ended = ap (λ e. r.held ++ (if e then [] else left)) ended ∙ append-nil r.held
 
-unread_open : (r : Reading) (left : List ℕ) → r.ended ≡ false → unread r left ≡ r.held ++ left
-unread_open r left still = ap (λ e. r.held ++ (if e then [] else left)) still
+-- what holds anyway
+pub given_if_err : {T E : Type 0} (r : Result T E) (P : Type 0) → P → OnErr r P
+given_if_err (Ok x) P p = tt
+given_if_err (Err e) P p = p
 
 -- What a new reader took ----
 
@@ -26,30 +26,6 @@ module _ (old new : Reading) (a b : Option (List ℕ)) (is_fresh : old ≡ fresh
   held_all bytes is ended ends =
       IfTold-both a b (λ x y. unread new y ≡ unread old x) (λ x y. new.ended ≡ true → y ≡ []) (λ x y. (bytes ≡ x) × (y ≡ []))
       (λ x y p q. (is ∙ sym (unread_at_end new y ended) ∙ p ∙ ap (λ r. unread r x) is_fresh, q ended)) kept ends
-
-  pub held_front : new.ended ≡ false → IfTold a b TakesFirst
-  held_front still =
-      IfTold-weaker a b (λ x y. unread new y ≡ unread old x) TakesFirst
-      (λ x y p. (new.held, sym (ap (λ r. unread r x) is_fresh) ∙ sym p ∙ unread_open new y still)) kept
-
--- So many turns took so many bytes.
-pub turns_taken : (old turns : ℕ) (a b : Option (List ℕ)) → old ≡ 0 → turns ≡ most_turns → IfTold a b (λ before now. turns + length now ≤ old + length before) → IfTold a b (λ before now. most_turns + length now ≤ length before)
-turns_taken old turns a b none all h =
-    IfTold-weaker a b (λ x y. turns + length y ≤ old + length x) (λ x y. most_turns + length y ≤ length x) (λ x y p. omega (arith, p, none, all)) h
-
--- and so many bytes there weren't
-too_few : (a b : Option (List ℕ)) → IsSomeAnd a (λ bytes. length bytes < most_turns) → IfTold a b (λ before now. most_turns + length now ≤ length before) → ⊥
-too_few None b few h = absurd few
-too_few (Some x) None few h = h
-too_few (Some x) (Some y) few h = omega (arith, few, h)
-
--- without a cause of another error only that memory ran out is left
-pub only_memory : (e : RunError) (F : Type 0) (a b : Option (List ℕ)) → (e ≡ errors.ReadFault → F) → (e ≡ errors.TooManyTurns → IfTold a b (λ before now. most_turns + length now ≤ length before))
-    → e ≢ errors.WriteFault → IsSomeAnd a (λ bytes. length bytes < most_turns) → ¬ F → e ≡ errors.OutOfMemory
-only_memory errors.ReadFault F a b fault many write few none = absurd (none (fault refl))
-only_memory errors.WriteFault F a b fault many write few none = absurd (write refl)
-only_memory errors.TooManyTurns F a b fault many write few none = absurd (too_few a b few (many refl))
-only_memory errors.OutOfMemory F a b fault many write few none = refl
 
 -- Lines so far ----
 
@@ -94,6 +70,3 @@ ends_more left first mid last old new h ends same =
 pub turns_more : (old new : ℕ) (a b c : Option (List ℕ)) → IfTold a b (λ x y. old + length y ≤ length x) → IfTold b c (λ y z. new + length z ≤ old + length y) → IfTold a c (λ x z. new + length z ≤ length x)
 turns_more old new a b c h k =
     IfTold-join a b c (λ x y. old + length y ≤ length x) (λ y z. new + length z ≤ old + length y) (λ x z. new + length z ≤ length x) (λ x y z p q. omega (arith, p, q)) h k
-
-pub many_taken : (turns : ℕ) (a b : Option (List ℕ)) → turns ≡ most_turns → IfTold a b (λ x y. turns + length y ≤ length x) → IfTold a b (λ x y. most_turns + length y ≤ length x)
-many_taken turns a b all h = IfTold-weaker a b (λ x y. turns + length y ≤ length x) (λ x y. most_turns + length y ≤ length x) (λ x y p. omega (arith, p, all)) h
