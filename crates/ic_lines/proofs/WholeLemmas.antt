@@ -1,5 +1,5 @@
 -- What is read of a whole source: its bytes, its lines, and what an error leaves.
-use Rattle.std.proofs.Common.{◌≡◌, ℕ, ◌+◌, ◌≤◌, List, [], ◌∷◌, ◌++◌, length, Bool, true, false, Option, Some, None, Result, Ok, Err, OnErr, refl, sym, subst, ◌∙◌, ap, inl, inr, arith, append_assoc, append-nil, if◌then◌else◌}
+use Rattle.std.proofs.Common.{◌≡◌, ℕ, ◌+◌, ◌≤◌, List, [], ◌∷◌, ◌++◌, length, true, false, Option, Some, None, Result, Ok, Err, OnErr, sym, subst, ◌∙◌, ap, inl, inr, arith, append_assoc, append-nil, if◌then◌else◌}
 use Rattle.std.proofs.lemmas.Bool.{cases_Bool}
 use Rattle.ic_laws.specs.Lines.{texts_of}
 use Rattle.ic_lines.specs.Bytes.{IfTold, TakesFirst}
