@@ -11,7 +11,7 @@ use Rattle.ic_laws.proofs.core.CellWritten.{place_cmp_total, place_tied}
 use Rattle.ic_grid.specs.Block.{Place, same_place}
 use Rattle.ic_grid.specs.Contents.{Contents, remade, remade_entries, with_or_without}
 
-equal : (r : Ordering) → is_eq r ≡ true → r ≡ Equal
+pub equal : (r : Ordering) → is_eq r ≡ true → r ≡ Equal
 equal Less e = cc
 equal Equal e = refl
 equal Greater e = cc

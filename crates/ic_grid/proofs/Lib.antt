@@ -3,6 +3,7 @@ pub mod BlockLemmas
 pub mod ChangeLemmas
 pub mod ClearLemmas
 pub mod ContentsLemmas
+pub mod HandedInLemmas
 pub mod KeyLemmas
 pub mod LoosenLemmas
 pub mod PaddedLemmas
@@ -26,6 +27,7 @@ pub mod StyledLemmas
 pub mod ValueLemmas
 pub mod ValueWhole
 pub mod WalkLemmas
+pub mod WholeLemmas
 pub mod WriteLemmas
 pub mod WrittenLemmas
 pub mod WrittenWhole

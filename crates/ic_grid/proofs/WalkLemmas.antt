@@ -94,7 +94,7 @@ unfolding is_from
 row_before p q less = grind (arith, ints)
 
 -- what a number among others is
-between_is : (first last n : ℤ) → is_between first last n ≡ true → (first ≤ℤ n) × (n <ℤ last)
+pub between_is : (first last n : ℤ) → is_between first last n ≡ true → (first ≤ℤ n) × (n <ℤ last)
 unfolding is_between
 between_is first last n e =
     let both = and_parts (int_le first n) (int_lt n last) e in

@@ -2,6 +2,7 @@
 use Rattle.std.specs.Prelude.{◌≡◌, ◌<◌, ℕ, ℤ, nat_lt, Bool, true, false, List, Option, Some, None}
 use Rattle.std.specs.FinMap as finite
 use Rattle.std.specs.List.{All, slice_get}
+use Rattle.ic_laws.specs.Position.{is_column, is_row}
 use Rattle.ic_cells.specs.declared.cell.ArrayKind.{ArrayKind}
 use Rattle.ic_cells.specs.declared.layout.ColumnProps.{ColumnProps}
 use Rattle.ic_cells.specs.declared.layout.Merge.{Merge}
@@ -23,6 +24,11 @@ IsStyleNumber count (Some n) = n < count
 abbrev pub is_style_number : ℕ → Option ℕ → Bool
 is_style_number count None = true
 is_style_number count (Some n) = nat_lt n count
+
+-- rows and columns for which something was set are the sheet's
+pub record AreLinesInSheet (set_rows : Rows) (set_columns : Columns) : Type 0 where
+  pub rows : (row : ℤ) (props : RowProps) → finite.get set_rows row ≡ Some props → is_row row ≡ true
+  pub columns : (column : ℤ) (props : ColumnProps) → finite.get set_columns column ≡ Some props → is_column column ≡ true
 
 module _ {X : Type 0} (h : Holding X) (m : Contents X) where
   -- something of this shape stands at a place

@@ -5,6 +5,7 @@ pub mod Change
 pub mod Clear
 pub mod Conditions
 pub mod Contents
+pub mod HandedIn
 pub mod Lines
 pub mod Merges
 pub mod Prepare

@@ -1,5 +1,6 @@
 ghost use Rattle.std.specs.Prelude.{◌≡◌, ◌+ℤ◌};
-ghost use Rattle.ic_grid.specs.Block.{area_of, block_at, blocks_meet, is_area, first_place, is_block_within, is_in_block, is_in_span, is_single, is_span_within, same_place, spans_meet};
+ghost use Rattle.ic_laws.specs.Position.{is_column, is_row};
+ghost use Rattle.ic_grid.specs.Block.{area_of, block_at, blocks_meet, is_area, first_place, is_block_within, is_in_block, is_in_sheet, is_in_span, is_single, is_span_within, same_place, spans_meet};
 
 use ic_cells::ArrayKind;
 use ic_laws::{LAST_COLUMN, LAST_ROW};
@@ -64,6 +65,27 @@ pub fn is_same(place: (i32, i32), other: (i32, i32)) -> bool
     ensures { result ≡ same_place place other }
 {
     place.0 == other.0 && place.1 == other.1
+}
+
+/// Whether a number is that of a row of the sheet.
+pub fn is_row(number: i32) -> bool
+    ensures { result ≡ is_row number }
+{
+    1 <= number && number <= LAST_ROW
+}
+
+/// Whether a number is that of a column of the sheet.
+pub fn is_column(number: i32) -> bool
+    ensures { result ≡ is_column number }
+{
+    1 <= number && number <= LAST_COLUMN
+}
+
+/// Whether a place is one of the sheet.
+pub fn is_in_sheet(place: (i32, i32)) -> bool
+    ensures { result ≡ is_in_sheet place }
+{
+    is_row(place.0) && is_column(place.1)
 }
 
 impl Block {

@@ -7,6 +7,7 @@ mod changes;
 mod clear;
 mod error;
 mod grid;
+mod handed_in;
 mod lines;
 mod merges;
 mod prepare;
@@ -16,6 +17,7 @@ mod start;
 mod styled;
 mod value;
 mod walk;
+mod whole;
 mod write;
 mod write_array;
 

@@ -7,7 +7,7 @@ use crate::block::is_same;
 use ic_cells::Merge;
 
 /// The block of merged cells.
-fn merged_block(merge: &Merge) -> Block
+pub fn merged_block(merge: &Merge) -> Block
     ensures { result ≡ merged_block merge.now }
 {
     Block {

@@ -1,7 +1,7 @@
 //! Giving an array its values.
 ghost use Rattle.std.specs.Prelude.{◌≡◌, true, Some, length, IfOk, IfErr, OnErr, OnOk, Ok};
 ghost use Rattle.std.specs.FinMap as finite;
-ghost use Rattle.ic_grid.specs.Block.{block_at, first_place, is_area, is_in_sheet};
+ghost use Rattle.ic_grid.specs.Block.{block_at, first_place, is_area};
 ghost use Rattle.ic_grid.specs.Arrays.{array_of};
 ghost use Rattle.ic_grid.specs.Conditions.{AreArrays, AreInSheet};
 ghost use Rattle.ic_grid.specs.Prepare.{without_spill};
@@ -14,21 +14,14 @@ ghost use Rattle.ic_grid.specs.Spill.{blocks, array_cells, first_of_blocking, fi
 ghost use Rattle.ic_grid.specs.Calls.{IsRefusal, can_spill, spill_answer};
 
 use crate::arrays::formula_array;
-use crate::block::is_same;
+use crate::block::{is_in_sheet, is_same};
 use crate::changes::{next_place, put_all, unspill_block};
 use crate::merges::is_merged;
 use crate::room::make_room;
 use crate::{Array, Block, Grid, GridError};
 use ic_cells::{ArrayKind, Cell, FormulaValue, Merge, PlaceMap, SpillValue};
-use ic_laws::{LAST_COLUMN, LAST_ROW, OutOfMemory, Text};
+use ic_laws::{OutOfMemory, Text};
 use std::alloc::Global;
-
-/// Whether a place is one of the sheet.
-fn is_in_sheet(place: (i32, i32)) -> bool
-    ensures { result ≡ is_in_sheet place }
-{
-    (1 <= place.0 && place.0 <= LAST_ROW) && (1 <= place.1 && place.1 <= LAST_COLUMN)
-}
 
 /// Whether a cell is empty, or one of the spill of the formula at a place.
 fn is_free(cell: &Cell, anchor: (i32, i32)) -> bool
