@@ -1,4 +1,4 @@
-use Rattle.std.proofs.Common.{◌≡◌, ◌∙◌, List, ap, sym, subst, slice_set, refl}
+use Rattle.std.proofs.Common.{◌∙◌, List, ap, sym, subst, refl}
 use Rattle.std.proofs.lemmas.Bool.{or_parts}
 use Rattle.std.specs.List.{AllByRecursion}
 use Rattle.ic_laws.specs.CoreBook.{Definition}
