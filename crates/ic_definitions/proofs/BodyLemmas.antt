@@ -3,13 +3,14 @@ use Rattle.std.proofs.Common.{◌≡◌, ◌<◌, ◌≤◌, ◌+◌, ◌⊎◌,
 use Rattle.std.proofs.lemmas.Bool.{or_parts}
 use Rattle.std.proofs.lemmas.List.{drop_all, drop_more, length-map, length-take, map_more, take_all}
 use Rattle.std.specs.List.{AllByRecursion}
-use Rattle.ic_laws.proofs.core.Lists.{all_pushed, length_updated, updated_unseen}
+use Rattle.ic_laws.proofs.core.Lists.{all_pushed, all_updated, length_updated, updated_unseen}
 use Rattle.ic_laws.specs.BookTrees.{with_body_tree}
 use Rattle.ic_laws.specs.Changes.{Change, changed_tree}
 use Rattle.ic_laws.specs.CoreBook.{Definition}
 use Rattle.ic_laws.specs.CoreStep.{updated_at}
 use Rattle.ic_laws.specs.Tree.{Bound}
 use Rattle.ic_laws.specs.declared.tree.Formula.{Formula}
+use Rattle.ic_pool.specs.Mentions.{has_dangling}
 use Rattle.ic_definitions.specs.Bodies.{FitsBodies, HasFoundAll, IsNoted, StaysWhereFound, with_bodies}
 use Rattle.ic_definitions.specs.Named.{key_in}
 use Rattle.ic_definitions.specs.declared.bodies.BodyRewrites.{BodyRewrites}
@@ -40,6 +41,16 @@ put_there : (body : Formula) (ds : List Definition) (at : ℕ) (d : Definition) 
 put_there body [] at d read = refl
 put_there body (x ∷ ds) zero d read = ap (λ y. with_body body y ∷ ds) read
 put_there body (x ∷ ds) (suc at) d read = ap (λ rest. x ∷ rest) (put_there body ds at d read)
+
+-- one definition alone gets another body
+pub body_set : (body : Formula) (ds now : List Definition) (at : ℕ) (d after : Definition) → d ≡ get_or ds at d → after ≡ with_body body d → now ≡ slice_set ds at after → now ≡ updated_at (with_body body) at ds
+body_set body ds now at d after read put is = is ∙ ap (slice_set ds at) put ∙ put_there body ds at d read
+
+pub keys_set : (body : Formula) (ds : List Definition) (at : ℕ) → keys (updated_at (with_body body) at ds) ≡ keys ds
+keys_set body ds at = updated_unseen key_in (with_body body) (λ d. refl) at ds
+
+pub found_set : (body : Formula) (ds : List Definition) (at : ℕ) → has_dangling body ≡ false → AllByRecursion HasFoundAll ds → AllByRecursion HasFoundAll (updated_at (with_body body) at ds)
+found_set body ds at clean found = all_updated HasFoundAll (with_body body) (λ d h. clean) at ds found
 
 -- a step through all of them
 pub put_next : (rest more all : List NewBody) (new : NewBody) (ds old : List Definition) (d after : Definition) → rest ≡ new ∷ more → with_bodies rest ds ≡ with_bodies all old → d ≡ get_or ds new.at d → after ≡ with_body new.body d

@@ -1,9 +1,10 @@
 -- A look-up that is made from the last formula to the first, and one that is kept up with the formulas.
-use Rattle.std.proofs.Common.{◌≡◌, ◌<◌, ◌+◌, ℕ, suc, List, [], ◌∷◌, ◌++◌, Bool, true, false, cond, Option, Some, None, option_map, refl, sym, ap, ap₂, ◌∙◌, length, drop, get_or, bytes_eq, arith}
+use Rattle.std.proofs.Common.{◌≡◌, ◌<◌, ◌+◌, ℕ, suc, List, [], ◌∷◌, ◌++◌, Bool, true, false, cond, Option, Some, None, option_map, refl, sym, ap, ap₂, ◌∙◌, append-nil, length, drop, get_or, take, bytes_eq, arith}
 use Rattle.std.proofs.Math.Seq.{drop-cons}
 use Rattle.std.specs.BTreeMap.{BTreeMap, Updates, get}
 use Rattle.std.specs.Cmp.Lexicographic.{slice_cmp}
 use Rattle.std.specs.Ordering.{nat_cmp}
+use Rattle.std.proofs.lemmas.List.{length-take, take_more}
 use Rattle.std.proofs.lemmas.Map.Text.{is_eq-slice_cmp}
 use Rattle.ic_laws.specs.declared.tree.Formula.{Formula}
 use Rattle.ic_pool.specs.Code.{code}
@@ -59,3 +60,20 @@ IsKept-push before after is_whole knows_rest late places more xs list x key at k
       dangles = noted ∙ ap₂ (λ ps t. ps ++ t) kept.dangles (ap₂ (λ c n. cond c (n ∷ []) []) (sym dangles) (end ∙ sym (let e : 0 + length xs ≡ length xs = omega arith in e)))
           ∙ sym (ap dangling_places put ∙ places_from-push has_dangling 0 xs x);
     }
+
+-- ---- the places of the formulas that mention something that wasn't found, one formula after another
+
+module _ (xs : List Formula) (i next : ℕ) (x : Formula) (is_next : i + 1 ≡ next) (below : i < length xs) (item : x ≡ get_or xs i x) where
+  one_more : take next xs ≡ take i xs ++ x ∷ []
+  one_more = ap (λ n. take n xs) (sym is_next) ∙ take_more xs i x below ∙ ap (λ y. take i xs ++ y ∷ []) (sym item)
+
+  dangling_next : (b : Bool) → has_dangling x ≡ b → dangling_places (take next xs) ≡ dangling_places (take i xs) ++ cond b (i ∷ []) []
+  dangling_next b is =
+      ap dangling_places one_more ∙ places_from-push has_dangling 0 (take i xs) x
+      ∙ ap₂ (λ n c. dangling_places (take i xs) ++ cond c (n ∷ []) []) (let e : 0 + length (take i xs) ≡ i = omega (arith, length-take i xs) in e) is
+
+  pub place_noted : (places more : List ℕ) → places ≡ dangling_places (take i xs) → has_dangling x ≡ true → more ≡ places ++ i ∷ [] → more ≡ dangling_places (take next xs)
+  place_noted places more so_far is put = put ∙ ap (λ ps. ps ++ i ∷ []) so_far ∙ sym (dangling_next true is)
+
+  pub place_passed : (places more : List ℕ) → places ≡ dangling_places (take i xs) → has_dangling x ≡ false → more ≡ places → more ≡ dangling_places (take next xs)
+  place_passed places more so_far is put = put ∙ so_far ∙ sym (append-nil (dangling_places (take i xs))) ∙ sym (dangling_next false is)

@@ -11,7 +11,7 @@ mod rewrites;
 
 use crate::{BookChange, Key, Steps, copy_formula, has_dangling, key_of};
 use ic_laws::{Formula, OutOfMemory};
-use index::{index_of, put_late};
+use index::{dangling_in, index_of, put_late};
 pub use rewrites::Rewrites;
 use rewrites::{rewrites_at, rewrites_of};
 use std::alloc::Global;
@@ -83,6 +83,23 @@ impl Pool {
             late: LinkedList::new(alloc),
             dangling: Vec::new(alloc),
         }
+    }
+
+    /// These formulas in their places, equal ones too. Its look-up has none of them: the next write makes it.
+    pub fn from_formulas(alloc: Global, formulas: Vec<Formula>) -> Result<Pool, OutOfMemory>
+        ensures { IfOk result (λ p. p
+            ≡ record { formulas = formulas.items; is_whole = false }) }
+    {
+        let dangling = dangling_in(alloc, &formulas)?;
+        Ok(Pool {
+            alloc,
+            formulas,
+            index: BTreeMap::new(alloc),
+            is_whole: false,
+            knows_rest: false,
+            late: LinkedList::new(alloc),
+            dangling,
+        })
     }
 
     /// How many formulas there are.

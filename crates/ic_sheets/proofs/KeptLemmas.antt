@@ -7,7 +7,6 @@ use Rattle.std.proofs.lemmas.Option.{slice_get_read}
 use Rattle.std.specs.BTreeMap.{IsEmpty, get_by_text}
 use Rattle.std.specs.Cmp.{nat_eq_equiv}
 use Rattle.std.specs.List.{IsDistinct, insert, list_any, remove}
-use Rattle.ic_laws.proofs.CoreLemmas.{above_greatest}
 use Rattle.ic_laws.proofs.core.Lists.{distinct_removed, none_passes, removed_seen, updated_unseen}
 use Rattle.ic_laws.proofs.core.SheetMoved.{moved_permutes}
 use Rattle.ic_laws.specs.CoreStep.{moved, put_back, updated_at}
@@ -36,18 +35,18 @@ free_is_none name sheets e = none_agrees name sheets (none_passes (agrees name) 
 
 -- ---- a sheet comes
 
-greatest_pushed : (ns : List ℕ) (n : ℕ) → greatest ns < n → n ≡ greatest (ns ++ n ∷ [])
-greatest_pushed [] n lt = omega arith
-greatest_pushed (m ∷ ns) n lt = let rest : n ≡ greatest (ns ++ n ∷ []) = greatest_pushed ns n (omega arith) in omega arith
+pub greatest_pushed : (ns : List ℕ) (n : ℕ) → max (greatest ns) n ≡ greatest (ns ++ n ∷ [])
+greatest_pushed [] n = omega arith
+greatest_pushed (m ∷ ns) n = let rest : max (greatest ns) n ≡ greatest (ns ++ n ∷ []) = greatest_pushed ns n in omega (arith, rest)
 
-pub kept_pushed : (before after : Index) (last : ℕ) (sheets list : List Sheet) (s : Sheet) → AreKept before last sheets → list_any (agrees s.name) (names sheets) ≡ false → greatest (ids sheets) < s.id
-    → ((q : List ℕ) → get_by_text after (encode_utf8_all q) ≡ cond (bytes_eq (fold s.name) q) (Some s.id) (get_by_text before (encode_utf8_all q))) → list ≡ sheets ++ s ∷ [] → AreKept after s.id list
-kept_pushed before after last sheets list s kept free fresh u pushed =
+pub kept_pushed : (before after : Index) (last now_last : ℕ) (sheets list : List Sheet) (s : Sheet) → AreKept before last sheets → list_any (agrees s.name) (names sheets) ≡ false → list_any (nat_eq s.id) (ids sheets) ≡ false → now_last ≡ max last s.id
+    → ((q : List ℕ) → get_by_text after (encode_utf8_all q) ≡ cond (bytes_eq (fold s.name) q) (Some s.id) (get_by_text before (encode_utf8_all q))) → list ≡ sheets ++ s ∷ [] → AreKept after now_last list
+kept_pushed before after last now_last sheets list s kept free fresh most u pushed =
     let more : ids list ≡ ids sheets ++ s.id ∷ [] = ap ids pushed ∙ map-append (λ (x : Sheet). x.id) sheets (s ∷ []) in
     record {
       names = IsIndexed-add before after sheets list s kept.names (free_is_none s.name sheets free) u pushed;
-      ids_differ = subst (IsDistinct nat_eq) (sym more) (IsDistinct-push nat_eq_equiv (ids sheets) s.id kept.ids_differ (above_greatest s.id (ids sheets) fresh));
-      greatest = greatest_pushed (ids sheets) s.id fresh ∙ sym (ap greatest more);
+      ids_differ = subst (IsDistinct nat_eq) (sym more) (IsDistinct-push nat_eq_equiv (ids sheets) s.id kept.ids_differ fresh);
+      greatest = most ∙ ap (λ n. max n s.id) kept.greatest ∙ greatest_pushed (ids sheets) s.id ∙ sym (ap greatest more);
     }
 
 -- ---- a sheet goes

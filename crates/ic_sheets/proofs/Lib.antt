@@ -1,3 +1,4 @@
+pub mod ApartLemmas
 pub mod CellLemmas
 pub mod DanglingLemmas
 pub mod IndexLemmas
@@ -5,6 +6,7 @@ pub mod KeptLemmas
 pub mod OwnLemmas
 pub mod PlaceLemmas
 pub mod PoolLemmas
+pub mod RecordLemmas
 pub mod RewritingLemmas
 pub mod SearchLemmas
 pub mod WriteLemmas

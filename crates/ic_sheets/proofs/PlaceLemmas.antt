@@ -12,8 +12,6 @@ use Rattle.std.proofs.lemmas.Iterator.Adapters.{position_from-zero}
 use Rattle.std.proofs.lemmas.List.{length-take, take-append-drop}
 use Rattle.std.proofs.lemmas.List.Sorted.{IsPermutation-map, IsPermutation-middle}
 use Rattle.std.proofs.lemmas.Map.Keys.{IsDistinct-IsPermutation, IsDistinct-head}
-use Rattle.ic_laws.proofs.CoreLemmas.{above_greatest}
-use Rattle.ic_laws.specs.Greatest.{greatest}
 use Rattle.ic_sheets.specs.Index.{AreAtIndexes, lowered, moved_index, raised}
 use Rattle.ic_sheets.specs.Search.{index_with_id}
 use Rattle.ic_sheets.specs.declared.sheet.Sheet.{Sheet}
@@ -109,17 +107,17 @@ place_pushed s (x ∷ sheets) free q =
     ∙ either_first (nat_eq x.id q) (nat_eq s.id q) (length sheets) (index_with_id q sheets)
     (λ t u. clash (nat_eq s.id x.id) (eq-eqb s.id x.id (eqb-true s.id q u ∙ sym (eqb-true x.id q t))) parts.0)
 
-pub placed_pushed : (before after : Places) (sheets list : List Sheet) (s : Sheet) (at : ℕ) → AreAtIndexes before sheets → greatest (ids sheets) < s.id → at ≡ length sheets → Updates nat_cmp before after s.id (Some at) → list ≡ sheets ++ s ∷ [] → AreAtIndexes after list
+pub placed_pushed : (before after : Places) (sheets list : List Sheet) (s : Sheet) (at : ℕ) → AreAtIndexes before sheets → list_any (nat_eq s.id) (ids sheets) ≡ false → at ≡ length sheets → Updates nat_cmp before after s.id (Some at) → list ≡ sheets ++ s ∷ [] → AreAtIndexes after list
 placed_pushed before after sheets list s at placed fresh end u pushed =
     subst (AreAtIndexes after) (sym pushed)
     (record {
       finds = λ q.
           updated before after s.id (Some at) u q ∙ ap₂ (λ n o. cond (nat_eq s.id q) (Some n) o) end (placed.finds q)
-          ∙ sym (place_pushed s sheets (above_greatest s.id (ids sheets) fresh) q);
+          ∙ sym (place_pushed s sheets fresh q);
     })
 
 -- a place that was put in, and taken out again
-pub placed_undone : (before between after : Places) (sheets list : List Sheet) (id : ℕ) (at : Option ℕ) → AreAtIndexes before sheets → greatest (ids sheets) < id → Updates nat_cmp before between id at → Updates nat_cmp between after id None → list ≡ sheets → AreAtIndexes after list
+pub placed_undone : (before between after : Places) (sheets list : List Sheet) (id : ℕ) (at : Option ℕ) → AreAtIndexes before sheets → list_any (nat_eq id) (ids sheets) ≡ false → Updates nat_cmp before between id at → Updates nat_cmp between after id None → list ≡ sheets → AreAtIndexes after list
 placed_undone before between after sheets list id at placed fresh u v same =
     subst (AreAtIndexes after) (sym same)
     (record {
@@ -129,7 +127,7 @@ placed_undone before between after sheets list id at placed fresh u v same =
     })
   where
     step : (q : ℕ) (b : Bool) → nat_eq id q ≡ b → cond b None (cond b at (index_with_id q sheets)) ≡ index_with_id q sheets
-    step q true e = sym (ap (λ k. index_with_id k sheets) (sym (eqb-true id q e)) ∙ no_place id sheets (above_greatest id (ids sheets) fresh))
+    step q true e = sym (ap (λ k. index_with_id k sheets) (sym (eqb-true id q e)) ∙ no_place id sheets fresh)
     step q false e = refl
 
 -- ---- a sheet among others

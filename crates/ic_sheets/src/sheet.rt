@@ -112,6 +112,15 @@ impl Sheet {
         }
     }
 
+    /// Gives it other formulas, cells with their rows, columns and merged cells, and another tab.
+    pub(crate) fn fill(&mut self, pool: Pool, grid: Grid, tab: Tab)
+        ensures { self.new ≡ record self.old { pool = pool; grid = grid; tab = tab } }
+    {
+        self.pool = pool;
+        self.grid = grid;
+        self.tab = tab;
+    }
+
     /// Writes a formula into a cell, by its row and its column from 1, in the style of a number. The place is prepared, so
     /// that the array that it belongs to is released, and the formula gets its place among those that the sheet keeps.
     /// `OutOfMemory` changes nothing but what formulas are found by.

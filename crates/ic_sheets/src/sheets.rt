@@ -170,6 +170,13 @@ impl Sheets {
         index_in(&self.indexes, id)
     }
 
+    /// Whether a sheet has this id.
+    pub fn has_id(&self, id: u32) -> bool
+        ensures { result ≡ list_any (nat_eq id) (map (λ s. s.id) self.now) }
+    {
+        self.index_of_id(id).is_some()
+    }
+
     /// The index of the sheet whose name agrees with this one, from 0. None exactly where there is none.
     pub fn index_of_name(&self, name: &str) -> Option<usize>
         ensures { result ≡ position (λ s. agrees s.name (chars name.now)) self.now }

@@ -9,7 +9,7 @@ ghost use Rattle.ic_laws.specs.BookTrees.{with_body_tree};
 ghost use Rattle.ic_laws.specs.Changes.{changed_tree, definition_added, definition_gone};
 ghost use Rattle.ic_laws.specs.CoreBook as core;
 ghost use Rattle.ic_laws.specs.CoreBook.{spelling_of};
-ghost use Rattle.ic_laws.specs.CoreStep.{is_named};
+ghost use Rattle.ic_laws.specs.CoreStep.{is_named, updated_at};
 ghost use Rattle.ic_laws.specs.Greatest.{greatest};
 ghost use Rattle.ic_laws.specs.Scene.{found_name};
 ghost use Rattle.ic_definitions.specs.Bodies.{FitsBodies, StaysWhereFound, with_bodies};
@@ -19,7 +19,7 @@ ghost use Rattle.ic_pool.specs.Code.{name_code};
 use super::Definitions;
 use crate::bodies::rewrites_of;
 use crate::{BodyRewrites, Definition};
-use ic_laws::{NameKey, NameMention, OutOfMemory, Text};
+use ic_laws::{Formula, NameKey, NameMention, OutOfMemory, Text};
 use ic_pool::{BookChange, DefinitionAdded, DefinitionGone, Key, has_dangling, name_key};
 use std::alloc::Global;
 use std::collections::BTreeMap;
@@ -69,6 +69,28 @@ impl Definitions {
     {
         let bodies = self.prepare_added(&definition)?;
         self.add_prepared(definition, bodies)
+    }
+
+    /// Adds a definition at the end, and leaves the bodies of the others: a book that is handed in begins with all of its
+    /// definitions. `OutOfMemory` changes nothing.
+    pub fn add_leaving_bodies(&mut self, definition: Definition) -> Result<(), OutOfMemory>
+        requires { list_any (is_named definition.name definition.scope) self.old ≡ false }
+        ensures ok { OnOk result (self.new ≡ self.old ++ definition ∷ []) }
+        ensures err { OnErr result (self.new ≡ self.old) }
+    {
+        let mut nothing = BodyRewrites::new(self.alloc);
+        nothing.may_dangle = self.may_dangle;
+        self.add_prepared(definition, nothing)
+    }
+
+    /// Gives the definition at an index, from 0, another body. It takes no memory.
+    pub fn set_body(&mut self, index: usize, body: Formula)
+        requires { index < length self.old }
+        ensures { self.new ≡ updated_at (λ d. record d { body = body }) index self.old }
+    {
+        self.may_dangle |= has_dangling(&body);
+        let definition = &mut self.list[index];
+        definition.set_body(body);
     }
 
     /// Takes the definition at an index away, from 0. Words of the bodies that meant it mean what `mention_without` tells.

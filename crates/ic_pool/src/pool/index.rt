@@ -3,9 +3,9 @@ ghost use Rattle.std.specs.BTreeMap.{get};
 ghost use Rattle.std.specs.Cmp.Lexicographic.{slice_cmp};
 ghost use Rattle.std.specs.List.{slice_get};
 ghost use Rattle.std.specs.Ordering.{nat_cmp};
-ghost use Rattle.ic_pool.specs.Pool.{KeepsPlaces, KnowsRest};
+ghost use Rattle.ic_pool.specs.Pool.{KeepsPlaces, KnowsRest, dangling_places};
 
-use crate::{Key, Steps, key_of};
+use crate::{Key, Steps, has_dangling, key_of};
 use ic_laws::{Formula, OutOfMemory};
 use std::alloc::Global;
 use std::collections::{BTreeMap, LinkedList};
@@ -31,6 +31,19 @@ pub fn index_of<L: Ledger>(
         index.insert(key, at)?;
     }
     Ok(index)
+}
+
+/// The places of those of these formulas that mention something that wasn't found, in ascending order.
+pub fn dangling_in(alloc: Global, formulas: &[Formula]) -> Result<Vec<usize>, OutOfMemory>
+    ensures { IfOk result (λ places. places.items ≡ dangling_places formulas.now) }
+{
+    let mut places = Vec::new(alloc);
+    for (at, formula) in formulas.iter().enumerate() {
+        if has_dangling(formula) {
+            places.push(at)?;
+        }
+    }
+    Ok(places)
 }
 
 /// Puts the formulas at the late places into a look-up that has the others, in one step for each. Where there is no memory

@@ -1,26 +1,27 @@
 //! Sheets come, go, get other names and stand at other indexes.
-ghost use Rattle.std.specs.Prelude.{◌≡◌, ◌<◌, ◌++◌, ℕ, List, [], ◌∷◌, Some, None, OnOk, OnErr, bytes_eq, chars, cond, false, true, length, map, option_map, remove, string_bytes};
+ghost use Rattle.std.specs.Prelude.{◌≡◌, ◌<◌, ◌++◌, ℕ, List, [], ◌∷◌, Some, None, OnOk, OnErr, bytes_eq, chars, cond, false, true, length, map, nat_eq, option_map, remove, string_bytes};
 ghost use Rattle.std.specs.BTreeMap.{get, get_by_text};
 ghost use Rattle.std.specs.List.{list_any};
 ghost use Rattle.std.specs.Ordering.{nat_cmp};
 ghost use Rattle.ic_laws.specs.CoreStep.{moved, updated_at};
-ghost use Rattle.ic_laws.specs.Greatest.{greatest};
 ghost use Rattle.ic_laws.specs.Name.{agrees};
 ghost use Rattle.ic_sheets.specs.Index.{lowered, moved_index};
 ghost use Rattle.ic_sheets.specs.Sheet.{empty_grid, plain_tab};
 
 use super::dangling::{dangles, settle};
 use super::{Sheets, folded, greatest_of};
-use crate::Sheet;
+use crate::{Sheet, Tab};
+use ic_grid::Grid;
 use ic_laws::{OutOfMemory, Text};
+use ic_pool::Pool;
 use std::collections::BTreeMap;
 
 impl Sheets {
-    /// Adds a sheet at the end, which keeps no formulas, and leaves the formulas of the others: a new book begins with it.
-    /// `OutOfMemory` changes nothing.
+    /// Adds a sheet at the end, whose id none of the others has, which keeps no formulas, and leaves the formulas of the
+    /// others: a new book begins with it, and one that is handed in with all of its sheets. `OutOfMemory` changes nothing.
     pub fn add_leaving_formulas(&mut self, id: u32, name: &str) -> Result<(), OutOfMemory>
         requires free { list_any (agrees (chars name.now)) (map (λ s. s.name) self.old) ≡ false }
-        requires fresh { greatest (map (λ s. s.id) self.old) < id }
+        requires fresh { list_any (nat_eq id) (map (λ s. s.id) self.old) ≡ false }
         ensures ok { OnOk result (self.new ≡ self.old
             ++ record {
               id = id;
@@ -42,7 +43,7 @@ impl Sheets {
         match put_id(&mut self.ids, key, id) {
             Ok(()) => {
                 self.list.push_reserved(Sheet::new(self.alloc, id, name));
-                self.greatest = id;
+                self.greatest = self.greatest.max(id);
                 Ok(())
             }
             Err(error) => {
@@ -50,6 +51,19 @@ impl Sheets {
                 Err(error)
             }
         }
+    }
+
+    /// Gives the sheet at an index, from 0, other formulas, cells with their rows, columns and merged cells, and another tab.
+    /// The formulas of the others stay. It takes no memory.
+    pub fn fill(&mut self, index: usize, pool: Pool, grid: Grid, tab: Tab)
+        requires { index < length self.old }
+        ensures { self.new ≡ updated_at
+            (λ s. record s { pool = pool; grid = grid; tab = tab }) index self.old }
+    {
+        let sheet = &mut self.list[index];
+        let was = dangles(sheet);
+        sheet.fill(pool, grid, tab);
+        settle(&mut self.dangling, sheet.id, was, dangles(sheet));
     }
 
     /// Gives the sheet at an index, from 0, another name, and leaves all formulas. `OutOfMemory` changes nothing.

@@ -1,6 +1,5 @@
-use Rattle.std.proofs.Common.{◌≡◌, ◌<◌, ◌∙◌, ap, ap₂, sym, subst, subst₂, refl, arith, length-append, ◌++◌, ◌∷◌, [], Some, false, true, chars, encode_utf8_all, length, string_bytes}
+use Rattle.std.proofs.Common.{◌≡◌, ◌∙◌, ap, ap₂, sym, subst, subst₂, refl, arith, length-append, ◌++◌, ◌∷◌, [], Some, false, true, chars, encode_utf8_all, length, nat_eq, string_bytes}
 use Rattle.std.specs.List.{list_any}
-use Rattle.ic_laws.specs.Greatest.{greatest}
 use Rattle.ic_laws.specs.Name.{agrees, fold}
 use Rattle.ic_sheets.proofs.DanglingLemmas.{dangling_pushed}
 use Rattle.ic_sheets.proofs.IndexLemmas.{put_by_name}
@@ -18,10 +17,10 @@ invariant_of-self-in-Ok c =
     let s : Sheet = record { id = c.args.id; name = c.in_ok-name.name; pool = record { formulas = []; is_whole = true }; grid = empty_grid; tab = plain_tab } in
     let named = c.in_ok-name.ensures in
     let free : list_any (agrees s.name) (names sheets) ≡ false = ap (λ n. list_any (agrees n) (names sheets)) named ∙ ap (λ xs. list_any (agrees (chars c.args.name.now)) (names xs)) c.self.view_is ∙ c.requires.free in
-    let fresh : greatest (ids sheets) < s.id = subst (λ xs. greatest (ids xs) < c.args.id) (sym c.self.view_is) c.requires.fresh in
+    let fresh : list_any (nat_eq s.id) (ids sheets) ≡ false = ap (λ xs. list_any (nat_eq c.args.id) (ids xs)) c.self.view_is ∙ c.requires.fresh in
     let key : string_bytes c.in_ok-key.key ≡ encode_utf8_all (fold s.name) = c.in_ok-key.ensures ∙ ap (λ n. encode_utf8_all (fold n)) (sym named) in
     let pushed : c.push_reserved.new.self.items ≡ sheets ++ s ∷ [] = c.push_reserved.ensures.items ∙ ap₂ (λ xs (y : Sheet). xs ++ y ∷ []) c.reserve.ensures.items c.new.ensures in (
-      kept_pushed c.self.inside.ids c.put_id.new.ids c.self.inside.greatest sheets c.push_reserved.new.self.items s c.self.invariant.0 free fresh
+      kept_pushed c.self.inside.ids c.put_id.new.ids c.self.inside.greatest c.max-self-inside.result sheets c.push_reserved.new.self.items s c.self.invariant.0 free fresh c.max-self-inside.ensures
           (put_by_name c.self.inside.ids c.put_id.new.ids (string_bytes c.in_ok-key.key) (fold s.name) (Some c.args.id) c.in-Ok.ensures.ok key) pushed,
       placed_pushed c.self.inside.indexes c.insert.new.self sheets c.push_reserved.new.self.items s c.len-place.result c.self.invariant.1 fresh (c.len-place.ensures ∙ c.reserve.new.self.ok.0 ∙ ap length c.reserve.ensures.items)
           c.in_ok-insert.ensures.updates pushed,
@@ -32,7 +31,7 @@ invariant_of-self-in-Ok c =
 pub invariant_of-self-in-Err-1 : goal.invariant_of-self-in-Err-1
 invariant_of-self-in-Err-1 c =
     let sheets = c.self.inside.list.items in
-    let fresh : greatest (ids sheets) < c.args.id = subst (λ xs. greatest (ids xs) < c.args.id) (sym c.self.view_is) c.requires.fresh in (
+    let fresh : list_any (nat_eq c.args.id) (ids sheets) ≡ false = ap (λ xs. list_any (nat_eq c.args.id) (ids xs)) c.self.view_is ∙ c.requires.fresh in (
       kept_indexed c.self.inside.ids c.put_id.new.ids c.self.inside.greatest sheets c.reserve.new.self.items c.self.invariant.0 c.in-Err.ensures.err c.reserve.ensures.items,
       placed_undone c.self.inside.indexes c.insert.new.self c.remove.new.self sheets c.reserve.new.self.items c.args.id (Some c.len-place.result) c.self.invariant.1 fresh c.in_ok-insert.ensures.updates c.remove.ensures.updates c.reserve.ensures.items,
       subst₂ AreDangling (sym c.reserve-2.ensures.items) (sym c.reserve.ensures.items) c.self.invariant.2,

@@ -1,4 +1,5 @@
 use Rattle.std.proofs.Common.{Some, chars, refl, sym, subst}
+use Rattle.ic_laws.proofs.CoreLemmas.{above_greatest}
 use Rattle.ic_pool.proofs.ChangeLemmas.{naming_spares_found}
 use Rattle.ic_sheets.proofs.OwnLemmas.{added_looks_up, added_made, own_fits_pushed}
 use Rattle.ic_sheets.specs.Rewriting.{FitOwn}
@@ -6,6 +7,9 @@ use Rattle.ic_sheets.proofs.sheets.Sheets.add_sheet.Goals as goal
 
 pub prepare_dangling-requires : goal.prepare_dangling-requires
 prepare_dangling-requires c = λ id. naming_spares_found c.args.id (chars c.args.name.now) (Some id)
+
+pub add_leaving_formulas-requires-clause-fresh : goal.add_leaving_formulas-requires-clause-fresh
+add_leaving_formulas-requires-clause-fresh c = above_greatest c.args.id _ c.requires.fresh
 
 pub apply_own-requires : goal.apply_own-requires
 apply_own-requires c = subst (FitOwn c.in_ok-prepared.prepared.items) (sym c.in_ok-add_leaving_formulas.ensures.ok) (own_fits_pushed _ c.in_ok-prepared.prepared.items c.args.self.now c.in_ok-prepared.ensures _ c.requires.fresh)

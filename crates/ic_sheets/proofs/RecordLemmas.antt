@@ -1,0 +1,116 @@
+-- Sheets that are made of plain records, one after another.
+use Rattle.std.proofs.Common.{◌≡◌, ◌∙◌, ◌<◌, ◌≤◌, ◌+◌, ℕ, suc, List, [], ◌∷◌, ◌++◌, Bool, true, false, cond, ◌||◌, Option, Some, None, option_map, is_some, map, max, length, take, get_or, nat_eq, refl, sym, ap, ap₂, arith}
+use Rattle.std.proofs.lemmas.List.{map-append, map_more, take_all}
+use Rattle.std.specs.Cmp.{nat_eq_equiv}
+use Rattle.std.specs.List.{list_any}
+use Rattle.ic_laws.proofs.CoreLemmas.{above_greatest, agrees_equiv}
+use Rattle.ic_laws.specs.CoreBook.{IsId}
+use Rattle.ic_laws.specs.Greatest.{greatest}
+use Rattle.ic_laws.specs.Name.{agrees}
+use Rattle.ic_cells.specs.declared.sheet.Worksheet.{Worksheet}
+use Rattle.ic_sheets.proofs.ApartLemmas.{AreFine, fine_differ, fine_each, fine_next, fine_start, first_apart, not_differ, not_each}
+use Rattle.ic_sheets.proofs.KeptLemmas.{greatest_pushed}
+use Rattle.ic_sheets.proofs.SearchLemmas.{ids, names}
+use Rattle.ic_sheets.specs.Records.{HasApartNames, HasIds, started}
+use Rattle.ic_sheets.specs.Search.{index_with_id}
+use Rattle.ic_sheets.specs.declared.sheet.Sheet.{Sheet}
+
+abbrev pub name_in : Worksheet → List ℕ
+name_in w = w.name
+
+abbrev pub id_in : Worksheet → ℕ
+id_in w = w.sheet_id
+
+-- an id is found where a sheet has it
+pub has_place : (id : ℕ) (sheets : List Sheet) → is_some (index_with_id id sheets) ≡ list_any (nat_eq id) (ids sheets)
+has_place id [] = refl
+has_place id (s ∷ sheets) = step (nat_eq s.id id) (index_with_id id sheets) ∙ ap₂ ◌||◌ (nat_eq_equiv.symm s.id id) (has_place id sheets)
+  where
+    step : (b : Bool) (o : Option ℕ) → is_some (cond b (Some 0) (option_map suc o)) ≡ (b || is_some o)
+    step true o = refl
+    step false None = refl
+    step false (Some n) = refl
+
+-- nothing is asked of a name alone
+abbrev pub Any : Worksheet → Type 0
+Any w = Unit {0}
+
+-- ---- names, with ids that count from 1
+
+module _ (ws : List Worksheet) where
+  -- the sheets that were added have the names before this place
+  pub record NamedTo (i : ℕ) (sheets : List Sheet) : Type 0 where
+    pub named : names sheets ≡ map name_in (take i ws)
+    pub below : greatest (ids sheets) ≤ i
+    pub fine : AreFine agrees_equiv Any name_in ws i
+
+  pub named_start : (sheets : List Sheet) → sheets ≡ [] → NamedTo 0 sheets
+  named_start sheets none = record {
+    named = ap names none;
+    below = let e = ap (λ xs. greatest (ids xs)) none in omega (arith, e);
+    fine = fine_start agrees_equiv Any name_in ws;
+  }
+
+  module _ (i next : ℕ) (w : Worksheet) (is_next : i + 1 ≡ next) (within : i < length ws) (item : w ≡ get_or ws i w) (sheets : List Sheet) (done : NamedTo i sheets) where
+    pub id_free : list_any (nat_eq next) (ids sheets) ≡ false
+    id_free = above_greatest next (ids sheets) (let e = done.below in omega (arith, e))
+
+    pub named_next : (after : List Sheet) (s : Sheet) → s.name ≡ w.name → s.id ≡ next → list_any (agrees w.name) (names sheets) ≡ false → after ≡ sheets ++ s ∷ [] → NamedTo next after
+    named_next after s same numbered free put = record {
+      named = ap names put ∙ map-append (λ (x : Sheet). x.name) sheets (s ∷ []) ∙ ap₂ (λ xs (n : List ℕ). xs ++ n ∷ []) done.named same
+          ∙ sym (ap (λ n. map name_in (take n ws)) (sym is_next) ∙ map_more name_in ws i w within ∙ ap (λ (y : Worksheet). map name_in (take i ws) ++ y.name ∷ []) (sym item));
+      below =
+          let e : greatest (ids after) ≡ max (greatest (ids sheets)) s.id = ap (λ xs. greatest (ids xs)) put ∙ ap greatest (map-append (λ (x : Sheet). x.id) sheets (s ∷ [])) ∙ sym (greatest_pushed (ids sheets) s.id) in
+          let most = done.below in omega (arith, e, most, numbered);
+      fine = fine_next agrees_equiv Any name_in ws i next w is_next within item done.fine tt (sym (ap (list_any (agrees w.name)) done.named) ∙ free);
+    }
+
+-- ---- the sheets with their own ids
+
+abbrev pub HasId : Worksheet → Type 0
+HasId w = IsId w.sheet_id
+
+names_started : (ws : List Worksheet) → names (map started ws) ≡ map name_in ws
+names_started [] = refl
+names_started (w ∷ ws) = ap (λ ns. w.name ∷ ns) (names_started ws)
+
+ids_started : (ws : List Worksheet) → ids (map started ws) ≡ map id_in ws
+ids_started [] = refl
+ids_started (w ∷ ws) = ap (λ ns. w.sheet_id ∷ ns) (ids_started ws)
+
+module _ (ws : List Worksheet) where
+  pub record StartedTo (i : ℕ) (sheets : List Sheet) : Type 0 where
+    pub made : sheets ≡ map started (take i ws)
+    pub fine : AreFine nat_eq_equiv HasId id_in ws i
+
+  pub started_start : (sheets : List Sheet) → sheets ≡ [] → StartedTo 0 sheets
+  started_start sheets none = record { made = none; fine = fine_start nat_eq_equiv HasId id_in ws }
+
+  pub started_end : (i : ℕ) (sheets : List Sheet) → StartedTo i sheets → length ws ≤ i → HasIds ws × (sheets ≡ map started ws)
+  started_end i sheets done end = (
+    record { each = fine_each nat_eq_equiv HasId id_in ws i done.fine end; differ = fine_differ nat_eq_equiv HasId id_in ws i done.fine end },
+    done.made ∙ ap (map started) (take_all i ws end),
+  )
+
+  pub started_names : (i : ℕ) (sheets : List Sheet) → StartedTo i sheets → names sheets ≡ map name_in (take i ws)
+  started_names i sheets done = ap names done.made ∙ names_started (take i ws)
+
+  pub started_ids : (i : ℕ) (sheets : List Sheet) → StartedTo i sheets → ids sheets ≡ map id_in (take i ws)
+  started_ids i sheets done = ap ids done.made ∙ ids_started (take i ws)
+
+  module _ (i next : ℕ) (w : Worksheet) (is_next : i + 1 ≡ next) (within : i < length ws) (item : w ≡ get_or ws i w) (sheets : List Sheet) (done : StartedTo i sheets) where
+    pub name_free : HasApartNames ws → list_any (agrees w.name) (names sheets) ≡ false
+    name_free apart = ap (list_any (agrees w.name)) (started_names i sheets done) ∙ first_apart agrees_equiv name_in ws i w within item apart
+
+    pub started_next : (after : List Sheet) → IsId w.sheet_id → list_any (nat_eq w.sheet_id) (ids sheets) ≡ false → after ≡ sheets ++ started w ∷ [] → StartedTo next after
+    started_next after id free put = record {
+      made = put ∙ ap (λ xs. xs ++ started w ∷ []) done.made
+          ∙ sym (ap (λ n. map started (take n ws)) (sym is_next) ∙ map_more started ws i w within ∙ ap (λ y. map started (take i ws) ++ started y ∷ []) (sym item));
+      fine = fine_next nat_eq_equiv HasId id_in ws i next w is_next within item done.fine id (sym (ap (list_any (nat_eq w.sheet_id)) (started_ids i sheets done)) ∙ free);
+    }
+
+    pub id_taken : list_any (nat_eq w.sheet_id) (ids sheets) ≡ true → HasIds ws → ⊥
+    id_taken taken h = not_differ nat_eq_equiv HasId id_in ws i next w is_next within item (sym (ap (list_any (nat_eq w.sheet_id)) (started_ids i sheets done)) ∙ taken) h.differ
+
+    pub no_id : (IsId w.sheet_id → ⊥) → HasIds ws → ⊥
+    no_id not h = not_each nat_eq_equiv HasId id_in ws i next w is_next within item not h.each
