@@ -50,7 +50,7 @@ use Rattle.ic_sheets.specs.declared.sheet.Sheet.{Sheet as HeldSheet}
 use Rattle.ic_book.specs.declared.about.About.{About}
 use Rattle.ic_book.specs.declared.lists.Lists.{Lists}
 use Rattle.ic_book.specs.declared.model.Model.TheInside.{Inside}
-use Rattle.ic_book.specs.Book.{Book, IsValidBook, NotationState, core_of, first_sheet_name_in, new_book, notations_in, scene_in}
+use Rattle.ic_book.specs.Book.{Book, IsValidBook, NotationState, core_of, first_sheet_name_in, metadata_made, new_book, notations_in, scene_in}
 use Rattle.ic_book.specs.Change.{book_changed_by, with_added_definition, with_added_sheet, with_moved_sheet, with_removed_definition, with_removed_sheet, with_renamed_sheet}
 use Rattle.ic_book.specs.Inside.{IsHeld, held, with_contents, with_sheets, with_styles}
 use Rattle.ic_book.proofs.BookLemmas.{moved-map}
@@ -210,19 +210,19 @@ read_is slice ws i s sheet e lt read at = read_there ws i s sheet lt (read ∙ a
 
 -- a new book
 pub start_is : (inside : Inside) (name locale_id language_id zone_id : List ℕ) (zone : Bor (List ℕ)) (locale : NamedLocale) (language : Language) (tables : TableSet)
-    → inside.about ≡ record { name = name; zone = zone; theme = []; created = inside.about.created } → zone.now ≡ zone_id
+    → inside.about ≡ record { name = name; zone = zone; theme = []; metadata = metadata_made inside.about.metadata.created } → zone.now ≡ zone_id
     → inside.contents.sheets ≡ record { id = 1; name = first_sheet_name_in language.code; pool = record { formulas = []; is_whole = true }; grid = empty_grid; tab = plain_tab } ∷ []
     → inside.contents.definitions ≡ [] → inside.lists ≡ record { styles = default_style ∷ []; strings = [] } → inside.notation ≡ record { tables = tables; locale = locale.id; language = language.code } → locale.id ≡ locale_id → language.code ≡ language_id
-    → held inside ≡ new_book name locale_id zone_id language_id inside.about.created tables
+    → held inside ≡ new_book name locale_id zone_id language_id inside.about.metadata.created tables
 start_is inside name locale_id language_id zone_id zone locale language tables one there two none lists its three four =
     ap (λ (a : About). make a (map sheet_of inside.contents.sheets) inside.contents.definitions inside.lists inside.notation) one
     ∙ ap (λ (xs : List HeldSheet). make given (map sheet_of xs) inside.contents.definitions inside.lists inside.notation) two
     ∙ ap (λ (xs : List Definition). make given (first language.code) xs inside.lists inside.notation) none ∙ ap (λ (ls : Lists). make given (first language.code) [] ls inside.notation) lists
     ∙ ap (λ (n : NotationState). make given (first language.code) [] empty n) its ∙ ap (λ l. make given (first language.code) [] empty (record { tables = tables; locale = l; language = language.code })) three
-    ∙ ap (λ g. make given (first g) [] empty (record { tables = tables; locale = locale_id; language = g })) four ∙ ap (λ z. new_book name locale_id z language_id inside.about.created tables) there
+    ∙ ap (λ g. make given (first g) [] empty (record { tables = tables; locale = locale_id; language = g })) four ∙ ap (λ z. new_book name locale_id z language_id inside.about.metadata.created tables) there
   where
     given : About
-    given = record { name = name; zone = zone; theme = []; created = inside.about.created }
+    given = record { name = name; zone = zone; theme = []; metadata = metadata_made inside.about.metadata.created }
 
     empty : Lists
     empty = record { styles = default_style ∷ []; strings = [] }
@@ -239,7 +239,7 @@ start_is inside name locale_id language_id zone_id zone locale language tables o
       language = n.language;
       zone = a.zone.now;
       theme = a.theme;
-      created = a.created;
+      metadata = a.metadata;
       styles = ls.styles;
       strings = ls.strings;
       tables = n.tables;

@@ -23,7 +23,7 @@ use Rattle.ic_sheets.specs.Sheet.{Sheet, empty_grid, plain_tab, sheet_core}
 use Rattle.ic_sheets.specs.declared.tab.Tab.{Tab}
 
 -- a book: its name, its sheets and its definitions in their order, the ids of the locale and the language in force, the
--- zone, the name of the theme, when it was made, its styles and its shared strings, each by number, and the tables that it
+-- zone, the name of the theme, who made it, with what and when, its styles and its shared strings, each by number, and the tables that it
 -- borrows
 pub record Book : Type 0 where
   pub name : List ℕ
@@ -33,7 +33,7 @@ pub record Book : Type 0 where
   pub language : List ℕ
   pub zone : List ℕ
   pub theme : List ℕ
-  pub created : List ℕ
+  pub metadata : Metadata
   pub styles : List Style
   pub strings : List (List ℕ)
   pub tables : TableSet
@@ -88,7 +88,7 @@ whole_of book = record {
   styles = book.styles;
   theme = book.theme;
   name = book.name;
-  metadata = metadata_made book.created;
+  metadata = book.metadata;
   tables = book.tables;
 }
 
@@ -146,7 +146,7 @@ new_book name locale zone language created tables = record {
   language = language;
   zone = zone;
   theme = [];
-  created = created;
+  metadata = metadata_made created;
   styles = default_style ∷ [];
   strings = [];
   tables = tables;
@@ -164,7 +164,7 @@ pub record IsSameBeside (old new : Book) : Type 0 where
   pub name : new.name ≡ old.name
   pub zone : new.zone ≡ old.zone
   pub theme : new.theme ≡ old.theme
-  pub created : new.created ≡ old.created
+  pub metadata : new.metadata ≡ old.metadata
   pub tables : new.tables ≡ old.tables
 
 -- A book is stepped to this core: that is what it has, and beside it all is as it was.

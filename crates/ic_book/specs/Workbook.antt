@@ -14,7 +14,7 @@ use Rattle.ic_cells.specs.declared.workbook.Workbook.{Workbook}
 use Rattle.ic_tree.specs.Notations.{in_english}
 use Rattle.ic_tree.specs.StoredText.{stored_formula}
 use Rattle.ic_sheets.specs.Sheet.{Sheet}
-use Rattle.ic_book.specs.Book.{Book, metadata_made, notations_in, scene_in}
+use Rattle.ic_book.specs.Book.{Book, notations_in, scene_in}
 
 -- the text of a formula in a form: a tree as it is spelled, a text that didn't read after a closing bracket
 abbrev pub text_in : DialectMeaning → Scene → Formula → List ℕ
@@ -63,6 +63,6 @@ workbook_of book = record {
   worksheets = map (worksheet_of book) book.sheets;
   styles = book.styles;
   settings = record { tz = book.zone; locale = book.locale };
-  metadata = metadata_made book.created;
+  metadata = book.metadata;
   theme = record { name = book.theme };
 }

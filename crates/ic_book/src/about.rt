@@ -1,4 +1,19 @@
-use ic_laws::Text;
+ghost use Rattle.std.specs.Prelude.{◌≡◌, IfOk};
+ghost use Rattle.ic_book.specs.Book.{metadata_made};
+
+use crate::copies::copy_text;
+use ic_cells::Metadata;
+use ic_laws::{OutOfMemory, Text};
+use std::alloc::Global;
+
+/// The application that a new workbook is made with.
+pub const APPLICATION: &str = "IronCalc Sheets";
+
+/// The version of that application.
+pub const APP_VERSION: &str = "10.0000";
+
+/// Who makes a new workbook, and changes it last.
+pub const IRONCALC_USER: &str = "IronCalc User";
 
 /// What a workbook has beside its contents, its lists and its notation.
 pub struct About<'a> {
@@ -8,8 +23,8 @@ pub struct About<'a> {
     pub zone: &'a Text,
     /// The name of its theme.
     pub theme: Text,
-    /// When it was made, as `Timestamp` displays it.
-    pub created: Text,
+    /// Who made it, with what, and when.
+    pub metadata: Metadata,
 }
 
 impl Drop for About<'_> {
@@ -18,10 +33,29 @@ impl Drop for About<'_> {
             name,
             zone: _,
             theme,
-            created,
+            metadata,
         } = self;
         drop(name);
         drop(theme);
-        drop(created);
+        drop(metadata);
     }
+}
+
+/// Who made a new workbook, with what, and when: at the moment of this text.
+pub(crate) fn metadata_made(alloc: Global, created: Text) -> Result<Metadata, OutOfMemory>
+    ensures { IfOk result (λ metadata. metadata ≡ metadata_made created) }
+{
+    let application = Text::from_str(alloc, APPLICATION)?;
+    let app_version = Text::from_str(alloc, APP_VERSION)?;
+    let creator = Text::from_str(alloc, IRONCALC_USER)?;
+    let last_modified_by = Text::from_str(alloc, IRONCALC_USER)?;
+    let last_modified = copy_text(alloc, &created)?;
+    Ok(Metadata {
+        application,
+        app_version,
+        creator,
+        last_modified_by,
+        created,
+        last_modified,
+    })
 }

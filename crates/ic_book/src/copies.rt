@@ -2,7 +2,7 @@
 ghost use Rattle.std.specs.Prelude.{◌≡◌, IfOk, OnOk};
 ghost use Rattle.std.specs.FinMap as finite;
 
-use ic_cells::{Cell, FormulaValue, LineMap, Merge, PlaceMap, SpillValue, Styles};
+use ic_cells::{Cell, FormulaValue, LineMap, Merge, Metadata, PlaceMap, SpillValue, Styles};
 use ic_laws::{Items, OutOfMemory, Text};
 use std::alloc::Global;
 
@@ -22,6 +22,26 @@ pub(crate) fn copy_texts(alloc: Global, texts: &[Text]) -> Result<Items<Text>, O
         out.push(copy_text(alloc, text)?)?;
     }
     Ok(Items::from(out))
+}
+
+/// A copy of who made a workbook, with what, and when.
+pub(crate) fn copy_metadata(alloc: Global, metadata: &Metadata) -> Result<Metadata, OutOfMemory>
+    ensures { IfOk result (λ copy. copy ≡ metadata.now) }
+{
+    let application = copy_text(alloc, &metadata.application)?;
+    let app_version = copy_text(alloc, &metadata.app_version)?;
+    let creator = copy_text(alloc, &metadata.creator)?;
+    let last_modified_by = copy_text(alloc, &metadata.last_modified_by)?;
+    let created = copy_text(alloc, &metadata.created)?;
+    let last_modified = copy_text(alloc, &metadata.last_modified)?;
+    Ok(Metadata {
+        application,
+        app_version,
+        creator,
+        last_modified_by,
+        created,
+        last_modified,
+    })
 }
 
 /// A copy of merged cells.

@@ -42,8 +42,8 @@ mod tabs;
 mod values;
 mod workbook;
 
+pub use about::{APP_VERSION, APPLICATION, IRONCALC_USER};
 pub use error::BookError;
 pub use ic_pool::Steps;
 pub use law::{law_handed_in, law_whole_book, law_workbook};
 pub use model::Model;
-pub use workbook::{APP_VERSION, APPLICATION, IRONCALC_USER};

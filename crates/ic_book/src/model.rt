@@ -3,7 +3,7 @@ ghost use Rattle.std.specs.List.{slice_get};
 ghost use Rattle.ic_laws.specs.CoreBook.{fresh_id, used_ids};
 ghost use Rattle.ic_laws.specs.Notations.{AreNotations};
 ghost use Rattle.ic_laws.specs.ValidCore.{IsPooled};
-ghost use Rattle.ic_book.specs.Book.{IsValidBook, core_of, first_sheet_name_in, new_book, new_book_refusal, notations_in, scene_in};
+ghost use Rattle.ic_book.specs.Book.{IsValidBook, core_of, first_sheet_name_in, metadata_made, new_book, new_book_refusal, notations_in, scene_in};
 ghost use Rattle.ic_book.specs.Does.{DoesOnly};
 ghost use Rattle.ic_book.specs.Fields.{scope_field};
 ghost use Rattle.ic_book.specs.Refused.{Refuses};
@@ -12,7 +12,7 @@ ghost use Rattle.ic_cells.specs.Style.{default_style};
 ghost use Rattle.ic_sheets.specs.Sheet.{empty_grid, plain_tab};
 
 use crate::BookError;
-use crate::about::About;
+use crate::about::{About, metadata_made};
 use crate::contents::Contents;
 use crate::in_force::Notation;
 use crate::lists::Lists;
@@ -86,7 +86,7 @@ impl<'a> Model<'a> {
         moment: Timestamp,
     ) -> Result<Model<'a>, BookError>
         ensures start { IfOk result (λ m. m.book ≡ new_book (chars name.now) (chars locale_id.now)
-            (chars timezone.now) (chars language_id.now) m.book.created tables.now) }
+            (chars timezone.now) (chars language_id.now) m.book.metadata.created tables.now) }
         ensures looks_up { IfOk result (λ m. m.has_all ≡ true ∷ []) }
         ensures refused { Refuses result (new_book_refusal (chars locale_id.now)
             (chars timezone.now) (chars language_id.now) tables.now) }
@@ -117,9 +117,9 @@ impl<'a> Model<'a> {
 
     /// When it was made, as `Timestamp` displays it.
     pub fn created(&self) -> &Text
-        ensures { result.now ≡ self.now.book.created }
+        ensures { result.now ≡ self.now.book.metadata.created }
     {
-        &self.about.created
+        &self.about.metadata.created
     }
 
     /// The id of the next new sheet: one more than the greatest id in use, of a sheet or of a definition that is local to
@@ -221,14 +221,16 @@ fn about<'a>(
       name = chars name.now;
       zone = zone.entry;
       theme = [];
-      created = about.created;
+      metadata = metadata_made about.metadata.created;
     }) }
 {
+    let name = Text::from_str(alloc, name)?;
+    let metadata = metadata_made(alloc, moment_text(alloc, moment)?)?;
     Ok(About {
-        name: Text::from_str(alloc, name)?,
+        name,
         zone,
         theme: Text::from(String::new(alloc)),
-        created: moment_text(alloc, moment)?,
+        metadata,
     })
 }
 

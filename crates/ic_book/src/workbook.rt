@@ -1,28 +1,21 @@
 //! A book as the plain records of a workbook.
 ghost use Rattle.std.specs.Prelude.{◌≡◌, IfOk, None, chars, map};
 ghost use Rattle.ic_sheets.specs.Sheet.{sheet_of};
-ghost use Rattle.ic_book.specs.Book.{metadata_made, notations_in};
+ghost use Rattle.ic_book.specs.Book.{notations_in};
 ghost use Rattle.ic_book.specs.Refused.{Refuses};
 ghost use Rattle.ic_book.specs.Workbook.{body_in_english, body_text, defined_name_of, sign_of, stored_text, text_in, workbook_of, worksheet_of};
 
-use crate::copies::{copy_cells, copy_lines, copy_merges, copy_styles, copy_text, copy_texts};
+use crate::copies::{
+    copy_cells, copy_lines, copy_merges, copy_metadata, copy_styles, copy_text, copy_texts,
+};
 use crate::formulas::after_sign;
 use crate::{BookError, Model};
-use ic_cells::{DefinedName, Metadata, Theme, Workbook, WorkbookSettings, Worksheet};
+use ic_cells::{DefinedName, Theme, Workbook, WorkbookSettings, Worksheet};
 use ic_definitions::Definition;
 use ic_laws::{Dialect, Finder, Formula, Items, OutOfMemory, Text};
 use ic_sheets::Sheet;
 use ic_tree::{Stored, print, spell};
 use std::alloc::Global;
-
-/// The application that a new workbook is made with.
-pub const APPLICATION: &str = "IronCalc Sheets";
-
-/// The version of that application.
-pub const APP_VERSION: &str = "10.0000";
-
-/// Who makes a new workbook, and changes it last.
-pub const IRONCALC_USER: &str = "IronCalc User";
 
 impl<'a> Model<'a> {
     /// A copy of what the book holds, as plain records: its sheets in their order, each with its id, its name, its tab, its
@@ -50,7 +43,7 @@ impl<'a> Model<'a> {
         let alloc = self.alloc;
         let about = &self.about;
         let settings = settings_with(alloc, about.zone, &self.notation.locale().id)?;
-        let metadata = metadata_made(alloc, &about.created)?;
+        let metadata = copy_metadata(alloc, &about.metadata)?;
         let name = copy_text(alloc, &about.name)?;
         let theme = copy_text(alloc, &about.theme)?;
         let styles = copy_styles(alloc, &self.lists.styles)?;
@@ -214,24 +207,4 @@ fn settings_with(alloc: Global, zone: &Text, locale: &Text) -> Result<WorkbookSe
     let tz = copy_text(alloc, zone)?;
     let locale = copy_text(alloc, locale)?;
     Ok(WorkbookSettings { tz, locale })
-}
-
-/// Who made a workbook, with what, and when: at this moment.
-fn metadata_made(alloc: Global, created: &Text) -> Result<Metadata, OutOfMemory>
-    ensures { IfOk result (λ metadata. metadata ≡ metadata_made created.now) }
-{
-    let application = Text::from_str(alloc, APPLICATION)?;
-    let app_version = Text::from_str(alloc, APP_VERSION)?;
-    let creator = Text::from_str(alloc, IRONCALC_USER)?;
-    let last_modified_by = Text::from_str(alloc, IRONCALC_USER)?;
-    let last_modified = copy_text(alloc, created)?;
-    let created = copy_text(alloc, created)?;
-    Ok(Metadata {
-        application,
-        app_version,
-        creator,
-        last_modified_by,
-        created,
-        last_modified,
-    })
 }

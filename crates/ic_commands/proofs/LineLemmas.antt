@@ -36,7 +36,7 @@ same_beside old new left is beside = record {
   name = ap (λ (b : machine.Book). b.name) is ∙ beside.name;
   zone = ap (λ (b : machine.Book). b.zone) is ∙ beside.zone;
   theme = ap (λ (b : machine.Book). b.theme) is ∙ beside.theme;
-  created = ap (λ (b : machine.Book). b.metadata.created) is ∙ ap (λ m. m.created) beside.metadata;
+  metadata = ap (λ (b : machine.Book). b.metadata) is ∙ beside.metadata;
   tables = ap (λ (b : machine.Book). b.tables) is ∙ beside.tables;
 }
 
@@ -98,7 +98,7 @@ module _ (line : List ℕ) where
       (record {
         reply = told;
         line = refusal_line BadLine;
-        book = record { core = refl; beside = record { name = refl; zone = refl; theme = refl; created = refl; tables = refl } };
+        book = record { core = refl; beside = record { name = refl; zone = refl; theme = refl; metadata = refl; tables = refl } };
         plain = plain;
       })
 

@@ -26,12 +26,12 @@ lines_leave (line ∷ all) old new did =
 
 -- what stays beside two steps
 same_beside_again : (old mid new : Book) → IsSameBeside old mid → IsSameBeside mid new → IsSameBeside old new
-same_beside_again old mid new p q = record { name = q.name ∙ p.name; zone = q.zone ∙ p.zone; theme = q.theme ∙ p.theme; created = q.created ∙ p.created; tables = q.tables ∙ p.tables }
+same_beside_again old mid new p q = record { name = q.name ∙ p.name; zone = q.zone ∙ p.zone; theme = q.theme ∙ p.theme; metadata = q.metadata ∙ p.metadata; tables = q.tables ∙ p.tables }
 
 -- core lines leave what the core machine leaves
 pub core_left : (all : List (List ℕ)) (old new : ModelState) → LinesDo all old new → IsPlainBook (whole_of old.book) → AreCore old.book.tables all → StepsTo old.book new.book (lines.after (notations_in old.book) served (core_of old.book) all)
 core_left [] old new did plain are =
-    subst (λ (m : ModelState). StepsTo old.book m.book (core_of old.book)) (sym did) (record { core = refl; beside = record { name = refl; zone = refl; theme = refl; created = refl; tables = refl } })
+    subst (λ (m : ModelState). StepsTo old.book m.book (core_of old.book)) (sym did) (record { core = refl; beside = record { name = refl; zone = refl; theme = refl; metadata = refl; tables = refl } })
 core_left (line ∷ all) old new did plain are =
     let step = did.1.steps plain are.0 in
     let later = core_left all did.0 new did.2 (did.1.plain plain are.0) (subst (λ (t : TableSet). AreCore t all) (sym step.beside.tables) are.1) in

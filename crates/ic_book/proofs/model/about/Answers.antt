@@ -1,12 +1,20 @@
-use Rattle.std.proofs.Common.{◌≡◌, ◌∙◌, ℕ, List, Bor, ap}
+use Rattle.std.proofs.Common.{◌≡◌, ◌∙◌, ℕ, List, Bor, ap, sym}
 use Rattle.std.specs.Str.{chars}
+use Rattle.ic_cells.specs.declared.workbook.Metadata.{Metadata}
+use Rattle.ic_book.specs.Book.{metadata_made}
 use Rattle.ic_book.specs.declared.about.About.{About}
 use Rattle.ic_book.proofs.model.about.Goals as goal
 
 -- the same parts make the same
-made : (name : List ℕ) (zone : Bor (List ℕ)) (theme created : List ℕ) (n t : List ℕ) → name ≡ n → theme ≡ t → ◌≡◌ {A = About} (record { name = name; zone = zone; theme = theme; created = created }) (record { name = n; zone = zone; theme = t; created = created })
-made name zone theme created n t a c = λ i. record { name = a i; zone = zone; theme = c i; created = created }
+made : (name : List ℕ) (zone : Bor (List ℕ)) (theme : List ℕ) (metadata : Metadata) (n t : List ℕ) (m : Metadata) → name ≡ n → theme ≡ t → metadata ≡ m
+    → ◌≡◌ {A = About} (record { name = name; zone = zone; theme = theme; metadata = metadata }) (record { name = n; zone = zone; theme = t; metadata = m })
+made name zone theme metadata n t m a b c = λ i. record { name = a i; zone = zone; theme = b i; metadata = c i }
+
+-- metadata that was made at a moment is what is made at its moment
+of_its_moment : (metadata : Metadata) (created : List ℕ) → metadata ≡ metadata_made created → metadata ≡ metadata_made metadata.created
+of_its_moment metadata created is = is ∙ ap metadata_made (sym (ap (λ (m : Metadata). m.created) is))
 
 pub returns : goal.returns
 unfolding chars
-returns c = made _ _ _ _ _ _ c.in_ok-from_str.ensures (c.from.ensures ∙ ap chars c.new.ensures.bytes)
+returns c =
+    made _ _ _ _ _ _ _ c.in_ok-name.ensures (c.from.ensures ∙ ap chars c.new.ensures.bytes) (of_its_moment _ _ c.in_ok-metadata.ensures)

@@ -56,5 +56,5 @@ returns-in-Ok-clause-served g c at_0 =
     let Wanted : Setting → Type 0 = λ s. IfTold (left c.args.source.now) (left c.run.new.source) (λ bytes _. IfTold (written c.args.sink.now) (written c.run.new.sink) (AppendsServedFrom (λ created. start_book s created tables) bytes)) in
     let told : Told book = on_ok_at_0 c.run.result (Told book) c.run.ensures.served (sym c.status_of.ensures ∙ at_0) in
     subst (λ o. IsSomeAnd o Wanted) c.in-Some.ensures
-    (some_moment (left c.args.source.now) (left c.run.new.source) (written c.args.sink.now) (written c.run.new.sink) (λ created. start_book (setting c.in-Some.start) created tables) book.created
-    (subst Told (c.in-Ok.ensures.start ∙ workbook _ _ _ book.created tables) told))
+    (some_moment (left c.args.source.now) (left c.run.new.source) (written c.args.sink.now) (written c.run.new.sink) (λ created. start_book (setting c.in-Some.start) created tables) book.metadata.created
+    (subst Told (c.in-Ok.ensures.start ∙ workbook _ _ _ book.metadata.created tables) told))

@@ -1,5 +1,5 @@
 use Rattle.std.specs.Str.{chars}
-use Rattle.ic_book.proofs.workbook.metadata_made.Goals as goal
+use Rattle.ic_book.proofs.about.metadata_made.Goals as goal
 
 pub returns : goal.returns
 unfolding chars
@@ -8,6 +8,6 @@ returns c = λ i. record {
   app_version = c.in_ok-app_version.ensures i;
   creator = c.in_ok-creator.ensures i;
   last_modified_by = c.in_ok-last_modified_by.ensures i;
-  created = c.in_ok-created.ensures i;
+  created = c.args.created;
   last_modified = c.in_ok-last_modified.ensures i;
 }
