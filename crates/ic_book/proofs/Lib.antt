@@ -28,6 +28,7 @@ pub mod NothingLemmas
 pub mod PartLemmas
 pub mod PartUses
 pub mod ReadLemmas
+pub mod ReferLemmas
 pub mod ReferenceLemmas
 pub mod RetypedLemmas
 pub mod SameTexts
@@ -38,6 +39,7 @@ pub mod SparedBodies
 pub mod StartLemmas
 pub mod StyleLemmas
 pub mod StyleSetLemmas
+pub mod TextLemmas
 pub mod TypedLemmas
 pub mod TypedSteps
 pub mod UnreadLemmas

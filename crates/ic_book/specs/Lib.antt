@@ -13,12 +13,14 @@ pub mod Markup
 pub mod Mentioned
 pub mod Parts
 pub mod References
+pub mod Referring
 pub mod Refused
 pub mod Retyped
 pub mod Scene
 pub mod Served
 pub mod Shown
 pub mod Styled
+pub mod Texts
 pub mod Values
 pub mod Whole
 pub mod Workbook

@@ -32,6 +32,7 @@ mod notation;
 mod parts;
 mod properties;
 mod references;
+mod referring;
 mod scene;
 mod settings;
 mod sheet_changes;
@@ -39,6 +40,7 @@ mod styled;
 mod styles;
 mod tab;
 mod tabs;
+mod texts;
 mod values;
 mod workbook;
 

@@ -175,7 +175,7 @@ impl<'a> Model<'a> {
 }
 
 /// The text of a formula in a form, with the names that things have in a scene.
-fn text_in<D: Dialect, N: Finder>(
+pub(crate) fn text_in<D: Dialect, N: Finder>(
     alloc: Global,
     d: &D,
     names: &N,
