@@ -18,6 +18,7 @@ mod parts;
 
 use crate::{BookError, Model};
 use body::TypedBody;
+pub(crate) use body::past_equals;
 use ic_definitions::Definition;
 use ic_laws::OutOfMemory;
 use ic_laws::scan::push_text;

@@ -142,7 +142,7 @@ fn if_lambda(tree: Spelled) -> Option<Spelled>
 }
 
 /// Whether a text begins with an equals sign, and what stands after that.
-fn past_equals(text: &str) -> (bool, &str)
+pub(crate) fn past_equals(text: &str) -> (bool, &str)
     ensures has { result.0 ≡ first_is (λ c. c == equals) (chars text.now) }
     ensures rest { chars result.1.now ≡ without_equals (chars text.now) }
 {
