@@ -6,14 +6,17 @@ use Rattle.ic_laws.specs.CoreBook.{Definition, IsId, spelling_of}
 use Rattle.ic_laws.specs.Name.{agrees, is_identifier, is_sheet_name}
 use Rattle.ic_laws.specs.Scene.{key_of, same_key}
 use Rattle.ic_laws.specs.ValidCore.{IsScope}
+use Rattle.ic_laws.specs.declared.scene.DefinitionSpelling.{DefinitionSpelling}
+use Rattle.ic_laws.specs.declared.scene.SheetName.{SheetName}
 use Rattle.ic_tables.specs.Tables.{TableSet}
 use Rattle.ic_cells.specs.declared.sheet.Worksheet.{Worksheet}
 use Rattle.ic_cells.specs.declared.workbook.DefinedName.{DefinedName}
 use Rattle.ic_cells.specs.declared.workbook.Workbook.{Workbook}
 use Rattle.ic_machine.specs.Book as machine
-use Rattle.ic_sheets.specs.Records.{HasIds}
-use Rattle.ic_book.specs.Asked.{AreDefined, HasCount, HasNames, IsDefined, key_in}
-use Rattle.ic_book.specs.HandedIn.{Definitions, Meets, SheetCount, SheetIds, SheetNames, definition_of, sheet_of}
+use Rattle.ic_sheets.specs.Records.{HasIds, started}
+use Rattle.ic_book.specs.Asked.{AreDefined, HasCount, HasNames, IsDefined, key_in, unread}
+use Rattle.ic_book.specs.HandedIn.{Definitions, Meets, SheetCount, SheetIds, SheetNames, definition_of, scene_of, sheet_of}
+use Rattle.ic_book.specs.Scene.{named, scene_of_parts}
 use Rattle.ic_book.proofs.HandedInLemmas.{all_mapped}
 
 all_unmapped : {X Y : Type 0} (P : Y → Type 0) (f : X → Y) (xs : List X) → AllByRecursion P (map f xs) → AllByRecursion (λ x. P (f x)) xs
@@ -84,3 +87,17 @@ module _ (w : Workbook) (language : List ℕ) (tables : TableSet) where
         (all_unmapped (λ (d : Definition). IsScope d.scope) (definition_of w tables) w.defined_names h.scopes);
     differ = subst (IsDistinct same_key) (keys_there w.defined_names) h.differ;
   }
+
+-- ---- what formulas can mention before any of them is read
+
+named_started : (ws : List Worksheet) → map named (map started ws) ≡ map (λ (s : Worksheet). let called : SheetName = record { id = s.sheet_id; name = s.name } in called) ws
+named_started [] = refl
+named_started (s ∷ ws) = ap (λ (rest : List SheetName). named (started s) ∷ rest) (named_started ws)
+
+spelled_unread : (ds : List DefinedName) → map spelling_of (map unread ds) ≡ map (λ (d : DefinedName). let spelling : DefinitionSpelling = record { name = d.name; scope = d.sheet_id } in spelling) ds
+spelled_unread [] = refl
+spelled_unread (d ∷ ds) = ap (λ (rest : List DefinitionSpelling). spelling_of (unread d) ∷ rest) (spelled_unread ds)
+
+-- the sheets and the definitions that hold nothing yet are what the formulas of the workbook can mention
+pub started_scene : (w : Workbook) → scene_of_parts (map started w.worksheets) (map unread w.defined_names) ≡ scene_of w
+started_scene w = λ i. record { sheets = named_started w.worksheets i; names = spelled_unread w.defined_names i }
