@@ -3,6 +3,7 @@ pub mod AcceptedWorkbook
 pub mod AddedNames
 pub mod ArrayLemmas
 pub mod ArrayWritten
+pub mod AskedLemmas
 pub mod BookLemmas
 pub mod BookValid
 pub mod CellReads
@@ -10,6 +11,7 @@ pub mod ChangeLemmas
 pub mod CopyLemmas
 pub mod DoesLemmas
 pub mod ExtendLemmas
+pub mod FirstLemmas
 pub mod FormatLemmas
 pub mod GridLemmas
 pub mod GridPartLemmas
@@ -19,12 +21,14 @@ pub mod InForceLemmas
 pub mod LineLemmas
 pub mod LookUpLemmas
 pub mod MarkupLemmas
+pub mod MeetsLemmas
 pub mod MentionPairs
 pub mod ModelLemmas
 pub mod NameHeld
 pub mod NameLemmas
 pub mod NeverMentioned
 pub mod NothingLemmas
+pub mod NumberedLemmas
 pub mod PartLemmas
 pub mod PartUses
 pub mod ReadLemmas

@@ -1,4 +1,5 @@
 pub mod Arrays
+pub mod Asked
 pub mod Book
 pub mod Cells
 pub mod Change
@@ -11,6 +12,7 @@ pub mod Inside
 pub mod LookUps
 pub mod Markup
 pub mod Mentioned
+pub mod Numbered
 pub mod Parts
 pub mod References
 pub mod Referring

@@ -42,6 +42,7 @@ refusal_of errors.TooManyRows = Some machine.TooManyRows
 refusal_of errors.TooManyColumns = Some machine.TooManyColumns
 refusal_of errors.NoFormulaCell = Some machine.NoFormulaCell
 refusal_of (errors.SpillBlocked row column) = Some (machine.SpillBlocked row column)
+refusal_of (errors.BadWorkbook condition) = Some (machine.BadWorkbook condition)
 refusal_of errors.OutOfMemory = None
 
 -- the error that tells why a call on the cells of a sheet was refused

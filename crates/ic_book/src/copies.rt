@@ -85,7 +85,7 @@ fn copy_spill_value(alloc: Global, value: &SpillValue) -> Result<SpillValue, Out
 }
 
 /// A copy of a cell.
-fn copy_cell(alloc: Global, cell: &Cell) -> Result<Cell, OutOfMemory>
+pub(crate) fn copy_cell(alloc: Global, cell: &Cell) -> Result<Cell, OutOfMemory>
     ensures { IfOk result (λ copy. copy ≡ cell.now) }
 {
     match cell {

@@ -72,6 +72,8 @@ pub enum BookError {
     NoFormulaCell,
     /// This is the first cell of the area, by rows, that keeps the array from spilling. Rows and columns count from 1.
     SpillBlocked { row: i32, column: i32 },
+    /// A workbook that was handed in fails the condition of this number, from 1 to 12, and none before. No reply tells it.
+    BadWorkbook(u8),
     /// Memory ran out.
     OutOfMemory,
 }
@@ -111,6 +113,7 @@ impl BookError {
             BookError::TooManyColumns => "Too many columns",
             BookError::NoFormulaCell => "No formula cell",
             BookError::SpillBlocked { .. } => "Cannot spill array result",
+            BookError::BadWorkbook(_) => "Invalid workbook",
             BookError::OutOfMemory => "Out of memory",
         }
     }
@@ -155,6 +158,7 @@ impl BookError {
             BookError::TooManyColumns => "TooManyColumns",
             BookError::NoFormulaCell => "NoFormulaCell",
             BookError::SpillBlocked { .. } => "SpillBlocked",
+            BookError::BadWorkbook(_) => "BadWorkbook",
             BookError::OutOfMemory => "OutOfMemory",
         }
     }

@@ -10,6 +10,7 @@
 
 mod about;
 mod arrays;
+mod asked;
 mod blocks;
 mod cells;
 mod content;
@@ -29,6 +30,7 @@ mod lists;
 mod markup;
 mod model;
 mod notation;
+mod numbered;
 mod parts;
 mod properties;
 mod references;

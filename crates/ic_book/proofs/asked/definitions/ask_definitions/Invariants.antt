@@ -1,0 +1,5 @@
+use Rattle.ic_book.proofs.AskedLemmas.{UnreadTo}
+use Rattle.ic_book.proofs.asked.definitions.ask_definitions.Given as goal
+
+abbrev pub invariant-loop-name : goal.invariant-loop-name
+invariant-loop-name l = UnreadTo l.names l.name-index l.definitions
