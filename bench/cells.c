@@ -2,14 +2,10 @@
    program does. Cells stand in a hash table by their place, rows in an array, styles in a list with a hash table of their
    words. Each word is read as the program reads it, and refused where it is no such word; the sheet is number 0, there are
    no merged cells, no formulas and no columns, and a line has at most 2,000 bytes. */
-#include <stdint.h>
-#include <stdio.h>
-#include <stdlib.h>
-#include <string.h>
+enum { WORDS = 8, LONGEST = 2000 };
+#include "words.h"
 
-enum { LAST_ROW = 1048576, LAST_COLUMN = 16384, WORDS = 8, LONGEST = 2000 };
 enum kind { NONE, EMPTY, BOOLEAN, NUMBER };
-typedef __int128 amount; /* in units of the ninth decimal */
 struct cell { amount value; uint32_t row; uint16_t column, kind; uint32_t style; };
 struct row { uint32_t height, style; uint8_t has_height, has_style; };
 struct style { char *words; size_t length; };
@@ -19,8 +15,6 @@ static size_t room, used;
 static struct row *rows;
 static struct style *styles;
 static uint32_t style_count, style_slots, *slots;
-static char *words[WORDS];
-static size_t lengths[WORDS], count;
 static char reply[2 * LONGEST + 100];
 
 static size_t slot_of(uint32_t row, uint32_t column) {
@@ -87,64 +81,10 @@ static uint32_t style_said(size_t first) {
     return style_number(text, length - 1);
 }
 
-/* A number of digits alone, below a limit. */
-static int read_digits(const char *s, uint64_t limit, uint64_t *to) {
-    uint64_t value = 0;
-    if (!*s) return 0;
-    for (; *s; s++) {
-        if (*s < '0' || *s > '9') return 0;
-        value = value * 10 + (*s - '0');
-        if (value >= limit) return 0;
-    }
-    return *to = value, 1;
-}
-
-static int read_index(size_t word, uint32_t *to) {
-    uint64_t value;
-    return read_digits(words[word], 1ull << 32, &value) && (*to = value, 1);
-}
-
-static int read_position(size_t word, int64_t *to) {
-    uint64_t value;
-    int minus = *words[word] == '-';
-    return read_digits(words[word] + minus, (1ull << 31) + minus, &value) && (*to = minus ? -(int64_t)value : (int64_t)value, 1);
-}
-
-static int read_amount(size_t word, amount *to) {
-    const char *s = words[word];
-    int minus = *s == '-', decimals = 0;
-    amount value = 0;
-    s += minus;
-    if (!*s || !strcmp(s, ".")) return 0;
-    for (; *s >= '0' && *s <= '9'; s++) {
-        value = value * 10 + (*s - '0');
-        if (value >= 1000000000000000000) return 0;
-    }
-    if (*s == '.')
-        for (s++; *s >= '0' && *s <= '9'; s++, decimals++) value = decimals < 9 ? value * 10 + (*s - '0') : value;
-    if (*s || decimals > 9) return 0;
-    for (; decimals < 9; decimals++) value *= 10;
-    return *to = minus ? -value : value, 1;
-}
+static int read_amount(size_t word, amount *to) { return amount_in(words[word], to); }
 
 static int read_flag(size_t word, const char *no, const char *yes, int *to) {
     return *to = !strcmp(words[word], yes), *to || !strcmp(words[word], no);
-}
-
-static size_t spelled(char *to, amount value) {
-    char digits[48], *end = digits + sizeof digits, *at = end;
-    size_t length = 0;
-    int minus = value < 0, decimals = 9;
-    unsigned __int128 rest = minus ? -value : value;
-    uint64_t whole = rest / 1000000000, parts = rest % 1000000000;
-    while (decimals && parts % 10 == 0) parts /= 10, decimals--;
-    for (int n = 0; n < decimals; n++) *--at = '0' + parts % 10, parts /= 10;
-    if (decimals) *--at = '.';
-    do *--at = '0' + whole % 10;
-    while (whole /= 10);
-    if (minus) to[length++] = '-';
-    memcpy(to + length, at, end - at);
-    return length + (end - at);
 }
 
 static size_t said(const char *text) { return strlen(strcpy(reply, text)); }
@@ -222,36 +162,6 @@ static size_t answer(void) {
         return row->has_style ? style_told(row->style) : said("ok");
     }
     return said("error\tBadLine");
-}
-
-/* Splits a line at its tabs, and reads the escapes of each word. */
-static int split(char *line, size_t length) {
-    char *end = line + length, *at = line;
-    for (count = 0; count < WORDS; count++) {
-        char *tab = memchr(at, '\t', end - at), *stop = tab ? tab : end, *to;
-        words[count] = at;
-        *stop = 0;
-        if ((to = memchr(at, '\\', stop - at))) {
-            for (char *from = to; from < stop; from++) {
-                if (*from != '\\') {
-                    *to++ = *from;
-                    continue;
-                }
-                switch (*++from) {
-                    case '\\': *to++ = '\\'; break;
-                    case 't': *to++ = '\t'; break;
-                    case 'n': *to++ = '\n'; break;
-                    case 'r': *to++ = '\r'; break;
-                    default: return 0;
-                }
-            }
-            *to = 0;
-            lengths[count] = to - at;
-        } else lengths[count] = stop - at;
-        if (!tab) return count++, 1;
-        at = tab + 1;
-    }
-    return 1;
 }
 
 int main(void) {

@@ -309,3 +309,46 @@ def row_styles(count, many):
 def row_styles_read(count):
     for i in range(count):
         yield f"get_row_style\t0\t{i + 1}"
+
+
+def array_places(count, width, height):
+    """The first places of so many blocks, a hundred of them below each other."""
+    for i in range(count):
+        yield i % 100 * height + 1, i // 100 * width + 1
+
+
+def plain_formulas(count):
+    """Formulas with one value each, by one text."""
+    for i in range(count):
+        yield f"update_cell_with_formula\t{cell(i)}\t=7*2"
+
+
+def formula_values(count, more=0):
+    """Values of the formulas of the same cells."""
+    for i in range(count):
+        yield f"put_formula_value\t{cell(i)}\tn:{i * 7919 % 1_000_003 + more}.25"
+
+
+def dynamic_formulas(count, width, height):
+    """Formulas that may spill, each with room for so many columns and rows."""
+    for row, column in array_places(count, width, height):
+        yield f"update_cell_with_formula\t0\t{row}\t{column}\t=XA1:XB9"
+
+
+def spilled(count, width, height, more=0):
+    """A value for each cell of their arrays."""
+    for i, (row, column) in enumerate(array_places(count, width, height)):
+        values = "\t".join(f"n:{i * 31 + n + more}.5" for n in range(width * height))
+        yield f"put_spill\t0\t{row}\t{column}\t{width}\t{height}\t{values}"
+
+
+def array_formulas(count, width, height):
+    """Array formulas, each in a block of its own."""
+    for row, column in array_places(count, width, height):
+        yield f"set_user_array_formula\t0\t{row}\t{column}\t{width}\t{height}\t=XA1:XB9"
+
+
+def cleared_blocks(count, width, height, command="range_clear_contents"):
+    """The blocks, cleared."""
+    for row, column in array_places(count, width, height):
+        yield f"{command}\t0\t{row}\t{column}\t{width}\t{height}"

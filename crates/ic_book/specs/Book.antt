@@ -1,5 +1,5 @@
 -- The whole book, how the machine sees it, and what always holds of it.
-use Rattle.std.specs.Prelude.{◌≡◌, ◌<◌, ℕ, Bool, List, [], ◌∷◌, ◌++◌, length, map, not, Option, Some, is_none, codes, bytes_eq, if◌then◌else◌}
+use Rattle.std.specs.Prelude.{◌≡◌, ◌<◌, ℕ, Bool, List, [], ◌∷◌, ◌++◌, length, map, not, Option, Some, is_none, codes}
 use Rattle.std.specs.FinMap as finite
 use Rattle.std.specs.List.{AllByRecursion}
 use Rattle.ic_tables.specs.Tables.{TableSet, language_of, locale_of, lists_zone}
@@ -18,6 +18,7 @@ use Rattle.ic_machine.specs.Alike.{seen_by}
 use Rattle.ic_machine.specs.Book as machine
 use Rattle.ic_machine.specs.Content.{content_of}
 use Rattle.ic_machine.specs.Valid as valid
+use Rattle.ic_machine.specs.subjects.Sheets.{base_name}
 use Rattle.ic_sheets.specs.Sheet.{Sheet, empty_grid, plain_tab, sheet_core}
 use Rattle.ic_sheets.specs.declared.tab.Tab.{Tab}
 
@@ -130,12 +131,6 @@ pub record NotationState : Type 0 where
 pub record ModelState : Type 0 where
   pub book : Book
   pub has_all : List Bool
-
--- how a new sheet is called in a language, before its number
-abbrev pub base_name : List ℕ → List ℕ
-base_name language =
-    if bytes_eq language (codes "es") then codes "Hoja" else if bytes_eq language (codes "fr") then codes "Feuil"
-    else if bytes_eq language (codes "de") then codes "Tabelle" else if bytes_eq language (codes "it") then codes "Foglio" else codes "Sheet"
 
 -- the name of a new book's one sheet
 abbrev pub first_sheet_name_in : List ℕ → List ℕ

@@ -1,23 +1,20 @@
 ghost use Rattle.std.specs.Prelude.{◌≡◌, IfOk, chars, string_bytes};
-ghost use Rattle.ic_tables.specs.Words.{error_words};
-ghost use Rattle.ic_machine.specs.Step.{english_errors};
 ghost use Rattle.ic_machine.specs.subjects.Notation.{GetLanguage, GetLocale, GetTimezone, SetLanguage, SetLocale, SetTimezone, notation_step};
 ghost use Rattle.ic_book.specs.Book.{core_of};
 ghost use Rattle.ic_book.specs.Does.{Does, DoesOnly};
 ghost use Rattle.ic_book.specs.Fields.{no_fields, string_only};
-ghost use Rattle.ic_book.specs.Whole.{whole_of};
 
 use crate::{BookError, Model};
 use ic_laws::{OutOfMemory, Text};
-use ic_tables::Language;
+use ic_tables::Tables;
 use std::alloc::Global;
 
 impl<'a> Model<'a> {
-    /// The language `en` of the tables, by whose words error values are said.
-    pub fn english_language(&self) -> &'a Language
-        ensures { error_words result.now ≡ english_errors (whole_of self.now.book) }
+    /// The tables that the book borrows. It takes no memory.
+    pub fn tables(&self) -> &'a Tables
+        ensures { result.now ≡ self.now.book.tables }
     {
-        self.notation.get_default_language()
+        self.notation.tables()
     }
 
     /// Puts the locale with this id in force. Formulas are read and shown with its separators from then on.

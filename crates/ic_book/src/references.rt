@@ -6,7 +6,7 @@ ghost use Rattle.ic_machine.specs.Parsed.{column_or_none, is_no_bang, parsed_pla
 ghost use Rattle.ic_machine.specs.subjects.Extending.{ParseReference, extending_step};
 ghost use Rattle.ic_machine.specs.subjects.Reading.{GetCellValueByRef, reading_step, value_fields};
 ghost use Rattle.ic_book.specs.Book.{IsValidBook, core_of};
-ghost use Rattle.ic_book.specs.Does.{Does};
+ghost use Rattle.ic_book.specs.Does.{Does, DoesOnly};
 ghost use Rattle.ic_book.specs.References.{parsed_of, reference_fields};
 
 use crate::{BookError, Model};
@@ -21,7 +21,7 @@ impl<'a> Model<'a> {
     /// without one. The sheet is an index from 0, the row and the column are from 1. None exactly where the text is no
     /// such thing, no sheet has the name, or the column or the row lies outside of a sheet. It takes no memory.
     pub fn parse_reference(&self, s: &str) -> Result<Option<CellReferenceIndex>, BookError>
-        ensures does { Does extending_step (ParseReference (chars s.now)) reference_fields
+        ensures does { DoesOnly extending_step (ParseReference (chars s.now)) reference_fields
             result self.now self.now }
     {
         Ok(self.parsed(s))

@@ -1,6 +1,8 @@
 ghost use Rattle.std.specs.Prelude.{◌≡◌, ◌+◌, ◌≤◌, IfOk, OnErr, OnOk, chars, false, string_bytes, string_capacity, string_len};
 ghost use Rattle.ic_laws.specs.Lines.{line_step, reply_bytes, reply_text};
 ghost use Rattle.ic_machine.specs.Reply.{reply_text as told_text};
+ghost use Rattle.ic_tables.specs.Words.{error_words};
+ghost use Rattle.ic_machine.specs.Step.{english_errors};
 ghost use Rattle.ic_lines.specs.Reading.{has_line_feed};
 ghost use Rattle.ic_words.specs.Command.{command_meant};
 ghost use Rattle.ic_words.specs.Reply.{IsLineText, reply_room};
@@ -28,6 +30,7 @@ use extending::answer_extending;
 use ic_book::{BookError, Model};
 use ic_laws::{OutOfMemory, Text};
 use ic_lines::Line;
+use ic_tables::Language;
 use ic_words::{Command, REPLY_ROOM, command_in, error_reply};
 use layout::answer_layout;
 use notation::answer_notation;
@@ -64,7 +67,7 @@ pub fn reply_to(alloc: Global, model: &mut Model<'_>, line: &Line) -> Result<Str
         (λ reply. DoesLine line.now model.old model.new (string_bytes reply)) }
     ensures err { OnErr result (model.new.book ≡ model.old.book) }
 {
-    let command = command_in(alloc, model.english_language(), line.text().as_str())?;
+    let command = command_in(alloc, english_of(model), line.text().as_str())?;
     let reply = String::with_capacity(alloc, REPLY_ROOM)?;
     match command {
         Some(command) => answer(alloc, model, command, reply),
@@ -90,6 +93,13 @@ pub fn answer_line(alloc: Global, model: &mut Model<'_>, line: &Line) -> Result<
     let mut reply = reply_to(alloc, model, line)?;
     reply.pop();
     Ok(whole(reply))
+}
+
+/// The language `en` of the book's tables, by whose words error values are said.
+fn english_of<'a>(model: &Model<'a>) -> &'a Language
+    ensures { error_words result.now ≡ english_errors (whole_of model.now.book) }
+{
+    model.tables().get_default_language()
 }
 
 /// Does a command, and puts its reply behind a text that has room for one without a field.

@@ -22,3 +22,4 @@ mod write_array;
 pub use block::{Array, Block};
 pub use error::GridError;
 pub use grid::Grid;
+pub use spill::gathered;

@@ -150,8 +150,8 @@ fn can_spill(
     }
 }
 
-/// The value of a spill's cell as a formula has it.
-fn gathered(alloc: Global, value: SpillValue) -> FormulaValue
+/// The value of a spill's cell as a formula has it: an error has no texts of its own. It takes no memory.
+pub fn gathered(alloc: Global, value: SpillValue) -> FormulaValue
     ensures { result ≡ gathered value }
 {
     match value {

@@ -182,8 +182,8 @@ fn word_of(kind: WordKind, text: &str, language: &Language, english: &Language) 
     }
 }
 
-// The error of a number.
-fn error_at(n: usize) -> Option<Error>
+/// The error value with a number, from 0 in the order of the variants of `Error`. None past the last of the twelve.
+pub fn error_at(n: usize) -> Option<Error>
     ensures { result ≡ error_at n }
 {
     const ERRORS: [Error; 12] = [

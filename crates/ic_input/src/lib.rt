@@ -25,6 +25,7 @@ pub use amount::{amount_text, read_amount};
 pub use code::is_date_code;
 pub use format::format_amount;
 pub use input::{Typed, classify, formula_without_prefix, value_needs_quoting};
+pub use kind::error_at;
 pub use law::{
     law_amount_typed_again, law_date_typed_again, law_text_typed_again, law_word_typed_again,
 };

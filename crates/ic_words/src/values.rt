@@ -2,10 +2,9 @@
 ghost use Rattle.std.specs.Prelude.{◌≡◌, IfOk, chars, option_map};
 ghost use Rattle.ic_laws.specs.Character.{dot};
 ghost use Rattle.ic_tables.specs.Words.{error_words, first_agreeing};
-ghost use Rattle.ic_grid.specs.Shape.{gathered};
 ghost use Rattle.ic_cells.specs.declared.value.SpillValue.TheVariants as spills;
 ghost use Rattle.ic_input.specs.Amount.{signed_amount};
-ghost use Rattle.ic_input.specs.Typed.{error_at, error_in};
+ghost use Rattle.ic_input.specs.Typed.{error_in};
 ghost use Rattle.ic_machine.specs.Word as machine;
 ghost use Rattle.ic_machine.specs.Word.{Done, Many, OfSpill, OfValue, Then, bool_said, spill_said, value_said, value_said_by};
 ghost use Rattle.ic_words.specs.Words.{spill_word, words_left};
@@ -15,9 +14,10 @@ use crate::text::text_of;
 use crate::word::Word;
 use crate::words::first_word;
 use ic_cells::{FormulaValue, SpillValue};
-use ic_input::read_amount;
+use ic_grid::gathered;
+use ic_input::{error_at, read_amount};
 use ic_laws::scan::{first_char, same_text};
-use ic_laws::{Error, OutOfMemory, Text, WordKind};
+use ic_laws::{OutOfMemory, Text, WordKind};
 use ic_tables::{Language, find_word};
 use std::alloc::Global;
 
@@ -213,41 +213,4 @@ fn error_value(english: &Language, said: &str) -> Option<SpillValue>
     let number = find_word(english, WordKind::Error, said)?;
     let error = error_at(number)?;
     Some(SpillValue::Error(error))
-}
-
-/// The error value of a number.
-fn error_at(number: usize) -> Option<Error>
-    ensures { result ≡ error_at number }
-{
-    const ERRORS: [Error; 12] = [
-        Error::REF,
-        Error::NAME,
-        Error::VALUE,
-        Error::DIV,
-        Error::NA,
-        Error::NUM,
-        Error::NIMPL,
-        Error::SPILL,
-        Error::CALC,
-        Error::CIRC,
-        Error::ERROR,
-        Error::NULL,
-    ];
-    ERRORS.get(number).copied()
-}
-
-/// The value of a cell of a spill as a formula has it.
-fn gathered(alloc: Global, value: SpillValue) -> FormulaValue
-    ensures { result ≡ gathered value }
-{
-    match value {
-        SpillValue::Boolean(truth) => FormulaValue::Boolean(truth),
-        SpillValue::Number(amount) => FormulaValue::Number(amount),
-        SpillValue::Text(text) => FormulaValue::Text(text),
-        SpillValue::Error(ei) => FormulaValue::Error {
-            ei,
-            o: Text::from(String::new(alloc)),
-            m: Text::from(String::new(alloc)),
-        },
-    }
 }

@@ -19,7 +19,7 @@ returns-in-Some-clause-reply c plain core =
     let command = command_meant c.in-Some.command in
     let english = english_errors (whole_of old.book) in
     let is : Some command ≡ command_in english served line =
-    ap (option_map command_meant) (sym c.in-Some.is) ∙ c.in_ok-command.ensures.exact ∙ ap (λ words. command_in words served (chars c.as_str.result.now)) c.english_language.ensures ∙ ap (command_in english served) (c.as_str.ensures.characters ∙ c.text.ensures.same) in
+    ap (option_map command_meant) (sym c.in-Some.is) ∙ c.in_ok-command.ensures.exact ∙ ap (λ words. command_in words served (chars c.as_str.result.now)) c.english_of.ensures ∙ ap (command_in english served) (c.as_str.ensures.characters ∙ c.text.ensures.same) in
     IfOk-weaker c.answer.result _ _ (λ text a. (line_answered line command old new (string_bytes text) is (subst (λ before. IsAnswered command old new before (string_bytes text)) c.in_ok-reply.ensures.bytes a) plain core).reply) c.answer.ensures.ok
 
 pub returns-in-Some-clause-line : goal.returns-in-Some-clause-line
@@ -30,7 +30,7 @@ returns-in-Some-clause-line c plain core =
     let command = command_meant c.in-Some.command in
     let english = english_errors (whole_of old.book) in
     let is : Some command ≡ command_in english served line =
-    ap (option_map command_meant) (sym c.in-Some.is) ∙ c.in_ok-command.ensures.exact ∙ ap (λ words. command_in words served (chars c.as_str.result.now)) c.english_language.ensures ∙ ap (command_in english served) (c.as_str.ensures.characters ∙ c.text.ensures.same) in
+    ap (option_map command_meant) (sym c.in-Some.is) ∙ c.in_ok-command.ensures.exact ∙ ap (λ words. command_in words served (chars c.as_str.result.now)) c.english_of.ensures ∙ ap (command_in english served) (c.as_str.ensures.characters ∙ c.text.ensures.same) in
     IfOk-weaker c.answer.result _ _ (λ text a. (line_answered line command old new (string_bytes text) is (subst (λ before. IsAnswered command old new before (string_bytes text)) c.in_ok-reply.ensures.bytes a) plain core).line) c.answer.ensures.ok
 
 pub returns-in-Some-clause-book : goal.returns-in-Some-clause-book
@@ -41,7 +41,7 @@ returns-in-Some-clause-book c plain core =
     let command = command_meant c.in-Some.command in
     let english = english_errors (whole_of old.book) in
     let is : Some command ≡ command_in english served line =
-    ap (option_map command_meant) (sym c.in-Some.is) ∙ c.in_ok-command.ensures.exact ∙ ap (λ words. command_in words served (chars c.as_str.result.now)) c.english_language.ensures ∙ ap (command_in english served) (c.as_str.ensures.characters ∙ c.text.ensures.same) in
+    ap (option_map command_meant) (sym c.in-Some.is) ∙ c.in_ok-command.ensures.exact ∙ ap (λ words. command_in words served (chars c.as_str.result.now)) c.english_of.ensures ∙ ap (command_in english served) (c.as_str.ensures.characters ∙ c.text.ensures.same) in
     on_ok c.answer.result c.answer.ensures.ok (λ text a. (line_answered line command old new (string_bytes text) is (subst (λ before. IsAnswered command old new before (string_bytes text)) c.in_ok-reply.ensures.bytes a) plain core).book)
 
 pub returns-in-Some-clause-plain : goal.returns-in-Some-clause-plain
@@ -52,7 +52,7 @@ returns-in-Some-clause-plain c plain core =
     let command = command_meant c.in-Some.command in
     let english = english_errors (whole_of old.book) in
     let is : Some command ≡ command_in english served line =
-    ap (option_map command_meant) (sym c.in-Some.is) ∙ c.in_ok-command.ensures.exact ∙ ap (λ words. command_in words served (chars c.as_str.result.now)) c.english_language.ensures ∙ ap (command_in english served) (c.as_str.ensures.characters ∙ c.text.ensures.same) in
+    ap (option_map command_meant) (sym c.in-Some.is) ∙ c.in_ok-command.ensures.exact ∙ ap (λ words. command_in words served (chars c.as_str.result.now)) c.english_of.ensures ∙ ap (command_in english served) (c.as_str.ensures.characters ∙ c.text.ensures.same) in
     on_ok c.answer.result c.answer.ensures.ok (λ text a. (line_answered line command old new (string_bytes text) is (subst (λ before. IsAnswered command old new before (string_bytes text)) c.in_ok-reply.ensures.bytes a) plain core).plain)
 
 pub returns-in-Some-clause-whole : goal.returns-in-Some-clause-whole
@@ -63,7 +63,7 @@ returns-in-Some-clause-whole c =
     let command = command_meant c.in-Some.command in
     let english = english_errors (whole_of old.book) in
     let is : Some command ≡ command_in english served line =
-    ap (option_map command_meant) (sym c.in-Some.is) ∙ c.in_ok-command.ensures.exact ∙ ap (λ words. command_in words served (chars c.as_str.result.now)) c.english_language.ensures ∙ ap (command_in english served) (c.as_str.ensures.characters ∙ c.text.ensures.same) in
+    ap (option_map command_meant) (sym c.in-Some.is) ∙ c.in_ok-command.ensures.exact ∙ ap (λ words. command_in words served (chars c.as_str.result.now)) c.english_of.ensures ∙ ap (command_in english served) (c.as_str.ensures.characters ∙ c.text.ensures.same) in
     IfOk-weaker c.answer.result _ _ (λ text a. line_done line command old new (string_bytes text) is (subst (λ before. IsAnswered command old new before (string_bytes text)) c.in_ok-reply.ensures.bytes a)) c.answer.ensures.ok
 
 pub returns-in-None-clause-reply : goal.returns-in-None-clause-reply
@@ -72,7 +72,7 @@ returns-in-None-clause-reply c plain core =
     let old = c.args.model.now in
     let english = english_errors (whole_of old.book) in
     let is : None ≡ command_in english served line =
-    ap (option_map command_meant) (sym c.in-None.is) ∙ c.in_ok-command.ensures.exact ∙ ap (λ words. command_in words served (chars c.as_str.result.now)) c.english_language.ensures ∙ ap (command_in english served) (c.as_str.ensures.characters ∙ c.text.ensures.same) in
+    ap (option_map command_meant) (sym c.in-None.is) ∙ c.in_ok-command.ensures.exact ∙ ap (λ words. command_in words served (chars c.as_str.result.now)) c.english_of.ensures ∙ ap (command_in english served) (c.as_str.ensures.characters ∙ c.text.ensures.same) in
     let told = c.error_reply.ensures.refusal BadLine c.name.ensures ∙ ap (λ before. before ++ reply_bytes (Err BadLine)) c.in_ok-reply.ensures.bytes in
     (bad_answered line old (string_bytes c.error_reply.result) is told plain core).reply
 
@@ -82,7 +82,7 @@ returns-in-None-clause-line c plain core =
     let old = c.args.model.now in
     let english = english_errors (whole_of old.book) in
     let is : None ≡ command_in english served line =
-    ap (option_map command_meant) (sym c.in-None.is) ∙ c.in_ok-command.ensures.exact ∙ ap (λ words. command_in words served (chars c.as_str.result.now)) c.english_language.ensures ∙ ap (command_in english served) (c.as_str.ensures.characters ∙ c.text.ensures.same) in
+    ap (option_map command_meant) (sym c.in-None.is) ∙ c.in_ok-command.ensures.exact ∙ ap (λ words. command_in words served (chars c.as_str.result.now)) c.english_of.ensures ∙ ap (command_in english served) (c.as_str.ensures.characters ∙ c.text.ensures.same) in
     let told = c.error_reply.ensures.refusal BadLine c.name.ensures ∙ ap (λ before. before ++ reply_bytes (Err BadLine)) c.in_ok-reply.ensures.bytes in
     (bad_answered line old (string_bytes c.error_reply.result) is told plain core).line
 
@@ -92,7 +92,7 @@ returns-in-None-clause-book c plain core =
     let old = c.args.model.now in
     let english = english_errors (whole_of old.book) in
     let is : None ≡ command_in english served line =
-    ap (option_map command_meant) (sym c.in-None.is) ∙ c.in_ok-command.ensures.exact ∙ ap (λ words. command_in words served (chars c.as_str.result.now)) c.english_language.ensures ∙ ap (command_in english served) (c.as_str.ensures.characters ∙ c.text.ensures.same) in
+    ap (option_map command_meant) (sym c.in-None.is) ∙ c.in_ok-command.ensures.exact ∙ ap (λ words. command_in words served (chars c.as_str.result.now)) c.english_of.ensures ∙ ap (command_in english served) (c.as_str.ensures.characters ∙ c.text.ensures.same) in
     let told = c.error_reply.ensures.refusal BadLine c.name.ensures ∙ ap (λ before. before ++ reply_bytes (Err BadLine)) c.in_ok-reply.ensures.bytes in
     (bad_answered line old (string_bytes c.error_reply.result) is told plain core).book
 
@@ -102,7 +102,7 @@ returns-in-None-clause-plain c plain core =
     let old = c.args.model.now in
     let english = english_errors (whole_of old.book) in
     let is : None ≡ command_in english served line =
-    ap (option_map command_meant) (sym c.in-None.is) ∙ c.in_ok-command.ensures.exact ∙ ap (λ words. command_in words served (chars c.as_str.result.now)) c.english_language.ensures ∙ ap (command_in english served) (c.as_str.ensures.characters ∙ c.text.ensures.same) in
+    ap (option_map command_meant) (sym c.in-None.is) ∙ c.in_ok-command.ensures.exact ∙ ap (λ words. command_in words served (chars c.as_str.result.now)) c.english_of.ensures ∙ ap (command_in english served) (c.as_str.ensures.characters ∙ c.text.ensures.same) in
     let told = c.error_reply.ensures.refusal BadLine c.name.ensures ∙ ap (λ before. before ++ reply_bytes (Err BadLine)) c.in_ok-reply.ensures.bytes in
     (bad_answered line old (string_bytes c.error_reply.result) is told plain core).plain
 
@@ -112,6 +112,6 @@ returns-in-None-clause-whole c =
     let old = c.args.model.now in
     let english = english_errors (whole_of old.book) in
     let is : None ≡ command_in english served line =
-    ap (option_map command_meant) (sym c.in-None.is) ∙ c.in_ok-command.ensures.exact ∙ ap (λ words. command_in words served (chars c.as_str.result.now)) c.english_language.ensures ∙ ap (command_in english served) (c.as_str.ensures.characters ∙ c.text.ensures.same) in
+    ap (option_map command_meant) (sym c.in-None.is) ∙ c.in_ok-command.ensures.exact ∙ ap (λ words. command_in words served (chars c.as_str.result.now)) c.english_of.ensures ∙ ap (command_in english served) (c.as_str.ensures.characters ∙ c.text.ensures.same) in
     let told = c.error_reply.ensures.refusal BadLine c.name.ensures ∙ ap (λ before. before ++ reply_bytes (Err BadLine)) c.in_ok-reply.ensures.bytes in
     bad_done line old (string_bytes c.error_reply.result) is told
