@@ -14,7 +14,7 @@ pub fn call(row: &mut Row<'_>) {
     match row.name {
         "read_stored" => {
             let stored = Stored::new(row.tables);
-            put_canonical(row, canonical(row.alloc, &stored, &stored, row.word(1)));
+            put_canonical(row, read_again(row.alloc, &stored, row.word(1)));
         }
         "read_shown" | "shown_to_stored" | "stored_to_shown" => {
             let number = row.int(3);
@@ -38,6 +38,15 @@ fn canonical<A: Dialect, B: Dialect>(
         Some(tree) => Ok(Some(print(alloc, to, &tree)?)),
         None => Ok(None),
     }
+}
+
+/// The same in one form.
+fn read_again<D: Dialect>(
+    alloc: Global,
+    form: &D,
+    text: &str,
+) -> Result<Option<String>, OutOfMemory> {
+    canonical(alloc, form, form, text)
 }
 
 /// `=` and the canonical text, or `none`.
@@ -77,7 +86,7 @@ fn put_by(row: &mut Row<'_>, shown: &Shown<'_>) {
     let stored = Stored::new(row.tables);
     let text = row.word(5);
     match row.name {
-        "read_shown" => put_canonical(row, canonical(row.alloc, shown, shown, text)),
+        "read_shown" => put_canonical(row, read_again(row.alloc, shown, text)),
         "shown_to_stored" => put_canonical(row, canonical(row.alloc, shown, &stored, text)),
         "stored_to_shown" => put_canonical(row, canonical(row.alloc, &stored, shown, text)),
         _ => match read_reference(row.alloc, shown, row.word(3)) {
