@@ -123,17 +123,22 @@ fn on_area(row: &mut Row<'_>, styles: &mut Styles, grid: &mut Grid)
     if !Block::at((line, column), width, height).is_area() {
         return row.bad();
     }
-    let answer = match row.word(0) {
-        "can_write_array" => grid.can_write_array(line, column, width, height),
-        "clear" => grid.clear(line, column, width, height, row.word(5) == "true"),
+    match row.word(0) {
+        "can_write_array" => {
+            put_answer(row, grid.can_write_array(line, column, width, height));
+        }
+        "clear" => {
+            let all = row.word(5) == "true";
+            put_answer(row, grid.clear(line, column, width, height, all));
+        }
         _ => {
             if !grid.is_styled(styles) {
                 return row.bad();
             }
-            grid.write_array(styles, line, column, width, height, 0)
+            let answer = grid.write_array(styles, line, column, width, height, 0);
+            put_answer(row, answer);
         }
-    };
-    put_answer(row, answer);
+    }
 }
 
 /// Makes a call at a place.
@@ -145,13 +150,17 @@ fn on_place(row: &mut Row<'_>, grid: &mut Grid)
     if !is_valid_row(line) || !is_valid_column_number(column) {
         return row.bad();
     }
-    let answer = match row.word(0) {
-        "can_write" => grid.can_write(line, column),
-        "write" => grid.write(line, column, loose_cell(row.word(3))),
-        "write_value" => grid.write_value(line, column, FormulaValue::Unevaluated),
+    match row.word(0) {
+        "can_write" => put_answer(row, grid.can_write(line, column)),
+        "write" => put_answer(row, grid.write(line, column, loose_cell(row.word(3)))),
+        "write_value" => {
+            put_answer(
+                row,
+                grid.write_value(line, column, FormulaValue::Unevaluated),
+            );
+        }
         _ => spill(row, grid, line, column),
-    };
-    put_answer(row, answer);
+    }
 }
 
 fn loose_cell(kind: &str) -> Cell
@@ -178,14 +187,14 @@ fn one_cell_array(kind: ArrayKind) -> Cell
     }
 }
 
-fn spill(row: &mut Row<'_>, grid: &mut Grid, line: i32, column: i32) -> Result<(), GridError>
+fn spill(row: &mut Row<'_>, grid: &mut Grid, line: i32, column: i32)
     requires grid { IsGrid grid.old }
     requires place { is_in_sheet (line, column) ≡ true }
     ensures { IsGrid grid.new }
 {
     let (width, height) = (row.int(3), row.int(4));
     let values = numbers(row, row.word(5));
-    grid.spill(line, column, width, height, values)
+    put_answer(row, grid.spill(line, column, width, height, values));
 }
 
 /// The numbers of a word, each after `n:`, with `|` between two.
