@@ -2,11 +2,9 @@
 use crate::row::Row;
 use ic_book::{BookError, Model};
 use ic_commands::answer_line;
-use ic_laws::Text;
 use ic_lines::Line;
 use ic_tables::Tables;
 use jiff::Timestamp;
-use std::alloc::Global;
 
 /// The book of the last `new_empty`, over the tables.
 pub struct Books<'t> {
@@ -35,14 +33,21 @@ impl<'t> Books<'t> {
 pub fn call(row: &mut Row<'_>, books: &mut Books<'_>) {
     match row.name {
         "line" => put_reply(row, books, row.word(1)),
-        "new_empty" => put_new(row, books),
-        "created" => put_created(row, books),
+        "new_empty" => begin(row, books),
+        "created" => match &books.book {
+            Some(model) => row.put_text(model.created().as_str()),
+            None => row.bad(),
+        },
         "long_line" => {
             row.skip(1);
             let text = long_text(row);
             put_reply(row, books, text.as_str());
         }
-        "long_reply" => put_compared(row, books),
+        "long_reply" => {
+            let line = row.word(1);
+            row.skip(2);
+            put_compared(row, books, line);
+        }
         _ => {}
     }
 }
@@ -52,26 +57,27 @@ pub fn put_book_error(row: &mut Row<'_>, e: &BookError) {
     row.put_error(e.name(), e.to_string(row.alloc));
 }
 
-/// The seconds of a word after the Unix epoch.
-fn moment(row: &mut Row<'_>, at: usize) -> Timestamp {
-    if row.word(at).is_empty() {
-        return Timestamp::UNIX_EPOCH;
-    }
-    match Timestamp::from_second(i64::from(row.index(at))) {
-        Ok(moment) => moment,
-        Err(_) => Timestamp::UNIX_EPOCH,
+fn begin(row: &mut Row<'_>, books: &mut Books<'_>) {
+    let seconds = if row.word(4).is_empty() {
+        0
+    } else {
+        row.index(4)
+    };
+    match Timestamp::from_second(i64::from(seconds)) {
+        Ok(moment) => begin_at(row, books, moment),
+        Err(_) => row.bad(),
     }
 }
 
 /// Begins a book in a locale, a language and a zone.
-fn put_new(row: &mut Row<'_>, books: &mut Books<'_>) {
-    let moment = moment(row, 4);
+fn begin_at(row: &mut Row<'_>, books: &mut Books<'_>, moment: Timestamp) {
+    let (locale, language, zone) = (row.word(1), row.word(2), row.word(3));
     match Model::new_empty(
         row.alloc,
         "book",
-        row.word(1),
-        row.word(3),
-        row.word(2),
+        locale,
+        zone,
+        language,
         books.tables,
         moment,
     ) {
@@ -83,27 +89,13 @@ fn put_new(row: &mut Row<'_>, books: &mut Books<'_>) {
     }
 }
 
-fn put_created(row: &mut Row<'_>, books: &Books<'_>) {
-    match &books.book {
-        Some(model) => row.put_text(model.created().as_str()),
-        None => row.bad(),
-    }
-}
-
-/// The reply to a command line, if it is a line and there is memory.
-pub fn reply_of(alloc: Global, model: &mut Model<'_>, text: &str) -> Option<Line> {
-    match Text::from_str(alloc, text) {
-        Ok(text) => match Line::new(text) {
-            Some(line) => answer_line(alloc, model, &line).ok(),
+/// The reply to a command line, if there is a book, it is a line and there is memory.
+fn reply(row: &mut Row<'_>, books: &mut Books<'_>, text: &str) -> Option<Line> {
+    match &mut books.book {
+        Some(model) => match Line::new(row.text(text)) {
+            Some(line) => answer_line(row.alloc, model, &line).ok(),
             None => None,
         },
-        Err(_) => None,
-    }
-}
-
-fn reply(row: &Row<'_>, books: &mut Books<'_>, text: &str) -> Option<Line> {
-    match &mut books.book {
-        Some(model) => reply_of(row.alloc, model, text),
         None => None,
     }
 }
@@ -131,9 +123,7 @@ fn long_text(row: &mut Row<'_>) -> String {
 }
 
 /// Whether the reply to a command line is a text.
-fn put_compared(row: &mut Row<'_>, books: &mut Books<'_>) {
-    let line = row.word(1);
-    row.skip(2);
+fn put_compared(row: &mut Row<'_>, books: &mut Books<'_>, line: &str) {
     let text = long_text(row);
     match reply(row, books, line) {
         Some(reply) => row.put_bool(reply.text().is(text.as_str())),

@@ -1,30 +1,29 @@
 //! Formulas: a text is read and its tree printed, in the stored form or as it is shown in a cell.
-use crate::lookups::put_id_error;
-use crate::places::put_token;
+use crate::references::put_token;
 use crate::row::Row;
 use ic_laws::{Dialect, OutOfMemory};
 use ic_tables::{BookIdError, Tables};
 use ic_tree::{Shown, Stored, print, read, read_reference};
 use std::alloc::Global;
 
-/// Answers the call, if it is one of these.
+/// `read_stored` and a text in the stored form. `read_shown`, a locale, a language, a row, a column and a text as it is
+/// shown there; `shown_to_stored` and `stored_to_shown` likewise, where the text is printed in the other form.
+/// `read_reference`, a locale, a language and a text: the reference that the whole text is, as it is shown in the first
+/// cell.
 pub fn call(row: &mut Row<'_>) {
     match row.name {
-        "read_stored" => put_stored(row),
-        "read_shown" => put_shown(row, Way::Shown),
-        "shown_to_stored" => put_shown(row, Way::ToStored),
-        "stored_to_shown" => put_shown(row, Way::FromStored),
-        "read_reference" => put_reference(row),
+        "read_stored" => {
+            let stored = Stored::new(row.tables);
+            put_canonical(row, read_again(row.alloc, &stored, row.word(1)));
+        }
+        "read_shown" | "shown_to_stored" | "stored_to_shown" => {
+            let number = row.int(3);
+            let column = row.int(4);
+            put_shown(row, number, column);
+        }
+        "read_reference" => put_shown(row, 1, 1),
         _ => {}
     }
-}
-
-/// From which form a text is read, and in which it is printed.
-#[derive(Clone, Copy)]
-enum Way {
-    Shown,
-    ToStored,
-    FromStored,
 }
 
 /// A formula is read in the one form and printed in the other: its canonical text there, None where the text is no
@@ -41,6 +40,15 @@ fn canonical<A: Dialect, B: Dialect>(
     }
 }
 
+/// The same in one form.
+fn read_again<D: Dialect>(
+    alloc: Global,
+    form: &D,
+    text: &str,
+) -> Result<Option<String>, OutOfMemory> {
+    canonical(alloc, form, form, text)
+}
+
 /// `=` and the canonical text, or `none`.
 fn put_canonical(row: &mut Row<'_>, text: Result<Option<String>, OutOfMemory>) {
     match text {
@@ -51,11 +59,6 @@ fn put_canonical(row: &mut Row<'_>, text: Result<Option<String>, OutOfMemory>) {
         Ok(None) => row.none(),
         Err(_) => row.bad(),
     }
-}
-
-fn put_stored(row: &mut Row<'_>) {
-    let stored = Stored::new(row.tables);
-    put_canonical(row, canonical(row.alloc, &stored, &stored, row.word(1)));
 }
 
 /// The shown form in a locale and a language of the tables, by their ids, at a cell.
@@ -71,44 +74,25 @@ pub fn shown_at<'t>(
     Ok(Shown::new(tables, locale, language, row, column))
 }
 
-/// A locale, a language, a row, a column and a text.
-fn put_shown(row: &mut Row<'_>, way: Way) {
-    let number = row.int(3);
-    let column = row.int(4);
+/// The call on a text that is shown at a cell.
+fn put_shown(row: &mut Row<'_>, number: i32, column: i32) {
     match shown_at(row.tables, row.word(1), row.word(2), number, column) {
-        Ok(shown) => put_way(row, &shown, way),
-        Err(e) => match way {
-            Way::Shown => put_id_error(row, e),
-            _ => row.bad(),
-        },
+        Ok(shown) => put_by(row, &shown),
+        Err(_) => row.bad(),
     }
 }
 
-fn put_way(row: &mut Row<'_>, shown: &Shown<'_>, way: Way) {
+fn put_by(row: &mut Row<'_>, shown: &Shown<'_>) {
     let stored = Stored::new(row.tables);
     let text = row.word(5);
-    put_canonical(
-        row,
-        match way {
-            Way::Shown => canonical(row.alloc, shown, shown, text),
-            Way::ToStored => canonical(row.alloc, shown, &stored, text),
-            Way::FromStored => canonical(row.alloc, &stored, shown, text),
+    match row.name {
+        "read_shown" => put_canonical(row, read_again(row.alloc, shown, text)),
+        "shown_to_stored" => put_canonical(row, canonical(row.alloc, shown, &stored, text)),
+        "stored_to_shown" => put_canonical(row, canonical(row.alloc, &stored, shown, text)),
+        _ => match read_reference(row.alloc, shown, row.word(3)) {
+            Ok(Some(token)) => put_token(row, &token),
+            Ok(None) => row.none(),
+            Err(_) => row.bad(),
         },
-    );
-}
-
-/// The reference that a whole text is, as it is shown in the first cell in a locale and a language.
-fn put_reference(row: &mut Row<'_>) {
-    match shown_at(row.tables, row.word(1), row.word(2), 1, 1) {
-        Ok(shown) => put_reference_of(row, &shown),
-        Err(_) => row.bad(),
-    }
-}
-
-fn put_reference_of(row: &mut Row<'_>, shown: &Shown<'_>) {
-    match read_reference(row.alloc, shown, row.word(3)) {
-        Ok(Some(token)) => put_token(row, &token),
-        Ok(None) => row.none(),
-        Err(_) => row.bad(),
     }
 }

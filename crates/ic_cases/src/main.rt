@@ -11,28 +11,21 @@
 //! call has an error to hand on, and none ends early over what it owns.
 #![tactic(auto)]
 
-mod amounts;
 mod books;
 mod broken;
-mod cells;
 mod errors;
 mod formulas;
-mod grid;
-mod inputs;
 mod keeps;
 mod lookups;
-mod names;
-mod places;
 mod pools;
 mod references;
 mod row;
 mod runs;
-mod scans;
 mod scenes;
 mod sheet;
-mod strings;
-mod styles;
+mod texts;
 mod values;
+mod workbooks;
 
 use books::Books;
 use ic_laws::Text;
@@ -44,23 +37,17 @@ use std::process::ExitCode;
 
 /// Answers a call, if it is one.
 fn call(row: &mut Row<'_>, books: &mut Books<'_>) {
-    names::call(row);
-    scans::call(row);
-    amounts::call(row);
+    texts::call(row);
     references::call(row);
     lookups::call(row);
     formulas::call(row);
     scenes::call(row);
     keeps::call(row);
-    inputs::call(row);
     values::call(row);
-    cells::call(row);
-    grid::call(row);
-    strings::call(row);
-    styles::call(row);
+    sheet::call(row);
     errors::call(row);
     broken::call(row);
-    runs::call(row);
+    runs::call(row, books);
     books::call(row, books);
     pools::call(row, books);
 }
@@ -89,22 +76,10 @@ fn answer(
     for word in line.split('\t') {
         all = is_added(alloc, word, &mut words) && all;
     }
+    let mut row = Row::new(alloc, tables, words.as_slice());
     if all {
-        answer_words(alloc, tables, books, words.as_slice(), out)
-    } else {
-        out.push_str("bad").is_ok()
+        call(&mut row, books);
     }
-}
-
-fn answer_words(
-    alloc: Global,
-    tables: &Tables,
-    books: &mut Books<'_>,
-    words: &[Text],
-    out: &mut String,
-) -> bool {
-    let mut row = Row::new(alloc, tables, words);
-    call(&mut row, books);
     out.push_str(row.answer()).is_ok()
 }
 

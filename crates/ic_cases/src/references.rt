@@ -1,10 +1,11 @@
-//! References in the A1 form, the stored form and the R1C1 form.
-use crate::places::{put_token, reference};
+//! References in the A1 form, the stored form and the R1C1 form. In an answer a reference is its sheet, as `-` or its name
+//! after a quote, then `cell` with a row and a column, or `range` with those of two corners. An absolute row or column has
+//! a `$` before its number, a relative one is the distance.
 use crate::row::Row;
-use ic_laws::{OutOfMemory, RefToken};
+use ic_laws::{OutOfMemory, Place, Position, RefToken};
 use ic_refs::{
     CellReferenceIndex, ParsedReference, ReferenceError, is_valid_column_number, is_valid_row,
-    parse_reference_a1, read_a1, read_rc, spell_a1, spell_rc,
+    parse_reference_a1, read_a1, read_rc,
 };
 
 /// Answers the call, if it is one of these.
@@ -22,11 +23,6 @@ pub fn call(row: &mut Row<'_>) {
         "read_rc" => {
             let at = row.size(1);
             put_found(row, read_rc(row.alloc, row.word(2), at));
-        }
-        "spell_a1" => put_spelled_a1(row),
-        "spell_rc" => {
-            let token = reference(row);
-            row.put_made(spell_rc(row.alloc, &token));
         }
         _ => {}
     }
@@ -140,10 +136,37 @@ fn put_found(row: &mut Row<'_>, found: Result<Option<(RefToken, usize)>, OutOfMe
     }
 }
 
-fn put_spelled_a1(row: &mut Row<'_>) {
-    let number = row.int(1);
-    let column = row.int(2);
-    row.skip(2);
-    let token = reference(row);
-    row.put_found(spell_a1(row.alloc, &token, number, column));
+/// The fields of a reference: its sheet and its place.
+pub fn put_token(row: &mut Row<'_>, token: &RefToken) {
+    match &token.sheet {
+        None => row.put("-"),
+        Some(name) => {
+            row.put("'");
+            row.put_text(name.as_str());
+        }
+    }
+    match token.place {
+        Place::Cell(part) => {
+            row.put("\tcell");
+            put_position(row, part.row);
+            put_position(row, part.column);
+        }
+        Place::Range(first, last) => {
+            row.put("\trange");
+            put_position(row, first.row);
+            put_position(row, first.column);
+            put_position(row, last.row);
+            put_position(row, last.column);
+        }
+    }
+}
+
+fn put_position(row: &mut Row<'_>, position: Position) {
+    match position {
+        Position::Abs(n) => {
+            row.put("\t$");
+            row.put_number(i128::from(n));
+        }
+        Position::Rel(k) => row.put_field(k),
+    }
 }

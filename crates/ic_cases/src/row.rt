@@ -2,7 +2,7 @@
 use ic_laws::{OutOfMemory, Text};
 use ic_lines::escape;
 use ic_tables::Tables;
-use std::alloc::{AllocError, Global};
+use std::alloc::Global;
 
 /// A row that is being answered. What is put goes behind what was put before. Where a word is not what a call asks for,
 /// or memory runs out, the row fails: it goes on with another value, and its answer is `bad` in the end. So a call has no
@@ -93,29 +93,6 @@ impl<'w> Row<'w> {
         }
     }
 
-    /// The first character of a word.
-    pub fn character(&mut self, at: usize) -> char {
-        match self.word(at).chars().next() {
-            Some(c) => c,
-            None => {
-                self.bad();
-                ' '
-            }
-        }
-    }
-
-    /// Whether a text is `true` and not `false`.
-    pub fn is_true(&mut self, text: &str) -> bool {
-        match text {
-            "true" => true,
-            "false" => false,
-            _ => {
-                self.bad();
-                false
-            }
-        }
-    }
-
     /// The number at a place.
     pub fn size(&mut self, at: usize) -> usize {
         match self.word(at).parse::<usize>() {
@@ -184,22 +161,6 @@ impl<'w> Row<'w> {
         }
     }
 
-    /// A text that took memory.
-    pub fn put_made(&mut self, text: Result<String, OutOfMemory>) {
-        match text {
-            Ok(text) => self.put_text(text.as_str()),
-            Err(_) => self.bad(),
-        }
-    }
-
-    /// A text that took memory, as it is.
-    pub fn put_shown(&mut self, text: Result<String, AllocError>) {
-        match text {
-            Ok(text) => self.put(text.as_str()),
-            Err(_) => self.bad(),
-        }
-    }
-
     /// A text that took memory, or `none`.
     pub fn put_found(&mut self, text: Result<Option<String>, OutOfMemory>) {
         match text {
@@ -222,36 +183,25 @@ impl<'w> Row<'w> {
         }
     }
 
-    /// A number, or `none`.
-    pub fn put_count(&mut self, n: Option<usize>) {
-        match n {
-            Some(n) => self.put_number(n as i128),
-            None => self.none(),
-        }
-    }
-
-    /// A number that took memory.
-    pub fn put_place(&mut self, n: Result<usize, OutOfMemory>) {
-        match n {
-            Ok(n) => self.put_number(n as i128),
-            Err(_) => self.bad(),
-        }
-    }
-
     /// A tab and a number.
     pub fn put_field(&mut self, n: i32) {
         self.tab();
         self.put_number(i128::from(n));
     }
 
-    /// An error: its variant and its text.
-    pub fn put_error(&mut self, name: &str, text: Result<String, AllocError>) {
-        self.put("error\t");
-        self.put(name);
-        self.tab();
+    /// A text that took memory.
+    pub fn put_made<E: Drop>(&mut self, text: Result<String, E>) {
         match text {
             Ok(text) => self.put_text(text.as_str()),
             Err(_) => self.bad(),
         }
+    }
+
+    /// An error: its variant and its text.
+    pub fn put_error<E: Drop>(&mut self, name: &str, text: Result<String, E>) {
+        self.put("error\t");
+        self.put(name);
+        self.tab();
+        self.put_made(text);
     }
 }

@@ -10,13 +10,13 @@ use ic_tree::{Shown, Stored, bind, clashes, is_dynamic, print, read, spell};
 use std::alloc::Global;
 
 /// `bind`, a language, a locale, a scope or `none`, a text, and then the scene: `sheet`, an id and a name, or `name`, a
-/// name and a scope or `none`. The cell is in row 5 and column 3. `bind_stored`, a scope or `none`, a text in the stored
-/// form, and then the scene.
+/// name and a scope or `none`. The cell is in row 5 and column 3.
 pub fn call(row: &mut Row<'_>) {
-    match row.name {
-        "bind" => put_shown(row),
-        "bind_stored" => put_stored(row),
-        _ => {}
+    if row.name == "bind" {
+        match shown_at(row.tables, row.word(2), row.word(1), 5, 3) {
+            Ok(shown) => put_shown(row, &shown),
+            Err(_) => row.bad(),
+        }
     }
 }
 
@@ -75,7 +75,7 @@ pub fn bound_in<D: Dialect>(
 }
 
 /// A formula as it is written in a scene.
-pub fn spelled<D: Dialect>(
+fn spelled<D: Dialect>(
     alloc: Global,
     dialect: &D,
     scene: &Scene,
@@ -85,51 +85,27 @@ pub fn spelled<D: Dialect>(
     print(alloc, dialect, &tree)
 }
 
-fn put_stored(row: &mut Row<'_>) {
-    let scene = scene_in(row, 3, "sheet", "name");
-    let scope = row.scope(1);
-    let stored = Stored::new(row.tables);
-    match bound_in(row.alloc, &stored, row.tables, &scene, scope, row.word(2)) {
-        Ok(Some(bound)) => put_bound(row, &scene, &bound),
-        Ok(None) => row.none(),
-        Err(_) => row.bad(),
-    }
-}
-
-/// What the whole formula mentions, and the formula as it is written again.
-pub fn put_bound(row: &mut Row<'_>, scene: &Scene, bound: &Bound) {
-    match bound {
-        Tree::Reference(sheet, _) => put_sheet(row, sheet),
-        Tree::Word(name) => put_name(row, name),
-        _ => row.none(),
-    }
-    row.tab();
+/// A formula in the stored form, as it is written in a scene.
+pub fn put_stored(row: &mut Row<'_>, scene: &Scene, bound: &Bound) {
     row.put_made(spelled(row.alloc, &Stored::new(row.tables), scene, bound));
 }
 
-/// The sheet of a reference: `own`, the id of the sheet, or `dangling` and its name.
-fn put_sheet(row: &mut Row<'_>, sheet: &SheetMention) {
-    match sheet {
-        SheetMention::Own => row.put("own"),
-        SheetMention::Sheet(id) => {
+/// What the whole formula mentions: the sheet of a reference, as `own`, the id of the sheet, or `dangling` and its name;
+/// or `name`, the folded name of the definition and its scope or `none`, or `dangling` and the word.
+pub fn put_mention(row: &mut Row<'_>, bound: &Bound) {
+    match bound {
+        Tree::Reference(SheetMention::Own, _) => row.put("own"),
+        Tree::Reference(SheetMention::Sheet(id), _) => {
             row.put("sheet\t");
             row.put_number(i128::from(*id));
         }
-        SheetMention::Dangling(name) => {
-            row.put("dangling\t");
-            row.put_text(name.as_str());
-        }
-    }
-}
-
-/// `name`, the folded name of the definition and its scope or `none`, or `dangling` and the word.
-fn put_name(row: &mut Row<'_>, name: &NameMention) {
-    match name {
-        NameMention::Var(word) | NameMention::Dangling(word) => {
+        Tree::Reference(SheetMention::Dangling(word), _)
+        | Tree::Word(NameMention::Var(word))
+        | Tree::Word(NameMention::Dangling(word)) => {
             row.put("dangling\t");
             row.put_text(word.as_str());
         }
-        NameMention::Name(key) => {
+        Tree::Word(NameMention::Name(key)) => {
             row.put("name\t");
             row.put_text(key.name.as_str());
             row.tab();
@@ -138,22 +114,16 @@ fn put_name(row: &mut Row<'_>, name: &NameMention) {
                 None => row.none(),
             }
         }
+        _ => row.none(),
     }
 }
 
-fn put_shown(row: &mut Row<'_>) {
+fn put_shown(row: &mut Row<'_>, shown: &Shown<'_>) {
     let scene = scene_in(row, 5, "sheet", "name");
-    match shown_at(row.tables, row.word(2), row.word(1), 5, 3) {
-        Ok(shown) => put_shown_by(row, &scene, &shown),
-        Err(_) => row.bad(),
-    }
-}
-
-fn put_shown_by(row: &mut Row<'_>, scene: &Scene, shown: &Shown<'_>) {
     let scope = row.scope(3);
-    match bound_in(row.alloc, shown, row.tables, scene, scope, row.word(4)) {
+    match bound_in(row.alloc, shown, row.tables, &scene, scope, row.word(4)) {
         Ok(Some(bound)) => {
-            row.put_made(spelled(row.alloc, shown, scene, &bound));
+            row.put_made(spelled(row.alloc, shown, &scene, &bound));
             put_clashes(row, &bound);
         }
         Ok(None) => row.none(),

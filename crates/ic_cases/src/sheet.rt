@@ -1,5 +1,6 @@
-//! One sheet's cells in sessions of calls that change them: one row is a list of calls on a new grid, and then its cells.
-ghost use Rattle.std.specs.Prelude.{◌≡◌, true, IfSome};
+//! One sheet's cells where no command line brings them, with merged cells, and the places that block a spill: one row is
+//! a list of calls on a new grid.
+ghost use Rattle.std.specs.Prelude.{◌≡◌, true};
 ghost use Rattle.std.specs.FinMap as finite;
 ghost use Rattle.std.specs.List.{list_any};
 ghost use Rattle.ic_grid.specs.Block.{blocks_meet, is_in_sheet};
@@ -8,23 +9,22 @@ ghost use Rattle.ic_grid.specs.Merges.{merged_block};
 ghost use Rattle.ic_grid.specs.Shape.{celled, is_loose, shape_of};
 ghost use Rattle.ic_grid.specs.Whole.{IsGrid};
 
-use crate::cells::{formula_value, put_shown_cell, spill_value, type_name};
-use crate::grid::{put_answer, put_can_write_array, put_pair, put_style_at};
 use crate::row::Row;
-use crate::styles::create;
 use ic_cells::{ArrayKind, Cell, FormulaValue, Merge, SpillValue, Styles};
-use ic_grid::{Block, Grid};
+use ic_grid::{Block, Grid, GridError};
+use ic_input::read_amount;
 use ic_laws::Items;
 use ic_refs::{is_valid_column_number, is_valid_row};
 
-/// Makes the calls, each a name and five words, of which those that it doesn't need are `-`; `merge` stands before all
-/// others. Then the cells stand, unless the row asks for the answers alone: each with its place, its style, the type of
-/// its value, what it shows, and what it is. The session has styles of its own, at first the default one.
-pub fn calls(row: &mut Row<'_>) {
-    row.skip(1);
-    match Styles::new(row.alloc) {
-        Ok(mut styles) => session(row, &mut styles),
-        Err(_) => row.bad(),
+/// `Grid::answers` and calls, each a name and five words, of which those that it doesn't need are `-`; `merge` stands
+/// before all others. The sheet has the default style alone, and its values are numbers.
+pub fn call(row: &mut Row<'_>) {
+    if row.name == "Grid::answers" {
+        row.skip(1);
+        match Styles::new(row.alloc) {
+            Ok(mut styles) => session(row, &mut styles),
+            Err(_) => row.bad(),
+        }
     }
 }
 
@@ -34,45 +34,6 @@ fn session(row: &mut Row<'_>, styles: &mut Styles) {
         made(row, styles, &mut grid);
         row.tab();
         row.skip(6);
-    }
-    if row.name == "Grid::calls" {
-        put_cells(row, &grid);
-    }
-}
-
-fn put_cells(row: &mut Row<'_>, grid: &Grid) {
-    for ((line, column), cell) in grid.cells.as_map().iter() {
-        put_cell(row, *line, *column, cell);
-    }
-}
-
-fn put_cell(row: &mut Row<'_>, line: i32, column: i32, cell: &Cell) {
-    put_pair(row, "", line, ",", column);
-    row.put(",");
-    row.put_number(cell.get_style() as i128);
-    row.put(",");
-    row.put(type_name(cell.get_type()));
-    row.put(",");
-    put_shown_cell(row, cell);
-    put_kind(row, cell);
-    row.put(" ");
-}
-
-/// What a cell is: an array has its width and height, a cell of a spill the place of its formula.
-fn put_kind(row: &mut Row<'_>, cell: &Cell) {
-    match cell {
-        Cell::EmptyCell { .. } => row.put(",empty"),
-        Cell::CellFormula { .. } => row.put(",formula"),
-        Cell::ArrayFormula { r, kind, .. } => put_pair(row, kind_of(*kind), r.0, "x", r.1),
-        Cell::SpillCell { a, .. } => put_pair(row, ",spill ", a.0, ":", a.1),
-        _ => row.put(",value"),
-    }
-}
-
-fn kind_of(kind: ArrayKind) -> &'static str {
-    match kind {
-        ArrayKind::Dynamic => ",dynamic ",
-        ArrayKind::Cse => ",cse ",
     }
 }
 
@@ -147,36 +108,36 @@ fn made(row: &mut Row<'_>, styles: &mut Styles, grid: &mut Grid)
     ensures { IsGrid grid.new }
 {
     match row.word(0) {
-        "style" => create(row, styles),
-        "styles" => row.put_number(styles.len() as i128),
-        "style_at" => put_style_at(row, grid),
-        "can_write_array" => put_can_write_array(row, grid),
-        "write_array" => write_array(row, styles, grid),
-        "set_row_style" => set_row_style(row, grid),
-        "set_column_style" => set_column_style(row, grid),
+        "can_write_array" | "write_array" | "clear" => on_area(row, styles, grid),
         _ => on_place(row, grid),
     }
 }
 
-fn set_row_style(row: &mut Row<'_>, grid: &mut Grid)
+/// Makes a call on an area. An array is written where the sheet names styles that are there.
+fn on_area(row: &mut Row<'_>, styles: &mut Styles, grid: &mut Grid)
     requires { IsGrid grid.old }
     ensures { IsGrid grid.new }
 {
-    let (number, style) = (row.int(1), row.size(2));
-    match grid.set_row_style(number, style) {
-        Ok(()) => row.put("ok"),
-        Err(_) => row.bad(),
+    let (line, column) = (row.int(1), row.int(2));
+    let (width, height) = (row.int(3), row.int(4));
+    if !Block::at((line, column), width, height).is_area() {
+        return row.bad();
     }
-}
-
-fn set_column_style(row: &mut Row<'_>, grid: &mut Grid)
-    requires { IsGrid grid.old }
-    ensures { IsGrid grid.new }
-{
-    let (number, style) = (row.int(1), row.size(2));
-    match grid.set_column_style(number, style) {
-        Ok(()) => row.put("ok"),
-        Err(_) => row.bad(),
+    match row.word(0) {
+        "can_write_array" => {
+            put_answer(row, grid.can_write_array(line, column, width, height));
+        }
+        "clear" => {
+            let all = row.word(5) == "true";
+            put_answer(row, grid.clear(line, column, width, height, all));
+        }
+        _ => {
+            if !grid.is_styled(styles) {
+                return row.bad();
+            }
+            let answer = grid.write_array(styles, line, column, width, height, 0);
+            put_answer(row, answer);
+        }
     }
 }
 
@@ -191,107 +152,76 @@ fn on_place(row: &mut Row<'_>, grid: &mut Grid)
     }
     match row.word(0) {
         "can_write" => put_answer(row, grid.can_write(line, column)),
-        "write" => write(row, grid, line, column),
-        "clear" => clear(row, grid, line, column),
-        "write_value" => write_value(row, grid, line, column),
-        "spill" => spill(row, grid, line, column),
-        _ => row.bad(),
+        "write" => put_answer(row, grid.write(line, column, loose_cell(row.word(3)))),
+        "write_value" => {
+            put_answer(
+                row,
+                grid.write_value(line, column, FormulaValue::Unevaluated),
+            );
+        }
+        _ => spill(row, grid, line, column),
     }
 }
 
-fn write(row: &mut Row<'_>, grid: &mut Grid, line: i32, column: i32)
-    requires grid { IsGrid grid.old }
-    requires place { is_in_sheet (line, column) ≡ true }
-    ensures { IsGrid grid.new }
-{
-    let style = row.size(4);
-    match loose_cell(row.word(3), style) {
-        Some(cell) => put_answer(row, grid.write(line, column, cell)),
-        None => row.bad(),
-    }
-}
-
-fn loose_cell(kind: &str, s: usize) -> Option<Cell>
-    ensures { IfSome result (λ cell. is_loose (shape_of cell) ≡ true) }
+fn loose_cell(kind: &str) -> Cell
+    ensures { is_loose (shape_of result) ≡ true }
 {
     match kind {
-        "empty" => Some(Cell::EmptyCell { s }),
-        "boolean" => Some(Cell::new_boolean(true, s)),
-        "formula" => Some(Cell::new_formula(0, s)),
-        "dynamic" => Some(one_cell_array(ArrayKind::Dynamic, s)),
-        "cse" => Some(one_cell_array(ArrayKind::Cse, s)),
-        _ => None,
+        "empty" => Cell::EmptyCell { s: 0 },
+        "boolean" => Cell::new_boolean(true, 0),
+        "formula" => Cell::new_formula(0, 0),
+        "dynamic" => one_cell_array(ArrayKind::Dynamic),
+        _ => one_cell_array(ArrayKind::Cse),
     }
 }
 
-fn one_cell_array(kind: ArrayKind, s: usize) -> Cell
+fn one_cell_array(kind: ArrayKind) -> Cell
     ensures { is_loose (shape_of result) ≡ true }
 {
     Cell::ArrayFormula {
         f: 0,
-        s,
+        s: 0,
         r: (1, 1),
         kind,
         v: FormulaValue::Unevaluated,
     }
 }
 
-/// Writes a Cse array, where the sheet names styles of the session alone.
-fn write_array(row: &mut Row<'_>, styles: &mut Styles, grid: &mut Grid)
-    requires { IsGrid grid.old }
-    ensures { IsGrid grid.new }
-{
-    let (line, column) = (row.int(1), row.int(2));
-    let (width, height) = (row.int(3), row.int(4));
-    let f = row.size(5);
-    if !Block::at((line, column), width, height).is_area() || !grid.is_styled(styles) {
-        return row.bad();
-    }
-    put_answer(
-        row,
-        grid.write_array(styles, line, column, width, height, f),
-    );
-}
-
-fn clear(row: &mut Row<'_>, grid: &mut Grid, line: i32, column: i32)
-    requires { IsGrid grid.old }
-    ensures { IsGrid grid.new }
-{
-    let (width, height) = (row.int(3), row.int(4));
-    if !Block::at((line, column), width, height).is_area() {
-        return row.bad();
-    }
-    let all = row.word(5) == "true";
-    put_answer(row, grid.clear(line, column, width, height, all));
-}
-
-fn write_value(row: &mut Row<'_>, grid: &mut Grid, line: i32, column: i32)
-    requires { IsGrid grid.old }
-    ensures { IsGrid grid.new }
-{
-    let value = formula_value(row, row.word(3));
-    put_answer(row, grid.write_value(line, column, value));
-}
-
 fn spill(row: &mut Row<'_>, grid: &mut Grid, line: i32, column: i32)
-    requires { IsGrid grid.old }
+    requires grid { IsGrid grid.old }
+    requires place { is_in_sheet (line, column) ≡ true }
     ensures { IsGrid grid.new }
 {
     let (width, height) = (row.int(3), row.int(4));
-    let values = values(row, row.word(5));
+    let values = numbers(row, row.word(5));
     put_answer(row, grid.spill(line, column, width, height, values));
 }
 
-/// The values of a word, with `|` between two; `-` has none.
-fn values(row: &mut Row<'_>, text: &str) -> Vec<SpillValue> {
+/// The numbers of a word, each after `n:`, with `|` between two.
+fn numbers(row: &mut Row<'_>, text: &str) -> Vec<SpillValue> {
     let mut values = Vec::new(row.alloc);
-    if text != "-" {
-        for word in text.split('|') {
-            let value = spill_value(row, word);
-            if values.push(value).is_err() {
-                row.bad();
-            }
+    for word in text.split('|') {
+        if !is_added(word, &mut values) {
+            row.bad();
         }
     }
     values
+}
+
+fn is_added(word: &str, values: &mut Vec<SpillValue>) -> bool {
+    match word.split_once(':') {
+        Some((_, number)) => match read_amount(number, '.') {
+            Some(v) => values.push(SpillValue::Number(v)).is_ok(),
+            None => false,
+        },
+        None => false,
+    }
+}
+
+/// `ok`, or `error` and the refusal.
+fn put_answer(row: &mut Row<'_>, answer: Result<(), GridError>) {
+    match answer {
+        Ok(()) => row.put("ok"),
+        Err(error) => row.put_made(format!(in row.alloc; "error {error:?}")),
+    }
 }
