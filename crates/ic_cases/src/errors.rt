@@ -38,7 +38,7 @@ fn put_state(row: &mut Row<'_>) {
 }
 
 /// The errors of the book.
-const BOOK_ERRORS: [BookError; 32] = [
+const BOOK_ERRORS: [BookError; 33] = [
     BookError::BadLine,
     BookError::InvalidSheet,
     BookError::InvalidRow,
@@ -70,6 +70,7 @@ const BOOK_ERRORS: [BookError; 32] = [
     BookError::TooManyColumns,
     BookError::NoFormulaCell,
     BookError::SpillBlocked { row: 1, column: 1 },
+    BookError::BadWorkbook(1),
     BookError::OutOfMemory,
 ];
 
