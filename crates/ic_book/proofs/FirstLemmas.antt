@@ -1,9 +1,9 @@
 -- The first condition that a workbook doesn't meet, from the steps that ask for one after another.
-use Rattle.std.proofs.Common.{◌≡◌, ◌∙◌, ◌⊎◌, inl, inr, ◌≤◌, ◌+◌, ℕ, List, refl, sym, subst, arith}
+use Rattle.std.proofs.Common.{◌≡◌, ◌∙◌, ◌⊎◌, inl, inr, ◌≤◌, ◌+◌, ℕ, List, None, Result, Ok, Err, IsErr, IsErrAnd, MatchResult, false, true, refl, sym, subst, arith}
 use Rattle.ic_tables.specs.Tables.{TableSet}
 use Rattle.ic_cells.specs.declared.workbook.Workbook.{Workbook}
-use Rattle.ic_book.specs.Asked.{Breaks, MeetsTo, TellsFirst}
-use Rattle.ic_book.specs.HandedIn.{Arrays, Condition, Definitions, Formulas, Layout, Meets, Merges, Places, SheetCount, SheetIds, SheetNames, Strings, Styles, Texts, number_of}
+use Rattle.ic_book.specs.Asked.{Breaks, MeetsTo, TellsFirst, TellsHandedIn}
+use Rattle.ic_book.specs.HandedIn.{Arrays, Condition, Definitions, Formulas, Layout, Meets, MeetsAll, Merges, Places, SheetCount, SheetIds, SheetNames, Strings, Styles, Texts, notation_refusal, number_of}
 use Rattle.ic_book.specs.declared.error.BookError.{BookError}
 use Rattle.ic_book.specs.declared.error.BookError.TheVariants as errors
 
@@ -74,3 +74,38 @@ module _ (w : Workbook) (tables : TableSet) where
     before = λ other lt. before language other (let same = h.0 in omega (arith, lt, same, is_next));
   }
   breaks_first count number condition Met is_next numbered asked before e h = absurd h
+
+-- what is so of each error of a kind is so of an answer that is one
+pub match_error : {T : Type 0} {Q : BookError → Type 0} (A : T → Type 0) (B : BookError → Type 0) (r : Result T BookError) → IsErr r × IsErrAnd r Q → ((e : BookError) → Q e → B e) → MatchResult r A B
+match_error A B (Ok value) h each = let no : false ≡ true = h.0 in cc
+match_error A B (Err e) h each = each e h.1
+
+-- a step that asks for more tells the same of a part that isn't met
+pub breaks_so : (number : ℕ) (Met More : Type 0) → ((Met → ⊥) → More → ⊥) → (e : BookError) → Breaks number Met e → Breaks number More e
+breaks_so number Met More so errors.OutOfMemory h = tt
+breaks_so number Met More so (errors.BadWorkbook n) h = (h.0, so h.1)
+breaks_so number Met More so e h = absurd h
+
+at_most_twelve : (condition : Condition) → number_of condition ≤ 12
+at_most_twelve SheetCount = omega arith
+at_most_twelve SheetNames = omega arith
+at_most_twelve SheetIds = omega arith
+at_most_twelve Definitions = omega arith
+at_most_twelve Texts = omega arith
+at_most_twelve Places = omega arith
+at_most_twelve Formulas = omega arith
+at_most_twelve Strings = omega arith
+at_most_twelve Styles = omega arith
+at_most_twelve Arrays = omega arith
+at_most_twelve Merges = omega arith
+at_most_twelve Layout = omega arith
+
+-- the first twelve are all
+pub met_all : (w : Workbook) (language : List ℕ) (tables : TableSet) → MeetsTo 12 w language tables → MeetsAll w language tables
+met_all w language tables met condition = met condition (at_most_twelve condition)
+
+-- what the steps tell together is what the call tells, where nothing refuses the notation
+pub tells_handed_in : (w : Workbook) (language : List ℕ) (tables : TableSet) → notation_refusal w language tables ≡ None → (e : BookError) → TellsFirst w tables e → TellsHandedIn w language tables e
+tells_handed_in w language tables free errors.OutOfMemory h = free
+tells_handed_in w language tables free (errors.BadWorkbook n) h = (free, h language)
+tells_handed_in w language tables free e h = absurd h

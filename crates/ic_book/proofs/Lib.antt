@@ -4,6 +4,7 @@ pub mod AddedNames
 pub mod ArrayLemmas
 pub mod ArrayWritten
 pub mod AskedLemmas
+pub mod AskedSheets
 pub mod BookLemmas
 pub mod BookValid
 pub mod CellReads
@@ -11,11 +12,13 @@ pub mod ChangeLemmas
 pub mod CopyLemmas
 pub mod DoesLemmas
 pub mod ExtendLemmas
+pub mod FilledLemmas
 pub mod FirstLemmas
 pub mod FormatLemmas
 pub mod GridLemmas
 pub mod GridPartLemmas
 pub mod HandedInLemmas
+pub mod HandedInValid
 pub mod HeldLemmas
 pub mod InForceLemmas
 pub mod LineLemmas
@@ -36,6 +39,7 @@ pub mod ReferLemmas
 pub mod ReferenceLemmas
 pub mod RetypedLemmas
 pub mod SameTexts
+pub mod SeenGrids
 pub mod SettingLemmas
 pub mod SharedLemmas
 pub mod ShownLemmas
@@ -43,7 +47,7 @@ pub mod SparedBodies
 pub mod StartLemmas
 pub mod StyleLemmas
 pub mod StyleSetLemmas
-pub mod TextLemmas
+pub mod TakenAgain
 pub mod TypedLemmas
 pub mod TypedSteps
 pub mod UnreadLemmas

@@ -120,6 +120,23 @@ module _ (texts : List (List ℕ)) (numbers : List ℕ) (strings : List (List �
       by_cell p None e = refl
       by_cell p (Some cell) e = ap (λ (x : Content). let o : Option Content = Some x in o) (content_told cell (has p cell e))
 
+  -- the numbers are among the strings
+  pub string_there : (cell : Cell) → HasString (length texts) cell → HasString (length strings) (renumbered numbers cell)
+  string_there (cells.EmptyCell s) h = tt
+  string_there (cells.BooleanCell v s) h = tt
+  string_there (cells.NumberCell v s) h = tt
+  string_there (cells.ErrorCell e s) h = tt
+  string_there (cells.SharedString index s) h =
+      go numbers index index (let lt : index < length texts = h in let e = ap length kept.told in let f = length-map numbers (string_at strings) in omega (arith, lt, e, f)) kept.within
+    where
+      go : (ns : List ℕ) (k d : ℕ) → k < length ns → AllByRecursion (λ n. n < length strings) ns → unwrap_or (slice_get ns k) d < length strings
+      go [] k d lt all = absurd (omega (arith, lt))
+      go (n ∷ ns) zero d lt all = all.0
+      go (n ∷ ns) (suc k) d lt all = go ns k d (omega (arith, lt)) all.1
+  string_there (cells.CellFormula f s v) h = tt
+  string_there (cells.ArrayFormula f s r k v) h = tt
+  string_there (cells.SpillCell s a v) h = tt
+
 -- ---- cells that are copied one after another
 
 module _ (numbers : List ℕ) (m : Contents Cell) where

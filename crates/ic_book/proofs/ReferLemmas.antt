@@ -1,13 +1,15 @@
 -- That no reference lies outside is that each lies inside; and the formulas of cells are those of what the cells are.
 use mathlib.Core.Path.{fun_ext}
-use Rattle.std.proofs.Common.{◌≡◌, ◌↔◌, ◌||◌, ◌∙◌, ℕ, ℤ, List, [], ◌∷◌, Bool, true, false, not, map, get_or, Option, Some, refl, sym, ap, ap₂, subst, option_map}
+use Rattle.std.proofs.Common.{◌≡◌, ◌↔◌, ◌||◌, ◌<◌, ◌∙◌, ℕ, zero, suc, ℤ, List, [], ◌∷◌, Bool, true, false, not, map, length, get_or, Option, Some, None, refl, sym, ap, ap₂, arith, subst, option_map}
 use Rattle.std.proofs.lemmas.Bool.{or_parts}
 use Rattle.std.proofs.lemmas.List.Elements.{All-contains, All-from_recursion, Contains-get_or, recursion_from_All}
 use Rattle.std.proofs.lemmas.Map.Views.{btree_map_get_iff}
+use Rattle.std.proofs.lemmas.Option.{slice_get_within}
+use Rattle.std.specs.Prelude.{unwrap_or}
 use Rattle.std.specs.BTreeMap as tree
 use Rattle.std.specs.BTreeMap.{BTreeMap}
 use Rattle.std.specs.FinMap as finite
-use Rattle.std.specs.List.{AllByRecursion, Contains, list_any}
+use Rattle.std.specs.List.{AllByRecursion, Contains, list_any, slice_get}
 use Rattle.ic_laws.proofs.core.CellWritten.{place_cmp_total, place_tied}
 use Rattle.ic_laws.proofs.binding.Again.{BoundKind, bound_node}
 use Rattle.ic_laws.proofs.binding.Induction.{Every, EveryPair, OfChildren, by_nodes, every_below, every_here, every_made, every_value}
@@ -16,6 +18,7 @@ use Rattle.ic_laws.specs.CoreBook.{CellPlace}
 use Rattle.ic_laws.specs.Position.{is_inside}
 use Rattle.ic_laws.specs.Tree.{Bound}
 use Rattle.ic_laws.specs.declared.tree.Formula.{Formula}
+use Rattle.ic_laws.specs.declared.tree.Formula.TheVariants as formulas
 use Rattle.ic_laws.specs.declared.tree.LetPair.{every_made-LetPair, fold-roll-LetPair, roll-LetPair}
 use Rattle.ic_laws.specs.declared.tree.NameMention.{NameMention}
 use Rattle.ic_laws.specs.declared.tree.SheetMention.{SheetMention}
@@ -25,13 +28,15 @@ use Rattle.ic_laws.specs.declared.tree.Tree.TheOpen as one
 use Rattle.ic_cells.specs.Cell.{cell_formula_index}
 use Rattle.ic_cells.specs.Maps.{place_cmp}
 use Rattle.ic_cells.specs.declared.cell.Cell.{Cell}
+use Rattle.ic_cells.specs.declared.cell.Cell.TheVariants as cells
 use Rattle.ic_grid.proofs.WalkLemmas.{map_get}
 use Rattle.ic_grid.specs.Contents.{Contents}
 use Rattle.ic_machine.proofs.AlikeGrid.{get-seen, stands_seen}
 use Rattle.ic_machine.specs.Alike.{seen_by}
 use Rattle.ic_machine.specs.Book as machine
-use Rattle.ic_machine.specs.Content.{Content, content_of, formula_index}
+use Rattle.ic_machine.specs.Content.{Content, content_of, formula_in, formula_index}
 use Rattle.ic_book.specs.HandedIn.{HasFormulaAt, HasFormulas, IsReferenceInside}
+use Rattle.ic_book.specs.Numbered.{renumbered}
 use Rattle.ic_book.specs.Referring.{HasCellFormulas, outside_step, some_outside}
 use Rattle.ic_book.proofs.WholeLemmas.{index_seen}
 
@@ -182,15 +187,45 @@ module _ (pool : List Formula) where
     pub entries_last : es ≡ [] → HasCellFormulas pool v
     entries_last none = so_far.1 (subst HasEntries (sym none) tt)
 
+-- what stands at an index of a pool is its formula there; and past the end there is none
+pub formula_there : (pool : List Formula) (index : ℕ) (formula : Formula) → slice_get pool index ≡ Some formula → (index < length pool) × (formula_in pool index ≡ formula)
+formula_there pool index formula there = (slice_get_within pool index formula there, ap (λ o. unwrap_or o (formulas.Raw [])) there)
+
+pub no_formula : (pool : List Formula) (index : ℕ) → slice_get pool index ≡ None → index < length pool → ⊥
+no_formula [] index none lt = omega (arith, lt)
+no_formula (formula ∷ pool) zero none lt = cc
+no_formula (formula ∷ pool) (suc index) none lt = no_formula pool index none (omega (arith, lt))
+
 -- the formulas of cells are those of what stands at their places in a sheet of the machine
-pub formulas_seen : (strings : List (List ℕ)) (pool : List Formula) (cells : Contents Cell) (s : machine.Sheet) → s.pool ≡ pool → s.grid.contents ≡ seen_by (content_of strings) cells → HasCellFormulas pool cells ↔ HasFormulas s
-formulas_seen strings pool cells s by_pool by_cells = (
+pub formulas_seen : (strings : List (List ℕ)) (pool : List Formula) (m : Contents Cell) (s : machine.Sheet) → s.pool ≡ pool → s.grid.contents ≡ seen_by (content_of strings) m → HasCellFormulas pool m ↔ HasFormulas s
+formulas_seen strings pool m s by_pool by_cells = (
   λ h place content e.
-      let was = stands_seen (content_of strings) (finite.get cells place) content (sym (get-seen (content_of strings) cells place) ∙ ap (λ (m : Contents Content). finite.get m place) (sym by_cells) ∙ e) in
-      subst (λ (formulas : List Formula). HasFormulaAt formulas place (formula_index content)) (sym by_pool)
+      let was = stands_seen (content_of strings) (finite.get m place) content (sym (get-seen (content_of strings) m place) ∙ ap (λ (x : Contents Content). finite.get x place) (sym by_cells) ∙ e) in
+      subst (λ (fs : List Formula). HasFormulaAt fs place (formula_index content)) (sym by_pool)
       (subst (HasFormulaAt pool place) (sym (index_seen strings was.0) ∙ ap formula_index was.2) (h place was.0 was.1)),
   λ h place cell e.
-      subst (λ (formulas : List Formula). HasFormulaAt formulas place (cell_formula_index cell)) by_pool
+      subst (λ (fs : List Formula). HasFormulaAt fs place (cell_formula_index cell)) by_pool
       (subst (HasFormulaAt s.pool place) (index_seen strings cell)
-      (h place (content_of strings cell) (ap (λ (m : Contents Content). finite.get m place) by_cells ∙ get-seen (content_of strings) cells place ∙ ap (option_map (content_of strings)) e))),
+      (h place (content_of strings cell) (ap (λ (x : Contents Content). finite.get x place) by_cells ∙ get-seen (content_of strings) m place ∙ ap (option_map (content_of strings)) e))),
+)
+
+-- the formulas of cells don't depend on the numbers of their strings
+index_kept : (numbers : List ℕ) (cell : Cell) → cell_formula_index (renumbered numbers cell) ≡ cell_formula_index cell
+index_kept numbers (cells.EmptyCell s) = refl
+index_kept numbers (cells.BooleanCell v s) = refl
+index_kept numbers (cells.NumberCell v s) = refl
+index_kept numbers (cells.ErrorCell e s) = refl
+index_kept numbers (cells.SharedString i s) = refl
+index_kept numbers (cells.CellFormula f s v) = refl
+index_kept numbers (cells.ArrayFormula f s r kind v) = refl
+index_kept numbers (cells.SpillCell s a v) = refl
+
+pub formulas_numbered : (numbers : List ℕ) (pool : List Formula) (m : Contents Cell) → HasCellFormulas pool (seen_by (renumbered numbers) m) ↔ HasCellFormulas pool m
+formulas_numbered numbers pool m = (
+  λ h place cell e.
+      subst (HasFormulaAt pool place) (index_kept numbers cell)
+      (h place (renumbered numbers cell) (get-seen (renumbered numbers) m place ∙ ap (option_map (renumbered numbers)) e)),
+  λ h place cell e.
+      let was = stands_seen (renumbered numbers) (finite.get m place) cell (sym (get-seen (renumbered numbers) m place) ∙ e) in
+      subst (HasFormulaAt pool place) (sym (index_kept numbers was.0) ∙ ap cell_formula_index was.2) (h place was.0 was.1),
 )

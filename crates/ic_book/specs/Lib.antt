@@ -7,6 +7,7 @@ pub mod Definitions
 pub mod Does
 pub mod Extended
 pub mod Fields
+pub mod Filled
 pub mod HandedIn
 pub mod Inside
 pub mod LookUps

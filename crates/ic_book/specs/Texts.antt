@@ -1,10 +1,8 @@
 -- Formulas that are handed in by their texts, by what they can mention.
-use Rattle.std.specs.Prelude.{◌≡◌, ◌==◌, ℕ, pos, List, Bool, Option, Some, None, map, option_map}
+use Rattle.std.specs.Prelude.{◌≡◌, ℕ, pos, List, Option, Some, None, map}
 use Rattle.std.specs.List.{AllByRecursion}
-use Rattle.ic_laws.specs.Character.{equals}
 use Rattle.ic_laws.specs.FormulaReading.{without_equals}
 use Rattle.ic_laws.specs.Notations.{english_function}
-use Rattle.ic_laws.specs.Scan.{first_is}
 use Rattle.ic_laws.specs.declared.scene.Scene.{Scene}
 use Rattle.ic_laws.specs.declared.tree.Formula.{Formula}
 use Rattle.ic_tables.specs.Tables.{TableSet}
@@ -21,12 +19,9 @@ module _ (tables : TableSet) (scene : Scene) where
   abbrev pub body_formula_in : Option ℕ → List ℕ → Option Formula
   body_formula_in scope text = formula_of (in_english tables (pos 1) (pos 1)) (english_function (notations_of tables)) scene scope (without_equals text)
 
-  -- that of the record of a definition, and whether it stands after an `=`
+  -- that of the record of a definition
   abbrev pub record_body_in : DefinedName → Option Formula
   record_body_in name = body_formula_in name.sheet_id name.formula
-
-  abbrev pub signed_body_in : DefinedName → Option (Bool × Formula)
-  signed_body_in name = option_map (λ body. (first_is (λ c. c == equals) name.formula, body)) (record_body_in name)
 
 -- What is read of several: the formula of each in their order, where each is one; and nothing where some isn't.
 abbrev pub AreRead : {X : Type 0} → (X → Option Formula) → List X → Option (List Formula) → Type 0

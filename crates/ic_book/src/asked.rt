@@ -9,6 +9,7 @@ ghost use Rattle.ic_sheets.specs.Records.{HasApartNames, HasIds, started};
 ghost use Rattle.ic_book.specs.Asked.{Breaks, HasCount, HasNames, MeetsTo, TellsFirst, unread};
 
 mod definitions;
+mod sheets;
 
 use crate::BookError;
 use crate::contents::Contents;
@@ -16,6 +17,7 @@ use definitions::ask_definitions;
 use ic_cells::{Workbook, Worksheet};
 use ic_refs::is_valid_sheet_name;
 use ic_sheets::{Sheets, has_apart_names, sheets_of};
+pub use sheets::ask_sheets;
 use std::alloc::Global;
 
 /// Asks for the first four conditions, one after another; then gives the sheets and the definitions, which hold nothing yet.

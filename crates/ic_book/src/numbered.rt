@@ -32,6 +32,17 @@ impl Drop for Numbered {
     }
 }
 
+impl Numbered {
+    /// The texts.
+    pub fn into_strings(self) -> SharedStrings
+        ensures { result ≡ self.strings }
+    {
+        let Self { strings, numbers } = self;
+        drop(numbers);
+        strings
+    }
+}
+
 /// Keeps each of these texts once.
 pub fn number_texts(alloc: Global, texts: &[Text]) -> Result<Numbered, OutOfMemory>
     ensures { IfOk result (λ n. AreNumbered texts.now n.numbers.items n.strings) }

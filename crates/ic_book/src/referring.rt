@@ -1,5 +1,6 @@
 //! Where the references of formulas lie. No test here takes memory.
 ghost use Rattle.std.specs.Prelude.{◌≡◌, ◌↔◌, Some, IsTrue, map};
+ghost use Rattle.std.specs.Bool.{Decides};
 ghost use Rattle.std.specs.List.{list_any};
 ghost use Rattle.ic_laws.specs.Position.{is_inside, is_part_inside, place_at};
 ghost use Rattle.ic_cells.specs.Cell.{cell_formula_index};
@@ -11,11 +12,12 @@ use ic_laws::{
     Bound, Formula, LAST_COLUMN, LAST_ROW, LetPair, NameMention, Place, Position, RefPart,
     SheetMention, Tree,
 };
+use ic_pool::Pool;
 
 /// Whether the formula of each cell that has one is among these, told by its index from 0, and each of its references
 /// lies in the sheet at each such cell.
-pub(crate) fn has_formulas(pool: &[Formula], cells: &PlaceMap<Cell>) -> bool
-    ensures { IsTrue result ↔ HasCellFormulas pool.now cells.now }
+pub(crate) fn has_formulas(pool: &Pool, cells: &PlaceMap<Cell>) -> bool
+    ensures { Decides result (HasCellFormulas pool.now.formulas cells.now) }
 {
     for (place, cell) in cells.as_map().iter() {
         if !has_formula_at(pool, place, cell) {
@@ -26,8 +28,9 @@ pub(crate) fn has_formulas(pool: &[Formula], cells: &PlaceMap<Cell>) -> bool
 }
 
 /// The same of the cell at a place.
-fn has_formula_at(pool: &[Formula], place: &(i32, i32), cell: &Cell) -> bool
-    ensures { IsTrue result ↔ HasFormulaAt pool.now place.now (cell_formula_index cell.now) }
+fn has_formula_at(pool: &Pool, place: &(i32, i32), cell: &Cell) -> bool
+    ensures { IsTrue result ↔ HasFormulaAt pool.now.formulas place.now
+        (cell_formula_index cell.now) }
 {
     match cell.get_formula() {
         None => true,
@@ -36,8 +39,8 @@ fn has_formula_at(pool: &[Formula], place: &(i32, i32), cell: &Cell) -> bool
 }
 
 /// Whether a formula is at an index, from 0, and each of its references lies in the sheet, in the cell at a place.
-fn has_formula(pool: &[Formula], index: usize, place: &(i32, i32)) -> bool
-    ensures { IsTrue result ↔ HasFormulaAt pool.now place.now (Some index) }
+fn has_formula(pool: &Pool, index: usize, place: &(i32, i32)) -> bool
+    ensures { IsTrue result ↔ HasFormulaAt pool.now.formulas place.now (Some index) }
 {
     match pool.get(index) {
         Some(formula) => is_formula_inside(formula, place),
@@ -45,14 +48,7 @@ fn has_formula(pool: &[Formula], index: usize, place: &(i32, i32)) -> bool
     }
 }
 
-/// Whether each reference of a formula lies in the sheet, in the cell at a row and a column, which may lie outside.
-pub(crate) fn refers_inside(formula: &Formula, row: i32, column: i32) -> bool
-    ensures { IsTrue result ↔ RefersInside row column formula.now }
-{
-    is_formula_inside(formula, &(row, column))
-}
-
-/// The same of the cell at a place.
+/// Whether each reference of a formula lies in the sheet, in the cell at a place, which may lie outside.
 fn is_formula_inside(formula: &Formula, place: &(i32, i32)) -> bool
     ensures { IsTrue result ↔ RefersInside place.now.0 place.now.1 formula.now }
 {

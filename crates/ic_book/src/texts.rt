@@ -7,12 +7,11 @@ ghost use Rattle.ic_laws.specs.declared.tree.Formula.TheVariants as formulas;
 ghost use Rattle.ic_tree.specs.LanguageWords.{function_of};
 ghost use Rattle.ic_tree.specs.Notations.{in_english};
 ghost use Rattle.ic_book.specs.HandedIn.{formula_of, formula_read, if_own};
-ghost use Rattle.ic_book.specs.Texts.{AreRead, body_formula_in, record_body_in, sheet_formula_in, signed_body_in};
+ghost use Rattle.ic_book.specs.Texts.{AreRead, body_formula_in, sheet_formula_in};
 ghost use Rattle.ic_book.specs.Workbook.{text_in};
 
 use crate::definitions::past_equals;
 use crate::workbook::text_in;
-use ic_cells::DefinedName;
 use ic_laws::scan::first_char;
 use ic_laws::{Dialect, Finder, Formula, OutOfMemory, Text};
 use ic_tables::{Language, Tables};
@@ -39,50 +38,6 @@ pub(crate) fn sheet_formulas<N: Finder>(
         }
     }
     Ok(Some(formulas))
-}
-
-/// The bodies of definitions, by their texts. None exactly where some text isn't the text of what it reads as.
-pub(crate) fn bodies<N: Finder>(
-    alloc: Global,
-    tables: &Tables,
-    names: &N,
-    definitions: &[DefinedName],
-) -> Result<Option<Vec<Formula>>, OutOfMemory>
-    ensures { IfOk result (λ made. AreRead (record_body_in tables.now (N.scene names.now))
-        definitions.now (option_map (λ formulas. formulas.items) made)) }
-{
-    let mut formulas = Vec::new(alloc);
-    for definition in definitions {
-        match body_formula(
-            alloc,
-            tables,
-            names,
-            definition.sheet_id,
-            definition.formula.as_str(),
-        )? {
-            Some(body) => formulas.push(body)?,
-            None => return Ok(None),
-        }
-    }
-    Ok(Some(formulas))
-}
-
-/// Whether the body of a definition stands after an equals sign, and the body.
-pub(crate) fn signed_body<N: Finder>(
-    alloc: Global,
-    tables: &Tables,
-    names: &N,
-    definition: &DefinedName,
-) -> Result<Option<(bool, Formula)>, OutOfMemory>
-    ensures { IfOk result (λ body. body ≡ signed_body_in tables.now (N.scene names.now)
-        definition.now) }
-{
-    let text = definition.formula.as_str();
-    let (has_equals, _) = past_equals(text);
-    match body_formula(alloc, tables, names, definition.sheet_id, text)? {
-        Some(body) => Ok(Some((has_equals, body))),
-        None => Ok(None),
-    }
 }
 
 /// A formula of the sheet with this id, by its text in the stored form.

@@ -8,7 +8,7 @@ use jiff::Timestamp;
 
 /// The book of the last `new_empty`, over the tables.
 pub struct Books<'t> {
-    tables: &'t Tables,
+    pub tables: &'t Tables,
     pub book: Option<Model<'t>>,
 }
 

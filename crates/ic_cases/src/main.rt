@@ -15,6 +15,7 @@ mod books;
 mod broken;
 mod errors;
 mod formulas;
+mod handed_in;
 mod keeps;
 mod lookups;
 mod pools;

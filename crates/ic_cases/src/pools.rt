@@ -5,6 +5,7 @@ ghost use Rattle.ic_laws.specs.ValidCore.{IsPooled};
 ghost use Rattle.ic_book.specs.Book.{notations_in, scene_in};
 
 use crate::books::{Books, put_book_error};
+use crate::handed_in::put_handed_in;
 use crate::row::Row;
 use crate::scenes::put_stored;
 use crate::workbooks::put_workbook;
@@ -23,6 +24,7 @@ pub fn call(row: &mut Row<'_>, books: &mut Books<'_>) {
             None => row.bad(),
         },
         "workbook" => put_workbook(row, books),
+        "handed_in" => put_handed_in(row, books),
         _ => {}
     }
 }

@@ -1,6 +1,7 @@
 use Rattle.ic_book.proofs.AcceptedWorkbook.{accepted_valid}
 use Rattle.ic_book.proofs.SameTexts.{texts_again}
+use Rattle.ic_book.proofs.TakenAgain.{only_memory}
 use Rattle.ic_book.proofs.law.law_handed_in.Goals as goal
 
 pub returns : goal.returns
-returns c = record { valid = accepted_valid; again = texts_again }
+returns c = record { valid = accepted_valid; again = texts_again; only_memory = only_memory }

@@ -5,4 +5,4 @@ use Rattle.ic_book.proofs.referring.has_formulas.Given as goal
 
 -- it depends on the cells that are left
 abbrev pub invariant-loop-place : goal.invariant-loop-place
-invariant-loop-place l = HasCellFormulas l.pool l.cells ↔ HasEntries l.pool l.place-iterator
+invariant-loop-place l = HasCellFormulas l.pool.formulas l.cells ↔ HasEntries l.pool.formulas l.place-iterator
