@@ -36,6 +36,37 @@ def different(count):
         yield put(i, text)
 
 
+def all_shown(count):
+    """Each of these formulas once."""
+    for i in range(1, count + 1):
+        yield f"get_cell_formula\t0\t{i % ROWS + 1}\t{i // ROWS + 1}"
+
+
+def thousand_sheets(each):
+    """Different formulas in 1,000 sheets, so many in each."""
+    yield from (f"add_sheet\tPart {n}" for n in range(1, 1_000))
+    for i, text in enumerate(formulas(1_000 * each)):
+        yield f"update_cell_with_formula\t{i % 1_000}\t{i // 1_000 + 1}\t1\t={text}"
+
+
+def thousand_shown(each):
+    for i in range(1_000 * each):
+        yield f"get_cell_formula\t{i % 1_000}\t{i // 1_000 + 1}\t1"
+
+
+def texts_written(count):
+    """As many texts, each another one."""
+    for i in range(1, count + 1):
+        yield f"update_cell_with_text\t0\t{i % ROWS + 1}\t{i // ROWS + 1}\tA text of some length, {i}"
+
+
+def rows_of(lines):
+    """Rows that answer lines over a new book."""
+    yield "new_empty\ten\ten\tUTC"
+    for line in lines:
+        yield "line\t" + line.replace("\\", "\\\\").replace("\t", "\\t")
+
+
 def found(count):
     """The same in a book that has all their sheets."""
     yield from sheets_named("Data", "Budget", "Next", "My data")
