@@ -3,11 +3,11 @@ ghost use Rattle.std.specs.Prelude.{◌≡◌};
 use ic_grid::GridError;
 use ic_laws::OutOfMemory;
 use std::alloc::AllocFailed;
+use std::fmt;
 use thiserror::Error;
 
 /// Why a call of the workbook was refused.
 #[derive(Debug, Drop, Error)]
-#[error("{}", self.text())]
 pub enum BookError {
     /// A line that is no command. Only a reply tells it.
     BadLine,
@@ -116,6 +116,12 @@ impl BookError {
             BookError::BadWorkbook(_) => "Invalid workbook",
             BookError::OutOfMemory => "Out of memory",
         }
+    }
+}
+
+impl fmt::Display for BookError {
+    fn fmt<W: fmt::Write>(&self, f: &mut fmt::Formatter<W>) -> fmt::Result {
+        f.write_str(self.text())
     }
 }
 
