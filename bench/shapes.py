@@ -193,55 +193,6 @@ def shown_of_sheets(count):
     yield put(1, f"T{count}!$A$1+T{count // 2}!$A$1")
 
 
-def row_of(*parts):
-    """The row of ic_cases that makes calls on the cells of one sheet, which stand in lists."""
-    return "\t".join(["Grid::answers", *(call for part in parts for call in part)])
-
-
-def writes(count, columns=100, first=1):
-    """Writes into the rows of so many columns from one on, by rows."""
-    return [f"write\t{i // columns + 1}\t{i % columns + first}\tboolean\t0\t-" for i in range(count)]
-
-
-def merges(count):
-    """Merged cells, 2 by 2, to the right of what is written."""
-    return [f"merge\t{i * 2 + 1}\t1000\t2\t2\t-" for i in range(count)]
-
-
-def asked(calls):
-    """As many calls that find no formula, the words of a spill's values among them."""
-    return [call if call.startswith("spill") else "write_value\t1\t1\tu\t-\t-" for call in calls]
-
-
-def spills(count, parts):
-    """Arrays of 10 by 10: each is written and gets its values, gets others, and is cleared, as far as the parts say."""
-    values = ["|".join(f"n:{k + start}" for k in range(100)) for start in (0, 500)]
-    for i in range(count):
-        row, column = i // 10 * 10 + 1, i % 10 * 10 + 1
-        yield f"write\t{row}\t{column}\tdynamic\t0\t-"
-        for values_now in values[: min(parts, 2)]:
-            yield f"spill\t{row}\t{column}\t10\t10\t{values_now}"
-        if parts > 2:
-            yield f"clear\t{row}\t{column}\t10\t10\ttrue"
-
-
-def arrays(count):
-    """Cse arrays of 10 by 10, each cleared at once, since the row looks at the styles of all cells before it writes one."""
-    for i in range(count):
-        place = f"{i // 10 * 10 + 1}\t{i % 10 * 10 + 1}\t10\t10"
-        yield f"write_array\t{place}\t0"
-        yield f"clear\t{place}\ttrue"
-
-
-def cleared(count):
-    """The whole sheet, whose cells stay as empty ones."""
-    return ["clear\t1\t1\t16384\t1048576\tfalse"] * count
-
-
-def column_cleared(column, count):
-    return [f"clear\t1\t{column}\t1\t1048576\tfalse"] * count
-
-
 def cell(i):
     """The words of the cell of number i of the first sheet, each another."""
     return f"0\t{i % ROWS + 1}\t{i // ROWS + 1}"

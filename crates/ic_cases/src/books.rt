@@ -1,6 +1,7 @@
 //! Books: `new_empty` begins one, and the command lines after it act on it.
 use crate::row::Row;
 use ic_book::{BookError, Model};
+use ic_cells::SpillValue;
 use ic_commands::answer_line;
 use ic_lines::Line;
 use ic_tables::Tables;
@@ -29,13 +30,18 @@ impl<'t> Books<'t> {
 /// `new_empty`, a locale, a language and a zone; the book is made at the Unix epoch, or so many seconds after it as a
 /// fifth word says. `created`: when it was made. `line` and a command line: the reply as it is. `long_line`, a front, a
 /// piece, how often it stands, and a back: the reply to the line that they make. `long_reply`, a command line and then
-/// the same four: whether the reply is the text that they make.
+/// the same four: whether the reply is the text that they make. `blocking`, a sheet, a row, a column, a width, a height
+/// and a count: the place that blocks a spill of so many values there, or `none`, and then they are put.
 pub fn call(row: &mut Row<'_>, books: &mut Books<'_>) {
     match row.name {
         "line" => put_reply(row, books, row.word(1)),
         "new_empty" => begin(row, books),
         "created" => match &books.book {
             Some(model) => row.put_text(model.created().as_str()),
+            None => row.bad(),
+        },
+        "blocking" => match &mut books.book {
+            Some(model) => put_blocking(row, model),
             None => row.bad(),
         },
         "long_line" => {
@@ -52,9 +58,25 @@ pub fn call(row: &mut Row<'_>, books: &mut Books<'_>) {
     }
 }
 
-/// An error of the book: its variant and its text.
+/// An error of the book: its variant and its text, or the condition that a workbook doesn't meet.
 pub fn put_book_error(row: &mut Row<'_>, e: &BookError) {
-    row.put_error(e.name(), e.to_string(row.alloc));
+    if let BookError::BadWorkbook(number) = e {
+        row.put("condition\t");
+        row.put_number(i128::from(*number));
+    } else {
+        row.put_error(e.name(), e.to_string(row.alloc));
+    }
+}
+
+/// The book from now on, or why there is none.
+pub fn take_book<'t>(row: &mut Row<'_>, books: &mut Books<'t>, made: Result<Model<'t>, BookError>) {
+    match made {
+        Ok(model) => {
+            books.book = Some(model);
+            row.put("ok");
+        }
+        Err(e) => put_book_error(row, &e),
+    }
 }
 
 fn begin(row: &mut Row<'_>, books: &mut Books<'_>) {
@@ -72,7 +94,7 @@ fn begin(row: &mut Row<'_>, books: &mut Books<'_>) {
 /// Begins a book in a locale, a language and a zone.
 fn begin_at(row: &mut Row<'_>, books: &mut Books<'_>, moment: Timestamp) {
     let (locale, language, zone) = (row.word(1), row.word(2), row.word(3));
-    match Model::new_empty(
+    let made = Model::new_empty(
         row.alloc,
         "book",
         locale,
@@ -80,13 +102,8 @@ fn begin_at(row: &mut Row<'_>, books: &mut Books<'_>, moment: Timestamp) {
         language,
         books.tables,
         moment,
-    ) {
-        Ok(model) => {
-            books.book = Some(model);
-            row.put("ok");
-        }
-        Err(e) => put_book_error(row, &e),
-    }
+    );
+    take_book(row, books, made);
 }
 
 /// The reply to a command line, if there is a book, it is a line and there is memory.
@@ -110,15 +127,11 @@ fn put_reply(row: &mut Row<'_>, books: &mut Books<'_>, text: &str) {
 /// A front, a piece as often as a row says, and a back, which stand at the front of the row.
 fn long_text(row: &mut Row<'_>) -> String {
     let count = row.size(2);
-    let mut text = String::new(row.alloc);
-    let mut all = text.push_str(row.word(0)).is_ok();
+    let mut text = row.string(row.word(0));
     for _ in 0..count {
-        all = text.push_str(row.word(1)).is_ok() && all;
+        row.done(text.push_str(row.word(1)).is_ok());
     }
-    all = text.push_str(row.word(3)).is_ok() && all;
-    if !all {
-        row.bad();
-    }
+    row.done(text.push_str(row.word(3)).is_ok());
     text
 }
 
@@ -129,4 +142,27 @@ fn put_compared(row: &mut Row<'_>, books: &mut Books<'_>, line: &str) {
         Some(reply) => row.put_bool(reply.text().is(text.as_str())),
         None => row.bad(),
     }
+}
+
+fn put_blocking(row: &mut Row<'_>, model: &mut Model<'_>) {
+    let (sheet, line, column) = (row.index(1), row.int(2), row.int(3));
+    let (width, height) = (row.int(4), row.int(5));
+    let values = truths(row, 6);
+    match model.put_spill(sheet, line, column, width, height, values) {
+        Ok(()) => row.none(),
+        Err(BookError::SpillBlocked { row: line, column }) => {
+            row.put_number(i128::from(line));
+            row.put_field(column);
+        }
+        Err(e) => put_book_error(row, &e),
+    }
+}
+
+/// As many values as a row says.
+fn truths(row: &mut Row<'_>, at: usize) -> Vec<SpillValue> {
+    let mut values = Vec::new(row.alloc);
+    for _ in 0..row.size(at) {
+        row.done(values.push(SpillValue::Boolean(true)).is_ok());
+    }
+    values
 }

@@ -2,6 +2,53 @@
 use crate::row::Row;
 use ic_laws::{Items, Text};
 use ic_tables::{FunctionKind, Language, LocaleWords, NamedLocale, Tables, TablesError};
+use std::alloc::Global;
+
+/// What tables are made of.
+struct Given {
+    languages: Items<Language>,
+    locales: Items<NamedLocale>,
+    zones: Items<Text>,
+    kinds: Items<FunctionKind>,
+}
+
+impl Drop for Given {
+    fn drop(self) {
+        let Self {
+            languages,
+            locales,
+            zones,
+            kinds,
+        } = self;
+        drop(languages);
+        drop(locales);
+        drop(zones);
+        drop(kinds);
+    }
+}
+
+impl Given {
+    /// Nothing yet.
+    fn new(alloc: Global) -> Given {
+        Given {
+            languages: Items::from(Vec::new(alloc)),
+            locales: Items::from(Vec::new(alloc)),
+            zones: Items::from(Vec::new(alloc)),
+            kinds: Items::from(Vec::new(alloc)),
+        }
+    }
+
+    /// The tables that it makes.
+    fn into_tables(self, alloc: Global) -> Result<Tables, TablesError> {
+        let Given {
+            languages,
+            locales,
+            zones,
+            kinds,
+        } = self;
+        Tables::new(alloc, languages, locales, zones, kinds)
+    }
+}
 
 /// `tables` and a name, and then what the tables have: each `language` with its code, its booleans, its errors and its
 /// functions, each `locale` with its id, its separators for decimals, groups and lists, its currency's code, sign and
@@ -10,59 +57,80 @@ use ic_tables::{FunctionKind, Language, LocaleWords, NamedLocale, Tables, Tables
 pub fn call(row: &mut Row<'_>) {
     if row.name == "tables" {
         row.skip(2);
-        let languages = languages(row);
-        let locales = locales(row);
-        let zones = zones(row);
-        let kinds = kinds(row);
-        match Tables::new(row.alloc, languages, locales, zones, kinds) {
-            Ok(_) => row.none(),
-            Err(TablesError::BadTables(n)) => row.put_number(i128::from(n)),
-            Err(TablesError::OutOfMemory) => row.bad(),
-        }
+        put_broken(row);
     }
 }
 
-fn languages(row: &mut Row<'_>) -> Items<Language> {
-    let mut languages = Vec::new(row.alloc);
+fn put_broken(row: &mut Row<'_>) {
+    let given = gather(row);
+    put_condition(row, &given.into_tables(row.alloc));
+}
+
+/// The condition that these tables fail first.
+fn put_condition(row: &mut Row<'_>, tables: &Result<Tables, TablesError>) {
+    match tables {
+        Ok(_) => row.none(),
+        Err(TablesError::BadTables(n)) => row.put_number(i128::from(*n)),
+        Err(TablesError::OutOfMemory) => row.bad(),
+    }
+}
+
+/// All that a row gives.
+fn gather(row: &mut Row<'_>) -> Given {
+    let mut given = Given::new(row.alloc);
     for _ in 0..row.words.len() {
-        if row.word(0) != "language" {
+        if row.words.is_empty() {
             break;
         }
-        add_language(row, &mut languages);
-        row.skip(5);
+        let count = add(row, &mut given);
+        row.skip(count);
     }
-    Items::from(languages)
+    given
+}
+
+/// Adds what stands at the front of a row, and answers how many words it takes.
+fn add(row: &mut Row<'_>, given: &mut Given) -> usize {
+    match row.word(0) {
+        "language" => {
+            add_language(row, &mut given.languages);
+            5
+        }
+        "locale" => {
+            add_locale(row, &mut given.locales);
+            10
+        }
+        "zone" => {
+            let zone = row.text(row.word(1));
+            row.done(given.zones.push(zone).is_ok());
+            2
+        }
+        _ => {
+            row.done(given.kinds.push(FunctionKind::Each).is_ok());
+            1
+        }
+    }
 }
 
 /// Adds a language, where its words are as many as it takes.
-fn add_language(row: &mut Row<'_>, languages: &mut Vec<Language>) {
+fn add_language(row: &mut Row<'_>, languages: &mut Items<Language>) {
     let (code, booleans) = (row.word(1), row.word(2));
     let (errors, functions) = (row.word(3), row.word(4));
     match Language::from_words(row.alloc, code, "name", booleans, errors, functions) {
-        Ok(Some(language)) => {
-            if languages.push(language).is_err() {
-                row.bad();
-            }
-        }
+        Ok(Some(language)) => row.done(languages.push(language).is_ok()),
         Ok(None) => {}
         Err(_) => row.bad(),
     }
 }
 
-fn locales(row: &mut Row<'_>) -> Items<NamedLocale> {
-    let mut locales = Vec::new(row.alloc);
-    for _ in 0..row.words.len() {
-        if row.word(0) != "locale" {
-            break;
-        }
-        add_locale(row, &mut locales);
-        row.skip(10);
+fn add_locale(row: &mut Row<'_>, locales: &mut Items<NamedLocale>) {
+    match NamedLocale::from_words(row.alloc, &locale_words(row)) {
+        Ok(locale) => row.done(locales.push(locale).is_ok()),
+        Err(_) => row.bad(),
     }
-    Items::from(locales)
 }
 
-fn add_locale(row: &mut Row<'_>, locales: &mut Vec<NamedLocale>) {
-    let words = LocaleWords {
+fn locale_words<'w>(row: &Row<'w>) -> LocaleWords<'w> {
+    LocaleWords {
         id: row.word(1),
         decimal: row.word(2),
         group: row.word(3),
@@ -72,39 +140,5 @@ fn add_locale(row: &mut Row<'_>, locales: &mut Vec<NamedLocale>) {
         money: row.word(7),
         short_date: row.word(8),
         long_date: row.word(9),
-    };
-    match NamedLocale::from_words(row.alloc, &words) {
-        Ok(locale) => {
-            if locales.push(locale).is_err() {
-                row.bad();
-            }
-        }
-        Err(_) => row.bad(),
     }
-}
-
-fn zones(row: &mut Row<'_>) -> Items<Text> {
-    let mut zones = Vec::new(row.alloc);
-    for _ in 0..row.words.len() {
-        if row.word(0) != "zone" {
-            break;
-        }
-        let zone = row.text(row.word(1));
-        if zones.push(zone).is_err() {
-            row.bad();
-        }
-        row.skip(2);
-    }
-    Items::from(zones)
-}
-
-/// A kind for each word that is left.
-fn kinds(row: &mut Row<'_>) -> Items<FunctionKind> {
-    let mut kinds = Vec::new(row.alloc);
-    for _ in 0..row.words.len() {
-        if kinds.push(FunctionKind::Each).is_err() {
-            row.bad();
-        }
-    }
-    Items::from(kinds)
 }

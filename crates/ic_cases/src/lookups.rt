@@ -1,20 +1,15 @@
 //! Look-ups in the sample tables.
 use crate::row::Row;
 use ic_laws::{OutOfMemory, Text, WordKind};
-use ic_tables::{BookIdError, FunctionKind, Language, Locale, Words, find_word, word};
+use ic_tables::{BookIdError, FunctionKind, Locale, Words, find_word, word};
 
 /// Answers the call, if it is one of these.
 pub fn call(row: &mut Row<'_>) {
     match row.name {
-        "find_word" => match row.tables.get_words(row.word(1)) {
-            Ok(words) => put_found(row, &words),
-            Err(e) => put_id_error(row, e),
-        },
+        "find_word" => put_word(row),
         "function_kind" => put_kind(row),
-        "get_language" => put_language(row, row.tables.get_language(row.word(1))),
-        "get_default_language" => put_language(row, Ok(row.tables.get_default_language())),
-        "get_locale" => put_locale(row, row.tables.get_locale(row.word(1))),
-        "get_default_locale" => put_locale(row, Ok(row.tables.get_default_locale())),
+        "get_language" => put_language(row),
+        "get_locale" => put_locale(row),
         "get_supported_locales" => put_strings(row, row.tables.get_supported_locales()),
         "get_all_timezones" => put_strings(row, row.tables.get_all_timezones()),
         _ => {}
@@ -30,27 +25,31 @@ fn put_id_error(row: &mut Row<'_>, e: BookIdError) {
     row.put_error(name, e.to_string(row.alloc));
 }
 
-/// The number of a word, by the order of the language's words, and the word of this number; the plain search has to
-/// agree.
-fn put_found(row: &mut Row<'_>, words: &Words<'_>) {
-    let kind = match row.word(2) {
+fn put_word(row: &mut Row<'_>) {
+    match row.tables.get_words(row.word(1)) {
+        Ok(words) => put_found(row, &words, kind(row.word(2)), row.word(3)),
+        Err(e) => put_id_error(row, e),
+    }
+}
+
+fn kind(name: &str) -> WordKind {
+    match name {
         "boolean" => WordKind::Boolean,
         "error" => WordKind::Error,
         _ => WordKind::Function,
-    };
-    let text = row.word(3);
-    let found = words.find(kind, text);
-    if found != find_word(words.language, kind, text) {
-        row.bad();
     }
+}
+
+/// The number of a word, by the order of the language's words, and the word of this number; the plain search has to
+/// agree.
+fn put_found(row: &mut Row<'_>, words: &Words<'_>, kind: WordKind, text: &str) {
+    let found = words.find(kind, text);
+    row.done(found == find_word(words.language, kind, text));
     match found {
         Some(n) => {
             row.put_number(n as i128);
             row.tab();
-            row.put_text(match word(words.language, kind, n) {
-                Some(text) => text,
-                None => "",
-            });
+            row.put_text(word(words.language, kind, n).unwrap_or(""));
         }
         None => row.none(),
     }
@@ -66,48 +65,50 @@ fn put_kind(row: &mut Row<'_>) {
     });
 }
 
-fn put_language(row: &mut Row<'_>, language: Result<&Language, BookIdError>) {
-    match language {
+fn put_language(row: &mut Row<'_>) {
+    match row.tables.get_language(row.word(1)) {
         Ok(language) => row.put_text(language.name.as_str()),
         Err(e) => put_id_error(row, e),
     }
 }
 
-/// Its separators, its currency and its formats, and the signs that all locales share.
-fn put_locale(row: &mut Row<'_>, locale: Result<&Locale, BookIdError>) {
-    match locale {
-        Ok(locale) => {
-            let symbols = &locale.numbers.symbols;
-            put_texts(
-                row,
-                &[
-                    &symbols.decimal,
-                    &symbols.group,
-                    &symbols.list,
-                    &locale.currency.iso,
-                    &locale.currency.symbol,
-                    &locale.numbers.currency_formats.standard,
-                    &locale.dates.date_formats.short,
-                    &locale.dates.date_formats.long,
-                    &symbols.percent_sign,
-                    &symbols.plus_sign,
-                    &symbols.minus_sign,
-                    &symbols.approximately_sign,
-                    &symbols.exponential,
-                    &symbols.superscripting_exponent,
-                    &symbols.per_mille,
-                    &symbols.infinity,
-                    &symbols.nan,
-                    &symbols.time_separator,
-                ],
-            );
-        }
+fn put_locale(row: &mut Row<'_>) {
+    match row.tables.get_locale(row.word(1)) {
+        Ok(locale) => put_signs(row, locale),
         Err(e) => put_id_error(row, e),
     }
 }
 
+/// Its separators, its currency and its formats, and the signs that all locales share.
+fn put_signs(row: &mut Row<'_>, locale: &Locale) {
+    let symbols = &locale.numbers.symbols;
+    put_each(
+        row,
+        &[
+            &symbols.decimal,
+            &symbols.group,
+            &symbols.list,
+            &locale.currency.iso,
+            &locale.currency.symbol,
+            &locale.numbers.currency_formats.standard,
+            &locale.dates.date_formats.short,
+            &locale.dates.date_formats.long,
+            &symbols.percent_sign,
+            &symbols.plus_sign,
+            &symbols.minus_sign,
+            &symbols.approximately_sign,
+            &symbols.exponential,
+            &symbols.superscripting_exponent,
+            &symbols.per_mille,
+            &symbols.infinity,
+            &symbols.nan,
+            &symbols.time_separator,
+        ],
+    );
+}
+
 /// Texts, with a tab after each.
-fn put_texts(row: &mut Row<'_>, texts: &[&Text]) {
+pub fn put_each(row: &mut Row<'_>, texts: &[&Text]) {
     for text in texts {
         row.put_text(text.as_str());
         row.tab();

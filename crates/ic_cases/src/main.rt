@@ -23,14 +23,13 @@ mod references;
 mod row;
 mod runs;
 mod scenes;
-mod sheet;
 mod texts;
 mod values;
 mod workbooks;
 
 use books::Books;
 use ic_laws::Text;
-use ic_lines::{LineReader, RunError, StdSink, StdSource, unescape, write_all};
+use ic_lines::{Line, RunError, StdSink, StdSource, read_lines, unescape, write_all};
 use ic_tables::{Tables, sample_tables};
 use row::Row;
 use std::alloc::Global;
@@ -45,7 +44,6 @@ fn call(row: &mut Row<'_>, books: &mut Books<'_>) {
     scenes::call(row);
     keeps::call(row);
     values::call(row);
-    sheet::call(row);
     errors::call(row);
     broken::call(row);
     runs::call(row, books);
@@ -62,13 +60,7 @@ fn is_added(alloc: Global, word: &str, words: &mut Vec<Text>) -> bool {
 }
 
 /// Appends the answer to a line, as far as there is memory.
-fn answer(
-    alloc: Global,
-    tables: &Tables,
-    books: &mut Books<'_>,
-    line: &str,
-    out: &mut String,
-) -> bool {
+fn answer(alloc: Global, books: &mut Books<'_>, line: &str, out: &mut String) -> bool {
     if line.starts_with('#') {
         return out.push_str(line).is_ok();
     }
@@ -77,38 +69,32 @@ fn answer(
     for word in line.split('\t') {
         all = is_added(alloc, word, &mut words) && all;
     }
-    let mut row = Row::new(alloc, tables, words.as_slice());
+    let mut row = Row::new(alloc, books.tables, words.as_slice());
     if all {
         call(&mut row, books);
     }
     out.push_str(row.answer()).is_ok()
 }
 
-/// The bytes of answers that are gathered for one write.
-const GATHERED: usize = 60_000;
+/// The answers to all lines, as far as there is memory.
+fn answers(alloc: Global, tables: &Tables, lines: &[Line]) -> String {
+    let mut books = Books::new(tables);
+    let mut out = String::new(alloc);
+    for line in lines {
+        if !answer(alloc, &mut books, line.text().as_str(), &mut out) || out.push('\n').is_err() {
+            break;
+        }
+    }
+    out
+}
 
-/// Answers all lines.
+/// Answers all lines once they are read.
 fn serve(rt: &HostRuntime, tables: &Tables) -> Result<(), RunError> {
     let alloc = rt.alloc();
     let mut source = StdSource::new(rt.reader());
+    let lines = read_lines(alloc, &mut source)?;
+    let out = answers(alloc, tables, lines.as_slice());
     let mut sink = StdSink::new(rt.stdout());
-    let mut reader = LineReader::new(alloc);
-    let mut books = Books::new(tables);
-    let mut out = String::new(alloc);
-    for _ in 0..u64::MAX {
-        let Some(line) = reader.next_line(&mut source)? else {
-            break;
-        };
-        if !answer(alloc, tables, &mut books, line.text().as_str(), &mut out)
-            || out.push('\n').is_err()
-        {
-            return Err(RunError::OutOfMemory);
-        }
-        if out.len() > GATHERED {
-            write_all(&mut sink, out.as_bytes())?;
-            out.clear();
-        }
-    }
     write_all(&mut sink, out.as_bytes())
 }
 

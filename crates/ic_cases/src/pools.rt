@@ -7,10 +7,10 @@ ghost use Rattle.ic_book.specs.Book.{notations_in, scene_in};
 use crate::books::{Books, put_book_error};
 use crate::handed_in::put_handed_in;
 use crate::row::Row;
-use crate::scenes::put_stored;
+use crate::scenes::{empty_scene, put_stored};
 use crate::workbooks::put_workbook;
 use ic_book::{BookError, Model, Steps};
-use ic_laws::{Formula, Items, Scene};
+use ic_laws::Formula;
 use std::marker::Brand;
 use std::sync::ledger::{Blank, Ledger};
 
@@ -43,12 +43,8 @@ fn put_formula(row: &mut Row<'_>, formula: Option<&Formula>) {
     match formula {
         None => row.none(),
         Some(Formula::Tree(tree)) => {
-            let scene = Scene {
-                sheets: Items::from(Vec::new(row.alloc)),
-                names: Items::from(Vec::new(row.alloc)),
-            };
             row.put("tree\t");
-            put_stored(row, &scene, tree);
+            put_stored(row, &empty_scene(row.alloc), tree);
         }
         Some(Formula::Raw(text)) => {
             row.put("raw\t");

@@ -2,7 +2,7 @@
 //! after a quote, then `cell` with a row and a column, or `range` with those of two corners. An absolute row or column has
 //! a `$` before its number, a relative one is the distance.
 use crate::row::Row;
-use ic_laws::{OutOfMemory, Place, Position, RefToken};
+use ic_laws::{OutOfMemory, Place, Position, RefPart, RefToken, Text};
 use ic_refs::{
     CellReferenceIndex, ParsedReference, ReferenceError, is_valid_column_number, is_valid_row,
     parse_reference_a1, read_a1, read_rc,
@@ -14,18 +14,20 @@ pub fn call(row: &mut Row<'_>) {
         "parse_reference_a1" => put_a1(row),
         "parse_reference_formula" => parse_formula(row),
         "parse_r1c1_reference" => parse_r1c1(row),
-        "read_a1" => {
-            let number = row.int(1);
-            let column = row.int(2);
-            let at = row.size(3);
-            put_found(row, read_a1(row.alloc, row.word(4), at, number, column));
-        }
-        "read_rc" => {
-            let at = row.size(1);
-            put_found(row, read_rc(row.alloc, row.word(2), at));
-        }
+        "read_a1" => put_read_a1(row),
+        "read_rc" => put_read_rc(row),
         _ => {}
     }
+}
+
+fn put_read_a1(row: &mut Row<'_>) {
+    let (number, column, at) = (row.int(1), row.int(2), row.size(3));
+    put_found(row, read_a1(row.alloc, row.word(4), at, number, column));
+}
+
+fn put_read_rc(row: &mut Row<'_>) {
+    let at = row.size(1);
+    put_found(row, read_rc(row.alloc, row.word(2), at));
 }
 
 /// The sheets that rows on whole references know, by index.
@@ -42,13 +44,18 @@ fn sheet_index(name: &str) -> Option<u32> {
 fn put_a1(row: &mut Row<'_>) {
     match parse_reference_a1(row.word(1)) {
         Some(cell) => {
-            row.put(if cell.absolute_row { "$" } else { "" });
-            row.put_number(i128::from(cell.row));
-            row.put(if cell.absolute_column { "\t$" } else { "\t" });
-            row.put_number(i128::from(cell.column));
+            put_marked(row, cell.absolute_row, cell.row);
+            row.tab();
+            put_marked(row, cell.absolute_column, cell.column);
         }
         None => row.none(),
     }
+}
+
+/// A row or a column, with a `$` before it where it is absolute.
+fn put_marked(row: &mut Row<'_>, absolute: bool, n: i32) {
+    row.put(if absolute { "$" } else { "" });
+    row.put_number(i128::from(n));
 }
 
 fn parse_formula(row: &mut Row<'_>) {
@@ -138,35 +145,42 @@ fn put_found(row: &mut Row<'_>, found: Result<Option<(RefToken, usize)>, OutOfMe
 
 /// The fields of a reference: its sheet and its place.
 pub fn put_token(row: &mut Row<'_>, token: &RefToken) {
-    match &token.sheet {
+    put_sheet(row, &token.sheet);
+    put_place(row, &token.place);
+}
+
+/// The name of a sheet, if there is one.
+fn put_sheet(row: &mut Row<'_>, sheet: &Option<Text>) {
+    match sheet {
         None => row.put("-"),
         Some(name) => {
             row.put("'");
             row.put_text(name.as_str());
         }
     }
-    match token.place {
-        Place::Cell(part) => {
-            row.put("\tcell");
-            put_position(row, part.row);
-            put_position(row, part.column);
-        }
+}
+
+fn put_place(row: &mut Row<'_>, place: &Place) {
+    match place {
+        Place::Cell(part) => put_part(row, "\tcell", part),
         Place::Range(first, last) => {
-            row.put("\trange");
-            put_position(row, first.row);
-            put_position(row, first.column);
-            put_position(row, last.row);
-            put_position(row, last.column);
+            put_part(row, "\trange", first);
+            put_part(row, "", last);
         }
     }
 }
 
+/// The row and the column of a place, behind a text.
+fn put_part(row: &mut Row<'_>, front: &str, part: &RefPart) {
+    row.put(front);
+    put_position(row, part.row);
+    put_position(row, part.column);
+}
+
 fn put_position(row: &mut Row<'_>, position: Position) {
+    row.tab();
     match position {
-        Position::Abs(n) => {
-            row.put("\t$");
-            row.put_number(i128::from(n));
-        }
-        Position::Rel(k) => row.put_field(k),
+        Position::Abs(n) => put_marked(row, true, n),
+        Position::Rel(k) => put_marked(row, false, k),
     }
 }

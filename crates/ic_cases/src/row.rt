@@ -66,6 +66,13 @@ impl<'w> Row<'w> {
         self.failed = true;
     }
 
+    /// It fails unless this was done.
+    pub fn done(&mut self, done: bool) {
+        if !done {
+            self.bad();
+        }
+    }
+
     /// Leaves its first words out from here on.
     pub fn skip(&mut self, count: usize) {
         match self.words.get(count..) {
@@ -84,11 +91,16 @@ impl<'w> Row<'w> {
 
     /// A copy of a text.
     pub fn text(&mut self, text: &str) -> Text {
-        match Text::from_str(self.alloc, text) {
+        Text::from(self.string(text))
+    }
+
+    /// A copy of a text, to hand over.
+    pub fn string(&mut self, text: &str) -> String {
+        match String::from_str(self.alloc, text) {
             Ok(text) => text,
             Err(_) => {
                 self.bad();
-                Text::from(String::new(self.alloc))
+                String::new(self.alloc)
             }
         }
     }
@@ -180,6 +192,14 @@ impl<'w> Row<'w> {
         self.answered = true;
         if write!(self.out, "{n}").is_err() {
             self.bad();
+        }
+    }
+
+    /// The id of a sheet, or `none`.
+    pub fn put_scope(&mut self, scope: Option<u32>) {
+        match scope {
+            Some(id) => self.put_number(i128::from(id)),
+            None => self.none(),
         }
     }
 

@@ -30,14 +30,8 @@ fn words_in(row: &mut Row<'_>, text: &str) -> Vec<String> {
     let mut words = Vec::new(row.alloc);
     if !text.is_empty() {
         for word in text.split('|') {
-            match String::from_str(row.alloc, word) {
-                Ok(word) => {
-                    if words.push(word).is_err() {
-                        row.bad();
-                    }
-                }
-                Err(_) => row.bad(),
-            }
+            let word = row.string(word);
+            row.done(words.push(word).is_ok());
         }
     }
     words

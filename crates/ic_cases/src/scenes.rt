@@ -22,41 +22,40 @@ pub fn call(row: &mut Row<'_>) {
 
 /// The scene that stands in a row from a place on. A sheet and a name each stand after a word that says so.
 pub fn scene_in(row: &mut Row<'_>, from: usize, sheet: &str, name: &str) -> Scene {
-    let sheets = sheets_in(row, from, sheet);
-    let names = names_in(row, from, name);
-    Scene { sheets, names }
-}
-
-fn sheets_in(row: &mut Row<'_>, from: usize, kind: &str) -> Items<SheetName> {
-    let mut sheets = Vec::new(row.alloc);
+    let mut scene = empty_scene(row.alloc);
     for at in (from..row.words.len()).step_by(3) {
-        if row.word(at) == kind {
-            let sheet = SheetName {
-                id: row.index(at.saturating_add(1)),
-                name: row.text(row.word(at.saturating_add(2))),
-            };
-            if sheets.push(sheet).is_err() {
-                row.bad();
-            }
+        if row.word(at) == sheet {
+            add_sheet(row, at, &mut scene.sheets);
+        }
+        if row.word(at) == name {
+            add_name(row, at, &mut scene.names);
         }
     }
-    Items::from(sheets)
+    scene
 }
 
-fn names_in(row: &mut Row<'_>, from: usize, kind: &str) -> Items<DefinitionSpelling> {
-    let mut names = Vec::new(row.alloc);
-    for at in (from..row.words.len()).step_by(3) {
-        if row.word(at) == kind {
-            let name = DefinitionSpelling {
-                name: row.text(row.word(at.saturating_add(1))),
-                scope: row.scope(at.saturating_add(2)),
-            };
-            if names.push(name).is_err() {
-                row.bad();
-            }
-        }
+/// A scene without sheets and names.
+pub fn empty_scene(alloc: Global) -> Scene {
+    Scene {
+        sheets: Items::from(Vec::new(alloc)),
+        names: Items::from(Vec::new(alloc)),
     }
-    Items::from(names)
+}
+
+fn add_sheet(row: &mut Row<'_>, at: usize, sheets: &mut Items<SheetName>) {
+    let sheet = SheetName {
+        id: row.index(at.saturating_add(1)),
+        name: row.text(row.word(at.saturating_add(2))),
+    };
+    row.done(sheets.push(sheet).is_ok());
+}
+
+fn add_name(row: &mut Row<'_>, at: usize, names: &mut Items<DefinitionSpelling>) {
+    let name = DefinitionSpelling {
+        name: row.text(row.word(at.saturating_add(1))),
+        scope: row.scope(at.saturating_add(2)),
+    };
+    row.done(names.push(name).is_ok());
 }
 
 /// A text read and bound in a scene; None where it doesn't read.
@@ -109,10 +108,7 @@ pub fn put_mention(row: &mut Row<'_>, bound: &Bound) {
             row.put("name\t");
             row.put_text(key.name.as_str());
             row.tab();
-            match key.scope {
-                Some(id) => row.put_number(i128::from(id)),
-                None => row.none(),
-            }
+            row.put_scope(key.scope);
         }
         _ => row.none(),
     }

@@ -1,10 +1,12 @@
 //! What a book holds, by the records that it gives out.
 use crate::books::{Books, put_book_error};
+use crate::lookups::put_each;
 use crate::row::Row;
-use ic_cells::{ArrayKind, Cell, CellType, Workbook, Worksheet};
+use ic_cells::{ArrayKind, Cell, CellType, Merge, Workbook, Worksheet};
 use ic_laws::{Items, Text};
 
-/// `workbook` and what is asked: `cells` or `formulas` and the index of a sheet, `strings` or `names`.
+/// `workbook` and what is asked: `cells`, `formulas` or `merges` and the index of a sheet, `strings`, `names`, or `about`: its
+/// name, its theme, its locale, its zone and who made it, with what and when.
 pub fn put_workbook(row: &mut Row<'_>, books: &Books<'_>) {
     match &books.book {
         Some(model) => match model.workbook() {
@@ -19,6 +21,7 @@ fn put_records(row: &mut Row<'_>, workbook: &Workbook) {
     match row.word(1) {
         "strings" => put_texts(row, &workbook.shared_strings),
         "names" => put_names(row, workbook),
+        "about" => put_about(row, workbook),
         _ => {
             let sheet = row.size(2);
             match workbook.worksheets.as_slice().get(sheet) {
@@ -27,6 +30,25 @@ fn put_records(row: &mut Row<'_>, workbook: &Workbook) {
             }
         }
     }
+}
+
+fn put_about(row: &mut Row<'_>, workbook: &Workbook) {
+    let metadata = &workbook.metadata;
+    put_each(
+        row,
+        &[
+            &workbook.name,
+            &workbook.theme.name,
+            &workbook.settings.locale,
+            &workbook.settings.tz,
+            &metadata.application,
+            &metadata.app_version,
+            &metadata.creator,
+            &metadata.last_modified_by,
+            &metadata.created,
+            &metadata.last_modified,
+        ],
+    );
 }
 
 /// How many texts there are, and each of them.
@@ -45,25 +67,36 @@ fn put_names(row: &mut Row<'_>, workbook: &Workbook) {
         row.tab();
         row.put_text(name.name.as_str());
         row.tab();
-        match name.sheet_id {
-            Some(id) => row.put_number(i128::from(id)),
-            None => row.none(),
-        }
+        row.put_scope(name.sheet_id);
         row.tab();
         row.put_text(name.formula.as_str());
     }
 }
 
-/// The texts of its formulas, or its cells.
+/// The texts of its formulas, its merged cells, or its cells.
 fn put_sheet(row: &mut Row<'_>, workbook: &Workbook, sheet: &Worksheet) {
-    if row.word(1) == "formulas" {
-        put_texts(row, &sheet.shared_formulas);
-    } else {
-        row.put("");
-        for ((line, column), cell) in sheet.cells.as_map().iter() {
-            put_pair(row, "", *line, ",", *column);
-            put_cell(row, &workbook.shared_strings, cell);
-        }
+    match row.word(1) {
+        "formulas" => put_texts(row, &sheet.shared_formulas),
+        "merges" => put_merges(row, sheet.merged_cells.as_slice()),
+        _ => put_cells(row, workbook, sheet),
+    }
+}
+
+/// The first place of each, its width and its height.
+fn put_merges(row: &mut Row<'_>, merges: &[Merge]) {
+    row.put("");
+    for merge in merges {
+        put_pair(row, "", merge.row, ",", merge.column);
+        put_pair(row, ",", merge.width, "x", merge.height);
+        row.put(" ");
+    }
+}
+
+fn put_cells(row: &mut Row<'_>, workbook: &Workbook, sheet: &Worksheet) {
+    row.put("");
+    for ((line, column), cell) in sheet.cells.as_map().iter() {
+        put_pair(row, "", *line, ",", *column);
+        put_cell(row, &workbook.shared_strings, cell);
     }
 }
 
