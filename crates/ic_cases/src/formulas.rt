@@ -1,68 +1,57 @@
 //! Formulas: a text is read and its tree printed, in the stored form or as it is shown in a cell.
 use crate::references::put_token;
 use crate::row::Row;
-use ic_laws::{Dialect, OutOfMemory};
+use crate::scenes::put_bound;
+use ic_laws::{Dialect, Spelled};
 use ic_tables::{BookIdError, Tables};
 use ic_tree::{Shown, Stored, print, read, read_reference};
-use std::alloc::Global;
 
 /// `read_stored` and a text in the stored form. `read_shown`, a locale, a language, a row, a column and a text as it is
 /// shown there; `shown_to_stored` and `stored_to_shown` likewise, where the text is printed in the other form.
 /// `read_reference`, a locale, a language and a text: the reference that the whole text is, as it is shown in the first
-/// cell.
+/// cell. `bind`, a language, a locale, a scope or `none`, a text, and then a scene; the cell is in row 5 and column 3.
 pub fn call(row: &mut Row<'_>) {
     match row.name {
-        "read_stored" => {
-            let stored = Stored::new(row.tables);
-            put_canonical(row, read_again(row.alloc, &stored, row.word(1)));
-        }
-        "read_shown" | "shown_to_stored" | "stored_to_shown" => {
-            let number = row.int(3);
-            let column = row.int(4);
-            put_shown(row, number, column);
-        }
-        "read_reference" => put_shown(row, 1, 1),
+        "read_stored" => put_stored(row),
+        "read_shown" | "shown_to_stored" | "stored_to_shown" => put_at_cell(row),
+        "read_reference" => put_shown(row, row.word(1), row.word(2), 1, 1),
+        "bind" => put_shown(row, row.word(2), row.word(1), 5, 3),
         _ => {}
     }
 }
 
-/// A formula is read in the one form and printed in the other: its canonical text there, None where the text is no
-/// formula.
-fn canonical<A: Dialect, B: Dialect>(
-    alloc: Global,
-    from: &A,
-    to: &B,
-    text: &str,
-) -> Result<Option<String>, OutOfMemory> {
-    match read(alloc, from, text)? {
-        Some(tree) => Ok(Some(print(alloc, to, &tree)?)),
-        None => Ok(None),
-    }
-}
-
-/// The same in one form.
-fn read_again<D: Dialect>(
-    alloc: Global,
-    form: &D,
-    text: &str,
-) -> Result<Option<String>, OutOfMemory> {
-    canonical(alloc, form, form, text)
-}
-
-/// `=` and the canonical text, or `none`.
-fn put_canonical(row: &mut Row<'_>, text: Result<Option<String>, OutOfMemory>) {
-    match text {
-        Ok(Some(text)) => {
-            row.put("=");
-            row.put_text(text.as_str());
-        }
+/// A formula is read in the one form and printed in the other: `=` and its canonical text there, `none` where the text is
+/// no formula.
+fn put_canonical<A: Dialect, B: Dialect>(row: &mut Row<'_>, from: &A, to: &B, text: &str) {
+    match &read(row.alloc, from, text) {
+        Ok(Some(tree)) => put_printed(row, to, tree),
         Ok(None) => row.none(),
         Err(_) => row.bad(),
     }
 }
 
+/// The same in one form.
+fn put_again<D: Dialect>(row: &mut Row<'_>, form: &D, text: &str) {
+    put_canonical(row, form, form, text);
+}
+
+fn put_printed<D: Dialect>(row: &mut Row<'_>, to: &D, tree: &Spelled) {
+    row.put("=");
+    row.put_made(print(row.alloc, to, tree));
+}
+
+fn put_stored(row: &mut Row<'_>) {
+    let stored = Stored::new(row.tables);
+    put_again(row, &stored, row.word(1));
+}
+
+fn put_at_cell(row: &mut Row<'_>) {
+    let (number, column) = (row.int(3), row.int(4));
+    put_shown(row, row.word(1), row.word(2), number, column);
+}
+
 /// The shown form in a locale and a language of the tables, by their ids, at a cell.
-pub fn shown_at<'t>(
+fn shown_at<'t>(
     tables: &'t Tables,
     locale: &str,
     language: &str,
@@ -75,9 +64,9 @@ pub fn shown_at<'t>(
 }
 
 /// The call on a text that is shown at a cell.
-fn put_shown(row: &mut Row<'_>, number: i32, column: i32) {
-    match shown_at(row.tables, row.word(1), row.word(2), number, column) {
-        Ok(shown) => put_by(row, &shown),
+fn put_shown(row: &mut Row<'_>, locale: &str, language: &str, number: i32, column: i32) {
+    match &shown_at(row.tables, locale, language, number, column) {
+        Ok(shown) => put_by(row, shown),
         Err(_) => row.bad(),
     }
 }
@@ -86,13 +75,18 @@ fn put_by(row: &mut Row<'_>, shown: &Shown<'_>) {
     let stored = Stored::new(row.tables);
     let text = row.word(5);
     match row.name {
-        "read_shown" => put_canonical(row, read_again(row.alloc, shown, text)),
-        "shown_to_stored" => put_canonical(row, canonical(row.alloc, shown, &stored, text)),
-        "stored_to_shown" => put_canonical(row, canonical(row.alloc, &stored, shown, text)),
-        _ => match read_reference(row.alloc, shown, row.word(3)) {
-            Ok(Some(token)) => put_token(row, &token),
-            Ok(None) => row.none(),
-            Err(_) => row.bad(),
-        },
+        "read_shown" => put_again(row, shown, text),
+        "shown_to_stored" => put_canonical(row, shown, &stored, text),
+        "stored_to_shown" => put_canonical(row, &stored, shown, text),
+        "bind" => put_bound(row, shown),
+        _ => put_reference(row, shown),
+    }
+}
+
+fn put_reference(row: &mut Row<'_>, shown: &Shown<'_>) {
+    match &read_reference(row.alloc, shown, row.word(3)) {
+        Ok(Some(token)) => put_token(row, token),
+        Ok(None) => row.none(),
+        Err(_) => row.bad(),
     }
 }

@@ -2,7 +2,7 @@
 use crate::row::Row;
 use crate::scenes::{bound_in, put_mention, put_stored, scene_in};
 use ic_keep::{KeyChange, keep_formula};
-use ic_laws::{Formula, NameKey, OutOfMemory, Scene};
+use ic_laws::{Formula, NameKey, Scene};
 use ic_tree::Stored;
 
 /// `keep_formula`, a scope or `none`, a text in the stored form, and then both scenes: before the change `sheet` and
@@ -14,16 +14,18 @@ pub fn call(row: &mut Row<'_>) {
             row.skip(1);
             put_kept(row, None);
         }
-        "keep_updated" => {
-            let change = KeyChange {
-                old: key_in(row, 1),
-                new: key_in(row, 3),
-            };
-            row.skip(5);
-            put_kept(row, Some(&change));
-        }
+        "keep_updated" => put_updated(row),
         _ => {}
     }
+}
+
+fn put_updated(row: &mut Row<'_>) {
+    let change = KeyChange {
+        old: key_in(row, 1),
+        new: key_in(row, 3),
+    };
+    row.skip(5);
+    put_kept(row, Some(&change));
 }
 
 fn key_in(row: &mut Row<'_>, at: usize) -> NameKey {
@@ -34,42 +36,28 @@ fn key_in(row: &mut Row<'_>, at: usize) -> NameKey {
 }
 
 fn put_kept(row: &mut Row<'_>, change: Option<&KeyChange>) {
+    let before = scene_in(row, 2, "sheet", "name");
     let after = scene_in(row, 2, "later_sheet", "later_name");
-    match kept(row, change, &after) {
-        Ok(formula) => put_formula(row, &after, &formula),
+    let scope = row.scope(0);
+    let formula = formula_in(row, &before, scope);
+    let english = row.tables.get_default_language();
+    match &keep_formula(row.alloc, &before, &after, change, english, scope, &formula) {
+        Ok(formula) => put_formula(row, &after, formula),
         Err(_) => row.bad(),
     }
 }
 
-/// The formula of the row in the scene before the change, kept.
-fn kept(
-    row: &mut Row<'_>,
-    change: Option<&KeyChange>,
-    after: &Scene,
-) -> Result<Formula, OutOfMemory> {
-    let before = scene_in(row, 2, "sheet", "name");
-    let scope = row.scope(0);
-    let formula = formula_in(row, &before, scope)?;
-    let english = row.tables.get_default_language();
-    keep_formula(row.alloc, &before, after, change, english, scope, &formula)
-}
-
 /// The text of the row, read and bound in a scene, or as it is where it doesn't read.
-fn formula_in(
-    row: &mut Row<'_>,
-    scene: &Scene,
-    scope: Option<u32>,
-) -> Result<Formula, OutOfMemory> {
+fn formula_in(row: &mut Row<'_>, scene: &Scene, scope: Option<u32>) -> Formula {
     let stored = Stored::new(row.tables);
-    let text = row.word(1);
-    match bound_in(row.alloc, &stored, row.tables, scene, scope, text)? {
-        Some(tree) => Ok(Formula::Tree(tree)),
-        None => Ok(Formula::Raw(row.text(text))),
+    match bound_in(row, &stored, scene, scope, row.word(1)) {
+        Ok(Some(tree)) => Formula::Tree(tree),
+        _ => Formula::Raw(row.text(row.word(1))),
     }
 }
 
 /// `raw` and the text, or what the whole formula mentions and the formula as it is written in a scene.
-pub fn put_formula(row: &mut Row<'_>, scene: &Scene, formula: &Formula) {
+fn put_formula(row: &mut Row<'_>, scene: &Scene, formula: &Formula) {
     match formula {
         Formula::Tree(tree) => {
             put_mention(row, tree);

@@ -41,7 +41,6 @@ fn call(row: &mut Row<'_>, books: &mut Books<'_>) {
     references::call(row);
     lookups::call(row);
     formulas::call(row);
-    scenes::call(row);
     keeps::call(row);
     values::call(row);
     errors::call(row);

@@ -1,24 +1,12 @@
 //! Formulas in scenes: a text is read, its mentions are bound in the scene that the row gives, and it is written again.
-use crate::formulas::shown_at;
 use crate::row::Row;
 use ic_laws::{
     Bound, DefinitionSpelling, Dialect, Items, NameMention, OutOfMemory, Scene, SheetMention,
-    SheetName, Tree,
+    SheetName, Spelled, Tree,
 };
 use ic_tables::Tables;
 use ic_tree::{Shown, Stored, bind, clashes, is_dynamic, print, read, spell};
 use std::alloc::Global;
-
-/// `bind`, a language, a locale, a scope or `none`, a text, and then the scene: `sheet`, an id and a name, or `name`, a
-/// name and a scope or `none`. The cell is in row 5 and column 3.
-pub fn call(row: &mut Row<'_>) {
-    if row.name == "bind" {
-        match shown_at(row.tables, row.word(2), row.word(1), 5, 3) {
-            Ok(shown) => put_shown(row, &shown),
-            Err(_) => row.bad(),
-        }
-    }
-}
 
 /// The scene that stands in a row from a place on. A sheet and a name each stand after a word that says so.
 pub fn scene_in(row: &mut Row<'_>, from: usize, sheet: &str, name: &str) -> Scene {
@@ -60,33 +48,39 @@ fn add_name(row: &mut Row<'_>, at: usize, names: &mut Items<DefinitionSpelling>)
 
 /// A text read and bound in a scene; None where it doesn't read.
 pub fn bound_in<D: Dialect>(
-    alloc: Global,
+    row: &Row<'_>,
     dialect: &D,
-    tables: &Tables,
     scene: &Scene,
     scope: Option<u32>,
     text: &str,
 ) -> Result<Option<Bound>, OutOfMemory> {
-    match read(alloc, dialect, text)? {
-        Some(tree) => Ok(Some(bind(alloc, scene, tables.get_default_language(), scope, &tree)?)),
+    match &read(row.alloc, dialect, text)? {
+        Some(tree) => bound(row, scene, scope, tree),
         None => Ok(None),
     }
 }
 
-/// A formula as it is written in a scene.
-fn spelled<D: Dialect>(
-    alloc: Global,
-    dialect: &D,
+fn bound(
+    row: &Row<'_>,
     scene: &Scene,
-    bound: &Bound,
-) -> Result<String, OutOfMemory> {
-    let tree = spell(alloc, scene, bound)?;
-    print(alloc, dialect, &tree)
+    scope: Option<u32>,
+    tree: &Spelled,
+) -> Result<Option<Bound>, OutOfMemory> {
+    let english = row.tables.get_default_language();
+    Ok(Some(bind(row.alloc, scene, english, scope, tree)?))
+}
+
+/// A formula as it is written in a scene.
+fn put_spelled<D: Dialect>(row: &mut Row<'_>, dialect: &D, scene: &Scene, bound: &Bound) {
+    match &spell(row.alloc, scene, bound) {
+        Ok(tree) => row.put_made(print(row.alloc, dialect, tree)),
+        Err(_) => row.bad(),
+    }
 }
 
 /// A formula in the stored form, as it is written in a scene.
 pub fn put_stored(row: &mut Row<'_>, scene: &Scene, bound: &Bound) {
-    row.put_made(spelled(row.alloc, &Stored::new(row.tables), scene, bound));
+    put_spelled(row, &Stored::new(row.tables), scene, bound);
 }
 
 /// What the whole formula mentions: the sheet of a reference, as `own`, the id of the sheet, or `dangling` and its name;
@@ -114,13 +108,15 @@ pub fn put_mention(row: &mut Row<'_>, bound: &Bound) {
     }
 }
 
-fn put_shown(row: &mut Row<'_>, shown: &Shown<'_>) {
+/// A text bound in the scene of the row, which is `sheet`, an id and a name, or `name`, a name and a scope or `none`, and
+/// so on: the formula, and what it clashes with.
+pub fn put_bound(row: &mut Row<'_>, shown: &Shown<'_>) {
     let scene = scene_in(row, 5, "sheet", "name");
     let scope = row.scope(3);
-    match bound_in(row.alloc, shown, row.tables, &scene, scope, row.word(4)) {
+    match &bound_in(row, shown, &scene, scope, row.word(4)) {
         Ok(Some(bound)) => {
-            row.put_made(spelled(row.alloc, shown, &scene, &bound));
-            put_clashes(row, &bound);
+            put_spelled(row, shown, &scene, bound);
+            put_clashes(row, bound);
         }
         Ok(None) => row.none(),
         Err(_) => row.bad(),
