@@ -13,7 +13,6 @@ pub mod LetterLemmas
 pub mod LexLemmas
 pub mod ListSteps
 pub mod LocalFirst
-pub mod LocalLemmas
 pub mod Literals
 pub mod NotationLaws
 pub mod Operands

@@ -9,7 +9,7 @@ use crate::in_scope::Binders;
 use crate::language_words::function_of;
 use ic_laws::{
     Bound, Boxed, Finder, Items, LetPair, NameMention, OutOfMemory, SheetMention, Spelled, Text,
-    Tree, agree,
+    Tree, agree, find_local,
 };
 use ic_tables::Language;
 use std::alloc::Global;
@@ -69,7 +69,6 @@ fn bind_word<N: Finder>(
 }
 
 /// The definition that a word with this sheet means: one that is local to that sheet, and no other.
-#[tactic(auto, using(crate::proofs::LocalLemmas::local_where_scoped, crate::proofs::LocalLemmas::none_where_other, crate::proofs::LocalLemmas::none_where_none))]
 fn bind_local_word<N: Finder>(
     alloc: Global,
     names: &N,
@@ -79,9 +78,9 @@ fn bind_local_word<N: Finder>(
     ensures { IfOk result (λ r. r ≡ bound_local (N.scene names.now) sheet.now word.now) }
 {
     match sheet {
-        SheetMention::Sheet(id) => match names.find_name(alloc, Some(*id), word.as_str())? {
-            Some(key) if key.scope == Some(*id) => Ok(NameMention::Name(key)),
-            _ => Ok(NameMention::Dangling(Text::from_str(alloc, word.as_str())?)),
+        SheetMention::Sheet(id) => match find_local(alloc, names, *id, word.as_str())? {
+            Some(key) => Ok(NameMention::Name(key)),
+            None => Ok(NameMention::Dangling(Text::from_str(alloc, word.as_str())?)),
         },
         _ => Ok(NameMention::Dangling(Text::from_str(alloc, word.as_str())?)),
     }
