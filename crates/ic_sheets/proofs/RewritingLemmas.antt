@@ -233,20 +233,3 @@ same_some s sheet e = cc
 -- the sheet that was read at a place is the one there
 pub read_there : (sheets : List HeldSheet) (index : ℕ) (s sheet : HeldSheet) → index < length sheets → s ≡ get_or sheets index s → slice_get sheets index ≡ Some sheet → s ≡ sheet
 read_there sheets index s sheet lt read at = same_some s sheet (sym (slice_get_read sheets (length sheets) index s refl lt read) ∙ at)
-
--- a sheet that is changed in place
-pub rewritten_there : (w : RewritesState) (s : HeldSheet) (pool : PoolState) (index : ℕ) (sheets : List HeldSheet) → s ≡ get_or sheets index s → pool.formulas ≡ rewritten_by w s.pool.formulas → pool.is_whole ≡ (s.pool.is_whole && changes_nothing w)
-    → slice_set sheets index (record s { pool = pool }) ≡ updated_at (with_rewrites w) index sheets
-rewritten_there w s pool index sheets read made whole =
-    ap (slice_set sheets index) (filled w s s pool refl made whole) ∙ set_there index sheets read
-  where
-    set_there : (i : ℕ) (xs : List HeldSheet) → s ≡ get_or xs i s → slice_set xs i (with_rewrites w s) ≡ updated_at (with_rewrites w) i xs
-    set_there i [] e = refl
-    set_there zero (x ∷ xs) e = ap (λ (y : HeldSheet). with_rewrites w y ∷ xs) e
-    set_there (suc i) (x ∷ xs) e = ap (λ (rest : List HeldSheet). x ∷ rest) (set_there i xs e)
-
-pub names_there : (w : RewritesState) (index : ℕ) (sheets : List HeldSheet) → names (updated_at (with_rewrites w) index sheets) ≡ names sheets
-names_there w index sheets = updated_unseen (λ (s : HeldSheet). s.name) (with_rewrites w) (λ s. refl) index sheets
-
-pub ids_there : (w : RewritesState) (index : ℕ) (sheets : List HeldSheet) → ids (updated_at (with_rewrites w) index sheets) ≡ ids sheets
-ids_there w index sheets = updated_unseen (λ (s : HeldSheet). s.id) (with_rewrites w) (λ s. refl) index sheets

@@ -1,6 +1,6 @@
 //! Definitions come and go in a book. What that does to the formulas of its sheets is prepared before, and applied after.
-ghost use Rattle.std.specs.Prelude.{◌≡◌, ◌<◌, ◌++◌, [], ◌∷◌, IfOk, None, OnErr, OnOk, Some, false, length, map, nat_eq, remove};
-ghost use Rattle.std.specs.List.{AllByRecursion, IsDistinct, list_any, slice_get};
+ghost use Rattle.std.specs.Prelude.{◌≡◌, ◌<◌, ◌++◌, [], ◌∷◌, IfOk, None, OnErr, OnOk, Some, false, length, map, remove};
+ghost use Rattle.std.specs.List.{AllByRecursion, list_any, slice_get};
 ghost use Rattle.ic_laws.specs.BookTrees.{with_body_tree};
 ghost use Rattle.ic_laws.specs.Changes.{changed_tree, definition_added, definition_gone, sheet_gone};
 ghost use Rattle.ic_laws.specs.CoreBook as core;
@@ -40,18 +40,16 @@ pub fn add_for_all(contents: &mut Contents, definition: Definition) -> Result<()
     Ok(())
 }
 
-/// Adds a definition that is local to the sheet at an index, from 0. Words of that sheet that could mean it do.
+/// Adds a definition that is local to the sheet with this id. Words of that sheet that could mean it do, and words with that
+/// sheet that found nothing.
 pub fn add_for_sheet(
     contents: &mut Contents,
-    index: usize,
+    id: u32,
     definition: Definition,
 ) -> Result<(), OutOfMemory>
     requires free { list_any (is_named definition.name definition.scope)
         contents.old.definitions ≡ false }
-    requires within { index < length contents.old.sheets }
-    requires ids { IsDistinct nat_eq (map (λ s. s.id) contents.old.sheets) }
-    requires scope { (sheet : Sheet) → slice_get contents.old.sheets index ≡ Some sheet
-        → definition.scope ≡ Some sheet.id }
+    requires scope { definition.scope ≡ Some id }
     ensures sheets { OnOk result (sheets_of contents.new.sheets
         ≡ map (changed_pool (definition_added
         (spelling_of definition))) (sheets_of contents.old.sheets)) }
@@ -63,9 +61,9 @@ pub fn add_for_sheet(
     ensures err { OnErr result (contents.new ≡ contents.old) }
 {
     let added = DefinitionAdded::new(definition.name(), definition.key());
-    let formulas = contents.sheets.prepare_at(index, &added)?;
+    let formulas = contents.sheets.prepare_for(id, &added)?;
     contents.definitions.add(definition)?;
-    contents.sheets.apply_at(index, formulas);
+    contents.sheets.apply(formulas);
     Ok(())
 }
 
@@ -91,8 +89,10 @@ pub fn delete_at(contents: &mut Contents, index: usize) -> Result<(), OutOfMemor
     ensures err { OnErr result (contents.new ≡ contents.old) }
 {
     let becomes = contents.definitions.mention_without(index)?;
+    let definition = &contents.definitions.as_slice()[index];
     let gone = DefinitionGone {
-        key: contents.definitions.as_slice()[index].key(),
+        key: definition.key(),
+        name: definition.name(),
         becomes: &becomes,
     };
     let formulas = contents.sheets.prepare(&gone)?;
@@ -107,13 +107,15 @@ pub fn bodies_without(contents: &Contents, index: usize) -> Result<BodyRewrites,
     ensures made { IfOk result (λ w. (sheet : Sheet)
         → slice_get contents.now.sheets index ≡ Some sheet
         → with_bodies w.bodies.items contents.now.definitions ≡ map (with_body_tree
-        (changed_tree (sheet_gone sheet.id sheet.name))) contents.now.definitions) }
+        (changed_tree (sheet_gone (definitions_scene contents.now.definitions) sheet.id
+        sheet.name))) contents.now.definitions) }
     ensures fits { IfOk result (λ w. FitsBodies w contents.now.definitions) }
 {
     let sheet = &contents.sheets.as_slice()[index];
     let gone = SheetGone {
         id: sheet.id,
         name: sheet.name.as_str(),
+        names: &contents.definitions,
     };
     contents.definitions.prepare(&gone)
 }

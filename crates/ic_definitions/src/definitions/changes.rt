@@ -161,8 +161,10 @@ impl Definitions {
         ensures fits { IfOk result (λ w. FitsBodies w self.now) }
     {
         let becomes = self.mention_without(index)?;
+        let definition = &self.as_slice()[index];
         let gone = DefinitionGone {
-            key: self.as_slice()[index].key(),
+            key: definition.key(),
+            name: definition.name(),
             becomes: &becomes,
         };
         self.prepare(&gone)

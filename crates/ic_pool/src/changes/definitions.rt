@@ -1,12 +1,13 @@
 //! A definition comes, and a definition goes.
 ghost use Rattle.std.specs.Prelude.{◌≡◌, ◌||◌, None, chars};
-ghost use Rattle.ic_laws.specs.Changes.{could_mean, is_of_name};
+ghost use Rattle.ic_laws.specs.Changes.{could_mean, could_mean_local, is_of_name};
 ghost use Rattle.ic_laws.specs.Name.{fold};
 ghost use Rattle.ic_laws.specs.Scene.{key_of, same_key, same_scope};
+ghost use Rattle.ic_laws.specs.declared.tree.SheetMention.TheVariants as sheets;
 
 use crate::changes::BookChange;
-use crate::copies::{copy_key, copy_sheet, copy_word};
-use ic_laws::{NameKey, NameMention, OutOfMemory, SheetMention, agree};
+use crate::copies::{copy_key, copy_local, copy_sheet, copy_word};
+use ic_laws::{NameKey, NameMention, OutOfMemory, SheetMention, Text, agree};
 use std::alloc::Global;
 use std::marker::Model;
 
@@ -54,6 +55,30 @@ impl<'n> DefinitionAdded<'n> {
         }
     }
 
+    /// Whether a word with its sheet could mean it.
+    fn could_mean_local(&self, sheet: &SheetMention, mention: &NameMention) -> bool
+        ensures { result ≡ could_mean_local (key_of self.now) sheet.now mention.now }
+    {
+        match sheet {
+            SheetMention::Own => false,
+            SheetMention::Sheet(id) => self.could_mean_in(*id, mention),
+            SheetMention::Dangling(_) => false,
+        }
+    }
+
+    /// Whether a word with the sheet with this id could.
+    fn could_mean_in(&self, id: u32, mention: &NameMention) -> bool
+        ensures { result ≡ could_mean_local (key_of self.now) (sheets.Sheet id) mention.now }
+    {
+        match mention {
+            NameMention::Var(_) => false,
+            NameMention::Name(_) => false,
+            NameMention::Dangling(word) => {
+                agree(self.name, word.as_str()) && same_scope(self.key.scope, Some(id))
+            }
+        }
+    }
+
     /// Whether formulas whose words are looked up from this sheet find it where they find no other.
     fn reaches(&self, scope: Option<u32>) -> bool
         ensures { result ≡ (same_scope self.now.scope scope || same_scope self.now.scope None) }
@@ -75,6 +100,10 @@ impl<'n> BookChange for DefinitionAdded<'n> {
         self.could_mean(scope, mention)
     }
 
+    fn changes_local(&self, sheet: &SheetMention, word: &NameMention) -> bool {
+        self.could_mean_local(sheet, word)
+    }
+
     fn changed_sheet(
         &self,
         alloc: Global,
@@ -94,19 +123,36 @@ impl<'n> BookChange for DefinitionAdded<'n> {
         }
         copy_word(alloc, mention)
     }
+
+    fn changed_local(
+        &self,
+        alloc: Global,
+        sheet: &SheetMention,
+        word: &NameMention,
+    ) -> Result<(SheetMention, NameMention), OutOfMemory> {
+        if self.could_mean_local(sheet, word) {
+            let sheet = copy_sheet(alloc, sheet)?;
+            return Ok((sheet, NameMention::Name(copy_key(alloc, self.key)?)));
+        }
+        copy_local(alloc, sheet, word)
+    }
 }
 
-/// The definition with this key goes: words that mean it become this mention.
+/// The definition with this key and this name goes: words that mean it become this mention, and words with its sheet
+/// dangle by its name.
 #[derive(Drop)]
 pub struct DefinitionGone<'n> {
     pub key: &'n NameKey,
+    pub name: &'n str,
     pub becomes: &'n NameMention,
 }
 
 impl<'n> BookChange for DefinitionGone<'n> {
+    ghost use Rattle.std.specs.Prelude.{chars};
     ghost use Rattle.ic_laws.specs.Changes.{OfWords, is_of_name};
+    ghost use Rattle.ic_laws.specs.declared.tree.NameMention.TheVariants as mentions;
 
-    ghost change = { λ gone. OfWords (λ scope mention. is_of_name gone.key.now mention) gone.becomes.now };
+    ghost change = { λ gone. OfWords (λ scope mention. is_of_name gone.key.now mention) gone.becomes.now (λ sheet mention. is_of_name gone.key.now mention) (mentions.Dangling (chars gone.name.now)) };
 
     fn changes_sheet(&self, _mention: &SheetMention) -> bool {
         false
@@ -114,6 +160,10 @@ impl<'n> BookChange for DefinitionGone<'n> {
 
     fn changes_word(&self, _scope: Option<u32>, mention: &NameMention) -> bool {
         is_of_name(self.key, mention)
+    }
+
+    fn changes_local(&self, _sheet: &SheetMention, word: &NameMention) -> bool {
+        is_of_name(self.key, word)
     }
 
     fn changed_sheet(
@@ -134,6 +184,20 @@ impl<'n> BookChange for DefinitionGone<'n> {
             return copy_word(alloc, self.becomes);
         }
         copy_word(alloc, mention)
+    }
+
+    fn changed_local(
+        &self,
+        alloc: Global,
+        sheet: &SheetMention,
+        word: &NameMention,
+    ) -> Result<(SheetMention, NameMention), OutOfMemory> {
+        if is_of_name(self.key, word) {
+            let sheet = copy_sheet(alloc, sheet)?;
+            let name = Text::from_str(alloc, self.name)?;
+            return Ok((sheet, NameMention::Dangling(name)));
+        }
+        copy_local(alloc, sheet, word)
     }
 }
 

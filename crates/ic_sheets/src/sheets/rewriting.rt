@@ -1,10 +1,10 @@
 //! What a change of the sheets or the definitions does to the formulas of all sheets. It is prepared before anything
 //! changes.
-ghost use Rattle.std.specs.Prelude.{◌≡◌, ℕ, IfOk, Some, map, nat_eq};
+ghost use Rattle.std.specs.Prelude.{◌≡◌, ℕ, IfOk, Some, false, map, nat_eq};
 ghost use Rattle.std.specs.List.{IsDistinct};
 ghost use Rattle.ic_pool.specs.Mentions.{SparesFound};
 ghost use Rattle.ic_sheets.specs.Index.{AreAtIndexes, AreDangling};
-ghost use Rattle.ic_sheets.specs.Rewriting.{ArePrepared, FitOwn, FitSheets, PreparesEach, with_all_rewrites, with_own_rewrites};
+ghost use Rattle.ic_sheets.specs.Rewriting.{ArePrepared, FitOwn, FitSheets, IsPrepared, PreparesEach, with_all_rewrites, with_own_rewrites};
 
 use super::dangling::sheet_with;
 use super::index_in;
@@ -28,6 +28,36 @@ pub fn prepare<C: BookChange>(
         prepared.push(sheet.pool.prepare(change, Some(sheet.id))?)?;
     }
     Ok(prepared)
+}
+
+/// The same for a change that leaves each formula in which all was found, but for those of the sheet with this id.
+pub fn prepare_for<C: BookChange>(
+    alloc: Global,
+    sheets: &[Sheet],
+    id: u32,
+    change: &C,
+) -> Result<Vec<Rewrites>, OutOfMemory>
+    requires { (other : ℕ) → nat_eq other id ≡ false → SparesFound (C.change change.now) (Some other) }
+    ensures { IfOk result (λ prepared. ArePrepared (C.change change.now) prepared.items
+        sheets.now) }
+{
+    let mut prepared = Vec::new(alloc);
+    for sheet in sheets {
+        prepared.push(prepare_sheet(sheet, id, change)?)?;
+    }
+    Ok(prepared)
+}
+
+/// What such a change does to the formulas of one sheet.
+fn prepare_sheet<C: BookChange>(sheet: &Sheet, id: u32, change: &C) -> Result<Rewrites, OutOfMemory>
+    requires { nat_eq sheet.now.id id ≡ false → SparesFound (C.change change.now) (Some sheet.now.id) }
+    ensures { IfOk result (λ rewrites. IsPrepared (C.change change.now) rewrites sheet.now) }
+{
+    if sheet.id == id {
+        sheet.pool.prepare(change, Some(sheet.id))
+    } else {
+        sheet.pool.prepare_dangling(change, Some(sheet.id))
+    }
 }
 
 /// The same for a change that leaves each formula in which all was found: it looks at the sheets with these ids alone, and
