@@ -14,3 +14,6 @@ returns-in-Ok-Some c =
 
 pub returns-in-Ok-None : goal.returns-in-Ok-None
 returns-in-Ok-None c = sym (local_found_first c.args.text.now None c.utf8.text (rw c.in-Ok-None.field-0-is at c.in-Ok-None.ensures.exact))
+
+pub returns-then-not-may_name_sheet : goal.returns-then-not-may_name_sheet
+returns-then-not-may_name_sheet c = sym (no_local_named (chars c.args.text.now) (sym c.may_name_sheet.ensures ∙ c.if-not-may_name_sheet.true))
