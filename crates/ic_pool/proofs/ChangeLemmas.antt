@@ -1,25 +1,22 @@
--- Formulas that a change leaves.
-use mathlib.Core.Path.{fun_ext}
-use Rattle.std.proofs.Common.{◌≡◌, ℕ, List, Bool, true, false, ◌&&◌, Option, Some, None, refl, ap, ◌∙◌}
+-- Formulas that a change leaves, and what dangles after it.
+use Rattle.std.proofs.Common.{◌≡◌, ℕ, List, Bool, true, false, ◌&&◌, ◌||◌, cond, Option, Some, refl, ap, ◌∙◌}
 use Rattle.std.specs.Prelude.{bytes_eq}
 use Rattle.ic_laws.proofs.keeping.Kept.{spared_is_same}
 use Rattle.ic_laws.proofs.keeping.Spared.{untouched_is_spared}
-use Rattle.ic_laws.specs.Changes.{Change, OfSheets, changes_local, changes_sheet, changes_word, could_mean, could_mean_local, dangles_by, definition_added, found_with_sheet, is_of_sheet, sheet_gone, sheet_named}
-use Rattle.ic_laws.specs.Binding.{spelled_word}
+use Rattle.ic_laws.specs.Changes.{Change, changed_local, changed_sheet, changed_word, changes_local, changes_sheet, changes_word, could_mean, could_mean_local, definition_added, sheet_named}
 use Rattle.ic_laws.specs.Name.{fold}
-use Rattle.ic_laws.specs.Scene.{definition_spelling, key_of, same_scope}
+use Rattle.ic_laws.specs.Scene.{key_of, same_scope}
 use Rattle.ic_laws.specs.Tree.{Bound}
 use Rattle.ic_laws.specs.declared.scene.DefinitionSpelling.{DefinitionSpelling}
 use Rattle.ic_laws.specs.declared.scene.Scene.{Scene}
-use Rattle.ic_laws.specs.declared.scene.SheetName.{SheetName}
 use Rattle.ic_laws.specs.declared.tree.Formula.{Formula}
 use Rattle.ic_laws.specs.declared.tree.Formula.TheVariants as formulas
 use Rattle.ic_laws.specs.declared.tree.NameMention.{NameMention}
 use Rattle.ic_laws.specs.declared.tree.NameMention.TheVariants as names
 use Rattle.ic_laws.specs.declared.tree.SheetMention.{SheetMention}
 use Rattle.ic_laws.specs.declared.tree.SheetMention.TheVariants as sheets
-use Rattle.ic_pool.specs.Mentions.{SparesFound, formula_after, has_dangling, is_changed_by, is_dangling, is_dangling_local, is_dangling_word, some_in}
-use Rattle.ic_pool.proofs.MentionLemmas.{fewer_pass}
+use Rattle.ic_pool.specs.Mentions.{KeepsAllFound, SparesFound, formula_after, has_dangling, is_changed_by, is_dangling, is_dangling_local, is_dangling_word, some_in}
+use Rattle.ic_pool.proofs.MentionLemmas.{fewer_pass, neither, none_becomes}
 
 -- one with no mention that it changes
 pub untouched_stays : (change : Change) (scope : Option ℕ) (formula : Formula) → some_in (changes_sheet change) (changes_word change scope) (changes_local change) formula ≡ false → formula_after change scope formula ≡ formula
@@ -33,9 +30,9 @@ spared_stays change scope spares formula none = (untouched_stays change scope fo
 
 -- a change of mentions that found nothing leaves each formula in which all was found
 pub spares_found : (change : Change) (scope : Option ℕ) → ((m : SheetMention) → is_dangling m ≡ false → changes_sheet change m ≡ false) → ((m : NameMention) → is_dangling_word m ≡ false → changes_word change scope m ≡ false)
-    → ((s : SheetMention) (m : NameMention) → is_dangling_word m ≡ false → changes_local change s m ≡ false) → SparesFound change scope
+    → ((s : SheetMention) (m : NameMention) → is_dangling_local s m ≡ false → changes_local change s m ≡ false) → SparesFound change scope
 spares_found change scope sheet word local (formulas.Tree t) e =
-    fewer_pass is_dangling (changes_sheet change) is_dangling_word (changes_word change scope) is_dangling_local (changes_local change) sheet word (λ s m found. local s m) t e
+    fewer_pass is_dangling (changes_sheet change) is_dangling_word (changes_word change scope) is_dangling_local (changes_local change) sheet word local t e
 spares_found change scope sheet word local (formulas.Raw text) e = refl
 
 -- as that of a sheet which gets a name
@@ -47,49 +44,41 @@ naming_spares_found scene id name scope = spares_found (sheet_named scene id nam
     sheet (sheets.Sheet found) e = refl
     sheet (sheets.Dangling typed) e = cc
 
--- a word with its sheet that found something can't mean a new definition
-pub found_cant_mean : (d : DefinitionSpelling) (s : SheetMention) (m : NameMention) → is_dangling_word m ≡ false → could_mean_local (key_of d) s m ≡ false
-found_cant_mean d sheets.Own m e = refl
-found_cant_mean d (sheets.Dangling typed) m e = refl
-found_cant_mean d (sheets.Sheet found) (names.Var w) e = refl
-found_cant_mean d (sheets.Sheet found) (names.Name key) e = refl
-found_cant_mean d (sheets.Sheet found) (names.Dangling w) e = cc
+both_false : (a : Bool) → (a && false) ≡ false
+both_false true = refl
+both_false false = refl
 
--- and that of a definition in the formulas of a sheet that it isn't local to
-pub adding_elsewhere_spares_found : (d : DefinitionSpelling) (id : ℕ) → same_scope d.scope (Some id) ≡ false → SparesFound (definition_added d) (Some id)
-adding_elsewhere_spares_found d id other = spares_found (definition_added d) (Some id) (λ m e. refl) word (found_cant_mean d)
+-- and that of a definition, in the formulas of a sheet that it isn't local to
+pub adding_spares_found : (d : DefinitionSpelling) (id : ℕ) → same_scope d.scope (Some id) ≡ false → SparesFound (definition_added d) (Some id)
+adding_spares_found d id other = spares_found (definition_added d) (Some id) (λ m e. refl) word local
   where
-    both : (a : Bool) → (a && false) ≡ false
-    both true = refl
-    both false = refl
-
     word : (m : NameMention) → is_dangling_word m ≡ false → could_mean (key_of d) (Some id) m ≡ false
     word (names.Var w) e = refl
-    word (names.Name found) e = ap (λ s. bytes_eq (fold d.name) found.name && s) other ∙ both _
+    word (names.Name found) e = ap (λ b. bytes_eq (fold d.name) found.name && b) other ∙ both_false (bytes_eq (fold d.name) found.name)
     word (names.Dangling w) e = cc
 
--- so that of one which is local to no sheet
-pub adding_spares_found : (d : DefinitionSpelling) (id : ℕ) → d.scope ≡ None → SparesFound (definition_added d) (Some id)
-adding_spares_found d id none = adding_elsewhere_spares_found d id (ap (λ s. same_scope s (Some id)) none)
+    local : (s : SheetMention) (m : NameMention) → is_dangling_word m ≡ false → could_mean_local (key_of d) s m ≡ false
+    local sheets.Own m e = refl
+    local (sheets.Sheet found) (names.Var w) e = refl
+    local (sheets.Sheet found) (names.Name key) e = refl
+    local (sheets.Sheet found) (names.Dangling w) e = cc
+    local (sheets.Dangling typed) m e = refl
 
--- ---- of what formulas can mention, the changes of sheets ask for the definitions alone
+-- a definition that comes lets nothing dangle
+pub adding_keeps_found : (d : DefinitionSpelling) (scope : Option ℕ) → KeepsAllFound (definition_added d) scope
+adding_keeps_found d scope (formulas.Raw text) e = refl
+adding_keeps_found d scope (formulas.Tree t) e =
+    none_becomes is_dangling is_dangling is_dangling_word is_dangling_word is_dangling_local is_dangling_local (changed_sheet change) (changed_word change scope) (changed_local change) (λ m e. e) word local t e
+  where
+    change : Change
+    change = definition_added d
 
-module _ (some others : List SheetName) (ns : List DefinitionSpelling) where
-  abbrev beside : List SheetName → Scene
-  beside ss = record { sheets = ss; names = ns }
+    chosen : (b : Bool) (m : NameMention) → is_dangling_word m ≡ false → is_dangling_word (cond b (names.Name (key_of d)) m) ≡ false
+    chosen true m e = refl
+    chosen false m e = e
 
-  pub named_beside : (id : ℕ) (name : List ℕ) → sheet_named (beside some) id name ≡ sheet_named (beside others) id name
-  named_beside id name = ap (OfSheets (dangles_by name) (sheets.Sheet id)) (fun_ext same)
-    where
-      same : (m : NameMention) → found_with_sheet (beside some) id m ≡ found_with_sheet (beside others) id m
-      same (names.Var w) = refl
-      same (names.Name key) = refl
-      same (names.Dangling w) = refl
+    word : (m : NameMention) → is_dangling_word m ≡ false → is_dangling_word (changed_word (definition_added d) scope m) ≡ false
+    word m e = chosen (could_mean (key_of d) scope m) m e
 
-  pub gone_beside : (id : ℕ) (name : List ℕ) → sheet_gone (beside some) id name ≡ sheet_gone (beside others) id name
-  gone_beside id name = ap (OfSheets (is_of_sheet id) (sheets.Dangling name)) (fun_ext same)
-    where
-      same : (m : NameMention) → ◌≡◌ {A = NameMention} (names.Dangling (spelled_word (definition_spelling (beside some)) m)) (names.Dangling (spelled_word (definition_spelling (beside others)) m))
-      same (names.Var w) = refl
-      same (names.Name key) = refl
-      same (names.Dangling w) = refl
+    local : (s : SheetMention) (m : NameMention) → is_dangling s ≡ false → is_dangling_local s m ≡ false → (is_dangling s || is_dangling_word (changed_local (definition_added d) s m).1) ≡ false
+    local s m e f = neither e (chosen (could_mean_local (key_of d) s m) m f)

@@ -16,7 +16,7 @@ abbrev NoWordFact : NameMention → Type 0
 NoWordFact mention = Unit {0}
 
 abbrev NoLocalFact : SheetMention → NameMention → Type 0
-NoLocalFact sheet word = Unit {0}
+NoLocalFact sheet mention = Unit {0}
 
 none_asked : (kind : Kind SheetMention NameMention) → OfMentions NoSheetFact NoWordFact NoLocalFact kind
 none_asked (one.Reference sheet place) = tt

@@ -191,7 +191,7 @@ first_text ((t ∷ ts) ∷ rows) = t
 first_text rows = []
 
 abbrev second_text : List (List (List ℕ)) → List ℕ
-second_text ((t ∷ u ∷ ts) ∷ rows) = u
+second_text ((s ∷ t ∷ ts) ∷ rows) = t
 second_text rows = []
 
 abbrev first_row : List (List (List ℕ)) → List (List ℕ)
@@ -224,7 +224,8 @@ rebuilt_of t ns rows pairs trees =
     else if t == 11 then one.Binary (sign_of (first_number ns)) (first_tree trees) (first_tree (other_trees trees))
     else if t == 12 then one.Fun (first_number ns) trees else if t == 13 then one.Call (word_of ns (first_text rows)) trees
     else if t == 14 then one.Let pairs (first_tree trees) else if t == 15 then one.Lambda (first_row rows) (first_tree trees)
-    else if t == 16 then one.Apply (first_tree trees) (other_trees trees) else if t == 18 then local_of ns rows else one.Array (map (map constant_of) rows)
+    else if t == 16 then one.Apply (first_tree trees) (other_trees trees) else if t == 17 then one.Array (map (map constant_of) rows)
+    else local_of ns rows
 
 abbrev rebuilt : List ℕ → List (List (List ℕ)) → List BoundPair → List Bound → BoundKind
 rebuilt [] rows pairs trees = one.Empty

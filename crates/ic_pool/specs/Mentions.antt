@@ -20,9 +20,9 @@ abbrev pub is_dangling_word : NameMention → Bool
 is_dangling_word (names.Dangling word) = true
 is_dangling_word mention = false
 
--- what a word with its sheet names wasn't found there
+-- nor what a word with its sheet names; whether the sheet was found is asked of the sheet
 abbrev pub is_dangling_local : SheetMention → NameMention → Bool
-is_dangling_local sheet word = is_dangling_word word
+is_dangling_local sheet mention = is_dangling_word mention
 
 -- Some mention of a formula passes a test. A text that doesn't read as a formula has no mentions.
 abbrev pub some_in : (SheetMention → Bool) → (NameMention → Bool) → (SheetMention → NameMention → Bool) → Formula → Bool
@@ -44,3 +44,7 @@ formula_after change scope formula = with_tree (changed_tree change scope) formu
 -- a change changes no mention of a formula in which all was found
 abbrev pub SparesFound : Change → Option ℕ → Type 0
 SparesFound change scope = (formula : Formula) → has_dangling formula ≡ false → is_changed_by change scope formula ≡ false
+
+-- a change lets nothing dangle in a formula in which all was found
+abbrev pub KeepsAllFound : Change → Option ℕ → Type 0
+KeepsAllFound change scope = (formula : Formula) → has_dangling formula ≡ false → has_dangling (formula_after change scope formula) ≡ false

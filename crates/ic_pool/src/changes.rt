@@ -28,9 +28,9 @@ pub trait BookChange {
     fn changes_word(&self, scope: Option<u32>, mention: &NameMention) -> bool
         ensures { result ≡ changes_word (change self.now) scope mention.now };
 
-    /// Whether it changes the word of this sheet, where it leaves the sheet.
-    fn changes_local(&self, sheet: &SheetMention, word: &NameMention) -> bool
-        ensures { result ≡ changes_local (change self.now) sheet.now word.now };
+    /// Whether it changes a word with its sheet where it leaves that sheet, whichever formula both stand in.
+    fn changes_local(&self, sheet: &SheetMention, mention: &NameMention) -> bool
+        ensures { result ≡ changes_local (change self.now) sheet.now mention.now };
 
     /// What the sheet of a reference becomes.
     fn changed_sheet(
@@ -49,17 +49,14 @@ pub trait BookChange {
     ) -> Result<NameMention, OutOfMemory>
         ensures { IfOk result (λ m. m ≡ changed_word (change self.now) scope mention.now) };
 
-    /// What a word with its sheet becomes, both.
+    /// What a word with its sheet becomes, and what the sheet does.
     fn changed_local(
         &self,
         alloc: Global,
         sheet: &SheetMention,
-        word: &NameMention,
+        mention: &NameMention,
     ) -> Result<(SheetMention, NameMention), OutOfMemory>
-        ensures sheet { IfOk result (λ m. m.0
-            ≡ (changed_local (change self.now) sheet.now word.now).0) }
-        ensures word { IfOk result (λ m. m.1
-            ≡ (changed_local (change self.now) sheet.now word.now).1) };
+        ensures { IfOk result (λ m. m ≡ changed_local (change self.now) sheet.now mention.now) };
 }
 
 /// A change in formulas whose words are looked up from one sheet, or from none.
@@ -76,7 +73,7 @@ impl<'c, C: BookChange> MentionTest for Changing<'c, C> {
 
     ghost is_word = { λ c mention. changes_word (C.change c.change.now) c.scope mention };
 
-    ghost is_local = { λ c sheet word. changes_local (C.change c.change.now) sheet word };
+    ghost is_local = { λ c sheet mention. changes_local (C.change c.change.now) sheet mention };
 
     fn sheet(&self, mention: &SheetMention) -> bool {
         self.change.changes_sheet(mention)
@@ -86,8 +83,8 @@ impl<'c, C: BookChange> MentionTest for Changing<'c, C> {
         self.change.changes_word(self.scope, mention)
     }
 
-    fn local(&self, sheet: &SheetMention, word: &NameMention) -> bool {
-        self.change.changes_local(sheet, word)
+    fn local(&self, sheet: &SheetMention, mention: &NameMention) -> bool {
+        self.change.changes_local(sheet, mention)
     }
 }
 
@@ -98,7 +95,7 @@ impl<'c, C: BookChange> MentionChange for Changing<'c, C> {
 
     ghost word_becomes = { λ c mention. changed_word (C.change c.change.now) c.scope mention };
 
-    ghost local_becomes = { λ c sheet word. changed_local (C.change c.change.now) sheet word };
+    ghost local_becomes = { λ c sheet mention. changed_local (C.change c.change.now) sheet mention };
 
     fn sheet(&self, alloc: Global, mention: &SheetMention) -> Result<SheetMention, OutOfMemory> {
         self.change.changed_sheet(alloc, mention)
@@ -112,9 +109,9 @@ impl<'c, C: BookChange> MentionChange for Changing<'c, C> {
         &self,
         alloc: Global,
         sheet: &SheetMention,
-        word: &NameMention,
+        mention: &NameMention,
     ) -> Result<(SheetMention, NameMention), OutOfMemory> {
-        self.change.changed_local(alloc, sheet, word)
+        self.change.changed_local(alloc, sheet, mention)
     }
 }
 

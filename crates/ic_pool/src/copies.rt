@@ -29,15 +29,14 @@ pub trait MentionChange {
     fn word(&self, alloc: Global, mention: &NameMention) -> Result<NameMention, OutOfMemory>
         ensures { IfOk result (λ m. m ≡ word_becomes self.now mention.now) };
 
-    /// What a word with its sheet becomes, both.
+    /// What a word with its sheet becomes.
     fn local(
         &self,
         alloc: Global,
         sheet: &SheetMention,
-        word: &NameMention,
+        mention: &NameMention,
     ) -> Result<(SheetMention, NameMention), OutOfMemory>
-        ensures sheet { IfOk result (λ m. m.0 ≡ (local_becomes self.now sheet.now word.now).0) }
-        ensures word { IfOk result (λ m. m.1 ≡ (local_becomes self.now sheet.now word.now).1) };
+        ensures { IfOk result (λ m. m ≡ local_becomes self.now sheet.now mention.now) };
 }
 
 /// Each mention stays what it is.
@@ -49,7 +48,7 @@ impl MentionChange for Unchanged {
 
     ghost word_becomes = { λ change mention. mention };
 
-    ghost local_becomes = { λ change sheet word. (sheet, word) };
+    ghost local_becomes = { λ change sheet mention. (sheet, mention) };
 
     fn sheet(&self, alloc: Global, mention: &SheetMention) -> Result<SheetMention, OutOfMemory> {
         copy_sheet(alloc, mention)
@@ -63,9 +62,9 @@ impl MentionChange for Unchanged {
         &self,
         alloc: Global,
         sheet: &SheetMention,
-        word: &NameMention,
+        mention: &NameMention,
     ) -> Result<(SheetMention, NameMention), OutOfMemory> {
-        copy_local(alloc, sheet, word)
+        copy_local(alloc, sheet, mention)
     }
 }
 
@@ -162,9 +161,8 @@ fn copy_all<C: MentionChange>(
     change: &C,
     trees: &[Bound],
 ) -> Result<Vec<Bound>, OutOfMemory>
-    ensures { IfOk result (λ copies. copies.items
-        ≡ map (mapped (C.sheet_becomes change.now) (C.word_becomes change.now)
-        (C.local_becomes change.now)) trees.now) }
+    ensures { IfOk result (λ copies. copies.items ≡ map (mapped (C.sheet_becomes change.now)
+        (C.word_becomes change.now) (C.local_becomes change.now)) trees.now) }
 {
     let mut out = Vec::new(alloc);
     for tree in trees {
@@ -181,9 +179,8 @@ fn copy_pairs<C: MentionChange>(
     change: &C,
     pairs: &[LetPair<SheetMention, NameMention>],
 ) -> Result<Vec<LetPair<SheetMention, NameMention>>, OutOfMemory>
-    ensures { IfOk result (λ copies. copies.items
-        ≡ map (pair_mapped (C.sheet_becomes change.now) (C.word_becomes change.now)
-        (C.local_becomes change.now)) pairs.now) }
+    ensures { IfOk result (λ copies. copies.items ≡ map (pair_mapped (C.sheet_becomes change.now)
+        (C.word_becomes change.now) (C.local_becomes change.now)) pairs.now) }
 {
     let mut out = Vec::new(alloc);
     for pair in pairs {

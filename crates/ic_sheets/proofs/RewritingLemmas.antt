@@ -8,7 +8,7 @@ use Rattle.ic_laws.proofs.core.Lists.{removed_seen, updated_unseen}
 use Rattle.ic_laws.specs.Changes.{Change}
 use Rattle.ic_laws.specs.CoreStep.{updated_at}
 use Rattle.ic_laws.specs.declared.tree.Formula.{Formula}
-use Rattle.ic_pool.specs.Mentions.{SparesFound, formula_after, has_dangling, is_changed_by}
+use Rattle.ic_pool.specs.Mentions.{KeepsAllFound, SparesFound, formula_after, has_dangling, is_changed_by}
 use Rattle.ic_pool.specs.Pool.{PoolState, dangling_from, places_from}
 use Rattle.ic_pool.specs.Rewrites.{FitsPool, RewritesState, changes_nothing, is_nothing, places_of, rewritten_by}
 use Rattle.ic_pool.specs.declared.pool.rewrites.Replacement.{Replacement}
@@ -37,6 +37,16 @@ pool_untouched change scope spares at (x ∷ pool) e = by_test (has_dangling x) 
         → (dangling_from (suc at) pool ≡ [] → list_any (is_changed_by change scope) pool ≡ false) → list_any (is_changed_by change scope) (x ∷ pool) ≡ false
     by_test true is e rest = cc
     by_test false is e rest = ap₂ (λ a b. a || b) (spares x is) (rest e)
+
+-- nothing dangles in a pool after a change that lets nothing dangle, where nothing did before
+pub pool_kept : (change : Change) (scope : Option ℕ) → KeepsAllFound change scope → (at : ℕ) (pool : List Formula) → dangling_from at pool ≡ [] → dangling_from at (map (formula_after change scope) pool) ≡ []
+pool_kept change scope keeps at [] e = refl
+pool_kept change scope keeps at (x ∷ pool) e = by_test (has_dangling x) refl e (pool_kept change scope keeps (suc at) pool)
+  where
+    by_test : (b : Bool) → has_dangling x ≡ b → cond b (at ∷ dangling_from (suc at) pool) (dangling_from (suc at) pool) ≡ []
+        → (dangling_from (suc at) pool ≡ [] → dangling_from (suc at) (map (formula_after change scope) pool) ≡ []) → dangling_from at (map (formula_after change scope) (x ∷ pool)) ≡ []
+    by_test true is e rest = cc
+    by_test false is e rest = ap₂ (λ (b : Bool) (places : List ℕ). cond b (at ∷ places) places) (keeps x is) (rest e)
 
 pub and_true : (b : Bool) → b ≡ (b && true)
 and_true true = refl

@@ -104,11 +104,11 @@ impl Definitions {
     }
 }
 
-/// Definitions find themselves, and no sheets: a change of the sheets asks them what words mean.
+/// Definitions find what is found where there are no sheets.
 impl Finder for Definitions {
     ghost use Rattle.ic_definitions.specs.Named.{definitions_scene};
 
-    ghost scene = { λ d. definitions_scene d };
+    ghost scene = { λ ds. definitions_scene ds };
 
     fn find_sheet(&self, _alloc: Global, _name: &str) -> Result<Option<u32>, OutOfMemory> {
         Ok(None)

@@ -3,7 +3,6 @@ ghost use Rattle.std.specs.Prelude.{◌≡◌, ◌||◌, None, chars};
 ghost use Rattle.ic_laws.specs.Changes.{could_mean, could_mean_local, is_of_name};
 ghost use Rattle.ic_laws.specs.Name.{fold};
 ghost use Rattle.ic_laws.specs.Scene.{key_of, same_key, same_scope};
-ghost use Rattle.ic_laws.specs.declared.tree.SheetMention.TheVariants as sheets;
 
 use crate::changes::BookChange;
 use crate::copies::{copy_key, copy_local, copy_sheet, copy_word};
@@ -11,8 +10,8 @@ use ic_laws::{NameKey, NameMention, OutOfMemory, SheetMention, Text, agree};
 use std::alloc::Global;
 use std::marker::Model;
 
-/// A definition comes, by the name that it was given and its key: words that could mean it do. Contracts see its name and
-/// the id of the sheet that it is local to, if there is one.
+/// A definition comes, by the name that it was given and its key: words that could mean it do, those with the sheet that it
+/// is local to among them. Contracts see its name and the id of that sheet, if there is one.
 #[derive(Drop)]
 pub struct DefinitionAdded<'n> {
     name: &'n str,
@@ -40,6 +39,13 @@ impl<'n> DefinitionAdded<'n> {
         DefinitionAdded { name, key }
     }
 
+    /// The id of the sheet that it is local to, if there is one.
+    pub fn scope(&self) -> Option<u32>
+        ensures { result ≡ self.now.scope }
+    {
+        self.key.scope
+    }
+
     /// Whether a word could mean it.
     fn could_mean(&self, scope: Option<u32>, mention: &NameMention) -> bool
         ensures { result ≡ could_mean (key_of self.now) scope mention.now }
@@ -59,23 +65,11 @@ impl<'n> DefinitionAdded<'n> {
     fn could_mean_local(&self, sheet: &SheetMention, mention: &NameMention) -> bool
         ensures { result ≡ could_mean_local (key_of self.now) sheet.now mention.now }
     {
-        match sheet {
-            SheetMention::Own => false,
-            SheetMention::Sheet(id) => self.could_mean_in(*id, mention),
-            SheetMention::Dangling(_) => false,
-        }
-    }
-
-    /// Whether a word with the sheet with this id could.
-    fn could_mean_in(&self, id: u32, mention: &NameMention) -> bool
-        ensures { result ≡ could_mean_local (key_of self.now) (sheets.Sheet id) mention.now }
-    {
-        match mention {
-            NameMention::Var(_) => false,
-            NameMention::Name(_) => false,
-            NameMention::Dangling(word) => {
-                agree(self.name, word.as_str()) && same_scope(self.key.scope, Some(id))
+        match (sheet, mention) {
+            (SheetMention::Sheet(id), NameMention::Dangling(word)) => {
+                agree(self.name, word.as_str()) && same_scope(self.key.scope, Some(*id))
             }
+            _ => false,
         }
     }
 
@@ -100,8 +94,8 @@ impl<'n> BookChange for DefinitionAdded<'n> {
         self.could_mean(scope, mention)
     }
 
-    fn changes_local(&self, sheet: &SheetMention, word: &NameMention) -> bool {
-        self.could_mean_local(sheet, word)
+    fn changes_local(&self, sheet: &SheetMention, mention: &NameMention) -> bool {
+        self.could_mean_local(sheet, mention)
     }
 
     fn changed_sheet(
@@ -128,18 +122,18 @@ impl<'n> BookChange for DefinitionAdded<'n> {
         &self,
         alloc: Global,
         sheet: &SheetMention,
-        word: &NameMention,
+        mention: &NameMention,
     ) -> Result<(SheetMention, NameMention), OutOfMemory> {
-        if self.could_mean_local(sheet, word) {
-            let sheet = copy_sheet(alloc, sheet)?;
-            return Ok((sheet, NameMention::Name(copy_key(alloc, self.key)?)));
+        if self.could_mean_local(sheet, mention) {
+            let word = NameMention::Name(copy_key(alloc, self.key)?);
+            return Ok((copy_sheet(alloc, sheet)?, word));
         }
-        copy_local(alloc, sheet, word)
+        copy_local(alloc, sheet, mention)
     }
 }
 
-/// The definition with this key and this name goes: words that mean it become this mention, and words with its sheet
-/// dangle by its name.
+/// The definition with this key and this name, as it was given, goes: words that mean it become this mention, and words with
+/// their sheets that mean it dangle by the name.
 #[derive(Drop)]
 pub struct DefinitionGone<'n> {
     pub key: &'n NameKey,
@@ -150,9 +144,10 @@ pub struct DefinitionGone<'n> {
 impl<'n> BookChange for DefinitionGone<'n> {
     ghost use Rattle.std.specs.Prelude.{chars};
     ghost use Rattle.ic_laws.specs.Changes.{OfWords, is_of_name};
-    ghost use Rattle.ic_laws.specs.declared.tree.NameMention.TheVariants as mentions;
+    ghost use Rattle.ic_laws.specs.declared.tree.NameMention.TheVariants as names;
 
-    ghost change = { λ gone. OfWords (λ scope mention. is_of_name gone.key.now mention) gone.becomes.now (λ sheet mention. is_of_name gone.key.now mention) (mentions.Dangling (chars gone.name.now)) };
+    ghost change = { λ gone. OfWords (λ scope mention. is_of_name gone.key.now mention) gone.becomes.now
+        (λ sheet mention. is_of_name gone.key.now mention) (names.Dangling (chars gone.name.now)) };
 
     fn changes_sheet(&self, _mention: &SheetMention) -> bool {
         false
@@ -162,8 +157,8 @@ impl<'n> BookChange for DefinitionGone<'n> {
         is_of_name(self.key, mention)
     }
 
-    fn changes_local(&self, _sheet: &SheetMention, word: &NameMention) -> bool {
-        is_of_name(self.key, word)
+    fn changes_local(&self, _sheet: &SheetMention, mention: &NameMention) -> bool {
+        is_of_name(self.key, mention)
     }
 
     fn changed_sheet(
@@ -190,14 +185,13 @@ impl<'n> BookChange for DefinitionGone<'n> {
         &self,
         alloc: Global,
         sheet: &SheetMention,
-        word: &NameMention,
+        mention: &NameMention,
     ) -> Result<(SheetMention, NameMention), OutOfMemory> {
-        if is_of_name(self.key, word) {
-            let sheet = copy_sheet(alloc, sheet)?;
-            let name = Text::from_str(alloc, self.name)?;
-            return Ok((sheet, NameMention::Dangling(name)));
+        if is_of_name(self.key, mention) {
+            let word = NameMention::Dangling(Text::from_str(alloc, self.name)?);
+            return Ok((copy_sheet(alloc, sheet)?, word));
         }
-        copy_local(alloc, sheet, word)
+        copy_local(alloc, sheet, mention)
     }
 }
 

@@ -48,8 +48,8 @@ fn write_one(key: &mut Key, text: &str) -> Result<(), OutOfMemory>
 
 /// Writes the two texts of a node.
 fn write_two(key: &mut Key, first: &str, second: &str) -> Result<(), OutOfMemory>
-    ensures { OnOk result (key.new ≡ key.old ++ rows_bytes
-        ((chars first.now ∷ chars second.now ∷ []) ∷ [])) }
+    ensures { OnOk result (key.new
+        ≡ key.old ++ rows_bytes ((chars first.now ∷ chars second.now ∷ []) ∷ [])) }
 {
     key.extend(&[1, 2])?;
     write_text(key, first)?;

@@ -35,8 +35,7 @@ pub fn copy_local(
     sheet: &SheetMention,
     word: &NameMention,
 ) -> Result<(SheetMention, NameMention), OutOfMemory>
-    ensures sheet { IfOk result (λ copy. copy.0 ≡ sheet.now) }
-    ensures word { IfOk result (λ copy. copy.1 ≡ word.now) }
+    ensures { IfOk result (λ copy. copy ≡ (sheet.now, word.now)) }
 {
     let sheet = copy_sheet(alloc, sheet)?;
     let word = copy_word(alloc, word)?;

@@ -6,7 +6,7 @@ use Rattle.ic_sheets.specs.Rewriting.{FitOwn}
 use Rattle.ic_sheets.proofs.sheets.Sheets.add_sheet.Goals as goal
 
 pub prepare_dangling-requires : goal.prepare_dangling-requires
-prepare_dangling-requires g c = λ id. naming_spares_found (g.F.Finder.scene c.args.names.now) c.args.id (chars c.args.name.now) (Some id)
+prepare_dangling-requires g c = λ id. naming_spares_found (g.F.Finder.scene c.args.definitions.now) c.args.id (chars c.args.name.now) (Some id)
 
 pub add_leaving_formulas-requires-clause-fresh : goal.add_leaving_formulas-requires-clause-fresh
 add_leaving_formulas-requires-clause-fresh g c = above_greatest c.args.id _ c.requires.fresh
