@@ -27,7 +27,6 @@ use Rattle.ic_tables.specs.declared.locale.NamedLocale.{NamedLocale}
 use Rattle.ic_tables.proofs.WellFormed.{language_found, locale_found}
 use Rattle.ic_tree.proofs.NotationLaws.{knows_language_is, knows_locale_is, notations_are}
 use Rattle.ic_tree.specs.Notations.{notations_of}
-use Rattle.ic_pool.proofs.ChangeLemmas.{gone_beside, named_beside}
 use Rattle.ic_definitions.specs.Named.{definitions_scene, scopes_of}
 use Rattle.ic_sheets.proofs.RewritingLemmas.{read_there}
 use Rattle.ic_sheets.specs.Rewriting.{changed_pool, sheets_of}
@@ -320,10 +319,10 @@ module _ (inside : Inside) (h : IsHeld inside) where
 
   -- the changes of sheets, told by the definitions alone
   pub same_naming : (id : ℕ) (called : List ℕ) → sheet_named (definitions_scene ds) id called ≡ sheet_named (scene_in book) id called
-  same_naming id called = named_beside [] (scene_in book).sheets (scene_in book).names id called
+  same_naming id called = refl
 
   pub same_going : (id : ℕ) (called : List ℕ) → sheet_gone (definitions_scene ds) id called ≡ sheet_gone (scene_in book) id called
-  same_going id called = gone_beside [] (scene_in book).sheets (scene_in book).names id called
+  same_going id called = refl
 
   module _ (now : List HeldSheet) (nds : List Definition) where
     pub added : (called : List ℕ) (id : ℕ) → add_sheet_refusal (core_of book) called ≡ None → fresh_id (core_of book) ≡ Some id

@@ -10,7 +10,7 @@ use Rattle.ic_laws.proofs.keeping.Kept.{spared_is_same}
 use Rattle.ic_laws.proofs.keeping.Spared.{none_passes}
 use Rattle.ic_laws.specs.Binding.{IsSettled}
 use Rattle.ic_laws.specs.BookTrees.{OfBody, OfTree}
-use Rattle.ic_laws.specs.Changes.{IsSpared, LocalHolds, SheetHolds, WordHolds, changes_local, changes_sheet, changes_word, could_mean, definition_added, sheet_named}
+use Rattle.ic_laws.specs.Changes.{IsSpared, LocalHolds, SheetHolds, WordHolds, changes_local, changes_sheet, changes_word, could_mean, could_mean_local, definition_added, sheet_named}
 use Rattle.ic_laws.specs.CoreBook.{CoreBook, Definition, scene_of, spelling_of}
 use Rattle.ic_laws.specs.CoreStep.{has_definition, is_named}
 use Rattle.ic_laws.specs.Name.{fold}
@@ -25,8 +25,9 @@ use Rattle.ic_laws.specs.declared.tree.Formula.TheVariants as formulas
 use Rattle.ic_laws.specs.declared.tree.NameMention.{NameMention}
 use Rattle.ic_laws.specs.declared.tree.NameMention.TheVariants as names
 use Rattle.ic_laws.specs.declared.tree.SheetMention.{SheetMention}
+use Rattle.ic_laws.specs.declared.tree.SheetMention.TheVariants as sheets
 use Rattle.ic_definitions.specs.Bodies.{StaysWhereFound}
-use Rattle.ic_pool.proofs.ChangeLemmas.{found_cant_mean, naming_spares_found, spared_stays}
+use Rattle.ic_pool.proofs.ChangeLemmas.{naming_spares_found, spared_stays}
 use Rattle.ic_pool.specs.Mentions.{formula_after, has_dangling, is_dangling, is_dangling_local, is_dangling_word}
 use Rattle.ic_book.proofs.MentionPairs.{mentions_both}
 
@@ -82,13 +83,21 @@ module _ (book : CoreBook) (d : DefinitionSpelling) (global : d.scope ≡ None) 
           let none : definition_at scene found.name None ≡ None = ap (λ f. definition_at scene f None) (sym same) ∙ nothing_there in
           absurd (nothing_is_found (sym (ap (λ (o : Option DefinitionSpelling). option_map key_of (option_or o o)) none) ∙ holds))
 
+  -- nor can a word with its sheet that found something
+  local_cant_mean : (s : SheetMention) (m : NameMention) → is_dangling_word m ≡ false → could_mean_local (key_of d) s m ≡ false
+  local_cant_mean sheets.Own m e = refl
+  local_cant_mean (sheets.Sheet found) (names.Var w) e = refl
+  local_cant_mean (sheets.Sheet found) (names.Name key) e = refl
+  local_cant_mean (sheets.Sheet found) (names.Dangling w) e = cc
+  local_cant_mean (sheets.Dangling typed) m e = refl
+
   module _ (n : Notations) (valid : IsValidCore n book) where
     tree_stays : (scope : Option ℕ) (body : Formula) → OfTree (IsSettled (english_function n) scene scope) body → has_dangling body ≡ false → formula_after (definition_added d) scope body ≡ body
     tree_stays scope (formulas.Raw text) settled found = refl
     tree_stays scope (formulas.Tree t) settled found =
         let spared : IsSpared (definition_added d) scope t =
         mentions_both (SheetHolds scene) (λ m. is_dangling m ≡ false) (λ m. changes_sheet (definition_added d) m ≡ false) (WordHolds scene scope) (λ m. is_dangling_word m ≡ false) (λ m. changes_word (definition_added d) scope m ≡ false)
-        (LocalHolds scene) (λ s m. is_dangling_local s m ≡ false) (λ s m. changes_local (definition_added d) s m ≡ false) (λ m holds e. refl) (cant_mean scope) (λ s m p q holds e. found_cant_mean d s m e) t
+        (LocalHolds scene) (λ s m. is_dangling_local s m ≡ false) (λ s m. changes_local (definition_added d) s m ≡ false) (λ m holds e. refl) (cant_mean scope) (λ s m p q holds e. local_cant_mean s m e) t
         (settled_holds (english_function n) scene scope t settled) (none_passes is_dangling is_dangling_word is_dangling_local t found) in
         ap (λ (u : Bound). let f : Formula = formulas.Tree u in f) (spared_is_same (definition_added d) scope t spared)
 

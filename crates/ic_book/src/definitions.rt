@@ -24,7 +24,7 @@ use ic_laws::OutOfMemory;
 use ic_laws::scan::push_text;
 use ic_refs::is_valid_identifier;
 pub(crate) use parts::bodies_without;
-use parts::{add_for_all, add_for_sheet, delete_at};
+use parts::{add_definition, delete_at};
 
 impl<'a> Model<'a> {
     /// Adds a definition of this name at the end, local to the sheet at an index, from 0, or to none. Its body is a
@@ -126,12 +126,7 @@ impl<'a> Model<'a> {
     {
         let (id, body) = self.checked_definition(name, scope, formula)?;
         let definition = self.definition_of(name, id, &body)?;
-        match id {
-            None => add_for_all(&mut self.contents, definition)?,
-            Some(id) => {
-                add_for_sheet(&mut self.contents, id, definition)?;
-            }
-        }
+        add_definition(&mut self.contents, definition)?;
         Ok(())
     }
 

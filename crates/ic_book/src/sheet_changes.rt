@@ -203,12 +203,12 @@ impl<'a> Model<'a> {
         let named = SheetNamed {
             id,
             name: sheet_name,
-            names: &self.contents.definitions,
+            definitions: &self.contents.definitions,
         };
         let bodies = self.contents.definitions.prepare_dangling(&named)?;
         self.contents
             .sheets
-            .add_sheet(&self.contents.definitions, id, sheet_name)?;
+            .add_sheet(id, sheet_name, &self.contents.definitions)?;
         self.contents.definitions.apply(bodies);
         Ok(())
     }
@@ -272,12 +272,12 @@ impl<'a> Model<'a> {
         let named = SheetNamed {
             id: self.contents.sheets.as_slice()[index].id,
             name: new_name,
-            names: &self.contents.definitions,
+            definitions: &self.contents.definitions,
         };
         let bodies = self.contents.definitions.prepare_dangling(&named)?;
         self.contents
             .sheets
-            .rename_sheet(&self.contents.definitions, index, new_name)?;
+            .rename_sheet(index, new_name, &self.contents.definitions)?;
         self.contents.definitions.apply(bodies);
         Ok(())
     }
@@ -303,7 +303,7 @@ impl<'a> Model<'a> {
         let bodies = bodies_without(&self.contents, index)?;
         self.contents
             .sheets
-            .delete_sheet(&self.contents.definitions, index)?;
+            .delete_sheet(index, &self.contents.definitions)?;
         self.contents.definitions.apply(bodies);
         Ok(())
     }

@@ -16,12 +16,12 @@ use ic_definitions::{BodyRewrites, Definition};
 use ic_laws::OutOfMemory;
 use ic_pool::{DefinitionAdded, DefinitionGone, SheetGone};
 
-/// Adds a definition that is local to no sheet. Words that found nothing, and could mean it, do.
-pub fn add_for_all(contents: &mut Contents, definition: Definition) -> Result<(), OutOfMemory>
+/// Adds a definition at the end. Words that could mean it do, with their sheets or without. Where it is local to no sheet, a
+/// body in which all was found must be one that it leaves.
+pub fn add_definition(contents: &mut Contents, definition: Definition) -> Result<(), OutOfMemory>
     requires free { list_any (is_named definition.name definition.scope)
         contents.old.definitions ≡ false }
-    requires scope { definition.scope ≡ None }
-    requires spares { AllByRecursion (StaysWhereFound (definition_added
+    requires spares { definition.scope ≡ None → AllByRecursion (StaysWhereFound (definition_added
         (spelling_of definition))) contents.old.definitions }
     ensures sheets { OnOk result (sheets_of contents.new.sheets
         ≡ map (changed_pool (definition_added
@@ -34,36 +34,9 @@ pub fn add_for_all(contents: &mut Contents, definition: Definition) -> Result<()
     ensures err { OnErr result (contents.new ≡ contents.old) }
 {
     let added = DefinitionAdded::new(definition.name(), definition.key());
-    let formulas = contents.sheets.prepare_dangling(&added)?;
+    let formulas = contents.sheets.prepare_added(&added)?;
     contents.definitions.add(definition)?;
     contents.sheets.apply_own(formulas);
-    Ok(())
-}
-
-/// Adds a definition that is local to the sheet with this id. Words of that sheet that could mean it do, and words with that
-/// sheet that found nothing.
-pub fn add_for_sheet(
-    contents: &mut Contents,
-    id: u32,
-    definition: Definition,
-) -> Result<(), OutOfMemory>
-    requires free { list_any (is_named definition.name definition.scope)
-        contents.old.definitions ≡ false }
-    requires scope { definition.scope ≡ Some id }
-    ensures sheets { OnOk result (sheets_of contents.new.sheets
-        ≡ map (changed_pool (definition_added
-        (spelling_of definition))) (sheets_of contents.old.sheets)) }
-    ensures looks_up { OnOk result (look_ups contents.new.sheets
-        ≡ map (looks_up_after (definition_added (spelling_of definition))) contents.old.sheets) }
-    ensures definitions { OnOk result (contents.new.definitions
-        ≡ map (with_body_tree (changed_tree (definition_added (spelling_of definition))))
-        contents.old.definitions ++ definition ∷ []) }
-    ensures err { OnErr result (contents.new ≡ contents.old) }
-{
-    let added = DefinitionAdded::new(definition.name(), definition.key());
-    let formulas = contents.sheets.prepare_for(id, &added)?;
-    contents.definitions.add(definition)?;
-    contents.sheets.apply(formulas);
     Ok(())
 }
 
@@ -115,7 +88,7 @@ pub fn bodies_without(contents: &Contents, index: usize) -> Result<BodyRewrites,
     let gone = SheetGone {
         id: sheet.id,
         name: sheet.name.as_str(),
-        names: &contents.definitions,
+        definitions: &contents.definitions,
     };
     contents.definitions.prepare(&gone)
 }
