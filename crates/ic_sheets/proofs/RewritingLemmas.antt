@@ -4,7 +4,7 @@ use Rattle.std.specs.List.{list_any, remove, slice_get}
 use Rattle.std.specs.Prelude.{not}
 use Rattle.std.proofs.lemmas.Option.{slice_get_read}
 use Rattle.std.proofs.lemmas.List.{take_at, take_more}
-use Rattle.ic_laws.proofs.core.Lists.{removed_seen, updated_unseen}
+use Rattle.ic_laws.proofs.core.Lists.{removed_seen}
 use Rattle.ic_laws.specs.Changes.{Change}
 use Rattle.ic_laws.specs.CoreStep.{updated_at}
 use Rattle.ic_laws.specs.declared.tree.Formula.{Formula}

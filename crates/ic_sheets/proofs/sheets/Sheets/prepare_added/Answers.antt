@@ -1,4 +1,4 @@
-use Rattle.std.proofs.Common.{ap, sym, ◌∙◌, Option, Some, None, ℕ}
+use Rattle.std.proofs.Common.{ap, sym, ◌∙◌, Option, Some, ℕ}
 use Rattle.ic_laws.specs.Scene.{same_scope}
 use Rattle.ic_pool.proofs.ChangeLemmas.{adding_keeps_found, adding_spares_found}
 use Rattle.ic_sheets.proofs.sheets.Sheets.prepare_added.Goals as goal

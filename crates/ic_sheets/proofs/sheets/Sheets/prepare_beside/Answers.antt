@@ -1,4 +1,4 @@
-use Rattle.std.proofs.Common.{List, Some, ap, subst, subst₂, sym, ◌≡◌, ◌∙◌, ℕ}
+use Rattle.std.proofs.Common.{List, Some, subst, subst₂, sym, ◌∙◌, ℕ}
 use Rattle.std.proofs.lemmas.Bool.{eqb-true}
 use Rattle.std.proofs.lemmas.Result.{IfOk-weaker}
 use Rattle.std.specs.List.{IsDistinct}

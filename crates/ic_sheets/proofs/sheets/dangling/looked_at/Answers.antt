@@ -1,4 +1,4 @@
-use Rattle.std.proofs.Common.{ap, not, subst, sym, ◌∙◌, ◌++◌, ◌∷◌, [], List, ℕ, Some}
+use Rattle.std.proofs.Common.{ap, subst, sym, ◌∙◌, ◌++◌, ◌∷◌, [], List, ℕ, Some}
 use Rattle.ic_sheets.proofs.MakesLemmas.{looked_at_listed, looked_at_pushed}
 use Rattle.ic_sheets.specs.Index.{AreLookedAt}
 use Rattle.ic_sheets.proofs.sheets.dangling.looked_at.Goals as goal
