@@ -8,7 +8,6 @@ import threading
 
 sys.path.insert(0, os.path.dirname(os.path.abspath(__file__)))
 
-from ic_laws import tokens  # noqa: E402
 from ic_laws.binding import spelled  # noqa: E402
 from ic_laws.core_book import spelling_of  # noqa: E402
 from ic_laws.formula_reading import shown_at  # noqa: E402
@@ -103,7 +102,8 @@ def retypes(book):
 
 def mentions(t):
     """The mentions of sheets and of words, from left to right."""
-    found = [x for x in ([t[1]] if t[0] in ("Reference", "Word", "Call") else [None] if t[0] == "Fun" else [])]
+    here = {"Reference": t[1:2], "Word": t[1:2], "Call": t[1:2], "Local": t[1:3], "Fun": (None,)}
+    found = list(here.get(t[0], ()))
     for x in below(t):
         found += mentions(x)
     return found
@@ -121,7 +121,7 @@ def bound_anew(before, after):
     """What dangled and is found means something that came, has another name, or came to life."""
     old, names = dict(formulas(before)), {s.id: s.name for s in before.sheets}
     keys = {key_of(spelling_of(d)): d.name for d in before.definitions}
-    new_keys = {key_of(spelling_of(d)): d.name for d in after.definitions}
+    new_keys, new_names = {key_of(spelling_of(d)): d.name for d in after.definitions}, {s.id: s.name for s in after.sheets}
     for site, formula in formulas(after):
         if site not in old or formula[0] == "Raw":
             continue
@@ -130,7 +130,7 @@ def bound_anew(before, after):
                 continue
             if b[0] == "Sheet" and b[1] in names and names[b[1]] == next(s.name for s in after.sheets if s.id == b[1]):
                 yield "bound to an old sheet", site, a, b
-            if b[0] == "Name" and keys.get(b[1]) == new_keys[b[1]] and (b[1].scope is None or b[1].scope in names):
+            if b[0] == "Name" and keys.get(b[1]) == new_keys[b[1]] and (b[1].scope is None or names.get(b[1].scope) == new_names.get(b[1].scope, 0)):
                 yield "bound to an old definition", site, a, b
 
 
@@ -194,7 +194,6 @@ def broken(lines):
 
 
 def main(words):
-    tokens.READS_LOCALS = False
     sessions = count = bad = 0
     for folder in words:
         for path in sorted(glob.glob(os.path.join(folder, "*.lines"))):

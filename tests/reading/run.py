@@ -1,6 +1,6 @@
 """Runs sessions of command lines by the definitions of the machine, as they were retold here, and compares the replies.
 
-python3 tests/reading/run.py FOLDER.. [--names-behind-sheets] [--core] [--without=WORD]: each folder has files NAME.lines with the
+python3 tests/reading/run.py FOLDER.. [--no-names-behind-sheets] [--core] [--without=WORD]: each folder has files NAME.lines with the
 lines and NAME.replies with the replies that are wanted. With --core the core machine answers, with its commands alone; commands
 with a word in their name can be left out. The first difference of each session is shown; the status is 1 where there is one."""
 import glob
@@ -47,7 +47,7 @@ def show(name, lines, found):
 
 
 def main(words):
-    tokens.READS_LOCALS = "--names-behind-sheets" in words
+    tokens.READS_LOCALS = "--no-names-behind-sheets" not in words
     one_step, rows = (core_machine, SERVED) if "--core" in words else (machine, COMMANDS)
     for word in words:
         if word.startswith("--without="):

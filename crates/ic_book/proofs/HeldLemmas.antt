@@ -11,7 +11,7 @@ use Rattle.ic_laws.proofs.keeping.Deletes.{delete_dangles}
 use Rattle.ic_laws.proofs.keeping.Moves.{move_keeps}
 use Rattle.ic_laws.proofs.keeping.Renames.{add_binds, rename_binds, rename_keeps}
 use Rattle.ic_laws.specs.BookTrees.{BookKeepsFound, IsMoved, with_body_tree, with_sheet_at_end, with_trees}
-use Rattle.ic_laws.specs.Changes.{changed_tree, definition_added, definition_gone, sheet_gone, sheet_named}
+use Rattle.ic_laws.specs.Changes.{Change, changed_tree, definition_added, definition_gone, sheet_gone, sheet_named}
 use Rattle.ic_laws.specs.CoreBook.{CellPlace, CoreBook, Definition, Sheet as CoreSheet, formula_at, fresh_id, greatest_id, has_sheet, scene_of, spelling_of}
 use Rattle.ic_laws.specs.CoreStep.{add_sheet_causes, add_sheet_refusal, changed_by, delete_refusal, formula_of, has_other_sheet, lacks_sheet, move_refusal, moved, rename_causes, rename_refusal, unless_refused, updated_at, with_new_sheet, with_sheet_name, without_sheet}
 use Rattle.ic_laws.specs.Greatest.{greatest}
@@ -317,25 +317,38 @@ module _ (inside : Inside) (h : IsHeld inside) where
   of_sheets : (now : List HeldSheet) (sheets : List Sheet) → sheets_of now ≡ sheets → after now ds ≡ record book { sheets = sheets }
   of_sheets now sheets e = ap (λ (sheets : List Sheet). let b : Book = record book { sheets = sheets } in b) e
 
+  -- the changes of sheets, told by the definitions alone
+  pub same_naming : (id : ℕ) (called : List ℕ) → sheet_named (definitions_scene ds) id called ≡ sheet_named (scene_in book) id called
+  same_naming id called = refl
+
+  pub same_going : (id : ℕ) (called : List ℕ) → sheet_gone (definitions_scene ds) id called ≡ sheet_gone (scene_in book) id called
+  same_going id called = refl
+
   module _ (now : List HeldSheet) (nds : List Definition) where
     pub added : (called : List ℕ) (id : ℕ) → add_sheet_refusal (core_of book) called ≡ None → fresh_id (core_of book) ≡ Some id
-        → sheets_of now ≡ map (changed_pool (sheet_named id called)) (sheets_of ws) ++ record { id = id; name = called; pool = []; grid = empty_grid; tab = plain_tab } ∷ [] → nds ≡ map (with_body_tree (changed_tree (sheet_named id called))) ds
+        → sheets_of now ≡ map (changed_pool (sheet_named (definitions_scene ds) id called)) (sheets_of ws) ++ record { id = id; name = called; pool = []; grid = empty_grid; tab = plain_tab } ∷ [] → nds ≡ map (with_body_tree (changed_tree (sheet_named (definitions_scene ds) id called))) ds
         → after now nds ≡ book_changed_by (with_added_sheet called) book
     added called id none fresh e f =
-        of_parts now nds _ _ e f
+        of_parts now nds _ _
+        (e ∙ ap (λ (change : Change). let all : List Sheet = map (changed_pool change) (sheets_of ws) ++ record { id = id; name = called; pool = []; grid = empty_grid; tab = plain_tab } ∷ [] in all) (same_naming id called))
+        (f ∙ ap (λ (change : Change). map (with_body_tree (changed_tree change)) ds) (same_naming id called))
         ∙ sym (added_is n are book (core_valid book h) (pools_valid book h) called id (none_holds (add_sheet_causes (core_of book) called) none).1.0 (fresh_is _ (greatest_id (core_of book)) id fresh))
 
     pub renamed : (index : ℕ) (called : List ℕ) (s : HeldSheet) → rename_refusal (core_of book) index called ≡ None → slice_get ws index ≡ Some s
-        → sheets_of now ≡ updated_at (λ s. record s { name = called }) index (map (changed_pool (sheet_named s.id called)) (sheets_of ws)) → nds ≡ map (with_body_tree (changed_tree (sheet_named s.id called))) ds
+        → sheets_of now ≡ updated_at (λ s. record s { name = called }) index (map (changed_pool (sheet_named (definitions_scene ds) s.id called)) (sheets_of ws)) → nds ≡ map (with_body_tree (changed_tree (sheet_named (definitions_scene ds) s.id called))) ds
         → after now nds ≡ book_changed_by (with_renamed_sheet index called) book
     renamed index called s none at e f =
-        of_parts now nds _ _ e f
+        of_parts now nds _ _
+        (e ∙ ap (λ (change : Change). updated_at (λ (s : Sheet). let one : Sheet = record s { name = called } in one) index (map (changed_pool change) (sheets_of ws))) (same_naming s.id called))
+        (f ∙ ap (λ (change : Change). map (with_body_tree (changed_tree change)) ds) (same_naming s.id called))
         ∙ sym (renamed_is n are book (core_valid book h) (pools_valid book h) index called (sheet_of s) (slice_get-map sheet_of ws index ∙ ap (option_map sheet_of) at) (none_holds (rename_causes (core_of book) index called) none).1.0)
 
-    pub removed : (index : ℕ) (s : HeldSheet) → slice_get ws index ≡ Some s → sheets_of now ≡ remove (map (changed_pool (sheet_gone s.id s.name)) (sheets_of ws)) index → nds ≡ map (with_body_tree (changed_tree (sheet_gone s.id s.name))) ds
+    pub removed : (index : ℕ) (s : HeldSheet) → slice_get ws index ≡ Some s → sheets_of now ≡ remove (map (changed_pool (sheet_gone (definitions_scene ds) s.id s.name)) (sheets_of ws)) index → nds ≡ map (with_body_tree (changed_tree (sheet_gone (definitions_scene ds) s.id s.name))) ds
         → after now nds ≡ book_changed_by (with_removed_sheet index) book
     removed index s at e f =
-        of_parts now nds _ _ e f ∙ sym (removed_is n are book (core_valid book h) (pools_valid book h) index (sheet_of s) (slice_get-map sheet_of ws index ∙ ap (option_map sheet_of) at))
+        of_parts now nds _ _
+        (e ∙ ap (λ (change : Change). remove (map (changed_pool change) (sheets_of ws)) index) (same_going s.id s.name))
+        (f ∙ ap (λ (change : Change). map (with_body_tree (changed_tree change)) ds) (same_going s.id s.name)) ∙ sym (removed_is n are book (core_valid book h) (pools_valid book h) index (sheet_of s) (slice_get-map sheet_of ws index ∙ ap (option_map sheet_of) at))
 
     pub defined : (new : Definition) → sheets_of now ≡ map (changed_pool (definition_added (spelling_of new))) (sheets_of ws) → nds ≡ map (with_body_tree (changed_tree (definition_added (spelling_of new)))) ds ++ new ∷ []
         → after now nds ≡ book_changed_by (with_added_definition new) book
@@ -349,18 +362,18 @@ module _ (inside : Inside) (h : IsHeld inside) where
   put now from to e = of_sheets now _ (ap sheets_of e ∙ moved-map sheet_of from to ws)
 
   pub binds_added : (called : List ℕ) → add_sheet_refusal (core_of book) called ≡ None
-      → changed_by n (with_new_sheet called) (core_of book) ≡ with_sheet_at_end (greatest_id (core_of book) + 1) called (with_trees (changed_tree (sheet_named (greatest_id (core_of book) + 1) called)) (core_of book))
+      → changed_by n (with_new_sheet called) (core_of book) ≡ with_sheet_at_end (greatest_id (core_of book) + 1) called (with_trees (changed_tree (sheet_named (scene_in book) (greatest_id (core_of book) + 1) called)) (core_of book))
   binds_added called none = add_binds n (core_of book) _ called [] are (core_valid book h) (ap (λ r. unless_refused r (changed_by n (with_new_sheet called) (core_of book)) []) none)
 
   pub keeps_renamed : (index : ℕ) (called : List ℕ) → rename_refusal (core_of book) index called ≡ None → BookKeepsFound (core_of book) (changed_by n (with_sheet_name index called) (core_of book))
   keeps_renamed index called none = rename_keeps n (core_of book) _ index called [] are (core_valid book h) (ap (λ r. unless_refused r (changed_by n (with_sheet_name index called) (core_of book)) []) none)
 
   pub binds_renamed : (index : ℕ) (called : List ℕ) (sheet : CoreSheet) → rename_refusal (core_of book) index called ≡ None → slice_get (core_of book).sheets index ≡ Some sheet
-      → changed_by n (with_sheet_name index called) (core_of book) ≡ with_sheet_name index called (with_trees (changed_tree (sheet_named sheet.id called)) (core_of book))
+      → changed_by n (with_sheet_name index called) (core_of book) ≡ with_sheet_name index called (with_trees (changed_tree (sheet_named (scene_in book) sheet.id called)) (core_of book))
   binds_renamed index called sheet none at = rename_binds n (core_of book) _ index called sheet [] are (core_valid book h) at (ap (λ r. unless_refused r (changed_by n (with_sheet_name index called) (core_of book)) []) none)
 
   pub dangles_removed : (index : ℕ) (sheet : CoreSheet) → delete_refusal (core_of book) index ≡ None → slice_get (core_of book).sheets index ≡ Some sheet
-      → changed_by n (without_sheet index) (core_of book) ≡ without_sheet index (with_trees (changed_tree (sheet_gone sheet.id sheet.name)) (core_of book))
+      → changed_by n (without_sheet index) (core_of book) ≡ without_sheet index (with_trees (changed_tree (sheet_gone (scene_in book) sheet.id sheet.name)) (core_of book))
   dangles_removed index sheet none at = delete_dangles n (core_of book) _ index sheet [] are (core_valid book h) at (ap (λ r. unless_refused r (changed_by n (without_sheet index) (core_of book)) []) none)
 
   pub keeps_moved : (from to : ℕ) → move_refusal (core_of book) from to ≡ None → IsMoved from to (core_of book) (record (core_of book) { sheets = moved from to (core_of book).sheets })

@@ -29,7 +29,6 @@ pub mod MentionPairs
 pub mod ModelLemmas
 pub mod NameHeld
 pub mod NameLemmas
-pub mod NeverMentioned
 pub mod NothingLemmas
 pub mod NumberedLemmas
 pub mod PartLemmas

@@ -26,12 +26,6 @@ use Rattle.ic_book.proofs.LookUpLemmas.{looks_up_is}
 use Rattle.ic_book.proofs.NameLemmas.{index_is, key_free, name_there, scope_is, scope_seen, scope_there}
 use Rattle.ic_book.proofs.SparedBodies.{adding_bodies}
 
--- the index of a sheet is less than the number of sheets
-falls_inside : (ws : List HeldSheet) (i : ℕ) (id : Option ℕ) → option_map (λ (s : HeldSheet). let id : Option ℕ = Some s.id in id) (slice_get ws i) ≡ Some id → i < length ws
-falls_inside [] i id e = cc
-falls_inside (s ∷ ws) zero id e = omega arith
-falls_inside (s ∷ ws) (suc i) id e = let lt = falls_inside ws i id e in omega (arith, lt)
-
 some_is : (a b : Body) → Some a ≡ Some b → a ≡ b
 some_is a b e = cc
 
@@ -84,17 +78,8 @@ module _ (inside : Inside) (h : IsHeld inside)
     is_free = ap (λ (d : Definition). list_any (is_named d.name d.scope) ds) made ∙ key_free (notations_in held_book) (core_of held_book) called index text id scope_here none_here
 
     -- one that is local to none leaves the bodies in which all was found
-    pub it_spares : index ≡ None → AllByRecursion (StaysWhereFound (definition_added (spelling_of new))) ds
-    it_spares given =
-        let global : new.scope ≡ None = ap (λ (d : Definition). d.scope) made ∙ sym its_scope ∙ ap (scope_or_none core) given in
-        adding_bodies (core_of held_book) (spelling_of new) global (ap (λ s. list_any (is_named new.name s) ds) (sym global) ∙ is_free) (notations_in held_book) (core_valid held_book h)
-
-    -- and one that is local to a sheet is so to one that is there
-    pub it_is_within : (i : ℕ) → index ≡ Some i → i < length ws
-    it_is_within i given = falls_inside ws i id (sym (scope_seen ws i) ∙ ap (scope_of (core_of held_book)) (sym given) ∙ scope_here)
-
-    pub its_sheet : (i : ℕ) → index ≡ Some i → (s : HeldSheet) → slice_get ws i ≡ Some s → new.scope ≡ Some s.id
-    its_sheet i given s at = ap (λ (d : Definition). d.scope) made ∙ sym (ap (λ o. unwrap_or o None) (scope_there (core_of held_book) ws index i s refl given at ∙ scope_here))
+    pub it_spares : new.scope ≡ None → AllByRecursion (StaysWhereFound (definition_added (spelling_of new))) ds
+    it_spares global = adding_bodies (core_of held_book) (spelling_of new) global (ap (λ s. list_any (is_named new.name s) ds) (sym global) ∙ is_free) (notations_in held_book) (core_valid held_book h)
 
     -- the look-ups that it leaves
     pub defined_looks_up : (now : List HeldSheet) → look_ups now ≡ map (looks_up_after (definition_added (spelling_of new))) ws

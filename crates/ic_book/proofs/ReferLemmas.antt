@@ -98,6 +98,7 @@ module _ (row column : ℤ) where
   kind_inside (one.Bool value) h e = (tt, tt)
   kind_inside (one.Err code) h e = (tt, tt)
   kind_inside (one.Reference sheet place) h e = (negated (is_inside place row column) e, tt)
+  kind_inside (one.Local sheet name) h e = (tt, tt)
   kind_inside (one.Word name) h e = (tt, tt)
   kind_inside one.Empty h e = (tt, tt)
   kind_inside (one.Paren x) h e = (tt, h.0 e)
@@ -118,6 +119,7 @@ module _ (row column : ℤ) where
   kind_told (one.Bool value) h here below = refl
   kind_told (one.Err code) h here below = refl
   kind_told (one.Reference sheet place) h here below = ap not here
+  kind_told (one.Local sheet name) h here below = refl
   kind_told (one.Word name) h here below = refl
   kind_told one.Empty h here below = refl
   kind_told (one.Paren x) h here below = h.1 below

@@ -21,15 +21,15 @@ looks_up_in change m = looks_up_over change m.book.sheets m.has_all
 
 -- A sheet of this name came: its look-up has all, for it keeps no formulas; the others are there as before where they stay.
 abbrev pub LooksUpAdded : List ℕ → ModelState → ModelState → Type 0
-LooksUpAdded name old new = new.has_all ≡ looks_up_in (sheet_named (greatest_id (core_of old.book) + 1) name) old ++ true ∷ []
+LooksUpAdded name old new = new.has_all ≡ looks_up_in (sheet_named (scene_of (core_of old.book)) (greatest_id (core_of old.book) + 1) name) old ++ true ∷ []
 
 -- the sheet at an index got this name
 abbrev pub LooksUpNamed : ℕ → List ℕ → ModelState → ModelState → Type 0
-LooksUpNamed index name old new = IfSome (slice_get old.book.sheets index) (λ sheet. new.has_all ≡ looks_up_in (sheet_named sheet.id name) old)
+LooksUpNamed index name old new = IfSome (slice_get old.book.sheets index) (λ sheet. new.has_all ≡ looks_up_in (sheet_named (scene_of (core_of old.book)) sheet.id name) old)
 
 -- the sheet at an index went
 abbrev pub LooksUpWithout : ℕ → ModelState → ModelState → Type 0
-LooksUpWithout index old new = IfSome (slice_get old.book.sheets index) (λ sheet. new.has_all ≡ remove (looks_up_in (sheet_gone sheet.id sheet.name) old) index)
+LooksUpWithout index old new = IfSome (slice_get old.book.sheets index) (λ sheet. new.has_all ≡ remove (looks_up_in (sheet_gone (scene_of (core_of old.book)) sheet.id sheet.name) old) index)
 
 -- A definition of this name came, local to the sheet at this index, from 0, or to none.
 abbrev pub LooksUpDefined : List ℕ → Option ℕ → ModelState → ModelState → Type 0

@@ -12,17 +12,17 @@ use Rattle.ic_book.specs.Book.{Book, core_of, notations_in}
 -- A sheet of this name came: what dangled by an agreeing one is bound to it.
 abbrev pub BindsAdded : List ℕ → Book → Book → Type 0
 BindsAdded name old new =
-    core_of new ≡ with_sheet_at_end (greatest_id (core_of old) + 1) name (with_trees (changed_tree (sheet_named (greatest_id (core_of old) + 1) name)) (core_of old))
+    core_of new ≡ with_sheet_at_end (greatest_id (core_of old) + 1) name (with_trees (changed_tree (sheet_named (scene_of (core_of old)) (greatest_id (core_of old) + 1) name)) (core_of old))
 
 -- The sheet at an index got this name: what dangled by an agreeing one is bound to it.
 abbrev pub BindsNamed : ℕ → List ℕ → Book → Book → Type 0
 BindsNamed index name old new =
-    (sheet : Sheet) → slice_get (core_of old).sheets index ≡ Some sheet → core_of new ≡ with_sheet_name index name (with_trees (changed_tree (sheet_named sheet.id name)) (core_of old))
+    (sheet : Sheet) → slice_get (core_of old).sheets index ≡ Some sheet → core_of new ≡ with_sheet_name index name (with_trees (changed_tree (sheet_named (scene_of (core_of old)) sheet.id name)) (core_of old))
 
 -- The sheet at an index went: what meant it dangles by its name.
 abbrev pub DanglesWithout : ℕ → Book → Book → Type 0
 DanglesWithout index old new =
-    (sheet : Sheet) → slice_get (core_of old).sheets index ≡ Some sheet → core_of new ≡ without_sheet index (with_trees (changed_tree (sheet_gone sheet.id sheet.name)) (core_of old))
+    (sheet : Sheet) → slice_get (core_of old).sheets index ≡ Some sheet → core_of new ≡ without_sheet index (with_trees (changed_tree (sheet_gone (scene_of (core_of old)) sheet.id sheet.name)) (core_of old))
 
 -- A definition of this name, scope and body came: what could mean it does.
 abbrev pub BindsDefined : List ℕ → Option ℕ → List ℕ → Book → Book → Type 0

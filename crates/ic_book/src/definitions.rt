@@ -24,13 +24,14 @@ use ic_laws::OutOfMemory;
 use ic_laws::scan::push_text;
 use ic_refs::is_valid_identifier;
 pub(crate) use parts::bodies_without;
-use parts::{add_for_all, add_for_sheet, delete_at};
+use parts::{add_definition, delete_at};
 
 impl<'a> Model<'a> {
     /// Adds a definition of this name at the end, local to the sheet at an index, from 0, or to none. Its body is a
     /// reference with the name of a sheet of the book, or a LAMBDA with or without `=` before it, in the notation in force
     /// or else in English; what it mentions is found for that sheet, the definition itself too. Words that could mean the
-    /// definition do from then on: a local one takes over those of its sheet that meant one of an agreeing name.
+    /// definition do from then on: a local one takes over those of its sheet that meant one of an agreeing name, and words
+    /// with that sheet that meant none.
     ///
     /// `InvalidName`, `InvalidScope`, `NameExists`, `InvalidNameFormula`, in this order, each exactly where it holds;
     /// `OutOfMemory` only where none of the first three does. An error changes nothing.
@@ -125,12 +126,7 @@ impl<'a> Model<'a> {
     {
         let (id, body) = self.checked_definition(name, scope, formula)?;
         let definition = self.definition_of(name, id, &body)?;
-        match scope {
-            None => add_for_all(&mut self.contents, definition)?,
-            Some(index) => {
-                add_for_sheet(&mut self.contents, index as usize, definition)?;
-            }
-        }
+        add_definition(&mut self.contents, definition)?;
         Ok(())
     }
 

@@ -203,9 +203,12 @@ impl<'a> Model<'a> {
         let named = SheetNamed {
             id,
             name: sheet_name,
+            definitions: &self.contents.definitions,
         };
         let bodies = self.contents.definitions.prepare_dangling(&named)?;
-        self.contents.sheets.add_sheet(id, sheet_name)?;
+        self.contents
+            .sheets
+            .add_sheet(id, sheet_name, &self.contents.definitions)?;
         self.contents.definitions.apply(bodies);
         Ok(())
     }
@@ -269,9 +272,12 @@ impl<'a> Model<'a> {
         let named = SheetNamed {
             id: self.contents.sheets.as_slice()[index].id,
             name: new_name,
+            definitions: &self.contents.definitions,
         };
         let bodies = self.contents.definitions.prepare_dangling(&named)?;
-        self.contents.sheets.rename_sheet(index, new_name)?;
+        self.contents
+            .sheets
+            .rename_sheet(index, new_name, &self.contents.definitions)?;
         self.contents.definitions.apply(bodies);
         Ok(())
     }
@@ -295,7 +301,9 @@ impl<'a> Model<'a> {
             return Err(BookError::SheetIndexTooLarge);
         }
         let bodies = bodies_without(&self.contents, index)?;
-        self.contents.sheets.delete_sheet(index)?;
+        self.contents
+            .sheets
+            .delete_sheet(index, &self.contents.definitions)?;
         self.contents.definitions.apply(bodies);
         Ok(())
     }

@@ -15,6 +15,7 @@ use Rattle.ic_laws.specs.Scene.{definition_at, found_name, key_of, same_key, sam
 use Rattle.ic_laws.specs.declared.scene.DefinitionSpelling.{DefinitionSpelling}
 use Rattle.ic_laws.specs.declared.tree.NameKey.{NameKey}
 use Rattle.ic_laws.specs.declared.tree.NameMention.{NameMention}
+use Rattle.ic_laws.specs.declared.tree.NameMention.TheVariants as names
 use Rattle.ic_definitions.specs.Named.{definitions_scene, key_in}
 
 never : (a : Bool) → (a && false) ≡ false
@@ -51,9 +52,10 @@ module _ (ds : List Definition) (index : ℕ) (d : Definition) (at : slice_get d
   same_read read e = cc
 
   -- so this is the change, told by the definition that is read there
-  pub change_is : (read : Definition) (key : NameKey) (mention : NameMention) → index < length ds → read ≡ get_or ds index read → key ≡ key_in read
+  pub change_is : (read : Definition) (key : NameKey) (name : List ℕ) (mention : NameMention) → index < length ds → read ≡ get_or ds index read → key ≡ key_in read → name ≡ read.name
       → mention ≡ name_or_dangling d.name (found_name (definitions_scene (remove ds index)) None d.name)
-      → OfWords (λ scope m. is_of_name key m) mention ≡ definition_gone (definitions_scene (remove ds index)) (spelling_of d)
-  change_is read key mention lt is e f =
+      → OfWords (λ scope m. is_of_name key m) mention (λ sheet m. is_of_name key m) (names.Dangling name) ≡ definition_gone (definitions_scene (remove ds index)) (spelling_of d)
+  change_is read key name mention lt is e n f =
       let same : read ≡ d = same_read read (sym (slice_get_read ds (length ds) index read refl lt is) ∙ at) in
-      ap₂ (λ (k : NameKey) (becomes : NameMention). OfWords (λ scope m. is_of_name k m) becomes) (e ∙ ap key_in same) f
+      ap₂ (λ (k : NameKey) (becomes : NameMention). OfWords (λ scope m. is_of_name k m) becomes (λ sheet m. is_of_name k m) (names.Dangling name)) (e ∙ ap key_in same) f
+      ∙ ap (λ (t : List ℕ). OfWords (λ scope m. is_of_name (key_in d) m) (name_or_dangling d.name (found_name (definitions_scene (remove ds index)) None d.name)) (λ sheet m. is_of_name (key_in d) m) (names.Dangling t)) (n ∙ ap (λ (x : Definition). x.name) same)

@@ -7,6 +7,7 @@ pub mod FoldLaws
 pub mod FormLemmas
 mod FormulaExamples
 mod LineExamples
+mod LocalExamples
 mod NameExamples
 mod ReadingExamples
 pub mod RunLemmas

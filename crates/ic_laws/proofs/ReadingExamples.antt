@@ -5,9 +5,10 @@ use Rattle.std.specs.Fmt.{digits}
 use Rattle.ucd_derived.proofs.Computing.{ucd_derived}
 use Rattle.ic_laws.specs.Amount.{fraction_digits}
 use Rattle.ic_laws.specs.Following.{spelled_out}
-use Rattle.ic_laws.specs.NextToken.{plain_of, tokens_by, tokens_of}
+use Rattle.ic_laws.specs.NextToken.{bare_of, tokens_by, tokens_of}
 use Rattle.ic_laws.specs.Parse.{SpelledKind, node}
 use Rattle.ic_laws.specs.Reading.{Fits, FitsKind, FitsPair, IsWell, Reads, printed}
+use Rattle.ic_laws.specs.SheetText.{read_local}
 use Rattle.ic_laws.specs.Split.{longest_split}
 use Rattle.ic_laws.specs.Token.{Token, Num, Boolean, Operator, Open, Close, Lexes}
 use Rattle.ic_laws.specs.Tree.{Spelled}
@@ -23,7 +24,7 @@ use Rattle.ic_laws.proofs.tokens.Splits.{none_some}
 
 -- -1.5 <= _0, where _0 is the word of true
 lexed : tokens_of smallest (codes "-1.5 <= _0") ≡ Some (Operator signs.Minus ∷ Num (pos 1500000000) ∷ Operator signs.AtMost ∷ Boolean true ∷ [])
-unfolding longest_split plain_of tokens_by number_below ucd_derived
+unfolding longest_split bare_of tokens_by read_local number_below ucd_derived
 lexed = refl
 
 falls_into_tokens : Lexes smallest (codes "-1.5 <= _0") (Operator signs.Minus ∷ Num (pos 1500000000) ∷ Operator signs.AtMost ∷ Boolean true ∷ [])
@@ -31,7 +32,7 @@ falls_into_tokens = tokens_of_sound smallest smallest_laws _ _ lexed
 
 -- an open quote, and a character that begins no token
 nothing_lexed : (tokens_of smallest (codes "1+\"a") ≡ None) × (tokens_of smallest (codes "1 ? 2") ≡ None)
-unfolding longest_split plain_of tokens_by number_below ucd_derived
+unfolding longest_split bare_of tokens_by read_local number_below ucd_derived
 nothing_lexed = (refl, refl)
 
 open_quote : (ts : List Token) → Lexes smallest (codes "1+\"a") ts → ⊥
@@ -118,7 +119,7 @@ reads_back : Reads smallest (codes "(1+2)*_0") tree
 reads_back = subst (λ text. Reads smallest text tree) canonical (printed_reads smallest smallest_laws tree fits)
 
 spaced : tokens_of smallest (codes " ( 1 + 2.0 )* _0 ") ≡ Some (Open ∷ Num (pos 1000000000) ∷ Operator signs.Plus ∷ Num (pos 2000000000) ∷ Close ∷ Operator signs.Times ∷ Boolean true ∷ [])
-unfolding longest_split plain_of tokens_by number_below ucd_derived
+unfolding longest_split bare_of tokens_by read_local number_below ucd_derived
 spaced = refl
 
 reads_spaced : Reads smallest (codes " ( 1 + 2.0 )* _0 ") tree

@@ -111,4 +111,6 @@ smallest_laws = record {
   reference_begins = λ text e. refl;
   shorter_than = λ text rest after r short end e. absurd (cc);
   within_function = λ n text rest after r e end f. absurd (cc);
+  within_local = λ sheet word rest after r h k end e. absurd (cc);
+  local_within = λ r sheet word rest after can end e. absurd (cc);
 }

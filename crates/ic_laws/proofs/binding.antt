@@ -2,6 +2,7 @@ pub mod Again
 mod BindingExamples
 pub mod FoldedTexts
 pub mod Induction
+pub mod LocalWords
 pub mod PairLemmas
 pub mod SceneLemmas
 pub mod Settled

@@ -2,11 +2,13 @@ pub mod Bytes
 pub mod Characters
 pub mod Kinds
 pub mod Lexing
+pub mod Locals
 pub mod NameReaders
 pub mod Next
 pub mod Numbers
 pub mod Plain
 pub mod Quoted
+pub mod SheetTexts
 pub mod SignTables
 pub mod Splits
 pub mod Words

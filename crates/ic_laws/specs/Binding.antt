@@ -4,7 +4,7 @@ use Rattle.std.specs.Prelude.{◌≡◌, ℕ, List, [], ◌∷◌, ◌++◌, map
 use Rattle.std.specs.List.{list_any}
 use Rattle.ic_laws.specs.Name.{Agree, agrees}
 use Rattle.ic_laws.specs.Parse.{Pair, pair_of}
-use Rattle.ic_laws.specs.Scene.{found_name, found_sheet, definition_spelling, sheet_spelling}
+use Rattle.ic_laws.specs.Scene.{found_local, found_name, found_sheet, definition_spelling, sheet_spelling}
 use Rattle.ic_laws.specs.Tree.{Bound, Kind, Spelled}
 use Rattle.ic_laws.specs.declared.scene.Scene.{Scene}
 use Rattle.ic_laws.specs.declared.tree.LetPair.{LetPair, roll-LetPair}
@@ -47,6 +47,11 @@ bound_sheet scene (Some name) = sheet_or_dangling name (found_sheet scene name)
 -- A word is the variable that is seen there, else the definition that it finds, else it dangles.
 abbrev pub bound_word : Scene → Option ℕ → Binders → List ℕ → NameMention
 bound_word scene scope binders word = if is_bound_by binders word then names.Var word else name_or_dangling word (found_name scene scope word)
+
+-- A word with its sheet is the definition that it finds among those that are local to that sheet, else it dangles.
+abbrev pub bound_local : Scene → SheetMention → List ℕ → NameMention
+bound_local scene (sheets.Sheet id) word = name_or_dangling word (found_local scene id word)
+bound_local scene mention word = names.Dangling word
 
 -- what a formula is bound to, by the variables that are seen where it stands
 abbrev pub Binds : Type 0
@@ -94,6 +99,7 @@ module _ (english : List ℕ → Option ℕ) (scene : Scene) (scope : Option ℕ
   bound_kind (one.Bool value) binders = one.Bool value
   bound_kind (one.Err error) binders = one.Err error
   bound_kind (one.Reference sheet place) binders = one.Reference (bound_sheet scene sheet) place
+  bound_kind (one.Local sheet word) binders = one.Local (bound_sheet scene sheet) (bound_local scene (bound_sheet scene sheet) word)
   bound_kind (one.Word word) binders = one.Word (bound_word scene scope binders word)
   bound_kind one.Empty binders = one.Empty
   bound_kind (one.Paren x) binders = one.Paren (x binders)
@@ -147,6 +153,7 @@ module _ (sheet_text : ℕ → List ℕ) (key_text : NameKey → List ℕ) where
   spelled_kind (one.Bool value) = one.Bool value
   spelled_kind (one.Err error) = one.Err error
   spelled_kind (one.Reference sheet place) = one.Reference (spelled_sheet sheet_text sheet) place
+  spelled_kind (one.Local sheet word) = one.Local (spelled_sheet sheet_text sheet) (spelled_word key_text word)
   spelled_kind (one.Word word) = one.Word (spelled_word key_text word)
   spelled_kind one.Empty = one.Empty
   spelled_kind (one.Paren x) = one.Paren x

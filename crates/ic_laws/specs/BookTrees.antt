@@ -5,7 +5,7 @@ use Rattle.std.specs.List.{AllByRecursion, slice_get}
 use Rattle.std.specs.List.Sorted.{IsPermutation}
 use Rattle.ic_laws.specs.CoreBook.{CellPlace, CoreBook, Definition, Sheet, formula_at}
 use Rattle.ic_laws.specs.Keeping.{mapped_cells}
-use Rattle.ic_laws.specs.Mentions.{AllMentions, mapped}
+use Rattle.ic_laws.specs.Mentions.{AllMentions, LocalMention, mapped}
 use Rattle.ic_laws.specs.Tree.{Bound}
 use Rattle.ic_laws.specs.declared.tree.Formula.{Formula}
 use Rattle.ic_laws.specs.declared.tree.Formula.TheVariants as formulas
@@ -60,12 +60,17 @@ abbrev pub LeavesFoundName : (NameMention → NameMention) → NameMention → T
 LeavesFoundName g (names.Dangling word) = Unit {0}
 LeavesFoundName g mention = g mention ≡ mention
 
+-- so of a word with its sheet, whether the sheet or the word was found
+abbrev pub LeavesFoundLocal : (SheetMention → NameMention → LocalMention) → SheetMention → NameMention → Type 0
+LeavesFoundLocal h sheet name = LeavesFoundSheet (λ s. (h s name).0) sheet × LeavesFoundName (λ w. (h sheet w).1) name
+
 -- The second tree is the first but for mentions that dangled: each mention that was found stands in the second, too.
 pub record KeepsFound (t u : Bound) : Type 0 where
   pub sheet : SheetMention → SheetMention
   pub name : NameMention → NameMention
-  pub same : u ≡ mapped sheet name t
-  pub leaves : AllMentions (LeavesFoundSheet sheet) (LeavesFoundName name) t
+  pub local : SheetMention → NameMention → LocalMention
+  pub same : u ≡ mapped sheet name local t
+  pub leaves : AllMentions (LeavesFoundSheet sheet) (LeavesFoundName name) (LeavesFoundLocal local) t
 
 -- of two formulas; a text that didn't read stays
 abbrev pub FormulaKeepsFound : Formula → Formula → Type 0

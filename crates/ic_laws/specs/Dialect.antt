@@ -4,8 +4,9 @@ use Rattle.std.specs.Str.{IsCharBoundary}
 use Rattle.std.specs.List.{list_all, list_any}
 use Rattle.ic_laws.specs.Amount.{unsigned_text}
 use Rattle.ic_laws.specs.Character.{comma, dot, hash, semicolon}
-use Rattle.ic_laws.specs.Name.{Agree, is_variable, is_variable_form}
+use Rattle.ic_laws.specs.Name.{Agree, is_identifier, is_sheet_name, is_variable, is_variable_form}
 use Rattle.ic_laws.specs.Scan.{IsEnd, first_is, is_blank, is_digit, is_letter, is_word_character}
+use Rattle.ic_laws.specs.SheetText.{local_text, read_local}
 use Rattle.ic_laws.specs.declared.dialect.WordKind.{WordKind}
 use Rattle.ic_laws.specs.declared.dialect.WordKind.TheVariants as kinds
 use Rattle.ic_laws.specs.declared.reference.RefToken.{RefToken}
@@ -105,6 +106,10 @@ pub record IsLawful (d : DialectMeaning) : Type 0 where
   pub shorter_than : (text rest after : List ℕ) (r : RefToken) → IsWordOrAmount d text → IsEnd rest → d.read_ref (text ++ rest) ≡ Some (r, after) → length rest < length after
   -- before an end, no reference is longer than a function word
   pub within_function : (n : ℕ) (word rest after : List ℕ) (r : RefToken) → d.word kinds.Function n ≡ Some word → IsEnd rest → d.read_ref (word ++ rest) ≡ Some (r, after) → length rest ≤ length after
+  -- before an end, a reference is shorter than a word with its sheet in its canonical spelling, and a word with its sheet
+  -- is shorter than the spelling of a reference
+  pub within_local : (sheet word rest after : List ℕ) (r : RefToken) → is_sheet_name sheet ≡ true → is_identifier word ≡ true → IsEnd rest → d.read_ref (local_text sheet word ++ rest) ≡ Some (r, after) → length rest < length after
+  pub local_within : (r : RefToken) (sheet word rest after : List ℕ) → d.can_spell r ≡ true → IsEnd rest → read_local (d.spell_ref r ++ rest) ≡ Some ((sheet, word), after) → length rest < length after
 
 -- What is found at a byte of a text: the error whose word begins there, with its number of bytes. None only where no
 -- error word begins there.

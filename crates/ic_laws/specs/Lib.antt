@@ -26,6 +26,7 @@ pub mod Reading
 pub mod Refusal
 pub mod Scan
 pub mod Scene
+pub mod SheetText
 pub mod Split
 pub mod Token
 pub mod TokenKinds

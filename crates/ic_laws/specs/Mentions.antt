@@ -9,21 +9,23 @@ use Rattle.ic_laws.specs.declared.tree.Tree.{Tree-F, roll-Tree, fold-Tree, every
 use Rattle.ic_laws.specs.declared.tree.Tree.TheOpen.{LetPair-F}
 use Rattle.ic_laws.specs.declared.tree.Tree.TheOpen as one
 
--- a fact of the mention of a node, where it has one
-abbrev pub OfMentions : (SheetMention → Type 0) → (NameMention → Type 0) → Kind SheetMention NameMention → Type 0
-OfMentions P Q (one.Reference sheet place) = P sheet
-OfMentions P Q (one.Word word) = Q word
-OfMentions P Q (one.Call word arguments) = Q word
-OfMentions P Q kind = Unit {0}
+-- a fact of the mention of a node, where it has one; of a word with its sheet one of the sheet, and one of both
+abbrev pub OfMentions : (SheetMention → Type 0) → (NameMention → Type 0) → (SheetMention → NameMention → Type 0) → Kind SheetMention NameMention → Type 0
+OfMentions P Q R (one.Reference sheet place) = P sheet
+OfMentions P Q R (one.Local sheet word) = P sheet × R sheet word
+OfMentions P Q R (one.Word word) = Q word
+OfMentions P Q R (one.Call word arguments) = Q word
+OfMentions P Q R kind = Unit {0}
 
 -- a fact of each mention of a formula
-abbrev pub AllMentions : (SheetMention → Type 0) → (NameMention → Type 0) → Bound → Type 0
-AllMentions P Q t = every-Tree SheetMention NameMention (OfMentions P Q) (λ pair. Unit {0}) t
+abbrev pub AllMentions : (SheetMention → Type 0) → (NameMention → Type 0) → (SheetMention → NameMention → Type 0) → Bound → Type 0
+AllMentions P Q R t = every-Tree SheetMention NameMention (OfMentions P Q R) (λ pair. Unit {0}) t
 
 -- some mention of a formula passes a test
-module _ (is_sheet : SheetMention → Bool) (is_word : NameMention → Bool) where
+module _ (is_sheet : SheetMention → Bool) (is_word : NameMention → Bool) (is_local : SheetMention → NameMention → Bool) where
   abbrev pub some_step : Tree-F SheetMention NameMention Bool Bool → Bool
   some_step (one.Reference sheet place) = is_sheet sheet
+  some_step (one.Local sheet word) = is_sheet sheet || is_local sheet word
   some_step (one.Word word) = is_word word
   some_step (one.Paren x) = x
   some_step (one.Prefix sign x) = x
@@ -40,7 +42,11 @@ module _ (is_sheet : SheetMention → Bool) (is_word : NameMention → Bool) whe
   abbrev pub some_mention : Bound → Bool
   some_mention t = fold-Tree SheetMention NameMention Bool Bool some_step (λ pair. pair.value) t
 
-module _ (f : SheetMention → SheetMention) (g : NameMention → NameMention) where
+-- a word with its sheet, both as mentions
+abbrev pub LocalMention : Type 0
+LocalMention = SheetMention × NameMention
+
+module _ (f : SheetMention → SheetMention) (g : NameMention → NameMention) (h : SheetMention → NameMention → LocalMention) where
   -- one node, with its mention replaced
   abbrev pub mapped_kind : Tree-F SheetMention NameMention Bound BoundPair → Kind SheetMention NameMention
   mapped_kind (one.Num units) = one.Num units
@@ -48,6 +54,7 @@ module _ (f : SheetMention → SheetMention) (g : NameMention → NameMention) w
   mapped_kind (one.Bool value) = one.Bool value
   mapped_kind (one.Err error) = one.Err error
   mapped_kind (one.Reference sheet place) = one.Reference (f sheet) place
+  mapped_kind (one.Local sheet word) = one.Local (h sheet word).0 (h sheet word).1
   mapped_kind (one.Word word) = one.Word (g word)
   mapped_kind one.Empty = one.Empty
   mapped_kind (one.Paren x) = one.Paren x

@@ -7,8 +7,9 @@ use Rattle.ic_laws.specs.Character.{double_quote, hash, semicolon}
 use Rattle.ic_laws.specs.Dialect.{DialectMeaning, boolean_number, error_number}
 use Rattle.ic_laws.specs.Name.{is_variable}
 use Rattle.ic_laws.specs.Scan.{begins_word, first_is, is_blank, is_digit, is_word_character, run_of, past_run}
+use Rattle.ic_laws.specs.SheetText.{read_local}
 use Rattle.ic_laws.specs.Split.{longest_split, or_else}
-use Rattle.ic_laws.specs.Token.{Token, Num, Str, Boolean, Err, Ref, Word, FunHead, NameHead, Separator, Operator, At, Percent, Hash, Open, Close, OpenBrace, CloseBrace, Semicolon, is_double_quote}
+use Rattle.ic_laws.specs.Token.{Token, Num, Str, Boolean, Err, Ref, Local, Word, FunHead, NameHead, Separator, Operator, At, Percent, Hash, Open, Close, OpenBrace, CloseBrace, Semicolon, is_double_quote}
 use Rattle.ic_laws.specs.declared.dialect.WordKind.TheVariants as kinds
 use Rattle.ic_laws.specs.declared.tree.BinarySign.TheVariants as signs
 use Rattle.ic_laws.specs.declared.tree.Error.{Error}
@@ -74,15 +75,23 @@ word_of d front rest =
     head_token (run_of is_word_character front) (d.find kinds.Function (run_of is_word_character front))
     else None
 
--- the token that front spells before rest, references aside
-unfoldable pub plain_of : DialectMeaning → List ℕ → List ℕ → Option Token
-plain_of d [] rest = None
-plain_of d (c ∷ cs) rest =
+-- the token that front spells before rest, references and words with their sheets aside
+unfoldable pub bare_of : DialectMeaning → List ℕ → List ℕ → Option Token
+bare_of d [] rest = None
+bare_of d (c ∷ cs) rest =
     if begins_word c then word_of d (c ∷ cs) rest
     else if is_digit c || c == d.decimal then option_map (λ units. Num (pos units)) (unsigned_amount d.decimal (c ∷ cs))
     else if c == double_quote then (if first_is is_double_quote rest then None else option_map Str (unquoted false cs))
     else if c == hash && not (bytes_eq cs []) then option_and_then (λ n. option_map Err (numbered error_number all_errors n)) (d.find kinds.Error (c ∷ cs))
     else look_up (sign_table d.list) (c ∷ cs)
+
+-- the word with its sheet that front spells before rest
+abbrev pub local_of : List ℕ → List ℕ → Option Token
+local_of front rest = option_and_then (λ found. if bytes_eq found.1 rest then Some (Local found.0.0 found.0.1) else None) (read_local (front ++ rest))
+
+-- the token that front spells before rest, references aside
+abbrev pub plain_of : DialectMeaning → List ℕ → List ℕ → Option Token
+plain_of d front rest = or_else (bare_of d front rest) (local_of front rest)
 
 -- the reference that front spells before rest
 abbrev pub reference_of : DialectMeaning → List ℕ → List ℕ → Option Token

@@ -1,10 +1,10 @@
 -- How a list of tokens is read as a tree: by operands, with loops for the signs after and between them.
 use Rattle.std.specs.Prelude.{ℕ, zero, suc, ◌+◌, List, [], ◌∷◌, length, Bool, true, false, ◌&&◌, Option, Some, None, option_map, option_and_then, nat_eq, nat_le, if◌then◌else◌}
 use Rattle.ic_laws.specs.Character.{comma}
-use Rattle.ic_laws.specs.Name.{is_variable}
+use Rattle.ic_laws.specs.Name.{is_identifier, is_sheet_name, is_variable}
 use Rattle.ic_laws.specs.Dialect.{DialectMeaning}
 use Rattle.ic_laws.specs.Position.{is_place_within}
-use Rattle.ic_laws.specs.Token.{Token, Num, Str, Boolean, Err, Ref, Word, FunHead, NameHead, Separator, Operator, At, Percent, Hash, Open, Close, OpenBrace, CloseBrace, Semicolon}
+use Rattle.ic_laws.specs.Token.{Token, Num, Str, Boolean, Err, Ref, Local, Word, FunHead, NameHead, Separator, Operator, At, Percent, Hash, Open, Close, OpenBrace, CloseBrace, Semicolon}
 use Rattle.ic_laws.specs.Tree.{Spelled, Kind, sign_level, height, is_callable, is_called_name, is_written_sheet, is_unsigned}
 use Rattle.ic_laws.specs.declared.tree.BinarySign.{BinarySign}
 use Rattle.ic_laws.specs.declared.tree.BinarySign.TheVariants as signs
@@ -187,6 +187,7 @@ primary d most below b (Boolean value) rest = made most (one.Bool value) rest
 primary d most below b (Err error) rest = made most (one.Err error) rest
 primary d most below b (Ref reference) rest =
     made_if (is_written_sheet reference.sheet && is_place_within reference.place) most (one.Reference reference.sheet reference.place) rest
+primary d most below b (Local sheet word) rest = made_if (is_sheet_name sheet && is_identifier word) most (one.Local (Some sheet) word) rest
 primary d most below b (Word text) rest = made_if (is_variable text) most (one.Word text) rest
 primary d most below b (FunHead number) rest = opened b (λ inner. function_call d most below inner number rest)
 primary d most below b (NameHead name) rest = opened b (λ inner. name_call most below inner name rest)

@@ -52,6 +52,14 @@ key_found scene scope folded = option_map key_of (option_or (definition_at scene
 abbrev pub found_name : Scene → Option ℕ → List ℕ → Option NameKey
 found_name scene scope word = key_found scene scope (fold word)
 
+-- the definition of this folded name that is local to the sheet with this id, and no other
+abbrev pub local_key : Scene → ℕ → List ℕ → Option NameKey
+local_key scene id folded = option_map key_of (definition_at scene folded (Some id))
+
+-- the definition that a word with its sheet means
+abbrev pub found_local : Scene → ℕ → List ℕ → Option NameKey
+found_local scene id word = local_key scene id (fold word)
+
 -- the name of the sheet with this id
 abbrev pub name_of_sheet : Scene → ℕ → Option (List ℕ)
 name_of_sheet scene id = option_map (λ sheet. sheet.name) (find (λ sheet. nat_eq sheet.id id) scene.sheets)

@@ -6,13 +6,14 @@ use Rattle.ic_laws.specs.Character.{double_quote, semicolon}
 use Rattle.ic_laws.specs.Name.{is_variable}
 use Rattle.ic_laws.specs.Scan.{begins_word, between, first_is, is_blank, is_word_character}
 use Rattle.ic_laws.specs.Dialect.{DialectMeaning, boolean_number, error_number, word_text, reference_text}
+use Rattle.ic_laws.specs.SheetText.{SpellsLocal, local_text}
 use Rattle.ic_laws.specs.declared.dialect.WordKind.TheVariants as kinds
 use Rattle.ic_laws.specs.declared.reference.RefToken.{RefToken}
 use Rattle.ic_laws.specs.declared.tree.BinarySign.{BinarySign}
 use Rattle.ic_laws.specs.declared.tree.BinarySign.TheVariants as signs
 use Rattle.ic_laws.specs.declared.tree.Error.{Error}
 
--- A head is a name with the bracket that opens its arguments: a function by its number, or a called name. The row sign
+-- A Local is a word with its sheet. A head is a name with the bracket that opens its arguments: a function by its number, or a called name. The row sign
 -- `;` is a token of its own only where `;` doesn't separate arguments.
 pub data Token : Type 0 where
   Num : (units : ℤ) → Token
@@ -20,6 +21,7 @@ pub data Token : Type 0 where
   Boolean : (value : Bool) → Token
   Err : (error : Error) → Token
   Ref : (reference : RefToken) → Token
+  Local : (sheet word : List ℕ) → Token
   Word : (text : List ℕ) → Token
   FunHead : (number : ℕ) → Token
   NameHead : (name : List ℕ) → Token
@@ -79,6 +81,7 @@ Spells d (Str text) front rest = (front ≡ string_text text) × (first_is is_do
 Spells d (Boolean value) front rest = IsWholeRun front rest × (d.find kinds.Boolean front ≡ Some (boolean_number value))
 Spells d (Err error) front rest = d.find kinds.Error front ≡ Some (error_number error)
 Spells d (Ref reference) front rest = d.read_ref (front ++ rest) ≡ Some (reference, rest)
+Spells d (Local sheet word) front rest = SpellsLocal front sheet word × (first_is is_word_character rest ≡ false)
 Spells d (Word text) front rest = (front ≡ text) × IsWholeRun front rest × (is_variable text ≡ true) × (d.find kinds.Boolean text ≡ None)
 Spells d (FunHead number) front rest = (name : List ℕ) × IsHead name front × (d.find kinds.Function name ≡ Some number)
 Spells d (NameHead name) front rest = IsHead name front × (is_variable name ≡ true) × (d.find kinds.Function name ≡ None)
@@ -121,6 +124,7 @@ token_text d (Str text) = string_text text
 token_text d (Boolean value) = word_text d kinds.Boolean (boolean_number value)
 token_text d (Err error) = word_text d kinds.Error (error_number error)
 token_text d (Ref reference) = reference_text d reference
+token_text d (Local sheet word) = local_text sheet word
 token_text d (Word text) = text
 token_text d (FunHead number) = word_text d kinds.Function number ++ codes "("
 token_text d (NameHead name) = name ++ codes "("

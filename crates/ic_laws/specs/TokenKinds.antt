@@ -4,17 +4,23 @@ use Rattle.ic_laws.specs.Amount.{unsigned_amount}
 use Rattle.ic_laws.specs.Character.{double_quote, open_bracket}
 use Rattle.ic_laws.specs.Scan.{begins_word, first_is, is_blank, is_word_character, run_of, past_run}
 use Rattle.ic_laws.specs.Dialect.{DialectMeaning, error_number}
-use Rattle.ic_laws.specs.Token.{Token, Num, Str, Boolean, Err, Ref, Word, FunHead, NameHead, Separator, Operator, At, Percent, Hash, Open, Close, OpenBrace, CloseBrace, Semicolon, Spells}
+use Rattle.ic_laws.specs.Token.{Token, Num, Str, Boolean, Err, Ref, Local, Word, FunHead, NameHead, Separator, Operator, At, Percent, Hash, Open, Close, OpenBrace, CloseBrace, Semicolon, Spells}
 use Rattle.ic_laws.specs.declared.dialect.WordKind.TheVariants as kinds
 use Rattle.ic_laws.specs.declared.tree.BinarySign.TheVariants as signs
 use Rattle.ic_laws.specs.NextToken.{all_errors, boolean_or_word, head_token, look_up, numbered, separators}
 use Rattle.ic_laws.specs.AmountFront.{number_in_one_pass}
+use Rattle.ic_laws.specs.SheetText.{read_local}
 use Rattle.ic_laws.specs.Split.{longer, longest_split}
 
 -- the kinds of tokens: a reference
 abbrev pub is_reference : Token → Bool
 is_reference (Ref r) = true
 is_reference t = false
+
+-- a word with its sheet
+abbrev pub is_local : Token → Bool
+is_local (Local sheet word) = true
+is_local t = false
 
 -- a head
 abbrev pub is_head : Token → Bool
@@ -73,6 +79,10 @@ OfKind kind d token front rest = (kind token ≡ true) × Spells d token front r
 -- the reference at the front
 abbrev pub reference_at : DialectMeaning → List ℕ → Option (Token × List ℕ)
 reference_at d text = option_map (λ f. (Ref f.0, f.1)) (d.read_ref text)
+
+-- the word with its sheet at the front
+abbrev pub local_at : List ℕ → Option (Token × List ℕ)
+local_at text = option_map (λ f. (Local f.0.0 f.0.1, f.1)) (read_local text)
 
 -- after a quote: the text up to one that no other follows, and the rest; pending where one quote was passed
 abbrev pub onto : ℕ → Option (List ℕ × List ℕ) → Option (List ℕ × List ℕ)
@@ -147,4 +157,4 @@ one_at d (c ∷ cs) = option_map (λ t. (t, cs)) (look_up (one_table d.list) (c 
 -- the longest token at the front, a reference first of two of one length
 abbrev pub token_by_kinds : DialectMeaning → List ℕ → Option (Token × List ℕ)
 token_by_kinds d text =
-    longer (reference_at d text) (longer (head_at d text) (longer (word_at d text) (longer (number_in_one_pass d text) (longer (text_at text) (longer (error_at d text) (longer (two_at text) (one_at d text)))))))
+    longer (reference_at d text) (longer (local_at text) (longer (head_at d text) (longer (word_at d text) (longer (number_in_one_pass d text) (longer (text_at text) (longer (error_at d text) (longer (two_at text) (one_at d text))))))))

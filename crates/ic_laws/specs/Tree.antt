@@ -4,7 +4,7 @@ use Rattle.std.specs.Prelude.{◌≡◌, ◌≢◌, ℕ, ℤ, ◌+◌, ◌≤◌
 use Rattle.std.specs.List.{list_all}
 use Rattle.ic_laws.specs.Amount.{is_amount}
 use Rattle.ic_laws.specs.Greatest.{greatest}
-use Rattle.ic_laws.specs.Name.{agrees, is_sheet_name, is_variable}
+use Rattle.ic_laws.specs.Name.{agrees, is_identifier, is_sheet_name, is_variable}
 use Rattle.ic_laws.specs.Position.{is_place_within}
 use Rattle.ic_laws.specs.declared.tree.BinarySign.{BinarySign}
 use Rattle.ic_laws.specs.declared.tree.BinarySign.TheVariants as signs
@@ -119,11 +119,13 @@ brackets_step kind = 0
 abbrev pub open_brackets : {S W : Type 0} → Tree S W → ℕ
 open_brackets {S} {W} t = fold-Tree S W ℕ ℕ brackets_step (λ pair. pair.value) t
 
--- What is asked of names: of a sheet's, of a word, and of a word that is called.
+-- What is asked of names: of a sheet's, of a word, and of a word that is called; and of a word with its sheet, of both.
 pub record Names (S W : Type 0) : Type 0 where
   pub is_sheet : S → Bool
   pub is_word : W → Bool
   pub is_called : W → Bool
+  pub is_named : S → Bool
+  pub is_local : W → Bool
 
 -- a called word is a variable that is neither LET nor LAMBDA
 abbrev pub is_called_name : List ℕ → Bool
@@ -134,14 +136,24 @@ abbrev pub is_written_sheet : Option (List ℕ) → Bool
 is_written_sheet None = true
 is_written_sheet (Some name) = is_sheet_name name
 
+-- a word with its sheet has the name of one
+abbrev pub is_named_sheet : Option (List ℕ) → Bool
+is_named_sheet None = false
+is_named_sheet (Some name) = is_sheet_name name
+
 -- what is asked of the names of a spelled tree
 abbrev pub spelled_names : Names (Option (List ℕ)) (List ℕ)
-spelled_names = record { is_sheet = is_written_sheet; is_word = is_variable; is_called = is_called_name }
+spelled_names = record { is_sheet = is_written_sheet; is_word = is_variable; is_called = is_called_name; is_named = is_named_sheet; is_local = is_identifier }
 
 -- what was found meets the conditions by itself
 abbrev pub is_sheet_mention : SheetMention → Bool
 is_sheet_mention (sheets.Dangling name) = is_sheet_name name
 is_sheet_mention mention = true
+
+-- a word with its sheet isn't to the formula's own sheet
+abbrev pub is_named_mention : SheetMention → Bool
+is_named_mention sheets.Own = false
+is_named_mention mention = is_sheet_mention mention
 
 -- a word that was found is good, any other is what it may be
 abbrev pub is_word_mention : (List ℕ → Bool) → NameMention → Bool
@@ -151,7 +163,13 @@ is_word_mention test (names.Dangling name) = test name
 
 -- what is asked of the names of a bound tree
 abbrev pub bound_names : Names SheetMention NameMention
-bound_names = record { is_sheet = is_sheet_mention; is_word = is_word_mention is_variable; is_called = is_word_mention is_called_name }
+bound_names = record {
+  is_sheet = is_sheet_mention;
+  is_word = is_word_mention is_variable;
+  is_called = is_word_mention is_called_name;
+  is_named = is_named_mention;
+  is_local = is_word_mention is_identifier;
+}
 
 -- an operand is there and binds at least so tightly
 abbrev pub IsOperand : {S W : Type 0} → ℕ → Tree S W → Type 0
@@ -227,6 +245,7 @@ HasUnsigned kind = Unit {0}
 -- words, binders and called words are what they may be, and a function is neither LET nor LAMBDA
 abbrev pub HasNames : {S W : Type 0} → Names S W → ℕ → ℕ → Kind S W → Type 0
 HasNames names let_fn lambda_fn (one.Reference sheet place) = names.is_sheet sheet ≡ true
+HasNames names let_fn lambda_fn (one.Local sheet word) = (names.is_named sheet ≡ true) × (names.is_local word ≡ true)
 HasNames names let_fn lambda_fn (one.Word word) = names.is_word word ≡ true
 HasNames names let_fn lambda_fn (one.Call word arguments) = names.is_called word ≡ true
 HasNames names let_fn lambda_fn (one.Fun number arguments) = (number ≢ let_fn) × (number ≢ lambda_fn)

@@ -1,8 +1,8 @@
 -- The tokens of a tree.
-use Rattle.std.specs.Prelude.{ℕ, List, [], ◌∷◌, ◌++◌, map, flat_map, true, false, Option, nat_eq, if◌then◌else◌}
+use Rattle.std.specs.Prelude.{ℕ, List, [], ◌∷◌, ◌++◌, map, flat_map, true, false, Option, Some, None, nat_eq, if◌then◌else◌}
 use Rattle.ic_laws.specs.Character.{comma}
 use Rattle.ic_laws.specs.Dialect.{DialectMeaning}
-use Rattle.ic_laws.specs.Token.{Token, Num, Str, Boolean, Err, Ref, Word, FunHead, NameHead, Separator, Operator, At, Percent, Hash, Open, Close, OpenBrace, CloseBrace, Semicolon}
+use Rattle.ic_laws.specs.Token.{Token, Num, Str, Boolean, Err, Ref, Local, Word, FunHead, NameHead, Separator, Operator, At, Percent, Hash, Open, Close, OpenBrace, CloseBrace, Semicolon}
 use Rattle.ic_laws.specs.Tree.{Spelled}
 use Rattle.ic_laws.specs.declared.tree.BinarySign.TheVariants as signs
 use Rattle.ic_laws.specs.declared.tree.Constant.{Constant}
@@ -50,6 +50,11 @@ pub record PairTokens : Type 0 where
 abbrev pub pair_parts : List PairTokens → List (List Token)
 pair_parts pairs = flat_map (λ pair. (Word pair.variable ∷ []) ∷ pair.value ∷ []) pairs
 
+-- the name of a sheet; a tree that is well-formed has one with each word that has a sheet
+abbrev pub sheet_name : Option (List ℕ) → List ℕ
+sheet_name None = []
+sheet_name (Some name) = name
+
 -- the tokens of one node, from those of what is below it
 abbrev pub yield_step : DialectMeaning → Tree-F (Option (List ℕ)) (List ℕ) (List Token) PairTokens → List Token
 yield_step d (one.Num units) = Num units ∷ []
@@ -57,6 +62,7 @@ yield_step d (one.Str text) = Str text ∷ []
 yield_step d (one.Bool value) = Boolean value ∷ []
 yield_step d (one.Err error) = Err error ∷ []
 yield_step d (one.Reference sheet place) = Ref (record { sheet = sheet; place = place }) ∷ []
+yield_step d (one.Local sheet word) = Local (sheet_name sheet) word ∷ []
 yield_step d (one.Word text) = Word text ∷ []
 yield_step d one.Empty = []
 yield_step d (one.Paren x) = Open ∷ x ++ Close ∷ []

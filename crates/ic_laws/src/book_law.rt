@@ -59,7 +59,7 @@ pub fn law_add_sheet_binds()
     ensures { (n : Notations) (book after : CoreBook) (name : List ℕ) (fields : List Field)
         → AreNotations n → IsValidCore n book → add_sheet_step n book name ≡ Ok (after, fields)
         → after ≡ with_sheet_at_end (greatest_id book + 1) name
-        (with_trees (changed_tree (sheet_named (greatest_id book + 1) name)) book) }
+        (with_trees (changed_tree (sheet_named (scene_of book) (greatest_id book + 1) name)) book) }
 {}
 
 /// A renamed sheet has its new name. In each formula, what dangled by a name that agrees with it means that sheet, and each
@@ -68,7 +68,8 @@ pub fn law_rename_binds()
     ensures { (n : Notations) (book after : CoreBook) (index : ℕ) (name : List ℕ) (sheet : Sheet)
         (fields : List Field) → AreNotations n → IsValidCore n book → slice_get book.sheets index
         ≡ Some sheet → rename_step n book index name ≡ Ok (after, fields) → after
-        ≡ with_sheet_name index name (with_trees (changed_tree (sheet_named sheet.id name)) book) }
+        ≡ with_sheet_name index name
+        (with_trees (changed_tree (sheet_named (scene_of book) sheet.id name)) book) }
 {}
 
 /// Over the rename of a sheet each mention that was found stands as it did, in the formula of each cell and in the body of
@@ -94,7 +95,8 @@ pub fn law_delete_sheet_dangles()
     ensures { (n : Notations) (book after : CoreBook) (index : ℕ) (sheet : Sheet)
         (fields : List Field) → AreNotations n → IsValidCore n book → slice_get book.sheets index
         ≡ Some sheet → delete_step n book index ≡ Ok (after, fields) → after
-        ≡ without_sheet index (with_trees (changed_tree (sheet_gone sheet.id sheet.name)) book) }
+        ≡ without_sheet index
+        (with_trees (changed_tree (sheet_gone (scene_of book) sheet.id sheet.name)) book) }
 {}
 
 /// A new definition stands at the end. In each formula, what could mean it does, and each other mention is what it was.

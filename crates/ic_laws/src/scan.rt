@@ -136,6 +136,27 @@ pub fn past_digits(text: &str) -> &str
     rest
 }
 
+/// What stands after the run of word characters at the front.
+pub fn past_word(text: &str) -> &str
+    ensures { chars result.now ≡ past_run is_word_character (chars text.now) }
+{
+    let mut rest = text;
+    while let Some((c, after)) = first_char(rest) {
+        if !is_word_character(c) {
+            break;
+        }
+        rest = after;
+    }
+    rest
+}
+
+/// The run of word characters at the front.
+pub fn word_run(text: &str) -> &str
+    ensures { chars result.now ≡ run_of is_word_character (chars text.now) }
+{
+    front_of(text, past_word(text))
+}
+
 /// The run of plain characters at the front.
 pub fn plain_run(text: &str) -> &str
     ensures { chars result.now ≡ run_of is_plain (chars text.now) }

@@ -1,6 +1,6 @@
 ghost use Rattle.std.specs.Prelude.{◌≡◌, ◌&&◌, IfOk, bytes_eq, chars, find, nat_eq, option_map};
 ghost use Rattle.ic_laws.specs.Name.{agrees, fold};
-ghost use Rattle.ic_laws.specs.Scene.{found_name, found_sheet, key_of, name_of_key, name_of_sheet, past_front, same_scope};
+ghost use Rattle.ic_laws.specs.Scene.{found_local, found_name, found_sheet, key_of, name_of_key, name_of_sheet, past_front, same_scope};
 ghost use Rattle.ic_laws.specs.declared.scene.Scene.{Scene};
 ghost use Rattle.ucd_case.specs.CaseFolding.{full_fold};
 
@@ -58,6 +58,27 @@ pub trait Finder {
     fn definition_spelling(&self, key: &NameKey) -> Option<&str>
         ensures { option_map (λ name. chars name.now) result
             ≡ name_of_key (scene self.now) key.now };
+}
+
+/// The key of the definition that a word with its sheet means: of one that is local to the sheet with this id, and of no
+/// other.
+#[tactic(auto, using(crate::proofs::binding::LocalWords::local_where_scoped, crate::proofs::binding::LocalWords::none_where_other, crate::proofs::binding::LocalWords::none_where_none))]
+pub fn find_local<N: Finder>(
+    alloc: Global,
+    names: &N,
+    id: u32,
+    word: &str,
+) -> Result<Option<NameKey>, OutOfMemory>
+    ensures { IfOk result (λ key. key ≡ found_local (N.scene names.now) id (chars word.now)) }
+{
+    let Some(key) = names.find_name(alloc, Some(id), word)? else {
+        return Ok(None);
+    };
+    if same_scope(key.scope, Some(id)) {
+        Ok(Some(key))
+    } else {
+        Ok(None)
+    }
 }
 
 /// A scene finds by plain search.

@@ -59,6 +59,8 @@ pub enum Tree<S, W> {
     Bool(bool),
     Err(Error),
     Reference(S, Place),
+    /// A name with its sheet, `Sheet1!tax`: what is local to that sheet.
+    Local(S, W),
     Word(W),
     /// An argument that is left out.
     Empty,
@@ -87,6 +89,10 @@ impl<S: Drop, W: Drop> Drop for Tree<S, W> {
             Self::Num(_) | Self::Bool(_) | Self::Err(_) | Self::Empty => {}
             Self::Str(text) => drop(text),
             Self::Reference(sheet, _) => drop(sheet),
+            Self::Local(sheet, word) => {
+                drop(sheet);
+                drop(word);
+            }
             Self::Word(word) => drop(word),
             Self::Paren(tree) => drop(tree),
             Self::Prefix(_, tree) => drop(tree),

@@ -1,26 +1,27 @@
 -- What is bound after a sheet is copied.
-use Rattle.std.proofs.Common.{◌≡◌, ℕ, ◌+◌, List, [], ◌∷◌, ◌++◌, map, false, ◌&&◌, Option, Some, None, Ok, refl, sym, ap, ap₂, ◌∙◌}
-use Rattle.std.proofs.lemmas.Bool.{and_right}
+use Rattle.std.proofs.Common.{◌≡◌, ℕ, ◌+◌, List, [], ◌∷◌, ◌++◌, map, Bool, true, false, ◌&&◌, ◌||◌, if◌then◌else◌, inl, inr, Option, Some, None, Ok, refl, sym, ap, ap₂, ◌∙◌}
+use Rattle.std.proofs.lemmas.Bool.{and_right, both_ways, cases_Bool, eqb-true}
 use Rattle.std.proofs.lemmas.List.{map-append}
 use Rattle.std.proofs.lemmas.List.Folds.{find-append}
 use Rattle.std.specs.Cmp.{nat_eq_equiv}
-use Rattle.std.specs.List.{AllByRecursion, find, slice_get}
+use Rattle.std.specs.List.{AllByRecursion, find, list_any, slice_get}
 use Rattle.std.specs.Option.{option_or}
 use Rattle.std.specs.Prelude.{bytes_eq, is_none, nat_eq, option_map}
 use Rattle.ic_laws.proofs.binding.SceneLemmas.{find_later}
 use Rattle.ic_laws.proofs.core.KeptBook.{mentioned}
 use Rattle.ic_laws.proofs.core.Lists.{none_passes}
 use Rattle.ic_laws.proofs.keeping.Books.{each_both, kept_as, trees_settled}
-use Rattle.ic_laws.proofs.keeping.Kept.{Become, kept_becomes, word_stays}
-use Rattle.ic_laws.proofs.keeping.SheetChanges.{named_becomes}
+use Rattle.ic_laws.proofs.keeping.Kept.{Become, kept_becomes, local_stays, word_stays}
+use Rattle.ic_laws.proofs.keeping.SheetChanges.{Naming, has_id, named_becomes}
 use Rattle.ic_laws.proofs.kept.Kept.{english_by_fold}
-use Rattle.ic_laws.specs.Binding.{IsSettled}
+use Rattle.ic_laws.specs.Binding.{IsSettled, bound_local}
 use Rattle.ic_laws.specs.BookTrees.{EachTree, OfBody, OfCells, OfTree, with_trees}
-use Rattle.ic_laws.specs.Changes.{WordHolds, changed_sheet, changed_tree, changed_word, sheet_named}
+use Rattle.ic_laws.specs.Changes.{LocalHolds, SheetHolds, WordHolds, changed_local, changed_sheet, changed_tree, changed_word, found_with_sheet, local_after, sheet_after, sheet_named}
 use Rattle.ic_laws.specs.CoreBook as core_book
 use Rattle.ic_laws.specs.CoreBook.{CellPlace, Cells, CoreBook, Definition, fresh_id, ids_of, scene_of, spelling_of}
 use Rattle.ic_laws.specs.Keeping.{kept, same_keys, with_kept}
-use Rattle.ic_laws.specs.Name.{fold}
+use Rattle.ic_laws.specs.Mentions.{LocalMention}
+use Rattle.ic_laws.specs.Name.{agrees, fold}
 use Rattle.ic_laws.specs.Notations.{Notations, english_function}
 use Rattle.ic_laws.specs.Scene.{definition_at, key_found, key_of, same_scope}
 use Rattle.ic_laws.specs.Tree.{Bound}
@@ -31,6 +32,8 @@ use Rattle.ic_laws.specs.declared.tree.Formula.{Formula}
 use Rattle.ic_laws.specs.declared.tree.Formula.TheVariants as formulas
 use Rattle.ic_laws.specs.declared.tree.NameMention.{NameMention}
 use Rattle.ic_laws.specs.declared.tree.NameMention.TheVariants as names
+use Rattle.ic_laws.specs.declared.tree.SheetMention.{SheetMention}
+use Rattle.ic_laws.specs.declared.tree.SheetMention.TheVariants as sheets
 use Rattle.ic_tree.proofs.NotationLaws.{notations_are}
 use Rattle.ic_machine.specs.Binds.{CopiedIsMeant, with_copied, with_sheet_among}
 use Rattle.ic_machine.specs.Book.{Book, Sheet, core_of, core_sheet, found_or, notations_in, scene_in}
@@ -144,11 +147,55 @@ module _ (b : Book) (valid : IsValidBook b) (index : ℕ) (source : Sheet) (at :
       each [] = tt
       each (d ∷ ds) = (refl, each ds)
 
-  become : (scope : Option ℕ) → same_scope (Some id) scope ≡ false → Become (scene_in b) later scope (changed_sheet (sheet_named id name)) (changed_word (sheet_named id name) scope)
+  -- a word that dangled, with the sheet that is found for it
+  abbrev local_like : SheetMention → List ℕ → LocalMention
+  local_like s word = (s, bound_local later s word)
+
+  become : (scope : Option ℕ) → same_scope (Some id) scope ≡ false → Become (scene_in b) later scope (changed_sheet (sheet_named later id name)) (changed_word (sheet_named later id name) scope) (changed_local (sheet_named later id name))
   become scope apart = record {
     sheet = (named_becomes (scene_in b) among id name (insert_naming (core_of b) (index + 1) id name (core_valid b valid).names_differ (free b valid index source at room)) scope).sheet;
     word = λ m h. word_stays (scene_in b) later scope m (words_hold id (map spelling_of copies) of_copy (scene_in b) among.sheets scope apart m h);
+    local = local;
   }
+    where
+      naming : Naming (scene_in b) among id name
+      naming = insert_naming (core_of b) (index + 1) id name (core_valid b valid).names_differ (free b valid index source at room)
+
+      sheet : (m : SheetMention) → SheetHolds (scene_in b) m → sheet_after (scene_in b) later m ≡ changed_sheet (sheet_named later id name) m
+      sheet = (named_becomes (scene_in b) among id name naming scope).sheet
+
+      -- the sheet of the copy is a new one
+      other : (i : ℕ) → has_id i (scene_in b).sheets ≡ true → same_scope (Some id) (Some i) ≡ false
+      other i h = elim (cases_Bool (nat_eq id i)) [
+        | inl t ↦ absurd (both_ways (has_id i (scene_in b).sheets) (unused i t) h)
+        | inr f ↦ f
+      ]
+        where
+          ids_there : (ss : List core_book.Sheet) → list_any (λ (m : SheetName). nat_eq m.id id) (map mentioned ss) ≡ list_any (nat_eq id) (map (λ (s : core_book.Sheet). s.id) ss)
+          ids_there [] = refl
+          ids_there (s ∷ ss) = ap₂ (λ (x y : Bool). x || y) (nat_eq_equiv.symm s.id id) (ids_there ss)
+
+          unused : (i : ℕ) → nat_eq id i ≡ true → has_id i (scene_in b).sheets ≡ false
+          unused i t = ap (λ k. has_id k (scene_in b).sheets) (sym (eqb-true id i t)) ∙ ids_there (core_of b).sheets ∙ (parts b valid index source at room).0
+
+      holds : (i : ℕ) → has_id i (scene_in b).sheets ≡ true → (m : NameMention) → LocalHolds (scene_in b) (sheets.Sheet i) m → LocalHolds later (sheets.Sheet i) m
+      holds i h (names.Var word) k = k
+      holds i h (names.Name key) k = ap (option_map key_of) (same_at id (map spelling_of copies) of_copy (scene_in b) among.sheets scope apart key.name (Some i) (other i h)) ∙ k
+      holds i h (names.Dangling word) k = ap (option_map key_of) (same_at id (map spelling_of copies) of_copy (scene_in b) among.sheets scope apart (fold word) (Some i) (other i h)) ∙ k
+
+      both : (typed word : List ℕ) (c : Bool)
+          → local_like (if c then sheets.Sheet id else sheets.Dangling typed) word ≡ (if c then (sheets.Sheet id, found_with_sheet later id (names.Dangling word)) else (sheets.Dangling typed, names.Dangling word))
+      both typed word true = refl
+      both typed word false = refl
+
+      local : (s : SheetMention) (m : NameMention) → SheetHolds (scene_in b) s → LocalHolds (scene_in b) s m → local_after (scene_in b) later s m ≡ changed_local (sheet_named later id name) s m
+      local (sheets.Sheet i) m h k = local_stays (scene_in b) later naming.differ (sheets.Sheet i) m (naming.there i h) (holds i h m k)
+      local sheets.Own (names.Dangling word) h k = refl
+      local sheets.Own (names.Name key) h k = absurd k
+      local sheets.Own (names.Var word) h k = absurd k
+      local (sheets.Dangling typed) (names.Dangling word) h k = ap (λ (x : SheetMention). local_like x word) (sheet (sheets.Dangling typed) h) ∙ both typed word (agrees name typed)
+      local (sheets.Dangling typed) (names.Name key) h k = absurd k
+      local (sheets.Dangling typed) (names.Var word) h k = absurd k
 
   trees_apart : EachTree (IsApart id) (core_of b)
   trees_apart = record {
@@ -156,18 +203,20 @@ module _ (b : Book) (valid : IsValidBook b) (index : ℕ) (source : Sheet) (at :
     bodies = bodies_apart id b.definitions (no_scope source.id id b.definitions (parts b valid index source at room).1);
   }
 
-  kept_copied : with_kept n (scene_in b) later same_keys (core_of b) ≡ with_trees (changed_tree (sheet_named id name)) (core_of b)
+  kept_copied : with_kept n (scene_in b) later same_keys (core_of b) ≡ with_trees (changed_tree (sheet_named later id name)) (core_of b)
   kept_copied =
-      kept_as n (scene_in b) later same_keys (changed_tree (sheet_named id name)) (core_of b)
-      (each_both (IsSettled (english_function n) (scene_in b)) (IsApart id) (λ scope t. kept (english_function n) (scene_in b) later same_keys scope t ≡ changed_tree (sheet_named id name) scope t)
-      (λ scope t settled apart. kept_becomes (english_function n) (scene_in b) later scope (changed_sheet (sheet_named id name)) (changed_word (sheet_named id name) scope) (become scope apart) (english_by_fold n (notations_are b.tables valid.tables)) t settled)
+      kept_as n (scene_in b) later same_keys (changed_tree (sheet_named later id name)) (core_of b)
+      (each_both (IsSettled (english_function n) (scene_in b)) (IsApart id) (λ scope t. kept (english_function n) (scene_in b) later same_keys scope t ≡ changed_tree (sheet_named later id name) scope t)
+      (λ scope t settled apart. kept_becomes (english_function n) (scene_in b) later scope (changed_sheet (sheet_named later id name)) (changed_word (sheet_named later id name) scope) (changed_local (sheet_named later id name)) (become scope apart) (english_by_fold n (notations_are b.tables valid.tables)) t settled)
       (core_of b) (trees_settled n (core_of b) (core_valid b valid)) trees_apart)
 
-  copied_binds : core_of (changed_by (with_copy index copy copies) b) ≡ with_copied index (core_sheet copy) copies (with_trees (changed_tree (sheet_named id name)) (core_of b))
+  copied_binds : core_of (changed_by (with_copy index copy copies) b)
+      ≡ with_copied index (core_sheet copy) copies (with_trees (changed_tree (sheet_named (scene_of (with_copied index (core_sheet copy) copies (core_of b))) id name)) (core_of b))
   copied_binds =
       core_of-changed (with_copy index copy copies) (with_copied index (core_sheet copy) copies) (core_of-copied index copy copies) b
       ∙ ap (λ (scene : Scene). with_copied index (core_sheet copy) copies (with_kept n (scene_in b) scene same_keys (core_of b))) later_is
       ∙ ap (with_copied index (core_sheet copy) copies) kept_copied
+      ∙ ap (λ (scene : Scene). with_copied index (core_sheet copy) copies (with_trees (changed_tree (sheet_named scene id name)) (core_of b))) (sym later_is)
 
 pub copied_is_meant : CopiedIsMeant
 unfolding duplicate_sheet_step

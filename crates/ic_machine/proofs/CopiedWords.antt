@@ -1,6 +1,6 @@
 -- What the words of copied formulas mean.
 use Rattle.std.proofs.Common.{◌≡◌, ◌⊎◌, ℕ, zero, suc, pos, ◌+◌, ◌<◌, ◌≤◌, length, arith, IsSome, is_some, List, [], ◌∷◌, ◌++◌, map, Bool, true, false, cond, ◌&&◌, ◌||◌, Option, Some, None, Ok, refl, sym, ap, ap₂, subst, ◌∙◌, inl, inr, if◌then◌else◌}
-use Rattle.std.proofs.lemmas.Bool.{and_from, and_parts, and_right, cases_Bool, or_right}
+use Rattle.std.proofs.lemmas.Bool.{and_from, and_parts, and_right, both_ways, cases_Bool, eqb-true, or_right}
 use Rattle.std.proofs.lemmas.List.{length-map, map-append}
 use Rattle.std.proofs.lemmas.List.Folds.{find-append, list_any-append}
 use Rattle.std.proofs.lemmas.Option.{slice_get_within}
@@ -10,16 +10,19 @@ use Rattle.std.specs.Fmt.{decimal}
 use Rattle.std.specs.List.{AllByRecursion, AllZip, find, insert, list_any, slice_get}
 use Rattle.std.specs.Option.{option_or}
 use Rattle.std.specs.Prelude.{bytes_eq, is_none, nat_eq, option_map, unwrap_or}
-use Rattle.ic_laws.proofs.binding.SceneLemmas.{find_here, find_later, found_by_other, found_by_text, found_has_definition, folds_to_key, same_scope_self}
+use Rattle.ic_laws.proofs.binding.SceneLemmas.{find_here, find_later, found_by_other, found_by_text, found_has_definition, folds_to_key, local_is_found, same_scope_self}
+use Rattle.ic_laws.proofs.core.KeptBook.{mentioned}
 use Rattle.ic_laws.proofs.keeping.NameChanges.{same_scope_from}
 use Rattle.ic_laws.proofs.kept.Kept.{english_by_fold}
-use Rattle.ic_laws.specs.Binding.{Binders, RespectsFolding, bound, bound_sheet, bound_word, is_bound_by, name_or_dangling, sheet_or_dangling, spelled, spelled_sheet, spelled_with, spelled_word}
+use Rattle.ic_laws.specs.Binding.{Binders, RespectsFolding, bound, bound_local, bound_sheet, bound_word, is_bound_by, name_or_dangling, sheet_or_dangling, spelled, spelled_sheet, spelled_with, spelled_word}
 use Rattle.ic_laws.specs.CoreBook as core_book
-use Rattle.ic_laws.specs.CoreBook.{Definition, fresh_id, spelling_of}
+use Rattle.ic_laws.specs.CoreBook.{Definition, fresh_id, ids_of, spelling_of}
+use Rattle.ic_laws.specs.Changes.{is_of_sheet}
 use Rattle.ic_laws.specs.Keeping.{same_keys}
+use Rattle.ic_laws.specs.Mentions.{LocalMention}
 use Rattle.ic_laws.specs.Name.{agrees, fold}
 use Rattle.ic_laws.specs.Notations.{Notations, english_function}
-use Rattle.ic_laws.specs.Scene.{definition_at, found_name, found_sheet, key_found, key_of, name_of_key, name_of_sheet, definition_spelling, same_scope, sheet_spelling}
+use Rattle.ic_laws.specs.Scene.{definition_at, found_name, found_sheet, key_found, key_of, local_key, name_of_key, name_of_sheet, definition_spelling, same_scope, sheet_spelling}
 use Rattle.ic_laws.specs.Tree.{Bound}
 use Rattle.ic_laws.specs.ValidCore.{IsKeptBody, IsKeptFormula, IsPooled}
 use Rattle.ic_laws.specs.declared.scene.DefinitionSpelling.{DefinitionSpelling}
@@ -30,11 +33,11 @@ use Rattle.ic_laws.specs.declared.tree.Formula.TheVariants as formulas
 use Rattle.ic_laws.specs.declared.tree.NameKey.{NameKey}
 use Rattle.ic_laws.specs.declared.tree.NameMention.{NameMention}
 use Rattle.ic_laws.specs.declared.tree.NameMention.TheVariants as names
+use Rattle.ic_laws.specs.declared.tree.SheetMention.{SheetMention}
 use Rattle.ic_laws.specs.declared.tree.SheetMention.TheVariants as sheets
 use Rattle.ic_tree.proofs.NotationLaws.{notations_are}
-use Rattle.ic_machine.specs.Binds.{CopiedMeansSame, HasCopiedMentions, copied_sheet, copied_word, copying_of, is_copied, key_in_copy, sheets_in}
+use Rattle.ic_machine.specs.Binds.{CopiedMeansSame, HasCopiedMentions, copied_local, copied_sheet, copied_word, copying_of, is_copied, key_in_copy, locals_in, plain_words_in, sheets_in}
 use Rattle.ic_machine.specs.Book.{Book, Sheet, core_of, core_sheet, found_or, notations_in, scene_in}
-use Rattle.ic_machine.specs.Capture.{words_in}
 use Rattle.ic_machine.specs.Refusal.{IdsUsedUp, InvalidSheet, first_refusal}
 use Rattle.ic_machine.specs.Valid.{IsKeptPool, IsValidBook}
 use Rattle.ic_machine.specs.subjects.Sheets.{copied_of, copies_of_definitions, copy_id, copy_of_sheet, copy_spelling, definitions_moved, duplicate_sheet_step, duplicated, formula_copied, local_in, local_to, mentions_sheet, named_fields, name_of_copy, scene_with_copy, shared_about, with_copy, with_formula}
@@ -48,7 +51,7 @@ use Rattle.ic_machine.proofs.InsertedBinds.{accepted, find_inserted, mapped_choi
 use Rattle.ic_machine.proofs.InsertedStays.{none_holds}
 use Rattle.ic_machine.proofs.UpdatedBinds.{zip_mapped}
 use Rattle.ic_machine.proofs.ValidLemmas.{all_at}
-use Rattle.ic_machine.proofs.WordLemmas.{mapped_zip, sheets_become, words_become}
+use Rattle.ic_machine.proofs.WordLemmas.{locals_become, mapped_zip, plain_words_become, sheets_become}
 
 abbrev is_at : List ℕ → Option ℕ → DefinitionSpelling → Bool
 is_at folded scope m = bytes_eq (fold m.name) folded && same_scope m.scope scope
@@ -110,6 +113,15 @@ module _ (b : Book) (valid : IsValidBook b) (index : ℕ) (source : Sheet) (at :
   names_are : later.names ≡ before.names ++ map spelling_of (definitions_moved b index source)
   names_are = map-append spelling_of b.definitions (definitions_moved b index source)
 
+  -- what is local to the copy
+  local_there : (folded : List ℕ) → definition_at later folded (Some id) ≡ find (is_at folded (Some id)) (map spelling_of (definitions_moved b index source))
+  local_there folded =
+      ap (find (is_at folded (Some id))) names_are ∙ find-append (is_at folded (Some id)) before.names (map spelling_of (definitions_moved b index source))
+      ∙ ap (λ (o : Option DefinitionSpelling). option_or o (find (is_at folded (Some id)) (map spelling_of (definitions_moved b index source)))) (unfound folded (Some id) before.names unseen)
+    where
+      unseen : AllByRecursion (λ (m : DefinitionSpelling). same_scope m.scope (Some id) ≡ false) before.names
+      unseen = all_in_map spelling_of (λ (m : DefinitionSpelling). same_scope m.scope (Some id) ≡ false) b.definitions (no_scope source.id id b.definitions (parts b valid index source at room).1)
+
   -- what a name finds from the copy
   copy_finds : (folded : List ℕ) → key_found later (Some id) folded ≡ (if is_copied copied folded then Some (key_in_copy id folded) else option_map key_of (definition_at before folded None))
   copy_finds folded =
@@ -117,9 +129,6 @@ module _ (b : Book) (valid : IsValidBook b) (index : ℕ) (source : Sheet) (at :
     where
       moved : List DefinitionSpelling
       moved = map spelling_of (definitions_moved b index source)
-
-      unseen : AllByRecursion (λ (m : DefinitionSpelling). same_scope m.scope (Some id) ≡ false) before.names
-      unseen = all_in_map spelling_of (λ (m : DefinitionSpelling). same_scope m.scope (Some id) ≡ false) b.definitions (no_scope source.id id b.definitions (parts b valid index source at room).1)
 
       of_copy : AllByRecursion (λ (m : DefinitionSpelling). same_scope m.scope None ≡ false) moved
       of_copy =
@@ -131,9 +140,7 @@ module _ (b : Book) (valid : IsValidBook b) (index : ℕ) (source : Sheet) (at :
           each (d ∷ ds) = (refl, each ds)
 
       local : definition_at later folded (Some id) ≡ find (is_at folded (Some id)) moved
-      local =
-          ap (find (is_at folded (Some id))) names_are ∙ find-append (is_at folded (Some id)) before.names moved
-          ∙ ap (λ (o : Option DefinitionSpelling). option_or o (find (is_at folded (Some id)) moved)) (unfound folded (Some id) before.names unseen)
+      local = local_there folded
 
       global : definition_at later folded None ≡ definition_at before folded None
       global =
@@ -199,22 +206,138 @@ module _ (b : Book) (valid : IsValidBook b) (index : ℕ) (source : Sheet) (at :
           ∙ either (agrees (name_of_copy b source.name) typed)
       of_found (Some m) e = of_id m.id (there m e) (nat_eq m.id source.id)
 
-  module _ (scope : Option ℕ) (is : IsSource scope) where
-    abbrev key_text : NameKey → List ℕ
-    key_text = definition_spelling later
+  abbrev key_text : NameKey → List ℕ
+  key_text = definition_spelling later
 
+  spelled_at : (scope : Option ℕ) (word : List ℕ) (k : NameKey) → found_name before scope word ≡ Some k → fold (key_text k) ≡ fold word
+  spelled_at scope word k e =
+      let has = found_has_definition before scope (fold word) k e in
+      of_later k has.same (definition_at later k.name k.scope) refl (has_key b valid index source at room k (ap (λ (o : Option DefinitionSpelling). is_some (option_map (λ (m : DefinitionSpelling). m.name) o)) has.found))
+    where
+      of_later : (k : NameKey) → k.name ≡ fold word → (o : Option DefinitionSpelling) → definition_at later k.name k.scope ≡ o → IsSome (name_of_key later k) → fold (key_text k) ≡ fold word
+      of_later k same None f some = absurd (let no : false ≡ true = sym (ap (λ (o : Option DefinitionSpelling). is_some (option_map (λ (m : DefinitionSpelling). m.name) o)) f) ∙ some in cc)
+      of_later k same (Some d) f some =
+          ap (λ (o : Option DefinitionSpelling). fold (unwrap_or (option_map (λ (m : DefinitionSpelling). m.name) o) k.name)) f ∙ folds_to_key later k.name k.scope d f ∙ same
+
+  -- what a name with the copy's sheet finds
+  copy_local : (folded : List ℕ) → local_key later id folded ≡ (if is_copied copied folded then Some (key_in_copy id folded) else None)
+  copy_local folded = ap (option_map key_of) (local_there folded ∙ sym (or_none (find (is_at folded (Some id)) (map spelling_of (definitions_moved b index source))))) ∙ local_found id folded None copied
+
+  -- and with another sheet
+  other_local : (i : ℕ) (folded : List ℕ) → nat_eq i id ≡ false → local_key later i folded ≡ local_key before i folded
+  other_local i folded other =
+      ap (option_map key_of)
+      (ap (find (is_at folded (Some i))) names_are ∙ find-append (is_at folded (Some i)) before.names (map spelling_of (definitions_moved b index source))
+      ∙ ap (option_or (definition_at before folded (Some i))) (unfound folded (Some i) (map spelling_of (definitions_moved b index source)) elsewhere) ∙ or_none (definition_at before folded (Some i)))
+    where
+      elsewhere : AllByRecursion (λ (m : DefinitionSpelling). same_scope m.scope (Some i) ≡ false) (map spelling_of (definitions_moved b index source))
+      elsewhere =
+          all_in_map spelling_of (λ (m : DefinitionSpelling). same_scope m.scope (Some i) ≡ false) (definitions_moved b index source)
+          (all_in_map (local_in id) (λ (d : Definition). same_scope d.scope (Some i) ≡ false) copied (each copied))
+        where
+          each : (ds : List Definition) → AllByRecursion (λ (d : Definition). same_scope (local_in id d).scope (Some i) ≡ false) ds
+          each [] = tt
+          each (d ∷ ds) = (nat_eq_equiv.symm id i ∙ other, each ds)
+
+  -- the sheet of the copy is a new one
+  new_id : (m : SheetName) (typed : List ℕ) → find (λ (x : SheetName). agrees x.name typed) before.sheets ≡ Some m → nat_eq m.id id ≡ false
+  new_id m typed e = elim (cases_Bool (nat_eq m.id id)) [
+    | inl t ↦
+        absurd
+        (both_ways (list_any (nat_eq id) (ids_of (core_of b))) (parts b valid index source at room).0
+        (ap (λ (i : ℕ). list_any (nat_eq i) (ids_of (core_of b))) (sym (eqb-true m.id id t)) ∙ listed (core_of b).sheets m e))
+    | inr f ↦ f
+  ]
+    where
+      listed : (ss : List core_book.Sheet) (m : SheetName) → find (λ (x : SheetName). agrees x.name typed) (map mentioned ss) ≡ Some m → list_any (nat_eq m.id) (map (λ (s : core_book.Sheet). s.id) ss) ≡ true
+      listed [] m e = cc
+      listed (s ∷ ss) m e = step (agrees s.name typed) e (listed ss m)
+        where
+          step : (c : Bool) → cond c (Some (mentioned s)) (find (λ (x : SheetName). agrees x.name typed) (map mentioned ss)) ≡ Some m
+              → (find (λ (x : SheetName). agrees x.name typed) (map mentioned ss) ≡ Some m → list_any (nat_eq m.id) (map (λ (x : core_book.Sheet). x.id) ss) ≡ true)
+              → (nat_eq m.id s.id || list_any (nat_eq m.id) (map (λ (x : core_book.Sheet). x.id) ss)) ≡ true
+          step true e rest =
+              let same : mentioned s ≡ m = cc in
+              ap (λ (c : Bool). c || list_any (nat_eq m.id) (map (λ (x : core_book.Sheet). x.id) ss)) (ap (λ (x : SheetName). nat_eq x.id s.id) (sym same) ∙ nat_eq_equiv.refl s.id)
+          step false e rest = or_right (nat_eq m.id s.id) (list_any (nat_eq m.id) (map (λ (x : core_book.Sheet). x.id) ss)) (rest e)
+
+  abbrev local_text : NameMention → List ℕ
+  local_text m = spelled_word key_text m
+
+  -- what a word with the sheet of the copy means
+  in_copy : (word : List ℕ) → bound_local later (sheets.Sheet id) word ≡ copied_word id copied (names.Dangling word)
+  in_copy word = ap (name_or_dangling word) (copy_local (fold word)) ∙ either (is_copied copied (fold word))
+    where
+      either : (c : Bool) → name_or_dangling word (if c then Some (key_in_copy id (fold word)) else None) ≡ (if c then names.Name (key_in_copy id (fold word)) else names.Dangling word)
+      either true = refl
+      either false = refl
+
+  -- one with the sheet that is copied
+  of_source : (word : List ℕ) (o : Option DefinitionSpelling) → definition_at before (fold word) (Some source.id) ≡ o
+      → bound_local later (sheets.Sheet id) (local_text (name_or_dangling word (option_map key_of o))) ≡ copied_word id copied (name_or_dangling word (option_map key_of o))
+  of_source word None e = in_copy word
+  of_source word (Some x) e =
+      let k : NameKey = key_of x in
+      let found : found_name before (Some source.id) word ≡ Some k = local_is_found before source.id (fold word) k (ap (option_map key_of) e) in
+      let same : k.name ≡ fold word = (found_has_definition before (Some source.id) (fold word) k found).same in
+      let there : is_copied copied (fold word) ≡ true = local_copied (fold word) x e in
+      ap (λ (folded : List ℕ). name_or_dangling (key_text k) (local_key later id folded)) (spelled_at (Some source.id) word k found)
+      ∙ ap (name_or_dangling (key_text k)) (copy_local (fold word) ∙ ap (λ (c : Bool). if c then Some (key_in_copy id (fold word)) else None) there)
+      ∙ sym (ap (λ (folded : List ℕ). if is_copied copied folded then names.Name (key_in_copy id folded) else names.Name k) same ∙ ap (λ (c : Bool). if c then names.Name (key_in_copy id (fold word)) else names.Name k) there)
+
+  -- one with another sheet
+  of_other : (i : ℕ) (word : List ℕ) → nat_eq i id ≡ false → (o : Option NameKey) → local_key before i (fold word) ≡ o
+      → bound_local later (sheets.Sheet i) (local_text (name_or_dangling word o)) ≡ name_or_dangling word o
+  of_other i word other None e = ap (name_or_dangling word) (other_local i (fold word) other ∙ e)
+  of_other i word other (Some k) e =
+      ap (λ (folded : List ℕ). name_or_dangling (key_text k) (local_key later i folded)) (spelled_at (Some i) word k (local_is_found before i (fold word) k e))
+      ∙ ap (name_or_dangling (key_text k)) (other_local i (fold word) other ∙ e)
+
+  abbrev LocalBecomes : SheetMention → NameMention → Type 0
+  LocalBecomes s m = bound_local later (copied_sheet (copying_of b index source) s) (local_text m) ≡ (if is_of_sheet id (copied_sheet (copying_of b index source) s) then copied_word id copied m else m)
+
+  word_of_local : (name : Option (List ℕ)) (word : List ℕ) → LocalBecomes (bound_sheet before name) (bound_local before (bound_sheet before name) word)
+  word_of_local None word = refl
+  word_of_local (Some typed) word = of_found (find (λ (m : SheetName). agrees m.name typed) before.sheets) refl
+    where
+      of_dangling : (c : Bool) → bound_local later (if c then sheets.Sheet id else sheets.Dangling typed) word
+          ≡ (if is_of_sheet id (if c then sheets.Sheet id else sheets.Dangling typed) then copied_word id copied (names.Dangling word) else names.Dangling word)
+      of_dangling true = in_copy word ∙ sym (ap (λ (c : Bool). if c then copied_word id copied (names.Dangling word) else names.Dangling word) (nat_eq_equiv.refl id))
+      of_dangling false = refl
+
+      of_sheet : (i : ℕ) → nat_eq i id ≡ false → (c : Bool) → nat_eq i source.id ≡ c
+          → bound_local later (sheets.Sheet (if c then id else i)) (local_text (bound_local before (sheets.Sheet i) word))
+          ≡ (if is_of_sheet id (sheets.Sheet (if c then id else i)) then copied_word id copied (bound_local before (sheets.Sheet i) word) else bound_local before (sheets.Sheet i) word)
+      of_sheet i other true e =
+          subst
+          (λ (j : ℕ). bound_local later (sheets.Sheet id) (local_text (bound_local before (sheets.Sheet j) word))
+          ≡ (if is_of_sheet id (sheets.Sheet id) then copied_word id copied (bound_local before (sheets.Sheet j) word) else bound_local before (sheets.Sheet j) word))
+          (sym (eqb-true i source.id e))
+          (of_source word (definition_at before (fold word) (Some source.id)) refl
+          ∙ sym (ap (λ (c : Bool). if c then copied_word id copied (bound_local before (sheets.Sheet source.id) word) else bound_local before (sheets.Sheet source.id) word) (nat_eq_equiv.refl id)))
+      of_sheet i other false e =
+          of_other i word other (local_key before i (fold word)) refl
+          ∙ sym (ap (λ (c : Bool). if c then copied_word id copied (bound_local before (sheets.Sheet i) word) else bound_local before (sheets.Sheet i) word) other)
+
+      of_found : (o : Option SheetName) → find (λ (m : SheetName). agrees m.name typed) before.sheets ≡ o
+          → LocalBecomes (sheet_or_dangling typed (option_map (λ (m : SheetName). m.id) o)) (bound_local before (sheet_or_dangling typed (option_map (λ (m : SheetName). m.id) o)) word)
+      of_found None e = of_dangling (agrees (name_of_copy b source.name) typed)
+      of_found (Some m) e = of_sheet m.id (new_id m typed e) (nat_eq m.id source.id) refl
+
+  local_becomes : (name : Option (List ℕ)) (word : List ℕ)
+      → let sheet : SheetMention = bound_sheet before name in let found : SheetMention = bound_sheet later (spelled_sheet (copy_spelling later source.id id) sheet) in
+      ◌≡◌ {A = LocalMention} (found, bound_local later found (local_text (bound_local before sheet word))) (copied_local (copying_of b index source) (sheet, bound_local before sheet word))
+  local_becomes name word =
+      let sheet : SheetMention = bound_sheet before name in
+      ap (λ (s : SheetMention). let m : LocalMention = (s, bound_local later s (local_text (bound_local before sheet word))) in m) (sheet_becomes name)
+      ∙ ap (λ (w : NameMention). let m : LocalMention = (copied_sheet (copying_of b index source) sheet, w) in m) (word_of_local name word)
+
+  module _ (scope : Option ℕ) (is : IsSource scope) where
     abbrev mention : Bool → List ℕ → Option NameKey → NameMention
     mention c word found = if c then names.Var word else name_or_dangling word found
 
     spelled_same : (word : List ℕ) (k : NameKey) → found_name before scope word ≡ Some k → fold (key_text k) ≡ fold word
-    spelled_same word k e =
-        let has = found_has_definition before scope (fold word) k e in
-        of_later k has.same (definition_at later k.name k.scope) refl (has_key b valid index source at room k (ap (λ (o : Option DefinitionSpelling). is_some (option_map (λ (m : DefinitionSpelling). m.name) o)) has.found))
-      where
-        of_later : (k : NameKey) → k.name ≡ fold word → (o : Option DefinitionSpelling) → definition_at later k.name k.scope ≡ o → IsSome (name_of_key later k) → fold (key_text k) ≡ fold word
-        of_later k same None f some = absurd (let no : false ≡ true = sym (ap (λ (o : Option DefinitionSpelling). is_some (option_map (λ (m : DefinitionSpelling). m.name) o)) f) ∙ some in cc)
-        of_later k same (Some d) f some =
-            ap (λ (o : Option DefinitionSpelling). fold (unwrap_or (option_map (λ (m : DefinitionSpelling). m.name) o) k.name)) f ∙ folds_to_key later k.name k.scope d f ∙ same
+    spelled_same word k e = spelled_at scope word k e
 
     mention_same : (binders : Binders) (word : List ℕ) → fold (spelled_word key_text (bound_word before scope binders word)) ≡ fold word
     mention_same binders word = go (is_bound_by binders word) (found_name before scope word) refl
@@ -267,11 +390,11 @@ module _ (b : Book) (valid : IsValidBook b) (index : ℕ) (source : Sheet) (at :
     called_becomes by_fold binders word number none some =
         absurd (let no : None ≡ Some number = sym none ∙ sym (by_fold (spelled_word key_text (bound_word before scope binders word)) word (mention_same binders word)) ∙ some in cc)
 
-    tree_becomes : (t : Bound) → bound (english_function n) before scope (spelled before t) ≡ t → words_in (bound (english_function n) later (Some id) (spelled_with (copy_spelling later source.id id) key_text t)) ≡ map (option_map (copied_word id copied)) (words_in t)
+    tree_becomes : (t : Bound) → bound (english_function n) before scope (spelled before t) ≡ t → plain_words_in (bound (english_function n) later (Some id) (spelled_with (copy_spelling later source.id id) key_text t)) ≡ map (option_map (copied_word id copied)) (plain_words_in t)
     tree_becomes t settled =
-        mapped_zip (option_map (copied_word id copied)) (words_in t) (words_in (bound (english_function n) later (Some id) (spelled_with (copy_spelling later source.id id) key_text t)))
-        (subst (λ (u : Bound). AllZip Becomes (words_in u) (words_in (bound (english_function n) later (Some id) (spelled_with (copy_spelling later source.id id) key_text u)))) settled
-        (words_become (english_function n) scope (Some id) before later (copy_spelling later source.id id) key_text Becomes
+        mapped_zip (option_map (copied_word id copied)) (plain_words_in t) (plain_words_in (bound (english_function n) later (Some id) (spelled_with (copy_spelling later source.id id) key_text t)))
+        (subst (λ (u : Bound). AllZip Becomes (plain_words_in u) (plain_words_in (bound (english_function n) later (Some id) (spelled_with (copy_spelling later source.id id) key_text u)))) settled
+        (plain_words_become (english_function n) scope (Some id) before later (copy_spelling later source.id id) key_text Becomes
         (record { word = word_becomes; none = refl; called = called_becomes (english_by_fold n (notations_are b.tables valid.tables)) }) (spelled before t)))
 
     sheets_copied : (t : Bound) → bound (english_function n) before scope (spelled before t) ≡ t
@@ -280,12 +403,18 @@ module _ (b : Book) (valid : IsValidBook b) (index : ℕ) (source : Sheet) (at :
         subst (λ (u : Bound). sheets_in (bound (english_function n) later (Some id) (spelled_with (copy_spelling later source.id id) key_text u)) ≡ map (copied_sheet (copying_of b index source)) (sheets_in u)) settled
         (sheets_become (english_function n) scope (Some id) before later (copy_spelling later source.id id) key_text (copied_sheet (copying_of b index source)) sheet_becomes (spelled before t))
 
+    locals_copied : (t : Bound) → bound (english_function n) before scope (spelled before t) ≡ t
+        → locals_in (bound (english_function n) later (Some id) (spelled_with (copy_spelling later source.id id) key_text t)) ≡ map (copied_local (copying_of b index source)) (locals_in t)
+    locals_copied t settled =
+        subst (λ (u : Bound). locals_in (bound (english_function n) later (Some id) (spelled_with (copy_spelling later source.id id) key_text u)) ≡ map (copied_local (copying_of b index source)) (locals_in u)) settled
+        (locals_become (english_function n) scope (Some id) before later (copy_spelling later source.id id) key_text (copied_local (copying_of b index source)) local_becomes (spelled before t))
+
     pooled_becomes : (f : Formula) → IsPooled n before scope f → HasCopiedMentions (copying_of b index source) f (formula_copied b index source f)
-    pooled_becomes (formulas.Tree t) h = (tree_becomes t h.settled, sheets_copied t h.settled)
+    pooled_becomes (formulas.Tree t) h = (tree_becomes t h.settled, sheets_copied t h.settled, locals_copied t h.settled)
     pooled_becomes (formulas.Raw text) h = refl
 
     kept_becomes : (f : Formula) → IsKeptFormula n before scope (pos 1) (pos 1) f → HasCopiedMentions (copying_of b index source) f (formula_copied b index source f)
-    kept_becomes (formulas.Tree t) h = (tree_becomes t h.settled, sheets_copied t h.settled)
+    kept_becomes (formulas.Tree t) h = (tree_becomes t h.settled, sheets_copied t h.settled, locals_copied t h.settled)
     kept_becomes (formulas.Raw text) h = refl
 
   pool_words : AllZip (HasCopiedMentions (copying_of b index source)) source.pool (copy_of_sheet b index source).pool

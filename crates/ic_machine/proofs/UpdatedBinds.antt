@@ -10,7 +10,7 @@ use Rattle.ic_laws.proofs.core.Named.{book_named}
 use Rattle.ic_laws.proofs.keeping.Holds.{sheet_holds}
 use Rattle.ic_laws.proofs.keeping.Kept.{sheet_stays}
 use Rattle.ic_laws.proofs.keeping.Removing.{none_first}
-use Rattle.ic_laws.specs.Binding.{Binders, bound, bound_sheet, bound_word, is_bound_by, name_or_dangling, spelled, spelled_word}
+use Rattle.ic_laws.specs.Binding.{Binders, bound, bound_local, bound_sheet, bound_word, is_bound_by, name_or_dangling, spelled, spelled_sheet, spelled_word}
 use Rattle.ic_laws.specs.CoreBook.{Definition, spelling_of}
 use Rattle.ic_laws.specs.CoreStep.{has_definition, is_named, updated_at}
 use Rattle.ic_laws.specs.FormulaReading.{Body}
@@ -27,6 +27,8 @@ use Rattle.ic_laws.specs.declared.tree.Formula.TheVariants as formulas
 use Rattle.ic_laws.specs.declared.tree.NameKey.{NameKey}
 use Rattle.ic_laws.specs.declared.tree.NameMention.{NameMention}
 use Rattle.ic_laws.specs.declared.tree.NameMention.TheVariants as names
+use Rattle.ic_laws.specs.declared.tree.SheetMention.{SheetMention}
+use Rattle.ic_laws.specs.declared.tree.SheetMention.TheVariants as sheets
 use Rattle.ic_machine.specs.Binds.{sheets_in, IsUpdatedBody, IsUpdatedFormula, IsUpdatedWord, UpdatedIsMeant, UpdatesWords}
 use Rattle.ic_machine.specs.Book.{Book, Sheet, notations_in, scene_in, core_of}
 use Rattle.ic_machine.specs.Capture.{captured_sites, has_sites, words_in}
@@ -126,10 +128,32 @@ module _ (english : List ℕ → Option ℕ) (before after : Scene) (d : Definit
       go false (Some k) e = tt
       go false None e = absurd (let no : None ≡ Some number = sym none ∙ e in cc)
 
-  tree_becomes : (t : Bound) → bound english before scope (spelled before t) ≡ t → AllZip Becomes (words_in t) (words_in (kept english before after keys scope t))
-  tree_becomes t settled =
-      subst (λ (u : Bound). AllZip Becomes (words_in u) (words_in (kept english before after keys scope u))) settled
-      (words_become english scope scope before after (kept_sheet before after) key_text Becomes (record { word = word_becomes; none = refl; called = called_becomes }) (spelled before t))
+  -- a word with its sheet, which stays
+  module _ (stay : (name : Option (List ℕ)) → bound_sheet after (spelled_sheet (kept_sheet before after) (bound_sheet before name)) ≡ bound_sheet before name) where
+    local_becomes : (name : Option (List ℕ)) (word : List ℕ)
+        → Becomes (Some (bound_local before (bound_sheet before name) word)) (Some (bound_local after (bound_sheet after (spelled_sheet (kept_sheet before after) (bound_sheet before name))) (spelled_word key_text (bound_local before (bound_sheet before name) word))))
+    local_becomes name word =
+        subst (λ (s : SheetMention). Becomes (Some (bound_local before (bound_sheet before name) word)) (Some (bound_local after s (spelled_word key_text (bound_local before (bound_sheet before name) word))))) (sym (stay name))
+        (there (bound_sheet before name))
+      where
+        -- one that dangled finds the definition that was updated, or nothing
+        found : (id : ℕ) → (o : Option DefinitionSpelling) → definition_at before (fold word) (Some id) ≡ o
+            → Becomes (Some (name_or_dangling word (option_map key_of o))) (Some (bound_local after (sheets.Sheet id) (spelled_word key_text (name_or_dangling word (option_map key_of o)))))
+        found id (Some m) f = tt
+        found id None f = elim (found_after (fold word) (Some id) f) [
+          | inl e ↦ inl (ap (λ (o : Option DefinitionSpelling). Some (name_or_dangling word (option_map key_of o))) e)
+          | inr e ↦ inr (ap (λ (o : Option DefinitionSpelling). Some (name_or_dangling word (option_map key_of o))) e)
+        ]
+
+        there : (s : SheetMention) → Becomes (Some (bound_local before s word)) (Some (bound_local after s (spelled_word key_text (bound_local before s word))))
+        there sheets.Own = inl refl
+        there (sheets.Dangling typed) = inl refl
+        there (sheets.Sheet id) = found id (definition_at before (fold word) (Some id)) refl
+
+    tree_becomes : (t : Bound) → bound english before scope (spelled before t) ≡ t → AllZip Becomes (words_in t) (words_in (kept english before after keys scope t))
+    tree_becomes t settled =
+        subst (λ (u : Bound). AllZip Becomes (words_in u) (words_in (kept english before after keys scope u))) settled
+        (words_become english scope scope before after (kept_sheet before after) key_text Becomes (record { word = word_becomes; none = refl; called = called_becomes }) local_becomes (spelled before t))
 
 -- the whole book ----
 
@@ -150,20 +174,24 @@ module _ (b : Book) (valid : IsValidBook b) (u : Update) (index : ℕ) (found : 
   map_same [] = refl
   map_same (x ∷ xs) = ap (λ ys. x ∷ ys) (map_same xs)
 
+  -- a sheet that was found is found
+  stay : (name : Option (List ℕ)) → bound_sheet later (spelled_sheet (kept_sheet (scene_in b) later) (bound_sheet (scene_in b) name)) ≡ bound_sheet (scene_in b) name
+  stay name = sheet_stays (scene_in b) later (book_named n (core_of b) (core_valid b valid)).differ (bound_sheet (scene_in b) name) (sheet_holds (scene_in b) name)
+
   -- sheets are what they were
   sheets_stay : (scope : Option ℕ) (t : Bound) → bound (english_function n) (scene_in b) scope (spelled (scene_in b) t) ≡ t → sheets_in (kept (english_function n) (scene_in b) later (keys_of_update b u) scope t) ≡ sheets_in t
   sheets_stay scope t settled =
       subst (λ (x : Bound). sheets_in (kept (english_function n) (scene_in b) later (keys_of_update b u) scope x) ≡ sheets_in x) settled
       (sheets_become (english_function n) scope scope (scene_in b) later (kept_sheet (scene_in b) later) (kept_name (scene_in b) later (keys_of_update b u)) (λ m. m)
-      (λ name. sheet_stays (scene_in b) later (book_named n (core_of b) (core_valid b valid)).differ (bound_sheet (scene_in b) name) (sheet_holds (scene_in b) name)) (spelled (scene_in b) t)
+      stay (spelled (scene_in b) t)
       ∙ map_same (sheets_in (bound (english_function n) (scene_in b) scope (spelled (scene_in b) t))))
 
   pooled_becomes : (scope : Option ℕ) (f : Formula) → IsPooled n (scene_in b) scope f → IsUpdatedFormula (new_key b u) f (kept_formula (english_function n) (scene_in b) later (keys_of_update b u) scope f)
-  pooled_becomes scope (formulas.Tree t) h = (tree_becomes (english_function n) (scene_in b) later (spelling_of new) index names_are (keys_of_update b u) scope t h.settled, sheets_stay scope t h.settled)
+  pooled_becomes scope (formulas.Tree t) h = (tree_becomes (english_function n) (scene_in b) later (spelling_of new) index names_are (keys_of_update b u) scope stay t h.settled, sheets_stay scope t h.settled)
   pooled_becomes scope (formulas.Raw text) h = refl
 
   kept_becomes : (scope : Option ℕ) (row column : ℤ) (f : Formula) → IsKeptFormula n (scene_in b) scope row column f → IsUpdatedFormula (new_key b u) f (kept_formula (english_function n) (scene_in b) later (keys_of_update b u) scope f)
-  kept_becomes scope row column (formulas.Tree t) h = (tree_becomes (english_function n) (scene_in b) later (spelling_of new) index names_are (keys_of_update b u) scope t h.settled, sheets_stay scope t h.settled)
+  kept_becomes scope row column (formulas.Tree t) h = (tree_becomes (english_function n) (scene_in b) later (spelling_of new) index names_are (keys_of_update b u) scope stay t h.settled, sheets_stay scope t h.settled)
   kept_becomes scope row column (formulas.Raw text) h = refl
 
   words_are : (left : Book) → left ≡ changed_with (keys_of_update b u) (with_update b u has_equals body (Some index)) b → captured_sites (keys_of_update b u) (old_key b u) b left ≡ [] → UpdatesWords b left u

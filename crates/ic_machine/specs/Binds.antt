@@ -6,11 +6,12 @@ use Rattle.std.specs.Prelude.{◌≡◌, ◌⊎◌, ℕ, ◌+◌, ◌++◌, List
 use Rattle.std.specs.Bool.{OnFalse}
 use Rattle.std.specs.List.{AllZip, list_any}
 use Rattle.ic_laws.specs.BookTrees.{with_sheet_at_end, with_trees}
-use Rattle.ic_laws.specs.Changes.{changed_tree, definition_added, definition_gone, sheet_named}
+use Rattle.ic_laws.specs.Changes.{changed_tree, definition_added, definition_gone, is_of_sheet, sheet_named}
 use Rattle.ic_laws.specs.CoreBook as core_book
 use Rattle.ic_laws.specs.CoreBook.{CoreBook, Definition, greatest_id, scene_of, spelling_of}
 use Rattle.ic_laws.specs.CoreStep.{index_of_definition, index_of_name, new_definition, scope_or_none, with_definition, with_sheet_name, without_definition}
 use Rattle.ic_laws.specs.FormulaReading.{Body, body_of}
+use Rattle.ic_laws.specs.Mentions.{LocalMention}
 use Rattle.ic_laws.specs.Name.{agrees, fold}
 use Rattle.ic_laws.specs.Scene.{key_of, same_key}
 use Rattle.ic_laws.specs.Tree.{Bound}
@@ -24,7 +25,7 @@ use Rattle.ic_laws.specs.declared.tree.SheetMention.TheVariants as sheet_mention
 use Rattle.ic_laws.specs.declared.tree.Tree.{Tree-F, fold-Tree}
 use Rattle.ic_laws.specs.declared.tree.Tree.TheOpen as one
 use Rattle.ic_machine.specs.Book.{Book, Sheet, core_of, core_sheet, notations_in}
-use Rattle.ic_machine.specs.Capture.{captured_sites, words_in}
+use Rattle.ic_machine.specs.Capture.{captured_sites, words_in, words_step}
 use Rattle.ic_machine.specs.Command.{OnDefinitions, OnSheets}
 use Rattle.ic_machine.specs.Reply.{Field}
 use Rattle.ic_machine.specs.Step.{step}
@@ -38,7 +39,7 @@ use Rattle.ic_machine.specs.subjects.Sheets.{chosen_id, copied_of, copies_of_def
 abbrev pub AddedIsMeant : Type 0
 AddedIsMeant =
     (book after : Book) (name : List ℕ) (fields : List Field) → IsValidBook book → step book (OnSheets (sheets.AddSheet name)) ≡ Ok (after, fields)
-    → core_of after ≡ with_sheet_at_end (greatest_id (core_of book) + 1) name (with_trees (changed_tree (sheet_named (greatest_id (core_of book) + 1) name)) (core_of book))
+    → core_of after ≡ with_sheet_at_end (greatest_id (core_of book) + 1) name (with_trees (changed_tree (sheet_named (scene_of (core_of book)) (greatest_id (core_of book) + 1) name)) (core_of book))
 
 -- so is one of a new name with a number
 abbrev pub NewIsMeant : Type 0
@@ -46,7 +47,7 @@ NewIsMeant =
     (book after : Book) (fields : List Field) → IsValidBook book → step book (OnSheets sheets.NewSheet) ≡ Ok (after, fields)
     → core_of after
     ≡ with_sheet_at_end (greatest_id (core_of book) + 1) (new_sheet_name book)
-    (with_trees (changed_tree (sheet_named (greatest_id (core_of book) + 1) (new_sheet_name book))) (core_of book))
+    (with_trees (changed_tree (sheet_named (scene_of (core_of book)) (greatest_id (core_of book) + 1) (new_sheet_name book))) (core_of book))
 
 -- so is one that is put in among the others
 abbrev pub with_sheet_among : ℕ → ℕ → List ℕ → CoreBook → CoreBook
@@ -56,10 +57,10 @@ abbrev pub InsertedIsMeant : Type 0
 InsertedIsMeant =
     (book after : Book) (name : List ℕ) (index : ℕ) (given : Option ℕ) (id : ℕ) (fields : List Field) → IsValidBook book → chosen_id (core_of book) given ≡ Some id
     → step book (OnSheets (sheets.InsertSheet name index given)) ≡ Ok (after, fields)
-    → core_of after ≡ with_sheet_among index id name (with_trees (changed_tree (sheet_named id name)) (core_of book))
+    → core_of after ≡ with_sheet_among index id name (with_trees (changed_tree (sheet_named (scene_of (core_of book)) id name)) (core_of book))
 
--- so is the copy of one. Its own formulas, and those of the definitions that are copied with it, are the ones that are
--- written for it.
+-- so is the copy of one, and a word that dangled with its name means what is copied with it. Its own formulas, and those
+-- of the definitions that are copied with it, are the ones that are written for it.
 abbrev pub with_copied : ℕ → core_book.Sheet → List Definition → CoreBook → CoreBook
 with_copied index copy definitions book = record book { sheets = insert book.sheets (index + 1) copy; definitions = book.definitions ++ definitions }
 
@@ -69,11 +70,12 @@ CopiedIsMeant =
     → step book (OnSheets (sheets.DuplicateSheet index)) ≡ Ok (after, fields)
     → core_of after
     ≡ with_copied index (core_sheet (copy_of_sheet book index source)) (copies_of_definitions book index source)
-    (with_trees (changed_tree (sheet_named (copy_id book index source) (name_of_copy book source.name))) (core_of book))
+    (with_trees (changed_tree (sheet_named (scene_of (with_copied index (core_sheet (copy_of_sheet book index source)) (copies_of_definitions book index source) (core_of book))) (copy_id book index source) (name_of_copy book source.name))) (core_of book))
 
 -- the mentions of sheets of a formula, from left to right
 abbrev pub sheets_step : Tree-F SheetMention NameMention (List SheetMention) (List SheetMention) → List SheetMention
 sheets_step (one.Reference sheet place) = sheet ∷ []
+sheets_step (one.Local sheet word) = sheet ∷ []
 sheets_step (one.Paren x) = x
 sheets_step (one.Prefix sign x) = x
 sheets_step (one.Percent x) = x
@@ -88,6 +90,32 @@ sheets_step kind = []
 
 abbrev pub sheets_in : Bound → List SheetMention
 sheets_in t = fold-Tree SheetMention NameMention (List SheetMention) (List SheetMention) sheets_step (λ pair. pair.value) t
+
+-- its words without a sheet; a function that is called stands as none
+abbrev pub plain_words_step : Tree-F SheetMention NameMention (List (Option NameMention)) (List (Option NameMention)) → List (Option NameMention)
+plain_words_step (one.Local sheet word) = []
+plain_words_step kind = words_step kind
+
+abbrev pub plain_words_in : Bound → List (Option NameMention)
+plain_words_in t = fold-Tree SheetMention NameMention (List (Option NameMention)) (List (Option NameMention)) plain_words_step (λ pair. pair.value) t
+
+-- its words with their sheets
+abbrev pub locals_step : Tree-F SheetMention NameMention (List LocalMention) (List LocalMention) → List LocalMention
+locals_step (one.Local sheet word) = (sheet, word) ∷ []
+locals_step (one.Paren x) = x
+locals_step (one.Prefix sign x) = x
+locals_step (one.Percent x) = x
+locals_step (one.Spill x) = x
+locals_step (one.Binary sign a b) = a ++ b
+locals_step (one.Fun number arguments) = flat_map (λ x. x) arguments
+locals_step (one.Call word arguments) = flat_map (λ x. x) arguments
+locals_step (one.Let pairs body) = flat_map (λ x. x) pairs ++ body
+locals_step (one.Lambda parameters body) = body
+locals_step (one.Apply x arguments) = x ++ flat_map (λ x. x) arguments
+locals_step kind = []
+
+abbrev pub locals_in : Bound → List LocalMention
+locals_in t = fold-Tree SheetMention NameMention (List LocalMention) (List LocalMention) locals_step (λ pair. pair.value) t
 
 -- what is copied: the sheet with an id, as one with another id and name, and these definitions with it
 pub record Copying : Type 0 where
@@ -118,9 +146,14 @@ copied_word copy copied (names.Var word) = names.Var word
 copied_word copy copied (names.Name key) = if is_copied copied key.name then names.Name (key_in_copy copy key.name) else names.Name key
 copied_word copy copied (names.Dangling word) = if is_copied copied (fold word) then names.Name (key_in_copy copy (fold word)) else names.Dangling word
 
+-- so with the words whose sheet is the copy then; the others stay
+abbrev pub copied_local : Copying → LocalMention → LocalMention
+copied_local c local = (copied_sheet c local.0, if is_of_sheet c.copy (copied_sheet c local.0) then copied_word c.copy c.definitions local.1 else local.1)
+
 abbrev pub HasCopiedMentions : Copying → Formula → Formula → Type 0
 HasCopiedMentions c (formulas.Tree before) (formulas.Tree after) =
-    (words_in after ≡ map (option_map (copied_word c.copy c.definitions)) (words_in before)) × (sheets_in after ≡ map (copied_sheet c) (sheets_in before))
+    (plain_words_in after ≡ map (option_map (copied_word c.copy c.definitions)) (plain_words_in before)) × (sheets_in after ≡ map (copied_sheet c) (sheets_in before))
+    × (locals_in after ≡ map (copied_local c) (locals_in before))
 HasCopiedMentions c before after = after ≡ before
 
 -- the formulas of the copy, which is the next sheet, and the bodies of the copied definitions
@@ -137,14 +170,14 @@ abbrev pub RenamedIsMeant : Type 0
 RenamedIsMeant =
     (book after : Book) (index : ℕ) (name : List ℕ) (sheet : Sheet) (fields : List Field) → IsValidBook book → slice_get book.sheets index ≡ Some sheet
     → step book (OnSheets (sheets.RenameSheetByIndex index name)) ≡ Ok (after, fields)
-    → core_of after ≡ with_sheet_name index name (with_trees (changed_tree (sheet_named sheet.id name)) (core_of book))
+    → core_of after ≡ with_sheet_name index name (with_trees (changed_tree (sheet_named (scene_of (core_of book)) sheet.id name)) (core_of book))
 
 -- so is one that is renamed by its old name, which is that of the first sheet whose name agrees
 abbrev pub RenamedByNameIsMeant : Type 0
 RenamedByNameIsMeant =
     (book after : Book) (old name : List ℕ) (index : ℕ) (sheet : Sheet) (fields : List Field) → IsValidBook book → index_of_name (core_of book) old ≡ Some index
     → slice_get book.sheets index ≡ Some sheet → step book (OnSheets (sheets.RenameSheet old name)) ≡ Ok (after, fields)
-    → core_of after ≡ with_sheet_name index name (with_trees (changed_tree (sheet_named sheet.id name)) (core_of book))
+    → core_of after ≡ with_sheet_name index name (with_trees (changed_tree (sheet_named (scene_of (core_of book)) sheet.id name)) (core_of book))
 
 -- a new definition is meant by what can mean it
 abbrev pub DefinedIsMeant : Type 0

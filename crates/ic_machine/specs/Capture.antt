@@ -20,9 +20,10 @@ use Rattle.ic_machine.specs.Book.{Book, Entry, Sheet}
 use Rattle.ic_machine.specs.Content.{formula_in, formula_index}
 use Rattle.ic_machine.specs.Refusal.{CellSite, DefinitionSite, Site}
 
--- the words of a formula from left to right; a function that is called stands as none, since a word that is called can
+-- the words of a formula from left to right, those with a sheet too; a function that is called stands as none, since a word that is called can
 -- become a function
 abbrev pub words_step : Tree-F SheetMention NameMention (List (Option NameMention)) (List (Option NameMention)) → List (Option NameMention)
+words_step (one.Local sheet word) = Some word ∷ []
 words_step (one.Word word) = Some word ∷ []
 words_step (one.Paren x) = x
 words_step (one.Prefix sign x) = x

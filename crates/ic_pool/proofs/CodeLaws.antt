@@ -27,6 +27,7 @@ module _ {A B C D : Type 0} (f : A → C) (g : B → D) where
   numbers-map (one.Bool value) = refl
   numbers-map (one.Err number) = refl
   numbers-map (one.Reference sheet place) = refl
+  numbers-map (one.Local sheet word) = refl
   numbers-map (one.Word word) = refl
   numbers-map one.Empty = refl
   numbers-map (one.Paren x) = refl
@@ -47,6 +48,7 @@ module _ {A B C D : Type 0} (f : A → C) (g : B → D) where
   texts-map (one.Bool value) = refl
   texts-map (one.Err number) = refl
   texts-map (one.Reference sheet place) = refl
+  texts-map (one.Local sheet word) = refl
   texts-map (one.Word word) = refl
   texts-map one.Empty = refl
   texts-map (one.Paren x) = refl
@@ -67,6 +69,7 @@ module _ {A B C D : Type 0} (f : A → C) (g : B → D) where
   pairs-map (one.Bool value) = refl
   pairs-map (one.Err number) = refl
   pairs-map (one.Reference sheet place) = refl
+  pairs-map (one.Local sheet word) = refl
   pairs-map (one.Word word) = refl
   pairs-map one.Empty = refl
   pairs-map (one.Paren x) = refl
@@ -87,6 +90,7 @@ module _ {A B C D : Type 0} (f : A → C) (g : B → D) where
   trees-map (one.Bool value) = refl
   trees-map (one.Err number) = refl
   trees-map (one.Reference sheet place) = refl
+  trees-map (one.Local sheet word) = refl
   trees-map (one.Word word) = refl
   trees-map one.Empty = refl
   trees-map (one.Paren x) = refl

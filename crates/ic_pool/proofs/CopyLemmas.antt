@@ -15,13 +15,17 @@ NoSheetFact mention = Unit {0}
 abbrev NoWordFact : NameMention → Type 0
 NoWordFact mention = Unit {0}
 
-none_asked : (kind : Kind SheetMention NameMention) → OfMentions NoSheetFact NoWordFact kind
+abbrev NoLocalFact : SheetMention → NameMention → Type 0
+NoLocalFact sheet mention = Unit {0}
+
+none_asked : (kind : Kind SheetMention NameMention) → OfMentions NoSheetFact NoWordFact NoLocalFact kind
 none_asked (one.Reference sheet place) = tt
+none_asked (one.Local sheet word) = (tt, tt)
 none_asked (one.Word word) = tt
 none_asked (one.Call word arguments) = tt
 none_asked kind = tt
 
-pub same_mentions : (t : Bound) → mapped (λ m. m) (λ m. m) t ≡ t
+pub same_mentions : (t : Bound) → mapped (λ m. m) (λ m. m) (λ s m. (s, m)) t ≡ t
 same_mentions t =
-    mapped_same (λ m. m) (λ m. m) NoSheetFact NoWordFact (λ m h. refl) (λ m h. refl) t
-    (every_of_all (OfMentions NoSheetFact NoWordFact) (λ pair. Unit {0}) none_asked (λ pair. tt) t)
+    mapped_same (λ m. m) (λ m. m) (λ s m. (s, m)) NoSheetFact NoWordFact NoLocalFact (λ m h. refl) (λ m h. refl) (λ s m h k. refl) t
+    (every_of_all (OfMentions NoSheetFact NoWordFact NoLocalFact) (λ pair. Unit {0}) none_asked (λ pair. tt) t)

@@ -190,6 +190,10 @@ abbrev first_text : List (List (List ℕ)) → List ℕ
 first_text ((t ∷ ts) ∷ rows) = t
 first_text rows = []
 
+abbrev second_text : List (List (List ℕ)) → List ℕ
+second_text ((s ∷ t ∷ ts) ∷ rows) = t
+second_text rows = []
+
 abbrev first_row : List (List (List ℕ)) → List (List ℕ)
 first_row (row ∷ rows) = row
 first_row [] = []
@@ -206,6 +210,10 @@ abbrev reference_of : List ℕ → List ℕ → BoundKind
 reference_of (kind ∷ id ∷ place) name = one.Reference (sheet_of kind id name) (place_of place)
 reference_of rest name = one.Empty
 
+abbrev local_of : List ℕ → List (List (List ℕ)) → BoundKind
+local_of (kind ∷ id ∷ word) rows = one.Local (sheet_of kind id (first_text rows)) (word_of word (second_text rows))
+local_of rest rows = one.Empty
+
 abbrev rebuilt_of : ℕ → List ℕ → List (List (List ℕ)) → List BoundPair → List Bound → BoundKind
 rebuilt_of t ns rows pairs trees =
     if t == 0 then one.Num (int_at ns) else if t == 1 then one.Str (first_text rows) else if t == 2 then one.Bool (bit_of (first_number ns))
@@ -216,7 +224,8 @@ rebuilt_of t ns rows pairs trees =
     else if t == 11 then one.Binary (sign_of (first_number ns)) (first_tree trees) (first_tree (other_trees trees))
     else if t == 12 then one.Fun (first_number ns) trees else if t == 13 then one.Call (word_of ns (first_text rows)) trees
     else if t == 14 then one.Let pairs (first_tree trees) else if t == 15 then one.Lambda (first_row rows) (first_tree trees)
-    else if t == 16 then one.Apply (first_tree trees) (other_trees trees) else one.Array (map (map constant_of) rows)
+    else if t == 16 then one.Apply (first_tree trees) (other_trees trees) else if t == 17 then one.Array (map (map constant_of) rows)
+    else local_of ns rows
 
 abbrev rebuilt : List ℕ → List (List (List ℕ)) → List BoundPair → List Bound → BoundKind
 rebuilt [] rows pairs trees = one.Empty
@@ -228,6 +237,7 @@ rebuilt-parts (one.Str text) = refl
 rebuilt-parts (one.Bool value) = ap (λ b. let k : BoundKind = one.Bool b in k) (bit_back value)
 rebuilt-parts (one.Err error) = ap (λ e. let k : BoundKind = one.Err e in k) (error_back error)
 rebuilt-parts (one.Reference sheet place) = ap₂ (λ s p. let k : BoundKind = one.Reference s p in k) (sheet_back sheet) (place_back place)
+rebuilt-parts (one.Local sheet word) = ap₂ (λ s w. let k : BoundKind = one.Local s w in k) (sheet_back sheet) (word_back word)
 rebuilt-parts (one.Word word) = ap (λ w. let k : BoundKind = one.Word w in k) (word_back word)
 rebuilt-parts one.Empty = refl
 rebuilt-parts (one.Paren x) = refl

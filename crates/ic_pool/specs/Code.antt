@@ -176,11 +176,13 @@ numbers (one.Let pairs body) = 14 ∷ []
 numbers (one.Lambda parameters body) = 15 ∷ []
 numbers (one.Apply x arguments) = 16 ∷ []
 numbers (one.Array rows) = 17 ∷ []
+numbers (one.Local sheet word) = 18 ∷ sheet_kind sheet ∷ sheet_id sheet ∷ word_numbers word
 
 -- its texts, in rows
 abbrev pub texts : {A B : Type 0} → Node A B → List (List (List ℕ))
 texts (one.Str text) = (text ∷ []) ∷ []
 texts (one.Reference sheet place) = (sheet_text sheet ∷ []) ∷ []
+texts (one.Local sheet word) = (sheet_text sheet ∷ word_text word ∷ []) ∷ []
 texts (one.Word word) = (word_text word ∷ []) ∷ []
 texts (one.Call word arguments) = (word_text word ∷ []) ∷ []
 texts (one.Lambda parameters body) = parameters ∷ []

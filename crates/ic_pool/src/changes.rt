@@ -2,7 +2,7 @@
 ghost use Rattle.std.specs.Prelude.{◌≡◌, IfOk, is_some};
 ghost use Rattle.std.specs.Option.{unwrap_or};
 ghost use Rattle.ic_laws.specs.Changes as laws;
-ghost use Rattle.ic_laws.specs.Changes.{changed_sheet, changed_word, changes_sheet, changes_word};
+ghost use Rattle.ic_laws.specs.Changes.{changed_local, changed_sheet, changed_word, changes_local, changes_sheet, changes_word};
 ghost use Rattle.ic_pool.specs.Mentions.{formula_after, is_changed_by};
 
 mod definitions;
@@ -28,6 +28,10 @@ pub trait BookChange {
     fn changes_word(&self, scope: Option<u32>, mention: &NameMention) -> bool
         ensures { result ≡ changes_word (change self.now) scope mention.now };
 
+    /// Whether it changes a word with its sheet where it leaves that sheet, whichever formula both stand in.
+    fn changes_local(&self, sheet: &SheetMention, mention: &NameMention) -> bool
+        ensures { result ≡ changes_local (change self.now) sheet.now mention.now };
+
     /// What the sheet of a reference becomes.
     fn changed_sheet(
         &self,
@@ -44,6 +48,15 @@ pub trait BookChange {
         mention: &NameMention,
     ) -> Result<NameMention, OutOfMemory>
         ensures { IfOk result (λ m. m ≡ changed_word (change self.now) scope mention.now) };
+
+    /// What a word with its sheet becomes, and what the sheet does.
+    fn changed_local(
+        &self,
+        alloc: Global,
+        sheet: &SheetMention,
+        mention: &NameMention,
+    ) -> Result<(SheetMention, NameMention), OutOfMemory>
+        ensures { IfOk result (λ m. m ≡ changed_local (change self.now) sheet.now mention.now) };
 }
 
 /// A change in formulas whose words are looked up from one sheet, or from none.
@@ -54,11 +67,13 @@ struct Changing<'c, C: BookChange> {
 }
 
 impl<'c, C: BookChange> MentionTest for Changing<'c, C> {
-    ghost use Rattle.ic_laws.specs.Changes.{changes_sheet, changes_word};
+    ghost use Rattle.ic_laws.specs.Changes.{changes_local, changes_sheet, changes_word};
 
     ghost is_sheet = { λ c mention. changes_sheet (C.change c.change.now) mention };
 
     ghost is_word = { λ c mention. changes_word (C.change c.change.now) c.scope mention };
+
+    ghost is_local = { λ c sheet mention. changes_local (C.change c.change.now) sheet mention };
 
     fn sheet(&self, mention: &SheetMention) -> bool {
         self.change.changes_sheet(mention)
@@ -67,14 +82,20 @@ impl<'c, C: BookChange> MentionTest for Changing<'c, C> {
     fn word(&self, mention: &NameMention) -> bool {
         self.change.changes_word(self.scope, mention)
     }
+
+    fn local(&self, sheet: &SheetMention, mention: &NameMention) -> bool {
+        self.change.changes_local(sheet, mention)
+    }
 }
 
 impl<'c, C: BookChange> MentionChange for Changing<'c, C> {
-    ghost use Rattle.ic_laws.specs.Changes.{changed_sheet, changed_word};
+    ghost use Rattle.ic_laws.specs.Changes.{changed_local, changed_sheet, changed_word};
 
     ghost sheet_becomes = { λ c mention. changed_sheet (C.change c.change.now) mention };
 
     ghost word_becomes = { λ c mention. changed_word (C.change c.change.now) c.scope mention };
+
+    ghost local_becomes = { λ c sheet mention. changed_local (C.change c.change.now) sheet mention };
 
     fn sheet(&self, alloc: Global, mention: &SheetMention) -> Result<SheetMention, OutOfMemory> {
         self.change.changed_sheet(alloc, mention)
@@ -82,6 +103,15 @@ impl<'c, C: BookChange> MentionChange for Changing<'c, C> {
 
     fn word(&self, alloc: Global, mention: &NameMention) -> Result<NameMention, OutOfMemory> {
         self.change.changed_word(alloc, self.scope, mention)
+    }
+
+    fn local(
+        &self,
+        alloc: Global,
+        sheet: &SheetMention,
+        mention: &NameMention,
+    ) -> Result<(SheetMention, NameMention), OutOfMemory> {
+        self.change.changed_local(alloc, sheet, mention)
     }
 }
 

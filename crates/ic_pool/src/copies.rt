@@ -1,6 +1,6 @@
 ghost use Rattle.std.specs.Prelude.{◌≡◌, IfOk, map};
 ghost use Rattle.ic_laws.proofs.binding.Again.{pair_mapped};
-ghost use Rattle.ic_laws.specs.Mentions.{mapped};
+ghost use Rattle.ic_laws.specs.Mentions.{LocalMention, mapped};
 ghost use Rattle.ic_laws.specs.declared.tree.NameMention.{NameMention};
 ghost use Rattle.ic_laws.specs.declared.tree.SheetMention.{SheetMention};
 
@@ -10,7 +10,7 @@ use ic_laws::{
     Bound, Boxed, Formula, Items, LetPair, NameMention, OutOfMemory, SheetMention, Text, Tree,
 };
 use parts::{copy_rows, copy_texts};
-pub use parts::{copy_key, copy_sheet, copy_word};
+pub use parts::{copy_key, copy_local, copy_sheet, copy_word};
 use std::alloc::Global;
 
 /// What mentions become in a copy of a formula.
@@ -19,6 +19,8 @@ pub trait MentionChange {
 
     ghost word_becomes: { Self → NameMention → NameMention };
 
+    ghost local_becomes: { Self → SheetMention → NameMention → LocalMention };
+
     /// What the sheet of a reference becomes.
     fn sheet(&self, alloc: Global, mention: &SheetMention) -> Result<SheetMention, OutOfMemory>
         ensures { IfOk result (λ m. m ≡ sheet_becomes self.now mention.now) };
@@ -26,6 +28,15 @@ pub trait MentionChange {
     /// What a word becomes.
     fn word(&self, alloc: Global, mention: &NameMention) -> Result<NameMention, OutOfMemory>
         ensures { IfOk result (λ m. m ≡ word_becomes self.now mention.now) };
+
+    /// What a word with its sheet becomes.
+    fn local(
+        &self,
+        alloc: Global,
+        sheet: &SheetMention,
+        mention: &NameMention,
+    ) -> Result<(SheetMention, NameMention), OutOfMemory>
+        ensures { IfOk result (λ m. m ≡ local_becomes self.now sheet.now mention.now) };
 }
 
 /// Each mention stays what it is.
@@ -37,12 +48,23 @@ impl MentionChange for Unchanged {
 
     ghost word_becomes = { λ change mention. mention };
 
+    ghost local_becomes = { λ change sheet mention. (sheet, mention) };
+
     fn sheet(&self, alloc: Global, mention: &SheetMention) -> Result<SheetMention, OutOfMemory> {
         copy_sheet(alloc, mention)
     }
 
     fn word(&self, alloc: Global, mention: &NameMention) -> Result<NameMention, OutOfMemory> {
         copy_word(alloc, mention)
+    }
+
+    fn local(
+        &self,
+        alloc: Global,
+        sheet: &SheetMention,
+        mention: &NameMention,
+    ) -> Result<(SheetMention, NameMention), OutOfMemory> {
+        copy_local(alloc, sheet, mention)
     }
 }
 
@@ -64,7 +86,7 @@ pub fn copy_changed<C: MentionChange>(
     tree: &Bound,
 ) -> Result<Bound, OutOfMemory>
     ensures { IfOk result (λ copy. copy ≡ mapped (C.sheet_becomes change.now)
-        (C.word_becomes change.now) tree.now) }
+        (C.word_becomes change.now) (C.local_becomes change.now) tree.now) }
 {
     match tree {
         Tree::Num(amount) => Ok(Tree::Num(*amount)),
@@ -72,6 +94,10 @@ pub fn copy_changed<C: MentionChange>(
         Tree::Bool(value) => Ok(Tree::Bool(*value)),
         Tree::Err(error) => Ok(Tree::Err(*error)),
         Tree::Reference(sheet, place) => Ok(Tree::Reference(change.sheet(alloc, sheet)?, *place)),
+        Tree::Local(sheet, word) => {
+            let (sheet, word) = change.local(alloc, sheet, word)?;
+            Ok(Tree::Local(sheet, word))
+        }
         Tree::Word(word) => Ok(Tree::Word(change.word(alloc, word)?)),
         Tree::Empty => Ok(Tree::Empty),
         Tree::Paren(x) => Ok(Tree::Paren(copy_boxed(alloc, change, x)?)),
@@ -122,7 +148,7 @@ fn copy_boxed<C: MentionChange>(
     tree: &Boxed<Bound>,
 ) -> Result<Boxed<Bound>, OutOfMemory>
     ensures { IfOk result (λ copy. copy ≡ mapped (C.sheet_becomes change.now)
-        (C.word_becomes change.now) tree.now) }
+        (C.word_becomes change.now) (C.local_becomes change.now) tree.now) }
 {
     let copy = copy_changed(alloc, change, tree.as_ref())?;
     Ok(Boxed::from(Box::new(alloc, copy)?))
@@ -135,8 +161,8 @@ fn copy_all<C: MentionChange>(
     change: &C,
     trees: &[Bound],
 ) -> Result<Vec<Bound>, OutOfMemory>
-    ensures { IfOk result (λ copies. copies.items
-        ≡ map (mapped (C.sheet_becomes change.now) (C.word_becomes change.now)) trees.now) }
+    ensures { IfOk result (λ copies. copies.items ≡ map (mapped (C.sheet_becomes change.now)
+        (C.word_becomes change.now) (C.local_becomes change.now)) trees.now) }
 {
     let mut out = Vec::new(alloc);
     for tree in trees {
@@ -153,8 +179,8 @@ fn copy_pairs<C: MentionChange>(
     change: &C,
     pairs: &[LetPair<SheetMention, NameMention>],
 ) -> Result<Vec<LetPair<SheetMention, NameMention>>, OutOfMemory>
-    ensures { IfOk result (λ copies. copies.items
-        ≡ map (pair_mapped (C.sheet_becomes change.now) (C.word_becomes change.now)) pairs.now) }
+    ensures { IfOk result (λ copies. copies.items ≡ map (pair_mapped (C.sheet_becomes change.now)
+        (C.word_becomes change.now) (C.local_becomes change.now)) pairs.now) }
 {
     let mut out = Vec::new(alloc);
     for pair in pairs {

@@ -4,7 +4,7 @@ ghost use Rattle.std.specs.List.{list_any};
 ghost use Rattle.ic_laws.specs.Mentions.{some_mention};
 ghost use Rattle.ic_laws.specs.declared.tree.NameMention.{NameMention};
 ghost use Rattle.ic_laws.specs.declared.tree.SheetMention.{SheetMention};
-ghost use Rattle.ic_pool.specs.Mentions.{has_dangling, some_in};
+ghost use Rattle.ic_pool.specs.Mentions.{has_dangling, is_dangling_word, some_in};
 
 use ic_laws::{Bound, Formula, LetPair, NameMention, SheetMention, Tree};
 
@@ -14,6 +14,8 @@ pub trait MentionTest {
 
     ghost is_word: { Self → NameMention → Bool };
 
+    ghost is_local: { Self → SheetMention → NameMention → Bool };
+
     /// Whether the sheet of a reference passes.
     fn sheet(&self, mention: &SheetMention) -> bool
         ensures { result ≡ is_sheet self.now mention.now };
@@ -21,15 +23,21 @@ pub trait MentionTest {
     /// Whether a word passes.
     fn word(&self, mention: &NameMention) -> bool
         ensures { result ≡ is_word self.now mention.now };
+
+    /// Whether a word with its sheet passes, whatever is said of the sheet alone.
+    fn local(&self, sheet: &SheetMention, mention: &NameMention) -> bool
+        ensures { result ≡ is_local self.now sheet.now mention.now };
 }
 
 /// Whether some mention of a formula passes a test.
 #[cycle(some_mention)]
 pub fn some_mention<T: MentionTest>(test: &T, tree: &Bound) -> bool
-    ensures { result ≡ some_mention (T.is_sheet test.now) (T.is_word test.now) tree.now }
+    ensures { result ≡ some_mention (T.is_sheet test.now) (T.is_word test.now)
+        (T.is_local test.now) tree.now }
 {
     match tree {
         Tree::Reference(sheet, _) => test.sheet(sheet),
+        Tree::Local(sheet, word) => test.sheet(sheet) || test.local(sheet, word),
         Tree::Word(word) => test.word(word),
         Tree::Paren(x) => some_mention(test, x.as_ref()),
         Tree::Prefix(_, x) => some_mention(test, x.as_ref()),
@@ -54,8 +62,8 @@ pub fn some_mention<T: MentionTest>(test: &T, tree: &Bound) -> bool
 /// Whether some mention of one of these formulas passes.
 #[cycle(some_mention)]
 fn some_of_all<T: MentionTest>(test: &T, trees: &[Bound]) -> bool
-    ensures { result ≡ list_any (λ b. b) (map
-        (some_mention (T.is_sheet test.now) (T.is_word test.now)) trees.now) }
+    ensures { result ≡ list_any (λ b. b) (map (some_mention (T.is_sheet test.now)
+        (T.is_word test.now) (T.is_local test.now)) trees.now) }
 {
     for tree in trees {
         if some_mention(test, tree) {
@@ -68,8 +76,8 @@ fn some_of_all<T: MentionTest>(test: &T, trees: &[Bound]) -> bool
 /// Whether some mention in the values of these variables passes.
 #[cycle(some_mention)]
 fn some_of_values<T: MentionTest>(test: &T, pairs: &[LetPair<SheetMention, NameMention>]) -> bool
-    ensures { result ≡ list_any (λ b. b) (map
-        (λ pair. some_mention (T.is_sheet test.now) (T.is_word test.now) pair.value) pairs.now) }
+    ensures { result ≡ list_any (λ b. b) (map (λ pair. some_mention (T.is_sheet test.now)
+        (T.is_word test.now) (T.is_local test.now) pair.value) pairs.now) }
 {
     for pair in pairs {
         if some_mention(test, &pair.value) {
@@ -84,11 +92,13 @@ fn some_of_values<T: MentionTest>(test: &T, pairs: &[LetPair<SheetMention, NameM
 struct IsDangling;
 
 impl MentionTest for IsDangling {
-    ghost use Rattle.ic_pool.specs.Mentions.{is_dangling, is_dangling_word};
+    ghost use Rattle.ic_pool.specs.Mentions.{is_dangling, is_dangling_local, is_dangling_word};
 
     ghost is_sheet = { λ test mention. is_dangling mention };
 
     ghost is_word = { λ test mention. is_dangling_word mention };
+
+    ghost is_local = { λ test sheet mention. is_dangling_local sheet mention };
 
     fn sheet(&self, mention: &SheetMention) -> bool {
         match mention {
@@ -98,16 +108,28 @@ impl MentionTest for IsDangling {
     }
 
     fn word(&self, mention: &NameMention) -> bool {
-        match mention {
-            NameMention::Dangling(_) => true,
-            _ => false,
-        }
+        is_dangling_word(mention)
+    }
+
+    fn local(&self, _sheet: &SheetMention, mention: &NameMention) -> bool {
+        is_dangling_word(mention)
+    }
+}
+
+/// Whether a word found nothing.
+fn is_dangling_word(mention: &NameMention) -> bool
+    ensures { result ≡ is_dangling_word mention.now }
+{
+    match mention {
+        NameMention::Dangling(_) => true,
+        _ => false,
     }
 }
 
 /// Whether some mention of a formula that reads passes a test; a text that doesn't read has none.
 pub(crate) fn some_in<T: MentionTest>(test: &T, formula: &Formula) -> bool
-    ensures { result ≡ some_in (T.is_sheet test.now) (T.is_word test.now) formula.now }
+    ensures { result ≡ some_in (T.is_sheet test.now) (T.is_word test.now) (T.is_local test.now)
+        formula.now }
 {
     match formula {
         Formula::Tree(tree) => some_mention(test, tree),

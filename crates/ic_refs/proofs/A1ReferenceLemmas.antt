@@ -8,7 +8,8 @@ use Rattle.ic_laws.specs.declared.reference.RefToken.{RefToken}
 use Rattle.ic_refs.specs.A1.{SpellsPlace, SpellsA1, is_spellable, place_text, a1_text, a1_place_at, a1_at}
 use Rattle.ic_laws.specs.Scan.{IsEnd}
 use Rattle.ic_refs.specs.Longest.{FindsLongest, FindsLongestAt, read_at}
-use Rattle.ic_refs.specs.Sheet.{SpellsReference, reference_at, sheet_text}
+use Rattle.ic_laws.specs.SheetText.{sheet_text}
+use Rattle.ic_refs.specs.Sheet.{SpellsReference, reference_at}
 use Rattle.ic_refs.proofs.A1PlaceLemmas.{finds_longest_place}
 use Rattle.ic_refs.proofs.MarkLemmas.{end_of_place, place_is_text, place_no_bang, place_no_sheet}
 use Rattle.ic_refs.proofs.OffsetLemmas.{finds_at}

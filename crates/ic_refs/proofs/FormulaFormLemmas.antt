@@ -21,13 +21,15 @@ use Rattle.ic_refs.specs.Formula.{IsSheetOf, ParsesFormula, UnlessMemory, found_
 use Rattle.ic_refs.specs.FormulaForm.{IsTrimmedOf, SpellsFormula, TellsFormula}
 use Rattle.ic_refs.specs.Longest.{FindsLongest, IsLongest}
 use Rattle.ic_refs.specs.Referred.{LiesInSheet}
-use Rattle.ic_refs.specs.Sheet.{SpellsReference, SpellsSheet, reference_at, sheet_at}
+use Rattle.ic_laws.specs.SheetText.{SpellsSheet, sheet_at}
+use Rattle.ic_refs.specs.Sheet.{SpellsReference, reference_at}
 use Rattle.ic_refs.proofs.A1ReferenceLemmas.{finds_a1_reference}
 use Rattle.ic_refs.proofs.A1NumberLemmas.{column_as_number, row_as_number}
 use Rattle.ic_refs.proofs.A1PlaceLemmas.{place_at-exact}
 use Rattle.ic_refs.proofs.MarkLemmas.{place_is_text, place_no_sheet}
 use Rattle.ic_refs.proofs.ReferenceLemmas.{read_with_sheet}
-use Rattle.ic_refs.proofs.SheetLemmas.{past_run_all, sheet_complete}
+use Rattle.ic_laws.proofs.tokens.Characters.{past_run_all}
+use Rattle.ic_laws.proofs.tokens.SheetTexts.{sheet_complete}
 use Rattle.ic_refs.proofs.FormulaTrimLemmas.{blanks_reverse}
 
 -- Blanks at both ends

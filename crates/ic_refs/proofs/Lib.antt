@@ -15,6 +15,7 @@ pub mod EqualLemmas
 pub mod FormulaCellLemmas
 pub mod FormulaFormLemmas
 pub mod FormulaTrimLemmas
+pub mod LocalLemmas
 pub mod LongestLemmas
 pub mod MarkLemmas
 pub mod NameLemmas
@@ -28,7 +29,6 @@ pub mod R1C1PartLemmas
 pub mod R1C1SheetLemmas
 mod ReferenceExamples
 pub mod ReferenceLemmas
-pub mod SheetLemmas
 pub mod SheetQuoteLemmas
 pub mod StoredLemmas
 pub mod StoredReachLemmas

@@ -16,9 +16,9 @@ use Rattle.ic_refs.specs.A1.{SpellsColumn, SpellsRow, SpellsCell, SpellsPlace, d
 use Rattle.ic_refs.specs.Digits.{digit_number}
 use Rattle.ic_refs.proofs.A1NumberLemmas.{row_as_number, column_as_number, some_digits}
 use Rattle.ic_refs.proofs.A1PositionLemmas.{SpellsCounted}
-use Rattle.ic_refs.specs.Sheet.{sheet_at}
+use Rattle.ic_laws.specs.SheetText.{sheet_at}
 use Rattle.ic_refs.proofs.A1PlaceLemmas.{EndsPlace}
-use Rattle.ic_refs.proofs.SheetLemmas.{no_sheet_without_bang}
+use Rattle.ic_laws.proofs.tokens.SheetTexts.{no_sheet_without_bang}
 
 -- an ASCII letter is a letter
 letter_or_other : ℕ → Bool

@@ -18,12 +18,12 @@ use Rattle.ic_refs.specs.declared.reference.ParsedReference.TheVariants as parse
 use Rattle.ic_refs.specs.Formula.{IsSheetOf, UnlessMemory}
 use Rattle.ic_refs.specs.R1C1.{are_alike, first_cell, last_cell, first_corner, last_corner, area_of, have_one_kind, referred, refers, ends_of, split_sheet, quoted_name, unquoted_name, is_no_bang, ParsesR1C1}
 use Rattle.ic_refs.specs.R1C1Form.{SpellsEndOf, HasUnknownSheet, IsAreaOf, IsOnSheet, RefersTo, Spans, SpellsEnds, SpellsR1C1, SplitsSheet, TellsR1C1}
-use Rattle.ic_refs.specs.Sheet.{is_bang, is_quote, name_in_quotes}
-use Rattle.ic_refs.specs.Written.{doubled}
+use Rattle.ic_laws.specs.SheetText.{is_bang, is_quote, name_in_quotes, doubled}
 use Rattle.ic_refs.proofs.R1C1EndLemmas.{AreEnds, IsInSheet, ends_sound, ends_complete, same_ok}
 use Rattle.ic_refs.proofs.R1C1PartLemmas.{bound, bind}
 use Rattle.ic_refs.proofs.R1C1SheetLemmas.{any_none, before_is, after_is, unquoted_some}
-use Rattle.ic_refs.proofs.SheetLemmas.{past_run_all, quoted_sound, quoted_complete}
+use Rattle.ic_laws.proofs.tokens.Characters.{past_run_all}
+use Rattle.ic_laws.proofs.tokens.SheetTexts.{quoted_sound, quoted_complete}
 
 -- Numbers of the sheet
 

@@ -18,7 +18,7 @@ use Rattle.ic_refs.specs.R1C1Form.{IsNumberOf, LiesAway, SpellsOffset, SpellsPar
 use Rattle.ic_refs.specs.Stored.{SpellsNumber, SpellsDistance}
 use Rattle.ic_refs.proofs.DigitsDecimalLemmas.{all_digits}
 use Rattle.ic_refs.proofs.R1C1NumberLemmas.{number_some}
-use Rattle.ic_refs.proofs.SheetLemmas.{run_of_all, past_run_all}
+use Rattle.ic_laws.proofs.tokens.Characters.{run_of_all, past_run_all}
 use Rattle.ic_refs.proofs.StoredLemmas.{nat_abs_neg}
 use Rattle.ic_refs.proofs.StoredReachLemmas.{digits_begin, other_than_digit}
 

@@ -9,7 +9,7 @@ use Rattle.ic_refs.specs.declared.error.ReferenceError.TheVariants as errors
 use Rattle.ic_refs.specs.declared.reference.CellReferenceIndex.{CellReferenceIndex}
 use Rattle.ic_refs.specs.declared.reference.ParsedReference.{ParsedReference}
 use Rattle.ic_refs.specs.Formula.{UnlessMemory, ◌>>=◌}
-use Rattle.ic_refs.specs.Sheet.{is_bang}
+use Rattle.ic_laws.specs.SheetText.{is_bang}
 use Rattle.ic_refs.specs.R1C1.{is_no_bang, unquoted_name, refers, ParsesR1C1}
 use Rattle.ic_laws.proofs.RunLemmas.{run_before_rest}
 use Rattle.ic_refs.proofs.R1C1InsideLemmas.{LiesInOrder, refers_inside}

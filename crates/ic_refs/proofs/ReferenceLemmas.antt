@@ -9,15 +9,16 @@ use Rattle.ic_laws.specs.Name.{is_sheet_name, in_quotes}
 use Rattle.ic_laws.specs.declared.reference.Place.{Place}
 use Rattle.ic_laws.specs.declared.reference.RefToken.{RefToken}
 use Rattle.ic_refs.specs.Longest.{FindsLongest, IsLongest}
-use Rattle.ic_refs.specs.Sheet.{SpellsReference, SpellsSheet, or_else, reference_at, sheet_at, sheet_text, with_sheet}
-use Rattle.ic_refs.proofs.SheetLemmas.{sheet_again, sheet_complete, sheet_sound}
+use Rattle.ic_laws.specs.SheetText.{SpellsSheet, sheet_at, sheet_text}
+use Rattle.ic_refs.specs.Sheet.{SpellsReference, or_else, reference_at, with_sheet}
+use Rattle.ic_laws.proofs.tokens.SheetTexts.{sheet_again, sheet_complete, sheet_sound}
 
 -- no `!` stands in the text
 abbrev pub has_bang : List ℕ → Bool
 has_bang text = list_any (λ c. c == 33) text
 
 -- of two fronts of a text the one without a mark is not longer than the one that ends with it
-marked_longer : (p : ℕ → Bool) (f other r after : List ℕ) → f ++ r ≡ other ++ after → list_any p f ≡ true → list_any p other ≡ false → length other ≤ length f
+pub marked_longer : (p : ℕ → Bool) (f other r after : List ℕ) → f ++ r ≡ other ++ after → list_any p f ≡ true → list_any p other ≡ false → length other ≤ length f
 marked_longer p f [] r after e h k = omega arith
 marked_longer p [] (o ∷ os) r after e h k = absurd (both_ways false refl h)
 marked_longer p (x ∷ f) (o ∷ os) r after e h k =
@@ -33,7 +34,7 @@ any_after p [] c h = or_left (p c) false h
 any_after p (x ∷ xs) c h = or_right (p x) (list_any p (xs ++ c ∷ [])) (any_after p xs c h)
 
 -- a sheet's name before a reference ends with a `!`
-sheet_has_bang : (front name : List ℕ) → SpellsSheet front (Some name) → has_bang front ≡ true
+pub sheet_has_bang : (front name : List ℕ) → SpellsSheet front (Some name) → has_bang front ≡ true
 sheet_has_bang front name h =
     elim h.1 [
       | inl e ↦ ap has_bang e ∙ any_after (λ c. c == 33) (in_quotes name) 33 refl

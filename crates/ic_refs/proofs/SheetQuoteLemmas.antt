@@ -3,13 +3,9 @@ use Rattle.std.proofs.Common.{◌≡◌, ◌≢◌, ℕ, List, [], ◌∷◌, �
 use Rattle.std.proofs.lemmas.Bool.{ne_eqb}
 use Rattle.std.proofs.lemmas.List.{append_cancel_right}
 use Rattle.ic_laws.specs.Scan.{first_is}
-use Rattle.ic_refs.specs.Sheet.{name_in_quotes, onto_text}
+use Rattle.ic_laws.specs.SheetText.{name_in_quotes, onto_text}
 use Rattle.ic_refs.specs.Written.{ClosesAt, undoubled}
-
--- a character that is no quote stands for itself
-pub quoted_step : (c : ℕ) (cs : List ℕ) → (c == 39) ≡ false → name_in_quotes (c ∷ cs) ≡ onto_text c (name_in_quotes cs)
-quoted_step c [] h = rw h refl
-quoted_step c (d ∷ cs) h = rw h refl
+use Rattle.ic_laws.proofs.tokens.SheetTexts.{closed_here, quoted_step}
 
 pub undoubled_step : (c : ℕ) (cs : List ℕ) → (c == 39) ≡ false → undoubled (c ∷ cs) ≡ c ∷ undoubled cs
 undoubled_step c [] h = refl
@@ -47,10 +43,6 @@ pub none_doubled : (left more beyond : List ℕ) → left ≡ 39 ∷ more → mo
 none_doubled left more beyond e f h = ap name_in_quotes (two_quotes left more beyond e f) ∙ ap (onto_text 39) h
 
 -- a quote with no other after it closes the name
-pub closed_here : (more : List ℕ) → first_is (λ c. c == 39) more ≡ false → name_in_quotes (39 ∷ more) ≡ Some ([], more)
-closed_here [] h = refl
-closed_here (d ∷ ds) h = rw h refl
-
 pub closes_here : (left more : List ℕ) → left ≡ 39 ∷ more → first_is (λ c. c == 39) more ≡ false → ClosesAt left left
 closes_here left more e h = record { inside = []; rest = more; whole = refl; quote = e; read = ap name_in_quotes e ∙ closed_here more h }
 

@@ -7,13 +7,14 @@ use Rattle.ic_laws.specs.Scan.{is_plain, first_is, past_run, IsEnd}
 use Rattle.ic_laws.specs.declared.reference.Place.{Place}
 use Rattle.ic_laws.specs.declared.reference.RefToken.{RefToken}
 use Rattle.ic_refs.specs.Longest.{FindsLongest, FindsLongestAt, read_at}
-use Rattle.ic_refs.specs.Sheet.{reference_at, sheet_at}
+use Rattle.ic_laws.specs.SheetText.{sheet_at}
+use Rattle.ic_refs.specs.Sheet.{reference_at}
 use Rattle.ic_laws.specs.Position.{is_place_within}
 use Rattle.ic_laws.specs.Tree.{is_written_sheet}
 use Rattle.ic_refs.specs.Stored.{is_stored_spellable, SpellsPlace, SpellsStored, place_text, stored_text, stored_place_at}
 use Rattle.ic_refs.proofs.OffsetLemmas.{finds_at}
 use Rattle.ic_refs.proofs.ReferenceLemmas.{finds_reference, reference_again}
-use Rattle.ic_refs.proofs.SheetLemmas.{no_sheet_without_bang, sheet_named}
+use Rattle.ic_laws.proofs.tokens.SheetTexts.{no_sheet_without_bang, sheet_named}
 use Rattle.ic_refs.proofs.StoredReachLemmas.{finds_longest_place}
 use Rattle.ic_refs.proofs.StoredTextLemmas.{place_again, place_spelled, place_begins, no_bang_in_place, end_bang, end_plain}
 
@@ -37,12 +38,14 @@ no_bang_after (c ∷ cs) rest n p b =
     ]
 
 -- a place alone isn't read as a sheet's name
+pub no_sheet_at_place : (text : List ℕ) (place : Place) (rest : List ℕ) → SpellsPlace text place → IsEnd rest → sheet_at (text ++ rest) ≡ None
+no_sheet_at_place text place rest s e =
+    let b = place_begins text place s in
+    no_sheet_without_bang (text ++ rest) (ap (λ t. first_is (λ c. eqb c 39) (t ++ rest)) b.1)
+    (no_bang_after text rest (no_bang_in_place text place s) (end_plain rest e) (end_bang rest e))
+
 no_sheet_in_place : (place : Place) (rest : List ℕ) → is_place_within place ≡ true → IsEnd rest → sheet_at (place_text place ++ rest) ≡ None
-no_sheet_in_place place rest w e =
-    let s = place_spelled place w in
-    let b = place_begins (place_text place) place s in
-    no_sheet_without_bang (place_text place ++ rest) (ap (λ t. first_is (λ c. eqb c 39) (t ++ rest)) b.1)
-    (no_bang_after (place_text place) rest (no_bang_in_place (place_text place) place s) (end_plain rest e) (end_bang rest e))
+no_sheet_in_place place rest w e = no_sheet_at_place (place_text place) place rest (place_spelled place w) e
 
 -- What is spelled is read back, wherever it ends.
 pub stored_again : (token : RefToken) (rest : List ℕ) → is_place_within token.place ≡ true → IfSome token.sheet (λ name. is_sheet_name name ≡ true) → IsEnd rest → reference_at stored_place_at (stored_text token ++ rest) ≡ Some (token, rest)

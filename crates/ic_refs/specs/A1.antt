@@ -17,7 +17,8 @@ use Rattle.ic_laws.specs.declared.reference.Place.TheVariants as places
 use Rattle.ic_laws.specs.declared.reference.RefToken.{RefToken}
 use Rattle.ic_refs.specs.Column.{column_letters}
 use Rattle.ic_refs.specs.Digits.{decimal_from, letters_from}
-use Rattle.ic_refs.specs.Sheet.{SpellsReference, sheet_text, or_else, reference_at}
+use Rattle.ic_laws.specs.SheetText.{sheet_text}
+use Rattle.ic_refs.specs.Sheet.{SpellsReference, or_else, reference_at}
 
 -- an absolute position has a dollar sign
 abbrev pub dollar_of : Position → List ℕ

@@ -3,6 +3,7 @@ pub mod Column
 pub mod Digits
 pub mod Formula
 pub mod FormulaForm
+pub mod Local
 pub mod Longest
 pub mod R1C1
 pub mod R1C1Form

@@ -17,7 +17,7 @@ use Rattle.ic_refs.specs.declared.reference.ParsedReference.{ParsedReference}
 use Rattle.ic_refs.specs.declared.reference.ParsedReference.TheVariants as parsed
 use Rattle.ic_refs.specs.declared.r1c1_ends.End.{End}
 use Rattle.ic_refs.specs.Formula.{IsSheetOf, ◌>>=◌}
-use Rattle.ic_refs.specs.Sheet.{is_bang, name_in_quotes, is_quote}
+use Rattle.ic_laws.specs.SheetText.{is_bang, name_in_quotes, is_quote}
 
 -- The sheet's name
 

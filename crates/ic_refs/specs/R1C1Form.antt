@@ -11,7 +11,7 @@ use Rattle.ic_refs.specs.declared.r1c1_ends.End.{End}
 use Rattle.ic_refs.specs.declared.reference.CellReferenceIndex.{CellReferenceIndex}
 use Rattle.ic_refs.specs.declared.reference.ParsedReference.{ParsedReference}
 use Rattle.ic_refs.specs.declared.reference.ParsedReference.TheVariants as parsed
-use Rattle.ic_refs.specs.Sheet.{is_bang, is_quote}
+use Rattle.ic_laws.specs.SheetText.{is_bang, is_quote}
 use Rattle.ic_refs.specs.Stored.{SpellsNumber, SpellsDistance, close_square}
 
 -- from 1 to the length of the sheet

@@ -14,7 +14,8 @@ use Rattle.ic_laws.specs.Scan.{is_digit, first_is}
 use Rattle.ic_laws.specs.Position.{is_part_within, is_place_within, column_count, row_count}
 use Rattle.ic_laws.specs.Tree.{is_written_sheet}
 use Rattle.ic_refs.specs.Digits.{decimal_from}
-use Rattle.ic_refs.specs.Sheet.{SpellsReference, sheet_text}
+use Rattle.ic_laws.specs.SheetText.{sheet_text}
+use Rattle.ic_refs.specs.Sheet.{SpellsReference}
 
 -- the bracket that closes a distance
 abbrev pub close_square : ℕ

@@ -1,19 +1,12 @@
 -- A sheet's name as it is written: plain, or what stands between quotes, with each quote doubled.
-use Rattle.std.specs.Prelude.{◌≡◌, ℕ, List, [], ◌∷◌, ◌++◌, Option, Some, None, chars, flat_map, if◌then◌else◌}
+use Rattle.std.specs.Prelude.{◌≡◌, ℕ, List, [], ◌∷◌, ◌++◌, Option, Some, None, chars, if◌then◌else◌}
 use Rattle.ic_laws.specs.Character.{quote}
 use Rattle.ic_laws.specs.Name.{needs_quotes}
 use Rattle.ic_laws.specs.Scan.{is_plain, run_of, past_run}
-use Rattle.ic_refs.specs.Sheet.{name_in_quotes, is_quote}
+use Rattle.ic_laws.specs.SheetText.{name_in_quotes, is_quote}
 use Rattle.ic_refs.specs.declared.written.Quoting.{Quoting}
 use Rattle.ic_refs.specs.declared.written.Quoting.TheVariants as quotings
 use Rattle.ic_refs.specs.declared.written.WrittenName.{WrittenName}
-
--- a character of a name as it stands between quotes, and a whole name
-abbrev pub doubled_char : ℕ → List ℕ
-doubled_char c = if is_quote c then quote ∷ quote ∷ [] else c ∷ []
-
-abbrev pub doubled : List ℕ → List ℕ
-doubled name = flat_map doubled_char name
 
 -- each doubled quote as one
 abbrev pub undoubled : List ℕ → List ℕ

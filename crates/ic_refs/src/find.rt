@@ -1,7 +1,8 @@
 ghost use Rattle.std.specs.Prelude.{◌≡◌, ℕ, List, Option, Some, None, chars, option_map, option_and_then, IfOk};
 ghost use Rattle.ic_laws.specs.declared.reference.Place.{Place};
 ghost use Rattle.ic_refs.specs.Longest.{read_at};
-ghost use Rattle.ic_refs.specs.Sheet.{reference_at, sheet_at, with_sheet};
+ghost use Rattle.ic_laws.specs.SheetText.{sheet_at};
+ghost use Rattle.ic_refs.specs.Sheet.{reference_at, with_sheet};
 ghost use Rattle.ic_refs.specs.Token.{token_of};
 
 use crate::offset::{bytes_before, text_from};

@@ -14,6 +14,7 @@ mod equality;
 mod error;
 mod find;
 mod formula;
+mod local;
 mod name;
 mod number;
 mod offset;
@@ -34,6 +35,7 @@ pub use column::{
 pub use equality::law_equal_references;
 pub use error::{ColumnError, ReferenceError};
 pub use formula::parse_reference_a1;
+pub use local::read_local;
 pub use name::{is_valid_a1_identifier, is_valid_identifier, is_valid_sheet_name, quote_name};
 pub use reference::{A1Reference, Area, CellReferenceIndex, ParsedReference};
 pub use stored::read_rc;

@@ -2,7 +2,7 @@ ghost use Rattle.std.specs.Prelude.{◌≡◌, ◌++◌, codes, ◌&&◌, ◌||�
 ghost use Rattle.ic_laws.specs.Character.{dot};
 ghost use Rattle.ic_laws.specs.Name.{agrees, in_quotes, is_c, is_identifier, is_numbered, is_r1c1_cell, is_sheet_name, is_variable, needs_quotes, quoted};
 ghost use Rattle.ic_laws.specs.Scan.{first_is, is_digit};
-ghost use Rattle.ic_refs.specs.Written.{doubled, doubled_char};
+ghost use Rattle.ic_laws.specs.SheetText.{doubled, doubled_char};
 
 use crate::written::{Quoting, spells_sheet_name};
 use ic_laws::scan::{

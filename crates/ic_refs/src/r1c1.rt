@@ -3,7 +3,7 @@ ghost use Rattle.std.specs.Fn.{FnReturnsAt};
 ghost use Rattle.ic_laws.specs.Scan.{past_run};
 ghost use Rattle.ic_laws.specs.Position.{is_row, is_column};
 ghost use Rattle.ic_refs.specs.Formula.{UnlessMemory};
-ghost use Rattle.ic_refs.specs.Sheet.{name_in_quotes};
+ghost use Rattle.ic_laws.specs.SheetText.{name_in_quotes};
 ghost use Rattle.ic_refs.specs.Written.{name_of};
 ghost use Rattle.ic_refs.specs.R1C1.{Gives, is_no_bang, quoted_name, unquoted_name, split_sheet, refers, ParsesR1C1};
 ghost use Rattle.ic_refs.specs.R1C1Form.{TellsR1C1};

@@ -1,7 +1,7 @@
 ghost use Rattle.std.specs.Prelude.{◌≡◌, ◌<◌, length, IfSome, ◌++◌, ◌∷◌, ◌==◌, false, None, chars, string_bytes, MatchOption, OnOk, option_map};
 ghost use Rattle.ic_laws.specs.Character.{quote};
 ghost use Rattle.ic_laws.specs.Scan.{first_is};
-ghost use Rattle.ic_refs.specs.Sheet.{is_quote, before_bang, name_in_quotes, sheet_at, sheet_text, written_name};
+ghost use Rattle.ic_laws.specs.SheetText.{is_quote, before_bang, name_in_quotes, sheet_at, sheet_text, written_name};
 ghost use Rattle.ic_refs.specs.Written.{ClosesAt, name_of, plain_name};
 
 use crate::name::{needs_quotes, push_quoted};

@@ -10,7 +10,7 @@ use Rattle.std.specs.List.{AllByRecursion, IsDistinct, filter, insert, list_any,
 use Rattle.ic_sheets.proofs.IndexLemmas.{set_parts, split_at}
 use Rattle.ic_sheets.proofs.PlaceLemmas.{alone}
 use Rattle.ic_sheets.proofs.SearchLemmas.{ids}
-use Rattle.ic_sheets.specs.Index.{AreDangling, dangles, dangles_at, dangling_ids, is_listed}
+use Rattle.ic_sheets.specs.Index.{AreDangling, dangles, dangles_at, dangling_ids, is_id, is_listed}
 use Rattle.ic_sheets.specs.declared.sheet.Sheet.{Sheet}
 
 or_exchange : (a b c : Bool) → (a || (b || c)) ≡ (b || (a || c))
@@ -76,16 +76,29 @@ dangling_pushed now sheets list s d clean pushed = record {
     step true = ap (λ c. c || false) clean
     step false = refl
 
+-- ---- one sheet among others
+
+module _ (front back : List Sheet) (s : Sheet) where
+  pub id_here : is_id s.id (front ++ s ∷ back) ≡ true
+  id_here = go front
+    where
+      go : (xs : List Sheet) → is_id s.id (xs ++ s ∷ back) ≡ true
+      go [] = ap (λ a. a || list_any (nat_eq s.id) (ids back)) (eq-eqb s.id s.id refl)
+      go (x ∷ xs) = ap (λ b. nat_eq s.id x.id || b) (go xs) ∙ or_true (nat_eq s.id x.id)
+
+  module _ (differ : IsDistinct nat_eq (ids (front ++ s ∷ back))) where
+    none_else : dangles_at s.id (front ++ back) ≡ false
+    none_else = absent s.id (front ++ back) (alone front back s differ)
+
+    pub dangles_here : dangles_at s.id (front ++ s ∷ back) ≡ dangles s
+    dangles_here = middle s.id front back s ∙ ap₂ (λ a b. a && dangles s || b) (eq-eqb s.id s.id refl) none_else ∙ or_false (dangles s)
+
 -- ---- one sheet goes or changes
 
 module _ (now : List ℕ) (front back : List Sheet) (s : Sheet) (d : AreDangling now (front ++ s ∷ back)) (differ : IsDistinct nat_eq (ids (front ++ s ∷ back))) where
-  none_else : dangles_at s.id (front ++ back) ≡ false
-  none_else = absent s.id (front ++ back) (alone front back s differ)
-
   -- its id is listed where something dangles in it
   pub listed_here : is_listed s.id now ≡ dangles s
-  listed_here =
-      d.finds s.id ∙ middle s.id front back s ∙ ap₂ (λ a b. a && dangles s || b) (eq-eqb s.id s.id refl) none_else ∙ or_false (dangles s)
+  listed_here = d.finds s.id ∙ dangles_here front back s differ
 
   others : (q : ℕ) → nat_eq q s.id ≡ false → is_listed q now ≡ dangles_at q (front ++ back)
   others q e = d.finds q ∙ middle q front back s ∙ ap (λ a. a && dangles s || dangles_at q (front ++ back)) e
@@ -98,17 +111,10 @@ module _ (now : List ℕ) (front back : List Sheet) (s : Sheet) (d : AreDangling
       let all : length more ≤ length (ids (front ++ s ∷ back)) = length-le_from_is_member nat_eq_equiv more (ids (front ++ s ∷ back)) apart within in
       omega (arith, all, length-append now (s.id ∷ []), length-map (front ++ s ∷ back) (λ (x : Sheet). x.id))
     where
-      own : list_any (nat_eq s.id) (ids (front ++ s ∷ back)) ≡ true
-      own = go front
-        where
-          go : (xs : List Sheet) → list_any (nat_eq s.id) (ids (xs ++ s ∷ back)) ≡ true
-          go [] = ap (λ a. a || list_any (nat_eq s.id) (ids back)) (eq-eqb s.id s.id refl)
-          go (x ∷ xs) = ap (λ b. nat_eq s.id x.id || b) (go xs) ∙ or_true (nat_eq s.id x.id)
-
       within : (q : ℕ) → list_any (nat_eq q) (now ++ s.id ∷ []) ≡ true → list_any (nat_eq q) (ids (front ++ s ∷ back)) ≡ true
       within q e =
           elim (cases_Bool (nat_eq q s.id)) [
-            | inl same ↦ subst (λ k. list_any (nat_eq k) (ids (front ++ s ∷ back)) ≡ true) (sym (eqb-true q s.id same)) own
+            | inl same ↦ subst (λ k. list_any (nat_eq k) (ids (front ++ s ∷ back)) ≡ true) (sym (eqb-true q s.id same)) (id_here front back s)
             | inr other ↦ present q (front ++ s ∷ back)
                 (sym (d.finds q) ∙ sym (or_false (is_listed q now)) ∙ ap (λ b. is_listed q now || (b || false)) (sym other) ∙ sym (list_any-append (nat_eq q) now (s.id ∷ [])) ∙ e)
           ]
@@ -119,7 +125,7 @@ module _ (now : List ℕ) (front back : List Sheet) (s : Sheet) (d : AreDangling
     gone none = record { finds = λ q. settled q ∙ step q (nat_eq q s.id) refl; differ = apart }
       where
         step : (q : ℕ) (c : Bool) → nat_eq q s.id ≡ c → cond c b (is_listed q now) ≡ dangles_at q (front ++ back)
-        step q true e = none ∙ sym none_else ∙ ap (λ k. dangles_at k (front ++ back)) (sym (eqb-true q s.id e))
+        step q true e = none ∙ sym (none_else front back s differ) ∙ ap (λ k. dangles_at k (front ++ back)) (sym (eqb-true q s.id e))
         step q false e = others q e
 
     -- the sheet has changed
@@ -129,7 +135,7 @@ module _ (now : List ℕ) (front back : List Sheet) (s : Sheet) (d : AreDangling
         step : (q : ℕ) (c : Bool) → nat_eq q s.id ≡ c → cond c b (is_listed q now) ≡ (nat_eq q t.id && dangles t || dangles_at q (front ++ back))
         step q true e =
             let here : nat_eq q t.id ≡ true = ap (nat_eq q) same ∙ e in
-            let none : dangles_at q (front ++ back) ≡ false = ap (λ k. dangles_at k (front ++ back)) (eqb-true q s.id e) ∙ none_else in
+            let none : dangles_at q (front ++ back) ≡ false = ap (λ k. dangles_at k (front ++ back)) (eqb-true q s.id e) ∙ none_else front back s differ in
             is ∙ sym (ap₂ (λ a c. a && dangles t || c) here none ∙ or_false (dangles t))
         step q false e =
             let here : nat_eq q t.id ≡ false = ap (nat_eq q) same ∙ e in

@@ -3,6 +3,7 @@ pub mod CellLemmas
 pub mod DanglingLemmas
 pub mod IndexLemmas
 pub mod KeptLemmas
+pub mod MakesLemmas
 pub mod OwnLemmas
 pub mod PlaceLemmas
 pub mod PoolLemmas

@@ -1,244 +1,28 @@
--- What was prepared for the sheets in which something dangles, done by their ids after a sheet came or got another name.
-use Rattle.std.proofs.Common.{◌≡◌, ℕ, zero, suc, ◌+◌, ◌<◌, ◌≤◌, inl, inr, option_map, List, [], ◌∷◌, ◌++◌, Bool, true, false, cond, ◌&&◌, ◌||◌, not, Option, Some, None, map, length, get_or, slice_set, take, drop, nat_eq, nat_lt, refl, sym, ap, ap₂, subst, ◌∙◌, arith, append_assoc}
-use Rattle.std.proofs.lemmas.Bool.{cases_Bool, eqb-true, ltb-false, or_parts}
-use Rattle.std.proofs.lemmas.List.{append-nil, length-map, map-append, take_at, take_more}
+-- What was prepared for sheets, done by their ids after a sheet came or got another name.
+use Rattle.std.proofs.Common.{◌≡◌, ℕ, zero, suc, ◌<◌, inl, inr, option_map, List, [], ◌∷◌, ◌++◌, Bool, true, false, cond, ◌&&◌, ◌||◌, Option, Some, None, map, length, get_or, slice_set, take, drop, nat_eq, refl, sym, ap, ap₂, subst, ◌∙◌, arith}
+use Rattle.std.proofs.lemmas.Bool.{cases_Bool, eqb-true, or_parts}
+use Rattle.std.proofs.lemmas.List.{append-nil, length-map, map-append, take_at}
 use Rattle.std.proofs.lemmas.List.Folds.{list_any-append}
 use Rattle.std.proofs.lemmas.List.Sorted.{IsPermutation-middle}
 use Rattle.std.proofs.lemmas.Map.Keys.{IsDistinct-IsPermutation, IsDistinct-head, IsDistinct-tail}
 use Rattle.std.specs.Cmp.{nat_eq_equiv}
-use Rattle.std.specs.List.{AllByRecursion, IsDistinct, find, list_any}
+use Rattle.std.specs.List.{AllByRecursion, IsDistinct, list_any}
 use Rattle.ic_laws.proofs.CoreLemmas.{above_greatest}
 use Rattle.ic_laws.proofs.core.Lists.{all_pushed, updated_unseen}
 use Rattle.ic_laws.specs.Changes.{Change}
 use Rattle.ic_laws.specs.CoreStep.{updated_at}
 use Rattle.ic_laws.specs.Greatest.{greatest}
-use Rattle.ic_laws.specs.declared.tree.Formula.{Formula}
-use Rattle.ic_pool.specs.Mentions.{SparesFound}
-use Rattle.ic_pool.specs.Pool.{dangling_places}
 use Rattle.ic_pool.specs.Rewrites.{FitsPool, RewritesState}
-use Rattle.ic_sheets.proofs.DanglingLemmas.{absent, listed_here, or_false, or_true}
 use Rattle.ic_sheets.proofs.IndexLemmas.{clash, set_parts, split_at}
+use Rattle.ic_sheets.proofs.MakesLemmas.{Own, own_ids, own_new, own_none, own_other}
 use Rattle.ic_sheets.proofs.PlaceLemmas.{alone, some_apart}
-use Rattle.ic_sheets.proofs.RewritingLemmas.{and_true, called, looked_up, pool_spared, pool_untouched, sheet_called, sheets_called}
+use Rattle.ic_sheets.proofs.RewritingLemmas.{called, sheet_called, sheets_called}
 use Rattle.ic_sheets.proofs.SearchLemmas.{ids}
-use Rattle.ic_sheets.specs.Index.{AreDangling, dangles, dangles_at, is_listed}
-use Rattle.ic_sheets.specs.Rewriting.{FitOwn, FitsSheet, IsPrepared, ListsIf, Makes, PreparesEach, changed_pool, is_id, look_ups, looks_up_after, own_rewrites, rewritten_if, sheets_of, with_own_rewrites, with_rewrites}
+use Rattle.ic_sheets.specs.Index.{dangles, dangles_at, is_id, is_listed}
+use Rattle.ic_sheets.specs.Rewriting.{FitOwn, FitsSheet, Makes, changed_pool, look_ups, looks_up_after, own_rewrites, rewritten_if, sheets_of, with_own_rewrites, with_rewrites}
 use Rattle.ic_sheets.specs.Search.{index_with_id}
-use Rattle.ic_sheets.specs.Sheet.{Sheet, sheet_of}
+use Rattle.ic_sheets.specs.Sheet.{sheet_of}
 use Rattle.ic_sheets.specs.declared.sheet.Sheet.{Sheet as HeldSheet}
-
-abbrev pub Own : Type 0
-Own = List (ℕ × RewritesState)
-
-abbrev pub own_ids : Own → List ℕ
-own_ids ps = map (λ p. p.0) ps
-
--- ---- what was prepared for an id
-
-none_own : (q : ℕ) (ps : Own) → own_rewrites q ps ≡ None → is_listed q (own_ids ps) ≡ false
-none_own q [] e = refl
-none_own q (p ∷ ps) e = step (nat_eq q p.0) e (none_own q ps)
-  where
-    step : (b : Bool) → cond b (Some p.1) (own_rewrites q ps) ≡ None → (own_rewrites q ps ≡ None → is_listed q (own_ids ps) ≡ false) → (b || is_listed q (own_ids ps)) ≡ false
-    step true e rest = cc
-    step false e rest = rest e
-
-some_own : (q : ℕ) (ps : Own) (w : RewritesState) → own_rewrites q ps ≡ Some w → is_listed q (own_ids ps) ≡ true
-some_own q [] w e = cc
-some_own q (p ∷ ps) w e = step (nat_eq q p.0) e (some_own q ps w)
-  where
-    step : (b : Bool) → cond b (Some p.1) (own_rewrites q ps) ≡ Some w → (own_rewrites q ps ≡ Some w → is_listed q (own_ids ps) ≡ true) → (b || is_listed q (own_ids ps)) ≡ true
-    step true e rest = refl
-    step false e rest = rest e
-
-own_none : (q : ℕ) (ps : Own) → is_listed q (own_ids ps) ≡ false → own_rewrites q ps ≡ None
-own_none q [] e = refl
-own_none q (p ∷ ps) e =
-    let parts = or_parts (nat_eq q p.0) (is_listed q (own_ids ps)) e in
-    ap₂ (λ b o. cond b (Some p.1) o) parts.0 (own_none q ps parts.1)
-
-own_kept : (q : ℕ) (ps more : Own) (w : RewritesState) → own_rewrites q ps ≡ Some w → own_rewrites q (ps ++ more) ≡ Some w
-own_kept q [] more w e = cc
-own_kept q (p ∷ ps) more w e = step (nat_eq q p.0) e (own_kept q ps more w)
-  where
-    step : (b : Bool) → cond b (Some p.1) (own_rewrites q ps) ≡ Some w → (own_rewrites q ps ≡ Some w → own_rewrites q (ps ++ more) ≡ Some w) → cond b (Some p.1) (own_rewrites q (ps ++ more)) ≡ Some w
-    step true e rest = e
-    step false e rest = rest e
-
-own_new : (q : ℕ) (ps more : Own) → own_rewrites q ps ≡ None → own_rewrites q (ps ++ more) ≡ own_rewrites q more
-own_new q [] more e = refl
-own_new q (p ∷ ps) more e = step (nat_eq q p.0) e (own_new q ps more)
-  where
-    step : (b : Bool) → cond b (Some p.1) (own_rewrites q ps) ≡ None → (own_rewrites q ps ≡ None → own_rewrites q (ps ++ more) ≡ own_rewrites q more) → cond b (Some p.1) (own_rewrites q (ps ++ more)) ≡ own_rewrites q more
-    step true e rest = cc
-    step false e rest = rest e
-
-own_other : (q id : ℕ) (w : RewritesState) (ps : Own) → nat_eq q id ≡ false → own_rewrites q (ps ++ (id, w) ∷ []) ≡ own_rewrites q ps
-own_other q id w [] e = ap (λ b. cond b (Some w) None) e
-own_other q id w (p ∷ ps) e = ap (cond (nat_eq q p.0) (Some p.1)) (own_other q id w ps e)
-
--- ---- prepared one after another
-
-module _ (change : Change) (ps : Own) (id : ℕ) (w : RewritesState) (sheets : List HeldSheet) (s : HeldSheet) (found : find (λ x. nat_eq x.id id) sheets ≡ Some s) (prepared : IsPrepared change w s) where
-  last_made : (q : ℕ) (v : RewritesState) (t : HeldSheet) (b : Bool) → nat_eq q id ≡ b → cond b (Some w) None ≡ Some v → find (λ x. nat_eq x.id q) sheets ≡ Some t → IsPrepared change v t
-  last_made q v t true e is at =
-      let same : w ≡ v = cc in
-      let here : Some s ≡ Some t = sym found ∙ ap (λ k. find (λ (x : HeldSheet). nat_eq x.id k) sheets) (sym (eqb-true q id e)) ∙ at in
-      let one : s ≡ t = cc in
-      subst (λ v. IsPrepared change v t) same (subst (IsPrepared change w) one prepared)
-  last_made q v t false e is at = cc
-
-  each_made : (now : List ℕ) → PreparesEach change ps now sheets → (q : ℕ) (v : RewritesState) (t : HeldSheet) (o : Option RewritesState) → own_rewrites q ps ≡ o → own_rewrites q (ps ++ (id, w) ∷ []) ≡ Some v
-      → find (λ x. nat_eq x.id q) sheets ≡ Some t → IsPrepared change v t
-  each_made now each q v t (Some u) e is at =
-      let both : Some u ≡ Some v = sym (own_kept q ps ((id, w) ∷ []) u e) ∙ is in
-      each.made q v t (e ∙ both) at
-  each_made now each q v t None e is at = last_made q v t (nat_eq q id) refl (sym (own_new q ps ((id, w) ∷ []) e) ∙ is) at
-
-  pub each_more : (more : Own) (now : List ℕ) (i : ℕ) → PreparesEach change ps (take i now) sheets → i < length now → id ≡ get_or now i 0 → more ≡ ps ++ (id, w) ∷ [] → PreparesEach change more (take (i + 1) now) sheets
-  each_more more now i each lt read pushed =
-      subst (λ ps. PreparesEach change ps (take (i + 1) now) sheets) (sym pushed)
-      (record {
-        each = map-append (λ (p : ℕ × RewritesState). p.0) ps ((id, w) ∷ []) ∙ ap (λ xs. xs ++ id ∷ []) each.each ∙ ap (λ k. take i now ++ k ∷ []) read ∙ sym (take_more now i 0 lt);
-        made = λ q v t is at. each_made (take i now) each q v t (own_rewrites q ps) refl is at;
-      })
-
-listed_there : (id : ℕ) (xs : List ℕ) (i : ℕ) → i < length xs → id ≡ get_or xs i 0 → is_listed id xs ≡ true
-listed_there id [] i lt e = absurd (omega arith)
-listed_there id (x ∷ xs) zero lt e = ap (λ b. b || is_listed id xs) (ap (nat_eq id) (sym e) ∙ nat_eq_equiv.refl id)
-listed_there id (x ∷ xs) (suc i) lt e = ap (λ b. nat_eq id x || b) (listed_there id xs i (omega arith) e) ∙ or_true (nat_eq id x)
-
-dangles_nowhere : (id : ℕ) (xs : List HeldSheet) → find (λ s. nat_eq s.id id) xs ≡ None → dangles_at id xs ≡ false
-dangles_nowhere id [] e = refl
-dangles_nowhere id (x ∷ xs) e = step (nat_eq x.id id) refl e (dangles_nowhere id xs)
-  where
-    step : (b : Bool) → nat_eq x.id id ≡ b → cond b (Some x) (find (λ s. nat_eq s.id id) xs) ≡ None → (find (λ s. nat_eq s.id id) xs ≡ None → dangles_at id xs ≡ false) → (nat_eq id x.id && dangles x || dangles_at id xs) ≡ false
-    step true is e rest = cc
-    step false is e rest = ap₂ (λ a b. a && dangles x || b) (nat_eq_equiv.symm id x.id ∙ is) (rest e)
-
--- each of the ids is that of a sheet
-pub some_sheet : (now : List ℕ) (i id : ℕ) (sheets : List HeldSheet) → AreDangling now sheets → i < length now → id ≡ get_or now i 0 → find (λ s. nat_eq s.id id) sheets ≡ None → ⊥
-some_sheet now i id sheets d lt read none = clash (dangles_at id sheets) (sym (d.finds id) ∙ listed_there id now i lt read) (dangles_nowhere id sheets none)
-
--- whether something dangles in the sheet that was found
-pub dangles_found : (id : ℕ) (xs : List HeldSheet) (s : HeldSheet) → IsDistinct nat_eq (ids xs) → find (λ x. nat_eq x.id id) xs ≡ Some s → dangles s ≡ dangles_at id xs
-dangles_found id [] s d e = cc
-dangles_found id (x ∷ xs) s d e = step (nat_eq x.id id) refl e (dangles_found id xs s (IsDistinct-tail nat_eq x.id (ids xs) d))
-  where
-    alone_here : nat_eq x.id id ≡ true → dangles_at id xs ≡ false
-    alone_here is = absent id xs (subst (λ k. list_any (nat_eq k) (ids xs) ≡ false) (eqb-true x.id id is) (some_apart x.id (ids xs) (IsDistinct-head nat_eq x.id (ids xs) d)))
-
-    step : (b : Bool) → nat_eq x.id id ≡ b → cond b (Some x) (find (λ x. nat_eq x.id id) xs) ≡ Some s → (find (λ x. nat_eq x.id id) xs ≡ Some s → dangles s ≡ dangles_at id xs) → dangles s ≡ (nat_eq id x.id && dangles x || dangles_at id xs)
-    step true is e rest =
-        let same : x ≡ s = cc in
-        ap dangles (sym same) ∙ sym (ap₂ (λ a b. a && dangles x || b) (nat_eq_equiv.symm id x.id ∙ is) (alone_here is) ∙ or_false (dangles x))
-    step false is e rest = rest e ∙ sym (ap (λ a. a && dangles x || dangles_at id xs) (nat_eq_equiv.symm id x.id ∙ is))
-
-pub dangles_not_found : (id : ℕ) (xs : List HeldSheet) → find (λ s. nat_eq s.id id) xs ≡ None → false ≡ dangles_at id xs
-dangles_not_found id xs e = sym (dangles_nowhere id xs e)
-
--- ---- what it makes of all sheets
-
-no_places : (indexes : List ℕ) → nat_lt 0 (length indexes) ≡ false → indexes ≡ []
-no_places [] e = refl
-no_places (p ∷ indexes) e = let past : suc (length indexes) ≤ 0 = ltb-false 0 (suc (length indexes)) e in absurd (omega (arith, past))
-
--- what is known of a sheet by what was prepared for it
-abbrev IsOwn : Change → Option RewritesState → HeldSheet → Type 0
-IsOwn change None s = dangling_places s.pool.formulas ≡ []
-IsOwn change (Some w) s = IsPrepared change w s × (dangles s ≡ true)
-
-found_here : (front back : List HeldSheet) (s : HeldSheet) → list_any (nat_eq s.id) (ids (front ++ back)) ≡ false → find (λ x. nat_eq x.id s.id) (front ++ s ∷ back) ≡ Some s
-found_here [] back s free = ap (λ b. cond b (Some s) (find (λ x. nat_eq x.id s.id) back)) (nat_eq_equiv.refl s.id)
-found_here (x ∷ front) back s free =
-    let parts = or_parts (nat_eq s.id x.id) (list_any (nat_eq s.id) (ids (front ++ back))) free in
-    ap (λ b. cond b (Some x) (find (λ y. nat_eq y.id s.id) (front ++ s ∷ back))) (nat_eq_equiv.symm x.id s.id ∙ parts.0) ∙ found_here front back s parts.1
-
-module _ (change : Change) (now : List ℕ) (ps : Own) (sheets : List HeldSheet) (each : PreparesEach change ps now sheets) (d : AreDangling now sheets) (differ : IsDistinct nat_eq (ids sheets)) where
-  one_own : (front back : List HeldSheet) (s : HeldSheet) → sheets ≡ front ++ s ∷ back → (o : Option RewritesState) → own_rewrites s.id ps ≡ o → IsOwn change o s
-  one_own front back s e o is = step o is
-    where
-      listed : is_listed s.id now ≡ dangles s
-      listed = listed_here now front back s (subst (AreDangling now) e d) (subst (λ xs. IsDistinct nat_eq (ids xs)) e differ)
-
-      step : (o : Option RewritesState) → own_rewrites s.id ps ≡ o → IsOwn change o s
-      step None is = no_places (dangling_places s.pool.formulas) (sym listed ∙ ap (is_listed s.id) (sym each.each) ∙ none_own s.id ps is)
-      step (Some w) is = (
-        each.made s.id w s is (ap (find (λ x. nat_eq x.id s.id)) e ∙ found_here front back s (alone front back s (subst (λ xs. IsDistinct nat_eq (ids xs)) e differ))),
-        sym listed ∙ ap (is_listed s.id) (sym each.each) ∙ some_own s.id ps w is,
-      )
-
-  all_own : (front xs : List HeldSheet) → sheets ≡ front ++ xs → AllByRecursion (λ s. IsOwn change (own_rewrites s.id ps) s) xs
-  all_own front [] e = tt
-  all_own front (s ∷ back) e = (one_own front back s e (own_rewrites s.id ps) refl, all_own (front ++ s ∷ []) back (e ∙ sym (append_assoc front (s ∷ []) back)))
-
-  all_known : (ns : List ℕ) → ((q : ℕ) → is_listed q ns ≡ true → is_id q sheets ≡ true) → (ps : Own) → own_ids ps ≡ ns → AllByRecursion (λ p. is_id p.0 sheets ≡ true) ps
-  all_known ns known [] e = tt
-  all_known [] known (p ∷ ps) e = cc
-  all_known (n ∷ ns) known (p ∷ ps) e =
-      let first : p.0 ≡ n = cc in
-      let rest : own_ids ps ≡ ns = cc in (
-        known p.0 (ap (λ k. nat_eq p.0 k || is_listed p.0 ns) (sym first) ∙ ap (λ b. b || is_listed p.0 ns) (nat_eq_equiv.refl p.0)),
-        all_known ns (λ q h. known q (ap (λ b. nat_eq q n || b) h ∙ or_true (nat_eq q n))) ps rest,
-      )
-
-  is_known : (q : ℕ) (xs : List HeldSheet) → dangles_at q xs ≡ true → is_id q xs ≡ true
-  is_known q [] e = e
-  is_known q (x ∷ xs) e = step (nat_eq q x.id) (dangles x) e (is_known q xs)
-    where
-      step : (a b : Bool) → (a && b || dangles_at q xs) ≡ true → (dangles_at q xs ≡ true → is_id q xs ≡ true) → (a || is_id q xs) ≡ true
-      step true b e rest = refl
-      step false b e rest = rest e
-
-  pub each_makes : ((id : ℕ) → SparesFound change (Some id)) → Makes change ps sheets
-  each_makes spares = record {
-    fits = record {
-      known = all_known now (λ q h. is_known q sheets (sym (d.finds q) ∙ h)) ps each.each;
-      differ = subst (IsDistinct nat_eq) (sym each.each) d.differ;
-      fits = fits sheets own;
-    };
-    made = made sheets own;
-    listed = listed sheets own;
-    looks_up = kept sheets own;
-  }
-    where
-      own : AllByRecursion (λ s. IsOwn change (own_rewrites s.id ps) s) sheets
-      own = all_own [] sheets refl
-
-      fits : (xs : List HeldSheet) → AllByRecursion (λ s. IsOwn change (own_rewrites s.id ps) s) xs → AllByRecursion (λ s. FitsSheet (own_rewrites s.id ps) s) xs
-      fits [] h = tt
-      fits (s ∷ xs) h = (step (own_rewrites s.id ps) h.0, fits xs h.1)
-        where
-          step : (o : Option RewritesState) → IsOwn change o s → FitsSheet o s
-          step None i = tt
-          step (Some w) i = (i.0.fits, i.1)
-
-      listed : (xs : List HeldSheet) → AllByRecursion (λ s. IsOwn change (own_rewrites s.id ps) s) xs → AllByRecursion (λ s. ListsIf change (own_rewrites s.id ps) s) xs
-      listed [] h = tt
-      listed (s ∷ xs) h = (step (own_rewrites s.id ps) h.0, listed xs h.1)
-        where
-          step : (o : Option RewritesState) → IsOwn change o s → ListsIf change o s
-          step None i = pool_untouched change (Some s.id) (spares s.id) 0 s.pool.formulas i
-          step (Some w) i = i.0.listed
-
-      made : (xs : List HeldSheet) → AllByRecursion (λ s. IsOwn change (own_rewrites s.id ps) s) xs → sheets_of (with_own_rewrites ps xs) ≡ map (changed_pool change) (sheets_of xs)
-      made [] h = refl
-      made (s ∷ xs) h = ap₂ ◌∷◌ (step (own_rewrites s.id ps) h.0) (made xs h.1)
-        where
-          filled : (pool : List Formula) → Sheet
-          filled pool = record (sheet_of s) { pool = pool }
-
-          step : (o : Option RewritesState) → IsOwn change o s → sheet_of (rewritten_if o s) ≡ changed_pool change (sheet_of s)
-          step None i = ap filled (pool_spared change (Some s.id) (spares s.id) 0 s.pool.formulas i)
-          step (Some w) i = ap filled i.0.made
-
-      kept : (xs : List HeldSheet) → AllByRecursion (λ s. IsOwn change (own_rewrites s.id ps) s) xs → look_ups (with_own_rewrites ps xs) ≡ map (looks_up_after change) xs
-      kept [] h = refl
-      kept (s ∷ xs) h = ap₂ ◌∷◌ (step (own_rewrites s.id ps) h.0) (kept xs h.1)
-        where
-          step : (o : Option RewritesState) → IsOwn change o s → (rewritten_if o s).pool.is_whole ≡ looks_up_after change s
-          step None i = and_true s.pool.is_whole ∙ ap (λ b. s.pool.is_whole && not b) (sym (pool_untouched change (Some s.id) (spares s.id) 0 s.pool.formulas i))
-          step (Some w) i = looked_up change w s i.0
 
 -- ---- done from the last one on
 
@@ -272,7 +56,7 @@ fewer_dangle ps q (s ∷ xs) f e = step (own_rewrites s.id ps) f.0 e (fewer_dang
     step : (o : Option RewritesState) → FitsSheet o s → (nat_eq q (rewritten_if o s).id && dangles (rewritten_if o s) || dangles_at q (with_own_rewrites ps xs)) ≡ true
         → (dangles_at q (with_own_rewrites ps xs) ≡ true → dangles_at q xs ≡ true) → (nat_eq q s.id && dangles s || dangles_at q xs) ≡ true
     step None i e rest = either_dangles (nat_eq q s.id) (dangles s) (dangles s) _ _ (λ h. h) rest e
-    step (Some w) i e rest = either_dangles (nat_eq q s.id) (dangles (with_rewrites w s)) (dangles s) _ _ (λ h. i.1) rest e
+    step (Some w) i e rest = either_dangles (nat_eq q s.id) (dangles (with_rewrites w s)) (dangles s) _ _ i.1 rest e
 
 distinct_init : (xs : List ℕ) (y : ℕ) → IsDistinct nat_eq (xs ++ y ∷ []) → IsDistinct nat_eq xs × (list_any (nat_eq y) xs ≡ false)
 distinct_init xs y d =

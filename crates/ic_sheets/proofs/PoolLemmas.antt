@@ -8,7 +8,7 @@ use Rattle.std.proofs.lemmas.List.{map-append}
 use Rattle.ic_laws.proofs.keeping.Kept.{Become, kept_becomes}
 use Rattle.ic_laws.proofs.kept.Kept.{english_by_fold}
 use Rattle.ic_laws.specs.BookTrees.{with_tree}
-use Rattle.ic_laws.specs.Changes.{Change, changed_sheet, changed_tree, changed_word}
+use Rattle.ic_laws.specs.Changes.{Change, changed_local, changed_sheet, changed_tree, changed_word}
 use Rattle.ic_laws.specs.CoreBook as core
 use Rattle.ic_laws.specs.CoreBook.{CellPlace, Cells}
 use Rattle.ic_laws.specs.Keeping.{kept_formula, kept_on_sheet, mapped_cells, same_keys}
@@ -60,11 +60,11 @@ module _ (n : Notations) (before after : Scene) where
   sheet_cores-kept (s ∷ sheets) = ap₂ ◌∷◌ (sheet_core-kept s) (sheet_cores-kept sheets)
 
   -- what is kept of a formula in a pool is what a change makes of it, where that is what mentions become
-  module _ (are : AreNotations n) (change : Change) (become : (scope : Option ℕ) → Become before after scope (changed_sheet change) (changed_word change scope)) where
+  module _ (are : AreNotations n) (change : Change) (become : (scope : Option ℕ) → Become before after scope (changed_sheet change) (changed_word change scope) (changed_local change)) where
     formula_changed : (scope : Option ℕ) (formula : Formula) → IsPooled n before scope formula → kept_formula (english_function n) before after same_keys scope formula ≡ with_tree (changed_tree change scope) formula
     formula_changed scope (formulas.Tree t) h =
         ap (λ (u : Bound). let g : Formula = formulas.Tree u in g)
-        (kept_becomes (english_function n) before after scope (changed_sheet change) (changed_word change scope) (become scope) (english_by_fold n are) t h.settled)
+        (kept_becomes (english_function n) before after scope (changed_sheet change) (changed_word change scope) (changed_local change) (become scope) (english_by_fold n are) t h.settled)
     formula_changed scope (formulas.Raw text) h = refl
 
     pub pool_changed : (scope : Option ℕ) (pool : List Formula) → AllByRecursion (IsPooled n before scope) pool → map (kept_formula (english_function n) before after same_keys scope) pool ≡ map (with_tree (changed_tree change scope)) pool

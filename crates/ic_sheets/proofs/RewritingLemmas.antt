@@ -4,11 +4,11 @@ use Rattle.std.specs.List.{list_any, remove, slice_get}
 use Rattle.std.specs.Prelude.{not}
 use Rattle.std.proofs.lemmas.Option.{slice_get_read}
 use Rattle.std.proofs.lemmas.List.{take_at, take_more}
-use Rattle.ic_laws.proofs.core.Lists.{removed_seen, updated_unseen}
+use Rattle.ic_laws.proofs.core.Lists.{removed_seen}
 use Rattle.ic_laws.specs.Changes.{Change}
 use Rattle.ic_laws.specs.CoreStep.{updated_at}
 use Rattle.ic_laws.specs.declared.tree.Formula.{Formula}
-use Rattle.ic_pool.specs.Mentions.{SparesFound, formula_after, has_dangling, is_changed_by}
+use Rattle.ic_pool.specs.Mentions.{KeepsAllFound, SparesFound, formula_after, has_dangling, is_changed_by}
 use Rattle.ic_pool.specs.Pool.{PoolState, dangling_from, places_from}
 use Rattle.ic_pool.specs.Rewrites.{FitsPool, RewritesState, changes_nothing, is_nothing, places_of, rewritten_by}
 use Rattle.ic_pool.specs.declared.pool.rewrites.Replacement.{Replacement}
@@ -37,6 +37,16 @@ pool_untouched change scope spares at (x ∷ pool) e = by_test (has_dangling x) 
         → (dangling_from (suc at) pool ≡ [] → list_any (is_changed_by change scope) pool ≡ false) → list_any (is_changed_by change scope) (x ∷ pool) ≡ false
     by_test true is e rest = cc
     by_test false is e rest = ap₂ (λ a b. a || b) (spares x is) (rest e)
+
+-- nothing dangles in a pool after a change that lets nothing dangle, where nothing did before
+pub pool_kept : (change : Change) (scope : Option ℕ) → KeepsAllFound change scope → (at : ℕ) (pool : List Formula) → dangling_from at pool ≡ [] → dangling_from at (map (formula_after change scope) pool) ≡ []
+pool_kept change scope keeps at [] e = refl
+pool_kept change scope keeps at (x ∷ pool) e = by_test (has_dangling x) refl e (pool_kept change scope keeps (suc at) pool)
+  where
+    by_test : (b : Bool) → has_dangling x ≡ b → cond b (at ∷ dangling_from (suc at) pool) (dangling_from (suc at) pool) ≡ []
+        → (dangling_from (suc at) pool ≡ [] → dangling_from (suc at) (map (formula_after change scope) pool) ≡ []) → dangling_from at (map (formula_after change scope) (x ∷ pool)) ≡ []
+    by_test true is e rest = cc
+    by_test false is e rest = ap₂ (λ (b : Bool) (places : List ℕ). cond b (at ∷ places) places) (keeps x is) (rest e)
 
 pub and_true : (b : Bool) → b ≡ (b && true)
 and_true true = refl
@@ -233,20 +243,3 @@ same_some s sheet e = cc
 -- the sheet that was read at a place is the one there
 pub read_there : (sheets : List HeldSheet) (index : ℕ) (s sheet : HeldSheet) → index < length sheets → s ≡ get_or sheets index s → slice_get sheets index ≡ Some sheet → s ≡ sheet
 read_there sheets index s sheet lt read at = same_some s sheet (sym (slice_get_read sheets (length sheets) index s refl lt read) ∙ at)
-
--- a sheet that is changed in place
-pub rewritten_there : (w : RewritesState) (s : HeldSheet) (pool : PoolState) (index : ℕ) (sheets : List HeldSheet) → s ≡ get_or sheets index s → pool.formulas ≡ rewritten_by w s.pool.formulas → pool.is_whole ≡ (s.pool.is_whole && changes_nothing w)
-    → slice_set sheets index (record s { pool = pool }) ≡ updated_at (with_rewrites w) index sheets
-rewritten_there w s pool index sheets read made whole =
-    ap (slice_set sheets index) (filled w s s pool refl made whole) ∙ set_there index sheets read
-  where
-    set_there : (i : ℕ) (xs : List HeldSheet) → s ≡ get_or xs i s → slice_set xs i (with_rewrites w s) ≡ updated_at (with_rewrites w) i xs
-    set_there i [] e = refl
-    set_there zero (x ∷ xs) e = ap (λ (y : HeldSheet). with_rewrites w y ∷ xs) e
-    set_there (suc i) (x ∷ xs) e = ap (λ (rest : List HeldSheet). x ∷ rest) (set_there i xs e)
-
-pub names_there : (w : RewritesState) (index : ℕ) (sheets : List HeldSheet) → names (updated_at (with_rewrites w) index sheets) ≡ names sheets
-names_there w index sheets = updated_unseen (λ (s : HeldSheet). s.name) (with_rewrites w) (λ s. refl) index sheets
-
-pub ids_there : (w : RewritesState) (index : ℕ) (sheets : List HeldSheet) → ids (updated_at (with_rewrites w) index sheets) ≡ ids sheets
-ids_there w index sheets = updated_unseen (λ (s : HeldSheet). s.id) (with_rewrites w) (λ s. refl) index sheets

@@ -1,11 +1,12 @@
 -- What the sheets of a book keep beside them, and when it is true of them.
-use Rattle.std.specs.Prelude.{◌≡◌, ℕ, ◌+◌, ◌-◌, List, [], ◌∷◌, Bool, ◌&&◌, length, map, nat_eq, nat_lt, encode_utf8_all, String, if◌then◌else◌}
+use Rattle.std.specs.Prelude.{◌≡◌, ℕ, ◌+◌, ◌-◌, List, [], ◌∷◌, Bool, ◌&&◌, ◌||◌, Option, Some, length, map, nat_eq, nat_lt, encode_utf8_all, String, if◌then◌else◌}
 use Rattle.std.specs.BTreeMap.{BTreeMap, get, get_by_text}
 use Rattle.std.specs.List.{IsDistinct, list_any}
 use Rattle.std.specs.Ordering.{nat_cmp}
 use Rattle.std.specs.declared.alloc.Global.{Global}
 use Rattle.ic_laws.specs.Greatest.{greatest}
 use Rattle.ic_laws.specs.Name.{agrees}
+use Rattle.ic_laws.specs.Scene.{same_scope}
 use Rattle.ic_pool.specs.Pool.{dangling_places}
 use Rattle.ic_sheets.specs.Search.{id_of, index_with_id}
 use Rattle.ic_sheets.specs.declared.sheet.Sheet.{Sheet}
@@ -48,7 +49,16 @@ pub record AreDangling (ids : List ℕ) (sheets : List Sheet) : Type 0 where
   pub finds : (id : ℕ) → is_listed id ids ≡ dangles_at id sheets
   pub differ : IsDistinct nat_eq ids
 
--- the same in the order of the sheets
+-- an id is that of one of these sheets
+abbrev pub is_id : ℕ → List Sheet → Bool
+is_id id sheets = list_any (nat_eq id) (map (λ s. s.id) sheets)
+
+-- These are the ids of the sheets in which something dangles, and of the sheet with this id, where there is one, each once.
+pub record AreLookedAt (whole : Option ℕ) (ids : List ℕ) (sheets : List Sheet) : Type 0 where
+  pub finds : (id : ℕ) → is_listed id ids ≡ (dangles_at id sheets || same_scope whole (Some id) && is_id id sheets)
+  pub differ : IsDistinct nat_eq ids
+
+-- the ids of the sheets in which something dangles, in the order of the sheets
 abbrev pub dangling_ids : List Sheet → List ℕ
 dangling_ids [] = []
 dangling_ids (s ∷ sheets) = if dangles s then s.id ∷ dangling_ids sheets else dangling_ids sheets

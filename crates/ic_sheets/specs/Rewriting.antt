@@ -2,9 +2,10 @@
 use Rattle.std.specs.Prelude.{◌≡◌, ℕ, List, [], ◌∷◌, ◌&&◌, Bool, true, false, map, not, Option, Some, None, find, nat_eq, if◌then◌else◌}
 use Rattle.std.specs.List.{AllByRecursion, IsDistinct, list_any}
 use Rattle.ic_laws.specs.Changes.{Change}
-use Rattle.ic_pool.specs.Mentions.{formula_after, is_changed_by}
+use Rattle.ic_laws.specs.Scene.{same_scope}
+use Rattle.ic_pool.specs.Mentions.{SparesFound, formula_after, is_changed_by}
 use Rattle.ic_pool.specs.Rewrites.{FitsPool, ListsChanged, RewritesState, changes_nothing, rewritten_by}
-use Rattle.ic_sheets.specs.Index.{dangles}
+use Rattle.ic_sheets.specs.Index.{dangles, is_id}
 use Rattle.ic_sheets.specs.Sheet.{Sheet, sheet_of}
 use Rattle.ic_sheets.specs.declared.sheet.Sheet.{Sheet as HeldSheet}
 
@@ -73,16 +74,16 @@ pub record PreparesEach (change : Change) (prepared : List (ℕ × RewritesState
   pub made : (id : ℕ) (rewrites : RewritesState) (sheet : HeldSheet) → own_rewrites id prepared ≡ Some rewrites → find (λ s. nat_eq s.id id) sheets ≡ Some sheet
       → IsPrepared change rewrites sheet
 
--- What was prepared for a sheet, if anything was, fits its pool, and something dangles there.
+-- What was prepared for a sheet, if anything was, fits its pool, and lets nothing dangle there where nothing did before.
 abbrev pub FitsSheet : Option RewritesState → HeldSheet → Type 0
 FitsSheet None sheet = Unit {0}
-FitsSheet (Some rewrites) sheet = FitsPool rewrites sheet.pool.formulas × (dangles sheet ≡ true)
+FitsSheet (Some rewrites) sheet = FitsPool rewrites sheet.pool.formulas × (dangles (with_rewrites rewrites sheet) ≡ true → dangles sheet ≡ true)
 
--- an id is that of one of these sheets
-abbrev pub is_id : ℕ → List HeldSheet → Bool
-is_id id sheets = list_any (nat_eq id) (map (λ s. s.id) sheets)
+-- Outside of the sheet with this id a change leaves each formula in which all was found.
+abbrev pub SparesElsewhere : Option ℕ → Change → Type 0
+SparesElsewhere whole change = (id : ℕ) → same_scope whole (Some id) ≡ false → SparesFound change (Some id)
 
--- It was prepared for some of these sheets, once for each, in which something dangles, and fits.
+-- It was prepared for some of these sheets, once for each, and fits.
 pub record FitOwn (prepared : List (ℕ × RewritesState)) (sheets : List HeldSheet) : Type 0 where
   pub known : AllByRecursion (λ p. is_id p.0 sheets ≡ true) prepared
   pub differ : IsDistinct nat_eq (map (λ p. p.0) prepared)

@@ -15,7 +15,8 @@ use Rattle.ic_laws.specs.declared.scene.Scene.{Scene}
 use Rattle.ic_laws.specs.declared.tree.Tree.TheOpen as one
 use Rattle.ic_refs.specs.A1.{a1_at, a1_place_at, cell_at, column_at, pair_at, past_colon, position_of, read_position, row_at}
 use Rattle.ic_refs.specs.Formula.{ParsesFormula, ◌>>=◌, found_or, formula_token, not_a_reference, place_on, whole_of}
-use Rattle.ic_refs.specs.Sheet.{or_else, reference_at, sheet_at, with_sheet}
+use Rattle.ic_laws.specs.SheetText.{sheet_at}
+use Rattle.ic_refs.specs.Sheet.{or_else, reference_at, with_sheet}
 use Rattle.ic_refs.specs.declared.error.ReferenceError.{ReferenceError}
 use Rattle.ic_refs.specs.declared.error.ReferenceError.TheVariants as errors
 use Rattle.ic_refs.specs.declared.reference.ParsedReference.{ParsedReference}

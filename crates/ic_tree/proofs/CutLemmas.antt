@@ -40,7 +40,7 @@ cut_after text front rest u e =
     }
 
 -- what is read at the first byte is read at the front
-reads_front : {T : Type 0} (reader : List ℕ → Option (T × List ℕ)) (text : List ℕ) → IsUtf8 text → read_at reader text 0 ≡ option_map (λ f. (f.0, length text - length (encode_utf8_all f.1))) (reader (chars text))
+pub reads_front : {T : Type 0} (reader : List ℕ → Option (T × List ℕ)) (text : List ℕ) → IsUtf8 text → read_at reader text 0 ≡ option_map (λ f. (f.0, length text - length (encode_utf8_all f.1))) (reader (chars text))
 reads_front reader text u = rw (boundary_true text 0 (IsCharBoundary-start text u)) refl
 
 -- the reference at the front, and where it ends

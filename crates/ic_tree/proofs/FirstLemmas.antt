@@ -8,7 +8,7 @@ use Rattle.ic_laws.specs.Dialect.{DialectMeaning, IsLawful, begins_reference}
 use Rattle.ic_laws.specs.Scan.{EndsWith, begins_word, is_digit, is_letter}
 use Rattle.ic_laws.specs.Split.{FindsBest, longer, or_else}
 use Rattle.ic_laws.specs.Token.{Token, Close, Hash, Str, Spells}
-use Rattle.ic_laws.specs.TokenKinds.{OfKind, closed, error_at, head_at, is_number, one_at, reference_at, text_at, token_by_kinds, two_at, word_at}
+use Rattle.ic_laws.specs.TokenKinds.{OfKind, closed, error_at, head_at, is_number, local_at, one_at, reference_at, text_at, token_by_kinds, two_at, word_at}
 use Rattle.ic_laws.specs.declared.reference.RefToken.{RefToken}
 use Rattle.ic_laws.proofs.tokens.Kinds.{by_kinds, error_best}
 use Rattle.ic_laws.proofs.tokens.NameReaders.{head_at_sound, word_at_sound}
@@ -18,6 +18,7 @@ use Rattle.ic_laws.proofs.tokens.Numbers.{number_in_one_pass_best}
 use Rattle.ic_laws.proofs.tokens.Splits.{none_or_some}
 use Rattle.ic_laws.proofs.printing.Signs.{mark_begins_none, no_error_first, no_number, not_decimal, or_neither, two_none}
 use Rattle.ic_laws.proofs.printing.Words.{start_kinds, starts, word_no_number}
+use Rattle.ic_tree.proofs.LocalFirst.{no_local_start}
 use Rattle.ic_tree.specs.Lexing.{found, named_at}
 
 longer_none : (a : Option (Token × List ℕ)) → longer a None ≡ a
@@ -29,7 +30,7 @@ plain_first : (d : DialectMeaning) → IsLawful d → (c : ℕ) (cs : List ℕ) 
     → token_by_kinds d (c ∷ cs) ≡ longer (number_in_one_pass d (c ∷ cs)) (longer (text_at (c ∷ cs)) (longer (error_at d (c ∷ cs)) (longer (two_at (c ∷ cs)) (one_at d (c ∷ cs)))))
 plain_first d n c cs h =
     let parts = or_neither (begins_reference c) (begins_word c) h in
-    rw (n.reference_begins (c ∷ cs) parts.0, parts.1) refl
+    rw (n.reference_begins (c ∷ cs) parts.0, no_local_start c cs h, parts.1) refl
 
 mark_first : (c : ℕ) → (begins_reference c ≡ false) × (begins_word c ≡ false) → starts c ≡ false
 mark_first c p = rw (p.0, p.1) refl
@@ -116,8 +117,8 @@ sign_kinds d n c cs none decimal quote hash =
 pub nothing_there : (d : DialectMeaning) → IsLawful d → token_by_kinds d [] ≡ None
 nothing_there d n = elim (none_or_some (token_by_kinds d [])) [ inl p ↦ p | inr p ↦ absurd (omega (arith, token_takes d n [] p.0 p.1)) ]
 
--- a word or a reference
-pub named_kinds : (d : DialectMeaning) → IsLawful d → (c : ℕ) (cs : List ℕ) → starts c ≡ true → token_by_kinds d (c ∷ cs) ≡ longer (reference_at d (c ∷ cs)) (named_at d (c ∷ cs))
+-- a word, with its sheet or without, or a reference
+pub named_kinds : (d : DialectMeaning) → IsLawful d → (c : ℕ) (cs : List ℕ) → starts c ≡ true → token_by_kinds d (c ∷ cs) ≡ longer (reference_at d (c ∷ cs)) (longer (local_at (c ∷ cs)) (named_at d (c ∷ cs)))
 named_kinds d n c cs h = by_kinds d n (c ∷ cs) ∙ start_kinds d n c cs h
 
 pub word_alone : (d : DialectMeaning) → IsLawful d → (text cs : List ℕ) (c : ℕ) → text ≡ c ∷ cs → begins_word c ≡ true → longer (head_at d text) (word_at d text) ≡ named_at d text

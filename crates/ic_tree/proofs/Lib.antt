@@ -12,6 +12,7 @@ pub mod Heights
 pub mod LetterLemmas
 pub mod LexLemmas
 pub mod ListSteps
+pub mod LocalFirst
 pub mod Literals
 pub mod NotationLaws
 pub mod Operands

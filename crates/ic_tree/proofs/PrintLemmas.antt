@@ -117,6 +117,7 @@ module _ (d : DialectMeaning) where
   level (one.Bool value) = ap out (yield-node d (one.Bool value)) ∙ append-nil _
   level (one.Err error) = ap out (yield-node d (one.Err error)) ∙ append-nil _
   level (one.Reference sheet place) = ap out (yield-node d (one.Reference sheet place)) ∙ append-nil _
+  level (one.Local sheet word) = ap out (yield-node d (one.Local sheet word)) ∙ append-nil _
   level (one.Word text) = ap out (yield-node d (one.Word text)) ∙ append-nil _
   level one.Empty = ap out (yield-node d one.Empty)
   level (one.Paren x) = ap out (yield-node d (one.Paren x)) ∙ ap (λ t. 40 ∷ t) (closed (yield d x) _ refl)

@@ -4,9 +4,11 @@ use Rattle.ic_laws.specs.Amount.{amount_text}
 use Rattle.ic_laws.specs.Character.{at_sign, comma, double_quote, minus, semicolon}
 use Rattle.ic_laws.specs.Dialect.{DialectMeaning, boolean_number, error_number, reference_text, word_text}
 use Rattle.ic_laws.specs.Reading.{printed}
+use Rattle.ic_laws.specs.SheetText.{local_text}
 use Rattle.ic_laws.specs.Token.{sign_text, string_text}
 use Rattle.ic_laws.specs.Parse.{Pair, SpelledKind}
 use Rattle.ic_laws.specs.Tree.{Spelled}
+use Rattle.ic_laws.specs.Yield.{sheet_name}
 use Rattle.ic_laws.specs.declared.dialect.WordKind.TheVariants as kinds
 use Rattle.ic_laws.specs.declared.tree.Constant.{Constant}
 use Rattle.ic_laws.specs.declared.tree.Constant.TheVariants as constants
@@ -86,6 +88,7 @@ kind_text d (one.Str text) = string_text text
 kind_text d (one.Bool value) = word_text d kinds.Boolean (boolean_number value)
 kind_text d (one.Err error) = word_text d kinds.Error (error_number error)
 kind_text d (one.Reference sheet place) = reference_text d (record { sheet = sheet; place = place })
+kind_text d (one.Local sheet word) = local_text (sheet_name sheet) word
 kind_text d (one.Word text) = text
 kind_text d one.Empty = []
 kind_text d (one.Paren x) = codes "(" ++ tree_text d x ++ codes ")"

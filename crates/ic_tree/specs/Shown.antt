@@ -10,7 +10,8 @@ use Rattle.ic_laws.specs.Position.{is_column, is_inside, is_row}
 use Rattle.ic_laws.specs.declared.dialect.WordKind.{WordKind}
 use Rattle.ic_laws.specs.declared.reference.RefToken.{RefToken}
 use Rattle.ic_refs.specs.A1.{a1_at, is_shown_spellable, place_text}
-use Rattle.ic_refs.specs.Sheet.{or_else, sheet_text}
+use Rattle.ic_laws.specs.SheetText.{sheet_text}
+use Rattle.ic_refs.specs.Sheet.{or_else}
 use Rattle.ic_tables.specs.Words.{error_words, first_agreeing, has_error_words, tells_errors, words_of}
 use Rattle.ic_tables.specs.declared.language.Language.{Language}
 use Rattle.ic_tables.specs.declared.locale.Locale.{Locale}

@@ -14,6 +14,7 @@ token_of (of.Str text) = tokens.Str text
 token_of (of.Boolean value) = tokens.Boolean value
 token_of (of.Err error) = tokens.Err error
 token_of (of.Ref reference) = tokens.Ref reference
+token_of (of.Local sheet word) = tokens.Local sheet word
 token_of (of.Word text) = tokens.Word text
 token_of (of.FunHead number) = tokens.FunHead number
 token_of (of.NameHead name) = tokens.NameHead name

@@ -1,8 +1,8 @@
 -- What a step of the reader's code says of a step of the definition.
 use Rattle.std.specs.Prelude.{◌≡◌, ℕ, Bool, true, false, ◌&&◌, List, [], ◌∷◌, Option, Some, None}
-use Rattle.ic_laws.specs.Name.{is_variable}
+use Rattle.ic_laws.specs.Name.{is_identifier, is_sheet_name, is_variable}
 use Rattle.ic_laws.specs.Position.{is_place_within}
-use Rattle.ic_laws.specs.Token.{Token, Num, Str, Boolean, Err, Ref, Word}
+use Rattle.ic_laws.specs.Token.{Token, Num, Str, Boolean, Err, Ref, Local, Word}
 use Rattle.ic_laws.specs.Tree.{Spelled, height, is_unsigned, is_written_sheet}
 use Rattle.ic_laws.specs.Parse.{Read, Pair, made, made_if}
 use Rattle.ic_laws.specs.declared.reference.RefToken.{RefToken}
@@ -34,5 +34,6 @@ leaf most (Str text) rest = made most (one.Str text) rest
 leaf most (Boolean value) rest = made most (one.Bool value) rest
 leaf most (Err error) rest = made most (one.Err error) rest
 leaf most (Ref reference) rest = reference_leaf most reference rest
+leaf most (Local sheet word) rest = made_if (is_sheet_name sheet && is_identifier word) most (one.Local (Some sheet) word) rest
 leaf most (Word text) rest = made_if (is_variable text) most (one.Word text) rest
 leaf most token rest = None

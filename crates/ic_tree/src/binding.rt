@@ -1,5 +1,7 @@
 ghost use Rattle.std.specs.Prelude.{◌≡◌, IfOk, OnOk, map};
-ghost use Rattle.ic_laws.specs.Binding.{all_bound, bound, bound_sheet, bound_under, bound_word, pair_binds, pairs_bound, with_variables};
+ghost use Rattle.ic_laws.specs.Binding.{all_bound, bound, bound_local, bound_sheet, bound_under, bound_word, pair_binds, pairs_bound, with_variables};
+ghost use Rattle.ic_laws.specs.declared.tree.Tree.TheOpen as one;
+ghost use Rattle.ic_laws.proofs.binding.Again.{bound_node};
 ghost use Rattle.ic_tree.specs.LanguageWords.{function_of};
 
 use crate::copies::{copy_rows, copy_texts};
@@ -7,7 +9,7 @@ use crate::in_scope::Binders;
 use crate::language_words::function_of;
 use ic_laws::{
     Bound, Boxed, Finder, Items, LetPair, NameMention, OutOfMemory, SheetMention, Spelled, Text,
-    Tree, agree,
+    Tree, agree, find_local,
 };
 use ic_tables::Language;
 use std::alloc::Global;
@@ -66,6 +68,39 @@ fn bind_word<N: Finder>(
     }
 }
 
+/// The definition that a word with this sheet means: one that is local to that sheet, and no other.
+fn bind_local_word<N: Finder>(
+    alloc: Global,
+    names: &N,
+    sheet: &SheetMention,
+    word: &Text,
+) -> Result<NameMention, OutOfMemory>
+    ensures { IfOk result (λ r. r ≡ bound_local (N.scene names.now) sheet.now word.now) }
+{
+    match sheet {
+        SheetMention::Sheet(id) => match find_local(alloc, names, *id, word.as_str())? {
+            Some(key) => Ok(NameMention::Name(key)),
+            None => Ok(NameMention::Dangling(Text::from_str(alloc, word.as_str())?)),
+        },
+        _ => Ok(NameMention::Dangling(Text::from_str(alloc, word.as_str())?)),
+    }
+}
+
+/// A word with its sheet.
+fn bind_local<N: Finder>(
+    alloc: Global,
+    names: &N,
+    sheet: &Option<Text>,
+    word: &Text,
+) -> Result<Bound, OutOfMemory>
+    ensures { IfOk result (λ r. r ≡ bound_node (one.Local (bound_sheet (N.scene names.now) sheet.now)
+        (bound_local (N.scene names.now) (bound_sheet (N.scene names.now) sheet.now) word.now))) }
+{
+    let sheet = bind_sheet(alloc, names, sheet)?;
+    let word = bind_local_word(alloc, names, &sheet, word)?;
+    Ok(Tree::Local(sheet, word))
+}
+
 /// A formula that stands where these variables are seen. They are the same after an Ok.
 #[cycle(bind)]
 fn bind_under<N: Finder>(
@@ -89,6 +124,7 @@ fn bind_under<N: Finder>(
             bind_sheet(alloc, names, sheet)?,
             *place,
         )),
+        Tree::Local(sheet, word) => bind_local(alloc, names, sheet, word),
         Tree::Word(word) => Ok(Tree::Word(bind_word(alloc, names, scope, seen, word)?)),
         Tree::Empty => Ok(Tree::Empty),
         Tree::Paren(x) => {

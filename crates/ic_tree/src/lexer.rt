@@ -1,6 +1,7 @@
 mod choice;
 mod errors;
 mod letters;
+mod locals;
 mod next;
 mod numbers;
 mod quoted;

@@ -1,8 +1,11 @@
 ghost use Rattle.std.specs.Prelude.{◌≡◌, ◌++◌, [], ◌∷◌, chars, codes, string_bytes, IfOk, OnOk};
 ghost use Rattle.ic_laws.specs.Amount.{amount_text};
 ghost use Rattle.ic_laws.specs.Dialect.{boolean_number, error_number, reference_text, word_text};
+ghost use Rattle.ic_laws.specs.Name.{quoted};
 ghost use Rattle.ic_laws.specs.Reading.{printed};
+ghost use Rattle.ic_laws.specs.SheetText.{local_text};
 ghost use Rattle.ic_laws.specs.Token.{sign_text, string_text};
+ghost use Rattle.ic_laws.specs.Yield.{sheet_name};
 ghost use Rattle.ic_laws.specs.declared.dialect.WordKind.TheVariants as kinds;
 ghost use Rattle.ic_tree.specs.Printed.{arguments_text, each_before, pair_text, prefix_sign, row_separator, tree_text};
 
@@ -14,6 +17,7 @@ use ic_laws::{
     BinarySign, Dialect, LetPair, OutOfMemory, Place, PrefixSign, RefToken, Spelled, Text, Tree,
     WordKind,
 };
+use ic_refs::quote_name;
 use std::alloc::Global;
 
 /// The canonical text of a formula: its tokens in the spelling of the dialect, without blanks. A reference that the
@@ -86,6 +90,33 @@ fn copied(alloc: Global, text: &Option<Text>) -> Result<Option<Text>, OutOfMemor
     }
 }
 
+// Appends a word with its sheet, whose name has quotes where it needs them.
+fn push_local(
+    alloc: Global,
+    out: &mut String,
+    sheet: &Option<Text>,
+    word: &Text,
+) -> Result<(), OutOfMemory>
+    ensures { OnOk result (chars (string_bytes out.new) ≡ chars (string_bytes out.old)
+        ++ local_text (sheet_name sheet.now) word.now) }
+{
+    push_sheet_name(alloc, out, sheet)?;
+    push_char(out, '!')?;
+    push_text(out, word.as_str())
+}
+
+// Appends the name of a sheet, in quotes where it needs them; nothing where there is none.
+fn push_sheet_name(alloc: Global, out: &mut String, sheet: &Option<Text>) -> Result<(), OutOfMemory>
+    ensures { OnOk result (chars (string_bytes out.new) ≡ chars (string_bytes out.old)
+        ++ quoted (sheet_name sheet.now)) }
+{
+    let Some(name) = sheet else {
+        return Ok(());
+    };
+    let quoted = quote_name(alloc, name.as_str())?;
+    push_text(out, quoted.as_str())
+}
+
 // Appends the word of a function and the bracket that opens its arguments.
 fn push_head<D: Dialect>(d: &D, out: &mut String, number: usize) -> Result<(), OutOfMemory>
     ensures { OnOk result (chars (string_bytes out.new) ≡ chars (string_bytes out.old)
@@ -138,6 +169,7 @@ fn push_tree<D: Dialect>(
         Tree::Bool(value) => push_boolean(d, out, *value),
         Tree::Err(error) => push_error(d, out, *error),
         Tree::Reference(sheet, place) => push_reference(alloc, d, out, sheet, *place),
+        Tree::Local(sheet, word) => push_local(alloc, out, sheet, word),
         Tree::Word(word) => push_text(out, word.as_str()),
         Tree::Empty => Ok(()),
         Tree::Paren(x) => {

@@ -136,6 +136,11 @@ pub fn spell_with<S: Spelling>(
             spell_mention(alloc, spelling, sheet)?,
             *place,
         )),
+        Tree::Local(sheet, word) => {
+            let sheet = spell_mention(alloc, spelling, sheet)?;
+            let word = spell_word(alloc, spelling, word)?;
+            Ok(Tree::Local(sheet, word))
+        }
         Tree::Word(word) => Ok(Tree::Word(spell_word(alloc, spelling, word)?)),
         Tree::Empty => Ok(Tree::Empty),
         Tree::Paren(x) => Ok(Tree::Paren(spell_boxed(alloc, spelling, x)?)),

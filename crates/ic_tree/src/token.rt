@@ -13,6 +13,8 @@ pub enum Token {
     Boolean(bool),
     Err(Error),
     Ref(RefToken),
+    /// A word with its sheet: the name of the sheet, and the word.
+    Local(Text, Text),
     Word(Text),
     /// A function, by its number.
     FunHead(usize),

@@ -8,8 +8,8 @@ from .amount import amount_text
 from .name import is_identifier, is_variable, quoted
 from .scan import begins_word, between, first_is, is_blank, is_digit, is_word_character, past_run, run_of
 
-# Names behind a sheet, as `T!tax`. The definitions don't have them; they are read where this is set.
-READS_LOCALS = False
+# Words with their sheets, as `T!tax`, are read where this is set; lists of lines from before them want it off.
+READS_LOCALS = True
 
 LAST_WHOLE = 999999999999999999
 TWO_TABLE = {"<>": ("Operator", "<>"), "<=": ("Operator", "<="), ">=": ("Operator", ">=")}

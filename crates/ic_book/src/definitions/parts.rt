@@ -1,6 +1,6 @@
 //! Definitions come and go in a book. What that does to the formulas of its sheets is prepared before, and applied after.
-ghost use Rattle.std.specs.Prelude.{◌≡◌, ◌<◌, ◌++◌, [], ◌∷◌, IfOk, None, OnErr, OnOk, Some, false, length, map, nat_eq, remove};
-ghost use Rattle.std.specs.List.{AllByRecursion, IsDistinct, list_any, slice_get};
+ghost use Rattle.std.specs.Prelude.{◌≡◌, ◌<◌, ◌++◌, [], ◌∷◌, IfOk, None, OnErr, OnOk, Some, false, length, map, remove};
+ghost use Rattle.std.specs.List.{AllByRecursion, list_any, slice_get};
 ghost use Rattle.ic_laws.specs.BookTrees.{with_body_tree};
 ghost use Rattle.ic_laws.specs.Changes.{changed_tree, definition_added, definition_gone, sheet_gone};
 ghost use Rattle.ic_laws.specs.CoreBook as core;
@@ -16,12 +16,12 @@ use ic_definitions::{BodyRewrites, Definition};
 use ic_laws::OutOfMemory;
 use ic_pool::{DefinitionAdded, DefinitionGone, SheetGone};
 
-/// Adds a definition that is local to no sheet. Words that found nothing, and could mean it, do.
-pub fn add_for_all(contents: &mut Contents, definition: Definition) -> Result<(), OutOfMemory>
+/// Adds a definition at the end. Words that could mean it do, with their sheets or without. Where it is local to no sheet, a
+/// body in which all was found must be one that it leaves.
+pub fn add_definition(contents: &mut Contents, definition: Definition) -> Result<(), OutOfMemory>
     requires free { list_any (is_named definition.name definition.scope)
         contents.old.definitions ≡ false }
-    requires scope { definition.scope ≡ None }
-    requires spares { AllByRecursion (StaysWhereFound (definition_added
+    requires spares { definition.scope ≡ None → AllByRecursion (StaysWhereFound (definition_added
         (spelling_of definition))) contents.old.definitions }
     ensures sheets { OnOk result (sheets_of contents.new.sheets
         ≡ map (changed_pool (definition_added
@@ -34,38 +34,9 @@ pub fn add_for_all(contents: &mut Contents, definition: Definition) -> Result<()
     ensures err { OnErr result (contents.new ≡ contents.old) }
 {
     let added = DefinitionAdded::new(definition.name(), definition.key());
-    let formulas = contents.sheets.prepare_dangling(&added)?;
+    let formulas = contents.sheets.prepare_added(&added)?;
     contents.definitions.add(definition)?;
     contents.sheets.apply_own(formulas);
-    Ok(())
-}
-
-/// Adds a definition that is local to the sheet at an index, from 0. Words of that sheet that could mean it do.
-pub fn add_for_sheet(
-    contents: &mut Contents,
-    index: usize,
-    definition: Definition,
-) -> Result<(), OutOfMemory>
-    requires free { list_any (is_named definition.name definition.scope)
-        contents.old.definitions ≡ false }
-    requires within { index < length contents.old.sheets }
-    requires ids { IsDistinct nat_eq (map (λ s. s.id) contents.old.sheets) }
-    requires scope { (sheet : Sheet) → slice_get contents.old.sheets index ≡ Some sheet
-        → definition.scope ≡ Some sheet.id }
-    ensures sheets { OnOk result (sheets_of contents.new.sheets
-        ≡ map (changed_pool (definition_added
-        (spelling_of definition))) (sheets_of contents.old.sheets)) }
-    ensures looks_up { OnOk result (look_ups contents.new.sheets
-        ≡ map (looks_up_after (definition_added (spelling_of definition))) contents.old.sheets) }
-    ensures definitions { OnOk result (contents.new.definitions
-        ≡ map (with_body_tree (changed_tree (definition_added (spelling_of definition))))
-        contents.old.definitions ++ definition ∷ []) }
-    ensures err { OnErr result (contents.new ≡ contents.old) }
-{
-    let added = DefinitionAdded::new(definition.name(), definition.key());
-    let formulas = contents.sheets.prepare_at(index, &added)?;
-    contents.definitions.add(definition)?;
-    contents.sheets.apply_at(index, formulas);
     Ok(())
 }
 
@@ -91,8 +62,10 @@ pub fn delete_at(contents: &mut Contents, index: usize) -> Result<(), OutOfMemor
     ensures err { OnErr result (contents.new ≡ contents.old) }
 {
     let becomes = contents.definitions.mention_without(index)?;
+    let definition = &contents.definitions.as_slice()[index];
     let gone = DefinitionGone {
-        key: contents.definitions.as_slice()[index].key(),
+        key: definition.key(),
+        name: definition.name(),
         becomes: &becomes,
     };
     let formulas = contents.sheets.prepare(&gone)?;
@@ -107,13 +80,15 @@ pub fn bodies_without(contents: &Contents, index: usize) -> Result<BodyRewrites,
     ensures made { IfOk result (λ w. (sheet : Sheet)
         → slice_get contents.now.sheets index ≡ Some sheet
         → with_bodies w.bodies.items contents.now.definitions ≡ map (with_body_tree
-        (changed_tree (sheet_gone sheet.id sheet.name))) contents.now.definitions) }
+        (changed_tree (sheet_gone (definitions_scene contents.now.definitions) sheet.id
+        sheet.name))) contents.now.definitions) }
     ensures fits { IfOk result (λ w. FitsBodies w contents.now.definitions) }
 {
     let sheet = &contents.sheets.as_slice()[index];
     let gone = SheetGone {
         id: sheet.id,
         name: sheet.name.as_str(),
+        definitions: &contents.definitions,
     };
     contents.definitions.prepare(&gone)
 }

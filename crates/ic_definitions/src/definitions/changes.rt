@@ -56,9 +56,10 @@ impl Definitions {
         rewrites.put(&mut self.list);
     }
 
-    /// Adds a definition at the end. Words of the bodies that found nothing, and could mean it, do. Where it is local to a
-    /// sheet, so do words of that sheet's definitions that meant the one of an agreeing name without scope. Where it is local
-    /// to none, a body in which all was found must be one that it leaves. `OutOfMemory` changes nothing.
+    /// Adds a definition at the end. Words of the bodies that found nothing, and could mean it, do, with their sheets or
+    /// without. Where it is local to a sheet, so do words of that sheet's definitions that meant the one of an agreeing name
+    /// without scope. Where it is local to none, a body in which all was found must be one that it leaves. `OutOfMemory`
+    /// changes nothing.
     pub fn add(&mut self, definition: Definition) -> Result<(), OutOfMemory>
         requires free { list_any (is_named definition.name definition.scope) self.old ≡ false }
         requires spares { definition.scope ≡ None → AllByRecursion (StaysWhereFound
@@ -93,8 +94,8 @@ impl Definitions {
         definition.set_body(body);
     }
 
-    /// Takes the definition at an index away, from 0. Words of the bodies that meant it mean what `mention_without` tells.
-    /// `OutOfMemory` changes nothing.
+    /// Takes the definition at an index away, from 0. Words of the bodies that meant it mean what `mention_without` tells, and
+    /// words with their sheets dangle by its name. `OutOfMemory` changes nothing.
     pub fn delete(&mut self, index: usize) -> Result<(), OutOfMemory>
         requires { index < length self.old }
         ensures ok { OnOk result ((d : core.Definition) → slice_get self.old index ≡ Some d
@@ -161,8 +162,10 @@ impl Definitions {
         ensures fits { IfOk result (λ w. FitsBodies w self.now) }
     {
         let becomes = self.mention_without(index)?;
+        let definition = &self.as_slice()[index];
         let gone = DefinitionGone {
-            key: self.as_slice()[index].key(),
+            key: definition.key(),
+            name: definition.name(),
             becomes: &becomes,
         };
         self.prepare(&gone)

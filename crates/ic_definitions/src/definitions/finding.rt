@@ -8,8 +8,9 @@ ghost use Rattle.ic_definitions.specs.Named.{definitions_scene, index_with_key, 
 use super::Definitions;
 use crate::Definition;
 use crate::definition::{fold_name, key_with};
-use ic_laws::{NameKey, OutOfMemory, agree};
+use ic_laws::{Finder, NameKey, OutOfMemory, agree};
 use ic_pool::{name_key, same_key, same_scope};
+use std::alloc::Global;
 
 impl Definitions {
     /// The index, from 0, of the definition of an agreeing name that is local to the sheet with this id, or to none. None
@@ -100,6 +101,34 @@ impl Definitions {
     {
         let key = name_key(self.alloc, folded, scope)?;
         Ok(self.indexes.get(&key).copied())
+    }
+}
+
+/// Definitions find what is found where there are no sheets.
+impl Finder for Definitions {
+    ghost use Rattle.ic_definitions.specs.Named.{definitions_scene};
+
+    ghost scene = { λ ds. definitions_scene ds };
+
+    fn find_sheet(&self, _alloc: Global, _name: &str) -> Result<Option<u32>, OutOfMemory> {
+        Ok(None)
+    }
+
+    fn find_name(
+        &self,
+        _alloc: Global,
+        scope: Option<u32>,
+        word: &str,
+    ) -> Result<Option<NameKey>, OutOfMemory> {
+        self.find(scope, word)
+    }
+
+    fn sheet_spelling(&self, _id: u32) -> Option<&str> {
+        None
+    }
+
+    fn definition_spelling(&self, key: &NameKey) -> Option<&str> {
+        self.name_of(key)
     }
 }
 

@@ -11,8 +11,8 @@ use Rattle.ic_laws.specs.declared.tree.SheetMention.{SheetMention}
 use Rattle.ic_laws.specs.declared.tree.Tree.{Tree-F, roll-Tree, map-Tree, fold-roll-Tree}
 use Rattle.ic_laws.specs.declared.tree.Tree.TheOpen as one
 use Rattle.ic_laws.proofs.binding.Induction.{by_nodes, OfChildren, EveryPair, every_here, every_below, every_value}
-use Rattle.ic_laws.specs.Binding.{Binders, Binds, BindsPair, BoundPair, all_bound, bound, bound_call, bound_kind, bound_pair_of, bound_pair_step, bound_sheet, bound_step, bound_under, bound_word, pair_binds, pairs_bound, spelled_kind, spelled_pair_step, spelled_sheet, spelled_step, spelled_with, spelled_word, with_parameters, with_variables}
-use Rattle.ic_laws.specs.Mentions.{AllMentions, OfMentions, mapped, mapped_kind, mapped_pair_step, mapped_step}
+use Rattle.ic_laws.specs.Binding.{Binders, Binds, BindsPair, BoundPair, all_bound, bound, bound_call, bound_kind, bound_local, bound_pair_of, bound_pair_step, bound_sheet, bound_step, bound_under, bound_word, pair_binds, pairs_bound, spelled_kind, spelled_pair_step, spelled_sheet, spelled_step, spelled_with, spelled_word, with_parameters, with_variables}
+use Rattle.ic_laws.specs.Mentions.{AllMentions, LocalMention, OfMentions, mapped, mapped_kind, mapped_pair_step, mapped_step}
 use Rattle.ic_laws.specs.Parse.{Pair, SpelledKind, node}
 use Rattle.ic_laws.specs.declared.scene.Scene.{Scene}
 
@@ -57,34 +57,34 @@ module _ (english : List ℕ → Option ℕ) (scene : Scene) (scope : Option ℕ
       ∙ ap (λ (g : Pair → BindsPair). bound_step english scene scope (map-Tree (Option (List ℕ)) (List ℕ) Spelled Pair Binds BindsPair under g kind))
       (fun_ext (λ pair. fold-roll-LetPair (Option (List ℕ)) (List ℕ) Binds BindsPair (bound_step english scene scope) (bound_pair_step english scene scope) (record { variable = pair.variable; value = pair.value }))))
 
-module _ (f : SheetMention → SheetMention) (g : NameMention → NameMention) where
+module _ (f : SheetMention → SheetMention) (g : NameMention → NameMention) (l : SheetMention → NameMention → LocalMention) where
   -- a node with each child's mentions replaced
   abbrev pub pair_mapped : BoundPair → BoundPair
-  pair_mapped pair = bound_pair_of pair.variable (mapped f g pair.value)
+  pair_mapped pair = bound_pair_of pair.variable (mapped f g l pair.value)
 
   abbrev pub children_mapped : BoundKind → BoundKind
-  children_mapped kind = map-Tree SheetMention NameMention Bound BoundPair Bound BoundPair (mapped f g) pair_mapped kind
+  children_mapped kind = map-Tree SheetMention NameMention Bound BoundPair Bound BoundPair (mapped f g l) pair_mapped kind
 
-  pub mapped-node : (kind : BoundKind) → mapped f g (bound_node kind) ≡ bound_node (mapped_kind f g (children_mapped kind))
+  pub mapped-node : (kind : BoundKind) → mapped f g l (bound_node kind) ≡ bound_node (mapped_kind f g l (children_mapped kind))
   mapped-node kind =
-      fold-roll-Tree SheetMention NameMention Bound BoundPair (mapped_step f g) (mapped_pair_step f g) kind
-      ∙ ap (λ (h : BoundPair → BoundPair). mapped_step f g (map-Tree SheetMention NameMention Bound BoundPair Bound BoundPair (mapped f g) h kind))
-      (fun_ext (λ pair. fold-roll-LetPair SheetMention NameMention Bound BoundPair (mapped_step f g) (mapped_pair_step f g) (record { variable = pair.variable; value = pair.value })))
+      fold-roll-Tree SheetMention NameMention Bound BoundPair (mapped_step f g l) (mapped_pair_step f g l) kind
+      ∙ ap (λ (h : BoundPair → BoundPair). mapped_step f g l (map-Tree SheetMention NameMention Bound BoundPair Bound BoundPair (mapped f g l) h kind))
+      (fun_ext (λ pair. fold-roll-LetPair SheetMention NameMention Bound BoundPair (mapped_step f g l) (mapped_pair_step f g l) (record { variable = pair.variable; value = pair.value })))
 
-  module _ (P : SheetMention → Type 0) (Q : NameMention → Type 0) (sheet_same : (m : SheetMention) → P m → f m ≡ m) (name_same : (m : NameMention) → Q m → g m ≡ m) where
+  module _ (P : SheetMention → Type 0) (Q : NameMention → Type 0) (R : SheetMention → NameMention → Type 0) (sheet_same : (m : SheetMention) → P m → f m ≡ m) (name_same : (m : NameMention) → Q m → g m ≡ m) (local_same : (s : SheetMention) (m : NameMention) → P s → R s m → l s m ≡ (s, m)) where
     abbrev Fine : Bound → Type 0
-    Fine t = AllMentions P Q t
+    Fine t = AllMentions P Q R t
 
     abbrev FinePair : BoundPair → Type 0
-    FinePair pair = EveryPair (OfMentions P Q) (λ p. Unit {0}) pair
+    FinePair pair = EveryPair (OfMentions P Q R) (λ p. Unit {0}) pair
 
     abbrev Same : Bound → Type 0
-    Same t = Fine t → mapped f g t ≡ t
+    Same t = Fine t → mapped f g l t ≡ t
 
     abbrev PairSame : BoundPair → Type 0
     PairSame pair = FinePair pair → pair_mapped pair ≡ pair
 
-    all_same : (ts : List Bound) → AllByRecursion Same ts → AllByRecursion Fine ts → map (mapped f g) ts ≡ ts
+    all_same : (ts : List Bound) → AllByRecursion Same ts → AllByRecursion Fine ts → map (mapped f g l) ts ≡ ts
     all_same [] h fine = refl
     all_same (t ∷ ts) h fine = ap₂ ◌∷◌ (h.0 fine.0) (all_same ts h.1 fine.1)
 
@@ -92,12 +92,13 @@ module _ (f : SheetMention → SheetMention) (g : NameMention → NameMention) w
     pairs_same [] h fine = refl
     pairs_same (p ∷ ps) h fine = ap₂ ◌∷◌ (h.0 fine.0) (pairs_same ps h.1 fine.1)
 
-    kind_same : (kind : BoundKind) → OfChildren Same PairSame kind → OfMentions P Q kind → OfChildren Fine FinePair kind → mapped_kind f g (children_mapped kind) ≡ kind
+    kind_same : (kind : BoundKind) → OfChildren Same PairSame kind → OfMentions P Q R kind → OfChildren Fine FinePair kind → mapped_kind f g l (children_mapped kind) ≡ kind
     kind_same (one.Num units) h here fine = refl
     kind_same (one.Str text) h here fine = refl
     kind_same (one.Bool value) h here fine = refl
     kind_same (one.Err code) h here fine = refl
     kind_same (one.Reference sheet place) h here fine = ap (λ (s : SheetMention). let k : BoundKind = one.Reference s place in k) (sheet_same sheet here)
+    kind_same (one.Local sheet word) h here fine = ap (λ (p : LocalMention). let k : BoundKind = one.Local p.0 p.1 in k) (local_same sheet word here.0 here.1)
     kind_same (one.Word word) h here fine = ap (λ (w : NameMention). let k : BoundKind = one.Word w in k) (name_same word here)
     kind_same one.Empty h here fine = refl
     kind_same (one.Paren x) h here fine = ap (λ (t : Bound). let k : BoundKind = one.Paren t in k) (h fine)
@@ -113,20 +114,23 @@ module _ (f : SheetMention → SheetMention) (g : NameMention → NameMention) w
     kind_same (one.Array rows) h here fine = refl
 
     -- replacing changes nothing where no mention is replaced by another
-    pub mapped_same : (t : Bound) → AllMentions P Q t → mapped f g t ≡ t
+    pub mapped_same : (t : Bound) → AllMentions P Q R t → mapped f g l t ≡ t
     mapped_same =
         by_nodes Same PairSame
-        (λ kind h fine. mapped-node kind ∙ ap bound_node (kind_same kind h (every_here (OfMentions P Q) (λ p. Unit {0}) kind fine) (every_below (OfMentions P Q) (λ p. Unit {0}) kind fine)))
-        (λ variable value h fine. ap (bound_pair_of variable) (h (every_value (OfMentions P Q) (λ p. Unit {0}) (bound_pair_of variable value) fine)))
+        (λ kind h fine. mapped-node kind ∙ ap bound_node (kind_same kind h (every_here (OfMentions P Q R) (λ p. Unit {0}) kind fine) (every_below (OfMentions P Q R) (λ p. Unit {0}) kind fine)))
+        (λ variable value h fine. ap (bound_pair_of variable) (h (every_value (OfMentions P Q R) (λ p. Unit {0}) (bound_pair_of variable value) fine)))
 
--- A mention that was found in one scene and is spelled so becomes f or g of it in another, and a called word that was no
+-- A mention that was found in one scene and is spelled so becomes f or g of it in another, a word with its sheet l of both, and a called word that was no
 -- function stays none.
-pub record FindAgain (english : List ℕ → Option ℕ) (scope : Option ℕ) (before after : Scene) (sheet_text : ℕ → List ℕ) (key_text : NameKey → List ℕ) (f : SheetMention → SheetMention) (g : NameMention → NameMention) : Type 0 where
+pub record FindAgain (english : List ℕ → Option ℕ) (scope : Option ℕ) (before after : Scene) (sheet_text : ℕ → List ℕ) (key_text : NameKey → List ℕ) (f : SheetMention → SheetMention) (g : NameMention → NameMention) (l : SheetMention → NameMention → LocalMention) : Type 0 where
   pub sheet : (name : Option (List ℕ)) → bound_sheet after (spelled_sheet sheet_text (bound_sheet before name)) ≡ f (bound_sheet before name)
+  pub local : (name : Option (List ℕ)) (word : List ℕ)
+      → ◌≡◌ {A = LocalMention} (bound_sheet after (spelled_sheet sheet_text (bound_sheet before name)), bound_local after (bound_sheet after (spelled_sheet sheet_text (bound_sheet before name))) (spelled_word key_text (bound_local before (bound_sheet before name) word)))
+      (l (bound_sheet before name) (bound_local before (bound_sheet before name) word))
   pub word : (binders : Binders) (word : List ℕ) → bound_word after scope binders (spelled_word key_text (bound_word before scope binders word)) ≡ g (bound_word before scope binders word)
   pub called : (binders : Binders) (word : List ℕ) → english word ≡ None → english (spelled_word key_text (bound_word before scope binders word)) ≡ None
 
-module _ (english : List ℕ → Option ℕ) (scope : Option ℕ) (before after : Scene) (sheet_text : ℕ → List ℕ) (key_text : NameKey → List ℕ) (f : SheetMention → SheetMention) (g : NameMention → NameMention) where
+module _ (english : List ℕ → Option ℕ) (scope : Option ℕ) (before after : Scene) (sheet_text : ℕ → List ℕ) (key_text : NameKey → List ℕ) (f : SheetMention → SheetMention) (g : NameMention → NameMention) (l : SheetMention → NameMention → LocalMention) where
   abbrev first : Spelled → Binds
   first = under english before scope
 
@@ -138,13 +142,13 @@ module _ (english : List ℕ → Option ℕ) (scope : Option ℕ) (before after 
 
   -- whichever variables are seen
   abbrev pub Again : Spelled → Type 0
-  Again t = (binders : Binders) → then (respelled (first t binders)) binders ≡ mapped f g (first t binders)
+  Again t = (binders : Binders) → then (respelled (first t binders)) binders ≡ mapped f g l (first t binders)
 
   abbrev pub PairAgain : Pair → Type 0
   PairAgain pair = Again pair.value
 
   all_again : (ts : List Spelled) (binders : Binders) → AllByRecursion Again ts
-      → all_bound (map then (map respelled (all_bound (map first ts) binders))) binders ≡ map (mapped f g) (all_bound (map first ts) binders)
+      → all_bound (map then (map respelled (all_bound (map first ts) binders))) binders ≡ map (mapped f g l) (all_bound (map first ts) binders)
   all_again [] binders h = refl
   all_again (t ∷ ts) binders h = ap₂ ◌∷◌ (h.0 binders) (all_again ts binders h.1)
 
@@ -155,7 +159,7 @@ module _ (english : List ℕ → Option ℕ) (scope : Option ℕ) (before after 
   pairs_then pairs binders = map (pair_binds english after scope) (map (pair_spelled sheet_text key_text) (pairs_bound (pairs_first pairs) binders))
 
   pairs_again : (pairs : List Pair) (binders : Binders) → AllByRecursion PairAgain pairs
-      → pairs_bound (pairs_then pairs binders) binders ≡ map (pair_mapped f g) (pairs_bound (pairs_first pairs) binders)
+      → pairs_bound (pairs_then pairs binders) binders ≡ map (pair_mapped f g l) (pairs_bound (pairs_first pairs) binders)
   pairs_again [] binders h = refl
   pairs_again (pair ∷ pairs) binders h = ap₂ (λ value rest. bound_pair_of pair.variable value ∷ rest) (h.0 binders) (pairs_again pairs (binders ++ pair.variable ∷ []) h.1)
 
@@ -164,12 +168,12 @@ module _ (english : List ℕ → Option ℕ) (scope : Option ℕ) (before after 
   same_variables [] binders = refl
   same_variables (pair ∷ pairs) binders = ap (λ names. pair.variable ∷ names) (same_variables pairs (binders ++ pair.variable ∷ []))
 
-  module _ (mentions : FindAgain english scope before after sheet_text key_text f g) where
+  module _ (mentions : FindAgain english scope before after sheet_text key_text f g l) where
     abbrev back : BoundKind → Binders → BoundKind
     back kind binders = once english after scope (spelled_kind sheet_text key_text (children_spelled sheet_text key_text kind)) binders
 
     abbrev replaced : BoundKind → BoundKind
-    replaced kind = mapped_kind f g (children_mapped f g kind)
+    replaced kind = mapped_kind f g l (children_mapped f g l kind)
 
     level : (kind : SpelledKind) (binders : Binders) → OfChildren Again PairAgain kind → back (once english before scope kind binders) binders ≡ replaced (once english before scope kind binders)
     level (one.Num units) binders h = refl
@@ -177,6 +181,7 @@ module _ (english : List ℕ → Option ℕ) (scope : Option ℕ) (before after 
     level (one.Bool value) binders h = refl
     level (one.Err code) binders h = refl
     level (one.Reference sheet place) binders h = ap (λ (s : SheetMention). let k : BoundKind = one.Reference s place in k) (mentions.sheet sheet)
+    level (one.Local sheet word) binders h = ap (λ (p : LocalMention). let k : BoundKind = one.Local p.0 p.1 in k) (mentions.local sheet word)
     level (one.Word word) binders h = ap (λ (w : NameMention). let k : BoundKind = one.Word w in k) (mentions.word binders word)
     level one.Empty binders h = refl
     level (one.Paren x) binders h = ap (λ (t : Bound). let k : BoundKind = one.Paren t in k) (h binders)
@@ -204,15 +209,15 @@ module _ (english : List ℕ → Option ℕ) (scope : Option ℕ) (before after 
     node_again : (kind : SpelledKind) → OfChildren Again PairAgain kind → Again (node kind)
     node_again kind h binders =
         let kind_bound : BoundKind = once english before scope kind binders in
-        subst (λ (t : Bound). then (respelled t) binders ≡ mapped f g t) (sym (bound-node english before scope kind binders))
+        subst (λ (t : Bound). then (respelled t) binders ≡ mapped f g l t) (sym (bound-node english before scope kind binders))
         (ap (λ (t : Spelled). then t binders) (spelled-node sheet_text key_text kind_bound)
         ∙ (bound-node english after scope (spelled_kind sheet_text key_text (children_spelled sheet_text key_text kind_bound)) binders
         ∙ (ap bound_node (level kind binders h)
-        ∙ sym (mapped-node f g kind_bound))))
+        ∙ sym (mapped-node f g l kind_bound))))
 
     pub again_under : (t : Spelled) → Again t
     again_under = by_nodes Again PairAgain node_again (λ variable value h. h)
 
     -- a formula that is bound, spelled and bound again
-    pub bound_again : (t : Spelled) → bound english after scope (spelled_with sheet_text key_text (bound english before scope t)) ≡ mapped f g (bound english before scope t)
+    pub bound_again : (t : Spelled) → bound english after scope (spelled_with sheet_text key_text (bound english before scope t)) ≡ mapped f g l (bound english before scope t)
     bound_again t = again_under t []

@@ -131,6 +131,21 @@ called_function : at_data (let_in (pair_of (codes "sum") number ∷ []) (node (o
 unfolding caseless
 called_function = simp bound-node
 
+-- LET(tax,1,data!TAX): no variable is seen in a word with its sheet, which finds what is local to that sheet
+with_sheet : at_data (let_in (pair_of (codes "tax") number ∷ []) (node (one.Local (Some (codes "data")) (codes "TAX"))))
+    ≡ let_bound (bound_pair_of (codes "tax") number_bound ∷ []) (bound_node (one.Local (sheets.Sheet 1) (names.Name (record { name = codes "tax"; scope = Some 1 }))))
+unfolding caseless
+with_sheet = simp bound-node
+
+-- Straße!tax: the definition without scope isn't found; gone!tax: where the sheet dangles the word does
+none_local : bound english scene (Some 1) (node (one.Local (Some (codes "Straße")) (codes "tax"))) ≡ bound_node (one.Local (sheets.Sheet 2) (names.Dangling (codes "tax")))
+unfolding caseless
+none_local = simp bound-node
+
+sheet_gone : bound english scene (Some 1) (node (one.Local (Some (codes "gone")) (codes "tax"))) ≡ bound_node (one.Local (sheets.Dangling (codes "gone")) (names.Dangling (codes "tax")))
+unfolding caseless
+sheet_gone = simp bound-node
+
 -- What the settled law needs. Three sheets of which two have one id and two agree: A is found as sheet 1, which is spelled B, which finds sheet 2.
 abbrev tangled : Scene
 tangled = record {

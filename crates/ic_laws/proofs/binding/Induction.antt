@@ -43,6 +43,7 @@ module _ {S W : Type 0} (P : Tree S W → Type 0) (Q : LetPair S W → Type 0) w
   of_held (one.Bool x) = tt
   of_held (one.Err x) = tt
   of_held (one.Reference sheet place) = tt
+  of_held (one.Local sheet word) = tt
   of_held (one.Word x) = tt
   of_held one.Empty = tt
   of_held (one.Paren x) = x.1
@@ -82,6 +83,7 @@ module _ {S W : Type 0} (P : Tree S W → Type 0) (Q : LetPair S W → Type 0) w
   with_facts (one.Bool x) h = (one.Bool x, refl)
   with_facts (one.Err x) h = (one.Err x, refl)
   with_facts (one.Reference sheet place) h = (one.Reference sheet place, refl)
+  with_facts (one.Local sheet word) h = (one.Local sheet word, refl)
   with_facts (one.Word x) h = (one.Word x, refl)
   with_facts one.Empty h = (one.Empty, refl)
   with_facts (one.Paren x) h = (one.Paren (x, h), refl)

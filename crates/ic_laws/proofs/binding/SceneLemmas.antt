@@ -8,10 +8,12 @@ use Rattle.std.proofs.lemmas.Slice.Eq.{bytes_eq-Decides}
 use Rattle.ic_laws.specs.Name.{fold, agrees}
 use Rattle.ic_laws.specs.declared.tree.NameKey.{NameKey}
 use Rattle.ic_laws.specs.declared.tree.NameMention.TheVariants as names
+use Rattle.ic_laws.specs.declared.tree.SheetMention.{SheetMention}
+use Rattle.ic_laws.specs.declared.tree.SheetMention.TheVariants as sheets
 use Rattle.std.specs.Fmt.{decimal}
 use Rattle.std.specs.Prelude.{if◌then◌else◌}
-use Rattle.ic_laws.specs.Binding.{Binders, bound_sheet, bound_word, is_bound_by, name_or_dangling, sheet_or_dangling, spelled_sheet, spelled_word}
-use Rattle.ic_laws.specs.Scene.{IdsDiffer, SheetsDiffer, definition_at, found_name, found_sheet, key_found, key_of, name_of_key, name_of_sheet, definition_spelling, same_scope, sheet_spelling}
+use Rattle.ic_laws.specs.Binding.{Binders, bound_local, bound_sheet, bound_word, is_bound_by, name_or_dangling, sheet_or_dangling, spelled_sheet, spelled_word}
+use Rattle.ic_laws.specs.Scene.{IdsDiffer, SheetsDiffer, definition_at, found_local, found_name, found_sheet, key_found, key_of, local_key, name_of_key, name_of_sheet, definition_spelling, same_scope, sheet_spelling}
 use Rattle.ic_laws.specs.declared.scene.DefinitionSpelling.{DefinitionSpelling}
 use Rattle.ic_laws.specs.declared.scene.Scene.{Scene}
 use Rattle.ic_laws.specs.declared.scene.SheetName.{SheetName}
@@ -203,3 +205,24 @@ word_settles scene scope binders word = go (is_bound_by binders word) refl (foun
         let spelling : List ℕ = definition_spelling scene key in
         let same : fold spelling ≡ fold word = found_spelled_alike scene scope word key f in
         ap₂ (λ b o. if b then names.Var spelling else name_or_dangling spelling o) (ap (λ w. list_any (λ (variable : List ℕ). bytes_eq (fold variable) w) binders) same ∙ e) (found_name_by_fold scene scope spelling word same ∙ f)
+
+-- what is found among what is local to a sheet is found from that sheet
+pub local_is_found : (scene : Scene) (id : ℕ) (folded : List ℕ) (key : NameKey) → local_key scene id folded ≡ Some key → key_found scene (Some id) folded ≡ Some key
+local_is_found scene id folded key e = go (definition_at scene folded (Some id)) refl e
+  where
+    go : (o : Option DefinitionSpelling) → definition_at scene folded (Some id) ≡ o → option_map key_of o ≡ Some key → key_found scene (Some id) folded ≡ Some key
+    go None f g = absurd (let no : None ≡ Some key = g in cc)
+    go (Some d) f g = ap (λ o. option_map key_of (option_or o (definition_at scene folded None))) f ∙ g
+
+-- a word with its sheet is found again by its own spelling
+pub local_settles : (scene : Scene) (sheet : SheetMention) (word : List ℕ) → bound_local scene sheet (spelled_word (definition_spelling scene) (bound_local scene sheet word)) ≡ bound_local scene sheet word
+local_settles scene sheets.Own word = refl
+local_settles scene (sheets.Dangling name) word = refl
+local_settles scene (sheets.Sheet id) word = go (found_local scene id word) refl
+  where
+    go : (found : Option NameKey) → found_local scene id word ≡ found → bound_local scene (sheets.Sheet id) (spelled_word (definition_spelling scene) (name_or_dangling word found)) ≡ name_or_dangling word found
+    go None e = ap (name_or_dangling word) e
+    go (Some key) e =
+        let spelling : List ℕ = definition_spelling scene key in
+        let same : fold spelling ≡ fold word = spelled_alike scene (Some id) (fold word) key key.name (local_is_found scene id (fold word) key e) in
+        ap (name_or_dangling spelling) (ap (local_key scene id) same ∙ e)

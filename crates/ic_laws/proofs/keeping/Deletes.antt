@@ -51,11 +51,11 @@ delete_going n book index sheet valid at =
 
 -- an accepted deletion of a sheet
 pub delete_dangles : (n : Notations) (book after : CoreBook) (index : ℕ) (sheet : Sheet) (fields : List Field) → AreNotations n → IsValidCore n book → slice_get book.sheets index ≡ Some sheet → delete_step n book index ≡ Ok (after, fields)
-    → after ≡ without_sheet index (with_trees (changed_tree (sheet_gone sheet.id sheet.name)) book)
+    → after ≡ without_sheet index (with_trees (changed_tree (sheet_gone (scene_of book) sheet.id sheet.name)) book)
 delete_dangles n book after index sheet fields are valid at e =
     let rest : Scene = scene_of (without_sheet index book) in
     (accepted (delete_refusal book index) (changed_by n (without_sheet index) book) after [] fields e).left
-    ∙ ap (without_sheet index) (kept_changed n book rest (sheet_gone sheet.id sheet.name) are valid (gone_becomes (scene_of book) rest sheet.id sheet.name (delete_going n book index sheet valid at)))
+    ∙ ap (without_sheet index) (kept_changed n book rest (sheet_gone (scene_of book) sheet.id sheet.name) are valid (gone_becomes (scene_of book) rest sheet.id sheet.name (delete_going n book index sheet valid at)))
 
 -- an accepted new definition
 pub new_definition_binds : (n : Notations) (book after : CoreBook) (name : List ℕ) (index : Option ℕ) (text : List ℕ) (body : Body) (fields : List Field) → AreNotations n → IsValidCore n book → body_of n book text ≡ Some body

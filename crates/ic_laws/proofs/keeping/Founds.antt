@@ -1,5 +1,5 @@
 -- Where a sheet gets a name, each mention that was found stands as it did.
-use Rattle.std.proofs.Common.{◌≡◌, ℕ, ℤ, zero, suc, List, [], ◌∷◌, ◌++◌, map, Option, None, Some, refl, sym, ap, ap₂, subst}
+use Rattle.std.proofs.Common.{◌≡◌, ℕ, ℤ, zero, suc, List, [], ◌∷◌, ◌++◌, map, Bool, true, false, if◌then◌else◌, Option, None, Some, refl, sym, ap, ap₂, subst}
 use Rattle.std.specs.Prelude.{option_map, option_to_list, slice_get}
 use Rattle.std.specs.BTreeMap.{is_at}
 use Rattle.std.proofs.lemmas.List.Folds.{flat_map-map}
@@ -8,13 +8,14 @@ use Rattle.std.proofs.lemmas.Option.{slice_get-map}
 use Rattle.std.proofs.lemmas.Simd.{map-map}
 use Rattle.ic_laws.proofs.binding.Induction.{every_of_all}
 use Rattle.ic_laws.proofs.keeping.Sheets.{renamed}
-use Rattle.ic_laws.specs.BookTrees.{BookKeepsFound, BothOrNone, DefinitionKeepsFound, FormulaKeepsFound, KeepsFound, LeavesFoundName, LeavesFoundSheet, SheetKeepsFound, with_body_tree, with_cell_trees, with_tree, with_trees}
-use Rattle.ic_laws.specs.Changes.{changed_sheet, changed_tree, changed_word, sheet_named}
+use Rattle.ic_laws.specs.BookTrees.{BookKeepsFound, BothOrNone, DefinitionKeepsFound, FormulaKeepsFound, KeepsFound, LeavesFoundLocal, LeavesFoundName, LeavesFoundSheet, SheetKeepsFound, with_body_tree, with_cell_trees, with_tree, with_trees}
+use Rattle.ic_laws.specs.Changes.{changed_local, changed_sheet, changed_tree, changed_word, dangles_by, sheet_named}
 use Rattle.ic_laws.specs.CoreBook.{CoreBook, Definition, Sheet, formula_at, greatest_id, place_cmp}
 use Rattle.ic_laws.specs.CoreStep.{updated_at, with_sheet_name}
 use Rattle.ic_laws.specs.Greatest.{greatest}
-use Rattle.ic_laws.specs.Mentions.{OfMentions}
+use Rattle.ic_laws.specs.Mentions.{LocalMention, OfMentions}
 use Rattle.ic_laws.specs.Tree.{Bound, Kind}
+use Rattle.ic_laws.specs.declared.scene.Scene.{Scene}
 use Rattle.ic_laws.specs.declared.tree.Formula.{Formula}
 use Rattle.ic_laws.specs.declared.tree.Formula.TheVariants as formulas
 use Rattle.ic_laws.specs.declared.tree.NameMention.{NameMention}
@@ -24,19 +25,40 @@ use Rattle.ic_laws.specs.declared.tree.SheetMention.TheVariants as sheets
 use Rattle.ic_laws.specs.declared.tree.Tree.TheOpen as one
 
 -- a tree, of which dangling sheet mentions alone change
-pub naming_keeps : (id : ℕ) (name : List ℕ) (scope : Option ℕ) (t : Bound) → KeepsFound t (changed_tree (sheet_named id name) scope t)
-naming_keeps id name scope t = record {
+abbrev chosen : Bool → SheetMention → SheetMention → NameMention → LocalMention
+chosen b s other m = if b then (s, m) else (other, m)
+
+chosen_word : (b : Bool) (s other : SheetMention) (m : NameMention) → (chosen b s other m).1 ≡ m
+chosen_word true s other m = refl
+chosen_word false s other m = refl
+
+pub naming_keeps : (scene : Scene) (id : ℕ) (name : List ℕ) (scope : Option ℕ) (t : Bound) → KeepsFound t (changed_tree (sheet_named scene id name) scope t)
+naming_keeps scene id name scope t = record {
   sheet = f;
   name = g;
+  local = l;
   same = refl;
-  leaves = every_of_all (OfMentions (LeavesFoundSheet f) (LeavesFoundName g)) (λ pair. Unit {0}) each (λ pair. tt) t;
+  leaves = every_of_all (OfMentions (LeavesFoundSheet f) (LeavesFoundName g) (LeavesFoundLocal l)) (λ pair. Unit {0}) each (λ pair. tt) t;
 }
   where
     f : SheetMention → SheetMention
-    f = changed_sheet (sheet_named id name)
+    f = changed_sheet (sheet_named scene id name)
 
     g : NameMention → NameMention
-    g = changed_word (sheet_named id name) scope
+    g = changed_word (sheet_named scene id name) scope
+
+    l : SheetMention → NameMention → LocalMention
+    l = changed_local (sheet_named scene id name)
+
+    local_sheet : (s : SheetMention) (m : NameMention) → LeavesFoundSheet (λ x. (l x m).0) s
+    local_sheet sheets.Own m = refl
+    local_sheet (sheets.Sheet i) m = refl
+    local_sheet (sheets.Dangling typed) m = tt
+
+    local_name : (s : SheetMention) (m : NameMention) → LeavesFoundName (λ x. (l s x).1) m
+    local_name s (names.Var word) = chosen_word (dangles_by name s) (sheets.Sheet id) s (names.Var word)
+    local_name s (names.Name key) = chosen_word (dangles_by name s) (sheets.Sheet id) s (names.Name key)
+    local_name s (names.Dangling word) = tt
 
     of_sheet : (m : SheetMention) → LeavesFoundSheet f m
     of_sheet sheets.Own = refl
@@ -48,8 +70,9 @@ naming_keeps id name scope t = record {
     of_word (names.Name key) = refl
     of_word (names.Dangling word) = tt
 
-    each : (kind : Kind SheetMention NameMention) → OfMentions (LeavesFoundSheet f) (LeavesFoundName g) kind
+    each : (kind : Kind SheetMention NameMention) → OfMentions (LeavesFoundSheet f) (LeavesFoundName g) (LeavesFoundLocal l) kind
     each (one.Reference sheet place) = of_sheet sheet
+    each (one.Local sheet word) = (of_sheet sheet, (local_sheet sheet word, local_name sheet word))
     each (one.Word word) = of_word word
     each (one.Call word arguments) = of_word word
     each kind = tt

@@ -9,13 +9,13 @@ use Rattle.std.proofs.lemmas.Bool.{and_from, and_parts, cases_Bool, eqb-true}
 use Rattle.std.proofs.lemmas.List.Folds.{find-append}
 use Rattle.std.proofs.lemmas.Slice.Eq.{bytes_eq-Decides}
 use Rattle.ic_laws.proofs.binding.SceneLemmas.{found_passes, same_scope_self}
-use Rattle.ic_laws.proofs.keeping.Kept.{Become, key_kept, sheet_stays, word_stays}
+use Rattle.ic_laws.proofs.keeping.Kept.{Become, key_kept, local_becomes, local_word_stays, sheet_stays, word_stays}
 use Rattle.ic_laws.proofs.keeping.Removing.{finds_itself, finds_no_other, removed_finds, removed_finds_none}
-use Rattle.ic_laws.specs.Binding.{name_or_dangling}
-use Rattle.ic_laws.specs.Changes.{SheetHolds, WordHolds, changed_sheet, changed_word, definition_added, definition_gone, word_after}
+use Rattle.ic_laws.specs.Binding.{bound_local, name_or_dangling, spelled_word}
+use Rattle.ic_laws.specs.Changes.{LocalHolds, SheetHolds, WordHolds, changed_local, changed_sheet, changed_word, could_mean_local, definition_added, definition_gone, is_of_name, word_after}
 use Rattle.ic_laws.specs.Keeping.{kept_name, same_keys}
 use Rattle.ic_laws.specs.Name.{fold}
-use Rattle.ic_laws.specs.Scene.{KeysDiffer, SheetsDiffer, definition_at, found_name, found_sheet, key_found, key_of, definition_spelling, same_key, same_scope}
+use Rattle.ic_laws.specs.Scene.{KeysDiffer, SheetsDiffer, definition_at, found_local, found_name, found_sheet, key_found, key_of, local_key, definition_spelling, same_key, same_scope}
 use Rattle.ic_laws.specs.declared.scene.DefinitionSpelling.{DefinitionSpelling}
 use Rattle.ic_laws.specs.declared.scene.Scene.{Scene}
 use Rattle.ic_laws.specs.declared.scene.SheetName.{SheetName}
@@ -126,8 +126,47 @@ module _ (before after : Scene) (d : DefinitionSpelling) (adding : Adding before
       go spelling true = refl
       go spelling false = refl
 
-  pub added_becomes : Become before after scope (changed_sheet (definition_added d)) (changed_word (definition_added d) scope)
-  added_becomes = record { sheet = λ m h. sheet_stays before after adding.differ m (sheets_hold before after adding.sheets m h); word = word }
+  -- a word with its sheet
+  local_key_after : (id : ℕ) (folded : List ℕ) → local_key after id folded ≡ option_map key_of (option_or (definition_at before folded (Some id)) (new_at folded (Some id)))
+  local_key_after id folded = let p : DefinitionSpelling → Bool = λ x. same_key (key_of x) (key_at folded (Some id)) in ap (option_map key_of) (ap (find p) adding.names ∙ find-append p before.names (d ∷ []))
+
+  local_dangling : (id : ℕ) (word : List ℕ) → local_key before id (fold word) ≡ None → name_or_dangling word (found_local after id word) ≡ (if could_mean_local (key_of d) (sheets.Sheet id) (names.Dangling word) then names.Name (key_of d) else names.Dangling word)
+  local_dangling id word h =
+      ap (name_or_dangling word) (local_key_after id (fold word) ∙ ap (λ o. option_map key_of (option_or o (new_at (fold word) (Some id)))) (none_of (definition_at before (fold word) (Some id)) h))
+      ∙ go (bytes_eq (fold d.name) (fold word) && same_scope d.scope (Some id))
+    where
+      none_of : (o : Option DefinitionSpelling) → option_map key_of o ≡ None → o ≡ None
+      none_of None e = refl
+      none_of (Some x) e = absurd (let no : Some (key_of x) ≡ None = e in cc)
+
+      go : (b : Bool) → name_or_dangling word (option_map key_of (cond b (Some d) None)) ≡ (if b then names.Name (key_of d) else names.Dangling word)
+      go true = refl
+      go false = refl
+
+  local_named : (id : ℕ) (key : NameKey) → local_key before id key.name ≡ Some key → local_key after id key.name ≡ Some key
+  local_named id key h = local_key_after id key.name ∙ go (definition_at before key.name (Some id)) h
+    where
+      go : (o : Option DefinitionSpelling) → option_map key_of o ≡ Some key → option_map key_of (option_or o (new_at key.name (Some id))) ≡ Some key
+      go None e = absurd (let no : None ≡ Some key = e in cc)
+      go (Some x) e = e
+
+  local_word : (s : SheetMention) (m : NameMention) → LocalHolds before s m → bound_local after s (spelled_word (kept_name before after same_keys) m) ≡ (if could_mean_local (key_of d) s m then names.Name (key_of d) else m)
+  local_word (sheets.Sheet id) (names.Dangling word) h = local_dangling id word h
+  local_word (sheets.Sheet id) (names.Name key) h = local_word_stays before after (sheets.Sheet id) (names.Name key) (local_named id key h)
+  local_word (sheets.Sheet id) (names.Var word) h = absurd h
+  local_word sheets.Own (names.Dangling word) h = refl
+  local_word sheets.Own (names.Name key) h = absurd h
+  local_word sheets.Own (names.Var word) h = absurd h
+  local_word (sheets.Dangling name) (names.Dangling word) h = refl
+  local_word (sheets.Dangling name) (names.Name key) h = absurd h
+  local_word (sheets.Dangling name) (names.Var word) h = absurd h
+
+  pub added_becomes : Become before after scope (changed_sheet (definition_added d)) (changed_word (definition_added d) scope) (changed_local (definition_added d))
+  added_becomes = record {
+    sheet = λ m h. sheet_stays before after adding.differ m (sheets_hold before after adding.sheets m h);
+    word = word;
+    local = λ s m h k. local_becomes before after s s m _ (sheet_stays before after adding.differ s (sheets_hold before after adding.sheets s h)) (local_word s m k);
+  }
     where
       word : (m : NameMention) → WordHolds before scope m → word_after before after scope m ≡ changed_word (definition_added d) scope m
       word (names.Var w) h = refl
@@ -207,8 +246,60 @@ module _ (before after : Scene) (index : ℕ) (d : DefinitionSpelling) (removing
       twice None = refl
       twice (Some x) = refl
 
-  pub gone_name_becomes : Become before after scope (changed_sheet (definition_gone after d)) (changed_word (definition_gone after d) scope)
-  gone_name_becomes = record { sheet = λ m h. sheet_stays before after removing.differ m (sheets_hold before after removing.sheets m h); word = word }
+  -- a word with its sheet
+  local_none : (o : Option DefinitionSpelling) → option_map key_of o ≡ None → o ≡ None
+  local_none None e = refl
+  local_none (Some x) e = absurd (let no : Some (key_of x) ≡ None = e in cc)
+
+  -- one of the definition that goes dangles by its name
+  local_gone_here : (id : ℕ) → local_key before id (fold d.name) ≡ Some (key_of d) → definition_at after (fold d.name) (Some id) ≡ None
+  local_gone_here id h = go (definition_at before (fold d.name) (Some id)) refl h
+    where
+      some : (x : DefinitionSpelling) → Some (key_of x) ≡ Some (key_of d) → key_of x ≡ key_of d
+      some x e = cc
+
+      go : (local : Option DefinitionSpelling) → definition_at before (fold d.name) (Some id) ≡ local → option_map key_of local ≡ Some (key_of d) → definition_at after (fold d.name) (Some id) ≡ None
+      go None f e = none_after (fold d.name) (Some id) f
+      go (Some x) f e =
+          let same : key_of d ≡ key_at (fold d.name) (Some id) = sym (some x e) ∙ found_key before (fold d.name) (Some id) x f in
+          subst (λ (k : NameKey). definition_at after (fold d.name) k.scope ≡ None) same no_longer
+
+  local_it : (id : ℕ) → local_key before id (fold d.name) ≡ Some (key_of d) → bound_local after (sheets.Sheet id) (kept_name before after same_keys (key_of d)) ≡ names.Dangling d.name
+  local_it id h = ap (λ text. name_or_dangling text (found_local after id text)) spelled_so ∙ ap (λ o. name_or_dangling d.name (option_map key_of o)) (local_gone_here id h)
+
+  -- one of another is found as before
+  local_other : (id : ℕ) (key : NameKey) → same_key key (key_of d) ≡ false → local_key before id key.name ≡ Some key → local_key after id key.name ≡ Some key
+  local_other id key apart h = go (definition_at before key.name (Some id)) refl h
+    where
+      some : (x : DefinitionSpelling) → Some (key_of x) ≡ Some key → key_of x ≡ key
+      some x e = cc
+
+      go : (local : Option DefinitionSpelling) → definition_at before key.name (Some id) ≡ local → option_map key_of local ≡ Some key → local_key after id key.name ≡ Some key
+      go None f e = absurd (let no : None ≡ Some key = e in cc)
+      go (Some x) f e = ap (option_map key_of) (other_after key (Some id) x apart f (some x e)) ∙ e
+
+  local_word_gone : (s : SheetMention) (m : NameMention) → LocalHolds before s m → bound_local after s (spelled_word (kept_name before after same_keys) m) ≡ (if is_of_name (key_of d) m then names.Dangling d.name else m)
+  local_word_gone (sheets.Sheet id) (names.Dangling word) h = ap (λ o. name_or_dangling word (option_map key_of o)) (none_after (fold word) (Some id) (local_none (definition_at before (fold word) (Some id)) h))
+  local_word_gone (sheets.Sheet id) (names.Name key) h =
+      elim (cases_Bool (same_key key (key_of d))) [
+        | inl t ↦ let same : key ≡ key_of d = same_key_from key (key_of d) t in
+            rw t (ap (λ k. bound_local after (sheets.Sheet id) (kept_name before after same_keys k)) same ∙ local_it id (subst (λ (k : NameKey). local_key before id k.name ≡ Some k) same h))
+        | inr f ↦ rw f (local_word_stays before after (sheets.Sheet id) (names.Name key) (local_other id key f h))
+      ]
+  local_word_gone (sheets.Sheet id) (names.Var word) h = absurd h
+  local_word_gone sheets.Own (names.Dangling word) h = refl
+  local_word_gone sheets.Own (names.Name key) h = absurd h
+  local_word_gone sheets.Own (names.Var word) h = absurd h
+  local_word_gone (sheets.Dangling name) (names.Dangling word) h = refl
+  local_word_gone (sheets.Dangling name) (names.Name key) h = absurd h
+  local_word_gone (sheets.Dangling name) (names.Var word) h = absurd h
+
+  pub gone_name_becomes : Become before after scope (changed_sheet (definition_gone after d)) (changed_word (definition_gone after d) scope) (changed_local (definition_gone after d))
+  gone_name_becomes = record {
+    sheet = λ m h. sheet_stays before after removing.differ m (sheets_hold before after removing.sheets m h);
+    word = word;
+    local = λ s m h k. local_becomes before after s s m _ (sheet_stays before after removing.differ s (sheets_hold before after removing.sheets s h)) (local_word_gone s m k);
+  }
     where
       word : (m : NameMention) → WordHolds before scope m → word_after before after scope m ≡ changed_word (definition_gone after d) scope m
       word (names.Var w) h = refl

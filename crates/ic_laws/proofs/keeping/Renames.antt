@@ -16,7 +16,7 @@ use Rattle.ic_laws.proofs.keeping.Sheets.{renamed, sheets_differ}
 use Rattle.ic_laws.proofs.keeping.Spared.{spared_naming}
 use Rattle.ic_laws.specs.Binding.{IsSettled}
 use Rattle.ic_laws.specs.BookTrees.{BookKeepsFound, EachTree, OfCells, with_sheet_at_end, with_trees}
-use Rattle.ic_laws.specs.Changes.{NoneDanglesBy, changed_sheet, changed_tree, changed_word, sheet_named}
+use Rattle.ic_laws.specs.Changes.{NoneDanglesBy, changed_local, changed_sheet, changed_tree, changed_word, sheet_named}
 use Rattle.ic_laws.specs.Command.{Field}
 use Rattle.ic_laws.specs.CoreBook.{CoreBook, Sheet, fresh_id, greatest_id, has_sheet, scene_of}
 use Rattle.ic_laws.specs.CoreStep.{add_sheet_refusal, add_sheet_step, changed_by, has_other_sheet, lacks_sheet, rename_refusal, rename_step, unless_refused, updated_at, with_new_sheet, with_sheet_name}
@@ -35,7 +35,7 @@ rename_clear book index name e =
 
 -- an accepted rename leaves the book with the new name and each dangling mention of an agreeing name bound to that sheet
 pub rename_binds : (n : Notations) (book after : CoreBook) (index : ℕ) (name : List ℕ) (sheet : Sheet) (fields : List Field) → AreNotations n → IsValidCore n book → slice_get book.sheets index ≡ Some sheet
-    → rename_step n book index name ≡ Ok (after, fields) → after ≡ with_sheet_name index name (with_trees (changed_tree (sheet_named sheet.id name)) book)
+    → rename_step n book index name ≡ Ok (after, fields) → after ≡ with_sheet_name index name (with_trees (changed_tree (sheet_named (scene_of book) sheet.id name)) book)
 rename_binds n book after index name sheet fields are valid at e =
     let ok = accepted (rename_refusal book index name) (changed_by n (with_sheet_name index name) book) after [] fields e in
     ok.left
@@ -48,15 +48,15 @@ rename_keeps n book after index name fields are valid e =
     let ok = accepted (rename_refusal book index name) (changed_by n (with_sheet_name index name) book) after [] fields e in
     let there = sheet_at book index (rename_clear book index name ok.unrefused).1 in
     subst (BookKeepsFound book) (sym (rename_binds n book after index name there.0 fields are valid there.1 e))
-    (renamed_keeps (changed_tree (sheet_named there.0.id name)) (naming_keeps there.0.id name) book index name)
+    (renamed_keeps (changed_tree (sheet_named (scene_of book) there.0.id name)) (naming_keeps (scene_of book) there.0.id name) book index name)
 
 -- an accepted new sheet stands at the end, and each dangling mention of an agreeing name is bound to it
 pub add_binds : (n : Notations) (book after : CoreBook) (name : List ℕ) (fields : List Field) → AreNotations n → IsValidCore n book → add_sheet_step n book name ≡ Ok (after, fields)
-    → after ≡ with_sheet_at_end (greatest_id book + 1) name (with_trees (changed_tree (sheet_named (greatest_id book + 1) name)) book)
+    → after ≡ with_sheet_at_end (greatest_id book + 1) name (with_trees (changed_tree (sheet_named (scene_of book) (greatest_id book + 1) name)) book)
 add_binds n book after name fields are valid e =
     let ok = accepted (add_sheet_refusal book name) (changed_by n (with_new_sheet name) book) after [] fields e in
     let new : has_sheet book name ≡ false = (none_holds ((not (is_sheet_name name), InvalidSheetName) ∷ (has_sheet book name, SheetExists) ∷ (is_none (fresh_id book), IdsUsedUp) ∷ []) ok.unrefused).1.0 in
-    let f = changed_tree (sheet_named (greatest_id book + 1) name) in
+    let f = changed_tree (sheet_named (scene_of book) (greatest_id book + 1) name) in
     ok.left
     ∙ (ap (with_new_sheet name) (kept_naming n book (scene_of (with_new_sheet name book)) (greatest_id book + 1) name are valid (add_naming book name valid.names_differ new))
     ∙ ap (λ id. with_sheet_at_end id name (with_trees f book)) (ap (λ k. k + 1) (greatest_stays f book)))
@@ -138,8 +138,8 @@ rename_back n book between index name sheet fields are valid at none e =
     there clear =
         each_both (IsSettled (english_function n) before) (λ scope t. NoneDanglesBy name t) (λ scope t. kept (english_function n) before under same_keys scope t ≡ t)
         (λ scope t settled spared.
-        kept_becomes (english_function n) before under scope (changed_sheet (sheet_named sheet.id name)) (changed_word (sheet_named sheet.id name) scope) (named_becomes before under sheet.id name (naming clear) scope) (english_by_fold n are) t settled
-        ∙ spared_is_same (sheet_named sheet.id name) scope t (spared_naming sheet.id name scope t spared))
+        kept_becomes (english_function n) before under scope (changed_sheet (sheet_named before sheet.id name)) (changed_word (sheet_named before sheet.id name) scope) (changed_local (sheet_named before sheet.id name)) (named_becomes before under sheet.id name (naming clear) scope) (english_by_fold n are) t settled
+        ∙ spared_is_same (sheet_named before sheet.id name) scope t (spared_naming before sheet.id name scope t spared))
         book (trees_settled n book valid) none
 
     and_back : has_other_sheet book index name ≡ false → EachTree (λ scope t. kept (english_function n) under before same_keys scope t ≡ t) other_name

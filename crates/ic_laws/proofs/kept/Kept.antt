@@ -10,12 +10,11 @@ use Rattle.ic_laws.specs.Keeping.{KeyChange, kept, kept_name, kept_sheet}
 use Rattle.ic_laws.specs.Name.{agrees, fold, is_identifier, is_lone, is_sheet_name, is_variable}
 use Rattle.ic_laws.specs.Notations.{AreNotations, HasFunction, IsShownForm, Notations, english_function}
 use Rattle.ic_laws.specs.Parse.{SpelledKind, node}
-use Rattle.ic_laws.specs.Position.{is_inside}
 use Rattle.ic_laws.specs.ReadAs.{read_as}
 use Rattle.ic_laws.specs.Reading.{Reads}
 use Rattle.ic_laws.specs.Scene.{SheetsDiffer, definition_at, name_of_key, name_of_sheet, definition_spelling, same_scope, sheet_spelling}
 use Rattle.ic_laws.specs.Token.{FunHead, Ref, Spells, Token}
-use Rattle.ic_laws.specs.Tree.{Bound, IsKindWell, IsPairWell, IsWellFormed, Spelled, bound_names, is_called_name, is_sheet_mention, is_word_mention, is_written_sheet, spelled_names}
+use Rattle.ic_laws.specs.Tree.{Bound, IsKindWell, IsPairWell, IsWellFormed, Spelled, bound_names, is_called_name, is_named_mention, is_named_sheet, is_sheet_mention, is_word_mention, is_written_sheet, spelled_names}
 use Rattle.ic_laws.specs.ValidCore.{IsKept, IsKeptWhere, IsPlaceInside, LiesWhere}
 use Rattle.ic_laws.specs.Yield.{yield}
 use Rattle.ic_laws.specs.declared.dialect.WordKind.TheVariants as kinds
@@ -37,7 +36,7 @@ use Rattle.ic_laws.proofs.binding.Settled.{bound_is_settled}
 use Rattle.ic_laws.proofs.core.Named.{IsNamed}
 use Rattle.ic_laws.proofs.kept.Everywhere.{every_both}
 use Rattle.ic_laws.proofs.kept.Lifting.{every_bound, every_spelled}
-use Rattle.ic_laws.proofs.kept.Stays.{NameStays, SheetStays, Stays, settled_stays}
+use Rattle.ic_laws.proofs.kept.Stays.{LocalStays, NameStays, SheetStays, Stays, settled_stays}
 use Rattle.ic_laws.proofs.kept.Tokens.{OfNode, OfNodes, OfToken, lexed_all, nodes_of_tokens}
 use Rattle.ic_laws.proofs.kept.Wells.{IsWritten, SpecialWords, WrittenByNames, bound_well, spelled_well}
 use Rattle.ic_laws.proofs.parsing.Nodes.{brackets-node, empty-node, height-node}
@@ -169,8 +168,19 @@ module _ (n : Notations) (scene : Scene) (scope : Option ℕ) (Inside : Place �
     call_written (names.Name key) stays h = identifier_called (key_text key) (writes.definition key stays.named)
     call_written (names.Dangling word) stays h = h
 
+    named_written : (mention : SheetMention) → SheetStays scene mention → is_named_mention mention ≡ true → is_named_sheet (spelled_sheet sheet_text mention) ≡ true
+    named_written sheets.Own stays h = h
+    named_written (sheets.Sheet id) stays h = writes.sheet id stays
+    named_written (sheets.Dangling name) stays h = h
+
+    local_written : (mention : NameMention) → LocalStays scene mention → is_word_mention is_identifier mention ≡ true → is_identifier (spelled_word key_text mention) ≡ true
+    local_written (names.Var word) stays h = h
+    local_written (names.Name key) stays h = writes.definition key stays
+    local_written (names.Dangling word) stays h = h
+
     names_written : (kind : BoundKind) → IsKindWell bound_names n.stored.let_fn n.stored.lambda_fn kind → Stays (english_function n) scene scope kind → WrittenByNames sheet_text key_text n.stored.let_fn n.stored.lambda_fn kind
     names_written (one.Reference sheet place) h stays = sheet_written sheet stays h.words
+    names_written (one.Local sheet word) h stays = (named_written sheet stays.0 h.words.0, local_written word stays.1 h.words.1)
     names_written (one.Word word) h stays = word_written word stays h.words
     names_written (one.Call word arguments) h stays = call_written word stays.stays h.words
     names_written kind h stays = tt

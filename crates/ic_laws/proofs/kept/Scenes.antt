@@ -1,6 +1,6 @@
 -- Scenes that find and spell alike keep the same trees; so do those whose sheets stand in another order.
 use mathlib.Core.Path.{fun_ext}
-use Rattle.std.proofs.Common.{◌≡◌, ℕ, ℤ, zero, suc, ◌<◌, List, [], ◌∷◌, length, map, Bool, true, false, Option, None, Some, refl, sym, ap, ap₂, subst, ◌∙◌, nat_eq, arith, inl, inr, if◌then◌else◌}
+use Rattle.std.proofs.Common.{◌≡◌, ℕ, zero, suc, ◌<◌, List, [], ◌∷◌, length, map, Bool, true, false, Option, None, Some, refl, sym, ap, ap₂, subst, ◌∙◌, nat_eq, arith, inl, inr, if◌then◌else◌}
 use Rattle.std.specs.Prelude.{option_map, unwrap_or}
 use Rattle.std.specs.Cmp.{IsEquivalence, nat_eq_equiv}
 use Rattle.std.specs.Fmt.{decimal}
@@ -11,12 +11,12 @@ use Rattle.std.proofs.lemmas.List.Elements.{All-contains, All-contains_itself, A
 use Rattle.std.proofs.lemmas.List.Sorted.{Contains-permutation, IsPermutation-map, IsPermutation-sym}
 use Rattle.std.proofs.lemmas.Map.Keys.{IsDistinct-IsPermutation, IsDistinct-head, IsDistinct-tail}
 use Rattle.std.proofs.lemmas.Simd.{map-map}
-use Rattle.ic_laws.specs.Binding.{Binders, Binds, BindsPair, IsSettled, all_bound, bound, bound_call, bound_kind, bound_pair_step, bound_sheet, bound_word, is_bound_by, name_or_dangling, sheet_or_dangling, spelled, spelled_with}
+use Rattle.ic_laws.specs.Binding.{Binders, Binds, BindsPair, IsSettled, all_bound, bound, bound_call, bound_kind, bound_local, bound_pair_step, bound_sheet, bound_word, is_bound_by, name_or_dangling, sheet_or_dangling, spelled, spelled_with}
 use Rattle.ic_laws.specs.CoreBook.{CoreBook, ids_of, scene_of}
 use Rattle.ic_laws.specs.CoreStep.{moved}
 use Rattle.ic_laws.specs.Name.{agrees}
 use Rattle.ic_laws.specs.Notations.{Notations, english_function}
-use Rattle.ic_laws.specs.Scene.{IdsDiffer, SheetsDiffer, found_name, found_sheet, definition_spelling, sheet_spelling}
+use Rattle.ic_laws.specs.Scene.{IdsDiffer, SheetsDiffer, found_local, found_name, found_sheet, definition_spelling, sheet_spelling}
 use Rattle.ic_laws.specs.Tree.{Bound, Spelled}
 use Rattle.ic_laws.specs.ValidCore.{IsKeptWhere, IsValidCore}
 use Rattle.ic_laws.specs.declared.reference.Place.{Place}
@@ -26,6 +26,7 @@ use Rattle.ic_laws.specs.declared.tree.NameKey.{NameKey}
 use Rattle.ic_laws.specs.declared.tree.NameMention.{NameMention}
 use Rattle.ic_laws.specs.declared.tree.NameMention.TheVariants as names
 use Rattle.ic_laws.specs.declared.tree.SheetMention.{SheetMention}
+use Rattle.ic_laws.specs.declared.tree.SheetMention.TheVariants as sheets
 use Rattle.ic_laws.specs.declared.tree.Tree.{Tree-F, fold-Tree}
 use Rattle.ic_laws.specs.declared.tree.Tree.TheOpen as one
 use Rattle.ic_laws.proofs.CoreLemmas.{agrees_equiv}
@@ -40,6 +41,7 @@ use Rattle.ic_laws.proofs.kept.Kept.{found_has}
 pub record FindsAlike (before after : Scene) : Type 0 where
   pub sheet : (name : List ℕ) → found_sheet before name ≡ found_sheet after name
   pub name : (scope : Option ℕ) (word : List ℕ) → found_name before scope word ≡ found_name after scope word
+  pub local : (id : ℕ) (word : List ℕ) → found_local before id word ≡ found_local after id word
   pub sheet_text : (id : ℕ) → sheet_spelling before id ≡ sheet_spelling after id
   pub key_text : (key : NameKey) → definition_spelling before key ≡ definition_spelling after key
 
@@ -55,8 +57,16 @@ module _ (english : List ℕ → Option ℕ) (before after : Scene) (alike : Fin
   word_alike : (binders : Binders) (word : List ℕ) → bound_word before scope binders word ≡ bound_word after scope binders word
   word_alike binders word = ap (λ found. if is_bound_by binders word then names.Var word else name_or_dangling word found) (alike.name scope word)
 
+  local_alike : (sheet : SheetMention) (word : List ℕ) → bound_local before sheet word ≡ bound_local after sheet word
+  local_alike sheets.Own word = refl
+  local_alike (sheets.Sheet id) word = ap (name_or_dangling word) (alike.local id word)
+  local_alike (sheets.Dangling name) word = refl
+
   kind_alike : (kind : ToBind) (binders : Binders) → bound_kind english before scope kind binders ≡ bound_kind english after scope kind binders
   kind_alike (one.Reference sheet place) binders = ap (λ (s : SheetMention). let k : BoundKind = one.Reference s place in k) (sheet_alike sheet)
+  kind_alike (one.Local sheet word) binders =
+      ap₂ (λ (s : SheetMention) (w : NameMention). let k : BoundKind = one.Local s w in k) (sheet_alike sheet)
+      (ap (λ s. bound_local before s word) (sheet_alike sheet) ∙ local_alike (bound_sheet after sheet) word)
   kind_alike (one.Word word) binders = ap (λ (w : NameMention). let k : BoundKind = one.Word w in k) (word_alike binders word)
   kind_alike (one.Call word arguments) binders = at (english word)
     where
@@ -136,6 +146,7 @@ pub permuted_alike : (before after : Scene) → IsPermutation before.sheets afte
 permuted_alike before after permuted same_names sheets_differ ids_differ = record {
   sheet = λ name. ap (option_map (λ (s : SheetName). s.id)) (found_permuted (λ (s : SheetName). s.name) agrees agrees_equiv name before.sheets after.sheets permuted sheets_differ);
   name = λ scope word. ap (λ definitions. found_name (record { sheets = after.sheets; names = definitions }) scope word) same_names;
+  local = λ id word. ap (λ definitions. found_local (record { sheets = after.sheets; names = definitions }) id word) same_names;
   sheet_text = λ id. ap (λ o. unwrap_or (option_map (λ (s : SheetName). s.name) o) (decimal id)) (found_permuted (λ (s : SheetName). s.id) nat_eq nat_eq_equiv id before.sheets after.sheets permuted ids_differ);
   key_text = λ key. ap (λ definitions. definition_spelling (record { sheets = after.sheets; names = definitions }) key) same_names;
 }

@@ -4,10 +4,10 @@ use Rattle.std.proofs.Common.{◌≡◌, ℕ, List, [], map, Bool, true, false, 
 use Rattle.std.specs.Prelude.{option_map, IsSome}
 use Rattle.std.specs.List.{find}
 use Rattle.std.proofs.lemmas.Bool.{eq-eqb}
-use Rattle.ic_laws.specs.Binding.{Binders, IsSettled, RespectsFolding, bound, bound_call, bound_sheet, bound_word, is_bound_by, name_or_dangling, sheet_or_dangling, spelled, spelled_word}
+use Rattle.ic_laws.specs.Binding.{Binders, IsSettled, RespectsFolding, bound, bound_call, bound_local, bound_sheet, bound_word, is_bound_by, name_or_dangling, sheet_or_dangling, spelled, spelled_word}
 use Rattle.ic_laws.specs.Name.{agrees, fold}
 use Rattle.ic_laws.specs.Parse.{SpelledKind}
-use Rattle.ic_laws.specs.Scene.{definition_at, found_name, found_sheet, key_found, name_of_key, name_of_sheet, definition_spelling}
+use Rattle.ic_laws.specs.Scene.{definition_at, found_local, found_name, found_sheet, key_found, name_of_key, name_of_sheet, definition_spelling}
 use Rattle.ic_laws.specs.Tree.{Bound, Spelled}
 use Rattle.ic_laws.specs.declared.scene.DefinitionSpelling.{DefinitionSpelling}
 use Rattle.ic_laws.specs.declared.scene.Scene.{Scene}
@@ -21,7 +21,7 @@ use Rattle.ic_laws.specs.declared.tree.Tree.{every-Tree}
 use Rattle.ic_laws.specs.declared.tree.Tree.TheOpen as one
 use Rattle.ic_laws.proofs.binding.Again.{BoundKind, once, under}
 use Rattle.ic_laws.proofs.binding.Induction.{every_of_all}
-use Rattle.ic_laws.proofs.binding.SceneLemmas.{found_by_other, found_has_definition, word_fold}
+use Rattle.ic_laws.proofs.binding.SceneLemmas.{found_by_other, found_has_definition, local_is_found, word_fold}
 use Rattle.ic_laws.proofs.kept.Lifting.{every_bound}
 
 -- a sheet that is mentioned has a name in the scene, and a name that dangles finds none
@@ -40,6 +40,11 @@ NameStays scene scope (names.Var word) = Unit {0}
 NameStays scene scope (names.Name key) = KeyStays scene scope key
 NameStays scene scope (names.Dangling word) = found_name scene scope word ≡ None
 
+-- a definition that is mentioned with its sheet has a name in the scene
+abbrev pub LocalStays : Scene → NameMention → Type 0
+LocalStays scene (names.Name key) = IsSome (name_of_key scene key)
+LocalStays scene mention = Unit {0}
+
 -- what is called stays, and its spelling is no function
 pub record CallStays (english : List ℕ → Option ℕ) (scene : Scene) (scope : Option ℕ) (word : NameMention) : Type 0 where
   pub stays : NameStays scene scope word
@@ -48,6 +53,7 @@ pub record CallStays (english : List ℕ → Option ℕ) (scene : Scene) (scope 
 -- each mention of a node stays
 abbrev pub Stays : (List ℕ → Option ℕ) → Scene → Option ℕ → BoundKind → Type 0
 Stays english scene scope (one.Reference sheet place) = SheetStays scene sheet
+Stays english scene scope (one.Local sheet word) = SheetStays scene sheet × LocalStays scene word
 Stays english scene scope (one.Word word) = NameStays scene scope word
 Stays english scene scope (one.Call word arguments) = CallStays english scene scope word
 Stays english scene scope kind = Unit {0}
@@ -83,9 +89,21 @@ name_stays scene scope binders word = go (is_bound_by binders word) (found_name 
           found = ap (key_found scene scope) has.same ∙ e;
         }
 
+local_stays : (scene : Scene) (sheet : SheetMention) (word : List ℕ) → LocalStays scene (bound_local scene sheet word)
+local_stays scene sheets.Own word = tt
+local_stays scene (sheets.Dangling name) word = tt
+local_stays scene (sheets.Sheet id) word = go (found_local scene id word) refl
+  where
+    go : (found : Option NameKey) → found_local scene id word ≡ found → LocalStays scene (name_or_dangling word found)
+    go None e = tt
+    go (Some key) e =
+        let has = found_has_definition scene (Some id) (fold word) key (local_is_found scene id (fold word) key e) in
+        some_there (λ (d : DefinitionSpelling). d.name) (definition_at scene key.name key.scope) has.definition has.found
+
 module _ (english : List ℕ → Option ℕ) (scene : Scene) (scope : Option ℕ) (by_fold : RespectsFolding english) where
   here : (kind : SpelledKind) (binders : Binders) → Stays english scene scope (once english scene scope kind binders)
   here (one.Reference sheet place) binders = sheet_stays scene sheet
+  here (one.Local sheet word) binders = (sheet_stays scene sheet, local_stays scene (bound_sheet scene sheet) word)
   here (one.Word word) binders = name_stays scene scope binders word
   here (one.Call word arguments) binders = at (english word) refl
     where

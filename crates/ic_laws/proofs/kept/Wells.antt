@@ -2,16 +2,17 @@
 -- names.
 use Rattle.std.proofs.Common.{◌≡◌, ◌≢◌, ℕ, ◌+◌, ◌≤◌, List, [], ◌∷◌, map, Bool, true, false, not, ◌&&◌, codes, Option, None, Some, refl, sym, ap, subst, ◌∙◌, if◌then◌else◌}
 use Rattle.std.proofs.lemmas.Bool.{and_parts}
-use Rattle.ic_laws.specs.Binding.{Binders, BoundPair, all_bound, bound_call, bound_sheet, bound_under, bound_word, is_bound_by, name_or_dangling, pair_binds, pairs_bound, sheet_or_dangling, spelled_kind, spelled_sheet, spelled_with, spelled_word}
-use Rattle.ic_laws.specs.Name.{agrees, is_variable}
+use Rattle.ic_laws.specs.Binding.{Binders, BoundPair, all_bound, bound_call, bound_local, bound_sheet, bound_under, bound_word, is_bound_by, name_or_dangling, pair_binds, pairs_bound, sheet_or_dangling, spelled_kind, spelled_sheet, spelled_with, spelled_word}
+use Rattle.ic_laws.specs.Name.{agrees, is_identifier, is_variable}
 use Rattle.ic_laws.specs.Parse.{Pair, SpelledKind}
-use Rattle.ic_laws.specs.Scene.{found_name, found_sheet}
-use Rattle.ic_laws.specs.Tree.{Bound, CallsCallable, HasArguments, HasElements, HasNames, HasOperands, HasParts, HasPlaces, HasUnsigned, IsKindWell, IsOperand, IsPairWell, IsThere, IsWellFormed, Spelled, bound_names, is_called_name, is_sheet_mention, is_word_mention, is_written_sheet, sign_level, spelled_names}
+use Rattle.ic_laws.specs.Scene.{found_local, found_name, found_sheet}
+use Rattle.ic_laws.specs.Tree.{Bound, CallsCallable, HasArguments, HasElements, HasNames, HasOperands, HasParts, HasPlaces, HasUnsigned, IsKindWell, IsOperand, IsPairWell, IsThere, IsWellFormed, Spelled, bound_names, is_called_name, is_named_mention, is_named_sheet, is_sheet_mention, is_word_mention, is_written_sheet, sign_level, spelled_names}
 use Rattle.ic_laws.specs.declared.scene.Scene.{Scene}
 use Rattle.ic_laws.specs.declared.tree.NameKey.{NameKey}
 use Rattle.ic_laws.specs.declared.tree.NameMention.{NameMention}
 use Rattle.ic_laws.specs.declared.tree.NameMention.TheVariants as names
 use Rattle.ic_laws.specs.declared.tree.SheetMention.{SheetMention}
+use Rattle.ic_laws.specs.declared.tree.SheetMention.TheVariants as sheets
 use Rattle.ic_laws.specs.declared.tree.Tree.{every-Tree}
 use Rattle.ic_laws.specs.declared.tree.Tree.TheOpen as one
 use Rattle.ic_laws.proofs.binding.Again.{BoundKind, children_spelled, once, pair_spelled, under}
@@ -137,9 +138,27 @@ module _ (english : List ℕ → Option ℕ) (scene : Scene) (scope : Option ℕ
       at false (Some key) = refl
       at false None = h
 
+  named_bound : (name : Option (List ℕ)) → is_named_sheet name ≡ true → is_named_mention (bound_sheet scene name) ≡ true
+  named_bound None h = h
+  named_bound (Some name) h = at (found_sheet scene name)
+    where
+      at : (found : Option ℕ) → is_named_mention (sheet_or_dangling name found) ≡ true
+      at (Some id) = refl
+      at None = h
+
+  local_bound : (sheet : SheetMention) (word : List ℕ) → is_identifier word ≡ true → is_word_mention is_identifier (bound_local scene sheet word) ≡ true
+  local_bound sheets.Own word h = h
+  local_bound (sheets.Dangling name) word h = h
+  local_bound (sheets.Sheet id) word h = at (found_local scene id word)
+    where
+      at : (found : Option NameKey) → is_word_mention is_identifier (name_or_dangling word found) ≡ true
+      at (Some key) = refl
+      at None = h
+
   module _ (special : SpecialWords english let_fn lambda_fn) where
     names_bound : (kind : SpelledKind) (binders : Binders) → HasNames spelled_names let_fn lambda_fn kind → HasNames bound_names let_fn lambda_fn (kind_of kind binders)
     names_bound (one.Reference sheet place) binders h = sheet_bound sheet h
+    names_bound (one.Local sheet word) binders h = (named_bound sheet h.0, local_bound (bound_sheet scene sheet) word h.1)
     names_bound (one.Word word) binders h = word_bound is_variable binders word h
     names_bound (one.Call word arguments) binders h = at (english word) refl
       where
@@ -186,6 +205,7 @@ module _ (sheet_text : ℕ → List ℕ) (key_text : NameKey → List ℕ) (let_
   -- what a node mentions is written by the name of a sheet, by a word, by a word that can be called
   abbrev pub WrittenByNames : BoundKind → Type 0
   WrittenByNames (one.Reference sheet place) = is_written_sheet (spelled_sheet sheet_text sheet) ≡ true
+  WrittenByNames (one.Local sheet word) = (is_named_sheet (spelled_sheet sheet_text sheet) ≡ true) × (is_identifier (spelled_word key_text word) ≡ true)
   WrittenByNames (one.Word word) = is_variable (spelled_word key_text word) ≡ true
   WrittenByNames (one.Call word arguments) = is_called_name (spelled_word key_text word) ≡ true
   WrittenByNames kind = Unit {0}
@@ -245,6 +265,7 @@ module _ (sheet_text : ℕ → List ℕ) (key_text : NameKey → List ℕ) (let_
 
   names_spelled : (kind : BoundKind) → WrittenByNames kind → HasNames bound_names let_fn lambda_fn kind → HasNames spelled_names let_fn lambda_fn (spelled_of kind)
   names_spelled (one.Reference sheet place) written h = written
+  names_spelled (one.Local sheet word) written h = written
   names_spelled (one.Word word) written h = written
   names_spelled (one.Call word arguments) written h = written
   names_spelled (one.Fun number arguments) written h = h

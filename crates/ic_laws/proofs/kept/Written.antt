@@ -10,7 +10,7 @@ use Rattle.ic_laws.specs.Dialect.{DialectMeaning}
 use Rattle.ic_laws.specs.Name.{is_variable}
 use Rattle.ic_laws.specs.Notations.{AreNotations, HasFunction, IsShownForm, Notations, english_function, is_cell}
 use Rattle.ic_laws.specs.Parse.{SpelledKind}
-use Rattle.ic_laws.specs.Position.{is_inside, is_place_within}
+use Rattle.ic_laws.specs.Position.{is_place_within}
 use Rattle.ic_laws.specs.ReadAs.{read_as}
 use Rattle.ic_laws.specs.Reading.{Fits, FitsKind, FitsPair, IsFreeWord, printed}
 use Rattle.ic_laws.specs.Scene.{definition_spelling, sheet_spelling}

@@ -4,8 +4,8 @@ use Rattle.std.proofs.Common.{◌≡◌, ℕ, zero, suc, ◌+◌, ◌<◌, ◌�
 use Rattle.std.proofs.lemmas.Bool.{le-leb}
 use Rattle.ic_laws.specs.Dialect.{DialectMeaning}
 use Rattle.ic_laws.specs.Parse.{SpelledKind, node, Read, Reader, postfix, postfixes, binary, binaries, joined_by, bracketed, primary, prefix_sign, prefixed, operand, expression, reader}
-use Rattle.ic_laws.specs.Token.{Token, Num, Str, Boolean, Err, Ref, Word, Operator, Percent, Hash, Open, Close}
-use Rattle.ic_laws.specs.Name.{is_variable}
+use Rattle.ic_laws.specs.Token.{Token, Num, Str, Boolean, Err, Ref, Local, Word, Operator, Percent, Hash, Open, Close}
+use Rattle.ic_laws.specs.Name.{is_identifier, is_sheet_name, is_variable}
 use Rattle.ic_laws.specs.Position.{is_place_within}
 use Rattle.ic_laws.specs.Tree.{Spelled, sign_level, level, height, open_brackets, is_unsigned, is_written_sheet}
 use Rattle.ic_laws.specs.Yield.{prefix_token, yield}
@@ -201,6 +201,20 @@ complete-Reference d sheet place well = complete_primary d (one.Reference sheet 
   no_sign = refl;
   reads = λ most b rest low few.
       made_if_takes (is_written_sheet sheet && is_place_within place) (suc most) (one.Reference sheet place) rest (both _ _ well.words well.places) low;
+})
+  where
+    both : (a b : Bool) → a ≡ true → b ≡ true → (a && b) ≡ true
+    both a b p q = rw (p, q) refl
+
+pub complete-Local : (d : DialectMeaning) (sheet word : List ℕ) → is_sheet_name sheet ≡ true → is_identifier word ≡ true → Complete d (node (one.Local (Some sheet) word))
+unfolding primary prefix_sign
+complete-Local d sheet word good also = complete_primary d (one.Local (Some sheet) word) (record {
+  token = Local sheet word;
+  following = [];
+  tokens = yield-node d (one.Local (Some sheet) word);
+  seven = omega (arith, level-node (one.Local (Some sheet) word));
+  no_sign = refl;
+  reads = λ most b rest low few. made_if_takes (is_sheet_name sheet && is_identifier word) (suc most) (one.Local (Some sheet) word) rest (both _ _ good also) low;
 })
   where
     both : (a b : Bool) → a ≡ true → b ≡ true → (a && b) ≡ true

@@ -1,6 +1,6 @@
 -- Lists of tokens and well-formed trees: a well-formed tree is read from its tokens, and what is read is one whose
 -- tokens those are.
-use Rattle.std.proofs.Common.{◌≡◌, ◌≢◌, inl, inr, ℕ, zero, suc, List, [], ◌∷◌, ◌++◌, append-nil, Some, true, false, refl, sym, ap, subst, ◌∙◌, arith}
+use Rattle.std.proofs.Common.{◌≡◌, ◌≢◌, inl, inr, ℕ, zero, suc, List, [], ◌∷◌, ◌++◌, append-nil, None, Some, true, false, refl, sym, ap, subst, ◌∙◌, arith}
 use Rattle.std.proofs.lemmas.Bool.{cases_Bool}
 use Rattle.std.proofs.lemmas.Option.{same_Some, option_and_then_some}
 use Rattle.std.specs.List.{AllByRecursion}
@@ -12,7 +12,7 @@ use Rattle.ic_laws.specs.Tree.{Spelled, is_empty}
 use Rattle.ic_laws.specs.Yield.{yield}
 use Rattle.ic_laws.specs.declared.tree.Tree.TheOpen as one
 use Rattle.ic_laws.proofs.parsing.Nodes.{OfChildren, by_nodes, AllWell, PairAllWell, WellKind, well_here, well_below, pair_here, pair_below, empty-node, level_positive}
-use Rattle.ic_laws.proofs.parsing.Completeness.{ReadsBack, Complete, back, complete-Num, complete-Str, complete-Bool, complete-Err, complete-Reference, complete-Word, complete-Paren, complete-Prefix, complete-Percent, complete-Spill, complete-Binary}
+use Rattle.ic_laws.proofs.parsing.Completeness.{ReadsBack, Complete, back, complete-Num, complete-Str, complete-Bool, complete-Err, complete-Reference, complete-Local, complete-Word, complete-Paren, complete-Prefix, complete-Percent, complete-Spill, complete-Binary}
 use Rattle.ic_laws.proofs.parsing.CompleteCalls.{ArgumentWide, complete-Fun, complete-Call, complete-Apply}
 use Rattle.ic_laws.proofs.parsing.CompleteParts.{PairWide, complete-Let, complete-Lambda, complete-Array}
 use Rattle.ic_laws.proofs.parsing.Soundness.{Good, Sound}
@@ -47,6 +47,8 @@ reads_kind d differ (one.Str text) reads here below there = complete-Str d text
 reads_kind d differ (one.Bool value) reads here below there = complete-Bool d value
 reads_kind d differ (one.Err fault) reads here below there = complete-Err d fault
 reads_kind d differ (one.Reference sheet place) reads here below there = complete-Reference d sheet place here
+reads_kind d differ (one.Local None word) reads here below there = absurd (cc)
+reads_kind d differ (one.Local (Some sheet) word) reads here below there = complete-Local d sheet word here.words.0 here.words.1
 reads_kind d differ (one.Word text) reads here below there = complete-Word d text here.words
 reads_kind d differ one.Empty reads here below there = let no : true ≡ false = sym (empty-node one.Empty) ∙ there in cc
 reads_kind d differ (one.Paren x) reads here below there = let whole : Complete d x = reads below here.parts in complete-Paren d x whole.wide

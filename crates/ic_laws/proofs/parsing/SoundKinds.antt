@@ -3,11 +3,11 @@ use Rattle.std.proofs.Common.{◌≡◌, ◌≢◌, inl, inr, ℕ, zero, suc, �
 use Rattle.std.specs.Prelude.{ℤ}
 use Rattle.std.proofs.lemmas.Bool.{and_parts, cases_Bool, eqb-true, eqb-false}
 use Rattle.std.proofs.lemmas.Option.{option_and_then_some}
-use Rattle.ic_laws.specs.Name.{is_variable}
+use Rattle.ic_laws.specs.Name.{is_identifier, is_sheet_name, is_variable}
 use Rattle.ic_laws.specs.Dialect.{DialectMeaning}
 use Rattle.ic_laws.specs.Parse.{Pair, Read, Reader, made, made_if, past_close, past_brace, past_row_sign, followed, listed, arguments, let_parts, lambda_parts, let_call, lambda_call, function_call, name_call, bracketed, row, array, opened, primary}
 use Rattle.ic_laws.specs.Position.{is_place_within}
-use Rattle.ic_laws.specs.Token.{Token, Num, Str, Boolean, Err, Ref, Word, FunHead, NameHead, Open, Close, OpenBrace, CloseBrace}
+use Rattle.ic_laws.specs.Token.{Token, Num, Str, Boolean, Err, Ref, Local, Word, FunHead, NameHead, Open, Close, OpenBrace, CloseBrace}
 use Rattle.ic_laws.specs.Tree.{Spelled, is_called_name, is_written_sheet, is_unsigned}
 use Rattle.ic_laws.specs.Yield.{joined, row_sign, row_tokens, yield}
 use Rattle.ic_laws.specs.declared.reference.RefToken.{RefToken}
@@ -70,6 +70,16 @@ module _ (d : DialectMeaning) (most : ℕ) (below : Reader) (sound : Sound d mos
       let both = and_parts (is_written_sheet reference.sheet) (is_place_within reference.place) good in
       good_made d most b 7 (one.Reference reference.sheet reference.place) (Ref reference ∷ rest) rest read (record {
         well = record { operands = tt; called = tt; arguments = tt; parts = tt; elements = tt; unsigned = tt; words = both.0; places = both.1 };
+        below = tt;
+        there = refl;
+        few = omega arith;
+        tight = omega arith;
+      }) refl h)
+
+  good-Local : (b : ℕ) (sheet word : List ℕ) (rest : List Token) (read : Spelled × List Token) → made_if (is_sheet_name sheet && is_identifier word) most (one.Local (Some sheet) word) rest ≡ Some read → Good d most b 7 (Local sheet word ∷ rest) read
+  good-Local b sheet word rest read e = if_some (is_sheet_name sheet && is_identifier word) (made most (one.Local (Some sheet) word) rest) read e (λ good h.
+      good_made d most b 7 (one.Local (Some sheet) word) (Local sheet word ∷ rest) rest read (record {
+        well = record { operands = tt; called = tt; arguments = tt; parts = tt; elements = tt; unsigned = tt; words = and_parts (is_sheet_name sheet) (is_identifier word) good; places = tt };
         below = tt;
         there = refl;
         few = omega arith;
@@ -184,6 +194,7 @@ module _ (d : DialectMeaning) (most : ℕ) (below : Reader) (sound : Sound d mos
   primary_sound b (Boolean value) ts read e = good-Bool b value ts read e
   primary_sound b (Err fault) ts read e = good-Err b fault ts read e
   primary_sound b (Ref reference) ts read e = good-Reference b reference ts read e
+  primary_sound b (Local sheet word) ts read e = good-Local b sheet word ts read e
   primary_sound b (Word text) ts read e = good-Word b text ts read e
   primary_sound b (FunHead number) ts read e = opened_some b _ read e (λ inner le h. function_sound b inner number ts read le h)
   primary_sound b (NameHead name) ts read e = opened_some b _ read e (λ inner le h. good-Call b inner name ts read le h)

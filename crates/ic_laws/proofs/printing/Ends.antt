@@ -8,16 +8,16 @@ use Rattle.ucd_derived.proofs.Computing.{ucd_derived}
 use Rattle.ic_laws.proofs.AmountLemmas.{numerals}
 use Rattle.ic_laws.specs.Amount.{units_of_one, fraction_digits}
 use Rattle.ic_laws.specs.Scan.{IsEnd, joins, begins_word, first_is, is_blank}
-use Rattle.ic_laws.specs.Name.{is_variable, is_variable_form}
+use Rattle.ic_laws.specs.Name.{is_sheet_name, is_variable, is_variable_form}
 use Rattle.ic_laws.specs.Dialect.{DialectMeaning, IsLawful, boolean_number, error_number, is_sign, reference_text}
-use Rattle.ic_laws.specs.Token.{Token, Num, Boolean, Err, Ref, Word, FunHead, NameHead, Separator, Operator, Percent, Hash, Close, CloseBrace, Semicolon, token_text, is_double_quote}
+use Rattle.ic_laws.specs.Token.{Token, Num, Boolean, Err, Ref, Local, Word, FunHead, NameHead, Separator, Operator, Percent, Hash, Close, CloseBrace, Semicolon, token_text, is_double_quote}
 use Rattle.ic_laws.specs.declared.dialect.WordKind.TheVariants as kinds
 use Rattle.ic_laws.specs.declared.reference.RefToken.{RefToken}
 use Rattle.ic_laws.specs.declared.tree.BinarySign.TheVariants as signs
 use Rattle.ic_laws.specs.declared.tree.Error.{Error}
 use Rattle.ic_laws.specs.Following.{CanSpell, IsNotCalled, NoDecimal, spelled_out}
 use Rattle.ic_laws.proofs.tokens.Characters.{all_below, at_below}
-use Rattle.ic_laws.proofs.printing.Operands.{first_reference, digits_first, digit_starts}
+use Rattle.ic_laws.proofs.printing.Operands.{first_local, first_reference, digits_first, digit_starts}
 use Rattle.ic_laws.proofs.printing.Signs.{not_true, not_decimal}
 use Rattle.ic_laws.proofs.printing.Words.{has_word, error_begins, error_number_small, boolean_small, letter_begins, begins_starts, starts, starts_other}
 
@@ -141,6 +141,9 @@ reference_no_sign d n r ts can =
     let text : reference_text d r ≡ d.spell_ref r = rw can refl in
     let a = first_reference d n (d.spell_ref r ++ []) [] r (n.reads_spelled r [] can refl) in
     start_no_sign d (Ref r) ts a.0 a.1 (text ∙ sym (append-nil (d.spell_ref r)) ∙ a.2) a.3
+
+pub local_no_sign : (d : DialectMeaning) (sheet word : List ℕ) (ts : List Token) → is_sheet_name sheet ≡ true → NoComparison d (Local sheet word ∷ ts)
+local_no_sign d sheet word ts h = let a = first_local sheet word h in start_no_sign d (Local sheet word) ts a.0 a.1 a.2 a.3
 
 pub fun_head_no_sign : (d : DialectMeaning) → IsLawful d → (number : ℕ) (ts : List Token) → CanSpell d (FunHead number) → NoComparison d (FunHead number ∷ ts)
 fun_head_no_sign d n number ts can =

@@ -1,4 +1,4 @@
--- Numbers and references in their canonical spelling are read back; so each token is.
+-- Numbers, references and words with their sheets in their canonical spelling are read back; so each token is.
 use Rattle.std.proofs.Common.{if◌then◌else◌, ◌≡◌, ℕ, pos, negsuc, ◌/◌, ◌%◌, ◌^◌, ◌<◌, ◌≤◌, List, [], ◌∷◌, ◌++◌, Bool, true, false, ◌&&◌, ◌||◌, ◌==◌, nat_le, length, Option, Some, None, option_map, refl, sym, ◌∙◌, ap, inl, inr, arith, append_assoc, append-nil, length-append}
 use Rattle.std.specs.Fmt.{decimal}
 use Rattle.std.specs.List.{list_all}
@@ -8,26 +8,31 @@ use Rattle.std.proofs.lemmas.Bool.Decides.{eqb_tells}
 use Rattle.std.proofs.lemmas.Fmt.{digits_decimal, decimal_nonempty}
 use Rattle.std.proofs.lemmas.List.{append_cancel_left}
 use Rattle.std.proofs.lemmas.List.Folds.{list_all-append}
+use Rattle.ucd_derived.proofs.Computing.{ucd_derived}
 use Rattle.ic_laws.proofs.AmountLemmas.{numerals}
 use Rattle.ic_laws.proofs.AmountTexts.{unsigned_amount-text}
 use Rattle.ic_laws.specs.Amount.{units_of_one, fraction_digits, unsigned_amount, unsigned_text}
 use Rattle.ic_laws.specs.Scan.{IsEnd, begins_word, first_is, is_blank, is_digit, is_letter, is_word_character, past_run}
 use Rattle.ic_laws.specs.Dialect.{DialectMeaning, IsLawful, begins_reference, reference_text, OfAmount}
-use Rattle.ic_laws.specs.Token.{Token, Num, Str, Boolean, Err, Ref, Word, FunHead, NameHead, Separator, Operator, At, Percent, Hash, Open, Close, OpenBrace, CloseBrace, Semicolon, IsHead, Lexes}
+use Rattle.ic_laws.specs.Token.{Token, Num, Str, Boolean, Err, Ref, Local, Word, FunHead, NameHead, Separator, Operator, At, Percent, Hash, Open, Close, OpenBrace, CloseBrace, Semicolon, IsHead, Lexes}
 use Rattle.ic_laws.specs.declared.reference.RefToken.{RefToken}
-use Rattle.ic_laws.specs.TokenKinds.{OfKind, is_number, is_word, is_head, head_at, word_at}
+use Rattle.ic_laws.specs.Name.{is_identifier, is_sheet_name, needs_quotes}
+use Rattle.ic_laws.specs.SheetText.{SpellsLocal, doubled, local_text, read_local, sheet_text}
+use Rattle.ic_laws.specs.TokenKinds.{OfKind, is_number, is_word, is_head, head_at, local_at, reference_at, word_at}
 use Rattle.ic_laws.specs.NextToken.{token_at}
 use Rattle.ic_laws.specs.AmountFront.{number_in_one_pass}
 use Rattle.ic_laws.specs.Following.{CanSpell, MayFollow, IsChain, IsNotCalled, NoDecimal, spelled_out}
 use Rattle.ic_laws.specs.Split.{IsBest, FindsBest, longer}
 use Rattle.ic_laws.proofs.tokens.Characters.{digit_begins_none, past_run_all}
+use Rattle.ic_laws.proofs.tokens.Locals.{local_at_complete, name_begins, no_local_digit}
 use Rattle.ic_laws.proofs.tokens.NameReaders.{head_at_sound, word_at_sound}
 use Rattle.ic_laws.proofs.tokens.Next.{ComesAfter}
 use Rattle.ic_laws.proofs.tokens.Numbers.{IsTail, amount_parts, number_in_one_pass_best, number_spelled, separator_apart}
 use Rattle.ic_laws.proofs.printing.Chain.{TokensReadBack, chain_lexes}
 use Rattle.ic_laws.proofs.printing.Signs.{IsRead, sign_read, at_read, percent_read, open_read, close_read, open_brace_read, close_brace_read, semicolon_read, hash_read, separator_read, text_read}
-use Rattle.ic_laws.proofs.printing.Words.{end_no_word, error_read, word_read, boolean_read, name_head_read, fun_head_read, gives_way, keeps_first, of_start, same_kind, start_kinds, starts}
-use Rattle.ic_laws.proofs.tokens.Splits.{front_in_front, none_some, same_split}
+use Rattle.ic_laws.proofs.printing.Words.{begins_starts, end_no_word, error_read, word_read, boolean_read, name_head_read, fun_head_read, gives_way, keeps_first, of_start, same_kind, start_kinds, starts}
+use Rattle.ic_laws.proofs.tokens.SheetTexts.{sheet_text_spells}
+use Rattle.ic_laws.proofs.tokens.Splits.{front_in_front, mapped, none_some, same_split}
 
 -- the characters of a number
 abbrev in_number : ℕ → ℕ → Bool
@@ -113,7 +118,7 @@ number_back : (d : DialectMeaning) → IsLawful d → (text rest : List ℕ) (c 
 number_back d n text rest c cs units is digit found shorter =
     let none : begins_word c ≡ false = digit_begins_none c digit in
     let found' : number_in_one_pass d (c ∷ cs) ≡ Some (Num (pos units), rest) = ap (number_in_one_pass d) (sym is) ∙ found in
-    ap (token_at d) is ∙ start_kinds d n c cs (digit_starts c digit) ∙ rw (none, found') (gives_way d (c ∷ cs) rest (Num (pos units)) (d.read_ref (c ∷ cs)) (λ r after e. shorter r after (ap d.read_ref is ∙ e)))
+    ap (token_at d) is ∙ start_kinds d n c cs (digit_starts c digit) ∙ rw (no_local_digit c cs digit, none, found') (gives_way d (c ∷ cs) rest (Num (pos units)) (d.read_ref (c ∷ cs)) (λ r after e. shorter r after (ap d.read_ref is ∙ e)))
 
 pub number_read : (d : DialectMeaning) → IsLawful d → (units : ℕ) (rest : List ℕ) → units < 10 ^ 27 → IsEnd rest → NoDecimal d rest → IsRead d (Num (pos units)) rest
 number_read d n units rest small end apart =
@@ -226,6 +231,20 @@ number_within d n front rest end decimal = by (number_in_one_pass d (front ++ re
         let le = no_more (in_number d.decimal) front rest b.front x.1 b.whole (number_chars d.decimal b.front p.0 p.1) (number_end d rest end decimal) in
         omega (arith, le, ap length same)
 
+-- nor does a head, a word or a number reach past an end
+plain_within : (d : DialectMeaning) → IsLawful d → (front rest : List ℕ) → IsEnd rest → NoDecimal d rest → IsNotCalled rest → Within rest (longer (head_at d (front ++ rest)) (longer (word_at d (front ++ rest)) (number_in_one_pass d (front ++ rest))))
+plain_within d n front rest end apart called =
+    let text = front ++ rest in
+    longer_within rest (head_at d text) (longer (word_at d text) (number_in_one_pass d text)) (head_within d front rest end called)
+    (longer_within rest (word_at d text) (number_in_one_pass d text) (word_within d front rest end) (number_within d n front rest end apart))
+
+-- no word with its sheet reaches past the spelling of a reference
+local_shorter : (d : DialectMeaning) → IsLawful d → (r : RefToken) (rest : List ℕ) → d.can_spell r ≡ true → IsEnd rest → Within rest (local_at (d.spell_ref r ++ rest))
+local_shorter d n r rest can end v after e =
+    let p = mapped (λ (f : (List ℕ × List ℕ) × List ℕ). let g : Token × List ℕ = (Local f.0.0 f.0.1, f.1) in g) (read_local (d.spell_ref r ++ rest)) (v, after) e in
+    let same : p.0.1 ≡ after = ap (λ (f : Token × List ℕ). f.1) p.2 in
+    omega (arith, n.local_within r p.0.0.0 p.0.0.1 rest p.0.1 can end p.1, ap length same)
+
 pub reference_read : (d : DialectMeaning) → IsLawful d → (r : RefToken) (rest : List ℕ) → CanSpell d (Ref r) → MayFollow d (Ref r) rest → IsRead d (Ref r) rest
 reference_read d n r rest can may =
     let front = d.spell_ref r in
@@ -233,10 +252,41 @@ reference_read d n r rest can may =
     let spelled : reference_text d r ≡ front = rw can refl in
     let read = n.reads_spelled r rest can may.0 in
     let a = first_reference d n text rest r read in
-    let others : Within rest (longer (head_at d text) (longer (word_at d text) (number_in_one_pass d text))) =
-    longer_within rest (head_at d text) (longer (word_at d text) (number_in_one_pass d text)) (head_within d front rest may.0 may.2)
-    (longer_within rest (word_at d text) (number_in_one_pass d text) (word_within d front rest may.0) (number_within d n front rest may.0 may.1)) in
-    ap (λ t. token_at d (t ++ rest)) spelled ∙ ap (token_at d) a.2 ∙ start_kinds d n a.0 a.1 a.3 ∙ ap (of_start d) (sym a.2) ∙ rw read (kept rest (Ref r) (longer (head_at d text) (longer (word_at d text) (number_in_one_pass d text))) others)
+    let others : Within rest (longer (local_at text) (longer (head_at d text) (longer (word_at d text) (number_in_one_pass d text)))) =
+    longer_within rest (local_at text) (longer (head_at d text) (longer (word_at d text) (number_in_one_pass d text))) (local_shorter d n r rest can may.0) (plain_within d n front rest may.0 may.1 may.2) in
+    ap (λ t. token_at d (t ++ rest)) spelled ∙ ap (token_at d) a.2 ∙ start_kinds d n a.0 a.1 a.3 ∙ ap (of_start d) (sym a.2) ∙ rw read (kept rest (Ref r) (longer (local_at text) (longer (head_at d text) (longer (word_at d text) (number_in_one_pass d text)))) others)
+
+-- Words with their sheets.
+quote_starts : starts 39 ≡ true
+unfolding ucd_derived
+quote_starts = refl
+
+pub first_local : (sheet word : List ℕ) → is_sheet_name sheet ≡ true → (c : ℕ) × (cs : List ℕ) × (local_text sheet word ≡ c ∷ cs) × (starts c ≡ true)
+first_local sheet word h =
+    elim (cases_Bool (needs_quotes sheet)) [
+      | inl e ↦ (39, ((doubled sheet ++ 39 ∷ []) ++ 33 ∷ []) ++ word, rw e refl, quote_starts)
+      | inr e ↦ let f = begun sheet (name_begins sheet h e) in (f.0, (f.1 ++ 33 ∷ []) ++ word, rw e (ap (λ s. (s ++ 33 ∷ []) ++ word) f.2), f.3)
+    ]
+  where
+    begun : (w : List ℕ) → first_is begins_word w ≡ true → (c : ℕ) × (cs : List ℕ) × (w ≡ c ∷ cs) × (starts c ≡ true)
+    begun [] h = absurd (cc)
+    begun (c ∷ cs) h = (c, cs, refl, begins_starts c h)
+
+local_spelled : (sheet word : List ℕ) → is_sheet_name sheet ≡ true → is_identifier word ≡ true → SpellsLocal (local_text sheet word) sheet word
+local_spelled sheet word h k = record { before = sheet_text (Some sheet); whole = refl; named = sheet_text_spells sheet h; identifier = k }
+
+pub local_read : (d : DialectMeaning) → IsLawful d → (sheet word rest : List ℕ) → CanSpell d (Local sheet word) → MayFollow d (Local sheet word) rest → IsRead d (Local sheet word) rest
+local_read d n sheet word rest can may =
+    let front = local_text sheet word in
+    let text = front ++ rest in
+    let found : local_at text ≡ Some (Local sheet word, rest) = local_at_complete d front rest (Local sheet word) (refl, (local_spelled sheet word can.0 can.1, end_no_word rest may.0)) in
+    let others = longer (head_at d text) (longer (word_at d text) (number_in_one_pass d text)) in
+    let first : longer (local_at text) others ≡ Some (Local sheet word, rest) =
+    ap (λ l. longer l others) found ∙ kept rest (Local sheet word) others (plain_within d n front rest may.0 may.1 may.2) in
+    let a = first_local sheet word can.0 in
+    let is : text ≡ a.0 ∷ (a.1 ++ rest) = ap (λ f. f ++ rest) a.2 in
+    ap (token_at d) is ∙ start_kinds d n a.0 (a.1 ++ rest) a.3 ∙ ap (of_start d) (sym is) ∙ ap (longer (reference_at d text)) first
+    ∙ gives_way d text rest (Local sheet word) (d.read_ref text) (λ r after e. n.within_local sheet word rest after r can.0 can.1 may.0 e)
 
 -- each token in its canonical spelling, before what may follow it
 pub reads_back : (d : DialectMeaning) → IsLawful d → TokensReadBack d
@@ -246,6 +296,7 @@ reads_back d n (Str text) rest can may = text_read d n text rest may
 reads_back d n (Boolean value) rest can may = boolean_read d n value rest may
 reads_back d n (Err e) rest can may = error_read d n e rest
 reads_back d n (Ref r) rest can may = reference_read d n r rest can may
+reads_back d n (Local sheet word) rest can may = local_read d n sheet word rest can may
 reads_back d n (Word text) rest can may = word_read d n text rest can may
 reads_back d n (FunHead number) rest can may = fun_head_read d n number rest can
 reads_back d n (NameHead name) rest can may = name_head_read d n name rest can

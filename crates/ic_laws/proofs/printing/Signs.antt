@@ -4,19 +4,20 @@ use Rattle.std.specs.List.{list_any}
 use Rattle.std.proofs.lemmas.Bool.{and_parts, le-leb}
 use Rattle.std.proofs.lemmas.Bool.Decides.{nat_tests}
 use Rattle.ucd_derived.proofs.Computing.{ucd_derived}
-use Rattle.ic_laws.specs.Scan.{begins_word, first_is, is_blank, is_digit}
+use Rattle.ic_laws.specs.Scan.{begins_word, first_is, is_blank, is_digit, is_plain}
 use Rattle.ic_laws.specs.Dialect.{DialectMeaning, IsLawful, begins_reference, error_number, has_error_shape, is_sign}
 use Rattle.ic_laws.specs.Token.{Token, Str, Err, Separator, Operator, At, Percent, Hash, Open, Close, OpenBrace, CloseBrace, Semicolon, string_text, token_text}
 use Rattle.ic_laws.specs.declared.dialect.WordKind.TheVariants as kinds
 use Rattle.ic_laws.specs.declared.tree.BinarySign.{BinarySign}
 use Rattle.ic_laws.specs.declared.tree.BinarySign.TheVariants as signs
-use Rattle.ic_laws.specs.TokenKinds.{error_at, error_of, one_at, text_at, two_at}
+use Rattle.ic_laws.specs.TokenKinds.{error_at, error_of, local_at, one_at, text_at, two_at}
 use Rattle.ic_laws.specs.NextToken.{all_errors, numbered, token_at}
 use Rattle.ic_laws.specs.AmountFront.{number_in_one_pass}
 use Rattle.ic_laws.specs.Following.{CanSpell, MayFollow}
 use Rattle.ic_laws.specs.Split.{longer}
 use Rattle.ic_laws.proofs.tokens.Characters.{all_below, at_below}
 use Rattle.ic_laws.proofs.tokens.Kinds.{by_kinds}
+use Rattle.ic_laws.proofs.tokens.Locals.{no_local_other}
 use Rattle.ic_laws.proofs.tokens.Quoted.{text_complete}
 use Rattle.ic_laws.proofs.tokens.SignTables.{one_semicolon}
 use Rattle.ic_laws.proofs.tokens.Splits.{none_or_some, none_some, split_sound}
@@ -39,6 +40,18 @@ mark_begins_none c lt h =
     let both : (not (begins_reference c) && not (begins_word c)) ≡ true = rw h at all in
     let parts = and_parts _ _ both in
     (not_true _ parts.0, not_true _ parts.1)
+
+-- no word with its sheet
+marks_no_plain : all_below (λ c. not (is_mark c) || (not (is_plain c) && not (c == 39))) 128 ≡ true
+unfolding ucd_derived
+marks_no_plain = refl
+
+pub mark_no_local : (c : ℕ) (cs : List ℕ) → c < 128 → is_mark c ≡ true → local_at (c ∷ cs) ≡ None
+mark_no_local c cs lt h =
+    let all : (not (is_mark c) || (not (is_plain c) && not (c == 39))) ≡ true = at_below (λ c. not (is_mark c) || (not (is_plain c) && not (c == 39))) 128 c marks_no_plain lt in
+    let both : (not (is_plain c) && not (c == 39)) ≡ true = rw h at all in
+    let parts = and_parts _ _ both in
+    no_local_other (c ∷ cs) (not_true _ parts.1) (not_true _ parts.0)
 
 -- no number
 pub no_number : (d : DialectMeaning) (c : ℕ) (cs : List ℕ) → is_digit c ≡ false → (c == d.decimal) ≡ false → number_in_one_pass d (c ∷ cs) ≡ None
@@ -71,7 +84,7 @@ pub only_signs : (d : DialectMeaning) → IsLawful d → (c : ℕ) (cs : List �
     → token_at d (c ∷ cs) ≡ longer (two_at (c ∷ cs)) (one_at d (c ∷ cs))
 only_signs d n c cs lt mark digit decimal quote error =
     let begins = mark_begins_none c lt mark in
-    sym (by_kinds d n (c ∷ cs)) ∙ rw (n.reference_begins (c ∷ cs) begins.0, begins.1, no_number d c cs digit decimal, quote, error) refl
+    sym (by_kinds d n (c ∷ cs)) ∙ rw (n.reference_begins (c ∷ cs) begins.0, mark_no_local c cs lt mark, begins.1, no_number d c cs digit decimal, quote, error) refl
 
 pub not_decimal : (d : DialectMeaning) → IsLawful d → (c : ℕ) → (c == 46) ≡ false → (c == 44) ≡ false → (c == d.decimal) ≡ false
 not_decimal d n c h k = elim n.separators [ inl s ↦ rw (s.1) h | inr s ↦ rw (s.1) k ]
@@ -186,4 +199,4 @@ text_read d n text rest h =
     let begins = mark_begins_none 34 (omega arith) refl in
     let cs : List ℕ = (flat_map (λ c. if c == 34 then 34 ∷ 34 ∷ [] else c ∷ []) text ++ 34 ∷ []) ++ rest in
     let found : text_at (34 ∷ cs) ≡ Some (Str text, rest) = text_complete d (string_text text) rest (Str text) (refl, (refl, h)) in
-    sym (by_kinds d n (34 ∷ cs)) ∙ rw (n.reference_begins (34 ∷ cs) begins.0, begins.1, no_number d 34 cs refl (not_decimal d n 34 refl refl), found, no_error_first d n 34 cs refl, (quote_alone d n cs).0, (quote_alone d n cs).1) refl
+    sym (by_kinds d n (34 ∷ cs)) ∙ rw (n.reference_begins (34 ∷ cs) begins.0, mark_no_local 34 cs (omega arith) refl, begins.1, no_number d 34 cs refl (not_decimal d n 34 refl refl), found, no_error_first d n 34 cs refl, (quote_alone d n cs).0, (quote_alone d n cs).1) refl

@@ -27,7 +27,7 @@ use Rattle.ic_laws.specs.declared.tree.Tree.TheOpen as one
 use Rattle.ic_laws.proofs.parsing.Nodes.{here_of, below_of, value_of, OfChildren, by_nodes, WellKind, AllWell, PairAllWell, well_here, well_below, pair_here, pair_below, pair_tokens, with_tokens, yield-node, empty-node, callable-node}
 use Rattle.ic_laws.specs.NextToken.{tokens_of}
 use Rattle.ic_laws.specs.Following.{CanSpell, MayFollow, IsChain, spelled_out}
-use Rattle.ic_laws.proofs.printing.Ends.{is_after, follows, follows_ends, NoComparison, number_no_sign, word_no_sign, boolean_no_sign, error_no_sign, reference_no_sign, fun_head_no_sign, name_head_no_sign}
+use Rattle.ic_laws.proofs.printing.Ends.{is_after, follows, follows_ends, NoComparison, number_no_sign, word_no_sign, boolean_no_sign, error_no_sign, local_no_sign, reference_no_sign, fun_head_no_sign, name_head_no_sign}
 use Rattle.ic_laws.proofs.printing.Operands.{chain_read}
 
 all_apply : {A : Type 0} (P Q : A → Type 0) (xs : List A) → AllByRecursion (λ a. P a → Q a) xs → AllByRecursion P xs → AllByRecursion Q xs
@@ -183,6 +183,11 @@ kind_printed d n (one.Err mistake) w fits h = record { chain = λ more c g. (tt,
 kind_printed d n (one.Reference sheet place) w fits h = record {
   chain = λ more c g. let e = follows_ends d n more (goes more g) in (fits, (e.end, e.apart, e.closed), c);
   begins = λ e more. reference_no_sign d n (record { sheet = sheet; place = place }) more fits;
+}
+kind_printed d n (one.Local None word) w fits h = absurd (cc)
+kind_printed d n (one.Local (Some sheet) word) w fits h = record {
+  chain = λ more c g. let e = follows_ends d n more (goes more g) in (w.words, (e.end, e.apart, e.closed), c);
+  begins = λ e more. local_no_sign d sheet word more w.words.0;
 }
 kind_printed d n (one.Word text) w fits h = record {
   chain = λ more c g. word_part d n text (w.words, none_is (d.find kinds.Boolean text) fits) more c (goes more g);

@@ -13,17 +13,18 @@ use Rattle.ic_laws.specs.declared.dialect.WordKind.TheVariants as kinds
 use Rattle.ic_laws.specs.declared.reference.RefToken.{RefToken}
 use Rattle.ic_laws.specs.declared.tree.Error.{Error}
 use Rattle.ic_laws.specs.declared.tree.Error.TheVariants as errors
-use Rattle.ic_laws.specs.TokenKinds.{is_reference, OfKind, is_error, is_word, is_head, error_at, one_at, one_table, text_at, two_at, two_table, head_at, head_before, word_at, reference_at}
+use Rattle.ic_laws.specs.TokenKinds.{is_reference, OfKind, is_error, is_word, is_head, local_at, error_at, one_at, one_table, text_at, two_at, two_table, head_at, head_before, word_at, reference_at}
 use Rattle.ic_laws.specs.NextToken.{boolean_or_word, look_up, separators, token_at}
 use Rattle.ic_laws.specs.AmountFront.{number_in_one_pass}
 use Rattle.ic_laws.specs.Following.{CanSpell, MayFollow, IsNotCalled}
 use Rattle.ic_laws.specs.Split.{FindsBest, longer}
 use Rattle.ic_laws.proofs.tokens.Characters.{bracket_no_word, digit_begins_none, past_run_all}
 use Rattle.ic_laws.proofs.tokens.Kinds.{by_kinds, error_best, error_found}
+use Rattle.ic_laws.proofs.tokens.Locals.{no_local_run}
 use Rattle.ic_laws.proofs.tokens.NameReaders.{head_at_complete, word_at_complete}
 use Rattle.ic_laws.proofs.tokens.SignTables.{look_holds}
 use Rattle.ic_laws.proofs.tokens.Next.{ComesAfter}
-use Rattle.ic_laws.proofs.printing.Signs.{IsRead, is_mark, mark_begins_none, no_error_first, no_number, not_decimal, or_neither}
+use Rattle.ic_laws.proofs.printing.Signs.{IsRead, is_mark, mark_begins_none, mark_no_local, no_error_first, no_number, not_decimal, or_neither}
 use Rattle.ic_laws.proofs.tokens.Splits.{best_unique, none_or_some}
 
 -- the word of a number
@@ -76,7 +77,7 @@ error_at_word d n w rest e f =
     let found : error_at d text ≡ Some (Err e, rest) = same_kind d is_error text rest (Err e) (error_at d text) (error_best d n text) (error_found d n text (35 ∷ w) rest e refl f) in
     let two : two_at text ≡ None = none_two (w ++ rest) in
     let le : length rest ≤ length (w ++ rest) = omega (arith, length-append w rest) in
-    sym (by_kinds d n text) ∙ rw (n.reference_begins text begins.0, begins.1, no_number d 35 (w ++ rest) refl (not_decimal d n 35 refl refl), found, two) (keeps_first rest (w ++ rest) (Err e) Hash le)
+    sym (by_kinds d n text) ∙ rw (n.reference_begins text begins.0, mark_no_local 35 (w ++ rest) (omega arith) refl, begins.1, no_number d 35 (w ++ rest) refl (not_decimal d n 35 refl refl), found, two) (keeps_first rest (w ++ rest) (Err e) Hash le)
   where
     none_two : (cs : List ℕ) → two_at (35 ∷ cs) ≡ None
     none_two [] = refl
@@ -133,9 +134,9 @@ longer_none : (a : Option (Token × List ℕ)) → longer a None ≡ a
 longer_none None = refl
 longer_none (Some x) = refl
 
--- it is a reference, a head, a word or a number
+-- it is a reference, a word with its sheet, a head, a word or a number
 abbrev pub of_start : DialectMeaning → List ℕ → Option (Token × List ℕ)
-of_start d text = longer (reference_at d text) (longer (head_at d text) (longer (word_at d text) (number_in_one_pass d text)))
+of_start d text = longer (reference_at d text) (longer (local_at text) (longer (head_at d text) (longer (word_at d text) (number_in_one_pass d text))))
 
 pub start_kinds : (d : DialectMeaning) → IsLawful d → (c : ℕ) (cs : List ℕ) → starts c ≡ true → token_at d (c ∷ cs) ≡ of_start d (c ∷ cs)
 start_kinds d n c cs s =
@@ -143,7 +144,7 @@ start_kinds d n c cs s =
     let quote = starts_other c 34 s (omega arith) refl in
     let no_text : text_at text ≡ None = rw quote refl in
     sym (by_kinds d n text) ∙ rw (no_text, no_error_first d n c cs (starts_other c 35 s (omega arith) refl), start_no_two c cs s, start_no_one d n c cs s)
-    (ap (λ x. longer (reference_at d text) (longer (head_at d text) (longer (word_at d text) x))) (longer_none (number_in_one_pass d text)))
+    (ap (λ x. longer (reference_at d text) (longer (local_at text) (longer (head_at d text) (longer (word_at d text) x)))) (longer_none (number_in_one_pass d text)))
 
 -- words
 dot_begins_none : (begins_word 46 ≡ false) × (begins_word 44 ≡ false)
@@ -189,7 +190,7 @@ word_back d n (c ∷ cs) rest t short whole s end called =
     let past : past_run is_word_character text ≡ rest = past_run_all is_word_character (c ∷ cs) rest whole.0.1 whole.1 in
     let unread : first_is (λ c. c == 40) (past_run is_blank (past_run is_word_character text)) ≡ false = ap (λ r. first_is (λ c. c == 40) (past_run is_blank r)) past ∙ called in
     let heads : head_at d text ≡ None = rw begins (not_called d (run_of is_word_character text) (past_run is_blank (past_run is_word_character text)) unread) in
-    start_kinds d n c (cs ++ rest) (begins_starts c begins) ∙ rw (heads, word, word_no_number d n c (cs ++ rest) begins)
+    start_kinds d n c (cs ++ rest) (begins_starts c begins) ∙ rw (no_local_run (c ∷ cs) rest whole.0.0 whole.0.1 end, heads, word, word_no_number d n c (cs ++ rest) begins)
     (gives_way d text rest t (d.read_ref text) (λ r after e. n.shorter_than (c ∷ cs) rest after r short end e))
 
 pub form_run : (word rest : List ℕ) → is_variable_form word ≡ true → IsEnd rest → IsWholeRun word rest
@@ -238,7 +239,9 @@ head_back d n (c ∷ cs) rest t begins all s shorter =
     ap (λ h. longer h (longer (word_at d text) (number_in_one_pass d text))) heads ∙ ap (λ w. longer (Some (t, rest)) (longer w (number_in_one_pass d text))) word
     ∙ ap (λ m. longer (Some (t, rest)) (longer (option_map (λ u. (u, 40 ∷ rest)) (boolean_or_word d run (d.find kinds.Boolean run))) m)) (word_no_number d n c (cs ++ 40 ∷ rest) begins)
     ∙ word_before d t rest (40 ∷ rest) (boolean_or_word d run (d.find kinds.Boolean run)) (omega arith) in
-    ap (token_at d) whole ∙ start_kinds d n c (cs ++ 40 ∷ rest) (begins_starts c begins) ∙ ap (longer (reference_at d text)) first
+    let no_local : local_at text ≡ None = no_local_run (c ∷ cs) (40 ∷ rest) begins all (bracket_end rest) in
+    ap (token_at d) whole ∙ start_kinds d n c (cs ++ 40 ∷ rest) (begins_starts c begins)
+    ∙ ap (λ l. longer (reference_at d text) (longer l (longer (head_at d text) (longer (word_at d text) (number_in_one_pass d text))))) no_local ∙ ap (longer (reference_at d text)) first
     ∙ gives_way d text rest t (d.read_ref text) (λ r after e. omega (arith, shorter r after e))
 
 is_head_of : (name : List ℕ) → first_is begins_word name ≡ true → list_all is_word_character name ≡ true → IsHead name (name ++ codes "(")

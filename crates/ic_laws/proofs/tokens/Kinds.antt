@@ -9,11 +9,12 @@ use Rattle.ic_laws.specs.declared.dialect.WordKind.TheVariants as kinds
 use Rattle.ic_laws.specs.declared.reference.RefToken.{RefToken}
 use Rattle.ic_laws.specs.declared.tree.BinarySign.TheVariants as signs
 use Rattle.ic_laws.specs.declared.tree.Error.{Error}
-use Rattle.ic_laws.specs.TokenKinds.{OfKind, is_reference, is_head, is_word, is_number, is_text, is_error, is_sign_of_two, is_sign_of_one, reference_at, number_of, number_at, error_of, error_at, text_at, two_at, one_at, word_at, head_at, token_by_kinds}
+use Rattle.ic_laws.specs.TokenKinds.{OfKind, is_reference, is_local, is_head, is_word, is_number, is_text, is_error, is_sign_of_two, is_sign_of_one, reference_at, local_at, number_of, number_at, error_of, error_at, text_at, two_at, one_at, word_at, head_at, token_by_kinds}
 use Rattle.ic_laws.specs.NextToken.{all_errors, numbered, token_at}
 use Rattle.ic_laws.specs.Split.{IsBest, IsDecided, FindsBest, ReadsExactly, Either, Yields, longer}
 use Rattle.ic_laws.proofs.tokens.Next.{ComesAfter, token_best}
-use Rattle.ic_laws.proofs.tokens.Plain.{plain_complete, number_sound, error_read, error_numbered}
+use Rattle.ic_laws.proofs.tokens.Locals.{local_at_sound, local_at_complete, plain_complete}
+use Rattle.ic_laws.proofs.tokens.Plain.{number_sound, error_read, error_numbered}
 use Rattle.ic_laws.proofs.tokens.Quoted.{text_sound, text_complete}
 use Rattle.ic_laws.proofs.tokens.SignTables.{two_sound, two_complete, one_sound, one_complete}
 use Rattle.ic_laws.proofs.tokens.NameReaders.{word_at_sound, word_at_complete, head_at_sound, head_at_complete}
@@ -99,6 +100,9 @@ module _ (d : DialectMeaning) (n : IsLawful d) (text : List ℕ) where
   pub reference_best : FindsBest (OfKind is_reference d) ComesAfter text (reference_at d text)
   reference_best = exact_finds_best (OfKind is_reference d) ComesAfter (reference_at d) (reference_exact d n) text
 
+  pub local_best : FindsBest (OfKind is_local d) ComesAfter text (local_at text)
+  local_best = exact_finds_best (OfKind is_local d) ComesAfter local_at (record { sound = local_at_sound d; complete = local_at_complete d }) text
+
   pub head_best : FindsBest (OfKind is_head d) ComesAfter text (head_at d text)
   head_best = exact_finds_best (OfKind is_head d) ComesAfter (head_at d) (record { sound = head_at_sound d; complete = head_at_complete d }) text
 
@@ -139,8 +143,11 @@ word_kinds t = is_word t || number_kinds t
 abbrev head_kinds : Token → Bool
 head_kinds t = is_head t || word_kinds t
 
+abbrev local_kinds : Token → Bool
+local_kinds t = is_local t || head_kinds t
+
 abbrev all_kinds : Token → Bool
-all_kinds t = is_reference t || head_kinds t
+all_kinds t = is_reference t || local_kinds t
 
 signs_apart : (t : Token) → is_sign_of_two t ≡ true → is_sign_of_one t ≡ true → ⊥
 signs_apart (Operator signs.Equal) h k = absurd (cc)
@@ -190,11 +197,19 @@ heads_plain : (t : Token) → word_kinds t ≡ true → is_reference t ≡ false
 heads_plain (Ref r) h = absurd (cc)
 heads_plain t h = refl
 
-references_apart : (t : Token) → is_reference t ≡ true → head_kinds t ≡ true → ⊥
+locals_apart : (t : Token) → is_local t ≡ true → head_kinds t ≡ true → ⊥
+locals_apart (Operator signs.Equal) h k = absurd (cc)
+locals_apart t h k = absurd (cc)
+
+locals_plain : (t : Token) → head_kinds t ≡ true → is_reference t ≡ false
+locals_plain (Ref r) h = absurd (cc)
+locals_plain t h = refl
+
+references_apart : (t : Token) → is_reference t ≡ true → local_kinds t ≡ true → ⊥
 references_apart (Operator signs.Equal) h k = absurd (cc)
 references_apart t h k = absurd (cc)
 
-references_plain : (t : Token) → head_kinds t ≡ true → is_reference t ≡ false
+references_plain : (t : Token) → local_kinds t ≡ true → is_reference t ≡ false
 references_plain (Ref r) h = absurd (cc)
 references_plain t h = refl
 
@@ -210,7 +225,8 @@ kinds_best d n text =
     let e = kinds_join d n text is_number text_kinds (number_in_one_pass d text) _ numbers_apart numbers_plain (number_in_one_pass_best d n text) c in
     let f = kinds_join d n text is_word number_kinds (word_at d text) _ words_apart words_plain (word_best d n text) e in
     let g = kinds_join d n text is_head word_kinds (head_at d text) _ heads_apart heads_plain (head_best d n text) f in
-    kinds_join d n text is_reference head_kinds (reference_at d text) _ references_apart references_plain (reference_best d n text) g
+    let l = kinds_join d n text is_local head_kinds (local_at text) _ locals_apart locals_plain (local_best d n text) g in
+    kinds_join d n text is_reference local_kinds (reference_at d text) _ references_apart references_plain (reference_best d n text) l
 
 -- two that both find the best find the same
 pub same_best : (d : DialectMeaning) (text : List ℕ) (a b : Option (Token × List ℕ)) → FindsBest (Spells d) ComesAfter text a → FindsBest (Spells d) ComesAfter text b → a ≡ b

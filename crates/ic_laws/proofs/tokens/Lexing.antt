@@ -8,11 +8,12 @@ use Rattle.ic_laws.specs.Scan.{first_is, is_blank, past_run, run_of}
 use Rattle.ic_laws.specs.Dialect.{DialectMeaning, IsLawful, begins_reference}
 use Rattle.ic_laws.specs.Token.{Token, Ref, Spells, Takes, Lexes}
 use Rattle.ic_laws.specs.declared.reference.RefToken.{RefToken}
-use Rattle.ic_laws.specs.NextToken.{after_token, next_tokens, plain_of, token_at, tokens_by, tokens_of}
+use Rattle.ic_laws.specs.NextToken.{after_token, bare_of, next_tokens, plain_of, token_at, tokens_by, tokens_of}
+use Rattle.ic_laws.specs.SheetText.{read_local}
 use Rattle.ic_laws.proofs.RunLemmas.{run_and_rest}
 use Rattle.ic_laws.proofs.tokens.Characters.{all_of_run, past_run_all}
 use Rattle.ic_laws.proofs.tokens.Next.{takes_unique, token_at_sound, token_at_complete}
-use Rattle.ic_laws.proofs.tokens.Plain.{plain_complete}
+use Rattle.ic_laws.proofs.tokens.Locals.{local_not_empty, plain_complete}
 use Rattle.ic_laws.proofs.tokens.Splits.{mapped, none_some}
 
 -- what holds of the four blanks holds of each blank
@@ -34,7 +35,7 @@ each_blank P a b x y c h =
 
 -- before a blank nothing is spelled
 nothing_plain : (d : DialectMeaning) → IsLawful d → (cs rest : List ℕ) (c : ℕ) → is_blank c ≡ true → plain_of d (c ∷ cs) rest ≡ None
-unfolding plain_of ucd_derived
+unfolding bare_of read_local ucd_derived
 nothing_plain d n cs rest c h =
     let Wanted : ℕ → Type 0 = λ x. plain_of d (x ∷ cs) rest ≡ None in
     elim n.separators [
@@ -52,8 +53,8 @@ Begins [] = ⊥
 Begins (c ∷ cs) = is_blank c ≡ false
 
 plain_begins : (d : DialectMeaning) → IsLawful d → (front rest : List ℕ) (t : Token) → plain_of d front rest ≡ Some t → Begins front
-unfolding plain_of
-plain_begins d n [] rest t e = none_some t e
+unfolding bare_of
+plain_begins d n [] rest t e = absurd (local_not_empty rest t e)
 plain_begins d n (c ∷ cs) rest t e =
     elim (cases_Bool (is_blank c)) [ inl p ↦ absurd (none_some t (sym (nothing_plain d n cs rest c p) ∙ e)) | inr p ↦ p ]
 

@@ -8,7 +8,7 @@ use Rattle.ic_laws.specs.Token.{Token, Ref, IsBefore, Spells, Takes}
 use Rattle.ic_laws.specs.declared.reference.RefToken.{RefToken}
 use Rattle.ic_laws.specs.Split.{IsBest, IsDecided, FindsBest}
 use Rattle.ic_laws.specs.NextToken.{plain_of, reference_of, token_of, token_at}
-use Rattle.ic_laws.proofs.tokens.Plain.{plain_sound, plain_complete}
+use Rattle.ic_laws.proofs.tokens.Locals.{plain_sound, plain_complete}
 use Rattle.ic_laws.proofs.tokens.Splits.{none_some, none_or_some, or_else_parts, split_best}
 
 -- of two of one length any token comes after a reference

@@ -1,4 +1,4 @@
--- What a split spells, references aside: what is read is spelled, and what is spelled is read.
+-- What a split spells, references and words with their sheets aside: what is read is spelled, and what is spelled is read.
 use Rattle.std.proofs.Common.{if◌then◌else◌, ◌≡◌, ◌≢◌, ℕ, ℤ, pos, List, [], ◌∷◌, ◌++◌, Bool, true, false, not, ◌&&◌, ◌||◌, ◌==◌, Option, Some, None, option_map, option_and_then, refl, sym, ◌∙◌, ap, subst, inl, inr, append_assoc, codes, bytes_eq}
 use Rattle.std.specs.List.{AllByRecursion}
 use Rattle.std.proofs.lemmas.Bool.{cases_Bool, and_parts, or_parts, eqb-true}
@@ -8,21 +8,21 @@ use Rattle.ucd_derived.proofs.Computing.{ucd_derived}
 use Rattle.ic_laws.specs.Amount.{unsigned_amount}
 use Rattle.ic_laws.specs.Scan.{begins_word, first_is, is_blank, is_digit}
 use Rattle.ic_laws.specs.Dialect.{DialectMeaning, IsLawful, error_number, is_sign}
-use Rattle.ic_laws.specs.TokenKinds.{is_reference}
-use Rattle.ic_laws.specs.Token.{Token, Num, Str, Boolean, Err, Ref, Word, FunHead, NameHead, Separator, Operator, At, Percent, Hash, Open, Close, OpenBrace, CloseBrace, Semicolon, IsHead, sign_text, Spells, is_double_quote}
+use Rattle.ic_laws.specs.TokenKinds.{is_local, is_reference}
+use Rattle.ic_laws.specs.Token.{Token, Num, Str, Boolean, Err, Ref, Local, Word, FunHead, NameHead, Separator, Operator, At, Percent, Hash, Open, Close, OpenBrace, CloseBrace, Semicolon, IsHead, sign_text, Spells, is_double_quote}
 use Rattle.ic_laws.specs.declared.dialect.WordKind.TheVariants as kinds
 use Rattle.ic_laws.specs.declared.tree.BinarySign.{BinarySign}
 use Rattle.ic_laws.specs.declared.tree.BinarySign.TheVariants as signs
 use Rattle.ic_laws.specs.declared.tree.Error.{Error}
 use Rattle.ic_laws.specs.declared.tree.Error.TheVariants as errors
-use Rattle.ic_laws.specs.NextToken.{all_errors, head_token, look_up, numbered, plain_of, separators, sign_table, unquoted, word_of}
+use Rattle.ic_laws.specs.NextToken.{all_errors, bare_of, head_token, look_up, numbered, separators, sign_table, unquoted, word_of}
 use Rattle.ic_laws.proofs.tokens.Characters.{digit_begins_none}
 use Rattle.ic_laws.proofs.tokens.Splits.{mapped, none_some}
 use Rattle.ic_laws.proofs.tokens.Quoted.{doubled, doubled_read, reads_doubled}
 use Rattle.ic_laws.proofs.tokens.Words.{numbered_sound, word_sound, word_is_boolean, word_is_word, word_is_head}
 
 -- the decimal separator is a dot or a comma
-decimal_tells : (d : DialectMeaning) (n : IsLawful d) (c : ℕ) → (c == 46) ≡ false → (c == 44) ≡ false → (c == d.decimal) ≡ false
+pub decimal_tells : (d : DialectMeaning) (n : IsLawful d) (c : ℕ) → (c == 46) ≡ false → (c == 44) ≡ false → (c == d.decimal) ≡ false
 decimal_tells d n c dot comma = elim n.separators [ inl s ↦ rw (s.1) dot | inr s ↦ rw (s.1) comma ]
 
 -- Signs.
@@ -91,10 +91,10 @@ error_numbered errors.CIRC = refl
 error_numbered errors.ERROR = refl
 error_numbered errors.NULL = refl
 
-pub plain_sound : (d : DialectMeaning) (front rest : List ℕ) (v : Token) → plain_of d front rest ≡ Some v → Spells d v front rest
-unfolding plain_of
-plain_sound d [] rest v e = absurd (none_some v e)
-plain_sound d (c ∷ cs) rest v e =
+pub bare_sound : (d : DialectMeaning) (front rest : List ℕ) (v : Token) → bare_of d front rest ≡ Some v → Spells d v front rest
+unfolding bare_of
+bare_sound d [] rest v e = absurd (none_some v e)
+bare_sound d (c ∷ cs) rest v e =
     elim (cases_Bool (begins_word c)) [
       | inl p ↦ let more : word_of d (c ∷ cs) rest ≡ Some v = rw p at e in word_sound d (c ∷ cs) rest v p more
       | inr p ↦ elim (cases_Bool (is_digit c || c == d.decimal)) [
@@ -114,8 +114,8 @@ plain_sound d (c ∷ cs) rest v e =
     ]
 
 -- What is spelled is read: by the branch that the first character chooses.
-word_branch : (d : DialectMeaning) (front rest : List ℕ) → first_is begins_word front ≡ true → plain_of d front rest ≡ word_of d front rest
-unfolding plain_of
+pub word_branch : (d : DialectMeaning) (front rest : List ℕ) → first_is begins_word front ≡ true → bare_of d front rest ≡ word_of d front rest
+unfolding bare_of
 word_branch d [] rest h = absurd (cc)
 word_branch d (c ∷ cs) rest h = rw h refl
 
@@ -130,20 +130,20 @@ number_begins_none d n c h =
       | inr p ↦ let same : (c == d.decimal) ≡ true = rw p at h in ap begins_word (eqb-true c d.decimal same) ∙ decimal_begins_none d n
     ]
 
-number_branch : (d : DialectMeaning) (n : IsLawful d) (c : ℕ) (cs rest : List ℕ) → (is_digit c || c == d.decimal) ≡ true → plain_of d (c ∷ cs) rest ≡ option_map (λ units. Num (pos units)) (unsigned_amount d.decimal (c ∷ cs))
-unfolding plain_of
+number_branch : (d : DialectMeaning) (n : IsLawful d) (c : ℕ) (cs rest : List ℕ) → (is_digit c || c == d.decimal) ≡ true → bare_of d (c ∷ cs) rest ≡ option_map (λ units. Num (pos units)) (unsigned_amount d.decimal (c ∷ cs))
+unfolding bare_of
 number_branch d n c cs rest h = rw (number_begins_none d n c h, h) refl
 
-pub quote_branch : (d : DialectMeaning) (n : IsLawful d) (cs rest : List ℕ) → plain_of d (34 ∷ cs) rest ≡ (if first_is is_double_quote rest then None else option_map Str (unquoted false cs))
-unfolding plain_of ucd_derived
+pub quote_branch : (d : DialectMeaning) (n : IsLawful d) (cs rest : List ℕ) → bare_of d (34 ∷ cs) rest ≡ (if first_is is_double_quote rest then None else option_map Str (unquoted false cs))
+unfolding bare_of ucd_derived
 quote_branch d n cs rest = rw (decimal_tells d n 34 refl refl) refl
 
-hash_branch : (d : DialectMeaning) (n : IsLawful d) (c : ℕ) (cs rest : List ℕ) → plain_of d (35 ∷ c ∷ cs) rest ≡ option_and_then (λ n. option_map Err (numbered error_number all_errors n)) (d.find kinds.Error (35 ∷ c ∷ cs))
-unfolding plain_of ucd_derived
+hash_branch : (d : DialectMeaning) (n : IsLawful d) (c : ℕ) (cs rest : List ℕ) → bare_of d (35 ∷ c ∷ cs) rest ≡ option_and_then (λ n. option_map Err (numbered error_number all_errors n)) (d.find kinds.Error (35 ∷ c ∷ cs))
+unfolding bare_of ucd_derived
 hash_branch d n c cs rest = rw (decimal_tells d n 35 refl refl) refl
 
 -- by each token
-number_read : (d : DialectMeaning) (n : IsLawful d) (front rest : List ℕ) (units : ℤ) → Spells d (Num units) front rest → plain_of d front rest ≡ Some (Num units)
+number_read : (d : DialectMeaning) (n : IsLawful d) (front rest : List ℕ) (units : ℤ) → Spells d (Num units) front rest → bare_of d front rest ≡ Some (Num units)
 number_read d n [] rest units s = absurd (cc)
 number_read d n (c ∷ cs) rest units s =
     elim (cases_Bool (is_digit c || c == d.decimal)) [
@@ -155,11 +155,11 @@ number_read d n (c ∷ cs) rest units s =
           absurd (none_some units no)
     ]
 
-string_read : (d : DialectMeaning) (n : IsLawful d) (front rest text : List ℕ) → Spells d (Str text) front rest → plain_of d front rest ≡ Some (Str text)
+string_read : (d : DialectMeaning) (n : IsLawful d) (front rest text : List ℕ) → Spells d (Str text) front rest → bare_of d front rest ≡ Some (Str text)
 string_read d n front rest text s =
-    ap (λ f. plain_of d f rest) s.0 ∙ quote_branch d n (doubled text ++ 34 ∷ []) rest ∙ rw (s.1, reads_doubled text) refl
+    ap (λ f. bare_of d f rest) s.0 ∙ quote_branch d n (doubled text ++ 34 ∷ []) rest ∙ rw (s.1, reads_doubled text) refl
 
-error_reads : (d : DialectMeaning) (n : IsLawful d) (front rest : List ℕ) (e : Error) → Spells d (Err e) front rest → plain_of d front rest ≡ Some (Err e)
+error_reads : (d : DialectMeaning) (n : IsLawful d) (front rest : List ℕ) (e : Error) → Spells d (Err e) front rest → bare_of d front rest ≡ Some (Err e)
 error_reads d n [] rest e s = let no = n.error_shape [] (error_number e) s in absurd (cc)
 error_reads d n (c ∷ []) rest e s = let no = n.error_shape (c ∷ []) (error_number e) s in absurd (cc)
 error_reads d n (c ∷ x ∷ cs) rest e s =
@@ -167,61 +167,62 @@ error_reads d n (c ∷ x ∷ cs) rest e s =
     let parts = and_parts (c == 35) (not (is_sign x)) (and_parts (c == 35 && not (is_sign x)) (not (is_blank x)) shape).0 in
     let is : c ≡ 35 = eqb-true c 35 parts.0 in
     let found : d.find kinds.Error (35 ∷ x ∷ cs) ≡ Some (error_number e) = ap (λ y. d.find kinds.Error (y ∷ x ∷ cs)) (sym is) ∙ s in
-    ap (λ y. plain_of d (y ∷ x ∷ cs) rest) is ∙ hash_branch d n x cs rest ∙ rw found (ap (option_map Err) (error_numbered e))
+    ap (λ y. bare_of d (y ∷ x ∷ cs) rest) is ∙ hash_branch d n x cs rest ∙ rw found (ap (option_map Err) (error_numbered e))
 
-sign_read : (d : DialectMeaning) (n : IsLawful d) (front rest : List ℕ) (sign : BinarySign) → front ≡ sign_text sign → plain_of d front rest ≡ Some (Operator sign)
-unfolding plain_of ucd_derived
-sign_read d n front rest signs.Equal s = ap (λ f. plain_of d f rest) s ∙ rw (decimal_tells d n 61 refl refl) refl
-sign_read d n front rest signs.Unequal s = ap (λ f. plain_of d f rest) s ∙ rw (decimal_tells d n 60 refl refl) refl
-sign_read d n front rest signs.Less s = ap (λ f. plain_of d f rest) s ∙ rw (decimal_tells d n 60 refl refl) refl
-sign_read d n front rest signs.Greater s = ap (λ f. plain_of d f rest) s ∙ rw (decimal_tells d n 62 refl refl) refl
-sign_read d n front rest signs.AtMost s = ap (λ f. plain_of d f rest) s ∙ rw (decimal_tells d n 60 refl refl) refl
-sign_read d n front rest signs.AtLeast s = ap (λ f. plain_of d f rest) s ∙ rw (decimal_tells d n 62 refl refl) refl
-sign_read d n front rest signs.Join s = ap (λ f. plain_of d f rest) s ∙ rw (decimal_tells d n 38 refl refl) refl
-sign_read d n front rest signs.Plus s = ap (λ f. plain_of d f rest) s ∙ rw (decimal_tells d n 43 refl refl) refl
-sign_read d n front rest signs.Minus s = ap (λ f. plain_of d f rest) s ∙ rw (decimal_tells d n 45 refl refl) refl
-sign_read d n front rest signs.Times s = ap (λ f. plain_of d f rest) s ∙ rw (decimal_tells d n 42 refl refl) refl
-sign_read d n front rest signs.Over s = ap (λ f. plain_of d f rest) s ∙ rw (decimal_tells d n 47 refl refl) refl
-sign_read d n front rest signs.Power s = ap (λ f. plain_of d f rest) s ∙ rw (decimal_tells d n 94 refl refl) refl
+sign_read : (d : DialectMeaning) (n : IsLawful d) (front rest : List ℕ) (sign : BinarySign) → front ≡ sign_text sign → bare_of d front rest ≡ Some (Operator sign)
+unfolding bare_of ucd_derived
+sign_read d n front rest signs.Equal s = ap (λ f. bare_of d f rest) s ∙ rw (decimal_tells d n 61 refl refl) refl
+sign_read d n front rest signs.Unequal s = ap (λ f. bare_of d f rest) s ∙ rw (decimal_tells d n 60 refl refl) refl
+sign_read d n front rest signs.Less s = ap (λ f. bare_of d f rest) s ∙ rw (decimal_tells d n 60 refl refl) refl
+sign_read d n front rest signs.Greater s = ap (λ f. bare_of d f rest) s ∙ rw (decimal_tells d n 62 refl refl) refl
+sign_read d n front rest signs.AtMost s = ap (λ f. bare_of d f rest) s ∙ rw (decimal_tells d n 60 refl refl) refl
+sign_read d n front rest signs.AtLeast s = ap (λ f. bare_of d f rest) s ∙ rw (decimal_tells d n 62 refl refl) refl
+sign_read d n front rest signs.Join s = ap (λ f. bare_of d f rest) s ∙ rw (decimal_tells d n 38 refl refl) refl
+sign_read d n front rest signs.Plus s = ap (λ f. bare_of d f rest) s ∙ rw (decimal_tells d n 43 refl refl) refl
+sign_read d n front rest signs.Minus s = ap (λ f. bare_of d f rest) s ∙ rw (decimal_tells d n 45 refl refl) refl
+sign_read d n front rest signs.Times s = ap (λ f. bare_of d f rest) s ∙ rw (decimal_tells d n 42 refl refl) refl
+sign_read d n front rest signs.Over s = ap (λ f. bare_of d f rest) s ∙ rw (decimal_tells d n 47 refl refl) refl
+sign_read d n front rest signs.Power s = ap (λ f. bare_of d f rest) s ∙ rw (decimal_tells d n 94 refl refl) refl
 
 -- one of the other signs, by its character
-other_read : (d : DialectMeaning) (n : IsLawful d) (rest : List ℕ) → AllByRecursion (λ (e : List ℕ × Token). plain_of d e.0 rest ≡ Some e.1) ((codes "@", At) ∷ (codes "%", Percent) ∷ (codes "#", Hash) ∷ (codes "(", Open) ∷ (codes ")", Close) ∷ (codes "{", OpenBrace) ∷ (codes "}", CloseBrace) ∷ [])
-unfolding plain_of ucd_derived
+other_read : (d : DialectMeaning) (n : IsLawful d) (rest : List ℕ) → AllByRecursion (λ (e : List ℕ × Token). bare_of d e.0 rest ≡ Some e.1) ((codes "@", At) ∷ (codes "%", Percent) ∷ (codes "#", Hash) ∷ (codes "(", Open) ∷ (codes ")", Close) ∷ (codes "{", OpenBrace) ∷ (codes "}", CloseBrace) ∷ [])
+unfolding bare_of ucd_derived
 other_read d n rest = (rw (decimal_tells d n 64 refl refl) refl, (rw (decimal_tells d n 37 refl refl) refl, (rw (decimal_tells d n 35 refl refl) refl, (rw (decimal_tells d n 40 refl refl) refl, (rw (decimal_tells d n 41 refl refl) refl, (rw (decimal_tells d n 123 refl refl) refl, (rw (decimal_tells d n 125 refl refl) refl, tt)))))))
 
-separator_read : (d : DialectMeaning) (n : IsLawful d) (rest : List ℕ) → plain_of d (d.list ∷ []) rest ≡ Some Separator
-unfolding plain_of ucd_derived
+separator_read : (d : DialectMeaning) (n : IsLawful d) (rest : List ℕ) → bare_of d (d.list ∷ []) rest ≡ Some Separator
+unfolding bare_of ucd_derived
 separator_read d n rest = elim n.separators [ inl s ↦ rw (s.0, s.1) refl | inr s ↦ rw (s.0, s.1) refl ]
 
-semicolon_read : (d : DialectMeaning) (n : IsLawful d) (rest : List ℕ) → d.list ≢ 59 → plain_of d (codes ";") rest ≡ Some Semicolon
-unfolding plain_of ucd_derived
+semicolon_read : (d : DialectMeaning) (n : IsLawful d) (rest : List ℕ) → d.list ≢ 59 → bare_of d (codes ";") rest ≡ Some Semicolon
+unfolding bare_of ucd_derived
 semicolon_read d n rest other = elim n.separators [ inl s ↦ rw (s.0, s.1) refl | inr s ↦ absurd (other s.0) ]
 
 pub first_front : (p : ℕ → Bool) (front rest : List ℕ) → first_is p front ≡ true → first_is p (front ++ rest) ≡ true
 first_front p [] rest h = absurd (cc)
 first_front p (c ∷ cs) rest h = h
 
-head_branch : (d : DialectMeaning) (front rest name : List ℕ) → IsHead name front → plain_of d front rest ≡ head_token name (d.find kinds.Function name)
+head_branch : (d : DialectMeaning) (front rest name : List ℕ) → IsHead name front → bare_of d front rest ≡ head_token name (d.find kinds.Function name)
 head_branch d front rest name is =
     word_branch d front rest (ap (first_is begins_word) (is.whole ∙ append_assoc name is.blanks (40 ∷ [])) ∙ first_front begins_word name (is.blanks ++ 40 ∷ []) is.run.0)
     ∙ word_is_head d front rest name is
 
-pub plain_complete : (d : DialectMeaning) (n : IsLawful d) (front rest : List ℕ) (v : Token) → is_reference v ≡ false → Spells d v front rest → plain_of d front rest ≡ Some v
-plain_complete d n front rest (Num units) h s = number_read d n front rest units s
-plain_complete d n front rest (Str text) h s = string_read d n front rest text s
-plain_complete d n front rest (Boolean value) h s = word_branch d front rest s.0.0.0 ∙ word_is_boolean d front rest value s
-plain_complete d n front rest (Err e) h s = error_reads d n front rest e s
-plain_complete d n front rest (Ref r) h s = absurd (cc)
-plain_complete d n front rest (Word text) h s = word_branch d front rest s.1.0.0 ∙ word_is_word d front rest text s
-plain_complete d n front rest (FunHead number) h s = head_branch d front rest s.0 s.1 ∙ ap (head_token s.0) s.2
-plain_complete d n front rest (NameHead name) h s = head_branch d front rest name s.0 ∙ rw (s.2, s.1) refl
-plain_complete d n front rest Separator h s = ap (λ f. plain_of d f rest) s ∙ separator_read d n rest
-plain_complete d n front rest (Operator sign) h s = sign_read d n front rest sign s
-plain_complete d n front rest At h s = ap (λ f. plain_of d f rest) s ∙ (other_read d n rest).0
-plain_complete d n front rest Percent h s = ap (λ f. plain_of d f rest) s ∙ (other_read d n rest).1.0
-plain_complete d n front rest Hash h s = ap (λ f. plain_of d f rest) s ∙ (other_read d n rest).1.1.0
-plain_complete d n front rest Open h s = ap (λ f. plain_of d f rest) s ∙ (other_read d n rest).1.1.1.0
-plain_complete d n front rest Close h s = ap (λ f. plain_of d f rest) s ∙ (other_read d n rest).1.1.1.1.0
-plain_complete d n front rest OpenBrace h s = ap (λ f. plain_of d f rest) s ∙ (other_read d n rest).1.1.1.1.1.0
-plain_complete d n front rest CloseBrace h s = ap (λ f. plain_of d f rest) s ∙ (other_read d n rest).1.1.1.1.1.1.0
-plain_complete d n front rest Semicolon h s = ap (λ f. plain_of d f rest) s.1 ∙ semicolon_read d n rest s.0
+pub bare_complete : (d : DialectMeaning) (n : IsLawful d) (front rest : List ℕ) (v : Token) → is_reference v ≡ false → is_local v ≡ false → Spells d v front rest → bare_of d front rest ≡ Some v
+bare_complete d n front rest (Num units) h l s = number_read d n front rest units s
+bare_complete d n front rest (Str text) h l s = string_read d n front rest text s
+bare_complete d n front rest (Boolean value) h l s = word_branch d front rest s.0.0.0 ∙ word_is_boolean d front rest value s
+bare_complete d n front rest (Err e) h l s = error_reads d n front rest e s
+bare_complete d n front rest (Ref r) h l s = absurd (cc)
+bare_complete d n front rest (Local sheet word) h l s = absurd (cc)
+bare_complete d n front rest (Word text) h l s = word_branch d front rest s.1.0.0 ∙ word_is_word d front rest text s
+bare_complete d n front rest (FunHead number) h l s = head_branch d front rest s.0 s.1 ∙ ap (head_token s.0) s.2
+bare_complete d n front rest (NameHead name) h l s = head_branch d front rest name s.0 ∙ rw (s.2, s.1) refl
+bare_complete d n front rest Separator h l s = ap (λ f. bare_of d f rest) s ∙ separator_read d n rest
+bare_complete d n front rest (Operator sign) h l s = sign_read d n front rest sign s
+bare_complete d n front rest At h l s = ap (λ f. bare_of d f rest) s ∙ (other_read d n rest).0
+bare_complete d n front rest Percent h l s = ap (λ f. bare_of d f rest) s ∙ (other_read d n rest).1.0
+bare_complete d n front rest Hash h l s = ap (λ f. bare_of d f rest) s ∙ (other_read d n rest).1.1.0
+bare_complete d n front rest Open h l s = ap (λ f. bare_of d f rest) s ∙ (other_read d n rest).1.1.1.0
+bare_complete d n front rest Close h l s = ap (λ f. bare_of d f rest) s ∙ (other_read d n rest).1.1.1.1.0
+bare_complete d n front rest OpenBrace h l s = ap (λ f. bare_of d f rest) s ∙ (other_read d n rest).1.1.1.1.1.0
+bare_complete d n front rest CloseBrace h l s = ap (λ f. bare_of d f rest) s ∙ (other_read d n rest).1.1.1.1.1.1.0
+bare_complete d n front rest Semicolon h l s = ap (λ f. bare_of d f rest) s.1 ∙ semicolon_read d n rest s.0

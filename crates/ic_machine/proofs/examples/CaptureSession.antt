@@ -7,7 +7,8 @@ use Rattle.ic_laws.specs.Binding.{bound}
 use Rattle.ic_laws.specs.CoreBook.{Definition}
 use Rattle.ic_laws.specs.CoreStep.{core_step, scene_with_definition}
 use Rattle.ic_laws.specs.FormulaReading.{Body, body_of, cell_formula}
-use Rattle.ic_laws.specs.NextToken.{plain_of, tokens_by}
+use Rattle.ic_laws.specs.NextToken.{bare_of, tokens_by}
+use Rattle.ic_laws.specs.SheetText.{read_local}
 use Rattle.ic_laws.specs.Notations.{english_function}
 use Rattle.ic_laws.specs.Parse.{SpelledKind, binary, binder, expression, function_call, joined_by, let_call, let_parts, node, operand, pair_of, postfix, prefix_sign, primary, reader, turns}
 use Rattle.ic_laws.specs.ReadAs.{read_as}
@@ -84,7 +85,7 @@ made =
 -- ---- the questions and the update
 
 reads_first : read_as (in_english (pos 1) (pos 1)) (codes "Sheet1!$A$1") ≡ Some (reference first)
-unfolding longest_split plain_of tokens_by caseless ucd_derived
+unfolding longest_split bare_of read_local tokens_by caseless ucd_derived
 reads_first = reads_reference (in_english (pos 1) (pos 1)) (codes "Sheet1!$A$1") first refl refl
 
 is_update_body : update_body small (core_of (book own)) (codes "Sheet1!$A$1") ≡ Some body
@@ -135,7 +136,7 @@ let_high m b =
     simp (low_number, low_x, low_y, low_sum, low_let)
 
 let_read : read_as (in_english (pos 1) (pos 1)) (codes "LET(y,1,x+y)") ≡ Some (node let_kind)
-unfolding longest_split plain_of tokens_by caseless ucd_derived
+unfolding longest_split bare_of read_local tokens_by caseless ucd_derived
 let_read = reads (in_english (pos 1) (pos 1)) (codes "LET(y,1,x+y)") let_tokens (Some (node let_kind, [])) refl (let_high 1021 127)
 
 abbrev let_bound : Bound

@@ -57,7 +57,7 @@ local_ones body =
     ap (λ (more : Bool). defined (codes "x") (Some 1) body ∷ defined (codes "z") (Some 1) body ∷ cond more (defined (codes "x") None body ∷ []) []) (no_more (mentions_sheet 1 body))
 
 mentions : (place : Place) → mentions_sheet 1 (reference_at place) ≡ true
-mentions place = fold-roll-Tree SheetMention NameMention Bool Bool (some_step (is_of_sheet 1) (λ word. false)) (λ pair. pair.value) (one.Reference (sheets.Sheet 1) place)
+mentions place = fold-roll-Tree SheetMention NameMention Bool Bool (some_step (is_of_sheet 1) (λ word. false) (λ sheet word. false)) (λ pair. pair.value) (one.Reference (sheets.Sheet 1) place)
 
 -- where the sheet has none of the name, it is copied if its body mentions the sheet
 shared_one : (place : Place) → copied_of 1 (defined (codes "x") None (reference_at place) ∷ defined (codes "y") (Some 1) (formulas.Raw []) ∷ [])

@@ -12,7 +12,8 @@ use Rattle.ic_laws.specs.CoreBook.{CellPlace, formula_at}
 use Rattle.ic_laws.specs.CoreStep.{core_step, shown_field}
 use Rattle.ic_laws.specs.FormulaReading.{cell_formula, shown_formula}
 use Rattle.ic_laws.specs.Keeping.{kept, same_keys}
-use Rattle.ic_laws.specs.NextToken.{plain_of, tokens_by}
+use Rattle.ic_laws.specs.NextToken.{bare_of, tokens_by}
+use Rattle.ic_laws.specs.SheetText.{read_local}
 use Rattle.ic_laws.specs.Notations.{english_function}
 use Rattle.ic_laws.specs.ReadAs.{read_as}
 use Rattle.ic_laws.specs.Split.{longest_split}
@@ -114,7 +115,7 @@ abbrev if_dynamic : ℕ → Bool → Content
 if_dynamic index b = if b then AnchorContent index (pos 1, pos 1) kinds.Dynamic values.Unevaluated 0 else cell index
 
 other_read : read_as (in_english (pos 1) (pos 1)) (codes "Other!A1") ≡ Some (reference (on (codes "Other") here))
-unfolding longest_split plain_of tokens_by caseless ucd_derived
+unfolding longest_split bare_of read_local tokens_by caseless ucd_derived
 other_read = reads_reference (in_english (pos 1) (pos 1)) (codes "Other!A1") (on (codes "Other") here) refl refl
 
 other_bound : bound (english_function small) (scene_in (book [] finite.empty)) (Some 1) (reference (on (codes "Other") here)) ≡ mention 2 here
@@ -145,7 +146,7 @@ first_put =
     ∙ ap (λ (b : Bool). after_first (formula 2 here) (if_dynamic 0 b)) (one_value 2 (record { row = at.Rel (pos 0); column = at.Rel (pos 0) }))
 
 own_read : read_as (in_english (pos 1) (pos 2)) (codes "Sheet1!A2") ≡ Some (reference (on (codes "Sheet1") beside))
-unfolding longest_split plain_of tokens_by caseless ucd_derived
+unfolding longest_split bare_of read_local tokens_by caseless ucd_derived
 own_read = reads_reference (in_english (pos 1) (pos 2)) (codes "Sheet1!A2") (on (codes "Sheet1") beside) refl refl
 
 abbrev with_one : Book

@@ -13,7 +13,8 @@ use Rattle.ic_laws.specs.CoreStep.{core_step, has_definition, scene_with_definit
 use Rattle.ic_laws.specs.FormulaReading.{Body, body_of, if_lambda, is_lambda_kind, shown_body}
 use Rattle.ic_laws.specs.Keeping.{KeyChange, changed_key, kept, same_keys}
 use Rattle.ic_laws.specs.Name.{is_identifier}
-use Rattle.ic_laws.specs.NextToken.{plain_of, tokens_by}
+use Rattle.ic_laws.specs.NextToken.{bare_of, tokens_by}
+use Rattle.ic_laws.specs.SheetText.{read_local}
 use Rattle.ic_laws.specs.Notations.{english_function}
 use Rattle.ic_laws.specs.Parse.{SpelledKind, binary, binder, expression, function_call, joined_by, lambda_call, lambda_parts, node, operand, postfix, prefix_sign, primary, reader, turns}
 use Rattle.ic_laws.specs.ReadAs.{read_as}
@@ -104,7 +105,7 @@ no_lambda : if_lambda (reference (on (cell 0 0))) ≡ None
 no_lambda = ap (λ kind. if is_lambda_kind kind then Some (reference (on (cell 0 0))) else None) (out-roll-Tree _ _ (one.Reference (Some (codes "Sheet1")) (cell 0 0)))
 
 after_equals : read_as (in_english (pos 1) (pos 1)) (codes "Sheet1!A1") ≡ Some (reference (on (cell 0 0)))
-unfolding longest_split plain_of tokens_by caseless ucd_derived
+unfolding longest_split bare_of read_local tokens_by caseless ucd_derived
 after_equals = reads_reference (in_english (pos 1) (pos 1)) (codes "Sheet1!A1") (on (cell 0 0)) refl refl
 
 no_body : body_of small (core_of start) (codes "=Sheet1!A1") ≡ None
@@ -123,7 +124,7 @@ lambda_high m b =
     simp (low_x, low_two, low_product, low_lambda)
 
 lambda_read : read_as (in_english (pos 1) (pos 1)) (codes "LAMBDA(x,x*2)") ≡ Some (node lambda_kind)
-unfolding longest_split plain_of tokens_by caseless ucd_derived
+unfolding longest_split bare_of read_local tokens_by caseless ucd_derived
 lambda_read = reads (in_english (pos 1) (pos 1)) (codes "LAMBDA(x,x*2)") lambda_tokens (Some (node lambda_kind, [])) refl (lambda_high 1021 127)
 
 is_lambda : if_lambda (node lambda_kind) ≡ Some (node lambda_kind)
@@ -138,11 +139,11 @@ unfolding reader expression operand primary prefix_sign turns postfix binary joi
 plus_high m b = let low_one = low (node (one.Num (pos 1000000000))) (suc (suc m)) (omega (arith, height-node (one.Num (pos 1000000000)))) in simp low_one
 
 plus_unread : read_as (in_english (pos 1) (pos 1)) (codes "1+") ≡ None
-unfolding longest_split plain_of tokens_by caseless ucd_derived
+unfolding longest_split bare_of read_local tokens_by caseless ucd_derived
 plus_unread = reads (in_english (pos 1) (pos 1)) (codes "1+") (Num (pos 1000000000) ∷ Operator signs.Plus ∷ []) None refl (plus_high 1022 128)
 
 total_read : read_as (in_english (pos 1) (pos 1)) (codes "Sheet1!B2") ≡ Some (reference (on (cell 1 1)))
-unfolding longest_split plain_of tokens_by caseless ucd_derived
+unfolding longest_split bare_of read_local tokens_by caseless ucd_derived
 total_read = reads_reference (in_english (pos 1) (pos 1)) (codes "Sheet1!B2") (on (cell 1 1)) refl refl
 
 -- ---- new definitions

@@ -10,7 +10,8 @@ use Rattle.ic_laws.specs.Amount.{fraction_digits}
 use Rattle.ic_laws.specs.Binding.{bound}
 use Rattle.ic_laws.specs.CoreBook.{CellPlace}
 use Rattle.ic_laws.specs.FormulaReading.{cell_formula}
-use Rattle.ic_laws.specs.NextToken.{plain_of, tokens_by}
+use Rattle.ic_laws.specs.NextToken.{bare_of, tokens_by}
+use Rattle.ic_laws.specs.SheetText.{read_local}
 use Rattle.ic_laws.specs.Notations.{english_function}
 use Rattle.ic_laws.specs.ReadAs.{read_as}
 use Rattle.ic_laws.specs.Split.{longest_split}
@@ -124,7 +125,7 @@ given = three (anchor 1 (values.Number (pos 4000000000))) seven (EmptyContent 0)
 -- ---- the formula
 
 range_read : read_as (in_english (pos 1) (pos 3)) (codes "A1:A3") ≡ Some (reference range)
-unfolding longest_split plain_of tokens_by caseless ucd_derived
+unfolding longest_split bare_of read_local tokens_by caseless ucd_derived
 range_read = reads_reference (in_english (pos 1) (pos 3)) (codes "A1:A3") range refl refl
 
 range_bound : bound (english_function small) (scene_in start) (Some 1) (reference range) ≡ range_kept

@@ -132,7 +132,7 @@ name_of_copy book source = copy_name source (free_number book (copy_name source)
 
 -- some mention in a formula is of this sheet
 abbrev pub mentions_sheet : ℕ → Formula → Bool
-mentions_sheet id (formulas.Tree t) = some_mention (is_of_sheet id) (λ word. false) t
+mentions_sheet id (formulas.Tree t) = some_mention (is_of_sheet id) (λ word. false) (λ sheet word. false) t
 mentions_sheet id (formulas.Raw text) = false
 
 -- the definitions that are local to a sheet, and those local to none whose body mentions it, where the sheet has none of

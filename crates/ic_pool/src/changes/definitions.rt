@@ -1,17 +1,17 @@
 //! A definition comes, and a definition goes.
 ghost use Rattle.std.specs.Prelude.{◌≡◌, ◌||◌, None, chars};
-ghost use Rattle.ic_laws.specs.Changes.{could_mean, is_of_name};
+ghost use Rattle.ic_laws.specs.Changes.{could_mean, could_mean_local, is_of_name};
 ghost use Rattle.ic_laws.specs.Name.{fold};
 ghost use Rattle.ic_laws.specs.Scene.{key_of, same_key, same_scope};
 
 use crate::changes::BookChange;
-use crate::copies::{copy_key, copy_sheet, copy_word};
-use ic_laws::{NameKey, NameMention, OutOfMemory, SheetMention, agree};
+use crate::copies::{copy_key, copy_local, copy_sheet, copy_word};
+use ic_laws::{NameKey, NameMention, OutOfMemory, SheetMention, Text, agree};
 use std::alloc::Global;
 use std::marker::Model;
 
-/// A definition comes, by the name that it was given and its key: words that could mean it do. Contracts see its name and
-/// the id of the sheet that it is local to, if there is one.
+/// A definition comes, by the name that it was given and its key: words that could mean it do, those with the sheet that it
+/// is local to among them. Contracts see its name and the id of that sheet, if there is one.
 #[derive(Drop)]
 pub struct DefinitionAdded<'n> {
     name: &'n str,
@@ -39,6 +39,13 @@ impl<'n> DefinitionAdded<'n> {
         DefinitionAdded { name, key }
     }
 
+    /// The id of the sheet that it is local to, if there is one.
+    pub fn scope(&self) -> Option<u32>
+        ensures { result ≡ self.now.scope }
+    {
+        self.key.scope
+    }
+
     /// Whether a word could mean it.
     fn could_mean(&self, scope: Option<u32>, mention: &NameMention) -> bool
         ensures { result ≡ could_mean (key_of self.now) scope mention.now }
@@ -51,6 +58,18 @@ impl<'n> DefinitionAdded<'n> {
             NameMention::Dangling(word) => {
                 agree(self.name, word.as_str()) && self.reaches(scope)
             }
+        }
+    }
+
+    /// Whether a word with its sheet could mean it.
+    fn could_mean_local(&self, sheet: &SheetMention, mention: &NameMention) -> bool
+        ensures { result ≡ could_mean_local (key_of self.now) sheet.now mention.now }
+    {
+        match (sheet, mention) {
+            (SheetMention::Sheet(id), NameMention::Dangling(word)) => {
+                agree(self.name, word.as_str()) && same_scope(self.key.scope, Some(*id))
+            }
+            _ => false,
         }
     }
 
@@ -75,6 +94,10 @@ impl<'n> BookChange for DefinitionAdded<'n> {
         self.could_mean(scope, mention)
     }
 
+    fn changes_local(&self, sheet: &SheetMention, mention: &NameMention) -> bool {
+        self.could_mean_local(sheet, mention)
+    }
+
     fn changed_sheet(
         &self,
         alloc: Global,
@@ -94,25 +117,47 @@ impl<'n> BookChange for DefinitionAdded<'n> {
         }
         copy_word(alloc, mention)
     }
+
+    fn changed_local(
+        &self,
+        alloc: Global,
+        sheet: &SheetMention,
+        mention: &NameMention,
+    ) -> Result<(SheetMention, NameMention), OutOfMemory> {
+        if self.could_mean_local(sheet, mention) {
+            let word = NameMention::Name(copy_key(alloc, self.key)?);
+            return Ok((copy_sheet(alloc, sheet)?, word));
+        }
+        copy_local(alloc, sheet, mention)
+    }
 }
 
-/// The definition with this key goes: words that mean it become this mention.
+/// The definition with this key and this name, as it was given, goes: words that mean it become this mention, and words with
+/// their sheets that mean it dangle by the name.
 #[derive(Drop)]
 pub struct DefinitionGone<'n> {
     pub key: &'n NameKey,
+    pub name: &'n str,
     pub becomes: &'n NameMention,
 }
 
 impl<'n> BookChange for DefinitionGone<'n> {
+    ghost use Rattle.std.specs.Prelude.{chars};
     ghost use Rattle.ic_laws.specs.Changes.{OfWords, is_of_name};
+    ghost use Rattle.ic_laws.specs.declared.tree.NameMention.TheVariants as names;
 
-    ghost change = { λ gone. OfWords (λ scope mention. is_of_name gone.key.now mention) gone.becomes.now };
+    ghost change = { λ gone. OfWords (λ scope mention. is_of_name gone.key.now mention) gone.becomes.now
+        (λ sheet mention. is_of_name gone.key.now mention) (names.Dangling (chars gone.name.now)) };
 
     fn changes_sheet(&self, _mention: &SheetMention) -> bool {
         false
     }
 
     fn changes_word(&self, _scope: Option<u32>, mention: &NameMention) -> bool {
+        is_of_name(self.key, mention)
+    }
+
+    fn changes_local(&self, _sheet: &SheetMention, mention: &NameMention) -> bool {
         is_of_name(self.key, mention)
     }
 
@@ -134,6 +179,19 @@ impl<'n> BookChange for DefinitionGone<'n> {
             return copy_word(alloc, self.becomes);
         }
         copy_word(alloc, mention)
+    }
+
+    fn changed_local(
+        &self,
+        alloc: Global,
+        sheet: &SheetMention,
+        mention: &NameMention,
+    ) -> Result<(SheetMention, NameMention), OutOfMemory> {
+        if is_of_name(self.key, mention) {
+            let word = NameMention::Dangling(Text::from_str(alloc, self.name)?);
+            return Ok((copy_sheet(alloc, sheet)?, word));
+        }
+        copy_local(alloc, sheet, mention)
     }
 }
 

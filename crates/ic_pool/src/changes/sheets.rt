@@ -1,31 +1,40 @@
 //! A sheet gets a name, and a sheet goes.
-ghost use Rattle.std.specs.Prelude.{◌≡◌, chars};
-ghost use Rattle.ic_laws.specs.Changes.{dangles_by, is_of_sheet};
+ghost use Rattle.std.specs.Prelude.{◌≡◌, IfOk, chars};
+ghost use Rattle.ic_laws.specs.Binding.{spelled_word};
+ghost use Rattle.ic_laws.specs.Changes.{dangles_by, found_with_sheet, is_of_sheet};
+ghost use Rattle.ic_laws.specs.Scene.{definition_spelling};
 
 use crate::changes::BookChange;
-use crate::copies::{copy_sheet, copy_word};
-use ic_laws::{NameMention, OutOfMemory, SheetMention, Text, agree};
+use crate::copies::{copy_local, copy_sheet, copy_word};
+use ic_laws::{Finder, NameKey, NameMention, OutOfMemory, SheetMention, Text, agree, find_local};
 use std::alloc::Global;
 
 /// The sheet with this id, a new one or one that was there, gets a name: references that dangle by an agreeing one become
-/// references to it.
+/// references to it, and so do the sheets of words with their sheets. Such a word means the definition that is local to the
+/// sheet then, where there is one of an agreeing name.
 #[derive(Drop)]
-pub struct SheetNamed<'n> {
+pub struct SheetNamed<'n, F: Finder> {
     pub id: u32,
     pub name: &'n str,
+    /// What finds the definitions of the book.
+    pub definitions: &'n F,
 }
 
-impl<'n> BookChange for SheetNamed<'n> {
+impl<'n, F: Finder> BookChange for SheetNamed<'n, F> {
     ghost use Rattle.std.specs.Prelude.{chars};
     ghost use Rattle.ic_laws.specs.Changes.{sheet_named};
 
-    ghost change = { λ named. sheet_named named.id (chars named.name.now) };
+    ghost change = { λ named. sheet_named (F.scene named.definitions.now) named.id (chars named.name.now) };
 
     fn changes_sheet(&self, mention: &SheetMention) -> bool {
         is_dangling_by(mention, self.name)
     }
 
     fn changes_word(&self, _scope: Option<u32>, _mention: &NameMention) -> bool {
+        false
+    }
+
+    fn changes_local(&self, _sheet: &SheetMention, _mention: &NameMention) -> bool {
         false
     }
 
@@ -48,26 +57,67 @@ impl<'n> BookChange for SheetNamed<'n> {
     ) -> Result<NameMention, OutOfMemory> {
         copy_word(alloc, mention)
     }
+
+    fn changed_local(
+        &self,
+        alloc: Global,
+        sheet: &SheetMention,
+        mention: &NameMention,
+    ) -> Result<(SheetMention, NameMention), OutOfMemory> {
+        if is_dangling_by(sheet, self.name) {
+            let word = found_with_sheet(alloc, self.definitions, self.id, mention)?;
+            return Ok((SheetMention::Sheet(self.id), word));
+        }
+        copy_local(alloc, sheet, mention)
+    }
 }
 
-/// The sheet with this id and this name goes: references to it dangle by its name.
+/// What a word that dangled with its sheet means where that is the sheet with this id; any other stays.
+fn found_with_sheet<F: Finder>(
+    alloc: Global,
+    definitions: &F,
+    id: u32,
+    mention: &NameMention,
+) -> Result<NameMention, OutOfMemory>
+    ensures { IfOk result (λ m. m
+        ≡ found_with_sheet (F.scene definitions.now) id mention.now) }
+{
+    match mention {
+        NameMention::Dangling(word) => {
+            match find_local(alloc, definitions, id, word.as_str())? {
+                Some(key) => Ok(NameMention::Name(key)),
+                None => copy_word(alloc, mention),
+            }
+        }
+        _ => copy_word(alloc, mention),
+    }
+}
+
+/// The sheet with this id and this name goes: references to it dangle by its name, and a word with this sheet dangles with
+/// it, by the name of the definition that it meant.
 #[derive(Drop)]
-pub struct SheetGone<'n> {
+pub struct SheetGone<'n, F: Finder> {
     pub id: u32,
     pub name: &'n str,
+    /// What finds the definitions of the book, those that are local to the sheet among them.
+    pub definitions: &'n F,
 }
 
-impl<'n> BookChange for SheetGone<'n> {
+impl<'n, F: Finder> BookChange for SheetGone<'n, F> {
     ghost use Rattle.std.specs.Prelude.{chars};
     ghost use Rattle.ic_laws.specs.Changes.{sheet_gone};
 
-    ghost change = { λ gone. sheet_gone gone.id (chars gone.name.now) };
+    ghost change = { λ gone. sheet_gone (F.scene gone.definitions.now) gone.id (chars gone.name.now) };
 
     fn changes_sheet(&self, mention: &SheetMention) -> bool {
         is_to_sheet(mention, self.id)
     }
 
     fn changes_word(&self, _scope: Option<u32>, _mention: &NameMention) -> bool {
+        false
+    }
+
+    fn changes_local(&self, _sheet: &SheetMention, _mention: &NameMention) -> bool {
         false
     }
 
@@ -89,6 +139,42 @@ impl<'n> BookChange for SheetGone<'n> {
         mention: &NameMention,
     ) -> Result<NameMention, OutOfMemory> {
         copy_word(alloc, mention)
+    }
+
+    fn changed_local(
+        &self,
+        alloc: Global,
+        sheet: &SheetMention,
+        mention: &NameMention,
+    ) -> Result<(SheetMention, NameMention), OutOfMemory> {
+        if is_to_sheet(sheet, self.id) {
+            let word = Text::from_str(alloc, spelling(self.definitions, mention))?;
+            let name = Text::from_str(alloc, self.name)?;
+            return Ok((SheetMention::Dangling(name), NameMention::Dangling(word)));
+        }
+        copy_local(alloc, sheet, mention)
+    }
+}
+
+/// How a word is written: by the name of its definition, or as it was typed.
+fn spelling<'n, F: Finder>(definitions: &'n F, mention: &'n NameMention) -> &'n str
+    ensures { chars result.now ≡ spelled_word (definition_spelling (F.scene definitions.now))
+        mention.now }
+{
+    match mention {
+        NameMention::Var(word) => word.as_str(),
+        NameMention::Name(key) => definition_spelling(definitions, key),
+        NameMention::Dangling(word) => word.as_str(),
+    }
+}
+
+/// How a definition is written: by its name as it was given, a key without a definition by its folded name.
+fn definition_spelling<'n, F: Finder>(definitions: &'n F, key: &'n NameKey) -> &'n str
+    ensures { chars result.now ≡ definition_spelling (F.scene definitions.now) key.now }
+{
+    match definitions.definition_spelling(key) {
+        Some(name) => name,
+        None => key.name.as_str(),
     }
 }
 

@@ -46,6 +46,16 @@ fn write_one(key: &mut Key, text: &str) -> Result<(), OutOfMemory>
     write_text(key, text)
 }
 
+/// Writes the two texts of a node.
+fn write_two(key: &mut Key, first: &str, second: &str) -> Result<(), OutOfMemory>
+    ensures { OnOk result (key.new
+        ≡ key.old ++ rows_bytes ((chars first.now ∷ chars second.now ∷ []) ∷ [])) }
+{
+    key.extend(&[1, 2])?;
+    write_text(key, first)?;
+    write_text(key, second)
+}
+
 /// Writes a row of texts.
 fn write_row(key: &mut Key, texts: &[Text]) -> Result<(), OutOfMemory>
     ensures { OnOk result (key.new ≡ key.old ++ all_bytes text_bytes texts.now) }
@@ -141,6 +151,7 @@ pub fn write_texts(key: &mut Key, tree: &Bound) -> Result<(), OutOfMemory>
     match tree {
         Tree::Str(text) => write_one(key, text.as_str()),
         Tree::Reference(sheet, _) => write_one(key, sheet_spelling(sheet)),
+        Tree::Local(sheet, word) => write_two(key, sheet_spelling(sheet), spelling(word)),
         Tree::Word(word) => write_one(key, spelling(word)),
         Tree::Call(word, _) => write_one(key, spelling(word)),
         Tree::Lambda(parameters, _) => {

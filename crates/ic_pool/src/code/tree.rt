@@ -55,6 +55,22 @@ fn write_word(key: &mut Key, tag: u64, word: &NameMention) -> Result<(), OutOfMe
     }
 }
 
+/// Writes the numbers of a word with its sheet.
+fn write_local(key: &mut Key, sheet: &SheetMention, word: &NameMention) -> Result<(), OutOfMemory>
+    ensures { OnOk result (key.new ≡ key.old ++ text_bytes
+        (18 ∷ sheet_kind sheet.now ∷ sheet_id sheet.now ∷ word_numbers word.now)) }
+{
+    let (mention, id) = (mention_of(sheet), id_of(sheet));
+    match word {
+        NameMention::Var(_) => write_numbers(key, &[18, mention, id, 0]),
+        NameMention::Name(k) => match k.scope {
+            None => write_numbers(key, &[18, mention, id, 1]),
+            Some(scope) => write_numbers(key, &[18, mention, id, 1, u64::from(scope)]),
+        },
+        NameMention::Dangling(_) => write_numbers(key, &[18, mention, id, 2]),
+    }
+}
+
 /// Writes the numbers of a node.
 fn write_node(key: &mut Key, tree: &Bound) -> Result<(), OutOfMemory>
     ensures { OnOk result (key.new ≡ key.old ++ text_bytes
@@ -70,6 +86,7 @@ fn write_node(key: &mut Key, tree: &Bound) -> Result<(), OutOfMemory>
         Tree::Bool(value) => write_numbers(key, &[2, bit_of(*value)]),
         Tree::Err(error) => write_numbers(key, &[3, error_of(*error)]),
         Tree::Reference(sheet, place) => write_reference(key, sheet, *place),
+        Tree::Local(sheet, word) => write_local(key, sheet, word),
         Tree::Word(word) => write_word(key, 5, word),
         Tree::Empty => write_numbers(key, &[6]),
         Tree::Paren(_) => write_numbers(key, &[7]),
@@ -131,6 +148,7 @@ fn write_children(key: &mut Key, tree: &Bound) -> Result<(), OutOfMemory>
         Tree::Bool(_) => write_nothing(key),
         Tree::Err(_) => write_nothing(key),
         Tree::Reference(_, _) => write_nothing(key),
+        Tree::Local(_, _) => write_nothing(key),
         Tree::Word(_) => write_nothing(key),
         Tree::Empty => write_nothing(key),
         Tree::Array(_) => write_nothing(key),

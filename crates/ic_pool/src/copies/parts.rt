@@ -29,6 +29,19 @@ pub fn copy_word(alloc: Global, word: &NameMention) -> Result<NameMention, OutOf
     }
 }
 
+/// A copy of a word with its sheet.
+pub fn copy_local(
+    alloc: Global,
+    sheet: &SheetMention,
+    word: &NameMention,
+) -> Result<(SheetMention, NameMention), OutOfMemory>
+    ensures { IfOk result (λ copy. copy ≡ (sheet.now, word.now)) }
+{
+    let sheet = copy_sheet(alloc, sheet)?;
+    let word = copy_word(alloc, word)?;
+    Ok((sheet, word))
+}
+
 /// A copy of the key of a definition.
 pub fn copy_key(alloc: Global, key: &NameKey) -> Result<NameKey, OutOfMemory>
     ensures { IfOk result (λ copy. copy ≡ key.now) }

@@ -1,10 +1,12 @@
 //! Which sheets have formulas that mention something that wasn't found, told by their ids.
-ghost use Rattle.std.specs.Prelude.{◌≡◌, ◌<◌, ◌≤◌, ℕ, false, filter, find, length, map, nat_eq, not, option_map, vec_capacity, vec_len, if◌then◌else◌};
+ghost use Rattle.std.specs.Prelude.{◌≡◌, ◌<◌, ◌≤◌, ◌&&◌, ℕ, IfOk, Some, false, filter, find, length, map, nat_eq, not, option_map, vec_capacity, vec_len, if◌then◌else◌};
 ghost use Rattle.std.specs.List.{IsDistinct};
-ghost use Rattle.ic_sheets.specs.Index.{AreAtIndexes, dangles, dangles_at, dangling_ids, is_listed};
+ghost use Rattle.ic_sheets.specs.Index.{AreAtIndexes, AreDangling, AreLookedAt, dangles, dangles_at, dangling_ids, is_id, is_listed};
 
 use super::{index_in, sheet_at};
 use crate::Sheet;
+use ic_laws::OutOfMemory;
+use std::alloc::Global;
 use std::collections::BTreeMap;
 
 /// Whether some formula of a sheet mentions something that wasn't found.
@@ -71,6 +73,39 @@ fn dangles_with(sheets: &[Sheet], indexes: &BTreeMap<u32, usize>, id: u32) -> bo
 {
     match sheet_with(sheets, indexes, id) {
         Some(sheet) => dangles(sheet),
+        None => false,
+    }
+}
+
+/// The ids of the sheets in which something dangles, and this one, where there is a sheet with it.
+pub fn looked_at(
+    alloc: Global,
+    sheets: &[Sheet],
+    indexes: &BTreeMap<u32, usize>,
+    dangling: &[u32],
+    id: u32,
+) -> Result<Vec<u32>, OutOfMemory>
+    requires placed { AreAtIndexes indexes.now sheets.now }
+    requires differ { IsDistinct nat_eq (map (λ s. s.id) sheets.now) }
+    requires dangling { AreDangling dangling.now sheets.now }
+    ensures { IfOk result (λ ids. AreLookedAt (Some id) ids.items sheets.now) }
+{
+    let mut ids = dangling.to_vec(alloc)?;
+    if !is_clean_with(sheets, indexes, id) {
+        return Ok(ids);
+    }
+    ids.push(id)?;
+    Ok(ids)
+}
+
+/// Whether there is a sheet with this id, and nothing dangles in it.
+fn is_clean_with(sheets: &[Sheet], indexes: &BTreeMap<u32, usize>, id: u32) -> bool
+    requires placed { AreAtIndexes indexes.now sheets.now }
+    requires differ { IsDistinct nat_eq (map (λ s. s.id) sheets.now) }
+    ensures { result ≡ (is_id id sheets.now && not (dangles_at id sheets.now)) }
+{
+    match sheet_with(sheets, indexes, id) {
+        Some(sheet) => !dangles(sheet),
         None => false,
     }
 }

@@ -11,7 +11,8 @@ use Rattle.ic_laws.specs.CoreStep.{core_step, scene_with_definition}
 use Rattle.ic_laws.specs.FormulaReading.{body_of, if_lambda, is_lambda_kind, shown_body}
 use Rattle.ic_laws.specs.Keeping.{kept, same_keys}
 use Rattle.ic_laws.specs.Lines.{outcome_of}
-use Rattle.ic_laws.specs.NextToken.{plain_of, tokens_by, tokens_of}
+use Rattle.ic_laws.specs.NextToken.{bare_of, tokens_by, tokens_of}
+use Rattle.ic_laws.specs.SheetText.{read_local}
 use Rattle.ic_laws.specs.Notations.{english_function}
 use Rattle.ic_laws.specs.Parse.{SpelledKind, binary, binder, expression, function_call, joined_by, lambda_call, lambda_parts, node, nothing_after, operand, parsed, postfix, prefix_sign, primary, reader, turns}
 use Rattle.ic_laws.specs.ReadAs.{read_as}
@@ -98,7 +99,7 @@ rate_high m b =
     simp (low_x, low_tax, low_product, low_rate)
 
 rate_falls : tokens_of (in_english (pos 1) (pos 1)) (codes "LAMBDA(x,x*tax)") ≡ Some rate_tokens
-unfolding longest_split plain_of tokens_by caseless ucd_derived
+unfolding longest_split bare_of read_local tokens_by caseless ucd_derived
 rate_falls = refl
 
 rate_read : read_as (in_english (pos 1) (pos 1)) (codes "LAMBDA(x,x*tax)") ≡ Some (node rate_kind)

@@ -11,7 +11,8 @@ use Rattle.ic_laws.specs.CoreBook.{CoreBook, Definition}
 use Rattle.ic_laws.specs.CoreStep.{core_step, scene_with_definition}
 use Rattle.ic_laws.specs.FormulaReading.{body_of, cell_formula, if_lambda, is_lambda_kind, shown_body}
 use Rattle.ic_laws.specs.Lines.{outcome_of}
-use Rattle.ic_laws.specs.NextToken.{plain_of, tokens_by, tokens_of}
+use Rattle.ic_laws.specs.NextToken.{bare_of, tokens_by, tokens_of}
+use Rattle.ic_laws.specs.SheetText.{read_local}
 use Rattle.ic_laws.specs.Notations.{english_function}
 use Rattle.ic_laws.specs.Parse.{SpelledKind, binary, binder, expression, function_call, joined_by, lambda_call, lambda_parts, node, nothing_after, operand, parsed, postfix, prefix_sign, primary, reader, turns}
 use Rattle.ic_laws.specs.ReadAs.{read_as}
@@ -39,7 +40,7 @@ abbrev in_cell : CoreBook
 in_cell = record spanish { sheets = record { id = 1; name = codes "Sheet1"; cells = ((pos 1, pos 1), formulas.Raw (codes "SUM(A1,B1)")) ∷ [] } ∷ [] }
 
 unread : (read_as (in_spanish (pos 1) (pos 1)) (codes "SUM(A1,B1)") ≡ None) × (read_as (in_spanish (pos 1) (pos 1)) (codes "SUM(A1,B1))") ≡ None)
-unfolding longest_split plain_of tokens_by caseless ucd_derived
+unfolding longest_split bare_of read_local tokens_by caseless ucd_derived
 unread = (refl, refl)
 
 formula : cell_formula small spanish 1 (pos 1) (pos 1) (codes "SUM(A1,B1)") ≡ formulas.Raw (codes "SUM(A1,B1)")
@@ -88,7 +89,7 @@ twice_high m b =
     simp (low_x, low_two, low_product, low_twice)
 
 twice_falls : tokens_of (in_english (pos 1) (pos 1)) (codes "LAMBDA(x,x*2)") ≡ Some twice_tokens
-unfolding longest_split plain_of tokens_by caseless ucd_derived
+unfolding longest_split bare_of read_local tokens_by caseless ucd_derived
 twice_falls = refl
 
 twice_read : read_as (in_english (pos 1) (pos 1)) (codes "LAMBDA(x,x*2)") ≡ Some (node twice_kind)
@@ -96,7 +97,7 @@ unfolding parsed
 twice_read = reads (in_english (pos 1) (pos 1)) (codes "LAMBDA(x,x*2)") twice_tokens (node twice_kind) twice_falls (ap (option_and_then (λ r. nothing_after r.0 r.1)) (twice_high 1021 127))
 
 twice_unread : read_as (in_spanish (pos 1) (pos 1)) (codes "LAMBDA(x,x*2)") ≡ None
-unfolding longest_split plain_of tokens_by caseless ucd_derived
+unfolding longest_split bare_of read_local tokens_by caseless ucd_derived
 twice_unread = refl
 
 is_lambda : if_lambda (node twice_kind) ≡ Some (node twice_kind)

@@ -10,7 +10,8 @@ use Rattle.ic_laws.specs.CoreStep.{core_step, scene_with_definition}
 use Rattle.ic_laws.specs.FormulaReading.{Body, body_of, cell_formula, shown_formula}
 use Rattle.ic_laws.specs.Keeping.{kept, same_keys}
 use Rattle.ic_laws.specs.Lines.{outcome_of}
-use Rattle.ic_laws.specs.NextToken.{plain_of, tokens_by}
+use Rattle.ic_laws.specs.NextToken.{bare_of, tokens_by}
+use Rattle.ic_laws.specs.SheetText.{read_local}
 use Rattle.ic_laws.specs.Notations.{english_function}
 use Rattle.ic_laws.specs.ReadAs.{read_as}
 use Rattle.ic_laws.specs.Split.{longest_split}
@@ -79,7 +80,7 @@ found_local = mention (names.Name (record { name = codes "tax"; scope = Some 1 }
 -- ---- the formula, before there is a definition
 
 tax_read : read_as (in_english (pos 1) (pos 1)) (codes "TAX") ≡ Some (word (codes "TAX"))
-unfolding longest_split plain_of tokens_by caseless ucd_derived
+unfolding longest_split bare_of read_local tokens_by caseless ucd_derived
 tax_read = reads (in_english (pos 1) (pos 1)) (codes "TAX") (Word (codes "TAX") ∷ []) (word (codes "TAX")) refl (reads_word (in_english (pos 1) (pos 1)) (codes "TAX") refl)
 
 tax_dangles : bound (english_function small) (scene_of start) (Some 1) (word (codes "TAX")) ≡ dangling

@@ -10,7 +10,8 @@ use Rattle.ic_laws.specs.CoreBook.{CoreBook, Sheet, scene_of}
 use Rattle.ic_laws.specs.CoreStep.{core_step}
 use Rattle.ic_laws.specs.FormulaReading.{cell_formula, shown_formula}
 use Rattle.ic_laws.specs.Keeping.{kept, same_keys}
-use Rattle.ic_laws.specs.NextToken.{plain_of, tokens_by}
+use Rattle.ic_laws.specs.NextToken.{bare_of, tokens_by}
+use Rattle.ic_laws.specs.SheetText.{read_local}
 use Rattle.ic_laws.specs.Notations.{english_function}
 use Rattle.ic_laws.specs.ReadAs.{read_as}
 use Rattle.ic_laws.specs.Split.{longest_split}
@@ -63,7 +64,7 @@ abbrev found : Bound
 found = mention (sheets.Sheet 2)
 
 later_read : read_as (in_english (pos 1) (pos 1)) (codes "Later!A1") ≡ Some (reference (on (codes "Later")))
-unfolding longest_split plain_of tokens_by caseless ucd_derived
+unfolding longest_split bare_of read_local tokens_by caseless ucd_derived
 later_read = reads (in_english (pos 1) (pos 1)) (codes "Later!A1") (Ref (on (codes "Later")) ∷ []) (reference (on (codes "Later"))) refl (reads_reference (in_english (pos 1) (pos 1)) (on (codes "Later")) refl)
 
 nothing_found : bound (english_function small) (scene_of start) (Some 1) (reference (on (codes "Later"))) ≡ dangling

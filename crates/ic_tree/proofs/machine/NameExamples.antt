@@ -10,7 +10,8 @@ use Rattle.ic_laws.specs.CoreStep.{core_step, scene_with_definition}
 use Rattle.ic_laws.specs.FormulaReading.{Body, body_of, if_lambda, is_lambda_kind}
 use Rattle.ic_laws.specs.Keeping.{kept, same_keys}
 use Rattle.ic_laws.specs.Lines.{outcome_of}
-use Rattle.ic_laws.specs.NextToken.{plain_of, tokens_by}
+use Rattle.ic_laws.specs.NextToken.{bare_of, tokens_by}
+use Rattle.ic_laws.specs.SheetText.{read_local}
 use Rattle.ic_laws.specs.Notations.{english_function}
 use Rattle.ic_laws.specs.ReadAs.{read_as}
 use Rattle.ic_laws.specs.Refusal.{InvalidNameFormula}
@@ -59,7 +60,7 @@ no_lambda : if_lambda (reference (on (codes "Sheet1"))) ≡ None
 no_lambda = ap (λ kind. if is_lambda_kind kind then Some (reference (on (codes "Sheet1"))) else None) (out-roll-Tree _ _ (one.Reference (Some (codes "Sheet1")) here))
 
 after_equals : read_as (in_english (pos 1) (pos 1)) (codes "Sheet1!A1") ≡ Some (reference (on (codes "Sheet1")))
-unfolding longest_split plain_of tokens_by caseless ucd_derived
+unfolding longest_split bare_of read_local tokens_by caseless ucd_derived
 after_equals = reads (in_english (pos 1) (pos 1)) (codes "Sheet1!A1") (Ref (on (codes "Sheet1")) ∷ []) (reference (on (codes "Sheet1"))) refl (reads_reference (in_english (pos 1) (pos 1)) (on (codes "Sheet1")) refl)
 
 no_body : body_of small start (codes "=Sheet1!A1") ≡ None

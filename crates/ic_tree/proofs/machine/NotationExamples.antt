@@ -11,7 +11,8 @@ use Rattle.ic_laws.specs.CoreBook.{CoreBook, scene_of}
 use Rattle.ic_laws.specs.CoreStep.{core_step}
 use Rattle.ic_laws.specs.Dialect.{DialectMeaning}
 use Rattle.ic_laws.specs.FormulaReading.{cell_formula, shown_formula}
-use Rattle.ic_laws.specs.NextToken.{plain_of, tokens_by}
+use Rattle.ic_laws.specs.NextToken.{bare_of, tokens_by}
+use Rattle.ic_laws.specs.SheetText.{read_local}
 use Rattle.ic_laws.specs.Notations.{english_function}
 use Rattle.ic_laws.specs.Parse.{argument, arguments, binary, expression, function_call, listed, node, nothing_after, operand, parsed, postfix, prefix_sign, primary, reader, turns}
 use Rattle.ic_laws.specs.ReadAs.{read_as}
@@ -63,7 +64,7 @@ unfolding reader expression operand primary prefix_sign turns postfix binary fun
 truth_high m b = let low_here = low truth (suc m) (omega (arith, height-node (one.Fun 2 []))) in simp low_here
 
 truth_read : read_as words (codes "VERDADERO()") ≡ Some truth
-unfolding longest_split plain_of tokens_by caseless ucd_derived parsed
+unfolding longest_split bare_of read_local tokens_by caseless ucd_derived parsed
 truth_read = reads words (codes "VERDADERO()") (FunHead 2 ∷ Close ∷ []) truth refl (ap (option_and_then (λ r. nothing_after r.0 r.1)) (truth_high 1023 127))
 
 truth_found : bound (english_function small) (scene_of (without (codes "en") (codes "es"))) (Some 1) truth ≡ truth_kept
@@ -134,7 +135,7 @@ sum_high m b =
     simp (low_first, low_second, low_here)
 
 sum_read : read_as separators (codes "SUM(1,5; 2,5)") ≡ Some sum
-unfolding longest_split plain_of tokens_by caseless ucd_derived parsed
+unfolding longest_split bare_of read_local tokens_by caseless ucd_derived parsed
 sum_read = reads separators (codes "SUM(1,5; 2,5)") sum_tokens sum refl (ap (option_and_then (λ r. nothing_after r.0 r.1)) (sum_high 1022 127))
 
 sum_found : bound (english_function small) (scene_of (without (codes "es") (codes "en"))) (Some 1) sum ≡ sum_kept

@@ -9,7 +9,8 @@ use Rattle.ic_laws.specs.Command.{TextField, commands}
 use Rattle.ic_laws.specs.CoreBook.{CoreBook, Sheet, scene_of}
 use Rattle.ic_laws.specs.CoreStep.{core_step}
 use Rattle.ic_laws.specs.FormulaReading.{cell_formula, shown_formula}
-use Rattle.ic_laws.specs.NextToken.{plain_of, tokens_by}
+use Rattle.ic_laws.specs.NextToken.{bare_of, tokens_by}
+use Rattle.ic_laws.specs.SheetText.{read_local}
 use Rattle.ic_laws.specs.Notations.{english_function}
 use Rattle.ic_laws.specs.Parse.{argument, arguments, binary, expression, function_call, joined_by, listed, node, nothing_after, operand, parsed, postfix, prefix_sign, primary, reader, turns}
 use Rattle.ic_laws.specs.ReadAs.{read_as}
@@ -61,7 +62,7 @@ open_high m b =
     let low_cells = low (node (one.Reference None three_cells.place)) (suc m) (omega (arith, height-node (one.Reference None three_cells.place))) in simp low_cells
 
 open_unread : read_as (in_english (pos 1) (pos 1)) (codes "SUM(A1:A3") ≡ None
-unfolding longest_split plain_of tokens_by caseless ucd_derived parsed
+unfolding longest_split bare_of read_local tokens_by caseless ucd_derived parsed
 open_unread = reads_none (in_english (pos 1) (pos 1)) (codes "SUM(A1:A3") (FunHead 4 ∷ Ref three_cells ∷ []) refl (ap (option_and_then (λ r. nothing_after r.0 r.1)) (open_high 1022 127))
 
 closed_high : (m b : ℕ) → reader (in_english (pos 1) (pos 1)) (suc (suc m)) (suc b) 1 (FunHead 4 ∷ Ref three_cells ∷ Close ∷ []) ≡ Some (sum, [])
@@ -73,7 +74,7 @@ closed_high m b =
     simp (low_cells, low_here)
 
 closed_read : read_as (in_english (pos 1) (pos 1)) (codes "SUM(A1:A3)") ≡ Some sum
-unfolding longest_split plain_of tokens_by caseless ucd_derived parsed
+unfolding longest_split bare_of read_local tokens_by caseless ucd_derived parsed
 closed_read = reads (in_english (pos 1) (pos 1)) (codes "SUM(A1:A3)") (FunHead 4 ∷ Ref three_cells ∷ Close ∷ []) sum refl (ap (option_and_then (λ r. nothing_after r.0 r.1)) (closed_high 1022 127))
 
 sum_found : bound (english_function small) (scene_of start) (Some 1) sum ≡ sum_kept
@@ -110,7 +111,7 @@ unfolding reader expression operand primary prefix_sign turns postfix binary joi
 plus_high m b = let low_one = low (node (one.Num (pos 1000000000))) (suc (suc m)) (omega (arith, height-node (one.Num (pos 1000000000)))) in simp low_one
 
 plus_unread : read_as (in_english (pos 1) (pos 1)) (codes "1+") ≡ None
-unfolding longest_split plain_of tokens_by caseless ucd_derived parsed
+unfolding longest_split bare_of read_local tokens_by caseless ucd_derived parsed
 plus_unread = reads_none (in_english (pos 1) (pos 1)) (codes "1+") (one_and_plus []) refl (ap (option_and_then (λ r. nothing_after r.0 r.1)) (plus_high 1022 128))
 
 plus_closed_high : (m b : ℕ) → reader (in_english (pos 1) (pos 1)) (suc (suc m)) b 1 (one_and_plus (Close ∷ [])) ≡ None
@@ -118,7 +119,7 @@ unfolding reader expression operand primary prefix_sign turns postfix binary joi
 plus_closed_high m b = let low_one = low (node (one.Num (pos 1000000000))) (suc (suc m)) (omega (arith, height-node (one.Num (pos 1000000000)))) in simp low_one
 
 plus_closed_unread : read_as (in_english (pos 1) (pos 1)) (codes "1+)") ≡ None
-unfolding longest_split plain_of tokens_by caseless ucd_derived parsed
+unfolding longest_split bare_of read_local tokens_by caseless ucd_derived parsed
 plus_closed_unread = reads_none (in_english (pos 1) (pos 1)) (codes "1+)") (one_and_plus (Close ∷ [])) refl (ap (option_and_then (λ r. nothing_after r.0 r.1)) (plus_closed_high 1022 128))
 
 nothing_written : step start (codes "update_cell_with_formula\t0\t1\t1\t=") ≡ (start, Err NotAFormula)
@@ -153,11 +154,11 @@ unfolding reader expression operand primary prefix_sign turns postfix binary fun
 rows_high m b rest = let low_one = low (node (one.Num (pos 1000000000))) (suc m) (omega (arith, height-node (one.Num (pos 1000000000)))) in simp low_one
 
 rows_unread : read_as (in_english (pos 1) (pos 1)) (codes "SUM(1;2)") ≡ None
-unfolding longest_split plain_of tokens_by caseless ucd_derived parsed
+unfolding longest_split bare_of read_local tokens_by caseless ucd_derived parsed
 rows_unread = reads_none (in_english (pos 1) (pos 1)) (codes "SUM(1;2)") (two_rows (Close ∷ [])) refl (ap (option_and_then (λ r. nothing_after r.0 r.1)) (rows_high 1022 127 (Close ∷ [])))
 
 rows_closed_unread : read_as (in_english (pos 1) (pos 1)) (codes "SUM(1;2))") ≡ None
-unfolding longest_split plain_of tokens_by caseless ucd_derived parsed
+unfolding longest_split bare_of read_local tokens_by caseless ucd_derived parsed
 rows_closed_unread = reads_none (in_english (pos 1) (pos 1)) (codes "SUM(1;2))") (two_rows (Close ∷ Close ∷ [])) refl (ap (option_and_then (λ r. nothing_after r.0 r.1)) (rows_high 1022 127 (Close ∷ Close ∷ [])))
 
 rows_formula : cell_formula small start 1 (pos 1) (pos 1) (codes "SUM(1;2)") ≡ formulas.Raw (codes "SUM(1;2)")

@@ -11,7 +11,8 @@ use Rattle.ic_laws.specs.CoreBook.{CoreBook, scene_of}
 use Rattle.ic_laws.specs.CoreStep.{core_step}
 use Rattle.ic_laws.specs.FormulaReading.{cell_formula, shown_formula}
 use Rattle.ic_laws.specs.Keeping.{kept, same_keys}
-use Rattle.ic_laws.specs.NextToken.{plain_of, tokens_by, tokens_of}
+use Rattle.ic_laws.specs.NextToken.{bare_of, tokens_by, tokens_of}
+use Rattle.ic_laws.specs.SheetText.{read_local}
 use Rattle.ic_laws.specs.Notations.{english_function}
 use Rattle.ic_laws.specs.Parse.{binary, expression, joined_by, node, nothing_after, operand, parsed, postfix, prefix_sign, primary, reader, turns}
 use Rattle.ic_laws.specs.ReadAs.{read_as}
@@ -49,7 +50,7 @@ found = bound_node (one.Binary signs.Times (bound_node (one.Reference (sheets.Sh
 
 -- the text reads as the product
 falls : tokens_of (in_english (pos 1) (pos 1)) (codes "Data!B2*2") ≡ Some (tokens (codes "Data"))
-unfolding longest_split plain_of tokens_by caseless ucd_derived
+unfolding longest_split bare_of read_local tokens_by caseless ucd_derived
 falls = refl
 
 read_high : (m b : ℕ) → reader (in_english (pos 1) (pos 1)) (suc (suc m)) b 1 (tokens (codes "Data")) ≡ Some (product (codes "Data"), [])

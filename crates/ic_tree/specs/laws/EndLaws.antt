@@ -58,3 +58,18 @@ pub more_after : (word front rest after : List ℕ) → word ++ rest ≡ front +
 more_after word front rest after h le apart =
     let differ : length front ≢ length word = λ e. apart (same_front word front rest after h e) in
     omega (arith, ap length h, length-append word rest, length-append front after)
+
+-- A run of word characters reaches no further than another front of its text that stands before an end, where it isn't
+-- that text.
+pub falls_short : (word front after rest : List ℕ) → list_all is_word_character word ≡ true → IsEnd rest → word ++ after ≡ front ++ rest → (front ≡ word → ⊥) → length rest < length after
+falls_short [] [] after rest w e h apart = absurd (apart refl)
+falls_short [] (c ∷ f) after rest w e h apart = omega (arith, ap length h, length-append (c ∷ f) rest)
+falls_short (x ∷ word) [] after rest w e h apart =
+    let p = and_parts (is_word_character x) (list_all is_word_character word) w in
+    let q : joins x ≡ false = subst IsEnd (sym h) e in
+    absurd (both_ways (is_word_character x) (no_word_at_end x q) p.0)
+falls_short (x ∷ word) (c ∷ f) after rest w e h apart =
+    let p = and_parts (is_word_character x) (list_all is_word_character word) w in
+    let same : x ≡ c = cc in
+    let more : word ++ after ≡ f ++ rest = cc in
+    falls_short word f after rest p.1 e more (λ s. apart (ap (λ z. z ∷ f) (sym same) ∙ ap (λ t. x ∷ t) s))

@@ -1,21 +1,25 @@
 -- The laws of references, whatever spells and reads a place.
-use Rattle.std.proofs.Common.{◌≡◌, ◌≢◌, ℕ, ◌≤◌, List, [], ◌∷◌, ◌++◌, Bool, true, false, not, ◌&&◌, ◌||◌, ◌==◌, ◌⊎◌, length, Option, Some, None, codes, option_and_then, refl, sym, subst, ◌∙◌, ap, inl, inr, eqb}
+use Rattle.std.proofs.Common.{◌≡◌, ◌≢◌, ℕ, ◌≤◌, List, [], ◌∷◌, ◌++◌, Bool, true, false, not, ◌&&◌, ◌||◌, ◌==◌, ◌⊎◌, length, append_assoc, ◌<◌, arith, Option, Some, None, codes, option_and_then, refl, sym, subst, ◌∙◌, ap, inl, inr, eqb}
 use Rattle.std.specs.List.{list_all, list_any}
 use Rattle.std.proofs.lemmas.Bool.{and_parts, or_parts, or_left, or_right, or_from, cases_Bool, both_ways, or_cases}
 use Rattle.std.proofs.lemmas.Bool.Decides.{eqb_tells}
-use Rattle.std.proofs.lemmas.Option.{none-some}
+use Rattle.std.proofs.lemmas.List.{length-append}
+use Rattle.std.proofs.lemmas.Option.{none-some, some_pair_parts}
 use Rattle.ucd_derived.proofs.Computing.{ucd_derived}
 use Rattle.ic_laws.specs.Scan.{IsEnd, begins_word, first_is, is_digit, is_letter, is_plain, is_word_character, past_run, run_of}
-use Rattle.ic_laws.specs.Name.{is_a1_cell, is_r1c1_cell, is_sheet_name, needs_quotes}
+use Rattle.ic_laws.specs.Name.{is_a1_cell, is_identifier, is_r1c1_cell, is_sheet_name, is_variable, is_variable_form, needs_quotes}
 use Rattle.ic_laws.specs.Dialect.{begins_reference}
 use Rattle.ic_laws.specs.declared.reference.Place.{Place}
 use Rattle.ic_laws.specs.declared.reference.RefToken.{RefToken}
 use Rattle.ic_refs.specs.Longest.{FindsLongest, IsLongest}
-use Rattle.ic_refs.specs.Sheet.{SpellsReference, SpellsSheet, before_bang, reference_at, sheet_at, with_sheet, written_name}
-use Rattle.ic_refs.proofs.ReferenceLemmas.{finds_reference}
-use Rattle.ic_refs.proofs.SheetLemmas.{no_sheet_without_bang}
+use Rattle.ic_laws.specs.SheetText.{SpellsSheet, before_bang, local_text, read_local, sheet_at, sheet_text, written_name}
+use Rattle.ic_refs.specs.Sheet.{SpellsReference, reference_at, with_sheet}
+use Rattle.ic_refs.proofs.ReferenceLemmas.{finds_reference, marked_longer, sheet_has_bang}
+use Rattle.ic_laws.proofs.tokens.Locals.{local_sound}
+use Rattle.ic_laws.proofs.tokens.SheetTexts.{no_sheet_without_bang, sheet_again, sheet_complete, sheet_text_spells}
 use Rattle.ic_refs.proofs.StoredTextLemmas.{end_plain, end_bang}
-use Rattle.ic_tree.specs.laws.EndLaws.{Stops, no_longer}
+use Rattle.ic_tree.specs.laws.EndLaws.{Stops, falls_short, more_after, no_longer}
+use Rattle.ic_tree.specs.laws.NameLaws.{FormParts, form_parts, variable_form}
 
 -- ---- where no sheet's name stands
 
@@ -184,3 +188,66 @@ module _ (read : List ℕ → Option (Place × List ℕ)) (SpellsPlace : List �
       let q = place_alone (word ++ rest) after r (no_sheet_at_word word rest b w e) h in
       let l = q.1 in
       (q.0, l.front, l.whole, l.spelled, no_longer word l.front rest after w e l.whole (stops l.front q.0 l.spelled))
+
+  -- no place is a variable
+  abbrev pub NoVariable : Type 0
+  NoVariable = (word : List ℕ) (p : Place) → is_variable_form word ≡ true → SpellsPlace word p → ⊥
+
+  -- what a reference with a sheet's name makes `sheet_at` read
+  named_at : (text front after name : List ℕ) (r : RefToken) (x : SpellsReference SpellsPlace front r) → text ≡ front ++ after → r.sheet ≡ Some name → sheet_at text ≡ Some (name, x.place_text ++ after)
+  named_at text front after name r x whole e =
+      ap sheet_at (whole ∙ ap (λ f. f ++ after) x.whole ∙ append_assoc x.sheet_text x.place_text after)
+      ∙ sheet_complete x.sheet_text name (x.place_text ++ after) (subst (SpellsSheet x.sheet_text) e x.sheet)
+
+  -- one without is a place
+  alone : (front : List ℕ) (r : RefToken) (x : SpellsReference SpellsPlace front r) → r.sheet ≡ None → SpellsPlace front r.place
+  alone front r x e =
+      let none : x.sheet_text ≡ [] = subst (SpellsSheet x.sheet_text) e x.sheet in
+      subst (λ t. SpellsPlace t r.place) (sym (x.whole ∙ ap (λ s. s ++ x.place_text) none)) x.place
+
+  -- before an end, a reference is shorter than a word with its sheet
+  pub at_local : NoVariable → (sheet word rest after : List ℕ) (r : RefToken) → is_sheet_name sheet ≡ true → is_identifier word ≡ true → IsEnd rest → reference_at read (local_text sheet word ++ rest) ≡ Some (r, after) → length rest < length after
+  at_local apart sheet word rest after r named identifier e h =
+      let text = local_text sheet word ++ rest in
+      let l = longest text after r h in
+      let form : is_variable_form word ≡ true = variable_form word (identifier_variable word identifier) in
+      let parts : FormParts word = form_parts word form in
+      let whole : text ≡ sheet_text (Some sheet) ++ (word ++ rest) = append_assoc (sheet_text (Some sheet)) word rest in
+      elim (none_or_some r.sheet) [
+        | inl n ↦
+            let short = marked_longer (λ c. c == 33) (sheet_text (Some sheet)) l.front (word ++ rest) after (sym whole ∙ l.whole) (sheet_has_bang (sheet_text (Some sheet)) sheet (sheet_text_spells sheet named)) (no_bang l.front r.place (alone l.front r l.spelled n)) in
+            omega (arith, short, ap length (sym whole ∙ l.whole), length-append (sheet_text (Some sheet)) (word ++ rest), length-append word rest, length-append l.front after, some_length word parts.begins)
+        | inr n ↦
+            let x = l.spelled in
+            let both = some_pair_parts sheet n.0 (word ++ rest) (x.place_text ++ after) (sym (ap sheet_at whole ∙ sheet_again sheet (word ++ rest) named) ∙ named_at text l.front after n.0 r x l.whole n.1) in
+            more_after word x.place_text rest after both.1 (no_longer word x.place_text rest after parts.all e both.1 (stops x.place_text r.place x.place))
+            (λ same. apart word r.place form (subst (λ t. SpellsPlace t r.place) same x.place))
+      ]
+    where
+      identifier_variable : (w : List ℕ) → is_identifier w ≡ true → is_variable w ≡ true
+      identifier_variable w h = (and_parts (is_variable w) _ (and_parts _ _ (and_parts _ _ h).0).0).0
+
+      some_length : (w : List ℕ) → first_is begins_word w ≡ true → 0 < length w
+      some_length [] h = absurd (cc)
+      some_length (c ∷ cs) h = omega arith
+
+  -- and a word with its sheet is shorter than a reference before an end
+  pub local_short : NoVariable → ((text : List ℕ) (p : Place) (rest : List ℕ) → SpellsPlace text p → IsEnd rest → sheet_at (text ++ rest) ≡ None) → (text sheet word rest after : List ℕ) (r : RefToken) → IsEnd rest
+      → reference_at read text ≡ Some (r, rest) → read_local text ≡ Some ((sheet, word), after) → length rest < length after
+  local_short apart no_sheet text sheet word rest after r e h k =
+      let l = longest text rest r h in
+      let s = local_sound text sheet word after k in
+      let seen : sheet_at text ≡ Some (sheet, word ++ after) =
+      ap sheet_at (s.1 ∙ ap (λ f. f ++ after) s.2.whole ∙ append_assoc s.2.before word after) ∙ sheet_complete s.2.before sheet (word ++ after) s.2.named in
+      elim (none_or_some r.sheet) [
+        | inl n ↦ absurd (none-some (sheet, word ++ after) (sym (ap sheet_at l.whole ∙ no_sheet l.front r.place rest (alone l.front r l.spelled n) e) ∙ seen))
+        | inr n ↦
+            let x = l.spelled in
+            let both = some_pair_parts sheet n.0 (word ++ after) (x.place_text ++ rest) (sym seen ∙ named_at text l.front rest n.0 r x l.whole n.1) in
+            let form : is_variable_form word ≡ true = variable_form word (is_variable_of word s.2.identifier) in
+            let parts : FormParts word = form_parts word form in
+            falls_short word x.place_text after rest parts.all e both.1 (λ same. apart word r.place form (subst (λ t. SpellsPlace t r.place) same x.place))
+      ]
+    where
+      is_variable_of : (w : List ℕ) → is_identifier w ≡ true → is_variable w ≡ true
+      is_variable_of w h = (and_parts (is_variable w) _ (and_parts _ _ (and_parts _ _ h).0).0).0

@@ -9,7 +9,7 @@ use Rattle.std.proofs.lemmas.Fmt.{digits_decimal}
 use Rattle.std.proofs.lemmas.Option.{none-some}
 use Rattle.ic_laws.specs.Amount.{fraction_digits, units_of_one, unsigned_text}
 use Rattle.ic_laws.specs.Dialect.{IsLawful, IsWordOrAmount, begins_reference}
-use Rattle.ic_laws.specs.Name.{is_a1_cell, is_sheet_name, is_variable_form}
+use Rattle.ic_laws.specs.Name.{is_a1_cell, is_identifier, is_sheet_name, is_variable_form}
 use Rattle.ic_laws.specs.Position.{is_column, is_inside, is_row}
 use Rattle.ic_laws.specs.Scan.{IsEnd, begins_word, first_is, is_digit, is_letter, is_word_character}
 use Rattle.ic_laws.specs.Tree.{is_written_sheet}
@@ -20,12 +20,13 @@ use Rattle.ic_laws.specs.declared.reference.RefToken.{RefToken}
 use Rattle.ic_laws.proofs.AmountLemmas.{numerals}
 use Rattle.ic_refs.specs.A1.{SpellsA1, SpellsPlace, a1_at, a1_place_at, is_shown_spellable, is_spellable, place_text}
 use Rattle.ic_refs.specs.Longest.{FindsLongest, IsLongest}
-use Rattle.ic_refs.specs.Sheet.{reference_at, sheet_text}
+use Rattle.ic_laws.specs.SheetText.{local_text, read_local, sheet_at, sheet_text}
+use Rattle.ic_refs.specs.Sheet.{reference_at}
 use Rattle.ic_refs.proofs.A1PlaceLemmas.{finds_longest_place}
 use Rattle.ic_refs.proofs.A1ReferenceLemmas.{a1_again, finds_a1}
 use Rattle.ic_refs.proofs.FormulaFormLemmas.{place_inside}
-use Rattle.ic_refs.proofs.MarkLemmas.{place_no_bang}
-use Rattle.ic_refs.proofs.SheetLemmas.{sheet_named}
+use Rattle.ic_refs.proofs.MarkLemmas.{place_is_text, place_no_bang, place_no_sheet}
+use Rattle.ic_laws.proofs.tokens.SheetTexts.{sheet_named}
 use Rattle.ic_refs.proofs.StoredTextLemmas.{end_colon, end_digit}
 use Rattle.ic_tables.specs.declared.language.Language.{Language}
 use Rattle.ic_tables.proofs.WellFormed.{language_among}
@@ -39,7 +40,7 @@ use Rattle.ic_tree.specs.laws.EitherLaws.{law_error_shape_either, law_errors_apa
 use Rattle.ic_tree.specs.laws.EndLaws.{more_after, no_less_after}
 use Rattle.ic_tree.specs.laws.LanguageLaws.{found_below, law_boolean_shape, law_booleans, law_differ, law_errors, law_function_shape, law_special, size_of, some_at}
 use Rattle.ic_tree.specs.laws.NameLaws.{amount_first, form_parts, letter_begins_word, variable_form}
-use Rattle.ic_tree.specs.laws.ReferenceLaws.{at_word, law_begins, law_front, no_sheet_at_digit, place_alone}
+use Rattle.ic_tree.specs.laws.ReferenceLaws.{at_local, at_word, law_begins, law_front, local_short, no_sheet_at_digit, place_alone}
 use Rattle.ic_tree.specs.laws.StoredLaws.{speaks_well, written_sheet}
 
 only : {X : Type 0} (b : Bool) (o : Option X) (x : X) → cond b o None ≡ Some x → o ≡ Some x
@@ -121,6 +122,22 @@ module _ (row column : ℤ) where
       let s : SpellsPlace row column name q.0 = subst (λ t. SpellsPlace row column t q.0) same q.3 in
       both_ways (is_a1_cell name) f.no_cell (a1_form row column name q.0 s f.all))
 
+  -- beside words with their sheets
+  no_variable : (word : List ℕ) (p : Place) → is_variable_form word ≡ true → SpellsPlace row column word p → ⊥
+  no_variable word p v s = let f = form_parts word v in both_ways (is_a1_cell word) f.no_cell (a1_form row column word p s f.all)
+
+  no_sheet : (text : List ℕ) (p : Place) (rest : List ℕ) → SpellsPlace row column text p → IsEnd rest → sheet_at (text ++ rest) ≡ None
+  no_sheet text p rest s e = place_no_sheet text rest (place_is_text row column text p s) e
+
+  shown_within_local : (sheet word rest after : List ℕ) (r : RefToken) → is_sheet_name sheet ≡ true → is_identifier word ≡ true → IsEnd rest → a1_at row column (local_text sheet word ++ rest) ≡ Some (r, after) → length rest < length after
+  shown_within_local sheet word rest after r s w e h =
+      at_local (a1_place_at row column) (SpellsPlace row column) (finds_longest_place row column) (place_no_bang row column) (a1_begins row column) (a1_stops row column) no_variable sheet word rest after r s w e (in_cell (local_text sheet word ++ rest) after r h)
+
+  shown_local_within : (r : RefToken) (sheet word rest after : List ℕ) → is_shown_spellable row column r ≡ true → IsEnd rest → read_local ((sheet_text r.sheet ++ place_text row column r.place) ++ rest) ≡ Some ((sheet, word), after) → length rest < length after
+  shown_local_within r sheet word rest after can e h =
+      let text = (sheet_text r.sheet ++ place_text row column r.place) ++ rest in
+      local_short (a1_place_at row column) (SpellsPlace row column) (finds_longest_place row column) (place_no_bang row column) (a1_begins row column) (a1_stops row column) no_variable no_sheet text sheet word rest after r e (in_cell text rest r (shown_reads_spelled r rest can e)) h
+
   amount_none : (separator units : ℕ) (rest after : List ℕ) (r : RefToken) → units < 10 ^ 27 → is_digit separator ≡ false → (separator == 58) ≡ false → IsEnd rest → a1_at row column (unsigned_text separator units ++ rest) ≡ Some (r, after) → ⊥
   amount_none separator units rest after r small digit colon e h =
       let text = unsigned_text separator units ++ rest in
@@ -160,6 +177,8 @@ shown_laws l english list decimal row column w s = record {
   reference_begins = shown_begins row column;
   shorter_than = shorter l english list decimal row column w.words s;
   within_function = within l row column w.words;
+  within_local = shown_within_local row column;
+  local_within = shown_local_within row column;
 }
 
 -- ---- what is read can be spelled, and what can be spelled lies in the sheet

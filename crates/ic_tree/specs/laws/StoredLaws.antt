@@ -5,7 +5,7 @@ use Rattle.std.proofs.lemmas.Bool.{and_from, and_parts, both_ways}
 use Rattle.ucd_derived.proofs.Computing.{ucd_derived}
 use Rattle.ic_laws.specs.Amount.{unsigned_text}
 use Rattle.ic_laws.specs.Scan.{IsEnd, begins_word, first_is, is_digit, is_letter, is_word_character}
-use Rattle.ic_laws.specs.Name.{has_row_column_form, is_lone, is_variable_form}
+use Rattle.ic_laws.specs.Name.{has_row_column_form, is_identifier, is_lone, is_sheet_name, is_variable_form}
 use Rattle.ic_laws.specs.Dialect.{IsLawful, IsWordOrAmount, begins_reference}
 use Rattle.ic_laws.specs.Position.{is_part_within, is_place_within}
 use Rattle.ic_laws.specs.Tree.{is_written_sheet}
@@ -14,11 +14,12 @@ use Rattle.ic_laws.specs.declared.reference.Place.{Place}
 use Rattle.ic_laws.specs.declared.reference.Place.TheVariants as places
 use Rattle.ic_laws.specs.declared.reference.RefToken.{RefToken}
 use Rattle.ic_refs.specs.Longest.{FindsLongest, IsLongest}
-use Rattle.ic_refs.specs.Sheet.{SpellsReference, SpellsSheet, reference_at}
-use Rattle.ic_refs.specs.Stored.{SpellsPlace, is_stored_spellable, stored_place_at}
+use Rattle.ic_laws.specs.SheetText.{SpellsSheet, local_text, read_local}
+use Rattle.ic_refs.specs.Sheet.{SpellsReference, reference_at}
+use Rattle.ic_refs.specs.Stored.{SpellsPlace, is_stored_spellable, stored_place_at, stored_text}
 use Rattle.ic_refs.proofs.ReferenceLemmas.{finds_reference}
 use Rattle.ic_refs.proofs.StoredReachLemmas.{finds_longest_place}
-use Rattle.ic_refs.proofs.StoredReferenceLemmas.{stored_spelled}
+use Rattle.ic_refs.proofs.StoredReferenceLemmas.{no_sheet_at_place, stored_spelled}
 use Rattle.ic_refs.proofs.StoredTextLemmas.{no_bang_in_place, place_begins}
 use Rattle.ic_tables.specs.Words.{words_of}
 use Rattle.ic_tables.specs.Tables.{HasGoodWords, TableSet, english, error_words_in}
@@ -29,7 +30,7 @@ use Rattle.ic_tree.specs.laws.EndLaws.{more_after, no_less_after}
 use Rattle.ic_tree.specs.laws.StoredPlaces.{place_form, place_stops}
 use Rattle.ic_tree.specs.laws.LanguageLaws.{found_is_word, law_boolean_shape, law_booleans, law_differ, law_error_shape, law_errors, law_errors_apart, law_finds_agreeing, law_finds_word, law_function_shape, law_special, numbers_own, told_alone}
 use Rattle.ic_tree.specs.laws.NameLaws.{amount_first, form_parts, letter_begins_word, variable_form}
-use Rattle.ic_tree.specs.laws.ReferenceLaws.{Begins, at_word, law_begins, law_front, no_sheet_at_digit, place_alone}
+use Rattle.ic_tree.specs.laws.ReferenceLaws.{Begins, at_local, at_word, law_begins, law_front, local_short, no_sheet_at_digit, place_alone}
 
 row_begins : begins_reference 82 ≡ true
 unfolding ucd_derived
@@ -66,6 +67,17 @@ variable_shorter name rest after r v e h =
     let s : SpellsPlace name q.0 = subst (λ t. SpellsPlace t q.0) same q.3 in
     let k = place_form name q.0 s f.all in
     not_both (is_lone name) (has_row_column_form name) f.no_row k.0 k.1)
+
+-- beside words with their sheets
+no_variable : (word : List ℕ) (p : Place) → is_variable_form word ≡ true → SpellsPlace word p → ⊥
+no_variable word p v s = let f = form_parts word v in let k = place_form word p s f.all in not_both (is_lone word) (has_row_column_form word) f.no_row k.0 k.1
+
+within_local : (sheet word rest after : List ℕ) (r : RefToken) → is_sheet_name sheet ≡ true → is_identifier word ≡ true → IsEnd rest → read (local_text sheet word ++ rest) ≡ Some (r, after) → length rest < length after
+within_local = at_local stored_place_at SpellsPlace finds_longest_place no_bang_in_place stored_begins place_stops no_variable
+
+local_within : (r : RefToken) (sheet word rest after : List ℕ) → is_stored_spellable r ≡ true → IsEnd rest → read_local (stored_text r ++ rest) ≡ Some ((sheet, word), after) → length rest < length after
+local_within r sheet word rest after can e h =
+    local_short stored_place_at SpellsPlace finds_longest_place no_bang_in_place stored_begins place_stops no_variable no_sheet_at_place (stored_text r ++ rest) sheet word rest after r e (stored_spelled r rest can e) h
 
 -- where no reference begins with a digit
 no_digit : is_digit 82 ≡ false
@@ -108,6 +120,8 @@ stored_laws l w = record {
   reference_begins = stored_reference_begins;
   shorter_than = shorter l w;
   within_function = within l w;
+  within_local = within_local;
+  local_within = local_within;
 }
 
 -- ---- what is read can be spelled

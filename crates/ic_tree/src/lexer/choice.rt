@@ -32,6 +32,27 @@ pub(crate) fn longer_of<'t>(
     }
 }
 
+/// The longer of a reference and another token at the front of one text; the reference where both are of one length.
+pub(crate) fn longer_than_reference<'t>(
+    text: &str,
+    reference: RefToken,
+    rest: &'t str,
+    token: Token,
+    after: &'t str,
+) -> (Token, &'t str)
+    requires reference_ends { EndsWith (chars text.now) (chars rest.now) }
+    requires other_ends { EndsWith (chars text.now) (chars after.now) }
+    ensures { Some (found (token_of result.0) (chars result.1.now))
+        ≡ longer (Some (found (tokens.Ref reference) (chars rest.now)))
+        (Some (found (token_of token) (chars after.now))) }
+{
+    if leaves_no_more(text, rest, after) {
+        (Token::Ref(reference), rest)
+    } else {
+        (token, after)
+    }
+}
+
 /// The token that is seen, with a copy of its text, and the rest.
 pub(crate) fn kept_with<'t>(
     alloc: Global,

@@ -4,14 +4,15 @@ ghost use Rattle.ic_laws.specs.Dialect.{begins_reference};
 ghost use Rattle.ic_laws.specs.Scan.{begins_word};
 ghost use Rattle.ic_laws.specs.Split.{longer, or_else};
 ghost use Rattle.ic_laws.specs.Token as tokens;
-ghost use Rattle.ic_laws.specs.TokenKinds.{closed, error_at, reference_at, token_by_kinds};
+ghost use Rattle.ic_laws.specs.TokenKinds.{closed, error_at, local_at, reference_at, token_by_kinds};
 ghost use Rattle.ic_tree.specs.Lexing.{found, named_at, seen_token};
 ghost use Rattle.ic_tree.specs.Tokens.{token_of};
 
 use crate::Token;
-use crate::lexer::choice::{kept_with, longer_of};
+use crate::lexer::choice::{kept_with, longer_of, longer_than_reference};
 use crate::lexer::errors::error_at;
 use crate::lexer::letters::{begins_word, is_letter};
+use crate::lexer::locals::local_at;
 use crate::lexer::numbers::number_at;
 use crate::lexer::quoted::quoted_at;
 use crate::lexer::references::reference_at;
@@ -94,7 +95,7 @@ fn decimal_token<'t, D: Dialect>(
     }
 }
 
-/// A reference, a head, a word or a number.
+/// A reference, a word with its sheet, a head, a word or a number.
 fn named_token<'t, D: Dialect>(
     alloc: Global,
     d: &D,
@@ -104,17 +105,41 @@ fn named_token<'t, D: Dialect>(
     requires { (cs : List ℕ) × (chars text.now ≡ c ∷ cs) }
     ensures { IfOk result (λ r. option_map (λ f. found (token_of f.0) (chars f.1.now)) r
         ≡ longer (reference_at (D.meaning d.now) (chars text.now))
-        (named_at (D.meaning d.now) (chars text.now))) }
+        (longer (local_at (chars text.now)) (named_at (D.meaning d.now) (chars text.now)))) }
 {
     match reference_at(alloc, d, text) {
         Err(e) => Err(e),
+        Ok(None) => local_or_named(alloc, d, c, text),
+        Ok(Some((reference, rest))) => match local_at(alloc, text) {
+            Err(e) => Err(e),
+            Ok(Some((token, after))) => {
+                Ok(Some(longer_than_reference(text, reference, rest, token, after)))
+            }
+            Ok(None) => match named_at(d, c, text) {
+                None => Ok(Some((Token::Ref(reference), rest))),
+                Some((seen, after)) => longer_of(alloc, text, reference, rest, &seen, after),
+            },
+        },
+    }
+}
+
+/// A word with its sheet, or else a head, a word or a number.
+fn local_or_named<'t, D: Dialect>(
+    alloc: Global,
+    d: &D,
+    c: char,
+    text: &'t str,
+) -> Result<Option<(Token, &'t str)>, OutOfMemory>
+    requires { (cs : List ℕ) × (chars text.now ≡ c ∷ cs) }
+    ensures { IfOk result (λ r. option_map (λ f. found (token_of f.0) (chars f.1.now)) r
+        ≡ longer (local_at (chars text.now)) (named_at (D.meaning d.now) (chars text.now))) }
+{
+    match local_at(alloc, text) {
+        Err(e) => Err(e),
+        Ok(Some(found)) => Ok(Some(found)),
         Ok(None) => match named_at(d, c, text) {
             None => Ok(None),
             Some((seen, after)) => kept_with(alloc, &seen, after),
-        },
-        Ok(Some((reference, rest))) => match named_at(d, c, text) {
-            None => Ok(Some((Token::Ref(reference), rest))),
-            Some((seen, after)) => longer_of(alloc, text, reference, rest, &seen, after),
         },
     }
 }

@@ -1,5 +1,7 @@
-ghost use Rattle.std.specs.Prelude.{◌≡◌, List, IfOk, not, ◌&&◌, option_map};
-ghost use Rattle.ic_laws.specs.Name.{agrees, is_variable};
+ghost use Rattle.std.specs.Prelude.{◌≡◌, List, IfOk, Some, not, ◌&&◌, option_map};
+ghost use Rattle.ic_laws.specs.Name.{agrees, is_identifier, is_sheet_name, is_variable};
+ghost use Rattle.ic_laws.specs.Parse.{made_if};
+ghost use Rattle.ic_laws.specs.declared.tree.Tree.TheOpen as one;
 ghost use Rattle.ic_laws.specs.Position.{column_count, is_part_within as part_within, is_place_within as place_within, is_within, row_count};
 ghost use Rattle.ic_laws.specs.Token as tokens;
 ghost use Rattle.ic_laws.specs.Tree.{is_called_name as called_name, is_written_sheet as written_sheet};
@@ -10,7 +12,7 @@ use crate::{Measured, Token};
 use ic_laws::{
     LAST_COLUMN, LAST_ROW, OutOfMemory, Place, Position, RefPart, RefToken, Text, Tree, agree,
 };
-use ic_refs::{is_valid_a1_identifier, is_valid_sheet_name};
+use ic_refs::{is_valid_a1_identifier, is_valid_identifier, is_valid_sheet_name};
 use std::alloc::Global;
 
 fn is_row_within(row: Position) -> bool
@@ -90,6 +92,7 @@ pub fn read_leaf(alloc: Global, most: usize, token: Token) -> Result<Option<Meas
         Token::Boolean(value) => Ok(Measured::leaf(alloc, Tree::Bool(value), most)?),
         Token::Err(error) => Ok(Measured::leaf(alloc, Tree::Err(error), most)?),
         Token::Ref(reference) => Ok(read_reference(alloc, most, reference)?),
+        Token::Local(sheet, word) => Ok(read_local(alloc, most, sheet, word)?),
         Token::Word(text) => {
             if !is_variable(&text) {
                 return Ok(None);
@@ -98,6 +101,23 @@ pub fn read_leaf(alloc: Global, most: usize, token: Token) -> Result<Option<Meas
         }
         _ => Ok(None),
     }
+}
+
+/// A word with its sheet as a leaf, where both are what they may be.
+fn read_local(
+    alloc: Global,
+    most: usize,
+    sheet: Text,
+    word: Text,
+) -> Result<Option<Measured>, OutOfMemory>
+    ensures { IfOk result (λ r. (rest : List tokens.Token) → option_map (λ t. (t, rest)) r
+        ≡ made_if (is_sheet_name sheet && is_identifier word) most (one.Local (Some sheet) word)
+        rest) }
+{
+    if !is_valid_sheet_name(sheet.as_str()) || !is_valid_identifier(word.as_str()) {
+        return Ok(None);
+    }
+    Ok(Measured::leaf(alloc, Tree::Local(Some(sheet), word), most)?)
 }
 
 /// A reference as a leaf, where its sheet is a name and its place within the limits.

@@ -5,7 +5,7 @@ use Rattle.std.proofs.lemmas.Bool.{and_parts}
 use Rattle.ic_laws.specs.Tree.{is_written_sheet}
 use Rattle.ic_refs.specs.A1.{is_spellable}
 use Rattle.ic_refs.proofs.A1ReferenceLemmas.{spelled_string}
-use Rattle.ic_refs.proofs.SheetLemmas.{sheet_named}
+use Rattle.ic_laws.proofs.tokens.SheetTexts.{sheet_named}
 use Rattle.ic_refs.proofs.a1_reference.spell_a1.Goals as goal
 
 pub returns-clause-again : goal.returns-clause-again

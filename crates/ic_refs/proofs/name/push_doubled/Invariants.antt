@@ -1,7 +1,7 @@
 use Rattle.std.proofs.Common.{◌≡◌, ◌++◌, chars, length, string_bytes}
 use denote.Text.{Utf8}
 use denote.Shadow.{shadow}
-use Rattle.ic_refs.specs.Written.{doubled}
+use Rattle.ic_laws.specs.SheetText.{doubled}
 use Rattle.ic_refs.proofs.name.push_doubled.Given as goal
 
 -- what is written so far, and the rest of the name doubled, are the whole name doubled

@@ -1,7 +1,7 @@
 use Rattle.std.proofs.Common.{◌≡◌, ℕ, List, None, chars, length}
 use denote.Text.{Utf8}
 use denote.Shadow.{shadow}
-use Rattle.ic_refs.specs.Sheet.{name_in_quotes}
+use Rattle.ic_laws.specs.SheetText.{name_in_quotes}
 use Rattle.ic_refs.specs.Written.{ClosesAt}
 use Rattle.ic_refs.proofs.sheet.closing_quote.Given as goal
 

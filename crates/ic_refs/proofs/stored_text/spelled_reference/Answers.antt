@@ -1,6 +1,6 @@
 use Rattle.std.proofs.Common.{◌++◌, chars, ap, ◌∙◌}
 use Rattle.std.proofs.lemmas.Str.{chars-nil}
-use Rattle.ic_refs.specs.Sheet.{sheet_text}
+use Rattle.ic_laws.specs.SheetText.{sheet_text}
 use Rattle.ic_refs.specs.Stored.{place_text}
 use Rattle.ic_refs.proofs.stored_text.spelled_reference.Goals as goal
 

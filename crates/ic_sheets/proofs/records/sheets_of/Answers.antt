@@ -1,4 +1,4 @@
-use Rattle.std.proofs.Common.{◌∙◌, ◌+◌, ◌++◌, ◌∷◌, ℕ, List, [], ap, refl, sym, false, true, arith}
+use Rattle.std.proofs.Common.{◌∙◌, ◌+◌, ◌++◌, ◌∷◌, ℕ, List, [], ap, refl, sym, true, arith}
 use Rattle.std.specs.List.{list_any}
 use Rattle.ic_laws.specs.CoreBook.{IsId}
 use Rattle.ic_laws.specs.Name.{agrees}

@@ -36,6 +36,11 @@ unfolding trees.roll-Tree denote.Hole.Carrier.roll
 push_tree-returns-in-Reference g t c =
     one_step _ _ _ _ (g.D.Dialect.meaning c.args.d.now) _ (one.Reference c.in-Reference.sheet c.in-Reference.place) c.in-Reference.is refl c.push_reference.ensures
 
+pub push_tree-returns-in-Local : goal.push_tree-returns-in-Local
+unfolding trees.roll-Tree denote.Hole.Carrier.roll
+push_tree-returns-in-Local g t c =
+    one_step _ _ _ _ (g.D.Dialect.meaning c.args.d.now) _ (one.Local c.in-Local.sheet c.in-Local.word) c.in-Local.is refl c.push_local.ensures
+
 pub push_tree-returns-in-Word : goal.push_tree-returns-in-Word
 unfolding trees.roll-Tree denote.Hole.Carrier.roll
 push_tree-returns-in-Word g t c =

@@ -1,11 +1,12 @@
 use Rattle.std.proofs.Common.{◌≡◌, ◌+◌, ◌++◌, ◌∷◌, [], true, Some, None, chars, sym, ap, subst, ◌∙◌}
 use Rattle.std.specs.List.{list_any}
 use Rattle.ic_laws.specs.BookTrees.{with_sheet_at_end, with_trees}
-use Rattle.ic_laws.specs.Changes.{changed_tree, sheet_named}
-use Rattle.ic_laws.specs.CoreBook.{fresh_id, greatest_id}
+use Rattle.ic_laws.specs.Changes.{Change, changed_tree, sheet_named}
+use Rattle.ic_laws.specs.CoreBook.{fresh_id, greatest_id, scene_of}
 use Rattle.ic_laws.specs.CoreStep.{add_sheet_refusal, changed_by, with_new_sheet}
 use Rattle.ic_laws.specs.Name.{agrees}
 use Rattle.ic_laws.specs.Refusal.{IdsUsedUp, SheetExists}
+use Rattle.ic_definitions.specs.Named.{definitions_scene}
 use Rattle.ic_book.specs.Book.{ModelState, core_of, notations_in}
 use Rattle.ic_book.specs.Change.{book_changed_by, with_added_sheet}
 use Rattle.ic_book.specs.Inside.{held, held_state, with_contents}
@@ -13,7 +14,7 @@ use Rattle.ic_book.specs.LookUps.{LooksUpAdded, looks_up_in}
 use Rattle.ic_book.specs.Refused.{Refuses}
 use Rattle.ic_book.proofs.BookLemmas.{added_change, core_of-changed}
 use Rattle.ic_book.proofs.BookValid.{added_valid}
-use Rattle.ic_book.proofs.HeldLemmas.{no_memory, add_accepts, add_taken, add_used_up, added, binds_added, fresh_above, fresh_is, held_after, seen_names}
+use Rattle.ic_book.proofs.HeldLemmas.{no_memory, add_accepts, add_taken, add_used_up, added, binds_added, fresh_above, fresh_is, held_after, same_naming, seen_names}
 use Rattle.ic_book.proofs.SparedBodies.{naming_bodies}
 use Rattle.ic_book.proofs.LookUpLemmas.{looks_up_is}
 use Rattle.ic_book.proofs.model.Model.append_sheet.Goals as goal
@@ -37,7 +38,7 @@ returns-in_err-bodies-clause-refused c =
     subst (λ (m : ModelState). Refuses c.from_residual.result (add_sheet_refusal (core_of m.book) name)) c.self.view_is (subst (Refuses c.from_residual.result) (sym (add_accepts (core_of (held c.self.inside)) name c.in-Some.id (sym c.is_valid_sheet_name.ensures ∙ c.if-not-is_valid_sheet_name.false) (ap (list_any (agrees name)) (sym (seen_names c.self.inside.contents.sheets)) ∙ sym c.is_taken.ensures ∙ c.if-is_taken.false) (ap (λ (m : ModelState). fresh_id (core_of m.book)) c.self.view_is ∙ sym c.in-Some.ensures.fresh))) (no_memory c.from_residual.result c.from_residual.ensures))
 
 pub prepare_dangling-requires : goal.prepare_dangling-requires
-prepare_dangling-requires c = naming_bodies _ _ c.self.inside.contents.definitions
+prepare_dangling-requires c = naming_bodies _ _ _ c.self.inside.contents.definitions
 
 pub returns-in_err-add_sheet-clause-refused : goal.returns-in_err-add_sheet-clause-refused
 returns-in_err-add_sheet-clause-refused c =
@@ -66,7 +67,7 @@ pub returns-clause-binds : goal.returns-clause-binds
 returns-clause-binds c =
     let name = chars c.args.sheet_name.now in
     returns-clause-core c
-    ∙ subst (λ (m : ModelState). changed_by (notations_in m.book) (with_new_sheet name) (core_of m.book) ≡ with_sheet_at_end (greatest_id (core_of m.book) + 1) name (with_trees (changed_tree (sheet_named (greatest_id (core_of m.book) + 1) name)) (core_of m.book))) c.self.view_is
+    ∙ subst (λ (m : ModelState). changed_by (notations_in m.book) (with_new_sheet name) (core_of m.book) ≡ with_sheet_at_end (greatest_id (core_of m.book) + 1) name (with_trees (changed_tree (sheet_named (scene_of (core_of m.book)) (greatest_id (core_of m.book) + 1) name)) (core_of m.book))) c.self.view_is
     (binds_added c.self.inside c.self.invariant name (add_accepts (core_of (held c.self.inside)) name c.in-Some.id (sym c.is_valid_sheet_name.ensures ∙ c.if-not-is_valid_sheet_name.false) (ap (list_any (agrees name)) (sym (seen_names c.self.inside.contents.sheets)) ∙ sym c.is_taken.ensures ∙ c.if-is_taken.false) (ap (λ (m : ModelState). fresh_id (core_of m.book)) c.self.view_is ∙ sym c.in-Some.ensures.fresh)))
 
 pub returns-clause-refused : goal.returns-clause-refused
@@ -82,4 +83,5 @@ returns-clause-looks_up c =
     let id : c.in-Some.id ≡ greatest_id (core_of state.book) + 1 =
     fresh_is _ (greatest_id (core_of state.book)) c.in-Some.id (ap (λ (m : ModelState). fresh_id (core_of m.book)) c.self.view_is ∙ sym c.in-Some.ensures.fresh) in
     subst (λ (m : ModelState). LooksUpAdded name m new) c.self.view_is
-    (c.in_ok-add_sheet.ensures.looks_up ∙ ap (λ had. had ++ true ∷ []) (sym (looks_up_is (sheet_named c.in-Some.id name) c.self.inside.contents.sheets)) ∙ ap (λ k. looks_up_in (sheet_named k name) state ++ true ∷ []) id)
+    (c.in_ok-add_sheet.ensures.looks_up ∙ ap (λ had. had ++ true ∷ []) (sym (looks_up_is (sheet_named (definitions_scene c.self.inside.contents.definitions) c.in-Some.id name) c.self.inside.contents.sheets))
+    ∙ ap (λ (change : Change). looks_up_in change state ++ true ∷ []) (same_naming c.self.inside c.self.invariant c.in-Some.id name) ∙ ap (λ k. looks_up_in (sheet_named (scene_of (core_of state.book)) k name) state ++ true ∷ []) id)

@@ -1,63 +1,25 @@
-use Rattle.std.proofs.Common.{ap, chars, subst, sym, ◌∙◌}
-use Rattle.std.specs.List.{IsDistinct}
-use Rattle.std.specs.Prelude.{nat_eq}
-use Rattle.ic_book.specs.Book.{ModelState, core_of}
-use Rattle.ic_book.specs.Inside.{held}
+use Rattle.std.proofs.Common.{chars}
 use Rattle.ic_book.specs.Definitions.{body_of_typed}
-use Rattle.ic_book.proofs.BookValid.{core_valid}
-use Rattle.ic_book.proofs.HeldLemmas.{seen_ids}
-use Rattle.ic_book.proofs.NameHeld.{defined_binds, defined_book, defined_core, defined_held, defined_looks_up, is_free, it_is_within, it_spares, its_sheet}
+use Rattle.ic_book.proofs.NameHeld.{defined_binds, defined_book, defined_core, defined_held, defined_looks_up, is_free, it_spares}
 use Rattle.ic_book.proofs.model.Model.define.Goals as goal
-use Rattle.ic_book.proofs.model.Model.define.Goals.{in-None+in_ok-add_for_all-in-None, in-Some+in_ok-add_for_sheet-in-Some}
 
-pub add_for_all-requires-clause-free : goal.add_for_all-requires-clause-free
-add_for_all-requires-clause-free c = is_free c.self.inside c.self.invariant c.args.self.now c.self.view_is (chars c.args.name.now) c.args.scope c.in_ok-id.id c.in_ok-id.ensures.id (chars c.args.formula.now) (body_of_typed c.in_ok-id.body) c.in_ok-definition.definition c.in_ok-id.ensures.body c.in_ok-id.ensures.refused c.in_ok-definition.ensures
+pub add_definition-requires-clause-free : goal.add_definition-requires-clause-free
+add_definition-requires-clause-free c = is_free c.self.inside c.self.invariant c.args.self.now c.self.view_is (chars c.args.name.now) c.args.scope c.in_ok-id.id c.in_ok-id.ensures.id (chars c.args.formula.now) (body_of_typed c.in_ok-id.body) c.in_ok-definition.definition c.in_ok-id.ensures.body c.in_ok-id.ensures.refused c.in_ok-definition.ensures
 
-pub add_for_all-requires-clause-spares : goal.add_for_all-requires-clause-spares
-add_for_all-requires-clause-spares c = it_spares c.self.inside c.self.invariant c.args.self.now c.self.view_is (chars c.args.name.now) c.args.scope c.in_ok-id.id c.in_ok-id.ensures.id (chars c.args.formula.now) (body_of_typed c.in_ok-id.body) c.in_ok-definition.definition c.in_ok-id.ensures.body c.in_ok-id.ensures.refused c.in_ok-definition.ensures c.in-None.is
+pub add_definition-requires-clause-spares : goal.add_definition-requires-clause-spares
+add_definition-requires-clause-spares c = it_spares c.self.inside c.self.invariant c.args.self.now c.self.view_is (chars c.args.name.now) c.args.scope c.in_ok-id.id c.in_ok-id.ensures.id (chars c.args.formula.now) (body_of_typed c.in_ok-id.body) c.in_ok-definition.definition c.in_ok-id.ensures.body c.in_ok-id.ensures.refused c.in_ok-definition.ensures
 
 pub invariant_of-self : goal.invariant_of-self
-invariant_of-self c = defined_held c.self.inside c.self.invariant c.args.self.now c.self.view_is (chars c.args.name.now) c.args.scope c.in_ok-id.id c.in_ok-id.ensures.id (chars c.args.formula.now) (body_of_typed c.in_ok-id.body) c.in_ok-definition.definition c.in_ok-id.ensures.body c.in_ok-id.ensures.refused c.in_ok-definition.ensures c.add_for_all.new.contents.sheets c.add_for_all.new.contents.definitions c.in_ok-add_for_all-in-None.ensures.sheets c.in_ok-add_for_all-in-None.ensures.definitions
-
-pub add_for_sheet-requires-clause-free : goal.add_for_sheet-requires-clause-free
-add_for_sheet-requires-clause-free c = is_free c.self.inside c.self.invariant c.args.self.now c.self.view_is (chars c.args.name.now) c.args.scope c.in_ok-id.id c.in_ok-id.ensures.id (chars c.args.formula.now) (body_of_typed c.in_ok-id.body) c.in_ok-definition.definition c.in_ok-id.ensures.body c.in_ok-id.ensures.refused c.in_ok-definition.ensures
-
-pub add_for_sheet-requires-clause-within : goal.add_for_sheet-requires-clause-within
-add_for_sheet-requires-clause-within c = it_is_within c.self.inside c.self.invariant c.args.self.now c.self.view_is (chars c.args.name.now) c.args.scope c.in_ok-id.id c.in_ok-id.ensures.id (chars c.args.formula.now) (body_of_typed c.in_ok-id.body) c.in_ok-definition.definition c.in_ok-id.ensures.body c.in_ok-id.ensures.refused c.in_ok-definition.ensures c.in-Some.index c.in-Some.is
-
-pub add_for_sheet-requires-clause-ids : goal.add_for_sheet-requires-clause-ids
-add_for_sheet-requires-clause-ids c = subst (IsDistinct nat_eq) (sym (seen_ids c.self.inside.contents.sheets)) (core_valid (held c.self.inside) c.self.invariant).ids_differ
-
-pub add_for_sheet-requires-clause-scope : goal.add_for_sheet-requires-clause-scope
-add_for_sheet-requires-clause-scope c = its_sheet c.self.inside c.self.invariant c.args.self.now c.self.view_is (chars c.args.name.now) c.args.scope c.in_ok-id.id c.in_ok-id.ensures.id (chars c.args.formula.now) (body_of_typed c.in_ok-id.body) c.in_ok-definition.definition c.in_ok-id.ensures.body c.in_ok-id.ensures.refused c.in_ok-definition.ensures c.in-Some.index c.in-Some.is
-
-pub invariant_of-self-in-Continue-branch-4 : goal.invariant_of-self-in-Continue-branch-4
-invariant_of-self-in-Continue-branch-4 c = defined_held c.self.inside c.self.invariant c.args.self.now c.self.view_is (chars c.args.name.now) c.args.scope c.in_ok-id.id c.in_ok-id.ensures.id (chars c.args.formula.now) (body_of_typed c.in_ok-id.body) c.in_ok-definition.definition c.in_ok-id.ensures.body c.in_ok-id.ensures.refused c.in_ok-definition.ensures c.add_for_sheet.new.contents.sheets c.add_for_sheet.new.contents.definitions c.in_ok-add_for_sheet-in-Some.ensures.sheets c.in_ok-add_for_sheet-in-Some.ensures.definitions
+invariant_of-self c = defined_held c.self.inside c.self.invariant c.args.self.now c.self.view_is (chars c.args.name.now) c.args.scope c.in_ok-id.id c.in_ok-id.ensures.id (chars c.args.formula.now) (body_of_typed c.in_ok-id.body) c.in_ok-definition.definition c.in_ok-id.ensures.body c.in_ok-id.ensures.refused c.in_ok-definition.ensures c.add_definition.new.contents.sheets c.add_definition.new.contents.definitions c.in_ok-add_definition.ensures.sheets c.in_ok-add_definition.ensures.definitions
 
 pub returns-clause-ok : goal.returns-clause-ok
-returns-clause-ok c = λ body typed.
-    elim c.match-scope.branch [
-      | in-None+in_ok-add_for_all-in-None w ↦ ap (λ (m : ModelState). m.book) w.self-is ∙ defined_book c.self.inside c.self.invariant c.args.self.now c.self.view_is (chars c.args.name.now) c.args.scope c.in_ok-id.id c.in_ok-id.ensures.id (chars c.args.formula.now) (body_of_typed c.in_ok-id.body) c.in_ok-definition.definition c.in_ok-id.ensures.body c.in_ok-id.ensures.refused c.in_ok-definition.ensures w.add_for_all.new.contents.sheets w.add_for_all.new.contents.definitions w.in_ok-add_for_all-in-None.ensures.sheets w.in_ok-add_for_all-in-None.ensures.definitions body typed
-      | in-Some+in_ok-add_for_sheet-in-Some w ↦ ap (λ (m : ModelState). m.book) w.self-is ∙ defined_book c.self.inside c.self.invariant c.args.self.now c.self.view_is (chars c.args.name.now) c.args.scope c.in_ok-id.id c.in_ok-id.ensures.id (chars c.args.formula.now) (body_of_typed c.in_ok-id.body) c.in_ok-definition.definition c.in_ok-id.ensures.body c.in_ok-id.ensures.refused c.in_ok-definition.ensures w.add_for_sheet.new.contents.sheets w.add_for_sheet.new.contents.definitions w.in_ok-add_for_sheet-in-Some.ensures.sheets w.in_ok-add_for_sheet-in-Some.ensures.definitions body typed
-    ]
+returns-clause-ok c = λ body typed. defined_book c.self.inside c.self.invariant c.args.self.now c.self.view_is (chars c.args.name.now) c.args.scope c.in_ok-id.id c.in_ok-id.ensures.id (chars c.args.formula.now) (body_of_typed c.in_ok-id.body) c.in_ok-definition.definition c.in_ok-id.ensures.body c.in_ok-id.ensures.refused c.in_ok-definition.ensures c.add_definition.new.contents.sheets c.add_definition.new.contents.definitions c.in_ok-add_definition.ensures.sheets c.in_ok-add_definition.ensures.definitions body typed
 
 pub returns-clause-core : goal.returns-clause-core
-returns-clause-core c =
-    elim c.match-scope.branch [
-      | in-None+in_ok-add_for_all-in-None w ↦ ap (λ (m : ModelState). core_of m.book) w.self-is ∙ defined_core c.self.inside c.self.invariant c.args.self.now c.self.view_is (chars c.args.name.now) c.args.scope c.in_ok-id.id c.in_ok-id.ensures.id (chars c.args.formula.now) (body_of_typed c.in_ok-id.body) c.in_ok-definition.definition c.in_ok-id.ensures.body c.in_ok-id.ensures.refused c.in_ok-definition.ensures w.add_for_all.new.contents.sheets w.add_for_all.new.contents.definitions w.in_ok-add_for_all-in-None.ensures.sheets w.in_ok-add_for_all-in-None.ensures.definitions
-      | in-Some+in_ok-add_for_sheet-in-Some w ↦ ap (λ (m : ModelState). core_of m.book) w.self-is ∙ defined_core c.self.inside c.self.invariant c.args.self.now c.self.view_is (chars c.args.name.now) c.args.scope c.in_ok-id.id c.in_ok-id.ensures.id (chars c.args.formula.now) (body_of_typed c.in_ok-id.body) c.in_ok-definition.definition c.in_ok-id.ensures.body c.in_ok-id.ensures.refused c.in_ok-definition.ensures w.add_for_sheet.new.contents.sheets w.add_for_sheet.new.contents.definitions w.in_ok-add_for_sheet-in-Some.ensures.sheets w.in_ok-add_for_sheet-in-Some.ensures.definitions
-    ]
+returns-clause-core c = defined_core c.self.inside c.self.invariant c.args.self.now c.self.view_is (chars c.args.name.now) c.args.scope c.in_ok-id.id c.in_ok-id.ensures.id (chars c.args.formula.now) (body_of_typed c.in_ok-id.body) c.in_ok-definition.definition c.in_ok-id.ensures.body c.in_ok-id.ensures.refused c.in_ok-definition.ensures c.add_definition.new.contents.sheets c.add_definition.new.contents.definitions c.in_ok-add_definition.ensures.sheets c.in_ok-add_definition.ensures.definitions
 
 pub returns-clause-binds : goal.returns-clause-binds
-returns-clause-binds c = λ body typed.
-    elim c.match-scope.branch [
-      | in-None+in_ok-add_for_all-in-None w ↦ ap (λ (m : ModelState). core_of m.book) w.self-is ∙ defined_binds c.self.inside c.self.invariant c.args.self.now c.self.view_is (chars c.args.name.now) c.args.scope c.in_ok-id.id c.in_ok-id.ensures.id (chars c.args.formula.now) (body_of_typed c.in_ok-id.body) c.in_ok-definition.definition c.in_ok-id.ensures.body c.in_ok-id.ensures.refused c.in_ok-definition.ensures w.add_for_all.new.contents.sheets w.add_for_all.new.contents.definitions w.in_ok-add_for_all-in-None.ensures.sheets w.in_ok-add_for_all-in-None.ensures.definitions body typed
-      | in-Some+in_ok-add_for_sheet-in-Some w ↦ ap (λ (m : ModelState). core_of m.book) w.self-is ∙ defined_binds c.self.inside c.self.invariant c.args.self.now c.self.view_is (chars c.args.name.now) c.args.scope c.in_ok-id.id c.in_ok-id.ensures.id (chars c.args.formula.now) (body_of_typed c.in_ok-id.body) c.in_ok-definition.definition c.in_ok-id.ensures.body c.in_ok-id.ensures.refused c.in_ok-definition.ensures w.add_for_sheet.new.contents.sheets w.add_for_sheet.new.contents.definitions w.in_ok-add_for_sheet-in-Some.ensures.sheets w.in_ok-add_for_sheet-in-Some.ensures.definitions body typed
-    ]
+returns-clause-binds c = λ body typed. defined_binds c.self.inside c.self.invariant c.args.self.now c.self.view_is (chars c.args.name.now) c.args.scope c.in_ok-id.id c.in_ok-id.ensures.id (chars c.args.formula.now) (body_of_typed c.in_ok-id.body) c.in_ok-definition.definition c.in_ok-id.ensures.body c.in_ok-id.ensures.refused c.in_ok-definition.ensures c.add_definition.new.contents.sheets c.add_definition.new.contents.definitions c.in_ok-add_definition.ensures.sheets c.in_ok-add_definition.ensures.definitions body typed
 
 pub returns-clause-looks_up : goal.returns-clause-looks_up
-returns-clause-looks_up c =
-    elim c.match-scope.branch [
-      | in-None+in_ok-add_for_all-in-None w ↦ ap (λ (m : ModelState). m.has_all) w.self-is ∙ defined_looks_up c.self.inside c.self.invariant c.args.self.now c.self.view_is (chars c.args.name.now) c.args.scope c.in_ok-id.id c.in_ok-id.ensures.id (chars c.args.formula.now) (body_of_typed c.in_ok-id.body) c.in_ok-definition.definition c.in_ok-id.ensures.body c.in_ok-id.ensures.refused c.in_ok-definition.ensures w.add_for_all.new.contents.sheets w.in_ok-add_for_all-in-None.ensures.looks_up
-      | in-Some+in_ok-add_for_sheet-in-Some w ↦ ap (λ (m : ModelState). m.has_all) w.self-is ∙ defined_looks_up c.self.inside c.self.invariant c.args.self.now c.self.view_is (chars c.args.name.now) c.args.scope c.in_ok-id.id c.in_ok-id.ensures.id (chars c.args.formula.now) (body_of_typed c.in_ok-id.body) c.in_ok-definition.definition c.in_ok-id.ensures.body c.in_ok-id.ensures.refused c.in_ok-definition.ensures w.add_for_sheet.new.contents.sheets w.in_ok-add_for_sheet-in-Some.ensures.looks_up
-    ]
+returns-clause-looks_up c = defined_looks_up c.self.inside c.self.invariant c.args.self.now c.self.view_is (chars c.args.name.now) c.args.scope c.in_ok-id.id c.in_ok-id.ensures.id (chars c.args.formula.now) (body_of_typed c.in_ok-id.body) c.in_ok-definition.definition c.in_ok-id.ensures.body c.in_ok-id.ensures.refused c.in_ok-definition.ensures c.add_definition.new.contents.sheets c.in_ok-add_definition.ensures.looks_up

@@ -1,11 +1,12 @@
-use Rattle.std.proofs.Common.{◌≡◌, List, Bool, Some, ap, subst, ◌∙◌}
+use Rattle.std.proofs.Common.{◌≡◌, List, Bool, Some, ap, map, subst, ◌∙◌}
 use Rattle.std.specs.List.{slice_get}
 use Rattle.std.specs.Prelude.{remove}
 use Rattle.ic_laws.specs.BookTrees.{with_trees}
-use Rattle.ic_laws.specs.Changes.{changed_tree, sheet_gone}
+use Rattle.ic_laws.specs.Changes.{Change, changed_tree, sheet_gone}
+use Rattle.ic_laws.specs.CoreBook.{scene_of}
 use Rattle.ic_laws.specs.CoreStep.{changed_by, without_sheet}
 use Rattle.ic_sheets.proofs.RewritingLemmas.{sheet_there}
-use Rattle.ic_sheets.specs.Rewriting.{look_ups}
+use Rattle.ic_sheets.specs.Rewriting.{look_ups, looks_up_after}
 use Rattle.ic_sheets.specs.Sheet.{Sheet}
 use Rattle.ic_book.specs.Book.{ModelState, core_of, notations_in}
 use Rattle.ic_book.specs.Change.{book_changed_by, with_removed_sheet}
@@ -13,7 +14,7 @@ use Rattle.ic_book.specs.Inside.{held, held_state, with_contents}
 use Rattle.ic_book.specs.LookUps.{LooksUpWithout}
 use Rattle.ic_book.proofs.BookLemmas.{core_of-changed, removed_change}
 use Rattle.ic_book.proofs.BookValid.{removed_valid}
-use Rattle.ic_book.proofs.HeldLemmas.{dangles_removed, delete_accepts, held_after, more_than_one, removed, there_is, within_of}
+use Rattle.ic_book.proofs.HeldLemmas.{dangles_removed, delete_accepts, held_after, more_than_one, removed, same_going, there_is, within_of}
 use Rattle.ic_book.proofs.LookUpLemmas.{looks_up_at}
 use Rattle.ic_book.proofs.model.Model.delete_at.Goals as goal
 
@@ -36,7 +37,7 @@ returns-clause-core c =
 pub returns-clause-dangles : goal.returns-clause-dangles
 returns-clause-dangles c = λ sheet at.
     returns-clause-core c
-    ∙ subst (λ (m : ModelState). slice_get (core_of m.book).sheets c.args.index ≡ Some sheet → changed_by (notations_in m.book) (without_sheet c.args.index) (core_of m.book) ≡ without_sheet c.args.index (with_trees (changed_tree (sheet_gone sheet.id sheet.name)) (core_of m.book))) c.self.view_is
+    ∙ subst (λ (m : ModelState). slice_get (core_of m.book).sheets c.args.index ≡ Some sheet → changed_by (notations_in m.book) (without_sheet c.args.index) (core_of m.book) ≡ without_sheet c.args.index (with_trees (changed_tree (sheet_gone (scene_of (core_of m.book)) sheet.id sheet.name)) (core_of m.book))) c.self.view_is
     (dangles_removed c.self.inside c.self.invariant c.args.index sheet (delete_accepts (core_of (held c.self.inside)) c.args.index (more_than_one c.self.inside.contents.sheets c.len.result c.len.ensures c.if-len-eq1.false) (there_is c.self.inside.contents.sheets c.args.index (within_of c.self.inside.contents.sheets c.len-2.result c.args.index c.len-2.ensures c.if-index-len.false)))) at
 
 pub returns-clause-looks_up : goal.returns-clause-looks_up
@@ -44,4 +45,5 @@ returns-clause-looks_up c =
     let at = sheet_there c.self.inside.contents.sheets c.args.index (within_of c.self.inside.contents.sheets c.len-2.result c.args.index c.len-2.ensures c.if-index-len.false) in
     let new = held_state (with_contents c.delete_sheet.new.self c.apply.new.self c.self.inside) in
     subst (λ (m : ModelState). LooksUpWithout c.args.index m new) c.self.view_is
-    (looks_up_at (λ (s : Sheet). sheet_gone s.id s.name) (λ (had : List Bool). remove had c.args.index) c.self.inside.contents.sheets c.args.index at.0 at.1 (look_ups c.delete_sheet.new.self) (c.in_ok-delete_sheet.ensures.looks_up at.0 at.1))
+    (looks_up_at (λ (s : Sheet). sheet_gone (scene_of (core_of (held c.self.inside))) s.id s.name) (λ (had : List Bool). remove had c.args.index) c.self.inside.contents.sheets c.args.index at.0 at.1 (look_ups c.delete_sheet.new.self)
+    (c.in_ok-delete_sheet.ensures.looks_up at.0 at.1 ∙ ap (λ (change : Change). remove (map (looks_up_after change) c.self.inside.contents.sheets) c.args.index) (same_going c.self.inside c.self.invariant at.0.id at.0.name)))

@@ -2,14 +2,16 @@ use Rattle.std.proofs.Common.{◌≡◌, List, Bool, Some, None, chars, map, sym
 use Rattle.std.specs.Prelude.{remove}
 use Rattle.std.specs.List.{list_any, slice_get}
 use Rattle.ic_laws.specs.BookTrees.{BookKeepsFound, with_body_tree, with_trees}
-use Rattle.ic_laws.specs.Changes.{changed_tree, sheet_named}
+use Rattle.ic_laws.specs.Changes.{Change, changed_tree, sheet_named}
+use Rattle.ic_laws.specs.CoreBook.{scene_of}
 use Rattle.ic_laws.specs.CoreStep.{changed_by, rename_refusal, with_sheet_name}
 use Rattle.ic_laws.specs.Name.{agrees}
 use Rattle.ic_laws.specs.Refusal.{InvalidSheet, SheetExists}
 use Rattle.ic_sheets.proofs.RewritingLemmas.{sheet_there}
-use Rattle.ic_sheets.specs.Rewriting.{look_ups}
+use Rattle.ic_sheets.specs.Rewriting.{look_ups, looks_up_after}
 use Rattle.ic_sheets.specs.Sheet.{Sheet}
 use Rattle.ic_sheets.specs.declared.sheet.Sheet.{Sheet as HeldSheet}
+use Rattle.ic_definitions.specs.Named.{definitions_scene}
 use Rattle.ic_book.specs.Book.{ModelState, core_of, notations_in}
 use Rattle.ic_book.specs.Change.{book_changed_by, with_renamed_sheet}
 use Rattle.ic_book.specs.Inside.{held, held_state, with_contents}
@@ -17,7 +19,7 @@ use Rattle.ic_book.specs.LookUps.{LooksUpNamed}
 use Rattle.ic_book.specs.Refused.{Refuses}
 use Rattle.ic_book.proofs.BookLemmas.{core_of-changed, renamed_change}
 use Rattle.ic_book.proofs.BookValid.{renamed_valid}
-use Rattle.ic_book.proofs.HeldLemmas.{no_memory, binds_renamed, held_after, keeps_renamed, lacks_is, past_of, read_is, rename_accepts, rename_lacks, rename_taken, renamed, seen_names, there_is, within_of}
+use Rattle.ic_book.proofs.HeldLemmas.{no_memory, binds_renamed, held_after, keeps_renamed, lacks_is, past_of, read_is, rename_accepts, rename_lacks, rename_taken, renamed, same_naming, seen_names, there_is, within_of}
 use Rattle.ic_book.proofs.SparedBodies.{naming_bodies}
 use Rattle.ic_book.proofs.LookUpLemmas.{looks_up_at}
 use Rattle.ic_book.proofs.model.Model.rename_at.Goals as goal
@@ -38,7 +40,7 @@ returns-in_err-bodies-clause-refused c =
     subst (λ (m : ModelState). Refuses c.from_residual.result (rename_refusal (core_of m.book) c.args.index name)) c.self.view_is (subst (Refuses c.from_residual.result) (sym (rename_accepts (core_of (held c.self.inside)) c.args.index name (sym c.is_valid_sheet_name.ensures ∙ c.if-not-is_valid_sheet_name.false) (ap (λ xs. list_any (agrees name) (remove xs c.args.index)) (sym (seen_names c.self.inside.contents.sheets)) ∙ sym c.is_taken_by_other.ensures ∙ c.if-is_taken_by_other.false) (there_is c.self.inside.contents.sheets c.args.index (within_of c.self.inside.contents.sheets c.len.result c.args.index c.len.ensures c.if-index-len.false)))) (no_memory c.from_residual.result c.from_residual.ensures))
 
 pub prepare_dangling-requires : goal.prepare_dangling-requires
-prepare_dangling-requires c = naming_bodies _ _ c.self.inside.contents.definitions
+prepare_dangling-requires c = naming_bodies _ _ _ c.self.inside.contents.definitions
 
 pub returns-in_err-rename_sheet-clause-refused : goal.returns-in_err-rename_sheet-clause-refused
 returns-in_err-rename_sheet-clause-refused c =
@@ -51,14 +53,14 @@ invariant_of-self-2 c =
     let none = (rename_accepts (core_of (held c.self.inside)) c.args.index name (sym c.is_valid_sheet_name.ensures ∙ c.if-not-is_valid_sheet_name.false) (ap (λ xs. list_any (agrees name) (remove xs c.args.index)) (sym (seen_names c.self.inside.contents.sheets)) ∙ sym c.is_taken_by_other.ensures ∙ c.if-is_taken_by_other.false) (there_is c.self.inside.contents.sheets c.args.index (within_of c.self.inside.contents.sheets c.len.result c.args.index c.len.ensures c.if-index-len.false))) in
     let at = sheet_there c.self.inside.contents.sheets c.args.index (within_of c.self.inside.contents.sheets c.len.result c.args.index c.len.ensures c.if-index-len.false) in
     held_after c.self.inside c.self.invariant c.rename_sheet.new.self c.apply.new.self (book_changed_by (with_renamed_sheet c.args.index name) (held c.self.inside))
-    (renamed c.self.inside c.self.invariant c.rename_sheet.new.self c.apply.new.self c.args.index name at.0 none at.1 (c.in_ok-rename_sheet.ensures.ok at.0 at.1) (c.apply.ensures ∙ c.in_ok-bodies.ensures.made ∙ ap (λ (s : HeldSheet). map (with_body_tree (changed_tree (sheet_named s.id name))) c.self.inside.contents.definitions) (sym c.index-as_slice-index.is ∙ read_is c.as_slice.result.now c.self.inside.contents.sheets c.args.index c.index-as_slice-index.result at.0 c.as_slice.ensures.sheets (within_of c.self.inside.contents.sheets c.len.result c.args.index c.len.ensures c.if-index-len.false) c.index-as_slice-index.is at.1)))
+    (renamed c.self.inside c.self.invariant c.rename_sheet.new.self c.apply.new.self c.args.index name at.0 none at.1 (c.in_ok-rename_sheet.ensures.ok at.0 at.1) (c.apply.ensures ∙ c.in_ok-bodies.ensures.made ∙ ap (λ (s : HeldSheet). map (with_body_tree (changed_tree (sheet_named (definitions_scene c.self.inside.contents.definitions) s.id name))) c.self.inside.contents.definitions) (sym c.index-as_slice-index.is ∙ read_is c.as_slice.result.now c.self.inside.contents.sheets c.args.index c.index-as_slice-index.result at.0 c.as_slice.ensures.sheets (within_of c.self.inside.contents.sheets c.len.result c.args.index c.len.ensures c.if-index-len.false) c.index-as_slice-index.is at.1)))
     (renamed_valid (held c.self.inside) c.self.invariant c.args.index name none)
 
 pub returns-clause-ok : goal.returns-clause-ok
 returns-clause-ok c =
     let name = chars c.args.new_name.now in
     let at = sheet_there c.self.inside.contents.sheets c.args.index (within_of c.self.inside.contents.sheets c.len.result c.args.index c.len.ensures c.if-index-len.false) in
-    renamed c.self.inside c.self.invariant c.rename_sheet.new.self c.apply.new.self c.args.index name at.0 (rename_accepts (core_of (held c.self.inside)) c.args.index name (sym c.is_valid_sheet_name.ensures ∙ c.if-not-is_valid_sheet_name.false) (ap (λ xs. list_any (agrees name) (remove xs c.args.index)) (sym (seen_names c.self.inside.contents.sheets)) ∙ sym c.is_taken_by_other.ensures ∙ c.if-is_taken_by_other.false) (there_is c.self.inside.contents.sheets c.args.index (within_of c.self.inside.contents.sheets c.len.result c.args.index c.len.ensures c.if-index-len.false))) at.1 (c.in_ok-rename_sheet.ensures.ok at.0 at.1) (c.apply.ensures ∙ c.in_ok-bodies.ensures.made ∙ ap (λ (s : HeldSheet). map (with_body_tree (changed_tree (sheet_named s.id name))) c.self.inside.contents.definitions) (sym c.index-as_slice-index.is ∙ read_is c.as_slice.result.now c.self.inside.contents.sheets c.args.index c.index-as_slice-index.result at.0 c.as_slice.ensures.sheets (within_of c.self.inside.contents.sheets c.len.result c.args.index c.len.ensures c.if-index-len.false) c.index-as_slice-index.is at.1))
+    renamed c.self.inside c.self.invariant c.rename_sheet.new.self c.apply.new.self c.args.index name at.0 (rename_accepts (core_of (held c.self.inside)) c.args.index name (sym c.is_valid_sheet_name.ensures ∙ c.if-not-is_valid_sheet_name.false) (ap (λ xs. list_any (agrees name) (remove xs c.args.index)) (sym (seen_names c.self.inside.contents.sheets)) ∙ sym c.is_taken_by_other.ensures ∙ c.if-is_taken_by_other.false) (there_is c.self.inside.contents.sheets c.args.index (within_of c.self.inside.contents.sheets c.len.result c.args.index c.len.ensures c.if-index-len.false))) at.1 (c.in_ok-rename_sheet.ensures.ok at.0 at.1) (c.apply.ensures ∙ c.in_ok-bodies.ensures.made ∙ ap (λ (s : HeldSheet). map (with_body_tree (changed_tree (sheet_named (definitions_scene c.self.inside.contents.definitions) s.id name))) c.self.inside.contents.definitions) (sym c.index-as_slice-index.is ∙ read_is c.as_slice.result.now c.self.inside.contents.sheets c.args.index c.index-as_slice-index.result at.0 c.as_slice.ensures.sheets (within_of c.self.inside.contents.sheets c.len.result c.args.index c.len.ensures c.if-index-len.false) c.index-as_slice-index.is at.1))
     ∙ ap (λ (m : ModelState). book_changed_by (with_renamed_sheet c.args.index name) m.book) c.self.view_is
 
 pub returns-clause-core : goal.returns-clause-core
@@ -76,7 +78,7 @@ pub returns-clause-binds : goal.returns-clause-binds
 returns-clause-binds c = λ sheet at.
     let name = chars c.args.new_name.now in
     returns-clause-core c
-    ∙ subst (λ (m : ModelState). slice_get (core_of m.book).sheets c.args.index ≡ Some sheet → changed_by (notations_in m.book) (with_sheet_name c.args.index name) (core_of m.book) ≡ with_sheet_name c.args.index name (with_trees (changed_tree (sheet_named sheet.id name)) (core_of m.book))) c.self.view_is
+    ∙ subst (λ (m : ModelState). slice_get (core_of m.book).sheets c.args.index ≡ Some sheet → changed_by (notations_in m.book) (with_sheet_name c.args.index name) (core_of m.book) ≡ with_sheet_name c.args.index name (with_trees (changed_tree (sheet_named (scene_of (core_of m.book)) sheet.id name)) (core_of m.book))) c.self.view_is
     (binds_renamed c.self.inside c.self.invariant c.args.index name sheet (rename_accepts (core_of (held c.self.inside)) c.args.index name (sym c.is_valid_sheet_name.ensures ∙ c.if-not-is_valid_sheet_name.false) (ap (λ xs. list_any (agrees name) (remove xs c.args.index)) (sym (seen_names c.self.inside.contents.sheets)) ∙ sym c.is_taken_by_other.ensures ∙ c.if-is_taken_by_other.false) (there_is c.self.inside.contents.sheets c.args.index (within_of c.self.inside.contents.sheets c.len.result c.args.index c.len.ensures c.if-index-len.false)))) at
 
 pub returns-clause-refused : goal.returns-clause-refused
@@ -90,4 +92,5 @@ returns-clause-looks_up c =
     let at = sheet_there c.self.inside.contents.sheets c.args.index (within_of c.self.inside.contents.sheets c.len.result c.args.index c.len.ensures c.if-index-len.false) in
     let new = held_state (with_contents c.rename_sheet.new.self c.apply.new.self c.self.inside) in
     subst (λ (m : ModelState). LooksUpNamed c.args.index name m new) c.self.view_is
-    (looks_up_at (λ (s : Sheet). sheet_named s.id name) (λ (had : List Bool). had) c.self.inside.contents.sheets c.args.index at.0 at.1 (look_ups c.rename_sheet.new.self) (c.in_ok-rename_sheet.ensures.looks_up at.0 at.1))
+    (looks_up_at (λ (s : Sheet). sheet_named (scene_of (core_of (held c.self.inside))) s.id name) (λ (had : List Bool). had) c.self.inside.contents.sheets c.args.index at.0 at.1 (look_ups c.rename_sheet.new.self)
+    (c.in_ok-rename_sheet.ensures.looks_up at.0 at.1 ∙ ap (λ (change : Change). map (looks_up_after change) c.self.inside.contents.sheets) (same_naming c.self.inside c.self.invariant at.0.id name)))

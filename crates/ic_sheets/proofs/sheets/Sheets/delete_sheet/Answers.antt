@@ -6,27 +6,27 @@ use Rattle.ic_sheets.specs.declared.sheet.Sheet.{Sheet}
 use Rattle.ic_sheets.proofs.sheets.Sheets.delete_sheet.Goals as goal
 
 pub remove-requires : goal.remove-requires
-remove-requires c =
+remove-requires g c =
     subst (λ n. c.args.index < n) (sym (c.in_ok-prepared.prepared.ok.0 ∙ prepared_length _ c.in_ok-prepared.prepared.items c.args.self.now c.in_ok-prepared.ensures)) c.requires
 
 pub apply-requires : goal.apply-requires
-apply-requires c =
+apply-requires g c =
     subst₂ FitSheets (sym c.remove.ensures.items) (sym c.in_ok-delete_leaving_formulas.ensures.ok) (fits_removed _ c.in_ok-prepared.prepared.items c.args.self.now c.args.index c.in_ok-prepared.ensures)
 
 pub returns-clause-ok : goal.returns-clause-ok
-returns-clause-ok c = λ sheet at.
+returns-clause-ok g c = λ sheet at.
     let s = c.index-sheet.result.now in
-    deleted_made (sheet_gone sheet.id sheet.name) c.in_ok-prepared.prepared.items c.remove.new.self.items c.args.self.now c.delete_leaving_formulas.new.self c.apply.new.self c.args.index
-    (subst (λ (s : Sheet). ArePrepared (sheet_gone s.id s.name) c.in_ok-prepared.prepared.items c.args.self.now)
+    deleted_made (sheet_gone (g.F.Finder.scene c.args.definitions.now) sheet.id sheet.name) c.in_ok-prepared.prepared.items c.remove.new.self.items c.args.self.now c.delete_leaving_formulas.new.self c.apply.new.self c.args.index
+    (subst (λ (s : Sheet). ArePrepared (sheet_gone (g.F.Finder.scene c.args.definitions.now) s.id s.name) c.in_ok-prepared.prepared.items c.args.self.now)
     (read_there c.args.self.now c.args.index s sheet c.requires (c.index-sheet.ensures ∙ ap (λ xs. get_or xs c.args.index s) c.self.view_is) at)
-    (subst (λ n. ArePrepared (sheet_gone s.id n) c.in_ok-prepared.prepared.items c.args.self.now) c.as_str-name.ensures.characters c.in_ok-prepared.ensures))
+    (subst (λ n. ArePrepared (sheet_gone (g.F.Finder.scene c.args.definitions.now) s.id n) c.in_ok-prepared.prepared.items c.args.self.now) c.as_str-name.ensures.characters c.in_ok-prepared.ensures))
     c.remove.ensures.items c.in_ok-delete_leaving_formulas.ensures.ok c.apply.ensures
 
 pub returns-clause-looks_up : goal.returns-clause-looks_up
-returns-clause-looks_up c = λ sheet at.
+returns-clause-looks_up g c = λ sheet at.
     let s = c.index-sheet.result.now in
-    deleted_looks_up (sheet_gone sheet.id sheet.name) c.in_ok-prepared.prepared.items c.remove.new.self.items c.args.self.now c.delete_leaving_formulas.new.self c.apply.new.self c.args.index
-    (subst (λ (s : Sheet). ArePrepared (sheet_gone s.id s.name) c.in_ok-prepared.prepared.items c.args.self.now)
+    deleted_looks_up (sheet_gone (g.F.Finder.scene c.args.definitions.now) sheet.id sheet.name) c.in_ok-prepared.prepared.items c.remove.new.self.items c.args.self.now c.delete_leaving_formulas.new.self c.apply.new.self c.args.index
+    (subst (λ (s : Sheet). ArePrepared (sheet_gone (g.F.Finder.scene c.args.definitions.now) s.id s.name) c.in_ok-prepared.prepared.items c.args.self.now)
     (read_there c.args.self.now c.args.index s sheet c.requires (c.index-sheet.ensures ∙ ap (λ xs. get_or xs c.args.index s) c.self.view_is) at)
-    (subst (λ n. ArePrepared (sheet_gone s.id n) c.in_ok-prepared.prepared.items c.args.self.now) c.as_str-name.ensures.characters c.in_ok-prepared.ensures))
+    (subst (λ n. ArePrepared (sheet_gone (g.F.Finder.scene c.args.definitions.now) s.id n) c.in_ok-prepared.prepared.items c.args.self.now) c.as_str-name.ensures.characters c.in_ok-prepared.ensures))
     c.remove.ensures.items c.in_ok-delete_leaving_formulas.ensures.ok c.apply.ensures

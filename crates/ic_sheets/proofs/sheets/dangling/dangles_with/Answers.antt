@@ -1,5 +1,5 @@
 use Rattle.std.proofs.Common.{ap, option_map, sym, ◌∙◌}
-use Rattle.ic_sheets.proofs.OwnLemmas.{dangles_found, dangles_not_found}
+use Rattle.ic_sheets.proofs.MakesLemmas.{dangles_found, dangles_not_found}
 use Rattle.ic_sheets.proofs.sheets.dangling.dangles_with.Goals as goal
 
 pub returns-in-Some : goal.returns-in-Some

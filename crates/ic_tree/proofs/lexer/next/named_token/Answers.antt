@@ -1,6 +1,12 @@
-use Rattle.std.proofs.Common.{chars}
-use Rattle.ic_tree.specs.Lexing.{found, seen_token}
+use Rattle.std.proofs.Common.{◌≡◌, ℕ, List, Some, ap, ap₂, chars, option_map, sym, ◌∙◌}
+use Rattle.ic_laws.specs.Split.{longer}
+use Rattle.ic_laws.specs.Token as tokens
+use Rattle.ic_laws.specs.TokenKinds.{local_at, reference_at}
+use Rattle.ic_laws.specs.declared.reference.RefToken.{RefToken}
+use Rattle.ic_tree.specs.Lexing.{found, named_at, seen_token}
+use Rattle.ic_tree.specs.Tokens.{token_of}
 use Rattle.ic_tree.proofs.FirstLemmas.{named_ends, reference_ends}
+use Rattle.ic_tree.proofs.LocalFirst.{local_ends, local_over_named}
 use Rattle.ic_tree.proofs.lexer.next.named_token.Goals as goal
 
 pub longer_of-requires-clause-reference_ends : goal.longer_of-requires-clause-reference_ends
@@ -9,4 +15,23 @@ longer_of-requires-clause-reference_ends g c =
 
 pub longer_of-requires-clause-other_ends : goal.longer_of-requires-clause-other_ends
 longer_of-requires-clause-other_ends g c =
-    named_ends (g.D.Dialect.meaning c.args.d.now) (g.met.D.Dialect.laws c.args.d.now) (chars c.args.text.now) (found (seen_token c.in-Some-named_at.seen) (chars c.in-Some-named_at.after.now)) c.in-Some-named_at.ensures
+    named_ends (g.D.Dialect.meaning c.args.d.now) (g.met.D.Dialect.laws c.args.d.now) (chars c.args.text.now) (found (seen_token c.in-Some.seen) (chars c.in-Some.after.now)) c.in-Some.ensures
+
+pub longer_than_reference-requires-clause-reference_ends : goal.longer_than_reference-requires-clause-reference_ends
+longer_than_reference-requires-clause-reference_ends g c =
+    reference_ends (g.D.Dialect.meaning c.args.d.now) (g.met.D.Dialect.laws c.args.d.now) (chars c.args.text.now) (chars c.in-Ok-Some.rest.now) c.in-Ok-Some.reference (rw c.in-Ok-Some.field-0-is at c.in-Ok-Some.ensures)
+
+pub longer_than_reference-requires-clause-other_ends : goal.longer_than_reference-requires-clause-other_ends
+longer_than_reference-requires-clause-other_ends g c =
+    local_ends (g.D.Dialect.meaning c.args.d.now) (chars c.args.text.now) (found (token_of c.in-Ok-Some-local_at.token) (chars c.in-Ok-Some-local_at.after.now)) (rw c.in-Ok-Some-local_at.field-0-is at c.in-Ok-Some-local_at.ensures)
+
+pub returns-in-Ok-Some-local_at : goal.returns-in-Ok-Some-local_at
+returns-in-Ok-Some-local_at g c =
+    let d = g.D.Dialect.meaning c.args.d.now in
+    let text = chars c.args.text.now in
+    let reference : Some (found (tokens.Ref c.in-Ok-Some.reference) (chars c.in-Ok-Some.rest.now)) ≡ reference_at d text =
+    ap (option_map (λ (f : RefToken × List ℕ). found (tokens.Ref f.0) f.1)) (rw c.in-Ok-Some.field-0-is at c.in-Ok-Some.ensures) in
+    let local : longer (local_at text) (named_at d text) ≡ Some (found (token_of c.in-Ok-Some-local_at.token) (chars c.in-Ok-Some-local_at.after.now)) =
+    local_over_named d (g.met.D.Dialect.laws c.args.d.now) text (found (token_of c.in-Ok-Some-local_at.token) (chars c.in-Ok-Some-local_at.after.now))
+    (rw c.in-Ok-Some-local_at.field-0-is at c.in-Ok-Some-local_at.ensures) in
+    c.longer_than_reference.ensures ∙ ap₂ longer reference (sym local)

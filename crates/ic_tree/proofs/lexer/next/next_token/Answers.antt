@@ -3,7 +3,7 @@ use Rattle.std.proofs.lemmas.Result.{IfOk-weaker}
 use Rattle.ic_laws.specs.AmountFront.{number_in_one_pass}
 use Rattle.ic_laws.specs.Split.{longer, or_else}
 use Rattle.ic_laws.specs.Token as tokens
-use Rattle.ic_laws.specs.TokenKinds.{error_at, reference_at, token_by_kinds}
+use Rattle.ic_laws.specs.TokenKinds.{error_at, local_at, reference_at, token_by_kinds}
 use Rattle.ic_tree.specs.Lexing.{found, named_at}
 use Rattle.ic_tree.proofs.FirstLemmas.{decimal_kinds, hash_kinds, named_kinds, nothing_there, quote_kinds, sign_kinds}
 use Rattle.ic_tree.proofs.lexer.next.next_token.Goals as goal
@@ -32,7 +32,7 @@ returns-then-begins_name g c =
     let d = g.D.Dialect.meaning c.args.d.now in
     let text : chars c.args.text.now ≡ c.in-Some.c ∷ chars c.in-Some.after.now = c.in-Some.ensures.parts in
     let all = ap (token_by_kinds d) text ∙ named_kinds d (g.met.D.Dialect.laws c.args.d.now) c.in-Some.c (chars c.in-Some.after.now) (sym c.if-begins_name.ensures)
-    ∙ sym (ap (λ t. longer (reference_at d t) (named_at d t)) text) in
+    ∙ sym (ap (λ t. longer (reference_at d t) (longer (local_at t) (named_at d t))) text) in
     IfOk-weaker c.named_token.result _ _ (λ r h. h ∙ sym all) c.named_token.ensures
 
 pub returns-then-c-decimal : goal.returns-then-c-decimal

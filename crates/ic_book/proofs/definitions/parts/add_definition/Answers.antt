@@ -3,13 +3,15 @@ use Rattle.ic_laws.specs.Changes.{definition_added}
 use Rattle.ic_laws.specs.CoreBook.{spelling_of}
 use Rattle.ic_laws.specs.declared.scene.DefinitionSpelling.{DefinitionSpelling}
 use Rattle.ic_laws.specs.declared.tree.NameKey.{NameKey}
-use Rattle.ic_pool.proofs.ChangeLemmas.{adding_spares_found}
-use Rattle.ic_sheets.specs.Rewriting.{look_ups, looks_up_after}
-use Rattle.ic_book.proofs.definitions.parts.add_for_all.Goals as goal
+use Rattle.ic_sheets.specs.Rewriting.{changed_pool, look_ups, looks_up_after, sheets_of}
+use Rattle.ic_book.proofs.definitions.parts.add_definition.Goals as goal
 
-pub prepare_dangling-requires : goal.prepare_dangling-requires
-prepare_dangling-requires c =
-    λ id. adding_spares_found c.new-added.result id (ap (λ (d : DefinitionSpelling). d.scope) c.new-added.ensures ∙ ap (λ (key : NameKey). key.scope) c.key.ensures ∙ c.requires.scope)
+pub returns-clause-sheets : goal.returns-clause-sheets
+returns-clause-sheets c =
+    let added : c.new-added.result ≡ spelling_of c.args.definition =
+    c.new-added.ensures
+    ∙ ap₂ (λ (name : List ℕ) (scope : Option ℕ). let spelling : DefinitionSpelling = record { name = name; scope = scope } in spelling) c.name.ensures (ap (λ (key : NameKey). key.scope) c.key.ensures) in
+    ap sheets_of c.apply_own.ensures ∙ c.in_ok-formulas.ensures.made ∙ ap (λ (d : DefinitionSpelling). map (changed_pool (definition_added d)) (sheets_of c.args.contents.now.sheets)) added
 
 pub returns-clause-looks_up : goal.returns-clause-looks_up
 returns-clause-looks_up c =

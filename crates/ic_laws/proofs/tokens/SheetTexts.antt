@@ -8,11 +8,20 @@ use Rattle.std.proofs.lemmas.Option.{cond_some, none-some, option_and_then_some,
 use Rattle.ucd_derived.proofs.Computing.{ucd_derived}
 use Rattle.ic_laws.specs.Name.{in_quotes, is_a1_cell, is_r1c1_cell, is_sheet_name, needs_quotes}
 use Rattle.ic_laws.specs.Scan.{first_is, is_digit, is_plain, past_run, run_of}
+use Rattle.ic_laws.specs.SheetText.{SpellsSheet, before_bang, doubled, doubled_char, name_in_quotes, onto_text, sheet_at, sheet_text, written_name}
 use Rattle.ic_laws.specs.Tree.{is_written_sheet}
-use Rattle.ic_refs.specs.Sheet.{SpellsSheet, before_bang, name_in_quotes, onto_text, sheet_at, sheet_text, written_name}
-use Rattle.ic_refs.specs.Written.{doubled, doubled_char}
-use Rattle.ic_refs.proofs.SheetQuoteLemmas.{quoted_step, closed_here}
 use Rattle.ic_laws.proofs.RunLemmas.{run_and_rest}
+use Rattle.ic_laws.proofs.tokens.Characters.{past_run_all, run_of_all}
+
+-- a character that is no quote stands for itself
+pub quoted_step : (c : ℕ) (cs : List ℕ) → (c == 39) ≡ false → name_in_quotes (c ∷ cs) ≡ onto_text c (name_in_quotes cs)
+quoted_step c [] h = rw h refl
+quoted_step c (d ∷ cs) h = rw h refl
+
+-- a quote with no other after it closes the name
+pub closed_here : (more : List ℕ) → first_is (λ c. c == 39) more ≡ false → name_in_quotes (39 ∷ more) ≡ Some ([], more)
+closed_here [] h = refl
+closed_here (d ∷ ds) h = rw h refl
 
 -- a name that may be written is a sheet's
 pub sheet_named : (sheet : Option (List ℕ)) → is_written_sheet sheet ≡ true → IfSome sheet (λ name. is_sheet_name name ≡ true)
@@ -39,17 +48,6 @@ colon_not_plain = refl
 pub bracket_not_plain : is_plain 91 ≡ false
 unfolding ucd_derived
 bracket_not_plain = refl
-
--- the run at the front of such characters, before one of another kind or the end
-pub run_of_all : (p : ℕ → Bool) (text rest : List ℕ) → list_all p text ≡ true → first_is p rest ≡ false → run_of p (text ++ rest) ≡ text
-run_of_all p [] [] h k = refl
-run_of_all p [] (d ∷ ds) h k = rw k refl
-run_of_all p (c ∷ cs) rest h k = let e = and_parts (p c) (list_all p cs) h in rw (e.0) (ap (λ t. c ∷ t) (run_of_all p cs rest e.1 k))
-
-pub past_run_all : (p : ℕ → Bool) (text rest : List ℕ) → list_all p text ≡ true → first_is p rest ≡ false → past_run p (text ++ rest) ≡ rest
-past_run_all p [] [] h k = refl
-past_run_all p [] (d ∷ ds) h k = rw k refl
-past_run_all p (c ∷ cs) rest h k = let e = and_parts (p c) (list_all p cs) h in rw (e.0) (past_run_all p cs rest e.1 k)
 
 -- a character in front of what was read
 onto_some : (c : ℕ) (o : Option (List ℕ × List ℕ)) (name rest : List ℕ) → onto_text c o ≡ Some (name, rest) → (m : List ℕ) × (name ≡ c ∷ m) × (o ≡ Some (m, rest))
@@ -150,24 +148,23 @@ before_complete name rest h = rw h refl
 quoted_front : (name rest : List ℕ) → in_quotes name ++ 33 ∷ [] ++ rest ≡ 39 ∷ (doubled name ++ 39 ∷ 33 ∷ rest)
 quoted_front name rest = append_assoc (in_quotes name) (33 ∷ []) rest ∙ ap (λ t. 39 ∷ t) (append_assoc (doubled name) (39 ∷ []) (33 ∷ rest))
 
-all_plain : (name : List ℕ) → needs_quotes name ≡ false → list_all is_plain name ≡ true
+-- what needs no quotes has plain characters alone
+pub all_plain : (name : List ℕ) → needs_quotes name ≡ false → list_all is_plain name ≡ true
 all_plain name h =
     not-false (list_all is_plain name) ((or_parts (not (list_all is_plain name)) (first_is (λ c. is_digit c || c == 46) name) (or_parts (not (list_all is_plain name) || first_is (λ c. is_digit c || c == 46) name) (is_a1_cell name) (or_parts (not (list_all is_plain name) || first_is (λ c. is_digit c || c == 46) name || is_a1_cell name) (is_r1c1_cell name) h).0).0).0)
 
 -- a plain character is no quote
-plain_no_quote : (c : ℕ) → is_plain c ≡ true → (c == 39) ≡ false
+pub plain_no_quote : (c : ℕ) → is_plain c ≡ true → (c == 39) ≡ false
 plain_no_quote c h = elim (eqb_tells c 39) [ inl p ↦ absurd (both_ways (is_plain c) (ap is_plain p.1 ∙ quote_not_plain) h) | inr p ↦ p.0 ]
 
 -- a name that stands without quotes, unless it needs them
-plain_read : List ℕ → List ℕ → Option (List ℕ × List ℕ)
+abbrev pub plain_read : List ℕ → List ℕ → Option (List ℕ × List ℕ)
 plain_read n r = if needs_quotes n then None else Some (n, r)
 
-written_other : (c : ℕ) (cs : List ℕ) → (c == 39) ≡ false → written_name (c ∷ cs) ≡ plain_read (run_of is_plain (c ∷ cs)) (past_run is_plain (c ∷ cs))
-unfolding plain_read
+pub written_other : (c : ℕ) (cs : List ℕ) → (c == 39) ≡ false → written_name (c ∷ cs) ≡ plain_read (run_of is_plain (c ∷ cs)) (past_run is_plain (c ∷ cs))
 written_other c cs h = rw h refl
 
 written_plain : (name rest : List ℕ) → is_sheet_name name ≡ true → needs_quotes name ≡ false → written_name (name ++ 33 ∷ rest) ≡ Some (name, 33 ∷ rest)
-unfolding plain_read
 written_plain [] rest s h = cc
 written_plain (c ∷ cs) rest s h =
     let plain = all_plain (c ∷ cs) h in
@@ -210,7 +207,6 @@ none_after false n r h = no_bang n r h
 
 -- A text without a quote at its front has no sheet's name there where no `!` follows its plain run.
 pub no_sheet_without_bang : (text : List ℕ) → first_is (λ c. c == 39) text ≡ false → first_is (λ c. c == 33) (past_run is_plain text) ≡ false → sheet_at text ≡ None
-unfolding plain_read
 no_sheet_without_bang [] h k = refl
 no_sheet_without_bang (c ∷ cs) h k =
     let run = run_of is_plain (c ∷ cs) in
@@ -226,6 +222,5 @@ no_run c cs h = rw h refl
 
 -- Nor has one that begins with a character that is neither plain nor a quote.
 pub no_sheet_at_other : (text : List ℕ) → first_is (λ c. c == 39) text ≡ false → first_is is_plain text ≡ false → sheet_at text ≡ None
-unfolding plain_read
 no_sheet_at_other [] h k = refl
 no_sheet_at_other (c ∷ cs) h k = ap (option_and_then (λ (f : List ℕ × List ℕ). before_bang f.0 f.1)) (written_other c cs h ∙ no_run c cs k) ∙ no_name (needs_quotes []) c cs

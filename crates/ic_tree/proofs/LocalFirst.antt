@@ -1,0 +1,142 @@
+-- Words with their sheets at the front of a text: what begins with none, and what else begins where one does.
+use Rattle.std.proofs.Common.{◌≡◌, ℕ, ◌-◌, ◌≤◌, List, [], ◌∷◌, ◌++◌, Bool, true, false, ◌||◌, ◌==◌, length, drop, Option, Some, None, option_map, option_and_then, chars, encode_utf8_all, IsUtf8, refl, sym, ◌∙◌, ap, subst, inl, inr, arith, append_assoc, length-append}
+use Rattle.std.specs.List.{list_all}
+use Rattle.std.specs.Str.{IsCharBoundary}
+use Rattle.std.proofs.lemmas.Bool.{and_parts, both_ways, cases_Bool, or_parts}
+use Rattle.std.proofs.lemmas.Bool.Decides.{eqb_tells}
+use Rattle.std.proofs.lemmas.Str.{encodes-append, encodes-chars}
+use Rattle.ucd_derived.proofs.Computing.{ucd_derived}
+use Rattle.ic_laws.specs.AmountFront.{number_in_one_pass}
+use Rattle.ic_laws.specs.Dialect.{DialectMeaning, IsLawful, begins_reference}
+use Rattle.ic_laws.specs.Longest.{read_at}
+use Rattle.ic_laws.specs.Name.{needs_quotes}
+use Rattle.ic_laws.specs.NextToken.{boolean_or_word}
+use Rattle.ic_laws.specs.Scan.{EndsWith, begins_word, first_is, is_blank, is_digit, is_letter, is_plain, is_word_character, past_run, run_of}
+use Rattle.ic_laws.specs.SheetText.{SpellsLocal, before_bang, doubled, read_local, sheet_at, written_name}
+use Rattle.ic_laws.specs.Split.{longer}
+use Rattle.ic_laws.specs.Token.{Token, Local}
+use Rattle.ic_laws.specs.TokenKinds.{OfKind, head_at, head_before, is_local, local_at, word_at}
+use Rattle.ic_laws.specs.declared.dialect.WordKind.TheVariants as kinds
+use Rattle.ic_laws.proofs.tokens.Characters.{past_run_all}
+use Rattle.ic_laws.proofs.tokens.Locals.{bang_no_word, local_at_sound, local_sound, name_begins, no_local_other, no_local_without_bang}
+use Rattle.ic_laws.proofs.tokens.SheetTexts.{all_plain, plain_read, written_other}
+use Rattle.ic_laws.proofs.printing.Signs.{no_number, not_decimal, or_neither}
+use Rattle.ic_laws.proofs.printing.Words.{keeps_first, starts, word_no_number}
+use Rattle.ic_tree.proofs.CutLemmas.{cut_after, reads_front}
+use Rattle.ic_tree.specs.Lexing.{named_at}
+
+-- what begins neither a word nor a reference begins none
+dot_quotes : (cs : List ℕ) → needs_quotes (46 ∷ cs) ≡ true
+dot_quotes cs = elim (cases_Bool (list_all is_plain (46 ∷ cs))) [ inl e ↦ rw e refl | inr e ↦ rw e refl ]
+
+dot_plain : is_plain 46 ≡ true
+unfolding ucd_derived
+dot_plain = refl
+
+dot_none : (cs : List ℕ) → local_at (46 ∷ cs) ≡ None
+unfolding read_local
+dot_none cs =
+    let run : run_of is_plain (46 ∷ cs) ≡ 46 ∷ run_of is_plain cs = rw dot_plain refl in
+    let none : written_name (46 ∷ cs) ≡ None = written_other 46 cs refl ∙ ap (λ r. plain_read r (past_run is_plain (46 ∷ cs))) run ∙ rw (dot_quotes (run_of is_plain cs)) refl in
+    let sheet : sheet_at (46 ∷ cs) ≡ None = ap (option_and_then (λ (f : List ℕ × List ℕ). before_bang f.0 f.1)) none in
+    rw sheet refl
+
+quote_starts : starts 39 ≡ true
+unfolding ucd_derived
+quote_starts = refl
+
+pub no_local_start : (c : ℕ) (cs : List ℕ) → starts c ≡ false → local_at (c ∷ cs) ≡ None
+no_local_start c cs h =
+    elim (eqb_tells c 46) [
+      | inl e ↦ ap (λ x. local_at (x ∷ cs)) e.1 ∙ dot_none cs
+      | inr e ↦ no_local_other (c ∷ cs)
+          (elim (eqb_tells c 39) [ inl q ↦ absurd (both_ways (starts c) h (ap starts q.1 ∙ quote_starts)) | inr q ↦ q.0 ])
+          (not_plain e.0)
+    ]
+  where
+    not_plain : (c == 46) ≡ false → is_plain c ≡ false
+    not_plain k =
+        let p = or_neither (begins_reference c) (begins_word c) h in
+        let a = or_neither (is_letter c || is_digit c) _ p.0 in
+        let b = or_neither (is_letter c) (is_digit c) a.0 in
+        let w = or_neither (is_letter c || c == 95) (c == 92) p.1 in
+        let u = or_neither (is_letter c) (c == 95) w.0 in
+        rw (b.0, b.1, u.1, k) refl
+
+-- nor does a text that begins with no quote and has no `!` after its plain characters
+pub no_local_named : (text : List ℕ) → (first_is (λ c. c == 39) text || first_is (λ c. c == 33) (past_run is_plain text)) ≡ false → local_at text ≡ None
+no_local_named text h = let p = or_parts (first_is (λ c. c == 39) text) (first_is (λ c. c == 33) (past_run is_plain text)) h in no_local_without_bang text p.0 p.1
+
+-- where one begins, no head, word or number is longer
+all_words : (name : List ℕ) → list_all is_plain name ≡ true → list_all is_word_character name ≡ true
+all_words [] h = refl
+all_words (c ∷ cs) h = let p = and_parts (is_plain c) (list_all is_plain cs) h in rw (p.0) (all_words cs p.1)
+
+word_behind : (f : Token × List ℕ) (more : List ℕ) (found : Option Token) → length f.1 ≤ length more → longer (Some f) (longer (option_map (λ u. let g : Token × List ℕ = (u, more) in g) found) None) ≡ Some f
+word_behind f more None le = refl
+word_behind f more (Some u) le = keeps_first f.1 more f.0 u le
+
+after_name : (d : DialectMeaning) → IsLawful d → (name more : List ℕ) (f : Token × List ℕ) → first_is begins_word name ≡ true → list_all is_word_character name ≡ true → length f.1 ≤ length (33 ∷ more) → longer (Some f) (named_at d (name ++ 33 ∷ more)) ≡ Some f
+after_name d n [] more f begins all le = absurd (cc)
+after_name d n (c ∷ cs) more f begins all le =
+    let text : List ℕ = c ∷ cs ++ 33 ∷ more in
+    let run = run_of is_word_character text in
+    let past : past_run is_word_character text ≡ 33 ∷ more = past_run_all is_word_character (c ∷ cs) (33 ∷ more) all bang_no_word in
+    let heads : head_at d text ≡ None = rw begins (ap (λ p. head_before d run (past_run is_blank p)) past) in
+    let words : word_at d text ≡ option_map (λ u. (u, 33 ∷ more)) (boolean_or_word d run (d.find kinds.Boolean run)) =
+    rw begins (ap (λ r. option_map (λ u. let g : Token × List ℕ = (u, r) in g) (boolean_or_word d run (d.find kinds.Boolean run))) past) in
+    let number = word_no_number d n c (cs ++ 33 ∷ more) begins in
+    ap (λ h. longer (Some f) (longer h (longer (word_at d text) (number_in_one_pass d text)))) heads ∙ ap (λ w. longer (Some f) (longer w (number_in_one_pass d text))) words
+    ∙ ap (λ m. longer (Some f) (longer (option_map (λ u. (u, 33 ∷ more)) (boolean_or_word d run (d.find kinds.Boolean run))) m)) number
+    ∙ word_behind f (33 ∷ more) (boolean_or_word d run (d.find kinds.Boolean run)) le
+
+quote_no_word : begins_word 39 ≡ false
+unfolding ucd_derived
+quote_no_word = refl
+
+after_quote : (d : DialectMeaning) → IsLawful d → (cs : List ℕ) → named_at d (39 ∷ cs) ≡ None
+after_quote d n cs = rw (quote_no_word, no_number d 39 cs refl (not_decimal d n 39 refl refl)) refl
+
+spelled_first : (d : DialectMeaning) → IsLawful d → (text front sheet word : List ℕ) (f : Token × List ℕ) → text ≡ front ++ f.1 → SpellsLocal front sheet word → longer (Some f) (named_at d text) ≡ Some f
+spelled_first d n text front sheet word f whole s =
+    elim s.named.1 [
+      | inl e ↦
+          let is : text ≡ 39 ∷ ((((doubled sheet ++ 39 ∷ []) ++ 33 ∷ []) ++ word) ++ f.1) = whole ∙ ap (λ x. x ++ f.1) (s.whole ∙ ap (λ b. b ++ word) e) in
+          ap (longer (Some f)) (ap (named_at d) is ∙ after_quote d n ((((doubled sheet ++ 39 ∷ []) ++ 33 ∷ []) ++ word) ++ f.1))
+      | inr e ↦
+          let is : text ≡ sheet ++ 33 ∷ (word ++ f.1) =
+          whole ∙ ap (λ x. x ++ f.1) (s.whole ∙ ap (λ b. b ++ word) e.1 ∙ append_assoc sheet (33 ∷ []) word) ∙ append_assoc sheet (33 ∷ word) f.1 in
+          ap (λ t. longer (Some f) (named_at d t)) is
+          ∙ after_name d n sheet (word ++ f.1) f (name_begins sheet s.named.0 e.0) (all_words sheet (all_plain sheet e.0)) (omega (arith, length-append word f.1))
+    ]
+
+by_token : (d : DialectMeaning) → IsLawful d → (text front : List ℕ) (f : Token × List ℕ) (t : Token) → f.0 ≡ t → text ≡ front ++ f.1 → OfKind is_local d t front f.1 → longer (Some f) (named_at d text) ≡ Some f
+by_token d n text front f (Local sheet word) e whole s = spelled_first d n text front sheet word f whole s.1.0
+by_token d n text front f t e whole s = absurd (cc)
+
+pub local_over_named : (d : DialectMeaning) → IsLawful d → (text : List ℕ) (f : Token × List ℕ) → Some f ≡ local_at text → longer (local_at text) (named_at d text) ≡ Some f
+local_over_named d n text f e =
+    let s = local_at_sound d text f.1 f.0 (sym e) in
+    ap (λ l. longer l (named_at d text)) (sym e) ∙ by_token d n text s.0 f f.0 refl s.1 s.2
+
+pub local_ends : (d : DialectMeaning) (text : List ℕ) (f : Token × List ℕ) → Some f ≡ local_at text → EndsWith text f.1
+local_ends d text f e = let s = local_at_sound d text f.1 f.0 (sym e) in (s.0, s.1)
+
+-- the word with its sheet at the front, and where it ends
+abbrev pub HasLocal : List ℕ → Option ((List ℕ × List ℕ) × ℕ) → Type 0
+HasLocal text None = local_at (chars text) ≡ None
+HasLocal text (Some found) = IsCharBoundary text found.1 × (local_at (chars text) ≡ Some (Local found.0.0 found.0.1, chars (drop found.1 text)))
+
+pub local_found_first : (text : List ℕ) (found : Option ((List ℕ × List ℕ) × ℕ)) → IsUtf8 text → found ≡ read_at read_local text 0 → HasLocal text found
+local_found_first text found u e = subst (HasLocal text) (sym (e ∙ reads_front read_local text u)) (go (read_local (chars text)) refl)
+  where
+    go : (o : Option ((List ℕ × List ℕ) × List ℕ)) → read_local (chars text) ≡ o → HasLocal text (option_map (λ f. (f.0, length text - length (encode_utf8_all f.1))) o)
+    go None e = rw e refl
+    go (Some ((sheet, word), rest)) e =
+        let front = local_sound (chars text) sheet word rest e in
+        let cut = cut_after text front.0 rest u front.1 in
+        let size : length text - length (encode_utf8_all rest) ≡ length (encode_utf8_all front.0) =
+        omega (arith, ap length (sym (encodes-chars text u) ∙ ap encode_utf8_all front.1 ∙ encodes-append front.0 rest), length-append (encode_utf8_all front.0) (encode_utf8_all rest)) in (
+          subst (IsCharBoundary text) (sym size) cut.boundary,
+          rw e (ap (λ x. Some (Local sheet word, x)) (sym cut.after ∙ ap (λ k. chars (drop k text)) (sym size))),
+        )

@@ -1,0 +1,19 @@
+use Rattle.std.proofs.Common.{ap, chars, sym, ◌∙◌, Some, None, List, ℕ}
+use Rattle.ic_laws.specs.Token.{Local, Token}
+use Rattle.ic_tree.proofs.LocalFirst.{local_found_first, no_local_named}
+use Rattle.ic_tree.proofs.lexer.locals.local_at.Goals as goal
+
+pub past_bytes-requires : goal.past_bytes-requires
+past_bytes-requires c =
+    (local_found_first c.args.text.now (Some ((c.in-Ok-Some.sheet, c.in-Ok-Some.word), c.in-Ok-Some.size)) c.utf8.text (rw c.in-Ok-Some.field-0-is at c.in-Ok-Some.ensures.exact)).0
+
+pub returns-in-Ok-Some : goal.returns-in-Ok-Some
+returns-in-Ok-Some c =
+    let has = local_found_first c.args.text.now (Some ((c.in-Ok-Some.sheet, c.in-Ok-Some.word), c.in-Ok-Some.size)) c.utf8.text (rw c.in-Ok-Some.field-0-is at c.in-Ok-Some.ensures.exact) in
+    ap (λ b. let f : Token × List ℕ = (Local c.in-Ok-Some.sheet c.in-Ok-Some.word, chars b) in Some f) c.past_bytes.ensures ∙ sym has.1
+
+pub returns-in-Ok-None : goal.returns-in-Ok-None
+returns-in-Ok-None c = sym (local_found_first c.args.text.now None c.utf8.text (rw c.in-Ok-None.field-0-is at c.in-Ok-None.ensures.exact))
+
+pub returns-then-not-may_name_sheet : goal.returns-then-not-may_name_sheet
+returns-then-not-may_name_sheet c = sym (no_local_named (chars c.args.text.now) (sym c.may_name_sheet.ensures ∙ c.if-not-may_name_sheet.true))
