@@ -2,7 +2,6 @@ pub mod AsciiLemmas
 pub mod ChoiceLemmas
 pub mod EscapedNumbers
 pub mod Literals
-pub mod NameLemmas
 pub mod NumberLemmas
 pub mod ReplyLemmas
 pub mod ScopeLemmas

@@ -1,12 +1,13 @@
 -- The table of all served commands, one subject after another.
-use Rattle.std.proofs.Common.{◌≡◌, ℕ, List, [], ◌∷◌, ◌++◌, Bool, true, false, ◌&&◌, map, Option, Some, None, IsUtf8, bytes_eq, chars, option_map, option_and_then, refl, ap, sym, ◌∙◌, inl, inr}
-use Rattle.std.specs.List.{find, list_all}
-use Rattle.std.proofs.lemmas.Bool.{and_parts, cases_Bool}
+use Rattle.std.proofs.Common.{◌≡◌, ◌≢◌, ℕ, List, [], ◌∷◌, ◌++◌, Bool, true, false, ◌&&◌, ◌||◌, Option, Some, None, IsUtf8, bytes_eq, chars, codes, option_map, option_and_then, refl, ap, sym, subst, ◌∙◌, inl, inr}
+use Rattle.std.specs.List.{AllByRecursion, find, list_all}
+use Rattle.std.proofs.lemmas.Bool.{and_parts, cases_Bool, false_from_ne_true}
+use Rattle.std.proofs.lemmas.Slice.Eq.{bytes_eq-Decides}
 use Rattle.ic_laws.specs.Lines.{word_texts}
-use Rattle.ic_machine.specs.Command.{Command, OnArrays, OnDefinitions, OnExtending, OnLayout, OnNotation, OnReading, OnSheets, OnStyles, OnTabs, OnWriting, commands, served, served_names}
-use Rattle.ic_machine.specs.Row.{Row, joined, named, row_in, rows_named}
-use Rattle.ic_machine.specs.Word.{Done, Many, OfAmount, OfBool, OfColor, OfFlag, OfIndex, OfPosition, OfScope, OfSpill, OfState, OfText, OfValue, Then, WordForm, Words, all_said, each_said, said, some_said, words_said}
-use Rattle.ic_machine.specs.subjects.Arrays.{array_rows}
+use Rattle.ic_machine.specs.Command.{Command, OnArrays, OnDefinitions, OnExtending, OnLayout, OnNotation, OnReading, OnSheets, OnStyles, OnTabs, OnWriting, commands, served}
+use Rattle.ic_machine.specs.Row.{Row, joined, named}
+use Rattle.ic_machine.specs.Word.{Done, Many, OfAmount, OfBool, OfColor, OfFlag, OfIndex, OfPosition, OfScope, OfSpill, OfState, OfText, OfValue, Then, WordForm, Words, all_said, each_said, said, some_said, words_of, words_said}
+use Rattle.ic_machine.specs.subjects.Arrays.{PutFormulaValue, PutSpill, array_rows, block_said}
 use Rattle.ic_machine.specs.subjects.Definitions.{definition_rows}
 use Rattle.ic_machine.specs.subjects.Extending.{extending_rows}
 use Rattle.ic_machine.specs.subjects.Layout.{layout_rows}
@@ -16,8 +17,11 @@ use Rattle.ic_machine.specs.subjects.Sheets.{sheet_rows}
 use Rattle.ic_machine.specs.subjects.Styles.{style_rows}
 use Rattle.ic_machine.specs.subjects.Tabs.{tab_rows}
 use Rattle.ic_machine.specs.subjects.Writing.{writing_rows}
-use Rattle.ic_words.specs.Served.{served_by, served_in}
-use Rattle.ic_words.proofs.AsciiLemmas.{found_same, has_ascii_names}
+use Rattle.ic_words.specs.Kinds.{IsKind, kind_said, served_of}
+use Rattle.ic_words.specs.Words.{copies_values}
+use Rattle.ic_words.specs.subjects.Arrays.{spill_put_said, value_put_said}
+use Rattle.ic_words.specs.declared.command.kind.Kind.{Kind}
+use Rattle.ic_words.proofs.AsciiLemmas.{found_same, has_ascii_names, not_found}
 
 -- Where no word of a command is a value, the English words of the error values don't matter. ----
 
@@ -65,35 +69,35 @@ module _ (english : List (List ℕ)) where
   texts_same words None h = refl
   texts_same words (Some texts) h = all_same words texts h
 
-  abbrev plain_rows : {C : Type 0} → List (Row C) → Bool
-  plain_rows {C} rows = list_all (λ (row : Row C). are_plain row.words) rows
+  -- each row has no value among its words, or a name of those that have
+  abbrev pub known_rows : List (Row Command) → Bool
+  known_rows rows = list_all (λ (row : Row Command). are_plain row.words || copies_values row.name) rows
 
-  named_same : {C : Type 0} (rows : List (Row C)) (name : List ℕ) (words : List (List ℕ)) → plain_rows rows ≡ true → named [] rows name words ≡ named english rows name words
-  named_same [] name words h = refl
-  named_same (row ∷ rows) name words h =
-      let p = and_parts (are_plain row.words) (plain_rows rows) h in
+  plain_by_name : (plain : Bool) (has name : List ℕ) → bytes_eq has name ≡ true → (plain || copies_values has) ≡ true → copies_values name ≡ false → plain ≡ true
+  plain_by_name true has name e h other = refl
+  plain_by_name false has name e h other = sym other ∙ ap copies_values (sym ((bytes_eq-Decides has name).0 e)) ∙ h
+
+  named_same : (rows : List (Row Command)) (name : List ℕ) (words : List (List ℕ)) → known_rows rows ≡ true → copies_values name ≡ false → named [] rows name words ≡ named english rows name words
+  named_same [] name words h other = refl
+  named_same (row ∷ rows) name words h other =
+      let p = and_parts (are_plain row.words || copies_values row.name) (known_rows rows) h in
       elim (cases_Bool (bytes_eq row.name name)) [
-        | inl e ↦ rw e (ap (λ o. Some (option_map row.command o)) (sym (texts_same row.words (word_texts words) p.0)))
-        | inr e ↦ rw e (named_same rows name words p.1)
+        | inl e ↦
+            rw e (ap (λ o. Some (option_map row.command o)) (sym (texts_same row.words (word_texts words) (plain_by_name (are_plain row.words) row.name name e p.0 other))))
+        | inr e ↦ rw e (named_same rows name words p.1 other)
       ]
 
--- what a subject has, and what the later ones have where it has nothing
-abbrev pub or_later : {C D : Type 0} → (C → D) → Option (Option C) → Option (Option D) → Option (Option D)
-or_later subject None later = later
-or_later subject (Some said) later = Some (option_map subject said)
+-- What is found in one table, or else in another ----
 
-map_map : {A B C : Type 0} (f : A → B) (g : B → C) (o : Option A) → option_map (λ x. g (f x)) o ≡ option_map g (option_map f o)
-map_map f g None = refl
-map_map f g (Some x) = refl
+abbrev pub first_of : {A : Type 0} → Option A → Option A → Option A
+first_of None later = later
+first_of (Some x) later = Some x
 
-module _ (english : List (List ℕ)) {C D : Type 0} (subject : C → D) (later : List (Row D)) (name : List ℕ) (words : List (List ℕ)) where
-  one_after_another : (rows : List (Row C)) → named english (map (row_in subject) rows ++ later) name words ≡ or_later subject (named english rows name words) (named english later name words)
+module _ (english : List (List ℕ)) (name : List ℕ) (words : List (List ℕ)) (later : List (Row Command)) where
+  one_after_another : (rows : List (Row Command)) → named english (rows ++ later) name words ≡ first_of (named english rows name words) (named english later name words)
   one_after_another [] = refl
   one_after_another (row ∷ rows) =
-      elim (cases_Bool (bytes_eq row.name name)) [
-        | inl e ↦ rw e (ap Some (map_map row.command subject (words_said english row.words words)))
-        | inr e ↦ rw e (one_after_another rows)
-      ]
+      elim (cases_Bool (bytes_eq row.name name)) [ inl e ↦ rw e refl | inr e ↦ rw e (one_after_another rows) ]
 
 -- Names are ASCII, so it is the same to find them by bytes or by characters. ----
 
@@ -104,99 +108,99 @@ served_ascii = refl
 found_same_named : (english : List (List ℕ)) (name : List ℕ) (words : List (List ℕ)) → IsUtf8 name → named english served (chars name) words ≡ named english served name words
 found_same_named english name words u = ap (λ (o : Option (Row Command)). option_map (λ (row : Row Command). option_map row.command (words_said english row.words words)) o) (found_same (λ (row : Row Command). row.name) served name u served_ascii)
 
--- the served rows are those of the subjects, one after another
-abbrev served_of : {C : Type 0} → (C → Command) → List (Row C) → List (Row Command)
-served_of subject all = map (row_in subject) (rows_named served_names all)
+-- The served rows are those of the subjects, one after another ----
 
-abbrev from_arrays : List (Row Command)
-from_arrays = served_of OnArrays array_rows ++ []
+abbrev pub from_arrays : List (Row Command)
+from_arrays = served_of OnArrays array_rows
 
-abbrev from_tabs : List (Row Command)
+abbrev pub from_tabs : List (Row Command)
 from_tabs = served_of OnTabs tab_rows ++ from_arrays
 
-abbrev from_layout : List (Row Command)
+abbrev pub from_layout : List (Row Command)
 from_layout = served_of OnLayout layout_rows ++ from_tabs
 
-abbrev from_styles : List (Row Command)
+abbrev pub from_styles : List (Row Command)
 from_styles = served_of OnStyles style_rows ++ from_layout
 
-abbrev from_extending : List (Row Command)
+abbrev pub from_extending : List (Row Command)
 from_extending = served_of OnExtending extending_rows ++ from_styles
 
-abbrev from_reading : List (Row Command)
+abbrev pub from_reading : List (Row Command)
 from_reading = served_of OnReading reading_rows ++ from_extending
 
-abbrev from_writing : List (Row Command)
+abbrev pub from_writing : List (Row Command)
 from_writing = served_of OnWriting writing_rows ++ from_reading
 
-abbrev from_notation : List (Row Command)
+abbrev pub from_notation : List (Row Command)
 from_notation = served_of OnNotation notation_rows ++ from_writing
 
-abbrev from_definitions : List (Row Command)
+abbrev pub from_definitions : List (Row Command)
 from_definitions = served_of OnDefinitions definition_rows ++ from_notation
 
 by_rows : served ≡ served_of OnSheets sheet_rows ++ from_definitions
 unfolding commands served
 by_rows = refl
 
-module _ (english : List (List ℕ)) where
-  abbrev pub later_arrays : List ℕ → List (List ℕ) → Option (Option Command)
-  later_arrays name words = or_later OnArrays (served_by english array_rows name words) None
+pub by_subjects : (english : List (List ℕ)) (name : List ℕ) (words : List (List ℕ)) → IsUtf8 name → named english served (chars name) words ≡ named english (served_of OnSheets sheet_rows ++ from_definitions) name words
+by_subjects english name words u = found_same_named english name words u ∙ ap (λ rows. named english rows name words) by_rows
 
-  abbrev pub later_tabs : List ℕ → List (List ℕ) → Option (Option Command)
-  later_tabs name words = or_later OnTabs (served_in tab_rows name words) (later_arrays name words)
+-- what the code has of the subject that is next: the kind of the name, or none
+module _ (english : List (List ℕ)) (name : List ℕ) (words : List (List ℕ)) (other : copies_values name ≡ false) (table : Option (Option Command)) (kind : Option Kind) (rows : List (Row Command)) (known : known_rows english rows ≡ true)
+    (is : option_map (λ k. kind_said k words) kind ≡ named [] rows name words)
+  where
+    has : option_map (λ k. kind_said k words) kind ≡ named english rows name words
+    has = is ∙ named_same english rows name words known other
 
-  abbrev pub later_layout : List ℕ → List (List ℕ) → Option (Option Command)
-  later_layout name words = or_later OnLayout (served_in layout_rows name words) (later_tabs name words)
+    module _ (later : List (Row Command)) (chain : table ≡ named english (rows ++ later) name words) where
+      then : table ≡ first_of (option_map (λ k. kind_said k words) kind) (named english later name words)
+      then = chain ∙ one_after_another english name words later rows ∙ ap (λ o. first_of o (named english later name words)) (sym has)
 
-  abbrev pub later_styles : List ℕ → List (List ℕ) → Option (Option Command)
-  later_styles name words = or_later OnStyles (served_in style_rows name words) (later_layout name words)
+      pub found : (k : Kind) → kind ≡ Some k → Some (kind_said k words) ≡ table
+      found k some = sym (then ∙ ap (λ (o : Option Kind). first_of (option_map (λ k. kind_said k words) o) (named english later name words)) some)
 
-  abbrev pub later_extending : List ℕ → List (List ℕ) → Option (Option Command)
-  later_extending name words = or_later OnExtending (served_in extending_rows name words) (later_styles name words)
+      pub past : kind ≡ None → table ≡ named english later name words
+      past none = then ∙ ap (λ (o : Option Kind). first_of (option_map (λ k. kind_said k words) o) (named english later name words)) none
 
-  abbrev pub later_reading : List ℕ → List (List ℕ) → Option (Option Command)
-  later_reading name words = or_later OnReading (served_in reading_rows name words) (later_extending name words)
+    pub last_one : table ≡ named english rows name words → option_map (λ k. kind_said k words) kind ≡ table
+    last_one chain = has ∙ sym chain
 
-  abbrev pub later_writing : List ℕ → List (List ℕ) → Option (Option Command)
-  later_writing name words = or_later OnWriting (served_in writing_rows name words) (later_reading name words)
+-- The kinds of the names of a subject ----
 
-  abbrev pub later_notation : List ℕ → List (List ℕ) → Option (Option Command)
-  later_notation name words = or_later OnNotation (served_in notation_rows name words) (later_writing name words)
+pub named_so : {C : Type 0} (subject : C → Command) (rows : List (Row C)) (name literal : List ℕ) (kind : Option Kind) → name ≡ literal → IsKind subject rows literal kind → IsKind subject rows name kind
+named_so subject rows name literal kind is known = subst (λ n. IsKind subject rows n kind) (sym is) known
 
-  abbrev pub later_definitions : List ℕ → List (List ℕ) → Option (Option Command)
-  later_definitions name words = or_later OnDefinitions (served_in definition_rows name words) (later_notation name words)
+pub unserved : {C : Type 0} (subject : C → Command) (rows : List (Row C)) (name : List ℕ) → AllByRecursion (λ (row : Row Command). name ≢ row.name) (served_of subject rows) → IsKind subject rows name None
+unserved subject rows name h words = rw (not_found (λ (row : Row Command). row.name) (served_of subject rows) name h) refl
 
-  abbrev pub all_later : List ℕ → List (List ℕ) → Option (Option Command)
-  all_later name words = or_later OnSheets (served_in sheet_rows name words) (later_definitions name words)
+-- The two commands whose words are values ----
 
-  module _ (name : List ℕ) (words : List (List ℕ)) where
-    after_one : {C : Type 0} (subject : C → Command) (all : List (Row C)) (later : List (Row Command)) (others : Option (Option Command)) → plain_rows english (rows_named served_names all) ≡ true → named english later name words ≡ others
-        → named english (served_of subject all ++ later) name words ≡ or_later subject (served_in all name words) others
-    after_one subject all later others plain e =
-        one_after_another english subject later name words (rows_named served_names all) ∙ ap (or_later subject (named english (rows_named served_names all) name words)) e
-        ∙ ap (λ o. or_later subject o others) (sym (named_same english (rows_named served_names all) name words plain))
+pub not_values : (name : List ℕ) → name ≢ codes "put_formula_value" → name ≢ codes "put_spill" → copies_values name ≡ false
+not_values name h k =
+    rw (
+      false_from_ne_true (bytes_eq (codes "put_formula_value") name) (λ e. h (sym ((bytes_eq-Decides (codes "put_formula_value") name).0 e))),
+      false_from_ne_true (bytes_eq (codes "put_spill") name) (λ e. k (sym ((bytes_eq-Decides (codes "put_spill") name).0 e))),
+    ) refl
 
-    -- the command of a name and of words, subject by subject
-    pub by_subjects : IsUtf8 name → named english served (chars name) words ≡ all_later name words
-    by_subjects u =
-        found_same_named english name words u ∙ ap (λ rows. named english rows name words) by_rows
-        ∙ after_one OnSheets sheet_rows from_definitions (later_definitions name words) refl (after_one OnDefinitions definition_rows from_notation (later_notation name words) refl
-        (after_one OnNotation notation_rows from_writing (later_writing name words) refl (after_one OnWriting writing_rows from_reading (later_reading name words) refl
-        (after_one OnReading reading_rows from_extending (later_extending name words) refl (after_one OnExtending extending_rows from_styles (later_styles name words) refl
-        (after_one OnStyles style_rows from_layout (later_layout name words) refl (after_one OnLayout layout_rows from_tabs (later_tabs name words) refl
-        (after_one OnTabs tab_rows from_arrays (later_arrays name words) refl (one_after_another english OnArrays [] name words (rows_named served_names array_rows))))))))))
+pub other_than : (name values : List ℕ) → copies_values values ≡ true → copies_values name ≡ false → name ≢ values
+other_than name values h other is = let no : false ≡ true = sym other ∙ ap copies_values is ∙ h in cc
 
--- what the code has of the subject that is next
-module _ {X C D : Type 0} (subject : C → D) (meant : X → C) (o : Option (Option X)) (has : Option (Option C)) (table later : Option (Option D)) (chain : table ≡ or_later subject has later) (e : option_map (option_map meant) o ≡ has) where
-  told : table ≡ or_later subject (option_map (option_map meant) o) later
-  told = chain ∙ ap (λ o. or_later subject o later) (sym e)
+map_map : {A B C : Type 0} (f : A → B) (g : B → C) (o : Option A) → option_map (λ x. g (f x)) o ≡ option_map g (option_map f o)
+map_map f g None = refl
+map_map f g (Some x) = refl
 
-  pub one : (said : Option X) (command : X) → o ≡ Some said → said ≡ Some command → Some (subject (meant command)) ≡ joined table
-  one said command known is = sym (ap joined told ∙ ap (λ o. joined (or_later subject (option_map (option_map meant) o) later)) (known ∙ ap Some is))
+module _ (english : List (List ℕ)) (words : List (List ℕ)) where
+  value_row : option_map OnArrays (value_put_said english words) ≡ joined (named english served (codes "put_formula_value") words)
+  unfolding commands served
+  value_row = sym (map_map (λ w. PutFormulaValue w.0 (w.1.0, w.1.1.0) w.1.1.1.0) OnArrays (words_said english (words_of (OfIndex ∷ OfPosition ∷ OfPosition ∷ OfValue ∷ [])) words))
 
-  pub nothing : (said : Option X) → o ≡ Some said → said ≡ None → None ≡ joined table
-  nothing said known is = sym (ap joined told ∙ ap (λ o. joined (or_later subject (option_map (option_map meant) o) later)) (known ∙ ap Some is))
+  spill_row : option_map OnArrays (spill_put_said english words) ≡ joined (named english served (codes "put_spill") words)
+  unfolding commands served
+  spill_row =
+      sym (map_map (λ w. PutSpill w.0 (block_said w.1.0 w.1.1.0 w.1.1.1.0 w.1.1.1.1.0) w.1.1.1.1.1) OnArrays
+      (words_said english (Then OfIndex (Then OfPosition (Then OfPosition (Then OfPosition (Then OfPosition (Many OfSpill)))))) words))
 
-  pub past : o ≡ None → table ≡ later
-  past is = told ∙ ap (λ o. or_later subject (option_map (option_map meant) o) later) is
+  pub value_named : (name : List ℕ) → IsUtf8 name → name ≡ codes "put_formula_value" → option_map OnArrays (value_put_said english words) ≡ joined (named english served (chars name) words)
+  value_named name u is = value_row ∙ ap (λ n. joined (named english served n words)) (sym is) ∙ sym (ap joined (found_same_named english name words u))
+
+  pub spill_named : (name : List ℕ) → IsUtf8 name → name ≡ codes "put_spill" → option_map OnArrays (spill_put_said english words) ≡ joined (named english served (chars name) words)
+  spill_named name u is = spill_row ∙ ap (λ n. joined (named english served n words)) (sym is) ∙ sym (ap joined (found_same_named english name words u))

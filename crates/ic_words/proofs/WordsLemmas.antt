@@ -1,5 +1,6 @@
 -- What words say, one after another.
-use Rattle.std.proofs.Common.{◌≡◌, ◌≢◌, ℕ, List, [], ◌∷◌, length, Option, Some, None, Result, Ok, Err, OnErr, Bor, chars, option_map, option_and_then, refl, ap, sym, ◌∙◌}
+use Rattle.std.proofs.Common.{◌≡◌, ◌≢◌, ℕ, List, [], ◌∷◌, length, Option, Some, None, Result, Ok, Err, IfOk, OnErr, Bor, chars, option_map, option_and_then, refl, ap, sym, ◌∙◌}
+use Rattle.std.proofs.lemmas.Result.{IfOk-weaker}
 use Rattle.ic_laws.specs.Lines.{unescaped, word_texts, words_of}
 use Rattle.ic_machine.specs.Word.{AllSaid, Done, Said, Then, WordForm, Words, all_said, said, words_said as all_words_said}
 use Rattle.ic_words.specs.Words.{HasEscape, HaveEscape, word_said, words_left, words_said}
@@ -69,3 +70,7 @@ module _ (left : Option (Bor (List ℕ))) (line : Bor (List ℕ)) (word : List �
 pub always : {T E X : Type 0} (result : Result T E) → X → OnErr result X
 always (Ok value) x = tt
 always (Err e) x = x
+
+-- what holds of a result, where what is known of it says so
+pub where_ok : {T E : Type 0} (r : Result T E) {P Q : T → Type 0} → IfOk r P → ((x : T) → P x → Q x) → IfOk r Q
+where_ok r {P} {Q} h f = IfOk-weaker r P Q f h

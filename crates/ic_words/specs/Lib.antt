@@ -1,4 +1,5 @@
 pub mod Command
+pub mod Kinds
 pub mod Reply
 pub mod Served
 pub mod Styling

@@ -1,53 +1,36 @@
-ghost use Rattle.std.specs.Prelude.{◌≡◌, ◌⊎◌, IfOk, OnErr, chars, option_map, true};
+ghost use Rattle.std.specs.Prelude.{◌≡◌, ◌⊎◌, IfOk, OnErr, chars, false, option_map, true};
 ghost use Rattle.ic_laws.specs.Lines.{words_of};
 ghost use Rattle.ic_tables.specs.Words.{error_words};
 ghost use Rattle.ic_machine.specs.Command.{command_in, served};
 ghost use Rattle.ic_machine.specs.Row.{joined, named};
 ghost use Rattle.ic_words.specs.Command.{command_meant};
+ghost use Rattle.ic_words.specs.Kinds.{IsServedKind};
 ghost use Rattle.ic_words.specs.Words.{CopyValues, HaveEscape, copies_values, words_left};
-
-// What the words that are left make, where they are of the shape of the pattern.
-macro_rules! said {
-    ($alloc:expr, $rest:expr, $shape:pat => $made:expr) => {
-        match Words::of($alloc, $rest)? {
-            Some($shape) => Ok(Some(Some($made))),
-            None => Ok(Some(None)),
-        }
-    };
-}
-
-// Returns the command of a subject, where the subject has the name.
-macro_rules! try_subject {
-    ($named:expr, $subject:path) => {
-        if let Some(said) = $named? {
-            let Some(command) = said else {
-                return Ok(None);
-            };
-            return Ok(Some($subject(command)));
-        }
-    };
-}
 
 pub mod arrays;
 pub mod definitions;
 pub mod extending;
+mod kind;
 pub mod layout;
 pub mod notation;
 pub mod reading;
+mod shapes;
 pub mod sheets;
 pub mod styles;
 pub mod tabs;
 pub mod writing;
 
 use crate::words::first_word;
-use arrays::{Arrays, arrays_named};
+use arrays::{Arrays, arrays_named, spill_put, value_put};
 use definitions::{Definitions, definitions_named};
 use extending::{Extending, extending_named};
 use ic_laws::OutOfMemory;
 use ic_tables::Language;
+use kind::Kind;
 use layout::{Layout, layout_named};
 use notation::{Notation, notation_named};
 use reading::{Reading, reading_named};
+use shapes::command_of;
 use sheets::{Sheets, sheets_named};
 use std::alloc::Global;
 use styles::{Styles, styles_named};
@@ -88,7 +71,7 @@ pub fn command_in<'l>(
     command_named(alloc, english, name, rest)
 }
 
-/// The command of this name, with the words that are left: that of the one subject that has the name.
+/// The command of this name, with the words that are left.
 fn command_named<'l>(
     alloc: Global,
     english: &Language,
@@ -101,15 +84,46 @@ fn command_named<'l>(
     ensures memory { OnErr result
         (HaveEscape (words_left rest.entry) ⊎ (copies_values (chars name.now) ≡ true)) }
 {
-    try_subject!(sheets_named(alloc, name, rest), Command::Sheets);
-    try_subject!(definitions_named(alloc, name, rest), Command::Definitions);
-    try_subject!(notation_named(alloc, name, rest), Command::Notation);
-    try_subject!(writing_named(alloc, name, rest), Command::Writing);
-    try_subject!(reading_named(alloc, name, rest), Command::Reading);
-    try_subject!(extending_named(alloc, name, rest), Command::Extending);
-    try_subject!(styles_named(alloc, name, rest), Command::Styles);
-    try_subject!(layout_named(alloc, name, rest), Command::Layout);
-    try_subject!(tabs_named(alloc, name, rest), Command::Tabs);
-    try_subject!(arrays_named(alloc, english, name, rest), Command::Arrays);
-    Ok(None)
+    match name {
+        "put_formula_value" => value_put(alloc, english, rest),
+        "put_spill" => spill_put(alloc, english, rest),
+        _ => match kind_named(name) {
+            Some(kind) => command_of(alloc, kind, rest),
+            None => Ok(None),
+        },
+    }
+}
+
+/// The kind of the command of this name, where its words aren't values: that of the one subject that has the name.
+fn kind_named(name: &str) -> Option<Kind>
+    ensures { copies_values name.now ≡ false → IsServedKind (chars name.now) result }
+{
+    if let Some(kind) = sheets_named(name) {
+        return Some(kind);
+    }
+    if let Some(kind) = definitions_named(name) {
+        return Some(kind);
+    }
+    if let Some(kind) = notation_named(name) {
+        return Some(kind);
+    }
+    if let Some(kind) = writing_named(name) {
+        return Some(kind);
+    }
+    if let Some(kind) = reading_named(name) {
+        return Some(kind);
+    }
+    if let Some(kind) = extending_named(name) {
+        return Some(kind);
+    }
+    if let Some(kind) = styles_named(name) {
+        return Some(kind);
+    }
+    if let Some(kind) = layout_named(name) {
+        return Some(kind);
+    }
+    if let Some(kind) = tabs_named(name) {
+        return Some(kind);
+    }
+    arrays_named(name)
 }

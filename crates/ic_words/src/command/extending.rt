@@ -1,14 +1,11 @@
-ghost use Rattle.std.specs.Prelude.{◌≡◌, IfOk, OnErr, option_map};
+ghost use Rattle.std.specs.Prelude.{◌≡◌};
+ghost use Rattle.ic_machine.specs.Command.{OnExtending};
 ghost use Rattle.ic_machine.specs.subjects.Extending.{extending_rows};
-ghost use Rattle.ic_words.specs.Served.{served_in};
-ghost use Rattle.ic_words.specs.Words.{HaveEscape, words_left};
-ghost use Rattle.ic_words.specs.subjects.Extending.{extending_meant};
+ghost use Rattle.ic_words.specs.Kinds.{IsKind};
 
+use crate::command::kind::{InArea, Kind, OneText, TextBetweenCells};
 use crate::text::WordText;
-use crate::words::Words;
-use ic_laws::OutOfMemory;
 use ic_refs::CellReferenceIndex;
-use std::alloc::Global;
 
 /// A served command that writes a formula out for another cell, or the one that reads the name of a cell.
 #[derive(Drop)]
@@ -30,31 +27,20 @@ pub enum Extending<'l> {
     },
 }
 
-/// The served command of this name that writes a formula out for another cell or reads the name of a cell, with the words
-/// that are left; inside that None where they don't fit it.
-pub(crate) fn extending_named<'l>(
-    alloc: Global,
-    name: &str,
-    rest: Option<&'l str>,
-) -> Result<Option<Option<Extending<'l>>>, OutOfMemory>
-    ensures exact { IfOk result
-        (λ made. option_map (option_map extending_meant) made ≡ served_in extending_rows name.now
-        (words_left rest.entry)) }
-    ensures memory { OnErr result (HaveEscape (words_left rest.entry)) }
+/// The kind of the served command of this name that writes a formula out for another cell or reads the name of a cell.
+pub(crate) fn extending_named(name: &str) -> Option<Kind>
+    ensures { IsKind OnExtending extending_rows name.now result }
 {
     match name {
-        "extend_to" =>
-            said!(alloc, rest, (sheet, (row, (column, (target_row, (target_column, ()))))) => Extending::ExtendTo { sheet, row, column, target_row, target_column }),
-        "extend_copied_value" =>
-            said!(alloc, rest, (text, (sheet, (row, (column, (to_sheet, (to_row, (to_column, ()))))))) =>
-                Extending::ExtendCopiedValue { text, source: cell_at(sheet, row, column), target: cell_at(to_sheet, to_row, to_column) }),
-        "parse_reference" => said!(alloc, rest, (text, ()) => Extending::ParseReference { text }),
-        _ => Ok(None),
+        "extend_to" => Some(Kind::InArea(InArea::ExtendTo)),
+        "extend_copied_value" => Some(Kind::TextBetweenCells(TextBetweenCells::ExtendCopiedValue)),
+        "parse_reference" => Some(Kind::OneText(OneText::ParseReference)),
+        _ => None,
     }
 }
 
 /// The cell of the sheet at an index, at a row and a column.
-fn cell_at(sheet: u32, row: i32, column: i32) -> CellReferenceIndex
+pub(crate) fn cell_at(sheet: u32, row: i32, column: i32) -> CellReferenceIndex
     ensures { result ≡ record { sheet = sheet; row = row; column = column } }
 {
     CellReferenceIndex { sheet, row, column }

@@ -1,12 +1,8 @@
-ghost use Rattle.std.specs.Prelude.{◌≡◌, IfOk, OnErr, option_map};
+ghost use Rattle.ic_machine.specs.Command.{OnLayout};
 ghost use Rattle.ic_machine.specs.subjects.Layout.{layout_rows};
-ghost use Rattle.ic_words.specs.Served.{served_in};
-ghost use Rattle.ic_words.specs.Words.{HaveEscape, words_left};
-ghost use Rattle.ic_words.specs.subjects.Layout.{layout_meant};
+ghost use Rattle.ic_words.specs.Kinds.{IsKind};
 
-use crate::words::Words;
-use ic_laws::OutOfMemory;
-use std::alloc::Global;
+use crate::command::kind::{HiddenLine, Kind, OnLine, SizedLine};
 
 /// A served command on the widths of columns, the heights of rows, and which of them are hidden. Widths and heights are in
 /// hundredths.
@@ -50,35 +46,19 @@ pub enum Layout {
     },
 }
 
-/// The served command on the layout of rows and columns of this name, with the words that are left; inside that None where
-/// they don't fit it.
-pub(crate) fn layout_named<'l>(
-    alloc: Global,
-    name: &str,
-    rest: Option<&'l str>,
-) -> Result<Option<Option<Layout>>, OutOfMemory>
-    ensures exact { IfOk result
-        (λ made. option_map (option_map layout_meant) made ≡ served_in layout_rows name.now
-        (words_left rest.entry)) }
-    ensures memory { OnErr result (HaveEscape (words_left rest.entry)) }
+/// The kind of the served command on the layout of rows and columns of this name.
+pub(crate) fn layout_named(name: &str) -> Option<Kind>
+    ensures { IsKind OnLayout layout_rows name.now result }
 {
     match name {
-        "set_column_width" =>
-            said!(alloc, rest, (sheet, (column, (width, ()))) => Layout::SetColumnWidth { sheet, column, width }),
-        "set_row_height" =>
-            said!(alloc, rest, (sheet, (row, (height, ()))) => Layout::SetRowHeight { sheet, row, height }),
-        "get_column_width" =>
-            said!(alloc, rest, (sheet, (column, ())) => Layout::GetColumnWidth { sheet, column }),
-        "get_row_height" =>
-            said!(alloc, rest, (sheet, (row, ())) => Layout::GetRowHeight { sheet, row }),
-        "set_column_hidden" =>
-            said!(alloc, rest, (sheet, (column, (hidden, ()))) => Layout::SetColumnHidden { sheet, column, hidden }),
-        "set_row_hidden" =>
-            said!(alloc, rest, (sheet, (row, (hidden, ()))) => Layout::SetRowHidden { sheet, row, hidden }),
-        "is_column_hidden" =>
-            said!(alloc, rest, (sheet, (column, ())) => Layout::IsColumnHidden { sheet, column }),
-        "is_row_hidden" =>
-            said!(alloc, rest, (sheet, (row, ())) => Layout::IsRowHidden { sheet, row }),
-        _ => Ok(None),
+        "set_column_width" => Some(Kind::SizedLine(SizedLine::SetColumnWidth)),
+        "set_row_height" => Some(Kind::SizedLine(SizedLine::SetRowHeight)),
+        "get_column_width" => Some(Kind::OnLine(OnLine::GetColumnWidth)),
+        "get_row_height" => Some(Kind::OnLine(OnLine::GetRowHeight)),
+        "set_column_hidden" => Some(Kind::HiddenLine(HiddenLine::SetColumnHidden)),
+        "set_row_hidden" => Some(Kind::HiddenLine(HiddenLine::SetRowHidden)),
+        "is_column_hidden" => Some(Kind::OnLine(OnLine::IsColumnHidden)),
+        "is_row_hidden" => Some(Kind::OnLine(OnLine::IsRowHidden)),
+        _ => None,
     }
 }

@@ -1,13 +1,9 @@
-ghost use Rattle.std.specs.Prelude.{◌≡◌, IfOk, OnErr, option_map};
+ghost use Rattle.ic_machine.specs.Command.{OnNotation};
 ghost use Rattle.ic_machine.specs.subjects.Notation.{notation_rows};
-ghost use Rattle.ic_words.specs.Served.{served_in};
-ghost use Rattle.ic_words.specs.Words.{HaveEscape, words_left};
-ghost use Rattle.ic_words.specs.subjects.Notation.{notation_meant};
+ghost use Rattle.ic_words.specs.Kinds.{IsKind};
 
+use crate::command::kind::{Kind, OneText, Wordless};
 use crate::text::WordText;
-use crate::words::Words;
-use ic_laws::OutOfMemory;
-use std::alloc::Global;
 
 /// A served command on the locale, the language and the time zone.
 #[derive(Drop)]
@@ -21,26 +17,18 @@ pub enum Notation<'l> {
     GetFmtSettings,
 }
 
-/// The served command on the locale, the language and the time zone of this name, with the words that are left; inside that
-/// None where they don't fit it.
-pub(crate) fn notation_named<'l>(
-    alloc: Global,
-    name: &str,
-    rest: Option<&'l str>,
-) -> Result<Option<Option<Notation<'l>>>, OutOfMemory>
-    ensures exact { IfOk result
-        (λ made. option_map (option_map notation_meant) made ≡ served_in notation_rows name.now
-        (words_left rest.entry)) }
-    ensures memory { OnErr result (HaveEscape (words_left rest.entry)) }
+/// The kind of the served command on the locale, the language and the time zone of this name.
+pub(crate) fn notation_named(name: &str) -> Option<Kind>
+    ensures { IsKind OnNotation notation_rows name.now result }
 {
     match name {
-        "set_locale" => said!(alloc, rest, (id, ()) => Notation::SetLocale { id }),
-        "set_language" => said!(alloc, rest, (id, ()) => Notation::SetLanguage { id }),
-        "set_timezone" => said!(alloc, rest, (id, ()) => Notation::SetTimezone { id }),
-        "get_locale" => said!(alloc, rest, () => Notation::GetLocale),
-        "get_language" => said!(alloc, rest, () => Notation::GetLanguage),
-        "get_timezone" => said!(alloc, rest, () => Notation::GetTimezone),
-        "get_fmt_settings" => said!(alloc, rest, () => Notation::GetFmtSettings),
-        _ => Ok(None),
+        "set_locale" => Some(Kind::OneText(OneText::SetLocale)),
+        "set_language" => Some(Kind::OneText(OneText::SetLanguage)),
+        "set_timezone" => Some(Kind::OneText(OneText::SetTimezone)),
+        "get_locale" => Some(Kind::Wordless(Wordless::GetLocale)),
+        "get_language" => Some(Kind::Wordless(Wordless::GetLanguage)),
+        "get_timezone" => Some(Kind::Wordless(Wordless::GetTimezone)),
+        "get_fmt_settings" => Some(Kind::Wordless(Wordless::GetFmtSettings)),
+        _ => None,
     }
 }

@@ -1,13 +1,9 @@
-ghost use Rattle.std.specs.Prelude.{◌≡◌, IfOk, OnErr, option_map};
+ghost use Rattle.ic_machine.specs.Command.{OnReading};
 ghost use Rattle.ic_machine.specs.subjects.Reading.{reading_rows};
-ghost use Rattle.ic_words.specs.Served.{served_in};
-ghost use Rattle.ic_words.specs.Words.{HaveEscape, words_left};
-ghost use Rattle.ic_words.specs.subjects.Reading.{reading_meant};
+ghost use Rattle.ic_words.specs.Kinds.{IsKind};
 
+use crate::command::kind::{InCell, Kind, OneIndex, OneText, Wordless};
 use crate::text::WordText;
-use crate::words::Words;
-use ic_laws::OutOfMemory;
-use std::alloc::Global;
 
 /// A served command that reads cells.
 #[derive(Drop)]
@@ -23,34 +19,20 @@ pub enum Reading<'l> {
     GetSheetMarkup { sheet: u32 },
 }
 
-/// The served command that reads cells of this name, with the words that are left; inside that None where they don't fit it.
-pub(crate) fn reading_named<'l>(
-    alloc: Global,
-    name: &str,
-    rest: Option<&'l str>,
-) -> Result<Option<Option<Reading<'l>>>, OutOfMemory>
-    ensures exact { IfOk result
-        (λ made. option_map (option_map reading_meant) made ≡ served_in reading_rows name.now
-        (words_left rest.entry)) }
-    ensures memory { OnErr result (HaveEscape (words_left rest.entry)) }
+/// The kind of the served command that reads cells of this name.
+pub(crate) fn reading_named(name: &str) -> Option<Kind>
+    ensures { IsKind OnReading reading_rows name.now result }
 {
     match name {
-        "get_cell_formula" =>
-            said!(alloc, rest, (sheet, (row, (column, ()))) => Reading::GetCellFormula { sheet, row, column }),
-        "get_localized_cell_content" =>
-            said!(alloc, rest, (sheet, (row, (column, ()))) => Reading::GetLocalizedCellContent { sheet, row, column }),
-        "get_formatted_cell_value" =>
-            said!(alloc, rest, (sheet, (row, (column, ()))) => Reading::GetFormattedCellValue { sheet, row, column }),
-        "get_cell_value_by_index" =>
-            said!(alloc, rest, (sheet, (row, (column, ()))) => Reading::GetCellValueByIndex { sheet, row, column }),
-        "get_cell_value_by_ref" =>
-            said!(alloc, rest, (text, ()) => Reading::GetCellValueByRef { text }),
-        "get_cell_type" =>
-            said!(alloc, rest, (sheet, (row, (column, ()))) => Reading::GetCellType { sheet, row, column }),
-        "is_empty_cell" =>
-            said!(alloc, rest, (sheet, (row, (column, ()))) => Reading::IsEmptyCell { sheet, row, column }),
-        "get_all_cells" => said!(alloc, rest, () => Reading::GetAllCells),
-        "get_sheet_markup" => said!(alloc, rest, (sheet, ()) => Reading::GetSheetMarkup { sheet }),
-        _ => Ok(None),
+        "get_cell_formula" => Some(Kind::InCell(InCell::GetCellFormula)),
+        "get_localized_cell_content" => Some(Kind::InCell(InCell::GetLocalizedCellContent)),
+        "get_formatted_cell_value" => Some(Kind::InCell(InCell::GetFormattedCellValue)),
+        "get_cell_value_by_index" => Some(Kind::InCell(InCell::GetCellValueByIndex)),
+        "get_cell_value_by_ref" => Some(Kind::OneText(OneText::GetCellValueByRef)),
+        "get_cell_type" => Some(Kind::InCell(InCell::GetCellType)),
+        "is_empty_cell" => Some(Kind::InCell(InCell::IsEmptyCell)),
+        "get_all_cells" => Some(Kind::Wordless(Wordless::GetAllCells)),
+        "get_sheet_markup" => Some(Kind::OneIndex(OneIndex::GetSheetMarkup)),
+        _ => None,
     }
 }

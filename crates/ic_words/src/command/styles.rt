@@ -1,13 +1,9 @@
-ghost use Rattle.std.specs.Prelude.{◌≡◌, IfOk, OnErr, option_map};
+ghost use Rattle.ic_machine.specs.Command.{OnStyles};
 ghost use Rattle.ic_machine.specs.subjects.Styles.{style_rows};
-ghost use Rattle.ic_words.specs.Served.{served_in};
-ghost use Rattle.ic_words.specs.Words.{HaveEscape, words_left};
-ghost use Rattle.ic_words.specs.subjects.Styles.{styles_meant};
+ghost use Rattle.ic_words.specs.Kinds.{IsKind};
 
+use crate::command::kind::{InCell, Kind, OnLine, StyledLine};
 use crate::styling::StyleWords;
-use crate::words::Words;
-use ic_laws::OutOfMemory;
-use std::alloc::Global;
 
 /// A served command on the styles of cells, rows and columns.
 #[derive(Drop)]
@@ -55,36 +51,20 @@ pub enum Styles<'l> {
     },
 }
 
-/// The served command on styles of this name, with the words that are left; inside that None where they don't fit it.
-pub(crate) fn styles_named<'l>(
-    alloc: Global,
-    name: &str,
-    rest: Option<&'l str>,
-) -> Result<Option<Option<Styles<'l>>>, OutOfMemory>
-    ensures exact { IfOk result
-        (λ made. option_map (option_map styles_meant) made ≡ served_in style_rows name.now
-        (words_left rest.entry)) }
-    ensures memory { OnErr result (HaveEscape (words_left rest.entry)) }
+/// The kind of the served command on styles of this name.
+pub(crate) fn styles_named(name: &str) -> Option<Kind>
+    ensures { IsKind OnStyles style_rows name.now result }
 {
     match name {
-        "get_cell_style_index" =>
-            said!(alloc, rest, (sheet, (row, (column, ()))) => Styles::GetCellStyleIndex { sheet, row, column }),
-        "get_style_for_cell" =>
-            said!(alloc, rest, (sheet, (row, (column, ()))) => Styles::GetStyleForCell { sheet, row, column }),
-        "get_cell_style_or_none" =>
-            said!(alloc, rest, (sheet, (row, (column, ()))) => Styles::GetCellStyleOrNone { sheet, row, column }),
-        "set_column_style" =>
-            said!(alloc, rest, (sheet, (column, style)) => Styles::SetColumnStyle { sheet, column, style }),
-        "set_row_style" =>
-            said!(alloc, rest, (sheet, (row, style)) => Styles::SetRowStyle { sheet, row, style }),
-        "get_column_style" =>
-            said!(alloc, rest, (sheet, (column, ())) => Styles::GetColumnStyle { sheet, column }),
-        "get_row_style" =>
-            said!(alloc, rest, (sheet, (row, ())) => Styles::GetRowStyle { sheet, row }),
-        "delete_column_style" =>
-            said!(alloc, rest, (sheet, (column, ())) => Styles::DeleteColumnStyle { sheet, column }),
-        "delete_row_style" =>
-            said!(alloc, rest, (sheet, (row, ())) => Styles::DeleteRowStyle { sheet, row }),
-        _ => Ok(None),
+        "get_cell_style_index" => Some(Kind::InCell(InCell::GetCellStyleIndex)),
+        "get_style_for_cell" => Some(Kind::InCell(InCell::GetStyleForCell)),
+        "get_cell_style_or_none" => Some(Kind::InCell(InCell::GetCellStyleOrNone)),
+        "set_column_style" => Some(Kind::StyledLine(StyledLine::SetColumnStyle)),
+        "set_row_style" => Some(Kind::StyledLine(StyledLine::SetRowStyle)),
+        "get_column_style" => Some(Kind::OnLine(OnLine::GetColumnStyle)),
+        "get_row_style" => Some(Kind::OnLine(OnLine::GetRowStyle)),
+        "delete_column_style" => Some(Kind::OnLine(OnLine::DeleteColumnStyle)),
+        "delete_row_style" => Some(Kind::OnLine(OnLine::DeleteRowStyle)),
+        _ => None,
     }
 }

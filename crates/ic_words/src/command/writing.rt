@@ -1,13 +1,10 @@
-ghost use Rattle.std.specs.Prelude.{◌≡◌, IfOk, OnErr, option_map};
+ghost use Rattle.ic_machine.specs.Command.{OnWriting};
 ghost use Rattle.ic_machine.specs.subjects.Writing.{writing_rows};
-ghost use Rattle.ic_words.specs.Served.{served_in};
-ghost use Rattle.ic_words.specs.Words.{HaveEscape, words_left};
-ghost use Rattle.ic_words.specs.subjects.Writing.{writing_meant};
+ghost use Rattle.ic_words.specs.Kinds.{IsKind};
 
+use crate::command::kind::{AmountInCell, Kind, TextInCell, TruthInCell};
 use crate::text::WordText;
-use crate::words::Words;
-use ic_laws::{Amount, OutOfMemory};
-use std::alloc::Global;
+use ic_laws::Amount;
 
 /// A served command that writes a cell.
 #[derive(Drop)]
@@ -44,28 +41,16 @@ pub enum Writing<'l> {
     },
 }
 
-/// The served command that writes a cell of this name, with the words that are left; inside that None where they don't fit it.
-pub(crate) fn writing_named<'l>(
-    alloc: Global,
-    name: &str,
-    rest: Option<&'l str>,
-) -> Result<Option<Option<Writing<'l>>>, OutOfMemory>
-    ensures exact { IfOk result
-        (λ made. option_map (option_map writing_meant) made ≡ served_in writing_rows name.now
-        (words_left rest.entry)) }
-    ensures memory { OnErr result (HaveEscape (words_left rest.entry)) }
+/// The kind of the served command that writes a cell of this name.
+pub(crate) fn writing_named(name: &str) -> Option<Kind>
+    ensures { IsKind OnWriting writing_rows name.now result }
 {
     match name {
-        "set_user_input" =>
-            said!(alloc, rest, (sheet, (row, (column, (text, ())))) => Writing::SetUserInput { sheet, row, column, text }),
-        "update_cell_with_text" =>
-            said!(alloc, rest, (sheet, (row, (column, (text, ())))) => Writing::UpdateCellWithText { sheet, row, column, text }),
-        "update_cell_with_formula" =>
-            said!(alloc, rest, (sheet, (row, (column, (text, ())))) => Writing::UpdateCellWithFormula { sheet, row, column, text }),
-        "update_cell_with_bool" =>
-            said!(alloc, rest, (sheet, (row, (column, (truth, ())))) => Writing::UpdateCellWithBool { sheet, row, column, truth }),
-        "update_cell_with_number" =>
-            said!(alloc, rest, (sheet, (row, (column, (amount, ())))) => Writing::UpdateCellWithNumber { sheet, row, column, amount }),
-        _ => Ok(None),
+        "set_user_input" => Some(Kind::TextInCell(TextInCell::SetUserInput)),
+        "update_cell_with_text" => Some(Kind::TextInCell(TextInCell::UpdateCellWithText)),
+        "update_cell_with_formula" => Some(Kind::TextInCell(TextInCell::UpdateCellWithFormula)),
+        "update_cell_with_bool" => Some(Kind::TruthInCell(TruthInCell::UpdateCellWithBool)),
+        "update_cell_with_number" => Some(Kind::AmountInCell(AmountInCell::UpdateCellWithNumber)),
+        _ => None,
     }
 }

@@ -1,8 +1,24 @@
-use Rattle.std.proofs.Common.{rules}
+use Rattle.std.proofs.Common.{Some, codes, refl}
+use Rattle.ic_machine.specs.Command.{OnDefinitions}
 use Rattle.ic_machine.specs.subjects.Definitions.{definition_rows}
-use Rattle.ic_words.specs.Words.{words_left}
-use Rattle.ic_words.proofs.NameLemmas.{unknown}
+use Rattle.ic_words.specs.declared.command.kind.Kind.TheVariants as kinds
+use Rattle.ic_words.specs.declared.command.kind.ScopedBody.TheVariants as scoped_body
+use Rattle.ic_words.specs.declared.command.kind.ScopedName.TheVariants as scoped_name
+use Rattle.ic_words.specs.declared.command.kind.Wordless.TheVariants as wordless
+use Rattle.ic_words.proofs.SubjectLemmas.{named_so, unserved}
 use Rattle.ic_words.proofs.command.definitions.definitions_named.Goals as goal
 
-pub returns-in_default-clause-exact : goal.returns-in_default-clause-exact
-returns-in_default-clause-exact c = unknown definition_rows c.args.name.now (words_left c.args.rest) (search rules)
+pub returns-in-new_defined_name : goal.returns-in-new_defined_name
+returns-in-new_defined_name c = named_so OnDefinitions definition_rows c.args.name.now (codes "new_defined_name") (Some (kinds.ScopedBody scoped_body.NewDefinedName)) c.in-new_defined_name.is (λ words. refl)
+
+pub returns-in-delete_defined_name : goal.returns-in-delete_defined_name
+returns-in-delete_defined_name c = named_so OnDefinitions definition_rows c.args.name.now (codes "delete_defined_name") (Some (kinds.ScopedName scoped_name.DeleteDefinedName)) c.in-delete_defined_name.is (λ words. refl)
+
+pub returns-in-is_valid_defined_name : goal.returns-in-is_valid_defined_name
+returns-in-is_valid_defined_name c = named_so OnDefinitions definition_rows c.args.name.now (codes "is_valid_defined_name") (Some (kinds.ScopedBody scoped_body.IsValidDefinedName)) c.in-is_valid_defined_name.is (λ words. refl)
+
+pub returns-in-get_defined_name_list : goal.returns-in-get_defined_name_list
+returns-in-get_defined_name_list c = named_so OnDefinitions definition_rows c.args.name.now (codes "get_defined_name_list") (Some (kinds.Wordless wordless.GetDefinedNameList)) c.in-get_defined_name_list.is (λ words. refl)
+
+pub returns-in_default : goal.returns-in_default
+returns-in_default c = unserved OnDefinitions definition_rows c.args.name.now (c.in_default.not-new_defined_name, (c.in_default.not-delete_defined_name, (c.in_default.not-is_valid_defined_name, (c.in_default.not-get_defined_name_list, tt))))
