@@ -38,7 +38,7 @@ returns-in_err-bodies-clause-refused c =
     subst (λ (m : ModelState). Refuses c.from_residual.result (add_sheet_refusal (core_of m.book) name)) c.self.view_is (subst (Refuses c.from_residual.result) (sym (add_accepts (core_of (held c.self.inside)) name c.in-Some.id (sym c.is_valid_sheet_name.ensures ∙ c.if-not-is_valid_sheet_name.false) (ap (list_any (agrees name)) (sym (seen_names c.self.inside.contents.sheets)) ∙ sym c.is_taken.ensures ∙ c.if-is_taken.false) (ap (λ (m : ModelState). fresh_id (core_of m.book)) c.self.view_is ∙ sym c.in-Some.ensures.fresh))) (no_memory c.from_residual.result c.from_residual.ensures))
 
 pub prepare_dangling-requires : goal.prepare_dangling-requires
-prepare_dangling-requires c = naming_bodies _ _ _ c.self.inside.contents.definitions
+prepare_dangling-requires c = naming_bodies (definitions_scene c.self.inside.contents.definitions) _ _ c.self.inside.contents.definitions
 
 pub returns-in_err-add_sheet-clause-refused : goal.returns-in_err-add_sheet-clause-refused
 returns-in_err-add_sheet-clause-refused c =

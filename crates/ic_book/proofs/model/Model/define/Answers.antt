@@ -9,8 +9,8 @@ add_definition-requires-clause-free c = is_free c.self.inside c.self.invariant c
 pub add_definition-requires-clause-spares : goal.add_definition-requires-clause-spares
 add_definition-requires-clause-spares c = it_spares c.self.inside c.self.invariant c.args.self.now c.self.view_is (chars c.args.name.now) c.args.scope c.in_ok-id.id c.in_ok-id.ensures.id (chars c.args.formula.now) (body_of_typed c.in_ok-id.body) c.in_ok-definition.definition c.in_ok-id.ensures.body c.in_ok-id.ensures.refused c.in_ok-definition.ensures
 
-pub invariant_of-self : goal.invariant_of-self
-invariant_of-self c = defined_held c.self.inside c.self.invariant c.args.self.now c.self.view_is (chars c.args.name.now) c.args.scope c.in_ok-id.id c.in_ok-id.ensures.id (chars c.args.formula.now) (body_of_typed c.in_ok-id.body) c.in_ok-definition.definition c.in_ok-id.ensures.body c.in_ok-id.ensures.refused c.in_ok-definition.ensures c.add_definition.new.contents.sheets c.add_definition.new.contents.definitions c.in_ok-add_definition.ensures.sheets c.in_ok-add_definition.ensures.definitions
+pub invariant_of-self-2 : goal.invariant_of-self-2
+invariant_of-self-2 c = defined_held c.self.inside c.self.invariant c.args.self.now c.self.view_is (chars c.args.name.now) c.args.scope c.in_ok-id.id c.in_ok-id.ensures.id (chars c.args.formula.now) (body_of_typed c.in_ok-id.body) c.in_ok-definition.definition c.in_ok-id.ensures.body c.in_ok-id.ensures.refused c.in_ok-definition.ensures c.add_definition.new.contents.sheets c.add_definition.new.contents.definitions c.in_ok-add_definition.ensures.sheets c.in_ok-add_definition.ensures.definitions
 
 pub returns-clause-ok : goal.returns-clause-ok
 returns-clause-ok c = λ body typed. defined_book c.self.inside c.self.invariant c.args.self.now c.self.view_is (chars c.args.name.now) c.args.scope c.in_ok-id.id c.in_ok-id.ensures.id (chars c.args.formula.now) (body_of_typed c.in_ok-id.body) c.in_ok-definition.definition c.in_ok-id.ensures.body c.in_ok-id.ensures.refused c.in_ok-definition.ensures c.add_definition.new.contents.sheets c.add_definition.new.contents.definitions c.in_ok-add_definition.ensures.sheets c.in_ok-add_definition.ensures.definitions body typed

@@ -40,7 +40,7 @@ returns-in_err-bodies-clause-refused c =
     subst (λ (m : ModelState). Refuses c.from_residual.result (rename_refusal (core_of m.book) c.args.index name)) c.self.view_is (subst (Refuses c.from_residual.result) (sym (rename_accepts (core_of (held c.self.inside)) c.args.index name (sym c.is_valid_sheet_name.ensures ∙ c.if-not-is_valid_sheet_name.false) (ap (λ xs. list_any (agrees name) (remove xs c.args.index)) (sym (seen_names c.self.inside.contents.sheets)) ∙ sym c.is_taken_by_other.ensures ∙ c.if-is_taken_by_other.false) (there_is c.self.inside.contents.sheets c.args.index (within_of c.self.inside.contents.sheets c.len.result c.args.index c.len.ensures c.if-index-len.false)))) (no_memory c.from_residual.result c.from_residual.ensures))
 
 pub prepare_dangling-requires : goal.prepare_dangling-requires
-prepare_dangling-requires c = naming_bodies _ _ _ c.self.inside.contents.definitions
+prepare_dangling-requires c = naming_bodies (definitions_scene c.self.inside.contents.definitions) _ _ c.self.inside.contents.definitions
 
 pub returns-in_err-rename_sheet-clause-refused : goal.returns-in_err-rename_sheet-clause-refused
 returns-in_err-rename_sheet-clause-refused c =
