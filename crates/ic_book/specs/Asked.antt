@@ -15,7 +15,7 @@ use Rattle.ic_cells.specs.declared.workbook.DefinedName.{DefinedName}
 use Rattle.ic_cells.specs.declared.workbook.Workbook.{Workbook}
 use Rattle.ic_sheets.specs.Records.{HasApartNames}
 use Rattle.ic_tables.specs.Tables.{TableSet}
-use Rattle.ic_book.specs.HandedIn.{Condition, IsFirstBroken, Meets, notation_refusal, number_of}
+use Rattle.ic_book.specs.HandedIn.{Condition, IsFirstBroken, Meets, MeetsAll, notation_refusal, number_of}
 use Rattle.ic_book.specs.declared.error.BookError.{BookError}
 use Rattle.ic_book.specs.declared.error.BookError.TheVariants as errors
 
@@ -70,6 +70,11 @@ abbrev pub TellsFirst : Workbook → TableSet → BookError → Type 0
 TellsFirst w tables errors.OutOfMemory = Unit {0}
 TellsFirst w tables (errors.BadWorkbook n) = (language : List ℕ) → IsFirstBroken w language tables n
 TellsFirst w tables e = ⊥
+
+-- A workbook that is taken in: nothing refuses its locale, its zone or the language, and it meets all conditions.
+pub record IsTakenIn (w : Workbook) (language : List ℕ) (tables : TableSet) : Type 0 where
+  pub free : notation_refusal w language tables ≡ None
+  pub meets : MeetsAll w language tables
 
 -- What an error of the call that takes a workbook in tells: what refuses its locale, its zone or the language; where nothing
 -- does, the number of the first condition that isn't met, or that memory ran out.

@@ -1,10 +1,10 @@
 //! A book that is made of a workbook which is handed in as plain records.
 ghost use Rattle.std.specs.Prelude.{◌≡◌, ℕ, List, None, Some, IfErr, IfOk, OnOk, chars, false, map};
 ghost use Rattle.ic_tables.specs.Tables.{IsWellFormed, language_of, locale_of};
-ghost use Rattle.ic_book.specs.Asked.{Breaks, HasCount, MeetsTo, TellsFirst, TellsHandedIn};
+ghost use Rattle.ic_book.specs.Asked.{Breaks, HasCount, IsTakenIn, MeetsTo, TellsFirst, TellsHandedIn};
 ghost use Rattle.ic_book.specs.Book.{whole_of};
 ghost use Rattle.ic_book.specs.Filled.{AreFilled};
-ghost use Rattle.ic_book.specs.HandedIn.{book_of, definition_of, notation_refusal};
+ghost use Rattle.ic_book.specs.HandedIn.{MeetsAll, book_of, definition_of, notation_refusal};
 
 use crate::about::About;
 use crate::asked::{ask_contents, ask_sheets};
@@ -37,6 +37,8 @@ impl<'a> Model<'a> {
     ) -> Result<Model<'a>, BookError>
         ensures ok { IfOk result (λ m. whole_of m.book
             ≡ book_of workbook (chars language_id.now) tables.now) }
+        ensures taken { OnOk result
+            (IsTakenIn workbook (chars language_id.now) tables.now) }
         ensures looks_up { IfOk result (λ m. m.has_all ≡ map (λ s. false) workbook.worksheets) }
         ensures err { IfErr result
             (TellsHandedIn workbook (chars language_id.now) tables.now) }
@@ -70,6 +72,7 @@ fn from_records<'a>(
     requires free { notation_refusal workbook.now language.now.code tables.now ≡ None }
     ensures ok { IfOk result (λ m. whole_of m.book
         ≡ book_of workbook.now language.now.code tables.now) }
+    ensures met { OnOk result (MeetsAll workbook.now language.now.code tables.now) }
     ensures looks_up { IfOk result (λ m. m.has_all ≡ map (λ s. false) workbook.now.worksheets) }
     ensures err { IfErr result (TellsFirst workbook.now tables.now) }
 {

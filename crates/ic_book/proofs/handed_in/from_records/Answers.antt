@@ -84,6 +84,13 @@ returns-clause-ok c =
     (c.in_ok-ask_sheets.ensures.met tables numbers (c.as_slice-sheets.ensures.sheets ∙ c.in_ok-contents.ensures.sheets) c.in_ok-contents.ensures.met c.args.language.now.code) in
     stands_for w c.args.language.now.code tables numbers inside holds meets
 
+pub returns-clause-met : goal.returns-clause-met
+returns-clause-met c =
+    let w : Workbook = c.args.workbook.now in
+    let tables : TableSet = c.args.tables.now in
+    met_all w c.args.language.now.code tables
+    (c.in_ok-ask_sheets.ensures.met tables c.as_slice-numbers.result.now (c.as_slice-sheets.ensures.sheets ∙ c.in_ok-contents.ensures.sheets) c.in_ok-contents.ensures.met c.args.language.now.code)
+
 pub returns-clause-looks_up : goal.returns-clause-looks_up
 returns-clause-looks_up c =
     ap (map (λ (x : HeldSheet). x.pool.is_whole)) c.in_ok-contents.ensures.sheets

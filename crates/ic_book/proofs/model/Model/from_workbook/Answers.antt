@@ -1,8 +1,8 @@
-use Rattle.std.proofs.Common.{◌∙◌, ℕ, List, chars, ap, sym}
+use Rattle.std.proofs.Common.{◌∙◌, ℕ, List, chars, ap, subst, sym}
 use Rattle.std.proofs.lemmas.Result.{IfErr-weaker, IfOk-weaker}
 use Rattle.ic_tables.specs.Tables.{TableSet, lists_zone, locale_of}
 use Rattle.ic_cells.specs.declared.workbook.Workbook.{Workbook}
-use Rattle.ic_book.specs.HandedIn.{book_of}
+use Rattle.ic_book.specs.HandedIn.{MeetsAll, book_of}
 use Rattle.ic_book.proofs.FirstLemmas.{tells_handed_in}
 use Rattle.ic_book.proofs.HandedInValid.{lacks_nothing}
 use Rattle.ic_book.proofs.HeldLemmas.{language_is, locale_is}
@@ -33,6 +33,15 @@ returns-clause-ok c =
     let tables : TableSet = c.args.tables.now in
     let code = language_is tables (chars c.args.language_id.now) c.in-Ok-get_language.language.now c.in-Ok-get_language.ensures.found in
     IfOk-weaker c.from_records.result _ _ (λ m e. e ∙ ap (λ (language : List ℕ). book_of c.args.workbook language tables) code.0) c.from_records.ensures.ok
+
+pub returns-clause-taken : goal.returns-clause-taken
+returns-clause-taken c =
+    let w : Workbook = c.args.workbook in
+    let tables : TableSet = c.args.tables.now in
+    let code = language_is tables (chars c.args.language_id.now) c.in-Ok-get_language.language.now c.in-Ok-get_language.ensures.found in
+    let free = lacks_nothing w (chars c.args.language_id.now) tables c.in-Ok.locale.now (ap (locale_of tables) (sym c.as_str.ensures.characters) ∙ c.in-Ok.ensures.found)
+    (ap (lists_zone tables) (sym c.as_str-2.ensures.characters) ∙ sym c.in-Some.ensures.listed) c.in-Ok-get_language.language.now c.in-Ok-get_language.ensures.found in
+    IfOk-weaker c.from_records.result _ _ (λ m e. record { free = free; meets = subst (λ (l : List ℕ). MeetsAll w l tables) code.0 e }) c.from_records.ensures.met
 
 pub returns-clause-err : goal.returns-clause-err
 returns-clause-err c =
