@@ -17,7 +17,7 @@ mod word;
 mod words;
 
 pub use command::arrays::Arrays;
-pub use command::definitions::Definitions;
+pub use command::definitions::{DefinitionUpdate, Definitions};
 pub use command::extending::Extending;
 pub use command::layout::Layout;
 pub use command::notation::Notation;
