@@ -3,7 +3,6 @@ use Rattle.ic_machine.specs.subjects.Definitions.{update_of}
 use Rattle.ic_machine.specs.subjects.Styles as styles
 use Rattle.ic_words.specs.Kinds.{kind_said, area_said, area_text_said, between_said, body_said, cell_amount_said, cell_said, cell_text_said, cell_truth_said, color_said, hidden_said, index_said, indexed_said, indexes_said, line_said, placed_said, scoped_said, size_said, state_said, style_said, switch_said, text_said, texts_said, updated_said, wordless_said}
 use Rattle.ic_words.specs.Words.{words_left}
-use Rattle.ic_words.specs.declared.command.kind.Kind.TheVariants as kinds
 use Rattle.ic_words.proofs.WordsLemmas.{where_ok}
 use Rattle.ic_words.proofs.command.shapes.command_of.Goals as goal
 
