@@ -1,1 +1,3 @@
+pub mod Capture
 pub mod Change
+pub mod Copy
