@@ -1,1 +1,4 @@
+pub mod Alike
+pub mod Capture
 pub mod Change
+pub mod Copy

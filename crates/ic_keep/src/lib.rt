@@ -6,8 +6,12 @@
 //! name that the sheet had, and what dangled finds a sheet or a definition that is new.
 #![tactic(auto)]
 
+mod capture;
 mod change;
+mod copying;
 mod keeping;
 
+pub use capture::{captured, captured_formula};
 pub use change::KeyChange;
+pub use copying::{keep_copy, keep_copy_formula};
 pub use keeping::{keep, keep_formula};

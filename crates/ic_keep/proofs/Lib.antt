@@ -1,0 +1,2 @@
+pub mod KeptAlike
+pub mod WordWalk
