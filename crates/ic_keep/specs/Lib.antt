@@ -2,3 +2,4 @@ pub mod Alike
 pub mod Capture
 pub mod Change
 pub mod Copy
+pub mod Touched

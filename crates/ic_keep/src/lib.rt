@@ -10,8 +10,10 @@ mod capture;
 mod change;
 mod copying;
 mod keeping;
+mod touched;
 
 pub use capture::{captured, captured_formula};
 pub use change::KeyChange;
 pub use copying::{keep_copy, keep_copy_formula};
 pub use keeping::{keep, keep_formula};
+pub use touched::is_touched;
