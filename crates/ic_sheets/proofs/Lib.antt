@@ -2,7 +2,9 @@ pub mod ApartLemmas
 pub mod CellLemmas
 pub mod DanglingLemmas
 pub mod IndexLemmas
+pub mod InsertLemmas
 pub mod KeptLemmas
+pub mod KeyLemmas
 pub mod MakesLemmas
 pub mod OwnLemmas
 pub mod PlaceLemmas

@@ -1,0 +1,55 @@
+-- An item that is put in among others: what stands where, what becomes of it there, and that it can be taken out again.
+use Rattle.std.proofs.Common.{◌≡◌, ℕ, zero, suc, ◌<◌, ◌≤◌, List, [], ◌∷◌, ◌++◌, Some, map, length, refl, sym, ap, ap₂, ◌∙◌, arith}
+use Rattle.std.proofs.lemmas.List.Edits.{insert_end}
+use Rattle.std.specs.List.{AllByRecursion, insert, remove, slice_get}
+use Rattle.ic_laws.specs.CoreStep.{moved, put_back, updated_at}
+
+module _ {X : Type 0} where
+  -- the item is there
+  pub got_inserted : (xs : List X) (index : ℕ) (x : X) → index ≤ length xs → slice_get (insert xs index x) index ≡ Some x
+  got_inserted xs zero x le = refl
+  got_inserted [] (suc index) x le = absurd (omega (arith, le))
+  got_inserted (y ∷ xs) (suc index) x le = got_inserted xs index x (omega (arith, le))
+
+  -- those before it stand where they stood
+  pub got_before : (xs : List X) (index k : ℕ) (x : X) → k < index → index ≤ length xs → slice_get (insert xs index x) k ≡ slice_get xs k
+  got_before xs zero k x lt le = absurd (omega (arith, lt))
+  got_before [] (suc index) k x lt le = absurd (omega (arith, le))
+  got_before (y ∷ xs) (suc index) zero x lt le = refl
+  got_before (y ∷ xs) (suc index) (suc k) x lt le = got_before xs index k x (omega (arith, lt)) (omega (arith, le))
+
+  -- those from there on stand one further
+  pub got_after : (xs : List X) (index k : ℕ) (x : X) → index ≤ k → index ≤ length xs → slice_get (insert xs index x) (suc k) ≡ slice_get xs k
+  got_after xs zero k x lt le = refl
+  got_after [] (suc index) k x lt le = absurd (omega (arith, le))
+  got_after (y ∷ xs) (suc index) zero x lt le = absurd (omega (arith, lt))
+  got_after (y ∷ xs) (suc index) (suc k) x lt le = got_after xs index k x (omega (arith, lt)) (omega (arith, le))
+
+  -- without it the others are left
+  pub inserted_removed : (xs : List X) (index : ℕ) (x : X) → index ≤ length xs → remove (insert xs index x) index ≡ xs
+  inserted_removed xs zero x le = refl
+  inserted_removed [] (suc index) x le = absurd (omega (arith, le))
+  inserted_removed (y ∷ xs) (suc index) x le = ap (λ (zs : List X). y ∷ zs) (inserted_removed xs index x (omega (arith, le)))
+
+  -- it alone changes
+  pub inserted_updated : (f : X → X) (xs : List X) (index : ℕ) (x : X) → index ≤ length xs → updated_at f index (insert xs index x) ≡ insert xs index (f x)
+  inserted_updated f xs zero x le = refl
+  inserted_updated f [] (suc index) x le = absurd (omega (arith, le))
+  inserted_updated f (y ∷ xs) (suc index) x le = ap (λ (zs : List X). y ∷ zs) (inserted_updated f xs index x (omega (arith, le)))
+
+  pub all_inserted : (P : X → Type 0) (xs : List X) (index : ℕ) (x : X) → AllByRecursion P xs → P x → AllByRecursion P (insert xs index x)
+  all_inserted P xs zero x all one = (one, all)
+  all_inserted P [] (suc index) x all one = (one, tt)
+  all_inserted P (y ∷ xs) (suc index) x all one = (all.0, all_inserted P xs index x all.1 one)
+
+  -- it is put at the end, and moved there
+  pub moved_among : (old between new : List X) (last index : ℕ) (x : X) → last ≡ length old → between ≡ old ++ x ∷ [] → new ≡ moved last index between → new ≡ insert old index x
+  moved_among old between new last index x end pushed moves =
+      moves ∙ ap₂ (λ n xs. moved n index xs) end (pushed ∙ sym (insert_end old x))
+      ∙ ap₂ (put_back index) (inserted_removed old (length old) x (omega arith)) (got_inserted old (length old) x (omega arith))
+
+-- the items are seen by a function
+pub inserted_seen : {X Y : Type 0} (g : X → Y) (xs : List X) (index : ℕ) (x : X) → map g (insert xs index x) ≡ insert (map g xs) index (g x)
+inserted_seen g xs zero x = refl
+inserted_seen g [] (suc index) x = refl
+inserted_seen {Y} g (y ∷ xs) (suc index) x = ap (λ (zs : List Y). g y ∷ zs) (inserted_seen g xs index x)
