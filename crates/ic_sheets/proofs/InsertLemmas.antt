@@ -1,8 +1,9 @@
 -- An item that is put in among others: what stands where, what becomes of it there, and that it can be taken out again.
-use Rattle.std.proofs.Common.{◌≡◌, ℕ, zero, suc, ◌<◌, ◌≤◌, List, [], ◌∷◌, ◌++◌, Some, map, length, refl, sym, ap, ap₂, ◌∙◌, arith}
+use Rattle.std.proofs.Common.{◌≡◌, ℕ, zero, suc, ◌<◌, ◌≤◌, List, [], ◌∷◌, ◌++◌, Bool, true, false, ◌||◌, Some, map, length, refl, sym, ap, ap₂, ◌∙◌, arith}
 use Rattle.std.proofs.lemmas.List.Edits.{insert_end}
-use Rattle.std.specs.List.{AllByRecursion, insert, remove, slice_get}
+use Rattle.std.specs.List.{AllByRecursion, insert, list_any, remove, slice_get}
 use Rattle.ic_laws.specs.CoreStep.{moved, put_back, updated_at}
+use Rattle.ic_sheets.proofs.DanglingLemmas.{or_true}
 
 module _ {X : Type 0} where
   -- the item is there
@@ -42,10 +43,24 @@ module _ {X : Type 0} where
   all_inserted P [] (suc index) x all one = (one, tt)
   all_inserted P (y ∷ xs) (suc index) x all one = (all.0, all_inserted P xs index x all.1 one)
 
+  -- what passes a test is still there
+  pub inserted_passes : (test : X → Bool) (xs : List X) (index : ℕ) (x : X) → list_any test xs ≡ true → list_any test (insert xs index x) ≡ true
+  inserted_passes test xs zero x e = ap (λ b. test x || b) e ∙ or_true (test x)
+  inserted_passes test [] (suc index) x e = cc
+  inserted_passes test (y ∷ xs) (suc index) x e = step (test y) e (inserted_passes test xs index x)
+    where
+      step : (b : Bool) → (b || list_any test xs) ≡ true → (list_any test xs ≡ true → list_any test (insert xs index x) ≡ true) → (b || list_any test (insert xs index x)) ≡ true
+      step true e rest = refl
+      step false e rest = rest e
+
+  -- at the end
+  pub inserted_last : (xs : List X) (index : ℕ) (x : X) → index ≡ length xs → insert xs index x ≡ xs ++ x ∷ []
+  inserted_last xs index x end = ap (λ n. insert xs n x) end ∙ insert_end xs x
+
   -- it is put at the end, and moved there
   pub moved_among : (old between new : List X) (last index : ℕ) (x : X) → last ≡ length old → between ≡ old ++ x ∷ [] → new ≡ moved last index between → new ≡ insert old index x
   moved_among old between new last index x end pushed moves =
-      moves ∙ ap₂ (λ n xs. moved n index xs) end (pushed ∙ sym (insert_end old x))
+      moves ∙ ap₂ (λ n xs. moved n index xs) end (pushed ∙ sym (inserted_last old (length old) x refl))
       ∙ ap₂ (put_back index) (inserted_removed old (length old) x (omega arith)) (got_inserted old (length old) x (omega arith))
 
 -- the items are seen by a function
