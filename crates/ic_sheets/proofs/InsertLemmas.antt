@@ -2,8 +2,15 @@
 use Rattle.std.proofs.Common.{◌≡◌, ℕ, zero, suc, ◌<◌, ◌≤◌, List, [], ◌∷◌, ◌++◌, Bool, true, false, ◌||◌, Some, map, length, refl, sym, ap, ap₂, ◌∙◌, arith}
 use Rattle.std.proofs.lemmas.List.Edits.{insert_end}
 use Rattle.std.specs.List.{AllByRecursion, insert, list_any, remove, slice_get}
+use Rattle.ic_laws.proofs.core.Lists.{updated_seen}
 use Rattle.ic_laws.specs.CoreStep.{moved, put_back, updated_at}
+use Rattle.ic_grid.specs.declared.grid.Grid.{Grid}
+use Rattle.ic_pool.specs.Pool.{PoolState}
 use Rattle.ic_sheets.proofs.DanglingLemmas.{or_true}
+use Rattle.ic_sheets.specs.Rewriting.{look_ups, sheets_of}
+use Rattle.ic_sheets.specs.Sheet.{Sheet, sheet_of}
+use Rattle.ic_sheets.specs.declared.sheet.Sheet.{Sheet as HeldSheet}
+use Rattle.ic_sheets.specs.declared.tab.Tab.{Tab}
 
 module _ {X : Type 0} where
   -- the item is there
@@ -68,3 +75,21 @@ pub inserted_seen : {X Y : Type 0} (g : X → Y) (xs : List X) (index : ℕ) (x 
 inserted_seen g xs zero x = refl
 inserted_seen g [] (suc index) x = refl
 inserted_seen {Y} g (y ∷ xs) (suc index) x = ap (λ (zs : List Y). g y ∷ zs) (inserted_seen g xs index x)
+
+-- ---- a sheet that was put in is filled
+
+module _ (pool : PoolState) (grid : Grid) (tab : Tab) (index : ℕ) where
+  abbrev pub held_filled : HeldSheet → HeldSheet
+  held_filled s = record s { pool = pool; grid = grid; tab = tab }
+
+  abbrev pub sheet_filled : Sheet → Sheet
+  sheet_filled s = record s { pool = pool.formulas; grid = grid; tab = tab }
+
+  pub filled_sheets : (sheets : List HeldSheet) (others : List Sheet) (s : Sheet) → index ≤ length others → sheets_of sheets ≡ insert others index s → sheets_of (updated_at held_filled index sheets) ≡ insert others index (sheet_filled s)
+  filled_sheets sheets others s within made =
+      updated_seen sheet_of held_filled sheet_filled (λ x. refl) index sheets ∙ ap (updated_at sheet_filled index) made ∙ inserted_updated sheet_filled others index s within
+
+  pub filled_look_ups : (sheets : List HeldSheet) (others : List Bool) (whole : Bool) → index ≤ length others → look_ups sheets ≡ insert others index whole → look_ups (updated_at held_filled index sheets) ≡ insert others index pool.is_whole
+  filled_look_ups sheets others whole within made =
+      updated_seen (λ (x : HeldSheet). x.pool.is_whole) held_filled (λ b. pool.is_whole) (λ x. refl) index sheets ∙ ap (updated_at (λ b. pool.is_whole) index) made
+      ∙ inserted_updated (λ b. pool.is_whole) others index whole within

@@ -1,5 +1,5 @@
 -- The key of a sheet goes out of the look-up of names by the id of the sheet.
-use Rattle.std.proofs.Common.{◌≡◌, ℕ, suc, ◌<◌, List, [], ◌∷◌, ◌++◌, Bool, true, false, cond, not, ◌||◌, Option, Some, None, refl, sym, ap, ap₂, subst, ◌∙◌, take, drop, length, get_or, encode_utf8_all, string_bytes, String, bytes_eq, nat_eq}
+use Rattle.std.proofs.Common.{◌≡◌, ℕ, suc, ◌<◌, List, [], ◌∷◌, ◌++◌, Bool, true, false, cond, not, Option, Some, None, refl, sym, ap, ap₂, subst, ◌∙◌, take, drop, length, get_or, encode_utf8_all, string_bytes, String, bytes_eq, nat_eq}
 use Rattle.std.proofs.lemmas.Bool.{or_parts}
 use Rattle.std.proofs.lemmas.Map.Keys.{sorted_head, sorted_tail}
 use Rattle.std.proofs.lemmas.Map.Text.{is_eq-slice_cmp}
