@@ -10,6 +10,7 @@ pub mod OwnLemmas
 pub mod PlaceLemmas
 pub mod PoolLemmas
 pub mod RecordLemmas
+pub mod RemadeLemmas
 pub mod RewritingLemmas
 pub mod SearchLemmas
 pub mod WriteLemmas

@@ -1,20 +1,22 @@
 //! Sheets come, get other names and go, and definitions come and go: what becomes of the formulas of all sheets.
 ghost use Rattle.std.specs.Prelude.{◌≡◌, ◌<◌, ◌≤◌, ◌++◌, ℕ, List, [], ◌∷◌, None, Some, IfOk, OnOk, OnErr, chars, false, true, insert, length, map, nat_eq, remove};
-ghost use Rattle.std.specs.List.{list_any, slice_get};
+ghost use Rattle.std.specs.List.{AllByRecursion, list_any, slice_get};
 ghost use Rattle.ic_laws.specs.Changes.{definition_added, sheet_gone, sheet_named};
 ghost use Rattle.ic_laws.specs.CoreStep.{updated_at};
 ghost use Rattle.ic_laws.specs.Greatest.{greatest};
 ghost use Rattle.ic_laws.specs.Name.{agrees};
 ghost use Rattle.ic_pool.specs.Mentions.{KeepsAllFound, SparesFound};
+ghost use Rattle.ic_pool.specs.Remade.{LeavesUntouched};
+ghost use Rattle.ic_sheets.specs.Remade.{AreRemade};
 ghost use Rattle.ic_sheets.specs.Rewriting.{ArePrepared, FitOwn, FitSheets, Makes, SparesElsewhere, changed_pool, look_ups, looks_up_after, own_rewrites, sheets_of, with_all_rewrites, with_own_rewrites};
 ghost use Rattle.ic_sheets.specs.Sheet.{Sheet, empty_grid, plain_tab};
 ghost use Rattle.ic_sheets.specs.declared.sheet.Sheet.{Sheet as HeldSheet};
 
 use super::Sheets;
 use super::dangling::{keep_dangling, looked_at, note_dangling};
-use super::rewriting::{apply_all, apply_own, prepare, prepare_dangling};
+use super::rewriting::{apply_all, apply_own, prepare, prepare_dangling, prepare_remade};
 use ic_laws::{Finder, OutOfMemory};
-use ic_pool::{BookChange, DefinitionAdded, Rewrites, SheetGone, SheetNamed};
+use ic_pool::{BookChange, DefinitionAdded, Remaking, Rewrites, SheetGone, SheetNamed};
 
 impl Sheets {
     /// Adds a sheet at the end, which keeps no formulas. References of all sheets that dangle by an agreeing name become
@@ -198,6 +200,16 @@ impl Sheets {
             self.now) }
     {
         prepare(self.alloc, &self.list, change)
+    }
+
+    /// What a rule that makes formulas anew does to those of each sheet, if it leaves each that it doesn't touch. All are
+    /// prepared before any of them changes.
+    pub fn prepare_remade<R: Remaking>(&self, remaking: &R) -> Result<Vec<Rewrites>, OutOfMemory>
+        requires { AllByRecursion (λ s. AllByRecursion (LeavesUntouched (R.made remaking.now)
+            (Some s.id)) s.pool.formulas) self.now }
+        ensures { IfOk result (λ prepared. AreRemade (R.made remaking.now) prepared.items self.now) }
+    {
+        prepare_remade(self.alloc, &self.list, remaking)
     }
 
     /// What a definition that comes does to the formulas of all sheets, for each sheet at which it looks with its id: it

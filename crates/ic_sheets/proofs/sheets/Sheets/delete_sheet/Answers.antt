@@ -1,13 +1,14 @@
 use Rattle.std.proofs.Common.{subst₂, sym, ◌∙◌, subst, ◌<◌, ap, get_or}
+use Rattle.std.proofs.lemmas.Slice.Zip.{AllZip-long}
 use Rattle.ic_laws.specs.Changes.{sheet_gone}
-use Rattle.ic_sheets.proofs.RewritingLemmas.{deleted_looks_up, deleted_made, fits_removed, prepared_length, read_there}
+use Rattle.ic_sheets.proofs.RewritingLemmas.{deleted_looks_up, deleted_made, fits_removed, read_there}
 use Rattle.ic_sheets.specs.Rewriting.{ArePrepared, FitSheets}
 use Rattle.ic_sheets.specs.declared.sheet.Sheet.{Sheet}
 use Rattle.ic_sheets.proofs.sheets.Sheets.delete_sheet.Goals as goal
 
 pub remove-requires : goal.remove-requires
 remove-requires g c =
-    subst (λ n. c.args.index < n) (sym (c.in_ok-prepared.prepared.ok.0 ∙ prepared_length _ c.in_ok-prepared.prepared.items c.args.self.now c.in_ok-prepared.ensures)) c.requires
+    subst (λ n. c.args.index < n) (AllZip-long _ c.in_ok-prepared.prepared.items c.args.self.now c.in_ok-prepared.ensures ∙ sym c.in_ok-prepared.prepared.ok.0) c.requires
 
 pub apply-requires : goal.apply-requires
 apply-requires g c =
