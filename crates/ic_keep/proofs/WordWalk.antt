@@ -21,7 +21,7 @@ use Rattle.ic_keep.specs.Alike.{AreAlike, alike, alike_step, all_alike, argument
 use Rattle.ic_keep.specs.Capture.{captured, captured_beside, captured_step, first_word, is_captured, part_captured, some_captured, word_of, words_in, words_step}
 
 -- the words of a part, and of several
-abbrev Words : Type 0
+abbrev pub Words : Type 0
 Words = List (Option NameMention)
 
 abbrev part_words : Option Bound → Words
@@ -44,10 +44,10 @@ value_words_of [] = refl
 value_words_of (p ∷ ps) = ap (λ ws. words_in p.value ++ ws) (value_words_of ps)
 
 -- the words of a formula are those of its parts
-abbrev children_words : BoundKind → Tree-F SheetMention NameMention Words Words
+abbrev pub children_words : BoundKind → Tree-F SheetMention NameMention Words Words
 children_words kind = map-Tree SheetMention NameMention Bound BoundPair Words Words words_in (λ pair. words_in pair.value) kind
 
-words-node : (kind : BoundKind) → words_in (bound_node kind) ≡ words_step (children_words kind)
+pub words-node : (kind : BoundKind) → words_in (bound_node kind) ≡ words_step (children_words kind)
 words-node kind =
     fold-roll-Tree SheetMention NameMention Words Words words_step (λ pair. pair.value) kind
     ∙ ap (λ (g : BoundPair → Words). words_step (map-Tree SheetMention NameMention Bound BoundPair Words Words words_in g kind))

@@ -32,6 +32,7 @@ words_step (one.Lambda parameters body) = body
 words_step (one.Apply x arguments) = x ++ flat_map (λ x. x) arguments
 words_step kind = []
 
+-- the same of a whole formula
 abbrev pub words_in : Bound → List (Option NameMention)
 words_in t = fold-Tree SheetMention NameMention (List (Option NameMention)) (List (Option NameMention)) words_step (λ pair. pair.value) t
 
@@ -49,29 +50,34 @@ is_captured keys before after = false
 abbrev pub captured : KeyChange → Bound → Bound → Bool
 captured keys before after = list_any (λ pair. is_captured keys pair.0 pair.1) (zip (words_in before) (words_in after))
 
+-- the same of what is kept of a formula; a text that doesn't read has no words
 abbrev pub captured_formula : KeyChange → Formula → Formula → Bool
 captured_formula keys (formulas.Tree before) (formulas.Tree after) = captured keys before after
 captured_formula keys before after = false
 
--- The same in one walk over two formulas that are alike: a part beside the one at its place, which is not there where they
--- are not alike.
+-- The same in one walk over two formulas that are alike ----
+
+-- a part beside the one at its place, where there is one
 abbrev pub part_captured : (Bound → Bool) → Option Bound → Bool
 part_captured f None = false
 part_captured f (Some u) = f u
 
+-- some part beside the one at its place
 abbrev pub some_captured : List (Bound → Bool) → List Bound → Bool
 some_captured (f ∷ fs) (u ∷ us) = f u || some_captured fs us
 some_captured fs us = false
 
--- the word at the top of a formula
+-- the word of a node
 abbrev pub first_word : List (Option NameMention) → Option NameMention
 first_word [] = None
 first_word (word ∷ words) = word
 
+-- the word at the top of a formula
 abbrev pub word_of : Bound → Option NameMention
 word_of t = first_word (words_here (kind_of t))
 
 module _ (keys : KeyChange) where
+  -- one node beside another formula
   abbrev pub captured_step : Tree-F SheetMention NameMention (Bound → Bool) (Bound → Bool) → Bound → Bool
   captured_step (one.Local sheet word) u = is_captured keys (Some word) (word_of u)
   captured_step (one.Word word) u = is_captured keys (Some word) (word_of u)
@@ -87,5 +93,6 @@ module _ (keys : KeyChange) where
   captured_step (one.Apply f fs) u = part_captured f (first_of u) || some_captured fs (arguments_here (kind_of u))
   captured_step kind u = false
 
+  -- a whole formula beside another
   abbrev pub captured_beside : Bound → Bound → Bool
   captured_beside t = fold-Tree SheetMention NameMention (Bound → Bool) (Bound → Bool) captured_step (λ pair. pair.value) t

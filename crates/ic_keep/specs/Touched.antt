@@ -1,6 +1,6 @@
 -- Which formulas an update of a definition can change: those that mention the definition, and those with a word that could
 -- come to mean it, or no longer mean another one because of it.
-use Rattle.std.specs.Prelude.{◌≡◌, ℕ, List, Bool, false, ◌||◌, Option, bytes_eq}
+use Rattle.std.specs.Prelude.{ℕ, List, Bool, false, ◌||◌, Option, bytes_eq}
 use Rattle.ic_laws.specs.Binding.{IsSettled}
 use Rattle.ic_laws.specs.Mentions.{some_mention}
 use Rattle.ic_laws.specs.Name.{fold}

@@ -17,7 +17,8 @@ struct Copying<'a, A: Finder> {
 }
 
 impl<'a, A: Finder> Spelling for Copying<'a, A> {
-    ghost sheet_text = { λ copying. copy_spelling (A.scene copying.after.now) copying.source copying.copy };
+    ghost sheet_text = { λ copying. copy_spelling (A.scene copying.after.now)
+        copying.source copying.copy };
 
     ghost key_text = { λ copying. definition_spelling (A.scene copying.after.now) };
 
