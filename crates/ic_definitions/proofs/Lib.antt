@@ -3,3 +3,5 @@ pub mod FindingLemmas
 pub mod GoneDefinitions
 pub mod NamedLemmas
 pub mod NamesFacts
+pub mod RenamedLemmas
+pub mod ReplacedNames
