@@ -1,5 +1,5 @@
 -- What the definitions keep beside them stays true when one is put in the place of another.
-use Rattle.std.proofs.Common.{◌≡◌, ℕ, zero, suc, ◌<◌, List, [], ◌∷◌, map, Bool, true, false, cond, not, ◌||◌, Option, Some, None, option_map, length, get_or, refl, sym, ap, ap₂, subst, ◌∙◌, bytes_eq, remove, arith}
+use Rattle.std.proofs.Common.{◌≡◌, ℕ, zero, suc, ◌<◌, List, [], ◌∷◌, map, Bool, true, false, cond, not, ◌||◌, Option, Some, None, option_map, length, get_or, slice_set, refl, sym, ap, ap₂, subst, ◌∙◌, bytes_eq, remove, arith}
 use Rattle.std.specs.BTreeMap.{BTreeMap, Updates, get}
 use Rattle.std.specs.Cmp.Lexicographic.{slice_cmp}
 use Rattle.std.specs.List.{AllByRecursion, IsDistinct, list_any}
@@ -92,6 +92,12 @@ place_replaced (x ∷ ds) (suc index) d new lt read differ apart q =
     step false true c place h k = refl
     step false false true place h k = refl
     step false false false place h k = refl
+
+-- one that is written at an index
+pub replaced_at : (ds : List Definition) (index : ℕ) (new : Definition) → slice_set ds index new ≡ updated_at (λ x. new) index ds
+replaced_at [] index new = refl
+replaced_at (x ∷ ds) zero new = refl
+replaced_at (x ∷ ds) (suc index) new = ap (λ rest. x ∷ rest) (replaced_at ds index new)
 
 -- among others, which may have got other bodies
 pub named_replaced : (before after : Places) (last now_last index : ℕ) (may may_now : Bool) (ds others list : List Definition) (d new : Definition) (old_bytes new_bytes : List ℕ) → AreNamed before last may ds → keys others ≡ keys ds
