@@ -1,3 +1,4 @@
+pub mod AppendedNames
 pub mod BodyLemmas
 pub mod FindingLemmas
 pub mod GoneDefinitions
