@@ -22,6 +22,7 @@ pub mod Retyped
 pub mod Scene
 pub mod Served
 pub mod Shown
+pub mod Sites
 pub mod Styled
 pub mod Texts
 pub mod Values
