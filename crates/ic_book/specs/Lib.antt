@@ -25,6 +25,7 @@ pub mod Shown
 pub mod Sites
 pub mod Styled
 pub mod Texts
+pub mod Updated
 pub mod Values
 pub mod Whole
 pub mod Workbook
