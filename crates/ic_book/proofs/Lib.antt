@@ -50,6 +50,7 @@ pub mod TakenAgain
 pub mod TypedLemmas
 pub mod TypedSteps
 pub mod UnreadLemmas
+pub mod UpdatedChecks
 pub mod ValueLemmas
 pub mod WholeLemmas
 pub mod WholeWritten

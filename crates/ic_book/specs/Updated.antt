@@ -1,6 +1,6 @@
 -- An update of a definition: what was checked of it, and what refuses it only after memory was taken.
-use Rattle.std.specs.Prelude.{◌≡◌, Bool, true, false, None, Option, Some}
-use Rattle.ic_laws.specs.Refusal as core
+use Rattle.std.specs.Prelude.{◌≡◌, ◌==◌, Bool, true, false, None, Option, Some}
+use Rattle.ic_laws.specs.Refusal.{NameNotFound}
 use Rattle.ic_machine.specs.Book as machine
 use Rattle.ic_machine.specs.Book.{core_of, notations_in}
 use Rattle.ic_machine.specs.Refusal.{InvalidFormula, OfCore, Refusal, WouldCapture, first_refusal}
@@ -11,7 +11,7 @@ use Rattle.ic_book.specs.declared.definitions.update.CheckedUpdate.{CheckedUpdat
 -- the refusals of the question whether an update would capture that need memory to be seen
 abbrev pub is_late_question : Refusal → Bool
 is_late_question InvalidFormula = true
-is_late_question (OfCore core.NameNotFound) = true
+is_late_question (OfCore refusal) = refusal.place == NameNotFound.place
 is_late_question refusal = false
 
 -- and those of the update

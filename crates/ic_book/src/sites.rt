@@ -16,7 +16,11 @@ pub enum MentionSite {
 impl Drop for MentionSite {
     fn drop(self) {
         match self {
-            Self::Cell { .. } => {}
+            Self::Cell {
+                sheet_id: _,
+                row: _,
+                column: _,
+            } => {}
             Self::Definition(key) => drop(key),
         }
     }

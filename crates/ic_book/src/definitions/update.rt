@@ -1,5 +1,9 @@
 //! A definition gets another name, another scope and another body.
-ghost use Rattle.std.specs.Prelude.{◌≡◌, IfOk, chars, option_map};
+ghost use Rattle.std.specs.Prelude.{◌≡◌, ◌&&◌, IfOk, chars, not, option_map};
+ghost use Rattle.std.specs.List.{list_any};
+ghost use Rattle.ic_laws.specs.CoreStep.{is_named};
+ghost use Rattle.ic_laws.specs.Name.{agrees};
+ghost use Rattle.ic_laws.specs.Scene.{same_scope};
 ghost use Rattle.ic_machine.specs.Refusal.{first_refusal};
 ghost use Rattle.ic_machine.specs.subjects.Definitions.{question_causes, update_body, update_of};
 ghost use Rattle.ic_book.specs.Book.{core_of, notations_in};
@@ -10,6 +14,7 @@ ghost use Rattle.ic_book.specs.Whole.{whole_of};
 
 use super::body::{TypedBody, past_equals};
 use crate::{BookError, Model};
+use ic_definitions::Definitions;
 use ic_laws::{OutOfMemory, agree};
 use ic_pool::same_scope;
 use ic_refs::{CellReferenceIndex, is_valid_identifier, trimmed};
@@ -70,8 +75,7 @@ impl<'a> Model<'a> {
         let Some(new_scope) = self.scope_id(new_scope) else {
             return Err(BookError::InvalidScope);
         };
-        let is_same = agree(name, new_name) && same_scope(old_scope, new_scope);
-        if definitions.index_of(new_name, new_scope).is_some() && !is_same {
+        if meets_other(definitions, name, old_scope, new_name, new_scope) {
             return Err(BookError::NameExists);
         }
         let found = definitions.index_of(name, old_scope);
@@ -101,4 +105,32 @@ impl<'a> Model<'a> {
             None => Ok(None),
         }
     }
+}
+
+/// Whether another definition than the one of this name and this scope has the new name and the new scope.
+fn meets_other(
+    definitions: &Definitions,
+    name: &str,
+    scope: Option<u32>,
+    new_name: &str,
+    new_scope: Option<u32>,
+) -> bool
+    ensures { result ≡ (list_any (is_named (chars new_name.now) new_scope) definitions.now
+        && not (agrees (chars name.now) (chars new_name.now) && same_scope scope new_scope)) }
+{
+    is_defined(definitions, new_name, new_scope) && !is_same_name(name, scope, new_name, new_scope)
+}
+
+/// Whether a definition has an agreeing name and this scope.
+fn is_defined(definitions: &Definitions, name: &str, scope: Option<u32>) -> bool
+    ensures { result ≡ list_any (is_named (chars name.now) scope) definitions.now }
+{
+    definitions.index_of(name, scope).is_some()
+}
+
+/// Whether two names agree and have one scope.
+fn is_same_name(name: &str, scope: Option<u32>, other: &str, other_scope: Option<u32>) -> bool
+    ensures { result ≡ (agrees (chars name.now) (chars other.now) && same_scope scope other_scope) }
+{
+    agree(name, other) && same_scope(scope, other_scope)
 }
