@@ -72,10 +72,13 @@ module _ (keys : KeyChange) where
   body_site updated body definition =
       if not (same_key updated (key_in definition)) && captured_formula keys definition.body body then sites.Definition (key_in definition) ∷ [] else []
 
+  -- the one that a body was prepared for
+  abbrev pub body_sites : NameKey → List Definition → NewBody → List MentionSite
+  body_sites updated definitions new = option_map_or (body_site updated new.body) (slice_get definitions new.at) []
+
   -- those of all definitions, in the order of what was prepared for them
   abbrev pub sites_of_bodies : NameKey → List Definition → List NewBody → List MentionSite
-  sites_of_bodies updated definitions bodies =
-      flat_map (λ (new : NewBody). option_map_or (body_site updated new.body) (slice_get definitions new.at) []) bodies
+  sites_of_bodies updated definitions bodies = flat_map (body_sites updated definitions) bodies
 
   -- all of them
   abbrev pub listed_sites : NameKey → List Sheet → List Definition → List Rewrites → List NewBody → List MentionSite

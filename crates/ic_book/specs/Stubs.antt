@@ -1,7 +1,9 @@
 -- STUBS: what comes with the branches pool, sheets, definitions and keep.
 use Rattle.std.specs.Prelude.{◌≡◌, ℕ, suc, List, [], ◌∷◌, Bool, true, false, map, Option, Some, if◌then◌else◌}
 use Rattle.ic_laws.specs.CoreBook.{Definition}
+use Rattle.ic_laws.specs.Keeping.{KeyChange}
 use Rattle.ic_laws.specs.declared.tree.Formula.{Formula}
+use Rattle.ic_machine.specs.Capture.{captured_formula}
 use Rattle.ic_pool.specs.Code.{code}
 use Rattle.ic_sheets.specs.Sheet.{Sheet}
 use Rattle.ic_sheets.specs.declared.sheet.Sheet.{Sheet as HeldSheet}
@@ -42,4 +44,4 @@ AreRemade made (rewrites ∷ more) [] = ⊥
 AreRemade made (rewrites ∷ more) (sheet ∷ sheets) = IsRemade made rewrites sheet × AreRemade made more sheets
 
 abbrev pub AreAlikeFormulas : Formula → Formula → Type 0
-AreAlikeFormulas before after = before ≡ before
+AreAlikeFormulas before after = (keys : KeyChange) → captured_formula keys before after ≡ false

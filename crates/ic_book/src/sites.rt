@@ -1,21 +1,20 @@
 //! Where an update of a definition would capture words.
-ghost use Rattle.std.specs.Prelude.{◌≡◌, ◌++◌, ℕ, IfOk, OnOk};
+ghost use Rattle.std.specs.Prelude.{◌≡◌, ◌++◌, ℕ, IfOk, OnOk, option_map};
 ghost use Rattle.std.specs.BTreeMap as tree;
 ghost use Rattle.std.specs.BTreeSet.{contains};
-ghost use Rattle.std.specs.List.{AllByRecursion};
+ghost use Rattle.std.specs.List.{AllByRecursion, slice_get};
 ghost use Rattle.std.specs.Ordering.{nat_cmp};
 ghost use Rattle.ic_laws.specs.Keeping.{changed_key};
 ghost use Rattle.ic_cells.specs.Cell.{cell_formula_index};
 ghost use Rattle.ic_cells.specs.Maps.{place_cmp};
-ghost use Rattle.ic_book.specs.Sites.{AreAlikePools, IsAlikeBody, IsAlikeIn, body_site, captures, captures_at, listed_sites, sheet_sites, site_if, sites_in, sites_of_bodies, sites_of_sheets};
-ghost use Rattle.ic_book.specs.Stubs.{AreAlikeFormulas};
+ghost use Rattle.ic_book.specs.Sites.{AreAlikePools, IsAlikeBody, IsAlikeIn, body_sites, captures, captures_at, listed_sites, sheet_sites, site_if, sites_in, sites_of_bodies, sites_of_sheets};
 
 use crate::contents::Contents;
 use crate::stubs::{BodyRewrites, NewBody, Replacement, Rewrites, captured_formula};
 use ic_cells::Cell;
 use ic_definitions::Definition;
 use ic_keep::KeyChange;
-use ic_laws::{Formula, NameKey, OutOfMemory};
+use ic_laws::{NameKey, OutOfMemory};
 use ic_pool::{Pool, copy_key, same_key};
 use ic_sheets::Sheet;
 use std::alloc::Global;
@@ -97,11 +96,18 @@ fn push_sheets(
         (changed_key change.now.old change.now.new) formulas.now sheets.now) }
 {
     for (index, sheet) in sheets.iter().enumerate() {
-        if let Some(rewrites) = formulas.get(index) {
+        if let Some(rewrites) = prepared_at(formulas, index) {
             push_sheet(alloc, sites, sheet, rewrites, change)?;
         }
     }
     Ok(())
+}
+
+/// What was prepared for the sheet at an index, from 0. None past the end.
+fn prepared_at(formulas: &[Rewrites], index: usize) -> Option<&Rewrites>
+    ensures { option_map (λ r. r.now) result ≡ slice_get formulas.now index }
+{
+    formulas.get(index)
 }
 
 /// Puts the captured cells of a sheet at the end. Where there are none its cells aren't walked.
@@ -208,9 +214,7 @@ fn push_bodies(
         (changed_key change.now.old change.now.new) change.now.old definitions.now bodies.now) }
 {
     for new in bodies {
-        if let Some(definition) = definitions.get(new.at) {
-            push_body(alloc, sites, definition, &new.body, change)?;
-        }
+        push_body(alloc, sites, definitions, new, change)?;
     }
     Ok(())
 }
@@ -219,16 +223,19 @@ fn push_bodies(
 fn push_body(
     alloc: Global,
     sites: &mut Vec<MentionSite>,
-    definition: &Definition,
-    body: &Formula,
+    definitions: &[Definition],
+    new: &NewBody,
     change: &KeyChange,
 ) -> Result<(), OutOfMemory>
-    requires { AreAlikeFormulas definition.now.body body.now }
-    ensures { OnOk result (sites.new.items ≡ sites.old.items ++ body_site
-        (changed_key change.now.old change.now.new) change.now.old body.now definition.now) }
+    requires { IsAlikeBody definitions.now new.now }
+    ensures { OnOk result (sites.new.items ≡ sites.old.items ++ body_sites
+        (changed_key change.now.old change.now.new) change.now.old definitions.now new.now) }
 {
+    let Some(definition) = definitions.get(new.at) else {
+        return Ok(());
+    };
     let key = definition.key();
-    if !same_key(&change.old, key) && captured_formula(definition.body(), body, change) {
+    if !same_key(&change.old, key) && captured_formula(definition.body(), &new.body, change) {
         sites.push(MentionSite::Definition(copy_key(alloc, key)?))?;
     }
     Ok(())
