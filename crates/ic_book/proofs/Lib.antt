@@ -43,6 +43,8 @@ pub mod SettingLemmas
 pub mod SharedLemmas
 pub mod ShownLemmas
 pub mod SiteLemmas
+pub mod SiteTouched
+pub mod SitesWhole
 pub mod SparedBodies
 pub mod StartLemmas
 pub mod StyleLemmas

@@ -1,5 +1,5 @@
 -- Where an update of a definition would capture a word.
-use Rattle.std.specs.Prelude.{ℕ, List, [], ◌∷◌, ◌++◌, flat_map, Bool, false, ◌&&◌, not, Option, Some, None, nat_eq, if◌then◌else◌}
+use Rattle.std.specs.Prelude.{◌≡◌, ℕ, List, [], ◌∷◌, ◌++◌, flat_map, Bool, false, ◌&&◌, not, Option, Some, None, nat_eq, if◌then◌else◌}
 use Rattle.std.specs.FinMap as finite
 use Rattle.std.specs.List.{AllByRecursion, list_any, slice_get}
 use Rattle.std.specs.Option.{IfSome, option_map_or}
@@ -15,7 +15,7 @@ use Rattle.ic_machine.specs.Capture.{captured_formula}
 use Rattle.ic_machine.specs.Refusal as machine
 use Rattle.ic_machine.specs.Refusal.{CellSite, DefinitionSite}
 use Rattle.ic_sheets.specs.declared.sheet.Sheet.{Sheet}
-use Rattle.ic_book.specs.Stubs.{AreAlikeFormulas}
+use Rattle.ic_book.specs.Stubs.{AreAlikeFormulas, AreRemade, LeavesUntouched, Remade, touched_bodies}
 use Rattle.ic_book.specs.declared.sites.MentionSite.{MentionSite}
 use Rattle.ic_book.specs.declared.sites.MentionSite.TheVariants as sites
 use Rattle.ic_book.specs.declared.stubs.NewBody.{NewBody}
@@ -83,3 +83,13 @@ module _ (keys : KeyChange) where
   -- all of them
   abbrev pub listed_sites : NameKey → List Sheet → List Definition → List Rewrites → List NewBody → List MentionSite
   listed_sites updated sheets definitions formulas bodies = sites_of_sheets formulas sheets ++ sites_of_bodies updated definitions bodies
+
+-- An update was prepared by a rule, for the formulas of all sheets and the bodies of all definitions: what the rule doesn't
+-- touch stays and isn't captured, and what it makes anew keeps its shape.
+pub record IsUpdate (made : Remade) (keys : KeyChange) (sheets : List Sheet) (definitions : List Definition) (formulas : List Rewrites) (bodies : List NewBody) : Type 0 where
+  pub pools : AreRemade made formulas sheets
+  pub bodies_listed : bodies ≡ touched_bodies made 0 definitions
+  pub formulas_stay : AllByRecursion (λ (s : Sheet). AllByRecursion (LeavesUntouched made (Some s.id)) s.pool.formulas) sheets
+  pub bodies_stay : AllByRecursion (λ (d : Definition). LeavesUntouched made d.scope d.body) definitions
+  pub spared : (scope : Option ℕ) (formula : Formula) → made.touches scope formula ≡ false → captured_formula keys formula formula ≡ false
+  pub alike : (scope : Option ℕ) (formula : Formula) → AreAlikeFormulas formula (made.becomes scope formula)

@@ -1,5 +1,6 @@
 -- STUBS: what comes with the branches pool, sheets, definitions and keep.
 use Rattle.std.specs.Prelude.{◌≡◌, ℕ, suc, List, [], ◌∷◌, Bool, true, false, map, Option, Some, if◌then◌else◌}
+use Rattle.std.specs.List.{AllZip}
 use Rattle.ic_laws.specs.CoreBook.{Definition}
 use Rattle.ic_laws.specs.Keeping.{KeyChange}
 use Rattle.ic_laws.specs.declared.tree.Formula.{Formula}
@@ -38,10 +39,7 @@ pub record IsRemade (made : Remade) (rewrites : Rewrites) (sheet : HeldSheet) : 
   pub listed : rewrites.changes ≡ touched_from made (Some sheet.id) 0 sheet.pool.formulas
 
 abbrev pub AreRemade : Remade → List Rewrites → List HeldSheet → Type 0
-AreRemade made [] [] = Unit {0}
-AreRemade made [] (sheet ∷ sheets) = ⊥
-AreRemade made (rewrites ∷ more) [] = ⊥
-AreRemade made (rewrites ∷ more) (sheet ∷ sheets) = IsRemade made rewrites sheet × AreRemade made more sheets
+AreRemade made prepared sheets = AllZip (IsRemade made) prepared sheets
 
 abbrev pub AreAlikeFormulas : Formula → Formula → Type 0
 AreAlikeFormulas before after = (keys : KeyChange) → captured_formula keys before after ≡ false
