@@ -57,7 +57,7 @@ module _ (made : Remade) (keys : KeyChange) (scope : Option ℕ) (all : List For
   its x = made.touches scope x && captured_formula keys x (becomes x)
 
   -- what is listed keeps the shapes of the formulas
-  alike_from : (alike : (x : Formula) → AreAlikeFormulas x (becomes x)) (xs : List Formula) (at : ℕ) → drop at all ≡ xs → AllByRecursion (IsAlikeIn all) (touched_from made scope at xs)
+  pub alike_from : (alike : (x : Formula) → AreAlikeFormulas x (becomes x)) (xs : List Formula) (at : ℕ) → drop at all ≡ xs → AllByRecursion (IsAlikeIn all) (touched_from made scope at xs)
   alike_from alike [] at e = tt
   alike_from alike (x ∷ xs) at e = by_touch (made.touches scope x) (alike_from alike xs (suc at) (left_from all at x xs e).1)
     where
@@ -125,6 +125,15 @@ module _ (made : Remade) (keys : KeyChange) (scope : Option ℕ) (all : List For
 
 -- the bodies of definitions ----
 
+module _ (made : Remade) (all : List Definition) where
+  pub alike_bodies_from : (alike : (scope : Option ℕ) (x : Formula) → AreAlikeFormulas x (made.becomes scope x)) (ds : List Definition) (at : ℕ) → drop at all ≡ ds → AllByRecursion (IsAlikeBody all) (touched_bodies made at ds)
+  alike_bodies_from alike [] at e = tt
+  alike_bodies_from alike (d ∷ ds) at e = by_touch (made.touches d.scope d.body) (alike_bodies_from alike ds (suc at) (left_from all at d ds e).1)
+    where
+      by_touch : (b : Bool) → AllByRecursion (IsAlikeBody all) (touched_bodies made (suc at) ds) → AllByRecursion (IsAlikeBody all) (cond b (record { at = at; body = made.becomes d.scope d.body } ∷ touched_bodies made (suc at) ds) (touched_bodies made (suc at) ds))
+      by_touch true rest = (subst (λ o. IfSome o (λ (x : Definition). AreAlikeFormulas x.body (made.becomes d.scope d.body))) (sym (left_from all at d ds e).0) (alike d.scope d.body), rest)
+      by_touch false rest = rest
+
 module _ (made : Remade) (keys : KeyChange) (updated : NameKey) where
   -- one definition's site, as the machine has it
   site_seen : (d : Definition) (body : Formula) → map site_of (body_site keys updated body d) ≡ captured_body keys updated (d, record d { body = body })
@@ -144,15 +153,7 @@ module _ (made : Remade) (keys : KeyChange) (updated : NameKey) where
       by_key false = ap (λ b. let all : List Site = cond b (DefinitionSite (key_in d) ∷ []) [] in all) e
 
   module _ (all : List Definition) where
-    alike_bodies_from : (alike : (scope : Option ℕ) (x : Formula) → AreAlikeFormulas x (made.becomes scope x)) (ds : List Definition) (at : ℕ) → drop at all ≡ ds → AllByRecursion (IsAlikeBody all) (touched_bodies made at ds)
-    alike_bodies_from alike [] at e = tt
-    alike_bodies_from alike (d ∷ ds) at e = by_touch (made.touches d.scope d.body) (alike_bodies_from alike ds (suc at) (left_from all at d ds e).1)
-      where
-        by_touch : (b : Bool) → AllByRecursion (IsAlikeBody all) (touched_bodies made (suc at) ds) → AllByRecursion (IsAlikeBody all) (cond b (record { at = at; body = made.becomes d.scope d.body } ∷ touched_bodies made (suc at) ds) (touched_bodies made (suc at) ds))
-        by_touch true rest = (subst (λ o. IfSome o (λ (x : Definition). AreAlikeFormulas x.body (made.becomes d.scope d.body))) (sym (left_from all at d ds e).0) (alike d.scope d.body), rest)
-        by_touch false rest = rest
-
-    bodies_from : (spared : (scope : Option ℕ) (x : Formula) → made.touches scope x ≡ false → captured_formula keys x x ≡ false) (ds : List Definition) (at : ℕ) → drop at all ≡ ds
+    pub bodies_from : (spared : (scope : Option ℕ) (x : Formula) → made.touches scope x ≡ false → captured_formula keys x x ≡ false) (ds : List Definition) (at : ℕ) → drop at all ≡ ds
         → AllByRecursion (λ (d : Definition). LeavesUntouched made d.scope d.body) ds
         → map site_of (flat_map (body_sites keys updated all) (touched_bodies made at ds)) ≡ flat_map (captured_body keys updated) (zip ds (map (remade_body made) ds))
     bodies_from spared [] at e stay = refl
