@@ -42,6 +42,9 @@ pub mod SeenGrids
 pub mod SettingLemmas
 pub mod SharedLemmas
 pub mod ShownLemmas
+pub mod SiteLemmas
+pub mod SiteTouched
+pub mod SitesWhole
 pub mod SparedBodies
 pub mod StartLemmas
 pub mod StyleLemmas

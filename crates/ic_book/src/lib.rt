@@ -41,6 +41,7 @@ mod scene;
 mod settings;
 mod sheet_changes;
 mod sites;
+mod stubs;
 mod styled;
 mod styles;
 mod tab;
