@@ -1,1 +1,5 @@
+pub mod Alike
+pub mod Capture
 pub mod Change
+pub mod Copy
+pub mod Touched

@@ -28,7 +28,7 @@ pub fn changed_key<'k>(change: Option<&'k KeyChange>, key: &'k NameKey) -> &'k N
 }
 
 /// Whether two keys are equal.
-fn is_same_key(a: &NameKey, b: &NameKey) -> bool
+pub(crate) fn is_same_key(a: &NameKey, b: &NameKey) -> bool
     ensures { result ≡ same_key a.now b.now }
 {
     a.name.is(b.name.as_str()) && is_same_scope(a.scope, b.scope)

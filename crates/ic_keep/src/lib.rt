@@ -3,11 +3,19 @@
 //!
 //! `keep` writes a formula out with the names that things have after the change, and with those before where they are
 //! gone, and binds it in the book after. So a reference to a renamed sheet follows it, one to a gone sheet dangles by the
-//! name that the sheet had, and what dangled finds a sheet or a definition that is new.
+//! name that the sheet had, and what dangled finds a sheet or a definition that is new. `keep_copy` makes the formulas of a
+//! copied sheet likewise. For the update of a definition `is_touched` tells which formulas it can change, and `captured`
+//! which of them have a word that then means another definition; neither takes memory.
 #![tactic(auto)]
 
+mod capture;
 mod change;
+mod copying;
 mod keeping;
+mod touched;
 
+pub use capture::{captured, captured_formula};
 pub use change::KeyChange;
+pub use copying::{keep_copy, keep_copy_formula};
 pub use keeping::{keep, keep_formula};
+pub use touched::is_touched;

@@ -1,62 +1,16 @@
--- What an update of a definition captures: a word that meant a definition before it, and doesn't mean the same definition
--- after it.
-use Rattle.std.specs.Prelude.{ℕ, List, [], ◌∷◌, ◌++◌, flat_map, Bool, true, false, not, Option, Some, None, if◌then◌else◌}
+-- What an update of a definition captures in a book: the formulas with a word that meant a definition before it, and doesn't
+-- mean the same definition after it.
+use Rattle.std.specs.Prelude.{ℕ, List, [], ◌∷◌, ◌++◌, flat_map, Bool, true, false, Option, Some, None, if◌then◌else◌}
 use Rattle.std.specs.FinMap as finite
-use Rattle.std.specs.List.{list_any, zip}
+use Rattle.std.specs.List.{zip}
 use Rattle.ic_laws.specs.CoreBook.{CellPlace, Definition, spelling_of}
-use Rattle.ic_laws.specs.Changes.{is_of_name}
 use Rattle.ic_laws.specs.Keeping.{KeyChange}
 use Rattle.ic_laws.specs.Scene.{key_of, same_key}
-use Rattle.ic_laws.specs.Tree.{Bound}
-use Rattle.ic_laws.specs.declared.tree.Formula.{Formula}
-use Rattle.ic_laws.specs.declared.tree.Formula.TheVariants as formulas
 use Rattle.ic_laws.specs.declared.tree.NameKey.{NameKey}
-use Rattle.ic_laws.specs.declared.tree.NameMention.{NameMention}
-use Rattle.ic_laws.specs.declared.tree.NameMention.TheVariants as names
-use Rattle.ic_laws.specs.declared.tree.SheetMention.{SheetMention}
-use Rattle.ic_laws.specs.declared.tree.Tree.{Tree-F, fold-Tree}
-use Rattle.ic_laws.specs.declared.tree.Tree.TheOpen as one
 use Rattle.ic_machine.specs.Book.{Book, Entry, Sheet}
 use Rattle.ic_machine.specs.Content.{formula_in, formula_index}
 use Rattle.ic_machine.specs.Refusal.{CellSite, DefinitionSite, Site}
-
--- the words of a formula from left to right, those with a sheet too; a function that is called stands as none, since a word that is called can
--- become a function
-abbrev pub words_step : Tree-F SheetMention NameMention (List (Option NameMention)) (List (Option NameMention)) → List (Option NameMention)
-words_step (one.Local sheet word) = Some word ∷ []
-words_step (one.Word word) = Some word ∷ []
-words_step (one.Paren x) = x
-words_step (one.Prefix sign x) = x
-words_step (one.Percent x) = x
-words_step (one.Spill x) = x
-words_step (one.Binary sign a b) = a ++ b
-words_step (one.Fun number arguments) = None ∷ flat_map (λ x. x) arguments
-words_step (one.Call word arguments) = Some word ∷ flat_map (λ x. x) arguments
-words_step (one.Let pairs body) = flat_map (λ x. x) pairs ++ body
-words_step (one.Lambda parameters body) = body
-words_step (one.Apply x arguments) = x ++ flat_map (λ x. x) arguments
-words_step kind = []
-
-abbrev pub words_in : Bound → List (Option NameMention)
-words_in t = fold-Tree SheetMention NameMention (List (Option NameMention)) (List (Option NameMention)) words_step (λ pair. pair.value) t
-
--- a word means the definition with this key
-abbrev pub means : NameKey → Option NameMention → Bool
-means key None = false
-means key (Some mention) = is_of_name key mention
-
--- what meant a definition doesn't mean the one of the key that this has then
-abbrev pub is_captured : KeyChange → Option NameMention → Option NameMention → Bool
-is_captured keys (Some (names.Name key)) after = not (means (keys key) after)
-is_captured keys before after = false
-
--- so does some word of a formula, at its place
-abbrev pub captured : KeyChange → Bound → Bound → Bool
-captured keys before after = list_any (λ pair. is_captured keys pair.0 pair.1) (zip (words_in before) (words_in after))
-
-abbrev pub captured_formula : KeyChange → Formula → Formula → Bool
-captured_formula keys (formulas.Tree before) (formulas.Tree after) = captured keys before after
-captured_formula keys before after = false
+pub use Rattle.ic_keep.specs.Capture.{captured, captured_formula, is_captured, means, words_in, words_step}
 
 module _ (keys : KeyChange) where
   -- a cell whose formula holds such a word

@@ -10,5 +10,6 @@ pub mod ListedLemmas
 pub mod MentionLemmas
 pub mod PlacedLemmas
 pub mod Rebuilt
+pub mod RemadeLemmas
 pub mod RewriteLemmas
 pub mod WriteLemmas

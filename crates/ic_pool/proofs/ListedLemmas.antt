@@ -1,13 +1,14 @@
 -- The formulas of a pool that pass a test, by their places and by their keys.
-use Rattle.std.proofs.Common.{◌≡◌, ℕ, zero, suc, ◌<◌, ◌+◌, List, [], ◌∷◌, ◌++◌, Bool, true, false, cond, ◌||◌, Some, refl, sym, ap, ap₂, ◌∙◌, bytes_eq, arith}
-use Rattle.std.specs.Prelude.{nat_eq, if◌then◌else◌}
-use Rattle.std.specs.List.{slice_get}
+use Rattle.std.proofs.Common.{◌≡◌, ℕ, zero, suc, ◌<◌, ◌+◌, List, [], ◌∷◌, ◌++◌, Bool, true, false, cond, ◌||◌, Some, refl, sym, ap, ap₂, ◌∙◌, bytes_eq, length, arith}
+use Rattle.std.specs.Prelude.{nat_eq, not, if◌then◌else◌}
+use Rattle.std.specs.List.{list_any, slice_get}
 use Rattle.std.proofs.lemmas.Bool.{eq-eqb, eqb-true}
 use Rattle.std.proofs.lemmas.Slice.Eq.{bytes_eq-Decides}
 use Rattle.ic_laws.specs.declared.tree.Formula.{Formula}
 use Rattle.ic_pool.specs.Code.{code}
 use Rattle.ic_pool.specs.Pool.{is_among, places_from, places_where}
-use Rattle.ic_pool.specs.Rewrites.{is_key_among}
+use Rattle.ic_pool.specs.Rewrites.{is_key_among, is_nothing, old_keys, places_of, replaced_from}
+use Rattle.ic_pool.specs.declared.pool.rewrites.Replacement.{Replacement}
 use Rattle.ic_pool.proofs.CodeLaws.{code_determines}
 
 module _ (test : Formula → Bool) where
@@ -15,14 +16,6 @@ module _ (test : Formula → Bool) where
   abbrev pub keys_where : List Formula → List (List ℕ)
   keys_where [] = []
   keys_where (x ∷ xs) = if test x then code x ∷ keys_where xs else keys_where xs
-
-  pub keys_where-push : (xs : List Formula) (x : Formula) → keys_where (xs ++ x ∷ []) ≡ keys_where xs ++ cond (test x) (code x ∷ []) []
-  keys_where-push [] x = refl
-  keys_where-push (y ∷ xs) x = after (test y) (keys_where-push xs x)
-    where
-      after : (b : Bool) → keys_where (xs ++ x ∷ []) ≡ keys_where xs ++ cond (test x) (code x ∷ []) [] → cond b (code y ∷ keys_where (xs ++ x ∷ [])) (keys_where (xs ++ x ∷ [])) ≡ cond b (code y ∷ keys_where xs) (keys_where xs) ++ cond (test x) (code x ∷ []) []
-      after true rest = ap (λ ks. code y ∷ ks) rest
-      after false rest = rest
 
   apart : (n at : ℕ) → n < at → (b : Bool) → nat_eq n at ≡ b → nat_eq n at ≡ false
   apart n at lt true e = let same = eqb-true n at e in absurd (omega arith)
@@ -93,3 +86,53 @@ module _ (test : Formula → Bool) where
       by_test true passes c found = all_passing xs k x e passes ∙ sym passes
       by_test false fails true found = let no : true ≡ false = sym (only_passing xs x found) ∙ fails in cc
       by_test false fails false found = found ∙ sym fails
+
+-- ---- the same formulas with what they become
+
+module _ (test : Formula → Bool) (becomes : Formula → Formula) where
+  -- these have the places of the formulas that pass
+  pub replaced_places : (at : ℕ) (xs : List Formula) → places_of (replaced_from test becomes at xs) ≡ places_from test at xs
+  replaced_places at [] = refl
+  replaced_places at (x ∷ xs) = after (test x) (replaced_places (suc at) xs)
+    where
+      after : (b : Bool) → places_of (replaced_from test becomes (suc at) xs) ≡ places_from test (suc at) xs
+          → places_of (cond b (record { at = at; formula = becomes x; old_key = code x } ∷ replaced_from test becomes (suc at) xs) (replaced_from test becomes (suc at) xs)) ≡ cond b (at ∷ places_from test (suc at) xs) (places_from test (suc at) xs)
+      after true rest = ap (λ ps. at ∷ ps) rest
+      after false rest = rest
+
+  -- and their keys
+  pub replaced_keys : (at : ℕ) (xs : List Formula) → old_keys (replaced_from test becomes at xs) ≡ keys_where test xs
+  replaced_keys at [] = refl
+  replaced_keys at (x ∷ xs) = after (test x) (replaced_keys (suc at) xs)
+    where
+      after : (b : Bool) → old_keys (replaced_from test becomes (suc at) xs) ≡ keys_where test xs
+          → old_keys (cond b (record { at = at; formula = becomes x; old_key = code x } ∷ replaced_from test becomes (suc at) xs) (replaced_from test becomes (suc at) xs)) ≡ cond b (code x ∷ keys_where test xs) (keys_where test xs)
+      after true rest = ap (λ ks. code x ∷ ks) rest
+      after false rest = rest
+
+  -- there is none exactly where no formula passes
+  pub replaced_none : (at : ℕ) (xs : List Formula) → is_nothing (replaced_from test becomes at xs) ≡ not (list_any test xs)
+  replaced_none at [] = refl
+  replaced_none at (x ∷ xs) = after (test x) (replaced_none (suc at) xs)
+    where
+      after : (b : Bool) → is_nothing (replaced_from test becomes (suc at) xs) ≡ not (list_any test xs)
+          → is_nothing (cond b (record { at = at; formula = becomes x; old_key = code x } ∷ replaced_from test becomes (suc at) xs) (replaced_from test becomes (suc at) xs)) ≡ not (b || list_any test xs)
+      after true rest = refl
+      after false rest = rest
+
+  -- a formula is put at the end
+  abbrev here : ℕ → Formula → List Replacement
+  here at x = cond (test x) (record { at = at; formula = becomes x; old_key = code x } ∷ []) []
+
+  pub replaced_from-push : (at : ℕ) (xs : List Formula) (x : Formula) → replaced_from test becomes at (xs ++ x ∷ []) ≡ replaced_from test becomes at xs ++ here (at + length xs) x
+  replaced_from-push at [] x = ap (λ n. here n x) (omega arith)
+  replaced_from-push at (y ∷ xs) x = after (test y) (replaced_from-push (suc at) xs x)
+    where
+      moved : replaced_from test becomes (suc at) xs ++ here (suc at + length xs) x ≡ replaced_from test becomes (suc at) xs ++ here (at + suc (length xs)) x
+      moved = ap (λ n. replaced_from test becomes (suc at) xs ++ here n x) (let s : suc at + length xs ≡ at + suc (length xs) = omega arith in s)
+
+      after : (b : Bool) → replaced_from test becomes (suc at) (xs ++ x ∷ []) ≡ replaced_from test becomes (suc at) xs ++ here (suc at + length xs) x
+          → cond b (record { at = at; formula = becomes y; old_key = code y } ∷ replaced_from test becomes (suc at) (xs ++ x ∷ [])) (replaced_from test becomes (suc at) (xs ++ x ∷ []))
+          ≡ cond b (record { at = at; formula = becomes y; old_key = code y } ∷ replaced_from test becomes (suc at) xs) (replaced_from test becomes (suc at) xs) ++ here (at + suc (length xs)) x
+      after true e = ap (λ ps. record { at = at; formula = becomes y; old_key = code y } ∷ ps) (e ∙ moved)
+      after false e = e ∙ moved

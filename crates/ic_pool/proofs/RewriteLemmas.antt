@@ -1,15 +1,15 @@
 -- Rewriting the formulas of a pool, one after another.
 use Rattle.std.proofs.Common.{◌≡◌, ◌<◌, ◌≤◌, ◌+◌, ℕ, suc, List, [], ◌∷◌, ◌++◌, Bool, true, false, cond, refl, sym, ap, ap₂, subst, ◌∙◌, map, length, take, drop, get_or, set, arith, append_assoc, append-nil, ◌⊎◌, inl, inr}
-use Rattle.std.proofs.lemmas.List.{drop_all, drop_more, length-drop, length-map, length-take, map-append, map_more, set_at, take_all, take_more}
+use Rattle.std.proofs.lemmas.List.{drop_all, drop_more, length-drop, length-map, length-take, map_more, set_at, take_all, take_more}
 use Rattle.std.specs.List.{AllByRecursion}
 use Rattle.ic_laws.specs.declared.tree.Formula.{Formula}
 use Rattle.ic_pool.specs.Code.{code}
 use Rattle.ic_pool.specs.Mentions.{has_dangling}
 use Rattle.ic_pool.specs.Pool.{dangling_from, dangling_places, is_among, places_where}
-use Rattle.ic_pool.specs.Rewrites.{FitsPool, IsNoted, RewritesState, changed_by, is_key_among, old_keys, places_of, rewritten_by}
+use Rattle.ic_pool.specs.Rewrites.{FitsPool, IsNoted, RewritesState, changed_by, is_key_among, old_keys, places_of, replaced_from, rewritten_by}
 use Rattle.ic_pool.specs.declared.pool.rewrites.Replacement.{Replacement}
 use Rattle.ic_pool.proofs.IndexLemmas.{places_from-push}
-use Rattle.ic_pool.proofs.ListedLemmas.{key_passes, keys_where, keys_where-push, passes_there}
+use Rattle.ic_pool.proofs.ListedLemmas.{key_passes, keys_where, passes_there, replaced_from-push, replaced_keys, replaced_places}
 
 -- a change behind others is made after them
 changed_by-push : (changes : List Replacement) (change : Replacement) (formulas : List Formula) → changed_by (changes ++ change ∷ []) formulas ≡ set (changed_by changes formulas) change.at change.formula
@@ -29,13 +29,13 @@ module _ (f : Formula → Formula) (test : Formula → Bool) (formulas : List Fo
     pub made : rewritten_by s formulas ≡ map f (take i formulas) ++ drop i formulas
     pub within : AllByRecursion Within s.changes
     pub dangles : s.dangling ≡ dangling_places (map f (take i formulas))
-    pub listed : places_of s.changes ≡ places_where test (take i formulas)
-    pub keys : old_keys s.changes ≡ keys_where test (take i formulas)
-    pub places : s.places ≡ places_of s.changes
+    pub changes : s.changes ≡ replaced_from test f 0 (take i formulas)
+    pub places : s.places ≡ places_where test (take i formulas)
 
-  -- all are rewritten, and the places are those of the ones that pass
+  -- all are rewritten, and the changes are those of the ones that pass
   pub record Rewritten (s : RewritesState) : Type 0 where
     pub made : rewritten_by s formulas ≡ map f formulas
+    pub changes : s.changes ≡ replaced_from test f 0 formulas
     pub listed : places_of s.changes ≡ places_where test formulas
     pub fits : FitsPool s formulas
 
@@ -44,15 +44,17 @@ module _ (f : Formula → Formula) (test : Formula → Bool) (formulas : List Fo
       let all : take i formulas ≡ formulas = take_all i formulas end in
       let made : rewritten_by s formulas ≡ map f formulas =
       done.made ∙ ap₂ (λ a b. map f a ++ b) all (drop_all i formulas end) ∙ append-nil (map f formulas) in
-      let listed : places_of s.changes ≡ places_where test formulas = done.listed ∙ ap (places_where test) all in
-      let keys : old_keys s.changes ≡ keys_where test formulas = done.keys ∙ ap (keys_where test) all in
+      let changes : s.changes ≡ replaced_from test f 0 formulas = done.changes ∙ ap (replaced_from test f 0) all in
+      let listed : places_of s.changes ≡ places_where test formulas = ap places_of changes ∙ replaced_places test f 0 formulas in
+      let keys : old_keys s.changes ≡ keys_where test formulas = ap old_keys changes ∙ replaced_keys test f 0 formulas in
       record {
         made = made;
+        changes = changes;
         listed = listed;
         fits = record {
           within = done.within;
           dangles = done.dangles ∙ ap (λ xs. dangling_places (map f xs)) all ∙ ap dangling_places (sym made);
-          places = done.places;
+          places = done.places ∙ ap (places_where test) all ∙ sym listed;
           together = λ at x e. ap (is_key_among (code x)) keys ∙ key_passes test formulas at x e ∙ sym (ap (is_among at) listed ∙ passes_there test formulas at x e);
         };
       }
@@ -89,25 +91,13 @@ module _ (f : Formula → Formula) (test : Formula → Bool) (formulas : List Fo
     one_more : take next formulas ≡ take i formulas ++ x ∷ []
     one_more = ap (λ n. take n formulas) (sym is_next) ∙ take_more formulas i x below ∙ ap (λ y. take i formulas ++ y ∷ []) (sym item)
 
-    length-before : length (take i formulas) ≡ i
-    length-before = omega (arith, length-take i formulas)
+    counted : i ≡ 0 + length (take i formulas)
+    counted = let before : length (take i formulas) ≡ i = omega (arith, length-take i formulas) in omega (arith, before)
 
     -- it stays, or its change stands behind the others
     either : IsNoted i x (f x) (test x) s t → (b : Bool) → test x ≡ b → ((f x ≡ x) × (t.changes ≡ s.changes)) ⊎ (t.changes ≡ s.changes ++ record { at = i; formula = f x; old_key = code x } ∷ [])
     either noted true passes = inr (noted.change ∙ ap (λ b. s.changes ++ cond b (record { at = i; formula = f x; old_key = code x } ∷ []) []) passes)
     either noted false fails = inl (noted.same fails, noted.change ∙ ap (λ b. s.changes ++ cond b (record { at = i; formula = f x; old_key = code x } ∷ []) []) fails ∙ append-nil s.changes)
-
-    seen_at : (b : Bool) → places_of (cond b (record { at = i; formula = f x; old_key = code x } ∷ []) []) ≡ cond b (i ∷ []) []
-    seen_at true = refl
-    seen_at false = refl
-
-    seen_key : (b : Bool) → old_keys (cond b (record { at = i; formula = f x; old_key = code x } ∷ []) []) ≡ cond b (code x ∷ []) []
-    seen_key true = refl
-    seen_key false = refl
-
-    new_places : IsNoted i x (f x) (test x) s t → places_of t.changes ≡ places_of s.changes ++ cond (test x) (i ∷ []) []
-    new_places noted =
-        ap places_of noted.change ∙ map-append (λ (c : Replacement). c.at) s.changes (cond (test x) (record { at = i; formula = f x; old_key = code x } ∷ []) []) ∙ ap (λ ps. places_of s.changes ++ ps) (seen_at (test x))
 
     pub rewritten_step : RewrittenTo i s → IsNoted i x (f x) (test x) s t → RewrittenTo next t
     unfolding front
@@ -116,11 +106,9 @@ module _ (f : Formula → Formula) (test : Formula → Bool) (formulas : List Fo
       within = step_within done (either noted (test x) refl);
       dangles = noted.place ∙ ap₂ (λ places n. places ++ cond (has_dangling (f x)) (n ∷ []) []) done.dangles (sym (let e : 0 + length front ≡ i = omega (arith, length-front) in e))
           ∙ sym (ap dangling_places more ∙ places_from-push has_dangling 0 front (f x));
-      listed = new_places noted ∙ ap₂ (λ ps n. ps ++ cond (test x) (n ∷ []) []) done.listed (sym (let e : 0 + length (take i formulas) ≡ i = omega (arith, length-before) in e))
-          ∙ sym (ap (places_where test) one_more ∙ places_from-push test 0 (take i formulas) x);
-      keys = ap old_keys noted.change ∙ map-append (λ (c : Replacement). c.old_key) s.changes (cond (test x) (record { at = i; formula = f x; old_key = code x } ∷ []) [])
-          ∙ ap₂ (λ ks more. ks ++ more) done.keys (seen_key (test x)) ∙ sym (ap (keys_where test) one_more ∙ keys_where-push test (take i formulas) x);
-      places = noted.listed ∙ ap (λ ps. ps ++ cond (test x) (i ∷ []) []) done.places ∙ sym (new_places noted);
+      changes = noted.change ∙ ap₂ (λ changes n. changes ++ cond (test x) (record { at = n; formula = f x; old_key = code x } ∷ []) []) done.changes counted
+          ∙ sym (ap (replaced_from test f 0) one_more ∙ replaced_from-push test f 0 (take i formulas) x);
+      places = noted.listed ∙ ap₂ (λ ps n. ps ++ cond (test x) (n ∷ []) []) done.places counted ∙ sym (ap (places_where test) one_more ∙ places_from-push test 0 (take i formulas) x);
     }
 
   -- ---- where formulas in which all was found stay as they are

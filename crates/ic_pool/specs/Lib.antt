@@ -2,4 +2,5 @@ pub mod Bytes
 pub mod Code
 pub mod Mentions
 pub mod Pool
+pub mod Remade
 pub mod Rewrites

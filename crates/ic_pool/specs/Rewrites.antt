@@ -1,5 +1,5 @@
 -- What is prepared before the formulas of a pool are rewritten.
-use Rattle.std.specs.Prelude.{◌≡◌, ◌<◌, ℕ, List, [], ◌∷◌, ◌++◌, Bool, true, false, Option, Some, bytes_eq, length, map, set, if◌then◌else◌}
+use Rattle.std.specs.Prelude.{◌≡◌, ◌<◌, ℕ, suc, List, [], ◌∷◌, ◌++◌, Bool, true, false, Option, Some, bytes_eq, length, map, set, if◌then◌else◌}
 use Rattle.std.specs.List.{AllByRecursion, list_any, slice_get}
 use Rattle.ic_laws.specs.Changes.{Change}
 use Rattle.ic_laws.specs.declared.tree.Formula.{Formula}
@@ -53,6 +53,12 @@ pub record FitsPool (rewrites : RewritesState) (formulas : List Formula) : Type 
   pub places : rewrites.places ≡ places_of rewrites.changes
   pub together : (at : ℕ) (formula : Formula) → slice_get formulas at ≡ Some formula
       → is_key_among (code formula) (old_keys rewrites.changes) ≡ is_among at (places_of rewrites.changes)
+
+-- the formulas that pass a test, with what they become and the keys that they had, where the first stands at this place
+abbrev pub replaced_from : (Formula → Bool) → (Formula → Formula) → ℕ → List Formula → List Replacement
+replaced_from test becomes at [] = []
+replaced_from test becomes at (x ∷ xs) =
+    if test x then record { at = at; formula = becomes x; old_key = code x } ∷ replaced_from test becomes (suc at) xs else replaced_from test becomes (suc at) xs
 
 -- a formula becomes another exactly where one of its mentions changes
 abbrev pub ListsChanged : Change → Option ℕ → List Formula → RewritesState → Type 0

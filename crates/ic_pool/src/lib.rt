@@ -4,7 +4,8 @@
 //! a new one is put at the end, and nothing else moves. It looks formulas up by their keys, and `law_code_determines`
 //! says that equal keys are keys of equal formulas. `prepare` makes ready a change of all formulas, `made` says to what, and
 //! `apply` then can't fail. The four changes are `SheetNamed`, `SheetGone`, `DefinitionAdded` and `DefinitionGone`;
-//! `changed_formula` says what one makes of a formula. Keys of definitions are `name_key`'s.
+//! `changed_formula` says what one makes of a formula. A `Remaking` makes formulas anew by a rule of the caller's:
+//! `prepare_remade` makes that ready. Keys of definitions are `name_key`'s.
 #![tactic(auto)]
 
 mod changes;
@@ -14,6 +15,7 @@ mod key;
 mod law;
 mod mentions;
 mod pool;
+mod remaking;
 mod steps;
 
 pub use changes::{
@@ -25,5 +27,6 @@ pub use copies::{copy_formula, copy_key};
 pub use key::Key;
 pub use law::law_code_determines;
 pub use mentions::has_dangling;
-pub use pool::{Pool, Rewrites};
+pub use pool::{Pool, Replacement, Rewrites};
+pub use remaking::{Remaking, remade_formula};
 pub use steps::Steps;

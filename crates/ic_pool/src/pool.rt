@@ -1,19 +1,20 @@
 ghost use Rattle.std.specs.Prelude.{◌≡◌, ◌≤◌, ◌+◌, ◌<◌, ◌&&◌, ◌++◌, List, [], ◌∷◌, None, false, true, length, map, option_map, IfOk, IsOk, OnErr, OnOk};
-ghost use Rattle.std.specs.List.{slice_get};
+ghost use Rattle.std.specs.List.{AllByRecursion, slice_get};
 ghost use Rattle.ic_laws.specs.declared.tree.Formula.{Formula};
 ghost use Rattle.ic_pool.specs.Code.{code};
 ghost use Rattle.ic_pool.specs.Mentions.{SparesFound, formula_after};
+ghost use Rattle.ic_pool.specs.Remade.{LeavesUntouched, touched_from};
 ghost use Rattle.ic_pool.specs.Rewrites.{FitsPool, ListsChanged, changes_nothing, rewritten_by};
 ghost use Rattle.ic_pool.specs.Pool.{EndsWithNew, IsPlaced, dangling_places, first_place};
 
 mod index;
 mod rewrites;
 
-use crate::{BookChange, Key, Steps, copy_formula, has_dangling, key_of};
+use crate::{BookChange, Key, Remaking, Steps, copy_formula, has_dangling, key_of};
 use ic_laws::{Formula, OutOfMemory};
 use index::{dangling_in, index_of, put_late};
-pub use rewrites::Rewrites;
-use rewrites::{rewrites_at, rewrites_of};
+pub use rewrites::{Replacement, Rewrites};
+use rewrites::{rewrites_at, rewrites_of, rewrites_remade};
 use std::alloc::Global;
 use std::collections::{BTreeMap, LinkedList};
 use std::marker::{Brand, Model};
@@ -272,6 +273,22 @@ impl Pool {
         ensures fits { IfOk result (λ w. FitsPool w self.now.formulas) }
     {
         rewrites_at(self.alloc, &self.formulas, &self.dangling, change, scope)
+    }
+
+    /// The same for formulas that are made anew, if the rule leaves each that it doesn't touch.
+    pub fn prepare_remade<R: Remaking>(
+        &self,
+        remaking: &R,
+        scope: Option<u32>,
+    ) -> Result<Rewrites, OutOfMemory>
+        requires { AllByRecursion (LeavesUntouched (R.made remaking.now) scope) self.now.formulas }
+        ensures made { IfOk result (λ w. rewritten_by w self.now.formulas
+            ≡ map ((R.made remaking.now).becomes scope) self.now.formulas) }
+        ensures listed { IfOk result (λ w. w.changes
+            ≡ touched_from (R.made remaking.now) scope 0 self.now.formulas) }
+        ensures fits { IfOk result (λ w. FitsPool w self.now.formulas) }
+    {
+        rewrites_remade(self.alloc, &self.formulas, remaking, scope)
     }
 
     /// Rewrites its formulas, each in its place, also where two become equal. Where some formula becomes another the

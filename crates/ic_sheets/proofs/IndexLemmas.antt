@@ -1,19 +1,15 @@
 -- What a plain search finds as sheets come, go and change their names, and that an index keeps up with it.
-use Rattle.std.proofs.Common.{◌≡◌, ℕ, zero, suc, ◌<◌, List, [], ◌∷◌, ◌++◌, Bool, true, false, cond, Option, Some, None, refl, sym, ap, ap₂, subst, ◌∙◌, append-nil, take, drop, length, get_or, slice_set, encode_utf8_all, string_bytes, String, bytes_eq, arith}
+use Rattle.std.proofs.Common.{◌≡◌, ℕ, zero, suc, ◌<◌, List, [], ◌∷◌, ◌++◌, Bool, true, false, cond, Option, Some, None, refl, sym, ap, ap₂, subst, ◌∙◌, append-nil, take, drop, length, get_or, slice_set, encode_utf8_all, String, bytes_eq, arith}
 use Rattle.std.specs.Bool.{one_answer}
 use Rattle.std.specs.List.{AllByRecursion, IsDistinct, remove}
 use Rattle.std.specs.List.Sorted.{IsPermutation}
-use Rattle.std.specs.Cmp.Lexicographic.{slice_cmp}
 use Rattle.std.specs.Map.{lookup}
-use Rattle.std.specs.Ordering.{nat_cmp}
-use Rattle.std.specs.String.{string_cmp}
-use Rattle.std.specs.BTreeMap.{BTreeMap, UpdatesBy, get_by_text, IsEmpty}
+use Rattle.std.specs.BTreeMap.{BTreeMap, get_by_text, IsEmpty}
 use Rattle.std.specs.declared.alloc.Global.{Global}
 use Rattle.std.proofs.lemmas.Str.{encodes_same}
 use Rattle.std.proofs.lemmas.Slice.Eq.{bytes_eq-Decides}
 use Rattle.std.proofs.lemmas.List.Sorted.{IsPermutation-middle, IsPermutation-sym, IsPermutation-map}
 use Rattle.std.proofs.lemmas.Map.Keys.{IsDistinct-head, IsDistinct-tail, IsDistinct-cons, IsDistinct-IsPermutation}
-use Rattle.std.proofs.lemmas.Map.Text.{btree_map_updates_text}
 use Rattle.ic_laws.specs.Name.{fold, agrees}
 use Rattle.ic_sheets.specs.declared.sheet.Sheet.{Sheet}
 use Rattle.ic_sheets.specs.Search.{id_of}
@@ -109,12 +105,6 @@ differ-middle front back s d none =
     (IsDistinct-cons agrees s.name (names (front ++ back)) (all_apart s.name (front ++ back) none) d)
 
 -- ---- the index keeps up
-
--- what a map has at a folded name after a change at a key
-pub updated : (before after : Index) (bytes key : List ℕ) (w : Option ℕ) → UpdatesBy string_cmp (λ k. slice_cmp nat_cmp bytes (string_bytes k)) before after w → bytes ≡ encode_utf8_all key → (q : List ℕ) → get_by_text after (encode_utf8_all q) ≡ cond (bytes_eq key q) w (get_by_text before (encode_utf8_all q))
-updated before after bytes key w u e q =
-    btree_map_updates_text bytes before after w u (encode_utf8_all q)
-    ∙ ap (λ b. cond b w (get_by_text before (encode_utf8_all q))) (ap (λ x. bytes_eq x (encode_utf8_all q)) e ∙ same_encoded key q)
 
 pub IsIndexed-empty : (index : Index) (sheets : List Sheet) → IsEmpty index → sheets ≡ [] → IsIndexed index sheets
 unfolding IsDistinct

@@ -2,12 +2,15 @@ pub mod ApartLemmas
 pub mod CellLemmas
 pub mod DanglingLemmas
 pub mod IndexLemmas
+pub mod InsertLemmas
 pub mod KeptLemmas
+pub mod KeyLemmas
 pub mod MakesLemmas
 pub mod OwnLemmas
 pub mod PlaceLemmas
 pub mod PoolLemmas
 pub mod RecordLemmas
+pub mod RemadeLemmas
 pub mod RewritingLemmas
 pub mod SearchLemmas
 pub mod WriteLemmas

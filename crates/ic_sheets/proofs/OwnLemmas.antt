@@ -2,18 +2,16 @@
 use Rattle.std.proofs.Common.{◌≡◌, ℕ, zero, suc, ◌<◌, inl, inr, option_map, List, [], ◌∷◌, ◌++◌, Bool, true, false, cond, ◌&&◌, ◌||◌, Option, Some, None, map, length, get_or, slice_set, take, drop, nat_eq, refl, sym, ap, ap₂, subst, ◌∙◌, arith}
 use Rattle.std.proofs.lemmas.Bool.{cases_Bool, eqb-true, or_parts}
 use Rattle.std.proofs.lemmas.List.{append-nil, length-map, map-append, take_at}
-use Rattle.std.proofs.lemmas.List.Folds.{list_any-append}
 use Rattle.std.proofs.lemmas.List.Sorted.{IsPermutation-middle}
 use Rattle.std.proofs.lemmas.Map.Keys.{IsDistinct-IsPermutation, IsDistinct-head, IsDistinct-tail}
 use Rattle.std.specs.Cmp.{nat_eq_equiv}
-use Rattle.std.specs.List.{AllByRecursion, IsDistinct, list_any}
-use Rattle.ic_laws.proofs.CoreLemmas.{above_greatest}
-use Rattle.ic_laws.proofs.core.Lists.{all_pushed, updated_unseen}
+use Rattle.std.specs.List.{AllByRecursion, IsDistinct, insert, list_any}
+use Rattle.ic_laws.proofs.core.Lists.{updated_unseen}
 use Rattle.ic_laws.specs.Changes.{Change}
 use Rattle.ic_laws.specs.CoreStep.{updated_at}
-use Rattle.ic_laws.specs.Greatest.{greatest}
 use Rattle.ic_pool.specs.Rewrites.{FitsPool, RewritesState}
 use Rattle.ic_sheets.proofs.IndexLemmas.{clash, set_parts, split_at}
+use Rattle.ic_sheets.proofs.InsertLemmas.{all_inserted, inserted_passes, inserted_seen}
 use Rattle.ic_sheets.proofs.MakesLemmas.{Own, own_ids, own_new, own_none, own_other}
 use Rattle.ic_sheets.proofs.PlaceLemmas.{alone, some_apart}
 use Rattle.ic_sheets.proofs.RewritingLemmas.{called, sheet_called, sheets_called}
@@ -217,48 +215,42 @@ own_back n ps old now new made same counted =
 -- ---- whole changes
 
 module _ (change : Change) (ps : Own) (old : List HeldSheet) (makes : Makes change ps old) where
-  -- a new id
-  fresh_own : (q : ℕ) → greatest (ids old) < q → own_rewrites q ps ≡ None
-  fresh_own q lt = own_none q ps (go ps makes.fits.known)
+  -- nothing was prepared for an id that no sheet has
+  pub fresh_own : (q : ℕ) → is_id q old ≡ false → own_rewrites q ps ≡ None
+  fresh_own q fresh = own_none q ps (go ps makes.fits.known)
     where
       go : (ps : Own) → AllByRecursion (λ p. is_id p.0 old ≡ true) ps → is_listed q (own_ids ps) ≡ false
       go [] h = refl
       go (p ∷ ps) h =
           let other : nat_eq q p.0 ≡ false =
           elim (cases_Bool (nat_eq q p.0)) [
-            | inl same ↦ absurd (clash (is_id p.0 old) h.0 (ap (λ k. is_id k old) (sym (eqb-true q p.0 same)) ∙ above_greatest q (ids old) lt))
+            | inl same ↦ absurd (clash (is_id p.0 old) h.0 (ap (λ k. is_id k old) (sym (eqb-true q p.0 same)) ∙ fresh))
             | inr other ↦ other
           ] in
           ap₂ ◌||◌ other (go ps h.1)
 
-  module _ (s : HeldSheet) (fresh : greatest (ids old) < s.id) where
-    pub own_fits_pushed : FitOwn ps (old ++ s ∷ [])
-    own_fits_pushed = record {
+  module _ (index : ℕ) (s : HeldSheet) (fresh : is_id s.id old ≡ false) (between : List HeldSheet) (put : between ≡ insert old index s) where
+    pub own_fits_inserted : FitOwn ps between
+    own_fits_inserted = subst (FitOwn ps) (sym put) (record {
       known = more ps makes.fits.known;
       differ = makes.fits.differ;
-      fits = all_pushed (λ x. FitsSheet (own_rewrites x.id ps) x) old s makes.fits.fits (subst (λ o. FitsSheet o s) (sym (fresh_own s.id fresh)) tt);
-    }
+      fits = all_inserted (λ x. FitsSheet (own_rewrites x.id ps) x) old index s makes.fits.fits (subst (λ o. FitsSheet o s) (sym (fresh_own s.id fresh)) tt);
+    })
       where
-        more : (ps : Own) → AllByRecursion (λ p. is_id p.0 old ≡ true) ps → AllByRecursion (λ p. is_id p.0 (old ++ s ∷ []) ≡ true) ps
+        more : (ps : Own) → AllByRecursion (λ p. is_id p.0 old ≡ true) ps → AllByRecursion (λ p. is_id p.0 (insert old index s) ≡ true) ps
         more [] h = tt
-        more (p ∷ ps) h = (
-          ap (list_any (nat_eq p.0)) (map-append (λ (x : HeldSheet). x.id) old (s ∷ [])) ∙ list_any-append (nat_eq p.0) (ids old) (s.id ∷ []) ∙ ap (λ b. b || (nat_eq p.0 s.id || false)) h.0,
-          more ps h.1,
-        )
+        more (p ∷ ps) h = (ap (list_any (nat_eq p.0)) (inserted_seen (λ (x : HeldSheet). x.id) old index s) ∙ inserted_passes (nat_eq p.0) (ids old) index s.id h.0, more ps h.1)
 
-    own_pushed : with_own_rewrites ps (old ++ s ∷ []) ≡ with_own_rewrites ps old ++ s ∷ []
-    own_pushed = map-append (λ x. rewritten_if (own_rewrites x.id ps) x) old (s ∷ []) ∙ ap (λ o. with_own_rewrites ps old ++ rewritten_if o s ∷ []) (fresh_own s.id fresh)
+    own_inserted : with_own_rewrites ps between ≡ insert (with_own_rewrites ps old) index s
+    own_inserted =
+        ap (with_own_rewrites ps) put ∙ inserted_seen (λ x. rewritten_if (own_rewrites x.id ps) x) old index s
+        ∙ ap (λ o. insert (with_own_rewrites ps old) index (rewritten_if o s)) (fresh_own s.id fresh)
 
-    module _ (between new : List HeldSheet) (pushed : between ≡ old ++ s ∷ []) (done : new ≡ with_own_rewrites ps between) where
-      all_done : new ≡ with_own_rewrites ps old ++ s ∷ []
-      all_done = done ∙ ap (with_own_rewrites ps) pushed ∙ own_pushed
+    pub inserted_made : sheets_of (with_own_rewrites ps between) ≡ insert (map (changed_pool change) (sheets_of old)) index (sheet_of s)
+    inserted_made = ap sheets_of own_inserted ∙ inserted_seen sheet_of (with_own_rewrites ps old) index s ∙ ap (λ xs. insert xs index (sheet_of s)) makes.made
 
-      pub added_made : sheets_of new ≡ map (changed_pool change) (sheets_of old) ++ sheet_of s ∷ []
-      added_made = ap sheets_of all_done ∙ map-append sheet_of (with_own_rewrites ps old) (s ∷ []) ∙ ap (λ xs. xs ++ sheet_of s ∷ []) makes.made
-
-      pub added_looks_up : s.pool.is_whole ≡ true → look_ups new ≡ map (looks_up_after change) old ++ true ∷ []
-      added_looks_up whole =
-          ap look_ups all_done ∙ map-append (λ (x : HeldSheet). x.pool.is_whole) (with_own_rewrites ps old) (s ∷ []) ∙ ap₂ (λ bs b. bs ++ b ∷ []) makes.looks_up whole
+    pub inserted_looks_up : s.pool.is_whole ≡ true → look_ups (with_own_rewrites ps between) ≡ insert (map (looks_up_after change) old) index true
+    inserted_looks_up whole = ap look_ups own_inserted ∙ inserted_seen (λ (x : HeldSheet). x.pool.is_whole) (with_own_rewrites ps old) index s ∙ ap₂ (λ bs b. insert bs index b) makes.looks_up whole
 
   module _ (index : ℕ) (name : List ℕ) where
     ids_called : ids (updated_at (called name) index old) ≡ ids old

@@ -1,9 +1,10 @@
 -- What was prepared for the formulas of all sheets, done in any order of the steps of a change.
 use Rattle.std.proofs.Common.{◌≡◌, ℕ, zero, suc, ◌<◌, List, [], ◌∷◌, ◌++◌, Bool, true, false, cond, ◌&&◌, ◌||◌, Option, Some, map, length, get_or, slice_set, take, drop, ◌+◌, refl, sym, ap, ap₂, subst, subst₂, ◌∙◌, arith}
-use Rattle.std.specs.List.{list_any, remove, slice_get}
+use Rattle.std.specs.List.{AllZip, list_any, remove, slice_get}
 use Rattle.std.specs.Prelude.{not}
 use Rattle.std.proofs.lemmas.Option.{slice_get_read}
 use Rattle.std.proofs.lemmas.List.{take_at, take_more}
+use Rattle.std.proofs.lemmas.Simd.{map-map}
 use Rattle.ic_laws.proofs.core.Lists.{removed_seen}
 use Rattle.ic_laws.specs.Changes.{Change}
 use Rattle.ic_laws.specs.CoreStep.{updated_at}
@@ -71,28 +72,40 @@ none_listed test at (x ∷ pool) changes e = by_test (test x) e (none_listed tes
 pub looked_up : (change : Change) (w : RewritesState) (s : HeldSheet) → IsPrepared change w s → (s.pool.is_whole && changes_nothing w) ≡ looks_up_after change s
 looked_up change w s h = ap (λ b. s.pool.is_whole && b) (none_listed (is_changed_by change (Some s.id)) 0 s.pool.formulas w.changes h.listed)
 
--- ---- what was prepared
+-- ---- what was prepared, one for each sheet
 
-pub prepared_push : (change : Change) (ws : List RewritesState) (w : RewritesState) (sheets : List HeldSheet) (s : HeldSheet) → ArePrepared change ws sheets → IsPrepared change w s → ArePrepared change (ws ++ w ∷ []) (sheets ++ s ∷ [])
-prepared_push change [] w [] s h one = (one, tt)
-prepared_push change [] w (x ∷ sheets) s h one = absurd h
-prepared_push change (v ∷ ws) w [] s h one = absurd h
-prepared_push change (v ∷ ws) w (x ∷ sheets) s h one = (h.0, prepared_push change ws w sheets s h.1 one)
+module _ (P : RewritesState → HeldSheet → Type 0) where
+  each_push : (ws : List RewritesState) (w : RewritesState) (sheets : List HeldSheet) (s : HeldSheet) → AllZip P ws sheets → P w s → AllZip P (ws ++ w ∷ []) (sheets ++ s ∷ [])
+  each_push [] w [] s h one = (one, tt)
+  each_push [] w (x ∷ sheets) s h one = absurd h
+  each_push (v ∷ ws) w [] s h one = absurd h
+  each_push (v ∷ ws) w (x ∷ sheets) s h one = (h.0, each_push ws w sheets s h.1 one)
+
+  -- so many have one, and the next
+  pub each_next : (ws more : List RewritesState) (w : RewritesState) (sheets : List HeldSheet) (i : ℕ) (s : HeldSheet) → i < length sheets → s ≡ get_or sheets i s → more ≡ ws ++ w ∷ [] → AllZip P ws (take i sheets) → P w s → AllZip P more (take (i + 1) sheets)
+  each_next ws more w sheets i s within item pushed h one =
+      subst₂ (AllZip P) (sym pushed) (ap (λ y. take i sheets ++ y ∷ []) item ∙ sym (take_more sheets i s within)) (each_push ws w (take i sheets) s h one)
+
+  pub each_fits : ((w : RewritesState) (s : HeldSheet) → P w s → FitsPool w s.pool.formulas) → (ws : List RewritesState) (sheets : List HeldSheet) → AllZip P ws sheets → FitSheets ws sheets
+  each_fits fits [] sheets h = tt
+  each_fits fits (w ∷ ws) [] h = absurd h
+  each_fits fits (w ∷ ws) (s ∷ sheets) h = (fits w s h.0, each_fits fits ws sheets h.1)
+
+  -- what a function sees of the sheets afterwards
+  pub each_seen : {Y : Type 0} (see becomes : HeldSheet → Y) → ((w : RewritesState) (s : HeldSheet) → P w s → see (with_rewrites w s) ≡ becomes s)
+      → (ws : List RewritesState) (sheets : List HeldSheet) → AllZip P ws sheets → map see (with_all_rewrites ws sheets) ≡ map becomes sheets
+  each_seen see becomes is [] [] h = refl
+  each_seen see becomes is [] (s ∷ sheets) h = absurd h
+  each_seen see becomes is (w ∷ ws) [] h = absurd h
+  each_seen see becomes is (w ∷ ws) (s ∷ sheets) h = ap₂ ◌∷◌ (is w s h.0) (each_seen see becomes is ws sheets h.1)
+
+  -- and of the plain sheets
+  pub each_made : (becomes : Sheet → Sheet) → ((w : RewritesState) (s : HeldSheet) → P w s → sheet_of (with_rewrites w s) ≡ becomes (sheet_of s))
+      → (ws : List RewritesState) (sheets : List HeldSheet) → AllZip P ws sheets → sheets_of (with_all_rewrites ws sheets) ≡ map becomes (sheets_of sheets)
+  each_made becomes is ws sheets h = each_seen sheet_of (λ s. becomes (sheet_of s)) is ws sheets h ∙ sym (map-map becomes sheet_of sheets)
 
 pub prepared_fits : (change : Change) (ws : List RewritesState) (sheets : List HeldSheet) → ArePrepared change ws sheets → FitSheets ws sheets
-prepared_fits change [] sheets h = tt
-prepared_fits change (w ∷ ws) [] h = absurd h
-prepared_fits change (w ∷ ws) (s ∷ sheets) h = (h.0.fits, prepared_fits change ws sheets h.1)
-
-pub prepared_length : (change : Change) (ws : List RewritesState) (sheets : List HeldSheet) → ArePrepared change ws sheets → length ws ≡ length sheets
-prepared_length change [] [] h = refl
-prepared_length change [] (s ∷ sheets) h = absurd h
-prepared_length change (w ∷ ws) [] h = absurd h
-prepared_length change (w ∷ ws) (s ∷ sheets) h = ap suc (prepared_length change ws sheets h.1)
-
-pub prepared_more : (change : Change) (ws more : List RewritesState) (w : RewritesState) (sheets : List HeldSheet) (i : ℕ) (s : HeldSheet) → i < length sheets → s ≡ get_or sheets i s → more ≡ ws ++ w ∷ [] → ArePrepared change ws (take i sheets) → IsPrepared change w s → ArePrepared change more (take (i + 1) sheets)
-prepared_more change ws more w sheets i s within item pushed h one =
-    subst₂ (ArePrepared change) (sym pushed) (ap (λ y. take i sheets ++ y ∷ []) item ∙ sym (take_more sheets i s within)) (prepared_push change ws w (take i sheets) s h one)
+prepared_fits change ws sheets h = each_fits (IsPrepared change) (λ w s p. p.fits) ws sheets h
 
 -- what it makes of the sheets
 pub record MakesAll (change : Change) (ws : List RewritesState) (sheets : List HeldSheet) : Type 0 where
@@ -100,19 +113,10 @@ pub record MakesAll (change : Change) (ws : List RewritesState) (sheets : List H
   pub looks_up : look_ups (with_all_rewrites ws sheets) ≡ map (looks_up_after change) sheets
 
 pub prepared_makes : (change : Change) (ws : List RewritesState) (sheets : List HeldSheet) → ArePrepared change ws sheets → MakesAll change ws sheets
-prepared_makes change ws sheets h = record { made = made ws sheets h; looks_up = kept ws sheets h }
-  where
-    kept : (ws : List RewritesState) (sheets : List HeldSheet) → ArePrepared change ws sheets → look_ups (with_all_rewrites ws sheets) ≡ map (looks_up_after change) sheets
-    kept [] [] h = refl
-    kept [] (s ∷ sheets) h = absurd h
-    kept (w ∷ ws) [] h = absurd h
-    kept (w ∷ ws) (s ∷ sheets) h = ap₂ ◌∷◌ (looked_up change w s h.0) (kept ws sheets h.1)
-
-    made : (ws : List RewritesState) (sheets : List HeldSheet) → ArePrepared change ws sheets → sheets_of (with_all_rewrites ws sheets) ≡ map (changed_pool change) (sheets_of sheets)
-    made [] [] h = refl
-    made [] (s ∷ sheets) h = absurd h
-    made (w ∷ ws) [] h = absurd h
-    made (w ∷ ws) (s ∷ sheets) h = ap₂ ◌∷◌ (ap (λ (pool : List Formula). let one : Sheet = record (sheet_of s) { pool = pool } in one) h.0.made) (made ws sheets h.1)
+prepared_makes change ws sheets h = record {
+  made = each_made (IsPrepared change) (changed_pool change) (λ w s p. ap (λ (pool : List Formula). let one : Sheet = record (sheet_of s) { pool = pool } in one) p.made) ws sheets h;
+  looks_up = each_seen (IsPrepared change) (λ (s : HeldSheet). s.pool.is_whole) (looks_up_after change) (looked_up change) ws sheets h;
+}
 
 -- ---- done from the last one on
 

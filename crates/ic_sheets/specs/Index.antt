@@ -1,5 +1,5 @@
 -- What the sheets of a book keep beside them, and when it is true of them.
-use Rattle.std.specs.Prelude.{◌≡◌, ℕ, ◌+◌, ◌-◌, List, [], ◌∷◌, Bool, ◌&&◌, ◌||◌, Option, Some, length, map, nat_eq, nat_lt, encode_utf8_all, String, if◌then◌else◌}
+use Rattle.std.specs.Prelude.{◌≡◌, ℕ, ◌+◌, ◌-◌, List, [], ◌∷◌, Bool, ◌&&◌, ◌||◌, Option, Some, None, length, map, nat_eq, nat_lt, encode_utf8_all, String, if◌then◌else◌}
 use Rattle.std.specs.BTreeMap.{BTreeMap, get, get_by_text}
 use Rattle.std.specs.List.{IsDistinct, list_any}
 use Rattle.std.specs.Ordering.{nat_cmp}
@@ -19,6 +19,11 @@ pub record IsIndexed (ids : BTreeMap (String Global) ℕ) (sheets : List Sheet) 
 -- at each id the look-up has the index of the sheet with that id
 pub record AreAtIndexes (indexes : BTreeMap ℕ ℕ) (sheets : List Sheet) : Type 0 where
   pub finds : (id : ℕ) → get nat_cmp indexes id ≡ index_with_id id sheets
+
+-- what was found, unless it is this id
+abbrev pub other_than : ℕ → Option ℕ → Option ℕ
+other_than id None = None
+other_than id (Some found) = if nat_eq found id then None else Some found
 
 -- an index, lowered by one where it is past this one
 abbrev pub lowered : ℕ → ℕ → ℕ

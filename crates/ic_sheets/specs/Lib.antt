@@ -1,5 +1,6 @@
 pub mod Index
 pub mod Records
+pub mod Remade
 pub mod Rewriting
 pub mod Search
 pub mod Sheet

@@ -1,6 +1,6 @@
 -- What becomes of the formulas of all sheets over a change of the sheets or the definitions.
 use Rattle.std.specs.Prelude.{◌≡◌, ℕ, List, [], ◌∷◌, ◌&&◌, Bool, true, false, map, not, Option, Some, None, find, nat_eq, if◌then◌else◌}
-use Rattle.std.specs.List.{AllByRecursion, IsDistinct, list_any}
+use Rattle.std.specs.List.{AllByRecursion, AllZip, IsDistinct, list_any}
 use Rattle.ic_laws.specs.Changes.{Change}
 use Rattle.ic_laws.specs.Scene.{same_scope}
 use Rattle.ic_pool.specs.Mentions.{SparesFound, formula_after, is_changed_by}
@@ -49,10 +49,7 @@ pub record IsPrepared (change : Change) (rewrites : RewritesState) (sheet : Held
 
 -- and these for all sheets
 abbrev pub ArePrepared : Change → List RewritesState → List HeldSheet → Type 0
-ArePrepared change [] [] = Unit {0}
-ArePrepared change [] (sheet ∷ sheets) = ⊥
-ArePrepared change (rewrites ∷ more) [] = ⊥
-ArePrepared change (rewrites ∷ more) (sheet ∷ sheets) = IsPrepared change rewrites sheet × ArePrepared change more sheets
+ArePrepared change prepared sheets = AllZip (IsPrepared change) prepared sheets
 
 -- what was prepared for the sheet with this id, if anything was
 abbrev pub own_rewrites : ℕ → List (ℕ × RewritesState) → Option RewritesState

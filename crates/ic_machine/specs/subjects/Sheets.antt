@@ -2,15 +2,13 @@
 use Rattle.std.specs.Prelude.{ℕ, suc, ◌+◌, ◌-◌, List, [], ◌∷◌, ◌++◌, map, flat_map, find, filter, insert, length, take, Bool, false, not, ◌&&◌, ◌||◌, Option, Some, None, is_none, option_map, unwrap_or, nat_eq, nat_lt, bytes_eq, codes, slice_get, if◌then◌else◌}
 use Rattle.std.specs.Fmt.{decimal}
 use Rattle.std.specs.List.{list_any, range_with_len}
-use Rattle.ic_laws.specs.Binding.{bound, spelled_with}
 use Rattle.ic_laws.specs.Changes.{is_of_sheet}
 use Rattle.ic_laws.specs.Command as core
 use Rattle.ic_laws.specs.CoreBook.{CoreBook, Definition, fresh_id, greatest_id, has_sheet, ids_of}
 use Rattle.ic_laws.specs.CoreStep.{core_step, index_of_id, index_of_name}
 use Rattle.ic_laws.specs.Mentions.{some_mention}
 use Rattle.ic_laws.specs.Name.{agrees, is_sheet_name}
-use Rattle.ic_laws.specs.Notations.{Notations, english_function}
-use Rattle.ic_laws.specs.Scene.{definition_spelling, same_scope, sheet_spelling}
+use Rattle.ic_laws.specs.Scene.{same_scope}
 use Rattle.ic_laws.specs.declared.scene.Scene.{Scene}
 use Rattle.ic_laws.specs.declared.tree.Formula.{Formula}
 use Rattle.ic_laws.specs.declared.tree.Formula.TheVariants as formulas
@@ -22,6 +20,7 @@ use Rattle.ic_machine.specs.Reply.{Field, NumberField, TextField}
 use Rattle.ic_machine.specs.Row.{Row}
 use Rattle.ic_machine.specs.Styling.{color_text}
 use Rattle.ic_machine.specs.Word.{OfIndex, OfScope, OfText, words_of}
+pub use Rattle.ic_keep.specs.Copy.{copied_formula, copy_spelling}
 
 pub data Sheets : Type 0 where
   AddSheet : (name : List ℕ) → Sheets
@@ -151,16 +150,6 @@ copied_of id definitions = local_to id definitions ++ shared_about id definition
 -- a sheet and definitions more: the sheet directly after the one at an index, the definitions at the end
 abbrev pub with_copy : ℕ → Sheet → List Definition → Book → Book
 with_copy index copy definitions book = record book { sheets = insert book.sheets (index + 1) copy; definitions = book.definitions ++ definitions }
-
--- how a sheet is written in a copied formula: the source by the name of its copy
-abbrev pub copy_spelling : Scene → ℕ → ℕ → ℕ → List ℕ
-copy_spelling after source copy id = sheet_spelling after (if nat_eq id source then copy else id)
-
--- a copied formula: written so, and bound in the book with the copy, for the copy
-abbrev pub copied_formula : Notations → Scene → ℕ → ℕ → Formula → Formula
-copied_formula n after source copy (formulas.Tree t) =
-    formulas.Tree (bound (english_function n) after (Some copy) (spelled_with (copy_spelling after source copy) (definition_spelling after) t))
-copied_formula n after source copy (formulas.Raw text) = formulas.Raw text
 
 -- a definition as one of another scope, and with another body
 abbrev pub local_in : ℕ → Definition → Definition

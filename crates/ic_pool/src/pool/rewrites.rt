@@ -1,4 +1,4 @@
-ghost use Rattle.std.specs.Prelude.{◌≡◌, ◌<◌, ◌++◌, [], ◌∷◌, ℕ, List, None, cond, false, true, length, map, set, IfOk, OnOk, if◌then◌else◌};
+ghost use Rattle.std.specs.Prelude.{◌≡◌, ◌<◌, ◌++◌, [], ◌∷◌, ℕ, List, None, cond, false, true, is_some, length, map, set, IfOk, OnOk, if◌then◌else◌};
 ghost use Rattle.std.specs.BTreeMap.{get};
 ghost use Rattle.std.specs.Cmp.Lexicographic.{slice_cmp};
 ghost use Rattle.std.specs.List.{AllByRecursion};
@@ -8,18 +8,22 @@ ghost use Rattle.ic_laws.specs.declared.tree.Formula.{Formula};
 ghost use Rattle.ic_pool.specs.Code.{code};
 ghost use Rattle.ic_pool.specs.Mentions.{SparesFound, formula_after, has_dangling, is_changed_by};
 ghost use Rattle.ic_pool.specs.Pool.{dangling_places};
+ghost use Rattle.ic_pool.specs.Remade.{LeavesUntouched, touched_from};
 ghost use Rattle.ic_pool.specs.Rewrites.{FitsPool, IsNoted, ListsChanged, changed_by, changes_nothing, is_key_among, old_keys, rewritten_by};
 
-use crate::{BookChange, Key, changed_formula, has_dangling, key_of};
+use crate::{BookChange, Key, Remaking, changed_formula, has_dangling, key_of, remade_formula};
 use ic_laws::{Formula, OutOfMemory};
 use std::alloc::Global;
 use std::collections::{BTreeMap, LinkedList};
 use std::marker::Model;
 
-/// A formula that becomes another: where it stands, from 0, what it becomes, and the key that it had.
-struct Replacement {
-    at: usize,
-    formula: Formula,
+/// A formula that becomes another.
+pub struct Replacement {
+    /// Where it stands, from 0.
+    pub at: usize,
+    /// What it becomes.
+    pub formula: Formula,
+    /// The key that it had.
     old_key: Key,
 }
 
@@ -94,6 +98,13 @@ impl Rewrites {
         self.changes.is_empty()
     }
 
+    /// The formulas that become others, by their places.
+    pub fn changes(&self) -> &[Replacement]
+        ensures { result.now ≡ self.now.changes }
+    {
+        &self.changes
+    }
+
     /// Takes the keys that the changed formulas have out of a look-up.
     pub(super) fn take_out(&self, index: &mut BTreeMap<Key, usize>)
         ensures { (key : List ℕ) → get (slice_cmp nat_cmp) index.new key
@@ -156,7 +167,40 @@ impl Rewrites {
             (formula_after (C.change change.now) scope formula.now)
             (is_changed_by (C.change change.now) scope formula.now) self.old self.new) }
     {
-        match changed_formula(alloc, change, scope, formula)? {
+        let becomes = changed_formula(alloc, change, scope, formula)?;
+        self.note_becomes(alloc, at, formula, becomes)
+    }
+
+    /// The same where it may be made anew, if the rule leaves it where it doesn't touch it.
+    fn note_remade<R: Remaking>(
+        &mut self,
+        alloc: Global,
+        remaking: &R,
+        scope: Option<u32>,
+        at: usize,
+        formula: &Formula,
+    ) -> Result<(), OutOfMemory>
+        requires { LeavesUntouched (R.made remaking.now) scope formula.now }
+        ensures { OnOk result (IsNoted at formula.now
+            ((R.made remaking.now).becomes scope formula.now)
+            ((R.made remaking.now).touches scope formula.now) self.old self.new) }
+    {
+        let becomes = remade_formula(alloc, remaking, scope, formula)?;
+        self.note_becomes(alloc, at, formula, becomes)
+    }
+
+    /// Puts behind the others what the formula at a place becomes, or that it stays.
+    fn note_becomes(
+        &mut self,
+        alloc: Global,
+        at: usize,
+        formula: &Formula,
+        becomes: Option<Formula>,
+    ) -> Result<(), OutOfMemory>
+        ensures { OnOk result (IsNoted at formula.now (unwrap_or becomes formula.now)
+            (is_some becomes) self.old self.new) }
+    {
+        match becomes {
             None => self.note_place(at, formula),
             Some(becomes) => {
                 self.note_place(at, &becomes)?;
@@ -233,6 +277,27 @@ pub fn rewrites_at<C: BookChange>(
     let mut rewrites = Rewrites::new(alloc);
     for place in places {
         rewrites.note(alloc, change, scope, *place, &formulas[*place])?;
+    }
+    Ok(rewrites)
+}
+
+/// What becomes of formulas that are made anew, if the rule leaves each that it doesn't touch.
+pub fn rewrites_remade<R: Remaking>(
+    alloc: Global,
+    formulas: &[Formula],
+    remaking: &R,
+    scope: Option<u32>,
+) -> Result<Rewrites, OutOfMemory>
+    requires { AllByRecursion (LeavesUntouched (R.made remaking.now) scope) formulas.now }
+    ensures made { IfOk result (λ w. rewritten_by w formulas.now
+        ≡ map ((R.made remaking.now).becomes scope) formulas.now) }
+    ensures listed { IfOk result (λ w. w.changes
+        ≡ touched_from (R.made remaking.now) scope 0 formulas.now) }
+    ensures fits { IfOk result (λ w. FitsPool w formulas.now) }
+{
+    let mut rewrites = Rewrites::new(alloc);
+    for (at, formula) in formulas.iter().enumerate() {
+        rewrites.note_remade(alloc, remaking, scope, at, formula)?;
     }
     Ok(rewrites)
 }

@@ -1,20 +1,22 @@
 //! Sheets come, get other names and go, and definitions come and go: what becomes of the formulas of all sheets.
-ghost use Rattle.std.specs.Prelude.{◌≡◌, ◌<◌, ◌++◌, ℕ, List, [], ◌∷◌, Some, IfOk, OnOk, OnErr, chars, false, true, length, map, remove};
-ghost use Rattle.std.specs.List.{list_any, slice_get};
+ghost use Rattle.std.specs.Prelude.{◌≡◌, ◌<◌, ◌≤◌, ◌++◌, ℕ, List, [], ◌∷◌, None, Some, IfOk, OnOk, OnErr, chars, false, true, insert, length, map, nat_eq, remove};
+ghost use Rattle.std.specs.List.{AllByRecursion, list_any, slice_get};
 ghost use Rattle.ic_laws.specs.Changes.{definition_added, sheet_gone, sheet_named};
 ghost use Rattle.ic_laws.specs.CoreStep.{updated_at};
 ghost use Rattle.ic_laws.specs.Greatest.{greatest};
 ghost use Rattle.ic_laws.specs.Name.{agrees};
 ghost use Rattle.ic_pool.specs.Mentions.{KeepsAllFound, SparesFound};
-ghost use Rattle.ic_sheets.specs.Rewriting.{ArePrepared, FitOwn, FitSheets, Makes, SparesElsewhere, changed_pool, look_ups, looks_up_after, sheets_of, with_all_rewrites, with_own_rewrites};
+ghost use Rattle.ic_pool.specs.Remade.{LeavesUntouched};
+ghost use Rattle.ic_sheets.specs.Remade.{AreRemade};
+ghost use Rattle.ic_sheets.specs.Rewriting.{ArePrepared, FitOwn, FitSheets, Makes, SparesElsewhere, changed_pool, look_ups, looks_up_after, own_rewrites, sheets_of, with_all_rewrites, with_own_rewrites};
 ghost use Rattle.ic_sheets.specs.Sheet.{Sheet, empty_grid, plain_tab};
 ghost use Rattle.ic_sheets.specs.declared.sheet.Sheet.{Sheet as HeldSheet};
 
 use super::Sheets;
 use super::dangling::{keep_dangling, looked_at, note_dangling};
-use super::rewriting::{apply_all, apply_own, prepare, prepare_dangling};
+use super::rewriting::{apply_all, apply_own, prepare, prepare_dangling, prepare_remade};
 use ic_laws::{Finder, OutOfMemory};
-use ic_pool::{BookChange, DefinitionAdded, Rewrites, SheetGone, SheetNamed};
+use ic_pool::{BookChange, DefinitionAdded, Remaking, Rewrites, SheetGone, SheetNamed};
 
 impl Sheets {
     /// Adds a sheet at the end, which keeps no formulas. References of all sheets that dangle by an agreeing name become
@@ -43,15 +45,91 @@ impl Sheets {
             self.old ++ true ∷ []) }
         ensures err { OnErr result (self.new ≡ self.old) }
     {
+        let end = self.len();
+        self.insert_sheet(end, id, name, definitions)
+    }
+
+    /// Puts a sheet without formulas in at an index, from 0 and at most the number of sheets, so that those from there on
+    /// stand one further. None of the others has its id. References of all sheets that dangle by an agreeing name become
+    /// references to it, and words with such a sheet mean the definitions that are local to it. `OutOfMemory` changes nothing.
+    pub fn insert_sheet<F: Finder>(
+        &mut self,
+        index: usize,
+        id: u32,
+        name: &str,
+        definitions: &F,
+    ) -> Result<(), OutOfMemory>
+        requires within { index ≤ length self.old }
+        requires free { list_any (agrees (chars name.now)) (map (λ s. s.name) self.old) ≡ false }
+        requires fresh { list_any (nat_eq id) (map (λ s. s.id) self.old) ≡ false }
+        ensures ok { OnOk result (sheets_of self.new ≡ insert
+            (map (changed_pool (sheet_named (F.scene definitions.now) id (chars name.now)))
+            (sheets_of self.old)) index
+            (record {
+              id = id;
+              name = chars name.now;
+              pool = [];
+              grid = empty_grid;
+              tab = plain_tab;
+            })) }
+        ensures looks_up { OnOk result (look_ups self.new ≡ insert
+            (map (looks_up_after (sheet_named (F.scene definitions.now) id (chars name.now)))
+            self.old) index true) }
+        ensures err { OnErr result (self.new ≡ self.old) }
+    {
+        let prepared = self.insert_unapplied(index, id, name, definitions)?;
+        self.apply_own(prepared);
+        Ok(())
+    }
+
+    /// The same, and answers what that does to the formulas of all sheets, by their ids. They stay until `apply_own` does
+    /// it. `OutOfMemory` changes nothing.
+    pub fn insert_unapplied<F: Finder>(
+        &mut self,
+        index: usize,
+        id: u32,
+        name: &str,
+        definitions: &F,
+    ) -> Result<Vec<(u32, Rewrites)>, OutOfMemory>
+        requires within { index ≤ length self.old }
+        requires free { list_any (agrees (chars name.now)) (map (λ s. s.name) self.old) ≡ false }
+        requires fresh { list_any (nat_eq id) (map (λ s. s.id) self.old) ≡ false }
+        ensures ok { OnOk result (self.new ≡ insert self.old index
+            (record {
+              id = id;
+              name = chars name.now;
+              pool
+                  = record { formulas = []; is_whole = true };
+              grid = empty_grid;
+              tab = plain_tab;
+            })) }
+        ensures fits { IfOk result (λ prepared. FitOwn prepared.items self.new) }
+        ensures made { IfOk result (λ prepared.
+            sheets_of (with_own_rewrites prepared.items self.new) ≡ insert
+            (map (changed_pool (sheet_named (F.scene definitions.now) id (chars name.now)))
+            (sheets_of self.old)) index
+            (record {
+              id = id;
+              name = chars name.now;
+              pool = [];
+              grid = empty_grid;
+              tab = plain_tab;
+            })) }
+        ensures looks_up { IfOk result (λ prepared.
+            look_ups (with_own_rewrites prepared.items self.new) ≡ insert
+            (map (looks_up_after (sheet_named (F.scene definitions.now) id (chars name.now)))
+            self.old) index true) }
+        ensures own { IfOk result (λ prepared. own_rewrites id prepared.items ≡ None) }
+        ensures err { OnErr result (self.new ≡ self.old) }
+    {
         let named = SheetNamed {
             id,
             name,
             definitions,
         };
         let prepared = self.prepare_dangling(&named)?;
-        self.add_leaving_formulas(id, name)?;
-        self.apply_own(prepared);
-        Ok(())
+        self.insert_leaving_formulas(index, id, name)?;
+        Ok(prepared)
     }
 
     /// Gives the sheet at an index, from 0, another name. References of all sheets that dangle by an agreeing name become
@@ -110,7 +188,7 @@ impl Sheets {
             definitions,
         };
         let mut prepared = self.prepare(&gone)?;
-        self.delete_leaving_formulas(index)?;
+        self.take_out(index);
         prepared.remove(index);
         self.apply(prepared);
         Ok(())
@@ -122,6 +200,16 @@ impl Sheets {
             self.now) }
     {
         prepare(self.alloc, &self.list, change)
+    }
+
+    /// What a rule that makes formulas anew does to those of each sheet, if it leaves each that it doesn't touch. All are
+    /// prepared before any of them changes.
+    pub fn prepare_remade<R: Remaking>(&self, remaking: &R) -> Result<Vec<Rewrites>, OutOfMemory>
+        requires { AllByRecursion (λ s. AllByRecursion (LeavesUntouched (R.made remaking.now)
+            (Some s.id)) s.pool.formulas) self.now }
+        ensures { IfOk result (λ prepared. AreRemade (R.made remaking.now) prepared.items self.now) }
+    {
+        prepare_remade(self.alloc, &self.list, remaking)
     }
 
     /// What a definition that comes does to the formulas of all sheets, for each sheet at which it looks with its id: it

@@ -1,11 +1,11 @@
 //! Sheets come, go, get other names and stand at other indexes.
-ghost use Rattle.std.specs.Prelude.{◌≡◌, ◌<◌, ◌++◌, ℕ, List, [], ◌∷◌, Some, None, OnOk, OnErr, bytes_eq, chars, cond, false, true, length, map, nat_eq, option_map, remove, string_bytes};
+ghost use Rattle.std.specs.Prelude.{◌≡◌, ◌<◌, ◌≤◌, ◌++◌, ℕ, List, [], ◌∷◌, Some, None, OnOk, OnErr, bytes_eq, chars, cond, false, true, insert, length, map, nat_eq, option_map, remove, string_bytes};
 ghost use Rattle.std.specs.BTreeMap.{get, get_by_text};
 ghost use Rattle.std.specs.List.{list_any};
 ghost use Rattle.std.specs.Ordering.{nat_cmp};
 ghost use Rattle.ic_laws.specs.CoreStep.{moved, updated_at};
 ghost use Rattle.ic_laws.specs.Name.{agrees};
-ghost use Rattle.ic_sheets.specs.Index.{lowered, moved_index};
+ghost use Rattle.ic_sheets.specs.Index.{lowered, moved_index, other_than};
 ghost use Rattle.ic_sheets.specs.Sheet.{empty_grid, plain_tab};
 
 use super::dangling::{dangles, settle};
@@ -53,6 +53,36 @@ impl Sheets {
         }
     }
 
+    /// Puts a sheet in at an index, from 0 and at most the number of sheets, so that those from there on stand one further.
+    /// None of the others has its id; it keeps no formulas, and those of the others stay. `OutOfMemory` changes nothing.
+    pub fn insert_leaving_formulas(
+        &mut self,
+        index: usize,
+        id: u32,
+        name: &str,
+    ) -> Result<(), OutOfMemory>
+        requires within { index ≤ length self.old }
+        requires free { list_any (agrees (chars name.now)) (map (λ s. s.name) self.old) ≡ false }
+        requires fresh { list_any (nat_eq id) (map (λ s. s.id) self.old) ≡ false }
+        ensures ok { OnOk result (self.new ≡ insert self.old index
+            (record {
+              id = id;
+              name = chars name.now;
+              pool
+                  = record { formulas = []; is_whole = true };
+              grid = empty_grid;
+              tab = plain_tab;
+            })) }
+        ensures err { OnErr result (self.new ≡ self.old) }
+    {
+        let last = self.len();
+        self.add_leaving_formulas(id, name)?;
+        if index < last {
+            self.move_to(last, index);
+        }
+        Ok(())
+    }
+
     /// Gives the sheet at an index, from 0, other formulas, cells with their rows, columns and merged cells, and another tab.
     /// The formulas of the others stay. It takes no memory.
     pub fn fill(&mut self, index: usize, pool: Pool, grid: Grid, tab: Tab)
@@ -90,22 +120,19 @@ impl Sheets {
         Ok(())
     }
 
-    /// Takes the sheet at an index away, from 0, and leaves the formulas of the others. `OutOfMemory` changes nothing.
-    pub(crate) fn delete_leaving_formulas(&mut self, index: usize) -> Result<(), OutOfMemory>
+    /// Takes the sheet at an index away, from 0, and leaves the formulas of the others. It takes no memory.
+    pub fn take_out(&mut self, index: usize)
         requires { index < length self.old }
-        ensures ok { OnOk result (self.new ≡ remove self.old index) }
-        ensures err { OnErr result (self.new ≡ self.old) }
+        ensures { self.new ≡ remove self.old index }
     {
         let sheet = &self.list[index];
-        let old_key = folded(self.alloc, sheet.name.as_str())?;
         let id = sheet.id;
         settle(&mut self.dangling, id, dangles(sheet), false);
-        self.ids.remove(old_key.as_str());
+        take_key(&mut self.ids, id);
         self.indexes.remove(&id);
         lower_indexes(&mut self.indexes, index);
         self.list.remove(index);
         self.greatest = greatest_of(&self.list);
-        Ok(())
     }
 
     /// Puts the sheet at an index to another, both from 0; the others keep their order. It takes no memory.
@@ -129,6 +156,13 @@ fn put_id(ids: &mut BTreeMap<String, u32>, key: String, id: u32) -> Result<(), O
 {
     ids.insert(key, id)?;
     Ok(())
+}
+
+/// Takes the key of an id out. It takes no memory.
+fn take_key(ids: &mut BTreeMap<String, u32>, id: u32)
+    ensures { (q : List ℕ) → get_by_text ids.new q ≡ other_than id (get_by_text ids.old q) }
+{
+    ids.retain(|_, found| *found != id);
 }
 
 /// The indexes after the one that is taken away are lowered by one.

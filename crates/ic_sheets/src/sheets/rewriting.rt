@@ -1,15 +1,17 @@
 //! What a change of the sheets or the definitions does to the formulas of all sheets. It is prepared before anything
 //! changes.
-ghost use Rattle.std.specs.Prelude.{◌≡◌, IfOk, map, nat_eq};
-ghost use Rattle.std.specs.List.{IsDistinct};
+ghost use Rattle.std.specs.Prelude.{◌≡◌, IfOk, Some, map, nat_eq};
+ghost use Rattle.std.specs.List.{AllByRecursion, IsDistinct};
+ghost use Rattle.ic_pool.specs.Remade.{LeavesUntouched};
 ghost use Rattle.ic_sheets.specs.Index.{AreAtIndexes, AreLookedAt};
+ghost use Rattle.ic_sheets.specs.Remade.{AreRemade};
 ghost use Rattle.ic_sheets.specs.Rewriting.{ArePrepared, FitOwn, FitSheets, IsPrepared, PreparesEach, SparesElsewhere, with_all_rewrites, with_own_rewrites};
 
 use super::dangling::sheet_with;
 use super::index_in;
 use crate::Sheet;
 use ic_laws::OutOfMemory;
-use ic_pool::{BookChange, Rewrites, same_scope};
+use ic_pool::{BookChange, Remaking, Rewrites, same_scope};
 use std::alloc::Global;
 use std::collections::BTreeMap;
 
@@ -71,6 +73,23 @@ fn prepare_in<C: BookChange>(
     } else {
         sheet.pool.prepare_dangling(change, scope)
     }
+}
+
+/// What a rule that makes formulas anew does to those of each sheet, if it leaves each that it doesn't touch.
+pub fn prepare_remade<R: Remaking>(
+    alloc: Global,
+    sheets: &[Sheet],
+    remaking: &R,
+) -> Result<Vec<Rewrites>, OutOfMemory>
+    requires { AllByRecursion (λ s. AllByRecursion (LeavesUntouched (R.made remaking.now)
+        (Some s.id)) s.pool.formulas) sheets.now }
+    ensures { IfOk result (λ prepared. AreRemade (R.made remaking.now) prepared.items sheets.now) }
+{
+    let mut prepared = Vec::new(alloc);
+    for sheet in sheets {
+        prepared.push(sheet.pool.prepare_remade(remaking, Some(sheet.id))?)?;
+    }
+    Ok(prepared)
 }
 
 /// Does to the formulas of each sheet what was prepared for it, from the last one on. Sheets past the end stay.

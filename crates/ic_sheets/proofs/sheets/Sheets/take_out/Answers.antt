@@ -1,29 +1,26 @@
-use Rattle.std.proofs.Common.{◌≡◌, ◌<◌, ◌∙◌, ap, sym, subst, refl, false, arith, vec_capacity, None, length, encode_utf8_all}
+use Rattle.std.proofs.Common.{◌<◌, ◌∙◌, ap, sym, subst, refl, false, arith, vec_capacity, length}
 use Rattle.std.proofs.lemmas.List.Edits.{length-remove}
 use Rattle.ic_laws.specs.Greatest.{greatest}
-use Rattle.ic_laws.specs.Name.{fold}
 use Rattle.ic_sheets.proofs.DanglingLemmas.{dangling_removed, listed_at, room_at}
-use Rattle.ic_sheets.proofs.IndexLemmas.{updated}
+use Rattle.ic_sheets.proofs.KeyLemmas.{gone_by_name}
 use Rattle.ic_sheets.proofs.KeptLemmas.{kept_removed}
 use Rattle.ic_sheets.proofs.PlaceLemmas.{placed_removed}
 use Rattle.ic_sheets.proofs.SearchLemmas.{ids}
-use Rattle.ic_sheets.proofs.sheets.Sheets.delete_leaving_formulas.Goals as goal
+use Rattle.ic_sheets.proofs.sheets.Sheets.take_out.Goals as goal
 
 pub invariant_of-self : goal.invariant_of-self
 invariant_of-self c =
     let sheets = c.self.inside.list.items in
     let s = c.index-sheet.result.now in
-    let lt : c.args.index < length sheets = subst (λ xs. c.args.index < length xs) (sym c.self.view_is) c.requires in
-    let key : c.as_str-2.result.now ≡ encode_utf8_all (fold s.name) =
-    c.as_str-2.ensures.value ∙ c.in_ok-old_key.ensures ∙ ap (λ n. encode_utf8_all (fold n)) c.as_str.ensures.characters in (
-      kept_removed c.self.inside.ids c.remove.new.self c.self.inside.greatest c.greatest_of-self-inside.result sheets c.remove-3.new.self.items c.args.index s c.self.invariant.0 lt c.index-sheet.ensures c.remove-3.ensures.items
-          (updated c.self.inside.ids c.remove.new.self _ (fold s.name) None c.remove.ensures.updates key)
+    let lt : c.args.index < length sheets = subst (λ xs. c.args.index < length xs) (sym c.self.view_is) c.requires in (
+      kept_removed c.self.inside.ids c.take_key.new.ids c.self.inside.greatest c.greatest_of-self-inside.result sheets c.remove-2.new.self.items c.args.index s c.self.invariant.0 lt c.index-sheet.ensures c.remove-2.ensures.items
+          (gone_by_name c.self.inside.ids c.take_key.new.ids c.self.inside.greatest sheets c.args.index s c.self.invariant.0 lt c.index-sheet.ensures c.take_key.ensures)
           (c.greatest_of-self-inside.ensures ∙ ap (λ xs. greatest (ids xs)) c.deref.ensures.value),
-      placed_removed sheets c.args.index s c.self.invariant.0.ids_differ lt c.index-sheet.ensures c.self.inside.indexes c.remove-2.new.self c.lower_indexes.new.indexes c.remove-3.new.self.items c.self.invariant.1 c.remove-3.ensures.items
-          c.remove-2.ensures.updates c.lower_indexes.ensures,
+      placed_removed sheets c.args.index s c.self.invariant.0.ids_differ lt c.index-sheet.ensures c.self.inside.indexes c.remove.new.self c.lower_indexes.new.indexes c.remove-2.new.self.items c.self.invariant.1 c.remove-2.ensures.items
+          c.remove.ensures.updates c.lower_indexes.ensures,
       dangling_removed c.self.inside.dangling.items sheets c.args.index s c.self.invariant.2 c.self.invariant.0.ids_differ lt c.index-sheet.ensures c.settle.new.ids.items false c.settle.ensures.finds c.settle.ensures.differ
-          c.remove-3.new.self.items refl c.remove-3.ensures.items,
-      omega (arith, c.settle.ensures.capacity, c.self.invariant.3, ap length c.remove-3.ensures.items, length-remove sheets c.args.index lt),
+          c.remove-2.new.self.items refl c.remove-2.ensures.items,
+      omega (arith, c.settle.ensures.capacity, c.self.invariant.3, ap length c.remove-2.ensures.items, length-remove sheets c.args.index lt),
     )
 
 pub settle-requires-clause-was : goal.settle-requires-clause-was

@@ -1,0 +1,5 @@
+pub mod KeptAlike
+pub mod SpelledSame
+pub mod Uncaptured
+pub mod Untouched
+pub mod WordWalk
