@@ -44,6 +44,7 @@ pub mod SharedLemmas
 pub mod ShownLemmas
 pub mod SiteLemmas
 pub mod SiteTouched
+pub mod SitesUpdate
 pub mod SitesWhole
 pub mod SparedBodies
 pub mod StartLemmas

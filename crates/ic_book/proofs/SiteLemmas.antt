@@ -8,11 +8,11 @@ use Rattle.ic_laws.specs.CoreBook.{CellPlace}
 use Rattle.ic_laws.specs.Keeping.{KeyChange}
 use Rattle.ic_cells.specs.Cell.{cell_formula_index}
 use Rattle.ic_cells.specs.declared.cell.Cell.{Cell}
+use Rattle.ic_pool.specs.Rewrites.{RewritesState}
 use Rattle.ic_sheets.specs.declared.sheet.Sheet.{Sheet}
 use Rattle.ic_book.specs.Sites.{AreAlikePools, IsAlikeIn, captures_at, sheet_sites, site_if, sites_in, sites_of_sheets}
 use Rattle.ic_book.specs.declared.sites.MentionSite.{MentionSite}
 use Rattle.ic_book.specs.declared.sites.MentionSite.TheVariants as sites
-use Rattle.ic_book.specs.declared.stubs.Rewrites.{Rewrites}
 
 -- where no formula passes, no cell does
 module _ (id : ℕ) (test : ℕ → Bool) (none : (index : ℕ) → test index ≡ false) where
@@ -29,14 +29,14 @@ pub same_sites : (id : ℕ) (test other : ℕ → Bool) (es all : List (CellPlac
 same_sites id test other es all same entries = ap₂ (λ (t : ℕ → Bool) (xs : List (CellPlace × Cell)). sites_in id t xs) (λ i k. same k i) entries
 
 -- what was prepared for the sheet at an index keeps the shapes of its formulas
-pub alike_at : (formulas : List Rewrites) (sheets : List Sheet) (index : ℕ) (rewrites : Rewrites) (sheet : Sheet) → AreAlikePools formulas sheets → slice_get formulas index ≡ Some rewrites → slice_get sheets index ≡ Some sheet
+pub alike_at : (formulas : List RewritesState) (sheets : List Sheet) (index : ℕ) (rewrites : RewritesState) (sheet : Sheet) → AreAlikePools formulas sheets → slice_get formulas index ≡ Some rewrites → slice_get sheets index ≡ Some sheet
     → AllByRecursion (IsAlikeIn sheet.pool.formulas) rewrites.changes
 alike_at [] sheets index rewrites sheet alike e f = cc
 alike_at (r ∷ rs) [] index rewrites sheet alike e f = cc
 alike_at (r ∷ rs) (s ∷ ss) zero rewrites sheet alike e f =
     let its : r ≡ rewrites = cc in
     let own : s ≡ sheet = cc in
-    subst (λ (s : Sheet). AllByRecursion (IsAlikeIn s.pool.formulas) rewrites.changes) own (subst (λ (r : Rewrites). AllByRecursion (IsAlikeIn s.pool.formulas) r.changes) its alike.0)
+    subst (λ (s : Sheet). AllByRecursion (IsAlikeIn s.pool.formulas) rewrites.changes) own (subst (λ (r : RewritesState). AllByRecursion (IsAlikeIn s.pool.formulas) r.changes) its alike.0)
 alike_at (r ∷ rs) (s ∷ ss) (suc index) rewrites sheet alike e f = alike_at rs ss index rewrites sheet alike.1 e f
 
 -- no place is among none
@@ -46,41 +46,41 @@ none_placed (p ∷ places) index e = cc
 
 -- the sites of the sheets from an index on: those of this one and of the next ones; none where nothing was prepared
 module _ (keys : KeyChange) where
-  next_suc : (formulas : List Rewrites) (sheets : List Sheet) (index : ℕ) (rewrites : Rewrites) (sheet : Sheet) → slice_get formulas index ≡ Some rewrites → slice_get sheets index ≡ Some sheet
+  next_suc : (formulas : List RewritesState) (sheets : List Sheet) (index : ℕ) (rewrites : RewritesState) (sheet : Sheet) → slice_get formulas index ≡ Some rewrites → slice_get sheets index ≡ Some sheet
       → sites_of_sheets keys (drop index formulas) (drop index sheets) ≡ sheet_sites keys rewrites sheet ++ sites_of_sheets keys (drop (suc index) formulas) (drop (suc index) sheets)
   next_suc [] sheets index rewrites sheet e f = cc
   next_suc (r ∷ rs) [] index rewrites sheet e f = cc
   next_suc (r ∷ rs) (s ∷ ss) zero rewrites sheet e f =
       let its : r ≡ rewrites = cc in
       let own : s ≡ sheet = cc in
-      ap₂ (λ (r : Rewrites) (s : Sheet). sheet_sites keys r s ++ sites_of_sheets keys rs ss) its own
+      ap₂ (λ (r : RewritesState) (s : Sheet). sheet_sites keys r s ++ sites_of_sheets keys rs ss) its own
   next_suc (r ∷ rs) (s ∷ ss) (suc index) rewrites sheet e f = next_suc rs ss index rewrites sheet e f
 
-  none_left : (rest : List Rewrites) → sites_of_sheets keys rest [] ≡ []
+  none_left : (rest : List RewritesState) → sites_of_sheets keys rest [] ≡ []
   none_left [] = refl
   none_left (x ∷ xs) = refl
 
-  past : (formulas : List Rewrites) (sheets : List Sheet) (index : ℕ) → slice_get formulas index ≡ None → sites_of_sheets keys (drop index formulas) (drop index sheets) ≡ []
+  past : (formulas : List RewritesState) (sheets : List Sheet) (index : ℕ) → slice_get formulas index ≡ None → sites_of_sheets keys (drop index formulas) (drop index sheets) ≡ []
   past [] sheets zero e = refl
   past [] sheets (suc index) e = refl
   past (r ∷ rs) sheets zero e = cc
   past (r ∷ rs) [] (suc index) e = none_left (drop index rs)
   past (r ∷ rs) (s ∷ ss) (suc index) e = past rs ss index e
 
-  past_suc : (formulas : List Rewrites) (sheets : List Sheet) (index : ℕ) → slice_get formulas index ≡ None → sites_of_sheets keys (drop (suc index) formulas) (drop (suc index) sheets) ≡ []
+  past_suc : (formulas : List RewritesState) (sheets : List Sheet) (index : ℕ) → slice_get formulas index ≡ None → sites_of_sheets keys (drop (suc index) formulas) (drop (suc index) sheets) ≡ []
   past_suc [] sheets index e = refl
   past_suc (r ∷ rs) sheets zero e = cc
   past_suc (r ∷ rs) [] (suc index) e = none_left (drop (suc index) rs)
   past_suc (r ∷ rs) (s ∷ ss) (suc index) e = past_suc rs ss index e
 
-  module _ (formulas : List Rewrites) (sheets : List Sheet) (index : ℕ) (items new all : List MentionSite) (so_far : items ++ sites_of_sheets keys (drop index formulas) (drop index sheets) ≡ all) where
+  module _ (formulas : List RewritesState) (sheets : List Sheet) (index : ℕ) (items new all : List MentionSite) (so_far : items ++ sites_of_sheets keys (drop index formulas) (drop index sheets) ≡ all) where
     after : drop (suc index) formulas ≡ drop (index + 1) formulas
     after = let next : suc index ≡ index + 1 = omega arith in ap (λ i. drop i formulas) next
 
     after_sheets : drop (suc index) sheets ≡ drop (index + 1) sheets
     after_sheets = let next : suc index ≡ index + 1 = omega arith in ap (λ i. drop i sheets) next
 
-    pub sheet_next : (rewrites : Rewrites) (sheet : Sheet) → slice_get formulas index ≡ Some rewrites → slice_get sheets index ≡ Some sheet → new ≡ items ++ sheet_sites keys rewrites sheet
+    pub sheet_next : (rewrites : RewritesState) (sheet : Sheet) → slice_get formulas index ≡ Some rewrites → slice_get sheets index ≡ Some sheet → new ≡ items ++ sheet_sites keys rewrites sheet
         → new ++ sites_of_sheets keys (drop (index + 1) formulas) (drop (index + 1) sheets) ≡ all
     sheet_next rewrites sheet e f put =
         ap₂ (λ xs (rest : List MentionSite). xs ++ rest) put (sym (ap₂ (sites_of_sheets keys) after after_sheets))
@@ -92,6 +92,6 @@ module _ (keys : KeyChange) where
         ap₂ (λ xs (rest : List MentionSite). xs ++ rest) put (sym (ap₂ (sites_of_sheets keys) after after_sheets) ∙ past_suc formulas sheets index e ∙ sym (past formulas sheets index e)) ∙ so_far
 
   -- none is left past the last sheet
-  pub sheets_done : (formulas : List Rewrites) (sheets : List Sheet) (index : ℕ) (items all : List MentionSite) → length sheets ≤ index → items ++ sites_of_sheets keys (drop index formulas) (drop index sheets) ≡ all → items ≡ all
+  pub sheets_done : (formulas : List RewritesState) (sheets : List Sheet) (index : ℕ) (items all : List MentionSite) → length sheets ≤ index → items ++ sites_of_sheets keys (drop index formulas) (drop index sheets) ≡ all → items ≡ all
   sheets_done formulas sheets index items all end so_far =
       sym (append-nil items) ∙ ap (λ rest. items ++ rest) (sym (ap (sites_of_sheets keys (drop index formulas)) (drop_all index sheets end) ∙ none_left (drop index formulas))) ∙ so_far

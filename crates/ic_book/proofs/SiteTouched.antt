@@ -14,18 +14,20 @@ use Rattle.ic_laws.specs.Scene.{same_key}
 use Rattle.ic_laws.specs.declared.tree.Formula.{Formula}
 use Rattle.ic_laws.specs.declared.tree.Formula.TheVariants as formulas
 use Rattle.ic_laws.specs.declared.tree.NameKey.{NameKey}
-use Rattle.ic_pool.specs.Code.{code}
 use Rattle.ic_definitions.specs.Named.{key_in}
+use Rattle.ic_definitions.specs.Remade.{LeavesBody, remade_body, touched_bodies}
+use Rattle.ic_definitions.specs.declared.bodies.NewBody.{NewBody}
+use Rattle.ic_keep.specs.Alike.{AreAlikeFormulas}
 use Rattle.ic_machine.proofs.ValidLemmas.{all_at}
 use Rattle.ic_machine.specs.Capture.{captured_body, captured_formula}
 use Rattle.ic_machine.specs.Content.{formula_in}
 use Rattle.ic_machine.specs.Refusal.{DefinitionSite, Site}
+use Rattle.ic_pool.specs.Code.{code}
+use Rattle.ic_pool.specs.Remade.{LeavesUntouched, Remade, touched_from}
+use Rattle.ic_pool.specs.declared.pool.rewrites.Replacement.{Replacement}
 use Rattle.ic_book.specs.Sites.{IsAlikeBody, IsAlikeIn, body_site, body_sites, captures, captures_at, site_of}
-use Rattle.ic_book.specs.Stubs.{AreAlikeFormulas, LeavesUntouched, Remade, remade_body, touched_bodies, touched_from}
 use Rattle.ic_book.specs.declared.sites.MentionSite.{MentionSite}
 use Rattle.ic_book.specs.declared.sites.MentionSite.TheVariants as sites
-use Rattle.ic_book.specs.declared.stubs.NewBody.{NewBody}
-use Rattle.ic_book.specs.declared.stubs.Replacement.{Replacement}
 
 -- what is left of a list from a place on: the item that stands there, and what is left from the next
 left_from : {X : Type 0} (all : List X) (at : ℕ) (x : X) (rest : List X) → drop at all ≡ x ∷ rest → (slice_get all at ≡ Some x) × (drop (suc at) all ≡ rest)
@@ -146,7 +148,7 @@ module _ (made : Remade) (keys : KeyChange) (updated : NameKey) where
 
   -- a definition whose body stays has none
   none_there : (d : Definition) → captured_formula keys d.body d.body ≡ false → captured_body keys updated (d, d) ≡ []
-  none_there d e = by_key (same_key updated (key_in d)) ∙ refl
+  none_there d e = by_key (same_key updated (key_in d))
     where
       by_key : (a : Bool) → cond a [] (cond (captured_formula keys d.body d.body) (DefinitionSite (key_in d) ∷ []) []) ≡ []
       by_key true = refl
@@ -154,7 +156,7 @@ module _ (made : Remade) (keys : KeyChange) (updated : NameKey) where
 
   module _ (all : List Definition) where
     pub bodies_from : (spared : (scope : Option ℕ) (x : Formula) → made.touches scope x ≡ false → captured_formula keys x x ≡ false) (ds : List Definition) (at : ℕ) → drop at all ≡ ds
-        → AllByRecursion (λ (d : Definition). LeavesUntouched made d.scope d.body) ds
+        → AllByRecursion (LeavesBody made) ds
         → map site_of (flat_map (body_sites keys updated all) (touched_bodies made at ds)) ≡ flat_map (captured_body keys updated) (zip ds (map (remade_body made) ds))
     bodies_from spared [] at e stay = refl
     bodies_from spared (d ∷ ds) at e stay = by_touch (made.touches d.scope d.body) refl (bodies_from spared ds (suc at) (left_from all at d ds e).1 stay.1)

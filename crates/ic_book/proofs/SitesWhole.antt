@@ -14,12 +14,17 @@ use Rattle.ic_laws.specs.declared.tree.NameKey.{NameKey}
 use Rattle.ic_cells.specs.Cell.{cell_formula_index}
 use Rattle.ic_cells.specs.declared.cell.Cell.{Cell}
 use Rattle.ic_definitions.specs.Named.{key_in}
+use Rattle.ic_definitions.specs.Remade.{remade_body}
+use Rattle.ic_definitions.specs.declared.bodies.NewBody.{NewBody}
 use Rattle.ic_machine.proofs.AlikeGrid.{entries-seen}
 use Rattle.ic_machine.specs.Book as machine
 use Rattle.ic_machine.specs.Book.{Entry}
 use Rattle.ic_machine.specs.Capture.{captured_at, captured_body, captured_cells, captured_formula, captured_sites}
 use Rattle.ic_machine.specs.Content.{content_of, formula_in, formula_index}
 use Rattle.ic_machine.specs.Refusal.{CellSite, Site}
+use Rattle.ic_pool.specs.Remade.{LeavesUntouched, Remade}
+use Rattle.ic_pool.specs.Rewrites.{RewritesState}
+use Rattle.ic_sheets.specs.Remade.{AreRemade, IsRemade, remade_pool}
 use Rattle.ic_sheets.specs.Rewriting.{sheets_of}
 use Rattle.ic_sheets.specs.Sheet.{Sheet, sheet_of}
 use Rattle.ic_sheets.specs.declared.sheet.Sheet.{Sheet as HeldSheet}
@@ -27,11 +32,8 @@ use Rattle.ic_book.proofs.SiteTouched.{alike_bodies_from, alike_from, bodies_fro
 use Rattle.ic_book.proofs.WholeLemmas.{index_seen}
 use Rattle.ic_book.specs.Book.{Book, whole_of, whole_sheet}
 use Rattle.ic_book.specs.Sites.{AreAlikePools, IsAlikeBody, IsAlikeIn, IsUpdate, body_sites, captures_at, listed_sites, sheet_sites, site_if, site_of, sites_in, sites_of_sheets}
-use Rattle.ic_book.specs.Stubs.{AreAlikeFormulas, AreRemade, IsRemade, LeavesUntouched, Remade, remade_body, remade_pool}
 use Rattle.ic_book.specs.declared.sites.MentionSite.{MentionSite}
 use Rattle.ic_book.specs.declared.sites.MentionSite.TheVariants as sites
-use Rattle.ic_book.specs.declared.stubs.NewBody.{NewBody}
-use Rattle.ic_book.specs.declared.stubs.Rewrites.{Rewrites}
 
 -- the cells of a sheet, before and after
 module _ (strings : List (List ℕ)) (keys : KeyChange) (before after : machine.Sheet) (test : ℕ → Bool)
@@ -53,7 +55,7 @@ module _ (strings : List (List ℕ)) (keys : KeyChange) (before after : machine.
         ∙ ap₂ (λ (a b : List Site). a ++ b) (cell_seen e.0 (cell_formula_index e.1) ∙ ap (captured_at keys before after e.0) (sym (index_seen strings e.1))) (cells_seen es)
 
 module _ (strings : List (List ℕ)) (made : Remade) (keys : KeyChange) (spared : (scope : Option ℕ) (formula : Formula) → made.touches scope formula ≡ false → captured_formula keys formula formula ≡ false) where
-  sheet_seen : (rewrites : Rewrites) (s : HeldSheet) → IsRemade made rewrites s → AllByRecursion (LeavesUntouched made (Some s.id)) s.pool.formulas
+  sheet_seen : (rewrites : RewritesState) (s : HeldSheet) → IsRemade made rewrites s → AllByRecursion (LeavesUntouched made (Some s.id)) s.pool.formulas
       → map site_of (sheet_sites keys rewrites s) ≡ captured_cells keys (whole_sheet strings (sheet_of s), whole_sheet strings (remade_pool made (sheet_of s)))
   sheet_seen rewrites s is stay =
       cells_seen strings keys (whole_sheet strings (sheet_of s)) (whole_sheet strings (remade_pool made (sheet_of s))) (captures_at keys s.pool.formulas rewrites.changes)
@@ -61,7 +63,7 @@ module _ (strings : List (List ℕ)) (made : Remade) (keys : KeyChange) (spared 
       (finite.entries s.grid.cells)
       ∙ ap (flat_map (λ (entry : Entry). captured_at keys (whole_sheet strings (sheet_of s)) (whole_sheet strings (remade_pool made (sheet_of s))) entry.0 (formula_index entry.1))) (sym (entries-seen (content_of strings) s.grid.cells))
 
-  sheets_seen : (formulas : List Rewrites) (ss : List HeldSheet) → AreRemade made formulas ss → AllByRecursion (λ (s : HeldSheet). AllByRecursion (LeavesUntouched made (Some s.id)) s.pool.formulas) ss
+  sheets_seen : (formulas : List RewritesState) (ss : List HeldSheet) → AreRemade made formulas ss → AllByRecursion (λ (s : HeldSheet). AllByRecursion (LeavesUntouched made (Some s.id)) s.pool.formulas) ss
       → map site_of (sites_of_sheets keys formulas ss) ≡ flat_map (captured_cells keys) (zip (map (whole_sheet strings) (sheets_of ss)) (map (whole_sheet strings) (map (remade_pool made) (sheets_of ss))))
   sheets_seen [] [] are stay = refl
   sheets_seen [] (s ∷ ss) are stay = absurd are
@@ -69,8 +71,8 @@ module _ (strings : List (List ℕ)) (made : Remade) (keys : KeyChange) (spared 
   sheets_seen (r ∷ rs) (s ∷ ss) are stay =
       map-append site_of (sheet_sites keys r s) (sites_of_sheets keys rs ss) ∙ ap₂ (λ (a b : List Site). a ++ b) (sheet_seen r s are.0 stay.0) (sheets_seen rs ss are.1 stay.1)
 
-module _ (made : Remade) (keys : KeyChange) (sheets : List HeldSheet) (definitions : List Definition) (formulas : List Rewrites) (bodies : List NewBody) (update : IsUpdate made keys sheets definitions formulas bodies) where
-  pools_alike : (rs : List Rewrites) (ss : List HeldSheet) → AreRemade made rs ss → AreAlikePools rs ss
+module _ (made : Remade) (keys : KeyChange) (sheets : List HeldSheet) (definitions : List Definition) (formulas : List RewritesState) (bodies : List NewBody) (update : IsUpdate made keys sheets definitions formulas bodies) where
+  pools_alike : (rs : List RewritesState) (ss : List HeldSheet) → AreRemade made rs ss → AreAlikePools rs ss
   pools_alike [] ss are = tt
   pools_alike (r ∷ rs) [] are = tt
   pools_alike (r ∷ rs) (s ∷ ss) are =

@@ -23,7 +23,6 @@ pub mod Scene
 pub mod Served
 pub mod Shown
 pub mod Sites
-pub mod Stubs
 pub mod Styled
 pub mod Texts
 pub mod Updated

@@ -4,23 +4,28 @@ use Rattle.std.specs.FinMap as finite
 use Rattle.std.specs.List.{AllByRecursion, list_any, slice_get}
 use Rattle.std.specs.Option.{IfSome, option_map_or}
 use Rattle.ic_laws.specs.CoreBook.{CellPlace, Definition}
-use Rattle.ic_laws.specs.Keeping.{KeyChange}
+use Rattle.ic_laws.specs.Keeping.{KeyChange, changed_key, kept_formula}
 use Rattle.ic_laws.specs.Scene.{same_key}
+use Rattle.ic_laws.specs.declared.scene.Scene.{Scene}
 use Rattle.ic_laws.specs.declared.tree.Formula.{Formula}
 use Rattle.ic_laws.specs.declared.tree.NameKey.{NameKey}
 use Rattle.ic_cells.specs.Cell.{cell_formula_index}
 use Rattle.ic_cells.specs.declared.cell.Cell.{Cell}
 use Rattle.ic_definitions.specs.Named.{key_in}
+use Rattle.ic_definitions.specs.Remade.{LeavesBody, touched_bodies}
+use Rattle.ic_definitions.specs.declared.bodies.NewBody.{NewBody}
+use Rattle.ic_keep.specs.Alike.{AreAlikeFormulas}
+use Rattle.ic_keep.specs.Touched.{is_touched}
 use Rattle.ic_machine.specs.Capture.{captured_formula}
 use Rattle.ic_machine.specs.Refusal as machine
 use Rattle.ic_machine.specs.Refusal.{CellSite, DefinitionSite}
+use Rattle.ic_pool.specs.Remade.{LeavesUntouched, Remade}
+use Rattle.ic_pool.specs.Rewrites.{RewritesState}
+use Rattle.ic_pool.specs.declared.pool.rewrites.Replacement.{Replacement}
+use Rattle.ic_sheets.specs.Remade.{AreRemade}
 use Rattle.ic_sheets.specs.declared.sheet.Sheet.{Sheet}
-use Rattle.ic_book.specs.Stubs.{AreAlikeFormulas, AreRemade, LeavesUntouched, Remade, touched_bodies}
 use Rattle.ic_book.specs.declared.sites.MentionSite.{MentionSite}
 use Rattle.ic_book.specs.declared.sites.MentionSite.TheVariants as sites
-use Rattle.ic_book.specs.declared.stubs.NewBody.{NewBody}
-use Rattle.ic_book.specs.declared.stubs.Replacement.{Replacement}
-use Rattle.ic_book.specs.declared.stubs.Rewrites.{Rewrites}
 
 -- a site as the machine has it
 abbrev pub site_of : MentionSite → machine.Site
@@ -43,7 +48,7 @@ IsAlikeIn pool new = IfSome (slice_get pool new.at) (λ formula. AreAlikeFormula
 abbrev pub IsAlikeBody : List Definition → NewBody → Type 0
 IsAlikeBody definitions new = IfSome (slice_get definitions new.at) (λ definition. AreAlikeFormulas definition.body new.body)
 
-abbrev pub AreAlikePools : List Rewrites → List Sheet → Type 0
+abbrev pub AreAlikePools : List RewritesState → List Sheet → Type 0
 AreAlikePools [] sheets = Unit {0}
 AreAlikePools (rewrites ∷ more) [] = Unit {0}
 AreAlikePools (rewrites ∷ more) (sheet ∷ sheets) = AllByRecursion (IsAlikeIn sheet.pool.formulas) rewrites.changes × AreAlikePools more sheets
@@ -58,11 +63,11 @@ module _ (keys : KeyChange) where
   captures_at pool changes index = list_any (λ (new : Replacement). nat_eq index new.at && captures pool new) changes
 
   -- the cells of a sheet whose formulas do, by rows and columns
-  abbrev pub sheet_sites : Rewrites → Sheet → List MentionSite
+  abbrev pub sheet_sites : RewritesState → Sheet → List MentionSite
   sheet_sites rewrites sheet = sites_in sheet.id (captures_at sheet.pool.formulas rewrites.changes) (finite.entries sheet.grid.cells)
 
   -- those of all sheets, in their order, each with what was prepared for it
-  abbrev pub sites_of_sheets : List Rewrites → List Sheet → List MentionSite
+  abbrev pub sites_of_sheets : List RewritesState → List Sheet → List MentionSite
   sites_of_sheets [] sheets = []
   sites_of_sheets (rewrites ∷ more) [] = []
   sites_of_sheets (rewrites ∷ more) (sheet ∷ sheets) = sheet_sites rewrites sheet ++ sites_of_sheets more sheets
@@ -81,15 +86,22 @@ module _ (keys : KeyChange) where
   sites_of_bodies updated definitions bodies = flat_map (body_sites updated definitions) bodies
 
   -- all of them
-  abbrev pub listed_sites : NameKey → List Sheet → List Definition → List Rewrites → List NewBody → List MentionSite
+  abbrev pub listed_sites : NameKey → List Sheet → List Definition → List RewritesState → List NewBody → List MentionSite
   listed_sites updated sheets definitions formulas bodies = sites_of_sheets formulas sheets ++ sites_of_bodies updated definitions bodies
 
 -- An update was prepared by a rule, for the formulas of all sheets and the bodies of all definitions: what the rule doesn't
 -- touch stays and isn't captured, and what it makes anew keeps its shape.
-pub record IsUpdate (made : Remade) (keys : KeyChange) (sheets : List Sheet) (definitions : List Definition) (formulas : List Rewrites) (bodies : List NewBody) : Type 0 where
+pub record IsUpdate (made : Remade) (keys : KeyChange) (sheets : List Sheet) (definitions : List Definition) (formulas : List RewritesState) (bodies : List NewBody) : Type 0 where
   pub pools : AreRemade made formulas sheets
   pub bodies_listed : bodies ≡ touched_bodies made 0 definitions
   pub formulas_stay : AllByRecursion (λ (s : Sheet). AllByRecursion (LeavesUntouched made (Some s.id)) s.pool.formulas) sheets
-  pub bodies_stay : AllByRecursion (λ (d : Definition). LeavesUntouched made d.scope d.body) definitions
+  pub bodies_stay : AllByRecursion (LeavesBody made) definitions
   pub spared : (scope : Option ℕ) (formula : Formula) → made.touches scope formula ≡ false → captured_formula keys formula formula ≡ false
   pub alike : (scope : Option ℕ) (formula : Formula) → AreAlikeFormulas formula (made.becomes scope formula)
+
+-- an update of a definition makes each formula anew that it touches: what is kept of it over the update
+abbrev pub kept_where_touched : (List ℕ → Option ℕ) → Scene → Scene → NameKey → NameKey → Remade
+kept_where_touched english before after old new = record {
+  touches = λ scope formula. is_touched old new formula;
+  becomes = kept_formula english before after (changed_key old new);
+}

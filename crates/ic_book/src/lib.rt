@@ -41,7 +41,6 @@ mod scene;
 mod settings;
 mod sheet_changes;
 mod sites;
-mod stubs;
 mod styled;
 mod styles;
 mod tab;

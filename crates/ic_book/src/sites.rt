@@ -10,12 +10,11 @@ ghost use Rattle.ic_cells.specs.Maps.{place_cmp};
 ghost use Rattle.ic_book.specs.Sites.{AreAlikePools, IsAlikeBody, IsAlikeIn, body_sites, captures, captures_at, listed_sites, sheet_sites, site_if, sites_in, sites_of_bodies, sites_of_sheets};
 
 use crate::contents::Contents;
-use crate::stubs::{BodyRewrites, NewBody, Replacement, Rewrites, captured_formula};
 use ic_cells::Cell;
-use ic_definitions::Definition;
-use ic_keep::KeyChange;
+use ic_definitions::{BodyRewrites, Definition, NewBody};
+use ic_keep::{KeyChange, captured_formula};
 use ic_laws::{NameKey, OutOfMemory};
-use ic_pool::{Pool, copy_key, same_key};
+use ic_pool::{Pool, Replacement, Rewrites, copy_key, same_key};
 use ic_sheets::Sheet;
 use std::alloc::Global;
 use std::collections::{BTreeMap, BTreeSet};

@@ -1,5 +1,7 @@
 //! What a call did, told by a reply.
-ghost use Rattle.std.specs.Prelude.{◌≡◌, ◌+◌, ◌++◌, ◌≤◌, Err, IfOk, OnErr, Some, string_bytes, string_capacity, string_len};
+ghost use Rattle.std.specs.Prelude.{◌≡◌, ◌+◌, ◌++◌, ◌≤◌, Err, IfOk, OnErr, Some, chars, false, string_bytes, string_capacity, string_len, true};
+ghost use Rattle.ic_laws.specs.Name.{is_sheet_name};
+ghost use Rattle.ic_machine.specs.Fields.{named_sheet_fields};
 ghost use Rattle.ic_machine.specs.Refusal.{Refusal};
 ghost use Rattle.ic_machine.specs.Reply.{reply_bytes};
 ghost use Rattle.ic_words.specs.Reply.{reply_room};
@@ -9,7 +11,7 @@ ghost use Rattle.ic_commands.specs.Answered.{Tells};
 
 use ic_book::BookError;
 use ic_laws::OutOfMemory;
-use ic_words::{Fields, error_reply, ok_reply};
+use ic_words::{Fields, error_reply, named_reply, ok_reply};
 
 /// Puts what a call did behind a text as a reply. There is none where memory ran out.
 pub(crate) fn told<T: Fields>(
@@ -21,6 +23,23 @@ pub(crate) fn told<T: Fields>(
 {
     match done {
         Ok(value) => ok_reply(reply, &value),
+        Err(e) => refused(&e, reply),
+    }
+}
+
+/// Puts what a call did that made a sheet and answers its name and its index behind a text as a reply. There is none only
+/// where memory ran out in the call: the reply of a name fits into the room.
+pub(crate) fn told_named(
+    done: Result<(String, u32), BookError>,
+    reply: String,
+) -> Result<String, OutOfMemory>
+    requires room { string_len reply + reply_room ≤ string_capacity reply }
+    requires named { IfOk done
+        (λ named. is_sheet_name (chars (string_bytes named.0)) ≡ true) }
+    ensures { Tells named_sheet_fields false done (string_bytes reply) result }
+{
+    match done {
+        Ok((name, index)) => Ok(named_reply(reply, name.as_str(), index)),
         Err(e) => refused(&e, reply),
     }
 }

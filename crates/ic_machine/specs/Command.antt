@@ -52,7 +52,7 @@ more_names =
     ∷ codes "is_row_hidden" ∷ codes "set_user_input" ∷ codes "update_cell_with_text" ∷ codes "get_localized_cell_content" ∷ codes "get_formatted_cell_value"
     ∷ codes "get_cell_value_by_ref" ∷ codes "get_sheet_markup" ∷ codes "extend_to" ∷ codes "extend_copied_value" ∷ codes "parse_reference"
     ∷ codes "get_fmt_settings" ∷ codes "set_user_array_formula" ∷ codes "range_clear_contents" ∷ codes "range_clear_all" ∷ codes "put_formula_value"
-    ∷ codes "put_spill" ∷ []
+    ∷ codes "put_spill" ∷ codes "insert_sheet" ∷ codes "new_sheet" ∷ codes "duplicate_sheet" ∷ codes "update_defined_name" ∷ codes "would_capture" ∷ []
 
 -- the names of all commands that are served
 abbrev pub served_names : List (List ℕ)

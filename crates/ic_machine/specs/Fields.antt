@@ -13,6 +13,7 @@ use Rattle.ic_cells.specs.declared.workbook.Theme.{Theme}
 use Rattle.ic_machine.specs.Reply.{Field, NumberField, PositionField, TextField, optional_text_field, text_field}
 use Rattle.ic_machine.specs.Styling.{color_text, style_fields}
 use Rattle.ic_machine.specs.subjects.Reading.{type_name}
+use Rattle.ic_machine.specs.subjects.Sheets.{named_fields}
 
 -- nothing
 abbrev pub no_fields : Unit {0} → List Field
@@ -47,6 +48,10 @@ fields_of_sheet sheet = TextField sheet.name ∷ TextField sheet.state ∷ TextF
 
 abbrev pub sheets_fields : Vec SheetProperties → List Field
 sheets_fields sheets = flat_map fields_of_sheet sheets.items
+
+-- what is told of a new sheet or of a copy: its name and its index
+abbrev pub named_sheet_fields : String Global × ℕ → List Field
+named_sheet_fields named = named_fields (chars (string_bytes named.0)) named.1
 
 -- the name of a type
 abbrev pub type_field : CellType → List Field

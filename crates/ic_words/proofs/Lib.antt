@@ -2,6 +2,7 @@ pub mod AsciiLemmas
 pub mod ChoiceLemmas
 pub mod EscapedNumbers
 pub mod Literals
+pub mod NamedReplies
 pub mod NumberLemmas
 pub mod ReplyLemmas
 pub mod ScopeLemmas

@@ -78,7 +78,7 @@ escaped_digits (c ∷ cs) h =
     rw (other_character c 92 p.0 refl, other_character c 9 p.0 refl, other_character c 10 p.0 refl, other_character c 13 p.0 refl) (ap (λ t. c ∷ t) (escaped_digits cs p.1))
 
 -- what is written of a number
-number_word : (number : Option ℕ) (n : ℕ) → number ≡ Some n → tab ∷ decimal n ≡ field_word (NumberField number)
+pub number_word : (number : Option ℕ) (n : ℕ) → number ≡ Some n → tab ∷ decimal n ≡ field_word (NumberField number)
 number_word number n is = rw is (ap (λ t. tab ∷ t) (sym (escaped_digits (decimal n) (decimal_digits n))))
 
 -- a word behind a tab

@@ -8,6 +8,7 @@ use Rattle.ic_machine.specs.Row.{Row, named, row_in, rows_named}
 use Rattle.ic_machine.specs.Word.{OfAmount, OfBool, OfColor, OfFlag, OfIndex, OfPosition, OfScope, OfState, OfText, words_of}
 use Rattle.ic_machine.specs.subjects.Sheets as sheets
 use Rattle.ic_machine.specs.subjects.Definitions as definitions
+use Rattle.ic_machine.specs.subjects.Definitions.{Update, update_of}
 use Rattle.ic_machine.specs.subjects.Notation as notation
 use Rattle.ic_machine.specs.subjects.Writing as writing
 use Rattle.ic_machine.specs.subjects.Reading as reading
@@ -37,6 +38,8 @@ use Rattle.ic_words.specs.declared.command.kind.OneIndex.{OneIndex}
 use Rattle.ic_words.specs.declared.command.kind.OneIndex.TheVariants as one_index
 use Rattle.ic_words.specs.declared.command.kind.OneText.{OneText}
 use Rattle.ic_words.specs.declared.command.kind.OneText.TheVariants as one_text
+use Rattle.ic_words.specs.declared.command.kind.PlacedName.{PlacedName}
+use Rattle.ic_words.specs.declared.command.kind.PlacedName.TheVariants as placed_name
 use Rattle.ic_words.specs.declared.command.kind.ScopedBody.{ScopedBody}
 use Rattle.ic_words.specs.declared.command.kind.ScopedBody.TheVariants as scoped_body
 use Rattle.ic_words.specs.declared.command.kind.ScopedName.{ScopedName}
@@ -61,10 +64,13 @@ use Rattle.ic_words.specs.declared.command.kind.TwoIndexes.{TwoIndexes}
 use Rattle.ic_words.specs.declared.command.kind.TwoIndexes.TheVariants as two_indexes
 use Rattle.ic_words.specs.declared.command.kind.TwoTexts.{TwoTexts}
 use Rattle.ic_words.specs.declared.command.kind.TwoTexts.TheVariants as two_texts
+use Rattle.ic_words.specs.declared.command.kind.UpdatedBody.{UpdatedBody}
+use Rattle.ic_words.specs.declared.command.kind.UpdatedBody.TheVariants as updated_body
 use Rattle.ic_words.specs.declared.command.kind.Wordless.{Wordless}
 use Rattle.ic_words.specs.declared.command.kind.Wordless.TheVariants as wordless
 
 abbrev pub wordless_said : Wordless → Command
+wordless_said wordless.NewSheet = OnSheets sheets.NewSheet
 wordless_said wordless.GetNewSheetId = OnSheets sheets.GetNewSheetId
 wordless_said wordless.GetWorksheetsProperties = OnSheets sheets.GetWorksheetsProperties
 wordless_said wordless.GetDefinedNameList = OnDefinitions definitions.GetDefinedNameList
@@ -91,7 +97,11 @@ texts_said two_texts.RenameSheet first second = OnSheets (sheets.RenameSheet fir
 abbrev pub indexed_said : IndexedText → ℕ → List ℕ → Command
 indexed_said indexed_text.RenameSheetByIndex index text = OnSheets (sheets.RenameSheetByIndex index text)
 
+abbrev pub placed_said : PlacedName → List ℕ → ℕ → Option ℕ → Command
+placed_said placed_name.InsertSheet name index id = OnSheets (sheets.InsertSheet name index id)
+
 abbrev pub index_said : OneIndex → ℕ → Command
+index_said one_index.DuplicateSheet index = OnSheets (sheets.DuplicateSheet index)
 index_said one_index.DeleteSheet index = OnSheets (sheets.DeleteSheet index)
 index_said one_index.DeleteSheetBySheetId index = OnSheets (sheets.DeleteSheetBySheetId index)
 index_said one_index.GetSheetMarkup index = OnReading (reading.GetSheetMarkup index)
@@ -107,6 +117,10 @@ scoped_said scoped_name.DeleteDefinedName name scope = OnDefinitions (definition
 abbrev pub body_said : ScopedBody → List ℕ → Option ℕ → List ℕ → Command
 body_said scoped_body.NewDefinedName name scope body = OnDefinitions (definitions.NewDefinedName name scope body)
 body_said scoped_body.IsValidDefinedName name scope body = OnDefinitions (definitions.IsValidDefinedName name scope body)
+
+abbrev pub updated_said : UpdatedBody → Update → Command
+updated_said updated_body.UpdateDefinedName update = OnDefinitions (definitions.UpdateDefinedName update)
+updated_said updated_body.WouldCapture update = OnDefinitions (definitions.WouldCaptureName update)
 
 abbrev pub cell_said : InCell → ℕ → ℤ → ℤ → Command
 cell_said in_cell.GetCellFormula sheet row column = OnReading (reading.GetCellFormula sheet row column)
@@ -180,10 +194,12 @@ kind_said (kinds.Wordless kind) words = option_map (λ w. wordless_said kind) (w
 kind_said (kinds.OneText kind) words = option_map (λ w. text_said kind w.0) (words_said (words_of (OfText ∷ [])) words)
 kind_said (kinds.TwoTexts kind) words = option_map (λ w. texts_said kind w.0 w.1.0) (words_said (words_of (OfText ∷ OfText ∷ [])) words)
 kind_said (kinds.IndexedText kind) words = option_map (λ w. indexed_said kind w.0 w.1.0) (words_said (words_of (OfIndex ∷ OfText ∷ [])) words)
+kind_said (kinds.PlacedName kind) words = option_map (λ w. placed_said kind w.0 w.1.0 w.1.1.0) (words_said (words_of (OfText ∷ OfIndex ∷ OfScope ∷ [])) words)
 kind_said (kinds.OneIndex kind) words = option_map (λ w. index_said kind w.0) (words_said (words_of (OfIndex ∷ [])) words)
 kind_said (kinds.TwoIndexes kind) words = option_map (λ w. indexes_said kind w.0 w.1.0) (words_said (words_of (OfIndex ∷ OfIndex ∷ [])) words)
 kind_said (kinds.ScopedName kind) words = option_map (λ w. scoped_said kind w.0 w.1.0) (words_said (words_of (OfText ∷ OfScope ∷ [])) words)
 kind_said (kinds.ScopedBody kind) words = option_map (λ w. body_said kind w.0 w.1.0 w.1.1.0) (words_said (words_of (OfText ∷ OfScope ∷ OfText ∷ [])) words)
+kind_said (kinds.UpdatedBody kind) words = option_map (λ w. updated_said kind (update_of w.0 w.1.0 w.1.1.0 w.1.1.1.0 w.1.1.1.1.0)) (words_said (words_of (OfText ∷ OfScope ∷ OfText ∷ OfScope ∷ OfText ∷ [])) words)
 kind_said (kinds.InCell kind) words = option_map (λ w. cell_said kind w.0 w.1.0 w.1.1.0) (words_said (words_of (OfIndex ∷ OfPosition ∷ OfPosition ∷ [])) words)
 kind_said (kinds.TextInCell kind) words = option_map (λ w. cell_text_said kind w.0 w.1.0 w.1.1.0 w.1.1.1.0) (words_said (words_of (OfIndex ∷ OfPosition ∷ OfPosition ∷ OfText ∷ [])) words)
 kind_said (kinds.TruthInCell kind) words = option_map (λ w. cell_truth_said kind w.0 w.1.0 w.1.1.0 w.1.1.1.0) (words_said (words_of (OfIndex ∷ OfPosition ∷ OfPosition ∷ OfBool ∷ [])) words)

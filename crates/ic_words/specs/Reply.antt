@@ -5,7 +5,7 @@ use lib.Utf8.{scalars}
 use Rattle.ic_lines.specs.Reading.{has_line_feed}
 use Rattle.ic_machine.specs.Reply.{Field, field_text}
 
--- the bytes for which there is room before a reply without a field is written
+-- the bytes for which there is room before a reply is written that has no field, or a sheet's name and index
 abbrev pub reply_room : ℕ
 reply_room = 512
 

@@ -17,7 +17,7 @@ mod word;
 mod words;
 
 pub use command::arrays::Arrays;
-pub use command::definitions::Definitions;
+pub use command::definitions::{DefinitionUpdate, Definitions};
 pub use command::extending::Extending;
 pub use command::layout::Layout;
 pub use command::notation::Notation;
@@ -29,7 +29,7 @@ pub use command::writing::Writing;
 pub use command::{Command, command_in};
 pub use fields::Fields;
 pub use numbers::{index_of, position_of, scope_said};
-pub use reply::{REPLY_ROOM, error_reply, law_reply_room, ok_reply};
+pub use reply::{REPLY_ROOM, error_reply, law_reply_room, named_reply, ok_reply};
 pub use styling::{StyleWords, color_of};
 pub use text::{WordText, text_of};
 pub use values::ValueWords;

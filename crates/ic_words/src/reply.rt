@@ -1,21 +1,24 @@
 //! Replies, and the pieces of them.
-ghost use Rattle.std.specs.Prelude.{◌≡◌, ◌+◌, ◌++◌, ◌≤◌, ◌∷◌, [], Ok, Err, IfOk, OnErr, OnOk, chars, codes, length, string_bytes, string_capacity, string_len, true};
+ghost use Rattle.std.specs.Prelude.{◌≡◌, ◌+◌, ◌*◌, ◌++◌, ◌≤◌, ◌∷◌, [], Ok, Err, IfOk, OnErr, OnOk, chars, codes, encode_utf8_all, length, string_bytes, string_capacity, string_len, true};
 ghost use lib.Utf8.{scalars};
 ghost use Rattle.std.specs.Fmt.{decimal};
 ghost use Rattle.ic_laws.specs.Character.{line_feed};
+ghost use Rattle.ic_laws.specs.Lines.{escape_of, escaped};
 ghost use Rattle.ic_machine.specs.Refusal.{Refusal, refusal_name};
 ghost use Rattle.ic_machine.specs.Reply.{AmountField, BoolField, FlagField, NumberField, PositionField};
 ghost use Rattle.ic_machine.specs.Reply.{TextField, field_text, field_word};
 ghost use Rattle.ic_machine.specs.Reply.{position_text, reply_bytes, reply_text};
+ghost use Rattle.ic_machine.specs.subjects.Sheets.{named_fields};
 ghost use Rattle.ic_words.specs.Reply.{IsLineText, reply_room};
 
 use crate::fields::Fields;
-use ic_laws::scan::push_char;
+use ic_laws::scan::{first_char, push_char};
 use ic_laws::{Amount, OutOfMemory, amount_spelling};
 use ic_lines::push_escaped;
+use itoa::Buffer;
 
-/// The bytes that are enough for a reply without a field. They are reserved before a command changes a book, so that
-/// its reply can't fail.
+/// The bytes that are enough for a reply without a field, and for one with a sheet's name and index. They are reserved
+/// before a command changes a book, so that its reply can't fail.
 pub const REPLY_ROOM: usize = 512;
 
 /// The room is 512 bytes.
@@ -49,6 +52,24 @@ pub fn error_reply(mut reply: String, name: &str) -> String
 {
     append(&mut reply, "error\t");
     append(&mut reply, name);
+    append(&mut reply, "\n");
+    reply
+}
+
+/// The text with the reply at its end that tells the name of a sheet and its index from 0. It takes no memory, so it can be
+/// written after the book has changed.
+pub fn named_reply(mut reply: String, name: &str, index: u32) -> String
+    requires room { string_len reply + reply_room ≤ string_capacity reply }
+    requires short { length (chars name.now) ≤ 31 }
+    ensures exact { string_bytes result ≡ string_bytes reply
+        ++ reply_bytes (Ok (named_fields (chars name.now) index)) }
+    ensures line { IsLineText (reply_text (Ok (named_fields (chars name.now) index))) }
+{
+    let mut digits = Buffer::new();
+    append(&mut reply, "ok\t");
+    append_word(&mut reply, name);
+    append(&mut reply, "\t");
+    append(&mut reply, digits.format(index));
     append(&mut reply, "\n");
     reply
 }
@@ -160,4 +181,36 @@ fn append(reply: &mut String, piece: &str)
     ensures capacity { string_capacity reply.old ≤ string_capacity reply.new }
 {
     reply.push_str(piece).unwrap();
+}
+
+/// Appends a text as it is written in a word, where there is room for four bytes for each character.
+fn append_word(reply: &mut String, text: &str)
+    requires { string_len reply.old + 4 * length (chars text.now) ≤ string_capacity reply.old }
+    ensures bytes { string_bytes reply.new ≡ string_bytes reply.old
+        ++ encode_utf8_all (escaped (chars text.now)) }
+    ensures len { string_len reply.new ≤ string_len reply.old + 4 * length (chars text.now) }
+    ensures capacity { string_capacity reply.old ≤ string_capacity reply.new }
+{
+    let mut rest = text;
+    while let Some((c, after)) = first_char(rest) {
+        append_escape(reply, c);
+        rest = after;
+    }
+}
+
+/// Appends a character as it stands in a word, where there is room for four bytes.
+fn append_escape(reply: &mut String, c: char)
+    requires { string_len reply.old + 4 ≤ string_capacity reply.old }
+    ensures bytes { string_bytes reply.new ≡ string_bytes reply.old
+        ++ encode_utf8_all (escape_of c) }
+    ensures len { string_len reply.new ≤ string_len reply.old + 4 }
+    ensures capacity { string_capacity reply.old ≤ string_capacity reply.new }
+{
+    match c {
+        '\\' => append(reply, "\\\\"),
+        '\t' => append(reply, "\\t"),
+        '\n' => append(reply, "\\n"),
+        '\r' => append(reply, "\\r"),
+        _ => reply.push(c).unwrap(),
+    }
 }

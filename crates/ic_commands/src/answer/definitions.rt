@@ -29,6 +29,26 @@ pub(crate) fn answer_definitions(
             model.delete_defined_name(name.as_str(), scope),
             reply,
         ),
+        Definitions::UpdateDefinedName { update } => told(
+            model.update_defined_name(
+                update.name.as_str(),
+                update.scope,
+                update.new_name.as_str(),
+                update.new_scope,
+                update.body.as_str(),
+            ),
+            reply,
+        ),
+        Definitions::WouldCapture { update } => told(
+            model.would_capture(
+                update.name.as_str(),
+                update.scope,
+                update.new_name.as_str(),
+                update.new_scope,
+                update.body.as_str(),
+            ),
+            reply,
+        ),
         Definitions::IsValidDefinedName { name, scope, body } => told(
             model.is_valid_defined_name(name.as_str(), scope, body.as_str()),
             reply,

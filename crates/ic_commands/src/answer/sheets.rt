@@ -4,7 +4,7 @@ ghost use Rattle.ic_words.specs.Reply.{reply_room};
 ghost use Rattle.ic_words.specs.subjects.Sheets.{sheets_meant};
 ghost use Rattle.ic_commands.specs.Answered.{Answers};
 
-use crate::told::told;
+use crate::told::{told, told_named};
 use ic_book::Model;
 use ic_laws::OutOfMemory;
 use ic_words::Sheets;
@@ -22,6 +22,12 @@ pub(crate) fn answer_sheets(
 {
     match command {
         Sheets::AddSheet { name } => told(model.add_sheet(name.as_str()), reply),
+        Sheets::InsertSheet { name, index, id } => told(
+            model.insert_sheet(name.as_str(), index, id),
+            reply,
+        ),
+        Sheets::NewSheet => told_named(model.new_sheet(), reply),
+        Sheets::DuplicateSheet { sheet } => told_named(model.duplicate_sheet(sheet), reply),
         Sheets::RenameSheet { old, new } => told(
             model.rename_sheet(old.as_str(), new.as_str()),
             reply,

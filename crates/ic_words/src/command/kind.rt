@@ -7,10 +7,12 @@ pub(crate) enum Kind {
     OneText(OneText),
     TwoTexts(TwoTexts),
     IndexedText(IndexedText),
+    PlacedName(PlacedName),
     OneIndex(OneIndex),
     TwoIndexes(TwoIndexes),
     ScopedName(ScopedName),
     ScopedBody(ScopedBody),
+    UpdatedBody(UpdatedBody),
     InCell(InCell),
     TextInCell(TextInCell),
     TruthInCell(TruthInCell),
@@ -30,6 +32,7 @@ pub(crate) enum Kind {
 /// Those without words.
 #[derive(Clone, Copy)]
 pub(crate) enum Wordless {
+    NewSheet,
     GetNewSheetId,
     GetWorksheetsProperties,
     GetDefinedNameList,
@@ -66,9 +69,16 @@ pub(crate) enum IndexedText {
     RenameSheetByIndex,
 }
 
+/// Those whose words are a name, an index, and an id or none.
+#[derive(Clone, Copy)]
+pub(crate) enum PlacedName {
+    InsertSheet,
+}
+
 /// Those whose words are an index.
 #[derive(Clone, Copy)]
 pub(crate) enum OneIndex {
+    DuplicateSheet,
     DeleteSheet,
     DeleteSheetBySheetId,
     GetSheetMarkup,
@@ -93,6 +103,13 @@ pub(crate) enum ScopedName {
 pub(crate) enum ScopedBody {
     NewDefinedName,
     IsValidDefinedName,
+}
+
+/// Those whose words are a name and a scope, the new name and the new scope, and a body.
+#[derive(Clone, Copy)]
+pub(crate) enum UpdatedBody {
+    UpdateDefinedName,
+    WouldCapture,
 }
 
 /// Those whose words are a sheet, a row and a column.

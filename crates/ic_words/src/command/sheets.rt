@@ -2,14 +2,25 @@ ghost use Rattle.ic_machine.specs.Command.{OnSheets};
 ghost use Rattle.ic_machine.specs.subjects.Sheets.{sheet_rows};
 ghost use Rattle.ic_words.specs.Kinds.{IsKind};
 
-use crate::command::kind::{IndexedText, Kind, OneIndex, OneText, TwoIndexes, TwoTexts, Wordless};
+use crate::command::kind::{
+    IndexedText, Kind, OneIndex, OneText, PlacedName, TwoIndexes, TwoTexts, Wordless,
+};
 use crate::text::WordText;
 
-/// A served command on the list of sheets.
+/// A served command on the list of sheets. An id is None where the sheet gets a fresh one.
 #[derive(Drop)]
 pub enum Sheets<'l> {
     AddSheet {
         name: WordText<'l>,
+    },
+    InsertSheet {
+        name: WordText<'l>,
+        index: u32,
+        id: Option<u32>,
+    },
+    NewSheet,
+    DuplicateSheet {
+        sheet: u32,
     },
     RenameSheet {
         old: WordText<'l>,
@@ -42,6 +53,9 @@ pub(crate) fn sheets_named(name: &str) -> Option<Kind>
 {
     match name {
         "add_sheet" => Some(Kind::OneText(OneText::AddSheet)),
+        "insert_sheet" => Some(Kind::PlacedName(PlacedName::InsertSheet)),
+        "new_sheet" => Some(Kind::Wordless(Wordless::NewSheet)),
+        "duplicate_sheet" => Some(Kind::OneIndex(OneIndex::DuplicateSheet)),
         "rename_sheet" => Some(Kind::TwoTexts(TwoTexts::RenameSheet)),
         "rename_sheet_by_index" => Some(Kind::IndexedText(IndexedText::RenameSheetByIndex)),
         "move_sheet" => Some(Kind::TwoIndexes(TwoIndexes::MoveSheet)),

@@ -1,4 +1,4 @@
-use Rattle.std.proofs.Common.{chars, ap, inl, inr, ◌∙◌}
+use Rattle.std.proofs.Common.{ap, inl, inr, ◌∙◌}
 use Rattle.std.proofs.lemmas.Result.{IfOk-weaker, on_err_weaker}
 use Rattle.ic_tables.specs.Words.{error_words}
 use Rattle.ic_machine.specs.Row.{joined}

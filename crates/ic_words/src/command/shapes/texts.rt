@@ -1,12 +1,14 @@
 //! Commands without words, and those with texts, indexes and scopes.
-ghost use Rattle.ic_words.specs.Kinds.{body_said, index_said, indexed_said, indexes_said};
-ghost use Rattle.ic_words.specs.Kinds.{scoped_said, text_said, texts_said, wordless_said};
+ghost use Rattle.ic_machine.specs.subjects.Definitions.{update_of};
+ghost use Rattle.ic_words.specs.Kinds.{body_said, index_said, indexed_said, indexes_said, placed_said};
+ghost use Rattle.ic_words.specs.Kinds.{scoped_said, text_said, texts_said, updated_said, wordless_said};
 
 use crate::command::Command;
-use crate::command::definitions::Definitions;
+use crate::command::definitions::{DefinitionUpdate, Definitions};
 use crate::command::extending::Extending;
 use crate::command::kind::{
-    IndexedText, OneIndex, OneText, ScopedBody, ScopedName, TwoIndexes, TwoTexts, Wordless,
+    IndexedText, OneIndex, OneText, PlacedName, ScopedBody, ScopedName, TwoIndexes, TwoTexts,
+    UpdatedBody, Wordless,
 };
 use crate::command::notation::Notation;
 use crate::command::reading::Reading;
@@ -20,6 +22,7 @@ impl<'l> Makes<'l, ()> for Wordless {
 
     fn make(self, _: ()) -> Command<'l> {
         match self {
+            Wordless::NewSheet => Command::Sheets(Sheets::NewSheet),
             Wordless::GetNewSheetId => Command::Sheets(Sheets::GetNewSheetId),
             Wordless::GetWorksheetsProperties => Command::Sheets(Sheets::GetWorksheetsProperties),
             Wordless::GetDefinedNameList => Command::Definitions(Definitions::GetDefinedNameList),
@@ -76,11 +79,25 @@ impl<'l> Makes<'l, (u32, (WordText<'l>, ()))> for IndexedText {
     }
 }
 
+impl<'l> Makes<'l, (WordText<'l>, (u32, (Option<u32>, ())))> for PlacedName {
+    ghost means = { λ kind w. placed_said kind w.0 w.1.0 w.1.1.0 };
+
+    fn make(
+        self,
+        (name, (index, (id, ()))): (WordText<'l>, (u32, (Option<u32>, ()))),
+    ) -> Command<'l> {
+        match self {
+            PlacedName::InsertSheet => Command::Sheets(Sheets::InsertSheet { name, index, id }),
+        }
+    }
+}
+
 impl<'l> Makes<'l, (u32, ())> for OneIndex {
     ghost means = { λ kind w. index_said kind w.0 };
 
     fn make(self, (index, ()): (u32, ())) -> Command<'l> {
         match self {
+            OneIndex::DuplicateSheet => Command::Sheets(Sheets::DuplicateSheet { sheet: index }),
             OneIndex::DeleteSheet => Command::Sheets(Sheets::DeleteSheet { sheet: index }),
             OneIndex::DeleteSheetBySheetId => Command::Sheets(Sheets::DeleteSheetBySheetId {
                 id: index,
@@ -140,6 +157,45 @@ impl<'l> Makes<'l, (WordText<'l>, (Option<u32>, (WordText<'l>, ())))> for Scoped
                 scope,
                 body,
             }),
+        }
+    }
+}
+
+impl<'l> Makes<
+    'l,
+    (
+        WordText<'l>,
+        (
+            Option<u32>,
+            (WordText<'l>, (Option<u32>, (WordText<'l>, ()))),
+        ),
+    ),
+> for UpdatedBody {
+    ghost means = { λ kind w. updated_said kind
+        (update_of w.0 w.1.0 w.1.1.0 w.1.1.1.0 w.1.1.1.1.0) };
+
+    fn make(
+        self,
+        (name, (scope, (new_name, (new_scope, (body, ()))))): (
+            WordText<'l>,
+            (
+                Option<u32>,
+                (WordText<'l>, (Option<u32>, (WordText<'l>, ()))),
+            ),
+        ),
+    ) -> Command<'l> {
+        let update = DefinitionUpdate {
+            name,
+            scope,
+            new_name,
+            new_scope,
+            body,
+        };
+        match self {
+            UpdatedBody::UpdateDefinedName => Command::Definitions(Definitions::UpdateDefinedName {
+                update,
+            }),
+            UpdatedBody::WouldCapture => Command::Definitions(Definitions::WouldCapture { update }),
         }
     }
 }

@@ -7,6 +7,15 @@ use Rattle.ic_commands.proofs.answer.sheets.answer_sheets.Goals as goal
 pub returns-in-AddSheet : goal.returns-in-AddSheet
 returns-in-AddSheet c = changed (OnSheets (sheets_meant c.args.command)) refl c.told.ensures c.add_sheet.ensures.does (search rules) (search rules) refl
 
+pub returns-in-InsertSheet : goal.returns-in-InsertSheet
+returns-in-InsertSheet c = changed (OnSheets (sheets_meant c.args.command)) refl c.told-in-InsertSheet.ensures c.insert_sheet.ensures.does (search rules) (search rules) refl
+
+pub returns-in-NewSheet : goal.returns-in-NewSheet
+returns-in-NewSheet c = changed (OnSheets (sheets_meant c.args.command)) refl c.told_named.ensures c.new_sheet.ensures.does (search rules) (search rules) refl
+
+pub returns-in-DuplicateSheet : goal.returns-in-DuplicateSheet
+returns-in-DuplicateSheet c = changed (OnSheets (sheets_meant c.args.command)) refl c.told_named-in-DuplicateSheet.ensures c.duplicate_sheet.ensures.does (search rules) (search rules) refl
+
 pub returns-in-RenameSheet : goal.returns-in-RenameSheet
 returns-in-RenameSheet c = changed (OnSheets (sheets_meant c.args.command)) refl c.told-in-RenameSheet.ensures c.rename_sheet.ensures.does (search rules) (search rules) refl
 

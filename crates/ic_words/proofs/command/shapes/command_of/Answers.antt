@@ -1,8 +1,8 @@
 use Rattle.std.proofs.Common.{ap, refl, sym, ◌∙◌}
+use Rattle.ic_machine.specs.subjects.Definitions.{update_of}
 use Rattle.ic_machine.specs.subjects.Styles as styles
-use Rattle.ic_words.specs.Kinds.{kind_said, area_said, area_text_said, between_said, body_said, cell_amount_said, cell_said, cell_text_said, cell_truth_said, color_said, hidden_said, index_said, indexed_said, indexes_said, line_said, scoped_said, size_said, state_said, style_said, switch_said, text_said, texts_said, wordless_said}
+use Rattle.ic_words.specs.Kinds.{kind_said, area_said, area_text_said, between_said, body_said, cell_amount_said, cell_said, cell_text_said, cell_truth_said, color_said, hidden_said, index_said, indexed_said, indexes_said, line_said, placed_said, scoped_said, size_said, state_said, style_said, switch_said, text_said, texts_said, updated_said, wordless_said}
 use Rattle.ic_words.specs.Words.{words_left}
-use Rattle.ic_words.specs.declared.command.kind.Kind.TheVariants as kinds
 use Rattle.ic_words.proofs.WordsLemmas.{where_ok}
 use Rattle.ic_words.proofs.command.shapes.command_of.Goals as goal
 
@@ -22,6 +22,10 @@ pub returns-in-IndexedText-clause-exact : goal.returns-in-IndexedText-clause-exa
 returns-in-IndexedText-clause-exact c =
     where_ok c.made-in-IndexedText.result c.made-in-IndexedText.ensures.exact (λ command e. e (λ w. indexed_said c.in-IndexedText.kind w.0 w.1.0) (λ w. refl) ∙ ap (λ k. kind_said k (words_left c.args.rest)) (sym c.in-IndexedText.is))
 
+pub returns-in-PlacedName-clause-exact : goal.returns-in-PlacedName-clause-exact
+returns-in-PlacedName-clause-exact c =
+    where_ok c.made-in-PlacedName.result c.made-in-PlacedName.ensures.exact (λ command e. e (λ w. placed_said c.in-PlacedName.kind w.0 w.1.0 w.1.1.0) (λ w. refl) ∙ ap (λ k. kind_said k (words_left c.args.rest)) (sym c.in-PlacedName.is))
+
 pub returns-in-OneIndex-clause-exact : goal.returns-in-OneIndex-clause-exact
 returns-in-OneIndex-clause-exact c =
     where_ok c.made-in-OneIndex.result c.made-in-OneIndex.ensures.exact (λ command e. e (λ w. index_said c.in-OneIndex.kind w.0) (λ w. refl) ∙ ap (λ k. kind_said k (words_left c.args.rest)) (sym c.in-OneIndex.is))
@@ -37,6 +41,10 @@ returns-in-ScopedName-clause-exact c =
 pub returns-in-ScopedBody-clause-exact : goal.returns-in-ScopedBody-clause-exact
 returns-in-ScopedBody-clause-exact c =
     where_ok c.made-in-ScopedBody.result c.made-in-ScopedBody.ensures.exact (λ command e. e (λ w. body_said c.in-ScopedBody.kind w.0 w.1.0 w.1.1.0) (λ w. refl) ∙ ap (λ k. kind_said k (words_left c.args.rest)) (sym c.in-ScopedBody.is))
+
+pub returns-in-UpdatedBody-clause-exact : goal.returns-in-UpdatedBody-clause-exact
+returns-in-UpdatedBody-clause-exact c =
+    where_ok c.made-in-UpdatedBody.result c.made-in-UpdatedBody.ensures.exact (λ command e. e (λ w. updated_said c.in-UpdatedBody.kind (update_of w.0 w.1.0 w.1.1.0 w.1.1.1.0 w.1.1.1.1.0)) (λ w. refl) ∙ ap (λ k. kind_said k (words_left c.args.rest)) (sym c.in-UpdatedBody.is))
 
 pub returns-in-InCell-clause-exact : goal.returns-in-InCell-clause-exact
 returns-in-InCell-clause-exact c =
