@@ -45,6 +45,10 @@ pub mod SeenGrids
 pub mod SettingLemmas
 pub mod SharedLemmas
 pub mod ShownLemmas
+pub mod SiteLemmas
+pub mod SiteTouched
+pub mod SitesUpdate
+pub mod SitesWhole
 pub mod SparedBodies
 pub mod StartLemmas
 pub mod StyleLemmas
@@ -53,6 +57,7 @@ pub mod TakenAgain
 pub mod TypedLemmas
 pub mod TypedSteps
 pub mod UnreadLemmas
+pub mod UpdatedChecks
 pub mod ValueLemmas
 pub mod WholeLemmas
 pub mod WholeWritten
