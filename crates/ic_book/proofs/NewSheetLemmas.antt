@@ -17,7 +17,7 @@ use Rattle.ic_machine.specs.Changed as changed
 use Rattle.ic_machine.specs.Refusal.{first_refusal}
 use Rattle.ic_machine.specs.Reply.{Field}
 use Rattle.ic_machine.specs.Valid as valid_machine
-use Rattle.ic_machine.specs.subjects.Sheets.{NewSheet, base_name, free_number, named_fields, new_sheet_name, new_sheet_step, numbered_name, sheet_step, with_new_sheet}
+use Rattle.ic_machine.specs.subjects.Sheets.{NewSheet, base_name, copy_name, free_number, name_of_copy, named_fields, new_sheet_name, new_sheet_step, numbered_name, sheet_step, with_new_sheet}
 use Rattle.ic_machine.specs.Refusal as refusals
 use Rattle.ic_sheets.specs.Sheet.{sheet_of}
 use Rattle.ic_sheets.specs.declared.sheet.Sheet.{Sheet as HeldSheet}
@@ -85,6 +85,13 @@ module _ (inside : Inside) (h : IsHeld inside) where
       → IfOk r (λ text. chars (string_bytes text) ≡ new_sheet_name (whole_of (held inside)))
   new_name_of (Ok text) base a e = new_name_is (chars (string_bytes text)) base a e
   new_name_of (Err e) base a h = tt
+
+  -- the name of a copy of a sheet
+  pub copy_name_of : {E : Type 0} (r : Result (String Global) E) (source : List ℕ)
+      → IfOk r (λ text. chars (string_bytes text) ≡ copy_name source (free_among (map (λ (s : HeldSheet). s.name) inside.contents.sheets) (copy_name source)))
+      → IfOk r (λ text. chars (string_bytes text) ≡ name_of_copy (whole_of (held inside)) source)
+  copy_name_of (Ok text) source e = e ∙ ap (copy_name source) (free_same (copy_name source))
+  copy_name_of (Err e) source h = tt
 
 module _ (old : ModelState) (valid : IsValidBook old.book) where
   abbrev whole : machine.Book
