@@ -3,7 +3,7 @@
 use Rattle.std.proofs.Common.{◌≡◌, ℕ, List, [], ◌∷◌, ◌++◌, map, Bool, true, false, cond, Option, Some, None, refl, sym, ap, ap₂, subst, ◌∙◌}
 use Rattle.std.proofs.lemmas.List.{map-append}
 use Rattle.std.specs.FinMap as finite
-use Rattle.std.specs.List.{AllByRecursion, AllZip, slice_get, zip}
+use Rattle.std.specs.List.{AllByRecursion, slice_get, zip}
 use Rattle.std.specs.Prelude.{flat_map}
 use Rattle.ic_laws.specs.CoreBook.{CellPlace, Definition}
 use Rattle.ic_laws.specs.CoreStep.{updated_at}
@@ -32,7 +32,6 @@ use Rattle.ic_book.proofs.SiteTouched.{alike_bodies_from, alike_from, bodies_fro
 use Rattle.ic_book.proofs.WholeLemmas.{index_seen}
 use Rattle.ic_book.specs.Book.{Book, whole_of, whole_sheet}
 use Rattle.ic_book.specs.Sites.{AreAlikePools, IsAlikeBody, IsAlikeIn, IsUpdate, body_sites, captures_at, listed_sites, sheet_sites, site_if, site_of, sites_in, sites_of_sheets}
-use Rattle.ic_book.specs.declared.sites.MentionSite.{MentionSite}
 use Rattle.ic_book.specs.declared.sites.MentionSite.TheVariants as sites
 
 -- the cells of a sheet, before and after
