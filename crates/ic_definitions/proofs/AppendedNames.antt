@@ -1,6 +1,6 @@
 -- What the definitions keep beside them stays true when several come at once, and when only the first ones stay.
-use Rattle.std.proofs.Common.{◌≡◌, ℕ, zero, suc, ◌<◌, ◌≤◌, List, [], ◌∷◌, ◌++◌, map, Bool, true, false, cond, ◌||◌, Option, Some, None, option_map, length, take, drop, refl, sym, ap, ap₂, subst, ◌∙◌, arith, append_assoc, ltb}
-use Rattle.std.specs.BTreeMap.{IsOrdered, get, keys as keys_in}
+use Rattle.std.proofs.Common.{◌≡◌, ℕ, zero, suc, ◌<◌, ◌≤◌, List, [], ◌∷◌, ◌++◌, map, Bool, true, false, cond, ◌||◌, Option, Some, None, option_map, length, take, refl, sym, ap, ap₂, subst, ◌∙◌, arith, ltb}
+use Rattle.std.specs.BTreeMap.{IsOrdered, keys as keys_in}
 use Rattle.std.specs.Cmp.{eq_by_cmp_equiv}
 use Rattle.std.specs.Cmp.Lexicographic.{slice_cmp}
 use Rattle.std.specs.List.{AllByRecursion, IsDistinct, filter, list_any}

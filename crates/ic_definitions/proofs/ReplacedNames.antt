@@ -1,5 +1,5 @@
 -- What the definitions keep beside them stays true when one is put in the place of another.
-use Rattle.std.proofs.Common.{◌≡◌, ℕ, zero, suc, ◌<◌, List, [], ◌∷◌, map, Bool, true, false, cond, not, ◌||◌, Option, Some, None, option_map, length, get_or, slice_set, refl, sym, ap, ap₂, subst, ◌∙◌, bytes_eq, remove, arith}
+use Rattle.std.proofs.Common.{◌≡◌, ℕ, zero, suc, ◌<◌, List, [], ◌∷◌, Bool, true, false, cond, not, Option, Some, None, option_map, length, get_or, slice_set, refl, sym, ap, ap₂, subst, ◌∙◌, bytes_eq, remove, arith}
 use Rattle.std.specs.BTreeMap.{BTreeMap, Updates, get}
 use Rattle.std.specs.Cmp.Lexicographic.{slice_cmp}
 use Rattle.std.specs.List.{AllByRecursion, IsDistinct, list_any}

@@ -101,11 +101,7 @@ impl Definitions {
 
     /// Adds definitions at the end, in their order, and gives the others the bodies that were prepared. `OutOfMemory`
     /// changes nothing.
-    pub fn append(
-        &mut self,
-        more: Definitions,
-        bodies: BodyRewrites,
-    ) -> Result<(), OutOfMemory>
+    pub fn append(&mut self, more: Definitions, bodies: BodyRewrites) -> Result<(), OutOfMemory>
         requires apart { AllByRecursion (λ d. list_any (is_named d.name d.scope) self.old ≡ false)
             more }
         requires fits { FitsBodies bodies self.old }
