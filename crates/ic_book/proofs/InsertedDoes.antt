@@ -1,8 +1,9 @@
 -- A call that puts a sheet in among the others does its step.
-use Rattle.std.proofs.Common.{◌≡◌, ℕ, ◌<◌, List, [], ◌∷◌, Bool, true, false, not, ◌||◌, Option, Some, None, Result, Ok, Err, refl, sym, ap, subst, ◌∙◌, arith}
+use Rattle.std.proofs.Common.{◌≡◌, ◌≢◌, ℕ, ◌<◌, ◌≤◌, List, [], ◌∷◌, true, false, length, Option, Some, None, Result, Ok, Err, IsErr, IsErrAnd, refl, sym, ap, subst, ◌∙◌, arith}
 use Rattle.std.proofs.lemmas.Bool.Decides.{nat_tests}
+use Rattle.std.proofs.lemmas.List.{length-map}
 use Rattle.std.specs.List.{list_any}
-use Rattle.std.specs.Prelude.{is_none, length, nat_eq, nat_lt, unwrap_or}
+use Rattle.std.specs.Prelude.{is_none, nat_eq, nat_lt, unwrap_or}
 use Rattle.ic_laws.specs.CoreBook.{CoreBook, fresh_id, has_sheet, ids_of}
 use Rattle.ic_laws.specs.Name.{is_sheet_name}
 use Rattle.ic_machine.proofs.InsertedStays.{fresh_fits, none_holds}
@@ -10,14 +11,14 @@ use Rattle.ic_machine.specs.Book as machine
 use Rattle.ic_machine.specs.Book.{Stepped, unless}
 use Rattle.ic_machine.specs.Changed.{changed_by}
 use Rattle.ic_machine.specs.Kept.{is_given_id}
-use Rattle.ic_machine.specs.Refusal.{IdLive, IdsUsedUp, InvalidSheetName, OutOfRange, Refusal, SheetExists, first_refusal}
+use Rattle.ic_machine.specs.Refusal.{IdLive, IdsUsedUp, OutOfRange, Refusal, SheetExists, first_refusal}
 use Rattle.ic_machine.specs.subjects.Sheets as sheets
 use Rattle.ic_machine.specs.subjects.Sheets.{InsertSheet, chosen_id, insert_causes, insert_sheet_step, is_live, sheet_step}
-use Rattle.ic_book.specs.Book.{Book, IsValidBook, ModelState, core_of, whole_of}
+use Rattle.ic_book.specs.Book.{Book, IsValidBook, ModelState, core_of, whole_of, whole_sheet}
 use Rattle.ic_book.specs.Change.{book_changed_by, with_inserted_sheet}
 use Rattle.ic_book.specs.Does.{Does, IsDone, Refused, Wanted}
 use Rattle.ic_book.specs.Fields.{no_fields}
-use Rattle.ic_book.specs.Refused.{TellsOnly, refusal_of}
+use Rattle.ic_book.specs.Refused.{refusal_of}
 use Rattle.ic_book.specs.declared.error.BookError.{BookError}
 use Rattle.ic_book.specs.declared.error.BookError.TheVariants as errors
 use Rattle.ic_book.proofs.BookValid.{inserted_valid}
@@ -25,26 +26,36 @@ use Rattle.ic_book.proofs.WholeLemmas.{whole_changed, whole_core, whole_inserted
 
 -- What refuses it. ----
 
--- the causes, by what is seen of the book
-abbrev first_told : (good taken past live none : Bool) → Option Refusal
-first_told good taken past live none =
-    first_refusal ((not good, InvalidSheetName) ∷ (taken, SheetExists) ∷ (past, OutOfRange) ∷ (live, IdLive) ∷ (none, IdsUsedUp) ∷ [])
+is_past : (m k : ℕ) → m < k → nat_lt m k ≡ true
+is_past m k lt = grind (arith, nat_tests)
 
-pub told_name : (good taken past live none : Bool) → good ≡ false → first_told good taken past live none ≡ Some InvalidSheetName
-told_name good taken past live none e = rw e refl
+no_past : (m k : ℕ) → k ≤ m → nat_lt m k ≡ false
+no_past m k le = grind (arith, nat_tests)
 
-pub told_taken : (good taken past live none : Bool) → good ≡ true → taken ≡ true → first_told good taken past live none ≡ Some SheetExists
-told_taken good taken past live none e f = rw e (rw f refl)
+module _ (book : Book) (name : List ℕ) (index : ℕ) (given : Option ℕ) (good : is_sheet_name name ≡ true) where
+  -- the name agrees with that of a sheet
+  pub taken_told : has_sheet (core_of book) name ≡ true → first_refusal (insert_causes (whole_of book) name index given) ≡ Some SheetExists
+  taken_told taken = rw good (rw (ap (λ c. has_sheet c name) (whole_core book) ∙ taken) refl)
 
-pub told_past : (good taken past live none : Bool) → good ≡ true → taken ≡ false → past ≡ true → first_told good taken past live none ≡ Some OutOfRange
-told_past good taken past live none e f g = rw e (rw f (rw g refl))
+  module _ (new : has_sheet (core_of book) name ≡ false) (count : ℕ) (counted : count ≡ length book.sheets) where
+    free : has_sheet (machine.core_of (whole_of book)) name ≡ false
+    free = ap (λ c. has_sheet c name) (whole_core book) ∙ new
 
--- where the name and the place do, the id alone is left to tell
-pub told_id : (good taken past live none : Bool) → good ≡ true → taken ≡ false → past ≡ false → first_told good taken past live none ≡ first_refusal ((live, IdLive) ∷ (none, IdsUsedUp) ∷ [])
-told_id good taken past live none e f g = rw e (rw f (rw g refl))
+    same_count : count ≡ length (whole_of book).sheets
+    same_count = counted ∙ sym (length-map book.sheets (whole_sheet book.strings))
 
-above : (id : ℕ) → 0 < id → nat_eq id 0 ≡ false
-above id some = grind (arith, nat_tests)
+    -- the place is past the end
+    pub past_told : count < index → first_refusal (insert_causes (whole_of book) name index given) ≡ Some OutOfRange
+    past_told lt = rw good (rw free (rw (is_past (length (whole_of book).sheets) index (subst (λ k. k < index) same_count lt)) refl))
+
+    -- it isn't, so the id alone is left to tell
+    pub id_told : index ≤ count → first_refusal (insert_causes (whole_of book) name index given)
+        ≡ first_refusal ((is_live (core_of book) given, IdLive) ∷ (is_none (chosen_id (core_of book) given), IdsUsedUp) ∷ [])
+    id_told le =
+        rw good (rw free (rw (no_past (length (whole_of book).sheets) index (subst (λ k. index ≤ k) same_count le)) (ap (λ c. first_refusal ((is_live c given, IdLive) ∷ (is_none (chosen_id c given), IdsUsedUp) ∷ [])) (whole_core book))))
+
+pub not_zero : (id : ℕ) → id ≢ 0 → nat_eq id 0 ≡ false
+not_zero id some = grind (arith, nat_tests)
 
 -- where nothing refuses it, nothing does with the id that it gets
 module _ (book : Book) (valid : IsValidBook book) (name : List ℕ) (index : ℕ) where
@@ -65,19 +76,20 @@ module _ (book : Book) (valid : IsValidBook book) (name : List ℕ) (index : ℕ
       let clear = none_holds (insert_causes whole name index None) none in
       let fresh : fresh_id core ≡ Some id = ap fresh_id (whole_core book) ∙ chosen in
       let fits = fresh_fits whole valid.whole (Some id) (sym fresh) refl in
-      with_id None id none (above id fits.0.0) fits.1
+      with_id None id none (not_zero id (let some = fits.0.0 in omega (arith, some))) fits.1
   accepts_chosen (Some other) id chosen none = subst (λ o. first_refusal (insert_causes whole name index o) ≡ None) chosen none
 
 -- What it does. ----
 
 module _ (name : List ℕ) (index : ℕ) (given : Option ℕ) where
   -- a refusal
-  pub insert_refused : (now : ModelState) (e : BookError) → IsValidBook now.book → (told : Refusal) × (refusal_of e ≡ Some told) × (first_refusal (insert_causes (whole_of now.book) name index given) ≡ Some told)
-      → Does sheet_step (InsertSheet name index given) no_fields (Err e) now now
+  pub insert_refused : (now : ModelState) → IsValidBook now.book → (e : BookError) → (told : Refusal) × (refusal_of e ≡ Some told) × (first_refusal (insert_causes (whole_of now.book) name index given) ≡ Some told)
+      → (result : Result (Unit {0}) BookError) → IsErr result × IsErrAnd result (λ f. f ≡ e) → Does sheet_step (InsertSheet name index given) no_fields result now now
   unfolding insert_sheet_step
-  insert_refused now e valid told = record {
+  insert_refused now valid e told (Ok done) h = let no : false ≡ true = h.0 in cc
+  insert_refused now valid e told (Err f) h = record {
     done =
-        subst (Refused Wanted (insert_sheet_step name index given (whole_of now.book)) now now) (sym told.1)
+        subst (Refused Wanted (insert_sheet_step name index given (whole_of now.book)) now now) (sym (ap refusal_of h.1 ∙ told.1))
         (ap (λ o. unless o (changed_by (sheets.with_inserted_sheet index (unwrap_or (chosen_id (machine.core_of (whole_of now.book)) given) 0) name) (whole_of now.book)) []) told.2, refl);
     before = valid;
     after = valid;
@@ -94,9 +106,10 @@ module _ (name : List ℕ) (index : ℕ) (given : Option ℕ) where
         ∙ ap (λ o. let made : Stepped machine.Book = Ok (changed_by (sheets.with_inserted_sheet index (unwrap_or o 0) name) (whole_of old.book), []) in made) (ap (λ c. chosen_id c given) (whole_core old.book) ∙ chosen)
 
     -- memory ran out
-    pub insert_wanted : (new : ModelState) → new ≡ old → Does sheet_step (InsertSheet name index given) no_fields (Err errors.OutOfMemory) old new
-    insert_wanted new same = record {
-      done = (subst IsDone (sym accepted) tt, same);
+    pub insert_wanted : (new : ModelState) → new ≡ old → (result : Result (Unit {0}) BookError) → IsErr result × IsErrAnd result (λ f. f ≡ errors.OutOfMemory) → Does sheet_step (InsertSheet name index given) no_fields result old new
+    insert_wanted new same (Ok done) h = let no : false ≡ true = h.0 in cc
+    insert_wanted new same (Err f) h = record {
+      done = subst (Refused Wanted (insert_sheet_step name index given (whole_of old.book)) old new) (sym (ap refusal_of h.1)) (subst IsDone (sym accepted) tt, same);
       before = valid;
       after = subst (λ (m : ModelState). IsValidBook m.book) (sym same) valid;
     }

@@ -1,15 +1,14 @@
 -- What a model holds after a sheet was put in among the others.
-use Rattle.std.proofs.Common.{◌≡◌, ℕ, ◌≤◌, List, [], ◌∷◌, Bool, true, false, map, length, Option, Some, None, arith, refl, sym, ap, ap₂, subst, ◌∙◌}
+use Rattle.std.proofs.Common.{◌≡◌, ℕ, ◌<◌, ◌≤◌, ◌^◌, List, [], true, false, map, length, Some, None, arith, sym, ap, ap₂, subst, ◌∙◌}
 use Rattle.std.proofs.lemmas.Bool.{or_parts}
 use Rattle.std.proofs.lemmas.Bool.Decides.{nat_tests}
 use Rattle.std.proofs.lemmas.List.{length-map}
 use Rattle.std.specs.List.{insert, list_any}
 use Rattle.std.specs.Prelude.{nat_eq, nat_lt}
 use Rattle.ic_laws.proofs.keeping.Namings.{kept_naming}
-use Rattle.ic_laws.specs.BookTrees.{with_body_tree, with_trees}
+use Rattle.ic_laws.specs.BookTrees.{with_body_tree}
 use Rattle.ic_laws.specs.Changes.{changed_tree, sheet_named}
 use Rattle.ic_laws.specs.CoreBook.{CoreBook, Definition, has_sheet, ids_of, scene_of}
-use Rattle.ic_laws.specs.CoreStep.{changed_by}
 use Rattle.ic_laws.specs.Name.{agrees}
 use Rattle.ic_laws.specs.Notations.{Notations}
 use Rattle.ic_definitions.specs.Named.{definitions_scene}
@@ -24,7 +23,7 @@ use Rattle.ic_sheets.specs.Rewriting.{changed_pool, sheets_of}
 use Rattle.ic_sheets.specs.Sheet.{Sheet, empty_grid, plain_tab, sheet_of}
 use Rattle.ic_sheets.specs.declared.sheet.Sheet.{Sheet as HeldSheet}
 use Rattle.ic_book.specs.declared.model.Model.TheInside.{Inside}
-use Rattle.ic_book.specs.Book.{Book, core_of, notations_in, scene_in, whole_of, whole_sheet}
+use Rattle.ic_book.specs.Book.{Book, core_of, notations_in, whole_of, whole_sheet}
 use Rattle.ic_book.specs.Change.{book_changed_by, with_inserted_sheet}
 use Rattle.ic_book.specs.Inside.{IsHeld, held, with_contents}
 use Rattle.ic_book.specs.Mentioned.{BindsInserted}
@@ -36,6 +35,10 @@ use Rattle.ic_book.proofs.WholeLemmas.{whole_core}
 
 at_most : (m k : ℕ) → nat_lt m k ≡ false → k ≤ m
 at_most m k e = grind (arith, nat_tests)
+
+-- an id of 32 bits is one that a word can say
+pub says_id : (id : ℕ) → id < 2 ^ 32 → is_given_id (Some id) ≡ true
+says_id id lt = grind (arith, nat_tests)
 
 module _ (inside : Inside) (h : IsHeld inside) (index id : ℕ) (name : List ℕ) (none : first_refusal (insert_causes (whole_of (held inside)) name index (Some id)) ≡ None) where
   abbrev book : Book

@@ -51,12 +51,7 @@ impl<'a> Model<'a> {
     }
 
     /// The id that a sheet of this name gets which is put in at an index, or why none is.
-    fn id_to_insert(
-        &self,
-        name: &str,
-        index: usize,
-        given: Option<u32>,
-    ) -> Result<u32, BookError>
+    fn id_to_insert(&self, name: &str, index: usize, given: Option<u32>) -> Result<u32, BookError>
         ensures id { IfOk result (λ id. chosen_id (core_of self.now.book) given ≡ Some id) }
         ensures refused { TellsOnly result (first_refusal
             (insert_causes (whole_of self.now.book) (chars name.now) index given)) }
@@ -89,10 +84,17 @@ impl<'a> Model<'a> {
             };
             return Ok(fresh);
         };
-        if id == 0 || self.contents.sheets.has_id(id) {
+        if self.is_live(id) {
             return Err(BookError::IdLive);
         }
         Ok(id)
+    }
+
+    /// Whether an id is 0 or a sheet's.
+    fn is_live(&self, id: u32) -> bool
+        ensures { result ≡ is_live (core_of self.now.book) (Some id) }
+    {
+        id == 0 || self.contents.sheets.has_id(id)
     }
 
     /// Puts a sheet of this name and with this id in at an index, which nothing must refuse.
