@@ -22,6 +22,8 @@ pub mod HandedInLemmas
 pub mod HandedInValid
 pub mod HeldLemmas
 pub mod InForceLemmas
+pub mod InsertedDoes
+pub mod InsertedHeld
 pub mod LineLemmas
 pub mod LookUpLemmas
 pub mod MarkupLemmas

@@ -1,5 +1,5 @@
 -- Which look-ups of formulas are there after a change of the sheets or the definitions.
-use Rattle.std.specs.Prelude.{◌≡◌, ◌⊎◌, ◌+◌, ◌++◌, ◌&&◌, ℕ, Bool, true, List, [], ◌∷◌, IfSome, Option, Some, not, remove}
+use Rattle.std.specs.Prelude.{◌≡◌, ◌⊎◌, ◌+◌, ◌++◌, ◌&&◌, ℕ, Bool, true, List, [], ◌∷◌, IfSome, Option, Some, insert, not, remove}
 use Rattle.std.specs.List.{list_any, slice_get}
 use Rattle.ic_laws.specs.Changes.{Change, definition_added, definition_gone, sheet_gone, sheet_named}
 use Rattle.ic_laws.specs.CoreBook.{greatest_id, scene_of, spelling_of}
@@ -25,6 +25,10 @@ looks_up_in change m = looks_up_over change m.book.sheets m.has_all
 -- A sheet of this name came: its look-up has all, for it keeps no formulas; the others are there as before where they stay.
 abbrev pub LooksUpAdded : List ℕ → ModelState → ModelState → Type 0
 LooksUpAdded name old new = new.has_all ≡ looks_up_in (sheet_named (scene_of (core_of old.book)) (greatest_id (core_of old.book) + 1) name) old ++ true ∷ []
+
+-- One of this name was put in at an index, from 0, with this id.
+abbrev pub LooksUpInserted : ℕ → ℕ → List ℕ → ModelState → ModelState → Type 0
+LooksUpInserted index id name old new = new.has_all ≡ insert (looks_up_in (sheet_named (scene_of (core_of old.book)) id name) old) index true
 
 -- the sheet at an index got this name
 abbrev pub LooksUpNamed : ℕ → List ℕ → ModelState → ModelState → Type 0

@@ -21,6 +21,8 @@ pub enum BookError {
     /// The width or the height of an area is below 1; the area passes the edge of the sheet, which the values of a dynamic
     /// array may; the number of values isn't width times height; or a Cse array has another area.
     BadArea,
+    /// The place that a sheet is to be put in at is past the end: there are fewer sheets before it.
+    OutOfRange,
     /// No sheet stands at the index of the sheet that is to be moved or deleted.
     SheetIndexTooLarge,
     /// No sheet stands at the index that a sheet is to be moved to.
@@ -33,6 +35,8 @@ pub enum BookError {
     SheetNotFound,
     /// There is no other sheet.
     OnlySheet,
+    /// The id that a sheet is to get is 0, or that of a sheet.
+    IdLive,
     /// The greatest id in use is the last one, 4,294,967,295.
     IdsUsedUp,
     /// A definition can't have the name: it is no identifier.
@@ -91,12 +95,14 @@ impl BookError {
             BookError::InvalidRow => "Invalid row",
             BookError::InvalidColumn => "Invalid column",
             BookError::BadArea => "Invalid area",
+            BookError::OutOfRange => "Sheet index out of range",
             BookError::SheetIndexTooLarge => "Sheet index too large",
             BookError::TargetTooLarge => "Target sheet index too large",
             BookError::InvalidSheetName => "Invalid name for a sheet",
             BookError::SheetExists => "A worksheet already exists with that name",
             BookError::SheetNotFound => "Sheet not found",
             BookError::OnlySheet => "Cannot delete only sheet",
+            BookError::IdLive => "Sheet id is in use",
             BookError::IdsUsedUp => "No sheet id is left",
             BookError::InvalidName => "Name: Invalid defined name",
             BookError::InvalidScope => "Scope: Invalid sheet index",
@@ -143,12 +149,14 @@ impl BookError {
             BookError::InvalidRow => "InvalidRow",
             BookError::InvalidColumn => "InvalidColumn",
             BookError::BadArea => "BadArea",
+            BookError::OutOfRange => "OutOfRange",
             BookError::SheetIndexTooLarge => "SheetIndexTooLarge",
             BookError::TargetTooLarge => "TargetTooLarge",
             BookError::InvalidSheetName => "InvalidSheetName",
             BookError::SheetExists => "SheetExists",
             BookError::SheetNotFound => "SheetNotFound",
             BookError::OnlySheet => "OnlySheet",
+            BookError::IdLive => "IdLive",
             BookError::IdsUsedUp => "IdsUsedUp",
             BookError::InvalidName => "InvalidName",
             BookError::InvalidScope => "InvalidScope",

@@ -24,6 +24,7 @@ mod formulas;
 mod handed_in;
 mod in_force;
 mod input;
+mod inserted;
 mod law;
 mod layout;
 mod line_styles;
