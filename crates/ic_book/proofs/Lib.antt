@@ -55,6 +55,7 @@ pub mod TypedLemmas
 pub mod TypedSteps
 pub mod UnreadLemmas
 pub mod UpdatedChecks
+pub mod UpdatedRules
 pub mod ValueLemmas
 pub mod WholeLemmas
 pub mod WholeWritten
