@@ -230,7 +230,7 @@ fn push_body(
     ensures { OnOk result (sites.new.items ≡ sites.old.items ++ body_sites
         (changed_key change.now.old change.now.new) change.now.old definitions.now new.now) }
 {
-    let Some(definition) = definitions.get(new.at) else {
+    let Some(definition) = definition_at(definitions, new.at) else {
         return Ok(());
     };
     let key = definition.key();
@@ -238,4 +238,11 @@ fn push_body(
         sites.push(MentionSite::Definition(copy_key(alloc, key)?))?;
     }
     Ok(())
+}
+
+/// The definition at an index, from 0. None past the end.
+fn definition_at(definitions: &[Definition], index: usize) -> Option<&Definition>
+    ensures { option_map (λ d. d.now) result ≡ slice_get definitions.now index }
+{
+    definitions.get(index)
 }
