@@ -60,6 +60,7 @@ pub mod TypedLemmas
 pub mod TypedSteps
 pub mod UnreadLemmas
 pub mod UpdatedChecks
+pub mod UpdatedRules
 pub mod ValueLemmas
 pub mod WholeLemmas
 pub mod WholeWritten

@@ -69,7 +69,7 @@ module _ (book : Book) (u : Update) (index : ℕ) (found : updated_index (whole_
     abbrev pub rule : Remade
     rule = kept_where_touched (english_function (notations_in whole)) (scene_in whole) later (old_key whole u) (new_key whole u)
 
-    pools_kept : (ss : List Sheet) → map (with_kept_pool (notations_in whole) (scene_in whole) later (keys_of_update whole u)) (map (whole_sheet book.strings) ss) ≡ map (whole_sheet book.strings) (map (remade_pool rule) ss)
+    pub pools_kept : (ss : List Sheet) → map (with_kept_pool (notations_in whole) (scene_in whole) later (keys_of_update whole u)) (map (whole_sheet book.strings) ss) ≡ map (whole_sheet book.strings) (map (remade_pool rule) ss)
     pools_kept [] = refl
     pools_kept (s ∷ ss) = ap (λ rest. whole_sheet book.strings (remade_pool rule s) ∷ rest) (pools_kept ss)
 

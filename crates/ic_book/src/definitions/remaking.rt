@@ -11,8 +11,8 @@ ghost use Rattle.ic_definitions.specs.Bodies.{FitsBodies, with_bodies};
 ghost use Rattle.ic_definitions.specs.Named.{key_in};
 ghost use Rattle.ic_sheets.specs.Rewriting.{FitSheets, with_all_rewrites};
 ghost use Rattle.ic_machine.specs.Capture.{has_sites};
-ghost use Rattle.ic_book.specs.Scene.{scene_renamed};
-ghost use Rattle.ic_book.specs.Sites.{site_of};
+ghost use Rattle.ic_book.specs.Scene.{scene_of_parts, scene_renamed};
+ghost use Rattle.ic_book.specs.Sites.{kept_where_touched, site_of};
 ghost use Rattle.ic_book.specs.Updated.{IsPrepared, LeavesAll, keys_named, rule_of_update};
 
 use super::update::CheckedUpdate;
@@ -39,6 +39,34 @@ pub struct Updating<'u> {
     new_name: &'u str,
     english: &'u Language,
     ghost own: { change.now.new.name ≡ fold (chars new_name.now) },
+}
+
+impl<'u> Updating<'u> {
+    /// The update that gives a definition of a book this other name and these keys, where `definitions` are those that are
+    /// found then.
+    fn new(
+        contents: &'u Contents,
+        definitions: &'u UpdatedDefinitions<'u>,
+        new_name: &'u str,
+        change: &'u KeyChange,
+        english: &'u Language,
+    ) -> Updating<'u>
+        requires { change.now.new.name ≡ fold (chars new_name.now) }
+        ensures { ⟦<Updating<'u> as Remaking>⟧.made result ≡ kept_where_touched
+            (function_of english.now)
+            (scene_of_parts contents.now.sheets contents.now.definitions)
+            (scene_renamed contents.now.sheets definitions.now.definitions.now
+            definitions.now.index (chars definitions.now.name.now) definitions.now.key.now.scope)
+            change.now.old change.now.new }
+    {
+        Updating {
+            before: BookScene::new(&contents.sheets, &contents.definitions),
+            after: SceneOver::new(&contents.sheets, definitions),
+            change,
+            new_name,
+            english,
+        }
+    }
 }
 
 impl<'u> Remaking for Updating<'u> {
@@ -162,13 +190,7 @@ pub fn prepare_update(
         (chars new_name.now) change.now) change.now contents.now) }
 {
     let definitions = UpdatedDefinitions::new(&contents.definitions, index, new_name, &change.new);
-    let updating = Updating {
-        before: BookScene::new(&contents.sheets, &contents.definitions),
-        after: SceneOver::new(&contents.sheets, &definitions),
-        change,
-        new_name,
-        english,
-    };
+    let updating = Updating::new(contents, &definitions, new_name, change, english);
     let formulas = contents.sheets.prepare_remade(&updating)?;
     let bodies = contents.definitions.prepare_remade(&updating)?;
     let sites = sites_of_update(alloc, contents, change, &formulas, &bodies)?;
