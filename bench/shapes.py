@@ -161,6 +161,30 @@ def deleted_definitions(count):
         yield f"delete_defined_name\tname_{i}\t-"
 
 
+def mentioning(count, many=100):
+    """A book of so many formulas, and of many more that mention one definition."""
+    yield from found(count)
+    yield "new_defined_name\ttax_0\t-\tData!$A$1"
+    for i in range(1, many + 1):
+        yield f"update_cell_with_formula\t1\t{i}\t1\t=tax_0*{i}"
+
+
+def updates(count):
+    """The definition gets another name, each time a new one."""
+    for i in range(count):
+        yield f"update_defined_name\ttax_{i}\t-\ttax_{i + 1}\t-\tData!$A$1"
+
+
+def questions(count):
+    for _ in range(count):
+        yield "would_capture\ttax_0\t-\tlevy\t-\tData!$A$1"
+
+
+def copies(count):
+    for _ in range(count):
+        yield "duplicate_sheet\t0"
+
+
 def mentioned_first(count):
     """A sheet is mentioned, then added, and then another formula is written."""
     for i in range(1, count + 1):

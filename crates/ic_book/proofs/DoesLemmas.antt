@@ -74,6 +74,7 @@ told_whole errors.TooManyColumns refusal h = absurd h
 told_whole errors.NoFormulaCell refusal h = absurd h
 told_whole (errors.SpillBlocked row column) refusal h = absurd h
 told_whole (errors.BadWorkbook condition) refusal h = absurd h
+told_whole (errors.WouldCapture sites) refusal h = absurd h
 told_whole errors.OutOfMemory refusal h = ap (option_map OfCore) h
 
 -- A step of the core machine, seen as one of the whole, where nothing but this refuses it. ----

@@ -15,6 +15,7 @@ pub mod ExtendLemmas
 pub mod FilledLemmas
 pub mod FirstLemmas
 pub mod FormatLemmas
+pub mod FreeNames
 pub mod GridLemmas
 pub mod GridPartLemmas
 pub mod HandedInLemmas
@@ -31,8 +32,10 @@ pub mod MentionPairs
 pub mod ModelLemmas
 pub mod NameHeld
 pub mod NameLemmas
+pub mod NewSheetLemmas
 pub mod NothingLemmas
 pub mod NumberedLemmas
+pub mod NumberedTexts
 pub mod PartLemmas
 pub mod PartUses
 pub mod ReadLemmas
@@ -44,6 +47,10 @@ pub mod SeenGrids
 pub mod SettingLemmas
 pub mod SharedLemmas
 pub mod ShownLemmas
+pub mod SiteLemmas
+pub mod SiteTouched
+pub mod SitesUpdate
+pub mod SitesWhole
 pub mod SparedBodies
 pub mod StartLemmas
 pub mod StyleLemmas
@@ -52,6 +59,7 @@ pub mod TakenAgain
 pub mod TypedLemmas
 pub mod TypedSteps
 pub mod UnreadLemmas
+pub mod UpdatedChecks
 pub mod ValueLemmas
 pub mod WholeLemmas
 pub mod WholeWritten

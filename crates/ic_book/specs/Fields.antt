@@ -4,7 +4,7 @@ use Rattle.std.specs.Prelude.{String, ℕ, List, [], ◌∷◌, Option, Some, fl
 use Rattle.std.specs.declared.alloc.Global.{Global}
 use Rattle.std.specs.Global.{Vec}
 use Rattle.ic_cells.specs.Sheet.{state_word}
-pub use Rattle.ic_machine.specs.Fields.{fields_of_sheet, no_fields, scope_field, sheets_fields, string_field, string_only, theme_field}
+pub use Rattle.ic_machine.specs.Fields.{fields_of_sheet, named_sheet_fields, no_fields, scope_field, sheets_fields, string_field, string_only, theme_field}
 use Rattle.ic_machine.specs.Reply.{Field, NumberField, TextField}
 use Rattle.ic_machine.specs.Styling.{color_text}
 use Rattle.ic_sheets.specs.declared.sheet.Sheet.{Sheet as HeldSheet}

@@ -4,9 +4,12 @@ use Rattle.std.specs.List.{list_any, slice_get}
 use Rattle.ic_laws.specs.Changes.{Change, definition_added, definition_gone, sheet_gone, sheet_named}
 use Rattle.ic_laws.specs.CoreBook.{greatest_id, scene_of, spelling_of}
 use Rattle.ic_laws.specs.CoreStep.{index_of_definition, scope_or_none, updated_at, without_definition}
+use Rattle.ic_laws.specs.declared.tree.NameKey.{NameKey}
+use Rattle.ic_keep.specs.Touched.{is_touched}
+use Rattle.ic_machine.specs.subjects.Definitions.{Update, new_key, old_key}
 use Rattle.ic_pool.specs.Mentions.{is_changed_by}
 use Rattle.ic_sheets.specs.Sheet.{Sheet}
-use Rattle.ic_book.specs.Book.{ModelState, core_of}
+use Rattle.ic_book.specs.Book.{ModelState, core_of, whole_of}
 
 -- The look-up of each sheet has all of its formulas after a change where it had all before, and no mention of them changes.
 abbrev pub looks_up_over : Change → List Sheet → List Bool → List Bool
@@ -44,6 +47,18 @@ abbrev pub LooksUpUndefined : List ℕ → Option ℕ → ModelState → ModelSt
 LooksUpUndefined name scope old new =
     IfSome (index_of_definition (core_of old.book) name (scope_or_none (core_of old.book) scope)) (λ index. IfSome (slice_get old.book.definitions index)
     (λ d. new.has_all ≡ looks_up_in (definition_gone (scene_of (without_definition (Some index) (core_of old.book))) (spelling_of d)) old))
+
+-- The look-up of each sheet has all of its formulas after an update where it had all before, and the update touches none.
+abbrev pub looks_up_untouched : NameKey → NameKey → List Sheet → List Bool → List Bool
+looks_up_untouched old_key new_key [] had = []
+looks_up_untouched old_key new_key (sheet ∷ sheets) [] = []
+looks_up_untouched old_key new_key (sheet ∷ sheets) (had ∷ more) =
+    (had && not (list_any (is_touched old_key new_key) sheet.pool)) ∷ looks_up_untouched old_key new_key sheets more
+
+-- a definition was updated: those of sheets whose formulas have no word that means it, or has its new name, are there as
+-- before
+abbrev pub LooksUpUpdated : Update → ModelState → ModelState → Type 0
+LooksUpUpdated update old new = new.has_all ≡ looks_up_untouched (old_key (whole_of old.book) update) (new_key (whole_of old.book) update) old.book.sheets old.has_all
 
 -- The look-ups are there as before, but that of the sheet at an index, from 0, may be there now.
 abbrev pub LooksUpAsBefore : ℕ → ModelState → ModelState → Type 0

@@ -1,7 +1,8 @@
 ghost use Rattle.std.specs.Prelude.{◌≡◌};
 
+use crate::MentionSite;
 use ic_grid::GridError;
-use ic_laws::OutOfMemory;
+use ic_laws::{Items, OutOfMemory};
 use std::alloc::AllocFailed;
 use std::fmt;
 use thiserror::Error;
@@ -78,6 +79,9 @@ pub enum BookError {
     SpillBlocked { row: i32, column: i32 },
     /// A workbook that was handed in fails the condition of this number, from 1 to 12, and none before. No reply tells it.
     BadWorkbook(u8),
+    /// Words that mean a definition wouldn't mean the same one after the update: where they stand, cells by the order of
+    /// sheets, rows and columns, then definitions in the order of the book, each once.
+    WouldCapture(Items<MentionSite>),
     /// Memory ran out.
     OutOfMemory,
 }
@@ -120,6 +124,7 @@ impl BookError {
             BookError::NoFormulaCell => "No formula cell",
             BookError::SpillBlocked { .. } => "Cannot spill array result",
             BookError::BadWorkbook(_) => "Invalid workbook",
+            BookError::WouldCapture(_) => "Name: update would capture",
             BookError::OutOfMemory => "Out of memory",
         }
     }
@@ -173,6 +178,7 @@ impl BookError {
             BookError::NoFormulaCell => "NoFormulaCell",
             BookError::SpillBlocked { .. } => "SpillBlocked",
             BookError::BadWorkbook(_) => "BadWorkbook",
+            BookError::WouldCapture(_) => "WouldCapture",
             BookError::OutOfMemory => "OutOfMemory",
         }
     }
