@@ -1,9 +1,9 @@
 -- A call that puts a sheet in among the others does its step.
-use Rattle.std.proofs.Common.{◌≡◌, ◌≢◌, ℕ, ◌<◌, ◌≤◌, List, [], ◌∷◌, true, false, length, Option, Some, None, Result, Ok, Err, IsErr, IsErrAnd, refl, sym, ap, subst, ◌∙◌, arith}
-use Rattle.std.proofs.lemmas.Bool.Decides.{nat_tests}
+use Rattle.std.proofs.Common.{◌≡◌, ℕ, ◌<◌, ◌≤◌, List, [], ◌∷◌, true, false, length, Option, Some, None, Result, Ok, Err, IsErr, IsErrAnd, refl, sym, ap, subst, ◌∙◌, arith}
+use Rattle.std.proofs.lemmas.Bool.{le-ltb, lt-ltb, ne_eqb}
 use Rattle.std.proofs.lemmas.List.{length-map}
 use Rattle.std.specs.List.{list_any}
-use Rattle.std.specs.Prelude.{is_none, nat_eq, nat_lt, unwrap_or}
+use Rattle.std.specs.Prelude.{is_none, nat_eq, unwrap_or}
 use Rattle.ic_laws.specs.CoreBook.{CoreBook, fresh_id, has_sheet, ids_of}
 use Rattle.ic_laws.specs.Name.{is_sheet_name}
 use Rattle.ic_machine.proofs.InsertedStays.{fresh_fits, none_holds}
@@ -26,12 +26,6 @@ use Rattle.ic_book.proofs.WholeLemmas.{whole_changed, whole_core, whole_inserted
 
 -- What refuses it. ----
 
-is_past : (m k : ℕ) → m < k → nat_lt m k ≡ true
-is_past m k lt = grind (arith, nat_tests)
-
-no_past : (m k : ℕ) → k ≤ m → nat_lt m k ≡ false
-no_past m k le = grind (arith, nat_tests)
-
 module _ (book : Book) (name : List ℕ) (index : ℕ) (given : Option ℕ) (good : is_sheet_name name ≡ true) where
   -- the name agrees with that of a sheet
   pub taken_told : has_sheet (core_of book) name ≡ true → first_refusal (insert_causes (whole_of book) name index given) ≡ Some SheetExists
@@ -46,16 +40,13 @@ module _ (book : Book) (name : List ℕ) (index : ℕ) (given : Option ℕ) (goo
 
     -- the place is past the end
     pub past_told : count < index → first_refusal (insert_causes (whole_of book) name index given) ≡ Some OutOfRange
-    past_told lt = rw good (rw free (rw (is_past (length (whole_of book).sheets) index (subst (λ k. k < index) same_count lt)) refl))
+    past_told lt = rw good (rw free (rw (lt-ltb (length (whole_of book).sheets) index (subst (λ k. k < index) same_count lt)) refl))
 
     -- it isn't, so the id alone is left to tell
     pub id_told : index ≤ count → first_refusal (insert_causes (whole_of book) name index given)
         ≡ first_refusal ((is_live (core_of book) given, IdLive) ∷ (is_none (chosen_id (core_of book) given), IdsUsedUp) ∷ [])
     id_told le =
-        rw good (rw free (rw (no_past (length (whole_of book).sheets) index (subst (λ k. index ≤ k) same_count le)) (ap (λ c. first_refusal ((is_live c given, IdLive) ∷ (is_none (chosen_id c given), IdsUsedUp) ∷ [])) (whole_core book))))
-
-pub not_zero : (id : ℕ) → id ≢ 0 → nat_eq id 0 ≡ false
-not_zero id some = grind (arith, nat_tests)
+        rw good (rw free (rw (le-ltb (length (whole_of book).sheets) index (subst (λ k. index ≤ k) same_count le)) (ap (λ c. first_refusal ((is_live c given, IdLive) ∷ (is_none (chosen_id c given), IdsUsedUp) ∷ [])) (whole_core book))))
 
 -- where nothing refuses it, nothing does with the id that it gets
 module _ (book : Book) (valid : IsValidBook book) (name : List ℕ) (index : ℕ) where
@@ -76,7 +67,7 @@ module _ (book : Book) (valid : IsValidBook book) (name : List ℕ) (index : ℕ
       let clear = none_holds (insert_causes whole name index None) none in
       let fresh : fresh_id core ≡ Some id = ap fresh_id (whole_core book) ∙ chosen in
       let fits = fresh_fits whole valid.whole (Some id) (sym fresh) refl in
-      with_id None id none (not_zero id (let some = fits.0.0 in omega (arith, some))) fits.1
+      with_id None id none (ne_eqb id 0 (let some = fits.0.0 in omega (arith, some))) fits.1
   accepts_chosen (Some other) id chosen none = subst (λ o. first_refusal (insert_causes whole name index o) ≡ None) chosen none
 
 -- What it does. ----

@@ -1,10 +1,10 @@
 -- What a model holds after a sheet was put in among the others.
 use Rattle.std.proofs.Common.{◌≡◌, ℕ, ◌<◌, ◌≤◌, ◌^◌, List, [], true, false, map, length, Some, None, arith, sym, ap, ap₂, subst, ◌∙◌}
-use Rattle.std.proofs.lemmas.Bool.{or_parts}
+use Rattle.std.proofs.lemmas.Bool.{ltb-false, or_parts}
 use Rattle.std.proofs.lemmas.Bool.Decides.{nat_tests}
 use Rattle.std.proofs.lemmas.List.{length-map}
 use Rattle.std.specs.List.{insert, list_any}
-use Rattle.std.specs.Prelude.{nat_eq, nat_lt}
+use Rattle.std.specs.Prelude.{nat_eq}
 use Rattle.ic_laws.proofs.keeping.Namings.{kept_naming}
 use Rattle.ic_laws.specs.BookTrees.{with_body_tree}
 use Rattle.ic_laws.specs.Changes.{changed_tree, sheet_named}
@@ -33,9 +33,6 @@ use Rattle.ic_book.proofs.ChangeLemmas.{inserted_is}
 use Rattle.ic_book.proofs.HeldLemmas.{after, held_after, seen_ids, seen_names}
 use Rattle.ic_book.proofs.WholeLemmas.{whole_core}
 
-at_most : (m k : ℕ) → nat_lt m k ≡ false → k ≤ m
-at_most m k e = grind (arith, nat_tests)
-
 -- an id of 32 bits is one that a word can say
 pub says_id : (id : ℕ) → id < 2 ^ 32 → is_given_id (Some id) ≡ true
 says_id id lt = grind (arith, nat_tests)
@@ -57,7 +54,7 @@ module _ (inside : Inside) (h : IsHeld inside) (index id : ℕ) (name : List ℕ
   pub put_within : index ≤ length ws
   put_within =
       let clear = none_holds (insert_causes (whole_of book) name index (Some id)) none in
-      subst (λ k. index ≤ k) (length-map (map sheet_of ws) (whole_sheet book.strings) ∙ length-map ws sheet_of) (at_most (length (whole_of book).sheets) index clear.1.1.0)
+      subst (λ k. index ≤ k) (length-map (map sheet_of ws) (whole_sheet book.strings) ∙ length-map ws sheet_of) (ltb-false (length (whole_of book).sheets) index clear.1.1.0)
 
   free_name : has_sheet (core_of book) name ≡ false
   free_name = subst (λ c. has_sheet c name ≡ false) (whole_core book) (none_holds (insert_causes (whole_of book) name index (Some id)) none).1.0

@@ -25,9 +25,12 @@ returns-then-index-len-clause-refused c =
     let name = chars c.args.name.now in
     let ws = c.self.inside.contents.sheets in
     let good = sym c.is_valid_sheet_name.ensures ∙ c.if-not-is_valid_sheet_name.false in
-    let new = ap (list_any (agrees name)) (sym (seen_names ws)) ∙ sym c.is_taken.ensures ∙ c.if-is_taken.false in
-    (OutOfRange, refl, subst (λ (m : ModelState). first_refusal (insert_causes (whole_of m.book) name c.args.index c.args.given) ≡ Some OutOfRange) c.self.view_is
-    (past_told (held c.self.inside) name c.args.index c.args.given good new c.len.result (c.len.ensures ∙ sym (length-map ws sheet_of)) c.if-index-len.true))
+    let new = ap (list_any (agrees name)) (sym (seen_names ws)) ∙ sym c.is_taken.ensures ∙ c.if-is_taken.false in (
+      OutOfRange,
+      refl,
+      subst (λ (m : ModelState). first_refusal (insert_causes (whole_of m.book) name c.args.index c.args.given) ≡ Some OutOfRange) c.self.view_is
+          (past_told (held c.self.inside) name c.args.index c.args.given good new c.len.result (c.len.ensures ∙ sym (length-map ws sheet_of)) c.if-index-len.true),
+    )
 
 pub returns-clause-refused : goal.returns-clause-refused
 returns-clause-refused c =
