@@ -1,15 +1,18 @@
 -- What a search by a key finds among definitions.
-use Rattle.std.proofs.Common.{◌≡◌, ℕ, suc, ◌+◌, List, [], ◌∷◌, Bool, true, false, cond, Option, Some, None, option_map, is_some, refl, sym, ap, ap₂, ◌∙◌, arith}
-use Rattle.std.specs.Prelude.{find, position, slice_get}
+use Rattle.std.proofs.Common.{◌≡◌, ℕ, suc, ◌+◌, List, [], ◌∷◌, ◌++◌, map, Bool, true, false, cond, ◌&&◌, Option, Some, None, option_map, is_some, refl, sym, ap, ap₂, ◌∙◌, arith}
+use Rattle.std.specs.Prelude.{bytes_eq, find, position, slice_get}
 use Rattle.std.specs.List.{position_from}
 use Rattle.std.specs.Option.{option_and_then, option_or}
 use Rattle.std.proofs.lemmas.Iterator.Adapters.{position_from-zero}
+use Rattle.std.proofs.lemmas.List.{map-append}
+use Rattle.std.proofs.lemmas.List.Folds.{find-append}
 use Rattle.ic_laws.proofs.keeping.NameChanges.{key_at, same_key_from}
 use Rattle.ic_laws.specs.CoreBook.{Definition, spelling_of}
 use Rattle.ic_laws.specs.CoreStep.{is_named}
 use Rattle.ic_laws.specs.Name.{fold}
-use Rattle.ic_laws.specs.Scene.{definition_at, found_name, key_of, name_of_key, same_key}
+use Rattle.ic_laws.specs.Scene.{definition_at, found_name, key_of, name_of_key, same_key, same_scope}
 use Rattle.ic_laws.specs.declared.scene.DefinitionSpelling.{DefinitionSpelling}
+use Rattle.ic_laws.specs.declared.scene.Scene.{Scene}
 use Rattle.ic_laws.specs.declared.tree.NameKey.{NameKey}
 use Rattle.ic_definitions.specs.Named.{definitions_scene, index_with_key, key_in}
 
@@ -51,9 +54,6 @@ first_there key (d ∷ ds) = step (has_key key d) (index_with_key key ds) (first
     step false None e = e
     step false (Some n) e = e
 
-pub first_at : (ds : List Definition) (key : NameKey) (name : List ℕ) (place : Option ℕ) → name ≡ key.name → place ≡ index_with_key (key_at name key.scope) ds → option_and_then (slice_get ds) place ≡ find (has_key key) ds
-first_at ds key name place same looked_up = ap (option_and_then (slice_get ds)) (looked_up ∙ ap (λ n. index_with_key (key_at n key.scope) ds) same) ∙ first_there key ds
-
 -- its name is that of the key
 pub name_of_first : (key : NameKey) (ds : List Definition) → option_map (λ d. d.name) (find (has_key key) ds) ≡ name_of_key (definitions_scene ds) key
 name_of_first key [] = refl
@@ -89,12 +89,22 @@ pub key_lacking : (ds : List Definition) (name folded : List ℕ) (scope : Optio
 key_lacking ds name folded scope place same looked_up f =
     sym (its_key ds name folded scope (key_at folded scope) place same refl looked_up ∙ ap (λ b. cond b (Some (key_at folded scope)) None) f)
 
--- the local one, or else the one that is local to none
-either_first : (local global : Option DefinitionSpelling) → option_map key_of (option_or local global) ≡ option_or (option_map key_of local) (option_map key_of global)
-either_first None global = refl
-either_first (Some d) global = refl
+-- what is seen of the one that comes first
+either_seen : {X : Type 0} (g : DefinitionSpelling → X) (a b : Option DefinitionSpelling) → option_map g (option_or a b) ≡ option_or (option_map g a) (option_map g b)
+either_seen g None b = refl
+either_seen g (Some d) b = refl
 
-pub found_either : (ds : List Definition) (scope : Option ℕ) (word : List ℕ) (local global : Option NameKey)
-    → local ≡ option_map key_of (definition_at (definitions_scene ds) (fold word) scope) → global ≡ option_map key_of (definition_at (definitions_scene ds) (fold word) None) → option_or local global ≡ found_name (definitions_scene ds) scope word
-found_either ds scope word local global e f =
-    ap₂ option_or e f ∙ sym (either_first (definition_at (definitions_scene ds) (fold word) scope) (definition_at (definitions_scene ds) (fold word) None))
+-- the local one, or else the one that is local to none
+pub found_either : (scene : Scene) (scope : Option ℕ) (word : List ℕ) (local global : Option NameKey)
+    → local ≡ option_map key_of (definition_at scene (fold word) scope) → global ≡ option_map key_of (definition_at scene (fold word) None) → option_or local global ≡ found_name scene scope word
+found_either scene scope word local global e f =
+    ap₂ option_or e f ∙ sym (either_seen key_of (definition_at scene (fold word) scope) (definition_at scene (fold word) None))
+
+-- among those of two lists, the one of the first list, or else the one of the second
+pub found_joined : {X : Type 0} (g : DefinitionSpelling → X) (xs ys : List Definition) (folded : List ℕ) (scope : Option ℕ) (first : Option X) → first ≡ option_map g (definition_at (definitions_scene xs) folded scope)
+    → option_or first (option_map g (definition_at (definitions_scene ys) folded scope)) ≡ option_map g (definition_at (definitions_scene (xs ++ ys)) folded scope)
+found_joined g xs ys folded scope first e =
+    let passes : DefinitionSpelling → Bool = λ d. bytes_eq (fold d.name) folded && same_scope d.scope scope in
+    ap (λ o. option_or o (option_map g (definition_at (definitions_scene ys) folded scope))) e
+    ∙ sym (either_seen g (definition_at (definitions_scene xs) folded scope) (definition_at (definitions_scene ys) folded scope))
+    ∙ ap (option_map g) (sym (ap (find passes) (map-append spelling_of xs ys) ∙ find-append passes (map spelling_of xs) (map spelling_of ys)))

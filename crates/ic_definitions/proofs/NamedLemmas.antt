@@ -42,7 +42,7 @@ named_empty indexes ds empty none =
 -- ---- keys
 
 -- what is found and the scopes go by the keys alone
-same_place : (xs ys : List Definition) → keys xs ≡ keys ys → (key : NameKey) → index_with_key key xs ≡ index_with_key key ys
+pub same_place : (xs ys : List Definition) → keys xs ≡ keys ys → (key : NameKey) → index_with_key key xs ≡ index_with_key key ys
 same_place [] [] e key = refl
 same_place [] (y ∷ ys) e key = cc
 same_place (x ∷ xs) [] e key = cc
@@ -71,12 +71,15 @@ named_same indexes last may may_now ds list named same clean = record {
 
 -- ---- the look-up
 
+-- what it has at these bytes after a change at bytes
+pub written : (before after : Places) (bytes : List ℕ) (place : Option ℕ) → Updates (slice_cmp nat_cmp) before after bytes place → (q : List ℕ) → get (slice_cmp nat_cmp) after q ≡ cond (bytes_eq bytes q) place (get (slice_cmp nat_cmp) before q)
+written before after bytes place u q = u.0 q ∙ ap (λ b. cond b place (get (slice_cmp nat_cmp) before q)) (is_eq-slice_cmp bytes q)
+
 -- what it has at a key after a change at a key
 updated : (before after : Places) (bytes : List ℕ) (key : NameKey) (place : Option ℕ) → Updates (slice_cmp nat_cmp) before after bytes place → bytes ≡ name_code key
     → (q : NameKey) → get (slice_cmp nat_cmp) after (name_code q) ≡ cond (same_key key q) place (get (slice_cmp nat_cmp) before (name_code q))
 updated before after bytes key place u same q =
-    u.0 (name_code q)
-    ∙ ap (λ b. cond b place (get (slice_cmp nat_cmp) before (name_code q))) (is_eq-slice_cmp bytes (name_code q) ∙ ap (λ x. bytes_eq x (name_code q)) same ∙ same_name_code key q)
+    written before after bytes place u (name_code q) ∙ ap (λ b. cond b place (get (slice_cmp nat_cmp) before (name_code q))) (ap (λ x. bytes_eq x (name_code q)) same ∙ same_name_code key q)
 
 -- ---- a definition comes
 
@@ -155,11 +158,11 @@ lowered_later index (Some n) = ap (λ k. Some k) (less index n)
     less index n = grind arith
 
 -- a key that others have apart from it
-no_place : (key : NameKey) (ds : List Definition) → AllByRecursion (λ k. same_key key k ≡ false) (keys ds) → index_with_key key ds ≡ None
+pub no_place : (key : NameKey) (ds : List Definition) → AllByRecursion (λ k. same_key key k ≡ false) (keys ds) → index_with_key key ds ≡ None
 no_place key [] h = refl
 no_place key (d ∷ ds) h = ap₂ (λ b place. cond b (Some 0) (option_map suc place)) (same_key_equiv.symm (key_in d) key ∙ h.0) (no_place key ds h.1)
 
-one_of : (P : NameKey → Type 0) (ds : List Definition) (index : ℕ) (d : Definition) → index < length ds → d ≡ get_or ds index d → AllByRecursion P (keys ds) → P (key_in d)
+pub one_of : (P : NameKey → Type 0) (ds : List Definition) (index : ℕ) (d : Definition) → index < length ds → d ≡ get_or ds index d → AllByRecursion P (keys ds) → P (key_in d)
 one_of P [] index d lt read h = absurd (omega arith)
 one_of P (x ∷ ds) zero d lt read h = subst (λ y. P (key_in y)) (sym read) h.0
 one_of P (x ∷ ds) (suc index) d lt read h = one_of P ds index d (omega arith) read h.1

@@ -1,10 +1,11 @@
 -- What finds the definitions of a book, and when it is true of them.
-use Rattle.std.specs.Prelude.{◌≡◌, ℕ, suc, ◌-◌, nat_lt, List, [], ◌∷◌, map, flat_map, Bool, false, Option, Some, None, option_map, option_to_list, if◌then◌else◌}
+use Rattle.std.specs.Prelude.{◌≡◌, ℕ, suc, ◌-◌, nat_eq, nat_lt, List, [], ◌∷◌, map, flat_map, Bool, false, Option, Some, None, option_map, option_to_list, if◌then◌else◌}
 use Rattle.std.specs.BTreeMap.{BTreeMap, get}
 use Rattle.std.specs.Cmp.Lexicographic.{slice_cmp}
 use Rattle.std.specs.List.{AllByRecursion, IsDistinct}
 use Rattle.std.specs.Ordering.{nat_cmp}
 use Rattle.ic_laws.specs.CoreBook.{Definition, spelling_of}
+use Rattle.ic_laws.specs.CoreStep.{updated_at}
 use Rattle.ic_laws.specs.Greatest.{greatest}
 use Rattle.ic_laws.specs.Scene.{key_of, same_key}
 use Rattle.ic_laws.specs.declared.scene.Scene.{Scene}
@@ -20,10 +21,24 @@ key_in definition = key_of (spelling_of definition)
 abbrev pub definitions_scene : List Definition → Scene
 definitions_scene definitions = record { sheets = []; names = map spelling_of definitions }
 
+-- and where the one at an index has another name and another scope
+abbrev pub renamed_scene : ℕ → List ℕ → Option ℕ → List Definition → Scene
+renamed_scene index name scope definitions = record { sheets = []; names = updated_at (λ m. record { name = name; scope = scope }) index (map spelling_of definitions) }
+
 -- the index of the first definition with this key
 abbrev pub index_with_key : NameKey → List Definition → Option ℕ
 index_with_key key [] = None
 index_with_key key (d ∷ ds) = if same_key (key_in d) key then Some 0 else option_map suc (index_with_key key ds)
+
+-- there is a place, and it stands before this index
+abbrev pub is_before : ℕ → Option ℕ → Bool
+is_before index None = false
+is_before index (Some place) = nat_lt place index
+
+-- there is a place, and it is this index
+abbrev pub is_there : ℕ → Option ℕ → Bool
+is_there index None = false
+is_there index (Some place) = nat_eq place index
 
 -- an index, lowered by one where it is past this one
 abbrev pub lowered : ℕ → ℕ → ℕ

@@ -7,7 +7,9 @@
 mod bodies;
 mod definition;
 mod definitions;
+mod finders;
 
 pub use bodies::BodyRewrites;
 pub use definition::Definition;
 pub use definitions::Definitions;
+pub use finders::{BothDefinitions, UpdatedDefinitions};

@@ -1,8 +1,8 @@
 //! Definitions come and go, and what their bodies mention changes.
-ghost use Rattle.std.specs.Prelude.{◌≡◌, ◌<◌, ◌++◌, ℕ, List, [], ◌∷◌, IfOk, None, OnErr, OnOk, Some, false, length, map, option_map, option_to_list, remove};
+ghost use Rattle.std.specs.Prelude.{◌≡◌, ◌<◌, ◌++◌, ℕ, List, [], ◌∷◌, IfOk, None, OnErr, OnOk, Some, bytes_eq, cond, false, length, map, option_map, option_to_list, remove, take};
 ghost use Rattle.std.specs.BTreeMap.{get};
 ghost use Rattle.std.specs.Cmp.Lexicographic.{slice_cmp};
-ghost use Rattle.std.specs.List.{AllByRecursion, list_any, slice_get};
+ghost use Rattle.std.specs.List.{AllByRecursion, IsDistinct, list_any, slice_get};
 ghost use Rattle.std.specs.Ordering.{nat_cmp};
 ghost use Rattle.ic_laws.specs.Binding.{name_or_dangling};
 ghost use Rattle.ic_laws.specs.BookTrees.{with_body_tree};
@@ -11,7 +11,7 @@ ghost use Rattle.ic_laws.specs.CoreBook as core;
 ghost use Rattle.ic_laws.specs.CoreBook.{spelling_of};
 ghost use Rattle.ic_laws.specs.CoreStep.{is_named, updated_at};
 ghost use Rattle.ic_laws.specs.Greatest.{greatest};
-ghost use Rattle.ic_laws.specs.Scene.{found_name};
+ghost use Rattle.ic_laws.specs.Scene.{found_name, same_key};
 ghost use Rattle.ic_definitions.specs.Bodies.{FitsBodies, StaysWhereFound, with_bodies};
 ghost use Rattle.ic_definitions.specs.Named.{definitions_scene, key_in, lowered, scopes_of};
 ghost use Rattle.ic_pool.specs.Code.{name_code};
@@ -82,6 +82,56 @@ impl Definitions {
         let mut nothing = BodyRewrites::new(self.alloc);
         nothing.may_dangle = self.may_dangle;
         self.add_prepared(definition, nothing)
+    }
+
+    /// Adds definitions at the end, in their order, and gives the others the bodies that were prepared. `OutOfMemory`
+    /// changes nothing.
+    pub fn append(
+        &mut self,
+        more: Definitions,
+        bodies: BodyRewrites,
+    ) -> Result<(), OutOfMemory>
+        requires apart { AllByRecursion (λ d. list_any (is_named d.name d.scope) self.old ≡ false)
+            more }
+        requires fits { FitsBodies bodies self.old }
+        ensures ok { OnOk result (self.new ≡ with_bodies bodies.bodies.items self.old ++ more) }
+        ensures err { OnErr result (self.new ≡ self.old) }
+    {
+        let mut bodies = bodies;
+        bodies.may_dangle |= more.may_dangle;
+        let count = self.list.len();
+        if let Err(error) = self.push_all(more.into_list()) {
+            self.truncate(count);
+            return Err(error);
+        }
+        self.apply(bodies);
+        Ok(())
+    }
+
+    /// Puts a definition in the place of the one at an index, from 0, and gives the others the bodies that were prepared.
+    /// `OutOfMemory` changes nothing.
+    pub fn update(
+        &mut self,
+        index: usize,
+        definition: Definition,
+        bodies: BodyRewrites,
+    ) -> Result<(), OutOfMemory>
+        requires within { index < length self.old }
+        requires apart { list_any (same_key (key_in definition))
+            (remove (map key_in self.old) index) ≡ false }
+        requires fits { FitsBodies bodies self.old }
+        ensures ok { OnOk result (self.new ≡ updated_at (λ d. definition) index
+            (with_bodies bodies.bodies.items self.old)) }
+        ensures err { OnErr result (self.new ≡ self.old) }
+    {
+        let old = key_in(self.alloc, &self.list[index])?;
+        let new = key_in(self.alloc, &definition)?;
+        replace_key(&mut self.indexes, &old, new, index)?;
+        self.may_dangle = bodies.may_dangle | has_dangling(definition.body());
+        bodies.put(&mut self.list);
+        self.list[index] = definition;
+        self.greatest = greatest_of(&self.list);
+        Ok(())
     }
 
     /// Gives the definition at an index, from 0, another body. It takes no memory.
@@ -194,6 +244,46 @@ impl Definitions {
         Ok(())
     }
 
+    /// Adds definitions at the end one after another, and leaves the bodies of the others. After `OutOfMemory` some of them
+    /// stand there.
+    fn push_all(&mut self, more: Vec<Definition>) -> Result<(), OutOfMemory>
+        requires apart { AllByRecursion (λ d. list_any (is_named d.name d.scope) self.old ≡ false)
+            more.items }
+        requires differ { IsDistinct same_key (map key_in more.items) }
+        ensures ok { OnOk result (self.new ≡ self.old ++ more.items) }
+        ensures err { OnErr result (take (length self.old) self.new ≡ self.old) }
+    {
+        for definition in more {
+            self.add_leaving_bodies(definition)?;
+        }
+        Ok(())
+    }
+
+    /// Keeps as many definitions as this, the first ones. Where there are no more, all stay. It takes no memory.
+    fn truncate(&mut self, count: usize)
+        ensures { self.new ≡ take count self.old }
+    {
+        self.indexes.retain(|_, place| *place < count);
+        self.list.truncate(count);
+        self.greatest = greatest_of(&self.list);
+    }
+
+    /// The definitions in their order. No two have one key.
+    fn into_list(self) -> Vec<Definition>
+        ensures list { result.items ≡ self }
+        ensures differ { IsDistinct same_key (map key_in self) }
+    {
+        let Self {
+            alloc: _,
+            list,
+            indexes,
+            greatest: _,
+            may_dangle: _,
+        } = self;
+        drop(indexes);
+        list
+    }
+
     /// Takes the definition at an index away, and gives the others the bodies that were prepared.
     fn delete_prepared(&mut self, index: usize, rewrites: BodyRewrites) -> Result<(), OutOfMemory>
         requires within { index < length self.old }
@@ -219,6 +309,28 @@ fn key_in(alloc: Global, definition: &Definition) -> Result<Key, OutOfMemory>
 {
     let key = definition.key();
     name_key(alloc, key.name.as_str(), key.scope)
+}
+
+/// Puts a key in the place of another, at an index. Where they are equal, only that index is there. `OutOfMemory` changes
+/// nothing.
+fn replace_key(
+    indexes: &mut BTreeMap<Key, usize>,
+    old: &Key,
+    new: Key,
+    index: usize,
+) -> Result<(), OutOfMemory>
+    ensures ok { OnOk result ((key : List ℕ) → get (slice_cmp nat_cmp) indexes.new key
+        ≡ cond (bytes_eq new key) (Some index)
+        (cond (bytes_eq old.now key) None (get (slice_cmp nat_cmp) indexes.old key))) }
+    ensures err { OnErr result ((key : List ℕ) → get (slice_cmp nat_cmp) indexes.new key
+        ≡ get (slice_cmp nat_cmp) indexes.old key) }
+{
+    let is_other = *old != new;
+    indexes.insert(new, index)?;
+    if is_other {
+        indexes.remove(old);
+    }
+    Ok(())
 }
 
 /// The indexes after the one that is taken away are lowered by one.

@@ -1,5 +1,6 @@
 //! Definitions are found.
-ghost use Rattle.std.specs.Prelude.{◌≡◌, IfOk, chars, find, option_map, position, slice_get};
+ghost use Rattle.std.specs.Prelude.{◌≡◌, IfOk, chars, find, map, option_map, position, slice_get};
+ghost use Rattle.std.specs.List.{IsDistinct};
 ghost use Rattle.ic_laws.specs.CoreStep.{is_named};
 ghost use Rattle.ic_laws.specs.Name.{fold};
 ghost use Rattle.ic_laws.specs.Scene.{definition_at, found_name, key_of, name_of_key, same_key};
@@ -88,8 +89,20 @@ impl Definitions {
         ensures { option_map (λ d. d.now) result
             ≡ find (λ d. same_key (key_in d) key.now) self.now }
     {
+        let place = self.place_of(key)?;
+        definition_in(&self.list, place)
+    }
+
+    /// The index, from 0, of the definition with this key. None exactly where no definition has it. Where there is no memory
+    /// for a key of the look-up, all keys are compared.
+    pub(crate) fn place_of(&self, key: &NameKey) -> Option<usize>
+        ensures place { result ≡ index_with_key key.now self.now }
+
+        // No two keys are equal.
+        ensures differ { IsDistinct same_key (map key_in self.now) }
+    {
         match self.index_at(key.name.as_str(), key.scope) {
-            Ok(place) => definition_in(&self.list, place?),
+            Ok(place) => place,
             Err(_) => first_with_key(&self.list, key),
         }
     }
@@ -147,12 +160,11 @@ fn first_named(definitions: &[Definition], name: &str, scope: Option<u32>) -> Op
         && same_scope(definition.scope(), scope))
 }
 
-/// The first definition with this key.
-fn first_with_key<'d>(definitions: &'d [Definition], key: &NameKey) -> Option<&'d Definition>
-    ensures { option_map (λ d. d.now) result ≡ find (λ d. same_key (key_in d) key.now)
-        definitions.now }
+/// The index, from 0, of the first definition with this key.
+fn first_with_key(definitions: &[Definition], key: &NameKey) -> Option<usize>
+    ensures { result ≡ position (λ d. same_key (key_in d) key.now) definitions.now }
 {
     definitions
         .iter()
-        .find(|definition| same_key(definition.key(), key))
+        .position(|definition| same_key(definition.key(), key))
 }
