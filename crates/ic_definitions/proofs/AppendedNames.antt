@@ -1,6 +1,6 @@
 -- What the definitions keep beside them stays true when several come at once, and when only the first ones stay.
-use Rattle.std.proofs.Common.{◌≡◌, ℕ, zero, suc, ◌<◌, ◌≤◌, List, [], ◌∷◌, ◌++◌, map, Bool, true, false, cond, ◌||◌, Option, Some, None, option_map, length, take, drop, refl, sym, ap, ap₂, subst, ◌∙◌, arith, append_assoc, ltb}
-use Rattle.std.specs.BTreeMap.{IsOrdered, get, keys as keys_in}
+use Rattle.std.proofs.Common.{◌≡◌, ℕ, zero, suc, ◌<◌, ◌≤◌, List, [], ◌∷◌, ◌++◌, Bool, true, false, cond, ◌||◌, Option, Some, None, option_map, length, take, refl, sym, ap, ap₂, subst, ◌∙◌, arith, ltb}
+use Rattle.std.specs.BTreeMap.{IsOrdered, keys as keys_in}
 use Rattle.std.specs.Cmp.{eq_by_cmp_equiv}
 use Rattle.std.specs.Cmp.Lexicographic.{slice_cmp}
 use Rattle.std.specs.List.{AllByRecursion, IsDistinct, filter, list_any}
@@ -9,7 +9,7 @@ use Rattle.std.specs.Ordering.{nat_cmp}
 use Rattle.std.proofs.lemmas.Bool.{or_parts}
 use Rattle.std.proofs.lemmas.Bool.Decides.{nat_tests}
 use Rattle.std.proofs.lemmas.Cmp.{nat_list_cmp_total}
-use Rattle.std.proofs.lemmas.List.{length-append}
+use Rattle.std.proofs.lemmas.List.{length-append, take-map}
 use Rattle.std.proofs.lemmas.List.Folds.{list_any-append}
 use Rattle.std.proofs.lemmas.Map.Entries.{lookup-filter-values, option_filter}
 use Rattle.std.proofs.lemmas.Map.Keys.{IsDistinct-cons, IsDistinct-from_sorted, IsDistinct-head, IsDistinct-tail}
@@ -116,11 +116,6 @@ module _ {X : Type 0} where
   distinct_taken same (suc n) [] h = tt
   distinct_taken same (suc n) (x ∷ xs) h = IsDistinct-cons same x (take n xs) (all_taken (λ y. same x y ≡ false) n xs (IsDistinct-head same x xs h)) (distinct_taken same n xs (IsDistinct-tail same x xs h))
 
-  taken_seen : {Y : Type 0} (g : X → Y) (n : ℕ) (xs : List X) → map g (take n xs) ≡ take n (map g xs)
-  taken_seen g zero xs = refl
-  taken_seen g (suc n) [] = refl
-  taken_seen g (suc n) (x ∷ xs) = ap (λ rest. g x ∷ rest) (taken_seen g n xs)
-
 pub named_taken : (before after : Places) (last now_last n : ℕ) (may : Bool) (ds list : List Definition) → AreNamed before last may ds → IsOrdered (slice_cmp nat_cmp) before → after.entries ≡ filter (λ e. ltb e.1 n) before.entries
     → now_last ≡ greatest (scopes_of list) → list ≡ take n ds → AreNamed after now_last may list
 named_taken before after last now_last n may ds list named ordered left most is = record {
@@ -130,7 +125,7 @@ named_taken before after last now_last n may ds list named ordered left most is 
       ∙ ap (option_filter (λ p. ltb p n)) (named.finds q)
       ∙ sym (place_taken q n ds)
       ∙ ap (index_with_key q) (sym is);
-  differ = subst (λ xs. IsDistinct same_key (keys xs)) (sym is) (subst (IsDistinct same_key) (sym (taken_seen key_in n ds)) (distinct_taken same_key n (keys ds) named.differ));
+  differ = subst (λ xs. IsDistinct same_key (keys xs)) (sym is) (subst (IsDistinct same_key) (take-map key_in n ds) (distinct_taken same_key n (keys ds) named.differ));
   greatest = most;
   dangles = λ e. subst (AllByRecursion HasFoundAll) (sym is) (all_taken HasFoundAll n ds (named.dangles e));
 }

@@ -1,18 +1,19 @@
 -- Definitions get the bodies that a change makes of theirs, one after another.
-use Rattle.std.proofs.Common.{◌≡◌, ◌<◌, ◌≤◌, ◌+◌, ◌⊎◌, ℕ, zero, suc, List, [], ◌∷◌, ◌++◌, Option, false, map, length, take, drop, get_or, slice_set, append_assoc, append-nil, refl, sym, ap, ap₂, subst, ◌∙◌, arith, inl, inr, take_at}
+use Rattle.std.proofs.Common.{◌≡◌, ◌<◌, ◌≤◌, ◌+◌, ◌⊎◌, ℕ, zero, suc, List, [], ◌∷◌, ◌++◌, Bool, true, false, cond, map, length, take, drop, get_or, slice_set, append_assoc, append-nil, refl, sym, ap, ap₂, subst, ◌∙◌, arith, inl, inr, take_at}
 use Rattle.std.proofs.lemmas.Bool.{or_parts}
-use Rattle.std.proofs.lemmas.List.{drop_all, drop_more, length-map, length-take, map_more, take_all}
+use Rattle.std.proofs.lemmas.List.{drop_all, drop_more, length-map, length-take, map_more, take_all, take_more}
 use Rattle.std.specs.List.{AllByRecursion}
 use Rattle.ic_laws.proofs.core.Lists.{all_pushed, all_updated, length_updated, updated_unseen}
 use Rattle.ic_laws.specs.BookTrees.{with_body_tree}
 use Rattle.ic_laws.specs.Changes.{Change, changed_tree}
 use Rattle.ic_laws.specs.CoreBook.{Definition}
 use Rattle.ic_laws.specs.CoreStep.{updated_at}
-use Rattle.ic_laws.specs.Tree.{Bound}
 use Rattle.ic_laws.specs.declared.tree.Formula.{Formula}
-use Rattle.ic_pool.specs.Mentions.{has_dangling}
+use Rattle.ic_pool.specs.Mentions.{formula_after, has_dangling, is_changed_by}
+use Rattle.ic_pool.specs.Remade.{Remade}
 use Rattle.ic_definitions.specs.Bodies.{FitsBodies, HasFoundAll, IsNoted, StaysWhereFound, with_bodies}
 use Rattle.ic_definitions.specs.Named.{key_in}
+use Rattle.ic_definitions.specs.Remade.{remade_body, touched_bodies}
 use Rattle.ic_definitions.specs.declared.bodies.BodyRewrites.{BodyRewrites}
 use Rattle.ic_definitions.specs.declared.bodies.NewBody.{NewBody}
 use Rattle.ic_definitions.proofs.NamedLemmas.{keys}
@@ -72,9 +73,31 @@ updated_middle g [] back x (suc at) e = absurd (omega (arith, e))
 updated_middle g (y ∷ front) back x zero e = absurd (omega (arith, e))
 updated_middle g (y ∷ front) back x (suc at) e = ap (λ rest. y ∷ rest) (updated_middle g front back x at (omega (arith, e)))
 
-module _ (f : Option ℕ → Bound → Bound) (ds : List Definition) where
+-- formulas that a change makes anew
+abbrev pub made_by : Change → Remade
+made_by change = record { touches = is_changed_by change; becomes = formula_after change }
+
+module _ (rule : Remade) where
+  -- a body is put at the end
+  abbrev here : ℕ → Definition → List NewBody
+  here at d = cond (rule.touches d.scope d.body) (record { at = at; body = rule.becomes d.scope d.body } ∷ []) []
+
+  touched_bodies-push : (at : ℕ) (ds : List Definition) (d : Definition) → touched_bodies rule at (ds ++ d ∷ []) ≡ touched_bodies rule at ds ++ here (at + length ds) d
+  touched_bodies-push at [] d = ap (λ n. here n d) (omega arith)
+  touched_bodies-push at (x ∷ ds) d = after (rule.touches x.scope x.body) (touched_bodies-push (suc at) ds d)
+    where
+      moved : touched_bodies rule (suc at) ds ++ here (suc at + length ds) d ≡ touched_bodies rule (suc at) ds ++ here (at + suc (length ds)) d
+      moved = ap (λ n. touched_bodies rule (suc at) ds ++ here n d) (let s : suc at + length ds ≡ at + suc (length ds) = omega arith in s)
+
+      after : (b : Bool) → touched_bodies rule (suc at) (ds ++ d ∷ []) ≡ touched_bodies rule (suc at) ds ++ here (suc at + length ds) d
+          → cond b (record { at = at; body = rule.becomes x.scope x.body } ∷ touched_bodies rule (suc at) (ds ++ d ∷ [])) (touched_bodies rule (suc at) (ds ++ d ∷ []))
+          ≡ cond b (record { at = at; body = rule.becomes x.scope x.body } ∷ touched_bodies rule (suc at) ds) (touched_bodies rule (suc at) ds) ++ here (at + suc (length ds)) d
+      after true e = ap (λ news. record { at = at; body = rule.becomes x.scope x.body } ∷ news) (e ∙ moved)
+      after false e = e ∙ moved
+
+module _ (rule : Remade) (ds : List Definition) where
   abbrev becomes : Definition → Definition
-  becomes d = with_body_tree f d
+  becomes d = remade_body rule d
 
   abbrev Within : NewBody → Type 0
   Within new = new.at < length ds
@@ -82,27 +105,37 @@ module _ (f : Option ℕ → Bound → Bound) (ds : List Definition) where
   -- the bodies before this place were looked at, the others are as they were
   pub record NotedTo (i : ℕ) (w : BodyRewrites) : Type 0 where
     pub made : with_bodies w.bodies.items ds ≡ map becomes (take i ds) ++ drop i ds
+    pub listed : w.bodies.items ≡ touched_bodies rule 0 (take i ds)
     pub within : AllByRecursion Within w.bodies.items
     pub dangles : w.may_dangle ≡ false → AllByRecursion HasFoundAll (map becomes (take i ds))
+
+  -- all were looked at
+  pub record Noted (w : BodyRewrites) : Type 0 where
+    pub made : with_bodies w.bodies.items ds ≡ map becomes ds
+    pub listed : w.bodies.items ≡ touched_bodies rule 0 ds
+    pub fits : FitsBodies w ds
 
   pub noted_start : (w : BodyRewrites) → w.bodies.items ≡ [] → NotedTo 0 w
   noted_start w none = record {
     made = ap (λ news. with_bodies news ds) none;
+    listed = none;
     within = subst (AllByRecursion Within) (sym none) tt;
     dangles = λ e. tt;
   }
 
-  pub noted_end : (i : ℕ) (w : BodyRewrites) → NotedTo i w → length ds ≤ i → (with_bodies w.bodies.items ds ≡ map becomes ds) × FitsBodies w ds
+  pub noted_end : (i : ℕ) (w : BodyRewrites) → NotedTo i w → length ds ≤ i → Noted w
   noted_end i w done end =
       let all : take i ds ≡ ds = take_all i ds end in
-      let made : with_bodies w.bodies.items ds ≡ map becomes ds =
-      done.made ∙ ap₂ (λ a b. map becomes a ++ b) all (drop_all i ds end) ∙ append-nil (map becomes ds) in (
-        made,
-        record {
+      let put : with_bodies w.bodies.items ds ≡ map becomes ds =
+      done.made ∙ ap₂ (λ a b. map becomes a ++ b) all (drop_all i ds end) ∙ append-nil (map becomes ds) in
+      record {
+        made = put;
+        listed = done.listed ∙ ap (touched_bodies rule 0) all;
+        fits = record {
           within = done.within;
-          dangles = λ e. subst (AllByRecursion HasFoundAll) (ap (map becomes) all ∙ sym made) (done.dangles e);
-        },
-      )
+          dangles = λ e. subst (AllByRecursion HasFoundAll) (ap (map becomes) all ∙ sym put) (done.dangles e);
+        };
+      }
 
   module _ (i next : ℕ) (x : Definition) (v w : BodyRewrites) (is_next : i + 1 ≡ next) (below : i < length ds) (item : x ≡ get_or ds i x) where
     front : List Definition
@@ -115,6 +148,9 @@ module _ (f : Option ℕ → Bound → Bound) (ds : List Definition) where
     rest : drop i ds ≡ x ∷ drop next ds
     rest = drop_more ds i x below ∙ ap₂ (λ y n. y ∷ drop n ds) (sym item) is_next
 
+    one_more : take next ds ≡ take i ds ++ x ∷ []
+    one_more = ap (λ n. take n ds) (sym is_next) ∙ take_more ds i x below ∙ ap (λ y. take i ds ++ y ∷ []) (sym item)
+
     more : map becomes (take next ds) ≡ front ++ becomes x ∷ []
     unfolding front
     more = ap (λ n. map becomes (take n ds)) (sym is_next) ∙ map_more becomes ds i x below ∙ ap (λ y. front ++ becomes y ∷ []) (sym item)
@@ -122,8 +158,21 @@ module _ (f : Option ℕ → Bound → Bound) (ds : List Definition) where
     seam : front ++ becomes x ∷ drop next ds ≡ map becomes (take next ds) ++ drop next ds
     seam = sym (append_assoc front (becomes x ∷ []) (drop next ds)) ∙ ap (λ xs. xs ++ drop next ds) (sym more)
 
+    counted : i ≡ 0 + length (take i ds)
+    counted = let before : length (take i ds) ≡ i = omega (arith, length-take i ds) in omega (arith, before)
+
     new : NewBody
     new = record { at = i; body = (becomes x).body }
+
+    abbrev touched : Bool
+    touched = rule.touches x.scope x.body
+
+    -- it stays, or what it becomes stands behind the others
+    either : IsNoted i x (becomes x).body touched v w → (b : Bool) → touched ≡ b → ((becomes x ≡ x) × (w.bodies.items ≡ v.bodies.items)) ⊎ (w.bodies.items ≡ v.bodies.items ++ new ∷ [])
+    unfolding new
+    either noted true passes = inr (noted.bodies ∙ ap (λ b. v.bodies.items ++ cond b (record { at = i; body = (becomes x).body } ∷ []) []) passes)
+    either noted false fails =
+        inl (ap (λ body. with_body body x) (noted.same fails), noted.bodies ∙ ap (λ b. v.bodies.items ++ cond b (record { at = i; body = (becomes x).body } ∷ []) []) fails ∙ append-nil v.bodies.items)
 
     step_made : NotedTo i v → ((becomes x ≡ x) × (w.bodies.items ≡ v.bodies.items)) ⊎ (w.bodies.items ≡ v.bodies.items ++ new ∷ []) → with_bodies w.bodies.items ds ≡ map becomes (take next ds) ++ drop next ds
     unfolding front new
@@ -137,11 +186,12 @@ module _ (f : Option ℕ → Bound → Bound) (ds : List Definition) where
     step_within done (inl same) = subst (AllByRecursion Within) (sym same.1) done.within
     step_within done (inr put) = subst (AllByRecursion Within) (sym put) (all_pushed Within v.bodies.items new done.within below)
 
-    pub noted_step : NotedTo i v → IsNoted i x (becomes x) v w → NotedTo next w
+    pub noted_step : NotedTo i v → IsNoted i x (becomes x).body touched v w → NotedTo next w
     unfolding front new
     noted_step done noted = record {
-      made = step_made done noted.change;
-      within = step_within done noted.change;
+      made = step_made done (either noted touched refl);
+      listed = noted.bodies ∙ ap₂ (λ news n. news ++ here rule n x) done.listed counted ∙ sym (ap (touched_bodies rule 0) one_more ∙ touched_bodies-push rule 0 (take i ds) x);
+      within = step_within done (either noted touched refl);
       dangles = λ e.
           let parts = or_parts v.may_dangle _ (sym noted.dangles ∙ e) in
           subst (AllByRecursion HasFoundAll) (sym more) (all_pushed HasFoundAll front (becomes x) (done.dangles parts.0) parts.1);

@@ -1,10 +1,10 @@
 -- What the definitions keep beside them stays true when one is put in the place of another.
-use Rattle.std.proofs.Common.{◌≡◌, ℕ, zero, suc, ◌<◌, List, [], ◌∷◌, map, Bool, true, false, cond, not, ◌||◌, Option, Some, None, option_map, length, get_or, slice_set, refl, sym, ap, ap₂, subst, ◌∙◌, bytes_eq, remove, arith}
+use Rattle.std.proofs.Common.{◌≡◌, ℕ, zero, suc, ◌<◌, List, [], ◌∷◌, Bool, true, false, cond, not, Option, Some, None, option_map, length, get_or, slice_set, refl, sym, ap, ap₂, subst, ◌∙◌, bytes_eq, remove, arith}
 use Rattle.std.specs.BTreeMap.{BTreeMap, Updates, get}
 use Rattle.std.specs.Cmp.Lexicographic.{slice_cmp}
 use Rattle.std.specs.List.{AllByRecursion, IsDistinct, list_any}
 use Rattle.std.specs.Ordering.{nat_cmp}
-use Rattle.std.proofs.lemmas.Bool.{or_parts}
+use Rattle.std.proofs.lemmas.Bool.{not-false, not-true, or_parts}
 use Rattle.std.proofs.lemmas.Map.Keys.{IsDistinct-head, IsDistinct-tail}
 use Rattle.std.proofs.lemmas.Slice.Eq.{bytes_eq-Decides}
 use Rattle.ic_laws.proofs.core.Defined.{same_key_equiv}
@@ -28,14 +28,6 @@ module _ (old new : List ℕ) (index : ℕ) where
   abbrev pub replaced : List ℕ → Option ℕ → Option ℕ
   replaced key before = cond (bytes_eq new key) (Some index) (cond (bytes_eq old key) None before)
 
-  is_true : (b : Bool) → not b ≡ false → b ≡ true
-  is_true true e = refl
-  is_true false e = sym e
-
-  is_false : (b : Bool) → not b ≡ true → b ≡ false
-  is_false true e = sym e
-  is_false false e = refl
-
   -- the new one is put in, and the old one is taken away where it is another
   pub key_replaced : (before between after : BTreeMap (List ℕ) ℕ) (is_other : Bool) → is_other ≡ not (bytes_eq old new) → is_other ≡ true → Updates (slice_cmp nat_cmp) before between new (Some index) → Updates (slice_cmp nat_cmp) between after old None
       → (key : List ℕ) → get (slice_cmp nat_cmp) after key ≡ replaced key (get (slice_cmp nat_cmp) before key)
@@ -43,7 +35,7 @@ module _ (old new : List ℕ) (index : ℕ) where
       written between after old None gone key
       ∙ ap (cond (bytes_eq old key) None) (written before between new (Some index) put key)
       ∙ step (bytes_eq old key) (bytes_eq new key) (get (slice_cmp nat_cmp) before key)
-      (λ s t. clash (bytes_eq old new) ((bytes_eq-Decides old new).1 ((bytes_eq-Decides old key).0 s ∙ sym ((bytes_eq-Decides new key).0 t))) (is_false (bytes_eq old new) (sym is ∙ other)))
+      (λ s t. clash (bytes_eq old new) ((bytes_eq-Decides old new).1 ((bytes_eq-Decides old key).0 s ∙ sym ((bytes_eq-Decides new key).0 t))) (not-true (bytes_eq old new) (sym is ∙ other)))
     where
       step : (a b : Bool) (place : Option ℕ) → (a ≡ true → b ≡ true → ⊥) → cond a None (cond b (Some index) place) ≡ cond b (Some index) (cond a None place)
       step true true place h = absurd (h refl refl)
@@ -56,7 +48,7 @@ module _ (old new : List ℕ) (index : ℕ) where
   key_kept before after is_other is same put key =
       written before after new (Some index) put key
       ∙ step (bytes_eq new key) (get (slice_cmp nat_cmp) before key)
-      ∙ ap (λ k. cond (bytes_eq new key) (Some index) (cond (bytes_eq k key) None (get (slice_cmp nat_cmp) before key))) (sym ((bytes_eq-Decides old new).0 (is_true (bytes_eq old new) (sym is ∙ same))))
+      ∙ ap (λ k. cond (bytes_eq new key) (Some index) (cond (bytes_eq k key) None (get (slice_cmp nat_cmp) before key))) (sym ((bytes_eq-Decides old new).0 (not-false (bytes_eq old new) (sym is ∙ same))))
     where
       step : (b : Bool) (place : Option ℕ) → cond b (Some index) place ≡ cond b (Some index) (cond b None place)
       step true place = refl

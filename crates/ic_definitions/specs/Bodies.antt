@@ -1,10 +1,11 @@
 -- What is prepared before the bodies of definitions change.
-use Rattle.std.specs.Prelude.{◌≡◌, ◌⊎◌, ◌<◌, ◌||◌, ℕ, List, [], ◌∷◌, ◌++◌, false, length}
+use Rattle.std.specs.Prelude.{◌≡◌, ◌<◌, ◌||◌, ℕ, List, [], ◌∷◌, ◌++◌, Bool, false, length, if◌then◌else◌}
 use Rattle.std.specs.List.{AllByRecursion}
 use Rattle.ic_laws.specs.BookTrees.{with_body_tree}
 use Rattle.ic_laws.specs.Changes.{Change, changed_tree}
 use Rattle.ic_laws.specs.CoreBook.{Definition}
 use Rattle.ic_laws.specs.CoreStep.{updated_at}
+use Rattle.ic_laws.specs.declared.tree.Formula.{Formula}
 use Rattle.ic_pool.specs.Mentions.{has_dangling}
 use Rattle.ic_definitions.specs.declared.bodies.BodyRewrites.{BodyRewrites}
 use Rattle.ic_definitions.specs.declared.bodies.NewBody.{NewBody}
@@ -27,8 +28,9 @@ pub record FitsBodies (rewrites : BodyRewrites) (definitions : List Definition) 
   pub within : AllByRecursion (λ new. new.at < length definitions) rewrites.bodies.items
   pub dangles : rewrites.may_dangle ≡ false → AllByRecursion HasFoundAll (with_bodies rewrites.bodies.items definitions)
 
--- The body at this place was looked at. It stays, or what it becomes stands behind the others; and it counts among those
--- that may dangle.
-pub record IsNoted (at : ℕ) (definition becomes : Definition) (before after : BodyRewrites) : Type 0 where
-  pub change : ((becomes ≡ definition) × (after.bodies.items ≡ before.bodies.items)) ⊎ (after.bodies.items ≡ before.bodies.items ++ record { at = at; body = becomes.body } ∷ [])
-  pub dangles : after.may_dangle ≡ (before.may_dangle || has_dangling becomes.body)
+-- The body at this place was looked at. It stays where it isn't touched, else what it becomes stands behind the others; and
+-- it counts among those that may dangle.
+pub record IsNoted (at : ℕ) (definition : Definition) (becomes : Formula) (touched : Bool) (before after : BodyRewrites) : Type 0 where
+  pub same : touched ≡ false → becomes ≡ definition.body
+  pub bodies : after.bodies.items ≡ before.bodies.items ++ (if touched then record { at = at; body = becomes } ∷ [] else [])
+  pub dangles : after.may_dangle ≡ (before.may_dangle || has_dangling becomes)

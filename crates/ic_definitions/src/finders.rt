@@ -5,8 +5,8 @@ ghost use Rattle.ic_laws.specs.Name.{fold};
 ghost use Rattle.ic_laws.specs.Scene.{definition_at, key_of, name_of_key, same_key};
 ghost use Rattle.ic_definitions.specs.Named.{definitions_scene, is_before, is_there, renamed_scene};
 
-use crate::{Definition, Definitions};
 use crate::definition::{fold_name, key_with};
+use crate::{Definition, Definitions};
 use ic_laws::{Finder, NameKey, OutOfMemory};
 use ic_pool::same_key;
 use std::alloc::Global;

@@ -1,7 +1,9 @@
 //! The definitions of a book in their order, found by their keys without a search.
 //! `Definitions` answers what the scene of these definitions finds (`find`, `key_at`, `name_of`, `index_of`), and keeps up
 //! with definitions that come and go (`add`, `delete`), which change the bodies of the others too, and with sheets that do:
-//! `prepare` makes ready what a change does to all bodies, `made` says to what, and `apply` then can't fail.
+//! `prepare` makes ready what a change does to all bodies, `made` says to what, and `apply` then can't fail. Bodies that a
+//! rule of the caller's makes anew are made ready by `prepare_remade`; `append` and `update` take what was prepared. What
+//! would be found among definitions that are yet to come, `BothDefinitions` and `UpdatedDefinitions` tell.
 #![tactic(auto)]
 
 mod bodies;
@@ -9,7 +11,7 @@ mod definition;
 mod definitions;
 mod finders;
 
-pub use bodies::BodyRewrites;
+pub use bodies::{BodyRewrites, NewBody};
 pub use definition::Definition;
 pub use definitions::Definitions;
 pub use finders::{BothDefinitions, UpdatedDefinitions};

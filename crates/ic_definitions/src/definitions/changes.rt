@@ -14,13 +14,15 @@ ghost use Rattle.ic_laws.specs.Greatest.{greatest};
 ghost use Rattle.ic_laws.specs.Scene.{found_name, same_key};
 ghost use Rattle.ic_definitions.specs.Bodies.{FitsBodies, StaysWhereFound, with_bodies};
 ghost use Rattle.ic_definitions.specs.Named.{definitions_scene, key_in, lowered, scopes_of};
+ghost use Rattle.ic_definitions.specs.Remade.{remade_body, touched_bodies};
 ghost use Rattle.ic_pool.specs.Code.{name_code};
+ghost use Rattle.ic_pool.specs.Remade.{LeavesUntouched};
 
 use super::Definitions;
-use crate::bodies::rewrites_of;
+use crate::bodies::{rewrites_of, rewrites_remade};
 use crate::{BodyRewrites, Definition};
 use ic_laws::{Formula, NameKey, NameMention, OutOfMemory, Text};
-use ic_pool::{BookChange, DefinitionAdded, DefinitionGone, Key, has_dangling, name_key};
+use ic_pool::{BookChange, DefinitionAdded, DefinitionGone, Key, Remaking, has_dangling, name_key};
 use std::alloc::Global;
 use std::collections::BTreeMap;
 
@@ -45,6 +47,19 @@ impl Definitions {
             return Ok(BodyRewrites::new(self.alloc));
         }
         self.prepare(change)
+    }
+
+    /// What becomes of the bodies of all definitions where they are made anew, if the rule leaves each that it doesn't touch.
+    pub fn prepare_remade<R: Remaking>(&self, remaking: &R) -> Result<BodyRewrites, OutOfMemory>
+        requires { AllByRecursion (λ d. LeavesUntouched (R.made remaking.now) d.scope d.body)
+            self.now }
+        ensures made { IfOk result (λ w. with_bodies w.bodies.items self.now
+            ≡ map (remade_body (R.made remaking.now)) self.now) }
+        ensures listed { IfOk result (λ w. w.bodies.items
+            ≡ touched_bodies (R.made remaking.now) 0 self.now) }
+        ensures fits { IfOk result (λ w. FitsBodies w self.now) }
+    {
+        rewrites_remade(self.alloc, &self.list, remaking)
     }
 
     /// Gives the definitions the bodies that were prepared.
@@ -86,11 +101,7 @@ impl Definitions {
 
     /// Adds definitions at the end, in their order, and gives the others the bodies that were prepared. `OutOfMemory`
     /// changes nothing.
-    pub fn append(
-        &mut self,
-        more: Definitions,
-        bodies: BodyRewrites,
-    ) -> Result<(), OutOfMemory>
+    pub fn append(&mut self, more: Definitions, bodies: BodyRewrites) -> Result<(), OutOfMemory>
         requires apart { AllByRecursion (λ d. list_any (is_named d.name d.scope) self.old ≡ false)
             more }
         requires fits { FitsBodies bodies self.old }
