@@ -40,6 +40,7 @@ mod referring;
 mod scene;
 mod settings;
 mod sheet_changes;
+mod sheet_copies;
 mod styled;
 mod styles;
 mod tab;
