@@ -15,6 +15,7 @@ pub mod ExtendLemmas
 pub mod FilledLemmas
 pub mod FirstLemmas
 pub mod FormatLemmas
+pub mod FreeNames
 pub mod GridLemmas
 pub mod GridPartLemmas
 pub mod HandedInLemmas
@@ -29,8 +30,10 @@ pub mod MentionPairs
 pub mod ModelLemmas
 pub mod NameHeld
 pub mod NameLemmas
+pub mod NewSheetLemmas
 pub mod NothingLemmas
 pub mod NumberedLemmas
+pub mod NumberedTexts
 pub mod PartLemmas
 pub mod PartUses
 pub mod ReadLemmas

@@ -22,6 +22,7 @@ pub mod Refused
 pub mod Retyped
 pub mod Scene
 pub mod Served
+pub mod SheetNames
 pub mod Shown
 pub mod Styled
 pub mod Texts

@@ -17,6 +17,7 @@ use crate::contents::Contents;
 use crate::in_force::Notation;
 use crate::lists::Lists;
 use crate::scene::BookScene;
+use crate::sheet_names::{NumberedName, base_name, put_name};
 use ic_cells::{SharedStrings, Styles};
 use ic_definitions::Definitions;
 use ic_laws::{Finder, Formula, OutOfMemory, Text};
@@ -178,26 +179,12 @@ fn first_sheet(alloc: Global, language: &Language) -> Result<Sheets, OutOfMemory
         }
         ∷ []) }
 {
+    let base = NumberedName::Word(base_name(&language.code));
+    let mut name = String::new(alloc);
+    put_name(&mut name, &base, 1)?;
     let mut sheets = Sheets::new(alloc);
-    sheets.add_leaving_formulas(1, first_sheet_name(&language.code))?;
+    sheets.add_leaving_formulas(1, name.as_str())?;
     Ok(sheets)
-}
-
-/// The name of a new book's sheet: the base of the language and the number 1.
-fn first_sheet_name(language: &Text) -> &'static str
-    ensures { chars result.now ≡ first_sheet_name_in language.now }
-{
-    if language.is("es") {
-        "Hoja1"
-    } else if language.is("fr") {
-        "Feuil1"
-    } else if language.is("de") {
-        "Tabelle1"
-    } else if language.is("it") {
-        "Foglio1"
-    } else {
-        "Sheet1"
-    }
 }
 
 /// The lists of a new workbook: the default style, no shared strings.

@@ -174,7 +174,7 @@ impl<'a> Model<'a> {
     }
 
     /// Adds a sheet of this name at the end.
-    fn append_sheet(&mut self, sheet_name: &str) -> Result<(), BookError>
+    pub(crate) fn append_sheet(&mut self, sheet_name: &str) -> Result<(), BookError>
         ensures ok { OnOk result
             (self.new.book ≡ book_changed_by (with_added_sheet
             (chars sheet_name.now)) self.old.book) }

@@ -1,6 +1,6 @@
 use Rattle.std.proofs.Common.{rules}
 use Rattle.std.specs.Str.{chars}
-use Rattle.ic_book.proofs.model.first_sheet_name.Goals as goal
+use Rattle.ic_book.proofs.sheet_names.base_name.Goals as goal
 
 pub returns-then-is : goal.returns-then-is
 unfolding chars
