@@ -142,3 +142,51 @@ impl<'b> Finder for SceneWithDefinition<'b> {
         None
     }
 }
+
+/// The sheets of a book, with definitions that are found another way.
+#[derive(Drop)]
+pub struct SceneOver<'b, F: Finder> {
+    sheets: &'b Sheets,
+    definitions: &'b F,
+}
+
+impl<'b, F: Finder> SceneOver<'b, F> {
+    /// The scene of a book with these sheets, where the definitions are those that this finds.
+    pub fn new(sheets: &'b Sheets, definitions: &'b F) -> SceneOver<'b, F>
+        ensures sheets { result.sheets.now ≡ sheets.now }
+        ensures definitions { result.definitions.now ≡ definitions.now }
+    {
+        SceneOver {
+            sheets,
+            definitions,
+        }
+    }
+}
+
+impl<'b, F: Finder> Finder for SceneOver<'b, F> {
+    ghost use Rattle.std.specs.Prelude.{map};
+    ghost use Rattle.ic_book.specs.Scene.{named};
+
+    ghost scene = { λ s. record { sheets = map named s.sheets.now; names = (F.scene s.definitions.now).names } };
+
+    fn find_sheet(&self, _alloc: Global, name: &str) -> Result<Option<u32>, OutOfMemory> {
+        Ok(self.sheets.find(name))
+    }
+
+    fn find_name(
+        &self,
+        alloc: Global,
+        scope: Option<u32>,
+        word: &str,
+    ) -> Result<Option<NameKey>, OutOfMemory> {
+        self.definitions.find_name(alloc, scope, word)
+    }
+
+    fn sheet_spelling(&self, id: u32) -> Option<&str> {
+        self.sheets.name_of(id)
+    }
+
+    fn definition_spelling(&self, key: &NameKey) -> Option<&str> {
+        self.definitions.definition_spelling(key)
+    }
+}
