@@ -12,6 +12,7 @@ use ic_pool::same_key;
 use std::alloc::Global;
 
 /// The definitions of a book and others that are to stand behind them.
+#[derive(Clone, Copy)]
 pub struct BothDefinitions<'d> {
     first: &'d Definitions,
     more: &'d Definitions,
@@ -76,6 +77,7 @@ impl<'d> Finder for BothDefinitions<'d> {
 
 /// The definitions of a book where the one at an index, from 0, has another name and another scope. Where no definition
 /// stands at the index, they are as they are.
+#[derive(Clone, Copy)]
 pub struct UpdatedDefinitions<'d> {
     definitions: &'d Definitions,
     index: usize,
