@@ -1,5 +1,5 @@
 //! Copies of sheets.
-ghost use Rattle.std.specs.Prelude.{◌≡◌, ◌<◌, ◌++◌, IfOk, IfSome, OnErr, OnOk, Some, chars, false, length, list_any, map, nat_eq, string_bytes, true};
+ghost use Rattle.std.specs.Prelude.{◌≡◌, ◌<◌, ◌++◌, IfOk, IfSome, OnErr, OnOk, Some, chars, false, length, map, nat_eq, string_bytes, true};
 ghost use Rattle.std.specs.List.{AllByRecursion, IsDistinct, list_any, slice_get};
 ghost use Rattle.ic_definitions.specs.Bodies.{FitsBodies, with_bodies};
 ghost use Rattle.ic_definitions.specs.Named.{key_in, scopes_of};

@@ -1,5 +1,5 @@
 //! The definitions that are copied with a sheet.
-ghost use Rattle.std.specs.Prelude.{◌≡◌, ◌≤◌, ◌&&◌, ◌++◌, [], ◌∷◌, IfOk, OnOk, Some, agrees, false, filter, is_none, length, map, not, true, if◌then◌else◌};
+ghost use Rattle.std.specs.Prelude.{◌≡◌, ◌≤◌, ◌++◌, [], ◌∷◌, IfOk, OnOk, Some, false, filter, length, map, true, if◌then◌else◌};
 ghost use Rattle.std.specs.List.{IsDistinct, list_any};
 ghost use Rattle.ic_definitions.specs.Named.{key_in};
 ghost use Rattle.ic_laws.specs.CoreStep.{is_named};

@@ -1,0 +1,85 @@
+-- Definitions that are copied with a sheet, one after another, and their bodies.
+use Rattle.std.proofs.Common.{◌≡◌, ℕ, suc, ◌+◌, ◌<◌, ◌≤◌, List, [], ◌∷◌, ◌++◌, map, length, Bool, true, false, cond, ◌&&◌, ◌||◌, drop, get_or, refl, sym, ap, ap₂, subst, ◌∙◌, arith, append_assoc, if◌then◌else◌}
+use Rattle.std.proofs.lemmas.List.{drop_more, length-append, length-map, map-append}
+use Rattle.std.proofs.lemmas.Map.Keys.{IsDistinct-cons, IsDistinct-head, IsDistinct-tail}
+use Rattle.std.specs.List.{AllByRecursion, IsDistinct, filter, list_any}
+use Rattle.std.specs.Prelude.{Some}
+use Rattle.ic_laws.specs.CoreBook.{Definition}
+use Rattle.ic_laws.specs.CoreStep.{is_named, updated_at}
+use Rattle.ic_laws.specs.Scene.{same_key}
+use Rattle.ic_laws.specs.declared.tree.Formula.{Formula}
+use Rattle.ic_laws.specs.declared.tree.NameKey.{NameKey}
+use Rattle.ic_definitions.specs.Named.{key_in}
+use Rattle.ic_machine.specs.subjects.Sheets.{local_in, with_formula}
+use Rattle.ic_book.specs.Copied.{with_each_body}
+
+-- no key before an item of a list is its own ----
+
+-- none of these has the key of what stands behind them
+pub free_before : (ds rest : List Definition) (e : Definition) → IsDistinct same_key (map key_in (ds ++ e ∷ rest)) → list_any (is_named e.name e.scope) ds ≡ false
+free_before [] rest e h = refl
+free_before (d ∷ ds) rest e h =
+    ap₂ (λ (a b : Bool). a || b) (found ds (IsDistinct-head same_key (key_in d) (map key_in (ds ++ e ∷ rest)) h)) (free_before ds rest e (IsDistinct-tail same_key (key_in d) (map key_in (ds ++ e ∷ rest)) h))
+  where
+    found : (xs : List Definition) → AllByRecursion (λ k. same_key (key_in d) k ≡ false) (map key_in (xs ++ e ∷ rest)) → same_key (key_in d) (key_in e) ≡ false
+    found [] all = all.0
+    found (x ∷ xs) all = found xs all.1
+
+-- the first of several that differ do
+pub distinct_first : {X : Type 0} (same : X → X → Bool) (xs ys : List X) → IsDistinct same (xs ++ ys) → IsDistinct same xs
+unfolding IsDistinct
+distinct_first same [] ys h = tt
+distinct_first same (x ∷ xs) ys h = IsDistinct-cons same x xs (front xs (IsDistinct-head same x (xs ++ ys) h)) (distinct_first same xs ys (IsDistinct-tail same x (xs ++ ys) h))
+  where
+    front : (zs : List _) → AllByRecursion (λ y. same x y ≡ false) (zs ++ ys) → AllByRecursion (λ y. same x y ≡ false) zs
+    front [] all = tt
+    front (z ∷ zs) all = (all.0, front zs all.1)
+
+-- the copies of those that pass ----
+
+module _ (id : ℕ) (p : Definition → Bool) (ds old : List Definition) where
+  abbrev pub copied_from : List Definition → List Definition
+  copied_from xs = map (local_in id) (filter p xs)
+
+  -- the rest of them comes behind what is there
+  abbrev pub IsLeft : ℕ → List Definition → Type 0
+  IsLeft index now = now ++ copied_from (drop index ds) ≡ old ++ copied_from ds
+
+  module _ (index : ℕ) (now : List Definition) (left : IsLeft index now) (d : Definition) (within : index < length ds) (read : d ≡ get_or ds index d) where
+    next : drop index ds ≡ d ∷ drop (index + 1) ds
+    next = drop_more ds index d within ∙ ap (λ x. x ∷ drop (index + 1) ds) (sym read)
+
+    passes_left : p d ≡ true → now ++ (local_in id d ∷ copied_from (drop (index + 1) ds)) ≡ old ++ copied_from ds
+    passes_left e =
+        sym (ap (λ xs. now ++ copied_from xs) next ∙ ap (λ b. now ++ map (local_in id) (cond b (d ∷ filter p (drop (index + 1) ds)) (filter p (drop (index + 1) ds)))) e)
+        ∙ left
+
+    -- none there has the key of the next one
+    pub copy_is_free : IsDistinct same_key (map key_in (old ++ copied_from ds)) → p d ≡ true → list_any (is_named d.name (Some id)) now ≡ false
+    copy_is_free differ e = free_before now (copied_from (drop (index + 1) ds)) (local_in id d) (subst (λ xs. IsDistinct same_key (map key_in xs)) (sym (passes_left e)) differ)
+
+    pub copy_pushed : (new : List Definition) (b : Bool) → b ≡ p d → new ≡ now ++ (if b then local_in id d ∷ [] else []) → IsLeft (index + 1) new
+    copy_pushed new true e pushed =
+        ap (λ xs. xs ++ copied_from (drop (index + 1) ds)) pushed ∙ append_assoc now (local_in id d ∷ []) (copied_from (drop (index + 1) ds)) ∙ passes_left (sym e)
+    copy_pushed new false e pushed =
+        ap (λ xs. xs ++ copied_from (drop (index + 1) ds)) pushed ∙ append_assoc now [] (copied_from (drop (index + 1) ds))
+        ∙ sym (ap (λ xs. now ++ copied_from xs) next ∙ ap (λ b. now ++ map (local_in id) (cond b (d ∷ filter p (drop (index + 1) ds)) (filter p (drop (index + 1) ds)))) (sym e)) ∙ left
+
+-- their bodies ----
+
+-- the last body is put
+pub last_put : (bodies : List Formula) (body : Formula) (ds : List Definition) → length bodies < length ds → with_each_body (bodies ++ body ∷ []) ds ≡ with_each_body bodies (updated_at (λ d. record d { body = body }) (length bodies) ds)
+last_put [] body [] lt = absurd (omega (arith, lt))
+last_put [] body (d ∷ ds) lt = refl
+last_put (b ∷ bodies) body [] lt = absurd (omega (arith, lt))
+last_put (b ∷ bodies) body (d ∷ ds) lt = ap (λ (rest : List Definition). record d { body = b } ∷ rest) (last_put bodies body ds (omega (arith, lt)))
+
+-- each made of its own
+pub each_made : (f : Formula → Formula) (ds : List Definition) → with_each_body (map (λ (d : Definition). f d.body) ds) ds ≡ map (with_formula f) ds
+each_made f [] = refl
+each_made f (d ∷ ds) = ap (λ (rest : List Definition). with_formula f d ∷ rest) (each_made f ds)
+
+-- the keys stay
+pub still_apart : (f : Formula → Formula) (old ds : List Definition) → AllByRecursion (λ (d : Definition). list_any (is_named d.name d.scope) old ≡ false) ds → AllByRecursion (λ (d : Definition). list_any (is_named d.name d.scope) old ≡ false) (map (with_formula f) ds)
+still_apart f old [] h = tt
+still_apart f old (d ∷ ds) h = (h.0, still_apart f old ds h.1)
