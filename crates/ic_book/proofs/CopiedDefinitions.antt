@@ -4,13 +4,15 @@ use Rattle.std.proofs.lemmas.List.{drop_more, length-append, length-map, map-app
 use Rattle.std.proofs.lemmas.Map.Keys.{IsDistinct-cons, IsDistinct-head, IsDistinct-tail}
 use Rattle.std.specs.List.{AllByRecursion, IsDistinct, filter, list_any}
 use Rattle.std.specs.Prelude.{Some}
+use Rattle.ic_laws.proofs.core.Lists.{length_updated}
 use Rattle.ic_laws.specs.CoreBook.{Definition}
 use Rattle.ic_laws.specs.CoreStep.{is_named, updated_at}
-use Rattle.ic_laws.specs.Scene.{same_key}
+use Rattle.ic_laws.specs.Name.{agrees}
+use Rattle.ic_laws.specs.Scene.{same_key, same_scope}
 use Rattle.ic_laws.specs.declared.tree.Formula.{Formula}
 use Rattle.ic_laws.specs.declared.tree.NameKey.{NameKey}
 use Rattle.ic_definitions.specs.Named.{key_in}
-use Rattle.ic_machine.specs.subjects.Sheets.{local_in, with_formula}
+use Rattle.ic_machine.specs.subjects.Sheets.{local_in, local_to, with_formula}
 use Rattle.ic_book.specs.Copied.{with_each_body}
 
 -- no key before an item of a list is its own ----
@@ -34,6 +36,24 @@ distinct_first same (x ∷ xs) ys h = IsDistinct-cons same x xs (front xs (IsDis
     front : (zs : List _) → AllByRecursion (λ y. same x y ≡ false) (zs ++ ys) → AllByRecursion (λ y. same x y ≡ false) zs
     front [] all = tt
     front (z ∷ zs) all = (all.0, front zs all.1)
+
+-- a name that agrees with that of one which is local to a sheet
+pub local_named : (name : List ℕ) (id : ℕ) (ds : List Definition) → list_any (is_named name (Some id)) ds ≡ list_any (λ (other : Definition). agrees other.name name) (local_to id ds)
+local_named name id [] = refl
+local_named name id (d ∷ ds) = step (same_scope d.scope (Some id)) (local_named name id ds)
+  where
+    step : (b : Bool) → list_any (is_named name (Some id)) ds ≡ list_any (λ (other : Definition). agrees other.name name) (local_to id ds)
+        → (agrees d.name name && b || list_any (is_named name (Some id)) ds) ≡ list_any (λ (other : Definition). agrees other.name name) (cond b (d ∷ local_to id ds) (local_to id ds))
+    step true e = by_test (agrees d.name name)
+      where
+        by_test : (t : Bool) → (t && true || list_any (is_named name (Some id)) ds) ≡ (t || list_any (λ (other : Definition). agrees other.name name) (local_to id ds))
+        by_test true = refl
+        by_test false = e
+    step false e = by_test (agrees d.name name)
+      where
+        by_test : (t : Bool) → (t && false || list_any (is_named name (Some id)) ds) ≡ list_any (λ (other : Definition). agrees other.name name) (local_to id ds)
+        by_test true = e
+        by_test false = e
 
 -- the copies of those that pass ----
 
@@ -65,6 +85,33 @@ module _ (id : ℕ) (p : Definition → Bool) (ds old : List Definition) where
         ap (λ xs. xs ++ copied_from (drop (index + 1) ds)) pushed ∙ append_assoc now [] (copied_from (drop (index + 1) ds))
         ∙ sym (ap (λ xs. now ++ copied_from xs) next ∙ ap (λ b. now ++ map (local_in id) (cond b (d ∷ filter p (drop (index + 1) ds)) (filter p (drop (index + 1) ds)))) (sym e)) ∙ left
 
+-- the copies of the first, then those of the others
+module _ (id : ℕ) (first more old : List Definition) (none : old ≡ []) where
+  abbrev Differ : List Definition → Type 0
+  Differ ds = IsDistinct same_key (map key_in ds)
+
+  both : map (local_in id) first ++ map (local_in id) more ≡ map (local_in id) (first ++ more)
+  both = sym (map-append (local_in id) first more)
+
+  all_differ : Differ (map (local_in id) (first ++ more)) → Differ (map (local_in id) first ++ map (local_in id) more)
+  all_differ h = subst Differ (sym both) h
+
+  pub first_differ : Differ (map (local_in id) (first ++ more)) → IsDistinct same_key (map key_in (old ++ map (local_in id) first))
+  first_differ h =
+      subst (λ xs. Differ (xs ++ map (local_in id) first)) (sym none)
+      (distinct_first same_key (map key_in (map (local_in id) first)) (map key_in (map (local_in id) more))
+      (subst (IsDistinct same_key) (map-append key_in (map (local_in id) first) (map (local_in id) more)) (all_differ h)))
+
+  module _ (now : List Definition) (made : now ≡ old ++ map (local_in id) first) where
+    now_is : now ≡ map (local_in id) first
+    now_is = made ∙ ap (λ xs. xs ++ map (local_in id) first) none
+
+    pub more_differ : Differ (map (local_in id) (first ++ more)) → IsDistinct same_key (map key_in (now ++ map (local_in id) more))
+    more_differ h = subst (λ xs. Differ (xs ++ map (local_in id) more)) (sym now_is) (all_differ h)
+
+    pub all_copied : (new : List Definition) → new ≡ now ++ map (local_in id) more → new ≡ map (local_in id) (first ++ more)
+    all_copied new e = e ∙ ap (λ xs. xs ++ map (local_in id) more) now_is ∙ both
+
 -- their bodies ----
 
 -- the last body is put
@@ -73,6 +120,20 @@ last_put [] body [] lt = absurd (omega (arith, lt))
 last_put [] body (d ∷ ds) lt = refl
 last_put (b ∷ bodies) body [] lt = absurd (omega (arith, lt))
 last_put (b ∷ bodies) body (d ∷ ds) lt = ap (λ (rest : List Definition). record d { body = b } ∷ rest) (last_put bodies body ds (omega (arith, lt)))
+
+pub body_put : (made before new : List Definition) (bodies now : List Formula) (body : Formula) (len : ℕ) → with_each_body bodies before ≡ made → length bodies ≤ length before → bodies ≡ now ++ body ∷ [] → len ≡ length now
+    → new ≡ updated_at (λ d. record d { body = body }) len before → (with_each_body now new ≡ made) × (length now ≤ length new)
+body_put made before new bodies now body len left within last counted put =
+    let longer : length bodies ≡ length now + 1 = ap length last ∙ length-append now (body ∷ []) in
+    let lt : length now < length before = omega (arith, within, longer) in
+    let is : new ≡ updated_at (λ d. record d { body = body }) (length now) before = put ∙ ap (λ k. updated_at (λ d. record d { body = body }) k before) counted in
+    let same : length new ≡ length before = ap length is ∙ length_updated (λ d. record d { body = body }) (length now) before in
+    (ap (with_each_body now) is ∙ sym (last_put now body before lt) ∙ ap (λ bs. with_each_body bs before) (sym last) ∙ left, omega (arith, lt, same))
+
+pub body_within : (ds : List Definition) (bodies now : List Formula) (body : Formula) (len : ℕ) → length bodies ≤ length ds → bodies ≡ now ++ body ∷ [] → len ≡ length now → len < length ds
+body_within ds bodies now body len within last counted =
+    let longer : length bodies ≡ length now + 1 = ap length last ∙ length-append now (body ∷ []) in
+    omega (arith, within, longer, counted)
 
 -- each made of its own
 pub each_made : (f : Formula → Formula) (ds : List Definition) → with_each_body (map (λ (d : Definition). f d.body) ds) ds ≡ map (with_formula f) ds

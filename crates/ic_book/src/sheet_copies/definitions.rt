@@ -1,10 +1,11 @@
 //! The definitions that are copied with a sheet.
-ghost use Rattle.std.specs.Prelude.{◌≡◌, ◌≤◌, ◌++◌, [], ◌∷◌, IfOk, OnOk, Some, false, filter, length, map, true, if◌then◌else◌};
+ghost use Rattle.std.specs.Prelude.{◌≡◌, ◌≤◌, ◌++◌, [], ◌∷◌, IfOk, OnOk, Some, chars, false, filter, length, map, true, if◌then◌else◌};
 ghost use Rattle.std.specs.List.{IsDistinct, list_any};
 ghost use Rattle.ic_definitions.specs.Named.{key_in};
 ghost use Rattle.ic_laws.specs.CoreStep.{is_named};
+ghost use Rattle.ic_laws.specs.Name.{agrees};
 ghost use Rattle.ic_laws.specs.Scene.{same_key};
-ghost use Rattle.ic_machine.specs.subjects.Sheets.{copied_of, local_in};
+ghost use Rattle.ic_machine.specs.subjects.Sheets.{copied_of, local_in, local_to};
 ghost use Rattle.ic_book.specs.Copied.{is_copied, with_each_body};
 
 use super::mentions::mentions_sheet;
@@ -76,11 +77,17 @@ fn is_copied(
         CopiedKind::Shared => {
             definition.scope().is_none()
                 && mentions_sheet(source, definition.body())
-                && definitions
-                    .index_of(definition.name(), Some(source))
-                    .is_none()
+                && !has_local(definitions, definition.name(), source)
         }
     }
+}
+
+/// Whether a definition of an agreeing name is local to the sheet with this id.
+fn has_local(definitions: &Definitions, name: &str, id: u32) -> bool
+    ensures { result ≡ list_any (λ other. agrees other.name (chars name.now))
+        (local_to id definitions.now) }
+{
+    definitions.index_of(name, Some(id)).is_some()
 }
 
 /// Adds the copy of a definition if it passes.
