@@ -1,9 +1,10 @@
 -- Definitions that are copied with a sheet, one after another, and their bodies.
 use Rattle.std.proofs.Common.{◌≡◌, ℕ, suc, ◌+◌, ◌<◌, ◌≤◌, List, [], ◌∷◌, ◌++◌, map, length, Bool, true, false, cond, ◌&&◌, ◌||◌, drop, get_or, refl, sym, ap, ap₂, subst, ◌∙◌, arith, append_assoc, if◌then◌else◌}
+use Rattle.std.proofs.lemmas.Bool.{and_right}
 use Rattle.std.proofs.lemmas.List.{drop_more, length-append, length-map, map-append}
 use Rattle.std.proofs.lemmas.Map.Keys.{IsDistinct-cons, IsDistinct-head, IsDistinct-tail}
 use Rattle.std.specs.List.{AllByRecursion, IsDistinct, filter, list_any}
-use Rattle.std.specs.Prelude.{Some}
+use Rattle.std.specs.Prelude.{Some, nat_eq}
 use Rattle.ic_laws.proofs.core.Lists.{length_updated}
 use Rattle.ic_laws.specs.CoreBook.{Definition}
 use Rattle.ic_laws.specs.CoreStep.{is_named, updated_at}
@@ -11,8 +12,10 @@ use Rattle.ic_laws.specs.Name.{agrees}
 use Rattle.ic_laws.specs.Scene.{same_key, same_scope}
 use Rattle.ic_laws.specs.declared.tree.Formula.{Formula}
 use Rattle.ic_laws.specs.declared.tree.NameKey.{NameKey}
-use Rattle.ic_definitions.specs.Named.{key_in}
-use Rattle.ic_machine.specs.subjects.Sheets.{local_in, local_to, with_formula}
+use Rattle.ic_definitions.specs.Named.{key_in, scopes_of}
+use Rattle.ic_machine.proofs.CopyKeys.{copy_key, keys_with_copies, no_scope}
+use Rattle.ic_machine.proofs.CoreValid.{map_twice}
+use Rattle.ic_machine.specs.subjects.Sheets.{copied_of, local_in, local_to, with_formula}
 use Rattle.ic_book.specs.Copied.{with_each_body}
 
 -- no key before an item of a list is its own ----
@@ -36,6 +39,30 @@ distinct_first same (x ∷ xs) ys h = IsDistinct-cons same x xs (front xs (IsDis
     front : (zs : List _) → AllByRecursion (λ y. same x y ≡ false) (zs ++ ys) → AllByRecursion (λ y. same x y ≡ false) zs
     front [] all = tt
     front (z ∷ zs) all = (all.0, front zs all.1)
+
+distinct_last : {X : Type 0} (same : X → X → Bool) (xs ys : List X) → IsDistinct same (xs ++ ys) → IsDistinct same ys
+distinct_last same [] ys h = h
+distinct_last same (x ∷ xs) ys h = distinct_last same xs ys (IsDistinct-tail same x (xs ++ ys) h)
+
+-- definitions of a book, none of which is local to the sheet with this id
+module _ (source id : ℕ) (ds : List Definition) (unscoped : list_any (nat_eq id) (scopes_of ds) ≡ false) where
+  -- no two that are copied have one key as ones that are local to it
+  pub copies_differ : IsDistinct same_key (map key_in ds) → IsDistinct same_key (map key_in (map (local_in id) (copied_of source ds)))
+  copies_differ h =
+      subst (IsDistinct same_key) (map_twice (local_in id) key_in (copied_of source ds))
+      (distinct_last same_key (map key_in ds) (map (copy_key source id) (copied_of source ds)) (keys_with_copies source id ds h unscoped))
+
+  none_named : (name : List ℕ) (xs : List Definition) → AllByRecursion (λ (d : Definition). same_scope d.scope (Some id) ≡ false) xs → list_any (is_named name (Some id)) xs ≡ false
+  none_named name [] h = refl
+  none_named name (d ∷ xs) h = ap₂ (λ (a b : Bool). a || b) (and_right (agrees d.name name) (same_scope d.scope (Some id)) h.0) (none_named name xs h.1)
+
+  -- none of the book's has the key of such a one
+  pub copies_apart : (cs copied : List Definition) → cs ≡ map (local_in id) copied → AllByRecursion (λ (d : Definition). list_any (is_named d.name d.scope) ds ≡ false) cs
+  copies_apart cs copied e = subst (AllByRecursion (λ (d : Definition). list_any (is_named d.name d.scope) ds ≡ false)) (sym e) (each copied)
+    where
+      each : (xs : List Definition) → AllByRecursion (λ (d : Definition). list_any (is_named d.name d.scope) ds ≡ false) (map (local_in id) xs)
+      each [] = tt
+      each (d ∷ xs) = (none_named d.name ds (no_scope source id ds unscoped), each xs)
 
 -- a name that agrees with that of one which is local to a sheet
 pub local_named : (name : List ℕ) (id : ℕ) (ds : List Definition) → list_any (is_named name (Some id)) ds ≡ list_any (λ (other : Definition). agrees other.name name) (local_to id ds)
