@@ -9,6 +9,10 @@ pub mod BookLemmas
 pub mod BookValid
 pub mod CellReads
 pub mod ChangeLemmas
+pub mod CopiedContents
+pub mod CopiedDefinitions
+pub mod CopiedFormulas
+pub mod CopiedMentions
 pub mod CopyLemmas
 pub mod DoesLemmas
 pub mod ExtendLemmas

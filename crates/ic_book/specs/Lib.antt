@@ -3,6 +3,7 @@ pub mod Asked
 pub mod Book
 pub mod Cells
 pub mod Change
+pub mod Copied
 pub mod Definitions
 pub mod Does
 pub mod Extended

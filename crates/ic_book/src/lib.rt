@@ -42,6 +42,7 @@ mod referring;
 mod scene;
 mod settings;
 mod sheet_changes;
+mod sheet_copies;
 mod sheet_names;
 mod sites;
 mod styled;
