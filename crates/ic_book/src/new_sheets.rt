@@ -1,4 +1,4 @@
-//! New sheets: one with a number in its name at the end, and one put in among the others.
+//! Sheets that come with a name that is made.
 ghost use Rattle.std.specs.Prelude.{◌≡◌, IfOk, chars, length, string_bytes, true};
 ghost use Rattle.ic_laws.specs.Name.{is_sheet_name};
 ghost use Rattle.ic_machine.specs.subjects.Sheets as sheets;
