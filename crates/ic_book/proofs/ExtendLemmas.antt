@@ -113,7 +113,7 @@ first_later [] b r e = refl
 first_later ((true, q) ∷ cs) b r e = cc
 first_later ((false, q) ∷ cs) b r e = first_later cs b r e
 
-first_earlier : (causes more : Causes) (r : Refusal) → first_refusal causes ≡ Some r → first_refusal (causes ++ more) ≡ Some r
+pub first_earlier : (causes more : Causes) (r : Refusal) → first_refusal causes ≡ Some r → first_refusal (causes ++ more) ≡ Some r
 first_earlier [] more r e = cc
 first_earlier ((true, q) ∷ cs) more r e = e
 first_earlier ((false, q) ∷ cs) more r e = first_earlier cs more r e

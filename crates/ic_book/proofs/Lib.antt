@@ -64,6 +64,8 @@ pub mod TypedLemmas
 pub mod TypedSteps
 pub mod UnreadLemmas
 pub mod UpdatedChecks
+pub mod UpdatedDoes
+pub mod UpdatedHeld
 pub mod UpdatedRules
 pub mod ValueLemmas
 pub mod WholeLemmas

@@ -50,10 +50,10 @@ LooksUpUndefined name scope old new =
 
 -- The look-up of each sheet has all of its formulas after an update where it had all before, and the update touches none.
 abbrev pub looks_up_untouched : NameKey → NameKey → List Sheet → List Bool → List Bool
-looks_up_untouched old_key new_key [] had = []
-looks_up_untouched old_key new_key (sheet ∷ sheets) [] = []
-looks_up_untouched old_key new_key (sheet ∷ sheets) (had ∷ more) =
-    (had && not (list_any (is_touched old_key new_key) sheet.pool)) ∷ looks_up_untouched old_key new_key sheets more
+looks_up_untouched before after [] had = []
+looks_up_untouched before after (sheet ∷ sheets) [] = []
+looks_up_untouched before after (sheet ∷ sheets) (had ∷ more) =
+    (had && not (list_any (is_touched before after) sheet.pool)) ∷ looks_up_untouched before after sheets more
 
 -- a definition was updated: those of sheets whose formulas have no word that means it, or has its new name, are there as
 -- before
