@@ -30,10 +30,14 @@ pub ids_there : (id : ℕ) (ss : List Sheet) → has_id id (map mentioned ss) �
 ids_there id [] = refl
 ids_there id (s ∷ ss) = ap₂ (λ (x y : Bool). x || y) (nat_eq_equiv.symm s.id id) (ids_there id ss)
 
--- definitions that are local to the sheet with this id stand behind the others; the sheets are those of another scene
+-- the sheets of another scene, and more definitions behind the others
+abbrev pub scene_with_more : List DefinitionSpelling → Scene → Scene → Scene
+scene_with_more ns before among = record { sheets = among.sheets; names = before.names ++ ns }
+
+-- those that come are local to the sheet with this id
 module _ (id : ℕ) (ns : List DefinitionSpelling) (all : AllByRecursion (λ (m : DefinitionSpelling). m.scope ≡ Some id) ns) (before among : Scene) where
-  abbrev pub with_more : Scene
-  with_more = record { sheets = among.sheets; names = before.names ++ ns }
+  abbrev with_more : Scene
+  with_more = scene_with_more ns before among
 
   -- they are found from no other sheet
   module _ (scope : Option ℕ) (apart : same_scope (Some id) scope ≡ false) where

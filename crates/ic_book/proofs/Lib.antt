@@ -12,7 +12,10 @@ pub mod ChangeLemmas
 pub mod CopiedContents
 pub mod CopiedDefinitions
 pub mod CopiedFormulas
+pub mod CopiedHeld
 pub mod CopiedMentions
+pub mod CopiedModel
+pub mod CopiedSteps
 pub mod CopyLemmas
 pub mod DoesLemmas
 pub mod ExtendLemmas

@@ -77,7 +77,7 @@ sheets_kept strings n before after (s ∷ sheets) = ap (λ rest. with_kept_pool 
 abbrev with_both : Book → List machine.Sheet → List Definition → machine.Book
 with_both book sheets definitions = record (whole_of book) { sheets = sheets; definitions = definitions }
 
-whole_kept : (n : Notations) (before after : Scene) (book : Book) → whole_of (with_kept_pools n before after book) ≡ with_kept_formulas n before after same_keys (whole_of book)
+pub whole_kept : (n : Notations) (before after : Scene) (book : Book) → whole_of (with_kept_pools n before after book) ≡ with_kept_formulas n before after same_keys (whole_of book)
 whole_kept n before after book =
     ap (λ sheets. with_both book sheets (map (kept_in_body n before after same_keys) book.definitions)) (sheets_kept book.strings n before after book.sheets)
 

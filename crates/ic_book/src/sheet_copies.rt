@@ -111,7 +111,8 @@ impl<'a> Model<'a> {
         // What always holds of a model is known from here on.
         let _ = &self.contents;
         let english = self.notation.get_default_language();
-        copy_sheet(self.alloc, &mut self.contents, english, index, id, name)
+        copy_sheet(self.alloc, &mut self.contents, english, index, id, name)?;
+        Ok(())
     }
 }
 
