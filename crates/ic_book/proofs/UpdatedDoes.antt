@@ -88,6 +88,11 @@ module _ (b : machine.Book) (u : Update) where
   wanted_after asked (Ok value) h = let no : false ≡ true = h.0 in cc
   wanted_after asked (Err e) h = inr (late_question asked, h.1)
 
+-- after the checks of the question memory may run out
+pub question_wants : {T : Type 0} (refusal : Option Refusal) → refusal ≡ None → (r : Result T BookError) → IsErr r × IsErrAnd r (λ e. e ≡ errors.OutOfMemory) → TellsWhere is_late_question r refusal
+question_wants refusal none (Ok value) h = none
+question_wants refusal none (Err e) h = inl (none ∙ sym (ap refusal_of h.1))
+
 pub updates : (result : Result (Unit {0}) BookError) (old new : ModelState) (u : Update) → OnOk result (whole_of new.book ≡ updated_book (whole_of old.book) u) → TellsWhere is_late_update result (first_refusal (update_causes (whole_of old.book) u))
     → OnErr result (new ≡ old) → IsValidBook old.book → IsValidBook new.book → DoesWhere is_late_update definition_step (UpdateDefinedName u) no_fields result old new
 unfolding update_name_step

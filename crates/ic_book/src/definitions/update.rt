@@ -176,9 +176,9 @@ impl<'a> Model<'a> {
             (chars formula.now)))) }
         ensures valid { IsValidBook self.now.book }
     {
+        let english = self.notation.get_default_language();
         let checked = self.checked_update(name, scope, new_name, new_scope, formula)?;
         let change = keys_of_update(self.alloc, name, new_name, &checked)?;
-        let english = self.notation.get_default_language();
         let index = checked.index;
         let prepared = prepare_update(
             self.alloc,
