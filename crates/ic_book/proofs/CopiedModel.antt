@@ -1,6 +1,9 @@
 -- A model in which a sheet is copied: what is asked of its contents before, and what it holds afterwards.
-use Rattle.std.proofs.Common.{◌≡◌, ℕ, ◌+◌, ◌<◌, List, [], ◌∷◌, ◌++◌, map, length, Bool, false, Option, Some, IfSome, option_map, refl, sym, ap, ap₂, subst, ◌∙◌}
+use Rattle.std.proofs.Common.{◌≡◌, ℕ, ◌+◌, ◌<◌, ◌≤◌, List, [], ◌∷◌, ◌++◌, map, length, get_or, nat_lt, Bool, false, Option, Some, None, IfSome, IfOk, Result, String, string_bytes, chars, option_map, refl, sym, ap, ap₂, subst, ◌∙◌, rules, arith}
 use Rattle.std.proofs.lemmas.List.{length-map}
+use Rattle.std.proofs.lemmas.Option.{slice_get-map}
+use Rattle.std.proofs.lemmas.Result.{IfOk-weaker}
+use Rattle.std.specs.declared.alloc.Global.{Global}
 use Rattle.std.specs.List.{insert, list_any, slice_get}
 use Rattle.std.specs.Prelude.{is_none, nat_eq}
 use Rattle.ic_laws.specs.Changes.{Change, sheet_named}
@@ -8,24 +11,57 @@ use Rattle.ic_laws.specs.CoreBook.{Definition, fresh_id}
 use Rattle.ic_laws.specs.Name.{agrees}
 use Rattle.ic_laws.specs.Notations.{english_function}
 use Rattle.ic_definitions.specs.Named.{definitions_scene, scopes_of}
-use Rattle.ic_machine.specs.subjects.Sheets.{copied_of, copy_id, local_in, name_of_copy, scene_with_copy}
+use Rattle.ic_machine.specs.subjects.Sheets.{copied_of, copy_id, copy_name, local_in, name_of_copy, scene_with_copy}
 use Rattle.ic_sheets.proofs.RewritingLemmas.{sheet_there}
 use Rattle.ic_sheets.specs.Rewriting.{look_ups, looks_up_after}
 use Rattle.ic_sheets.specs.Sheet.{Sheet, sheet_of}
 use Rattle.ic_sheets.specs.declared.sheet.Sheet.{Sheet as HeldSheet}
 use Rattle.ic_book.specs.declared.contents.Contents.{Contents}
 use Rattle.ic_book.specs.declared.model.Model.TheInside.{Inside}
-use Rattle.ic_book.specs.Book.{Book, IsValidBook, core_of, notations_in, whole_of}
+use Rattle.ic_book.specs.Book.{Book, IsValidBook, ModelState, core_of, notations_in, whole_of}
 use Rattle.ic_book.specs.Change.{book_changed_by}
 use Rattle.ic_book.specs.Copied.{HasCopy, LooksUpCopied, definitions_copied, sheet_copied, whole_source, with_copied_sheet}
 use Rattle.ic_book.specs.Inside.{IsHeld, held, held_state, with_contents}
 use Rattle.ic_book.specs.LookUps.{looks_up_in}
+use Rattle.ic_book.specs.SheetNames.{free_among}
 use Rattle.ic_book.proofs.CopiedHeld.{copied_is, held_at, held_free, held_fresh, held_id, held_unscoped}
 use Rattle.ic_book.proofs.CopiedSteps.{valid_then}
+use Rattle.ic_book.proofs.HeldLemmas.{none_at, read_is}
 use Rattle.ic_book.proofs.LookUpLemmas.{looks_up_is}
+use Rattle.ic_book.proofs.NewSheetLemmas.{free_same}
 
 same_some : {X : Type 0} (x y : X) → (let o : Option X = Some x in o ≡ Some y) → x ≡ y
 same_some x y e = cc
+
+-- whether a sheet stands at an index
+module _ (inside : Inside) (old : ModelState) (view : held_state inside ≡ old) (index len : ℕ) (counted : len ≡ length inside.contents.sheets) where
+  pub source_there : index < len → (source : Sheet) × (slice_get old.book.sheets index ≡ Some source)
+  source_there lt =
+      let there = sheet_there inside.contents.sheets index (subst (λ k. index < k) counted lt) in
+      (sheet_of there.0, subst (λ (m : ModelState). slice_get m.book.sheets index ≡ Some (sheet_of there.0)) view (slice_get-map sheet_of inside.contents.sheets index ∙ ap (option_map sheet_of) there.1))
+
+  pub none_there : len ≤ index → slice_get old.book.sheets index ≡ None
+  none_there le =
+      let past : nat_lt index (length inside.contents.sheets) ≡ false = no_less index _ (subst (λ k. k ≤ index) counted le) in
+      subst (λ (m : ModelState). slice_get m.book.sheets index ≡ None) view (slice_get-map sheet_of inside.contents.sheets index ∙ ap (option_map sheet_of) (none_at inside.contents.sheets inside.contents.sheets index refl past))
+    where
+      no_less : (m k : ℕ) → k ≤ m → nat_lt m k ≡ false
+      no_less m k le = search (rules, arith)
+
+-- the name of a copy
+pub copy_named : (inside : Inside) (h : IsHeld inside) (index : ℕ) (slice : List HeldSheet) (s : HeldSheet) → slice ≡ inside.contents.sheets → s ≡ get_or slice index s → (text : List ℕ) → text ≡ s.name
+    → {E : Type 0} (result : Result (String Global) E)
+    → IfOk result (λ name. chars (string_bytes name) ≡ copy_name text (free_among (map (λ (x : HeldSheet). x.name) inside.contents.sheets) (copy_name text)))
+    → index < length (held inside).sheets
+    → IfOk result (λ name. (source : Sheet) → slice_get (held inside).sheets index ≡ Some source → chars (string_bytes name) ≡ name_of_copy (whole_of (held inside)) source.name)
+copy_named inside h index slice s same read text is result made within =
+    let there = sheet_there inside.contents.sheets index (subst (λ k. index < k) (length-map inside.contents.sheets sheet_of) within) in
+    IfOk-weaker result (λ name. chars (string_bytes name) ≡ copy_name text (free_among (map (λ (x : HeldSheet). x.name) inside.contents.sheets) (copy_name text)))
+    (λ name. (source : Sheet) → slice_get (held inside).sheets index ≡ Some source → chars (string_bytes name) ≡ name_of_copy (whole_of (held inside)) source.name)
+    (λ name e source at.
+    let its : s ≡ there.0 = read_is slice inside.contents.sheets index s there.0 same (subst (λ k. index < k) (length-map inside.contents.sheets sheet_of) within) read there.1 in
+    let that : sheet_of there.0 ≡ source = same_some (sheet_of there.0) source (sym (slice_get-map sheet_of inside.contents.sheets index ∙ ap (option_map sheet_of) there.1) ∙ at) in
+    e ∙ ap (copy_name text) (free_same inside h (copy_name text)) ∙ ap (name_of_copy (whole_of (held inside))) (is ∙ ap (λ (x : HeldSheet). x.name) its ∙ ap (λ (x : Sheet). x.name) that)) made
 
 module _ (inside : Inside) (h : IsHeld inside) (index id : ℕ) (name : List ℕ) (within : index < length (held inside).sheets) (fresh : fresh_id (core_of (held inside)) ≡ Some id)
   (called : (source : Sheet) → slice_get (held inside).sheets index ≡ Some source → name ≡ name_of_copy (whole_of (held inside)) source.name) where
