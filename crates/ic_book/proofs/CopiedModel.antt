@@ -64,7 +64,7 @@ copy_named inside h index slice s same read text is result made within =
     e ∙ ap (copy_name text) (free_same inside h (copy_name text)) ∙ ap (name_of_copy (whole_of (held inside))) (is ∙ ap (λ (x : HeldSheet). x.name) its ∙ ap (λ (x : Sheet). x.name) that)) made
 
 module _ (inside : Inside) (h : IsHeld inside) (index id : ℕ) (name : List ℕ) (within : index < length (held inside).sheets) (fresh : fresh_id (core_of (held inside)) ≡ Some id)
-  (called : (source : Sheet) → slice_get (held inside).sheets index ≡ Some source → name ≡ name_of_copy (whole_of (held inside)) source.name) where
+    (called : (source : Sheet) → slice_get (held inside).sheets index ≡ Some source → name ≡ name_of_copy (whole_of (held inside)) source.name) where
   abbrev book : Book
   book = held inside
 

@@ -37,8 +37,22 @@ pub fn copied_definitions(
         ≡ map (local_in copy) (copied_of source definitions.now)) }
 {
     let mut copies = Definitions::new(alloc);
-    push_copies(alloc, &mut copies, definitions, CopiedKind::Local, source, copy)?;
-    push_copies(alloc, &mut copies, definitions, CopiedKind::Shared, source, copy)?;
+    push_copies(
+        alloc,
+        &mut copies,
+        definitions,
+        CopiedKind::Local,
+        source,
+        copy,
+    )?;
+    push_copies(
+        alloc,
+        &mut copies,
+        definitions,
+        CopiedKind::Shared,
+        source,
+        copy,
+    )?;
     Ok(copies)
 }
 
