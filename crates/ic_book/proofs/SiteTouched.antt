@@ -26,6 +26,7 @@ use Rattle.ic_pool.specs.Code.{code}
 use Rattle.ic_pool.specs.Remade.{LeavesUntouched, Remade, touched_from}
 use Rattle.ic_pool.specs.declared.pool.rewrites.Replacement.{Replacement}
 use Rattle.ic_book.specs.Sites.{IsAlikeBody, IsAlikeIn, body_site, body_sites, captures, captures_at, site_of}
+use Rattle.ic_book.specs.declared.sites.MentionSite.{MentionSite}
 use Rattle.ic_book.specs.declared.sites.MentionSite.TheVariants as sites
 
 -- what is left of a list from a place on: the item that stands there, and what is left from the next

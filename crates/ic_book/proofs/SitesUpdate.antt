@@ -1,21 +1,21 @@
 -- What is listed of an update of a definition is what the machine's step says that the update captures.
-use Rattle.std.proofs.Common.{◌≡◌, ℕ, List, [], ◌∷◌, map, Bool, true, Option, Some, refl, sym, ap, ◌∙◌}
+use Rattle.std.proofs.Common.{◌≡◌, ℕ, List, [], ◌∷◌, map, Bool, true, Option, Some, refl, sym, ap, ap₂, ◌∙◌}
 use Rattle.std.specs.List.{AllByRecursion, slice_get}
 use Rattle.ic_laws.proofs.keeping.NameChanges.{same_key_flip}
 use Rattle.ic_laws.specs.Binding.{bound}
 use Rattle.ic_laws.specs.CoreBook.{Definition}
 use Rattle.ic_laws.specs.CoreStep.{is_named}
 use Rattle.ic_laws.specs.FormulaReading.{Body}
-use Rattle.ic_laws.specs.Keeping.{changed_key}
-use Rattle.ic_laws.specs.Notations.{english_function}
+use Rattle.ic_laws.specs.Keeping.{changed_key, kept_in_body}
+use Rattle.ic_laws.specs.Notations.{Notations, english_function}
 use Rattle.ic_laws.specs.Scene.{same_key}
 use Rattle.ic_laws.specs.declared.scene.Scene.{Scene}
 use Rattle.ic_laws.specs.declared.tree.Formula.{Formula}
 use Rattle.ic_laws.specs.declared.tree.Formula.TheVariants as formulas
 use Rattle.ic_laws.specs.declared.tree.NameKey.{NameKey}
 use Rattle.ic_definitions.specs.Named.{key_in}
-use Rattle.ic_definitions.specs.Remade.{LeavesBody, touched_bodies}
-use Rattle.ic_definitions.specs.declared.bodies.BodyRewrites.{BodyRewrites}
+use Rattle.ic_definitions.specs.Remade.{LeavesBody, remade_body, touched_bodies}
+use Rattle.ic_definitions.specs.declared.bodies.NewBody.{NewBody}
 use Rattle.ic_keep.proofs.KeptAlike.{kept_formula_is_alike}
 use Rattle.ic_keep.proofs.Uncaptured.{untouched_uncaptured}
 use Rattle.ic_machine.proofs.UpdatedStays.{passes_at}
@@ -36,12 +36,12 @@ use Rattle.ic_book.specs.Sites.{IsUpdate, kept_where_touched, listed_sites, site
 
 -- Formulas that are kept where an update touches them are an update: what it doesn't touch isn't captured, and what is kept
 -- has the same shape.
-pub kept_update : (english : List ℕ → Option ℕ) (before after : Scene) (old new : NameKey) (sheets : List HeldSheet) (definitions : List Definition) (formulas : List RewritesState) (rewrites : BodyRewrites)
-    → AreRemade (kept_where_touched english before after old new) formulas sheets → rewrites.bodies.items ≡ touched_bodies (kept_where_touched english before after old new) 0 definitions
+pub kept_update : (english : List ℕ → Option ℕ) (before after : Scene) (old new : NameKey) (sheets : List HeldSheet) (definitions : List Definition) (formulas : List RewritesState) (bodies : List NewBody)
+    → AreRemade (kept_where_touched english before after old new) formulas sheets → bodies ≡ touched_bodies (kept_where_touched english before after old new) 0 definitions
     → AllByRecursion (λ (s : HeldSheet). AllByRecursion (LeavesUntouched (kept_where_touched english before after old new) (Some s.id)) s.pool.formulas) sheets
     → AllByRecursion (LeavesBody (kept_where_touched english before after old new)) definitions
-    → IsUpdate (kept_where_touched english before after old new) (changed_key old new) sheets definitions formulas rewrites
-kept_update english before after old new sheets definitions formulas rewrites pools listed stay bodies_stay = record {
+    → IsUpdate (kept_where_touched english before after old new) (changed_key old new) sheets definitions formulas bodies
+kept_update english before after old new sheets definitions formulas bodies pools listed stay bodies_stay = record {
   pools = pools;
   bodies_listed = listed;
   formulas_stay = stay;
@@ -69,15 +69,15 @@ module _ (book : Book) (u : Update) (index : ℕ) (found : updated_index (whole_
     abbrev pub rule : Remade
     rule = kept_where_touched (english_function (notations_in whole)) (scene_in whole) later (old_key whole u) (new_key whole u)
 
-    pub pools_kept : (ss : List Sheet) → map (with_kept_pool (notations_in whole) (scene_in whole) later (keys_of_update whole u)) (map (whole_sheet book.strings) ss) ≡ map (whole_sheet book.strings) (map (remade_pool rule) ss)
+    pools_kept : (ss : List Sheet) → map (with_kept_pool (notations_in whole) (scene_in whole) later (keys_of_update whole u)) (map (whole_sheet book.strings) ss) ≡ map (whole_sheet book.strings) (map (remade_pool rule) ss)
     pools_kept [] = refl
     pools_kept (s ∷ ss) = ap (λ rest. whole_sheet book.strings (remade_pool rule s) ∷ rest) (pools_kept ss)
 
-    pub listed_kept : (sheets : List HeldSheet) (formulas : List RewritesState) (rewrites : BodyRewrites) → IsUpdate rule (keys_of_update whole u) sheets book.definitions formulas rewrites → sheets_of sheets ≡ book.sheets
-        → map site_of (listed_sites (keys_of_update whole u) (old_key whole u) sheets book.definitions formulas rewrites)
+    pub listed_kept : (sheets : List HeldSheet) (formulas : List RewritesState) (bodies : List NewBody) → IsUpdate rule (keys_of_update whole u) sheets book.definitions formulas bodies → sheets_of sheets ≡ book.sheets
+        → map site_of (listed_sites (keys_of_update whole u) (old_key whole u) sheets book.definitions formulas bodies)
         ≡ captured_sites (keys_of_update whole u) (old_key whole u) whole (changed_with (keys_of_update whole u) (with_update whole u has_equals body (Some index)) whole)
-    listed_kept sheets formulas rewrites update held =
-        listed_captured rule (keys_of_update whole u) sheets book.definitions formulas rewrites update book (changed_with (keys_of_update whole u) (with_update whole u has_equals body (Some index)) whole) (old_key whole u)
+    listed_kept sheets formulas bodies update held =
+        listed_captured rule (keys_of_update whole u) sheets book.definitions formulas bodies update book (changed_with (keys_of_update whole u) (with_update whole u has_equals body (Some index)) whole) (old_key whole u)
         (record { name = u.new_name; scope = new_scope_id whole u; has_equals = has_equals; body = body }) index held refl (pools_kept book.sheets) refl its_key
 
   -- the formula that a body becomes
@@ -92,7 +92,7 @@ module _ (book : Book) (u : Update) (index : ℕ) (found : updated_index (whole_
       ∙ ap (λ o. captured_sites (keys_of_update whole u) (old_key whole u) whole (changed_with (keys_of_update whole u) (with_update whole u body.has_equals (bound_body body) o) whole)) found)
 
   -- what is listed of an update is what it captures
-  pub listed_is_captured : (body : Body) → update_body (notations_in whole) (core_of whole) u.body ≡ Some body → (sheets : List HeldSheet) (formulas : List RewritesState) (rewrites : BodyRewrites)
-      → IsUpdate (rule body.has_equals (bound_body body)) (keys_of_update whole u) sheets book.definitions formulas rewrites → sheets_of sheets ≡ book.sheets
-      → map site_of (listed_sites (keys_of_update whole u) (old_key whole u) sheets book.definitions formulas rewrites) ≡ update_sites whole u
-  listed_is_captured body e sheets formulas rewrites update held = listed_kept body.has_equals (bound_body body) sheets formulas rewrites update held ∙ sites_by_body body e
+  pub listed_is_captured : (body : Body) → update_body (notations_in whole) (core_of whole) u.body ≡ Some body → (sheets : List HeldSheet) (formulas : List RewritesState) (bodies : List NewBody)
+      → IsUpdate (rule body.has_equals (bound_body body)) (keys_of_update whole u) sheets book.definitions formulas bodies → sheets_of sheets ≡ book.sheets
+      → map site_of (listed_sites (keys_of_update whole u) (old_key whole u) sheets book.definitions formulas bodies) ≡ update_sites whole u
+  listed_is_captured body e sheets formulas bodies update held = listed_kept body.has_equals (bound_body body) sheets formulas bodies update held ∙ sites_by_body body e

@@ -3,7 +3,7 @@
 use Rattle.std.proofs.Common.{◌≡◌, ℕ, List, [], ◌∷◌, ◌++◌, map, Bool, true, false, cond, Option, Some, None, refl, sym, ap, ap₂, subst, ◌∙◌}
 use Rattle.std.proofs.lemmas.List.{map-append}
 use Rattle.std.specs.FinMap as finite
-use Rattle.std.specs.List.{AllByRecursion, slice_get, zip}
+use Rattle.std.specs.List.{AllByRecursion, AllZip, slice_get, zip}
 use Rattle.std.specs.Prelude.{flat_map}
 use Rattle.ic_laws.specs.CoreBook.{CellPlace, Definition}
 use Rattle.ic_laws.specs.CoreStep.{updated_at}
@@ -15,7 +15,7 @@ use Rattle.ic_cells.specs.Cell.{cell_formula_index}
 use Rattle.ic_cells.specs.declared.cell.Cell.{Cell}
 use Rattle.ic_definitions.specs.Named.{key_in}
 use Rattle.ic_definitions.specs.Remade.{remade_body}
-use Rattle.ic_definitions.specs.declared.bodies.BodyRewrites.{BodyRewrites}
+use Rattle.ic_definitions.specs.declared.bodies.NewBody.{NewBody}
 use Rattle.ic_machine.proofs.AlikeGrid.{entries-seen}
 use Rattle.ic_machine.specs.Book as machine
 use Rattle.ic_machine.specs.Book.{Entry}
@@ -31,7 +31,8 @@ use Rattle.ic_sheets.specs.declared.sheet.Sheet.{Sheet as HeldSheet}
 use Rattle.ic_book.proofs.SiteTouched.{alike_bodies_from, alike_from, bodies_from, captures_listed, updated_apart}
 use Rattle.ic_book.proofs.WholeLemmas.{index_seen}
 use Rattle.ic_book.specs.Book.{Book, whole_of, whole_sheet}
-use Rattle.ic_book.specs.Sites.{AreAlikeBodies, AreAlikePools, IsAlikeBody, IsAlikeIn, IsUpdate, body_sites, captures_at, listed_sites, sheet_sites, site_if, site_of, sites_in, sites_of_sheets}
+use Rattle.ic_book.specs.Sites.{AreAlikePools, IsAlikeBody, IsAlikeIn, IsUpdate, body_sites, captures_at, listed_sites, sheet_sites, site_if, site_of, sites_in, sites_of_sheets}
+use Rattle.ic_book.specs.declared.sites.MentionSite.{MentionSite}
 use Rattle.ic_book.specs.declared.sites.MentionSite.TheVariants as sites
 
 -- the cells of a sheet, before and after
@@ -70,7 +71,7 @@ module _ (strings : List (List ℕ)) (made : Remade) (keys : KeyChange) (spared 
   sheets_seen (r ∷ rs) (s ∷ ss) are stay =
       map-append site_of (sheet_sites keys r s) (sites_of_sheets keys rs ss) ∙ ap₂ (λ (a b : List Site). a ++ b) (sheet_seen r s are.0 stay.0) (sheets_seen rs ss are.1 stay.1)
 
-module _ (made : Remade) (keys : KeyChange) (sheets : List HeldSheet) (definitions : List Definition) (formulas : List RewritesState) (rewrites : BodyRewrites) (update : IsUpdate made keys sheets definitions formulas rewrites) where
+module _ (made : Remade) (keys : KeyChange) (sheets : List HeldSheet) (definitions : List Definition) (formulas : List RewritesState) (bodies : List NewBody) (update : IsUpdate made keys sheets definitions formulas bodies) where
   pools_alike : (rs : List RewritesState) (ss : List HeldSheet) → AreRemade made rs ss → AreAlikePools rs ss
   pools_alike [] ss are = tt
   pools_alike (r ∷ rs) [] are = tt
@@ -78,7 +79,7 @@ module _ (made : Remade) (keys : KeyChange) (sheets : List HeldSheet) (definitio
       (subst (AllByRecursion (IsAlikeIn s.pool.formulas)) (sym are.0.listed) (alike_from made keys (Some s.id) s.pool.formulas (update.alike (Some s.id)) s.pool.formulas 0 refl), pools_alike rs ss are.1)
 
   -- what an update prepared keeps the shapes of the formulas
-  pub update_alike : AreAlikePools formulas sheets × AreAlikeBodies definitions rewrites
+  pub update_alike : AreAlikePools formulas sheets × AllByRecursion (IsAlikeBody definitions) bodies
   update_alike = (
     pools_alike formulas sheets update.pools,
     subst (AllByRecursion (IsAlikeBody definitions)) (sym update.bodies_listed) (alike_bodies_from made definitions update.alike definitions 0 refl),
@@ -89,7 +90,7 @@ module _ (made : Remade) (keys : KeyChange) (sheets : List HeldSheet) (definitio
   pub listed_captured : (book : Book) (after : machine.Book) (updated : NameKey) (new : Definition) (index : ℕ) → sheets_of sheets ≡ book.sheets → definitions ≡ book.definitions
       → after.sheets ≡ map (whole_sheet book.strings) (map (remade_pool made) book.sheets) → after.definitions ≡ updated_at (λ d. new) index (map (remade_body made) book.definitions)
       → ((d : Definition) → slice_get book.definitions index ≡ Some d → same_key updated (key_in d) ≡ true)
-      → map site_of (listed_sites keys updated sheets definitions formulas rewrites) ≡ captured_sites keys updated (whole_of book) after
+      → map site_of (listed_sites keys updated sheets definitions formulas bodies) ≡ captured_sites keys updated (whole_of book) after
   listed_captured book after updated new index held defined sheets_after definitions_after its =
       map-append site_of (sites_of_sheets keys formulas sheets) _
       ∙ ap₂ (λ (a b : List Site). a ++ b)

@@ -13,7 +13,6 @@ use Rattle.ic_cells.specs.Cell.{cell_formula_index}
 use Rattle.ic_cells.specs.declared.cell.Cell.{Cell}
 use Rattle.ic_definitions.specs.Named.{key_in}
 use Rattle.ic_definitions.specs.Remade.{LeavesBody, touched_bodies}
-use Rattle.ic_definitions.specs.declared.bodies.BodyRewrites.{BodyRewrites}
 use Rattle.ic_definitions.specs.declared.bodies.NewBody.{NewBody}
 use Rattle.ic_keep.specs.Alike.{AreAlikeFormulas}
 use Rattle.ic_keep.specs.Touched.{is_touched}
@@ -42,19 +41,13 @@ site_if id test place (Some index) = if test index then sites.Cell id place.0 pl
 abbrev pub sites_in : ℕ → (ℕ → Bool) → List (CellPlace × Cell) → List MentionSite
 sites_in id test entries = flat_map (λ (e : CellPlace × Cell). site_if id test e.0 (cell_formula_index e.1)) entries
 
--- what is prepared for a formula of a pool keeps its shape
+-- What was prepared keeps the shape of each formula that it makes anew: in a pool, and in the bodies of definitions.
 abbrev pub IsAlikeIn : List Formula → Replacement → Type 0
 IsAlikeIn pool new = IfSome (slice_get pool new.at) (λ formula. AreAlikeFormulas formula new.formula)
 
--- so does what is prepared for the body of one of these definitions
 abbrev pub IsAlikeBody : List Definition → NewBody → Type 0
 IsAlikeBody definitions new = IfSome (slice_get definitions new.at) (λ definition. AreAlikeFormulas definition.body new.body)
 
--- so does all that was prepared for their bodies
-abbrev pub AreAlikeBodies : List Definition → BodyRewrites → Type 0
-AreAlikeBodies definitions rewrites = AllByRecursion (IsAlikeBody definitions) rewrites.bodies.items
-
--- and all that was prepared for the pools of sheets, one after another
 abbrev pub AreAlikePools : List RewritesState → List Sheet → Type 0
 AreAlikePools [] sheets = Unit {0}
 AreAlikePools (rewrites ∷ more) [] = Unit {0}
@@ -93,14 +86,14 @@ module _ (keys : KeyChange) where
   sites_of_bodies updated definitions bodies = flat_map (body_sites updated definitions) bodies
 
   -- all of them
-  abbrev pub listed_sites : NameKey → List Sheet → List Definition → List RewritesState → BodyRewrites → List MentionSite
-  listed_sites updated sheets definitions formulas rewrites = sites_of_sheets formulas sheets ++ sites_of_bodies updated definitions rewrites.bodies.items
+  abbrev pub listed_sites : NameKey → List Sheet → List Definition → List RewritesState → List NewBody → List MentionSite
+  listed_sites updated sheets definitions formulas bodies = sites_of_sheets formulas sheets ++ sites_of_bodies updated definitions bodies
 
 -- An update was prepared by a rule, for the formulas of all sheets and the bodies of all definitions: what the rule doesn't
 -- touch stays and isn't captured, and what it makes anew keeps its shape.
-pub record IsUpdate (made : Remade) (keys : KeyChange) (sheets : List Sheet) (definitions : List Definition) (formulas : List RewritesState) (rewrites : BodyRewrites) : Type 0 where
+pub record IsUpdate (made : Remade) (keys : KeyChange) (sheets : List Sheet) (definitions : List Definition) (formulas : List RewritesState) (bodies : List NewBody) : Type 0 where
   pub pools : AreRemade made formulas sheets
-  pub bodies_listed : rewrites.bodies.items ≡ touched_bodies made 0 definitions
+  pub bodies_listed : bodies ≡ touched_bodies made 0 definitions
   pub formulas_stay : AllByRecursion (λ (s : Sheet). AllByRecursion (LeavesUntouched made (Some s.id)) s.pool.formulas) sheets
   pub bodies_stay : AllByRecursion (LeavesBody made) definitions
   pub spared : (scope : Option ℕ) (formula : Formula) → made.touches scope formula ≡ false → captured_formula keys formula formula ≡ false

@@ -7,7 +7,7 @@ ghost use Rattle.std.specs.Ordering.{nat_cmp};
 ghost use Rattle.ic_laws.specs.Keeping.{changed_key};
 ghost use Rattle.ic_cells.specs.Cell.{cell_formula_index};
 ghost use Rattle.ic_cells.specs.Maps.{place_cmp};
-ghost use Rattle.ic_book.specs.Sites.{AreAlikeBodies, AreAlikePools, IsAlikeBody, IsAlikeIn, body_sites, captures, captures_at, listed_sites, sheet_sites, site_if, sites_in, sites_of_bodies, sites_of_sheets};
+ghost use Rattle.ic_book.specs.Sites.{AreAlikePools, IsAlikeBody, IsAlikeIn, body_sites, captures, captures_at, listed_sites, sheet_sites, site_if, sites_in, sites_of_bodies, sites_of_sheets};
 
 use crate::contents::Contents;
 use ic_cells::Cell;
@@ -69,10 +69,10 @@ pub(crate) fn sites_of_update(
     bodies: &BodyRewrites,
 ) -> Result<Vec<MentionSite>, OutOfMemory>
     requires pools { AreAlikePools formulas.now contents.now.sheets }
-    requires bodies { AreAlikeBodies contents.now.definitions bodies.now }
+    requires bodies { AllByRecursion (IsAlikeBody contents.now.definitions) bodies.now.bodies.items }
     ensures { IfOk result (λ sites. sites.items
         ≡ listed_sites (changed_key change.now.old change.now.new) change.now.old
-        contents.now.sheets contents.now.definitions formulas.now bodies.now) }
+        contents.now.sheets contents.now.definitions formulas.now bodies.now.bodies.items) }
 {
     let mut sites = Vec::new(alloc);
     let sheets = contents.sheets.as_slice();
