@@ -161,6 +161,30 @@ def deleted_definitions(count):
         yield f"delete_defined_name\tname_{i}\t-"
 
 
+def mentioning(count, many=100):
+    """A book of so many formulas, and of many more that mention one definition."""
+    yield from found(count)
+    yield "new_defined_name\ttax_0\t-\tData!$A$1"
+    for i in range(1, many + 1):
+        yield f"update_cell_with_formula\t1\t{i}\t1\t=tax_0*{i}"
+
+
+def updates(count):
+    """The definition gets another name, each time a new one."""
+    for i in range(count):
+        yield f"update_defined_name\ttax_{i}\t-\ttax_{i + 1}\t-\tData!$A$1"
+
+
+def questions(count):
+    for _ in range(count):
+        yield "would_capture\ttax_0\t-\tlevy\t-\tData!$A$1"
+
+
+def copies(count):
+    for _ in range(count):
+        yield "duplicate_sheet\t0"
+
+
 def mentioned_first(count):
     """A sheet is mentioned, then added, and then another formula is written."""
     for i in range(1, count + 1):
@@ -334,3 +358,61 @@ def cleared_blocks(count, width, height, command="range_clear_contents"):
     """The blocks, cleared."""
     for row, column in array_places(count, width, height):
         yield f"{command}\t0\t{row}\t{column}\t{width}\t{height}"
+
+
+def each_command(count):
+    """Each command that is served: its name, what stands before, and so many lines of it."""
+    cells = [f"set_user_input\t0\t{i}\t1\t{i}" for i in range(1, 101)] + [f"set_user_input\t0\t{i}\t2\t=A{i}*2+SUM(A1:A9)" for i in range(1, 101)]
+    names = [f"new_defined_name\tname_{i}\t-\tSheet1!$A${i}" for i in range(count + 1)]
+    sheets = [f"add_sheet\tT{i}" for i in range(count + 1)]
+    dynamic = ["set_user_input\t0\t1\t5\t=A1:B2"]
+    def same(line, before=cells):
+        return before, [line] * count
+    def every(form, before=cells):
+        return before, [form.format(i) for i in range(1, count + 1)]
+    def turns(one, other, before=cells):
+        return before, [one, other] * (count // 2)
+    style = "#,##0.00\t0\t1\t-"
+    kinds = {
+        "add_sheet": every("add_sheet\tS{}"), "insert_sheet": every("insert_sheet\tS{}\t0\t-"), "new_sheet": same("new_sheet"), "duplicate_sheet": same("duplicate_sheet\t0", []),
+        "rename_sheet": turns("rename_sheet\tSheet1\tA", "rename_sheet\tA\tSheet1"), "rename_sheet_by_index": turns("rename_sheet_by_index\t0\tA", "rename_sheet_by_index\t0\tB"),
+        "move_sheet": same("move_sheet\t0\t1", ["add_sheet\tT"]), "delete_sheet": same("delete_sheet\t1", sheets), "delete_sheet_by_name": every("delete_sheet_by_name\tT{}", sheets),
+        "delete_sheet_by_sheet_id": (sheets, [f"delete_sheet_by_sheet_id\t{i + 2}" for i in range(count)]), "new_defined_name": every("new_defined_name\tname_{}\t-\tSheet1!$A$1"),
+        "delete_defined_name": every("delete_defined_name\tname_{}\t-", names), "update_defined_name": turns("update_defined_name\ta\t-\tb\t-\tSheet1!$A$1", "update_defined_name\tb\t-\ta\t-\tSheet1!$A$1", ["new_defined_name\ta\t-\tSheet1!$A$1", *cells]),
+        "would_capture": same("would_capture\ta\t-\tb\t-\tSheet1!$A$1", ["new_defined_name\ta\t-\tSheet1!$A$1", *cells]), "is_valid_defined_name": same("is_valid_defined_name\ta\t-\tSheet1!$A$1"),
+        "get_defined_name_list": same("get_defined_name_list", ["new_defined_name\ta\t-\tSheet1!$A$1"]), "get_new_sheet_id": same("get_new_sheet_id"), "get_worksheets_properties": same("get_worksheets_properties"),
+        "set_locale": turns("set_locale\tde", "set_locale\ten"), "set_language": turns("set_language\tde", "set_language\ten"), "set_timezone": turns("set_timezone\tUTC", "set_timezone\tEurope/Berlin"),
+        "get_locale": same("get_locale"), "get_language": same("get_language"), "get_timezone": same("get_timezone"), "get_fmt_settings": same("get_fmt_settings"),
+        "set_user_input": every("set_user_input\t0\t{}\t3\t12.5"), "update_cell_with_text": every("update_cell_with_text\t0\t{}\t3\tsome text"), "update_cell_with_formula": every("update_cell_with_formula\t0\t{0}\t3\t=A{0}*2"),
+        "update_cell_with_bool": every("update_cell_with_bool\t0\t{}\t3\ttrue"), "update_cell_with_number": every("update_cell_with_number\t0\t{}\t3\t12.5"),
+        "set_user_array_formula": every("set_user_array_formula\t0\t{}\t7\t2\t1\t=A1:B1"), "range_clear_contents": same("range_clear_contents\t0\t1\t1\t2\t2"), "range_clear_all": same("range_clear_all\t0\t200\t1\t2\t2"),
+        "put_formula_value": same("put_formula_value\t0\t1\t2\tn:4"), "put_spill": same("put_spill\t0\t1\t5\t2\t2\tn:1\tn:2\tn:3\tn:4", dynamic),
+    }
+    for name in ("get_cell_formula", "get_localized_cell_content", "get_formatted_cell_value", "get_cell_value_by_index", "get_cell_type", "is_empty_cell", "get_cell_style_index", "get_style_for_cell", "get_cell_style_or_none"):
+        kinds[name] = same(f"{name}\t0\t7\t2")
+    kinds |= {
+        "get_cell_value_by_ref": same("get_cell_value_by_ref\tSheet1!B7"), "get_all_cells": same("get_all_cells", cells[:3]), "get_sheet_markup": same("get_sheet_markup\t0", cells[:3]), "extend_to": same("extend_to\t0\t7\t2\t9\t2"),
+        "extend_copied_value": same("extend_copied_value\t=A1*2\t0\t1\t1\t0\t2\t2"), "parse_reference": same("parse_reference\tSheet1!B7"),
+        "set_column_style": every("set_column_style\t0\t{}\t" + style), "set_row_style": every("set_row_style\t0\t{}\t" + style), "get_column_style": same("get_column_style\t0\t1"), "get_row_style": same("get_row_style\t0\t1"),
+        "delete_column_style": same("delete_column_style\t0\t1"), "delete_row_style": same("delete_row_style\t0\t1"), "set_column_width": every("set_column_width\t0\t{}\t5000"), "set_row_height": every("set_row_height\t0\t{}\t5000"),
+        "get_column_width": same("get_column_width\t0\t1"), "get_row_height": same("get_row_height\t0\t1"), "set_column_hidden": every("set_column_hidden\t0\t{}\ttrue"), "set_row_hidden": every("set_row_hidden\t0\t{}\ttrue"),
+        "is_column_hidden": same("is_column_hidden\t0\t1"), "is_row_hidden": same("is_row_hidden\t0\t1"), "set_sheet_color": same("set_sheet_color\t0\t#FF0000"), "set_sheet_state": same("set_sheet_state\t0\tvisible"),
+        "set_show_grid_lines": same("set_show_grid_lines\t0\ttrue"), "set_frozen_rows": same("set_frozen_rows\t0\t2"), "set_frozen_columns": same("set_frozen_columns\t0\t2"), "get_frozen_rows_count": same("get_frozen_rows_count\t0"),
+        "get_frozen_columns_count": same("get_frozen_columns_count\t0"), "set_theme": same("set_theme\tOffice"), "get_theme": same("get_theme"),
+    }
+    for name, (before, lines) in kinds.items():
+        yield name, before, lines
+
+
+def fuzz(count, folder):
+    """Lines of the lists in a folder, one list after another, as often as it takes, each time in a book of its own language."""
+    import glob
+    lists = [open(path, "rb").read().split(b"\n")[:-1] for path in sorted(glob.glob(f"{folder}/*.lines"))]
+    made = 0
+    while made < count:
+        for lines in lists:
+            for line in lines[:count - made]:
+                yield line
+            made += len(lines)
+            if made >= count:
+                return

@@ -1,5 +1,5 @@
 -- The whole book over a change of its sheets or its definitions: its core is changed as the machine's is.
-use Rattle.std.proofs.Common.{◌≡◌, ℕ, zero, suc, ◌+◌, List, [], ◌∷◌, ◌++◌, map, flat_map, Option, Some, None, refl, sym, ap, ap₂, ◌∙◌}
+use Rattle.std.proofs.Common.{◌≡◌, ℕ, ◌+◌, List, [], ◌∷◌, ◌++◌, map, flat_map, Option, Some, None, refl, sym, ap, ap₂, ◌∙◌}
 use Rattle.std.specs.Prelude.{insert, remove, option_map}
 use Rattle.std.specs.List.{slice_get}
 use Rattle.std.specs.Option.{option_to_list}
@@ -15,9 +15,11 @@ use Rattle.ic_laws.specs.Notations.{Notations}
 use Rattle.ic_laws.specs.declared.scene.Scene.{Scene}
 use Rattle.ic_cells.specs.declared.cell.Cell.{Cell}
 use Rattle.ic_machine.proofs.AlikeGrid.{entries-empty}
+use Rattle.ic_machine.proofs.CoreLemmas.{insert-map}
+use Rattle.ic_machine.specs.Binds.{with_sheet_among}
 use Rattle.ic_sheets.specs.Sheet.{Sheet, cells_of, empty_grid, kept_pool, plain_tab, sheet_core}
 use Rattle.ic_book.specs.Book.{Book, core_of, scene_in}
-use Rattle.ic_book.specs.Change.{with_added_definition, with_added_sheet, with_kept_pools, with_moved_sheet, with_removed_definition, with_removed_sheet, with_renamed_sheet}
+use Rattle.ic_book.specs.Change.{with_added_definition, with_added_sheet, with_inserted_sheet, with_kept_pools, with_moved_sheet, with_removed_definition, with_removed_sheet, with_renamed_sheet}
 use Rattle.ic_sheets.proofs.PoolLemmas.{sheet_cores-kept}
 
 -- a change of the sheets or the definitions of a book, over which all formulas are kept as these notations say
@@ -63,6 +65,11 @@ added_change name book =
     (map-append sheet_core book.sheets (record { id = greatest_id (core_of book) + 1; name = name; pool = []; grid = empty_grid; tab = plain_tab } ∷ [])
     ∙ ap (λ s. map sheet_core book.sheets ++ s ∷ []) (no_cells (greatest_id (core_of book) + 1) name))
 
+pub inserted_change : (index id : ℕ) (name : List ℕ) → IsBookChange (with_inserted_sheet index id name) (with_sheet_among index id name)
+inserted_change index id name book =
+    ap (with_sheets book)
+    (insert-map sheet_core book.sheets index (record { id = id; name = name; pool = []; grid = empty_grid; tab = plain_tab }) ∙ ap (λ (s : CoreSheet). insert (map sheet_core book.sheets) index s) (no_cells id name))
+
 pub renamed_change : (index : ℕ) (name : List ℕ) → IsBookChange (with_renamed_sheet index name) (with_sheet_name index name)
 renamed_change index name book = ap (with_sheets book) (updated_seen sheet_core (λ s. record s { name = name }) (λ s. record s { name = name }) (λ s. refl) index book.sheets)
 
@@ -84,12 +91,6 @@ core_of-changed n change of_core is book =
     ∙ ap (λ (core : CoreBook). of_core (with_kept n (scene_in book) (scene_of core) same_keys (core_of book))) (is book)
 
 -- a moved sheet ----
-
-insert-map : {X Y : Type 0} (f : X → Y) (xs : List X) (at : ℕ) (x : X) → map f (insert xs at x) ≡ insert (map f xs) at (f x)
-insert-map f [] zero x = refl
-insert-map f [] (suc at) x = refl
-insert-map f (y ∷ xs) zero x = refl
-insert-map f (y ∷ xs) (suc at) x = ap (λ rest. f y ∷ rest) (insert-map f xs at x)
 
 put_back-map : {X Y : Type 0} (f : X → Y) (to : ℕ) (xs : List X) (o : Option X) → map f (put_back to xs o) ≡ put_back to (map f xs) (option_map f o)
 put_back-map f to xs None = refl

@@ -1,5 +1,5 @@
 -- A valid book: its core and its pools, and that it stays valid over each change.
-use Rattle.std.proofs.Common.{◌≡◌, ℕ, ◌+◌, ◌<◌, ◌≤◌, List, [], ◌∷◌, map, not, length, Option, Some, None, Ok, refl, sym, ap, subst, ◌∙◌, arith}
+use Rattle.std.proofs.Common.{◌≡◌, ℕ, ◌+◌, ◌<◌, ◌≤◌, List, [], ◌∷◌, map, not, length, true, Option, Some, None, Ok, refl, sym, ap, subst, ◌∙◌, arith}
 use Rattle.std.proofs.lemmas.Option.{slice_get-map}
 use Rattle.std.specs.FinMap as finite
 use Rattle.std.specs.List.{AllByRecursion, slice_get}
@@ -18,15 +18,17 @@ use Rattle.ic_laws.specs.declared.tree.Formula.{Formula}
 use Rattle.ic_grid.specs.declared.grid.Grid.{Grid}
 use Rattle.ic_machine.proofs.AlikeGrid.{get-seen}
 use Rattle.ic_machine.proofs.CoreValid as machine_core
+use Rattle.ic_machine.proofs.InsertedStays.{insert_stays}
 use Rattle.ic_machine.proofs.NamesStay.{definitions_stay, sheets_stay}
-use Rattle.ic_machine.proofs.SheetsStay.{all_moved}
+use Rattle.ic_machine.proofs.SheetsStay.{all_inserted, all_moved}
 use Rattle.ic_machine.proofs.SubjectsStay.{notation_stays}
 use Rattle.ic_machine.proofs.ValidLemmas.{HoldsOf, holds_at, same_styles}
 use Rattle.ic_machine.specs.Book as machine
-use Rattle.ic_machine.specs.Book.{as_core}
+use Rattle.ic_machine.specs.Book.{as_core, unless}
 use Rattle.ic_machine.specs.Changed as changed
 use Rattle.ic_machine.specs.Content.{content_of, formula_index}
-use Rattle.ic_machine.specs.Kept.{StaysValid}
+use Rattle.ic_machine.specs.Kept.{StaysValid, is_given_id}
+use Rattle.ic_machine.specs.Refusal.{first_refusal as first_refusal_whole}
 use Rattle.ic_machine.specs.Valid as valid_machine
 use Rattle.ic_machine.specs.Valid.{HasCellFormulas, HasFormula, IsKeptPool}
 use Rattle.ic_machine.specs.subjects.Definitions as definitions
@@ -34,16 +36,16 @@ use Rattle.ic_machine.specs.subjects.Definitions.{delete_definition_step, new_de
 use Rattle.ic_machine.specs.subjects.Notation as notation
 use Rattle.ic_machine.specs.subjects.Notation.{set_language_step, set_locale_step}
 use Rattle.ic_machine.specs.subjects.Sheets as sheets
-use Rattle.ic_machine.specs.subjects.Sheets.{add_sheet_step, delete_sheet_step, move_sheet_step, rename_by_index_step, with_new_sheet}
+use Rattle.ic_machine.specs.subjects.Sheets.{add_sheet_step, delete_sheet_step, insert_causes, insert_sheet_step, move_sheet_step, rename_by_index_step, with_new_sheet}
 use Rattle.ic_pool.specs.Pool.{IsPlaced}
 use Rattle.ic_sheets.proofs.PoolLemmas.{all_placed, has_placed}
 use Rattle.ic_sheets.specs.Sheet.{IsValidPool, Sheet, empty_grid, kept_pool, plain_tab}
 use Rattle.ic_tree.proofs.NotationLaws.{notations_are}
 use Rattle.ic_book.specs.Book.{Book, HasStrings, IsValidBook, core_of, notations_in, scene_in, whole_of, whole_sheet}
-use Rattle.ic_book.specs.Change.{book_changed_by, with_added_definition, with_added_sheet, with_kept_pools, with_language, with_locale, with_moved_sheet, with_removed_definition, with_removed_sheet, with_renamed_sheet}
+use Rattle.ic_book.specs.Change.{book_changed_by, with_added_definition, with_added_sheet, with_inserted_sheet, with_kept_pools, with_language, with_locale, with_moved_sheet, with_removed_definition, with_removed_sheet, with_renamed_sheet}
 use Rattle.ic_book.specs.Written.{with_pool}
 use Rattle.ic_book.proofs.Accepted.{add_accepted, delete_accepted, delete_definition_accepted, language_accepted, locale_accepted, move_accepted, new_definition_accepted, rename_accepted}
-use Rattle.ic_book.proofs.WholeLemmas.{index_seen, whole_added, whole_changed, whole_core, whole_defined, whole_moved, whole_removed, whole_renamed, whole_scene, whole_undefined}
+use Rattle.ic_book.proofs.WholeLemmas.{index_seen, whole_added, whole_changed, whole_core, whole_defined, whole_inserted, whole_moved, whole_removed, whole_renamed, whole_scene, whole_undefined}
 use Rattle.ic_book.proofs.WrittenLemmas.{updated_alike}
 
 -- What holds of the grid of each sheet, over changes that leave grids, and new ones empty. ----
@@ -112,6 +114,18 @@ module _ (book : Book) (valid : IsValidBook book) where
       record {
         whole = subst valid_machine.IsValidBook (sym (whole_changed (with_added_sheet name) (with_new_sheet name) (whole_added name) book)) (added_whole name e);
         strings = all_pushed (λ (s : Sheet). HasStrings (length book.strings) s.grid) (map (kept_pool n (scene_in book) after) book.sheets) (record { id = greatest_id (core_of (with_kept_pools n (scene_in book) after book)) + 1; name = name; pool = []; grid = empty_grid; tab = plain_tab }) (grids_kept (HasStrings (length book.strings)) n (scene_in book) after book.sheets valid.strings) (no_strings (length book.strings));
+      }
+
+  inserted_whole : (index id : ℕ) (name : List ℕ) → is_given_id (Some id) ≡ true → first_refusal_whole (insert_causes whole name index (Some id)) ≡ None → valid_machine.IsValidBook (changed.changed_by (sheets.with_inserted_sheet index id name) whole)
+  unfolding insert_sheet_step
+  inserted_whole index id name small e = subst StaysValid (ap (λ o. unless o (changed.changed_by (sheets.with_inserted_sheet index id name) whole) []) e) (insert_stays whole valid.whole name index (Some id) small)
+
+  pub inserted_valid : (index id : ℕ) (name : List ℕ) → is_given_id (Some id) ≡ true → first_refusal_whole (insert_causes (whole_of book) name index (Some id)) ≡ None → IsValidBook (book_changed_by (with_inserted_sheet index id name) book)
+  inserted_valid index id name small e =
+      let after : Scene = scene_in (with_inserted_sheet index id name book) in
+      record {
+        whole = subst valid_machine.IsValidBook (sym (whole_changed (with_inserted_sheet index id name) (sheets.with_inserted_sheet index id name) (whole_inserted index id name) book)) (inserted_whole index id name small e);
+        strings = all_inserted (λ (s : Sheet). HasStrings (length book.strings) s.grid) (map (kept_pool n (scene_in book) after) book.sheets) index (record { id = id; name = name; pool = []; grid = empty_grid; tab = plain_tab }) (grids_kept (HasStrings (length book.strings)) n (scene_in book) after book.sheets valid.strings) (no_strings (length book.strings));
       }
 
   renamed_whole : (index : ℕ) (name : List ℕ) → rename_refusal core index name ≡ None → valid_machine.IsValidBook (changed.changed_by (changed.with_renamed_sheet index name) whole)

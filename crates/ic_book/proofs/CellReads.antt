@@ -145,8 +145,11 @@ module _ {X : Type 0} where
       (λ q. finite.get-from_entries place_cmp_total es q ∙ sym (finite.get-from_sorted place_cmp es q (sorted es h))))
       ∙ finite.entries-from_sorted place_cmp es (sorted es h)
 
+  pub same_entries : (m : BTreeMap CellPlace X) (v : Contents X) → tree.IsOrdered place_cmp m → finite.from_entries m.entries ≡ v → m.entries ≡ finite.entries v
+  same_entries m v ordered e = sym (entries_back m.entries ordered) ∙ ap finite.entries e
+
   pub same_keys : (m : BTreeMap CellPlace X) (v : Contents X) → tree.IsOrdered place_cmp m → finite.from_entries m.entries ≡ v → tree.keys m ≡ finite.keys v
-  same_keys m v ordered e = ap (map (λ (e : CellPlace × X). e.0)) (sym (entries_back m.entries ordered) ∙ ap finite.entries e)
+  same_keys m v ordered e = ap (map (λ (e : CellPlace × X). e.0)) (same_entries m v ordered e)
 
 -- all places are told as the machine tells them
 module _ (strings : List (List ℕ)) where

@@ -20,11 +20,13 @@ use Rattle.ic_laws.specs.Notations.{AreNotations, Notations}
 use Rattle.ic_laws.specs.Scene.{key_of, same_key}
 use Rattle.ic_laws.specs.ValidCore.{IsValidCore}
 use Rattle.ic_laws.specs.declared.scene.Scene.{Scene}
+use Rattle.ic_machine.proofs.InsertedBinds.{insert_naming}
+use Rattle.ic_machine.specs.Binds.{with_sheet_among}
 use Rattle.ic_sheets.specs.Rewriting.{changed_pool}
 use Rattle.ic_sheets.specs.Sheet.{IsValidPool, Sheet, empty_grid, kept_pool, plain_tab, sheet_core}
 use Rattle.ic_book.specs.Book.{Book, core_of, scene_in}
-use Rattle.ic_book.specs.Change.{changed_book, with_added_definition, with_added_sheet, with_kept_pools, with_removed_definition, with_removed_sheet, with_renamed_sheet}
-use Rattle.ic_book.proofs.BookLemmas.{added_change, changed_in, greatest-kept, removed_change, renamed_change, same_scene_after}
+use Rattle.ic_book.specs.Change.{changed_book, with_added_definition, with_added_sheet, with_inserted_sheet, with_kept_pools, with_removed_definition, with_removed_sheet, with_renamed_sheet}
+use Rattle.ic_book.proofs.BookLemmas.{added_change, changed_in, greatest-kept, inserted_change, removed_change, renamed_change, same_scene_after}
 use Rattle.ic_sheets.proofs.PoolLemmas.{pool_changed}
 
 module _ (n : Notations) (are : AreNotations n) (before after : Scene) (change : Change) (become : (scope : Option ℕ) → Become before after scope (changed_sheet change) (changed_word change scope) (changed_local change)) where
@@ -52,6 +54,15 @@ module _ (n : Notations) (are : AreNotations n) (book : Book) (core : IsValidCor
       (subst (λ k. with_kept_pools n (scene_in book) after book ≡ changed_book (sheet_named (scene_in book) k name) book) (sym is)
       (kept_is after (sheet_named (scene_in book) (greatest_id (core_of book) + 1) name) (named_becomes (scene_in book) after (greatest_id (core_of book) + 1) name naming)))
       (ap (λ k. k + 1) (greatest-kept n (scene_in book) after book) ∙ sym is)
+
+  -- with one put in among the others
+  pub inserted_is : (index id : ℕ) (name : List ℕ) → has_sheet (core_of book) name ≡ false
+      → changed_in n (with_inserted_sheet index id name) book ≡ with_inserted_sheet index id name (changed_book (sheet_named (scene_in book) id name) book)
+  inserted_is index id name new =
+      let after : Scene = scene_in (with_inserted_sheet index id name book) in
+      let naming : Naming (scene_in book) after id name =
+      subst (λ scene. Naming (scene_in book) scene id name) (same_scene_after (with_inserted_sheet index id name) (with_sheet_among index id name) (inserted_change index id name) book) (insert_naming (core_of book) index id name core.names_differ new) in
+      ap (with_inserted_sheet index id name) (kept_is after (sheet_named (scene_in book) id name) (named_becomes (scene_in book) after id name naming))
 
   -- with a sheet renamed
   pub renamed_is : (index : ℕ) (name : List ℕ) (sheet : Sheet) → slice_get book.sheets index ≡ Some sheet → has_other_sheet (core_of book) index name ≡ false

@@ -45,12 +45,14 @@ told_whole errors.InvalidSheet refusal h = ap (option_map OfCore) h
 told_whole errors.InvalidRow refusal h = ap (option_map OfCore) h
 told_whole errors.InvalidColumn refusal h = ap (option_map OfCore) h
 told_whole errors.BadArea refusal h = absurd h
+told_whole errors.OutOfRange refusal h = absurd h
 told_whole errors.SheetIndexTooLarge refusal h = ap (option_map OfCore) h
 told_whole errors.TargetTooLarge refusal h = ap (option_map OfCore) h
 told_whole errors.InvalidSheetName refusal h = ap (option_map OfCore) h
 told_whole errors.SheetExists refusal h = ap (option_map OfCore) h
 told_whole errors.SheetNotFound refusal h = ap (option_map OfCore) h
 told_whole errors.OnlySheet refusal h = ap (option_map OfCore) h
+told_whole errors.IdLive refusal h = absurd h
 told_whole errors.IdsUsedUp refusal h = ap (option_map OfCore) h
 told_whole errors.InvalidName refusal h = ap (option_map OfCore) h
 told_whole errors.InvalidScope refusal h = ap (option_map OfCore) h
@@ -72,6 +74,7 @@ told_whole errors.TooManyColumns refusal h = absurd h
 told_whole errors.NoFormulaCell refusal h = absurd h
 told_whole (errors.SpillBlocked row column) refusal h = absurd h
 told_whole (errors.BadWorkbook condition) refusal h = absurd h
+told_whole (errors.WouldCapture sites) refusal h = absurd h
 told_whole errors.OutOfMemory refusal h = ap (option_map OfCore) h
 
 -- A step of the core machine, seen as one of the whole, where nothing but this refuses it. ----

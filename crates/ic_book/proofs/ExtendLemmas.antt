@@ -108,12 +108,12 @@ abbrev pub extended_told : machine.Book → ℤ → ℤ → CellPlace → machin
 extended_told book row column target sheet = text_field (option_map_or (extended book sheet target) (content_at sheet row column) [])
 
 -- one more cause, after others
-first_later : (causes : Causes) (b : Bool) (r : Refusal) → first_refusal causes ≡ None → first_refusal (causes ++ (b, r) ∷ []) ≡ (if b then Some r else None)
+pub first_later : (causes : Causes) (b : Bool) (r : Refusal) → first_refusal causes ≡ None → first_refusal (causes ++ (b, r) ∷ []) ≡ (if b then Some r else None)
 first_later [] b r e = refl
 first_later ((true, q) ∷ cs) b r e = cc
 first_later ((false, q) ∷ cs) b r e = first_later cs b r e
 
-first_earlier : (causes more : Causes) (r : Refusal) → first_refusal causes ≡ Some r → first_refusal (causes ++ more) ≡ Some r
+pub first_earlier : (causes more : Causes) (r : Refusal) → first_refusal causes ≡ Some r → first_refusal (causes ++ more) ≡ Some r
 first_earlier [] more r e = cc
 first_earlier ((true, q) ∷ cs) more r e = e
 first_earlier ((false, q) ∷ cs) more r e = first_earlier cs more r e

@@ -29,6 +29,8 @@ pub mod HandedInLemmas
 pub mod HandedInValid
 pub mod HeldLemmas
 pub mod InForceLemmas
+pub mod InsertedDoes
+pub mod InsertedHeld
 pub mod LineLemmas
 pub mod LookUpLemmas
 pub mod MarkupLemmas
@@ -52,6 +54,10 @@ pub mod SeenGrids
 pub mod SettingLemmas
 pub mod SharedLemmas
 pub mod ShownLemmas
+pub mod SiteLemmas
+pub mod SiteTouched
+pub mod SitesUpdate
+pub mod SitesWhole
 pub mod SparedBodies
 pub mod StartLemmas
 pub mod StyleLemmas
@@ -60,6 +66,10 @@ pub mod TakenAgain
 pub mod TypedLemmas
 pub mod TypedSteps
 pub mod UnreadLemmas
+pub mod UpdatedChecks
+pub mod UpdatedDoes
+pub mod UpdatedHeld
+pub mod UpdatedRules
 pub mod ValueLemmas
 pub mod WholeLemmas
 pub mod WholeWritten

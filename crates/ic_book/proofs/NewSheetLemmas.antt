@@ -1,11 +1,10 @@
 -- A new sheet of a name with a number: what its call does is the step of the machine.
-use Rattle.std.proofs.Common.{◌≡◌, ℕ, suc, ◌+◌, ◌<◌, ◌≤◌, ◌^◌, List, [], ◌∷◌, ◌++◌, length, map, Bool, true, false, not, Option, Some, None, Result, Ok, Err, IfOk, IsErr, IsErrAnd, OnErr, OnOk, String, string_bytes, chars, refl, sym, ap, ap₂, subst, ◌∙◌, arith}
+use Rattle.std.proofs.Common.{◌≡◌, ℕ, suc, ◌+◌, ◌<◌, ◌≤◌, ◌^◌, List, [], ◌∷◌, ◌++◌, length, map, Bool, true, false, not, Option, Some, None, Result, Ok, Err, IfOk, IsErr, IsErrAnd, String, string_bytes, chars, refl, sym, ap, ap₂, subst, ◌∙◌, arith}
 use Rattle.std.proofs.lemmas.List.{length-map}
 use Rattle.std.specs.declared.alloc.Global.{Global}
 use Rattle.std.specs.Fmt.{decimal}
 use Rattle.std.specs.List.{find, list_any, range_with_len}
 use Rattle.std.specs.Prelude.{is_none, unwrap_or}
-use Rattle.ic_laws.proofs.keeping.Accepted.{none_holds}
 use Rattle.ic_laws.specs.CoreBook as core_book
 use Rattle.ic_laws.specs.CoreBook.{CoreBook, fresh_id, has_sheet, names_of}
 use Rattle.ic_laws.specs.CoreStep.{add_sheet_refusal}
@@ -18,24 +17,24 @@ use Rattle.ic_machine.specs.Changed as changed
 use Rattle.ic_machine.specs.Refusal.{first_refusal}
 use Rattle.ic_machine.specs.Reply.{Field}
 use Rattle.ic_machine.specs.Valid as valid_machine
-use Rattle.ic_machine.specs.subjects.Sheets.{NewSheet, base_name, free_number, named_fields, new_sheet_name, new_sheet_step, numbered_name, sheet_step, with_new_sheet}
+use Rattle.ic_machine.specs.subjects.Sheets.{NewSheet, base_name, copy_name, free_number, name_of_copy, named_fields, new_sheet_name, new_sheet_step, numbered_name, sheet_step, with_new_sheet}
 use Rattle.ic_machine.specs.Refusal as refusals
 use Rattle.ic_sheets.specs.Sheet.{sheet_of}
 use Rattle.ic_sheets.specs.declared.sheet.Sheet.{Sheet as HeldSheet}
 use Rattle.ic_book.specs.declared.model.Model.TheInside.{Inside}
-use Rattle.ic_book.specs.Book.{Book, IsValidBook, ModelState, core_of, whole_sheet}
+use Rattle.ic_book.specs.Book.{IsValidBook, ModelState, core_of, whole_sheet}
 use Rattle.ic_book.specs.Change.{book_changed_by, with_added_sheet}
 use Rattle.ic_book.specs.Does.{Does, DoesStep, IsDone, Refused, Wanted}
 use Rattle.ic_book.specs.Fields.{named_sheet_fields}
 use Rattle.ic_book.specs.Inside.{IsHeld, held}
-use Rattle.ic_book.specs.Refused.{Refuses, TellsCore, refusal_of}
+use Rattle.ic_book.specs.Refused.{TellsCore, refusal_of}
 use Rattle.ic_book.specs.SheetNames.{IsNumbered, free_among}
 use Rattle.ic_book.specs.Whole.{whole_of}
 use Rattle.ic_book.specs.declared.error.BookError.{BookError}
 use Rattle.ic_book.specs.declared.error.BookError.TheVariants as errors
 use Rattle.ic_book.proofs.BookValid.{added_valid}
 use Rattle.ic_book.proofs.DoesLemmas.{told_whole}
-use Rattle.ic_book.proofs.HeldLemmas.{add_accepts, seen_length, seen_names}
+use Rattle.ic_book.proofs.HeldLemmas.{add_accepts, seen_names}
 use Rattle.ic_book.proofs.WholeLemmas.{whole_added, whole_changed, whole_core}
 
 -- the name of a new sheet in a valid book is one, and no sheet has it
@@ -86,6 +85,13 @@ module _ (inside : Inside) (h : IsHeld inside) where
       → IfOk r (λ text. chars (string_bytes text) ≡ new_sheet_name (whole_of (held inside)))
   new_name_of (Ok text) base a e = new_name_is (chars (string_bytes text)) base a e
   new_name_of (Err e) base a h = tt
+
+  -- the name of a copy of a sheet
+  pub copy_name_of : {E : Type 0} (r : Result (String Global) E) (source : List ℕ)
+      → IfOk r (λ text. chars (string_bytes text) ≡ copy_name source (free_among (map (λ (s : HeldSheet). s.name) inside.contents.sheets) (copy_name source)))
+      → IfOk r (λ text. chars (string_bytes text) ≡ name_of_copy (whole_of (held inside)) source)
+  copy_name_of (Ok text) source e = e ∙ ap (copy_name source) (free_same (copy_name source))
+  copy_name_of (Err e) source h = tt
 
 module _ (old : ModelState) (valid : IsValidBook old.book) where
   abbrev whole : machine.Book

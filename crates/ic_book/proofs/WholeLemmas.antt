@@ -1,7 +1,7 @@
 -- The whole book of a model's book: its core is that book's, and it is changed as the book is.
 use Rattle.std.proofs.Common.{◌≡◌, ℕ, ◌+◌, List, [], ◌∷◌, ◌++◌, map, Option, Some, None, refl, sym, ap, ap₂, ◌∙◌}
 use Rattle.std.specs.FinMap as finite
-use Rattle.std.specs.Prelude.{option_map}
+use Rattle.std.specs.Prelude.{insert, option_map}
 use Rattle.std.specs.Option.{option_to_list}
 use Rattle.std.proofs.lemmas.List.{map-append}
 use Rattle.ic_laws.proofs.core.Lists.{removed_seen, updated_seen}
@@ -15,15 +15,17 @@ use Rattle.ic_cells.specs.declared.cell.Cell.{Cell}
 use Rattle.ic_cells.specs.declared.cell.Cell.TheVariants as cells
 use Rattle.ic_grid.specs.Contents.{Contents}
 use Rattle.ic_machine.proofs.AlikeGrid.{empty-seen, entries-seen}
+use Rattle.ic_machine.proofs.CoreLemmas.{insert-map}
 use Rattle.ic_machine.specs.Book as machine
 use Rattle.ic_machine.specs.Book.{Entry, core_cells, core_sheet, empty_sheet}
 use Rattle.ic_machine.specs.Changed as changed
 use Rattle.ic_machine.specs.Changed.{with_kept_formulas, with_kept_pool}
 use Rattle.ic_machine.specs.Content.{Content, content_of, formula_in, formula_index}
+use Rattle.ic_machine.specs.subjects.Sheets as sheets
 use Rattle.ic_machine.specs.subjects.Sheets.{with_new_sheet}
 use Rattle.ic_sheets.specs.Sheet.{Sheet, cells_of, empty_grid, kept_pool, plain_tab, sheet_core}
 use Rattle.ic_book.specs.Book.{Book, core_of, notations_in, scene_in, whole_of, whole_sheet}
-use Rattle.ic_book.specs.Change.{book_changed_by, with_added_definition, with_added_sheet, with_kept_pools, with_moved_sheet, with_removed_definition, with_removed_sheet, with_renamed_sheet}
+use Rattle.ic_book.specs.Change.{book_changed_by, with_added_definition, with_added_sheet, with_inserted_sheet, with_kept_pools, with_moved_sheet, with_removed_definition, with_removed_sheet, with_renamed_sheet}
 use Rattle.ic_book.proofs.BookLemmas.{moved-map}
 
 -- the core ----
@@ -104,6 +106,12 @@ whole_added name book =
     (map-append (whole_sheet book.strings) book.sheets (record { id = id + 1; name = name; pool = []; grid = empty_grid; tab = plain_tab } ∷ [])
     ∙ ap (λ (s : machine.Sheet). map (whole_sheet book.strings) book.sheets ++ s ∷ []) (whole_empty book.strings (id + 1) name)
     ∙ ap (λ (c : CoreBook). map (whole_sheet book.strings) book.sheets ++ empty_sheet (greatest_id c + 1) name ∷ []) (sym (whole_core book)))
+
+pub whole_inserted : (index id : ℕ) (name : List ℕ) (book : Book) → whole_of (with_inserted_sheet index id name book) ≡ sheets.with_inserted_sheet index id name (whole_of book)
+whole_inserted index id name book =
+    ap (with_sheets book)
+    (insert-map (whole_sheet book.strings) book.sheets index (record { id = id; name = name; pool = []; grid = empty_grid; tab = plain_tab })
+    ∙ ap (λ (s : machine.Sheet). insert (map (whole_sheet book.strings) book.sheets) index s) (whole_empty book.strings id name))
 
 pub whole_renamed : (index : ℕ) (name : List ℕ) (book : Book) → whole_of (with_renamed_sheet index name book) ≡ changed.with_renamed_sheet index name (whole_of book)
 whole_renamed index name book =

@@ -1,6 +1,6 @@
 -- What the commands on sheets and definitions do to a whole book: its core is stepped as the machine's, and each formula
 -- of each pool is kept at its place.
-use Rattle.std.specs.Prelude.{ℕ, ◌+◌, List, [], ◌∷◌, ◌++◌, map, remove, Option, None, Some}
+use Rattle.std.specs.Prelude.{ℕ, ◌+◌, List, [], ◌∷◌, ◌++◌, insert, map, remove, Option, None, Some}
 use Rattle.ic_laws.specs.BookTrees.{with_body_tree}
 use Rattle.ic_laws.specs.Changes.{Change, changed_tree}
 use Rattle.ic_laws.specs.CoreBook.{Definition, greatest_id}
@@ -24,6 +24,10 @@ book_changed_by change book = change (with_kept_pools (notations_in book) (scene
 -- the book with a new sheet at its end, which has the fresh id and no formulas
 abbrev pub with_added_sheet : List ℕ → Book → Book
 with_added_sheet name book = record book { sheets = book.sheets ++ record { id = greatest_id (core_of book) + 1; name = name; pool = []; grid = empty_grid; tab = plain_tab } ∷ [] }
+
+-- with a new sheet put in at an index, which has this id and no formulas
+abbrev pub with_inserted_sheet : ℕ → ℕ → List ℕ → Book → Book
+with_inserted_sheet index id name book = record book { sheets = insert book.sheets index (record { id = id; name = name; pool = []; grid = empty_grid; tab = plain_tab }) }
 
 -- with another name for the sheet at an index
 abbrev pub with_renamed_sheet : ℕ → List ℕ → Book → Book

@@ -15,13 +15,14 @@ use Rattle.ic_book.specs.Book.{whole_grid}
 use Rattle.ic_book.specs.declared.error.BookError.{BookError}
 
 -- when a call may run out of memory: never; only where its step isn't refused; there, or where this refusal holds, which
--- needs memory to be seen, whether the core machine has it or not; and only where it isn't refused, but what formulas are
--- found by may have grown then
+-- needs memory to be seen, whether the core machine has it or not; there, or where one holds that passes a test; and only
+-- where it isn't refused, but what formulas are found by may have grown then
 pub data Memory : Type 0 where
   Never : Memory
   Wanted : Memory
   WantedOr : (late : core.Refusal) → Memory
   WantedOrWhole : (late : Refusal) → Memory
+  WantedWhere : (is_late : Refusal → Bool) → Memory
   WantedIn : Memory
 
 -- a step isn't refused
@@ -29,12 +30,18 @@ abbrev pub IsDone : {A : Type 0} → Stepped A → Type 0
 IsDone (Ok done) = Unit {0}
 IsDone (Err refusal) = ⊥
 
+-- it isn't, or by a refusal that passes a test
+abbrev pub IsDoneOr : (Refusal → Bool) → {A : Type 0} → Stepped A → Type 0
+IsDoneOr is_late (Ok done) = Unit {0}
+IsDoneOr is_late (Err refusal) = is_late refusal ≡ true
+
 -- memory ran out at a step from the first state, and the second is left
 abbrev pub Wants : Memory → Stepped machine.Book → ModelState → ModelState → Type 0
 Wants Never made old new = ⊥
 Wants Wanted made old new = IsDone made × (new ≡ old)
 Wants (WantedOr late) made old new = (IsDone made ⊎ (made ≡ Err (OfCore late))) × (new ≡ old)
 Wants (WantedOrWhole late) made old new = (IsDone made ⊎ (made ≡ Err late)) × (new ≡ old)
+Wants (WantedWhere is_late) made old new = IsDoneOr is_late made × (new ≡ old)
 Wants WantedIn made old new = IsDone made × (new.book ≡ old.book)
 
 -- a call answered an error that tells this refusal, or none: the step's refusal, or want of memory
@@ -70,6 +77,10 @@ DoesOr late step command fields result old new = DoesStep (WantedOr late) (step 
 -- of one that needs memory to see whether a refusal holds that the core machine doesn't have
 abbrev pub DoesOrWhole : Refusal → {C T : Type 0} → (machine.Book → C → Stepped machine.Book) → C → (T → List Field) → Result T BookError → ModelState → ModelState → Type 0
 DoesOrWhole late step command fields result old new = DoesStep (WantedOrWhole late) (step (whole_of old.book) command) fields result old new
+
+-- of one that needs memory to see whether some refusals hold, those that pass a test
+abbrev pub DoesWhere : (Refusal → Bool) → {C T : Type 0} → (machine.Book → C → Stepped machine.Book) → C → (T → List Field) → Result T BookError → ModelState → ModelState → Type 0
+DoesWhere is_late step command fields result old new = DoesStep (WantedWhere is_late) (step (whole_of old.book) command) fields result old new
 
 -- and of one that may leave more to find formulas by where memory runs out
 abbrev pub DoesIn : {C T : Type 0} → (machine.Book → C → Stepped machine.Book) → C → (T → List Field) → Result T BookError → ModelState → ModelState → Type 0

@@ -1,13 +1,12 @@
 -- The fields of a reply, by what a call answers: those of the machine, and those of definitions and sheets as a model has
 -- them.
-use Rattle.std.specs.Prelude.{String, ℕ, List, [], ◌∷◌, Option, Some, chars, flat_map, string_bytes}
+use Rattle.std.specs.Prelude.{String, ℕ, List, [], ◌∷◌, Option, Some, flat_map}
 use Rattle.std.specs.declared.alloc.Global.{Global}
 use Rattle.std.specs.Global.{Vec}
 use Rattle.ic_cells.specs.Sheet.{state_word}
-pub use Rattle.ic_machine.specs.Fields.{fields_of_sheet, no_fields, scope_field, sheets_fields, string_field, string_only, theme_field}
+pub use Rattle.ic_machine.specs.Fields.{fields_of_sheet, named_sheet_fields, no_fields, scope_field, sheets_fields, string_field, string_only, theme_field}
 use Rattle.ic_machine.specs.Reply.{Field, NumberField, TextField}
 use Rattle.ic_machine.specs.Styling.{color_text}
-use Rattle.ic_machine.specs.subjects.Sheets.{named_fields}
 use Rattle.ic_sheets.specs.declared.sheet.Sheet.{Sheet as HeldSheet}
 use Rattle.ic_book.specs.Definitions.{Listed, listed}
 
@@ -21,7 +20,3 @@ fields_of_listed item = TextField item.0 ∷ NumberField item.1 ∷ TextField it
 
 abbrev pub listed_fields : Vec (String Global × Option ℕ × String Global) → List Field
 listed_fields names = flat_map (λ item. fields_of_listed (listed item)) names.items
-
--- the name and the index of a sheet
-abbrev pub named_sheet_fields : String Global × ℕ → List Field
-named_sheet_fields sheet = named_fields (chars (string_bytes sheet.0)) sheet.1

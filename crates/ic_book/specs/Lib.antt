@@ -24,8 +24,10 @@ pub mod Scene
 pub mod Served
 pub mod SheetNames
 pub mod Shown
+pub mod Sites
 pub mod Styled
 pub mod Texts
+pub mod Updated
 pub mod Values
 pub mod Whole
 pub mod Workbook

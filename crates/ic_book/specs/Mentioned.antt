@@ -7,12 +7,19 @@ use Rattle.ic_laws.specs.Changes.{changed_tree, definition_added, definition_gon
 use Rattle.ic_laws.specs.CoreBook.{Definition, Sheet, greatest_id, scene_of, spelling_of}
 use Rattle.ic_laws.specs.CoreStep.{index_of_definition, index_of_id, index_of_name, new_definition, scope_or_none, with_definition, with_sheet_name, without_definition, without_sheet}
 use Rattle.ic_laws.specs.FormulaReading.{Body, body_of}
+use Rattle.ic_machine.specs.Binds.{with_sheet_among}
+use Rattle.ic_machine.specs.subjects.Sheets.{chosen_id}
 use Rattle.ic_book.specs.Book.{Book, core_of, notations_in}
 
 -- A sheet of this name came: what dangled by an agreeing one is bound to it.
 abbrev pub BindsAdded : List ℕ → Book → Book → Type 0
 BindsAdded name old new =
     core_of new ≡ with_sheet_at_end (greatest_id (core_of old) + 1) name (with_trees (changed_tree (sheet_named (scene_of (core_of old)) (greatest_id (core_of old) + 1) name)) (core_of old))
+
+-- One of this name was put in at an index, with this id.
+abbrev pub BindsInserted : ℕ → ℕ → List ℕ → Book → Book → Type 0
+BindsInserted index id name old new =
+    core_of new ≡ with_sheet_among index id name (with_trees (changed_tree (sheet_named (scene_of (core_of old)) id name)) (core_of old))
 
 -- The sheet at an index got this name: what dangled by an agreeing one is bound to it.
 abbrev pub BindsNamed : ℕ → List ℕ → Book → Book → Type 0
@@ -44,3 +51,7 @@ AtName name book P = IfSome (index_of_name (core_of book) name) P
 
 abbrev pub AtId : ℕ → Book → (ℕ → Type 0) → Type 0
 AtId id book P = IfSome (index_of_id (core_of book) id) P
+
+-- what holds of the id that a new sheet gets: the one that is given, else the fresh one, where there is one
+abbrev pub AtChosen : Option ℕ → Book → (ℕ → Type 0) → Type 0
+AtChosen given book P = IfSome (chosen_id (core_of book) given) P

@@ -1,11 +1,12 @@
 -- What a call's error says of the refusal that holds.
-use Rattle.std.specs.Prelude.{◌≡◌, ◌⊎◌, ℕ, List, Option, Some, None, Result, Ok, Err, codes}
+use Rattle.std.specs.Prelude.{◌≡◌, ◌⊎◌, ℕ, List, Bool, true, Option, Some, None, Result, Ok, Err, codes, map}
 use Rattle.std.specs.Option.{option_map_or}
 use Rattle.ic_laws.specs.Refusal as core
 use Rattle.ic_grid.specs.declared.error.GridError.{GridError}
 use Rattle.ic_grid.specs.declared.error.GridError.TheVariants as grid
 use Rattle.ic_machine.specs.Refusal as machine
 use Rattle.ic_machine.specs.Refusal.{OfCore, Refusal, refusal_name}
+use Rattle.ic_book.specs.Sites.{site_of}
 use Rattle.ic_book.specs.declared.error.BookError.{BookError}
 use Rattle.ic_book.specs.declared.error.BookError.TheVariants as errors
 
@@ -16,12 +17,14 @@ refusal_of errors.InvalidSheet = Some (OfCore core.InvalidSheet)
 refusal_of errors.InvalidRow = Some (OfCore core.InvalidRow)
 refusal_of errors.InvalidColumn = Some (OfCore core.InvalidColumn)
 refusal_of errors.BadArea = Some machine.BadArea
+refusal_of errors.OutOfRange = Some machine.OutOfRange
 refusal_of errors.SheetIndexTooLarge = Some (OfCore core.SheetIndexTooLarge)
 refusal_of errors.TargetTooLarge = Some (OfCore core.TargetTooLarge)
 refusal_of errors.InvalidSheetName = Some (OfCore core.InvalidSheetName)
 refusal_of errors.SheetExists = Some (OfCore core.SheetExists)
 refusal_of errors.SheetNotFound = Some (OfCore core.SheetNotFound)
 refusal_of errors.OnlySheet = Some (OfCore core.OnlySheet)
+refusal_of errors.IdLive = Some machine.IdLive
 refusal_of errors.IdsUsedUp = Some (OfCore core.IdsUsedUp)
 refusal_of errors.InvalidName = Some (OfCore core.InvalidName)
 refusal_of errors.InvalidScope = Some (OfCore core.InvalidScope)
@@ -43,6 +46,7 @@ refusal_of errors.TooManyColumns = Some machine.TooManyColumns
 refusal_of errors.NoFormulaCell = Some machine.NoFormulaCell
 refusal_of (errors.SpillBlocked row column) = Some (machine.SpillBlocked row column)
 refusal_of (errors.BadWorkbook condition) = Some (machine.BadWorkbook condition)
+refusal_of (errors.WouldCapture sites) = Some (machine.WouldCapture (map site_of sites))
 refusal_of errors.OutOfMemory = None
 
 -- the error that tells why a call on the cells of a sheet was refused
@@ -69,6 +73,17 @@ Tells (Err e) refusal = refusal ≡ refusal_of e
 abbrev pub TellsOnly : {T : Type 0} → Result T BookError → Option Refusal → Type 0
 TellsOnly (Ok value) refusal = refusal ≡ None
 TellsOnly (Err e) refusal = (told : Refusal) × (refusal_of e ≡ Some told) × (refusal ≡ Some told)
+
+-- a refusal passes a test, if there is one
+abbrev pub IsLate : (Refusal → Bool) → Option Refusal → Type 0
+IsLate is_late None = Unit {0}
+IsLate is_late (Some refusal) = is_late refusal ≡ true
+
+-- The same of a call that needs memory to see whether some refusals hold, those that pass a test: where one of them does,
+-- memory may run out first.
+abbrev pub TellsWhere : (Refusal → Bool) → {T : Type 0} → Result T BookError → Option Refusal → Type 0
+TellsWhere is_late (Ok value) refusal = refusal ≡ None
+TellsWhere is_late (Err e) refusal = (refusal ≡ refusal_of e) ⊎ (IsLate is_late refusal × (e ≡ errors.OutOfMemory))
 
 -- What an error tells where the core machine says what refuses: this refusal, or none where memory ran out. Other errors
 -- don't come there. ----

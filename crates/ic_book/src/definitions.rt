@@ -15,6 +15,8 @@ ghost use Rattle.ic_book.specs.Refused.{Refuses, RefusesOr};
 
 mod body;
 mod parts;
+mod remaking;
+mod update;
 
 use crate::{BookError, Model};
 use body::TypedBody;

@@ -1,7 +1,8 @@
 ghost use Rattle.std.specs.Prelude.{◌≡◌};
 
+use crate::MentionSite;
 use ic_grid::GridError;
-use ic_laws::OutOfMemory;
+use ic_laws::{Items, OutOfMemory};
 use std::alloc::AllocFailed;
 use std::fmt;
 use thiserror::Error;
@@ -20,6 +21,8 @@ pub enum BookError {
     /// The width or the height of an area is below 1; the area passes the edge of the sheet, which the values of a dynamic
     /// array may; the number of values isn't width times height; or a Cse array has another area.
     BadArea,
+    /// The place that a sheet is to be put in at is past the end: there are fewer sheets before it.
+    OutOfRange,
     /// No sheet stands at the index of the sheet that is to be moved or deleted.
     SheetIndexTooLarge,
     /// No sheet stands at the index that a sheet is to be moved to.
@@ -32,6 +35,8 @@ pub enum BookError {
     SheetNotFound,
     /// There is no other sheet.
     OnlySheet,
+    /// The id that a sheet is to get is 0, or that of a sheet.
+    IdLive,
     /// The greatest id in use is the last one, 4,294,967,295.
     IdsUsedUp,
     /// A definition can't have the name: it is no identifier.
@@ -74,6 +79,9 @@ pub enum BookError {
     SpillBlocked { row: i32, column: i32 },
     /// A workbook that was handed in fails the condition of this number, from 1 to 12, and none before. No reply tells it.
     BadWorkbook(u8),
+    /// Words that mean a definition wouldn't mean the same one after the update: where they stand, cells by the order of
+    /// sheets, rows and columns, then definitions in the order of the book, each once.
+    WouldCapture(Items<MentionSite>),
     /// Memory ran out.
     OutOfMemory,
 }
@@ -87,12 +95,14 @@ impl BookError {
             BookError::InvalidRow => "Invalid row",
             BookError::InvalidColumn => "Invalid column",
             BookError::BadArea => "Invalid area",
+            BookError::OutOfRange => "Sheet index out of range",
             BookError::SheetIndexTooLarge => "Sheet index too large",
             BookError::TargetTooLarge => "Target sheet index too large",
             BookError::InvalidSheetName => "Invalid name for a sheet",
             BookError::SheetExists => "A worksheet already exists with that name",
             BookError::SheetNotFound => "Sheet not found",
             BookError::OnlySheet => "Cannot delete only sheet",
+            BookError::IdLive => "Sheet id is in use",
             BookError::IdsUsedUp => "No sheet id is left",
             BookError::InvalidName => "Name: Invalid defined name",
             BookError::InvalidScope => "Scope: Invalid sheet index",
@@ -114,6 +124,7 @@ impl BookError {
             BookError::NoFormulaCell => "No formula cell",
             BookError::SpillBlocked { .. } => "Cannot spill array result",
             BookError::BadWorkbook(_) => "Invalid workbook",
+            BookError::WouldCapture(_) => "Name: update would capture",
             BookError::OutOfMemory => "Out of memory",
         }
     }
@@ -138,12 +149,14 @@ impl BookError {
             BookError::InvalidRow => "InvalidRow",
             BookError::InvalidColumn => "InvalidColumn",
             BookError::BadArea => "BadArea",
+            BookError::OutOfRange => "OutOfRange",
             BookError::SheetIndexTooLarge => "SheetIndexTooLarge",
             BookError::TargetTooLarge => "TargetTooLarge",
             BookError::InvalidSheetName => "InvalidSheetName",
             BookError::SheetExists => "SheetExists",
             BookError::SheetNotFound => "SheetNotFound",
             BookError::OnlySheet => "OnlySheet",
+            BookError::IdLive => "IdLive",
             BookError::IdsUsedUp => "IdsUsedUp",
             BookError::InvalidName => "InvalidName",
             BookError::InvalidScope => "InvalidScope",
@@ -165,6 +178,7 @@ impl BookError {
             BookError::NoFormulaCell => "NoFormulaCell",
             BookError::SpillBlocked { .. } => "SpillBlocked",
             BookError::BadWorkbook(_) => "BadWorkbook",
+            BookError::WouldCapture(_) => "WouldCapture",
             BookError::OutOfMemory => "OutOfMemory",
         }
     }

@@ -114,7 +114,11 @@ impl<'a> Model<'a> {
     }
 
     /// The tree of a formula's text in a cell.
-    fn read_at(&self, cell: &CellReferenceIndex, text: &str) -> Result<Option<Spelled>, OutOfMemory>
+    pub(crate) fn read_at(
+        &self,
+        cell: &CellReferenceIndex,
+        text: &str,
+    ) -> Result<Option<Spelled>, OutOfMemory>
         ensures { IfOk result (λ t. t
             ≡ tree_at self.now.book cell.now.row cell.now.column (chars text.now)) }
     {

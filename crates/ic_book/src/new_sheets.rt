@@ -1,5 +1,5 @@
-//! New sheets: one with a number in its name at the end, and one put in among the others.
-ghost use Rattle.std.specs.Prelude.{◌≡◌, ◌++◌, IfOk, chars, length, string_bytes, true};
+//! Sheets that come with a name that is made.
+ghost use Rattle.std.specs.Prelude.{◌≡◌, IfOk, chars, length, string_bytes, true};
 ghost use Rattle.ic_laws.specs.Name.{is_sheet_name};
 ghost use Rattle.ic_machine.specs.subjects.Sheets as sheets;
 ghost use Rattle.ic_machine.specs.subjects.Sheets.{new_sheet_name, numbered_name, sheet_step};

@@ -106,12 +106,14 @@ fn push_front(text: &mut String, source: &str, count: usize) -> Result<(), OutOf
         ++ take count (chars source.now)) }
 {
     let mut rest = source;
-    for pushed in 0..count {
-        let Some((c, after)) = first_char(rest) else {
-            return Ok(());
-        };
+    let mut left = count;
+    while let Some((c, after)) = first_char(rest) {
+        if left == 0 {
+            break;
+        }
         push_char(text, c)?;
         rest = after;
+        left -= 1;
     }
     Ok(())
 }

@@ -1,6 +1,6 @@
 //! Books: `new_empty` begins one, and the command lines after it act on it.
 use crate::row::Row;
-use ic_book::{BookError, Model};
+use ic_book::{BookError, MentionSite, Model};
 use ic_cells::SpillValue;
 use ic_commands::answer_line;
 use ic_lines::Line;
@@ -31,7 +31,9 @@ impl<'t> Books<'t> {
 /// fifth word says. `created`: when it was made. `line` and a command line: the reply as it is. `long_line`, a front, a
 /// piece, how often it stands, and a back: the reply to the line that they make. `long_reply`, a command line and then
 /// the same four: whether the reply is the text that they make. `blocking`, a sheet, a row, a column, a width, a height
-/// and a count: the place that blocks a spill of so many values there, or `none`, and then they are put.
+/// and a count: the place that blocks a spill of so many values there, or `none`, and then they are put. `capturing`, the
+/// words of an update of a definition: where it would capture, each place as `cell`, the id of a sheet, a row and a column,
+/// or as `name`, a folded name and the id of a sheet or `-`; `none` where it was made.
 pub fn call(row: &mut Row<'_>, books: &mut Books<'_>) {
     match row.name {
         "line" => put_reply(row, books, row.word(1)),
@@ -42,6 +44,10 @@ pub fn call(row: &mut Row<'_>, books: &mut Books<'_>) {
         },
         "blocking" => match &mut books.book {
             Some(model) => put_blocking(row, model),
+            None => row.bad(),
+        },
+        "capturing" => match &mut books.book {
+            Some(model) => put_capturing(row, model),
             None => row.bad(),
         },
         "long_line" => {
@@ -165,4 +171,46 @@ fn truths(row: &mut Row<'_>, at: usize) -> Vec<SpillValue> {
         row.done(values.push(SpillValue::Boolean(true)).is_ok());
     }
     values
+}
+
+fn put_capturing(row: &mut Row<'_>, model: &mut Model<'_>) {
+    let (name, scope) = (row.word(1), row.scope(2));
+    let (new_name, new_scope) = (row.word(3), row.scope(4));
+    match model.update_defined_name(name, scope, new_name, new_scope, row.word(5)) {
+        Ok(()) => row.none(),
+        Err(BookError::WouldCapture(sites)) => put_sites(row, sites.as_slice()),
+        Err(e) => put_book_error(row, &e),
+    }
+}
+
+fn put_sites(row: &mut Row<'_>, sites: &[MentionSite]) {
+    let mut first = true;
+    for site in sites {
+        if !first {
+            row.tab();
+        }
+        first = false;
+        put_site(row, site);
+    }
+}
+
+fn put_site(row: &mut Row<'_>, site: &MentionSite) {
+    match site {
+        MentionSite::Cell {
+            sheet_id,
+            row: line,
+            column,
+        } => {
+            row.put("cell\t");
+            row.put_number(i128::from(*sheet_id));
+            row.put_field(*line);
+            row.put_field(*column);
+        }
+        MentionSite::Definition(key) => {
+            row.put("name\t");
+            row.put_text(key.name.as_str());
+            row.tab();
+            row.put_scope(key.scope);
+        }
+    }
 }

@@ -2,7 +2,7 @@
 use crate::row::Row;
 use ic_book::BookError;
 use ic_cells::SheetState;
-use ic_laws::OutOfMemory;
+use ic_laws::{Items, OutOfMemory};
 use ic_lines::{Failed, RunError};
 
 /// Answers the call, if it is one of these.
@@ -37,19 +37,21 @@ fn put_state(row: &mut Row<'_>) {
     row.put_made(state.to_string(row.alloc));
 }
 
-/// The errors of the book.
-const BOOK_ERRORS: [BookError; 33] = [
+/// The errors of the book, but for one that tells places.
+const BOOK_ERRORS: [BookError; 35] = [
     BookError::BadLine,
     BookError::InvalidSheet,
     BookError::InvalidRow,
     BookError::InvalidColumn,
     BookError::BadArea,
+    BookError::OutOfRange,
     BookError::SheetIndexTooLarge,
     BookError::TargetTooLarge,
     BookError::InvalidSheetName,
     BookError::SheetExists,
     BookError::SheetNotFound,
     BookError::OnlySheet,
+    BookError::IdLive,
     BookError::IdsUsedUp,
     BookError::InvalidName,
     BookError::InvalidScope,
@@ -77,8 +79,14 @@ const BOOK_ERRORS: [BookError; 33] = [
 /// The text of an error of the book.
 fn put_book_error(row: &mut Row<'_>) {
     for error in &BOOK_ERRORS {
-        if error.name() == row.word(1) {
-            row.put_made(error.to_string(row.alloc));
-        }
+        put_named(row, error);
+    }
+    put_named(row, &BookError::WouldCapture(Items::from(Vec::new(row.alloc))));
+}
+
+/// The text of an error, if its name is the row's.
+fn put_named(row: &mut Row<'_>, error: &BookError) {
+    if error.name() == row.word(1) {
+        row.put_made(error.to_string(row.alloc));
     }
 }

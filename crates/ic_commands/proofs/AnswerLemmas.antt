@@ -1,6 +1,7 @@
 -- What is told of a call answers the command that it did.
-use Rattle.std.proofs.Common.{◌≡◌, ◌≢◌, ℕ, List, ◌++◌, Bool, false, true, String, Global, Option, Some, None, Result, Ok, Err, IfOk, OnErr, OnOk, unwrap_or, refl, ap, sym, subst, ◌∙◌}
+use Rattle.std.proofs.Common.{◌≡◌, ◌≢◌, ◌≤◌, ℕ, List, ◌++◌, Bool, false, true, String, Global, Option, Some, None, Result, Ok, Err, IfOk, OnErr, OnOk, arith, chars, length, refl, rules, string_bytes, ap, sym, subst, unwrap_or, ◌∙◌}
 use Rattle.ic_machine.specs.Refusal.{BadLine, Refusal}
+use Rattle.ic_laws.specs.Name.{is_sheet_name}
 use Rattle.ic_laws.specs.declared.memory.OutOfMemory.{OutOfMemory}
 use Rattle.ic_machine.specs.Book as machine
 use Rattle.ic_machine.specs.Book.{Stepped}
@@ -15,7 +16,7 @@ use Rattle.ic_book.specs.Refused.{refusal_of}
 use Rattle.ic_book.specs.declared.error.BookError.{BookError}
 use Rattle.ic_book.specs.declared.error.BookError.TheVariants as errors
 use Rattle.ic_commands.specs.Answered.{Answers, IsAnswered, Keeps, Stays, Tells, is_on_notation}
-use Rattle.ic_book.specs.Does.{DoesStep, Memory, Never, Refused, Wanted, WantedIn, WantedOr, WantedOrWhole}
+use Rattle.ic_book.specs.Does.{DoesStep, Memory, Never, Refused, Wanted, WantedIn, WantedOr, WantedOrWhole, WantedWhere}
 use Rattle.ic_book.specs.Served.{served_command_step, served_step}
 use Rattle.ic_book.specs.Whole.{whole_of}
 
@@ -31,6 +32,7 @@ refused_book Never made old new None h = absurd h
 refused_book Wanted made old new None h = ap (λ (m : ModelState). m.book) h.1
 refused_book (WantedOr late) made old new None h = ap (λ (m : ModelState). m.book) h.1
 refused_book (WantedOrWhole late) made old new None h = ap (λ (m : ModelState). m.book) h.1
+refused_book (WantedWhere late) made old new None h = ap (λ (m : ModelState). m.book) h.1
 refused_book WantedIn made old new None h = h.1
 
 module _ {T : Type 0} (wants : Memory) (fields : T → List Field) (command : Command) (old new : ModelState) (before after : List ℕ) where
@@ -82,6 +84,13 @@ both_ok (Err e) p q both = tt
 pub on_ok : {T E X : Type 0} {P : T → Type 0} (result : Result T E) → IfOk result P → ((x : T) → P x → X) → OnOk result X
 on_ok (Ok value) p h = h value p
 on_ok (Err e) p h = tt
+
+-- a sheet's name that a call answered has at most 31 characters
+pub is_short : (done : Result (String Global × ℕ) BookError) (named : String Global × ℕ) → done ≡ Ok named → IfOk done (λ n. is_sheet_name (chars (string_bytes n.0)) ≡ true) → length (chars (string_bytes named.0)) ≤ 31
+is_short done named is good = short (chars (string_bytes named.0)) (subst (λ (d : Result (String Global × ℕ) BookError). IfOk d (λ n. is_sheet_name (chars (string_bytes n.0)) ≡ true)) is good)
+  where
+    short : (name : List ℕ) → is_sheet_name name ≡ true → length name ≤ 31
+    short name e = search (rules, arith)
 
 -- A call that changes the book takes no memory for its reply.
 module _ {T : Type 0} {fields : T → List Field} {memory : Bool} {wants : Memory} {made : Stepped machine.Book} {done : Result T BookError} {before : List ℕ} {result : Result (String Global) OutOfMemory} (command : Command) {old new : ModelState} (none : memory ≡ false) (told : Tells fields memory done before result) (did : DoesStep wants made fields done old new) (is : made ≡ served_step (whole_of old.book) command) where

@@ -39,7 +39,7 @@ pub(crate) fn told_named(
     ensures { Tells named_sheet_fields false done (string_bytes reply) result }
 {
     match done {
-        Ok((name, index)) => Ok(named_reply(reply, name.as_str(), index)),
+        Ok(named) => Ok(named_reply(reply, named.0.as_str(), named.1)),
         Err(e) => refused(&e, reply),
     }
 }

@@ -1,5 +1,5 @@
--- When two formulas are alike, whatever they mention: of one form, node for node, where a function that is called stands for
--- a word that is called.
+-- When two formulas are alike, whatever they mention: node for node, one has a word where the other has one, and as many
+-- parts. A function that is called stands for a word that is called; which sign or which brackets a node has isn't asked.
 use Rattle.std.specs.Prelude.{◌≡◌, List, [], ◌∷◌, map, length, Bool, true, false, ◌&&◌, Option, Some, None, nat_eq}
 use Rattle.ic_laws.specs.Binding.{BoundPair}
 use Rattle.ic_laws.specs.Tree.{Bound, Kind}

@@ -19,10 +19,19 @@ use ic_tree::{Shown, bind, read, read_reference};
 use std::alloc::Global;
 
 /// The body of a definition as it was typed: whether with an equals sign, and its tree.
-#[derive(Drop)]
 pub struct TypedBody {
     pub has_equals: bool,
     pub tree: Spelled,
+}
+
+impl Drop for TypedBody {
+    fn drop(self) {
+        let Self {
+            has_equals: _,
+            tree,
+        } = self;
+        drop(tree);
+    }
 }
 
 impl<'a> Model<'a> {

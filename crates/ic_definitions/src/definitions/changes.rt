@@ -141,7 +141,7 @@ impl Definitions {
         self.may_dangle = bodies.may_dangle | has_dangling(definition.body());
         bodies.put(&mut self.list);
         self.list[index] = definition;
-        self.greatest = greatest_of(&self.list);
+        self.greatest = greatest_of(self.list.as_slice());
         Ok(())
     }
 
@@ -276,7 +276,7 @@ impl Definitions {
     {
         self.indexes.retain(|_, place| *place < count);
         self.list.truncate(count);
-        self.greatest = greatest_of(&self.list);
+        self.greatest = greatest_of(self.list.as_slice());
     }
 
     /// The definitions in their order. No two have one key.

@@ -1,4 +1,4 @@
-use Rattle.std.proofs.Common.{◌≡◌, map}
+use Rattle.std.proofs.Common.{map}
 use Rattle.ic_book.specs.SheetNames.{name_with}
 use Rattle.ic_book.proofs.FreeNames.{AreTaken}
 use Rattle.ic_book.proofs.sheet_names.free_name.Given as goal

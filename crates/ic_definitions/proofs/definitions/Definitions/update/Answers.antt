@@ -23,7 +23,7 @@ invariant_of-self-2 c =
     named_replaced c.self.inside.indexes c.replace_key.new.indexes c.self.inside.greatest c.greatest_of-self-inside.result at c.self.inside.may_dangle _ ds (with_bodies news ds) _ c.index.result.now new
     c.in_ok-old.old c.in_ok-new.new c.self.invariant (keys_kept news ds) (subst (λ xs. at < length xs) (sym c.self.view_is) c.requires.within) c.index.ensures c.in_ok-old.ensures c.in_ok-new.ensures c.in_ok-replace_key.ensures.ok
     (ap (λ xs. list_any (same_key (key_in new)) (remove (keys xs) at)) c.self.view_is ∙ c.requires.apart)
-    (c.greatest_of-self-inside.ensures ∙ ap (λ xs. greatest (scopes_of xs)) c.deref.ensures.value)
+    (c.greatest_of-self-inside.ensures ∙ ap (λ xs. greatest (scopes_of xs)) c.as_slice.ensures.value)
     (λ e.
     let parts = or_parts c.args.bodies.may_dangle c.has_dangling.result e in
     (subst (λ xs. AllByRecursion HasFoundAll (with_bodies news xs)) (sym c.self.view_is) (c.requires.fits.dangles parts.0), sym (c.has_dangling.ensures ∙ ap has_dangling c.body.ensures) ∙ parts.1))
