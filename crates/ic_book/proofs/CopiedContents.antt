@@ -1,5 +1,5 @@
 -- What the contents of a book are after a sheet was copied.
-use Rattle.std.proofs.Common.{◌≡◌, ℕ, ◌+◌, ◌<◌, ◌≤◌, List, [], ◌∷◌, ◌++◌, map, length, true, false, Option, Some, refl, sym, ap, ap₂, subst, ◌∙◌, arith}
+use Rattle.std.proofs.Common.{◌≡◌, ℕ, ◌+◌, ◌<◌, ◌≤◌, List, [], ◌++◌, map, length, true, false, Option, Some, sym, ap, ap₂, subst, ◌∙◌, arith}
 use Rattle.std.proofs.lemmas.List.{length-map}
 use Rattle.std.specs.List.{AllByRecursion, insert, list_any, remove, slice_get}
 use Rattle.ic_laws.specs.BookTrees.{with_body_tree}
@@ -16,7 +16,7 @@ use Rattle.ic_machine.specs.subjects.Sheets.{copied_of, local_in, with_formula}
 use Rattle.ic_sheets.proofs.InsertLemmas.{filled_look_ups, filled_sheets, got_before, held_filled, inserted_removed, sheet_filled}
 use Rattle.ic_sheets.proofs.MakesLemmas.{Own}
 use Rattle.ic_sheets.specs.Rewriting.{changed_pool, look_ups, looks_up_after, sheets_of, with_own_rewrites}
-use Rattle.ic_sheets.specs.Sheet.{Sheet, empty_grid, plain_tab, sheet_of}
+use Rattle.ic_sheets.specs.Sheet.{empty_grid, plain_tab, sheet_of}
 use Rattle.ic_sheets.specs.declared.sheet.Sheet.{Sheet as HeldSheet}
 use Rattle.ic_book.specs.Copied.{HasCopy, filled_by, made_for, with_each_body}
 use Rattle.ic_book.specs.Scene.{scene_of_parts}
@@ -91,13 +91,13 @@ module _ (english : List ℕ → Option ℕ) (index id : ℕ) (name : List ℕ) 
       formula_is = ap₂ formula_with is_put copies_are
 
       module _ (prepared : Own) (bodies : List NewBody) (filling : Filling) (new : Contents) (between done : List HeldSheet)
-        (made : sheets_of (with_own_rewrites prepared put) ≡ insert (map (changed_pool (sheet_named (definitions_scene (first ++ more)) id name)) (sheets_of old.sheets)) place (sheet_of (held_empty id name)))
-        (looks_up : look_ups (with_own_rewrites prepared put) ≡ insert (map (looks_up_after (sheet_named (definitions_scene (first ++ more)) id name)) old.sheets) place true)
-        (kept : between ≡ put) (applied : done ≡ with_own_rewrites prepared between)
-        (filled : new.sheets ≡ updated_at (held_filled filling.pool filling.grid filling.tab place) place done)
-        (holds : (x : HeldSheet) → slice_get put index ≡ Some x → filling ≡ filled_by (made_for english put (old.definitions ++ copies) x.id id) x)
-        (others : with_bodies bodies old.definitions ≡ map (with_body_tree (changed_tree (sheet_named (definitions_scene (first ++ more)) id name))) old.definitions)
-        (added : (x : HeldSheet) → slice_get put index ≡ Some x → new.definitions ≡ with_bodies bodies old.definitions ++ map (with_formula (made_for english put (old.definitions ++ copies) x.id id)) copies) where
+          (made : sheets_of (with_own_rewrites prepared put) ≡ insert (map (changed_pool (sheet_named (definitions_scene (first ++ more)) id name)) (sheets_of old.sheets)) place (sheet_of (held_empty id name)))
+          (looks_up : look_ups (with_own_rewrites prepared put) ≡ insert (map (looks_up_after (sheet_named (definitions_scene (first ++ more)) id name)) old.sheets) place true)
+          (kept : between ≡ put) (applied : done ≡ with_own_rewrites prepared between)
+          (filled : new.sheets ≡ updated_at (held_filled filling.pool filling.grid filling.tab place) place done)
+          (holds : (x : HeldSheet) → slice_get put index ≡ Some x → filling ≡ filled_by (made_for english put (old.definitions ++ copies) x.id id) x)
+          (others : with_bodies bodies old.definitions ≡ map (with_body_tree (changed_tree (sheet_named (definitions_scene (first ++ more)) id name))) old.definitions)
+          (added : (x : HeldSheet) → slice_get put index ≡ Some x → new.definitions ≡ with_bodies bodies old.definitions ++ map (with_formula (made_for english put (old.definitions ++ copies) x.id id)) copies) where
         done_is : done ≡ with_own_rewrites prepared put
         done_is = applied ∙ ap (with_own_rewrites prepared) kept
 

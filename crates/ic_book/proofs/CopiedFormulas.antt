@@ -20,7 +20,7 @@ use Rattle.ic_sheets.specs.Rewriting.{changed_pool}
 use Rattle.ic_sheets.specs.Sheet.{IsValidPool, Sheet, kept_pool}
 
 module _ (n : Notations) (are : AreNotations n) (before after : Scene) (change : Change) (id : ℕ)
-  (become : (scope : Option ℕ) → same_scope (Some id) scope ≡ false → Become before after scope (changed_sheet change) (changed_word change scope) (changed_local change)) where
+    (become : (scope : Option ℕ) → same_scope (Some id) scope ≡ false → Become before after scope (changed_sheet change) (changed_word change scope) (changed_local change)) where
   settled_changed : (scope : Option ℕ) → same_scope (Some id) scope ≡ false → (formula : Formula) → OfTree (IsSettled (english_function n) before scope) formula
       → kept_formula (english_function n) before after same_keys scope formula ≡ with_tree (changed_tree change scope) formula
   settled_changed scope apart (formulas.Tree t) h =
