@@ -1,18 +1,17 @@
 -- What refuses the question whether an update of a definition would capture.
-use Rattle.std.proofs.Common.{◌≡◌, ℕ, List, [], ◌∷◌, Bool, true, false, not, ◌&&◌, Option, Some, None, Result, Ok, Err, IsErr, IsErrAnd, option_map, is_some, refl, sym, ap, subst, ◌∙◌, inl, inr}
-use Rattle.std.specs.Prelude.{is_none, position}
+use Rattle.std.proofs.Common.{◌≡◌, ℕ, true, false, not, ◌&&◌, Option, Some, None, Result, Ok, Err, IsErr, IsErrAnd, refl, sym, ap, subst, ◌∙◌, inl, inr}
+use Rattle.std.specs.Prelude.{position}
 use Rattle.std.specs.List.{list_any}
 use Rattle.std.proofs.lemmas.Bool.{cases_Bool}
 use Rattle.ic_laws.specs.CoreBook.{CoreBook}
-use Rattle.ic_laws.specs.CoreStep.{has_definition, is_named, scope_of, scope_or_none}
+use Rattle.ic_laws.specs.CoreStep.{is_named, scope_of, scope_or_none}
 use Rattle.ic_laws.specs.FormulaReading.{Body}
 use Rattle.ic_laws.specs.Name.{agrees, is_identifier}
-use Rattle.ic_laws.specs.Notations.{Notations}
 use Rattle.ic_laws.specs.Scene.{same_scope}
 use Rattle.ic_machine.specs.Book as machine
-use Rattle.ic_machine.specs.Refusal.{Causes, InvalidFormula, InvalidName, InvalidScope, NameExists, NameNotFound, Refusal, first_refusal}
-use Rattle.ic_machine.specs.subjects.Definitions.{Update, question_causes, update_body, updated_index}
-use Rattle.ic_definitions.proofs.NamesFacts.{position_none, some_position}
+use Rattle.ic_machine.specs.Refusal.{InvalidFormula, NameExists, NameNotFound, Refusal, first_refusal}
+use Rattle.ic_machine.specs.subjects.Definitions.{Update, question_causes, update_body}
+use Rattle.ic_definitions.proofs.NamesFacts.{some_position}
 use Rattle.ic_book.specs.Book.{Book, core_of, notations_in, whole_of}
 use Rattle.ic_book.specs.Definitions.{body_of_typed}
 use Rattle.ic_book.specs.Refused.{IsLate, TellsWhere}

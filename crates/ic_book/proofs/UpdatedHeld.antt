@@ -1,16 +1,15 @@
 -- What a model holds after a definition was updated, and what the update captures.
-use Rattle.std.proofs.Common.{◌≡◌, ◌<◌, ℕ, zero, suc, List, [], ◌∷◌, map, Bool, true, false, not, ◌&&◌, Option, Some, None, Ok, length, option_map, if◌then◌else◌, refl, sym, ap, ap₂, subst, ◌∙◌, codes}
+use Rattle.std.proofs.Common.{◌≡◌, ◌<◌, ℕ, zero, suc, List, [], ◌∷◌, map, Bool, true, false, Option, Some, None, Ok, length, option_map, if◌then◌else◌, refl, sym, ap, ap₂, subst, ◌∙◌, codes}
 use Rattle.std.specs.Prelude.{remove}
 use Rattle.std.specs.List.{AllByRecursion, list_any, slice_get}
 use Rattle.std.proofs.lemmas.Option.{slice_get-map, slice_get_within}
-use Rattle.ic_laws.proofs.core.Lists.{updated_seen}
 use Rattle.ic_laws.proofs.keeping.NameChanges.{same_key_flip}
 use Rattle.ic_laws.proofs.keeping.Removing.{key_of_no_other}
 use Rattle.ic_laws.specs.Binding.{bound}
 use Rattle.ic_laws.specs.CoreBook.{Definition}
 use Rattle.ic_laws.specs.CoreStep.{is_named, updated_at}
 use Rattle.ic_laws.specs.FormulaReading.{Body}
-use Rattle.ic_laws.specs.Keeping.{changed_key, kept_in_body}
+use Rattle.ic_laws.specs.Keeping.{changed_key}
 use Rattle.ic_laws.specs.Notations.{Notations, english_function}
 use Rattle.ic_laws.specs.Scene.{key_of, same_key}
 use Rattle.ic_laws.specs.declared.scene.Scene.{Scene}
@@ -27,11 +26,11 @@ use Rattle.ic_machine.proofs.UpdatedStays.{passes_at, update_name_stays}
 use Rattle.ic_machine.specs.Book as machine
 use Rattle.ic_machine.specs.Book.{core_of, scene_in, unless}
 use Rattle.ic_machine.specs.Capture.{has_sites}
-use Rattle.ic_machine.specs.Changed.{changed_with, with_kept_pool}
+use Rattle.ic_machine.specs.Changed.{changed_with}
 use Rattle.ic_machine.specs.Kept.{StaysValid}
 use Rattle.ic_machine.specs.Refusal.{Refusal, Site, WouldCapture, first_refusal}
 use Rattle.ic_machine.specs.Valid as valid_machine
-use Rattle.ic_machine.specs.subjects.Definitions.{Update, captures, keys_of_update, new_key, new_scope_id, old_key, old_scope, question_causes, scene_updated, update_causes, update_name_step, update_sites, updated_book, updated_index, with_body, with_update}
+use Rattle.ic_machine.specs.subjects.Definitions.{Update, captures, keys_of_update, new_key, new_scope_id, old_key, old_scope, question_causes, scene_updated, update_causes, update_name_step, update_sites, updated_book, with_body, with_update}
 use Rattle.ic_pool.specs.Remade.{Remade}
 use Rattle.ic_definitions.specs.Bodies.{with_bodies}
 use Rattle.ic_definitions.specs.Named.{key_in}
@@ -41,7 +40,7 @@ use Rattle.ic_sheets.specs.Remade.{AreRemade, looks_up_remade, remade_pool}
 use Rattle.ic_sheets.specs.Rewriting.{FitSheets, look_ups, sheets_of, with_all_rewrites}
 use Rattle.ic_sheets.specs.Sheet.{Sheet, sheet_of}
 use Rattle.ic_sheets.specs.declared.sheet.Sheet.{Sheet as HeldSheet}
-use Rattle.ic_book.specs.Book.{Book, HasStrings, IsValidBook, ModelState, notations_in, whole_of, whole_sheet}
+use Rattle.ic_book.specs.Book.{Book, HasStrings, ModelState, notations_in, whole_of, whole_sheet}
 use Rattle.ic_book.specs.Definitions.{body_of_typed}
 use Rattle.ic_book.specs.Inside.{IsHeld, held, held_state, with_contents}
 use Rattle.ic_book.specs.LookUps.{LooksUpUpdated, looks_up_untouched}

@@ -81,7 +81,10 @@ fn put_book_error(row: &mut Row<'_>) {
     for error in &BOOK_ERRORS {
         put_named(row, error);
     }
-    put_named(row, &BookError::WouldCapture(Items::from(Vec::new(row.alloc))));
+    put_named(
+        row,
+        &BookError::WouldCapture(Items::from(Vec::new(row.alloc))),
+    );
 }
 
 /// The text of an error, if its name is the row's.

@@ -45,7 +45,15 @@ fn put_captured(row: &mut Row<'_>) {
     let scope = row.scope(0);
     let formula = formula_in(row, &before, scope, row.word(1));
     let english = row.tables.get_default_language();
-    let kept = keep_formula(row.alloc, &before, &after, Some(&change), english, scope, &formula);
+    let kept = keep_formula(
+        row.alloc,
+        &before,
+        &after,
+        Some(&change),
+        english,
+        scope,
+        &formula,
+    );
     match &kept {
         Ok(kept) => row.put_bool(captured_formula(&formula, kept, &change)),
         Err(_) => row.bad(),

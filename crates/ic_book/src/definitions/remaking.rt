@@ -101,9 +101,9 @@ impl<'u> Remaking for Updating<'u> {
 
 /// What an update makes of the formulas of each sheet and of the bodies of definitions, and where it would capture.
 pub struct PreparedUpdate {
-    formulas: Vec<Rewrites>,
-    bodies: BodyRewrites,
-    sites: Vec<MentionSite>,
+    pub formulas: Vec<Rewrites>,
+    pub bodies: BodyRewrites,
+    pub sites: Vec<MentionSite>,
 }
 
 impl Drop for PreparedUpdate {

@@ -1,7 +1,5 @@
 use Rattle.std.proofs.Common.{ap, chars, refl, subst, sym, ◌∙◌}
 use Rattle.ic_tree.specs.LanguageWords.{function_of}
-use Rattle.ic_pool.specs.Rewrites.{RewritesState}
-use Rattle.ic_sheets.specs.Sheet.{sheet_of}
 use Rattle.ic_laws.specs.Keeping.{changed_key}
 use Rattle.ic_book.specs.Sites.{AreAlikePools, listed_sites}
 use Rattle.ic_book.proofs.UpdatedRules.{is_prepared, made_leaves, made_leaves_bodies, prepared_alike, rule_seen}

@@ -1,4 +1,4 @@
-use Rattle.std.proofs.Common.{None, Some, ap, chars, inl, not, option_map, refl, sym, ◌&&◌, ◌∙◌}
+use Rattle.std.proofs.Common.{ap, chars, inl, not, option_map, refl, sym, ◌&&◌, ◌∙◌}
 use Rattle.std.specs.Prelude.{position}
 use Rattle.std.specs.List.{list_any}
 use Rattle.ic_laws.specs.CoreStep.{is_named}

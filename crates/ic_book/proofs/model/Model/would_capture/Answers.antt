@@ -4,4 +4,6 @@ use Rattle.ic_book.proofs.UpdatedDoes.{asks}
 use Rattle.ic_book.proofs.model.Model.would_capture.Goals as goal
 
 pub returns : goal.returns
-returns c = asks c.captures-2.result c.args.self.now (update_of (chars c.args.name.now) c.args.scope (chars c.args.new_name.now) c.args.new_scope (chars c.args.new_formula.now)) c.captures-2.ensures.ok c.captures-2.ensures.refused c.captures-2.ensures.valid
+returns c = record {
+  does = asks c.captures-2.result c.args.self.now (update_of (chars c.args.name.now) c.args.scope (chars c.args.new_name.now) c.args.new_scope (chars c.args.new_formula.now)) c.captures-2.ensures.ok c.captures-2.ensures.refused c.captures-2.ensures.valid;
+}
