@@ -1,5 +1,5 @@
 -- What the contents of a book are after a sheet was copied.
-use Rattle.std.proofs.Common.{◌≡◌, ℕ, ◌+◌, ◌<◌, ◌≤◌, List, [], ◌∷◌, ◌++◌, map, length, true, false, Option, Some, refl, sym, ap, ap₂, subst, ◌∙◌, arith}
+use Rattle.std.proofs.Common.{◌≡◌, ℕ, ◌+◌, ◌<◌, ◌≤◌, List, [], ◌++◌, map, length, true, false, Option, Some, sym, ap, ap₂, subst, ◌∙◌, arith}
 use Rattle.std.proofs.lemmas.List.{length-map}
 use Rattle.std.specs.List.{AllByRecursion, insert, list_any, remove, slice_get}
 use Rattle.ic_laws.specs.BookTrees.{with_body_tree}
@@ -16,7 +16,7 @@ use Rattle.ic_machine.specs.subjects.Sheets.{copied_of, local_in, with_formula}
 use Rattle.ic_sheets.proofs.InsertLemmas.{filled_look_ups, filled_sheets, got_before, held_filled, inserted_removed, sheet_filled}
 use Rattle.ic_sheets.proofs.MakesLemmas.{Own}
 use Rattle.ic_sheets.specs.Rewriting.{changed_pool, look_ups, looks_up_after, sheets_of, with_own_rewrites}
-use Rattle.ic_sheets.specs.Sheet.{Sheet, empty_grid, plain_tab, sheet_of}
+use Rattle.ic_sheets.specs.Sheet.{empty_grid, plain_tab, sheet_of}
 use Rattle.ic_sheets.specs.declared.sheet.Sheet.{Sheet as HeldSheet}
 use Rattle.ic_book.specs.Copied.{HasCopy, filled_by, made_for, with_each_body}
 use Rattle.ic_book.specs.Scene.{scene_of_parts}

@@ -1,5 +1,5 @@
 -- The book that a model holds after a sheet of it was copied.
-use Rattle.std.proofs.Common.{◌≡◌, ℕ, ◌+◌, ◌<◌, List, [], ◌∷◌, ◌++◌, map, length, Bool, true, false, Option, Some, None, Ok, option_map, refl, sym, ap, ap₂, subst, ◌∙◌, arith}
+use Rattle.std.proofs.Common.{◌≡◌, ℕ, ◌+◌, List, [], ◌∷◌, ◌++◌, map, length, true, false, Option, Some, None, Ok, option_map, refl, sym, ap, ap₂, subst, ◌∙◌}
 use Rattle.std.proofs.lemmas.List.{map-append}
 use Rattle.std.proofs.lemmas.Option.{slice_get-map}
 use Rattle.std.specs.Cmp.{nat_eq_equiv}
@@ -9,20 +9,20 @@ use Rattle.ic_laws.proofs.core.KeptBook.{mentioned}
 use Rattle.ic_laws.proofs.core.Lists.{none_passes}
 use Rattle.ic_laws.proofs.keeping.Books.{trees_settled}
 use Rattle.ic_laws.proofs.keeping.Kept.{Become}
-use Rattle.ic_laws.proofs.keeping.SheetChanges.{Naming, has_id}
+use Rattle.ic_laws.proofs.keeping.SheetChanges.{Naming}
 use Rattle.ic_laws.specs.BookTrees.{with_body_tree}
 use Rattle.ic_laws.specs.Changes.{Change, changed_local, changed_sheet, changed_tree, changed_word, sheet_named}
 use Rattle.ic_laws.specs.CoreBook as core_book
 use Rattle.ic_laws.specs.CoreBook.{CoreBook, Definition, fresh_id, greatest_id, has_sheet, ids_of, scene_of, spelling_of}
 use Rattle.ic_laws.specs.Keeping.{kept_in_body, same_keys}
 use Rattle.ic_laws.specs.Name.{agrees}
-use Rattle.ic_laws.specs.Notations.{AreNotations, Notations, english_function}
+use Rattle.ic_laws.specs.Notations.{Notations, english_function}
 use Rattle.ic_laws.specs.Scene.{same_scope}
 use Rattle.ic_laws.specs.declared.scene.DefinitionSpelling.{DefinitionSpelling}
 use Rattle.ic_laws.specs.declared.scene.Scene.{Scene}
 use Rattle.ic_laws.specs.declared.scene.SheetName.{SheetName}
 use Rattle.ic_laws.specs.declared.tree.Formula.{Formula}
-use Rattle.ic_definitions.specs.Named.{definitions_scene, key_in, scopes_of}
+use Rattle.ic_definitions.specs.Named.{definitions_scene, scopes_of}
 use Rattle.ic_keep.specs.Copy.{copied_for}
 use Rattle.ic_machine.proofs.CopyKeys.{all_in_map, no_scope}
 use Rattle.ic_machine.proofs.CoreLemmas.{insert-map}
@@ -37,7 +37,7 @@ use Rattle.ic_machine.specs.Changed as changed
 use Rattle.ic_machine.specs.Changed.{with_kept_formulas}
 use Rattle.ic_machine.specs.Kept.{StaysValid}
 use Rattle.ic_machine.specs.Valid as valid_machine
-use Rattle.ic_machine.specs.subjects.Sheets.{DuplicateSheet, copied_of, copies_of_definitions, copy_id, copy_named, copy_of_sheet, definitions_moved, formula_copied, local_in, name_of_copy, named_fields, scene_with_copy, sheet_step, with_copy, with_formula}
+use Rattle.ic_machine.specs.subjects.Sheets.{DuplicateSheet, copied_of, copy_id, copy_named, copy_of_sheet, definitions_moved, formula_copied, local_in, name_of_copy, named_fields, scene_with_copy, sheet_step, with_copy, with_formula}
 use Rattle.ic_sheets.proofs.InsertLemmas.{all_inserted, inserted_seen}
 use Rattle.ic_sheets.specs.Rewriting.{changed_pool, sheets_of}
 use Rattle.ic_sheets.specs.Sheet.{Sheet, empty_grid, kept_pool, plain_tab, sheet_core, sheet_of}
@@ -46,7 +46,7 @@ use Rattle.ic_book.specs.declared.contents.Contents.{Contents}
 use Rattle.ic_book.specs.declared.model.Model.TheInside.{Inside}
 use Rattle.ic_book.specs.Book.{Book, HasStrings, IsValidBook, core_of, notations_in, scene_in, whole_of, whole_sheet}
 use Rattle.ic_book.specs.Change.{book_changed_by, with_kept_pools}
-use Rattle.ic_book.specs.Copied.{HasCopy, change_here, copied_here, definitions_copied, formula_here, made_for, sheet_copied, sheet_here, sheets_here, whole_source, with_copied_sheet}
+use Rattle.ic_book.specs.Copied.{HasCopy, definitions_copied, sheet_copied, whole_source, with_copied_sheet}
 use Rattle.ic_book.specs.Inside.{IsHeld, held, with_contents}
 use Rattle.ic_book.specs.Scene.{named, scene_of_parts}
 use Rattle.ic_book.proofs.BookValid.{core_valid, grids_kept, notations, pools_valid}

@@ -17,7 +17,6 @@ use Rattle.ic_laws.specs.Name.{agrees, fold}
 use Rattle.ic_laws.specs.Scene.{definition_at, key_found, key_of, same_scope}
 use Rattle.ic_laws.specs.declared.scene.DefinitionSpelling.{DefinitionSpelling}
 use Rattle.ic_laws.specs.declared.scene.Scene.{Scene}
-use Rattle.ic_laws.specs.declared.scene.SheetName.{SheetName}
 use Rattle.ic_laws.specs.declared.tree.NameMention.{NameMention}
 use Rattle.ic_laws.specs.declared.tree.NameMention.TheVariants as names
 use Rattle.ic_laws.specs.declared.tree.SheetMention.{SheetMention}

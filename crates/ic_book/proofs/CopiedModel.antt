@@ -1,5 +1,5 @@
 -- A model in which a sheet is copied: what is asked of its contents before, and what it holds afterwards.
-use Rattle.std.proofs.Common.{◌≡◌, ℕ, ◌+◌, ◌<◌, ◌≤◌, List, [], ◌∷◌, ◌++◌, map, length, get_or, nat_lt, Bool, false, Option, Some, None, IfSome, IfOk, Result, String, string_bytes, chars, option_map, refl, sym, ap, ap₂, subst, ◌∙◌, rules, arith}
+use Rattle.std.proofs.Common.{◌≡◌, ℕ, ◌+◌, ◌<◌, ◌≤◌, List, ◌++◌, map, length, get_or, nat_lt, Bool, false, Option, Some, None, IfSome, IfOk, Result, String, string_bytes, chars, option_map, refl, sym, ap, ap₂, subst, ◌∙◌, rules, arith}
 use Rattle.std.proofs.lemmas.List.{length-map}
 use Rattle.std.proofs.lemmas.Option.{slice_get-map}
 use Rattle.std.proofs.lemmas.Result.{IfOk-weaker}
@@ -7,13 +7,13 @@ use Rattle.std.specs.declared.alloc.Global.{Global}
 use Rattle.std.specs.List.{insert, list_any, slice_get}
 use Rattle.std.specs.Prelude.{is_none, nat_eq}
 use Rattle.ic_laws.specs.Changes.{Change, sheet_named}
-use Rattle.ic_laws.specs.CoreBook.{Definition, fresh_id}
+use Rattle.ic_laws.specs.CoreBook.{fresh_id}
 use Rattle.ic_laws.specs.Name.{agrees}
 use Rattle.ic_laws.specs.Notations.{english_function}
 use Rattle.ic_definitions.specs.Named.{definitions_scene, scopes_of}
 use Rattle.ic_machine.specs.subjects.Sheets.{copied_of, copy_id, copy_name, local_in, name_of_copy, scene_with_copy}
 use Rattle.ic_sheets.proofs.RewritingLemmas.{sheet_there}
-use Rattle.ic_sheets.specs.Rewriting.{look_ups, looks_up_after}
+use Rattle.ic_sheets.specs.Rewriting.{look_ups}
 use Rattle.ic_sheets.specs.Sheet.{Sheet, sheet_of}
 use Rattle.ic_sheets.specs.declared.sheet.Sheet.{Sheet as HeldSheet}
 use Rattle.ic_book.specs.declared.contents.Contents.{Contents}
@@ -28,7 +28,7 @@ use Rattle.ic_book.proofs.CopiedHeld.{copied_is, held_at, held_free, held_fresh,
 use Rattle.ic_book.proofs.CopiedSteps.{valid_then}
 use Rattle.ic_book.proofs.HeldLemmas.{none_at, read_is}
 use Rattle.ic_book.proofs.LookUpLemmas.{looks_up_is}
-use Rattle.ic_book.proofs.NewSheetLemmas.{free_same}
+use Rattle.ic_book.proofs.NewSheetLemmas.{copy_name_of}
 
 same_some : {X : Type 0} (x y : X) → (let o : Option X = Some x in o ≡ Some y) → x ≡ y
 same_some x y e = cc
@@ -56,12 +56,13 @@ pub copy_named : (inside : Inside) (h : IsHeld inside) (index : ℕ) (slice : Li
     → IfOk result (λ name. (source : Sheet) → slice_get (held inside).sheets index ≡ Some source → chars (string_bytes name) ≡ name_of_copy (whole_of (held inside)) source.name)
 copy_named inside h index slice s same read text is result made within =
     let there = sheet_there inside.contents.sheets index (subst (λ k. index < k) (length-map inside.contents.sheets sheet_of) within) in
-    IfOk-weaker result (λ name. chars (string_bytes name) ≡ copy_name text (free_among (map (λ (x : HeldSheet). x.name) inside.contents.sheets) (copy_name text)))
+    IfOk-weaker result (λ name. chars (string_bytes name) ≡ name_of_copy (whole_of (held inside)) text)
     (λ name. (source : Sheet) → slice_get (held inside).sheets index ≡ Some source → chars (string_bytes name) ≡ name_of_copy (whole_of (held inside)) source.name)
     (λ name e source at.
     let its : s ≡ there.0 = read_is slice inside.contents.sheets index s there.0 same (subst (λ k. index < k) (length-map inside.contents.sheets sheet_of) within) read there.1 in
     let that : sheet_of there.0 ≡ source = same_some (sheet_of there.0) source (sym (slice_get-map sheet_of inside.contents.sheets index ∙ ap (option_map sheet_of) there.1) ∙ at) in
-    e ∙ ap (copy_name text) (free_same inside h (copy_name text)) ∙ ap (name_of_copy (whole_of (held inside))) (is ∙ ap (λ (x : HeldSheet). x.name) its ∙ ap (λ (x : Sheet). x.name) that)) made
+    e ∙ ap (name_of_copy (whole_of (held inside))) (is ∙ ap (λ (x : HeldSheet). x.name) its ∙ ap (λ (x : Sheet). x.name) that))
+    (copy_name_of inside h result text made)
 
 module _ (inside : Inside) (h : IsHeld inside) (index id : ℕ) (name : List ℕ) (within : index < length (held inside).sheets) (fresh : fresh_id (core_of (held inside)) ≡ Some id)
     (called : (source : Sheet) → slice_get (held inside).sheets index ≡ Some source → name ≡ name_of_copy (whole_of (held inside)) source.name) where

@@ -1,5 +1,5 @@
 -- What the call that copies a sheet does is the step of the machine.
-use Rattle.std.proofs.Common.{◌≡◌, ℕ, suc, ◌+◌, ◌<◌, ◌≤◌, List, [], ◌∷◌, ◌++◌, map, length, Bool, true, false, Option, Some, None, option_map, Result, Ok, Err, IsErr, IsErrAnd, IfSome, String, string_bytes, chars, refl, sym, ap, ap₂, subst, ◌∙◌, arith}
+use Rattle.std.proofs.Common.{◌≡◌, ℕ, ◌+◌, ◌≤◌, List, [], ◌∷◌, length, Bool, true, false, Option, Some, None, option_map, Result, Ok, Err, IsErr, IsErrAnd, String, string_bytes, chars, refl, sym, ap, ap₂, subst, ◌∙◌, arith}
 use Rattle.std.proofs.lemmas.List.{length-map}
 use Rattle.std.proofs.lemmas.Option.{slice_get-map}
 use Rattle.std.specs.declared.alloc.Global.{Global}
@@ -23,7 +23,7 @@ use Rattle.ic_machine.specs.Refusal.{first_refusal}
 use Rattle.ic_machine.specs.Reply.{Field}
 use Rattle.ic_machine.specs.subjects.Sheets.{DuplicateSheet, copy_id, copy_name, copy_of_sheet, duplicate_sheet_step, duplicated, free_number, name_of_copy, named_fields, sheet_step, with_copy}
 use Rattle.ic_sheets.specs.Sheet.{Sheet}
-use Rattle.ic_book.specs.Book.{Book, IsValidBook, ModelState, core_of, whole_sheet}
+use Rattle.ic_book.specs.Book.{IsValidBook, ModelState, core_of, whole_sheet}
 use Rattle.ic_book.specs.Change.{book_changed_by}
 use Rattle.ic_book.specs.Copied.{BindsCopied, MeansCopied, core_copied, definitions_copied, sheet_copied, whole_source, with_copied_sheet}
 use Rattle.ic_book.specs.Does.{Does, DoesStep, IsDone, Wanted}
@@ -32,7 +32,7 @@ use Rattle.ic_book.specs.SheetNames.{IsNumbered}
 use Rattle.ic_book.specs.Whole.{whole_of}
 use Rattle.ic_book.specs.declared.error.BookError.{BookError}
 use Rattle.ic_book.specs.declared.error.BookError.TheVariants as errors
-use Rattle.ic_book.proofs.CopiedHeld.{copied_valid, copied_whole, whole_at}
+use Rattle.ic_book.proofs.CopiedHeld.{copied_valid, copied_whole}
 use Rattle.ic_book.proofs.WholeLemmas.{whole_core}
 
 module _ (old : ModelState) (valid : IsValidBook old.book) (index : ℕ) where

@@ -69,7 +69,7 @@ module _ (inside : Inside) (h : IsHeld inside) where
   same_names : map (λ (s : HeldSheet). s.name) ws ≡ names_of (machine.core_of whole_book)
   same_names = seen_names ws ∙ ap names_of (sym (whole_core (held inside)))
 
-  pub free_same : (name : ℕ → List ℕ) → free_among (map (λ (s : HeldSheet). s.name) inside.contents.sheets) name ≡ free_number (whole_of (held inside)) name
+  free_same : (name : ℕ → List ℕ) → free_among (map (λ (s : HeldSheet). s.name) inside.contents.sheets) name ≡ free_number (whole_of (held inside)) name
   free_same name =
       ap₂ (λ (names : List (List ℕ)) (count : ℕ). unwrap_or (find (λ n. not (list_any (agrees (name n)) names)) (range_with_len 1 (suc count))) (suc count)) same_names
       (length-map ws (λ (s : HeldSheet). s.name) ∙ sym whole_count)

@@ -1,17 +1,17 @@
 //! Copies of sheets.
 ghost use Rattle.std.specs.Prelude.{◌≡◌, ◌<◌, ◌++◌, IfOk, IfSome, OnErr, OnOk, Some, chars, false, length, map, nat_eq, string_bytes, true};
 ghost use Rattle.std.specs.List.{AllByRecursion, IsDistinct, list_any, slice_get};
-ghost use Rattle.ic_definitions.specs.Bodies.{FitsBodies, with_bodies};
-ghost use Rattle.ic_definitions.specs.Named.{key_in, scopes_of};
 ghost use Rattle.ic_laws.specs.CoreBook.{fresh_id};
 ghost use Rattle.ic_laws.specs.CoreStep.{is_named};
 ghost use Rattle.ic_laws.specs.Name.{agrees, is_sheet_name};
 ghost use Rattle.ic_laws.specs.Scene.{same_key};
-ghost use Rattle.ic_machine.specs.subjects.Sheets as sheets;
-ghost use Rattle.ic_machine.specs.subjects.Sheets.{copy_name, name_of_copy, sheet_step, with_formula};
+ghost use Rattle.ic_tree.specs.LanguageWords.{function_of};
+ghost use Rattle.ic_definitions.specs.Bodies.{FitsBodies, with_bodies};
+ghost use Rattle.ic_definitions.specs.Named.{key_in, scopes_of};
 ghost use Rattle.ic_sheets.specs.Sheet.{Sheet};
 ghost use Rattle.ic_sheets.specs.declared.sheet.Sheet.{Sheet as HeldSheet};
-ghost use Rattle.ic_tree.specs.LanguageWords.{function_of};
+ghost use Rattle.ic_machine.specs.subjects.Sheets as sheets;
+ghost use Rattle.ic_machine.specs.subjects.Sheets.{copy_name, name_of_copy, sheet_step, with_formula};
 ghost use Rattle.ic_book.specs.Book.{IsValidBook, core_of};
 ghost use Rattle.ic_book.specs.Change.{book_changed_by};
 ghost use Rattle.ic_book.specs.Copied.{BindsCopied, HasCopy, LooksUpCopied, MeansCopied, definitions_copied, filled_by, made_for, sheet_copied, with_copied_sheet};
@@ -44,8 +44,8 @@ impl<'a> Model<'a> {
     /// The copy has a fresh id, the sheet's cells, formulas, rows, columns and merged cells, and its tab. The definitions
     /// that are local to the sheet are copied with it, and so are those that are local to none and mention it, where it has
     /// none of an agreeing name: all are local to the copy. What mentioned the sheet in a copied formula or body mentions
-    /// the copy. References that named no sheet, and whose name agrees with that of the copy, are references to it from then
-    /// on.
+    /// the copy, and a word there means the copied definition of an agreeing name, where there is one. References that named
+    /// no sheet, and whose name agrees with that of the copy, are references to it from then on.
     ///
     /// `InvalidSheet`, `IdsUsedUp`, in this order, each exactly where it holds; `OutOfMemory` only where neither does. An
     /// error changes nothing.
@@ -83,7 +83,8 @@ impl<'a> Model<'a> {
     /// The name that a copy of the sheet at an index gets.
     fn name_of_copy(&self, index: usize) -> Result<String, OutOfMemory>
         requires { index < length self.now.book.sheets }
-        ensures { IfOk result (λ name. (source : Sheet) → slice_get self.now.book.sheets index ≡ Some source
+        ensures { IfOk result (λ name. (source : Sheet)
+            → slice_get self.now.book.sheets index ≡ Some source
             → chars (string_bytes name) ≡ name_of_copy (whole_of self.now.book) source.name) }
     {
         // What always holds of a model is known from here on.

@@ -1,10 +1,10 @@
 //! The definitions that are copied with a sheet.
 ghost use Rattle.std.specs.Prelude.{◌≡◌, ◌≤◌, ◌++◌, [], ◌∷◌, IfOk, OnOk, Some, chars, false, filter, length, map, true, if◌then◌else◌};
 ghost use Rattle.std.specs.List.{IsDistinct, list_any};
-ghost use Rattle.ic_definitions.specs.Named.{key_in};
 ghost use Rattle.ic_laws.specs.CoreStep.{is_named};
 ghost use Rattle.ic_laws.specs.Name.{agrees};
 ghost use Rattle.ic_laws.specs.Scene.{same_key};
+ghost use Rattle.ic_definitions.specs.Named.{key_in};
 ghost use Rattle.ic_machine.specs.subjects.Sheets.{copied_of, local_in, local_to};
 ghost use Rattle.ic_book.specs.Copied.{is_copied, with_each_body};
 

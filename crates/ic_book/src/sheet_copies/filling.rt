@@ -99,8 +99,9 @@ pub fn copied_bodies<A: Finder>(
     copy: u32,
     definitions: &[Definition],
 ) -> Result<Vec<Formula>, OutOfMemory>
-    ensures { IfOk result (λ bodies. bodies.items ≡ map (λ d. copied_for (function_of english.now)
-        (A.scene after.now) source copy (Some copy) d.body) definitions.now) }
+    ensures { IfOk result (λ bodies. bodies.items
+        ≡ map (λ d. copied_for (function_of english.now) (A.scene after.now)
+        source copy (Some copy) d.body) definitions.now) }
 {
     let mut out = Vec::new(alloc);
     for definition in definitions {

@@ -1,7 +1,5 @@
-use Rattle.std.proofs.Common.{List, ap, get_or, ◌∙◌}
-use Rattle.ic_laws.specs.CoreBook.{Definition}
+use Rattle.std.proofs.Common.{ap, ◌∙◌}
 use Rattle.ic_tree.specs.LanguageWords.{function_of}
-use Rattle.ic_sheets.specs.declared.sheet.Sheet.{Sheet as HeldSheet}
 use Rattle.ic_book.proofs.CopiedContents.{bodies_same, filling_same}
 use Rattle.ic_book.proofs.HeldLemmas.{read_is}
 use Rattle.ic_book.proofs.sheet_copies.made_for.Goals as goal

@@ -1,4 +1,4 @@
-use Rattle.std.proofs.Common.{◌≡◌, ◌+◌, IfSome, Option, ap, chars, length, refl, string_bytes, subst, sym, ◌∙◌}
+use Rattle.std.proofs.Common.{◌+◌, IfSome, Option, ap, chars, length, refl, string_bytes, subst, sym, ◌∙◌}
 use Rattle.std.specs.Prelude.{is_none}
 use Rattle.ic_laws.specs.Name.{is_sheet_name}
 use Rattle.ic_machine.specs.subjects.Sheets.{copy_name}

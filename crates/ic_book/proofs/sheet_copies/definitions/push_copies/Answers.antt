@@ -1,4 +1,4 @@
-use Rattle.std.proofs.Common.{◌<◌, ◌≡◌, List, get_or, length, subst, sym, ap, ◌∙◌}
+use Rattle.std.proofs.Common.{◌<◌, List, get_or, length, subst, sym, ap, ◌∙◌}
 use Rattle.ic_laws.specs.CoreBook.{Definition}
 use Rattle.ic_book.specs.Copied.{is_copied}
 use Rattle.ic_book.proofs.CopiedDefinitions.{copy_is_free, copy_pushed}
