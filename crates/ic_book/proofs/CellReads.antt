@@ -29,15 +29,14 @@ use Rattle.ic_cells.specs.declared.value.CellType.TheVariants as types
 use Rattle.ic_cells.specs.declared.value.CellValue.{CellValue}
 use Rattle.ic_cells.specs.declared.value.CellValue.TheVariants as values
 use Rattle.ic_grid.specs.Contents.{Contents}
-use Rattle.ic_grid.specs.Shape.{celled, is_empty, shape_of}
+use Rattle.ic_grid.specs.Shape.{is_empty, shape_of}
 use Rattle.ic_machine.proofs.AlikeGrid.{entries-seen, get-seen}
 use Rattle.ic_machine.proofs.AlikeLemmas.{cells_are_contents}
-use Rattle.ic_machine.specs.Alike.{HoldsAlike}
 use Rattle.ic_machine.specs.Book as machine
 use Rattle.ic_machine.specs.Content as contents
 use Rattle.ic_machine.specs.Content.{Content, content_of, held}
 use Rattle.ic_machine.specs.Fields.{fields_of_place, type_field}
-use Rattle.ic_machine.specs.InForce.{InForce, all_there, by_notation, in_force, value_in}
+use Rattle.ic_machine.specs.InForce.{InForce, all_there, by_notation, value_in}
 use Rattle.ic_machine.specs.Reply.{Field, bool_field}
 use Rattle.ic_machine.specs.subjects.Reading.{empty_step, place_fields, read_sheet, sheet_places, type_step, value_at, value_fields, value_step}
 use Rattle.ic_sheets.specs.Sheet.{Sheet, sheet_of}

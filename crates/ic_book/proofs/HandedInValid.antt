@@ -16,7 +16,7 @@ use Rattle.ic_machine.specs.Content.{Content}
 use Rattle.ic_machine.specs.Valid as valid
 use Rattle.ic_sheets.specs.Sheet.{Sheet, sheet_of}
 use Rattle.ic_sheets.specs.declared.sheet.Sheet.{Sheet as HeldSheet}
-use Rattle.ic_book.specs.Book.{HasString, HasStrings, IsValidBook, NotationState, whole_of, whole_sheet}
+use Rattle.ic_book.specs.Book.{HasString, HasStrings, NotationState, whole_of, whole_sheet}
 use Rattle.ic_book.specs.Filled.{AreFilled, filled}
 use Rattle.ic_book.specs.HandedIn.{MeetsAll, Strings, book_of, definition_of, notation_refusal, scene_of}
 use Rattle.ic_book.specs.HandedIn as handed_in

@@ -9,7 +9,7 @@ use Rattle.ic_grid.specs.Lines.{column_at, column_without_style, plain_column, p
 use Rattle.ic_grid.specs.declared.grid.Grid.{Grid}
 use Rattle.ic_machine.specs.Valid.{IsStyleNumber}
 use Rattle.ic_machine.proofs.ValidLemmas.{column_put, row_put}
-use Rattle.ic_book.specs.Parts.{IsLaidOut, StaysLaidOut}
+use Rattle.ic_book.specs.Parts.{StaysLaidOut}
 use Rattle.ic_book.proofs.GridPartLemmas.{laid_lines, lines_laid, same_laid_out}
 
 -- rows and columns stay laid out ----

@@ -1,5 +1,5 @@
 -- A sheet as a table.
-use Rattle.std.proofs.Common.{◌≡◌, ◌∷◌, ◌++◌, ◌+◌, ◌-◌, ◌≤◌, ◌≤ℤ◌, ℕ, ℤ, pos, negsuc, nat_abs, zero, suc, arith, to_z, w32, append-nil, append_assoc, codes, List, [], Bool, true, false, ◌&&◌, ◌||◌, map, Option, Some, None, is_some, option_map, refl, sym, ap, ap₂, subst, ◌∙◌}
+use Rattle.std.proofs.Common.{◌≡◌, ◌∷◌, ◌++◌, ◌+◌, ◌-◌, ◌≤◌, ℕ, ℤ, pos, negsuc, nat_abs, zero, suc, arith, to_z, w32, append-nil, append_assoc, codes, List, [], Bool, true, false, ◌&&◌, ◌||◌, map, Option, Some, None, is_some, option_map, refl, sym, ap, ap₂, subst, ◌∙◌}
 use Rattle.std.specs.Prelude.{flat_map, int_le, max, option_and_then, unwrap_or}
 use Rattle.std.specs.List.{join_by, list_any, range_with_len, slice_get}
 use Rattle.std.proofs.lemmas.Bool.{and_parts}

@@ -1,6 +1,6 @@
 -- What a model holds where a definition comes, or goes.
-use Rattle.std.proofs.Common.{◌≡◌, ◌<◌, ◌++◌, List, [], ◌∷◌, Option, IfSome, Some, None, ℕ, zero, suc, arith, false, length, map, option_map, refl, true, sym, ap, subst, ◌∙◌}
-use Rattle.std.specs.Prelude.{position, remove, slice_get, unwrap_or}
+use Rattle.std.proofs.Common.{◌≡◌, ◌++◌, List, [], ◌∷◌, Option, IfSome, Some, None, ℕ, false, map, true, sym, ap, subst, ◌∙◌}
+use Rattle.std.specs.Prelude.{position, remove, slice_get}
 use Rattle.std.specs.List.{AllByRecursion, list_any}
 use Rattle.ic_laws.proofs.keeping.Deletes.{delete_definition_dangles, new_definition_binds}
 use Rattle.ic_laws.specs.BookTrees.{with_body_tree, with_trees}
@@ -23,7 +23,7 @@ use Rattle.ic_book.proofs.BookLemmas.{core_of-changed, defined_change, undefined
 use Rattle.ic_book.proofs.BookValid.{core_valid, defined_valid, notations, undefined_valid}
 use Rattle.ic_book.proofs.HeldLemmas.{defined, held_after, undefined}
 use Rattle.ic_book.proofs.LookUpLemmas.{looks_up_is}
-use Rattle.ic_book.proofs.NameLemmas.{index_is, key_free, name_there, scope_is, scope_seen, scope_there}
+use Rattle.ic_book.proofs.NameLemmas.{index_is, key_free, name_there, scope_is}
 use Rattle.ic_book.proofs.SparedBodies.{adding_bodies}
 
 some_is : (a b : Body) → Some a ≡ Some b → a ≡ b

@@ -1,6 +1,6 @@
 -- That no reference lies outside is that each lies inside; and the formulas of cells are those of what the cells are.
 use mathlib.Core.Path.{fun_ext}
-use Rattle.std.proofs.Common.{◌≡◌, ◌↔◌, ◌||◌, ◌<◌, ◌∙◌, ℕ, zero, suc, ℤ, List, [], ◌∷◌, Bool, true, false, not, map, length, get_or, Option, Some, None, refl, sym, ap, ap₂, arith, subst, option_map}
+use Rattle.std.proofs.Common.{◌≡◌, ◌↔◌, ◌||◌, ◌<◌, ◌∙◌, ℕ, zero, suc, ℤ, List, [], ◌∷◌, Bool, true, false, not, map, length, get_or, Some, None, refl, sym, ap, ap₂, arith, subst, option_map}
 use Rattle.std.proofs.lemmas.Bool.{or_parts}
 use Rattle.std.proofs.lemmas.List.Elements.{All-contains, All-from_recursion, Contains-get_or, recursion_from_All}
 use Rattle.std.proofs.lemmas.Map.Views.{btree_map_get_iff}

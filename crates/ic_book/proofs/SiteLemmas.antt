@@ -10,7 +10,7 @@ use Rattle.ic_cells.specs.Cell.{cell_formula_index}
 use Rattle.ic_cells.specs.declared.cell.Cell.{Cell}
 use Rattle.ic_pool.specs.Rewrites.{RewritesState}
 use Rattle.ic_sheets.specs.declared.sheet.Sheet.{Sheet}
-use Rattle.ic_book.specs.Sites.{AreAlikePools, IsAlikeIn, captures_at, sheet_sites, site_if, sites_in, sites_of_sheets}
+use Rattle.ic_book.specs.Sites.{AreAlikePools, IsAlikeIn, sheet_sites, site_if, sites_in, sites_of_sheets}
 use Rattle.ic_book.specs.declared.sites.MentionSite.{MentionSite}
 use Rattle.ic_book.specs.declared.sites.MentionSite.TheVariants as sites
 

@@ -1,5 +1,5 @@
 -- What is listed of a pool, and of the bodies of definitions, where a rule makes them anew: those that it touches.
-use Rattle.std.proofs.Common.{◌≡◌, ◌≢◌, ◌≤◌, ◌<◌, ◌+◌, ℕ, zero, suc, drop, length, List, [], ◌∷◌, ◌++◌, map, Bool, true, false, cond, ◌&&◌, ◌||◌, not, Option, Some, None, nat_eq, refl, sym, ap, ap₂, subst, ◌∙◌, arith}
+use Rattle.std.proofs.Common.{◌≡◌, ◌≢◌, ◌≤◌, ◌<◌, ℕ, zero, suc, drop, length, List, [], ◌∷◌, ◌++◌, map, Bool, true, false, cond, ◌&&◌, ◌||◌, not, Option, Some, None, nat_eq, refl, sym, ap, ap₂, subst, ◌∙◌, arith}
 use Rattle.std.proofs.Math.Bool.{or-false}
 use Rattle.std.proofs.lemmas.Bool.{eq-eqb, eqb-true}
 use Rattle.std.proofs.lemmas.List.{length-drop, map-append}
@@ -26,7 +26,6 @@ use Rattle.ic_pool.specs.Code.{code}
 use Rattle.ic_pool.specs.Remade.{LeavesUntouched, Remade, touched_from}
 use Rattle.ic_pool.specs.declared.pool.rewrites.Replacement.{Replacement}
 use Rattle.ic_book.specs.Sites.{IsAlikeBody, IsAlikeIn, body_site, body_sites, captures, captures_at, site_of}
-use Rattle.ic_book.specs.declared.sites.MentionSite.{MentionSite}
 use Rattle.ic_book.specs.declared.sites.MentionSite.TheVariants as sites
 
 -- what is left of a list from a place on: the item that stands there, and what is left from the next

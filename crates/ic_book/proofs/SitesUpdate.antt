@@ -1,20 +1,20 @@
 -- What is listed of an update of a definition is what the machine's step says that the update captures.
-use Rattle.std.proofs.Common.{◌≡◌, ℕ, List, [], ◌∷◌, map, Bool, true, Option, Some, refl, sym, ap, ap₂, ◌∙◌}
+use Rattle.std.proofs.Common.{◌≡◌, ℕ, List, [], ◌∷◌, map, Bool, true, Option, Some, refl, sym, ap, ◌∙◌}
 use Rattle.std.specs.List.{AllByRecursion, slice_get}
 use Rattle.ic_laws.proofs.keeping.NameChanges.{same_key_flip}
 use Rattle.ic_laws.specs.Binding.{bound}
 use Rattle.ic_laws.specs.CoreBook.{Definition}
 use Rattle.ic_laws.specs.CoreStep.{is_named}
 use Rattle.ic_laws.specs.FormulaReading.{Body}
-use Rattle.ic_laws.specs.Keeping.{changed_key, kept_in_body}
-use Rattle.ic_laws.specs.Notations.{Notations, english_function}
+use Rattle.ic_laws.specs.Keeping.{changed_key}
+use Rattle.ic_laws.specs.Notations.{english_function}
 use Rattle.ic_laws.specs.Scene.{same_key}
 use Rattle.ic_laws.specs.declared.scene.Scene.{Scene}
 use Rattle.ic_laws.specs.declared.tree.Formula.{Formula}
 use Rattle.ic_laws.specs.declared.tree.Formula.TheVariants as formulas
 use Rattle.ic_laws.specs.declared.tree.NameKey.{NameKey}
 use Rattle.ic_definitions.specs.Named.{key_in}
-use Rattle.ic_definitions.specs.Remade.{LeavesBody, remade_body, touched_bodies}
+use Rattle.ic_definitions.specs.Remade.{LeavesBody, touched_bodies}
 use Rattle.ic_definitions.specs.declared.bodies.NewBody.{NewBody}
 use Rattle.ic_keep.proofs.KeptAlike.{kept_formula_is_alike}
 use Rattle.ic_keep.proofs.Uncaptured.{untouched_uncaptured}
@@ -69,7 +69,7 @@ module _ (book : Book) (u : Update) (index : ℕ) (found : updated_index (whole_
     abbrev pub rule : Remade
     rule = kept_where_touched (english_function (notations_in whole)) (scene_in whole) later (old_key whole u) (new_key whole u)
 
-    pools_kept : (ss : List Sheet) → map (with_kept_pool (notations_in whole) (scene_in whole) later (keys_of_update whole u)) (map (whole_sheet book.strings) ss) ≡ map (whole_sheet book.strings) (map (remade_pool rule) ss)
+    pub pools_kept : (ss : List Sheet) → map (with_kept_pool (notations_in whole) (scene_in whole) later (keys_of_update whole u)) (map (whole_sheet book.strings) ss) ≡ map (whole_sheet book.strings) (map (remade_pool rule) ss)
     pools_kept [] = refl
     pools_kept (s ∷ ss) = ap (λ rest. whole_sheet book.strings (remade_pool rule s) ∷ rest) (pools_kept ss)
 

@@ -3,7 +3,7 @@
 use Rattle.std.proofs.Common.{◌≡◌, ℕ, List, [], ◌∷◌, ◌++◌, map, Bool, true, false, cond, Option, Some, None, refl, sym, ap, ap₂, subst, ◌∙◌}
 use Rattle.std.proofs.lemmas.List.{map-append}
 use Rattle.std.specs.FinMap as finite
-use Rattle.std.specs.List.{AllByRecursion, AllZip, slice_get, zip}
+use Rattle.std.specs.List.{AllByRecursion, slice_get, zip}
 use Rattle.std.specs.Prelude.{flat_map}
 use Rattle.ic_laws.specs.CoreBook.{CellPlace, Definition}
 use Rattle.ic_laws.specs.CoreStep.{updated_at}
@@ -26,13 +26,12 @@ use Rattle.ic_pool.specs.Remade.{LeavesUntouched, Remade}
 use Rattle.ic_pool.specs.Rewrites.{RewritesState}
 use Rattle.ic_sheets.specs.Remade.{AreRemade, IsRemade, remade_pool}
 use Rattle.ic_sheets.specs.Rewriting.{sheets_of}
-use Rattle.ic_sheets.specs.Sheet.{Sheet, sheet_of}
+use Rattle.ic_sheets.specs.Sheet.{sheet_of}
 use Rattle.ic_sheets.specs.declared.sheet.Sheet.{Sheet as HeldSheet}
 use Rattle.ic_book.proofs.SiteTouched.{alike_bodies_from, alike_from, bodies_from, captures_listed, updated_apart}
 use Rattle.ic_book.proofs.WholeLemmas.{index_seen}
 use Rattle.ic_book.specs.Book.{Book, whole_of, whole_sheet}
 use Rattle.ic_book.specs.Sites.{AreAlikePools, IsAlikeBody, IsAlikeIn, IsUpdate, body_sites, captures_at, listed_sites, sheet_sites, site_if, site_of, sites_in, sites_of_sheets}
-use Rattle.ic_book.specs.declared.sites.MentionSite.{MentionSite}
 use Rattle.ic_book.specs.declared.sites.MentionSite.TheVariants as sites
 
 -- the cells of a sheet, before and after

@@ -1,5 +1,5 @@
 -- A sheet as a table, as a model has it.
-use Rattle.std.specs.Prelude.{ℕ, ℤ, pos, max, nat_abs, List, [], Bool, map}
+use Rattle.std.specs.Prelude.{ℕ, ℤ, max, nat_abs, List, [], Bool, map}
 use Rattle.std.specs.Option.{option_map_or}
 use Rattle.ic_laws.specs.CoreBook.{CellPlace}
 use Rattle.ic_laws.specs.Greatest.{greatest}

@@ -1,4 +1,4 @@
-use Rattle.std.proofs.Common.{◌≡◌, ◌+◌, ◌<◌, ◌∙◌, ◌∷◌, ap, drop, length, sym, rules, arith, w32}
+use Rattle.std.proofs.Common.{◌+◌, ◌<◌, ◌∙◌, ◌∷◌, ap, drop, length, sym, rules, arith}
 use Rattle.std.proofs.lemmas.List.{drop_more}
 use Rattle.ic_book.proofs.CellReads.{places_next, same_keys}
 use Rattle.ic_book.specs.Cells.{places_from}

@@ -1,4 +1,3 @@
-use Rattle.ic_machine.specs.subjects.Reading.{empty_step}
 use Rattle.ic_sheets.proofs.CellLemmas.{stored_pair}
 use Rattle.ic_book.proofs.CellReads.{found_there, lacks_empty, tells_empty}
 use Rattle.ic_book.proofs.model.Model.is_empty_cell.Goals as goal

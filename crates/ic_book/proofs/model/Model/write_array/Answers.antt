@@ -1,10 +1,10 @@
 use mir.Val.{SFits}
-use Rattle.std.proofs.Common.{rules, w32, ◌≡◌, None, Some, IfErr, IfSome, true, chars, map, sym, ap, subst, ◌∙◌}
+use Rattle.std.proofs.Common.{rules, w32, ◌≡◌, None, Some, IfErr, IfSome, true, chars, sym, ap, subst, ◌∙◌}
 use Rattle.std.specs.List.{slice_get}
 use Rattle.ic_laws.specs.CoreBook.{CellPlace}
 use Rattle.ic_laws.specs.CoreStep.{updated_at}
 use Rattle.ic_laws.specs.FormulaReading.{cell_formula}
-use Rattle.ic_machine.specs.Refusal.{InvalidSheet, Refusal}
+use Rattle.ic_machine.specs.Refusal.{InvalidSheet}
 use Rattle.ic_sheets.proofs.CellLemmas.{stored_pair}
 use Rattle.ic_sheets.proofs.WriteLemmas.{at_err}
 use Rattle.ic_book.specs.Arrays.{WritesArray, array_refusal, array_refusal_in}
