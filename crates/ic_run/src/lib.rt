@@ -6,6 +6,8 @@
 #![tactic(auto)]
 
 mod lines;
+mod made;
+mod make;
 mod program;
 
 pub use lines::run;
