@@ -1,4 +1,5 @@
 pub mod DeskLemmas
+pub mod MadeLemmas
 pub mod ProgressLemmas
 pub mod RunLemmas
 pub mod ServedLemmas

@@ -5,6 +5,7 @@
 //! machine that is served. `desk` gives that for the program's words.
 #![tactic(auto)]
 
+mod counts;
 mod lines;
 mod made;
 mod make;

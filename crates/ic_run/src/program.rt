@@ -137,7 +137,7 @@ fn status_of(answer: Result<u64, RunError>) -> u8
 }
 
 /// The status where there is no book to begin with.
-fn status_without_book(e: &BookError) -> u8
+pub(crate) fn status_without_book(e: &BookError) -> u8
     ensures status { result ≡ start_status e.now }
     ensures which { (result ≡ 2) ⊎ (result ≡ 6) }
 {
