@@ -1,3 +1,4 @@
+pub mod CountLemmas
 pub mod DeskLemmas
 pub mod MadeLemmas
 pub mod ProgressLemmas

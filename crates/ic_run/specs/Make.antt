@@ -155,6 +155,9 @@ told_if_some words n = if n == 0 then [] else told_line words n
 abbrev pub told_refusal : List Reply → List ℕ → List ℕ
 told_refusal replies name = told_if_some (codes "error\t" ++ name) (count_by (is_refused_as name) replies)
 
+unfoldable pub told_refusals : List Reply → List ℕ
+told_refusals replies = flat_map (told_refusal replies) told_names
+
 -- how many cells of a book have a formula
 abbrev pub formula_count : Book → ℕ
 formula_count book = length (flat_map (λ sheet. sheet.cells) (core_of book).sheets)
@@ -164,7 +167,7 @@ abbrev pub summary : ℕ → List Reply → Book → List ℕ
 summary count replies book =
     told_line (codes "lines") count
     ++ (told_line (codes "ok") (count_by is_ok replies)
-    ++ (flat_map (told_refusal replies) told_names
+    ++ (told_refusals replies
     ++ (told_line (codes "sheets") (length book.sheets) ++ told_line (codes "formulas") (formula_count book))))
 
 -- what is told of the lines of a making, from a book on

@@ -1,12 +1,12 @@
 //! What is told of lines that were answered: how many replies there are of each kind, and what the book has.
-ghost use Rattle.std.specs.Prelude.{◌≡◌, ◌++◌, IfOk, OnOk, bytes_eq, flat_map, length, map, string_bytes};
+ghost use Rattle.std.specs.Prelude.{◌≡◌, ◌++◌, IfOk, List, OnOk, bytes_eq, flat_map, length, map, string_bytes};
 ghost use Rattle.std.specs.BTreeMap.{IsOrdered, values};
 ghost use Rattle.std.specs.List.{count_by};
 ghost use Rattle.ic_cells.specs.Maps.{place_cmp};
 ghost use Rattle.ic_machine.specs.Reply.{Reply, reply_text};
 ghost use Rattle.ic_book.specs.Whole.{whole_of};
 ghost use Rattle.ic_run.specs.Counts.{begins_with_o, count_same, formulas_in, formulas_of, has_formula, told_some};
-ghost use Rattle.ic_run.specs.Make.{formula_count, summary, told_if_some, told_line};
+ghost use Rattle.ic_run.specs.Make.{formula_count, summary, told_line, told_refusals};
 
 use ic_book::Model;
 use ic_cells::{Cell, PlaceMap, Worksheet};
@@ -69,7 +69,7 @@ pub fn summary(
     let mut text = String::new(alloc);
     push_told(&mut text, "lines", u128::from(count))?;
     push_told(&mut text, "ok", count_ok(replies) as u128)?;
-    push_refusals(&mut text, &REFUSALS, replies)?;
+    push_refusals(&mut text, replies)?;
     push_told(&mut text, "sheets", sheets as u128)?;
     push_told(&mut text, "formulas", formulas)?;
     Ok(text)
@@ -83,8 +83,16 @@ fn push_told(text: &mut String, words: &str, n: u128) -> Result<(), OutOfMemory>
     Ok(())
 }
 
+/// Appends how many replies tell each refusal, where there are some.
+fn push_refusals(text: &mut String, replies: &[Line]) -> Result<(), OutOfMemory>
+    ensures { (told : List Reply) → replies.now ≡ map reply_text told → OnOk result
+        (string_bytes text.new ≡ string_bytes text.old ++ told_refusals told) }
+{
+    push_each(text, &REFUSALS, replies)
+}
+
 /// Appends how many replies are each of these, where there are some.
-fn push_refusals(
+fn push_each(
     text: &mut String,
     refusals: &[&str],
     replies: &[Line],

@@ -1,6 +1,6 @@
 use Rattle.std.proofs.Common.{◌≡◌, ◌++◌, flat_map, string_bytes, take}
 use Rattle.ic_run.specs.Counts.{told_some}
-use Rattle.ic_run.proofs.counts.push_refusals.Given as goal
+use Rattle.ic_run.proofs.counts.push_each.Given as goal
 
 -- what is told of those so far
 abbrev pub invariant-loop-refusal : goal.invariant-loop-refusal
