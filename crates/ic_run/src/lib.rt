@@ -10,6 +10,7 @@ mod lines;
 mod made;
 mod make;
 mod program;
+mod start;
 
 pub use lines::run;
 pub use program::desk;

@@ -1,6 +1,6 @@
 //! What the words `make SEED COUNT` do: lines are made and answered, and what became of them is told.
-ghost use Rattle.std.specs.Prelude.{◌≡◌, ◌==◌, ◌⊎◌, ◌≤◌, IfOk, IsNone, IsSome, OnOk, chars, encode_utf8_all, map, option_copied, slice_index, string_bytes};
-ghost use Rattle.ic_lines.specs.Bytes.{HasFault, IfTold};
+ghost use Rattle.std.specs.Prelude.{◌≡◌, ◌⊎◌, ◌↔◌, ◌++◌, ◌==◌, IfOk, IsNone, IsSome, OnOk, chars, map, slice_index, string_bytes};
+ghost use Rattle.ic_lines.specs.Bytes.{AppendsFront, HasFault, IfTold};
 ghost use Rattle.ic_machine.specs.Reply.{reply_text};
 ghost use Rattle.ic_machine.specs.Run.{after};
 ghost use Rattle.ic_book.specs.Served.{served_machine};
@@ -10,7 +10,7 @@ ghost use Rattle.ic_run.specs.Make.{AppendsSummary, AppendsSummaryFront, made_li
 
 use crate::counts::summary;
 use crate::made::Generator;
-use crate::program::status_without_book;
+use crate::start::{english_start, first_book};
 use ic_book::Model;
 use ic_commands::answer_line;
 use ic_laws::scan::same_text;
@@ -88,13 +88,12 @@ pub fn make<K: Sink>(
     ensures completes { ¬ HasFault (K.faults sink.old) (K.faults sink.new)
         → IsNone (start_refusal made_setting tables.now) → (result ≡ 0) ⊎ (result ≡ 6) }
 {
-    let book = Model::new_empty(alloc, "workbook", "en", "UTC", "en", tables, moment);
-    match book {
+    match first_book(alloc, &english_start(), tables, moment) {
         Ok(mut model) => match told(alloc, &mut model, making) {
             Ok(text) => written(sink, &text),
             Err(OutOfMemory) => 6,
         },
-        Err(e) => status_without_book(&e),
+        Err(status) => status,
     }
 }
 
