@@ -73,7 +73,7 @@ four_words (a ∷ b ∷ c ∷ d ∷ []) h = (a, b, c, d, refl)
 four_words (a ∷ b ∷ c ∷ d ∷ e ∷ words) h = absurd (omega (arith, h))
 
 -- a word at a place of them, and its text
-word_text : (words : List (String Global)) (i : ℕ) (w at : String Global) (t : List ℕ) → t ≡ string_bytes w → w ≡ get_or words i w → ((x : String Global) → get_or words i x ≡ at) → chars t ≡ chars (string_bytes at)
+pub word_text : (words : List (String Global)) (i : ℕ) (w at : String Global) (t : List ℕ) → t ≡ string_bytes w → w ≡ get_or words i w → ((x : String Global) → get_or words i x ≡ at) → chars t ≡ chars (string_bytes at)
 word_text words i w at t e is there = ap chars (e ∙ ap string_bytes (is ∙ there w))
 
 -- words that don't begin with run name nothing
