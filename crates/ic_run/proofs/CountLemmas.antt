@@ -1,5 +1,5 @@
 -- Counts of replies by their texts, and of cells with formulas.
-use Rattle.std.proofs.Common.{◌≡◌, ◌++◌, ◌+◌, ℕ, List, [], ◌∷◌, Bool, T, true, false, cond, ◌&&◌, length, map, Option, Some, None, Result, Ok, Err, OnOk, option_map, bytes_eq, chars, codes, flat_map, refl, ap, ap₂, sym, subst, ◌∙◌, length-append}
+use Rattle.std.proofs.Common.{◌≡◌, ◌++◌, ◌+◌, ℕ, List, [], ◌∷◌, Bool, T, true, false, cond, ◌&&◌, length, map, Option, Some, None, Result, Ok, Err, OnOk, option_map, bytes_eq, codes, flat_map, refl, ap, ap₂, sym, subst, ◌∙◌, length-append}
 use Rattle.std.proofs.lemmas.Bool.{and_parts}
 use Rattle.std.proofs.lemmas.List.Sums.{sum_by-cons}
 use Rattle.std.proofs.lemmas.Str.{chars-IsAscii}
@@ -22,7 +22,6 @@ use Rattle.ic_cells.specs.Maps.{place_cmp}
 use Rattle.ic_cells.specs.declared.cell.Cell.{Cell}
 use Rattle.ic_cells.specs.declared.sheet.Worksheet.{Worksheet}
 use Rattle.ic_grid.specs.Contents.{Contents}
-use Rattle.ic_machine.specs.Refusal.{refusal_name}
 use Rattle.ic_machine.specs.Reply.{Reply, reply_text}
 use Rattle.ic_sheets.specs.Sheet.{Sheet, cell_of, cells_of, formula_in, sheet_core}
 use Rattle.ic_words.proofs.ReplyLemmas.{are_ascii, tested_ascii}
@@ -30,7 +29,7 @@ use Rattle.ic_book.proofs.WholeLemmas.{whole_core}
 use Rattle.ic_book.specs.Book.{Book}
 use Rattle.ic_book.specs.Whole.{whole_of}
 use Rattle.ic_book.specs.Workbook.{workbook_of, worksheet_of}
-use Rattle.ic_run.specs.Counts.{begins_with_o, count_same, formulas_in, formulas_of, has_formula, told_some}
+use Rattle.ic_run.specs.Counts.{begins_with_o, formulas_in, formulas_of, has_formula, told_some}
 use Rattle.ic_run.specs.Make.{formula_count, is_ok, is_refused_as, told_if_some, told_names, told_refusal, told_refusals}
 
 -- a count of what a list is made into

@@ -1,5 +1,5 @@
 -- The lines that are made: each is plain text.
-use Rattle.std.proofs.Common.{◌≡◌, ◌≤◌, ℕ, zero, suc, ◌+◌, ◌==◌, List, [], ◌∷◌, ◌++◌, Ok, Some, chars, codes, false, true, arith, ap, append-nil, inl, inr, refl, sym, ◌∙◌, IsAscii}
+use Rattle.std.proofs.Common.{◌≡◌, ℕ, ◌==◌, List, [], ◌∷◌, ◌++◌, Ok, Some, chars, codes, false, true, ap, append-nil, inl, inr, refl, sym, ◌∙◌, IsAscii}
 use Rattle.std.specs.Fmt.{decimal}
 use Rattle.std.proofs.lemmas.Bool.{cases_Bool}
 use Rattle.std.proofs.lemmas.Str.{IsAscii-append, chars-IsAscii}

@@ -1,5 +1,5 @@
 -- Made lines answered one after another, and the words that ask for them.
-use Rattle.std.proofs.Common.{String, ◌≡◌, ◌≢◌, ◌++◌, ◌+◌, ◌<◌, ◌≤◌, ◌^◌, ℕ, zero, suc, List, [], ◌∷◌, Bool, true, false, length, get_or, map, bytes_eq, Option, Some, None, option_map, option_and_then, Result, Ok, Err, OkIff, IsUtf8, codes, string_bytes, append_assoc, add-one, inl, inr, refl, ap, sym, ◌∙◌, arith}
+use Rattle.std.proofs.Common.{String, ◌≡◌, ◌≢◌, ◌++◌, ◌+◌, ◌<◌, ◌≤◌, ◌^◌, ℕ, List, [], ◌∷◌, Bool, true, false, length, get_or, map, bytes_eq, Some, None, option_map, option_and_then, Result, Ok, Err, OkIff, IsUtf8, codes, string_bytes, append_assoc, add-one, inl, inr, refl, ap, sym, ◌∙◌, arith}
 use Rattle.std.specs.Result.{result_ok}
 use Rattle.std.specs.Str.{all_ascii_digits, chars}
 use Rattle.std.specs.Str.Parse.{ParsesUnsigned, digits_value}
@@ -11,7 +11,7 @@ use Rattle.std.proofs.lemmas.Str.Parse.{numerals_by_value, parse_plain, tells_al
 use Rattle.ic_laws.specs.Command.{at_most}
 use Rattle.ic_words.proofs.NumberLemmas.{digits_ascii, without_digits}
 use Rattle.ic_machine.specs.Book.{Book}
-use Rattle.ic_machine.specs.Reply.{Reply, reply_text}
+use Rattle.ic_machine.specs.Reply.{reply_text}
 use Rattle.ic_machine.specs.Run.{after}
 use Rattle.ic_book.specs.Served.{served_line_step, served_machine}
 use Rattle.ic_run.specs.Desk.{texts}

@@ -1,5 +1,5 @@
 -- How replies and cells are counted, by the texts of replies and the cells of sheets.
-use Rattle.std.specs.Prelude.{ℕ, ◌==◌, List, [], ◌∷◌, ◌++◌, Bool, false, bytes_eq, chars, is_some, map}
+use Rattle.std.specs.Prelude.{ℕ, ◌==◌, List, [], ◌∷◌, Bool, false, bytes_eq, chars, is_some}
 use Rattle.std.specs.FinMap as finite
 use Rattle.std.specs.List.{count_by, sum_by}
 use Rattle.ic_laws.specs.CoreBook.{CellPlace}

@@ -92,11 +92,7 @@ fn push_refusals(text: &mut String, replies: &[Line]) -> Result<(), OutOfMemory>
 }
 
 /// Appends how many replies are each of these, where there are some.
-fn push_each(
-    text: &mut String,
-    refusals: &[&str],
-    replies: &[Line],
-) -> Result<(), OutOfMemory>
+fn push_each(text: &mut String, refusals: &[&str], replies: &[Line]) -> Result<(), OutOfMemory>
     ensures { OnOk result (string_bytes text.new ≡ string_bytes text.old
         ++ flat_map (λ refusal. told_some replies.now refusal.now) refusals.now) }
 {

@@ -10,11 +10,19 @@ use std::alloc::Global;
 #[derive(Drop)]
 pub enum MadeCommand {
     /// Adds the sheet `S` and the line's number.
-    AddSheet { number: u32 },
+    AddSheet {
+        number: u32,
+    },
     /// Gives the sheet at an index the name `N` and the line's number.
-    RenameSheet { index: u32, number: u32 },
+    RenameSheet {
+        index: u32,
+        number: u32,
+    },
     /// Moves the sheet at an index.
-    MoveSheet { index: u32, target: u32 },
+    MoveSheet {
+        index: u32,
+        target: u32,
+    },
     /// Writes the sum of one cell of the sheet `S` and a number, times a factor.
     WriteSum {
         sheet: u32,
@@ -33,9 +41,13 @@ pub enum MadeCommand {
     /// Defines `tax`.
     NameTax,
     /// Sets the locale by its place among five.
-    SetLocale { place: u32 },
+    SetLocale {
+        place: u32,
+    },
     /// Sets the language by its place among five.
-    SetLanguage { place: u32 },
+    SetLanguage {
+        place: u32,
+    },
 }
 
 /// A generator of numbers, by its state.
@@ -164,17 +176,17 @@ impl MadeCommand {
                 column,
                 number,
                 factor,
-            } => Ok(
-                format!(in alloc; "update_cell_with_formula\t{sheet}\t{row}\t{column}\t=SUM('S{number}'!B2)*{factor}")?,
-            ),
+            } => Ok(format!(in alloc;
+                "update_cell_with_formula\t{sheet}\t{row}\t{column}\t=SUM('S{number}'!B2)*{factor}"
+            )?),
             MadeCommand::WriteTax {
                 sheet,
                 row,
                 column,
                 other,
-            } => Ok(
-                format!(in alloc; "update_cell_with_formula\t{sheet}\t{row}\t{column}\t=tax+B{other}")?,
-            ),
+            } => Ok(format!(in alloc;
+                "update_cell_with_formula\t{sheet}\t{row}\t{column}\t=tax+B{other}"
+            )?),
             MadeCommand::NameTax => Ok(String::from_str(
                 alloc,
                 "new_defined_name\ttax\t-\tSheet1!$A$1",

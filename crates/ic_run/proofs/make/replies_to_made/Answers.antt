@@ -1,8 +1,6 @@
-use Rattle.std.proofs.Common.{◌≡◌, ℕ, ◌+◌, ◌-◌, List, ◌∷◌, arith, ap, ap₂, sym, subst, ◌∙◌}
-use Rattle.ic_book.specs.Served.{served_line_step}
+use Rattle.std.proofs.Common.{◌≡◌, ℕ, ◌+◌, ◌-◌, List, ◌∷◌, arith, ap, sym, subst, ◌∙◌}
 use Rattle.ic_book.specs.Whole.{whole_of}
 use Rattle.ic_machine.specs.Book.{Book}
-use Rattle.ic_machine.specs.Reply.{reply_text}
 use Rattle.ic_run.specs.Make.{made_command, made_from, made_lines}
 use Rattle.ic_run.proofs.MakeLemmas.{IsHalfway, answered_next, made_next}
 use Rattle.ic_run.proofs.make.replies_to_made.Goals as goal
