@@ -50,20 +50,22 @@ pub enum MadeCommand {
     },
 }
 
-/// A generator of numbers, by its state.
+/// The state that a draw leaves is the state before it times `MULTIPLIER`, plus `INCREMENT`, by 2^64.
+const MULTIPLIER: u64 = 6364136223846793005;
+
+const INCREMENT: u64 = 1442695040888963407;
+
+/// The lowest bits of a state, of which a draw takes none.
+const DROPPED_BITS: u32 = 33;
+
+/// A generator of numbers.
 #[derive(Drop)]
 pub struct Generator {
-    state: u64,
+    /// The seed, or what the last draw left.
+    pub state: u64,
 }
 
 impl Generator {
-    // Begins with a state.
-    pub fn new(seed: u64) -> Generator
-        ensures { result.state ≡ seed }
-    {
-        Generator { state: seed }
-    }
-
     // The line of this number, which is made by the next draws. Only memory can be missing.
     pub fn next_line(&mut self, alloc: Global, number: u32) -> Result<Line, OutOfMemory>
         requires { 0 < number }
@@ -133,7 +135,7 @@ impl Generator {
         ensures state { self.new.state ≡ next_state self.old.state }
     {
         self.step();
-        ((self.state >> 33) % u64::from(below)) as u32
+        ((self.state >> DROPPED_BITS) % u64::from(below)) as u32
     }
 
     // The next state.
@@ -141,10 +143,7 @@ impl Generator {
     fn step(&mut self)
         ensures { self.new.state ≡ next_state self.old.state }
     {
-        self.state = self
-            .state
-            .wrapping_mul(6364136223846793005)
-            .wrapping_add(1442695040888963407);
+        self.state = self.state.wrapping_mul(MULTIPLIER).wrapping_add(INCREMENT);
     }
 }
 

@@ -23,8 +23,8 @@ use std::alloc::Global;
 /// What is made: the seed of the generator, and how many lines.
 #[derive(Drop)]
 pub struct Making {
-    seed: u64,
-    count: u32,
+    pub seed: u64,
+    pub count: u32,
 }
 
 /// The greatest count.
@@ -90,23 +90,23 @@ pub fn make<K: Sink>(
 {
     match first_book(alloc, &english_start(), tables, moment) {
         Ok(mut model) => match told(alloc, &mut model, making) {
-            Ok(text) => written(sink, &text),
+            Ok(text) => written(sink, text.as_bytes()),
             Err(OutOfMemory) => 6,
         },
         Err(status) => status,
     }
 }
 
-/// Writes all of a text, and answers the status for that.
-fn written<K: Sink>(sink: &mut K, text: &String) -> u8
+/// Writes all of these bytes, and answers the status for that.
+fn written<K: Sink>(sink: &mut K, bytes: &[u8]) -> u8
     ensures ok { result ≡ 0 → IfTold (K.written sink.old) (K.written sink.new)
-        (λ before now. now ≡ before ++ string_bytes text.now) }
+        (λ before now. now ≡ before ++ bytes.now) }
     ensures front { result ≡ 4 → IfTold (K.written sink.old) (K.written sink.new)
-        (AppendsFront (string_bytes text.now)) }
+        (AppendsFront bytes.now) }
     ensures fault { result ≡ 4 → HasFault (K.faults sink.old) (K.faults sink.new) }
     ensures which { (result ≡ 0) ⊎ (result ≡ 4) }
 {
-    match write_all(sink, text.as_bytes()) {
+    match write_all(sink, bytes) {
         Ok(()) => 0,
         Err(_) => 4,
     }
@@ -132,7 +132,7 @@ fn replies_to_made(
     ensures book { OnOk result (whole_of model.new.book
         ≡ after served_machine (whole_of model.old.book) (made_lines making.now)) }
 {
-    let mut generator = Generator::new(making.seed);
+    let mut generator = Generator { state: making.seed };
     let mut replies = Vec::new(alloc);
     for made in 0..making.count {
         let line = generator.next_line(alloc, made + 1)?;

@@ -106,12 +106,15 @@ pub fn desk<S: Source, K: Sink>(
 /// What the words ask for.
 #[derive(Drop)]
 pub enum Deed<'a> {
+    /// To answer the lines of the source.
     Run(Start<'a>),
+    /// To make lines and answer them.
     Make(Making),
+    /// Nothing that the program does.
     Unknown,
 }
 
-/// What the words name.
+/// What the words ask for: at most one of both.
 fn deed_named(words: &[String]) -> Deed<'_>
     ensures run { setting_in result ≡ setting_of (texts words.now) }
     ensures made { making_in result ≡ making_of (texts words.now) }
