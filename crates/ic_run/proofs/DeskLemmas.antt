@@ -8,7 +8,8 @@ use Rattle.ic_lines.specs.declared.error.RunError.TheVariants as run
 use Rattle.ic_lines.proofs.ToldLemmas.{IfTold-weaker}
 use Rattle.ic_lines.specs.Bytes.{IfTold}
 use Rattle.ic_book.specs.Book.{Book, core_of, first_sheet_name_in, new_book}
-use Rattle.ic_run.specs.Desk.{setting_of, run_status, texts}
+use Rattle.ic_run.specs.Desk.{Setting, setting_of, run_status, texts}
+use Rattle.ic_run.specs.Make.{made_setting}
 use Rattle.ic_run.specs.Run.{Leaves, LeavesReplies, TakesAll}
 use Rattle.ic_laws.specs.CoreBook.{CellPlace, CoreBook}
 use Rattle.ic_cells.specs.declared.cell.Cell.{Cell}
@@ -53,10 +54,10 @@ pub empty_list : {X : Type 0} (xs : List X) → (length xs == 0) ≡ true → xs
 empty_list [] h = refl
 empty_list (x ∷ xs) h = absurd (omega (arith, eqb-true (length (x ∷ xs)) 0 h))
 
--- without words the setting is en, en and UTC
-pub no_words : Some (record { locale = chars (codes "en"); language = chars (codes "en"); zone = chars (codes "UTC") }) ≡ setting_of []
+-- the texts of en, en and UTC
+pub english_read : (let given : Setting = record { locale = chars (codes "en"); language = chars (codes "en"); zone = chars (codes "UTC") } in given) ≡ made_setting
 unfolding chars
-no_words = refl
+english_read = refl
 
 run_chars : codes "run" ≡ chars (codes "run")
 unfolding chars
@@ -72,7 +73,7 @@ four_words (a ∷ b ∷ c ∷ d ∷ []) h = (a, b, c, d, refl)
 four_words (a ∷ b ∷ c ∷ d ∷ e ∷ words) h = absurd (omega (arith, h))
 
 -- a word at a place of them, and its text
-word_text : (words : List (String Global)) (i : ℕ) (w at : String Global) (t : List ℕ) → t ≡ string_bytes w → w ≡ get_or words i w → ((x : String Global) → get_or words i x ≡ at) → chars t ≡ chars (string_bytes at)
+pub word_text : (words : List (String Global)) (i : ℕ) (w at : String Global) (t : List ℕ) → t ≡ string_bytes w → w ≡ get_or words i w → ((x : String Global) → get_or words i x ≡ at) → chars t ≡ chars (string_bytes at)
 word_text words i w at t e is there = ap chars (e ∙ ap string_bytes (is ∙ there w))
 
 -- words that don't begin with run name nothing

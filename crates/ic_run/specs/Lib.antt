@@ -1,3 +1,5 @@
+pub mod Counts
 pub mod Desk
+pub mod Make
 pub mod Run
 pub mod Start

@@ -1,7 +1,19 @@
--- The program's start as texts.
-use Rattle.std.specs.Prelude.{chars}
+-- The program's start as texts, and what its words ask for.
+use Rattle.std.specs.Prelude.{chars, Option, Some, None}
 use Rattle.ic_run.specs.Desk.{Setting}
-use Rattle.ic_run.specs.declared.program.Start.{Start}
+use Rattle.ic_run.specs.declared.make.Making.{Making}
+use Rattle.ic_run.specs.declared.program.Deed.{Deed}
+use Rattle.ic_run.specs.declared.program.Deed.TheVariants as deeds
+use Rattle.ic_run.specs.declared.start.Start.{Start}
 
 abbrev pub setting : Start → Setting
 setting start = record { locale = chars start.locale.now; language = chars start.language.now; zone = chars start.zone.now }
+
+-- the setting that lines are answered in, if the words ask for that, and what is made, if they ask for that
+abbrev pub setting_in : Deed → Option Setting
+setting_in (deeds.Run start) = Some (setting start)
+setting_in deed = None
+
+abbrev pub making_in : Deed → Option Making
+making_in (deeds.Make making) = Some making
+making_in deed = None

@@ -5,8 +5,12 @@
 //! machine that is served. `desk` gives that for the program's words.
 #![tactic(auto)]
 
+mod counts;
 mod lines;
+mod made;
+mod make;
 mod program;
+mod start;
 
 pub use lines::run;
 pub use program::desk;

@@ -1,33 +1,27 @@
-ghost use Rattle.std.specs.Prelude.{◌≡◌, ◌⊎◌, ◌↔◌, ◌+◌, ◌<◌, ◌≤◌, ◌^◌, [], true, Err, length, option_map, IfSome, IsNone, IsSome, IsSomeAnd};
+ghost use Rattle.std.specs.Prelude.{◌≡◌, ◌≢◌, ◌⊎◌, ◌↔◌, ◌+◌, ◌<◌, ◌≤◌, ◌^◌, [], true, Err, length, IfSome, IsNone, IsSome, IsSomeAnd};
 ghost use Rattle.ic_laws.specs.Lines.{texts_of};
 ghost use Rattle.ic_lines.specs.Bytes.{IfTold, HasFault};
-ghost use Rattle.ic_run.specs.Desk.{setting_of, start, start_book, start_refusal, start_status, run_status, texts};
-ghost use Rattle.ic_run.specs.Start.{setting};
+ghost use Rattle.ic_run.specs.Desk.{setting_of, start, start_book, start_refusal, run_status, texts};
+ghost use Rattle.ic_run.specs.Make.{AppendsSummary, AppendsSummaryFront, first_setting, made_setting, making_of};
+ghost use Rattle.ic_run.specs.Start.{making_in, setting, setting_in};
 ghost use Rattle.ic_run.specs.Run.{AppendsReplies, AppendsServedFrom, AreCore, LeavesReplies};
 ghost use Rattle.ic_tree.specs.Notations.{notations_of};
 
 use crate::lines::run;
-use ic_book::{BookError, Model};
-use ic_laws::scan::same_text;
+use crate::make::{Making, make, making_named};
+use crate::start::{Start, first_book, start_named};
 use ic_lines::{RunError, Sink, Source};
 use ic_tables::Tables;
 use jiff::Timestamp;
 use std::alloc::Global;
 
-/// The locale, the language and the zone that the program begins with.
-#[derive(Drop)]
-pub struct Start<'a> {
-    locale: &'a str,
-    language: &'a str,
-    zone: &'a str,
-}
-
 /// Does all that the program does, and answers its status. The words `run LOCALE LANGUAGE ZONE` are `run` on a new
-/// book in this locale, this language and this zone; no words are `run en en UTC`.
+/// book in this locale, this language and this zone; no words are `run en en UTC`. The words `make SEED COUNT` make lines
+/// from a seed, answer them on a new book in en, en and UTC, and write what became of them; the source isn't read.
 ///
-/// The status is 0 where `run` answers Ok, 1 exactly for any other words, 2 exactly where it isn't 1 and the tables
-/// lack the locale, the language or the zone, 3 for `ReadFault`, 4 for `WriteFault`, 5 for `TooManyTurns`, 6 where
-/// memory runs out.
+/// The status is 0 where `run` answers Ok or all of what became of made lines is written, 1 exactly for any other words, 2
+/// exactly where it isn't 1 and the tables lack the locale, the language or the zone, 3 for `ReadFault`, 4 for
+/// `WriteFault`, 5 for `TooManyTurns`, 6 where memory runs out.
 pub fn desk<S: Source, K: Sink>(
     alloc: Global,
     words: &[String],
@@ -38,23 +32,37 @@ pub fn desk<S: Source, K: Sink>(
 ) -> u8
     // With 0 a read showed the end, and all bytes were taken; and if their lines are core lines, the core machine's replies
     // from the start were appended.
-    ensures end { result ≡ 0 → S.ended source.new ≡ true }
-    ensures taken { result ≡ 0 → IfTold (S.left source.old) (S.left source.new)
+    ensures end { result ≡ 0 → IsSome (setting_of (texts words.now))
+        → S.ended source.new ≡ true }
+    ensures taken { result ≡ 0 → IsSome (setting_of (texts words.now))
+        → IfTold (S.left source.old) (S.left source.new)
         (λ bytes left. left ≡ []) }
-    ensures replies { result ≡ 0 → IsSomeAnd (setting_of (texts words.now))
+    ensures replies { result ≡ 0 → IfSome (setting_of (texts words.now))
         (λ setting. IfTold (S.left source.old) (S.left source.new) (λ bytes _.
         AreCore tables.now (texts_of bytes) → IfTold (K.written sink.old) (K.written sink.new)
         (AppendsReplies (notations_of tables.now) (start setting) bytes))) }
 
     // For all lines those of the machine that is served were, from the whole book.
-    ensures served { result ≡ 0 → IsSomeAnd (setting_of (texts words.now))
+    ensures served { result ≡ 0 → IfSome (setting_of (texts words.now))
         (λ setting. IfTold (S.left source.old) (S.left source.new) (λ bytes _.
         IfTold (K.written sink.old) (K.written sink.new)
         (AppendsServedFrom (λ created. start_book setting created tables.now) bytes))) }
 
+    // Of made lines all is told what became of them, by the machine that is served; with 4 a front of that was written, and
+    // with 6 nothing. The source stays as it is.
+    ensures made { result ≡ 0 → IfSome (making_of (texts words.now))
+        (λ making. IfTold (K.written sink.old) (K.written sink.new)
+        (AppendsSummary making tables.now)) }
+    ensures made_front { result ≡ 4 → IfSome (making_of (texts words.now))
+        (λ making. IfTold (K.written sink.old) (K.written sink.new)
+        (AppendsSummaryFront making tables.now)) }
+    ensures made_nothing { result ≡ 6 → IsSome (making_of (texts words.now))
+        → sink.new ≡ sink.old }
+    ensures unread { IsSome (making_of (texts words.now)) → source.new ≡ source.old }
+
     // Each other status has its cause; that memory ran out may come in place of all but 1 and 2.
-    ensures usage { (result ≡ 1) ↔ IsNone (setting_of (texts words.now)) }
-    ensures unknown { (result ≡ 2) ↔ IsSomeAnd (setting_of (texts words.now))
+    ensures usage { (result ≡ 1) ↔ IsNone (first_setting (texts words.now)) }
+    ensures unknown { (result ≡ 2) ↔ IsSomeAnd (first_setting (texts words.now))
         (λ setting. IsSome (start_refusal setting tables.now)) }
     ensures untouched { (result ≡ 1) ⊎ (result ≡ 2) → (source.new ≡ source.old)
         × (sink.new ≡ sink.old) }
@@ -64,63 +72,103 @@ pub fn desk<S: Source, K: Sink>(
         (λ before now. 2 ^ 32 + length now ≤ length before) }
     ensures unseen { result ≡ 5 → S.ended source.new ≡ S.ended source.old }
     ensures most { result ≤ 6 }
+    ensures made_status { IsSome (making_of (texts words.now))
+        → (result ≢ 3) × (result ≢ 5) }
 
     // With the status of an error of `run`, the replies to core lines are those that this error leaves; none where memory
     // ran out before there was a book.
-    ensures stopped { (e : RunError) → result ≡ run_status (Err e) → IsSomeAnd
+    ensures stopped { (e : RunError) → result ≡ run_status (Err e) → IfSome
         (setting_of (texts words.now)) (λ setting.
         IfTold (S.left source.old) (S.left source.new) (λ bytes left.
         LeavesReplies e tables.now (start setting) bytes left (K.written sink.old)
         (K.written sink.new))) }
 
-    // Where there is no fault, and the source holds fewer than 2^32 bytes, only that memory runs out is left beside 0.
+    // Where there is no fault, and the source holds fewer than 2^32 bytes or isn't read, only that memory runs out is left
+    // beside 0.
     ensures completes { IsSomeAnd (setting_of (texts words.now))
         (λ setting. IsNone (start_refusal setting tables.now))
         → IsSomeAnd (S.left source.old) (λ bytes. length bytes < 2 ^ 32)
         → ¬ HasFault (S.faults source.old) (S.faults source.new)
         → ¬ HasFault (K.faults sink.old) (K.faults sink.new)
         → (result ≡ 0) ⊎ (result ≡ 6) }
+    ensures made_completes { IsSome (making_of (texts words.now))
+        → IsNone (start_refusal made_setting tables.now)
+        → ¬ HasFault (K.faults sink.old) (K.faults sink.new)
+        → (result ≡ 0) ⊎ (result ≡ 6) }
 {
-    let Some(start) = start_named(words) else {
-        return 1;
-    };
-    let book = Model::new_empty(
-        alloc,
-        "workbook",
-        start.locale,
-        start.zone,
-        start.language,
-        tables,
-        moment,
-    );
-    match book {
-        Ok(mut model) => status_of(run(alloc, &mut model, source, sink)),
-        Err(e) => status_without_book(&e),
+    match deed_named(words) {
+        Deed::Run(start) => run_from(alloc, &start, tables, moment, source, sink),
+        Deed::Make(making) => make(alloc, &making, tables, moment, sink),
+        Deed::Unknown => 1,
     }
 }
 
-/// What the words name: en, en and UTC where there are none; None where they are no stated form.
-fn start_named(words: &[String]) -> Option<Start<'_>>
-    ensures { option_map setting result ≡ setting_of (texts words.now) }
+/// What the words ask for.
+#[derive(Drop)]
+pub enum Deed<'a> {
+    /// To answer the lines of the source.
+    Run(Start<'a>),
+    /// To make lines and answer them.
+    Make(Making),
+    /// Nothing that the program does.
+    Unknown,
+}
+
+/// What the words ask for: at most one of both.
+fn deed_named(words: &[String]) -> Deed<'_>
+    ensures run { setting_in result ≡ setting_of (texts words.now) }
+    ensures made { making_in result ≡ making_of (texts words.now) }
 {
-    if words.is_empty() {
-        return Some(Start {
-            locale: "en",
-            language: "en",
-            zone: "UTC",
-        });
+    if let Some(making) = making_named(words) {
+        return Deed::Make(making);
     }
-    if words.len() != 4 {
-        return None;
+    match start_named(words) {
+        Some(start) => Deed::Run(start),
+        None => Deed::Unknown,
     }
-    if !same_text(words[0].as_str(), "run") {
-        return None;
+}
+
+/// Answers the lines of a source on the new book of a start, and answers the status.
+fn run_from<S: Source, K: Sink>(
+    alloc: Global,
+    first: &Start<'_>,
+    tables: &Tables,
+    moment: Timestamp,
+    source: &mut S,
+    sink: &mut K,
+) -> u8
+    ensures end { result ≡ 0 → S.ended source.new ≡ true }
+    ensures taken { result ≡ 0 → IfTold (S.left source.old) (S.left source.new)
+        (λ bytes left. left ≡ []) }
+    ensures replies { result ≡ 0 → IfTold (S.left source.old) (S.left source.new) (λ bytes _.
+        AreCore tables.now (texts_of bytes) → IfTold (K.written sink.old) (K.written sink.new)
+        (AppendsReplies (notations_of tables.now) (start (setting first.now)) bytes)) }
+    ensures served { result ≡ 0 → IfTold (S.left source.old) (S.left source.new) (λ bytes _.
+        IfTold (K.written sink.old) (K.written sink.new) (AppendsServedFrom
+        (λ created. start_book (setting first.now) created tables.now) bytes)) }
+    ensures known { result ≢ 1 }
+    ensures unknown { (result ≡ 2) ↔ IsSome (start_refusal (setting first.now) tables.now) }
+    ensures untouched { result ≡ 2 → (source.new ≡ source.old) × (sink.new ≡ sink.old) }
+    ensures read_fault { result ≡ 3 → HasFault (S.faults source.old) (S.faults source.new) }
+    ensures write_fault { result ≡ 4 → HasFault (K.faults sink.old) (K.faults sink.new) }
+    ensures too_many { result ≡ 5 → IfTold (S.left source.old) (S.left source.new)
+        (λ before now. 2 ^ 32 + length now ≤ length before) }
+    ensures unseen { result ≡ 5 → S.ended source.new ≡ S.ended source.old }
+    ensures most { result ≤ 6 }
+    ensures stopped { (e : RunError) → result ≡ run_status (Err e)
+        → IfTold (S.left source.old) (S.left source.new) (λ bytes left.
+        LeavesReplies e tables.now (start (setting first.now)) bytes left (K.written sink.old)
+        (K.written sink.new)) }
+    ensures completes { IsNone (start_refusal (setting first.now) tables.now)
+        → IsSomeAnd (S.left source.old) (λ bytes. length bytes < 2 ^ 32)
+        → ¬ HasFault (S.faults source.old) (S.faults source.new)
+        → ¬ HasFault (K.faults sink.old) (K.faults sink.new)
+        → (result ≡ 0) ⊎ (result ≡ 6) }
+{
+    match first_book(alloc, first, tables, moment) {
+        Ok(mut model) => status_of(run(alloc, &mut model, source, sink)),
+        Err(status) => status,
     }
-    Some(Start {
-        locale: words[1].as_str(),
-        language: words[2].as_str(),
-        zone: words[3].as_str(),
-    })
 }
 
 /// The status for what `run` answered.
@@ -133,16 +181,5 @@ fn status_of(answer: Result<u64, RunError>) -> u8
         Err(RunError::WriteFault) => 4,
         Err(RunError::TooManyTurns) => 5,
         Err(RunError::OutOfMemory) => 6,
-    }
-}
-
-/// The status where there is no book to begin with.
-fn status_without_book(e: &BookError) -> u8
-    ensures status { result ≡ start_status e.now }
-    ensures which { (result ≡ 2) ⊎ (result ≡ 6) }
-{
-    match e {
-        BookError::OutOfMemory => 6,
-        _ => 2,
     }
 }

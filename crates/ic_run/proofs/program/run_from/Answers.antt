@@ -1,4 +1,4 @@
-use Rattle.std.proofs.Common.{ℕ, List, ◌∙◌, sym, subst, IsSomeAnd}
+use Rattle.std.proofs.Common.{ℕ, List, ◌∙◌, sym, subst}
 use Rattle.ic_laws.specs.CoreBook.{CoreBook}
 use Rattle.ic_laws.specs.Lines.{texts_of}
 use Rattle.ic_tables.specs.Tables.{TableSet}
@@ -7,13 +7,13 @@ use Rattle.ic_lines.specs.Bytes.{IfTold}
 use Rattle.ic_commands.specs.Plain.{IsPlainBook}
 use Rattle.ic_book.specs.Book.{Book, core_of}
 use Rattle.ic_book.specs.Whole.{whole_of}
-use Rattle.ic_run.specs.Desk.{Setting, start, start_book}
+use Rattle.ic_run.specs.Desk.{start_book}
 use Rattle.ic_run.specs.Start.{setting}
-use Rattle.ic_run.specs.Run.{AppendsReplies, AppendsServed, AppendsServedFrom, AreCore, LeavesReplies}
+use Rattle.ic_run.specs.Run.{AppendsReplies, AppendsServed, AreCore, LeavesReplies}
 use Rattle.ic_tree.specs.Notations.{notations_of}
 use Rattle.ic_run.proofs.DeskLemmas.{all_taken, leaves_replies_told, on_ok_at_0, start_core, start_plain}
-use Rattle.ic_run.proofs.ServedLemmas.{some_moment, workbook}
-use Rattle.ic_run.proofs.program.desk.Goals as goal
+use Rattle.ic_run.proofs.ServedLemmas.{some_moment}
+use Rattle.ic_run.proofs.program.run_from.Goals as goal
 
 pub returns-in-Ok-clause-taken : goal.returns-in-Ok-clause-taken
 returns-in-Ok-clause-taken g c at_0 =
@@ -25,14 +25,12 @@ returns-in-Ok-clause-replies g c at_0 =
     let written = g.K.Sink.written in
     let book = c.in-Ok.model.book in
     let Told : TableSet → CoreBook → Type 0 = λ t core. IfTold (left c.args.source.now) (left c.run.new.source) (λ bytes _. AreCore t (texts_of bytes) → IfTold (written c.args.sink.now) (written c.run.new.sink) (AppendsReplies (notations_of t) core bytes)) in
-    let Wanted : Setting → Type 0 = λ s. IfTold (left c.args.source.now) (left c.run.new.source) (λ bytes _. AreCore c.args.tables.now (texts_of bytes) → IfTold (written c.args.sink.now) (written c.run.new.sink) (AppendsReplies (notations_of c.args.tables.now) (start s) bytes)) in
     let Given : List ℕ → List ℕ → Type 0 = λ bytes _. IsPlainBook (whole_of book) → AreCore book.tables (texts_of bytes) → IfTold (written c.args.sink.now) (written c.run.new.sink) (AppendsReplies (notations_of book.tables) (core_of book) bytes) in
     let plain = start_plain book _ _ _ _ _ _ c.in-Ok.ensures.start in
     let told : Told book.tables (core_of book) =
     IfTold-weaker (left c.args.source.now) (left c.run.new.source) Given (λ bytes _. AreCore book.tables (texts_of bytes) → IfTold (written c.args.sink.now) (written c.run.new.sink) (AppendsReplies (notations_of book.tables) (core_of book) bytes))
     (λ bytes rest h. h plain) (on_ok_at_0 c.run.result (IfTold (left c.args.source.now) (left c.run.new.source) Given) c.run.ensures.replies (sym c.status_of.ensures ∙ at_0)) in
-    subst (λ o. IsSomeAnd o Wanted) c.in-Some.ensures
-    (subst (Told c.args.tables.now) (start_core book _ _ _ _ _ _ c.in-Ok.ensures.start) (subst (λ (b : Book). Told b.tables (core_of book)) c.in-Ok.ensures.start told))
+    subst (Told c.args.tables.now) (start_core book _ _ _ _ _ _ c.in-Ok.ensures.start) (subst (λ (b : Book). Told b.tables (core_of book)) c.in-Ok.ensures.start told)
 
 pub returns-in-Ok-clause-stopped : goal.returns-in-Ok-clause-stopped
 returns-in-Ok-clause-stopped g c e stopped =
@@ -40,11 +38,9 @@ returns-in-Ok-clause-stopped g c e stopped =
     let written = g.K.Sink.written in
     let book = c.in-Ok.model.book in
     let Told : TableSet → CoreBook → Type 0 = λ t core. IfTold (left c.args.source.now) (left c.run.new.source) (λ bytes rest. LeavesReplies e t core bytes rest (written c.args.sink.now) (written c.run.new.sink)) in
-    let Wanted : Setting → Type 0 = λ s. IfTold (left c.args.source.now) (left c.run.new.source) (λ bytes rest. LeavesReplies e c.args.tables.now (start s) bytes rest (written c.args.sink.now) (written c.run.new.sink)) in
     let told : Told book.tables (core_of book) =
     leaves_replies_told c.run.result e book c.run.new.model.book (left c.args.source.now) (left c.run.new.source) (written c.args.sink.now) (written c.run.new.sink) (start_plain book _ _ _ _ _ _ c.in-Ok.ensures.start) (sym c.status_of.ensures ∙ stopped) c.run.ensures.front in
-    subst (λ o. IsSomeAnd o Wanted) c.in-Some.ensures
-    (subst (Told c.args.tables.now) (start_core book _ _ _ _ _ _ c.in-Ok.ensures.start) (subst (λ (b : Book). Told b.tables (core_of book)) c.in-Ok.ensures.start told))
+    subst (Told c.args.tables.now) (start_core book _ _ _ _ _ _ c.in-Ok.ensures.start) (subst (λ (b : Book). Told b.tables (core_of book)) c.in-Ok.ensures.start told)
 
 pub returns-in-Ok-clause-served : goal.returns-in-Ok-clause-served
 returns-in-Ok-clause-served g c at_0 =
@@ -53,8 +49,6 @@ returns-in-Ok-clause-served g c at_0 =
     let book = c.in-Ok.model.book in
     let tables = c.args.tables.now in
     let Told : Book → Type 0 = λ b. IfTold (left c.args.source.now) (left c.run.new.source) (λ bytes _. IfTold (written c.args.sink.now) (written c.run.new.sink) (AppendsServed (whole_of b) bytes)) in
-    let Wanted : Setting → Type 0 = λ s. IfTold (left c.args.source.now) (left c.run.new.source) (λ bytes _. IfTold (written c.args.sink.now) (written c.run.new.sink) (AppendsServedFrom (λ created. start_book s created tables) bytes)) in
     let told : Told book = on_ok_at_0 c.run.result (Told book) c.run.ensures.served (sym c.status_of.ensures ∙ at_0) in
-    subst (λ o. IsSomeAnd o Wanted) c.in-Some.ensures
-    (some_moment (left c.args.source.now) (left c.run.new.source) (written c.args.sink.now) (written c.run.new.sink) (λ created. start_book (setting c.in-Some.start) created tables) book.metadata.created
-    (subst Told (c.in-Ok.ensures.start ∙ workbook _ _ _ book.metadata.created tables) told))
+    some_moment (left c.args.source.now) (left c.run.new.source) (written c.args.sink.now) (written c.run.new.sink) (λ created. start_book (setting c.args.first.now) created tables) book.metadata.created
+    (subst Told c.in-Ok.ensures.start told)
