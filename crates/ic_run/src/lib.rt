@@ -2,7 +2,7 @@
 //!
 //! `run` carries the main promise: where it answers Ok over core lines, the replies that it appended are those of the
 //! identity machine of `ic_laws`, and the book is the one that the machine leaves. For all lines it says the same of the
-//! machine that is served. `desk` gives that for the program's words.
+//! machine that is served. `desk` gives that for the program's words, and makes lines by a seed.
 #![tactic(auto)]
 
 mod counts;

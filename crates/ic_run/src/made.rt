@@ -66,7 +66,7 @@ pub struct Generator {
 }
 
 impl Generator {
-    // The line of this number, which is made by the next draws. Only memory can be missing.
+    /// The line of this number, which is made by the next draws. Only memory can be missing.
     pub fn next_line(&mut self, alloc: Global, number: u32) -> Result<Line, OutOfMemory>
         requires { 0 < number }
         ensures line { IfOk result (λ line. line
@@ -78,7 +78,7 @@ impl Generator {
         command.to_line(alloc)
     }
 
-    // The next command: its kind is drawn first.
+    /// The next command: its kind is drawn first.
     fn next_command(&mut self, number: u32) -> MadeCommand
         requires { 0 < number }
         ensures command { result ≡ (made_command number self.old.state).0 }
@@ -88,7 +88,7 @@ impl Generator {
         self.command_of_kind(kind, number)
     }
 
-    // The command of this kind.
+    /// The command of this kind.
     fn command_of_kind(&mut self, kind: u32, number: u32) -> MadeCommand
         requires { 0 < number }
         ensures command { result ≡ (made_of_kind kind number self.old.state).0 }
@@ -127,7 +127,7 @@ impl Generator {
         }
     }
 
-    // What the next draw gives.
+    /// What the next draw gives.
     fn draw(&mut self, below: u32) -> u32
         requires { 0 < below }
         ensures value { result ≡ drawn 1 below self.old.state }
@@ -138,7 +138,7 @@ impl Generator {
         ((self.state >> DROPPED_BITS) % u64::from(below)) as u32
     }
 
-    // The next state.
+    /// The next state.
     #[tactic(auto, unfolding(crate::specs::Make::next_state))]
     fn step(&mut self)
         ensures { self.new.state ≡ next_state self.old.state }
@@ -148,7 +148,7 @@ impl Generator {
 }
 
 impl MadeCommand {
-    // Its line.
+    /// Its line.
     fn to_line(&self, alloc: Global) -> Result<Line, OutOfMemory>
         ensures { IfOk result (λ line. line ≡ made_text self.now) }
     {
@@ -156,7 +156,7 @@ impl MadeCommand {
         Ok(whole_line(text))
     }
 
-    // Its text.
+    /// Its text.
     #[tactic(auto, unfolding(crate::specs::Make::made_text))]
     fn to_text(&self, alloc: Global) -> Result<String, OutOfMemory>
         ensures { IfOk result (λ text. string_bytes text ≡ made_text self.now) }
