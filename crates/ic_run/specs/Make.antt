@@ -99,6 +99,7 @@ count_said word = option_and_then (at_most 10000) (seed_said word)
 abbrev pub making_said : List ℕ → List ℕ → Option Making
 making_said seed count = option_and_then (λ s. option_map (λ n. record { seed = s; count = n }) (count_said count)) (seed_said seed)
 
+-- what the words name, if they are these
 abbrev pub making_of : List (List ℕ) → Option Making
 making_of (name ∷ seed ∷ count ∷ []) = if bytes_eq name (codes "make") then making_said seed count else None
 making_of words = None
@@ -107,14 +108,16 @@ making_of words = None
 abbrev pub made_setting : Setting
 made_setting = record { locale = codes "en"; language = codes "en"; zone = codes "UTC" }
 
+-- the one of a making, if there is one
 abbrev pub setting_made_in : Option Making → Option Setting
 setting_made_in making = option_map (λ making. made_setting) making
 
--- the setting that the program begins with, by its words
+-- the first of two settings that is there
 abbrev pub setting_or : Option Setting → Option Setting → Option Setting
 setting_or (Some setting) other = Some setting
 setting_or None other = other
 
+-- the setting that the program begins with, by its words
 abbrev pub first_setting : List (List ℕ) → Option Setting
 first_setting words = setting_or (setting_of words) (setting_made_in (making_of words))
 
@@ -148,10 +151,11 @@ told_names =
 abbrev pub told_line : List ℕ → ℕ → List ℕ
 told_line words n = words ++ (tab ∷ (decimal n ++ line_feed ∷ []))
 
--- how many replies tell the refusal of this name, where one does
+-- the same, where there are some
 abbrev pub told_if_some : List ℕ → ℕ → List ℕ
 told_if_some words n = if n == 0 then [] else told_line words n
 
+-- how many replies tell the refusal of this name, where one does; and so of all refusals
 abbrev pub told_refusal : List Reply → List ℕ → List ℕ
 told_refusal replies name = told_if_some (codes "error\t" ++ name) (count_by (is_refused_as name) replies)
 
@@ -162,7 +166,8 @@ told_refusals replies = flat_map (told_refusal replies) told_names
 abbrev pub formula_count : Book → ℕ
 formula_count book = length (flat_map (λ sheet. sheet.cells) (core_of book).sheets)
 
--- what is told of so many lines, by their replies and the book that they leave
+-- what is told of so many lines, by their replies and the book that they leave: how many lines, replies without a refusal,
+-- replies of each refusal, sheets and cells with formulas
 abbrev pub summary : ℕ → List Reply → Book → List ℕ
 summary count replies book =
     told_line (codes "lines") count

@@ -2,7 +2,8 @@
 //!
 //! `run` carries the main promise: where it answers Ok over core lines, the replies that it appended are those of the
 //! identity machine of `ic_laws`, and the book is the one that the machine leaves. For all lines it says the same of the
-//! machine that is served. `desk` gives that for the program's words, and makes lines by a seed.
+//! machine that is served. `desk` gives that for the program's words; for the words `make SEED COUNT` it answers lines that
+//! are made from the seed, and writes what the machine that is served makes of them.
 #![tactic(auto)]
 
 mod counts;
