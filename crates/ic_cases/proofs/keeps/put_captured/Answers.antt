@@ -10,4 +10,4 @@ pub captured_formula-requires : goal.captured_formula-requires
 captured_formula-requires c =
     let formula = c.formula_in-formula.result in
     subst (λ (r : Result Formula OutOfMemory). IfOk r (AreAlikeFormulas formula)) c.in-Ok.is
-      (IfOk-weaker c.keep_formula-kept.result _ _ (λ kept e. subst (AreAlikeFormulas formula) (sym e) (kept_formula_is_alike _ _ _ _ _ formula)) c.keep_formula-kept.ensures)
+    (IfOk-weaker c.keep_formula-kept.result _ _ (λ kept e. subst (AreAlikeFormulas formula) (sym e) (kept_formula_is_alike _ _ _ _ _ formula)) c.keep_formula-kept.ensures)
