@@ -12,4 +12,5 @@ pub mod PlacedLemmas
 pub mod Rebuilt
 pub mod RemadeLemmas
 pub mod RewriteLemmas
+pub mod TopicLemmas
 pub mod WriteLemmas

@@ -4,3 +4,4 @@ pub mod Mentions
 pub mod Pool
 pub mod Remade
 pub mod Rewrites
+pub mod Topics

@@ -17,6 +17,7 @@ mod mentions;
 mod pool;
 mod remaking;
 mod steps;
+mod topics;
 
 pub use changes::{
     BookChange, DefinitionAdded, DefinitionGone, SheetGone, SheetNamed, changed_formula, same_key,
