@@ -8,6 +8,7 @@ pub mod KeyLemmas
 pub mod LateLemmas
 pub mod ListedLemmas
 pub mod MentionLemmas
+pub mod PlaceLemmas
 pub mod PlacedLemmas
 pub mod Rebuilt
 pub mod RemadeLemmas

@@ -13,6 +13,7 @@ mod code;
 mod copies;
 mod key;
 mod law;
+mod mention_index;
 mod mentions;
 mod pool;
 mod remaking;
