@@ -1,6 +1,7 @@
 pub mod BackLemmas
 pub mod ByteLaws
 pub mod ChangeLemmas
+pub mod ChangeTopics
 pub mod CodeLaws
 pub mod CopyLemmas
 pub mod IndexLemmas
