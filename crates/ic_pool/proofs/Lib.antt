@@ -9,6 +9,7 @@ pub mod KeyLemmas
 pub mod LateLemmas
 pub mod ListedLemmas
 pub mod MentionLemmas
+pub mod MentionedLemmas
 pub mod PlaceLemmas
 pub mod PlacedLemmas
 pub mod Rebuilt

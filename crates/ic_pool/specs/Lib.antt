@@ -1,5 +1,6 @@
 pub mod Bytes
 pub mod Code
+pub mod Kept
 pub mod MentionPlaces
 pub mod Mentions
 pub mod Pool

@@ -1,13 +1,14 @@
 -- Where formulas mention what: for each topic the places of those that mention it. An index may have more places than those.
 use Rattle.std.specs.Prelude.{◌≡◌, ℕ, List, [], Bool, true, Some}
 use Rattle.std.specs.BTreeMap.{is_at}
+use Rattle.std.specs.BTreeSet.{BTreeSet, contains}
 use Rattle.std.specs.List.{list_any, slice_get}
 use Rattle.std.specs.Map.{lookup}
 use Rattle.std.specs.Option.{unwrap_or}
 use Rattle.std.specs.Ordering.{nat_cmp}
 use Rattle.ic_laws.specs.declared.tree.Formula.{Formula}
 use Rattle.ic_pool.specs.Pool.{is_among}
-use Rattle.ic_pool.specs.Topics.{mentions_some, topics_in}
+use Rattle.ic_pool.specs.Topics.{topics_in}
 
 -- an index: topics, each with its places
 abbrev pub Noted : Type 0
@@ -36,3 +37,7 @@ HasAt index at topics = (topic : ℕ) → is_among topic topics ≡ true → has
 -- it has the place of each formula, of each topic that it mentions
 abbrev pub KnowsAll : Noted → List Formula → Type 0
 KnowsAll index formulas = (at : ℕ) (formula : Formula) → slice_get formulas at ≡ Some formula → HasAt index at (topics_in formula)
+
+-- places: of each formula that passes a test its place is one of them
+abbrev pub HasPassing : (Formula → Bool) → BTreeSet ℕ → List Formula → Type 0
+HasPassing test places formulas = (at : ℕ) (formula : Formula) → slice_get formulas at ≡ Some formula → test formula ≡ true → contains nat_cmp places at ≡ true
