@@ -265,7 +265,7 @@ pub written_back : (n : ℕ) (changes : List Replacement) (new xs : List Formula
 written_back n changes new xs made counted =
     ap (λ k. take k (new ++ drop (length new) xs)) (counted ∙ sym (ap length made ∙ length_changed changes xs)) ∙ take_at new (drop (length new) xs) (length new) refl ∙ made
 
-both_true : (a b : Bool) → (a && b) ≡ true → (a ≡ true) × (b ≡ true)
+pub both_true : (a b : Bool) → (a && b) ≡ true → (a ≡ true) × (b ≡ true)
 both_true true b e = (refl, e)
 both_true false b e = (e, cc)
 

@@ -1,9 +1,12 @@
 -- An index by mention keeps up with the formulas.
-use Rattle.std.proofs.Common.{◌≡◌, ℕ, zero, suc, ◌<◌, List, [], ◌∷◌, ◌++◌, Bool, true, false, ◌||◌, Option, Some, None, refl, sym, ap, ◌∙◌, subst, length, set, ◌⊎◌, inl, inr}
+use Rattle.std.proofs.Common.{◌≡◌, ℕ, zero, suc, ◌<◌, List, [], ◌∷◌, ◌++◌, Bool, true, false, ◌&&◌, ◌||◌, OnOk, Option, Some, None, refl, sym, ap, ◌∙◌, subst, length, set, ◌⊎◌, inl, inr}
 use Rattle.std.specs.Prelude.{nat_eq}
 use Rattle.std.specs.BTreeSet.{BTreeSet, contains}
 use Rattle.std.specs.List.{AllByRecursion, list_any, slice_get}
 use Rattle.std.specs.Ordering.{nat_cmp}
+use Rattle.std.specs.declared.result.Result.{Result}
+use Rattle.std.specs.declared.result.Result.TheVariants.{Err, Ok}
+use Rattle.std.specs.Result.{is_ok}
 use Rattle.std.proofs.lemmas.Bool.{eqb-true}
 use Rattle.std.proofs.lemmas.Option.{slice_get_within}
 use Rattle.ic_laws.specs.declared.tree.Formula.{Formula}
@@ -13,7 +16,7 @@ use Rattle.ic_pool.specs.Rewrites.{changed_by}
 use Rattle.ic_pool.specs.Topics.{mentions_some, topics_in}
 use Rattle.ic_pool.specs.declared.pool.rewrites.Replacement.{Replacement}
 use Rattle.ic_pool.proofs.KeyLemmas.{clash}
-use Rattle.ic_pool.proofs.LateLemmas.{set_other}
+use Rattle.ic_pool.proofs.LateLemmas.{both_true, set_other}
 
 pub knows_still : (before after : Noted) (xs : List Formula) → KnowsAll before xs → KeepsAll before after → KnowsAll after xs
 knows_still before after xs knows keeps at x e topic mentions = keeps topic at (knows at x e topic mentions)
@@ -66,22 +69,30 @@ knows_changed : (index : Noted) (changes : List Replacement) (xs : List Formula)
 knows_changed index [] xs knows has = knows
 knows_changed index (change ∷ changes) xs knows has = knows_changed index changes (set xs change.at change.formula) (knows_set index xs change.at change.formula knows has.0) has.1
 
-pub knows_rewritten : (before after : Noted) (changes : List Replacement) (xs list : List Formula) → KnowsAll before xs → KeepsAll before after → AllByRecursion (λ change. HasAt after change.at (topics_in change.formula)) changes → list ≡ changed_by changes xs → KnowsAll after list
-knows_rewritten before after changes xs list knows keeps has made = subst (KnowsAll after) (sym made) (knows_changed after changes xs (knows_still before after xs knows keeps) has)
+told : {E P : Type 0} (r : Result (Unit {0}) E) → OnOk r P → is_ok r ≡ true → P
+told (Ok u) p e = p
+told (Err x) p e = cc
+
+-- where that found memory
+pub noted_rewritten : {E : Type 0} (before after : Noted) (changes : List Replacement) (xs list : List Formula) (knows noted : Bool) (r : Result (Unit {0}) E) → (knows ≡ true → KnowsAll before xs) → KeepsAll before after
+    → noted ≡ is_ok r → OnOk r (AllByRecursion (λ change. HasAt after change.at (topics_in change.formula)) changes) → list ≡ changed_by changes xs → (knows && noted) ≡ true → KnowsAll after list
+noted_rewritten before after changes xs list knows noted r known keeps is has made e =
+    let both = both_true knows noted e in
+    subst (KnowsAll after) (sym made) (knows_changed after changes xs (knows_still before after xs (known both.0) keeps) (told r has (sym is ∙ both.1)))
 
 -- ---- where something is mentioned
 
 some_place : (index : Noted) (at : ℕ) (x : Formula) (topics : List ℕ) → HasAt index at (topics_in x) → mentions_some topics x ≡ true → has_place_of index topics at ≡ true
 some_place index at x [] has e = e
-some_place index at x (topic ∷ topics) has e = by_head (is_among topic (topics_in x)) refl e
+some_place index at x (topic ∷ topics) has e = by_head (is_among topic (topics_in x)) refl e (λ f. some_place index at x topics has f)
   where
     or_true : (b : Bool) → (b || true) ≡ true
     or_true true = refl
     or_true false = refl
 
-    by_head : (b : Bool) → is_among topic (topics_in x) ≡ b → (b || mentions_some topics x) ≡ true → has_place_of index (topic ∷ topics) at ≡ true
-    by_head true is f = ap (λ b. b || has_place_of index topics at) (has topic is)
-    by_head false is f = ap (λ b. has_place index topic at || b) (some_place index at x topics has f) ∙ or_true (has_place index topic at)
+    by_head : (b : Bool) → is_among topic (topics_in x) ≡ b → (b || mentions_some topics x) ≡ true → (mentions_some topics x ≡ true → has_place_of index topics at ≡ true) → has_place_of index (topic ∷ topics) at ≡ true
+    by_head true is f rest = ap (λ b. b || has_place_of index topics at) (has topic is)
+    by_head false is f rest = ap (λ b. has_place index topic at || b) (rest f) ∙ or_true (has_place index topic at)
 
 pub places_found : (index : Noted) (topics : List ℕ) (xs : List Formula) (places : BTreeSet ℕ) → KnowsAll index xs → ((at : ℕ) → has_place_of index topics at ≡ true → contains nat_cmp places at ≡ true) → HasPassing (mentions_some topics) places xs
 places_found index topics xs places knows found at x e passes = found at (some_place index at x topics (knows at x e) passes)

@@ -327,13 +327,13 @@ impl Pool {
         rewrites.take_out(&mut self.index);
         self.knows_rest &= rewrites.move_places(&mut self.late);
         self.is_whole = false;
-        let is_noted = rewrites.note_in(&mut self.mentions).is_ok();
+        self.knows_mentions &= rewrites.note_in(&mut self.mentions).is_ok();
         self.dangling = rewrites.put(&mut self.formulas, self.dangling);
         self.knows_mentions = renewed(
             self.alloc,
             &self.formulas,
             &mut self.mentions,
-            self.knows_mentions && is_noted,
+            self.knows_mentions,
         );
     }
 
