@@ -1,16 +1,14 @@
 -- A formula that stands last, and nowhere before, is taken out again.
-use Rattle.std.proofs.Common.{◌≡◌, ℕ, suc, ◌<◌, ◌+◌, ◌-◌, List, [], ◌∷◌, ◌++◌, Bool, true, false, cond, Option, Some, None, refl, sym, ap, ap₂, ◌∙◌, length, length-append, take, bytes_eq, append-nil, arith}
+use Rattle.std.proofs.Common.{◌≡◌, ℕ, List, [], ◌∷◌, ◌++◌, Bool, true, false, cond, Option, Some, None, refl, sym, ap, ap₂, ◌∙◌, length, bytes_eq}
 use Rattle.std.specs.BTreeMap.{Updates, get}
 use Rattle.std.specs.Cmp.Lexicographic.{slice_cmp}
 use Rattle.std.specs.Ordering.{nat_cmp}
-use Rattle.std.proofs.lemmas.List.{take_at}
 use Rattle.std.proofs.lemmas.Map.Text.{is_eq-slice_cmp}
 use Rattle.std.proofs.lemmas.Slice.Eq.{bytes_eq-Decides}
 use Rattle.ic_laws.specs.declared.tree.Formula.{Formula}
 use Rattle.ic_pool.specs.Code.{code}
-use Rattle.ic_pool.specs.Mentions.{has_dangling}
-use Rattle.ic_pool.specs.Pool.{EndsWithNew, IsKept, KeepsPlaces, dangling_places, first_place}
-use Rattle.ic_pool.proofs.IndexLemmas.{Index, places_from-push}
+use Rattle.ic_pool.specs.Pool.{EndsWithNew, IsLookUp, KeepsPlaces, first_place}
+use Rattle.ic_pool.proofs.IndexLemmas.{Index}
 use Rattle.ic_pool.proofs.LateLemmas.{whole_knows}
 use Rattle.ic_pool.proofs.PlacedLemmas.{first_place-push}
 
@@ -53,30 +51,6 @@ module _ (before after : Index) (xs ys : List Formula) (x : Formula) (is : xs �
         by_test q true e = sym (ap (λ k. first_place k ys) (sym ((bytes_eq-Decides (code x) q).0 e)) ∙ fresh)
         by_test q false e = refl
 
-    module _ (is_whole knows_rest : Bool) (late places : List ℕ) (kept : IsKept before is_whole knows_rest late places xs) (whole : is_whole ≡ true) where
-      found : KeepsPlaces after ys
-      found = places_back (kept.finds whole)
-
-      noted : (b : Bool) → has_dangling x ≡ b → places ≡ dangling_places ys ++ cond b ((0 + length ys) ∷ []) []
-      noted b dangles =
-          kept.dangles ∙ ap dangling_places is ∙ places_from-push has_dangling 0 ys x
-          ∙ ap (λ c. dangling_places ys ++ cond c ((0 + length ys) ∷ []) []) dangles
-
-      -- where it mentions something that wasn't found, its place is the last one
-      pub kept_back_noted : has_dangling x ≡ true → (more : List ℕ) (n : ℕ) → n ≡ length places → more ≡ take (n - 1) places → IsKept after is_whole knows_rest late more ys
-      kept_back_noted dangles more n counted cut =
-          let listed = noted true dangles in
-          let longer : length places ≡ length (dangling_places ys) + 1 = ap length listed ∙ length-append (dangling_places ys) ((0 + length ys) ∷ []) in
-          let one_less : n - 1 ≡ length (dangling_places ys) = omega (arith, counted, longer) in
-          record {
-            finds = λ w. found;
-            rest = λ k. whole_knows after late ys found;
-            dangles = cut ∙ ap₂ take one_less listed ∙ take_at (dangling_places ys) ((0 + length ys) ∷ []) (length (dangling_places ys)) refl;
-          }
-
-      pub kept_back : has_dangling x ≡ false → IsKept after is_whole knows_rest late places ys
-      kept_back dangles = record {
-        finds = λ w. found;
-        rest = λ k. whole_knows after late ys found;
-        dangles = noted false dangles ∙ append-nil (dangling_places ys);
-      }
+    pub look_up_back : (is_whole knows_rest : Bool) (late : List ℕ) → IsLookUp before is_whole knows_rest late xs → is_whole ≡ true → IsLookUp after is_whole knows_rest late ys
+    look_up_back is_whole knows_rest late kept whole =
+        let found : KeepsPlaces after ys = places_back (kept.finds whole) in record { finds = λ w. found; rest = λ k. whole_knows after late ys found }

@@ -1,15 +1,17 @@
 -- A look-up that is made from the last formula to the first, and one that is kept up with the formulas.
-use Rattle.std.proofs.Common.{◌≡◌, ◌<◌, ◌+◌, ℕ, suc, List, [], ◌∷◌, ◌++◌, Bool, true, false, cond, Option, Some, None, option_map, refl, sym, ap, ap₂, ◌∙◌, append-nil, length, drop, get_or, take, bytes_eq, arith}
+use Rattle.std.proofs.Common.{◌≡◌, ◌<◌, ◌≤◌, ◌+◌, ◌-◌, ℕ, zero, suc, List, [], ◌∷◌, ◌++◌, Bool, true, false, cond, Option, Some, None, option_map, refl, sym, ap, ap₂, ◌∙◌, length, length-append, drop, get_or, set, take, bytes_eq, arith}
+use Rattle.std.specs.List.{slice_get}
 use Rattle.std.proofs.Math.Seq.{drop-cons}
 use Rattle.std.specs.BTreeMap.{BTreeMap, Updates, get}
 use Rattle.std.specs.Cmp.Lexicographic.{slice_cmp}
 use Rattle.std.specs.Ordering.{nat_cmp}
-use Rattle.std.proofs.lemmas.List.{length-take, take_more}
+use Rattle.std.proofs.lemmas.List.{length-set, take_more}
+use Rattle.std.proofs.lemmas.Option.{slice_get-get_or}
 use Rattle.std.proofs.lemmas.Map.Text.{is_eq-slice_cmp}
 use Rattle.ic_laws.specs.declared.tree.Formula.{Formula}
 use Rattle.ic_pool.specs.Code.{code}
 use Rattle.ic_pool.specs.Mentions.{has_dangling}
-use Rattle.ic_pool.specs.Pool.{IsKept, KeepsPlaces, dangling_places, first_place, places_from}
+use Rattle.ic_pool.specs.Pool.{IsLookUp, KeepsPlaces, dangling_count, dangling_places, dangling_weight, first_place, places_from}
 use Rattle.ic_pool.proofs.KeyLemmas.{bytes_eq-flip}
 use Rattle.ic_pool.proofs.LateLemmas.{whole_knows}
 use Rattle.ic_pool.proofs.PlacedLemmas.{KeepsPlaces-push}
@@ -50,30 +52,91 @@ places_from-push test at (y ∷ xs) x = after (test y) (places_from-push test (s
     after true e = ap (λ ps. at ∷ ps) (e ∙ ap (λ n. places_from test (suc at) xs ++ cond (test x) (n ∷ []) []) (let s : suc at + length xs ≡ at + suc (length xs) = omega arith in s))
     after false e = e ∙ ap (λ n. places_from test (suc at) xs ++ cond (test x) (n ∷ []) []) (let s : suc at + length xs ≡ at + suc (length xs) = omega arith in s)
 
-pub IsKept-push : (before after : Index) (is_whole knows_rest : Bool) (late places more : List ℕ) (xs list : List Formula) (x : Formula) (key : List ℕ) (at : ℕ) → IsKept before is_whole knows_rest late places xs → is_whole ≡ true → first_place key xs ≡ None → key ≡ code x
-    → at ≡ length xs → Updates (slice_cmp nat_cmp) before after key (Some at) → list ≡ xs ++ x ∷ [] → (b : Bool) → has_dangling x ≡ b → more ≡ places ++ cond b (at ∷ []) [] → IsKept after is_whole knows_rest late more list
-IsKept-push before after is_whole knows_rest late places more xs list x key at kept whole none same end u put b dangles noted =
+pub IsLookUp-push : (before after : Index) (is_whole knows_rest : Bool) (late : List ℕ) (xs list : List Formula) (x : Formula) (key : List ℕ) (at : ℕ) → IsLookUp before is_whole knows_rest late xs → is_whole ≡ true → first_place key xs ≡ None → key ≡ code x
+    → at ≡ length xs → Updates (slice_cmp nat_cmp) before after key (Some at) → list ≡ xs ++ x ∷ [] → IsLookUp after is_whole knows_rest late list
+IsLookUp-push before after is_whole knows_rest late xs list x key at kept whole none same end u put =
     let found : KeepsPlaces after list = KeepsPlaces-push before after xs list x key at (kept.finds whole) (sym (ap (λ k. first_place k xs) same) ∙ none) same end u put in
-    record {
-      finds = λ w. found;
-      rest = λ k. whole_knows after late list found;
-      dangles = noted ∙ ap₂ (λ ps t. ps ++ t) kept.dangles (ap₂ (λ c n. cond c (n ∷ []) []) (sym dangles) (end ∙ sym (let e : 0 + length xs ≡ length xs = omega arith in e)))
-          ∙ sym (ap dangling_places put ∙ places_from-push has_dangling 0 xs x);
-    }
+    record { finds = λ w. found; rest = λ k. whole_knows after late list found }
 
--- ---- the places of the formulas that mention something that wasn't found, one formula after another
+-- ---- how many formulas mention something that wasn't found
 
-module _ (xs : List Formula) (i next : ℕ) (x : Formula) (is_next : i + 1 ≡ next) (below : i < length xs) (item : x ≡ get_or xs i x) where
-  one_more : take next xs ≡ take i xs ++ x ∷ []
-  one_more = ap (λ n. take n xs) (sym is_next) ∙ take_more xs i x below ∙ ap (λ y. take i xs ++ y ∷ []) (sym item)
+one_more_if : (b : Bool) (at : ℕ) (places : List ℕ) → length (cond b (at ∷ places) places) ≡ length places + cond b 1 0
+one_more_if true at places = omega arith
+one_more_if false at places = omega arith
 
-  dangling_next : (b : Bool) → has_dangling x ≡ b → dangling_places (take next xs) ≡ dangling_places (take i xs) ++ cond b (i ∷ []) []
-  dangling_next b is =
-      ap dangling_places one_more ∙ places_from-push has_dangling 0 (take i xs) x
-      ∙ ap₂ (λ n c. dangling_places (take i xs) ++ cond c (n ∷ []) []) (let e : 0 + length (take i xs) ≡ i = omega (arith, length-take i xs) in e) is
+one_if : (b : Bool) (at : ℕ) → length (cond b (at ∷ []) []) ≡ cond b 1 0
+one_if true at = refl
+one_if false at = refl
 
-  pub place_noted : (places more : List ℕ) → places ≡ dangling_places (take i xs) → has_dangling x ≡ true → more ≡ places ++ i ∷ [] → more ≡ dangling_places (take next xs)
-  place_noted places more so_far is put = put ∙ ap (λ ps. ps ++ i ∷ []) so_far ∙ sym (dangling_next true is)
+pub dangling_count-push : (xs : List Formula) (x : Formula) → dangling_count (xs ++ x ∷ []) ≡ dangling_count xs + dangling_weight x
+dangling_count-push xs x =
+    ap length (places_from-push has_dangling 0 xs x) ∙ length-append (dangling_places xs) (cond (has_dangling x) ((0 + length xs) ∷ []) [])
+    ∙ ap (λ n. dangling_count xs + n) (one_if (has_dangling x) (0 + length xs))
 
-  pub place_passed : (places more : List ℕ) → places ≡ dangling_places (take i xs) → has_dangling x ≡ false → more ≡ places → more ≡ dangling_places (take next xs)
-  place_passed places more so_far is put = put ∙ so_far ∙ sym (append-nil (dangling_places (take i xs))) ∙ sym (dangling_next false is)
+at_most : (b : Bool) → cond b 1 0 ≤ 1
+at_most true = omega arith
+at_most false = omega arith
+
+few_from : (at : ℕ) (xs : List Formula) → length (places_from has_dangling at xs) ≤ length xs
+few_from at [] = omega arith
+few_from at (x ∷ xs) =
+    omega (arith, one_more_if (has_dangling x) at (places_from has_dangling (suc at) xs), at_most (has_dangling x), few_from (suc at) xs)
+
+-- no more than there are
+pub dangling_few : (xs : List Formula) → dangling_count xs ≤ length xs
+dangling_few xs = few_from 0 xs
+
+-- one becomes another
+set_from : (at : ℕ) (xs : List Formula) (k : ℕ) (x y : Formula) → slice_get xs k ≡ Some x
+    → length (places_from has_dangling at (set xs k y)) + dangling_weight x ≡ length (places_from has_dangling at xs) + dangling_weight y
+set_from at [] k x y e = cc
+set_from at (z ∷ xs) zero x y e =
+    let same : z ≡ x = cc in
+    let rest = places_from has_dangling (suc at) xs in
+    let old : length (cond (has_dangling z) (at ∷ rest) rest) ≡ length rest + dangling_weight x = one_more_if (has_dangling z) at rest ∙ ap (λ (w : Formula). length rest + dangling_weight w) same in
+    omega (arith, one_more_if (has_dangling y) at rest, old)
+set_from at (z ∷ xs) (suc k) x y e =
+    omega
+    (arith, one_more_if (has_dangling z) at (places_from has_dangling (suc at) (set xs k y)), one_more_if (has_dangling z) at (places_from has_dangling (suc at) xs), set_from (suc at) xs k x y e)
+
+pub dangling_count-set : (xs : List Formula) (k : ℕ) (x y : Formula) → slice_get xs k ≡ Some x → dangling_count (set xs k y) + dangling_weight x ≡ dangling_count xs + dangling_weight y
+dangling_count-set xs k x y e = set_from 0 xs k x y e
+
+one_at_least : (at : ℕ) (xs : List Formula) (k : ℕ) (x : Formula) → slice_get xs k ≡ Some x → dangling_weight x ≤ length (places_from has_dangling at xs)
+one_at_least at [] k x e = cc
+one_at_least at (z ∷ xs) zero x e =
+    let same : z ≡ x = cc in
+    let counted = one_more_if (has_dangling z) at (places_from has_dangling (suc at) xs) in
+    let its : dangling_weight z ≡ dangling_weight x = ap (λ (w : Formula). dangling_weight w) same in
+    omega (arith, counted, its)
+one_at_least at (z ∷ xs) (suc k) x e =
+    omega (arith, one_more_if (has_dangling z) at (places_from has_dangling (suc at) xs), one_at_least (suc at) xs k x e)
+
+-- one that does is one of them
+pub dangling_there : (xs : List Formula) (k : ℕ) (x : Formula) → slice_get xs k ≡ Some x → dangling_weight x ≤ dangling_count xs
+dangling_there xs k x e = one_at_least 0 xs k x e
+
+-- one formula after another
+pub dangling_count-take : (xs : List Formula) (i : ℕ) (x : Formula) → i < length xs → x ≡ get_or xs i x → dangling_count (take (i + 1) xs) ≡ dangling_count (take i xs) + dangling_weight x
+dangling_count-take xs i x below item =
+    ap dangling_count (take_more xs i x below ∙ ap (λ y. take i xs ++ y ∷ []) (sym item)) ∙ dangling_count-push (take i xs) x
+
+-- one is put in the place of another
+module _ (xs : List Formula) (at : ℕ) (x y : Formula) (n gone come : ℕ) (below : at < length xs) (item : x ≡ get_or xs at x) (counted : n ≡ dangling_count xs) (gone_was : gone ≡ dangling_weight (get_or xs at x)) (come_is : come ≡ dangling_weight y) where
+  gone_is : gone ≡ dangling_weight x
+  gone_is = gone_was ∙ ap dangling_weight (sym item)
+
+  there : slice_get xs at ≡ Some x
+  there = slice_get-get_or xs at x below ∙ ap (λ z. Some z) (sym item)
+
+  pub put_takes : gone ≤ n
+  put_takes = omega (arith, dangling_there xs at x there, counted, gone_is)
+
+  pub put_counts : n - gone + come ≡ dangling_count (set xs at y)
+  put_counts = omega (arith, put_takes, dangling_count-set xs at x y there, counted, gone_is, come_is)
+
+  length_same : length (set xs at y) ≡ length xs
+  length_same = length-set xs at y
+
+  pub put_few : n - gone + come ≤ length xs
+  put_few = omega (arith, put_counts, dangling_few (set xs at y), length_same)

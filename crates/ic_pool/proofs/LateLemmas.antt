@@ -13,7 +13,7 @@ use Rattle.std.proofs.lemmas.Map.Text.{is_eq-slice_cmp}
 use Rattle.std.proofs.lemmas.Slice.Eq.{bytes_eq-Decides}
 use Rattle.ic_laws.specs.declared.tree.Formula.{Formula}
 use Rattle.ic_pool.specs.Code.{code}
-use Rattle.ic_pool.specs.Pool.{IsKept, KeepsPlaces, KnowsRest, dangling_places, first_place, is_among}
+use Rattle.ic_pool.specs.Pool.{IsLookUp, KeepsPlaces, KnowsRest, first_place, is_among}
 use Rattle.ic_pool.specs.Rewrites.{FitsPool, RewritesState, changed_by, is_key_among, old_keys, places_of, rewritten_by}
 use Rattle.ic_pool.specs.declared.pool.rewrites.Replacement.{Replacement}
 use Rattle.ic_pool.proofs.KeyLemmas.{bytes_eq-flip, clash}
@@ -163,7 +163,7 @@ module _ (before : Index) (at : ℕ) (xs : List Formula) (late : List ℕ) (know
 
 -- ---- formulas become others, whose keys were taken out
 
-set_other : (xs : List Formula) (at : ℕ) (y : Formula) (k : ℕ) → nat_eq k at ≡ false → slice_get (set xs at y) k ≡ slice_get xs k
+pub set_other : (xs : List Formula) (at : ℕ) (y : Formula) (k : ℕ) → nat_eq k at ≡ false → slice_get (set xs at y) k ≡ slice_get xs k
 set_other [] at y k e = refl
 set_other (x ∷ xs) zero y zero e = absurd (clash (nat_eq zero zero) (eq-eqb zero zero refl) e)
 set_other (x ∷ xs) zero y (suc k) e = refl
@@ -265,38 +265,34 @@ pub written_back : (n : ℕ) (changes : List Replacement) (new xs : List Formula
 written_back n changes new xs made counted =
     ap (λ k. take k (new ++ drop (length new) xs)) (counted ∙ sym (ap length made ∙ length_changed changes xs)) ∙ take_at new (drop (length new) xs) (length new) refl ∙ made
 
-both_true : (a b : Bool) → (a && b) ≡ true → (a ≡ true) × (b ≡ true)
+pub both_true : (a b : Bool) → (a && b) ≡ true → (a ≡ true) × (b ≡ true)
 both_true true b e = (refl, e)
 both_true false b e = (e, cc)
 
-pub kept_taken : (before after : Index) (late more : List ℕ) (w : RewritesState) (knows moved : Bool) (places : List ℕ) (xs list : List Formula) → (knows ≡ true → KnowsRest before late xs) → FitsPool w xs
-    → ((key : List ℕ) → at_key after key ≡ cond (is_key_among key (old_keys w.changes)) None (at_key before key)) → (moved ≡ true → more ≡ late ++ w.places) → list ≡ rewritten_by w xs → places ≡ dangling_places list
-    → IsKept after false (knows && moved) more places list
-kept_taken before after late more w knows moved places xs list rest fits taken put made dangles = record {
+pub look_up_taken : (before after : Index) (late more : List ℕ) (w : RewritesState) (knows moved : Bool) (xs list : List Formula) → (knows ≡ true → KnowsRest before late xs) → FitsPool w xs
+    → ((key : List ℕ) → at_key after key ≡ cond (is_key_among key (old_keys w.changes)) None (at_key before key)) → (moved ≡ true → more ≡ late ++ w.places) → list ≡ rewritten_by w xs
+    → IsLookUp after false (knows && moved) more list
+look_up_taken before after late more w knows moved xs list rest fits taken put made = record {
   finds = λ e. cc;
   rest = λ e.
       let both = both_true knows moved e in
       subst (KnowsRest after more) (sym made) (taken_knows before after late more w xs (rest both.0) fits taken (put both.1));
-  dangles = dangles;
 }
 
-pub kept_late : (index : Index) (knows : Bool) (late places : List ℕ) (xs list : List Formula) → KnowsRest index late xs → late ≡ [] → places ≡ dangling_places xs → list ≡ xs → IsKept index true knows late places list
-kept_late index knows late places xs list rest none dangles same = record {
+pub look_up_late : (index : Index) (knows : Bool) (late : List ℕ) (xs list : List Formula) → KnowsRest index late xs → late ≡ [] → list ≡ xs → IsLookUp index true knows late list
+look_up_late index knows late xs list rest none same = record {
   finds = λ e. subst (KeepsPlaces index) (sym same) (knows_whole index xs (subst (λ l. KnowsRest index l xs) none rest));
   rest = λ e. subst (KnowsRest index late) (sym same) rest;
-  dangles = dangles ∙ ap dangling_places (sym same);
 }
 
-pub kept_anew : (index : Index) (knows : Bool) (late places : List ℕ) (xs list : List Formula) → KeepsPlaces index xs → places ≡ dangling_places xs → list ≡ xs → IsKept index true knows late places list
-kept_anew index knows late places xs list found dangles same = record {
+pub look_up_anew : (index : Index) (knows : Bool) (late : List ℕ) (xs list : List Formula) → KeepsPlaces index xs → list ≡ xs → IsLookUp index true knows late list
+look_up_anew index knows late xs list found same = record {
   finds = λ e. subst (KeepsPlaces index) (sym same) found;
   rest = λ e. subst (KnowsRest index late) (sym same) (whole_knows index late xs found);
-  dangles = dangles ∙ ap dangling_places (sym same);
 }
 
-pub kept_entries : (before after : Index) (is_whole knows : Bool) (late places more : List ℕ) (xs list : List Formula) → IsKept before is_whole knows late places xs → after.entries ≡ before.entries → more ≡ places → list ≡ xs → IsKept after is_whole knows late more list
-kept_entries before after is_whole knows late places more xs list kept e same_places same = record {
+pub look_up_entries : (before after : Index) (is_whole knows : Bool) (late : List ℕ) (xs list : List Formula) → IsLookUp before is_whole knows late xs → after.entries ≡ before.entries → list ≡ xs → IsLookUp after is_whole knows late list
+look_up_entries before after is_whole knows late xs list kept e same = record {
   finds = λ w. subst (KeepsPlaces after) (sym same) (record { finds = λ key. ap (lookup _) e ∙ (kept.finds w).finds key });
   rest = λ k. subst (KnowsRest after late) (sym same) (same_entries before after late xs e (kept.rest k));
-  dangles = same_places ∙ kept.dangles ∙ ap dangling_places (sym same);
 }

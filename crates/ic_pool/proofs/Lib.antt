@@ -1,6 +1,7 @@
 pub mod BackLemmas
 pub mod ByteLaws
 pub mod ChangeLemmas
+pub mod ChangeTopics
 pub mod CodeLaws
 pub mod CopyLemmas
 pub mod IndexLemmas
@@ -8,8 +9,11 @@ pub mod KeyLemmas
 pub mod LateLemmas
 pub mod ListedLemmas
 pub mod MentionLemmas
+pub mod MentionedLemmas
+pub mod PlaceLemmas
 pub mod PlacedLemmas
 pub mod Rebuilt
 pub mod RemadeLemmas
 pub mod RewriteLemmas
+pub mod TopicLemmas
 pub mod WriteLemmas

@@ -11,26 +11,27 @@ use Rattle.ic_pool.specs.Rewrites.{is_key_among, is_nothing, old_keys, places_of
 use Rattle.ic_pool.specs.declared.pool.rewrites.Replacement.{Replacement}
 use Rattle.ic_pool.proofs.CodeLaws.{code_determines}
 
+-- a number is no greater one, and no smaller one
+pub below : (n at : ℕ) → n < at → (b : Bool) → nat_eq n at ≡ b → nat_eq n at ≡ false
+below n at lt true e = let same = eqb-true n at e in absurd (omega arith)
+below n at lt false e = e
+
+pub above : (n at : ℕ) → at < n → (b : Bool) → nat_eq n at ≡ b → nat_eq n at ≡ false
+above n at lt true e = let same = eqb-true n at e in absurd (omega arith)
+above n at lt false e = e
+
 module _ (test : Formula → Bool) where
   -- the keys of those that pass
   abbrev pub keys_where : List Formula → List (List ℕ)
   keys_where [] = []
   keys_where (x ∷ xs) = if test x then code x ∷ keys_where xs else keys_where xs
 
-  apart : (n at : ℕ) → n < at → (b : Bool) → nat_eq n at ≡ b → nat_eq n at ≡ false
-  apart n at lt true e = let same = eqb-true n at e in absurd (omega arith)
-  apart n at lt false e = e
-
-  above : (n at : ℕ) → at < n → (b : Bool) → nat_eq n at ≡ b → nat_eq n at ≡ false
-  above n at lt true e = let same = eqb-true n at e in absurd (omega arith)
-  above n at lt false e = e
-
   none_below : (n at : ℕ) (xs : List Formula) → n < at → is_among n (places_from test at xs) ≡ false
   none_below n at [] lt = refl
   none_below n at (x ∷ xs) lt = after (test x) (none_below n (suc at) xs (omega arith))
     where
       after : (b : Bool) → is_among n (places_from test (suc at) xs) ≡ false → is_among n (cond b (at ∷ places_from test (suc at) xs) (places_from test (suc at) xs)) ≡ false
-      after true rest = ap₂ (λ a b. a || b) (apart n at lt (nat_eq n at) refl) rest
+      after true rest = ap₂ (λ a b. a || b) (below n at lt (nat_eq n at) refl) rest
       after false rest = rest
 
   passes_from : (at : ℕ) (xs : List Formula) (k n : ℕ) (x : Formula) → at + k ≡ n → slice_get xs k ≡ Some x → is_among n (places_from test at xs) ≡ test x

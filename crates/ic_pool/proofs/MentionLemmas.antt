@@ -31,10 +31,10 @@ module _ (is_sheet : SheetMention → Bool) (is_word : NameMention → Bool) (is
   abbrev some : Bound → Bool
   some = some_mention is_sheet is_word is_local
 
-  abbrev some_below : BoundKind → Bool
+  abbrev pub some_below : BoundKind → Bool
   some_below kind = some_step is_sheet is_word is_local (map-Tree SheetMention NameMention Bound BoundPair Bool Bool some (λ pair. some pair.value) kind)
 
-  some_node : (kind : BoundKind) → some_mention is_sheet is_word is_local (bound_node kind) ≡ some_below kind
+  pub some_node : (kind : BoundKind) → some_mention is_sheet is_word is_local (bound_node kind) ≡ some_below kind
   some_node kind =
       fold-roll-Tree SheetMention NameMention Bool Bool (some_step is_sheet is_word is_local) (λ pair. pair.value) kind
       ∙ ap (λ (g : BoundPair → Bool). some_step is_sheet is_word is_local (map-Tree SheetMention NameMention Bound BoundPair Bool Bool some g kind))

@@ -1,15 +1,25 @@
 -- Rewriting the formulas of a pool, one after another.
-use Rattle.std.proofs.Common.{◌≡◌, ◌<◌, ◌≤◌, ◌+◌, ℕ, suc, List, [], ◌∷◌, ◌++◌, Bool, true, false, cond, refl, sym, ap, ap₂, subst, ◌∙◌, map, length, take, drop, get_or, set, arith, append_assoc, append-nil, ◌⊎◌, inl, inr}
-use Rattle.std.proofs.lemmas.List.{drop_all, drop_more, length-drop, length-map, length-take, map_more, set_at, take_all, take_more}
-use Rattle.std.specs.List.{AllByRecursion}
+use Rattle.std.proofs.Common.{◌≡◌, ◌<◌, ◌≤◌, ◌+◌, ◌-◌, ℕ, zero, suc, List, [], ◌∷◌, ◌++◌, Bool, true, false, cond, ◌||◌, Option, Some, None, refl, sym, ap, ap₂, subst, ◌∙◌, map, length, take, drop, get_or, set, arith, append_assoc, append-nil, ◌⊎◌, inl, inr}
+use Rattle.std.specs.Prelude.{MatchOption, nat_eq}
+use Rattle.std.specs.BTreeMap.{is_at}
+use Rattle.std.specs.BTreeSet.{BTreeSet}
+use Rattle.std.specs.Cmp.{ranked, unsigned_tied}
+use Rattle.std.specs.List.{AllByRecursion, list_any, slice_get}
+use Rattle.std.specs.List.Sorted.{IsStrictlySortedBy}
+use Rattle.std.specs.Ordering.{nat_cmp}
+use Rattle.std.specs.declared.cmp.Ordering.TheVariants.{Less}
+use Rattle.std.proofs.lemmas.Bool.{cases_lt, eqb-true}
+use Rattle.std.proofs.lemmas.List.{drop_all, drop_more, length-map, length-take, map_more, set_at, take_all, take_more}
+use Rattle.std.proofs.lemmas.Option.{get_or_from_slice_get, slice_get_within}
 use Rattle.ic_laws.specs.declared.tree.Formula.{Formula}
 use Rattle.ic_pool.specs.Code.{code}
-use Rattle.ic_pool.specs.Mentions.{has_dangling}
-use Rattle.ic_pool.specs.Pool.{dangling_from, dangling_places, is_among, places_where}
-use Rattle.ic_pool.specs.Rewrites.{FitsPool, IsNoted, RewritesState, changed_by, is_key_among, old_keys, places_of, replaced_from, rewritten_by}
+use Rattle.ic_pool.specs.MentionPlaces.{HasPassing}
+use Rattle.ic_pool.specs.Pool.{is_among, places_where}
+use Rattle.ic_pool.specs.Rewrites.{FitsPool, IsNoted, IsNotedAt, RewritesState, changed_by, is_key_among, old_keys, places_of, replaced_from, rewritten_by}
 use Rattle.ic_pool.specs.declared.pool.rewrites.Replacement.{Replacement}
 use Rattle.ic_pool.proofs.IndexLemmas.{places_from-push}
-use Rattle.ic_pool.proofs.ListedLemmas.{key_passes, keys_where, passes_there, replaced_from-push, replaced_keys, replaced_places}
+use Rattle.ic_pool.proofs.KeyLemmas.{clash}
+use Rattle.ic_pool.proofs.ListedLemmas.{above, below, key_passes, keys_where, passes_there, replaced_from-push, replaced_keys, replaced_places}
 
 -- a change behind others is made after them
 changed_by-push : (changes : List Replacement) (change : Replacement) (formulas : List Formula) → changed_by (changes ++ change ∷ []) formulas ≡ set (changed_by changes formulas) change.at change.formula
@@ -28,7 +38,6 @@ module _ (f : Formula → Formula) (test : Formula → Bool) (formulas : List Fo
   pub record RewrittenTo (i : ℕ) (s : RewritesState) : Type 0 where
     pub made : rewritten_by s formulas ≡ map f (take i formulas) ++ drop i formulas
     pub within : AllByRecursion Within s.changes
-    pub dangles : s.dangling ≡ dangling_places (map f (take i formulas))
     pub changes : s.changes ≡ replaced_from test f 0 (take i formulas)
     pub places : s.places ≡ places_where test (take i formulas)
 
@@ -53,7 +62,6 @@ module _ (f : Formula → Formula) (test : Formula → Bool) (formulas : List Fo
         listed = listed;
         fits = record {
           within = done.within;
-          dangles = done.dangles ∙ ap (λ xs. dangling_places (map f xs)) all ∙ ap dangling_places (sym made);
           places = done.places ∙ ap (places_where test) all ∙ sym listed;
           together = λ at x e. ap (is_key_among (code x)) keys ∙ key_passes test formulas at x e ∙ sym (ap (is_among at) listed ∙ passes_there test formulas at x e);
         };
@@ -104,79 +112,159 @@ module _ (f : Formula → Formula) (test : Formula → Bool) (formulas : List Fo
     rewritten_step done noted = record {
       made = step_made done (either noted (test x) refl);
       within = step_within done (either noted (test x) refl);
-      dangles = noted.place ∙ ap₂ (λ places n. places ++ cond (has_dangling (f x)) (n ∷ []) []) done.dangles (sym (let e : 0 + length front ≡ i = omega (arith, length-front) in e))
-          ∙ sym (ap dangling_places more ∙ places_from-push has_dangling 0 front (f x));
       changes = noted.change ∙ ap₂ (λ changes n. changes ++ cond (test x) (record { at = n; formula = f x; old_key = code x } ∷ []) []) done.changes counted
           ∙ sym (ap (replaced_from test f 0) one_more ∙ replaced_from-push test f 0 (take i formulas) x);
       places = noted.listed ∙ ap₂ (λ ps n. ps ++ cond (test x) (n ∷ []) []) done.places counted ∙ sym (ap (places_where test) one_more ∙ places_from-push test 0 (take i formulas) x);
     }
 
-  -- ---- where formulas in which all was found stay as they are
+  -- ---- where those that pass stand at some places
 
-  -- up to the next place of the list, and what is left of the list then
-  pub record NextPlace (at : ℕ) (places : List ℕ) (s : RewritesState) : Type 0 where
-    pub done : RewrittenTo at s
-    pub below : at < length formulas
-    pub left : dangling_from (suc at) (drop (suc at) formulas) ≡ places
+  -- places in ascending order, from one on
+  abbrev AscendFrom : ℕ → List ℕ → Type 0
+  AscendFrom i [] = Unit {0}
+  AscendFrom i (p ∷ ps) = (i ≤ p) × AscendFrom (suc p) ps
 
-  module _ (spares : (x : Formula) → has_dangling x ≡ false → (f x ≡ x) × (test x ≡ false)) where
-    below_end : (i : ℕ) (x : Formula) (xs : List Formula) → drop i formulas ≡ x ∷ xs → i < length formulas
-    below_end i x xs e = let counts : length (drop i formulas) ≡ length (x ∷ xs) = ap length e in omega (arith, length-drop i formulas, counts)
+  -- those of the formulas that pass, from one place on, are among the places that are left, which ascend
+  pub record Awaits (i : ℕ) (ps : List ℕ) : Type 0 where
+    pub ascend : AscendFrom i ps
+    pub passing : (k : ℕ) (x : Formula) → i ≤ k → slice_get formulas k ≡ Some x → test x ≡ true → is_among k ps ≡ true
 
-    stays : (i : ℕ) (x : Formula) (s : RewritesState) → has_dangling x ≡ false → f x ≡ x → test x ≡ false → IsNoted i x (f x) (test x) s s
-    stays i x s none same fails = record {
+  -- the formulas up to some place are rewritten, and the others await
+  pub record RewrittenSoFar (ps : List ℕ) (s : RewritesState) : Type 0 where
+    pub i : ℕ
+    pub done : RewrittenTo i s
+    pub awaits : Awaits i ps
+
+  same_test : (k : ℕ) (ks : List ℕ) → is_among k ks ≡ list_any (is_at (nat_cmp k)) ks
+  same_test k [] = refl
+  same_test k (q ∷ ks) = ap₂ (λ a b. a || b) (sym (unsigned_tied k q)) (same_test k ks)
+
+  ascend_later : (i j : ℕ) (ps : List ℕ) → i ≤ j → AscendFrom j ps → AscendFrom i ps
+  ascend_later i j [] le h = tt
+  ascend_later i j (p ∷ ps) le h = (let first = h.0 in omega (arith, le, first), h.1)
+
+  ascend_after : (k : ℕ) (ks : List ℕ) → AllByRecursion (λ q. nat_cmp k q ≡ Less) ks → IsStrictlySortedBy nat_cmp ks → AscendFrom (suc k) ks
+  unfolding IsStrictlySortedBy
+  ascend_after k [] less sorted = tt
+  ascend_after k (q ∷ ks) less sorted = (let lt = ranked k q Less (sym less.0) in omega (arith, lt), ascend_after q ks sorted.0 sorted.1)
+
+  ascend_sorted : (ks : List ℕ) → IsStrictlySortedBy nat_cmp ks → AscendFrom 0 ks
+  unfolding IsStrictlySortedBy
+  ascend_sorted [] sorted = tt
+  ascend_sorted (k ∷ ks) sorted = (omega arith, ascend_after k ks sorted.0 sorted.1)
+
+  module _ (leaves : (k : ℕ) (x : Formula) → slice_get formulas k ≡ Some x → test x ≡ false → f x ≡ x) where
+    stays : (i : ℕ) (x : Formula) (s : RewritesState) → f x ≡ x → test x ≡ false → IsNoted i x (f x) (test x) s s
+    stays i x s same fails = record {
       same = λ e. same;
       change = sym (append-nil s.changes) ∙ ap (λ b. s.changes ++ cond b (record { at = i; formula = f x; old_key = code x } ∷ []) []) (sym fails);
       listed = sym (append-nil s.places) ∙ ap (λ b. s.places ++ cond b (i ∷ []) []) (sym fails);
-      place = sym (append-nil s.dangling) ∙ ap (λ b. s.dangling ++ cond b (i ∷ []) []) (sym (ap has_dangling same ∙ none));
     }
 
-    -- past one that stays
-    past_one : (i : ℕ) (x : Formula) (xs : List Formula) (s : RewritesState) → drop i formulas ≡ x ∷ xs → has_dangling x ≡ false → RewrittenTo i s → RewrittenTo (suc i) s
-    past_one i x xs s e none done =
-        let below = below_end i x xs e in
-        let parts : x ∷ xs ≡ get_or formulas i x ∷ drop (i + 1) formulas = sym e ∙ drop_more formulas i x below in
-        let item : x ≡ get_or formulas i x = cc in
+    item_at : (xs : List Formula) (i : ℕ) → i < length xs → (x : Formula) × (slice_get xs i ≡ Some x)
+    item_at [] i lt = absurd (omega arith)
+    item_at (x ∷ xs) zero lt = (x, refl)
+    item_at (x ∷ xs) (suc i) lt = item_at xs i (omega arith)
+
+    -- past some that fail
+    past : (n i : ℕ) (s : RewritesState) → RewrittenTo i s → i + n ≤ length formulas → ((k : ℕ) (x : Formula) → i ≤ k → k < i + n → slice_get formulas k ≡ Some x → test x ≡ false) → RewrittenTo (i + n) s
+    past zero i s done within fail = subst (λ k. RewrittenTo k s) (let e : i ≡ i + 0 = omega arith in e) done
+    past (suc n) i s done within fail =
+        let below : i < length formulas = omega (arith, within) in
+        let item = item_at formulas i below in
+        let fails = fail i item.0 (omega arith) (omega arith) item.1 in
+        let at : item.0 ≡ get_or formulas i item.0 = sym (get_or_from_slice_get formulas i item.0 item.0 item.1) in
         let is_next : i + 1 ≡ suc i = omega arith in
-        rewritten_step i (suc i) x s s is_next below item done (stays i x s none (spares x none).0 (spares x none).1)
+        let one = rewritten_step i (suc i) item.0 s s is_next below at done (stays i item.0 s (leaves i item.0 item.1 fails) fails) in
+        let rest = past n (suc i) s one (omega (arith, within)) (λ k x le lt. fail k x (omega (arith, le)) (omega (arith, lt))) in
+        subst (λ k. RewrittenTo k s) (let e : suc i + n ≡ i + suc n = omega arith in e) rest
 
-    tail_of : (i : ℕ) (x : Formula) (xs : List Formula) → drop i formulas ≡ x ∷ xs → drop (suc i) formulas ≡ xs
-    tail_of i x xs e =
-        let parts : x ∷ xs ≡ get_or formulas i x ∷ drop (i + 1) formulas = sym e ∙ drop_more formulas i x (below_end i x xs e) in
-        let moved : drop (i + 1) formulas ≡ drop (suc i) formulas = ap (λ n. drop n formulas) (let n : i + 1 ≡ suc i = omega arith in n) in
-        cc
+    past_to : (i at : ℕ) (s : RewritesState) → RewrittenTo i s → i ≤ at → at ≤ length formulas → ((k : ℕ) (x : Formula) → i ≤ k → k < at → slice_get formulas k ≡ Some x → test x ≡ false) → RewrittenTo at s
+    past_to i at s done le within fail =
+        let whole : i + (at - i) ≡ at = omega (arith, le) in
+        subst (λ k. RewrittenTo k s) whole
+        (past (at - i) i s done (omega (arith, whole, within)) (λ k x from to. fail k x from (omega (arith, whole, to))))
 
-    next_place : (i : ℕ) (xs : List Formula) (at : ℕ) (places : List ℕ) (s : RewritesState) → drop i formulas ≡ xs → dangling_from i xs ≡ at ∷ places → RewrittenTo i s → NextPlace at places s
-    next_place i [] at places s e left done = cc
-    next_place i (x ∷ xs) at places s e left done =
-        by_test (has_dangling x) refl left (λ is found. next_place (suc i) xs at places s (tail_of i x xs e) found (past_one i x xs s e is done))
+    none_passes : (i : ℕ) (ps : List ℕ) → Awaits i ps → (k : ℕ) (x : Formula) → i ≤ k → slice_get formulas k ≡ Some x → is_among k ps ≡ false → test x ≡ false
+    none_passes i ps awaits k x from is other = by_test (test x) refl
       where
-        by_test : (b : Bool) → has_dangling x ≡ b → cond b (i ∷ dangling_from (suc i) xs) (dangling_from (suc i) xs) ≡ at ∷ places
-            → (has_dangling x ≡ false → dangling_from (suc i) xs ≡ at ∷ places → NextPlace at places s) → NextPlace at places s
-        by_test true is found further =
-            let here : i ≡ at = cc in
-            let others : dangling_from (suc i) xs ≡ places = cc in
-            subst (λ n. NextPlace n places s) here
-            (record { done = done; below = below_end i x xs e; left = ap (λ ys. dangling_from (suc i) ys) (tail_of i x xs e) ∙ others })
-        by_test false is found further = further is found
+        by_test : (b : Bool) → test x ≡ b → test x ≡ false
+        by_test false fails = fails
+        by_test true passes = absurd (clash (is_among k ps) (awaits.passing k x from is passes) other)
 
-    -- to the end, where no place is left
-    no_place : (i : ℕ) (xs : List Formula) (s : RewritesState) → drop i formulas ≡ xs → dangling_from i xs ≡ [] → RewrittenTo i s → (n : ℕ) × (length formulas ≤ n) × RewrittenTo n s
-    no_place i [] s e left done = (i, omega (arith, length-drop i formulas, ap length e), done)
-    no_place i (x ∷ xs) s e left done =
-        by_test (has_dangling x) refl left (λ is found. no_place (suc i) xs s (tail_of i x xs e) found (past_one i x xs s e is done))
+    below_all : (i at k : ℕ) (ps : List ℕ) → AscendFrom at ps → k < at → is_among k ps ≡ false
+    below_all i at k [] h lt = refl
+    below_all i at k (p ∷ ps) h lt =
+        ap₂ (λ a b. a || b) (below k p (let le = h.0 in omega (arith, le, lt)) (nat_eq k p) refl) (below_all i (suc p) k ps h.1 (let le = h.0 in omega (arith, le, lt)))
+
+    not_here : (k p : ℕ) (ps : List ℕ) → nat_eq k p ≡ false → is_among k (p ∷ ps) ≡ true → is_among k ps ≡ true
+    not_here k p ps other e = sym (ap (λ b. b || is_among k ps) other) ∙ e
+
+    -- the first of the places that are left was looked at
+    pub one_looked : (left : List ℕ) (at : ℕ) (ps : List ℕ) (s t : RewritesState) → left ≡ at ∷ ps → RewrittenSoFar left s → IsNotedAt f test formulas at s t → RewrittenSoFar ps t
+    one_looked left at ps s t begins before noted = by_item (slice_get formulas at) refl noted
       where
-        by_test : (b : Bool) → has_dangling x ≡ b → cond b (i ∷ dangling_from (suc i) xs) (dangling_from (suc i) xs) ≡ []
-            → (has_dangling x ≡ false → dangling_from (suc i) xs ≡ [] → (n : ℕ) × (length formulas ≤ n) × RewrittenTo n s) → (n : ℕ) × (length formulas ≤ n) × RewrittenTo n s
-        by_test true is found further = cc
-        by_test false is found further = further is found
+        so_far : RewrittenSoFar (at ∷ ps) s
+        so_far = subst (λ qs. RewrittenSoFar qs s) begins before
 
-    -- the place that a list of places begins with
-    pub place_is_next : (i k at : ℕ) (places : List ℕ) (s : RewritesState) → RewrittenTo i s → dangling_from i (drop i formulas) ≡ drop k places → k < length places → at ≡ get_or places k 0 → NextPlace at (drop (k + 1) places) s
-    place_is_next i k at places s done left below item =
-        next_place i (drop i formulas) at (drop (k + 1) places) s refl (left ∙ drop_more places k 0 below ∙ ap (λ n. n ∷ drop (k + 1) places) (sym item)) done
+        here : RewrittenTo so_far.i s
+        here = so_far.done
 
-    pub places_end : (i k : ℕ) (places : List ℕ) (s : RewritesState) → RewrittenTo i s → dangling_from i (drop i formulas) ≡ drop k places → length places ≤ k → Rewritten s
-    places_end i k places s done left end =
-        let last = no_place i (drop i formulas) s refl (left ∙ drop_all k places end) done in
-        rewritten_end last.0 s last.2 last.1
+        from : so_far.i ≤ at
+        from = so_far.awaits.ascend.0
+
+        further : AscendFrom (suc at) ps
+        further = so_far.awaits.ascend.1
+
+        by_item : (o : Option Formula) → slice_get formulas at ≡ o → MatchOption o (t ≡ s) (λ x. IsNoted at x (f x) (test x) s t) → RewrittenSoFar ps t
+        by_item None is same = record {
+          i = so_far.i;
+          done = subst (RewrittenTo so_far.i) (sym same) here;
+          awaits = record {
+            ascend = ascend_later so_far.i (suc at) ps (omega (arith, from)) further;
+            passing = λ k x le e passes. not_here k at ps (apart_from k x e (nat_eq k at) refl) (so_far.awaits.passing k x le e passes);
+          };
+        }
+          where
+            apart_from : (k : ℕ) (x : Formula) → slice_get formulas k ≡ Some x → (b : Bool) → nat_eq k at ≡ b → nat_eq k at ≡ false
+            apart_from k x e true equal = let no : None ≡ Some x = sym is ∙ ap (slice_get formulas) (sym (eqb-true k at equal)) ∙ e in cc
+            apart_from k x e false other = other
+        by_item (Some x) is seen =
+            let below = slice_get_within formulas at x is in
+            let arrived = past_to so_far.i at s here from (omega (arith, below)) (λ k y le lt e. none_passes so_far.i (at ∷ ps) so_far.awaits k y le e (below_all 0 at k (at ∷ ps) (omega arith, further) lt)) in
+            let item : x ≡ get_or formulas at x = sym (get_or_from_slice_get formulas at x x is) in
+            let is_next : at + 1 ≡ suc at = omega arith in
+            record {
+              i = suc at;
+              done = rewritten_step at (suc at) x s t is_next below item arrived seen;
+              awaits = record {
+                ascend = further;
+                passing = λ k y le e passes. not_here k at ps (above k at (omega (arith, le)) (nat_eq k at) refl) (so_far.awaits.passing k y (omega (arith, from, le)) e passes);
+              };
+            }
+
+    -- and none is left
+    pub all_looked : (left : List ℕ) (s : RewritesState) → left ≡ [] → RewrittenSoFar left s → Rewritten s
+    all_looked left s none before = by_end (cases_lt so_far.i (length formulas))
+      where
+        so_far : RewrittenSoFar [] s
+        so_far = subst (λ qs. RewrittenSoFar qs s) none before
+
+        by_end : (so_far.i < length formulas) ⊎ (length formulas ≤ so_far.i) → Rewritten s
+        by_end (inr end) = rewritten_end so_far.i s so_far.done end
+        by_end (inl more) =
+            rewritten_end (length formulas) s
+            (past_to so_far.i (length formulas) s so_far.done (omega (arith, more)) (omega arith) (λ k x le lt e. none_passes so_far.i [] so_far.awaits k x le e refl)) (omega arith)
+
+  -- before the first
+  pub none_looked : (places : BTreeSet ℕ) (left : List ℕ) (s : RewritesState) → left ≡ places.keys → s.changes ≡ [] → s.places ≡ [] → IsStrictlySortedBy nat_cmp places.keys → HasPassing test places formulas → RewrittenSoFar left s
+  none_looked places left s all no_changes no_places sorted has = subst (λ ks. RewrittenSoFar ks s) (sym all) (record {
+    i = 0;
+    done = record {
+      made = ap (λ changes. changed_by changes formulas) no_changes;
+      within = subst (AllByRecursion Within) (sym no_changes) tt;
+      changes = no_changes;
+      places = no_places;
+    };
+    awaits = record { ascend = ascend_sorted places.keys sorted; passing = λ k x le e passes. same_test k places.keys ∙ has k x e passes };
+  })

@@ -69,9 +69,15 @@ dangling_from at formulas = places_from has_dangling at formulas
 abbrev pub dangling_places : List Formula → List ℕ
 dangling_places formulas = dangling_from 0 formulas
 
--- What a pool keeps beside its formulas is true of them: a look-up that is whole, or knows all but those at the late
--- places; and the list of places.
-pub record IsKept (index : BTreeMap (List ℕ) ℕ) (is_whole knows_rest : Bool) (late dangling : List ℕ) (formulas : List Formula) : Type 0 where
+-- how many formulas mention something that wasn't found
+abbrev pub dangling_count : List Formula → ℕ
+dangling_count formulas = length (dangling_places formulas)
+
+-- what one formula adds to that
+abbrev pub dangling_weight : Formula → ℕ
+dangling_weight formula = if has_dangling formula then 1 else 0
+
+-- what a look-up that is whole, or knows all but those at the late places, has is true
+pub record IsLookUp (index : BTreeMap (List ℕ) ℕ) (is_whole knows_rest : Bool) (late : List ℕ) (formulas : List Formula) : Type 0 where
   pub finds : is_whole ≡ true → KeepsPlaces index formulas
   pub rest : knows_rest ≡ true → KnowsRest index late formulas
-  pub dangles : dangling ≡ dangling_places formulas

@@ -2,6 +2,7 @@
 use Rattle.std.specs.Prelude.{◌≡◌, ℕ, List, Bool, false, Option, Some, None, if◌then◌else◌}
 use Rattle.ic_laws.specs.declared.tree.Formula.{Formula}
 use Rattle.ic_pool.specs.Rewrites.{replaced_from}
+use Rattle.ic_pool.specs.Topics.{mentions_some}
 use Rattle.ic_pool.specs.declared.pool.rewrites.Replacement.{Replacement}
 
 -- formulas made anew, by the sheet that their words are looked up from, or none: which of them, and what they become
@@ -20,3 +21,7 @@ touched_becomes made scope formula = if made.touches scope formula then Some (ma
 -- the formulas that are touched, with what they become and the keys that they had, where the first stands at this place
 abbrev pub touched_from : Remade → Option ℕ → ℕ → List Formula → List Replacement
 touched_from made scope at formulas = replaced_from (made.touches scope) (made.becomes scope) at formulas
+
+-- a formula that mentions nothing with one of these topics isn't touched
+abbrev pub TouchesAbout : Remade → List ℕ → Type 0
+TouchesAbout made topics = (scope : Option ℕ) (formula : Formula) → mentions_some topics formula ≡ false → made.touches scope formula ≡ false

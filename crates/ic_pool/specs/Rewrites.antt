@@ -1,19 +1,17 @@
 -- What is prepared before the formulas of a pool are rewritten.
-use Rattle.std.specs.Prelude.{◌≡◌, ◌<◌, ℕ, suc, List, [], ◌∷◌, ◌++◌, Bool, true, false, Option, Some, bytes_eq, length, map, set, if◌then◌else◌}
+use Rattle.std.specs.Prelude.{◌≡◌, ◌<◌, ℕ, suc, List, [], ◌∷◌, ◌++◌, Bool, true, false, Option, Some, MatchOption, bytes_eq, length, map, set, if◌then◌else◌}
 use Rattle.std.specs.List.{AllByRecursion, list_any, slice_get}
 use Rattle.ic_laws.specs.Changes.{Change}
 use Rattle.ic_laws.specs.declared.tree.Formula.{Formula}
 use Rattle.ic_pool.specs.Code.{code}
-use Rattle.ic_pool.specs.Mentions.{has_dangling, is_changed_by}
-use Rattle.ic_pool.specs.Pool.{dangling_places, is_among, places_where}
+use Rattle.ic_pool.specs.Mentions.{is_changed_by}
+use Rattle.ic_pool.specs.Pool.{is_among, places_where}
 use Rattle.ic_pool.specs.declared.pool.rewrites.Replacement.{Replacement}
 
--- the formulas that become others, their places once more, and the places of the formulas that will then mention something
--- that isn't found
+-- the formulas that become others, and their places once more
 pub record RewritesState : Type 0 where
   pub changes : List Replacement
   pub places : List ℕ
-  pub dangling : List ℕ
 
 -- each change puts its formula at its place
 abbrev pub changed_by : List Replacement → List Formula → List Formula
@@ -46,10 +44,9 @@ abbrev pub is_key_among : List ℕ → List (List ℕ) → Bool
 is_key_among key keys = list_any (bytes_eq key) keys
 
 -- It was prepared for these formulas: the places are theirs, and so are the keys, where equal formulas become others
--- together; and the list of what is missed is right for what they become.
+-- together.
 pub record FitsPool (rewrites : RewritesState) (formulas : List Formula) : Type 0 where
   pub within : AllByRecursion (λ change. change.at < length formulas) rewrites.changes
-  pub dangles : rewrites.dangling ≡ dangling_places (rewritten_by rewrites formulas)
   pub places : rewrites.places ≡ places_of rewrites.changes
   pub together : (at : ℕ) (formula : Formula) → slice_get formulas at ≡ Some formula
       → is_key_among (code formula) (old_keys rewrites.changes) ≡ is_among at (places_of rewrites.changes)
@@ -64,10 +61,12 @@ replaced_from test becomes at (x ∷ xs) =
 abbrev pub ListsChanged : Change → Option ℕ → List Formula → RewritesState → Type 0
 ListsChanged change scope formulas rewrites = places_of rewrites.changes ≡ places_where (is_changed_by change scope) formulas
 
--- The formula at this place was looked at. It stays, or its change stands behind the others; and its place does where what
--- it becomes mentions something that isn't found.
+-- The formula at this place was looked at. It stays, or its change stands behind the others.
 pub record IsNoted (at : ℕ) (formula becomes : Formula) (changes : Bool) (before after : RewritesState) : Type 0 where
   pub same : changes ≡ false → becomes ≡ formula
   pub change : after.changes ≡ before.changes ++ (if changes then record { at = at; formula = becomes; old_key = code formula } ∷ [] else [])
   pub listed : after.places ≡ before.places ++ (if changes then at ∷ [] else [])
-  pub place : after.dangling ≡ before.dangling ++ (if has_dangling becomes then at ∷ [] else [])
+
+-- the same where no formula may stand at this place: then nothing has changed
+abbrev pub IsNotedAt : (Formula → Formula) → (Formula → Bool) → List Formula → ℕ → RewritesState → RewritesState → Type 0
+IsNotedAt becomes test formulas at before after = MatchOption (slice_get formulas at) (after ≡ before) (λ formula. IsNoted at formula (becomes formula) (test formula) before after)

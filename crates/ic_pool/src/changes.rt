@@ -1,9 +1,10 @@
 //! What a change of the sheets or the definitions of a book does to its formulas.
-ghost use Rattle.std.specs.Prelude.{◌≡◌, IfOk, is_some};
+ghost use Rattle.std.specs.Prelude.{◌≡◌, [], ◌∷◌, IfOk, is_some};
 ghost use Rattle.std.specs.Option.{unwrap_or};
 ghost use Rattle.ic_laws.specs.Changes as laws;
 ghost use Rattle.ic_laws.specs.Changes.{changed_local, changed_sheet, changed_word, changes_local, changes_sheet, changes_word};
 ghost use Rattle.ic_pool.specs.Mentions.{formula_after, is_changed_by};
+ghost use Rattle.ic_pool.specs.Topics.{SparesOthers};
 
 mod definitions;
 mod sheets;
@@ -19,6 +20,10 @@ use std::alloc::Global;
 pub trait BookChange {
     /// The mentions that it changes, and what they become.
     ghost change: { Self → laws.Change };
+
+    /// A topic that each formula mentions which it changes.
+    fn topic(&self) -> u64
+        ensures { SparesOthers (change self.now) (result ∷ []) };
 
     /// Whether it changes the sheet of a reference.
     fn changes_sheet(&self, mention: &SheetMention) -> bool

@@ -13,10 +13,12 @@ mod code;
 mod copies;
 mod key;
 mod law;
+mod mention_index;
 mod mentions;
 mod pool;
 mod remaking;
 mod steps;
+mod topics;
 
 pub use changes::{
     BookChange, DefinitionAdded, DefinitionGone, SheetGone, SheetNamed, changed_formula, same_key,

@@ -2,21 +2,24 @@ ghost use Rattle.std.specs.Prelude.{◌≡◌, ◌≤◌, ◌+◌, ◌<◌, ◌&
 ghost use Rattle.std.specs.List.{AllByRecursion, slice_get};
 ghost use Rattle.ic_laws.specs.declared.tree.Formula.{Formula};
 ghost use Rattle.ic_pool.specs.Code.{code};
-ghost use Rattle.ic_pool.specs.Mentions.{SparesFound, formula_after};
+ghost use Rattle.ic_pool.specs.MentionPlaces.{HasPassing};
+ghost use Rattle.ic_pool.specs.Mentions.{formula_after};
 ghost use Rattle.ic_pool.specs.Remade.{LeavesUntouched, touched_from};
 ghost use Rattle.ic_pool.specs.Rewrites.{FitsPool, ListsChanged, changes_nothing, rewritten_by};
 ghost use Rattle.ic_pool.specs.Pool.{EndsWithNew, IsPlaced, dangling_places, first_place};
+ghost use Rattle.ic_pool.specs.Topics.{mentions_some};
 
 mod index;
 mod rewrites;
 
-use crate::{BookChange, Key, Remaking, Steps, copy_formula, has_dangling, key_of};
+use crate::mention_index::MentionIndex;
+use crate::{BookChange, Key, Remaking, Steps, copy_formula, key_of};
 use ic_laws::{Formula, OutOfMemory};
-use index::{dangling_in, index_of, put_late};
+use index::{all_places, dangling_in, dangling_weight, index_of, put_late, renewed};
 pub use rewrites::{Replacement, Rewrites};
-use rewrites::{rewrites_at, rewrites_of, rewrites_remade};
+use rewrites::{rewrites_at, rewrites_remade};
 use std::alloc::Global;
-use std::collections::{BTreeMap, LinkedList};
+use std::collections::{BTreeMap, BTreeSet, LinkedList};
 use std::marker::{Brand, Model};
 use std::sync::ledger::{Blank, Ledger};
 
@@ -31,8 +34,12 @@ pub struct Pool {
     /// Whether the look-up has all formulas but those at the late places.
     knows_rest: bool,
     late: LinkedList<usize>,
-    /// The places of the formulas that mention something that wasn't found.
-    dangling: Vec<usize>,
+    /// Where they mention what, so that a change looks at those alone that mention what it is about.
+    mentions: MentionIndex,
+    /// Whether that has each formula.
+    knows_mentions: bool,
+    /// How many formulas mention something that wasn't found.
+    dangling: usize,
 }
 
 impl Drop for Pool {
@@ -44,18 +51,21 @@ impl Drop for Pool {
             is_whole: _,
             knows_rest: _,
             late,
-            dangling,
+            mentions,
+            knows_mentions: _,
+            dangling: _,
         } = self;
         drop(alloc);
         drop(formulas);
         drop(index);
         drop(late);
-        drop(dangling);
+        drop(mentions);
     }
 }
 
 impl Model for Pool {
-    ghost use Rattle.ic_pool.specs.Pool.{PoolState, IsKept};
+    ghost use Rattle.ic_pool.specs.Kept.{IsKept};
+    ghost use Rattle.ic_pool.specs.Pool.{PoolState};
 
     ghost Value = { PoolState };
 
@@ -66,7 +76,7 @@ impl Model for Pool {
 
     ghost view = { λ p. record { formulas = p.formulas.items; is_whole = p.is_whole } };
 
-    ghost invariant = { λ p. IsKept p.index p.is_whole p.knows_rest p.late p.dangling.items p.formulas.items };
+    ghost invariant = { λ p. IsKept p.index p.is_whole p.knows_rest p.late p.mentions p.knows_mentions p.dangling p.formulas.items };
 }
 
 impl Pool {
@@ -82,7 +92,9 @@ impl Pool {
             is_whole: true,
             knows_rest: true,
             late: LinkedList::new(alloc),
-            dangling: Vec::new(alloc),
+            mentions: MentionIndex::new(alloc),
+            knows_mentions: true,
+            dangling: 0,
         }
     }
 
@@ -91,7 +103,8 @@ impl Pool {
         ensures { IfOk result (λ p. p
             ≡ record { formulas = formulas.items; is_whole = false }) }
     {
-        let dangling = dangling_in(alloc, &formulas)?;
+        let mentions = MentionIndex::of(alloc, &formulas)?;
+        let dangling = dangling_in(&formulas);
         Ok(Pool {
             alloc,
             formulas,
@@ -99,6 +112,8 @@ impl Pool {
             is_whole: false,
             knows_rest: false,
             late: LinkedList::new(alloc),
+            mentions,
+            knows_mentions: true,
             dangling,
         })
     }
@@ -128,7 +143,7 @@ impl Pool {
     pub fn dangling_count(&self) -> usize
         ensures { result ≡ length (dangling_places self.now.formulas) }
     {
-        self.dangling.len()
+        self.dangling
     }
 
     /// Makes its look-up whole, in one step for each formula that it lacks, at most one for each formula; where it is whole
@@ -239,9 +254,7 @@ impl Pool {
     {
         self.index.remove(key);
         if let Some(formula) = self.formulas.pop() {
-            if has_dangling(&formula) {
-                let _ = self.dangling.pop();
-            }
+            self.dangling -= dangling_weight(&formula);
         }
     }
 
@@ -257,22 +270,8 @@ impl Pool {
         ensures listed { IfOk result (ListsChanged (C.change change.now) scope self.now.formulas) }
         ensures fits { IfOk result (λ w. FitsPool w self.now.formulas) }
     {
-        rewrites_of(self.alloc, &self.formulas, change, scope)
-    }
-
-    /// The same for a change that leaves each formula in which all was found: it looks at the others alone.
-    pub fn prepare_dangling<C: BookChange>(
-        &self,
-        change: &C,
-        scope: Option<u32>,
-    ) -> Result<Rewrites, OutOfMemory>
-        requires { SparesFound (C.change change.now) scope }
-        ensures made { IfOk result (λ w. rewritten_by w self.now.formulas
-            ≡ map (formula_after (C.change change.now) scope) self.now.formulas) }
-        ensures listed { IfOk result (ListsChanged (C.change change.now) scope self.now.formulas) }
-        ensures fits { IfOk result (λ w. FitsPool w self.now.formulas) }
-    {
-        rewrites_at(self.alloc, &self.formulas, &self.dangling, change, scope)
+        let places = self.places_of(&[change.topic()])?;
+        rewrites_at(self.alloc, &self.formulas, &places, change, scope)
     }
 
     /// The same for formulas that are made anew, if the rule leaves each that it doesn't touch.
@@ -288,19 +287,32 @@ impl Pool {
             ≡ touched_from (R.made remaking.now) scope 0 self.now.formulas) }
         ensures fits { IfOk result (λ w. FitsPool w self.now.formulas) }
     {
-        rewrites_remade(self.alloc, &self.formulas, remaking, scope)
+        let (one, other) = remaking.topics();
+        let places = self.places_of(&[one, other])?;
+        rewrites_remade(self.alloc, &self.formulas, &places, remaking, scope)
+    }
+
+    /// The places of the formulas that mention something with one of these topics, and maybe others.
+    fn places_of(&self, topics: &[u64]) -> Result<BTreeSet<usize>, OutOfMemory>
+        ensures { IfOk result (λ places.
+            HasPassing (mentions_some topics.now) places self.now.formulas) }
+    {
+        if self.knows_mentions {
+            self.mentions.places_of(topics)
+        } else {
+            all_places(self.alloc, self.formulas.len())
+        }
     }
 
     /// Rewrites its formulas, each in its place, also where two become equal. Where some formula becomes another the
-    /// look-up lacks those that did, until `make_whole` is called; else it stays. It takes no memory.
+    /// look-up lacks those that did, until `make_whole` is called; else it stays. It needs no memory: where there is none
+    /// for the index by mention, later changes look at all formulas.
     pub fn apply(&mut self, rewrites: Rewrites)
         requires { FitsPool rewrites self.old.formulas }
         ensures formulas { self.new.formulas ≡ rewritten_by rewrites self.old.formulas }
         ensures whole { self.new.is_whole ≡ (self.old.is_whole && changes_nothing rewrites) }
     {
-        if rewrites.is_empty() {
-            self.dangling = rewrites.put(&mut self.formulas);
-        } else {
+        if !rewrites.is_empty() {
             self.rewrite(rewrites);
         }
     }
@@ -315,7 +327,14 @@ impl Pool {
         rewrites.take_out(&mut self.index);
         self.knows_rest &= rewrites.move_places(&mut self.late);
         self.is_whole = false;
-        self.dangling = rewrites.put(&mut self.formulas);
+        self.knows_mentions &= rewrites.note_in(&mut self.mentions).is_ok();
+        self.dangling = rewrites.put(&mut self.formulas, self.dangling);
+        self.knows_mentions = renewed(
+            self.alloc,
+            &self.formulas,
+            &mut self.mentions,
+            self.knows_mentions,
+        );
     }
 
     /// The first place of a formula with this key.
@@ -337,14 +356,12 @@ impl Pool {
         ensures err { OnErr result (self.new ≡ self.old) }
     {
         let at = self.len();
-        let dangles = has_dangling(&formula);
+        let weight = dangling_weight(&formula);
+        self.mentions.note(at, &formula)?;
         self.formulas.reserve(1)?;
-        self.dangling.reserve(usize::from(dangles))?;
         self.index.insert(key, at)?;
         self.formulas.push_reserved(formula);
-        if dangles {
-            self.dangling.push_reserved(at);
-        }
+        self.dangling += weight;
         Ok(at)
     }
 }

@@ -1,6 +1,6 @@
 //! Formulas that are made anew by a rule of the caller's.
-ghost use Rattle.std.specs.Prelude.{◌≡◌, IfOk};
-ghost use Rattle.ic_pool.specs.Remade.{Remade, touched_becomes};
+ghost use Rattle.std.specs.Prelude.{◌≡◌, [], ◌∷◌, IfOk};
+ghost use Rattle.ic_pool.specs.Remade.{Remade, TouchesAbout, touched_becomes};
 
 use ic_laws::{Formula, OutOfMemory};
 use std::alloc::Global;
@@ -9,6 +9,10 @@ use std::alloc::Global;
 pub trait Remaking {
     /// The formulas that it touches, and what they become.
     ghost made: { Self → Remade };
+
+    /// Two topics of which each formula mentions one that it touches.
+    fn topics(&self) -> (u64, u64)
+        ensures { TouchesAbout (made self.now) (result.0 ∷ result.1 ∷ []) };
 
     /// Whether it touches a formula whose words are looked up from the sheet with this id, or from none.
     fn touches(&self, scope: Option<u32>, formula: &Formula) -> bool

@@ -6,6 +6,7 @@ ghost use Rattle.ic_laws.specs.Scene.{key_of, same_key, same_scope};
 
 use crate::changes::BookChange;
 use crate::copies::{copy_key, copy_local, copy_sheet, copy_word};
+use crate::topics::folded_topic;
 use ic_laws::{NameKey, NameMention, OutOfMemory, SheetMention, Text, agree};
 use std::alloc::Global;
 use std::marker::Model;
@@ -86,6 +87,10 @@ impl<'n> BookChange for DefinitionAdded<'n> {
 
     ghost change = { λ added. definition_added added };
 
+    fn topic(&self) -> u64 {
+        folded_topic(self.key.name.as_str())
+    }
+
     fn changes_sheet(&self, _mention: &SheetMention) -> bool {
         false
     }
@@ -148,6 +153,10 @@ impl<'n> BookChange for DefinitionGone<'n> {
 
     ghost change = { λ gone. OfWords (λ scope mention. is_of_name gone.key.now mention) gone.becomes.now
         (λ sheet mention. is_of_name gone.key.now mention) (names.Dangling (chars gone.name.now)) };
+
+    fn topic(&self) -> u64 {
+        folded_topic(self.key.name.as_str())
+    }
 
     fn changes_sheet(&self, _mention: &SheetMention) -> bool {
         false

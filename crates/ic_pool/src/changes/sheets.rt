@@ -6,6 +6,7 @@ ghost use Rattle.ic_laws.specs.Scene.{definition_spelling};
 
 use crate::changes::BookChange;
 use crate::copies::{copy_local, copy_sheet, copy_word};
+use crate::topics::{name_topic, sheet_topic};
 use ic_laws::{Finder, NameKey, NameMention, OutOfMemory, SheetMention, Text, agree, find_local};
 use std::alloc::Global;
 
@@ -25,6 +26,10 @@ impl<'n, F: Finder> BookChange for SheetNamed<'n, F> {
     ghost use Rattle.ic_laws.specs.Changes.{sheet_named};
 
     ghost change = { λ named. sheet_named (F.scene named.definitions.now) named.id (chars named.name.now) };
+
+    fn topic(&self) -> u64 {
+        name_topic(self.name)
+    }
 
     fn changes_sheet(&self, mention: &SheetMention) -> bool {
         is_dangling_by(mention, self.name)
@@ -108,6 +113,10 @@ impl<'n, F: Finder> BookChange for SheetGone<'n, F> {
     ghost use Rattle.ic_laws.specs.Changes.{sheet_gone};
 
     ghost change = { λ gone. sheet_gone (F.scene gone.definitions.now) gone.id (chars gone.name.now) };
+
+    fn topic(&self) -> u64 {
+        sheet_topic(self.id)
+    }
 
     fn changes_sheet(&self, mention: &SheetMention) -> bool {
         is_to_sheet(mention, self.id)

@@ -1,14 +1,17 @@
-ghost use Rattle.std.specs.Prelude.{◌≡◌, ◌≤◌, ◌+◌, ℕ, List, [], ◌∷◌, false, true, length, option_map, IfOk, MatchOption, OnErr, OnOk};
+ghost use Rattle.std.specs.Prelude.{◌≡◌, ◌<◌, ◌≤◌, ◌+◌, ℕ, List, [], ◌∷◌, false, true, length, option_map, IfOk, MatchOption, OnErr, OnOk};
 ghost use Rattle.std.specs.BTreeMap.{get};
+ghost use Rattle.std.specs.BTreeSet.{contains};
 ghost use Rattle.std.specs.Cmp.Lexicographic.{slice_cmp};
 ghost use Rattle.std.specs.List.{slice_get};
 ghost use Rattle.std.specs.Ordering.{nat_cmp};
-ghost use Rattle.ic_pool.specs.Pool.{KeepsPlaces, KnowsRest, dangling_places};
+ghost use Rattle.ic_pool.specs.MentionPlaces.{KnowsAll};
+ghost use Rattle.ic_pool.specs.Pool.{KeepsPlaces, KnowsRest, dangling_count, dangling_weight};
 
+use crate::mention_index::MentionIndex;
 use crate::{Key, Steps, has_dangling, key_of};
 use ic_laws::{Formula, OutOfMemory};
 use std::alloc::Global;
-use std::collections::{BTreeMap, LinkedList};
+use std::collections::{BTreeMap, BTreeSet, LinkedList};
 use std::sync::ledger::Ledger;
 
 /// The first place of each formula, by its key, in one step for each. It goes from the last to the first, so that the
@@ -33,17 +36,57 @@ pub fn index_of<L: Ledger>(
     Ok(index)
 }
 
-/// The places of those of these formulas that mention something that wasn't found, in ascending order.
-pub fn dangling_in(alloc: Global, formulas: &[Formula]) -> Result<Vec<usize>, OutOfMemory>
-    ensures { IfOk result (λ places. places.items ≡ dangling_places formulas.now) }
+/// What a formula adds to the number of those that mention something that wasn't found.
+pub fn dangling_weight(formula: &Formula) -> usize
+    ensures value { result ≡ dangling_weight formula.now }
+    ensures small { result ≤ 1 }
 {
-    let mut places = Vec::new(alloc);
-    for (at, formula) in formulas.iter().enumerate() {
-        if has_dangling(formula) {
-            places.push(at)?;
-        }
+    if has_dangling(formula) { 1 } else { 0 }
+}
+
+/// How many of these formulas mention something that wasn't found.
+pub fn dangling_in(formulas: &[Formula]) -> usize
+    ensures { result ≡ dangling_count formulas.now }
+{
+    let mut count = 0;
+    for formula in formulas {
+        count += dangling_weight(formula);
+    }
+    count
+}
+
+/// All places below this one.
+pub fn all_places(alloc: Global, end: usize) -> Result<BTreeSet<usize>, OutOfMemory>
+    ensures { IfOk result (λ places. (at : ℕ) → at < end → contains nat_cmp places at ≡ true) }
+{
+    let mut places = BTreeSet::new(alloc);
+    for at in 0..end {
+        places.insert(at)?;
     }
     Ok(places)
+}
+
+/// Makes the index by mention anew where it lacks something or has much too much, and answers whether it then knows each
+/// formula. Where there is no memory for that it stays.
+pub fn renewed(
+    alloc: Global,
+    formulas: &[Formula],
+    mentions: &mut MentionIndex,
+    knows: bool,
+) -> bool
+    requires { knows ≡ true → KnowsAll mentions.old formulas.now }
+    ensures { result ≡ true → KnowsAll mentions.new formulas.now }
+{
+    if knows && !mentions.is_stale() {
+        return true;
+    }
+    match MentionIndex::of(alloc, formulas) {
+        Ok(made) => {
+            *mentions = made;
+            true
+        }
+        Err(_) => knows,
+    }
 }
 
 /// Puts the formulas at the late places into a look-up that has the others, in one step for each. Where there is no memory
@@ -93,7 +136,7 @@ fn put_place(
 }
 
 /// The formula at an index, from 0. None past the end.
-fn formula_in(formulas: &[Formula], at: usize) -> Option<&Formula>
+pub fn formula_in(formulas: &[Formula], at: usize) -> Option<&Formula>
     ensures { option_map (λ f. f.now) result ≡ slice_get formulas.now at }
 {
     formulas.get(at)

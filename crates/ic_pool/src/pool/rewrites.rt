@@ -6,15 +6,19 @@ ghost use Rattle.std.specs.Option.{unwrap_or};
 ghost use Rattle.std.specs.Ordering.{nat_cmp};
 ghost use Rattle.ic_laws.specs.declared.tree.Formula.{Formula};
 ghost use Rattle.ic_pool.specs.Code.{code};
-ghost use Rattle.ic_pool.specs.Mentions.{SparesFound, formula_after, has_dangling, is_changed_by};
-ghost use Rattle.ic_pool.specs.Pool.{dangling_places};
+ghost use Rattle.ic_pool.specs.MentionPlaces.{HasAt, HasPassing, KeepsAll};
+ghost use Rattle.ic_pool.specs.Mentions.{formula_after, is_changed_by};
+ghost use Rattle.ic_pool.specs.Pool.{dangling_count};
 ghost use Rattle.ic_pool.specs.Remade.{LeavesUntouched, touched_from};
-ghost use Rattle.ic_pool.specs.Rewrites.{FitsPool, IsNoted, ListsChanged, changed_by, changes_nothing, is_key_among, old_keys, rewritten_by};
+ghost use Rattle.ic_pool.specs.Rewrites.{FitsPool, IsNoted, IsNotedAt, ListsChanged, changed_by, changes_nothing, is_key_among, old_keys, rewritten_by};
+ghost use Rattle.ic_pool.specs.Topics.{topics_in};
 
-use crate::{BookChange, Key, Remaking, changed_formula, has_dangling, key_of, remade_formula};
+use super::index::{dangling_weight, formula_in};
+use crate::mention_index::MentionIndex;
+use crate::{BookChange, Key, Remaking, changed_formula, key_of, remade_formula};
 use ic_laws::{Formula, OutOfMemory};
 use std::alloc::Global;
-use std::collections::{BTreeMap, LinkedList};
+use std::collections::{BTreeMap, BTreeSet, LinkedList};
 use std::marker::Model;
 
 /// A formula that becomes another.
@@ -40,10 +44,12 @@ impl Drop for Replacement {
 }
 
 impl Replacement {
-    /// Puts the formula at its place.
-    fn put(self, formulas: &mut [Formula])
-        requires { self.at < length formulas.old }
-        ensures { formulas.new ≡ set formulas.old self.at self.formula }
+    /// Puts the formula at its place, and answers how many then mention something that isn't found, of so many before.
+    fn put(self, formulas: &mut [Formula], dangling: usize) -> usize
+        requires within { self.at < length formulas.old }
+        requires counted { dangling ≡ dangling_count formulas.old }
+        ensures formulas { formulas.new ≡ set formulas.old self.at self.formula }
+        ensures counted { result ≡ dangling_count formulas.new }
     {
         let Self {
             at,
@@ -51,7 +57,10 @@ impl Replacement {
             old_key,
         } = self;
         drop(old_key);
+        let others = dangling - dangling_weight(&formulas[at]);
+        let weight = dangling_weight(&formula);
         formulas[at] = formula;
+        others + weight
     }
 }
 
@@ -60,20 +69,13 @@ pub struct Rewrites {
     changes: Vec<Replacement>,
     /// Their places, as a list that a pool takes over without memory.
     places: LinkedList<usize>,
-    /// The places of the formulas that will then mention something that isn't found.
-    dangling: Vec<usize>,
 }
 
 impl Drop for Rewrites {
     fn drop(self) {
-        let Self {
-            changes,
-            places,
-            dangling,
-        } = self;
+        let Self { changes, places } = self;
         drop(changes);
         drop(places);
-        drop(dangling);
     }
 }
 
@@ -87,7 +89,7 @@ impl Model for Rewrites {
 
     ghost coded = { Prim.hlevel (codes, formula.the_row.coded) };
 
-    ghost view = { λ w. record { changes = w.changes.items; places = w.places; dangling = w.dangling.items } };
+    ghost view = { λ w. record { changes = w.changes.items; places = w.places } };
 }
 
 impl Rewrites {
@@ -118,39 +120,40 @@ impl Rewrites {
     /// for lists of fewer than 2^63 places.
     pub(super) fn move_places(&mut self, late: &mut LinkedList<usize>) -> bool
         ensures changes { self.new.changes ≡ self.old.changes }
-        ensures dangling { self.new.dangling ≡ self.old.dangling }
         ensures moved { result ≡ true → late.new ≡ late.old ++ self.old.places }
     {
         late.append(&mut self.places).is_ok()
     }
 
-    /// Makes the changes, and answers the places of the formulas that then mention something that isn't found.
-    pub(super) fn put(self, formulas: &mut [Formula]) -> Vec<usize>
-        requires within { AllByRecursion (λ change. change.at < length formulas.old) self.changes }
-        requires dangles { self.dangling ≡ dangling_places (rewritten_by self formulas.old) }
-        ensures formulas { formulas.new ≡ rewritten_by self formulas.old }
-        ensures places { result.items ≡ dangling_places formulas.new }
+    /// Notes what the changed formulas will mention.
+    pub(super) fn note_in(&self, mentions: &mut MentionIndex) -> Result<(), OutOfMemory>
+        ensures noted { OnOk result (AllByRecursion (λ change. HasAt mentions.new change.at
+            (topics_in change.formula)) self.now.changes) }
+        ensures kept { KeepsAll mentions.old mentions.new }
     {
-        let Rewrites {
-            changes,
-            places,
-            dangling,
-        } = self;
+        note_all(&self.changes, mentions)
+    }
+
+    /// Makes the changes, and answers how many formulas then mention something that isn't found, of so many before.
+    pub(super) fn put(self, formulas: &mut [Formula], dangling: usize) -> usize
+        requires within { AllByRecursion (λ change. change.at < length formulas.old) self.changes }
+        requires counted { dangling ≡ dangling_count formulas.old }
+        ensures formulas { formulas.new ≡ rewritten_by self formulas.old }
+        ensures counted { result ≡ dangling_count formulas.new }
+    {
+        let Rewrites { changes, places } = self;
         drop(places);
-        put_all(formulas, changes);
-        dangling
+        put_all(formulas, changes, dangling)
     }
 
     /// No change.
     fn new(alloc: Global) -> Rewrites
         ensures changes { result.changes ≡ [] }
         ensures places { result.places ≡ [] }
-        ensures dangling { result.dangling ≡ [] }
     {
         Rewrites {
             changes: Vec::new(alloc),
             places: LinkedList::new(alloc),
-            dangling: Vec::new(alloc),
         }
     }
 
@@ -201,25 +204,49 @@ impl Rewrites {
             (is_some becomes) self.old self.new) }
     {
         match becomes {
-            None => self.note_place(at, formula),
+            None => Ok(()),
             Some(becomes) => {
-                self.note_place(at, &becomes)?;
                 let old_key = key_of(alloc, formula)?;
                 self.note_change(at, becomes, old_key)
             }
         }
     }
 
-    /// Puts a place behind the others where this formula, which will stand there, mentions something that isn't found.
-    fn note_place(&mut self, at: usize, formula: &Formula) -> Result<(), OutOfMemory>
-        ensures { OnOk result (self.new ≡ record self.old {
-          dangling = self.old.dangling ++ (if has_dangling formula.now then at ∷ [] else []);
-        }) }
+    /// Looks at the formula at a place of these, where there is one.
+    fn note_at<C: BookChange>(
+        &mut self,
+        alloc: Global,
+        change: &C,
+        scope: Option<u32>,
+        formulas: &[Formula],
+        at: usize,
+    ) -> Result<(), OutOfMemory>
+        ensures { OnOk result (IsNotedAt (formula_after (C.change change.now) scope)
+            (is_changed_by (C.change change.now) scope) formulas.now at self.old self.new) }
     {
-        if has_dangling(formula) {
-            self.dangling.push(at)?;
+        match formula_in(formulas, at) {
+            Some(formula) => self.note(alloc, change, scope, at, formula),
+            None => Ok(()),
         }
-        Ok(())
+    }
+
+    /// The same where it may be made anew, if the rule leaves each of these that it doesn't touch.
+    fn note_remade_at<R: Remaking>(
+        &mut self,
+        alloc: Global,
+        remaking: &R,
+        scope: Option<u32>,
+        formulas: &[Formula],
+        at: usize,
+    ) -> Result<(), OutOfMemory>
+        requires { AllByRecursion (LeavesUntouched (R.made remaking.now) scope) formulas.now }
+        ensures { OnOk result (IsNotedAt ((R.made remaking.now).becomes scope)
+            ((R.made remaking.now).touches scope) formulas.now at self.old self.new) }
+    {
+        match formula_in(formulas, at) {
+            Some(formula) => self.note_remade(alloc, remaking, scope, at, formula),
+            None => Ok(()),
+        }
     }
 
     /// Puts a change behind the others.
@@ -240,55 +267,39 @@ impl Rewrites {
     }
 }
 
-/// What a change does to formulas whose words are looked up from the sheet with this id, or from none.
-pub fn rewrites_of<C: BookChange>(
-    alloc: Global,
-    formulas: &[Formula],
-    change: &C,
-    scope: Option<u32>,
-) -> Result<Rewrites, OutOfMemory>
-    ensures made { IfOk result (λ w. rewritten_by w formulas.now
-        ≡ map (formula_after (C.change change.now) scope) formulas.now) }
-    ensures listed { IfOk result (ListsChanged (C.change change.now) scope formulas.now) }
-    ensures fits { IfOk result (λ w. FitsPool w formulas.now) }
-{
-    let mut rewrites = Rewrites::new(alloc);
-    for (at, formula) in formulas.iter().enumerate() {
-        rewrites.note(alloc, change, scope, at, formula)?;
-    }
-    Ok(rewrites)
-}
-
-/// The same, if it leaves those that stand at no place of the list.
+/// What a change does to formulas whose words are looked up from the sheet with this id, or from none. Those that it changes
+/// stand at some of these places.
 pub fn rewrites_at<C: BookChange>(
     alloc: Global,
     formulas: &[Formula],
-    places: &[usize],
+    places: &BTreeSet<usize>,
     change: &C,
     scope: Option<u32>,
 ) -> Result<Rewrites, OutOfMemory>
-    requires spares { SparesFound (C.change change.now) scope }
-    requires places { places.now ≡ dangling_places formulas.now }
+    requires { HasPassing (is_changed_by (C.change change.now) scope) places.now formulas.now }
     ensures made { IfOk result (λ w. rewritten_by w formulas.now
         ≡ map (formula_after (C.change change.now) scope) formulas.now) }
     ensures listed { IfOk result (ListsChanged (C.change change.now) scope formulas.now) }
     ensures fits { IfOk result (λ w. FitsPool w formulas.now) }
 {
     let mut rewrites = Rewrites::new(alloc);
-    for place in places {
-        rewrites.note(alloc, change, scope, *place, &formulas[*place])?;
+    for at in places {
+        rewrites.note_at(alloc, change, scope, formulas, *at)?;
     }
     Ok(rewrites)
 }
 
-/// What becomes of formulas that are made anew, if the rule leaves each that it doesn't touch.
+/// What becomes of formulas that are made anew, if the rule leaves each that it doesn't touch. Those that it touches stand
+/// at some of these places.
 pub fn rewrites_remade<R: Remaking>(
     alloc: Global,
     formulas: &[Formula],
+    places: &BTreeSet<usize>,
     remaking: &R,
     scope: Option<u32>,
 ) -> Result<Rewrites, OutOfMemory>
-    requires { AllByRecursion (LeavesUntouched (R.made remaking.now) scope) formulas.now }
+    requires leaves { AllByRecursion (LeavesUntouched (R.made remaking.now) scope) formulas.now }
+    requires places { HasPassing ((R.made remaking.now).touches scope) places.now formulas.now }
     ensures made { IfOk result (λ w. rewritten_by w formulas.now
         ≡ map ((R.made remaking.now).becomes scope) formulas.now) }
     ensures listed { IfOk result (λ w. w.changes
@@ -296,10 +307,22 @@ pub fn rewrites_remade<R: Remaking>(
     ensures fits { IfOk result (λ w. FitsPool w formulas.now) }
 {
     let mut rewrites = Rewrites::new(alloc);
-    for (at, formula) in formulas.iter().enumerate() {
-        rewrites.note_remade(alloc, remaking, scope, at, formula)?;
+    for at in places {
+        rewrites.note_remade_at(alloc, remaking, scope, formulas, *at)?;
     }
     Ok(rewrites)
+}
+
+/// Notes what these formulas will mention.
+fn note_all(changes: &[Replacement], mentions: &mut MentionIndex) -> Result<(), OutOfMemory>
+    ensures noted { OnOk result (AllByRecursion (λ change. HasAt mentions.new change.at
+        (topics_in change.formula)) changes.now) }
+    ensures kept { KeepsAll mentions.old mentions.new }
+{
+    for change in changes {
+        mentions.note(change.at, &change.formula)?;
+    }
+    Ok(())
 }
 
 /// Takes the keys that these formulas have out of a look-up.
@@ -313,12 +336,16 @@ fn remove_keys(changes: &[Replacement], index: &mut BTreeMap<Key, usize>)
     }
 }
 
-/// Puts each changed formula at its place.
-fn put_all(formulas: &mut [Formula], changes: Vec<Replacement>)
-    requires { AllByRecursion (λ change. change.at < length formulas.old) changes.items }
-    ensures { formulas.new ≡ changed_by changes.items formulas.old }
+/// Puts each changed formula at its place, and answers how many then mention something that isn't found, of so many before.
+fn put_all(formulas: &mut [Formula], changes: Vec<Replacement>, dangling: usize) -> usize
+    requires within { AllByRecursion (λ change. change.at < length formulas.old) changes.items }
+    requires counted { dangling ≡ dangling_count formulas.old }
+    ensures formulas { formulas.new ≡ changed_by changes.items formulas.old }
+    ensures counted { result ≡ dangling_count formulas.new }
 {
+    let mut count = dangling;
     for change in changes {
-        change.put(formulas);
+        count = change.put(formulas, count);
     }
+    count
 }

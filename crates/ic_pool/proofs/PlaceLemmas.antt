@@ -1,0 +1,27 @@
+-- Places in an index by mention.
+use Rattle.std.proofs.Common.{◌≡◌, ℕ, ◌<◌, ◌+◌, List, [], ◌∷◌, ◌++◌, Bool, true, false, cond, ◌||◌, refl, sym, ap, ◌∙◌, get_or, length, take, ◌⊎◌, inl, inr}
+use Rattle.std.specs.BTreeSet.{BTreeSet, Updates, contains}
+use Rattle.std.specs.List.{list_any}
+use Rattle.std.specs.Ordering.{is_eq, nat_cmp}
+use Rattle.std.proofs.lemmas.List.{take_more}
+use Rattle.std.proofs.lemmas.List.Folds.{list_any-append}
+
+-- one of two passes
+either : (a b : Bool) → (a || (b || false)) ≡ true → (a ≡ true) ⊎ (b ≡ true)
+either true b e = inl refl
+either false true e = inr refl
+either false false e = cc
+
+-- of the items up to one, one before it passes or that one
+pub any_more : (test : ℕ → Bool) (xs : List ℕ) (i : ℕ) → i < length xs → list_any test (take (i + 1) xs) ≡ true → (list_any test (take i xs) ≡ true) ⊎ (test (get_or xs i 0) ≡ true)
+any_more test xs i below e =
+    either (list_any test (take i xs)) (test (get_or xs i 0))
+    (sym (ap (list_any test) (take_more xs i 0 below) ∙ list_any-append test (take i xs) (get_or xs i 0 ∷ [])) ∙ e)
+
+either_way : (b : Bool) → cond b true true ≡ true
+either_way true = refl
+either_way false = refl
+
+-- a place that was in a set still is when one is put in
+pub still_in : (before after : BTreeSet ℕ) (k q : ℕ) → Updates nat_cmp before after k true → contains nat_cmp before q ≡ true → contains nat_cmp after q ≡ true
+still_in before after k q u e = u.0 q ∙ ap (cond (is_eq (nat_cmp k q)) true) e ∙ either_way (is_eq (nat_cmp k q))

@@ -1,6 +1,0 @@
-use Rattle.ic_pool.specs.Mentions.{formula_after, is_changed_by}
-use Rattle.ic_pool.proofs.RewriteLemmas.{RewrittenTo}
-use Rattle.ic_pool.proofs.pool.rewrites.rewrites_of.Given as goal
-
-abbrev pub invariant-loop-at : goal.invariant-loop-at
-invariant-loop-at g l = RewrittenTo (formula_after (g.C.BookChange.change l.change) l.scope) (is_changed_by (g.C.BookChange.change l.change) l.scope) l.formulas l.at l.rewrites

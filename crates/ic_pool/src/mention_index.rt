@@ -1,0 +1,204 @@
+//! Where formulas mention what.
+ghost use Rattle.std.specs.Prelude.{◌≡◌, [], false, true, ℕ, IfOk, OnOk};
+ghost use Rattle.std.specs.BTreeSet.{contains};
+ghost use Rattle.std.specs.Ordering.{nat_cmp};
+ghost use Rattle.ic_pool.specs.MentionPlaces.{HasAt, KeepsAll, KnowsAll, has_place, has_place_of, places_with};
+ghost use Rattle.ic_pool.specs.Pool.{is_among};
+ghost use Rattle.ic_pool.specs.Topics.{topics_in};
+
+use crate::topics::push_topics;
+use ic_laws::{Formula, OutOfMemory};
+use std::alloc::Global;
+use std::collections::{BTreeMap, BTreeSet};
+use std::marker::Model;
+
+/// So many notes more are never too many.
+const FEW: usize = 1024;
+
+/// Some places, from 0, in the order in which they were noted.
+#[derive(Drop)]
+struct Places {
+    list: Vec<usize>,
+}
+
+impl Model for Places {
+    ghost use Rattle.std.specs.Prelude.{List, ℕ};
+
+    ghost Value = { List ℕ };
+
+    ghost view = { λ p. p.list.items };
+}
+
+impl Places {
+    /// No place.
+    fn new(alloc: Global) -> Places
+        ensures { result ≡ [] }
+    {
+        Places {
+            list: Vec::new(alloc),
+        }
+    }
+
+    /// All of them.
+    fn as_slice(&self) -> &[usize]
+        ensures { result.now ≡ self.now }
+    {
+        &self.list
+    }
+
+    /// Whether the last one is this.
+    fn ends_with(&self, at: usize) -> bool
+        ensures { result ≡ true → is_among at self.now ≡ true }
+    {
+        match self.list.last() {
+            Some(last) => *last == at,
+            None => false,
+        }
+    }
+
+    /// Puts a place at the end, where it isn't the last one.
+    fn note(&mut self, at: usize) -> Result<(), OutOfMemory>
+        ensures noted { OnOk result (is_among at self.new ≡ true) }
+        ensures kept { (other : ℕ) → is_among other self.old ≡ true → is_among other self.new ≡ true }
+    {
+        if !self.ends_with(at) {
+            self.list.push(at)?;
+        }
+        Ok(())
+    }
+}
+
+/// For each topic the places of the formulas that mention it, from 0. It may have more places than those: none is taken
+/// out when a formula changes or goes.
+pub struct MentionIndex {
+    alloc: Global,
+    places: BTreeMap<u64, Places>,
+    /// How often a place was noted.
+    count: usize,
+    /// How often until it was whole.
+    made: usize,
+}
+
+impl Drop for MentionIndex {
+    fn drop(self) {
+        let Self {
+            alloc,
+            places,
+            count: _,
+            made: _,
+        } = self;
+        drop(alloc);
+        drop(places);
+    }
+}
+
+impl Model for MentionIndex {
+    ghost use Rattle.ic_pool.specs.MentionPlaces.{Noted};
+
+    ghost Value = { Noted };
+
+    ghost view = { λ m. m.places.entries };
+}
+
+impl MentionIndex {
+    /// No places.
+    pub fn new(alloc: Global) -> MentionIndex
+        ensures { (topic : ℕ) → (at : ℕ) → has_place result topic at ≡ false }
+    {
+        MentionIndex {
+            alloc,
+            places: BTreeMap::new(alloc),
+            count: 0,
+            made: 0,
+        }
+    }
+
+    /// Notes that something with this topic is mentioned at a place. `OutOfMemory` leaves what it had.
+    fn put(&mut self, topic: u64, at: usize) -> Result<(), OutOfMemory>
+        ensures noted { OnOk result (has_place self.new topic at ≡ true) }
+        ensures kept { KeepsAll self.old self.new }
+    {
+        self.count = self.count.saturating_add(1);
+        if let Some(places) = self.places.get_mut(&topic) {
+            return places.note(at);
+        }
+        let mut places = Places::new(self.alloc);
+        places.note(at)?;
+        self.places.insert(topic, places)?;
+        Ok(())
+    }
+
+    /// Notes that what these topics are of is mentioned at a place. `OutOfMemory` leaves what it had.
+    fn put_all(&mut self, topics: &[u64], at: usize) -> Result<(), OutOfMemory>
+        ensures noted { OnOk result (HasAt self.new at topics.now) }
+        ensures kept { KeepsAll self.old self.new }
+    {
+        for topic in topics {
+            self.put(*topic, at)?;
+        }
+        Ok(())
+    }
+
+    /// Notes what a formula mentions, which stands at a place, from 0. `OutOfMemory` leaves what it had.
+    pub fn note(&mut self, at: usize, formula: &Formula) -> Result<(), OutOfMemory>
+        ensures noted { OnOk result (HasAt self.new at (topics_in formula.now)) }
+        ensures kept { KeepsAll self.old self.new }
+    {
+        let mut topics = Vec::new(self.alloc);
+        push_topics(&mut topics, formula)?;
+        self.put_all(&topics, at)
+    }
+
+    /// What each of these formulas mentions.
+    pub fn of(alloc: Global, formulas: &[Formula]) -> Result<MentionIndex, OutOfMemory>
+        ensures { IfOk result (λ index. KnowsAll index formulas.now) }
+    {
+        let mut index = MentionIndex::new(alloc);
+        for (at, formula) in formulas.iter().enumerate() {
+            index.note(at, formula)?;
+        }
+        index.made = index.count;
+        Ok(index)
+    }
+
+    /// Whether it has more than twice what it had when it was made: many of its places may then be places of formulas
+    /// that changed.
+    pub fn is_stale(&self) -> bool {
+        self.count > self.made.saturating_mul(2).saturating_add(FEW)
+    }
+
+    /// The places of the formulas that mention something with one of these topics, and maybe others, in ascending order.
+    pub fn places_of(&self, topics: &[u64]) -> Result<BTreeSet<usize>, OutOfMemory>
+        ensures { IfOk result (λ places. (at : ℕ)
+            → has_place_of self.now topics.now at ≡ true → contains nat_cmp places at ≡ true) }
+    {
+        let mut places = BTreeSet::new(self.alloc);
+        for topic in topics {
+            insert_all(&mut places, self.places_with(*topic))?;
+        }
+        Ok(places)
+    }
+
+    /// The places of those that mention something with this topic, and maybe others.
+    fn places_with(&self, topic: u64) -> &[usize]
+        ensures { result.now ≡ places_with self.now topic }
+    {
+        match self.places.get(&topic) {
+            Some(places) => places.as_slice(),
+            None => &[],
+        }
+    }
+}
+
+/// Puts places in.
+fn insert_all(places: &mut BTreeSet<usize>, more: &[usize]) -> Result<(), OutOfMemory>
+    ensures kept { (at : ℕ) → contains nat_cmp places.old at ≡ true
+        → contains nat_cmp places.new at ≡ true }
+    ensures put { OnOk result ((at : ℕ) → is_among at more.now ≡ true
+        → contains nat_cmp places.new at ≡ true) }
+{
+    for at in more {
+        places.insert(*at)?;
+    }
+    Ok(())
+}
