@@ -3,8 +3,8 @@
 python3 tests/hostile/allocations.py PROGRAM [FOLDER..] [--most=N]: each folder has files NAME.lines; those of tests/reading/sessions are
 run whole, the first list of each other folder to its 40th line. Once alone, and once with all that come after it, each call of
 malloc and realloc is refused: refuse.c, which needs a C compiler, stands before the C library. With --most=N only so many of each
-list's calls are, at even distances; the first and the last are always. A run has to end as it does without, or with status 6 and a part of the
-same output; the status is 1 where some run ends otherwise. It takes two minutes.
+list's calls are, at even distances; the first and the last are always. A run has to end as it does without, or with status 6 and the first of
+the same replies; the status is 1 where some run ends otherwise. It takes two minutes.
 
 python3 tests/hostile/allocations.py --unproved FILE N..: the same of the source that isn't proved, by `rt try --fail-alloc N` for the numbers
 N, over one list of lines. Each run takes a minute."""

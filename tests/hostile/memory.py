@@ -3,7 +3,7 @@
 python3 tests/hostile/memory.py PROGRAM [FOLDER..]: each folder has files NAME.lines, whose first 200 lines are run under each limit
 of address space from the least one in which the program starts, page by page, until 64 limits in a row were enough; those of
 tests/reading/sessions always. Then lists that grow in each direction, and long lines, run within 4 MB, 16 MB and 64 MB. A run may
-end as it does without a limit, or with status 6 and a part of the same output; the status is 1 where some run ends otherwise. No
+end as it does without a limit, or with status 6 and the first of the same replies; the status is 1 where some run ends otherwise. No
 formula here is deep: stack.py tries those. It takes a minute and a half, and 2 GB."""
 import glob
 import os

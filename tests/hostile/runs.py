@@ -57,10 +57,10 @@ def ending(status):
 
 
 def is_cut(ran, whole):
-    """Whether a run ended as it may where memory is short: as the whole one, or with status 6 and a part of its output."""
+    """Whether a run ended as it may where memory is short: as the whole one, or with status 6 and its first replies, whole."""
     if ran.status == whole.status:
         return ran.output == whole.output
-    return ran.status == NO_MEMORY and whole.output.startswith(ran.output)
+    return ran.status == NO_MEMORY and whole.output.startswith(ran.output) and ran.output[-1:] in (b"", b"\n")
 
 
 def least_that(holds, low, high, step):
