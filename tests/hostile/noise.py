@@ -54,7 +54,7 @@ class Looked:
         with open(COMMANDS, encoding="utf-8") as f:
             text = f.read()
         self.forms = re.findall(r"`([a-z_]+(?:→[A-Z.]+)*)`", "\n".join(line.split("|")[1] for line in text.splitlines() if line.startswith("| `") and "error→" not in line))
-        self.errors = {f"error\t{name}".encode() for name in re.findall(r"`(?:error→)?([A-Z][a-z]+[A-Za-z]*)`", text)}
+        self.errors = {f"error\t{name}".encode() for name in re.findall(r"`error→([A-Za-z]+)`", text)}
         self.lines = self.wrong = 0
 
     def fail(self, what, said):
