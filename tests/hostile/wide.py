@@ -2,8 +2,8 @@
 
 python3 tests/hostile/wide.py PROGRAM: formulas with ever more arguments, variables, words, sheets and elements; formats, arrays and
 spills with ever more parts; and lists of ever more cells, formulas, styles, sheets and definitions. The parts are doubled from 8,000 on until a run
-takes two seconds or there are 512,000. The status is 1 where twice as many take more than three times as long, of runs above a
-twentieth of a second. It takes two minutes and 2 GB."""
+takes two seconds or there are 512,000. The status is 1 where twice as many take more than three times as long, at two
+runs above a twentieth of a second. It takes two minutes and 2 GB."""
 import sys
 
 from runs import ending, run
@@ -47,7 +47,10 @@ def main(program):
     for name, make in KINDS.items():
         row, before = [], None
         for count in (8000 << shift for shift in range(7)):
-            ran = run(program, make(count).encode())
+            given = make(count).encode()
+            ran = run(program, given)
+            if before and ran.seconds > max(0.05, 3 * before):
+                ran = min(ran, run(program, given), key=lambda it: it.seconds)
             row.append(f"{ran.seconds:.2f}")
             if ran.status or before and ran.seconds > max(0.05, 3 * before):
                 wrong += 1
