@@ -1,9 +1,12 @@
-"""One long line for each command that takes a text: the time should grow with its length, and with nothing else.
+"""One long line for each command that takes a text: time and memory should grow with its length, and with nothing else.
 
-python3 tests/hostile/long_lines.py PROGRAM [BYTES]"""
-import resource
-import subprocess
+python3 tests/hostile/long_lines.py PROGRAM [BYTES]: each line has so many bytes, 200 million unless told, and half as many. Shown are
+the nanoseconds and the bytes of memory that a byte of both takes. The status is 1 where twice the length takes more than three times the time or the
+memory, or where a line isn't answered. It takes four minutes and 6 GB; with ten million bytes, a quarter of a minute."""
 import sys
+import tempfile
+
+from runs import ending, run_file
 
 # the command with a place for the text, which is a piece as often as it fits, and lines before it
 KINDS = [
@@ -20,30 +23,53 @@ KINDS = [
 ]
 
 
-def spent(program, given):
-    before = resource.getrusage(resource.RUSAGE_CHILDREN)
-    ran = subprocess.run([program], input=given, stdout=subprocess.PIPE, check=True)
-    after = resource.getrusage(resource.RUSAGE_CHILDREN)
-    return after.ru_utime + after.ru_stime - before.ru_utime - before.ru_stime, ran.stdout
+# what is held of an input that is written piece by piece, so that this interpreter stays small
+PIECES = 1 << 16
 
 
-def main(program, most=10_000_000):
-    print("| the line | ns a byte, of a tenth | ns a byte | times | the reply |\n|---|---|---|---|---|")
-    start = min(spent(program, b"")[0] for _ in range(3))
-    worst = 0
+def spent(program, before, form, piece, size):
+    """The run over some lines and a long one, and the last reply."""
+    start, end = (part.encode() for part in form.split("{}"))
+    text = piece.encode()
+    count = size // len(text)
+    with tempfile.TemporaryFile() as given, tempfile.TemporaryFile() as output:
+        given.write(before.encode() + start)
+        many = text * PIECES
+        for _ in range(count // PIECES):
+            given.write(many)
+        given.write(text * (count % PIECES) + end + b"\n")
+        given.seek(0)
+        ran = run_file(program, given, output)
+        output.seek(0)
+        replies = 0
+        last = b""
+        for reply in output:
+            replies, last = replies + 1, reply[:30]
+        return ran, replies, last
+
+
+def main(program, most=200_000_000):
+    print("| the line | ns a byte, of half | ns a byte | memory a byte, of half | memory a byte | the reply |\n|---|---|---|---|---|---|")
+    worst = wrong = 0
     for form, piece, before in KINDS:
-        each = []
-        for size in (most // 10, most):
-            text = piece * (size // len(piece.encode()))
-            given = (before + form.format(text) + "\n").encode()
-            took, replies = min((spent(program, given) for _ in range(2)), key=lambda it: it[0])
-            each.append(max(took - start, 1e-4) * 1e9 / size)
-        ratio = each[1] / each[0]
-        worst = max(worst, ratio if each[1] > 2 else 0)
+        both = []
+        for size in (most // 2, most):
+            ran, replies, last = spent(program, before, form, piece, size)
+            both.append((max(ran.seconds, 0.01), ran.kilobytes))
+            if ran.status or replies != before.count("\n") + 1:
+                wrong += 1
+                print(f"WRONG: {ending(ran.status)} and {replies} replies")
+        times = both[1][0] / both[0][0]
+        worst = max(worst, times)
         shown = form.format(piece + "..").replace("\t", "→")
-        print(f"| `{shown}` | {each[0]:.1f} | {each[1]:.1f} | {ratio:.1f} | `{replies.splitlines()[-1][:30].decode('utf-8', 'replace')}` |", flush=True)
-    print(f"the worst: {worst:.1f} times as long a byte")
+        print(f"| `{shown}` | {both[0][0] * 2e9 / most:.1f} | {both[1][0] * 1e9 / most:.1f} | {both[0][1] * 2048 / most:.1f} | {both[1][1] * 1024 / most:.1f} "
+              f"| `{last.decode('utf-8', 'replace').strip()}` |", flush=True)
+        if times > 3 or both[1][1] > 3 * both[0][1]:
+            wrong += 1
+            print("WRONG: more than three times as much for twice the length")
+    print(f"{len(KINDS)} kinds of lines of {most:,} bytes; at the worst twice the length took {worst:.1f} times the time; {wrong} wrong")
+    return 1 if wrong else 0
 
 
 if __name__ == "__main__":
-    main(sys.argv[1], *(int(word) for word in sys.argv[2:]))
+    sys.exit(main(sys.argv[1], *(int(word) for word in sys.argv[2:])))
