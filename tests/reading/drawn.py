@@ -1,0 +1,2 @@
+def drawn_lines(seed, i):
+    return []

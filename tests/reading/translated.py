@@ -1,0 +1,148 @@
+"""Translates lists of command lines into other notations, runs what they become there, and compares the books that are left.
+
+python3 tests/reading/translated.py FOLDER.. [--all] [--rows=FILE] [--seed=N] [--count=K]: each file NAME.lines in the folders is
+translated into five notations, with --all into each locale with each language. A line that can't be translated is taken out, and
+the rest goes on. What the lines become must be accepted line by line, and leave the same book after each, from a book with other
+styles too. A row of FILE has the name of a list in the first folder, a locale, a language, and 0, `lines` and how many lines it
+becomes, or 7, `cannot`, the number of the first line that can't be translated, and why. With a seed, K lists are drawn and tried,
+100 unless told. The status is 1 where something differs."""
+import glob
+import os
+import sys
+import threading
+
+sys.path.insert(0, os.path.dirname(os.path.abspath(__file__)))
+
+from drawn import drawn_lines  # noqa: E402
+from ic_cells.style import DEFAULT_STYLE  # noqa: E402
+from ic_laws.lines import line_text, lines_of, word_texts, words_of  # noqa: E402
+from ic_machine.book import new_book  # noqa: E402
+from ic_machine.command import COMMANDS  # noqa: E402
+from ic_machine.step import line_step, step  # noqa: E402
+from ic_machine.translation import (command_of, first_untranslatable, in_notation, is_same_book, kept, line_of, translated,  # noqa: E402
+                                    translated_texts, why_line_not)
+from ic_tables.sample import SAMPLE  # noqa: E402
+from run import read  # noqa: E402
+
+PLACES = ("en", "es", "fr", "de", "it")
+FIVE = [(place, place) for place in PLACES]
+ALL = [(locale, language) for locale in PLACES for language in PLACES]
+OTHER_STYLES = (DEFAULT_STYLE, DEFAULT_STYLE._replace(bold=True), DEFAULT_STYLE._replace(num_fmt="#,##0%"))
+
+
+def start():
+    return new_book(SAMPLE, "en", "en", "UTC", "workbook", "Sheet1")
+
+
+def texts_of_lines(path):
+    return [line_text(line) for line in lines_of(read(path))]
+
+
+class Tried:
+    """One list, run beside what it becomes in a notation."""
+
+    def __init__(self, locale, language, lines):
+        self.lines, self.became, self.taken_out, self.differs = lines, 0, {}, None
+        self.run(locale, language)
+
+    def run(self, locale, language):
+        book = start()
+        others = [in_notation(locale, language, book), in_notation(locale, language, book._replace(styles=OTHER_STYLES))]
+        for number, line in enumerate(self.lines, 1):
+            why = why_line_not(locale, language, book, line)
+            if why is not None:
+                self.taken_out[why] = self.taken_out.get(why, 0) + 1
+                continue
+            found = kept(book, line)
+            if found is not None:
+                command, after = found
+                texts = translated_texts(book, in_notation(locale, language, after), command, word_texts(words_of(line)))
+                self.became += 1
+                others = [self.beside(number, line, line_of(texts), after, other) for other in others]
+                if self.differs:
+                    return
+            book = line_step(COMMANDS, book, line)[0]
+
+    def beside(self, number, line, new_line, after, other):
+        """What the new line leaves; it must be accepted, and leave what the line left."""
+        command = command_of(other, new_line)
+        stepped = ("Err", ("BadLine",)) if command is None else step(other, command)
+        if stepped[0] == "Err" or not is_same_book(after, stepped[1]):
+            self.differs = number, line, new_line, stepped[1] if stepped[0] == "Err" else "another book"
+        return other if stepped[0] == "Err" else stepped[1]
+
+
+class Count:
+    def __init__(self):
+        self.lists = self.became = self.bad = 0
+        self.taken_out = {}
+
+    def add(self, name, notation, tried):
+        self.lists, self.became = self.lists + 1, self.became + tried.became
+        for why, n in tried.taken_out.items():
+            self.taken_out[why] = self.taken_out.get(why, 0) + n
+        if tried.differs:
+            self.bad += 1
+            number, line, new_line, what = tried.differs
+            print(f"{name} to {notation}, line {number}: {line!r}\n  becomes {new_line!r}: {what}")
+
+    def shown(self, what):
+        out = ", ".join(f"{n} taken out as {why}" for why, n in sorted(self.taken_out.items()))
+        print(f"{what}: {self.lists} translations, {self.became} lines, {out or 'none taken out'}, {self.bad} with differences")
+
+
+def told(locale, language, lines):
+    """As a row has it."""
+    cannot = first_untranslatable(locale, language, start(), lines)
+    if cannot is not None:
+        return ["7", "cannot", str(cannot[0]), cannot[1]]
+    return ["0", "lines", str(len(translated(locale, language, start(), lines)[0]))]
+
+
+def bad_rows(path, folder):
+    bad = count = 0
+    with open(path, encoding="utf-8") as rows:
+        for row in rows:
+            name, locale, language, *wanted = row.rstrip("\n").split("\t")
+            given, count = told(locale, language, texts_of_lines(os.path.join(folder, name))), count + 1
+            if given != wanted:
+                bad += 1
+                print(f"{name} to {locale} {language}: wanted {wanted}, given {given}")
+    print(f"{count} rows, {bad} with differences")
+    return bad
+
+
+def option(words, name, otherwise=None):
+    return next((word[len(name) + 3:] for word in words if word.startswith(f"--{name}=")), otherwise)
+
+
+def main(words):
+    folders = [word for word in words if not word.startswith("--")]
+    notations, rows, seed = ALL if "--all" in words else FIVE, option(words, "rows"), option(words, "seed")
+    bad = bad_rows(rows, folders[0]) if rows else 0
+    count = Count()
+    for folder in folders:
+        for path in sorted(glob.glob(os.path.join(folder, "*.lines"))):
+            lines = texts_of_lines(path)
+            for notation in notations:
+                count.add(path, notation, Tried(*notation, lines))
+    if folders:
+        count.shown("lists")
+    bad, drawn = bad + count.bad, Count()
+    for i in range(int(option(words, "count", "100")) if seed else 0):
+        for notation in notations:
+            drawn.add(f"list {i} of seed {seed}", notation, Tried(*notation, drawn_lines(int(seed), i)))
+    if seed:
+        drawn.shown("drawn")
+    return 1 if bad + drawn.bad else 0
+
+
+if __name__ == "__main__":
+    sys.setrecursionlimit(1000000)
+    sys.set_int_max_str_digits(0)
+    threading.stack_size(512 * 1024 * 1024)
+    status = []
+    thread = threading.Thread(target=lambda: status.append(main(sys.argv[1:])))
+    thread.start()
+    thread.join()
+    sys.exit(status[0] if status else 2)
