@@ -2,8 +2,8 @@
 
 python3 tests/reading/translated.py FOLDER.. [--all] [--rows=FILE] [--seed=N] [--count=K]: each file NAME.lines in the folders is
 translated into five notations, with --all into each locale with each language. A line that can't be translated is taken out, and
-the rest goes on. What the lines become must be accepted line by line, and leave the same book after each, from a book with other
-styles too. A row of FILE has the name of a list in the first folder, a locale, a language, and 0, `lines` and how many lines it
+the rest goes on. What the lines become must be accepted line by line, and leave the same book after each: with plain spellings, and
+with what was typed where that is the same in the notation, from a book with other styles. A row of FILE has the name of a list in the first folder, a locale, a language, and 0, `lines` and how many lines it
 becomes, or 7, `cannot`, the number of the first line that can't be translated, and why. With a seed, K lists are drawn and tried,
 100 unless told. The status is 1 where something differs."""
 import glob
@@ -15,12 +15,12 @@ sys.path.insert(0, os.path.dirname(os.path.abspath(__file__)))
 
 from drawn import drawn_lines  # noqa: E402
 from ic_cells.style import DEFAULT_STYLE  # noqa: E402
-from ic_laws.lines import line_text, lines_of, word_texts, words_of  # noqa: E402
+from ic_laws.lines import line_text, lines_of  # noqa: E402
 from ic_machine.book import new_book  # noqa: E402
-from ic_machine.command import COMMANDS  # noqa: E402
-from ic_machine.step import line_step, step  # noqa: E402
-from ic_machine.translation import (command_of, first_untranslatable, in_notation, is_same_book, kept, line_of, translated,  # noqa: E402
-                                    translated_texts, why_line_not)
+from ic_machine.same import is_same_book  # noqa: E402
+from ic_machine.step import step  # noqa: E402
+from ic_machine.translation import (as_typed, became, command_of, first_hindered, in_notation, left_after, plainly,  # noqa: E402
+                                    translated, why_line_not)
 from ic_tables.sample import SAMPLE  # noqa: E402
 from run import read  # noqa: E402
 
@@ -39,35 +39,35 @@ def texts_of_lines(path):
 
 
 class Tried:
-    """One list, run beside what it becomes in a notation."""
+    """One list, run beside what it becomes in a notation, by each choice of spellings."""
 
     def __init__(self, locale, language, lines):
-        self.lines, self.became, self.taken_out, self.differs = lines, 0, {}, None
-        self.run(locale, language)
+        self.became, self.taken_out, self.differs = 0, {}, None
+        self.run(locale, language, lines)
 
-    def run(self, locale, language):
+    def run(self, locale, language, lines):
         book = start()
-        others = [in_notation(locale, language, book), in_notation(locale, language, book._replace(styles=OTHER_STYLES))]
-        for number, line in enumerate(self.lines, 1):
+        others = {plainly: in_notation(locale, language, book), as_typed: in_notation(locale, language, book)._replace(styles=OTHER_STYLES)}
+        for number, line in enumerate(lines, 1):
             why = why_line_not(locale, language, book, line)
             if why is not None:
                 self.taken_out[why] = self.taken_out.get(why, 0) + 1
                 continue
-            found = kept(book, line)
-            if found is not None:
-                command, after = found
-                texts = translated_texts(book, in_notation(locale, language, after), command, word_texts(words_of(line)))
-                self.became += 1
-                others = [self.beside(number, line, line_of(texts), after, other) for other in others]
+            left = left_after(book, line)
+            for choice in others:
+                new_line = became(locale, language, choice, book, line)
+                if new_line is not None:
+                    others[choice] = self.beside(number, line, new_line, left, others[choice])
+                    self.became += choice is plainly
                 if self.differs:
                     return
-            book = line_step(COMMANDS, book, line)[0]
+            book = left
 
-    def beside(self, number, line, new_line, after, other):
+    def beside(self, number, line, new_line, left, other):
         """What the new line leaves; it must be accepted, and leave what the line left."""
         command = command_of(other, new_line)
         stepped = ("Err", ("BadLine",)) if command is None else step(other, command)
-        if stepped[0] == "Err" or not is_same_book(after, stepped[1]):
+        if stepped[0] == "Err" or not is_same_book(left, stepped[1]):
             self.differs = number, line, new_line, stepped[1] if stepped[0] == "Err" else "another book"
         return other if stepped[0] == "Err" else stepped[1]
 
@@ -93,10 +93,10 @@ class Count:
 
 def told(locale, language, lines):
     """As a row has it."""
-    cannot = first_untranslatable(locale, language, start(), lines)
+    cannot = first_hindered(locale, language, start(), lines)
     if cannot is not None:
         return ["7", "cannot", str(cannot[0]), cannot[1]]
-    return ["0", "lines", str(len(translated(locale, language, start(), lines)[0]))]
+    return ["0", "lines", str(len(translated(locale, language, plainly, start(), lines)))]
 
 
 def bad_rows(path, folder):
