@@ -1,10 +1,11 @@
 """Translates lists of command lines into other notations, runs what they become there, and compares the books that are left.
 
-python3 tests/reading/translated.py FOLDER.. [--all] [--rows=FILE] [--seed=N] [--count=K]: each file NAME.lines in the folders is
+python3 tests/reading/translated.py FOLDER.. [--all] [--rows=FILE] [--written=FILE] [--seed=N] [--count=K]: each file NAME.lines in the folders is
 translated into five notations, with --all into each locale with each language. A line that can't be translated is taken out, and
 the rest goes on. What the lines become must be accepted line by line, and leave the same book after each: with plain spellings, and
 with what was typed where that is the same in the notation, from a book with other styles. A row of FILE has the name of a list in the first folder, a locale, a language, and 0, `lines` and how many lines it
-becomes, or 7, `cannot`, the number of the first line that can't be translated, and why. With a seed, K lists are drawn and tried,
+becomes, or 7, `cannot`, the number of the first line that can't be translated, and why. A row of what is written has a locale, a
+language, a list, and what `desk translate` writes of it, both with escapes. With a seed, K lists are drawn and tried,
 100 unless told. The status is 1 where something differs."""
 import glob
 import os
@@ -15,7 +16,7 @@ sys.path.insert(0, os.path.dirname(os.path.abspath(__file__)))
 
 from drawn import drawn_lines  # noqa: E402
 from ic_cells.style import DEFAULT_STYLE  # noqa: E402
-from ic_laws.lines import line_text, lines_of  # noqa: E402
+from ic_laws.lines import line_text, lines_of, unescaped  # noqa: E402
 from ic_machine.book import new_book  # noqa: E402
 from ic_machine.same import is_same_book  # noqa: E402
 from ic_machine.step import step  # noqa: E402
@@ -99,17 +100,35 @@ def told(locale, language, lines):
     return ["0", "lines", str(len(translated(locale, language, plainly, start(), lines)))]
 
 
-def bad_rows(path, folder):
+def written(locale, language, lines):
+    """As `desk translate` writes it."""
+    cannot = first_hindered(locale, language, start(), lines)
+    if cannot is not None:
+        return f"cannot\t{cannot[0]}\t{cannot[1]}\n"
+    switches = [f"set_locale\t{locale}", f"set_language\t{language}"]
+    return "".join(line + "\n" for line in switches + translated(locale, language, plainly, start(), lines))
+
+
+def bad_rows(path, tried):
+    """How many rows of a file tell something else than was tried, which gives what was wanted and what was given."""
     bad = count = 0
     with open(path, encoding="utf-8") as rows:
         for row in rows:
-            name, locale, language, *wanted = row.rstrip("\n").split("\t")
-            given, count = told(locale, language, texts_of_lines(os.path.join(folder, name))), count + 1
+            (wanted, given), count = tried(row.rstrip("\n").split("\t")), count + 1
             if given != wanted:
                 bad += 1
-                print(f"{name} to {locale} {language}: wanted {wanted}, given {given}")
-    print(f"{count} rows, {bad} with differences")
+                print(f"{row!r}: wanted {wanted}, given {given}")
+    print(f"{path}: {count} rows, {bad} with differences")
     return bad
+
+
+def told_row(folder):
+    return lambda row: (row[3:], told(*row[1:3], texts_of_lines(os.path.join(folder, row[0]))))
+
+
+def written_row(row):
+    locale, language, lines, wanted = row
+    return unescaped(wanted), written(locale, language, [line_text(line) for line in lines_of(unescaped(lines).encode())])
 
 
 def option(words, name, otherwise=None):
@@ -119,7 +138,8 @@ def option(words, name, otherwise=None):
 def main(words):
     folders = [word for word in words if not word.startswith("--")]
     notations, rows, seed = ALL if "--all" in words else FIVE, option(words, "rows"), option(words, "seed")
-    bad = bad_rows(rows, folders[0]) if rows else 0
+    bad = bad_rows(rows, told_row(folders[0])) if rows else 0
+    bad += bad_rows(option(words, "written"), written_row) if option(words, "written") else 0
     count = Count()
     for folder in folders:
         for path in sorted(glob.glob(os.path.join(folder, "*.lines"))):
