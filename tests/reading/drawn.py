@@ -15,7 +15,7 @@ NUMBERS = """0 007 1.5 1,5 1.234,5 1,234.5 1.234 1,234 12%% 1.5%% .5 ,5 1. 1, $1
 TEXTS = ["", "'", "''", "'1,5", "'=1", "=", "+", "-", "=1+", "=(", "+x", "-x", "-A1*2", "+A1", "hola", " TRUE", "true ", "tab\there", "a\nb",
          "cr\r", "back\\slash", "\\n", "#", "#N/A!", "#n/a", "%", "$", "€", "ſI", "wahr", "@A1", "=@A1", "'wahr"]
 NAMES = BOOLEANS + ["tax", "x", "y", "Y", "o", "E", "SUMA", "si", "\u017fI", "SUM", "Et", "NB.SI", "ZÄHLENWENN", "LET", "R", "R1", "A1", "XFE1",
-                    "_a", "\\b", "stra\u00dfe", "STRASSE", "\u212a", "1x", "Foglio1", "Summe.1"]
+                    "_a", "\\b", "stra\u00dfe", "STRASSE", "\u212a", "\u0390", "1x", "Foglio1", "Summe.1"]
 SHEETS = ["Sheet1", "T", "My data", "it's", "VERO", "Hoja1", "Tabelle2", "A1", "R1C1", "1,5", "été", "SHEET1", "a!b", "T", "-", "x\ty"]
 
 
@@ -93,20 +93,20 @@ class Draw:
     def scope(self):
         return self.any("-", "-", "-", "0", "0", "1", "7")
 
-    def body(self):
+    def body(self, name):
         lambda_text = self.any("", "=") + self.binding(2, True)
-        return self.any(lambda_text, lambda_text, lambda_text, "Sheet1!$A$1", " T!B2 ", self.reference(), self.any("", "=", " =") + self.expression(2))
+        return self.any(lambda_text, lambda_text, f"=LAMBDA(x{self.separators()[0]}{name}(x))", "Sheet1!$A$1", " T!B2 ", self.reference(), self.any("", "=", " =") + self.expression(2))
 
     def definition(self):
         kind, name, scope = self.draw.randrange(8), self.one(NAMES), self.scope()
         if kind < 3:
             self.named.append((name, scope))
-            return ["new_defined_name", name, scope, self.body()]
+            return ["new_defined_name", name, scope, self.body(name)]
         name, scope = self.one(self.named)
         if kind == 3:
             return ["delete_defined_name", name, scope]
         self.named.append((self.any(name, self.one(NAMES)), self.any(scope, scope, self.scope())))
-        return ["update_defined_name", name, scope, *self.named[-1], self.body()]
+        return ["update_defined_name", name, scope, *self.named[-1], self.body(self.named[-1][0])]
 
     def sheet(self):
         index = self.any("0", "1", "2")
