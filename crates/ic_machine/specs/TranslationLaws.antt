@@ -42,7 +42,7 @@ looks_at_notation command = is_dropped command
 
 -- a line that goes leaves the same
 abbrev pub GoneIsSame : Type 0
-GoneIsSame = (book : Book) (line : List ℕ) → IsValidBook book → kept_in book line ≡ None → IsSameBook (left_after book line) book
+GoneIsSame = (book : Book) (line : List ℕ) → kept_in book line ≡ None → IsSameBook (left_after book line) book
 
 -- each line is accepted in its turn
 abbrev pub AreAccepted : Book → List (List ℕ) → Type 0
