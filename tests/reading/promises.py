@@ -15,48 +15,19 @@ from ic_laws.lines import line_text, lines_of  # noqa: E402
 from ic_laws.parse import read_as  # noqa: E402
 from ic_laws.printing import printed  # noqa: E402
 from ic_laws.scene import key_of  # noqa: E402
+from ic_laws.tree import below  # noqa: E402
 from ic_machine.book import core_of, new_book, notations_in, scene_in  # noqa: E402
 from ic_machine.command import COMMANDS, command_in  # noqa: E402
 from ic_machine.content import formula_in, formula_index, shape_of  # noqa: E402
+from ic_machine.readers import is_reader  # noqa: E402
+from ic_machine.retyped import clashes_in  # noqa: E402
 from ic_machine.step import step  # noqa: E402
 from ic_machine.subjects.reading import shown_content  # noqa: E402
 from ic_machine.subjects.writing import input_step, write_causes  # noqa: E402
-from ic_machine.valid import below, failing, nodes  # noqa: E402
+from ic_machine.valid import failing  # noqa: E402
 from ic_tables.sample import SAMPLE  # noqa: E402
-from ic_tables.tables import first_agreeing, language_of  # noqa: E402
+from ic_tables.tables import language_of  # noqa: E402
 from run import read  # noqa: E402
-
-READERS = {"GetNewSheetId", "GetWorksheetsProperties", "WouldCaptureName", "IsValidDefinedName", "GetDefinedNameList", "GetLocale",
-           "GetLanguage", "GetTimezone", "GetFmtSettings", "GetCellStyleIndex", "GetStyleForCell", "GetCellStyleOrNone", "GetColumnStyle",
-           "GetRowStyle", "GetColumnWidth", "GetRowHeight", "IsColumnHidden", "IsRowHidden", "GetTheme", "GetFrozenRowsCount",
-           "GetFrozenColumnsCount"}
-
-
-def is_reader(command):
-    return command[0] in ("OnReading", "OnExtending") or command[1][0] in READERS
-
-
-def clashes(t, language):
-    """Some word, variable or binder is a boolean word of a language, or some called word one of its function words."""
-    for x in nodes(t):
-        words = []
-        if x[0] in ("Word", "Call") and x[1][0] in ("Var", "Dangling"):
-            words = [x[1][1]]
-        elif x[0] in ("Word", "Call") and x[1][0] == "Name":
-            words = [x[1][1].name]
-        elif x[0] == "Let":
-            words = [variable for variable, _ in x[1]]
-        elif x[0] == "Lambda":
-            words = list(x[1])
-        kind = "Function" if x[0] == "Call" else "Boolean"
-        if any(first_agreeing(language, kind, word) is not None for word in words):
-            return True
-    return False
-
-
-def clashes_in(book, t):
-    return clashes(t, language_of(book.tables, book.language)) or clashes(t, language_of(book.tables, "en"))
-
 
 def cells(book):
     for i, sheet in enumerate(book.sheets):

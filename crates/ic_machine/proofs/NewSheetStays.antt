@@ -34,14 +34,14 @@ use Rattle.ic_machine.proofs.SheetsStay.{added_stays}
 use Rattle.ic_machine.proofs.ValidLemmas.{stays_unless}
 
 module _ (b : Book) (valid : IsValidBook b) where
-  is_free : has_sheet (core_of b) (new_sheet_name b) ≡ false
+  pub is_free : has_sheet (core_of b) (new_sheet_name b) ≡ false
   is_free =
       let few : length b.sheets ≤ 4294967295 = valid.sheets.few in
       let count : length (names_of (core_of b)) ≡ length b.sheets = length-map (map core_sheet b.sheets) (λ (s : core_book.Sheet). s.name) ∙ length-map b.sheets core_sheet in
       free_of (names_of (core_of b)) (numbered_name b) (length b.sheets + 2) (λ a n x y e. numbers_apart (base_name b.language) a n (omega (arith, x, few)) (omega (arith, y, few)) e) 1 (suc (length b.sheets))
       (find (λ n. not (has_sheet (core_of b) (numbered_name b n))) (range_with_len 1 (suc (length b.sheets)))) (suc (length b.sheets)) refl (omega (arith, count)) (omega (arith))
 
-  is_good : is_sheet_name (new_sheet_name b) ≡ true
+  pub is_good : is_sheet_name (new_sheet_name b) ≡ true
   is_good =
       let few : length b.sheets ≤ 4294967295 = valid.sheets.few in
       let most : free_number b (numbered_name b) ≤ length b.sheets + 1 = small b (numbered_name b) in

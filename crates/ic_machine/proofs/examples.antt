@@ -19,3 +19,4 @@ mod Small
 mod SpillSession
 mod StyleSession
 mod TableExamples
+mod TranslationExamples

@@ -21,9 +21,12 @@ pub mod Reply
 pub mod Retyped
 pub mod Row
 pub mod Run
+pub mod Same
 pub mod Scene
 pub mod Step
 pub mod Styling
+pub mod Translation
+pub mod TranslationLaws
 pub mod Valid
 pub mod Word
 pub mod subjects

@@ -10,33 +10,10 @@ from ic_laws.name import fold, is_identifier, is_sheet_name
 from ic_laws.notations import english_function
 from ic_laws.position import LAST_COLUMN, LAST_ROW, is_column, is_inside, is_place_within, is_row
 from ic_laws.scene import key_of
+from ic_laws.tree import nodes
 from ic_tables.tables import lists_zone
 from .book import notations_in, scene_in
 from .content import HELD, formula_in, formula_index, style_of
-
-
-def below(t):
-    """The trees directly below a node."""
-    kind = t[0]
-    if kind in ("Paren", "Percent", "Spill"):
-        return [t[1]]
-    if kind == "Prefix":
-        return [t[2]]
-    if kind == "Binary":
-        return [t[2], t[3]]
-    if kind in ("Fun", "Call"):
-        return list(t[2])
-    if kind == "Let":
-        return [value for _, value in t[1]] + [t[2]]
-    if kind == "Lambda":
-        return [t[2]]
-    return [t[1]] + list(t[2]) if kind == "Apply" else []
-
-
-def nodes(t):
-    yield t
-    for x in below(t):
-        yield from nodes(x)
 
 
 def is_settled(n, scene, scope, t):
