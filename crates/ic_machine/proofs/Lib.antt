@@ -15,15 +15,18 @@ pub mod DuplicatedStays
 pub mod ExtendedLemmas
 pub mod FormulaLemmas
 pub mod FormulaStepped
+mod GoneLemmas
 pub mod HaveLemmas
 pub mod InsertedBinds
 pub mod InsertedStays
 pub mod NamesStay
 pub mod NewNames
+mod NewSheetSame
 pub mod NewSheetStays
 pub mod NumberLemmas
 pub mod ReaderLemmas
 pub mod RetypedLemmas
+mod SameLemmas
 pub mod SceneLemmas
 pub mod SeenLemmas
 pub mod ServedLemmas
