@@ -3,7 +3,9 @@ pub mod AlikeLemmas
 pub mod ArrayCells
 pub mod ArrayStays
 pub mod ArraysStay
+mod BareGrid
 pub mod BindsLemmas
+mod ChangedSame
 pub mod ChangedStays
 pub mod CopiedBinds
 pub mod CopiedWords
@@ -16,6 +18,7 @@ pub mod ExtendedLemmas
 pub mod FormulaLemmas
 pub mod FormulaStepped
 mod GoneLemmas
+mod GridsSame
 pub mod HaveLemmas
 pub mod InsertedBinds
 pub mod InsertedStays
@@ -24,12 +27,15 @@ pub mod NewNames
 mod NewSheetSame
 pub mod NewSheetStays
 pub mod NumberLemmas
+mod OthersSame
 pub mod ReaderLemmas
 pub mod RetypedLemmas
 mod SameLemmas
+mod SameSteps
 pub mod SceneLemmas
 pub mod SeenLemmas
 pub mod ServedLemmas
+mod SheetsSame
 pub mod SheetsStay
 pub mod StandingLemmas
 pub mod SteppedLemmas
@@ -40,6 +46,8 @@ pub mod UpdatedStays
 pub mod ValidLemmas
 pub mod WholeLemmas
 pub mod WordLemmas
+mod WritingSame
 pub mod WritingStays
 pub mod WritingSteps
+mod ZippedLemmas
 mod examples
