@@ -16,6 +16,7 @@ pub mod CoreValid
 pub mod DuplicatedStays
 pub mod ExtendedLemmas
 pub mod FormulaLemmas
+mod FormulaSame
 pub mod FormulaStepped
 mod GoneLemmas
 mod GridsSame

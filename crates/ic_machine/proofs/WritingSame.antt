@@ -1,7 +1,9 @@
 -- A write leaves the same of books that are the same, where what is written is the same but for styles.
-use Rattle.std.proofs.Common.{◌≡◌, ℕ, ℤ, List, [], ◌∷◌, ◌++◌, Bool, refl, sym, ap, ap₂, ◌∙◌}
+use Rattle.std.proofs.Common.{◌≡◌, ℕ, ℤ, List, [], ◌∷◌, ◌++◌, Bool, true, false, cond, Option, Some, None, Ok, refl, sym, ap, ap₂, subst, ◌∙◌}
 use Rattle.std.specs.List.{slice_get}
+use Rattle.std.specs.Prelude.{option_map}
 use Rattle.ic_laws.specs.CoreBook.{CellPlace}
+use Rattle.ic_laws.specs.Position.{is_column, is_row}
 use Rattle.ic_laws.specs.declared.tree.Formula.{Formula}
 use Rattle.ic_cells.specs.Style.{with_quote_prefix}
 use Rattle.ic_cells.specs.declared.layout.Merge.{Merge}
@@ -11,17 +13,22 @@ use Rattle.ic_grid.specs.Merges.{is_covered}
 use Rattle.ic_grid.specs.Contents.{Contents}
 use Rattle.ic_grid.specs.Prepare.{written}
 use Rattle.ic_input.specs.Typed.{needs_quoting}
-use Rattle.ic_machine.specs.Book.{Book, Grid, Sheet, at_sheet, style_number_at}
+use Rattle.ic_machine.specs.Book.{Book, Grid, Sheet, found_or, style_number_at, unless, unless_refused}
 use Rattle.ic_machine.specs.Content.{BoolContent, Content, NumContent, TextContent, held}
 use Rattle.ic_machine.specs.InForce.{typed_in}
-use Rattle.ic_machine.specs.Refusal.{ArrayPart, Causes, MergedPart}
+use Rattle.ic_machine.specs.Refusal.{ArrayPart, Causes, InvalidSheet, MergedPart, Refusal, first_refusal}
+use Rattle.ic_machine.specs.Reply.{Field}
 use Rattle.ic_machine.specs.Same.{IsSameBook, IsSameGrid, IsSameSheet, unstyled}
 use Rattle.ic_machine.specs.Styling.{Numbered, restyled}
+use Rattle.ic_machine.specs.TranslationLaws.{LeavesSame}
 use Rattle.ic_machine.specs.subjects.Writing.{Written, bool_step, number_step, place_causes, text_step, text_written, value_written, with_content, with_styled, with_written, write_causes, write_step}
 use Rattle.ic_machine.proofs.AlikeGrid.{is_fixed_at_as, written_as}
 use Rattle.ic_machine.proofs.BareGrid.{bare, bared, seen_bare}
+use Rattle.ic_machine.proofs.InsertedBinds.{accepted}
 use Rattle.ic_machine.proofs.SameLemmas.{contents_same}
 use Rattle.ic_machine.proofs.SameSteps.{SameSteps, at_sheet_same, contents_back, refused_same, with_sheet_same}
+use Rattle.ic_machine.proofs.WritingSteps.{place_clear}
+use Rattle.ic_machine.proofs.ZippedLemmas.{BothFound, zipped_found}
 
 -- the same is written, in whatever style, and whatever that does to the style of the place
 pub record WritesSame (w v : Written) : Type 0 where
@@ -90,3 +97,60 @@ module _ (b c : Book) (same : IsSameBook b c) where
   number_same index place amount =
       write_same index place (λ s. value_written s (λ style. NumContent amount style)) (λ s. value_written s (λ style. NumContent amount style)) []
       (λ s t sheets. record { content = λ m n. refl; pool = sheets.pool })
+
+-- An accepted write, made once more in a book that is the same. ----
+
+clear_cause : {A : Type 0} (t : Bool) (x : A) (o : Option A) → cond t (Some x) o ≡ None → (t ≡ false) × (o ≡ None)
+clear_cause true x o e = absurd (cc)
+clear_cause false x o e = (refl, e)
+
+others_clear : (first others : Causes) → first_refusal (first ++ others) ≡ None → first_refusal others ≡ None
+others_clear [] others e = e
+others_clear (cause ∷ first) others e = others_clear first others (clear_cause cause.0 cause.1 (first_refusal (first ++ others)) e).1
+
+pub both_clear : (first others more : Causes) → first_refusal (first ++ others) ≡ None → first_refusal more ≡ None → first_refusal (first ++ more) ≡ None
+both_clear [] others more e h = h
+both_clear (cause ∷ first) others more e h =
+    let clear = clear_cause cause.0 cause.1 (first_refusal (first ++ others)) e in
+    ap (λ (t : Bool). cond t (Some cause.1) (first_refusal (first ++ more))) clear.0 ∙ both_clear first others more clear.1 h
+
+-- what is known where one is accepted: its place is one of the sheet, its own causes don't hold, and it leaves this
+pub record IsWritten (b left : Book) (index : ℕ) (s : Sheet) (place : CellPlace) (w : Written) (own : Causes) : Type 0 where
+  pub row : is_row place.0 ≡ true
+  pub column : is_column place.1 ≡ true
+  pub clear : first_refusal own ≡ None
+  pub is : left ≡ with_written b index s place w
+
+module _ (b c : Book) (same : IsSameBook b c) (index : ℕ) (place : CellPlace) (w v : Sheet → Written) (own also : Causes) (left : Book) (fields : List Field) where
+  abbrev pub Again : Sheet → Sheet → Type 0
+  Again s t = IsWritten b left index s place (w s) own → WritesSame (w s) (v t) × (first_refusal also ≡ None)
+
+  found_again : (o p : Option Sheet) → BothFound IsSameSheet o p
+      → found_or InvalidSheet (option_map (λ s. unless_refused (place_causes place ++ (write_causes s place ++ own)) (with_written b index s place (w s)) []) o) ≡ Ok (left, fields)
+      → ((s t : Sheet) → o ≡ Some s → p ≡ Some t → IsSameSheet s t → Again s t)
+      → LeavesSame left (found_or InvalidSheet (option_map (λ t. unless_refused (place_causes place ++ (write_causes t place ++ also)) (with_written c index t place (v t)) []) p))
+  found_again None p both e again = absurd (cc)
+  found_again (Some s) None both e again = absurd both
+  found_again (Some s) (Some t) both e again =
+      let done = accepted (first_refusal (place_causes place ++ (write_causes s place ++ own))) (with_written b index s place (w s)) left [] fields e in
+      let of_sheet = others_clear (place_causes place) (write_causes s place ++ own) done.0 in
+      let there = place_clear (is_row place.0) (is_column place.1) (write_causes s place ++ own) done.0 in
+      let h = again s t refl refl both (record { row = there.0; column = there.1; clear = others_clear (write_causes s place) own of_sheet; is = done.1 }) in
+      let clear : first_refusal (place_causes place ++ (write_causes t place ++ also)) ≡ None =
+      subst (λ (causes : Causes). first_refusal (place_causes place ++ (causes ++ also)) ≡ None) (causes_same s t both place)
+      (both_clear (place_causes place) (write_causes s place ++ own) (write_causes s place ++ also) done.0 (both_clear (write_causes s place) own also of_sheet h.1)) in
+      (
+        with_written c index t place (v t),
+        (
+          [],
+          (
+            ap (λ (o : Option Refusal). unless o (with_written c index t place (v t)) []) clear,
+            subst (λ (x : Book). IsSameBook x (with_written c index t place (v t))) (sym done.1) (book_written b c same index s t both place (w s) (v t) h.0),
+          ),
+        ),
+      )
+
+  pub write_again : write_step b index place w own ≡ Ok (left, fields)
+      → ((s t : Sheet) → slice_get b.sheets index ≡ Some s → slice_get c.sheets index ≡ Some t → IsSameSheet s t → Again s t)
+      → LeavesSame left (write_step c index place v also)
+  write_again e again = found_again (slice_get b.sheets index) (slice_get c.sheets index) (zipped_found IsSameSheet b.sheets c.sheets same.sheets index) e again

@@ -19,6 +19,7 @@ ghost use Rattle.ic_machine.specs.Readers.{LeavesIf, is_reader};
 ghost use Rattle.ic_machine.specs.Retyped.{RetypedStays};
 ghost use Rattle.ic_machine.specs.Scene.{KeepsSceneIf, leaves_names};
 ghost use Rattle.ic_machine.specs.Step.{step};
+ghost use Rattle.ic_machine.specs.TranslationLaws.{FormulaIsSame, OthersAreSame};
 ghost use Rattle.ic_machine.specs.subjects.Arrays.{arrays_step};
 ghost use Rattle.ic_machine.specs.subjects.Definitions.{definition_step};
 ghost use Rattle.ic_machine.specs.subjects.Extending.{extending_step};
@@ -142,4 +143,14 @@ pub fn law_retyped_stays()
 /// fixed positions, unless a reference leaves the sheet or a name is a word of the language in force.
 pub fn law_extended_is_same()
     ensures { ExtendedIsSame }
+{}
+
+/// Try.
+pub fn law_try_others()
+    ensures { (locale language : List ℕ) → OthersAreSame locale language }
+{}
+
+/// Try.
+pub fn law_try_formula()
+    ensures { (locale language : List ℕ) → FormulaIsSame locale language }
 {}
