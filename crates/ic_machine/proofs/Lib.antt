@@ -1,6 +1,7 @@
 pub mod AlikeGrid
 pub mod AlikeLemmas
 pub mod ArrayCells
+mod ArraySame
 pub mod ArrayStays
 pub mod ArraysStay
 mod BareGrid
@@ -21,6 +22,7 @@ pub mod FormulaStepped
 mod GoneLemmas
 mod GridsSame
 pub mod HaveLemmas
+mod InputSame
 pub mod InsertedBinds
 pub mod InsertedStays
 pub mod NamesStay

@@ -19,7 +19,7 @@ ghost use Rattle.ic_machine.specs.Readers.{LeavesIf, is_reader};
 ghost use Rattle.ic_machine.specs.Retyped.{RetypedStays};
 ghost use Rattle.ic_machine.specs.Scene.{KeepsSceneIf, leaves_names};
 ghost use Rattle.ic_machine.specs.Step.{step};
-ghost use Rattle.ic_machine.specs.TranslationLaws.{FormulaIsSame, OthersAreSame};
+ghost use Rattle.ic_machine.specs.TranslationLaws.{ArrayIsSame, FormulaIsSame, InputIsSame, OthersAreSame};
 ghost use Rattle.ic_machine.specs.subjects.Arrays.{arrays_step};
 ghost use Rattle.ic_machine.specs.subjects.Definitions.{definition_step};
 ghost use Rattle.ic_machine.specs.subjects.Extending.{extending_step};
@@ -153,4 +153,14 @@ pub fn law_try_others()
 /// Try.
 pub fn law_try_formula()
     ensures { (locale language : List ℕ) → FormulaIsSame locale language }
+{}
+
+/// Try.
+pub fn law_try_input()
+    ensures { (locale language : List ℕ) → InputIsSame locale language }
+{}
+
+/// Try.
+pub fn law_try_array()
+    ensures { (locale language : List ℕ) → ArrayIsSame locale language }
 {}
