@@ -44,6 +44,7 @@ pub mod StandingLemmas
 pub mod SteppedLemmas
 pub mod StylesStay
 pub mod SubjectsStay
+mod TextEnds
 pub mod UpdatedBinds
 pub mod UpdatedStays
 pub mod ValidLemmas

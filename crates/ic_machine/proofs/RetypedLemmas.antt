@@ -123,7 +123,7 @@ text_told (kinds.Error e) h = absurd (true≢false (sym h))
 text_told (kinds.Text text) h = (text, refl)
 
 -- nothing reads as a tree
-empty_reads : (d : DialectMeaning) → read_as d [] ≡ None
+pub empty_reads : (d : DialectMeaning) → read_as d [] ≡ None
 unfolding tokens_by parsed reader expression operand
 empty_reads d = refl
 

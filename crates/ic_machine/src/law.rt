@@ -1,4 +1,4 @@
-ghost use Rattle.std.specs.Prelude.{List, ℕ};
+ghost use Rattle.std.specs.Prelude.{◌≡◌, List, ℕ};
 ghost use Rattle.ic_grid.specs.Shape.{celled};
 ghost use Rattle.ic_machine.specs.Alike.{HoldsAlike};
 ghost use Rattle.ic_machine.specs.Binds.{AddedIsMeant, CopiedIsMeant, CopiedMeansSame};
@@ -19,7 +19,7 @@ ghost use Rattle.ic_machine.specs.Readers.{LeavesIf, is_reader};
 ghost use Rattle.ic_machine.specs.Retyped.{RetypedStays};
 ghost use Rattle.ic_machine.specs.Scene.{KeepsSceneIf, leaves_names};
 ghost use Rattle.ic_machine.specs.Step.{step};
-ghost use Rattle.ic_machine.specs.TranslationLaws.{ArrayIsSame, FormulaIsSame, InputIsSame, OthersAreSame};
+ghost use Rattle.ic_machine.specs.TranslationLaws.{ArrayIsSame, DefinitionIsSame, FormulaIsSame, InputIsSame, LineIsSame, OthersAreSame, TranslationKeepsBook, UpdateIsSame};
 ghost use Rattle.ic_machine.specs.subjects.Arrays.{arrays_step};
 ghost use Rattle.ic_machine.specs.subjects.Definitions.{definition_step};
 ghost use Rattle.ic_machine.specs.subjects.Extending.{extending_step};
@@ -163,4 +163,9 @@ pub fn law_try_input()
 /// Try.
 pub fn law_try_array()
     ensures { (locale language : List ℕ) → ArrayIsSame locale language }
+{}
+
+/// Try.
+pub fn law_try()
+    ensures { (n : ℕ) → n ≡ n }
 {}
