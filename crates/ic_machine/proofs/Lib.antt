@@ -6,6 +6,7 @@ pub mod ArrayStays
 pub mod ArraysStay
 mod BareGrid
 pub mod BindsLemmas
+mod BodyAgain
 mod ChangedSame
 pub mod ChangedStays
 pub mod CopiedBinds

@@ -60,11 +60,11 @@ pub trimmed_tight : (text : List ℕ) → IsTight text → trimmed text ≡ text
 trimmed_tight text h =
     ap (λ (t : List ℕ). reverse (past_run is_blank (reverse t))) (past_solid text h.first) ∙ ap reverse (past_solid (reverse text) h.last) ∙ reverse-reverse text
 
-first_joined : (p : ℕ → Bool) (a b : List ℕ) → first_is p a ≡ true → first_is p (a ++ b) ≡ true
+pub first_joined : (p : ℕ → Bool) (a b : List ℕ) → first_is p a ≡ true → first_is p (a ++ b) ≡ true
 first_joined p [] b h = absurd (true≢false (sym h))
 first_joined p (c ∷ cs) b h = h
 
-last_joined : (a b : List ℕ) → first_is is_solid (reverse b) ≡ true → first_is is_solid (reverse (a ++ b)) ≡ true
+pub last_joined : (a b : List ℕ) → first_is is_solid (reverse b) ≡ true → first_is is_solid (reverse (a ++ b)) ≡ true
 last_joined a b h = ap (first_is is_solid) (reverse-append a b) ∙ first_joined is_solid (reverse b) (reverse a) h
 
 pub tight_joined : (a b : List ℕ) → IsTight a → IsTight b → IsTight (a ++ b)
@@ -156,7 +156,7 @@ amount_tight separator units solid small =
         (solid_tight separator (fraction_digits 9 rest) (and_from (is_solid separator) (list_all is_solid (fraction_digits 9 rest)) solid (fraction_solid 9 rest)))
 
 -- what ends with one more character
-pushed_last : (front : List ℕ) (c : ℕ) → is_solid c ≡ true → first_is is_solid (reverse (front ++ c ∷ [])) ≡ true
+pub pushed_last : (front : List ℕ) (c : ℕ) → is_solid c ≡ true → first_is is_solid (reverse (front ++ c ∷ [])) ≡ true
 pushed_last front c h = last_joined front (c ∷ []) h
 
 -- Tokens. ----
@@ -256,12 +256,19 @@ module _ (d : DialectMeaning) (lawful : IsLawful d) where
           | inr e ↦ e.0
         ]
 
-    pub printed_tight : EndsSolid d → IsTight (printed d t)
-    printed_tight ends = go (yield d t) (fits_chain d lawful t fits) reads
+    pub printed_begins : first_is is_solid (printed d t) ≡ true
+    printed_begins = go (yield d t) (fits_chain d lawful t fits) reads
       where
-        go : (ts : List Token) → IsChain d ts → read_as d (spelled_out d ts) ≡ Some t → IsTight (spelled_out d ts)
+        go : (ts : List Token) → IsChain d ts → read_as d (spelled_out d ts) ≡ Some t → first_is is_solid (spelled_out d ts) ≡ true
         go [] h read = let none : None ≡ Some t = sym (empty_reads d) ∙ read in absurd (cc)
-        go (u ∷ ts) h read = record { first = chain_begins u ts h; last = chain_solid ends u ts h }
+        go (u ∷ ts) h read = chain_begins u ts h
+
+    pub printed_tight : EndsSolid d → IsTight (printed d t)
+    printed_tight ends = record { first = printed_begins; last = go (yield d t) (fits_chain d lawful t fits) reads }
+      where
+        go : (ts : List Token) → IsChain d ts → read_as d (spelled_out d ts) ≡ Some t → EndSolid (spelled_out d ts)
+        go [] h read = let none : None ≡ Some t = sym (empty_reads d) ∙ read in absurd (cc)
+        go (u ∷ ts) h read = chain_solid ends u ts h
 
 -- one with an equals sign before it, and one without
 pub without_equals_front : (has : Bool) (text : List ℕ) → first_is (λ c. c == equals) text ≡ false → without_equals (cond has (equals ∷ []) [] ++ text) ≡ text
