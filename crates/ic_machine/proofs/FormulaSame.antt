@@ -48,13 +48,16 @@ use Rattle.ic_machine.proofs.WritingSame.{WritesSame, write_again}
 use Rattle.ic_machine.proofs.WritingSteps.{text_kept}
 
 -- a formula that can be written is a tree, of which no name is a word of the language
-pub writable_tree : (target : Book) (formula : Formula) → why_not target formula ≡ None → (t : Bound) × (formula ≡ formulas.Tree t) × (clashes_in target t ≡ false)
-writable_tree target (formulas.Raw text) e = absurd (cc)
-writable_tree target (formulas.Tree t) e = (t, refl, go (clashes_in target t) e)
+pub tree_unclashed : (target : Book) (t : Bound) → why_not target (formulas.Tree t) ≡ None → clashes_in target t ≡ false
+tree_unclashed target t e = go (clashes_in target t) e
   where
     go : (b : Bool) → cond b (Some Why.Clash) None ≡ None → b ≡ false
     go true h = absurd (cc)
     go false h = refl
+
+writable_tree : (target : Book) (formula : Formula) → why_not target formula ≡ None → (t : Bound) × (formula ≡ formulas.Tree t) × (clashes_in target t ≡ false)
+writable_tree target (formulas.Raw text) e = absurd (cc)
+writable_tree target (formulas.Tree t) e = (t, refl, tree_unclashed target t e)
 
 -- A book that has the tables and the names of another, in the other's notation. ----
 

@@ -15,6 +15,7 @@ pub mod CopyKeys
 pub mod CopyNames
 pub mod CoreLemmas
 pub mod CoreValid
+mod DefinitionSame
 pub mod DuplicatedStays
 pub mod ExtendedLemmas
 pub mod FormulaLemmas
@@ -46,6 +47,7 @@ pub mod SteppedLemmas
 pub mod StylesStay
 pub mod SubjectsStay
 mod TextEnds
+mod TreeAgain
 pub mod UpdatedBinds
 pub mod UpdatedStays
 pub mod ValidLemmas

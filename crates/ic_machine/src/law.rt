@@ -169,3 +169,8 @@ pub fn law_try_array()
 pub fn law_try()
     ensures { (n : ℕ) → n ≡ n }
 {}
+
+/// Try.
+pub fn law_try_definition()
+    ensures { (locale language : List ℕ) → DefinitionIsSame locale language }
+{}

@@ -1,6 +1,6 @@
 use Rattle.std.proofs.Common.{refl}
-use Rattle.ic_machine.proofs.BodyAgain.{body_kinds}
+use Rattle.ic_machine.proofs.DefinitionSame.{all_last}
 use Rattle.ic_machine.proofs.law.law_try.Goals as goal
 
 pub returns : goal.returns
-returns c n = let h = body_kinds in refl
+returns c n = refl
