@@ -20,7 +20,7 @@ use Rattle.ic_laws.specs.Binding.{bound, spelled}
 use Rattle.ic_laws.specs.Character.{equals}
 use Rattle.ic_laws.specs.Clash.{clashes_with}
 use Rattle.ic_laws.specs.CoreBook.{CoreBook, scene_of}
-use Rattle.ic_laws.specs.Dialect.{DialectMeaning, IsLawful, reference_text, word_text}
+use Rattle.ic_laws.specs.Dialect.{DialectMeaning, IsLawful, error_number, reference_text, word_text}
 use Rattle.ic_laws.specs.Following.{spelled_out}
 use Rattle.ic_laws.specs.FormulaReading.{Body, body_of, if_lambda, is_found, is_lambda_kind, lambda_tree, reference_tree, shown_at, trimmed, whole_reference, without_equals}
 use Rattle.ic_laws.specs.Notations.{AreNotations, IsShownForm, Notations, english, is_cell}
@@ -36,6 +36,7 @@ use Rattle.ic_laws.specs.declared.dialect.WordKind.TheVariants as kinds
 use Rattle.ic_laws.specs.declared.reference.Place.{Place}
 use Rattle.ic_laws.specs.declared.reference.RefToken.{RefToken}
 use Rattle.ic_laws.specs.declared.scene.Scene.{Scene}
+use Rattle.ic_laws.specs.declared.tree.Error.{Error}
 use Rattle.ic_laws.specs.declared.tree.Tree.{out-Tree, out-roll-Tree}
 use Rattle.ic_laws.specs.declared.tree.Tree.TheOpen as one
 use Rattle.ic_refs.proofs.A1SpellLemmas.{place_text-spells}
@@ -52,6 +53,8 @@ use Rattle.ic_tree.specs.LanguageWords.{is_boolean_word, is_function_word}
 use Rattle.ic_tree.specs.Notations.{notations_of, stored_in}
 use Rattle.ic_tree.specs.Shown.{list_separator, shown_meaning}
 use Rattle.ic_tree.specs.Stored.{stored_meaning}
+use Rattle.ic_cells.specs.Value.{error_word}
+use Rattle.ic_machine.proofs.RetypedLemmas.{error_at}
 use Rattle.ic_machine.proofs.TextEnds.{IsTight, all_of, all_tight, equals_front, first_joined, high_solid, is_solid, last_joined, no_equals, printed_begins, pushed_last, tight_front, trimmed_tight, without_equals_front}
 
 -- A form that is shown, of the tables' own. ----
@@ -87,6 +90,11 @@ module _ (tables : TableSet) (h : IsWellFormed tables) (locale code : List ℕ) 
   pub references_end : (row column : ℤ) (r : RefToken) → ((notations_of tables).shown locale code row column).can_spell r ≡ true → first_is is_solid (reverse (((notations_of tables).shown locale code row column).spell_ref r)) ≡ true
   references_end row column r =
       form_is (λ (d : DialectMeaning). d.can_spell r ≡ true → first_is is_solid (reverse (d.spell_ref r)) ≡ true) row column (λ e list decimal is. shown_ends l e list decimal row column r)
+
+  -- the word of an error value is the language's
+  pub error_written : (row column : ℤ) (e : Error) → word_text ((notations_of tables).shown locale code row column) kinds.Error (error_number e) ≡ error_word l e
+  error_written row column e =
+      form_is (λ (d : DialectMeaning). word_text d kinds.Error (error_number e) ≡ error_word l e) row column (λ beside list decimal is. ap (λ (o : Option (List ℕ)). unwrap_or o []) (error_at l e))
 
   pub form_shown : (row column : ℤ) → IsShownForm (notations_of tables) ((notations_of tables).shown locale code row column) row column
   form_shown row column = are.shown locale code row column known (knows_language_is tables code ∙ ap is_some found)

@@ -59,6 +59,7 @@ use Rattle.ic_machine.proofs.CoreValid.{core_valid}
 use Rattle.ic_machine.proofs.FormulaSame.{tree_unclashed}
 use Rattle.ic_machine.proofs.NamesStay.{definitions_stay}
 use Rattle.ic_machine.proofs.SameLemmas.{core_same}
+use Rattle.ic_machine.proofs.UpdatedStays.{some_of}
 use Rattle.ic_machine.proofs.TreeAgain.{fits_there, form, form_there, reads_there, references_there}
 
 -- an accepted step of the core machine
@@ -66,10 +67,6 @@ core_accepted : (o : Option refusals.Refusal) (now : CoreBook) (whole left : Boo
 core_accepted None now whole left fields e =
     let pair : ◌≡◌ {A = Book × List Field} (whole, []) (left, fields) = cc in (refl, sym (ap (λ (p : Book × List Field). p.0) pair))
 core_accepted (Some refusal) now whole left fields e = absurd (cc)
-
-some_of : {A : Type 0} (o : Option A) → is_none o ≡ false → (x : A) × (o ≡ Some x)
-some_of None e = absurd (true≢false e)
-some_of (Some x) e = (x, refl)
 
 -- What becomes of a body that is bound and spelled. ----
 

@@ -65,14 +65,14 @@ module _ (c left : Book) (tables : left.tables ≡ c.tables) where
   abbrev pub target : Book
   target = in_notation c.locale c.language left
 
-  pub force_there : in_force target ≡ in_force c
-  force_there = ap (λ (t : TableSet). all_there (locale_of t c.locale) (language_of t c.language) (language_of t english)) tables
+  pub force_same : in_force target ≡ in_force c
+  force_same = ap (λ (t : TableSet). all_there (locale_of t c.locale) (language_of t c.language) (language_of t english)) tables
 
   pub clashes_there : (t : Bound) → clashes_in target t ≡ clashes_in c t
-  clashes_there t = ap (by_notation true (λ f. clashes_with (is_boolean_word f.language) (is_function_word f.language) t)) force_there
+  clashes_there t = ap (by_notation true (λ f. clashes_with (is_boolean_word f.language) (is_function_word f.language) t)) force_same
 
   pub typed_there : (text : List ℕ) → typed_in target text ≡ typed_in c text
-  typed_there text = ap (by_notation (kinds.Text text) (λ f. typed f.locale f.language f.beside text)) force_there
+  typed_there text = ap (by_notation (kinds.Text text) (λ f. typed f.locale f.language f.beside text)) force_same
 
   pub shown_there : scene_in left ≡ scene_in c → (place : CellPlace) (t : Bound)
       → formula_text target place (formulas.Tree t) ≡ equals ∷ printed (shown_at (notations_in c) (core_of c) place.0 place.1) (spelled (scene_in c) t)

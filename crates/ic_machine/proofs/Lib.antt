@@ -42,12 +42,14 @@ pub mod SeenLemmas
 pub mod ServedLemmas
 mod SheetsSame
 pub mod SheetsStay
+mod SitesSame
 pub mod StandingLemmas
 pub mod SteppedLemmas
 pub mod StylesStay
 pub mod SubjectsStay
 mod TextEnds
 mod TreeAgain
+mod UpdateSame
 pub mod UpdatedBinds
 pub mod UpdatedStays
 pub mod ValidLemmas

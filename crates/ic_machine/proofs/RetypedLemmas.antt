@@ -88,7 +88,7 @@ boolean_at : (l : Language) (b : Bool) → slice_get (boolean_words l) (boolean_
 boolean_at l true = refl
 boolean_at l false = refl
 
-error_at : (l : Language) (e : Error) → slice_get (error_words l) (error_number e) ≡ Some (error_word l e)
+pub error_at : (l : Language) (e : Error) → slice_get (error_words l) (error_number e) ≡ Some (error_word l e)
 error_at l errors.REF = refl
 error_at l errors.NAME = refl
 error_at l errors.VALUE = refl

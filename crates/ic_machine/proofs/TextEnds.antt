@@ -14,7 +14,7 @@ use Rattle.ic_laws.proofs.AmountLemmas.{numerals}
 use Rattle.ic_laws.proofs.printing.Operands.{reads_back}
 use Rattle.ic_laws.proofs.printing.Signs.{sign_read}
 use Rattle.ic_laws.proofs.printing.Trees.{fits_chain}
-use Rattle.ic_laws.proofs.printing.Words.{boolean_small, has_word}
+use Rattle.ic_laws.proofs.printing.Words.{boolean_small, error_begins, error_number_small, has_word}
 use Rattle.ic_laws.proofs.tokens.Characters.{blank_no_word}
 use Rattle.ic_laws.proofs.tokens.Lexing.{Begins, spelled_begins}
 use Rattle.ic_laws.proofs.tokens.Next.{token_at_sound}
@@ -163,7 +163,7 @@ pushed_last front c h = last_joined front (c ∷ []) h
 
 -- no word of an error value ends with a blank, and no reference does
 pub record EndsSolid (d : DialectMeaning) : Type 0 where
-  pub errors : (e : Error) → first_is is_solid (reverse (word_text d kinds.Error (error_number e))) ≡ true
+  pub errors : (e : Error) → first_is is_blank (reverse (word_text d kinds.Error (error_number e))) ≡ false
   pub references : (r : RefToken) → d.can_spell r ≡ true → first_is is_solid (reverse (d.spell_ref r)) ≡ true
 
 module _ (d : DialectMeaning) (lawful : IsLawful d) where
@@ -178,13 +178,27 @@ module _ (d : DialectMeaning) (lawful : IsLawful d) where
       let w = has_word d kinds.Boolean (boolean_number value) (lawful.booleans (boolean_number value) (boolean_small value)) in
       subst EndSolid (sym w.2) (form_tight w.0 (lawful.boolean_shape (boolean_number value) w.0 w.1)).last
 
+  marked_solid : (w : List ℕ) → first_is is_blank (reverse (35 ∷ w)) ≡ false → EndSolid (35 ∷ w)
+  marked_solid w h = ap (first_is is_solid) (reverse-append (35 ∷ []) w) ∙ go (reverse w) (sym (ap (first_is is_blank) (reverse-append (35 ∷ []) w)) ∙ h)
+    where
+      go : (front : List ℕ) → first_is is_blank (front ++ 35 ∷ []) ≡ false → first_is is_solid (front ++ 35 ∷ []) ≡ true
+      go [] k = refl
+      go (c ∷ cs) k = ap not k
+
+  error_solid : (e : Error) → first_is is_blank (reverse (word_text d kinds.Error (error_number e))) ≡ false → EndSolid (word_text d kinds.Error (error_number e))
+  error_solid e h =
+      let w = has_word d kinds.Error (error_number e) (lawful.errors (error_number e) (error_number_small e)) in
+      let mark = error_begins w.0 (lawful.error_shape w.0 (error_number e) (lawful.finds_word kinds.Error (error_number e) w.0 w.1)) in
+      let is : word_text d kinds.Error (error_number e) ≡ 35 ∷ mark.0 = w.2 ∙ mark.1 in
+      subst EndSolid (sym is) (marked_solid mark.0 (sym (ap (λ (text : List ℕ). first_is is_blank (reverse text)) is) ∙ h))
+
   -- a token that can be spelled ends with no blank, where this holds of those two
   pub token_solid : EndsSolid d → (token : Token) → CanSpell d token → EndSolid (token_text d token)
   token_solid ends (Num (pos units)) can = (amount_tight d.decimal units separators_solid.1 can).last
   token_solid ends (Num (negsuc units)) can = absurd can
   token_solid ends (Str text) can = pushed_last (double_quote ∷ flat_map (λ c. cond (c == double_quote) (double_quote ∷ double_quote ∷ []) (c ∷ [])) text) double_quote refl
   token_solid ends (Boolean value) can = boolean_solid value
-  token_solid ends (Err e) can = ends.errors e
+  token_solid ends (Err e) can = error_solid e (ends.errors e)
   token_solid ends (Ref r) can = let text : reference_text d r ≡ d.spell_ref r = rw can refl in subst EndSolid (sym text) (ends.references r can)
   token_solid ends (Local sheet word) can = last_joined (sheet_text (Some sheet)) word (variable_tight word (and_parts _ _ (and_parts _ _ (and_parts _ _ can.1).0).0).0).last
   token_solid ends (Word text) can = (variable_tight text can.0).last

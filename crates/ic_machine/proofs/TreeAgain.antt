@@ -3,7 +3,7 @@ use Rattle.std.proofs.Common.{◌≡◌, ℕ, ℤ, pos, List, [], ◌∷◌, Boo
 use Rattle.ic_laws.specs.Binding.{spelled}
 use Rattle.ic_laws.specs.Clash.{clashes_with}
 use Rattle.ic_laws.specs.CoreBook.{CoreBook}
-use Rattle.ic_laws.specs.Dialect.{DialectMeaning}
+use Rattle.ic_laws.specs.Dialect.{DialectMeaning, error_number, word_text}
 use Rattle.ic_laws.specs.FormulaReading.{shown_at}
 use Rattle.ic_laws.specs.Notations.{IsShownForm, Notations, english}
 use Rattle.ic_laws.specs.ReadAs.{read_as}
@@ -11,7 +11,10 @@ use Rattle.ic_laws.specs.Reading.{Fits, printed}
 use Rattle.ic_laws.specs.Scan.{first_is}
 use Rattle.ic_laws.specs.Tree.{Bound, Spelled}
 use Rattle.ic_laws.specs.ValidCore.{IsKept}
+use Rattle.ic_laws.specs.declared.dialect.WordKind.TheVariants as kinds
 use Rattle.ic_laws.specs.declared.reference.RefToken.{RefToken}
+use Rattle.ic_laws.specs.declared.tree.Error.{Error}
+use Rattle.ic_cells.specs.Value.{error_word}
 use Rattle.ic_tables.specs.Tables.{TableSet, language_of, locale_of}
 use Rattle.ic_tables.specs.declared.language.Language.{Language}
 use Rattle.ic_tables.specs.declared.locale.Locale.{Locale}
@@ -21,11 +24,11 @@ use Rattle.ic_tree.proofs.NotationLaws.{knows_language_is, knows_locale_is, nota
 use Rattle.ic_tree.specs.LanguageWords.{is_boolean_word, is_function_word}
 use Rattle.ic_tree.specs.Notations.{notations_of}
 use Rattle.ic_machine.specs.Book.{Book, core_of, notations_in, scene_in}
-use Rattle.ic_machine.specs.InForce.{InForce, all_there, by_notation, in_force}
+use Rattle.ic_machine.specs.InForce.{InForce, all_there, by_notation, error_in, in_force}
 use Rattle.ic_machine.specs.Retyped.{clashes_in}
 use Rattle.ic_machine.specs.Translation.{in_notation}
 use Rattle.ic_machine.specs.Valid.{IsValidBook}
-use Rattle.ic_machine.proofs.BodyAgain.{form_shown, references_end, written_fits}
+use Rattle.ic_machine.proofs.BodyAgain.{error_written, form_shown, references_end, written_fits}
 use Rattle.ic_machine.proofs.CoreValid.{core_valid}
 use Rattle.ic_machine.proofs.TextEnds.{is_solid}
 
@@ -63,6 +66,12 @@ module _ (left c : Book) (valid : IsValidBook left) (valid_there : IsValidBook c
       let named = there (locale_of left.tables c.locale) (sym (knows_locale_is left.tables c.locale) ∙ known_locale) in
       let e = there (language_of left.tables english) (sym (knows_language_is left.tables english) ∙ (notations_are left.tables valid.tables).english_language) in
       (named.0.locale, e.0, in_force_is (in_notation c.locale c.language left) named.0 language.0 e.0 named.1 language.1 e.1)
+
+  -- the word of an error value that is written there is the word in force
+  pub error_there : (e : Error) → word_text form kinds.Error (error_number e) ≡ error_in (in_notation c.locale c.language left) e
+  error_there e =
+      error_written left.tables valid.tables c.locale c.language language.0 known_locale language.1 (pos 1) (pos 1) e
+      ∙ sym (ap (by_notation [] (λ (f : InForce). error_word f.language e)) force_there.2)
 
   module _ (scope : Option ℕ) (t : Bound) (kept : IsKept (notations_in left) (scene_in left) scope (pos 1) (pos 1) t) (free : clashes_in (in_notation c.locale c.language left) t ≡ false) where
     unclashed : clashes_with (is_boolean_word language.0) (is_function_word language.0) t ≡ false

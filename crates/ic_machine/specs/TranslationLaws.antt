@@ -1,11 +1,13 @@
 -- What the laws on translated lines say: each is accepted by every book that is the same as the one before and has the
 -- notation that is asked for, and leaves a book that is the same as the one after.
-use Rattle.std.specs.Prelude.{◌≡◌, ℕ, ℤ, List, [], ◌∷◌, Bool, true, false, Option, None, Some, Ok, option_and_then}
+use Rattle.std.specs.Prelude.{◌≡◌, ℕ, ℤ, List, [], ◌∷◌, reverse, Bool, true, false, Option, None, Some, Ok, option_and_then}
+use Rattle.ic_laws.specs.Scan.{first_is, is_blank}
+use Rattle.ic_laws.specs.declared.tree.Error.{Error}
 use Rattle.ic_grid.specs.declared.block.Block.{Block}
 use Rattle.ic_grid.specs.Block.{first_place}
 use Rattle.ic_machine.specs.Book.{Book, Stepped}
 use Rattle.ic_machine.specs.Command.{Command, OnArrays, OnDefinitions, OnSheets, OnWriting, served}
-use Rattle.ic_machine.specs.InForce.{typed_in}
+use Rattle.ic_machine.specs.InForce.{error_in, typed_in}
 use Rattle.ic_machine.specs.Reply.{Field}
 use Rattle.ic_machine.specs.Run.{after}
 use Rattle.ic_machine.specs.Same.{IsSameBook}
@@ -25,6 +27,11 @@ pub record IsBeside (locale language : List ℕ) (book other : Book) : Type 0 wh
   pub same : IsSameBook book other
   pub locale_is : other.locale ≡ locale
   pub language_is : other.language ≡ language
+
+-- In the notation in force no word of an error value ends with a blank. What an update of a definition is given loses the
+-- blanks at its ends, so that no body could be given that ends with such a word.
+abbrev pub ErrorsEndPlain : Book → Type 0
+ErrorsEndPlain book = (e : Error) → first_is is_blank (reverse (error_in book e)) ≡ false
 
 -- a step is accepted, and leaves a book that is the same as this one
 abbrev pub LeavesSame : Book → Stepped Book → Type 0
@@ -88,7 +95,7 @@ module _ (locale language : List ℕ) where
 
   abbrev pub UpdateIsSame : Type 0
   UpdateIsSame =
-      (book left other : Book) (fields : List Field) (update : Update) → IsBeside locale language book other
+      (book left other : Book) (fields : List Field) (update : Update) → IsBeside locale language book other → ErrorsEndPlain other
       → step book (OnDefinitions (definitions.UpdateDefinedName update)) ≡ Ok (left, fields) → IsWritable book (OnDefinitions (definitions.UpdateDefinedName update))
       → LeavesSame left (step other (OnDefinitions (definitions.UpdateDefinedName (record update { body = body_text (in_notation locale language left) (defined book (definitions.UpdateDefinedName update)) }))))
 
@@ -102,11 +109,11 @@ module _ (locale language : List ℕ) where
   -- what a line becomes is a command that leaves the same
   abbrev pub LineIsSame : Type 0
   LineIsSame =
-      (book left other : Book) (command : Command) (line new : List ℕ) → IsBeside locale language book other → kept_in book line ≡ Some (command, left)
+      (book left other : Book) (command : Command) (line new : List ℕ) → IsBeside locale language book other → ErrorsEndPlain other → kept_in book line ≡ Some (command, left)
       → why_line_not locale language book line ≡ None → IsKeptLine locale language book line (command, left) new
       → (fields : List Field) × ((line_step served other new).1 ≡ Ok fields) × IsSameBook left (line_step served other new).0
 
   abbrev pub TranslationKeepsBook : Type 0
   TranslationKeepsBook =
-      (book other : Book) (lines new : List (List ℕ)) → IsBeside locale language book other → first_hindered locale language 1 book lines ≡ None
-      → AreTranslated locale language book lines new → AreAccepted other new × IsSameBook (after (machine served) book lines) (after (machine served) other new)
+      (book other : Book) (lines new : List (List ℕ)) → IsBeside locale language book other → ErrorsEndPlain other
+      → first_hindered locale language 1 book lines ≡ None → AreTranslated locale language book lines new → AreAccepted other new × IsSameBook (after (machine served) book lines) (after (machine served) other new)

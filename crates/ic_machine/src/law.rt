@@ -174,3 +174,8 @@ pub fn law_try()
 pub fn law_try_definition()
     ensures { (locale language : List ℕ) → DefinitionIsSame locale language }
 {}
+
+/// Try.
+pub fn law_try_update()
+    ensures { (locale language : List ℕ) → UpdateIsSame locale language }
+{}
