@@ -27,6 +27,8 @@ pub mod HaveLemmas
 mod InputSame
 pub mod InsertedBinds
 pub mod InsertedStays
+mod LineSame
+mod LinesAgain
 pub mod NamesStay
 pub mod NewNames
 mod NewSheetSame
