@@ -27,6 +27,7 @@ pub mod HaveLemmas
 mod InputSame
 pub mod InsertedBinds
 pub mod InsertedStays
+mod LineRead
 mod LineSame
 mod LinesAgain
 pub mod NamesStay

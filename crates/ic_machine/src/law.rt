@@ -179,3 +179,8 @@ pub fn law_try_definition()
 pub fn law_try_update()
     ensures { (locale language : List ℕ) → UpdateIsSame locale language }
 {}
+
+/// Try.
+pub fn law_try_line()
+    ensures { (locale language : List ℕ) → LineIsSame locale language }
+{}
