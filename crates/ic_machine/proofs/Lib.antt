@@ -29,11 +29,13 @@ pub mod InsertedBinds
 pub mod InsertedStays
 mod LineRead
 mod LineSame
+mod LineStays
 mod LinesAgain
 pub mod NamesStay
 pub mod NewNames
 mod NewSheetSame
 pub mod NewSheetStays
+mod NotationStays
 pub mod NumberLemmas
 mod OthersSame
 pub mod ReaderLemmas

@@ -36,7 +36,7 @@ abbrev pub put_text : {words : Words} → EndsText words → List ℕ → AllSai
 put_text Last t w = (t, tt)
 put_text (More form others h) t w = (w.0, put_text h t w.1)
 
-both_said : {A B : Type 0} (o : Option A) (p : Option B) (w : A × B) → option_and_then (λ (a : A). option_map (λ (b : B). (a, b)) p) o ≡ Some w → (o ≡ Some w.0) × (p ≡ Some w.1)
+pub both_said : {A B : Type 0} (o : Option A) (p : Option B) (w : A × B) → option_and_then (λ (a : A). option_map (λ (b : B). (a, b)) p) o ≡ Some w → (o ≡ Some w.0) × (p ≡ Some w.1)
 both_said None p w e = absurd (cc)
 both_said (Some a) None w e = absurd (cc)
 both_said {A} {B} (Some a) (Some b) w e =
@@ -130,7 +130,7 @@ arrays_take = (
 )
 
 -- the rows from a subject on
-abbrev rows_from_arrays : List (Row Command)
+abbrev pub rows_from_arrays : List (Row Command)
 rows_from_arrays = map (row_in OnArrays) arrays.array_rows
 
 abbrev rows_from_tabs : List (Row Command)
@@ -157,18 +157,28 @@ rows_from_notation = map (row_in OnNotation) notation.notation_rows ++ rows_from
 abbrev rows_from_definitions : List (Row Command)
 rows_from_definitions = map (row_in OnDefinitions) definitions.definition_rows ++ rows_from_notation
 
-all_take : AllByRecursion TakesText commands
+-- what holds of the rows of each subject holds of all
+pub all_rows : (P : Row Command → Type 0) → AllByRecursion P (map (row_in OnSheets) sheets.sheet_rows) → AllByRecursion P (map (row_in OnDefinitions) definitions.definition_rows)
+    → AllByRecursion P (map (row_in OnNotation) notation.notation_rows) → AllByRecursion P (map (row_in OnWriting) writing.writing_rows) → AllByRecursion P (map (row_in OnReading) reading.reading_rows)
+    → AllByRecursion P (map (row_in OnExtending) extending.extending_rows) → AllByRecursion P (map (row_in OnStyles) styles.style_rows) → AllByRecursion P (map (row_in OnLayout) layout.layout_rows)
+    → AllByRecursion P (map (row_in OnTabs) tabs.tab_rows) → AllByRecursion P rows_from_arrays → AllByRecursion P commands
 unfolding commands
+all_rows P one two three four five six seven eight nine ten =
+    all_both P (map (row_in OnSheets) sheets.sheet_rows) rows_from_definitions one
+    (all_both P (map (row_in OnDefinitions) definitions.definition_rows) rows_from_notation two
+    (all_both P (map (row_in OnNotation) notation.notation_rows) rows_from_writing three
+    (all_both P (map (row_in OnWriting) writing.writing_rows) rows_from_reading four
+    (all_both P (map (row_in OnReading) reading.reading_rows) rows_from_extending five
+    (all_both P (map (row_in OnExtending) extending.extending_rows) rows_from_styles six
+    (all_both P (map (row_in OnStyles) styles.style_rows) rows_from_layout seven
+    (all_both P (map (row_in OnLayout) layout.layout_rows) rows_from_tabs eight
+    (all_both P (map (row_in OnTabs) tabs.tab_rows) rows_from_arrays nine ten))))))))
+
+all_take : AllByRecursion TakesText commands
 all_take =
-    all_both TakesText (map (row_in OnSheets) sheets.sheet_rows) rows_from_definitions (none_takes OnSheets (λ command t. refl) sheets.sheet_rows)
-    (all_both TakesText (map (row_in OnDefinitions) definitions.definition_rows) rows_from_notation definitions_take
-    (all_both TakesText (map (row_in OnNotation) notation.notation_rows) rows_from_writing (none_takes OnNotation (λ command t. refl) notation.notation_rows)
-    (all_both TakesText (map (row_in OnWriting) writing.writing_rows) rows_from_reading writings_take
-    (all_both TakesText (map (row_in OnReading) reading.reading_rows) rows_from_extending (none_takes OnReading (λ command t. refl) reading.reading_rows)
-    (all_both TakesText (map (row_in OnExtending) extending.extending_rows) rows_from_styles (none_takes OnExtending (λ command t. refl) extending.extending_rows)
-    (all_both TakesText (map (row_in OnStyles) styles.style_rows) rows_from_layout (none_takes OnStyles (λ command t. refl) styles.style_rows)
-    (all_both TakesText (map (row_in OnLayout) layout.layout_rows) rows_from_tabs (none_takes OnLayout (λ command t. refl) layout.layout_rows)
-    (all_both TakesText (map (row_in OnTabs) tabs.tab_rows) rows_from_arrays (none_takes OnTabs (λ command t. refl) tabs.tab_rows) arrays_take))))))))
+    all_rows TakesText (none_takes OnSheets (λ command t. refl) sheets.sheet_rows) definitions_take (none_takes OnNotation (λ command t. refl) notation.notation_rows) writings_take
+    (none_takes OnReading (λ command t. refl) reading.reading_rows) (none_takes OnExtending (λ command t. refl) extending.extending_rows) (none_takes OnStyles (λ command t. refl) styles.style_rows)
+    (none_takes OnLayout (λ command t. refl) layout.layout_rows) (none_takes OnTabs (λ command t. refl) tabs.tab_rows) arrays_take
 
 -- the name of each row is written as it is
 abbrev pub is_plain : Row Command → Bool
@@ -189,20 +199,22 @@ filtered P p (x ∷ xs) h = elim (cases_Bool (p x)) [
   | inr f ↦ rw f (filtered P p xs h.1)
 ]
 
-found_holds : {A : Type 0} (P : A → Type 0) (q : A → Bool) (xs : List A) (x : A) → AllByRecursion P xs → find q xs ≡ Some x → P x
+pub found_holds : {A : Type 0} (P : A → Type 0) (q : A → Bool) (xs : List A) (x : A) → AllByRecursion P xs → find q xs ≡ Some x → P x
 found_holds P q [] x h e = absurd (cc)
 found_holds P q (y ∷ ys) x h e = elim (cases_Bool (q y)) [
   | inl t ↦ let some : Some y ≡ Some x = sym (ap (λ (b : Bool). cond b (Some y) (find q ys)) t) ∙ e in let same : y ≡ x = cc in subst P same h.0
   | inr f ↦ found_holds P q ys x h.1 (sym (ap (λ (b : Bool). cond b (Some y) (find q ys)) f) ∙ e)
 ]
 
-served_take : AllByRecursion TakesText served
+pub served_all : (P : Row Command → Type 0) → AllByRecursion P commands → AllByRecursion P served
 unfolding served
-served_take = filtered TakesText _ commands all_take
+served_all P h = filtered P _ commands h
+
+served_take : AllByRecursion TakesText served
+served_take = served_all TakesText all_take
 
 served_plain : AllByRecursion (λ (row : Row Command). is_plain row ≡ true) served
-unfolding served
-served_plain = filtered (λ (row : Row Command). is_plain row ≡ true) _ commands (holds_of_test is_plain commands all_plain)
+served_plain = served_all (λ (row : Row Command). is_plain row ≡ true) (holds_of_test is_plain commands all_plain)
 
 -- A line that is a command: its words, its row, and the texts after its name. ----
 

@@ -1,5 +1,5 @@
 use Rattle.std.proofs.Common.{refl}
-use Rattle.ic_machine.proofs.LineSame.{EndsText}
+use Rattle.ic_machine.proofs.LineStays.{line_stays}
 use Rattle.ic_machine.proofs.law.law_try.Goals as goal
 
 pub returns : goal.returns
