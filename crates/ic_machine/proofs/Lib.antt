@@ -53,6 +53,7 @@ pub mod SteppedLemmas
 pub mod StylesStay
 pub mod SubjectsStay
 mod TextEnds
+mod TranslationSame
 mod TreeAgain
 mod UpdateSame
 pub mod UpdatedBinds

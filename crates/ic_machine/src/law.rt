@@ -184,3 +184,8 @@ pub fn law_try_update()
 pub fn law_try_line()
     ensures { (locale language : List ℕ) → LineIsSame locale language }
 {}
+
+/// Try.
+pub fn law_try_all()
+    ensures { (locale language : List ℕ) → TranslationKeepsBook locale language }
+{}
