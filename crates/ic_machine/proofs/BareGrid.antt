@@ -1,6 +1,6 @@
 -- Contents without the numbers of their styles: what the rules on arrays, spills and clearing find among them is the same,
 -- and what they make is the same but for such numbers, whatever the styles and what was set for rows and columns.
-use Rattle.std.proofs.Common.{◌≡◌, ℕ, zero, suc, ℤ, List, [], ◌∷◌, Bool, true, false, cond, Option, Some, None, refl, sym, ap, ap₂, ◌∙◌}
+use Rattle.std.proofs.Common.{◌≡◌, ℕ, zero, suc, ℤ, List, [], ◌∷◌, Bool, cond, Option, Some, None, refl, sym, ap, ap₂, ◌∙◌}
 use Rattle.std.specs.FinMap as finite
 use Rattle.std.specs.Prelude.{not, ◌||◌, option_map}
 use Rattle.ic_cells.specs.declared.layout.Merge.{Merge}

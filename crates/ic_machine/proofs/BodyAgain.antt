@@ -1,22 +1,20 @@
 -- What is written of the body of a definition in another notation reads there as the same body.
-use Rattle.std.proofs.Common.{◌≡◌, ◌≢◌, ℕ, suc, ◌<◌, ◌≤◌, ℤ, pos, List, [], ◌∷◌, ◌++◌, Bool, true, false, not, ◌&&◌, ◌||◌, ◌==◌, cond, Option, Some, None, reverse, length, flat_map, map, codes, refl, sym, ap, ap₂, subst, ◌∙◌, arith, append_assoc, inl, inr}
-use Rattle.std.proofs.lemmas.Bool.{and_parts, cases_Bool, true≢false}
+use Rattle.std.proofs.Common.{◌≡◌, ℕ, ◌<◌, ◌≤◌, ℤ, pos, List, [], ◌∷◌, ◌++◌, Bool, true, false, not, ◌&&◌, ◌||◌, ◌==◌, cond, Option, Some, None, reverse, length, map, codes, refl, sym, ap, ap₂, subst, ◌∙◌, arith, append_assoc, inl, inr}
+use Rattle.std.proofs.lemmas.Bool.{and_parts}
 use Rattle.std.proofs.lemmas.Bool.Decides.{nat_tests}
 use Rattle.std.proofs.lemmas.Grind.{flat_map-append}
 use Rattle.std.proofs.lemmas.List.{append-nil}
-use Rattle.std.specs.List.{list_all}
 use Rattle.std.specs.Option.{option_or}
 use Rattle.std.specs.Prelude.{◌⊎◌, is_some, option_and_then, option_map, unwrap_or}
-use Rattle.ic_laws.proofs.binding.Again.{bound-node, bound_node, spelled-node}
 use Rattle.ic_laws.proofs.core.Named.{IsNamed, book_named}
 use Rattle.ic_laws.proofs.kept.Clashing.{TellsWords, no_form_words}
 use Rattle.ic_laws.proofs.kept.Written.{shown_fits}
-use Rattle.ic_laws.proofs.parsing.Nodes.{here_of, node_of, yield-node}
+use Rattle.ic_laws.proofs.parsing.Nodes.{yield-node}
 use Rattle.ic_laws.proofs.printing.Signs.{mark_begins_none}
 use Rattle.ic_laws.proofs.printing.Words.{has_word}
 use Rattle.ic_laws.proofs.tokens.Characters.{bracket_no_word}
 use Rattle.ic_laws.proofs.tokens.Lexing.{Begins, spelled_begins}
-use Rattle.ic_laws.specs.Binding.{bound, spelled}
+use Rattle.ic_laws.specs.Binding.{spelled}
 use Rattle.ic_laws.specs.Character.{equals}
 use Rattle.ic_laws.specs.Clash.{clashes_with}
 use Rattle.ic_laws.specs.CoreBook.{CoreBook, scene_of}
@@ -24,11 +22,11 @@ use Rattle.ic_laws.specs.Dialect.{DialectMeaning, IsLawful, error_number, refere
 use Rattle.ic_laws.specs.Following.{spelled_out}
 use Rattle.ic_laws.specs.FormulaReading.{Body, body_of, if_lambda, is_found, is_lambda_kind, lambda_tree, reference_tree, shown_at, trimmed, whole_reference, without_equals}
 use Rattle.ic_laws.specs.Notations.{AreNotations, IsShownForm, Notations, english, is_cell}
-use Rattle.ic_laws.specs.Parse.{SpelledKind, node}
+use Rattle.ic_laws.specs.Parse.{node}
 use Rattle.ic_laws.specs.ReadAs.{read_as}
-use Rattle.ic_laws.specs.Reading.{Fits, FitsKind, FitsPair, printed}
+use Rattle.ic_laws.specs.Reading.{Fits, printed}
 use Rattle.ic_laws.specs.Scan.{IsEnd, first_is}
-use Rattle.ic_laws.specs.Token.{Close, FunHead, Ref, Separator, Token, Word, token_text}
+use Rattle.ic_laws.specs.Token.{Close, Ref, Separator, Token, Word, token_text}
 use Rattle.ic_laws.specs.Tree.{Bound, Spelled, is_written_sheet}
 use Rattle.ic_laws.specs.ValidCore.{IsKept, IsValidCore}
 use Rattle.ic_laws.specs.Yield.{joined, yield}
@@ -41,21 +39,20 @@ use Rattle.ic_laws.specs.declared.tree.Tree.{out-Tree, out-roll-Tree}
 use Rattle.ic_laws.specs.declared.tree.Tree.TheOpen as one
 use Rattle.ic_refs.proofs.A1SpellLemmas.{place_text-spells}
 use Rattle.ic_refs.proofs.MarkLemmas.{is_place_character, place_is_text}
-use Rattle.ic_refs.specs.A1.{is_shown_spellable, is_spellable, place_text}
+use Rattle.ic_refs.specs.A1.{is_spellable, place_text}
 use Rattle.ic_laws.specs.Position.{is_column, is_inside, is_row}
 use Rattle.ic_laws.specs.SheetText.{sheet_text}
 use Rattle.ic_tables.specs.Formats.{decimal_separator}
 use Rattle.ic_tables.specs.Tables.{IsWellFormed, TableSet, language_of, locale_of}
 use Rattle.ic_tables.specs.declared.language.Language.{Language}
-use Rattle.ic_tree.proofs.ClashLemmas.{language_tells, shown_as, there, written_reads_unless_clash}
+use Rattle.ic_tree.proofs.ClashLemmas.{language_tells, shown_as, there}
 use Rattle.ic_tree.proofs.NotationLaws.{knows_language_is, notations_are}
 use Rattle.ic_tree.specs.LanguageWords.{is_boolean_word, is_function_word}
 use Rattle.ic_tree.specs.Notations.{notations_of, stored_in}
 use Rattle.ic_tree.specs.Shown.{list_separator, shown_meaning}
-use Rattle.ic_tree.specs.Stored.{stored_meaning}
 use Rattle.ic_cells.specs.Value.{error_word}
 use Rattle.ic_machine.proofs.RetypedLemmas.{error_at}
-use Rattle.ic_machine.proofs.TextEnds.{IsTight, all_of, all_tight, equals_front, first_joined, high_solid, is_solid, last_joined, no_equals, printed_begins, pushed_last, tight_front, trimmed_tight, without_equals_front}
+use Rattle.ic_machine.proofs.TextEnds.{IsTight, all_of, all_tight, equals_front, high_solid, is_solid, last_joined, no_equals, printed_begins, pushed_last, tight_front, trimmed_tight, without_equals_front}
 
 -- A form that is shown, of the tables' own. ----
 

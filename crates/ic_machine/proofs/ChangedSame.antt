@@ -1,5 +1,5 @@
 -- Changes over which all formulas are kept leave books that are the same where they were.
-use Rattle.std.proofs.Common.{◌≡◌, ℕ, List, [], ◌∷◌, map, Some, sym, ap, ap₂, subst}
+use Rattle.std.proofs.Common.{ℕ, List, [], ◌∷◌, map, Some, sym, ap, ap₂, subst}
 use Rattle.std.specs.List.{AllZip}
 use Rattle.ic_laws.specs.Keeping.{KeyChange, kept_formula, kept_in_body}
 use Rattle.ic_laws.specs.Notations.{Notations, english_function}

@@ -1,17 +1,16 @@
 -- A new definition, given in another notation, leaves the same.
-use Rattle.std.proofs.Common.{◌≡◌, ℕ, ℤ, pos, List, [], ◌∷◌, ◌++◌, map, Bool, true, false, cond, not, Option, Some, None, Ok, Err, refl, sym, ap, ap₂, subst, ◌∙◌, inl, inr}
+use Rattle.std.proofs.Common.{◌≡◌, ℕ, pos, List, [], ◌∷◌, ◌++◌, Bool, true, false, cond, not, Option, Some, None, Ok, refl, sym, ap, ap₂, subst, ◌∙◌, inl, inr}
 use Rattle.std.proofs.lemmas.Bool.{not-false, true≢false}
 use Rattle.std.proofs.lemmas.List.{map-append}
 use Rattle.std.specs.List.{AllByRecursion}
-use Rattle.std.specs.Prelude.{◌⊎◌, is_none, is_some, option_and_then, option_map}
+use Rattle.std.specs.Prelude.{is_none, is_some, option_and_then, option_map}
 use Rattle.ic_laws.proofs.binding.Again.{bound-node, spelled-node, under}
 use Rattle.ic_laws.proofs.binding.SceneLemmas.{sheet_settles}
-use Rattle.ic_laws.proofs.core.Named.{IsNamed, book_named}
+use Rattle.ic_laws.proofs.core.Named.{book_named}
 use Rattle.ic_laws.proofs.keeping.Accepted.{none_holds, none_refuses}
 use Rattle.ic_laws.proofs.parsing.Nodes.{here_of}
 use Rattle.ic_laws.specs.Binding.{bound, bound_sheet, sheet_or_dangling, spelled, spelled_sheet}
 use Rattle.ic_laws.specs.Character.{equals}
-use Rattle.ic_laws.specs.Command as commands
 use Rattle.ic_laws.specs.CoreBook.{CoreBook, Definition, scene_of, spelling_of}
 use Rattle.ic_laws.specs.CoreStep as core
 use Rattle.ic_laws.specs.CoreStep.{core_step, has_definition, new_definition, new_definition_causes, scene_with_definition, scope_of, scope_or_none}
@@ -30,15 +29,13 @@ use Rattle.ic_laws.specs.ValidCore.{IsKept, IsKeptBody}
 use Rattle.ic_laws.specs.declared.reference.Place.{Place}
 use Rattle.ic_laws.specs.declared.scene.DefinitionSpelling.{DefinitionSpelling}
 use Rattle.ic_laws.specs.declared.scene.Scene.{Scene}
-use Rattle.ic_laws.specs.declared.tree.Formula.{Formula}
 use Rattle.ic_laws.specs.declared.tree.Formula.TheVariants as formulas
-use Rattle.ic_laws.specs.declared.tree.SheetMention.{SheetMention}
 use Rattle.ic_laws.specs.declared.tree.SheetMention.TheVariants as sheets
 use Rattle.ic_laws.specs.declared.tree.Tree.{out-Tree, roll-out-Tree}
 use Rattle.ic_laws.specs.declared.tree.Tree.TheOpen as one
 use Rattle.ic_tables.specs.Tables.{TableSet}
 use Rattle.ic_tree.specs.Notations.{notations_of}
-use Rattle.ic_machine.specs.Book.{Book, Sheet, Stepped, as_core, core_of, notations_in, scene_in}
+use Rattle.ic_machine.specs.Book.{Book, as_core, core_of, notations_in, scene_in}
 use Rattle.ic_machine.specs.Changed.{changed_by, with_definition}
 use Rattle.ic_machine.specs.Command.{OnDefinitions}
 use Rattle.ic_machine.specs.Kept.{StaysValid}

@@ -1,7 +1,7 @@
 -- What is written of a formula in another notation reads there as the same formula; and so a formula that is written, or
 -- typed, or written into an array, leaves the same.
-use Rattle.std.proofs.Common.{◌≡◌, ◌≢◌, ℕ, ℤ, List, [], ◌∷◌, Bool, true, false, cond, not, ◌&&◌, Option, Some, None, Ok, refl, sym, ap, ap₂, subst, ◌∙◌}
-use Rattle.std.proofs.lemmas.Bool.{and_from, not-false, true≢false}
+use Rattle.std.proofs.Common.{◌≡◌, ◌≢◌, ℕ, ℤ, List, [], ◌∷◌, Bool, true, false, cond, Option, Some, None, Ok, refl, sym, ap, ap₂, subst, ◌∙◌}
+use Rattle.std.proofs.lemmas.Bool.{and_from}
 use Rattle.std.specs.List.{slice_get}
 use Rattle.std.specs.Prelude.{is_none, option_and_then, option_map, pos, unwrap_or}
 use Rattle.ic_laws.specs.Binding.{spelled}
@@ -24,18 +24,18 @@ use Rattle.ic_cells.specs.declared.cell.ArrayKind.TheVariants as arrays
 use Rattle.ic_cells.specs.declared.value.FormulaValue.TheVariants as fvalues
 use Rattle.ic_input.specs.Typed.{typed}
 use Rattle.ic_input.specs.declared.input.Typed.TheVariants as kinds
-use Rattle.ic_machine.specs.Book.{Book, Sheet, core_of, notations_in, scene_in, with_sheet}
+use Rattle.ic_machine.specs.Book.{Book, Sheet, core_of, notations_in, scene_in}
 use Rattle.ic_machine.specs.Command.{OnWriting}
-use Rattle.ic_machine.specs.Content.{AnchorContent, Content, FormulaContent}
+use Rattle.ic_machine.specs.Content.{AnchorContent, FormulaContent}
 use Rattle.ic_machine.specs.InForce.{all_there, by_notation, formula_typed, in_force, typed_in}
 use Rattle.ic_machine.specs.Placed.{index_in_pool, is_dynamic, pool_with}
-use Rattle.ic_machine.specs.Refusal.{Causes, NotAFormula, Refusal, first_refusal}
+use Rattle.ic_machine.specs.Refusal.{NotAFormula, first_refusal}
 use Rattle.ic_machine.specs.Reply.{Field}
 use Rattle.ic_machine.specs.Retyped.{clashes_in}
 use Rattle.ic_machine.specs.Same.{IsSameBook, IsSameSheet, unstyled}
 use Rattle.ic_machine.specs.Step.{step}
 use Rattle.ic_machine.specs.Translation.{Why, cell_text, formula_in_cell, in_notation, why_not, written_formula}
-use Rattle.ic_machine.specs.TranslationLaws.{FormulaIsSame, IsBeside, IsWritable, LeavesSame}
+use Rattle.ic_machine.specs.TranslationLaws.{FormulaIsSame, IsWritable, LeavesSame}
 use Rattle.ic_machine.specs.Valid.{IsValidBook}
 use Rattle.ic_machine.specs.subjects.Reading.{formula_text}
 use Rattle.ic_machine.specs.subjects.Writing as writing

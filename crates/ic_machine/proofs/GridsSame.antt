@@ -4,7 +4,7 @@ use Rattle.std.proofs.Common.{◌≡◌, ℕ, ℤ, List, [], ◌∷◌, length, 
 use Rattle.std.specs.FinMap as finite
 use Rattle.std.specs.Cmp.{int_cmp_total}
 use Rattle.std.specs.Ordering.{eq_by_cmp, int_cmp}
-use Rattle.std.specs.Prelude.{◌||◌, option_map, unwrap_or}
+use Rattle.std.specs.Prelude.{option_map, unwrap_or}
 use Rattle.ic_cells.specs.declared.layout.ColumnProps.{ColumnProps}
 use Rattle.ic_cells.specs.declared.layout.Merge.{Merge}
 use Rattle.ic_cells.specs.declared.layout.RowProps.{RowProps}
@@ -28,11 +28,11 @@ use Rattle.ic_machine.specs.Same.{IsSameBook, IsSameGrid, IsSameSheet, unstyled,
 use Rattle.ic_machine.specs.Styling.{numbered}
 use Rattle.ic_machine.specs.subjects.Arrays.{blocked_causes, clear_step, put_spill_step, put_value_step, spill_causes}
 use Rattle.ic_machine.specs.subjects.Layout.{hide_column_step, hide_row_step, set_height_step, set_width_step}
-use Rattle.ic_machine.specs.subjects.Styles.{delete_column_step, delete_row_step, set_column_step, set_row_step, with_grid_style, without_column_style, without_row_style}
+use Rattle.ic_machine.specs.subjects.Styles.{delete_column_step, delete_row_step, set_column_step, set_row_step, without_column_style, without_row_style}
 use Rattle.ic_machine.proofs.AlikeGrid.{cleared_as, has_in_as, shape_at_as, valued_as}
 use Rattle.ic_machine.proofs.BareGrid.{bare, bared, first_blocking_bare, no_columns, no_rows, seen_bare, spilled_bare}
 use Rattle.ic_machine.proofs.SameLemmas.{contents_same}
-use Rattle.ic_machine.proofs.SameSteps.{SameSteps, at_sheet_same, contents_back, refused_same, unless_same, with_sheet_same}
+use Rattle.ic_machine.proofs.SameSteps.{SameSteps, at_sheet_same, contents_back, refused_same, with_sheet_same}
 
 -- What is set for rows and columns. ----
 

@@ -1,5 +1,5 @@
 -- What is typed in another notation for what was typed leaves the same.
-use Rattle.std.proofs.Common.{◌≡◌, ℕ, ℤ, List, [], ◌∷◌, Bool, true, false, cond, Option, Some, None, Ok, refl, sym, ap, subst, ◌∙◌}
+use Rattle.std.proofs.Common.{◌≡◌, ℕ, ℤ, List, [], ◌∷◌, Bool, true, false, cond, Some, None, Ok, refl, sym, ap, subst, ◌∙◌}
 use Rattle.std.proofs.lemmas.Bool.{and_from}
 use Rattle.std.specs.List.{slice_get}
 use Rattle.std.specs.Prelude.{option_and_then, option_map}
@@ -7,15 +7,13 @@ use Rattle.ic_laws.specs.Character.{equals, quote}
 use Rattle.ic_laws.specs.CoreBook.{CellPlace}
 use Rattle.ic_laws.specs.Notations.{is_cell}
 use Rattle.ic_laws.specs.declared.tree.Formula.{Formula}
-use Rattle.ic_cells.specs.declared.style.Style.{Style}
 use Rattle.ic_input.specs.declared.input.Typed.{Typed}
 use Rattle.ic_input.specs.declared.input.Typed.TheVariants as kinds
 use Rattle.ic_machine.specs.Book.{Book, Sheet, scene_in}
 use Rattle.ic_machine.specs.Command.{OnWriting}
-use Rattle.ic_machine.specs.Content.{TextContent}
-use Rattle.ic_machine.specs.InForce.{is_number, is_text, shown_words, typed_in}
+use Rattle.ic_machine.specs.InForce.{is_text, shown_words, typed_in}
 use Rattle.ic_machine.specs.Reply.{Field}
-use Rattle.ic_machine.specs.Same.{IsSameBook, IsSameSheet, unstyled}
+use Rattle.ic_machine.specs.Same.{IsSameBook, IsSameSheet}
 use Rattle.ic_machine.specs.Step.{step}
 use Rattle.ic_machine.specs.Translation.{IsTypedSo, cell_text, formula_in_cell, formula_of_typed, in_notation, why_not, written_formula}
 use Rattle.ic_machine.specs.TranslationLaws.{InputIsSame, IsWritable, LeavesSame}

@@ -1,16 +1,13 @@
 -- The command that a line is which is made of the texts of another, or of those with another text at their end.
-use Rattle.std.proofs.Common.{◌≡◌, ℕ, ℤ, List, [], ◌∷◌, ◌++◌, map, Bool, true, false, cond, ◌⊎◌, Option, Some, None, Ok, Err, codes, refl, sym, ap, ap₂, subst, ◌∙◌, inl, inr}
-use Rattle.std.proofs.lemmas.Bool.{and_parts, cases_Bool, true≢false}
+use Rattle.std.proofs.Common.{◌≡◌, ℕ, List, [], ◌∷◌, ◌++◌, map, Bool, true, cond, ◌⊎◌, Option, Some, None, codes, refl, sym, ap, ap₂, subst, ◌∙◌, inl, inr}
+use Rattle.std.proofs.lemmas.Bool.{and_parts, cases_Bool}
 use Rattle.std.proofs.lemmas.Slice.Eq.{bytes_eq-Decides}
-use Rattle.std.specs.List.{AllByRecursion, filter, find, list_all, list_any}
+use Rattle.std.specs.List.{AllByRecursion, filter, find, list_all}
 use Rattle.std.specs.Prelude.{bytes_eq, option_and_then, option_map, unwrap_or}
 use Rattle.ic_laws.proofs.binding.SceneLemmas.{found_passes}
-use Rattle.ic_laws.specs.CoreBook.{CellPlace}
 use Rattle.ic_laws.specs.Lines.{escaped, unescaped, word_texts, words_of}
-use Rattle.ic_machine.specs.Book.{Book, Stepped}
-use Rattle.ic_machine.specs.Command.{Command, OnArrays, OnDefinitions, OnExtending, OnLayout, OnNotation, OnReading, OnSheets, OnStyles, OnTabs, OnWriting, command_in, commands, served, served_names}
-use Rattle.ic_machine.specs.Reply.{Field}
-use Rattle.ic_machine.specs.Row.{Row, joined, row_in, rows_named, spelled}
+use Rattle.ic_machine.specs.Command.{Command, OnArrays, OnDefinitions, OnExtending, OnLayout, OnNotation, OnReading, OnSheets, OnStyles, OnTabs, OnWriting, command_in, commands, served}
+use Rattle.ic_machine.specs.Row.{Row, joined, row_in, spelled}
 use Rattle.ic_machine.specs.Word.{AllSaid, Done, OfText, Said, Then, Many, WordForm, Words, all_said, said, words_said}
 use Rattle.ic_machine.specs.Word as forms
 use Rattle.ic_machine.specs.subjects.Arrays as arrays

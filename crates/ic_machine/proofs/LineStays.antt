@@ -1,11 +1,11 @@
 -- A book stays valid over each line: the ids that lines give are such that a word can say.
-use Rattle.std.proofs.Common.{◌≡◌, ℕ, ◌≤◌, List, [], ◌∷◌, ◌++◌, map, Bool, true, false, cond, Option, Some, None, Ok, Err, codes, refl, sym, ap, subst, ◌∙◌, arith, inl, inr}
+use Rattle.std.proofs.Common.{◌≡◌, ℕ, List, [], ◌∷◌, map, Bool, true, false, cond, Option, Some, None, Ok, Err, codes, refl, sym, ap, subst, ◌∙◌, arith}
 use Rattle.std.proofs.lemmas.Bool.Decides.{nat_tests}
 use Rattle.std.specs.List.{AllByRecursion}
 use Rattle.std.specs.Prelude.{bytes_eq, nat_le, option_and_then, option_map}
 use Rattle.ic_laws.specs.Command.{at_most, index_said, number_said, scope_said}
 use Rattle.ic_machine.specs.Book.{Book, Stepped}
-use Rattle.ic_machine.specs.Command.{Command, OnArrays, OnDefinitions, OnExtending, OnLayout, OnNotation, OnReading, OnSheets, OnStyles, OnTabs, OnWriting, command_in, commands, served}
+use Rattle.ic_machine.specs.Command.{Command, OnArrays, OnDefinitions, OnExtending, OnLayout, OnNotation, OnReading, OnSheets, OnStyles, OnTabs, OnWriting, command_in, served}
 use Rattle.ic_machine.specs.Kept.{StaysValid, StaysValidIf, gives_id, is_given_id}
 use Rattle.ic_machine.specs.Row.{Row, row_in}
 use Rattle.ic_machine.specs.Step.{command_step, english_errors, outcome_of, step}

@@ -1,7 +1,6 @@
 -- Each command that looks at the notation for no more than how it replies and which styles it gives leaves the same of books
 -- that are the same.
-use Rattle.std.proofs.Common.{◌≡◌, ℕ, List, [], ◌∷◌, Bool, true, false, not, refl, sym, ap, subst}
-use Rattle.std.proofs.lemmas.Bool.{true≢false}
+use Rattle.std.proofs.Common.{◌≡◌, ℕ, List, [], ◌∷◌, Bool, true, false, not, refl, ap, subst}
 use Rattle.std.specs.Prelude.{int_le, int_lt, pos}
 use Rattle.ic_laws.specs.declared.reference.TheConstants.{LAST_COLUMN, LAST_ROW}
 use Rattle.ic_tables.specs.Tables.{TableSet, lists_zone}
@@ -14,12 +13,10 @@ use Rattle.ic_machine.specs.TranslationLaws.{OthersAreSame, looks_at_notation}
 use Rattle.ic_machine.specs.subjects.Arrays as arrays
 use Rattle.ic_machine.specs.subjects.Arrays.{clear_step, put_spill_step, put_value_step}
 use Rattle.ic_machine.specs.subjects.Definitions as definitions
-use Rattle.ic_machine.specs.subjects.Extending as extending
 use Rattle.ic_machine.specs.subjects.Layout as layout
 use Rattle.ic_machine.specs.subjects.Layout.{hide_column_step, hide_row_step, set_height_step, set_width_step}
 use Rattle.ic_machine.specs.subjects.Notation as notation
 use Rattle.ic_machine.specs.subjects.Notation.{set_timezone_step}
-use Rattle.ic_machine.specs.subjects.Reading as reading
 use Rattle.ic_machine.specs.subjects.Sheets as sheets
 use Rattle.ic_machine.specs.subjects.Styles as styles
 use Rattle.ic_machine.specs.subjects.Styles.{delete_column_step, delete_row_step}

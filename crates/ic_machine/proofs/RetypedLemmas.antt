@@ -1,5 +1,5 @@
 -- What a cell shows, typed into it again, leaves what it held.
-use Rattle.std.proofs.Common.{◌≡◌, ◌≢◌, ℕ, zero, suc, ℤ, pos, List, [], ◌∷◌, ◌++◌, Bool, true, false, ◌&&◌, cond, codes, Option, Some, None, Ok, option_map, refl, sym, ap, subst, ◌∙◌, inl}
+use Rattle.std.proofs.Common.{◌≡◌, ◌≢◌, ℕ, zero, suc, ℤ, List, [], ◌∷◌, ◌++◌, Bool, true, false, ◌&&◌, cond, codes, Option, Some, None, Ok, option_map, refl, sym, ap, subst, ◌∙◌, inl}
 use Rattle.std.proofs.lemmas.Bool.{and_parts, true≢false}
 use Rattle.std.proofs.lemmas.Bool.Decides.{Decides-int_eq}
 use Rattle.std.specs.FinMap as finite
@@ -35,8 +35,6 @@ use Rattle.ic_tree.proofs.ClashLemmas.{shown_reads_unless_clash, there}
 use Rattle.ic_tree.proofs.NotationLaws.{knows_language_is, knows_locale_is, notations_are}
 use Rattle.ic_tree.specs.LanguageWords.{is_boolean_word, is_function_word}
 use Rattle.ic_cells.specs.Value.{boolean_word, error_word}
-use Rattle.ic_cells.specs.declared.cell.ArrayKind.TheVariants as arrays
-use Rattle.ic_cells.specs.declared.value.FormulaValue.TheVariants as fvalues
 use Rattle.ic_input.proofs.AgainLemmas.{amount_again}
 use Rattle.ic_input.proofs.TypedLaws.{formula_exactly}
 use Rattle.ic_input.proofs.TypedSteps.{tells_texts}

@@ -4,7 +4,6 @@ use Rattle.std.proofs.Common.{◌≡◌, ℕ, suc, ◌+◌, List, [], ◌∷◌,
 use Rattle.std.proofs.lemmas.List.Elements.{length_all_zip}
 use Rattle.std.specs.List.{AllZip, find, range_with_len, remove}
 use Rattle.std.specs.Prelude.{is_none, nat_lt, unwrap_or}
-use Rattle.ic_laws.specs.Command as commands
 use Rattle.ic_laws.specs.CoreBook.{CoreBook, Definition, fresh_id, greatest_id, has_sheet}
 use Rattle.ic_laws.specs.CoreStep as core
 use Rattle.ic_laws.specs.CoreStep.{at_found, core_step, index_of_definition, index_of_id, index_of_name, scope_or_none}
@@ -15,16 +14,16 @@ use Rattle.ic_laws.specs.Refusal as refusals
 use Rattle.ic_laws.specs.declared.scene.Scene.{Scene}
 use Rattle.ic_laws.specs.declared.tree.Formula.{Formula}
 use Rattle.ic_tree.specs.Notations.{notations_of}
-use Rattle.ic_machine.specs.Book.{Book, Sheet, as_core, core_of, empty_sheet, notations_in, scene_in}
+use Rattle.ic_machine.specs.Book.{Book, Sheet, as_core, core_of, empty_sheet, notations_in}
 use Rattle.ic_machine.specs.Changed.{changed_by, with_moved_sheet, with_removed_sheet, with_renamed_sheet, without_definition}
-use Rattle.ic_machine.specs.Refusal.{Causes, IdLive, IdsUsedUp, InvalidSheet, InvalidSheetName, OutOfRange, SheetExists}
+use Rattle.ic_machine.specs.Refusal.{Causes, IdLive, IdsUsedUp, InvalidSheetName, OutOfRange, SheetExists}
 use Rattle.ic_machine.specs.Same.{IsSameBook, IsSameSheet}
 use Rattle.ic_machine.specs.subjects.Definitions.{delete_definition_step}
-use Rattle.ic_machine.specs.subjects.Sheets.{add_sheet_step, chosen_id, copied_formula, copied_of, copies_of_definitions, copy_id, copy_name, copy_named, copy_of_sheet, definitions_moved, delete_by_id_step, delete_by_name_step, delete_sheet_step, duplicate_sheet_step, duplicated, formula_copied, insert_causes, insert_sheet_step, is_live, local_in, move_sheet_step, name_of_copy, named_fields, rename_by_index_step, rename_sheet_step, scene_with_copy, with_copy, with_formula, with_inserted_sheet, with_new_sheet}
+use Rattle.ic_machine.specs.subjects.Sheets.{add_sheet_step, chosen_id, copied_formula, copied_of, copies_of_definitions, copy_id, copy_name, copy_named, copy_of_sheet, definitions_moved, delete_by_id_step, delete_by_name_step, delete_sheet_step, duplicate_sheet_step, duplicated, formula_copied, insert_causes, insert_sheet_step, is_live, local_in, move_sheet_step, name_of_copy, rename_by_index_step, rename_sheet_step, scene_with_copy, with_copy, with_formula, with_inserted_sheet, with_new_sheet}
 use Rattle.ic_machine.proofs.ChangedSame.{changed_same}
 use Rattle.ic_machine.proofs.NewSheetSame.{added_same}
 use Rattle.ic_machine.proofs.SameLemmas.{core_same, scene_same, sheet_itself}
-use Rattle.ic_machine.proofs.SameSteps.{SameSteps, at_sheet_same, core_steps_same, refused_same, unless_same}
+use Rattle.ic_machine.proofs.SameSteps.{SameSteps, at_sheet_same, core_steps_same, refused_same}
 use Rattle.ic_machine.proofs.ZippedLemmas.{zipped_inserted, zipped_moved, zipped_removed, zipped_updated}
 
 -- a book with other sheets and other definitions

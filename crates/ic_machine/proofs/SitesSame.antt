@@ -4,7 +4,6 @@ use Rattle.std.specs.FinMap as finite
 use Rattle.std.specs.List.{AllZip, zip}
 use Rattle.ic_laws.specs.CoreBook.{Definition}
 use Rattle.ic_laws.specs.Keeping.{KeyChange}
-use Rattle.ic_laws.specs.declared.tree.Formula.{Formula}
 use Rattle.ic_laws.specs.declared.tree.NameKey.{NameKey}
 use Rattle.ic_grid.specs.Contents.{Contents}
 use Rattle.ic_machine.specs.Alike.{seen_by}

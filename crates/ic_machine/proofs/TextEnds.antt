@@ -1,15 +1,14 @@
 -- What is printed of a tree begins with no blank and no equals sign and ends with no blank, if no word of an error value ends
 -- with one.
-use Rattle.std.proofs.Common.{◌≡◌, ℕ, zero, suc, ◌+◌, ◌<◌, ◌^◌, ◌/◌, ◌%◌, ℤ, pos, negsuc, List, [], ◌∷◌, ◌++◌, Bool, true, false, not, ◌&&◌, ◌||◌, ◌==◌, cond, Option, Some, None, reverse, length, flat_map, codes, option_map, refl, sym, ap, subst, ◌∙◌, arith, inl, inr, add-one}
+use Rattle.std.proofs.Common.{◌≡◌, ℕ, zero, suc, ◌+◌, ◌<◌, ◌^◌, ◌/◌, ◌%◌, pos, negsuc, List, [], ◌∷◌, ◌++◌, Bool, true, false, not, ◌==◌, cond, Option, Some, None, reverse, length, flat_map, option_map, refl, sym, ap, subst, ◌∙◌, arith, inl, inr, add-one}
 use Rattle.std.proofs.lemmas.Bool.{and_from, and_parts, cases_Bool, true≢false}
 use Rattle.std.proofs.lemmas.Bool.Decides.{eqb_tells, nat_tests}
 use Rattle.std.proofs.lemmas.Fmt.{digits_decimal, decimal_nonempty}
 use Rattle.std.proofs.lemmas.List.{append-nil, reverse-append, reverse-reverse}
 use Rattle.std.proofs.lemmas.List.Folds.{list_all-append}
 use Rattle.std.specs.Fmt.{decimal}
-use Rattle.std.specs.List.{AllByRecursion, list_all}
+use Rattle.std.specs.List.{list_all}
 use Rattle.std.specs.Prelude.{option_and_then}
-use Rattle.std.specs.Str.{all_ascii_digits}
 use Rattle.ic_laws.proofs.AmountLemmas.{numerals}
 use Rattle.ic_laws.proofs.printing.Operands.{reads_back}
 use Rattle.ic_laws.proofs.printing.Signs.{sign_read}
@@ -20,16 +19,16 @@ use Rattle.ic_laws.proofs.tokens.Lexing.{Begins, spelled_begins}
 use Rattle.ic_laws.proofs.tokens.Next.{token_at_sound}
 use Rattle.ic_laws.specs.Amount.{fraction_digits, units_of_one, unsigned_text}
 use Rattle.ic_laws.specs.Character.{double_quote, equals}
-use Rattle.ic_laws.specs.Dialect.{DialectMeaning, IsLawful, boolean_number, error_number, has_function_shape, reference_text, word_text}
+use Rattle.ic_laws.specs.Dialect.{DialectMeaning, IsLawful, boolean_number, error_number, reference_text, word_text}
 use Rattle.ic_laws.specs.Following.{CanSpell, IsChain, spelled_out}
 use Rattle.ic_laws.specs.FormulaReading.{trimmed, without_equals}
-use Rattle.ic_laws.specs.Name.{is_identifier, is_variable, is_variable_form}
-use Rattle.ic_laws.specs.NextToken.{after_token, next_tokens, token_at, tokens_by, tokens_of}
+use Rattle.ic_laws.specs.Name.{is_variable, is_variable_form}
+use Rattle.ic_laws.specs.NextToken.{after_token, tokens_by}
 use Rattle.ic_laws.specs.Parse.{expression, operand, parsed, prefix_sign, primary, reader}
 use Rattle.ic_laws.specs.ReadAs.{read_as}
 use Rattle.ic_laws.specs.Reading.{Fits, printed}
 use Rattle.ic_laws.specs.Scan.{first_is, is_blank, is_digit, is_word_character, past_run}
-use Rattle.ic_laws.specs.SheetText.{local_text, sheet_text}
+use Rattle.ic_laws.specs.SheetText.{sheet_text}
 use Rattle.ic_laws.specs.Token.{At, Boolean, Close, CloseBrace, Err, FunHead, Hash, Local, NameHead, Num, Open, OpenBrace, Operator, Percent, Ref, Semicolon, Separator, Str, Token, Word, token_text}
 use Rattle.ic_laws.specs.Tree.{Spelled}
 use Rattle.ic_laws.specs.Yield.{yield}

@@ -1,22 +1,17 @@
 -- Translated lines are accepted and leave the same.
-use Rattle.std.proofs.Common.{◌≡◌, ℕ, ◌+◌, List, [], ◌∷◌, Option, Some, None, Ok, refl, sym, ap, ap₂, subst, ◌∙◌}
+use Rattle.std.proofs.Common.{◌≡◌, ℕ, ◌+◌, List, [], ◌∷◌, Option, Some, None, refl, sym, ap, ap₂, subst, ◌∙◌}
 use Rattle.std.specs.List.{AllZip}
 use Rattle.std.specs.Prelude.{reverse}
-use Rattle.ic_laws.specs.CoreBook.{CellPlace}
 use Rattle.ic_laws.specs.Scan.{first_is, is_blank}
-use Rattle.ic_laws.specs.declared.tree.Error.{Error}
 use Rattle.ic_tables.specs.Tables.{TableSet}
-use Rattle.ic_cells.specs.Value.{error_word}
 use Rattle.ic_machine.specs.Book.{Book, Sheet, Stepped}
 use Rattle.ic_machine.specs.Command.{Command, served}
-use Rattle.ic_machine.specs.InForce.{InForce, by_notation, error_in, in_force}
-use Rattle.ic_machine.specs.Reply.{Field}
+use Rattle.ic_machine.specs.InForce.{error_in}
 use Rattle.ic_machine.specs.Run.{after}
 use Rattle.ic_machine.specs.Same.{IsSameBook, IsSameSheet}
-use Rattle.ic_machine.specs.Step.{command_step, line_step, machine, outcome_of}
-use Rattle.ic_machine.specs.Translation.{AreTranslated, IsKeptLine, StandsBefore, Why, first_hindered, first_of, kept_in, left_after, why_line_not}
+use Rattle.ic_machine.specs.Step.{command_step, machine, outcome_of}
+use Rattle.ic_machine.specs.Translation.{AreTranslated, StandsBefore, Why, first_hindered, first_of, kept_in, left_after, why_line_not}
 use Rattle.ic_machine.specs.TranslationLaws.{AreAccepted, ErrorsEndPlain, IsBeside, TranslationKeepsBook}
-use Rattle.ic_machine.specs.Valid.{IsValidBook}
 use Rattle.ic_machine.proofs.GoneLemmas.{gone_is_same}
 use Rattle.ic_machine.proofs.LineSame.{LineStays, kept_as, line_stays_same}
 use Rattle.ic_machine.proofs.LineStays.{line_stays}

@@ -1,15 +1,13 @@
 -- What is written of a tree in another notation, as the body of a definition, fits that notation and reads there.
-use Rattle.std.proofs.Common.{◌≡◌, ℕ, ℤ, pos, List, [], ◌∷◌, Bool, true, false, Option, Some, None, reverse, refl, sym, ap, subst, ◌∙◌}
+use Rattle.std.proofs.Common.{◌≡◌, ℕ, pos, [], true, false, Option, Some, reverse, refl, sym, ap, ◌∙◌}
 use Rattle.ic_laws.specs.Binding.{spelled}
 use Rattle.ic_laws.specs.Clash.{clashes_with}
-use Rattle.ic_laws.specs.CoreBook.{CoreBook}
 use Rattle.ic_laws.specs.Dialect.{DialectMeaning, error_number, word_text}
-use Rattle.ic_laws.specs.FormulaReading.{shown_at}
-use Rattle.ic_laws.specs.Notations.{IsShownForm, Notations, english}
+use Rattle.ic_laws.specs.Notations.{IsShownForm, english}
 use Rattle.ic_laws.specs.ReadAs.{read_as}
 use Rattle.ic_laws.specs.Reading.{Fits, printed}
 use Rattle.ic_laws.specs.Scan.{first_is}
-use Rattle.ic_laws.specs.Tree.{Bound, Spelled}
+use Rattle.ic_laws.specs.Tree.{Bound}
 use Rattle.ic_laws.specs.ValidCore.{IsKept}
 use Rattle.ic_laws.specs.declared.dialect.WordKind.TheVariants as kinds
 use Rattle.ic_laws.specs.declared.reference.RefToken.{RefToken}

@@ -1,5 +1,5 @@
 -- An update of a definition, given in another notation, leaves the same.
-use Rattle.std.proofs.Common.{◌≡◌, ℕ, zero, suc, ℤ, pos, List, [], ◌∷◌, ◌++◌, map, reverse, Bool, true, false, cond, not, ◌&&◌, ◌==◌, Option, Some, None, Ok, Err, refl, sym, ap, ap₂, subst, ◌∙◌}
+use Rattle.std.proofs.Common.{◌≡◌, ℕ, zero, suc, pos, List, [], ◌∷◌, ◌++◌, map, reverse, Bool, true, false, cond, not, ◌&&◌, ◌==◌, Option, Some, None, Ok, refl, sym, ap, ap₂, subst, ◌∙◌}
 use Rattle.std.proofs.lemmas.Bool.{not-false, true≢false}
 use Rattle.std.specs.List.{AllByRecursion, slice_get}
 use Rattle.std.specs.Option.{option_or}
@@ -7,12 +7,12 @@ use Rattle.std.specs.Prelude.{is_none, option_and_then, option_map}
 use Rattle.ic_laws.proofs.core.Lists.{updated_seen}
 use Rattle.ic_laws.specs.Binding.{bound, spelled}
 use Rattle.ic_laws.specs.Character.{equals}
-use Rattle.ic_laws.specs.CoreBook.{CoreBook, Definition, scene_of, spelling_of}
+use Rattle.ic_laws.specs.CoreBook.{CoreBook, Definition, spelling_of}
 use Rattle.ic_laws.specs.CoreStep.{has_definition, index_of_definition, is_named, scope_of, scope_or_none, updated_at}
-use Rattle.ic_laws.specs.Dialect.{DialectMeaning, error_number, word_text}
-use Rattle.ic_laws.specs.FormulaReading.{Body, shown_at, trimmed, without_equals}
+use Rattle.ic_laws.specs.Dialect.{DialectMeaning}
+use Rattle.ic_laws.specs.FormulaReading.{Body, trimmed, without_equals}
 use Rattle.ic_laws.specs.Keeping.{KeyChange, changed_key, kept_in_body}
-use Rattle.ic_laws.specs.Name.{agrees, is_identifier}
+use Rattle.ic_laws.specs.Name.{agrees}
 use Rattle.ic_laws.specs.Notations.{Notations, english, english_function}
 use Rattle.ic_laws.specs.ReadAs.{read_as}
 use Rattle.ic_laws.specs.Reading.{Fits, printed}
@@ -20,23 +20,20 @@ use Rattle.ic_laws.specs.Scan.{first_is, is_blank}
 use Rattle.ic_laws.specs.Scene.{key_of, same_scope}
 use Rattle.ic_laws.specs.Tree.{Bound, Spelled}
 use Rattle.ic_laws.specs.ValidCore.{IsKept, IsKeptBody}
-use Rattle.ic_laws.specs.declared.dialect.WordKind.TheVariants as kinds
-use Rattle.ic_laws.specs.declared.scene.DefinitionSpelling.{DefinitionSpelling}
 use Rattle.ic_laws.specs.declared.scene.Scene.{Scene}
-use Rattle.ic_laws.specs.declared.tree.Error.{Error}
 use Rattle.ic_laws.specs.declared.tree.Formula.{Formula}
 use Rattle.ic_laws.specs.declared.tree.Formula.TheVariants as formulas
 use Rattle.ic_laws.specs.declared.tree.NameKey.{NameKey}
 use Rattle.ic_tables.specs.Tables.{TableSet}
 use Rattle.ic_tree.specs.Notations.{notations_of}
 use Rattle.ic_cells.specs.Value.{error_word}
-use Rattle.ic_machine.specs.Book.{Book, Sheet, core_of, notations_in, scene_in, unless}
+use Rattle.ic_machine.specs.Book.{Book, core_of, notations_in, scene_in, unless}
 use Rattle.ic_machine.specs.Capture.{captured_sites, has_sites}
 use Rattle.ic_machine.specs.Changed.{changed_with}
 use Rattle.ic_machine.specs.Command.{OnDefinitions}
-use Rattle.ic_machine.specs.InForce.{InForce, by_notation, error_in}
+use Rattle.ic_machine.specs.InForce.{InForce, by_notation}
 use Rattle.ic_machine.specs.Kept.{StaysValid}
-use Rattle.ic_machine.specs.Refusal.{Causes, Refusal, Site, WouldCapture, first_refusal}
+use Rattle.ic_machine.specs.Refusal.{Causes, Refusal, first_refusal}
 use Rattle.ic_machine.specs.Reply.{Field}
 use Rattle.ic_machine.specs.Retyped.{clashes_in}
 use Rattle.ic_machine.specs.Same.{IsSameBook}
@@ -55,7 +52,7 @@ use Rattle.ic_machine.proofs.InsertedStays.{none_holds}
 use Rattle.ic_machine.proofs.NamesStay.{definitions_stay}
 use Rattle.ic_machine.proofs.SameLemmas.{core_same, scene_same}
 use Rattle.ic_machine.proofs.SitesSame.{sites_same}
-use Rattle.ic_machine.proofs.TextEnds.{EndsSolid, equals_front, is_solid, no_equals, printed_tight, tight_front, trimmed_tight, without_equals_front}
+use Rattle.ic_machine.proofs.TextEnds.{EndsSolid, equals_front, no_equals, printed_tight, tight_front, trimmed_tight, without_equals_front}
 use Rattle.ic_machine.proofs.TreeAgain.{error_there, fits_there, form, form_there, reads_there, references_there}
 use Rattle.ic_machine.proofs.UpdatedStays.{new, none_passes_at, passes_at, some_of}
 

@@ -4,24 +4,19 @@ use Rattle.std.specs.List.{slice_get}
 use Rattle.std.specs.Prelude.{option_map}
 use Rattle.ic_laws.specs.CoreBook.{CellPlace}
 use Rattle.ic_laws.specs.Position.{is_column, is_row}
-use Rattle.ic_laws.specs.declared.tree.Formula.{Formula}
-use Rattle.ic_cells.specs.Style.{with_quote_prefix}
 use Rattle.ic_cells.specs.declared.layout.Merge.{Merge}
-use Rattle.ic_cells.specs.declared.style.Style.{Style}
 use Rattle.ic_grid.specs.Arrays.{is_fixed_at}
 use Rattle.ic_grid.specs.Merges.{is_covered}
 use Rattle.ic_grid.specs.Contents.{Contents}
 use Rattle.ic_grid.specs.Prepare.{written}
-use Rattle.ic_input.specs.Typed.{needs_quoting}
 use Rattle.ic_machine.specs.Book.{Book, Grid, Sheet, found_or, style_number_at, unless, unless_refused}
-use Rattle.ic_machine.specs.Content.{BoolContent, Content, NumContent, TextContent, held}
-use Rattle.ic_machine.specs.InForce.{typed_in}
+use Rattle.ic_machine.specs.Content.{BoolContent, Content, NumContent, held}
 use Rattle.ic_machine.specs.Refusal.{ArrayPart, Causes, InvalidSheet, MergedPart, Refusal, first_refusal}
 use Rattle.ic_machine.specs.Reply.{Field}
 use Rattle.ic_machine.specs.Same.{IsSameBook, IsSameGrid, IsSameSheet, unstyled}
 use Rattle.ic_machine.specs.Styling.{Numbered, restyled}
 use Rattle.ic_machine.specs.TranslationLaws.{LeavesSame}
-use Rattle.ic_machine.specs.subjects.Writing.{Written, bool_step, number_step, place_causes, text_step, text_written, value_written, with_content, with_styled, with_written, write_causes, write_step}
+use Rattle.ic_machine.specs.subjects.Writing.{Written, bool_step, number_step, place_causes, text_step, text_written, value_written, with_content, with_written, write_causes, write_step}
 use Rattle.ic_machine.proofs.AlikeGrid.{is_fixed_at_as, written_as}
 use Rattle.ic_machine.proofs.BareGrid.{bare, bared, seen_bare}
 use Rattle.ic_machine.proofs.InsertedBinds.{accepted}

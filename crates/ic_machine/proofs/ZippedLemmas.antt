@@ -1,5 +1,5 @@
 -- Two lists whose items are the same one by one, in which items are changed, put in, taken out and moved.
-use Rattle.std.proofs.Common.{◌≡◌, ℕ, zero, suc, List, [], ◌∷◌, Option, Some, None}
+use Rattle.std.proofs.Common.{ℕ, zero, suc, List, [], ◌∷◌, Option, Some, None}
 use Rattle.std.specs.List.{AllZip, insert, remove, slice_get}
 use Rattle.ic_laws.specs.CoreStep.{moved, put_back, updated_at}
 

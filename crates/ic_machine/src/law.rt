@@ -1,4 +1,4 @@
-ghost use Rattle.std.specs.Prelude.{◌≡◌, List, ℕ};
+ghost use Rattle.std.specs.Prelude.{List, ℕ};
 ghost use Rattle.ic_grid.specs.Shape.{celled};
 ghost use Rattle.ic_machine.specs.Alike.{HoldsAlike};
 ghost use Rattle.ic_machine.specs.Binds.{AddedIsMeant, CopiedIsMeant, CopiedMeansSame};
@@ -19,7 +19,7 @@ ghost use Rattle.ic_machine.specs.Readers.{LeavesIf, is_reader};
 ghost use Rattle.ic_machine.specs.Retyped.{RetypedStays};
 ghost use Rattle.ic_machine.specs.Scene.{KeepsSceneIf, leaves_names};
 ghost use Rattle.ic_machine.specs.Step.{step};
-ghost use Rattle.ic_machine.specs.TranslationLaws.{ArrayIsSame, DefinitionIsSame, FormulaIsSame, InputIsSame, LineIsSame, OthersAreSame, TranslationKeepsBook, UpdateIsSame};
+ghost use Rattle.ic_machine.specs.TranslationLaws.{TranslationKeepsBook};
 ghost use Rattle.ic_machine.specs.subjects.Arrays.{arrays_step};
 ghost use Rattle.ic_machine.specs.subjects.Definitions.{definition_step};
 ghost use Rattle.ic_machine.specs.subjects.Extending.{extending_step};
@@ -145,47 +145,10 @@ pub fn law_extended_is_same()
     ensures { ExtendedIsSame }
 {}
 
-/// Try.
-pub fn law_try_others()
-    ensures { (locale language : List ℕ) → OthersAreSame locale language }
-{}
-
-/// Try.
-pub fn law_try_formula()
-    ensures { (locale language : List ℕ) → FormulaIsSame locale language }
-{}
-
-/// Try.
-pub fn law_try_input()
-    ensures { (locale language : List ℕ) → InputIsSame locale language }
-{}
-
-/// Try.
-pub fn law_try_array()
-    ensures { (locale language : List ℕ) → ArrayIsSame locale language }
-{}
-
-/// Try.
-pub fn law_try()
-    ensures { (n : ℕ) → n ≡ n }
-{}
-
-/// Try.
-pub fn law_try_definition()
-    ensures { (locale language : List ℕ) → DefinitionIsSame locale language }
-{}
-
-/// Try.
-pub fn law_try_update()
-    ensures { (locale language : List ℕ) → UpdateIsSame locale language }
-{}
-
-/// Try.
-pub fn law_try_line()
-    ensures { (locale language : List ℕ) → LineIsSame locale language }
-{}
-
-/// Try.
-pub fn law_try_all()
+/// Lines that are translated are each accepted in their turn by every book that is the same as the one before and has the
+/// notation that is asked for, and leave a book that is the same as the one after the lines that they were translated
+/// from. None of these can't be translated, both books are valid, and in the notation that is asked for no word of an error
+/// value ends with a blank.
+pub fn law_translation_keeps_book()
     ensures { (locale language : List ℕ) → TranslationKeepsBook locale language }
 {}
