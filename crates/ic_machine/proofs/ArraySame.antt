@@ -119,8 +119,7 @@ module _ (b left c : Book) (valid : IsValidBook b) (valid_there : IsValidBook c)
       let free : first_refusal (array_causes s block new) ≡ None =
       both_clear front ((not (is_formula_text text), NotAFormula) ∷ []) ((not (is_formula_text new), NotAFormula) ∷ []) done.0 (ap (λ (good : Bool). first_refusal ((not good, NotAFormula) ∷ [])) written) in
       let free_there : first_refusal (array_causes t block new) ≡ None = ap first_refusal (sym (array_causes_same s t both block new)) ∙ free in
-      let left_there : Book = with_array c index t block (formula_at_place c t place (without_equals new)) in
-      (
+      let left_there : Book = with_array c index t block (formula_at_place c t place (without_equals new)) in (
         left_there,
         (
           [],

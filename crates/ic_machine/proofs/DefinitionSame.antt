@@ -81,8 +81,7 @@ module _ (english : List ℕ → Option ℕ) (scene : Scene) (scope : Option ℕ
 
   lambda_stays : (parameters : List (List ℕ)) (inner : Spelled) → (other : Spelled) × (again (node (one.Lambda parameters inner)) ≡ node (one.Lambda parameters other))
   lambda_stays parameters inner =
-      let below : Bound = under english scene scope inner ([] ++ parameters) in
-      (
+      let below : Bound = under english scene scope inner ([] ++ parameters) in (
         spelled scene below,
         ap (spelled scene) (bound-node english scene scope (one.Lambda parameters inner) []) ∙ spelled-node (sheet_spelling scene) (definition_spelling scene) (one.Lambda parameters below),
       )

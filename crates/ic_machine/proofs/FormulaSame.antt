@@ -163,10 +163,9 @@ module _ (b left c : Book) (valid : IsValidBook b) (valid_there : IsValidBook c)
       (ap scene_in done.is ∙ placed b index s (writing.with_content place _ _ s) at refl) index s t at there sheets place (and_from _ _ done.row done.column) told.0
       (ap (option_and_then (why_not (in_notation c.locale c.language b))) (sym is) ∙ writable) in
       let new_is : new ≡ equals ∷ again.shown = ap (cell_text (in_notation c.locale c.language left) place) is ∙ again.text in
-      let found : formula_typed c new ≡ Some again.shown = ap (formula_typed c) new_is ∙ again.told in
-      (
+      let found : formula_typed c new ≡ Some again.shown = ap (formula_typed c) new_is ∙ again.told in (
         texts_same b c same.tables s t sheets.pool _ _ formula (ap (λ (o : Option (List ℕ)). formula_at_place b s place (unwrap_or o [])) told.1)
-        (ap (λ (o : Option (List ℕ)). formula_at_place c t place (unwrap_or o [])) found ∙ again.reads),
+            (ap (λ (o : Option (List ℕ)). formula_at_place c t place (unwrap_or o [])) found ∙ again.reads),
         ap (λ (o : Option (List ℕ)). first_refusal ((is_none o, NotAFormula) ∷ [])) found,
       ))
 

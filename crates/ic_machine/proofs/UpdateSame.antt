@@ -219,8 +219,7 @@ module _ (b c : Book) (valid : IsValidBook b) (valid_there : IsValidBook c) (sam
 
         unrefused : first_refusal (update_causes c u') ≡ None
         unrefused =
-            none_refuses (update_causes c u')
-            (
+            none_refuses (update_causes c u') (
               clear.0,
               (
                 ap (λ (k : CoreBook). is_none (scope_of k u.scope)) core_is ∙ clear.1.0,

@@ -133,8 +133,7 @@ module _ (b c : Book) (same : IsSameBook b c) (index : ℕ) (place : CellPlace) 
       let h = again s t refl refl both (record { row = there.0; column = there.1; clear = others_clear (write_causes s place) own of_sheet; is = done.1 }) in
       let clear : first_refusal (place_causes place ++ (write_causes t place ++ also)) ≡ None =
       subst (λ (causes : Causes). first_refusal (place_causes place ++ (causes ++ also)) ≡ None) (causes_same s t both place)
-      (both_clear (place_causes place) (write_causes s place ++ own) (write_causes s place ++ also) done.0 (both_clear (write_causes s place) own also of_sheet h.1)) in
-      (
+      (both_clear (place_causes place) (write_causes s place ++ own) (write_causes s place ++ also) done.0 (both_clear (write_causes s place) own also of_sheet h.1)) in (
         with_written c index t place (v t),
         (
           [],
