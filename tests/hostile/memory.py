@@ -46,6 +46,8 @@ def in_pages(program, start, given, name, tried):
     whole = run(program, given)
     space, enough = start, 0
     while enough < 64:
+        if space > start + 64 * MEGABYTE:
+            return tried.fail(f"{name}: no end in {space // MEGABYTE} MB")
         ran = run(program, given, space, MEGABYTE)
         tried.look(f"{name} in {space // 1024} KB", ran, whole)
         enough = enough + 1 if ran.status == whole.status else 0
@@ -80,8 +82,7 @@ def main(program, *folders):
             in_pages(program, start, given, path, tried)
     print(f"page by page: {tried.runs} runs, {tried.cut} cut, {tried.wrong} wrong", flush=True)
     grown(program, start, tried)
-    print(f"{tried.runs} runs, of which {tried.cut} ended with status 6 and {tried.wrong} as none may")
-    return 1 if tried.wrong else 0
+    return tried.told()
 
 
 if __name__ == "__main__":

@@ -11,9 +11,13 @@ import random
 import re
 import sys
 
-from runs import ending, run
+from runs import MEGABYTE, ending, run
 
-COMMANDS = os.path.join(os.path.dirname(os.path.dirname(os.path.dirname(os.path.abspath(__file__)))), "docs", "COMMANDS.md")
+TESTS = os.path.dirname(os.path.dirname(os.path.abspath(__file__)))
+COMMANDS = os.path.join(os.path.dirname(TESTS), "docs", "COMMANDS.md")
+sys.path.insert(0, os.path.join(TESTS, "reading"))
+
+from ic_machine.command import COMMANDS as ALL  # noqa: E402
 
 # the words of each kind, the right ones and the others; those of the kinds that aren't named are drawn from all
 WORDS = {
@@ -55,7 +59,10 @@ class Looked:
             text = f.read()
         self.forms = re.findall(r"`([a-z_]+(?:→[A-Z.]+)*)`", "\n".join(line.split("|")[1] for line in text.splitlines() if line.startswith("| `") and "error→" not in line))
         self.errors = {f"error\t{name}".encode() for name in re.findall(r"`error→([A-Za-z]+)`", text)}
-        self.lines = self.wrong = 0
+        self.lines = self.runs = self.wrong = 0
+        missing = {row[0] for row in ALL} ^ {form.split("→")[0] for form in self.forms}
+        if missing:
+            self.fail("docs/COMMANDS.md and tests/reading have other commands", sorted(missing))
 
     def fail(self, what, said):
         self.wrong += 1
@@ -66,6 +73,7 @@ class Looked:
         lines = given.count(b"\n") + (given[-1:] not in (b"", b"\n"))
         replies = ran.output.split(b"\n")[:-1]
         self.lines += lines
+        self.runs += 1
         if ran.status or len(replies) != lines or ran.output[-1:] not in (b"", b"\n"):
             self.fail(what, f"{ending(ran.status)}, {len(replies)} replies to {lines} lines")
         strange = next((reply for reply in replies if reply[:2] != b"ok" and reply not in self.errors), None)
@@ -159,8 +167,8 @@ def nested(program, looked):
         for count in (127, 128, 129, 1000, 1023, 1024, 1025, 10_000, 100_000):
             deep = before * count + inner + after * count
             given = (BEFORE + "".join(place.format(deep) + "\nget_cell_formula\t0\t1\t1\nset_language\tde\nget_cell_formula\t0\t1\t1\nset_language\ten\n" for place in places)).encode()
-            looked.look(f"{count} of {before}{inner}{after}", given, run(program, given))
-    print(f"nested: {len(pieces)} kinds", flush=True)
+            looked.look(f"{count} of {before}{inner}{after}", given, run(program, given, None, 8 * MEGABYTE))
+    print(f"nested: {len(pieces)} kinds, with 8 MB of stack", flush=True)
 
 
 def folded(program, looked):
@@ -202,7 +210,7 @@ def main(words):
     folded(program, looked)
     ids(program, looked, 1_000_000)
     commands(program, looked, chance, told["lines"])
-    print(f"{len(looked.forms)} commands, {looked.lines:,} lines, {looked.wrong} wrong")
+    print(f"{len(looked.forms)} commands, {looked.runs:,} runs, {looked.lines:,} lines, {looked.wrong} wrong")
     return 1 if looked.wrong else 0
 
 

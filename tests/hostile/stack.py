@@ -64,7 +64,7 @@ def crowded(program, tried):
         given = lines_with("signs", count)
         whole = run(program, given)
         killed, refused, space, enough = [], [], start, 0
-        while enough < 16:
+        while enough < 16 and space < start + 64 * MEGABYTE:
             ran = run(program, given, space)
             if count <= 20:
                 tried.look(f"{count} signs in {space // 1024} KB", ran, whole)
@@ -74,8 +74,7 @@ def crowded(program, tried):
             elif ran.status == NO_MEMORY:
                 refused.append(space // 1024)
             elif ran.status != whole.status:
-                tried.wrong += 1
-                print(f"WRONG: {count} signs in {space // 1024} KB: {ending(ran.status)}")
+                tried.fail(f"{count} signs in {space // 1024} KB: {ending(ran.status)}")
             space += PAGE
         spans = [f"{min(found)} to {max(found)} KB" if found else "never" for found in (killed, refused)]
         print(f"| {count} | {spans[0]} | {spans[1]} | {(space - 16 * PAGE) // 1024} KB |", flush=True)
@@ -85,8 +84,7 @@ def main(program):
     tried = Tried()
     measured(program, tried)
     crowded(program, tried)
-    print(f"{tried.runs} runs, of which {tried.wrong} ended as none may")
-    return 1 if tried.wrong else 0
+    return tried.told()
 
 
 if __name__ == "__main__":

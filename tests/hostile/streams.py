@@ -8,6 +8,7 @@ has to be the replies, or a part of them, and nothing may go to standard error. 
 minute."""
 import os
 import random
+import signal
 import subprocess
 import sys
 import threading
@@ -169,6 +170,8 @@ def words(program, looked):
 
 def main(program, path=HOUSEHOLD):
     random.seed(1)
+    # a run that waits for ever ends this one by SIGALRM
+    signal.alarm(1200)
     program = os.path.abspath(program)
     with open(path, "rb") as f:
         given = f.read()
