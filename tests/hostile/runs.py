@@ -10,7 +10,7 @@ from typing import NamedTuple
 MEGABYTE = 1 << 20
 
 # the seconds of the processor after which a run is ended by SIGXCPU: no run that ends by itself takes as long
-MOST_SECONDS = 600
+MOST_SECONDS = 1800
 
 # the status where memory ran out
 NO_MEMORY = 6
