@@ -70,6 +70,7 @@ pub mod UpdatedChecks
 pub mod UpdatedDoes
 pub mod UpdatedHeld
 pub mod UpdatedRules
+mod UpdatedTopics
 pub mod ValueLemmas
 pub mod WholeLemmas
 pub mod WholeWritten
