@@ -1,7 +1,7 @@
 """Noise, lines of every command with wrong words, deep nesting, and names that fold to long ones.
 
-python3 tests/hostile/noise.py PROGRAM [--lines=N] [--megabytes=N] [--seed=N]: 30 megabytes of noise unless told, once of any bytes and
-once of characters in UTF-8; 100,000 lines unless told of each command that docs/COMMANDS.md has, with words of the kinds that it
+python3 tests/hostile/noise.py PROGRAM [--lines=N] [--megabytes=N] [--seed=N]: 30 megabytes of noise unless told, of nine
+kinds, any bytes and characters in UTF-8 among them; 100,000 lines unless told of each command that docs/COMMANDS.md has, with words of the kinds that it
 takes, of other kinds, cut, doubled, dropped and with bytes flipped; 10,000 nested brackets, LETs, LAMBDAs and more wherever a
 formula may stand; names whose folding is longer; ids without end. The program has to write one reply for each line, `ok` or an error that
 docs/COMMANDS.md names, and end with status 0; twice the noise may take three times as long, and as much more memory. The status
@@ -30,7 +30,7 @@ WORDS = {
              ["=1+", "=" + "-" * 900 + "1", "=" + "(" * 300, "Data!XFD1048576", "a\\tb\\n", "", "=\\\"\\\"", "1e5", "9" * 20, "=SUM(1,MAX(2", "A1", "="]),
     "ROW": (["1", "2", "3", "5", "9", "01"], ["0", "-1", "1048577", "2147483647", "-2147483648", "2147483648"]),
     "COLUMN": (["1", "2", "3", "9"], ["0", "16385", "-5", "2147483647", "x"]),
-    "W": (["1", "2", "3"], ["0", "-1", "16384", "2147483647"]),
+    "W": (["1", "2", "3"], ["0", "-1", "16385", "2147483647"]),
     "H": (["1", "2", "3"], ["0", "9", "-5", "2147483647"]),
     "BOOL": (["true", "false"], ["True", "1", ""]),
     "AMOUNT": (["1", "-1.5", "999999999999999999.999999999", "-0"], ["1000000000000000000", "0.0000000001", "1e3", ".5", ""]),
@@ -42,6 +42,10 @@ WORDS = {
     "COLOR": (["#FF8800", "-", "", "red"], ["\\x"]),
 }
 SAME = {"OLD": "NAME", "NEW": "NAME", "TO": "SHEET", "HEIGHT": "WIDTH", "VALUE..": "VALUE"}
+
+# the kinds that stand in for others: none of large numbers, which as the row and the column of a cell would make each reply of
+# get_sheet_markup large; memory.py asks for large ones
+ANY = [kind for kind in WORDS if kind not in ("W", "WIDTH", "N")]
 
 BEFORE = "add_sheet\tData\nadd_sheet\tStraße\nnew_defined_name\ttax\t-\tSheet1!$A$1\nnew_defined_name\trate\t1\t=LAMBDA(x,x*tax)\n" \
          "set_user_input\t0\t1\t1\t=SUM(A2:B9)*tax+Data!B2\nset_user_input\t1\t1\t1\t=A1:A3\nset_user_array_formula\t0\t5\t1\t2\t2\t=A1*2\n"
@@ -106,14 +110,14 @@ def noise(program, looked, chance, size):
             looked.look(f"{part} bytes of noise, {name}", given, ran)
             both.append(ran)
         print(f"noise, {name}: {size:,} bytes, {both[1].output.count(10):,} lines, {both[0].seconds:.2f} and {both[1].seconds:.2f} seconds", flush=True)
-        if both[1].seconds > 3 * both[0].seconds + 0.05:
-            looked.fail(name, f"{both[0].seconds} and {both[1].seconds} seconds")
+        if both[1].seconds > 3 * both[0].seconds + 0.05 or both[1].kilobytes > 3 * both[0].kilobytes:
+            looked.fail(name, f"{both[0].seconds} and {both[1].seconds} seconds, {both[0].kilobytes} and {both[1].kilobytes} KB")
 
 
 def word_of(kind, chance):
     kind = SAME.get(kind, kind)
     if chance.randrange(40) == 0 or kind not in WORDS:
-        kind = chance.choice(list(WORDS))
+        kind = chance.choice(ANY)
     right, others = WORDS[kind]
     return chance.choice(others if chance.randrange(10) == 0 else right)
 
@@ -150,9 +154,10 @@ def commands(program, looked, chance, count):
             if i % 4 == 3:
                 lines.append(chance.choice(AGAIN).encode())
             if form.split("→")[0] in ("new_sheet", "duplicate_sheet"):
-                lines.append(b"delete_sheet\t2")
+                # the definitions of a sheet that is gone would stay
+                lines += [b"delete_defined_name\ttax\t2", b"delete_defined_name\trate\t2", b"delete_sheet\t2"]
         given = b"\n".join(lines) + b"\n"
-        ran = run(program, given)
+        ran = run(program, given, 1024 * MEGABYTE)
         looked.look(form, given, ran)
         print(f"{form}: {ran.output.count(10):,} lines, {ran.output.count(b'error'):,} refused, {ran.seconds:.1f} seconds, {ran.kilobytes // 1024} MB", flush=True)
 
