@@ -5,7 +5,7 @@ run whole, the first list of each other folder to its 40th line, and 40 made lin
 after it, each call of malloc and realloc is refused: refuse.c, which needs a C compiler, stands before the C library. With --most=N only so many of each
 list's calls are, at even distances; the first and the last are always. A run has to end as it does without, or with status 6 and the first of
 the same replies, and with status 6 where the first call and all later ones are refused; the status is 1 where some run ends
-otherwise. It takes two minutes.
+otherwise. It takes four minutes.
 
 python3 tests/hostile/allocations.py --unproved FILE N..: the same of the source that isn't proved, by `rt try --fail-alloc N` for the numbers
 N, over one list of lines. Each run takes a minute."""
@@ -46,6 +46,8 @@ def refused(program, folders, most):
         subprocess.run(["cc", "-O2", "-shared", "-fPIC", "-o", shim, os.path.join(HERE, "refuse.c")], check=True)
         for path, given, words in lists_in(folders):
             whole = run(program, given, words=words, environment={"LD_PRELOAD": shim, "COUNTED": counted})
+            if not words:
+                tried.whole(path, given, whole)
             with open(counted, encoding="ascii") as f:
                 count = int(f.read())
             os.remove(counted)

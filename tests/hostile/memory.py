@@ -5,7 +5,7 @@ of address space from the least one in which the program starts, page by page, u
 tests/reading/sessions always. Then lists that grow in each direction, and long lines, run within 4 MB, 16 MB and 64 MB. A run may
 end as it does without a limit, or with status 6 and the first of the same replies. Last, short lines that ask for gigabytes have to end
 with status 6 within 64 MB, after the replies to the lines before. The status is 1 where some run ends otherwise. No formula here is
-deep: stack.py tries those. It takes a minute and a half, and 2 GB."""
+deep: stack.py tries those. It takes half a minute, and 2 GB."""
 import glob
 import os
 import sys
@@ -63,7 +63,7 @@ def huge(program, tried):
 
 def in_pages(program, start, given, name, tried):
     """Under each limit from the least one on, page by page, until 64 limits in a row were enough."""
-    whole = run(program, given)
+    whole = tried.whole(name, given, run(program, given))
     space, enough = start, 0
     while enough < 64:
         if space > start + 64 * MEGABYTE:
@@ -78,7 +78,7 @@ def grown(program, start, tried):
     """Lists and lines that grow, within a few limits."""
     for name, form in GROWING.items():
         given = "".join(form.format(i=i) + "\n" for i in range(1, COUNTS.get(name, FOR_EVER) + 1)).encode()
-        whole = run(program, given)
+        whole = tried.whole(name, given, run(program, given))
         for space in (4 * MEGABYTE, start + 4 * MEGABYTE, 16 * MEGABYTE, 64 * MEGABYTE):
             ran = run(program, given, space, MEGABYTE)
             tried.look(f"{name} in {space // 1024} KB", ran, whole)
@@ -86,7 +86,7 @@ def grown(program, start, tried):
     for name, form in LONG.items():
         for size in (1 << shift for shift in range(16, 27, 2)):
             given = ("add_sheet\tA\n" + form.format("1+" * (size // 2)) + "\nadd_sheet\tB\n").encode()
-            whole = run(program, given)
+            whole = tried.whole(name, given, run(program, given))
             for space in (4 * MEGABYTE, start + 4 * MEGABYTE, 64 * MEGABYTE):
                 tried.look(f"{name} of {size} bytes in {space // 1024} KB", run(program, given, space, MEGABYTE), whole)
 

@@ -5,7 +5,7 @@ kinds, any bytes and characters in UTF-8 among them; 100,000 lines unless told o
 takes, of other kinds, cut, doubled, dropped and with bytes flipped; 10,000 nested brackets, LETs, LAMBDAs and more wherever a
 formula may stand; names whose folding is longer; ids without end. The program has to write one reply for each line, `ok` or an error that
 docs/COMMANDS.md names, and end with status 0; twice the noise may take three times as long. The lines of a command run within 1 GB.
-The status is 1 where it doesn't. It takes six minutes."""
+The status is 1 where it doesn't. It takes two minutes."""
 import os
 import random
 import re

@@ -94,6 +94,13 @@ class Tried:
         if whole.status or not is_cut(ran, whole):
             self.fail(f"{what}: {ending(ran.status)}, {len(ran.output)} of {len(whole.output)} bytes; without limits {ending(whole.status)}")
 
+    def whole(self, what, given, ran):
+        """The run without limits, which has to have one reply for each line."""
+        lines = given.count(b"\n") + (given[-1:] not in (b"", b"\n"))
+        if ran.status or ran.output.count(b"\n") != lines:
+            self.fail(f"{what}, without limits: {ending(ran.status)}, {ran.output.count(10)} replies to {lines} lines")
+        return ran
+
     def told(self):
         """The status of the script, with the counts written."""
         print(f"{self.runs} runs, of which {self.cut} ended with status 6 and {self.wrong} as none may")

@@ -6,7 +6,7 @@ same for N formulas, 40 unless told, each of pieces that are drawn and as deep a
 those with 8 MB, at every level: the status is 1 where they aren't, or where a formula that is low enough isn't read. Less
 stack than a formula takes ends the process by a signal, and so does a limit of address space that the heap used up before the
 stack grew: the second table shows for formulas of few levels under which limits of space that comes. It comes for none of 20
-levels, which fit the stack that a process has from its start, and the status is 1 if it does. It takes two minutes."""
+levels, which fit the stack that a process has from its start, and the status is 1 if it does. It takes a minute."""
 import random
 import sys
 
@@ -84,7 +84,7 @@ def measured(program, tried):
         for count in counts:
             formula = levels_of(kind, count)
             given = around(formula)
-            whole = run(program, given, None, 8 * MEGABYTE)
+            whole = tried.whole(kind, given, run(program, given, None, 8 * MEGABYTE))
             if count <= 1020 and formula.count("(") <= 127 and not is_read(whole):
                 tried.fail(f"{kind}, {count} levels: not read")
             tried.look(f"{kind}, {count} levels in 2 MB of stack", run(program, given, None, 2 * MEGABYTE), whole)
@@ -123,7 +123,7 @@ def drawn(program, tried, count, chance):
         times = greatest(lambda n: reads(nested(pieces, n, [], inner)))
         left = greatest(lambda n: reads(nested(pieces, times, more * n, inner)))
         given = around(nested(pieces, times, more * left, inner))
-        whole = run(program, given, None, 8 * MEGABYTE)
+        whole = tried.whole("drawn", given, run(program, given, None, 8 * MEGABYTE))
         what = f"{times} times {pieces}, {left} times {more}, about {inner}"
         if not is_read(whole):
             tried.fail(f"{what}: not read")
@@ -139,7 +139,7 @@ def crowded(program, tried):
     print("| signs | no stack, ended by a signal | no memory, ended with status 6 | answered from |\n|---|---|---|---|")
     for count in (20, 60, 120, 600, 1020):
         given = around(levels_of("signs", count))
-        whole = run(program, given)
+        whole = tried.whole("signs", given, run(program, given))
         killed, refused, space, enough = [], [], start, 0
         while enough < 16 and space < start + 64 * MEGABYTE:
             ran = run(program, given, space)

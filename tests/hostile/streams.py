@@ -5,7 +5,7 @@ input comes in pieces of 1, 7 and 4,096 bytes, with pauses and without, and whil
 beginnings is given as a whole input; it is a folder, closed, or nothing, or a pipe that doesn't wait for bytes; the output is closed, a full disk (/dev/full), or a pipe whose reader goes away after so many bytes, or reads slowly.
 The status has to be that of docs/GUIDE.md: 0, 3 where a read failed, 4 where a write did, 1 for words that are none; what was written
 has to be the replies, or a part of them, and nothing may go to standard error. The status is 1 where some run ends otherwise. It takes a
-minute."""
+quarter of a minute."""
 import os
 import random
 import signal

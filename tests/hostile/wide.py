@@ -4,7 +4,8 @@ python3 tests/hostile/wide.py PROGRAM: formulas with ever more arguments, variab
 spills with ever more parts; and lists of ever more cells, formulas, styles, sheets and definitions. The parts are doubled from 1,000 on until a run
 takes two seconds or there are 512,000. Shown are the seconds, and the bytes of memory that each part of the last doubling took. The status is 1
 where twice as many take more than three times as long, and more than a twentieth of a second, or more than three times the memory. Sheets that get
-the least number that is free may take six times as long, since each goes over all numbers before it. It takes two minutes and 2 GB."""
+the least number that is free may take six times as long, since each goes over all numbers before it. It takes a minute
+and 2 GB."""
 import sys
 
 from runs import ending, run
