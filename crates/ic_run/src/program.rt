@@ -4,7 +4,7 @@ ghost use Rattle.ic_lines.specs.Bytes.{IfTold, HasFault};
 ghost use Rattle.ic_run.specs.Desk.{setting_of, start, start_book, start_refusal, run_status, texts};
 ghost use Rattle.ic_run.specs.Make.{AppendsSummary, AppendsSummaryFront, first_setting, made_setting, making_of};
 ghost use Rattle.ic_run.specs.Start.{making_in, setting, setting_in};
-ghost use Rattle.ic_run.specs.Run.{AppendsReplies, AppendsServedFrom, AreCore, LeavesReplies};
+ghost use Rattle.ic_run.specs.Run.{AppendsReplies, AppendsServedFrom, AreCore, LeavesReplies, LeavesServedFrom};
 ghost use Rattle.ic_tree.specs.Notations.{notations_of};
 
 use crate::lines::run;
@@ -83,6 +83,13 @@ pub fn desk<S: Source, K: Sink>(
         LeavesReplies e tables.now (start setting) bytes left (K.written sink.old)
         (K.written sink.new))) }
 
+    // Those to all lines are the ones that this error leaves of the machine that is served, from the whole book.
+    ensures stopped_served { (e : RunError) → result ≡ run_status (Err e) → IfSome
+        (setting_of (texts words.now)) (λ setting.
+        IfTold (S.left source.old) (S.left source.new) (λ bytes left.
+        LeavesServedFrom e (λ created. start_book setting created tables.now) bytes left
+        (K.written sink.old) (K.written sink.new))) }
+
     // Where there is no fault, and the source holds fewer than 2^32 bytes or isn't read, only that memory runs out is left
     // beside 0.
     ensures completes { IsSomeAnd (setting_of (texts words.now))
@@ -159,6 +166,10 @@ fn run_from<S: Source, K: Sink>(
         → IfTold (S.left source.old) (S.left source.new) (λ bytes left.
         LeavesReplies e tables.now (start (setting first.now)) bytes left (K.written sink.old)
         (K.written sink.new)) }
+    ensures stopped_served { (e : RunError) → result ≡ run_status (Err e)
+        → IfTold (S.left source.old) (S.left source.new) (λ bytes left. LeavesServedFrom e
+        (λ created. start_book (setting first.now) created tables.now) bytes left
+        (K.written sink.old) (K.written sink.new)) }
     ensures completes { IsNone (start_refusal (setting first.now) tables.now)
         → IsSomeAnd (S.left source.old) (λ bytes. length bytes < 2 ^ 32)
         → ¬ HasFault (S.faults source.old) (S.faults source.new)
