@@ -1,9 +1,13 @@
 pub mod AlikeGrid
 pub mod AlikeLemmas
 pub mod ArrayCells
+mod ArraySame
 pub mod ArrayStays
 pub mod ArraysStay
+mod BareGrid
 pub mod BindsLemmas
+mod BodyAgain
+mod ChangedSame
 pub mod ChangedStays
 pub mod CopiedBinds
 pub mod CopiedWords
@@ -11,32 +15,54 @@ pub mod CopyKeys
 pub mod CopyNames
 pub mod CoreLemmas
 pub mod CoreValid
+mod DefinitionSame
 pub mod DuplicatedStays
 pub mod ExtendedLemmas
 pub mod FormulaLemmas
+mod FormulaSame
 pub mod FormulaStepped
+mod GoneLemmas
+mod GridsSame
 pub mod HaveLemmas
+mod InputSame
 pub mod InsertedBinds
 pub mod InsertedStays
+mod LineRead
+mod LineSame
+mod LineStays
+mod LinesAgain
 pub mod NamesStay
 pub mod NewNames
+mod NewSheetSame
 pub mod NewSheetStays
+mod NotationStays
 pub mod NumberLemmas
+mod OthersSame
 pub mod ReaderLemmas
 pub mod RetypedLemmas
+mod SameLemmas
+mod SameSteps
 pub mod SceneLemmas
 pub mod SeenLemmas
 pub mod ServedLemmas
+mod SheetsSame
 pub mod SheetsStay
+mod SitesSame
 pub mod StandingLemmas
 pub mod SteppedLemmas
 pub mod StylesStay
 pub mod SubjectsStay
+mod TextEnds
+mod TranslationSame
+mod TreeAgain
+mod UpdateSame
 pub mod UpdatedBinds
 pub mod UpdatedStays
 pub mod ValidLemmas
 pub mod WholeLemmas
 pub mod WordLemmas
+mod WritingSame
 pub mod WritingStays
 pub mod WritingSteps
+mod ZippedLemmas
 mod examples

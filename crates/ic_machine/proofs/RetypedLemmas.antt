@@ -1,5 +1,5 @@
 -- What a cell shows, typed into it again, leaves what it held.
-use Rattle.std.proofs.Common.{◌≡◌, ◌≢◌, ℕ, zero, suc, ℤ, pos, List, [], ◌∷◌, ◌++◌, Bool, true, false, ◌&&◌, cond, codes, Option, Some, None, Ok, option_map, refl, sym, ap, subst, ◌∙◌}
+use Rattle.std.proofs.Common.{◌≡◌, ◌≢◌, ℕ, zero, suc, ℤ, List, [], ◌∷◌, ◌++◌, Bool, true, false, ◌&&◌, cond, codes, Option, Some, None, Ok, option_map, refl, sym, ap, subst, ◌∙◌, inl}
 use Rattle.std.proofs.lemmas.Bool.{and_parts, true≢false}
 use Rattle.std.proofs.lemmas.Bool.Decides.{Decides-int_eq}
 use Rattle.std.specs.FinMap as finite
@@ -35,14 +35,13 @@ use Rattle.ic_tree.proofs.ClashLemmas.{shown_reads_unless_clash, there}
 use Rattle.ic_tree.proofs.NotationLaws.{knows_language_is, knows_locale_is, notations_are}
 use Rattle.ic_tree.specs.LanguageWords.{is_boolean_word, is_function_word}
 use Rattle.ic_cells.specs.Value.{boolean_word, error_word}
-use Rattle.ic_cells.specs.declared.cell.ArrayKind.TheVariants as arrays
-use Rattle.ic_cells.specs.declared.value.FormulaValue.TheVariants as fvalues
 use Rattle.ic_input.proofs.AgainLemmas.{amount_again}
+use Rattle.ic_input.proofs.TypedLaws.{formula_exactly}
 use Rattle.ic_input.proofs.TypedSteps.{tells_texts}
 use Rattle.ic_input.proofs.WordAgain.{booleans_again, errors_again, formulas_again, quoted_again, texts_again}
 use Rattle.ic_input.specs.Again.{AreOfTables}
 use Rattle.ic_input.specs.Code.{is_date_code}
-use Rattle.ic_input.specs.Typed.{typed}
+use Rattle.ic_input.specs.Typed.{formula_of, typed}
 use Rattle.ic_input.specs.declared.input.Typed.{Typed}
 use Rattle.ic_input.specs.declared.input.Typed.TheVariants as kinds
 use Rattle.ic_grid.proofs.ContentsLemmas.{same_itself}
@@ -50,6 +49,7 @@ use Rattle.ic_grid.specs.Contents.{Contents}
 use Rattle.ic_grid.specs.Prepare.{prepared, written}
 use Rattle.ic_machine.specs.Book.{Book, Sheet, Stepped, content_at, core_of, found_or, notations_in, scene_in, style_number_at, unless, unless_refused}
 use Rattle.ic_machine.specs.Content.{AnchorContent, BoolContent, Content, EmptyContent, ErrContent, FormulaContent, NumContent, SpillContent, TextContent, formula_in, formula_index, held, style_of}
+use Rattle.ic_machine.specs.InForce as in_force_words
 use Rattle.ic_machine.specs.InForce.{InForce, all_there, boolean_in, by_notation, decimal_in, error_in, formatted_in, in_force, is_number, is_text, shown_number, shown_words, typed_in}
 use Rattle.ic_machine.specs.Placed.{index_in_pool, is_dynamic}
 use Rattle.ic_machine.specs.Refusal.{Causes, InvalidSheet, Refusal, first_refusal}
@@ -86,7 +86,7 @@ boolean_at : (l : Language) (b : Bool) → slice_get (boolean_words l) (boolean_
 boolean_at l true = refl
 boolean_at l false = refl
 
-error_at : (l : Language) (e : Error) → slice_get (error_words l) (error_number e) ≡ Some (error_word l e)
+pub error_at : (l : Language) (e : Error) → slice_get (error_words l) (error_number e) ≡ Some (error_word l e)
 error_at l errors.REF = refl
 error_at l errors.NAME = refl
 error_at l errors.VALUE = refl
@@ -101,7 +101,7 @@ error_at l errors.ERROR = refl
 error_at l errors.NULL = refl
 
 -- a typed number that is told to be one is one
-number_told : (v : ℤ) (t : Typed) → is_number v t ≡ true → (code : Option (List ℕ)) × (t ≡ kinds.Number v code)
+pub number_told : (v : ℤ) (t : Typed) → is_number v t ≡ true → (code : Option (List ℕ)) × (t ≡ kinds.Number v code)
 number_told v kinds.Empty h = absurd (true≢false (sym h))
 number_told v (kinds.Quoted text) h = absurd (true≢false (sym h))
 number_told v (kinds.Formula text) h = absurd (true≢false (sym h))
@@ -121,7 +121,7 @@ text_told (kinds.Error e) h = absurd (true≢false (sym h))
 text_told (kinds.Text text) h = (text, refl)
 
 -- nothing reads as a tree
-empty_reads : (d : DialectMeaning) → read_as d [] ≡ None
+pub empty_reads : (d : DialectMeaning) → read_as d [] ≡ None
 unfolding tokens_by parsed reader expression operand
 empty_reads d = refl
 
@@ -180,19 +180,27 @@ module _ (b : Book) (valid : IsValidBook b) where
       go true e = number_told v (typed_in b (formatted_in b code v)) (and_parts (is_date_code code) (is_number v (typed_in b (formatted_in b code v))) e).1
       go false e = (None, amount_typed v h)
 
+  pub empty_typed : typed_in b [] ≡ kinds.Empty
+  unfolding typed
+  empty_typed = typed_is []
+
+  pub quoted_typed : (text : List ℕ) → typed_in b (quote ∷ text) ≡ kinds.Quoted text
+  quoted_typed text = typed_is (quote ∷ text) ∙ quoted_again f.locale f.language f.beside text
+
+  -- a text that is typed as a text is typed as itself
+  pub same_text : (text : List ℕ) → is_text (typed_in b text) ≡ true → typed_in b text ≡ kinds.Text text
+  same_text text e =
+      let told = text_told (typed_in b text) e in
+      let same : told.0 ≡ text = texts_again b.tables f.locale f.language f.beside text told.0 of_tables.formats (sym (typed_is text) ∙ told.1) in
+      told.1 ∙ ap (λ (x : List ℕ). kinds.Text x) same
+
   -- the content that is written where a text is shown
   words_written : (s : Sheet) (place : CellPlace) (text : List ℕ) (style : ℕ) → (typed_written b s place (typed_in b (shown_words b text))).content style ≡ TextContent text style
   words_written s place text style = go (is_text (typed_in b text)) refl
     where
-      quoted : typed_in b (quote ∷ text) ≡ kinds.Quoted text
-      quoted = typed_is (quote ∷ text) ∙ quoted_again f.locale f.language f.beside text
-
       go : (test : Bool) → is_text (typed_in b text) ≡ test → (typed_written b s place (typed_in b (cond test text (quote ∷ text)))).content style ≡ TextContent text style
-      go false e = ap (λ (t : Typed). (typed_written b s place t).content style) quoted
-      go true e =
-          let told = text_told (typed_in b text) e in
-          let same : told.0 ≡ text = texts_again b.tables f.locale f.language f.beside text told.0 of_tables.formats (sym (typed_is text) ∙ told.1) in
-          ap (λ (t : Typed). (typed_written b s place t).content style) told.1 ∙ ap (λ (x : List ℕ). TextContent x style) same
+      go false e = ap (λ (t : Typed). (typed_written b s place t).content style) (quoted_typed text)
+      go true e = ap (λ (t : Typed). (typed_written b s place t).content style) (same_text text e)
 
   -- a formula
   module _ (index : ℕ) (s : Sheet) (at : slice_get b.sheets index ≡ Some s) (place : CellPlace) (cell : is_cell place.0 place.1 ≡ true) (t : Bound)
@@ -208,8 +216,8 @@ module _ (b : Book) (valid : IsValidBook b) where
         shown_reads_unless_clash b.tables valid.tables (core_of b) (core_valid b valid) f.language force.language_is (Some s.id) place.0 place.1 cell t kept
         (sym (by_force true (λ (g : InForce). clashes_with (is_boolean_word g.language) (is_function_word g.language) t)) ∙ free)
 
-    some : shown ≢ []
-    some e = no_tree (sym (empty_reads d) ∙ ap (read_as d) (sym e) ∙ reads)
+    pub some_shown : shown ≢ []
+    some_shown e = no_tree (sym (empty_reads d) ∙ ap (read_as d) (sym e) ∙ reads)
       where
         no_tree : {A : Type 0} {x : A} → None ≡ Some x → ⊥
         no_tree h = cc
@@ -220,7 +228,10 @@ module _ (b : Book) (valid : IsValidBook b) where
         ∙ ap (λ (u : Bound). formulas.Tree u) kept.settled
 
     pub formula_typed : typed_in b (equals ∷ shown) ≡ kinds.Formula shown
-    formula_typed = typed_is (equals ∷ shown) ∙ formulas_again f.locale f.language f.beside shown some
+    formula_typed = typed_is (equals ∷ shown) ∙ formulas_again f.locale f.language f.beside shown some_shown
+
+    pub formula_told : in_force_words.formula_typed b (equals ∷ shown) ≡ Some shown
+    formula_told = by_force None (λ (g : InForce). formula_of g.locale (equals ∷ shown)) ∙ (formula_exactly f.locale (tells_texts b.tables f.locale of_tables.formats) (equals ∷ shown) shown).0 (inl (refl, some_shown))
 
     held_again : (w : Written) → w ≡ typed_written b s place (typed_in b (equals ∷ shown)) → (k : ℕ) → option_map (formula_in w.pool) (formula_index (w.content k)) ≡ Some (formulas.Tree t)
     held_again w is k =
@@ -244,8 +255,7 @@ module _ (b : Book) (valid : IsValidBook b) where
     told text t k e = ap (λ (x : Typed). (typed_written b s place x).content k) e
 
     nothing : (k : ℕ) → (again []).content k ≡ EmptyContent k
-    unfolding typed
-    nothing k = told [] kinds.Empty k (typed_is [])
+    nothing k = told [] kinds.Empty k empty_typed
 
     same_formula : (g : Formula) → is_cell place.0 place.1 ≡ true → IsKeptFormula (notations_in b) (scene_in b) (Some s.id) place.0 place.1 g → (k : ℕ)
         → SameFormula b (left (again (formula_text b place g)) k) ((again (formula_text b place g)).content k) g

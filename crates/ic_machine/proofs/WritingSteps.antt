@@ -141,7 +141,7 @@ restyled_has change number all are lt =
 
 -- a step that writes ----
 
-place_clear : (row column : Bool) (others : Causes) → first_refusal ((not row, InvalidRow) ∷ (not column, InvalidColumn) ∷ others) ≡ None → (row ≡ true) × (column ≡ true)
+pub place_clear : (row column : Bool) (others : Causes) → first_refusal ((not row, InvalidRow) ∷ (not column, InvalidColumn) ∷ others) ≡ None → (row ≡ true) × (column ≡ true)
 place_clear false column others e = cc
 place_clear true false others e = cc
 place_clear true true others e = (refl, refl)
@@ -226,10 +226,11 @@ module _ (b : Book) (valid : IsValidBook b) where
         ((notations_are b.tables valid.tables).shown b.locale b.language p.0 p.1 valid.locale valid.language) (text ++ codes ")") t g (Some s.id)
     read_kept text None None h g = tt
 
+    pub text_kept : (text : List ℕ) → IsKeptFormula (notations_in b) (scene_in b) (Some s.id) p.0 p.1 (formula_at_place b s p text)
+    text_kept text = read_kept text (read_as (shown_at (notations_in b) (core_of b) p.0 p.1) text) (read_as (shown_at (notations_in b) (core_of b) p.0 p.1) (text ++ codes ")")) refl refl
+
     pub text_good : (text : List ℕ) → IsGood (notations_in b) (scene_in b) s p (formula_written b s (formula_at_place b s p text))
-    text_good text =
-        formula_good (formula_at_place b s p text)
-        (read_kept text (read_as (shown_at (notations_in b) (core_of b) p.0 p.1) text) (read_as (shown_at (notations_in b) (core_of b) p.0 p.1) (text ++ codes ")")) refl refl)
+    text_good text = formula_good (formula_at_place b s p text) (text_kept text)
 
     typed_good : (t : Typed) → IsGood (notations_in b) (scene_in b) s p (typed_written b s p t)
     typed_good kinds.Empty = plain _ _ (λ k. refl) (λ k. refl) (λ k. refl)

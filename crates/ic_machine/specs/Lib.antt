@@ -26,6 +26,7 @@ pub mod Scene
 pub mod Step
 pub mod Styling
 pub mod Translation
+pub mod TranslationLaws
 pub mod Valid
 pub mod Word
 pub mod subjects

@@ -19,6 +19,7 @@ ghost use Rattle.ic_machine.specs.Readers.{LeavesIf, is_reader};
 ghost use Rattle.ic_machine.specs.Retyped.{RetypedStays};
 ghost use Rattle.ic_machine.specs.Scene.{KeepsSceneIf, leaves_names};
 ghost use Rattle.ic_machine.specs.Step.{step};
+ghost use Rattle.ic_machine.specs.TranslationLaws.{TranslationKeepsBook};
 ghost use Rattle.ic_machine.specs.subjects.Arrays.{arrays_step};
 ghost use Rattle.ic_machine.specs.subjects.Definitions.{definition_step};
 ghost use Rattle.ic_machine.specs.subjects.Extending.{extending_step};
@@ -142,4 +143,12 @@ pub fn law_retyped_stays()
 /// fixed positions, unless a reference leaves the sheet or a name is a word of the language in force.
 pub fn law_extended_is_same()
     ensures { ExtendedIsSame }
+{}
+
+/// Lines that are translated are each accepted in their turn by every book that is the same as the one before and has the
+/// notation that is asked for, and leave a book that is the same as the one after the lines that they were translated
+/// from. None of these can't be translated, both books are valid, and in the notation that is asked for no word of an error
+/// value ends with a blank.
+pub fn law_translation_keeps_book()
+    ensures { (locale language : List ℕ) → TranslationKeepsBook locale language }
 {}
