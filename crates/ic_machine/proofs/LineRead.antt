@@ -1,10 +1,11 @@
 -- The command that a line is which is made of the texts of another, or of those with another text at their end.
-use Rattle.std.proofs.Common.{◌≡◌, ℕ, List, [], ◌∷◌, ◌++◌, map, Bool, true, cond, ◌⊎◌, Option, Some, None, codes, refl, sym, ap, ap₂, subst, ◌∙◌, inl, inr}
-use Rattle.std.proofs.lemmas.Bool.{and_parts, cases_Bool}
+use Rattle.std.proofs.Common.{◌≡◌, ℕ, List, [], ◌∷◌, ◌++◌, map, Bool, true, ◌⊎◌, Option, Some, None, codes, refl, sym, ap, ap₂, subst, ◌∙◌, inl, inr}
+use Rattle.std.proofs.lemmas.Bool.{and_parts}
 use Rattle.std.proofs.lemmas.Slice.Eq.{bytes_eq-Decides}
-use Rattle.std.specs.List.{AllByRecursion, filter, find, list_all}
+use Rattle.std.specs.List.{AllByRecursion, find, list_all}
 use Rattle.std.specs.Prelude.{bytes_eq, option_and_then, option_map, unwrap_or}
 use Rattle.ic_laws.proofs.binding.SceneLemmas.{found_passes}
+use Rattle.ic_laws.proofs.kept.Kept.{found_has}
 use Rattle.ic_laws.specs.Lines.{escaped, unescaped, word_texts, words_of}
 use Rattle.ic_machine.specs.Command.{Command, OnArrays, OnDefinitions, OnExtending, OnLayout, OnNotation, OnReading, OnSheets, OnStyles, OnTabs, OnWriting, command_in, commands, served}
 use Rattle.ic_machine.specs.Row.{Row, joined, row_in, spelled}
@@ -21,6 +22,7 @@ use Rattle.ic_machine.specs.subjects.Styles as styles
 use Rattle.ic_machine.specs.subjects.Tabs as tabs
 use Rattle.ic_machine.specs.subjects.Writing as writing
 use Rattle.ic_machine.specs.Translation.{line_of, texts_of, with_last}
+use Rattle.ic_machine.proofs.CopyKeys.{all_appended, all_filtered}
 use Rattle.ic_machine.proofs.LinesAgain.{text_again, texts_again, words_again}
 
 -- Rows whose last word is a text, and the same words with another text there. ----
@@ -91,10 +93,6 @@ TakesText row =
     ((w : AllSaid row.words) (t : List ℕ) → with_text t (row.command w) ≡ None)
     ⊎ ((h : EndsText row.words) × ((w : AllSaid row.words) (t : List ℕ) → with_text t (row.command w) ≡ Some (row.command (put_text h t w))))
 
-all_both : {A : Type 0} (P : A → Type 0) (xs ys : List A) → AllByRecursion P xs → AllByRecursion P ys → AllByRecursion P (xs ++ ys)
-all_both P [] ys h k = k
-all_both P (x ∷ xs) ys h k = (h.0, all_both P xs ys h.1 k)
-
 none_takes : {C : Type 0} (subject : C → Command) → ((command : C) (t : List ℕ) → with_text t (subject command) ≡ None) → (rows : List (Row C)) → AllByRecursion TakesText (map (row_in subject) rows)
 none_takes subject none [] = tt
 none_takes subject none (row ∷ rows) = (inl (λ w t. none (row.command w) t), none_takes subject none rows)
@@ -161,15 +159,15 @@ pub all_rows : (P : Row Command → Type 0) → AllByRecursion P (map (row_in On
     → AllByRecursion P (map (row_in OnTabs) tabs.tab_rows) → AllByRecursion P rows_from_arrays → AllByRecursion P commands
 unfolding commands
 all_rows P one two three four five six seven eight nine ten =
-    all_both P (map (row_in OnSheets) sheets.sheet_rows) rows_from_definitions one
-    (all_both P (map (row_in OnDefinitions) definitions.definition_rows) rows_from_notation two
-    (all_both P (map (row_in OnNotation) notation.notation_rows) rows_from_writing three
-    (all_both P (map (row_in OnWriting) writing.writing_rows) rows_from_reading four
-    (all_both P (map (row_in OnReading) reading.reading_rows) rows_from_extending five
-    (all_both P (map (row_in OnExtending) extending.extending_rows) rows_from_styles six
-    (all_both P (map (row_in OnStyles) styles.style_rows) rows_from_layout seven
-    (all_both P (map (row_in OnLayout) layout.layout_rows) rows_from_tabs eight
-    (all_both P (map (row_in OnTabs) tabs.tab_rows) rows_from_arrays nine ten))))))))
+    all_appended P (map (row_in OnSheets) sheets.sheet_rows) rows_from_definitions one
+    (all_appended P (map (row_in OnDefinitions) definitions.definition_rows) rows_from_notation two
+    (all_appended P (map (row_in OnNotation) notation.notation_rows) rows_from_writing three
+    (all_appended P (map (row_in OnWriting) writing.writing_rows) rows_from_reading four
+    (all_appended P (map (row_in OnReading) reading.reading_rows) rows_from_extending five
+    (all_appended P (map (row_in OnExtending) extending.extending_rows) rows_from_styles six
+    (all_appended P (map (row_in OnStyles) styles.style_rows) rows_from_layout seven
+    (all_appended P (map (row_in OnLayout) layout.layout_rows) rows_from_tabs eight
+    (all_appended P (map (row_in OnTabs) tabs.tab_rows) rows_from_arrays nine ten))))))))
 
 all_take : AllByRecursion TakesText commands
 all_take =
@@ -189,23 +187,9 @@ holds_of_test : {A : Type 0} (p : A → Bool) (xs : List A) → list_all p xs �
 holds_of_test p [] h = tt
 holds_of_test p (x ∷ xs) h = let parts = and_parts (p x) (list_all p xs) h in (parts.0, holds_of_test p xs parts.1)
 
-filtered : {A : Type 0} (P : A → Type 0) (p : A → Bool) (xs : List A) → AllByRecursion P xs → AllByRecursion P (filter p xs)
-filtered P p [] h = tt
-filtered P p (x ∷ xs) h = elim (cases_Bool (p x)) [
-  | inl t ↦ rw t (h.0, filtered P p xs h.1)
-  | inr f ↦ rw f (filtered P p xs h.1)
-]
-
-pub found_holds : {A : Type 0} (P : A → Type 0) (q : A → Bool) (xs : List A) (x : A) → AllByRecursion P xs → find q xs ≡ Some x → P x
-found_holds P q [] x h e = absurd (cc)
-found_holds P q (y ∷ ys) x h e = elim (cases_Bool (q y)) [
-  | inl t ↦ let some : Some y ≡ Some x = sym (ap (λ (b : Bool). cond b (Some y) (find q ys)) t) ∙ e in let same : y ≡ x = cc in subst P same h.0
-  | inr f ↦ found_holds P q ys x h.1 (sym (ap (λ (b : Bool). cond b (Some y) (find q ys)) f) ∙ e)
-]
-
 pub served_all : (P : Row Command → Type 0) → AllByRecursion P commands → AllByRecursion P served
 unfolding served
-served_all P h = filtered P _ commands h
+served_all P h = all_filtered _ P P (λ row e p. p) commands h
 
 served_take : AllByRecursion TakesText served
 served_take = served_all TakesText all_take
@@ -260,7 +244,7 @@ module _ (english : List (List ℕ)) (line : List ℕ) (command : Command) where
     name_plain =
         let same : read.row.name ≡ read.name = (bytes_eq-Decides read.row.name read.name).0 (found_passes (λ (row : Row Command). bytes_eq row.name read.name) served read.row read.found) in
         let plain : escaped read.row.name ≡ read.row.name =
-        (bytes_eq-Decides (escaped read.row.name) read.row.name).0 (found_holds (λ (row : Row Command). is_plain row ≡ true) (λ (row : Row Command). bytes_eq row.name read.name) served read.row served_plain read.found) in
+        (bytes_eq-Decides (escaped read.row.name) read.row.name).0 (found_has (λ (row : Row Command). is_plain row ≡ true) (λ (row : Row Command). bytes_eq row.name read.name) served served_plain read.row read.found) in
         subst (λ (text : List ℕ). escaped text ≡ text) same plain
 
     texts_are : texts_of line ≡ read.name ∷ read.texts
@@ -283,7 +267,7 @@ module _ (english : List (List ℕ)) (line : List ℕ) (command : Command) where
 
     -- and with another text at their end the command with that
     pub last_line : (t : List ℕ) (other : Command) → with_text t command ≡ Some other → command_in english served (line_of (with_last t (texts_of line))) ≡ Some other
-    last_line t other e = elim (found_holds TakesText (λ (row : Row Command). bytes_eq row.name read.name) served read.row served_take read.found) [
+    last_line t other e = elim (found_has TakesText (λ (row : Row Command). bytes_eq row.name read.name) served served_take read.row read.found) [
       | inl none ↦ let no : None ≡ Some other = sym (none read.w t) ∙ ap (with_text t) read.is ∙ e in absurd (cc)
       | inr takes ↦
           let some : Some (read.row.command (put_text takes.0 t read.w)) ≡ Some other = sym (takes.1 read.w t) ∙ ap (with_text t) read.is ∙ e in

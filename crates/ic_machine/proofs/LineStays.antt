@@ -3,6 +3,7 @@ use Rattle.std.proofs.Common.{◌≡◌, ℕ, List, [], ◌∷◌, map, Bool, tr
 use Rattle.std.proofs.lemmas.Bool.Decides.{nat_tests}
 use Rattle.std.specs.List.{AllByRecursion}
 use Rattle.std.specs.Prelude.{bytes_eq, nat_le, option_and_then, option_map}
+use Rattle.ic_laws.proofs.kept.Kept.{found_has}
 use Rattle.ic_laws.specs.Command.{at_most, index_said, number_said, scope_said}
 use Rattle.ic_machine.specs.Book.{Book, Stepped}
 use Rattle.ic_machine.specs.Command.{Command, OnArrays, OnDefinitions, OnExtending, OnLayout, OnNotation, OnReading, OnSheets, OnStyles, OnTabs, OnWriting, command_in, served}
@@ -24,7 +25,7 @@ use Rattle.ic_machine.specs.subjects.Styles as styles
 use Rattle.ic_machine.specs.subjects.Tabs as tabs
 use Rattle.ic_machine.specs.subjects.Writing as writing
 use Rattle.ic_machine.proofs.ArraysStay.{arrays_stay}
-use Rattle.ic_machine.proofs.LineRead.{all_rows, both_said, found_holds, is_read, served_all}
+use Rattle.ic_machine.proofs.LineRead.{all_rows, both_said, is_read, served_all}
 use Rattle.ic_machine.proofs.NamesStay.{definitions_stay, sheets_stay}
 use Rattle.ic_machine.proofs.StylesStay.{styles_stay}
 use Rattle.ic_machine.proofs.SubjectsStay.{extending_stays, layout_stays, notation_stays, reading_stays, tabs_are}
@@ -110,7 +111,7 @@ module _ (english : List (List ℕ)) where
   line_gives : (line : List ℕ) (command : Command) → command_in english served line ≡ Some command → given command ≡ true
   line_gives line command e =
       let read = is_read english line command e in
-      ap given (sym read.is) ∙ found_holds GivesIds (λ (row : Row Command). bytes_eq row.name read.name) served read.row all_give read.found read.texts read.w read.says
+      ap given (sym read.is) ∙ found_has GivesIds (λ (row : Row Command). bytes_eq row.name read.name) served all_give read.row read.found read.texts read.w read.says
 
 -- so a valid book stays valid over it
 module _ (b : Book) (valid : IsValidBook b) where

@@ -125,6 +125,14 @@ pub empty_reads : (d : DialectMeaning) → read_as d [] ≡ None
 unfolding tokens_by parsed reader expression operand
 empty_reads d = refl
 
+-- a book whose locale and languages are there has them in force
+pub in_force_is : (b : Book) (named : NamedLocale) (l beside : Language) → locale_of b.tables b.locale ≡ Some named → language_of b.tables b.language ≡ Some l → language_of b.tables english ≡ Some beside
+    → in_force b ≡ Some (record { locale = named.locale; language = l; beside = beside })
+in_force_is b named l beside locale_is language_is beside_is =
+    ap (λ (o : Option NamedLocale). all_there o (language_of b.tables b.language) (language_of b.tables english)) locale_is
+    ∙ ap (λ (o : Option Language). all_there (Some named) o (language_of b.tables english)) language_is
+    ∙ ap (λ (o : Option Language). all_there (Some named) (Some l) o) beside_is
+
 module _ (b : Book) (valid : IsValidBook b) where
   force : HasForce b
   force = has_force b valid
@@ -133,10 +141,7 @@ module _ (b : Book) (valid : IsValidBook b) where
   f = record { locale = force.named.locale; language = force.language; beside = force.beside }
 
   force_is : in_force b ≡ Some f
-  force_is =
-      ap (λ (o : Option NamedLocale). all_there o (language_of b.tables b.language) (language_of b.tables english)) force.locale_is
-      ∙ ap (λ (o : Option Language). all_there (Some force.named) o (language_of b.tables english)) force.language_is
-      ∙ ap (λ (o : Option Language). all_there (Some force.named) (Some force.language) o) force.beside_is
+  force_is = in_force_is b force.named force.language force.beside force.locale_is force.language_is force.beside_is
 
   by_force : {A : Type 0} (otherwise : A) (make : InForce → A) → by_notation otherwise make (in_force b) ≡ make f
   by_force otherwise make = ap (by_notation otherwise make) force_is

@@ -16,27 +16,19 @@ use Rattle.ic_cells.specs.Value.{error_word}
 use Rattle.ic_tables.specs.Tables.{TableSet, language_of, locale_of}
 use Rattle.ic_tables.specs.declared.language.Language.{Language}
 use Rattle.ic_tables.specs.declared.locale.Locale.{Locale}
-use Rattle.ic_tables.specs.declared.locale.NamedLocale.{NamedLocale}
 use Rattle.ic_tree.proofs.ClashLemmas.{there, written_reads_unless_clash}
 use Rattle.ic_tree.proofs.NotationLaws.{knows_language_is, knows_locale_is, notations_are}
 use Rattle.ic_tree.specs.LanguageWords.{is_boolean_word, is_function_word}
 use Rattle.ic_tree.specs.Notations.{notations_of}
 use Rattle.ic_machine.specs.Book.{Book, core_of, notations_in, scene_in}
-use Rattle.ic_machine.specs.InForce.{InForce, all_there, by_notation, error_in, in_force}
+use Rattle.ic_machine.specs.InForce.{InForce, by_notation, error_in, in_force}
 use Rattle.ic_machine.specs.Retyped.{clashes_in}
 use Rattle.ic_machine.specs.Translation.{in_notation}
 use Rattle.ic_machine.specs.Valid.{IsValidBook}
 use Rattle.ic_machine.proofs.BodyAgain.{error_written, form_shown, references_end, written_fits}
 use Rattle.ic_machine.proofs.CoreValid.{core_valid}
+use Rattle.ic_machine.proofs.RetypedLemmas.{in_force_is}
 use Rattle.ic_machine.proofs.TextEnds.{is_solid}
-
--- a book whose locale and languages are there has them in force
-pub in_force_is : (x : Book) (named : NamedLocale) (l e : Language) → locale_of x.tables x.locale ≡ Some named → language_of x.tables x.language ≡ Some l → language_of x.tables english ≡ Some e
-    → in_force x ≡ Some (record { locale = named.locale; language = l; beside = e })
-in_force_is x named l e a b c =
-    ap (λ (o : Option NamedLocale). all_there o (language_of x.tables x.language) (language_of x.tables english)) a
-    ∙ ap (λ (o : Option Language). all_there (Some named) o (language_of x.tables english)) b
-    ∙ ap (λ (o : Option Language). all_there (Some named) (Some l) o) c
 
 module _ (left c : Book) (valid : IsValidBook left) (valid_there : IsValidBook c) (tables : left.tables ≡ c.tables) where
   pub known_locale : (notations_of left.tables).knows_locale c.locale ≡ true

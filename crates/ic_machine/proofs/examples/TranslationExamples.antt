@@ -9,6 +9,7 @@ use Rattle.ic_laws.specs.CoreStep.{core_step}
 use Rattle.ic_laws.specs.Parse.{node}
 use Rattle.ic_laws.specs.Token.{Token, Boolean, Close, FunHead, Num, Separator}
 use Rattle.ic_laws.specs.Tree.{Bound, Spelled}
+use Rattle.ic_laws.specs.declared.tree.Error.TheVariants as errors
 use Rattle.ic_laws.specs.declared.tree.Formula.TheVariants as formulas
 use Rattle.ic_laws.specs.declared.tree.NameMention.{NameMention}
 use Rattle.ic_laws.specs.declared.tree.NameMention.TheVariants as names
@@ -26,6 +27,7 @@ use Rattle.ic_machine.specs.Command.{commands, served}
 use Rattle.ic_machine.specs.InForce.{shown_words, typed_in}
 use Rattle.ic_machine.specs.Retyped.{clashes_in}
 use Rattle.ic_machine.specs.Translation.{AreTranslated, Clash, Raw, cell_text, first_hindered, in_notation, line_of, texts_of, why_not, with_last}
+use Rattle.ic_machine.specs.TranslationLaws.{ErrorsEndPlain}
 use Rattle.ic_machine.specs.subjects.Notation.{get_language_step, set_language_step}
 use Rattle.ic_machine.specs.subjects.Sheets.{add_sheet_step, new_sheet_step}
 use Rattle.ic_machine.proofs.examples.Formulas.{shows}
@@ -96,3 +98,21 @@ unfolding caseless notations_of digits fraction_digits
 called =
     ap (λ (text : List ℕ). equals ∷ text)
     (shows (in_notation (codes "es") (codes "es") start) (pos 1) (pos 1) call spelled_call call_tokens (codes "SUMA(1,5;VERDADERO)") (simp spelled-node) (simp yield-node) refl)
+
+-- in neither language does the word of an error value end with a blank
+plain : ErrorsEndPlain start
+plain errors.REF = refl
+plain errors.NAME = refl
+plain errors.VALUE = refl
+plain errors.DIV = refl
+plain errors.NA = refl
+plain errors.NUM = refl
+plain errors.NIMPL = refl
+plain errors.SPILL = refl
+plain errors.CALC = refl
+plain errors.CIRC = refl
+plain errors.ERROR = refl
+plain errors.NULL = refl
+
+plain_spanish : ErrorsEndPlain (in_notation (codes "es") (codes "es") start)
+plain_spanish e = plain e
