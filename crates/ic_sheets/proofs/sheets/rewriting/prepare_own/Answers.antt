@@ -12,7 +12,7 @@ loop-id-preserved g c =
       | in-Some+in_ok-rewrites+in_ok-push w ↦
           each_more (g.C.BookChange.change c.args.change.now) c.loop-id.prepared.items id w.in_ok-rewrites.rewrites c.args.sheets.now w.in-Some.sheet.now
           (found ∙ ap (option_map (λ s. s.now)) w.in-Some.is)
-          w.in_ok-rewrites.ensures
+          (record { made = w.in_ok-rewrites.ensures.made; listed = w.in_ok-rewrites.ensures.listed; fits = w.in_ok-rewrites.ensures.fits })
           c.match-sheet_with.prepared.items c.args.ids.now c.loop-id.id-index c.loop-id.invariant c.loop-id-test.true refl
           (ap (λ (v : Vec (ℕ × Rewrites) Global). v.items) w.prepared-is ∙ w.in_ok-push.ensures.items)
       | in_default w ↦ absurd (some_sheet c.args.ids.now c.loop-id.id-index id c.args.sheets.now c.requires.known c.loop-id-test.true refl (found ∙ ap (option_map (λ s. s.now)) w.in_default.is))
