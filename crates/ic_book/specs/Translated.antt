@@ -1,18 +1,27 @@
 -- What the own text of a command stands for, whatever the notation, and how that is written in one.
-use Rattle.std.specs.Prelude.{◌≡◌, ◌⊎◌, ℕ, pos, List, [], ◌∷◌, Option, Some, None, IsSome, is_none, option_and_then, if◌then◌else◌, Bool}
-use Rattle.ic_laws.specs.CoreBook.{Definition}
-use Rattle.ic_laws.specs.FormulaReading.{shown_body}
+use Rattle.std.specs.Prelude.{ℤ, option_map, ◌≡◌, ℕ, pos, List, [], ◌∷◌, Option, Some, None, IsSome, is_none, option_and_then, if◌then◌else◌, Bool}
+use Rattle.ic_laws.specs.FormulaReading.{shown_body, shown_formula}
 use Rattle.ic_laws.specs.Refusal.{InvalidLanguage, InvalidLocale, Refusal, first_refusal}
 use Rattle.ic_laws.specs.declared.tree.Formula.{Formula}
 use Rattle.ic_tables.specs.Tables.{TableSet, language_of, locale_of}
+use Rattle.ic_tables.specs.Formats.{decimal_separator}
+use Rattle.ic_cells.specs.Cell.{value_of}
+use Rattle.ic_cells.specs.Value.{shown_text}
+use Rattle.ic_cells.specs.declared.cell.Cell.{Cell}
 use Rattle.ic_machine.specs.Book as machine
 use Rattle.ic_machine.specs.Book.{core_of, notations_in}
-use Rattle.ic_machine.specs.Command.{Command}
+use Rattle.ic_machine.specs.Command.{Command, OnDefinitions}
+use Rattle.ic_machine.specs.Refusal as machine_refusal
+use Rattle.ic_machine.specs.subjects.Definitions.{Update, UpdateDefinedName, question_causes}
+use Rattle.std.specs.List.{slice_get}
+use Rattle.ic_sheets.specs.Sheet.{Sheet}
+use Rattle.ic_book.specs.Written.{written_formula}
+use Rattle.ic_machine.specs.InForce.{by_notation, in_force}
 use Rattle.ic_machine.specs.Step.{step}
 use Rattle.ic_machine.specs.Translation as translation
-use Rattle.ic_machine.specs.Translation.{AreTranslatedTexts, IsTypedSo, left_by, own_formula, why_not, with_last}
+use Rattle.ic_machine.specs.Translation.{AreTranslatedTexts, IsTypedSo, in_notation, left_by, own_formula, why_not, with_last}
 use Rattle.ic_machine.specs.subjects.Reading.{formula_text}
-use Rattle.ic_book.specs.Book.{NotationState}
+use Rattle.ic_book.specs.Book.{Book, NotationState}
 use Rattle.ic_book.specs.declared.own_text.OwnText.{OwnText}
 use Rattle.ic_book.specs.declared.own_text.OwnText.TheVariants as owns
 use Rattle.ic_book.specs.declared.own_text.Why.{Why}
@@ -67,3 +76,21 @@ IsToldWhere notation book command None = left_by (step book command) ≡ None
 IsToldWhere notation book command (Some own) =
     Owns book command own
     × ((target : machine.Book) → IsIn notation target → IsSome (option_and_then (why_not target) (formula_owned own)) → IsSome (left_by (step book command)))
+
+-- the text of a cell's value in the notation of a book, where there are no shared strings
+abbrev pub localized_in : machine.Book → Cell → List ℕ
+localized_in book cell = by_notation [] (λ f. shown_text (decimal_separator f.locale) f.language (value_of [] f.language cell)) (in_force book)
+
+-- the formula of a body, which stands after an equals sign, in a cell of the sheet at an index, where there is one
+abbrev pub formula_own : Book → ℕ → ℤ → ℤ → List ℕ → Option OwnText
+formula_own book index row column body = option_map (λ (s : Sheet). owns.Formula row column (written_formula book s (row, column) body)) (slice_get book.sheets index)
+
+-- the definition that an update would leave, where nothing refuses the question whether it would capture
+abbrev pub IsToldAsked : machine.Book → Update → Option OwnText → Type 0
+IsToldAsked book update None = IsSome (machine_refusal.first_refusal (question_causes book update))
+IsToldAsked book update (Some own) = Owns book (OnDefinitions (UpdateDefinedName update)) own × (machine_refusal.first_refusal (question_causes book update) ≡ None)
+
+-- a formula as it is shown in a notation in the cell at a row and a column
+abbrev pub shown_in : NotationState → machine.Book → ℤ → ℤ → Formula → List ℕ
+shown_in notation book row column formula =
+    shown_formula (notations_in (in_notation notation.locale notation.language book)) (core_of (in_notation notation.locale notation.language book)) row column formula

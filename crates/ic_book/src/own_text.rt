@@ -1,13 +1,14 @@
 //! What the own text of a command stands for, whatever the notation.
 ghost use Rattle.std.specs.Prelude.{◌≡◌, option_and_then, option_map};
 ghost use Rattle.ic_machine.specs.Book as machine;
+ghost use Rattle.ic_machine.specs.Retyped.{clashes_in};
 ghost use Rattle.ic_machine.specs.Translation.{why_not};
-ghost use Rattle.ic_book.specs.Translated.{IsIn, formula_owned, why_meant};
+ghost use Rattle.ic_book.specs.Translated.{IsIn, formula_owned, why_clashing, why_meant};
 
 use crate::in_force::Notation;
 use ic_definitions::Definition;
 use ic_input::Typed;
-use ic_laws::Formula;
+use ic_laws::{Bound, Formula};
 use ic_tree::clashes;
 
 /// Why the formula of a command can't be written in a notation.
@@ -68,15 +69,19 @@ fn why_formula_not(formula: &Formula, target: &Notation<'_>) -> Option<Why>
 {
     match formula {
         Formula::Raw(_) => Some(Why::Raw),
-        Formula::Tree(tree) => why_tree_not(clashes(tree, target.language())),
+        Formula::Tree(tree) => why_tree_not(tree, target),
     }
 }
 
-/// Why a tree can't be written that clashes, or doesn't.
-fn why_tree_not(clash: bool) -> Option<Why>
-    ensures { option_map why_meant result ≡ why_clashing clash }
+/// Why a tree can't be written in a notation; None where it can.
+fn why_tree_not(tree: &Bound, target: &Notation<'_>) -> Option<Why>
+    ensures { (book : machine.Book) → IsIn target.now book → option_map why_meant result
+        ≡ why_clashing (clashes_in book tree.now) }
 {
-    if clash {
+    // What always holds of a notation is known from here on.
+    let _ = target.locale();
+    let _ = target.get_default_language();
+    if clashes(tree, target.language()) {
         return Some(Why::Clash);
     }
     None
