@@ -43,6 +43,7 @@ pub mod NewSheetLemmas
 pub mod NothingLemmas
 pub mod NumberedLemmas
 pub mod NumberedTexts
+pub mod OwnDefinitions
 pub mod OwnTextLemmas
 pub mod PartLemmas
 pub mod PartUses

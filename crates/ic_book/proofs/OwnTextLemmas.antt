@@ -109,10 +109,10 @@ module _ (old : ModelState) (valid : IsValidBook old.book) (index : ℕ) (row co
 
     -- a typed text that is no formula
     pub value_told : (t : Typed) → t ≡ typed_in (whole_of old.book) text → typed_formula t ≡ None → IsToldOf (whole_of old.book) (OnWriting (SetUserInput index row column text)) (Some (owns.Value t))
-    value_told t is no = (
+    value_told t is lacks = (
       record {
-        formula = ap (λ (u : Typed). option_and_then (formula_in_cell whole index (row, column)) (formula_of_typed u)) (sym is) ∙ ap (option_and_then (formula_in_cell whole index (row, column))) (value_formula t no);
-        texts = λ target texts s so. (s, (refl, subst (λ (u : Typed). IsTypedSo target (row, column) (translation.written_formula whole (SetUserInput index row column text)) u s) is (value_typed target (row, column) _ t s no so)));
+        formula = ap (λ (u : Typed). option_and_then (formula_in_cell whole index (row, column)) (formula_of_typed u)) (sym is) ∙ ap (option_and_then (formula_in_cell whole index (row, column))) (value_formula t lacks);
+        texts = λ target texts s so. (s, (refl, subst (λ (u : Typed). IsTypedSo target (row, column) (translation.written_formula whole (SetUserInput index row column text)) u s) is (value_typed target (row, column) _ t s lacks so)));
       },
       input_left,
     )
@@ -142,7 +142,7 @@ module _ (old : ModelState) (valid : IsValidBook old.book) (index : ℕ) (row co
   write_gone e t = gone_told WantedIn (formula_step index (row, column) text whole) old old e t.0 t.1 (formula_told old valid index (row, column) text no_fields e t).done
 
   pub untyped_gone : value_refusal old.book index row column ≡ None → formula_typed (whole_of old.book) text ≡ None → left_by (step (whole_of old.book) (OnWriting (UpdateCellWithFormula index row column text))) ≡ None
-  untyped_gone none no = ap left_by (no_formula_told old valid index (row, column) text no_fields no none).done.0
+  untyped_gone none lacks = ap left_by (no_formula_told old valid index (row, column) text no_fields lacks none).done.0
 
   pub write_formula : value_refusal old.book index row column ≡ None → (body : List ℕ) → formula_typed (whole_of old.book) text ≡ Some body → (own : Option OwnText) → own ≡ formula_own old.book index row column body
       → IsToldOf (whole_of old.book) (OnWriting (UpdateCellWithFormula index row column text)) own
@@ -168,7 +168,7 @@ module _ (old : ModelState) (valid : IsValidBook old.book) (index : ℕ) (b : Bl
   array_gone e t = gone_told WantedIn (array_step index b text its_book) old old e t.0 t.1 (array_refused old valid index b text e t.0 t.1 t.2).done
 
   pub bodiless_gone : array_refusal old.book index b ≡ None → after_equals text ≡ None → left_by (step (whole_of old.book) (OnArrays (SetUserArrayFormula index b text))) ≡ None
-  bodiless_gone none no = ap left_by (array_no_formula old valid index b text none no).done.0
+  bodiless_gone none lacks = ap left_by (array_no_formula old valid index b text none lacks).done.0
 
   pub array_own : array_refusal old.book index b ≡ None → (body : List ℕ) → after_equals text ≡ Some body → (own : Option OwnText) → own ≡ formula_own old.book index (first_place b).0 (first_place b).1 body
       → IsToldOf (whole_of old.book) (OnArrays (SetUserArrayFormula index b text)) own

@@ -1,9 +1,25 @@
 //! What a translation has to do with a command.
+ghost use Rattle.std.specs.Prelude.{◌≡◌, IfOk, false};
+ghost use Rattle.ic_machine.specs.Book as machine;
+ghost use Rattle.ic_machine.specs.Command.{Command, OnArrays, OnDefinitions, OnLayout, OnNotation, OnSheets, OnStyles, OnTabs, OnWriting};
+ghost use Rattle.ic_machine.specs.Translation.{is_dropped};
+ghost use Rattle.ic_words.specs.Command.{command_meant};
+ghost use Rattle.ic_words.specs.subjects.Arrays.{arrays_meant};
+ghost use Rattle.ic_words.specs.subjects.Definitions.{definitions_meant};
+ghost use Rattle.ic_words.specs.subjects.Layout.{layout_meant};
+ghost use Rattle.ic_words.specs.subjects.Notation.{notation_meant};
+ghost use Rattle.ic_words.specs.subjects.Sheets.{sheets_meant};
+ghost use Rattle.ic_words.specs.subjects.Styles.{styles_meant};
+ghost use Rattle.ic_words.specs.subjects.Tabs.{tabs_meant};
+ghost use Rattle.ic_words.specs.subjects.Writing.{writing_meant};
+ghost use Rattle.ic_book.specs.Book.{NotationState};
+ghost use Rattle.ic_book.specs.Translated.{IsToldWhere};
+ghost use Rattle.ic_book.specs.Whole.{whole_of};
+ghost use Rattle.ic_run.specs.Translate.{IsPlan};
 
-use ic_book::{Model, Notation, OwnText};
+use ic_book::{Model, Notation as Target, OwnText};
 use ic_laws::OutOfMemory;
-use ic_words::{Arrays, Command, Definitions, Layout, Notation as NotationCommand, Sheets, Styles, Tabs, Writing};
-use std::alloc::Global;
+use ic_words::{Arrays, Command, Definitions, Layout, Notation, Sheets, Styles, Tabs, Writing};
 
 /// What a translation has to do with a command.
 pub enum Plan {
@@ -11,7 +27,7 @@ pub enum Plan {
     Goes,
     /// To run it: it chooses the notation.
     Runs,
-    /// To run it; its line becomes the same.
+    /// To run it; its line becomes one with the same texts.
     Stays,
     /// To run it; its line becomes one that adds a sheet of this name.
     AddsSheet(String),
@@ -29,19 +45,22 @@ impl Drop for Plan {
     }
 }
 
-/// What is to be done with a command.
+/// What is to be done with a command, where it is translated into a notation by the book's tables. Only memory can be missing.
 pub fn plan_of(
-    alloc: Global,
     model: &Model<'_>,
     command: &Command<'_>,
-    target: &Notation<'_>,
-) -> Result<Plan, OutOfMemory> {
+    target: &Target<'_>,
+) -> Result<Plan, OutOfMemory>
+    ensures { IfOk result (IsPlan target.now (whole_of model.now.book)
+        (command_meant command.now)) }
+{
     match command {
         Command::Sheets(command) => sheets_plan(model, command),
         Command::Definitions(command) => definitions_plan(model, command, target),
         Command::Notation(command) => Ok(notation_plan(command)),
         Command::Writing(command) => writing_plan(model, command),
-        Command::Reading(_) | Command::Extending(_) => Ok(Plan::Goes),
+        Command::Reading(_) => Ok(Plan::Goes),
+        Command::Extending(_) => Ok(Plan::Goes),
         Command::Styles(command) => Ok(styles_plan(command)),
         Command::Layout(command) => Ok(layout_plan(command)),
         Command::Tabs(command) => Ok(tabs_plan(command)),
@@ -49,21 +68,36 @@ pub fn plan_of(
     }
 }
 
-/// With one on the list of sheets.
-fn sheets_plan(model: &Model<'_>, command: &Sheets<'_>) -> Result<Plan, OutOfMemory> {
+/// What is to be done with one on the list of sheets.
+fn sheets_plan(model: &Model<'_>, command: &Sheets<'_>) -> Result<Plan, OutOfMemory>
+    ensures { (target : NotationState) → IfOk result (IsPlan target (whole_of model.now.book)
+        (OnSheets (sheets_meant command.now))) }
+{
     match command {
+        Sheets::AddSheet { .. } => Ok(Plan::Stays),
+        Sheets::InsertSheet { .. } => Ok(Plan::Stays),
         Sheets::NewSheet => Ok(Plan::AddsSheet(model.new_sheet_name()?)),
-        Sheets::GetNewSheetId | Sheets::GetWorksheetsProperties => Ok(Plan::Goes),
-        _ => Ok(Plan::Stays),
+        Sheets::DuplicateSheet { .. } => Ok(Plan::Stays),
+        Sheets::RenameSheet { .. } => Ok(Plan::Stays),
+        Sheets::RenameSheetByIndex { .. } => Ok(Plan::Stays),
+        Sheets::MoveSheet { .. } => Ok(Plan::Stays),
+        Sheets::DeleteSheet { .. } => Ok(Plan::Stays),
+        Sheets::DeleteSheetByName { .. } => Ok(Plan::Stays),
+        Sheets::DeleteSheetBySheetId { .. } => Ok(Plan::Stays),
+        Sheets::GetNewSheetId => Ok(Plan::Goes),
+        Sheets::GetWorksheetsProperties => Ok(Plan::Goes),
     }
 }
 
-/// With one on definitions.
+/// What is to be done with one on definitions.
 fn definitions_plan(
     model: &Model<'_>,
     command: &Definitions<'_>,
-    target: &Notation<'_>,
-) -> Result<Plan, OutOfMemory> {
+    target: &Target<'_>,
+) -> Result<Plan, OutOfMemory>
+    ensures { IfOk result (IsPlan target.now (whole_of model.now.book)
+        (OnDefinitions (definitions_meant command.now))) }
+{
     match command {
         Definitions::NewDefinedName { name, scope, body } => Ok(written(
             model.definition_to_add(name.as_str(), *scope, body.as_str())?,
@@ -77,21 +111,33 @@ fn definitions_plan(
             target,
         )?)),
         Definitions::DeleteDefinedName { .. } => Ok(Plan::Stays),
-        _ => Ok(Plan::Goes),
+        Definitions::WouldCapture { .. } => Ok(Plan::Goes),
+        Definitions::IsValidDefinedName { .. } => Ok(Plan::Goes),
+        Definitions::GetDefinedNameList => Ok(Plan::Goes),
     }
 }
 
-/// With one on the locale, the language and the zone.
-fn notation_plan(command: &NotationCommand<'_>) -> Plan {
+/// What is to be done with one on the locale, the language and the zone.
+fn notation_plan(command: &Notation<'_>) -> Plan
+    ensures { (target : NotationState) (book : machine.Book)
+        → IsPlan target book (OnNotation (notation_meant command.now)) result }
+{
     match command {
-        NotationCommand::SetLocale { .. } | NotationCommand::SetLanguage { .. } => Plan::Runs,
-        NotationCommand::SetTimezone { .. } => Plan::Stays,
-        _ => Plan::Goes,
+        Notation::SetLocale { .. } => Plan::Runs,
+        Notation::SetLanguage { .. } => Plan::Runs,
+        Notation::SetTimezone { .. } => Plan::Stays,
+        Notation::GetLocale => Plan::Goes,
+        Notation::GetLanguage => Plan::Goes,
+        Notation::GetTimezone => Plan::Goes,
+        Notation::GetFmtSettings => Plan::Goes,
     }
 }
 
-/// With one that writes a cell.
-fn writing_plan(model: &Model<'_>, command: &Writing<'_>) -> Result<Plan, OutOfMemory> {
+/// What is to be done with one that writes a cell.
+fn writing_plan(model: &Model<'_>, command: &Writing<'_>) -> Result<Plan, OutOfMemory>
+    ensures { (target : NotationState) → IfOk result (IsPlan target (whole_of model.now.book)
+        (OnWriting (writing_meant command.now))) }
+{
     match command {
         Writing::SetUserInput {
             sheet,
@@ -109,44 +155,70 @@ fn writing_plan(model: &Model<'_>, command: &Writing<'_>) -> Result<Plan, OutOfM
         } => Ok(written(
             model.formula_to_write(*sheet, *row, *column, text.as_str())?,
         )),
-        _ => Ok(Plan::Stays),
+        Writing::UpdateCellWithText { .. } => Ok(Plan::Stays),
+        Writing::UpdateCellWithBool { .. } => Ok(Plan::Stays),
+        Writing::UpdateCellWithNumber { .. } => Ok(Plan::Stays),
     }
 }
 
-/// With one on styles.
-fn styles_plan(command: &Styles<'_>) -> Plan {
+/// What is to be done with one on styles.
+fn styles_plan(command: &Styles<'_>) -> Plan
+    ensures { (target : NotationState) (book : machine.Book)
+        → IsPlan target book (OnStyles (styles_meant command.now)) result }
+{
     match command {
-        Styles::SetColumnStyle { .. }
-        | Styles::SetRowStyle { .. }
-        | Styles::DeleteColumnStyle { .. }
-        | Styles::DeleteRowStyle { .. } => Plan::Stays,
-        _ => Plan::Goes,
+        Styles::GetCellStyleIndex { .. } => Plan::Goes,
+        Styles::GetStyleForCell { .. } => Plan::Goes,
+        Styles::GetCellStyleOrNone { .. } => Plan::Goes,
+        Styles::SetColumnStyle { .. } => Plan::Stays,
+        Styles::SetRowStyle { .. } => Plan::Stays,
+        Styles::GetColumnStyle { .. } => Plan::Goes,
+        Styles::GetRowStyle { .. } => Plan::Goes,
+        Styles::DeleteColumnStyle { .. } => Plan::Stays,
+        Styles::DeleteRowStyle { .. } => Plan::Stays,
     }
 }
 
-/// With one on widths, heights and what is hidden.
-fn layout_plan(command: &Layout) -> Plan {
+/// What is to be done with one on widths, heights and what is hidden.
+fn layout_plan(command: &Layout) -> Plan
+    ensures { (target : NotationState) (book : machine.Book)
+        → IsPlan target book (OnLayout (layout_meant command.now)) result }
+{
     match command {
-        Layout::GetColumnWidth { .. }
-        | Layout::GetRowHeight { .. }
-        | Layout::IsColumnHidden { .. }
-        | Layout::IsRowHidden { .. } => Plan::Goes,
-        _ => Plan::Stays,
+        Layout::SetColumnWidth { .. } => Plan::Stays,
+        Layout::SetRowHeight { .. } => Plan::Stays,
+        Layout::GetColumnWidth { .. } => Plan::Goes,
+        Layout::GetRowHeight { .. } => Plan::Goes,
+        Layout::SetColumnHidden { .. } => Plan::Stays,
+        Layout::SetRowHidden { .. } => Plan::Stays,
+        Layout::IsColumnHidden { .. } => Plan::Goes,
+        Layout::IsRowHidden { .. } => Plan::Goes,
     }
 }
 
-/// With one on how a sheet is presented.
-fn tabs_plan(command: &Tabs<'_>) -> Plan {
+/// What is to be done with one on how a sheet is presented, or on the theme.
+fn tabs_plan(command: &Tabs<'_>) -> Plan
+    ensures { (target : NotationState) (book : machine.Book)
+        → IsPlan target book (OnTabs (tabs_meant command.now)) result }
+{
     match command {
-        Tabs::GetTheme | Tabs::GetFrozenRowsCount { .. } | Tabs::GetFrozenColumnsCount { .. } => {
-            Plan::Goes
-        }
-        _ => Plan::Stays,
+        Tabs::SetTheme { .. } => Plan::Stays,
+        Tabs::GetTheme => Plan::Goes,
+        Tabs::SetFrozenRows { .. } => Plan::Stays,
+        Tabs::SetFrozenColumns { .. } => Plan::Stays,
+        Tabs::GetFrozenRowsCount { .. } => Plan::Goes,
+        Tabs::GetFrozenColumnsCount { .. } => Plan::Goes,
+        Tabs::SetSheetColor { .. } => Plan::Stays,
+        Tabs::SetSheetState { .. } => Plan::Stays,
+        Tabs::SetShowGridLines { .. } => Plan::Stays,
     }
 }
 
-/// With one on arrays, spills and clearing.
-fn arrays_plan(model: &Model<'_>, command: &Arrays<'_>) -> Result<Plan, OutOfMemory> {
+/// What is to be done with one on arrays, spills and clearing.
+fn arrays_plan(model: &Model<'_>, command: &Arrays<'_>) -> Result<Plan, OutOfMemory>
+    ensures { (target : NotationState) → IfOk result (IsPlan target (whole_of model.now.book)
+        (OnArrays (arrays_meant command.now))) }
+{
     match command {
         Arrays::SetUserArrayFormula {
             sheet,
@@ -163,12 +235,19 @@ fn arrays_plan(model: &Model<'_>, command: &Arrays<'_>) -> Result<Plan, OutOfMem
             *height,
             text.as_str(),
         )?)),
-        _ => Ok(Plan::Stays),
+        Arrays::RangeClearContents { .. } => Ok(Plan::Stays),
+        Arrays::RangeClearAll { .. } => Ok(Plan::Stays),
+        Arrays::PutFormulaValue { .. } => Ok(Plan::Stays),
+        Arrays::PutSpill { .. } => Ok(Plan::Stays),
     }
 }
 
-/// With one that writes this, or would be refused where there is none.
-fn written(own: Option<OwnText>) -> Plan {
+/// What is to be done with a command that writes this; one that is refused where there is none.
+fn written(own: Option<OwnText>) -> Plan
+    ensures { (target : NotationState) (book : machine.Book) (command : Command)
+        → is_dropped command ≡ false → IsToldWhere target book command own
+        → IsPlan target book command result }
+{
     match own {
         Some(own) => Plan::Writes(own),
         None => Plan::Goes,
