@@ -1,4 +1,4 @@
-use Rattle.std.proofs.Common.{◌≡◌, ℤ, Option, Some, ap, ap₂, chars, option_map, sym, ◌∙◌}
+use Rattle.std.proofs.Common.{Option, Some, ap, ap₂, chars, option_map, sym, ◌∙◌}
 use Rattle.std.specs.List.{slice_get}
 use Rattle.std.proofs.lemmas.Option.{slice_get-map}
 use Rattle.ic_laws.specs.CoreBook.{CellPlace}
