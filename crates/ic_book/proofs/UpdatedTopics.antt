@@ -1,24 +1,21 @@
 -- Each formula that an update touches mentions the name that the definition had, or the one that it gets.
-use Rattle.std.proofs.Common.{◌≡◌, ℕ, List, [], ◌∷◌, false, ◌&&◌, ◌||◌, Option, refl, ap}
+use Rattle.std.proofs.Common.{◌≡◌, ℕ, List, [], ◌∷◌, false, ◌&&◌, refl, ap}
 use Rattle.std.proofs.lemmas.Bool.{or_parts}
 use Rattle.ic_laws.specs.Name.{fold}
-use Rattle.ic_laws.specs.Scene.{same_key, same_scope}
-use Rattle.ic_laws.specs.declared.scene.Scene.{Scene}
+use Rattle.ic_laws.specs.Scene.{same_scope}
 use Rattle.ic_laws.specs.declared.tree.Formula.{Formula}
 use Rattle.ic_laws.specs.declared.tree.Formula.TheVariants as formulas
 use Rattle.ic_laws.specs.declared.tree.NameKey.{NameKey}
 use Rattle.ic_laws.specs.declared.tree.NameMention.{NameMention}
 use Rattle.ic_laws.specs.declared.tree.NameMention.TheVariants as names
-use Rattle.ic_keep.specs.Touched.{touches_word}
+use Rattle.ic_keep.specs.Touched.{is_touched, touches_word}
 use Rattle.ic_pool.proofs.ChangeTopics.{apart}
 use Rattle.ic_pool.proofs.MentionLemmas.{neither}
 use Rattle.ic_pool.proofs.TopicLemmas.{some_among, tree_spared}
 use Rattle.ic_pool.specs.Pool.{is_among}
-use Rattle.ic_pool.specs.Remade.{TouchesAbout}
-use Rattle.ic_pool.specs.Topics.{folded_topic, word_topics}
-use Rattle.ic_book.specs.Sites.{kept_where_touched}
+use Rattle.ic_pool.specs.Topics.{folded_topic, mentions_some, word_topics}
 
-module _ (english : List ℕ → Option ℕ) (before after : Scene) (old new : NameKey) where
+module _ (old new : NameKey) where
   abbrev names_of : List ℕ
   names_of = folded_topic old.name ∷ folded_topic new.name ∷ []
 
@@ -32,6 +29,6 @@ module _ (english : List ℕ → Option ℕ) (before after : Scene) (old new : N
       let first = or_parts (is_among (folded_topic old.name) (folded_topic (fold word) ∷ [])) (some_among (folded_topic new.name ∷ []) (folded_topic (fold word) ∷ [])) e in
       apart new.name (fold word) (or_parts (is_among (folded_topic new.name) (folded_topic (fold word) ∷ [])) false first.1).0
 
-  pub touched_about : TouchesAbout (kept_where_touched english before after old new) names_of
-  touched_about scope (formulas.Tree t) e = tree_spared names_of (λ sheet. false) (touches_word old new) (λ sheet word. touches_word old new word) (λ m h. refl) word_spared (λ sheet m h. word_spared m h) t e
-  touched_about scope (formulas.Raw text) e = refl
+  pub touched_about : (f : Formula) → mentions_some names_of f ≡ false → is_touched old new f ≡ false
+  touched_about (formulas.Tree t) e = tree_spared names_of (λ sheet. false) (touches_word old new) (λ sheet word. touches_word old new word) (λ m h. refl) word_spared (λ sheet m h. word_spared m h) t e
+  touched_about (formulas.Raw text) e = refl
