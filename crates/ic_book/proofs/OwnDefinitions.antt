@@ -1,5 +1,5 @@
 -- The definition that a command adds or leaves, and whether the command is refused.
-use Rattle.std.proofs.Common.{◌≡◌, ℕ, List, [], ◌∷◌, Bool, true, false, codes, Option, Some, None, IsSome, option_map, Result, Ok, Err, inl, inr, refl, sym, ap, ap₂, subst, ◌∙◌, if◌then◌else◌}
+use Rattle.std.proofs.Common.{◌≡◌, ◌⊎◌, ℕ, List, [], ◌∷◌, is_some, Bool, true, false, codes, Option, Some, None, IsSome, option_map, inl, inr, refl, sym, ap, ap₂, subst, ◌∙◌, if◌then◌else◌}
 use Rattle.ic_laws.specs.Binding.{bound}
 use Rattle.ic_laws.specs.CoreBook.{CoreBook, Definition}
 use Rattle.ic_laws.specs.CoreStep as core
@@ -20,17 +20,18 @@ use Rattle.ic_machine.specs.Command.{Command, OnDefinitions}
 use Rattle.ic_machine.specs.Refusal.{OfCore, Refusal, WouldCapture, first_refusal}
 use Rattle.ic_machine.specs.Step.{step}
 use Rattle.ic_machine.specs.Translation.{body_text, defined, left_by, updated_definition, with_last}
-use Rattle.ic_machine.specs.subjects.Definitions.{NewDefinedName, Update, UpdateDefinedName, captures, new_definition_step, new_scope_id, question_causes, scene_updated, update_causes, update_name_step, update_sites, updated_book, with_new_definition, with_update}
-use Rattle.ic_book.specs.Book.{Book, ModelState, core_of, notations_in, whole_of}
+use Rattle.ic_machine.specs.subjects.Definitions.{NewDefinedName, Update, UpdateDefinedName, captures, new_definition_step, question_causes, scene_updated, update_causes, update_name_step, update_sites, updated_book, with_new_definition, with_update}
+use Rattle.ic_book.specs.Book.{ModelState, core_of, notations_in, whole_of}
 use Rattle.ic_book.specs.Definitions.{body_of_typed}
 use Rattle.ic_book.specs.Does.{IsDone}
 use Rattle.ic_book.specs.Inside.{IsHeld, held, held_state}
-use Rattle.ic_book.specs.Refused.{RefusesOr, refusal_of}
+use Rattle.ic_book.specs.Refused.{TellsCore, refusal_of}
 use Rattle.ic_book.specs.Scene.{scene_renamed}
-use Rattle.ic_book.specs.Translated.{IsToldAsked, IsToldOf, Owns}
+use Rattle.ic_book.specs.Translated.{IsToldAsked, IsToldOf}
 use Rattle.ic_book.specs.Updated.{IsChecked}
 use Rattle.ic_book.specs.declared.definitions.update.CheckedUpdate.{CheckedUpdate}
 use Rattle.ic_book.specs.declared.error.BookError.{BookError}
+use Rattle.ic_book.specs.declared.error.BookError.TheVariants as errors
 use Rattle.ic_book.specs.declared.model.Model.TheInside.{Inside}
 use Rattle.ic_book.specs.declared.own_text.OwnText.TheVariants as owns
 use Rattle.ic_book.proofs.DoesLemmas.{told_whole}
@@ -40,13 +41,17 @@ use Rattle.ic_book.proofs.OwnTextLemmas.{left_done}
 use Rattle.ic_book.proofs.UpdatedRules.{after_is}
 use Rattle.ic_book.proofs.WholeLemmas.{whole_core}
 
+-- nothing is no value
+no_value : (X : Type 0) → IsSome {T = X} None → ⊥
+no_value X h = cc
+
 some_is : {X : Type 0} (o : Option X) → IsSome o → (x : X) × (o ≡ Some x)
-some_is None h = absurd h
+some_is None h = cc
 some_is (Some x) h = (x, refl)
 
 -- what tells a refusal of all tells one of the core machine's
 some_core : (o : Option refusals.Refusal) (p : Option Refusal) → option_map OfCore o ≡ p → IsSome p → (r : refusals.Refusal) × (o ≡ Some r)
-some_core None p e h = absurd (subst IsSome (sym e) h)
+some_core None p e h = let none : None ≡ p = e in let some : IsSome p = h in absurd (no_value Refusal (subst IsSome (sym none) some))
 some_core (Some r) p e h = (r, refl)
 
 -- a definition that is written as a command's own text
@@ -82,7 +87,8 @@ module _ (old : ModelState) (name : List ℕ) (scope : Option ℕ) (text : List 
   unfolding made_by
   gone_by r e = ap left_by (step_by (Some r) e)
 
-  pub definition_gone : {T : Type 0} (e : BookError) → RefusesOr InvalidNameFormula {T = T} (Err e) (new_definition_refusal (notations_in old.book) (core_of old.book) name scope text) → IsSome (refusal_of e)
+  pub definition_gone : (e : BookError)
+      → TellsCore e (new_definition_refusal (notations_in old.book) (core_of old.book) name scope text) ⊎ ((new_definition_refusal (notations_in old.book) (core_of old.book) name scope text ≡ Some InvalidNameFormula) × (e ≡ errors.OutOfMemory)) → IsSome (refusal_of e)
       → left_by (step (whole_of old.book) (OnDefinitions (NewDefinedName name scope text))) ≡ None
   definition_gone e (inl tells) some = let r = some_core told (refusal_of e) (told_whole e told tells) some in gone_by r.0 r.1
   definition_gone e (inr both) some = gone_by InvalidNameFormula both.0
@@ -101,6 +107,11 @@ module _ (old : ModelState) (name : List ℕ) (scope : Option ℕ) (text : List 
       )
 
 -- An update. ----
+
+-- where there is no reason not to, nothing hinders
+pub not_hindered : {A B : Type 0} (f : A → B) (r : Option A) (o : Option B) → option_map f r ≡ o → is_some r ≡ false → IsSome o → ⊥
+not_hindered {B = B} f None o e h some = no_value B (subst IsSome (sym e) some)
+not_hindered f (Some x) o e h some = cc
 
 module _ (book : machine.Book) (u : Update) where
   abbrev asked : Option Refusal

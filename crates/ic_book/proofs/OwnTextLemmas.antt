@@ -1,10 +1,10 @@
 -- What the own text of a command stands for, and whether the command is refused.
-use Rattle.std.proofs.Common.{◌≡◌, ℕ, ℤ, pos, List, [], ◌∷◌, Bool, true, false, Option, Some, None, IsSome, option_map, Result, Ok, Err, refl, sym, ap, ap₂, subst, ◌∙◌, rules}
-use Rattle.std.specs.Prelude.{is_none, option_and_then}
+use Rattle.std.proofs.Common.{◌≡◌, ℕ, ℤ, pos, List, Option, Some, None, IsSome, option_map, Ok, Err, refl, sym, ap, subst, ◌∙◌, rules}
+use Rattle.std.specs.Prelude.{option_and_then}
 use Rattle.std.specs.List.{slice_get}
 use Rattle.std.proofs.lemmas.Option.{slice_get-map}
 use Rattle.ic_laws.specs.CoreBook.{CellPlace, CoreBook}
-use Rattle.ic_laws.specs.FormulaReading.{cell_formula, without_equals}
+use Rattle.ic_laws.specs.FormulaReading.{cell_formula}
 use Rattle.ic_laws.specs.declared.tree.Formula.{Formula}
 use Rattle.ic_input.specs.declared.input.Typed.{Typed}
 use Rattle.ic_input.specs.declared.input.Typed.TheVariants as kinds
@@ -22,11 +22,11 @@ use Rattle.ic_machine.specs.subjects.Arrays.{SetUserArrayFormula, array_step}
 use Rattle.ic_machine.specs.subjects.Writing.{SetUserInput, UpdateCellWithFormula, formula_at_place, formula_step, input_step}
 use Rattle.ic_sheets.specs.Sheet.{Sheet}
 use Rattle.ic_book.specs.Arrays.{after_equals, array_refusal}
-use Rattle.ic_book.specs.Book.{Book, IsValidBook, ModelState, core_of, notations_in, whole_of, whole_sheet}
-use Rattle.ic_book.specs.Does.{DoesStep, IsDone, Memory, Refused, WantedIn}
+use Rattle.ic_book.specs.Book.{Book, IsValidBook, ModelState, notations_in, whole_of, whole_sheet}
+use Rattle.ic_book.specs.Does.{IsDone, Memory, Refused, WantedIn}
 use Rattle.ic_book.specs.Fields.{no_fields}
 use Rattle.ic_book.specs.Refused.{refusal_of}
-use Rattle.ic_book.specs.Translated.{IsToldOf, IsWrittenIn, Owns, formula_own}
+use Rattle.ic_book.specs.Translated.{IsToldOf, formula_own}
 use Rattle.ic_book.specs.Values.{typed_formula}
 use Rattle.ic_book.specs.Written.{value_refusal, written_formula}
 use Rattle.ic_book.specs.declared.error.BookError.{BookError}

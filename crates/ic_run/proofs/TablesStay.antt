@@ -155,7 +155,7 @@ module _ (b : Book) where
 
   tabs_stay : (command : tabs.Tabs) → Stays (step b (OnTabs command))
   unfolding set_theme_step
-  tabs_stay (tabs.SetTheme name) = of_unless None _ _ refl
+  tabs_stay (tabs.SetTheme name) = refl
   tabs_stay tabs.GetTheme = read (OnTabs tabs.GetTheme) (readers_leave b (OnTabs tabs.GetTheme))
   tabs_stay (tabs.SetFrozenRows sheet count) = of_tab sheet _
   tabs_stay (tabs.SetFrozenColumns sheet count) = of_tab sheet _

@@ -1,4 +1,4 @@
-use Rattle.std.proofs.Common.{None, chars, subst, sym}
+use Rattle.std.proofs.Common.{chars, subst, sym}
 use Rattle.std.proofs.lemmas.Result.{IfOk-weaker}
 use Rattle.ic_machine.specs.Command.{OnDefinitions}
 use Rattle.ic_machine.specs.subjects.Definitions.{NewDefinedName}

@@ -1,11 +1,14 @@
-use Rattle.std.proofs.Common.{string_bytes, refl, subst, sym}
+use mir.Val.{SFits}
+use Rattle.std.proofs.Common.{rules, w32, ◌∷◌, ap, ◌∙◌, string_bytes, refl, subst, sym}
 use Rattle.std.specs.Str.{chars}
 use Rattle.std.proofs.lemmas.Result.{IfOk-weaker}
-use Rattle.ic_tables.specs.Tables.{IsWellFormed}
 use Rattle.ic_machine.specs.Book as machine
 use Rattle.ic_machine.specs.Translation.{in_notation}
 use Rattle.ic_book.specs.Book.{IsValidBook, ModelState, whole_of}
-use Rattle.ic_book.specs.Translated.{IsWrittenIn}
+use Rattle.ic_book.specs.Translated.{IsWrittenIn, shown_in}
+use Rattle.ic_laws.specs.Character.{equals}
+use Rattle.ic_laws.specs.CoreBook.{CellPlace}
+use Rattle.ic_sheets.proofs.CellLemmas.{stored_pair}
 use Rattle.ic_book.proofs.model.Model.own_text.Goals as goal
 
 pub returns-in-Value : goal.returns-in-Value
@@ -21,4 +24,9 @@ unfolding chars
 returns-in-Formula c =
     let target = c.args.target.now in
     let book : machine.Book = in_notation target.locale target.language (whole_of c.args.self.now.book) in
-    IfOk-weaker c.show_in.result _ _ (λ text so. subst (λ own. IsWrittenIn book own (chars (string_bytes text))) (sym c.in-Formula.is) ?) c.show_in.ensures
+    let row : SFits w32 c.in-Formula.row = search rules in
+    let column : SFits w32 c.in-Formula.column = search rules in
+    IfOk-weaker c.show_in.result _ _
+    (λ text so. subst (λ own. IsWrittenIn book own (chars (string_bytes text))) (sym c.in-Formula.is)
+    (so ∙ ap (λ (p : CellPlace). equals ∷ shown_in target (whole_of c.args.self.now.book) p.0 p.1 c.in-Formula.formula) (stored_pair c.in-Formula.row c.in-Formula.column row column)))
+    c.show_in.ensures
