@@ -10,6 +10,7 @@ ghost use Rattle.ic_tree.specs.Notations.{notations_of};
 use crate::lines::run;
 use crate::make::{Making, make, making_named};
 use crate::start::{Start, first_book, start_named};
+use crate::translation::{Wanted, translation, wanted_named};
 use ic_lines::{RunError, Sink, Source};
 use ic_tables::Tables;
 use jiff::Timestamp;
@@ -106,6 +107,7 @@ pub fn desk<S: Source, K: Sink>(
     match deed_named(words) {
         Deed::Run(start) => run_from(alloc, &start, tables, moment, source, sink),
         Deed::Make(making) => make(alloc, &making, tables, moment, sink),
+        Deed::Translate(wanted) => translation(alloc, &wanted, tables, moment, source, sink),
         Deed::Unknown => 1,
     }
 }
@@ -117,6 +119,8 @@ pub enum Deed<'a> {
     Run(Start<'a>),
     /// To make lines and answer them.
     Make(Making),
+    /// To translate the lines of the source.
+    Translate(Wanted<'a>),
     /// Nothing that the program does.
     Unknown,
 }
@@ -128,6 +132,9 @@ fn deed_named(words: &[String]) -> Deed<'_>
 {
     if let Some(making) = making_named(words) {
         return Deed::Make(making);
+    }
+    if let Some(wanted) = wanted_named(words) {
+        return Deed::Translate(wanted);
     }
     match start_named(words) {
         Some(start) => Deed::Run(start),
