@@ -39,11 +39,7 @@ pub fn typed_text(
 }
 
 /// A text that is typed as this number.
-fn number_text(
-    alloc: Global,
-    amount: Amount,
-    target: &Notation<'_>,
-) -> Result<String, OutOfMemory>
+fn number_text(alloc: Global, amount: Amount, target: &Notation<'_>) -> Result<String, OutOfMemory>
     ensures { (book : machine.Book) → IsWellFormed book.tables → IsIn target.now book → IfOk result
         (λ text. is_number amount (typed_in book (chars (string_bytes text))) ≡ true) }
 {
@@ -115,5 +111,11 @@ fn typed(alloc: Global, text: &str, target: &Notation<'_>) -> Result<Typed, OutO
         (λ t. t ≡ typed_in book (chars text.now)) }
 {
     let english = target.get_default_language();
-    classify(alloc, text, &target.locale().locale, target.language(), english)
+    classify(
+        alloc,
+        text,
+        &target.locale().locale,
+        target.language(),
+        english,
+    )
 }
