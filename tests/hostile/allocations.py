@@ -1,10 +1,11 @@
 """Each allocation refused in turn, over lists of lines.
 
 python3 tests/hostile/allocations.py PROGRAM [FOLDER..] [--most=N]: each folder has files NAME.lines; those of tests/reading/sessions are
-run whole, the first list of each other folder to its 40th line. Once alone, and once with all that come after it, each call of
-malloc and realloc is refused: refuse.c, which needs a C compiler, stands before the C library. With --most=N only so many of each
+run whole, the first list of each other folder to its 40th line, and 40 made lines besides. Once alone, and once with all that come
+after it, each call of malloc and realloc is refused: refuse.c, which needs a C compiler, stands before the C library. With --most=N only so many of each
 list's calls are, at even distances; the first and the last are always. A run has to end as it does without, or with status 6 and the first of
-the same replies; the status is 1 where some run ends otherwise. It takes two minutes.
+the same replies, and with status 6 where the first call and all later ones are refused; the status is 1 where some run ends
+otherwise. It takes four minutes.
 
 python3 tests/hostile/allocations.py --unproved FILE N..: the same of the source that isn't proved, by `rt try --fail-alloc N` for the numbers
 N, over one list of lines. Each run takes a minute."""
@@ -14,7 +15,7 @@ import subprocess
 import sys
 import tempfile
 
-from runs import Ran, Tried, run
+from runs import NO_MEMORY, Ran, Tried, run
 
 HERE = os.path.dirname(os.path.abspath(__file__))
 READING = os.path.join(os.path.dirname(HERE), "reading", "sessions")
@@ -22,12 +23,13 @@ DESK = os.path.join(os.path.dirname(os.path.dirname(HERE)), "crates", "ic_desk")
 
 
 def lists_in(folders):
-    """The lists of lines, with their names."""
+    """The lists of lines, with their names and the words of the program."""
+    yield "make 7 40", b"", ("make", "7", "40")
     paths = sorted(glob.glob(os.path.join(READING, "*.lines")))
     for path in paths + [sorted(glob.glob(os.path.join(folder, "*.lines")))[0] for folder in folders]:
         with open(path, "rb") as f:
             lines = f.readlines()
-        yield path, b"".join(lines if path in paths else lines[:40])
+        yield path, b"".join(lines if path in paths else lines[:40]), ()
 
 
 def chosen(count, most):
@@ -42,20 +44,24 @@ def refused(program, folders, most):
     with tempfile.TemporaryDirectory() as made:
         shim, counted = os.path.join(made, "refuse.so"), os.path.join(made, "counted")
         subprocess.run(["cc", "-O2", "-shared", "-fPIC", "-o", shim, os.path.join(HERE, "refuse.c")], check=True)
-        for path, given in lists_in(folders):
-            whole = run(program, given, environment={"LD_PRELOAD": shim, "COUNTED": counted})
+        for path, given, words in lists_in(folders):
+            whole = run(program, given, words=words, environment={"LD_PRELOAD": shim, "COUNTED": counted})
+            if not words:
+                tried.whole(path, given, whole)
             with open(counted, encoding="ascii") as f:
                 count = int(f.read())
+            os.remove(counted)
+            if run(program, given, words=words, environment={"LD_PRELOAD": shim, "REFUSE": "1+"})[:2] != (NO_MEMORY, b""):
+                tried.fail(f"{path}: where no call is granted it doesn't end with status 6, or {count} calls aren't all that it makes")
             before = tried.runs, tried.cut
             numbers = chosen(count, most)
             for number in numbers:
                 for word in (f"{number}", f"{number}+"):
-                    ran = run(program, given, environment={"LD_PRELOAD": shim, "REFUSE": word})
+                    ran = run(program, given, words=words, environment={"LD_PRELOAD": shim, "REFUSE": word})
                     tried.look(f"{path}, refused {word} of {count}", ran, whole)
-            print(f"{path}: {given.count(10)} lines, {count} calls, {len(numbers)} refused alone and with the later ones: "
+            print(f"{path}: {whole.output.count(10)} lines of replies, {count} calls, {len(numbers)} refused alone and with the later ones: "
                   f"{tried.runs - before[0]} runs, {tried.cut - before[1]} ended with status 6", flush=True)
-    print(f"{tried.runs} runs, of which {tried.cut} ended with status 6 and {tried.wrong} as none may")
-    return 1 if tried.wrong else 0
+    return tried.told()
 
 
 def tried_unproved(given, words):
@@ -74,8 +80,7 @@ def unproved(path, *numbers):
         ran = tried_unproved(given, ["--fail-alloc", number])
         tried.look(f"{path}, refused {number}", ran, whole)
         print(f"{number}: status {ran.status}, {ran.output.count(10)} of {whole.output.count(10)} lines", flush=True)
-    print(f"{tried.runs} runs, of which {tried.cut} ended with status 6 and {tried.wrong} as none may")
-    return 1 if tried.wrong else 0
+    return tried.told()
 
 
 def main(words):

@@ -4,7 +4,7 @@ python3 tests/hostile/faults.py PROGRAM [LIST]: the list of lines is that of tes
 which needs a C compiler, stands before the C library: each read gives and each write takes so many bytes at most, and for each number one read fails, or one
 write fails or takes nothing. Where a read failed the status has to be 3, and written have to be the replies to the lines that were
 ended by then, whole; where a write failed the status has to be 4, and written exactly what the writes before it took. The status is
-1 where some run ends otherwise. It takes a minute."""
+1 where some run ends otherwise. It takes half a minute."""
 import os
 import subprocess
 import sys
@@ -46,6 +46,9 @@ def main(program, path=HOUSEHOLD):
         given = f.read()
     whole = run(program, given)
     replies = whole.output.splitlines(keepends=True)
+    if whole.status or len(replies) != len(given.splitlines()):
+        print(f"WRONG: {ending(whole.status)} and {len(replies)} replies without a fault")
+        return 1
     runs = wrong = 0
     with tempfile.TemporaryDirectory() as made:
         shim = os.path.join(made, "faults.so")

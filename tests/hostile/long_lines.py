@@ -2,7 +2,7 @@
 
 python3 tests/hostile/long_lines.py PROGRAM [BYTES]: each line has so many bytes, 200 million unless told, and half as many. Shown are
 the nanoseconds and the bytes of memory that a byte of both takes. The status is 1 where twice the length takes more than three times the time or the
-memory, or where a line isn't answered. It takes four minutes and 6 GB; with ten million bytes, a quarter of a minute."""
+memory, or where a line isn't answered. It takes a minute and a half and 2 GB; with ten million bytes, some seconds."""
 import sys
 import tempfile
 

@@ -42,7 +42,7 @@ def mutated(lines, chance):
 
 
 def whole(program, given):
-    return subprocess.run([program], input=given, stdout=subprocess.PIPE, check=True).stdout.splitlines(keepends=True)
+    return subprocess.run([program], input=given, stdout=subprocess.PIPE, check=True, timeout=600).stdout.splitlines(keepends=True)
 
 
 def by_lines(program, lines):
@@ -86,7 +86,7 @@ def main(words):
                 bad += 1
                 show(path, "the program and the definitions", lines, ours, read)
     print(f"{lists} lists, {count} lines, {bad} differences")
-    return 1 if bad else 0
+    return 1 if bad or not lists else 0
 
 
 if __name__ == "__main__":

@@ -1,19 +1,23 @@
 """Noise, lines of every command with wrong words, deep nesting, and names that fold to long ones.
 
-python3 tests/hostile/noise.py PROGRAM [--lines=N] [--megabytes=N] [--seed=N]: 30 megabytes of noise unless told, once of any bytes and
-once of characters in UTF-8; 100,000 lines unless told of each command that docs/COMMANDS.md has, with words of the kinds that it
+python3 tests/hostile/noise.py PROGRAM [--lines=N] [--megabytes=N] [--seed=N]: 30 megabytes of noise unless told, of nine
+kinds, any bytes and characters in UTF-8 among them; 100,000 lines unless told of each command that docs/COMMANDS.md has, with words of the kinds that it
 takes, of other kinds, cut, doubled, dropped and with bytes flipped; 10,000 nested brackets, LETs, LAMBDAs and more wherever a
 formula may stand; names whose folding is longer; ids without end. The program has to write one reply for each line, `ok` or an error that
-docs/COMMANDS.md names, and end with status 0; twice the noise may take three times as long, and as much more memory. The status
-is 1 where it doesn't. It takes six minutes."""
+docs/COMMANDS.md names, and end with status 0; twice the noise may take three times as long. The lines of a command run within 1 GB.
+The status is 1 where it doesn't. It takes two minutes."""
 import os
 import random
 import re
 import sys
 
-from runs import ending, run
+from runs import MEGABYTE, ending, run
 
-COMMANDS = os.path.join(os.path.dirname(os.path.dirname(os.path.dirname(os.path.abspath(__file__)))), "docs", "COMMANDS.md")
+TESTS = os.path.dirname(os.path.dirname(os.path.abspath(__file__)))
+COMMANDS = os.path.join(os.path.dirname(TESTS), "docs", "COMMANDS.md")
+sys.path.insert(0, os.path.join(TESTS, "reading"))
+
+from ic_machine.command import COMMANDS as ALL  # noqa: E402
 
 # the words of each kind, the right ones and the others; those of the kinds that aren't named are drawn from all
 WORDS = {
@@ -39,6 +43,10 @@ WORDS = {
 }
 SAME = {"OLD": "NAME", "NEW": "NAME", "TO": "SHEET", "HEIGHT": "WIDTH", "VALUE..": "VALUE"}
 
+# The commands that make cells. They make none far away, which would make each reply of get_sheet_markup large; memory.py asks for
+# such replies.
+MAKERS = {b"set_user_input", b"update_cell_with_text", b"update_cell_with_formula", b"update_cell_with_bool", b"update_cell_with_number", b"set_user_array_formula", b"put_spill"}
+
 BEFORE = "add_sheet\tData\nadd_sheet\tStraße\nnew_defined_name\ttax\t-\tSheet1!$A$1\nnew_defined_name\trate\t1\t=LAMBDA(x,x*tax)\n" \
          "set_user_input\t0\t1\t1\t=SUM(A2:B9)*tax+Data!B2\nset_user_input\t1\t1\t1\t=A1:A3\nset_user_array_formula\t0\t5\t1\t2\t2\t=A1*2\n"
 
@@ -55,7 +63,10 @@ class Looked:
             text = f.read()
         self.forms = re.findall(r"`([a-z_]+(?:→[A-Z.]+)*)`", "\n".join(line.split("|")[1] for line in text.splitlines() if line.startswith("| `") and "error→" not in line))
         self.errors = {f"error\t{name}".encode() for name in re.findall(r"`error→([A-Za-z]+)`", text)}
-        self.lines = self.wrong = 0
+        self.lines = self.runs = self.wrong = 0
+        missing = {row[0] for row in ALL} ^ {form.split("→")[0] for form in self.forms}
+        if missing:
+            self.fail("docs/COMMANDS.md and tests/reading have other commands", sorted(missing))
 
     def fail(self, what, said):
         self.wrong += 1
@@ -66,6 +77,7 @@ class Looked:
         lines = given.count(b"\n") + (given[-1:] not in (b"", b"\n"))
         replies = ran.output.split(b"\n")[:-1]
         self.lines += lines
+        self.runs += 1
         if ran.status or len(replies) != lines or ran.output[-1:] not in (b"", b"\n"):
             self.fail(what, f"{ending(ran.status)}, {len(replies)} replies to {lines} lines")
         strange = next((reply for reply in replies if reply[:2] != b"ok" and reply not in self.errors), None)
@@ -130,7 +142,12 @@ def line_of(form, chance):
         line = line[:place] + bytes([line[place] ^ (1 << chance.randrange(8))]) + line[place + 1:]
     elif change == 5:
         line += bytes([chance.randrange(256)])
-    return line
+    return line if line.split(b"\t")[0] not in MAKERS else near(line)
+
+
+def near(line):
+    """The line with 99 for each larger number that is one of a row or a column."""
+    return b"\t".join(b"99" if word.isdigit() and 99 < int(word) <= 1_048_576 else word for word in line.split(b"\t"))
 
 
 def commands(program, looked, chance, count):
@@ -142,9 +159,10 @@ def commands(program, looked, chance, count):
             if i % 4 == 3:
                 lines.append(chance.choice(AGAIN).encode())
             if form.split("→")[0] in ("new_sheet", "duplicate_sheet"):
-                lines.append(b"delete_sheet\t2")
+                # the definitions of a sheet that is gone would stay
+                lines += [b"delete_defined_name\ttax\t2", b"delete_defined_name\trate\t2", b"delete_sheet\t2"]
         given = b"\n".join(lines) + b"\n"
-        ran = run(program, given)
+        ran = run(program, given, 1024 * MEGABYTE)
         looked.look(form, given, ran)
         print(f"{form}: {ran.output.count(10):,} lines, {ran.output.count(b'error'):,} refused, {ran.seconds:.1f} seconds, {ran.kilobytes // 1024} MB", flush=True)
 
@@ -159,8 +177,8 @@ def nested(program, looked):
         for count in (127, 128, 129, 1000, 1023, 1024, 1025, 10_000, 100_000):
             deep = before * count + inner + after * count
             given = (BEFORE + "".join(place.format(deep) + "\nget_cell_formula\t0\t1\t1\nset_language\tde\nget_cell_formula\t0\t1\t1\nset_language\ten\n" for place in places)).encode()
-            looked.look(f"{count} of {before}{inner}{after}", given, run(program, given))
-    print(f"nested: {len(pieces)} kinds", flush=True)
+            looked.look(f"{count} of {before}{inner}{after}", given, run(program, given, None, 8 * MEGABYTE))
+    print(f"nested: {len(pieces)} kinds, with 8 MB of stack", flush=True)
 
 
 def folded(program, looked):
@@ -202,7 +220,7 @@ def main(words):
     folded(program, looked)
     ids(program, looked, 1_000_000)
     commands(program, looked, chance, told["lines"])
-    print(f"{len(looked.forms)} commands, {looked.lines:,} lines, {looked.wrong} wrong")
+    print(f"{len(looked.forms)} commands, {looked.runs:,} runs, {looked.lines:,} lines, {looked.wrong} wrong")
     return 1 if looked.wrong else 0
 
 

@@ -3,10 +3,14 @@ import os
 import resource
 import signal
 import subprocess
+import sys
 import tempfile
 from typing import NamedTuple
 
 MEGABYTE = 1 << 20
+
+# the seconds of the processor after which a run is ended by SIGXCPU: no run that ends by itself takes as long
+MOST_SECONDS = 1800
 
 # the status where memory ran out
 NO_MEMORY = 6
@@ -25,6 +29,7 @@ def limited(space, stack):
     """Sets the limits, in bytes, of address space and of stack in the process that becomes the program."""
     def limit():
         resource.setrlimit(resource.RLIMIT_CORE, (0, 0))
+        resource.setrlimit(resource.RLIMIT_CPU, (MOST_SECONDS, MOST_SECONDS + 1))
         if stack is not None:
             resource.setrlimit(resource.RLIMIT_STACK, (stack, stack))
         if space is not None:
@@ -64,7 +69,9 @@ def is_cut(ran, whole):
 
 
 def least_that(holds, low, high, step):
-    """The least of low, low + step, .. for which it holds, where it holds for high."""
+    """The least of low, low + step, .. for which it holds; it has to hold for high."""
+    if not holds(high):
+        sys.exit(f"WRONG: it doesn't hold for {high} bytes either")
     while high - low > step:
         middle = low + (high - low) // (2 * step) * step
         low, high = (low, middle) if holds(middle) else (middle, high)
@@ -77,9 +84,24 @@ class Tried:
     def __init__(self):
         self.runs = self.cut = self.wrong = 0
 
+    def fail(self, what):
+        self.wrong += 1
+        print(f"WRONG: {what}", flush=True)
+
     def look(self, what, ran, whole):
         self.runs += 1
-        self.cut += ran.status != whole.status
+        self.cut += ran.status == NO_MEMORY
         if whole.status or not is_cut(ran, whole):
-            self.wrong += 1
-            print(f"WRONG: {what}: {ending(ran.status)}, {len(ran.output)} of {len(whole.output)} bytes", flush=True)
+            self.fail(f"{what}: {ending(ran.status)}, {len(ran.output)} of {len(whole.output)} bytes; without limits {ending(whole.status)}")
+
+    def whole(self, what, given, ran):
+        """The run without limits, which has to have one reply for each line."""
+        lines = given.count(b"\n") + (given[-1:] not in (b"", b"\n"))
+        if ran.status or ran.output.count(b"\n") != lines:
+            self.fail(f"{what}, without limits: {ending(ran.status)}, {ran.output.count(10)} replies to {lines} lines")
+        return ran
+
+    def told(self):
+        """The status of the script, with the counts written."""
+        print(f"{self.runs} runs, of which {self.cut} ended with status 6 and {self.wrong} as none may")
+        return 1 if self.wrong or not self.runs else 0

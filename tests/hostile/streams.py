@@ -1,13 +1,14 @@
 """Streams that fail: inputs that come in pieces, end or fail, and outputs that are closed, full or left by their reader.
 
 python3 tests/hostile/streams.py PROGRAM [LIST]: the list of lines is that of tests/reading/sessions/household.lines unless told. The
-input comes in pieces of 1, 7 and 4,096 bytes, with pauses and without; each of its beginnings is given as a whole input; it is a folder,
-closed, or nothing; the output is closed, a full disk (/dev/full), or a pipe whose reader goes away after so many bytes, or reads slowly.
+input comes in pieces of 1, 7 and 4,096 bytes, with pauses and without, and while the program is stopped and goes on; each of its
+beginnings is given as a whole input; it is a folder, closed, or nothing, or a pipe that doesn't wait for bytes; the output is closed, a full disk (/dev/full), or a pipe whose reader goes away after so many bytes, or reads slowly.
 The status has to be that of docs/GUIDE.md: 0, 3 where a read failed, 4 where a write did, 1 for words that are none; what was written
 has to be the replies, or a part of them, and nothing may go to standard error. The status is 1 where some run ends otherwise. It takes a
-minute."""
+quarter of a minute."""
 import os
 import random
+import signal
 import subprocess
 import sys
 import threading
@@ -81,12 +82,40 @@ def left_by_reader(program, given, taken):
     return child.wait(), got, child.stderr.read()
 
 
+def stopped_and_continued(program, given):
+    """The status and what was written, where the program is stopped before each line, and goes on after it was given."""
+    child = begun(program, stdin=subprocess.PIPE, stdout=subprocess.PIPE)
+    written = b""
+    for line in given.splitlines(keepends=True):
+        child.send_signal(signal.SIGSTOP)
+        os.write(child.stdin.fileno(), line)
+        child.send_signal(signal.SIGCONT)
+        written += child.stdout.readline()
+    child.stdin.close()
+    written += child.stdout.read()
+    return child.wait(), written, child.stderr.read()
+
+
+def without_waiting(program, given):
+    """The same with a pipe of which a read fails where it would have to wait: one list, and then nothing, which isn't its end."""
+    reading, writing = os.pipe()
+    os.set_blocking(reading, False)
+    os.write(writing, given)
+    child = begun(program, stdin=reading, stdout=subprocess.PIPE)
+    os.close(reading)
+    ended = *child.communicate(), child.returncode
+    os.close(writing)
+    return ended
+
+
 def inputs(program, given, looked):
     wanted = whole(program, given)
     looked.look("the list as a whole", wanted[::2], (0, b""))
     for size in (1, 7, 4096):
         for pause in (0, 0.001):
             looked.look(f"pieces of {size} bytes", in_pieces(program, given, size, pause), wanted)
+    looked.look("stopped and continued", stopped_and_continued(program, given), wanted)
+    looked.look("a pipe that doesn't wait", without_waiting(program, given), (wanted[1], b"", READ_FAULT))
     for end in range(0, len(given) + 1, 1):
         part = whole(program, given[:end])
         complete = given[:end].count(10)
@@ -169,6 +198,8 @@ def words(program, looked):
 
 def main(program, path=HOUSEHOLD):
     random.seed(1)
+    # a run that waits for ever ends this one by SIGALRM
+    signal.alarm(1200)
     program = os.path.abspath(program)
     with open(path, "rb") as f:
         given = f.read()

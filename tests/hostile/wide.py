@@ -1,9 +1,11 @@
 """Wide formulas and long lists: twice as many parts, lines or names should take twice the time.
 
 python3 tests/hostile/wide.py PROGRAM: formulas with ever more arguments, variables, words, sheets and elements; formats, arrays and
-spills with ever more parts; and lists of ever more cells, formulas, styles, sheets and definitions. The parts are doubled from 8,000 on until a run
-takes two seconds or there are 512,000. The status is 1 where twice as many take more than three times as long, at two
-runs above a twentieth of a second. It takes two minutes and 2 GB."""
+spills with ever more parts; and lists of ever more cells, formulas, styles, sheets and definitions. The parts are doubled from 1,000 on until a run
+takes two seconds or there are 512,000. Shown are the seconds, and the bytes of memory that each part of the last doubling took. The status is 1
+where twice as many take more than three times as long, and more than a twentieth of a second, or more than three times the memory. Sheets that get
+the least number that is free may take six times as long, since each goes over all numbers before it. It takes a minute
+and 2 GB."""
 import sys
 
 from runs import ending, run
@@ -41,24 +43,35 @@ KINDS = {
 }
 
 
+# of these each line takes as long as there are sheets
+SQUARE = {"sheets by new_sheet", "copied sheets"}
+
+
 def main(program):
     wrong = 0
-    print("| parts | seconds for ever twice as many, from 8,000 on |\n|---|---|")
+    print("| parts | seconds for ever twice as many, from 1,000 on | bytes a part |\n|---|---|---|")
     for name, make in KINDS.items():
-        row, before = [], None
-        for count in (8000 << shift for shift in range(7)):
+        row, before, bytes_each = [], None, 0
+        most = 6 if name in SQUARE else 3
+        for count in (1000 << shift for shift in range(10)):
             given = make(count).encode()
             ran = run(program, given)
-            if before and ran.seconds > max(0.05, 3 * before):
+            if before and ran.seconds > max(0.05, most * before.seconds):
                 ran = min(ran, run(program, given), key=lambda it: it.seconds)
             row.append(f"{ran.seconds:.2f}")
-            if ran.status or before and ran.seconds > max(0.05, 3 * before):
+            replies = ran.output.count(b"\n")
+            if ran.status or replies != given.count(b"\n"):
                 wrong += 1
-                row.append(f"WRONG: {ending(ran.status)}")
-            before = ran.seconds
+                row.append(f"WRONG: {ending(ran.status)} and {replies} replies")
+            if before and (ran.seconds > max(0.05, most * before.seconds) or ran.kilobytes > 3 * before.kilobytes):
+                wrong += 1
+                row.append(f"WRONG: {before.kilobytes} KB and {ran.kilobytes} KB")
+            if before:
+                bytes_each = (ran.kilobytes - before.kilobytes) * 2048 / count
+            before = ran._replace(output=b"")
             if ran.seconds > 2:
                 break
-        print(f"| {name} | {', '.join(row)} |", flush=True)
+        print(f"| {name} | {', '.join(row)} | {bytes_each:.0f} |", flush=True)
     print(f"{len(KINDS)} kinds, {wrong} wrong")
     return 1 if wrong else 0
 

@@ -43,6 +43,8 @@ pub mod NewSheetLemmas
 pub mod NothingLemmas
 pub mod NumberedLemmas
 pub mod NumberedTexts
+pub mod OwnDefinitions
+pub mod OwnTextLemmas
 pub mod PartLemmas
 pub mod PartUses
 pub mod ReadLemmas
@@ -63,6 +65,7 @@ pub mod StartLemmas
 pub mod StyleLemmas
 pub mod StyleSetLemmas
 pub mod TakenAgain
+pub mod TargetLemmas
 pub mod TypedLemmas
 pub mod TypedSteps
 pub mod UnreadLemmas
@@ -70,6 +73,7 @@ pub mod UpdatedChecks
 pub mod UpdatedDoes
 pub mod UpdatedHeld
 pub mod UpdatedRules
+mod UpdatedTopics
 pub mod ValueLemmas
 pub mod WholeLemmas
 pub mod WholeWritten

@@ -27,6 +27,7 @@ pub mod Shown
 pub mod Sites
 pub mod Styled
 pub mod Texts
+pub mod Translated
 pub mod Updated
 pub mod Values
 pub mod Whole

@@ -63,7 +63,7 @@ impl<'a> Model<'a> {
     }
 
     /// Whether an array formula may be written into a block of a sheet.
-    fn may_write_array(&self, sheet: u32, block: Block) -> Result<(), BookError>
+    pub(crate) fn may_write_array(&self, sheet: u32, block: Block) -> Result<(), BookError>
         ensures refused { TellsOnly result (array_refusal self.now.book sheet block) }
         ensures valid { IsValidBook self.now.book }
     {
@@ -184,7 +184,7 @@ impl<'a> Model<'a> {
 }
 
 /// What stands after `=` at the front of a text. None exactly where it doesn't begin so, or nothing follows.
-fn after_equals(text: &str) -> Option<&str>
+pub(crate) fn after_equals(text: &str) -> Option<&str>
     ensures { option_map (λ body. chars body.now) result ≡ after_equals (chars text.now) }
 {
     let (c, body) = first_char(text)?;

@@ -261,7 +261,7 @@ fn is_number(typed: &Typed, amount: Amount) -> bool
 }
 
 /// Whether it is a text.
-fn is_text(typed: &Typed) -> bool
+pub(crate) fn is_text(typed: &Typed) -> bool
     ensures { result ≡ is_text typed.now }
 {
     matches!(typed, Typed::Text(_))

@@ -27,6 +27,7 @@ use ic_laws::scan::push_text;
 use ic_refs::is_valid_identifier;
 pub(crate) use parts::bodies_without;
 use parts::{add_definition, delete_at};
+pub(crate) use remaking::{keys_of_update, updated_definition};
 
 impl<'a> Model<'a> {
     /// Adds a definition of this name at the end, local to the sheet at an index, from 0, or to none. Its body is a
@@ -194,7 +195,7 @@ impl<'a> Model<'a> {
     }
 
     /// The id of the sheet that a new definition is to be local to, and its body.
-    fn checked_definition(
+    pub(crate) fn checked_definition(
         &self,
         name: &str,
         scope: Option<u32>,

@@ -120,7 +120,7 @@ impl<'a> Model<'a> {
 }
 
 /// The formula that a typed text is, as it stands after `=`.
-fn typed_formula(typed: &Typed) -> Option<&str>
+pub(crate) fn typed_formula(typed: &Typed) -> Option<&str>
     ensures { option_map (λ f. chars f.now) result ≡ typed_formula typed.now }
 {
     match typed {

@@ -46,7 +46,7 @@ impl<'a> Model<'a> {
     }
 
     /// The name that a new sheet gets.
-    fn new_name(&self) -> Result<String, OutOfMemory>
+    pub(crate) fn new_name(&self) -> Result<String, OutOfMemory>
         ensures { IfOk result (λ name. chars (string_bytes name)
             ≡ new_sheet_name (whole_of self.now.book)) }
     {

@@ -63,62 +63,74 @@ apply_topics x y arguments all tree is first second =
     ap₂ (λ (t : Bound) (ts : List Bound). tree_topics t ++ flat_map (λ us. us) (map tree_topics ts)) first second
     ∙ sym (ap tree_topics is ∙ topics_node (one.Apply x arguments))
 
--- ---- a tree that doesn't mention a topic has no mention that passes, where none without the topic does
+-- ---- a tree that mentions none of some topics has no mention that passes, where none without these topics does
 
-parts : (topic : ℕ) (a b : List ℕ) → is_among topic (a ++ b) ≡ false → (is_among topic a ≡ false) × (is_among topic b ≡ false)
-parts topic a b e = or_parts (is_among topic a) (is_among topic b) (sym (list_any-append (nat_eq topic) a b) ∙ e)
+-- one of these topics is among others
+abbrev pub some_among : List ℕ → List ℕ → Bool
+some_among topics others = list_any (λ topic. is_among topic others) topics
 
-module _ (topic : ℕ) (is_sheet : SheetMention → Bool) (is_word : NameMention → Bool) (is_local : SheetMention → NameMention → Bool) (sheet_spared : (m : SheetMention) → is_among topic (sheet_topics m) ≡ false → is_sheet m ≡ false)
-    (word_spared : (m : NameMention) → is_among topic (word_topics m) ≡ false → is_word m ≡ false) (local_spared : (s : SheetMention) (m : NameMention) → is_among topic (word_topics m) ≡ false → is_local s m ≡ false) where
+parts : (topics a b : List ℕ) → some_among topics (a ++ b) ≡ false → (some_among topics a ≡ false) × (some_among topics b ≡ false)
+parts [] a b e = (refl, refl)
+parts (topic ∷ topics) a b e =
+    let two = or_parts (is_among topic (a ++ b)) (some_among topics (a ++ b)) e in
+    let here = or_parts (is_among topic a) (is_among topic b) (sym (list_any-append (nat_eq topic) a b) ∙ two.0) in
+    let rest = parts topics a b two.1 in
+    (neither here.0 rest.0, neither here.1 rest.1)
+
+module _ (topics : List ℕ) (is_sheet : SheetMention → Bool) (is_word : NameMention → Bool) (is_local : SheetMention → NameMention → Bool) (sheet_spared : (m : SheetMention) → some_among topics (sheet_topics m) ≡ false → is_sheet m ≡ false)
+    (word_spared : (m : NameMention) → some_among topics (word_topics m) ≡ false → is_word m ≡ false) (local_spared : (s : SheetMention) (m : NameMention) → some_among topics (word_topics m) ≡ false → is_local s m ≡ false) where
   abbrev some : Bound → Bool
   some = some_mention is_sheet is_word is_local
 
   abbrev Spared : Bound → Type 0
-  Spared t = is_among topic (tree_topics t) ≡ false → some t ≡ false
+  Spared t = some_among topics (tree_topics t) ≡ false → some t ≡ false
 
   abbrev SparedPair : BoundPair → Type 0
   SparedPair pair = Spared pair.value
 
-  all_spared : {X : Type 0} (topics : X → List ℕ) (test : X → Bool) (xs : List X) → AllByRecursion (λ x. is_among topic (topics x) ≡ false → test x ≡ false) xs
-      → is_among topic (flat_map (λ ts. ts) (map topics xs)) ≡ false → list_any (λ b. b) (map test xs) ≡ false
-  all_spared topics test [] h e = refl
-  all_spared topics test (x ∷ xs) h e =
-      let two = parts topic (topics x) (flat_map (λ ts. ts) (map topics xs)) e in neither (h.0 two.0) (all_spared topics test xs h.1 two.1)
+  all_spared : {X : Type 0} (topics_of : X → List ℕ) (test : X → Bool) (xs : List X) → AllByRecursion (λ x. some_among topics (topics_of x) ≡ false → test x ≡ false) xs
+      → some_among topics (flat_map (λ ts. ts) (map topics_of xs)) ≡ false → list_any (λ b. b) (map test xs) ≡ false
+  all_spared topics_of test [] h e = refl
+  all_spared topics_of test (x ∷ xs) h e =
+      let two = parts topics (topics_of x) (flat_map (λ ts. ts) (map topics_of xs)) e in neither (h.0 two.0) (all_spared topics_of test xs h.1 two.1)
 
-  kind_spared : (kind : BoundKind) → OfChildren Spared SparedPair kind → is_among topic (topics_below kind) ≡ false → some_below is_sheet is_word is_local kind ≡ false
+  kind_spared : (kind : BoundKind) → OfChildren Spared SparedPair kind → some_among topics (topics_below kind) ≡ false → some_below is_sheet is_word is_local kind ≡ false
   kind_spared (one.Num units) h e = refl
   kind_spared (one.Str text) h e = refl
   kind_spared (one.Bool value) h e = refl
   kind_spared (one.Err code) h e = refl
   kind_spared (one.Reference sheet place) h e = sheet_spared sheet e
-  kind_spared (one.Local sheet word) h e = let two = parts topic (sheet_topics sheet) (word_topics word) e in neither (sheet_spared sheet two.0) (local_spared sheet word two.1)
+  kind_spared (one.Local sheet word) h e = let two = parts topics (sheet_topics sheet) (word_topics word) e in neither (sheet_spared sheet two.0) (local_spared sheet word two.1)
   kind_spared (one.Word word) h e = word_spared word e
   kind_spared one.Empty h e = refl
   kind_spared (one.Paren x) h e = h e
   kind_spared (one.Prefix sign x) h e = h e
   kind_spared (one.Percent x) h e = h e
   kind_spared (one.Spill x) h e = h e
-  kind_spared (one.Binary sign a b) h e = let two = parts topic (tree_topics a) (tree_topics b) e in neither (h.0 two.0) (h.1 two.1)
+  kind_spared (one.Binary sign a b) h e = let two = parts topics (tree_topics a) (tree_topics b) e in neither (h.0 two.0) (h.1 two.1)
   kind_spared (one.Fun number arguments) h e = all_spared tree_topics some arguments h e
   kind_spared (one.Call word arguments) h e =
-      let two = parts topic (word_topics word) (flat_map (λ ts. ts) (map tree_topics arguments)) e in neither (word_spared word two.0) (all_spared tree_topics some arguments h two.1)
+      let two = parts topics (word_topics word) (flat_map (λ ts. ts) (map tree_topics arguments)) e in neither (word_spared word two.0) (all_spared tree_topics some arguments h two.1)
   kind_spared (one.Let pairs body) h e =
-      let two = parts topic (flat_map (λ ts. ts) (map (λ (pair : BoundPair). tree_topics pair.value) pairs)) (tree_topics body) e in
+      let two = parts topics (flat_map (λ ts. ts) (map (λ (pair : BoundPair). tree_topics pair.value) pairs)) (tree_topics body) e in
       neither (all_spared (λ (pair : BoundPair). tree_topics pair.value) (λ pair. some pair.value) pairs h.0 two.0) (h.1 two.1)
   kind_spared (one.Lambda parameters body) h e = h e
   kind_spared (one.Apply x arguments) h e =
-      let two = parts topic (tree_topics x) (flat_map (λ ts. ts) (map tree_topics arguments)) e in neither (h.0 two.0) (all_spared tree_topics some arguments h.1 two.1)
+      let two = parts topics (tree_topics x) (flat_map (λ ts. ts) (map tree_topics arguments)) e in neither (h.0 two.0) (all_spared tree_topics some arguments h.1 two.1)
   kind_spared (one.Array rows) h e = refl
 
-  pub tree_spared : (t : Bound) → is_among topic (tree_topics t) ≡ false → some_mention is_sheet is_word is_local t ≡ false
+  pub tree_spared : (t : Bound) → some_among topics (tree_topics t) ≡ false → some_mention is_sheet is_word is_local t ≡ false
   tree_spared =
       by_nodes Spared SparedPair
-      (λ kind h e. some_node is_sheet is_word is_local kind ∙ kind_spared kind h (ap (is_among topic) (sym (topics_node kind)) ∙ e))
+      (λ kind h e. some_node is_sheet is_word is_local kind ∙ kind_spared kind h (ap (some_among topics) (sym (topics_node kind)) ∙ e))
       (λ variable value h. h)
 
 -- so a change of mentions with a topic leaves each formula that doesn't mention it
 pub spares_others : (change : Change) (topic : ℕ) → ((m : SheetMention) → is_among topic (sheet_topics m) ≡ false → changes_sheet change m ≡ false) → ((scope : Option ℕ) (m : NameMention) → is_among topic (word_topics m) ≡ false → changes_word change scope m ≡ false)
     → ((s : SheetMention) (m : NameMention) → is_among topic (word_topics m) ≡ false → changes_local change s m ≡ false) → SparesOthers change (topic ∷ [])
 spares_others change topic sheet word local scope (formulas.Tree t) e =
-    tree_spared topic (changes_sheet change) (changes_word change scope) (changes_local change) sheet (word scope) local t (or_parts (is_among topic (tree_topics t)) false e).0
+    tree_spared (topic ∷ []) (changes_sheet change) (changes_word change scope) (changes_local change) (λ m h. sheet m (alone (sheet_topics m) h)) (λ m h. word scope m (alone (word_topics m) h)) (λ s m h. local s m (alone (word_topics m) h)) t e
+  where
+    alone : (others : List ℕ) → some_among (topic ∷ []) others ≡ false → is_among topic others ≡ false
+    alone others h = (or_parts (is_among topic others) false h).0
 spares_others change topic sheet word local scope (formulas.Raw text) e = refl

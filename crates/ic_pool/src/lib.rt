@@ -5,7 +5,8 @@
 //! says that equal keys are keys of equal formulas. `prepare` makes ready a change of all formulas, `made` says to what, and
 //! `apply` then can't fail. The four changes are `SheetNamed`, `SheetGone`, `DefinitionAdded` and `DefinitionGone`;
 //! `changed_formula` says what one makes of a formula. A `Remaking` makes formulas anew by a rule of the caller's:
-//! `prepare_remade` makes that ready. Keys of definitions are `name_key`'s.
+//! `prepare_remade` makes that ready. A pool has an index from what its formulas mention, told by topics, so each change
+//! and each rule names the topics that it is about. Keys of definitions are `name_key`'s.
 #![tactic(auto)]
 
 mod changes;
@@ -32,3 +33,4 @@ pub use mentions::has_dangling;
 pub use pool::{Pool, Replacement, Rewrites};
 pub use remaking::{Remaking, remade_formula};
 pub use steps::Steps;
+pub use topics::folded_topic;

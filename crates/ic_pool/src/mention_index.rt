@@ -73,10 +73,10 @@ impl Places {
 pub struct MentionIndex {
     alloc: Global,
     places: BTreeMap<u64, Places>,
-    /// How often a place was noted.
+    /// How many notes it has of formulas as they came.
     count: usize,
-    /// How often until it was whole.
-    made: usize,
+    /// How many of formulas that changed since it was made.
+    again: usize,
 }
 
 impl Drop for MentionIndex {
@@ -85,7 +85,7 @@ impl Drop for MentionIndex {
             alloc,
             places,
             count: _,
-            made: _,
+            again: _,
         } = self;
         drop(alloc);
         drop(places);
@@ -109,7 +109,7 @@ impl MentionIndex {
             alloc,
             places: BTreeMap::new(alloc),
             count: 0,
-            made: 0,
+            again: 0,
         }
     }
 
@@ -118,7 +118,6 @@ impl MentionIndex {
         ensures noted { OnOk result (has_place self.new topic at ≡ true) }
         ensures kept { KeepsAll self.old self.new }
     {
-        self.count = self.count.saturating_add(1);
         if let Some(places) = self.places.get_mut(&topic) {
             return places.note(at);
         }
@@ -139,14 +138,35 @@ impl MentionIndex {
         Ok(())
     }
 
-    /// Notes what a formula mentions, which stands at a place, from 0. `OutOfMemory` leaves what it had.
+    /// Notes what a formula mentions, which comes to stand at a place, from 0. `OutOfMemory` leaves what it had.
     pub fn note(&mut self, at: usize, formula: &Formula) -> Result<(), OutOfMemory>
+        ensures noted { OnOk result (HasAt self.new at (topics_in formula.now)) }
+        ensures kept { KeepsAll self.old self.new }
+    {
+        let notes = self.note_at(at, formula)?;
+        self.count = self.count.saturating_add(notes);
+        Ok(())
+    }
+
+    /// Notes what the formula at a place, from 0, mentions after it changed. `OutOfMemory` leaves what it had.
+    pub fn note_again(&mut self, at: usize, formula: &Formula) -> Result<(), OutOfMemory>
+        ensures noted { OnOk result (HasAt self.new at (topics_in formula.now)) }
+        ensures kept { KeepsAll self.old self.new }
+    {
+        let notes = self.note_at(at, formula)?;
+        self.again = self.again.saturating_add(notes);
+        Ok(())
+    }
+
+    /// Notes what the formula at a place, from 0, mentions, and answers how many notes that took.
+    fn note_at(&mut self, at: usize, formula: &Formula) -> Result<usize, OutOfMemory>
         ensures noted { OnOk result (HasAt self.new at (topics_in formula.now)) }
         ensures kept { KeepsAll self.old self.new }
     {
         let mut topics = Vec::new(self.alloc);
         push_topics(&mut topics, formula)?;
-        self.put_all(&topics, at)
+        self.put_all(&topics, at)?;
+        Ok(topics.len())
     }
 
     /// What each of these formulas mentions.
@@ -157,14 +177,13 @@ impl MentionIndex {
         for (at, formula) in formulas.iter().enumerate() {
             index.note(at, formula)?;
         }
-        index.made = index.count;
         Ok(index)
     }
 
-    /// Whether it has more than twice what it had when it was made: many of its places may then be places of formulas
-    /// that changed.
+    /// Whether it has more notes of formulas that changed than of formulas as they came: many of its places may then be
+    /// places of what is mentioned there no more.
     pub fn is_stale(&self) -> bool {
-        self.count > self.made.saturating_mul(2).saturating_add(FEW)
+        self.again > self.count.saturating_add(FEW)
     }
 
     /// The places of the formulas that mention something with one of these topics, and maybe others, in ascending order.

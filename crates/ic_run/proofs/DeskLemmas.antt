@@ -10,7 +10,7 @@ use Rattle.ic_lines.specs.Bytes.{IfTold}
 use Rattle.ic_book.specs.Book.{Book, core_of, first_sheet_name_in, new_book}
 use Rattle.ic_run.specs.Desk.{Setting, setting_of, run_status, texts}
 use Rattle.ic_run.specs.Make.{made_setting}
-use Rattle.ic_run.specs.Run.{Leaves, LeavesReplies, TakesAll}
+use Rattle.ic_run.specs.Run.{Leaves, LeavesReplies, LeavesServed, LeavesServedFrom, TakesAll}
 use Rattle.ic_laws.specs.CoreBook.{CellPlace, CoreBook}
 use Rattle.ic_cells.specs.declared.cell.Cell.{Cell}
 use Rattle.std.specs.FinMap as finite
@@ -144,4 +144,18 @@ pub leaves_replies_told : (r : Result ℕ RunError) (e : RunError) (old new : Bo
 leaves_replies_told r e old new source left before now plain same h =
     IfTold-weaker source left (λ bytes rest. Leaves e old new bytes rest before now) (λ bytes rest. LeavesReplies e old.tables (core_of old) bytes rest before now)
     (λ bytes rest p. leaves_replies e old new bytes rest before now plain p)
+    (at_error_status r e (λ x. IfTold source left (λ bytes rest. Leaves x old new bytes rest before now)) same h)
+
+-- and of those of the machine that is served
+leaves_served : (e : RunError) (old new : Book) (bytes left : List ℕ) (before now : Option (List ℕ)) → Leaves e old new bytes left before now → LeavesServed e old bytes left before now
+leaves_served run.ReadFault old new bytes left before now h = (h.0, h.2, h.1.told)
+leaves_served run.TooManyTurns old new bytes left before now h = (h.0, h.2, h.1.told)
+leaves_served run.OutOfMemory old new bytes left before now h = (h.0, h.1.read, h.1.told)
+leaves_served run.WriteFault old new bytes left before now h = (h.0, h.1.read, h.1.told)
+
+pub leaves_served_told : (r : Result ℕ RunError) (e : RunError) (old new : Book) (start : List ℕ → Book) (created : List ℕ) (source left before now : Option (List ℕ)) → old ≡ start created → run_status r ≡ run_status (Err e)
+    → IfErr r (λ x. IfTold source left (λ bytes rest. Leaves x old new bytes rest before now)) → IfTold source left (λ bytes rest. LeavesServedFrom e start bytes rest before now)
+leaves_served_told r e old new start created source left before now is same h =
+    IfTold-weaker source left (λ bytes rest. Leaves e old new bytes rest before now) (λ bytes rest. LeavesServedFrom e start bytes rest before now)
+    (λ bytes rest p. (created, subst (λ (b : Book). LeavesServed e b bytes rest before now) is (leaves_served e old new bytes rest before now p)))
     (at_error_status r e (λ x. IfTold source left (λ bytes rest. Leaves x old new bytes rest before now)) same h)

@@ -3,3 +3,4 @@ pub mod Desk
 pub mod Make
 pub mod Run
 pub mod Start
+pub mod Translate

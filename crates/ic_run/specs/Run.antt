@@ -123,6 +123,13 @@ LeavesReplies errors.WriteFault tables core bytes left before now =
     (count : ℕ) × AreRead (count + 1) bytes left
     × (AreCore tables (take (count + 1) (texts_of bytes)) → IfTold before now (HasPartlyReplied (replies_core (notations_of tables) core) count (texts_of bytes)))
 
+-- What an error leaves of the replies of the machine that is served, to all lines, from a book.
+abbrev pub LeavesServed : RunError → Book → List ℕ → List ℕ → Option (List ℕ) → Option (List ℕ) → Type 0
+LeavesServed errors.ReadFault book bytes left before now = (count : ℕ) × (count + line_feeds left ≡ line_feeds bytes) × IfTold before now (HasReplied (replies_served book) count (texts_of bytes))
+LeavesServed errors.TooManyTurns book bytes left before now = (count : ℕ) × (count + line_feeds left ≡ line_feeds bytes) × IfTold before now (HasReplied (replies_served book) count (texts_of bytes))
+LeavesServed errors.OutOfMemory book bytes left before now = (count : ℕ) × AreRead count bytes left × IfTold before now (HasReplied (replies_served book) count (texts_of bytes))
+LeavesServed errors.WriteFault book bytes left before now = (count : ℕ) × AreRead (count + 1) bytes left × IfTold before now (HasPartlyReplied (replies_served book) count (texts_of bytes))
+
 -- each error has its cause: a fault of the source, a fault of the sink, too many turns; that memory ran out needs none
 abbrev pub HasCause : (read write turns : Type 0) → RunError → Type 0
 HasCause read write turns errors.ReadFault = read
@@ -133,3 +140,7 @@ HasCause read write turns errors.OutOfMemory = Unit {0}
 -- the replies of the machine that is served, from the whole of a book that was made at some moment
 abbrev pub AppendsServedFrom : (List ℕ → Book) → List ℕ → List ℕ → List ℕ → Type 0
 AppendsServedFrom book bytes before now = (created : List ℕ) × AppendsServed (whole_of (book created)) bytes before now
+
+-- and what an error leaves of them
+abbrev pub LeavesServedFrom : RunError → (List ℕ → Book) → List ℕ → List ℕ → Option (List ℕ) → Option (List ℕ) → Type 0
+LeavesServedFrom e book bytes left before now = (created : List ℕ) × LeavesServed e (book created) bytes left before now

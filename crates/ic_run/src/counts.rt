@@ -141,7 +141,7 @@ fn count_ok(replies: &[Line]) -> usize
 }
 
 /// Whether a reply tells no refusal.
-fn is_ok(reply: &Line) -> bool
+pub fn is_ok(reply: &Line) -> bool
     ensures { result ≡ begins_with_o reply.now }
 {
     match first_char(reply.text().as_str()) {

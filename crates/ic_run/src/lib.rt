@@ -10,8 +10,14 @@ mod counts;
 mod lines;
 mod made;
 mod make;
+mod plan;
 mod program;
+mod retold;
 mod start;
+mod translate;
+mod translation;
 
+pub use ic_book::Why;
 pub use lines::run;
 pub use program::desk;
+pub use translate::{TranslateError, translate};

@@ -4,12 +4,13 @@ ghost use Rattle.ic_lines.specs.Bytes.{IfTold, HasFault};
 ghost use Rattle.ic_run.specs.Desk.{setting_of, start, start_book, start_refusal, run_status, texts};
 ghost use Rattle.ic_run.specs.Make.{AppendsSummary, AppendsSummaryFront, first_setting, made_setting, making_of};
 ghost use Rattle.ic_run.specs.Start.{making_in, setting, setting_in};
-ghost use Rattle.ic_run.specs.Run.{AppendsReplies, AppendsServedFrom, AreCore, LeavesReplies};
+ghost use Rattle.ic_run.specs.Run.{AppendsReplies, AppendsServedFrom, AreCore, LeavesReplies, LeavesServedFrom};
 ghost use Rattle.ic_tree.specs.Notations.{notations_of};
 
 use crate::lines::run;
 use crate::make::{Making, make, making_named};
 use crate::start::{Start, first_book, start_named};
+use crate::translation::{Wanted, translation, wanted_named};
 use ic_lines::{RunError, Sink, Source};
 use ic_tables::Tables;
 use jiff::Timestamp;
@@ -83,6 +84,13 @@ pub fn desk<S: Source, K: Sink>(
         LeavesReplies e tables.now (start setting) bytes left (K.written sink.old)
         (K.written sink.new))) }
 
+    // Those to all lines are the ones that this error leaves of the machine that is served, from the whole book.
+    ensures stopped_served { (e : RunError) → result ≡ run_status (Err e) → IfSome
+        (setting_of (texts words.now)) (λ setting.
+        IfTold (S.left source.old) (S.left source.new) (λ bytes left.
+        LeavesServedFrom e (λ created. start_book setting created tables.now) bytes left
+        (K.written sink.old) (K.written sink.new))) }
+
     // Where there is no fault, and the source holds fewer than 2^32 bytes or isn't read, only that memory runs out is left
     // beside 0.
     ensures completes { IsSomeAnd (setting_of (texts words.now))
@@ -99,6 +107,7 @@ pub fn desk<S: Source, K: Sink>(
     match deed_named(words) {
         Deed::Run(start) => run_from(alloc, &start, tables, moment, source, sink),
         Deed::Make(making) => make(alloc, &making, tables, moment, sink),
+        Deed::Translate(wanted) => translation(alloc, &wanted, tables, moment, source, sink),
         Deed::Unknown => 1,
     }
 }
@@ -110,6 +119,8 @@ pub enum Deed<'a> {
     Run(Start<'a>),
     /// To make lines and answer them.
     Make(Making),
+    /// To translate the lines of the source.
+    Translate(Wanted<'a>),
     /// Nothing that the program does.
     Unknown,
 }
@@ -121,6 +132,9 @@ fn deed_named(words: &[String]) -> Deed<'_>
 {
     if let Some(making) = making_named(words) {
         return Deed::Make(making);
+    }
+    if let Some(wanted) = wanted_named(words) {
+        return Deed::Translate(wanted);
     }
     match start_named(words) {
         Some(start) => Deed::Run(start),
@@ -159,6 +173,10 @@ fn run_from<S: Source, K: Sink>(
         → IfTold (S.left source.old) (S.left source.new) (λ bytes left.
         LeavesReplies e tables.now (start (setting first.now)) bytes left (K.written sink.old)
         (K.written sink.new)) }
+    ensures stopped_served { (e : RunError) → result ≡ run_status (Err e)
+        → IfTold (S.left source.old) (S.left source.new) (λ bytes left. LeavesServedFrom e
+        (λ created. start_book (setting first.now) created tables.now) bytes left
+        (K.written sink.old) (K.written sink.new)) }
     ensures completes { IsNone (start_refusal (setting first.now) tables.now)
         → IsSomeAnd (S.left source.old) (λ bytes. length bytes < 2 ^ 32)
         → ¬ HasFault (S.faults source.old) (S.faults source.new)

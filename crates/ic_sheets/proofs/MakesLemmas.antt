@@ -98,11 +98,6 @@ module _ (change : Change) (ps : Own) (id : ℕ) (w : RewritesState) (sheets : L
         made = λ q v t is at. each_made (take i now) each q v t (own_rewrites q ps) refl is at;
       })
 
-listed_there : (id : ℕ) (xs : List ℕ) (i : ℕ) → i < length xs → id ≡ get_or xs i 0 → is_listed id xs ≡ true
-listed_there id [] i lt e = absurd (omega arith)
-listed_there id (x ∷ xs) zero lt e = ap (λ b. b || is_listed id xs) (ap (nat_eq id) (sym e) ∙ nat_eq_equiv.refl id)
-listed_there id (x ∷ xs) (suc i) lt e = ap (λ b. nat_eq id x || b) (listed_there id xs i (omega arith) e) ∙ or_true (nat_eq id x)
-
 dangles_nowhere : (id : ℕ) (xs : List HeldSheet) → find (λ s. nat_eq s.id id) xs ≡ None → dangles_at id xs ≡ false
 dangles_nowhere id [] e = refl
 dangles_nowhere id (x ∷ xs) e = step (nat_eq x.id id) refl e (dangles_nowhere id xs)
@@ -127,20 +122,38 @@ id_found id (x ∷ xs) s e = step (nat_eq x.id id) refl e (id_found id xs s)
     step true is e rest = ap (λ a. a || is_id id xs) (nat_eq_equiv.symm id x.id ∙ is)
     step false is e rest = ap (λ b. nat_eq id x.id || b) (rest e) ∙ or_true (nat_eq id x.id)
 
-and_false : (a : Bool) → (a && false) ≡ false
-and_false true = refl
-and_false false = refl
-
 -- each of the ids is that of a sheet
-pub some_sheet : (whole : Option ℕ) (now : List ℕ) (i id : ℕ) (sheets : List HeldSheet) → AreLookedAt whole now sheets → i < length now → id ≡ get_or now i 0 → find (λ s. nat_eq s.id id) sheets ≡ None → ⊥
-some_sheet whole now i id sheets d lt read none =
-    clash (is_listed id now) (listed_there id now i lt read)
-    (d.finds id ∙ ap₂ (λ a b. a || same_scope whole (Some id) && b) (dangles_nowhere id sheets none) (id_nowhere id sheets none) ∙ and_false (same_scope whole (Some id)))
+pub some_sheet : (now : List ℕ) (i id : ℕ) (sheets : List HeldSheet) → AllByRecursion (λ q. is_id q sheets ≡ true) now → i < length now → id ≡ get_or now i 0 → find (λ s. nat_eq s.id id) sheets ≡ None → ⊥
+some_sheet [] i id sheets known lt read none = absurd (omega arith)
+some_sheet (q ∷ now) zero id sheets known lt read none = clash (is_id id sheets) (ap (λ k. is_id k sheets) read ∙ known.0) (id_nowhere id sheets none)
+some_sheet (q ∷ now) (suc i) id sheets known lt read none = some_sheet now i id sheets known.1 (omega arith) read none
 
 -- ---- the sheets at which a change looks
 
 pub dangling_looked_at : (now : List ℕ) (sheets : List HeldSheet) → AreDangling now sheets → AreLookedAt None now sheets
 dangling_looked_at now sheets d = record { finds = λ q. d.finds q ∙ sym (or_false (dangles_at q sheets)); differ = d.differ }
+
+dangling_known : (q : ℕ) (xs : List HeldSheet) → dangles_at q xs ≡ true → is_id q xs ≡ true
+dangling_known q [] e = e
+dangling_known q (x ∷ xs) e = step (nat_eq q x.id) (dangles x) e (dangling_known q xs)
+  where
+    step : (a b : Bool) → (a && b || dangles_at q xs) ≡ true → (dangles_at q xs ≡ true → is_id q xs ≡ true) → (a || is_id q xs) ≡ true
+    step true b e rest = refl
+    step false b e rest = rest e
+
+all_listed_known : (ns : List ℕ) (sheets : List HeldSheet) → ((q : ℕ) → is_listed q ns ≡ true → is_id q sheets ≡ true) → AllByRecursion (λ q. is_id q sheets ≡ true) ns
+all_listed_known [] sheets known = tt
+all_listed_known (n ∷ ns) sheets known =
+    (known n (ap (λ b. b || is_listed n ns) (nat_eq_equiv.refl n)), all_listed_known ns sheets (λ q h. known q (ap (λ b. nat_eq q n || b) h ∙ or_true (nat_eq q n))))
+
+-- each is the id of a sheet
+pub looked_at_known : (whole : Option ℕ) (now : List ℕ) (sheets : List HeldSheet) → AreLookedAt whole now sheets → AllByRecursion (λ q. is_id q sheets ≡ true) now
+looked_at_known whole now sheets d = all_listed_known now sheets (λ q h. either (dangles_at q sheets) (same_scope whole (Some q)) (is_id q sheets) (dangling_known q sheets) (sym (d.finds q) ∙ h))
+  where
+    either : (a b c : Bool) → (a ≡ true → c ≡ true) → (a || b && c) ≡ true → c ≡ true
+    either true b c one e = one refl
+    either false true c one e = e
+    either false false c one e = cc
 
 module _ (now : List ℕ) (id : ℕ) (sheets : List HeldSheet) (d : AreDangling now sheets) where
   -- something dangles in the sheet with this id, or there is none
@@ -244,33 +257,18 @@ module _ (change : Change) (whole : Option ℕ) (now : List ℕ) (ps : Own) (she
   all_own front [] e = tt
   all_own front (s ∷ back) e = (one_own front back s e (own_rewrites s.id ps) refl, all_own (front ++ s ∷ []) back (e ∙ sym (append_assoc front (s ∷ []) back)))
 
-  all_known : (ns : List ℕ) → ((q : ℕ) → is_listed q ns ≡ true → is_id q sheets ≡ true) → (ps : Own) → own_ids ps ≡ ns → AllByRecursion (λ p. is_id p.0 sheets ≡ true) ps
+  all_known : (ns : List ℕ) → AllByRecursion (λ q. is_id q sheets ≡ true) ns → (ps : Own) → own_ids ps ≡ ns → AllByRecursion (λ p. is_id p.0 sheets ≡ true) ps
   all_known ns known [] e = tt
   all_known [] known (p ∷ ps) e = cc
   all_known (n ∷ ns) known (p ∷ ps) e =
       let first : p.0 ≡ n = cc in
-      let rest : own_ids ps ≡ ns = cc in (
-        known p.0 (ap (λ k. nat_eq p.0 k || is_listed p.0 ns) (sym first) ∙ ap (λ b. b || is_listed p.0 ns) (nat_eq_equiv.refl p.0)),
-        all_known ns (λ q h. known q (ap (λ b. nat_eq q n || b) h ∙ or_true (nat_eq q n))) ps rest,
-      )
-
-  is_known : (q : ℕ) (xs : List HeldSheet) → dangles_at q xs ≡ true → is_id q xs ≡ true
-  is_known q [] e = e
-  is_known q (x ∷ xs) e = step (nat_eq q x.id) (dangles x) e (is_known q xs)
-    where
-      step : (a b : Bool) → (a && b || dangles_at q xs) ≡ true → (dangles_at q xs ≡ true → is_id q xs ≡ true) → (a || is_id q xs) ≡ true
-      step true b e rest = refl
-      step false b e rest = rest e
-
-  known_either : (a b c : Bool) → (a ≡ true → c ≡ true) → (a || b && c) ≡ true → c ≡ true
-  known_either true b c one e = one refl
-  known_either false true c one e = e
-  known_either false false c one e = cc
+      let rest : own_ids ps ≡ ns = cc in
+      (ap (λ k. is_id k sheets) first ∙ known.0, all_known ns known.1 ps rest)
 
   pub each_makes : Makes change ps sheets
   each_makes = record {
     fits = record {
-      known = all_known now (λ q h. known_either (dangles_at q sheets) (same_scope whole (Some q)) (is_id q sheets) (is_known q sheets) (sym (d.finds q) ∙ h)) ps each.each;
+      known = all_known now (looked_at_known whole now sheets d) ps each.each;
       differ = subst (IsDistinct nat_eq) (sym each.each) d.differ;
       fits = fits sheets own;
     };

@@ -24,7 +24,7 @@ use caseless::default_case_fold_str;
 use ic_definitions::{BodyRewrites, Definition, UpdatedDefinitions};
 use ic_keep::{KeyChange, is_touched, keep_formula};
 use ic_laws::{Formula, Items, NameKey, OutOfMemory, Text};
-use ic_pool::{Remaking, Rewrites};
+use ic_pool::{Remaking, Rewrites, folded_topic};
 use ic_tables::Language;
 use ic_tree::bind;
 use std::alloc::Global;
@@ -76,6 +76,12 @@ impl<'u> Remaking for Updating<'u> {
     ghost use Rattle.ic_book.specs.Sites.{kept_where_touched};
 
     ghost made = { λ u. kept_where_touched (function_of u.english.now) (scene_of_parts u.before.sheets.now u.before.definitions.now) (scene_renamed u.after.sheets.now u.after.definitions.now.definitions.now u.after.definitions.now.index (chars u.after.definitions.now.name.now) u.after.definitions.now.key.now.scope) u.change.now.old u.change.now.new };
+
+    fn topics(&self) -> (u64, u64) {
+        let old = folded_topic(self.change.old.name.as_str());
+        let new = folded_topic(self.change.new.name.as_str());
+        (old, new)
+    }
 
     fn touches(&self, _scope: Option<u32>, formula: &Formula) -> bool {
         is_touched(self.change, self.new_name, formula)

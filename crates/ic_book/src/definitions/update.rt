@@ -159,7 +159,7 @@ impl<'a> Model<'a> {
     }
 
     /// Whether an update of a definition would capture.
-    fn captures(
+    pub(crate) fn captures(
         &self,
         name: &str,
         scope: Option<u32>,
@@ -192,7 +192,7 @@ impl<'a> Model<'a> {
     }
 
     /// What an update of a definition comes to, where nothing refuses the question whether it would capture.
-    pub(super) fn checked_update(
+    pub(crate) fn checked_update(
         &self,
         name: &str,
         scope: Option<u32>,

@@ -320,7 +320,7 @@ fn note_all(changes: &[Replacement], mentions: &mut MentionIndex) -> Result<(), 
     ensures kept { KeepsAll mentions.old mentions.new }
 {
     for change in changes {
-        mentions.note(change.at, &change.formula)?;
+        mentions.note_again(change.at, &change.formula)?;
     }
     Ok(())
 }

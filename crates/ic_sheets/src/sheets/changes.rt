@@ -14,7 +14,7 @@ ghost use Rattle.ic_sheets.specs.declared.sheet.Sheet.{Sheet as HeldSheet};
 
 use super::Sheets;
 use super::dangling::{keep_dangling, looked_at, note_dangling};
-use super::rewriting::{apply_all, apply_own, prepare, prepare_dangling, prepare_remade};
+use super::rewriting::{apply_all, apply_own, prepare, prepare_own, prepare_remade};
 use ic_laws::{Finder, OutOfMemory};
 use ic_pool::{BookChange, DefinitionAdded, Remaking, Rewrites, SheetGone, SheetNamed};
 
@@ -213,7 +213,7 @@ impl Sheets {
     }
 
     /// What a definition that comes does to the formulas of all sheets, for each sheet at which it looks with its id: it
-    /// looks at the formulas that mention something that wasn't found, and at all of the sheet that it is local to.
+    /// looks at the sheets in which something wasn't found, and at the one that it is local to.
     pub fn prepare_added(
         &self,
         added: &DefinitionAdded<'_>,
@@ -236,12 +236,11 @@ impl Sheets {
         requires { (id : ℕ) → SparesFound (C.change change.now) (Some id) }
         ensures { IfOk result (λ prepared. Makes (C.change change.now) prepared.items self.now) }
     {
-        prepare_dangling(
+        prepare_own(
             self.alloc,
             &self.list,
             &self.indexes,
             &self.dangling,
-            None,
             change,
         )
     }
@@ -258,7 +257,7 @@ impl Sheets {
     {
         let sheets = self.list.as_slice();
         let ids = looked_at(self.alloc, sheets, &self.indexes, &self.dangling, id)?;
-        prepare_dangling(self.alloc, sheets, &self.indexes, &ids, Some(id), change)
+        prepare_own(self.alloc, sheets, &self.indexes, &ids, change)
     }
 
     /// Does to the formulas of each sheet what was prepared for it. Where nothing was, all stay.

@@ -1,17 +1,17 @@
 //! What a change of the sheets or the definitions does to the formulas of all sheets. It is prepared before anything
 //! changes.
-ghost use Rattle.std.specs.Prelude.{◌≡◌, IfOk, Some, map, nat_eq};
+ghost use Rattle.std.specs.Prelude.{◌≡◌, IfOk, Some, true, map, nat_eq};
 ghost use Rattle.std.specs.List.{AllByRecursion, IsDistinct};
 ghost use Rattle.ic_pool.specs.Remade.{LeavesUntouched};
-ghost use Rattle.ic_sheets.specs.Index.{AreAtIndexes, AreLookedAt};
+ghost use Rattle.ic_sheets.specs.Index.{AreAtIndexes, is_id};
 ghost use Rattle.ic_sheets.specs.Remade.{AreRemade};
-ghost use Rattle.ic_sheets.specs.Rewriting.{ArePrepared, FitOwn, FitSheets, IsPrepared, PreparesEach, SparesElsewhere, with_all_rewrites, with_own_rewrites};
+ghost use Rattle.ic_sheets.specs.Rewriting.{ArePrepared, FitOwn, FitSheets, PreparesEach, with_all_rewrites, with_own_rewrites};
 
 use super::dangling::sheet_with;
 use super::index_in;
 use crate::Sheet;
 use ic_laws::OutOfMemory;
-use ic_pool::{BookChange, Remaking, Rewrites, same_scope};
+use ic_pool::{BookChange, Remaking, Rewrites};
 use std::alloc::Global;
 use std::collections::BTreeMap;
 
@@ -31,19 +31,16 @@ pub fn prepare<C: BookChange>(
     Ok(prepared)
 }
 
-/// The same for a change that leaves each formula in which all was found, except in the sheet with the id `whole`: it looks
-/// at the sheets with these ids alone, and tells for each its id.
-pub fn prepare_dangling<C: BookChange>(
+/// The same for the sheets with these ids alone, and with each its id.
+pub fn prepare_own<C: BookChange>(
     alloc: Global,
     sheets: &[Sheet],
     indexes: &BTreeMap<u32, usize>,
     ids: &[u32],
-    whole: Option<u32>,
     change: &C,
 ) -> Result<Vec<(u32, Rewrites)>, OutOfMemory>
-    requires spares { SparesElsewhere whole (C.change change.now) }
     requires placed { AreAtIndexes indexes.now sheets.now }
-    requires ids { AreLookedAt whole ids.now sheets.now }
+    requires known { AllByRecursion (λ id. is_id id sheets.now ≡ true) ids.now }
     ensures { IfOk result (λ prepared.
         PreparesEach (C.change change.now) prepared.items ids.now sheets.now) }
 {
@@ -51,28 +48,11 @@ pub fn prepare_dangling<C: BookChange>(
     for id in ids {
         // Each of them is the id of a sheet.
         if let Some(sheet) = sheet_with(sheets, indexes, *id) {
-            let rewrites = prepare_in(sheet, whole, change)?;
+            let rewrites = sheet.pool.prepare(change, Some(sheet.id))?;
             prepared.push((*id, rewrites))?;
         }
     }
     Ok(prepared)
-}
-
-/// What such a change does to the formulas of a sheet: only in the one with the id `whole` it looks at all.
-fn prepare_in<C: BookChange>(
-    sheet: &Sheet,
-    whole: Option<u32>,
-    change: &C,
-) -> Result<Rewrites, OutOfMemory>
-    requires { SparesElsewhere whole (C.change change.now) }
-    ensures { IfOk result (λ rewrites. IsPrepared (C.change change.now) rewrites sheet.now) }
-{
-    let scope = Some(sheet.id);
-    if same_scope(whole, scope) {
-        sheet.pool.prepare(change, scope)
-    } else {
-        sheet.pool.prepare_dangling(change, scope)
-    }
 }
 
 /// What a rule that makes formulas anew does to those of each sheet, if it leaves each that it doesn't touch.

@@ -11,7 +11,7 @@ use Rattle.ic_run.specs.Desk.{start_book}
 use Rattle.ic_run.specs.Start.{setting}
 use Rattle.ic_run.specs.Run.{AppendsReplies, AppendsServed, AreCore, LeavesReplies}
 use Rattle.ic_tree.specs.Notations.{notations_of}
-use Rattle.ic_run.proofs.DeskLemmas.{all_taken, leaves_replies_told, on_ok_at_0, start_core, start_plain}
+use Rattle.ic_run.proofs.DeskLemmas.{all_taken, leaves_replies_told, leaves_served_told, on_ok_at_0, start_core, start_plain}
 use Rattle.ic_run.proofs.ServedLemmas.{some_moment}
 use Rattle.ic_run.proofs.program.run_from.Goals as goal
 
@@ -52,3 +52,11 @@ returns-in-Ok-clause-served g c at_0 =
     let told : Told book = on_ok_at_0 c.run.result (Told book) c.run.ensures.served (sym c.status_of.ensures ∙ at_0) in
     some_moment (left c.args.source.now) (left c.run.new.source) (written c.args.sink.now) (written c.run.new.sink) (λ created. start_book (setting c.args.first.now) created tables) book.metadata.created
     (subst Told c.in-Ok.ensures.start told)
+
+pub returns-in-Ok-clause-stopped_served : goal.returns-in-Ok-clause-stopped_served
+returns-in-Ok-clause-stopped_served g c e stopped =
+    let left = g.S.Source.left in
+    let written = g.K.Sink.written in
+    let book = c.in-Ok.model.book in
+    leaves_served_told c.run.result e book c.run.new.model.book (λ created. start_book (setting c.args.first.now) created c.args.tables.now) book.metadata.created (left c.args.source.now) (left c.run.new.source)
+    (written c.args.sink.now) (written c.run.new.sink) c.in-Ok.ensures.start (sym c.status_of.ensures ∙ stopped) c.run.ensures.front

@@ -4,7 +4,7 @@ use Rattle.std.proofs.lemmas.Result.{IfOk-weaker}
 use Rattle.std.specs.List.{IsDistinct}
 use Rattle.std.specs.Prelude.{nat_eq}
 use Rattle.ic_pool.specs.Mentions.{KeepsAllFound}
-use Rattle.ic_sheets.proofs.MakesLemmas.{each_makes}
+use Rattle.ic_sheets.proofs.MakesLemmas.{each_makes, looked_at_known}
 use Rattle.ic_sheets.proofs.SearchLemmas.{ids}
 use Rattle.ic_sheets.specs.Index.{AreAtIndexes, AreDangling, AreLookedAt}
 use Rattle.ic_sheets.specs.Rewriting.{Makes}
@@ -19,20 +19,21 @@ looked_at-requires-clause-differ g c = subst (λ xs. IsDistinct nat_eq (ids xs))
 pub looked_at-requires-clause-dangling : goal.looked_at-requires-clause-dangling
 looked_at-requires-clause-dangling g c = subst₂ AreDangling (sym c.deref.ensures.value) (sym c.as_slice-sheets.ensures.value) c.self.invariant.2
 
-pub prepare_dangling-requires-clause-placed : goal.prepare_dangling-requires-clause-placed
-prepare_dangling-requires-clause-placed g c = subst (AreAtIndexes c.self.inside.indexes) (sym c.as_slice-sheets.ensures.value) c.self.invariant.1
+pub prepare_own-requires-clause-placed : goal.prepare_own-requires-clause-placed
+prepare_own-requires-clause-placed g c = subst (AreAtIndexes c.self.inside.indexes) (sym c.as_slice-sheets.ensures.value) c.self.invariant.1
 
-pub prepare_dangling-requires-clause-ids : goal.prepare_dangling-requires-clause-ids
-prepare_dangling-requires-clause-ids g c =
-    subst (λ (xs : List ℕ). AreLookedAt (Some c.args.id) xs c.as_slice-sheets.result.now) (sym c.deref-2.ensures.value) c.in_ok-ids.ensures
+pub prepare_own-requires-clause-known : goal.prepare_own-requires-clause-known
+prepare_own-requires-clause-known g c =
+    looked_at_known (Some c.args.id) c.deref-2.result.now c.as_slice-sheets.result.now
+    (subst (λ (xs : List ℕ). AreLookedAt (Some c.args.id) xs c.as_slice-sheets.result.now) (sym c.deref-2.ensures.value) c.in_ok-ids.ensures)
 
 pub returns : goal.returns
 returns g c =
     let change = g.C.BookChange.change c.args.change.now in
     let sheets = c.as_slice-sheets.result.now in
-    IfOk-weaker c.prepare_dangling.result _ _
+    IfOk-weaker c.prepare_own.result _ _
     (λ prepared h. subst (Makes change prepared.items) (c.as_slice-sheets.ensures.value ∙ c.self.view_is)
     (each_makes change (Some c.args.id) c.deref-2.result.now prepared.items sheets h
     (subst (λ (xs : List ℕ). AreLookedAt (Some c.args.id) xs sheets) (sym c.deref-2.ensures.value) c.in_ok-ids.ensures)
     (subst (λ xs. IsDistinct nat_eq (ids xs)) (sym c.as_slice-sheets.ensures.value) c.self.invariant.0.ids_differ) c.requires.spares
-    (λ q e. subst (λ k. KeepsAllFound change (Some k)) (eqb-true c.args.id q e) c.requires.keeps))) c.prepare_dangling.ensures
+    (λ q e. subst (λ k. KeepsAllFound change (Some k)) (eqb-true c.args.id q e) c.requires.keeps))) c.prepare_own.ensures

@@ -1,8 +1,8 @@
 use Rattle.std.proofs.Common.{ap, get_or, option_map, refl, sym, Vec, Global, ℕ, ◌∙◌}
 use Rattle.ic_pool.specs.declared.pool.rewrites.Rewrites.{Rewrites}
 use Rattle.ic_sheets.proofs.MakesLemmas.{each_more, some_sheet}
-use Rattle.ic_sheets.proofs.sheets.rewriting.prepare_dangling.Goals as goal
-use Rattle.ic_sheets.proofs.sheets.rewriting.prepare_dangling.Goals.{in-Some+in_ok-rewrites+in_ok-push, in_default}
+use Rattle.ic_sheets.proofs.sheets.rewriting.prepare_own.Goals as goal
+use Rattle.ic_sheets.proofs.sheets.rewriting.prepare_own.Goals.{in-Some+in_ok-rewrites+in_ok-push, in_default}
 
 pub loop-id-preserved : goal.loop-id-preserved
 loop-id-preserved g c =
@@ -12,8 +12,8 @@ loop-id-preserved g c =
       | in-Some+in_ok-rewrites+in_ok-push w ↦
           each_more (g.C.BookChange.change c.args.change.now) c.loop-id.prepared.items id w.in_ok-rewrites.rewrites c.args.sheets.now w.in-Some.sheet.now
           (found ∙ ap (option_map (λ s. s.now)) w.in-Some.is)
-          w.in_ok-rewrites.ensures
+          (record { made = w.in_ok-rewrites.ensures.made; listed = w.in_ok-rewrites.ensures.listed; fits = w.in_ok-rewrites.ensures.fits })
           c.match-sheet_with.prepared.items c.args.ids.now c.loop-id.id-index c.loop-id.invariant c.loop-id-test.true refl
           (ap (λ (v : Vec (ℕ × Rewrites) Global). v.items) w.prepared-is ∙ w.in_ok-push.ensures.items)
-      | in_default w ↦ absurd (some_sheet c.args.whole c.args.ids.now c.loop-id.id-index id c.args.sheets.now c.requires.ids c.loop-id-test.true refl (found ∙ ap (option_map (λ s. s.now)) w.in_default.is))
+      | in_default w ↦ absurd (some_sheet c.args.ids.now c.loop-id.id-index id c.args.sheets.now c.requires.known c.loop-id-test.true refl (found ∙ ap (option_map (λ s. s.now)) w.in_default.is))
     ]

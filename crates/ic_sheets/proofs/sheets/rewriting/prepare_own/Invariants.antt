@@ -1,6 +1,6 @@
 use Rattle.std.proofs.Common.{take}
 use Rattle.ic_sheets.specs.Rewriting.{PreparesEach}
-use Rattle.ic_sheets.proofs.sheets.rewriting.prepare_dangling.Given as goal
+use Rattle.ic_sheets.proofs.sheets.rewriting.prepare_own.Given as goal
 
 -- the first so many ids have what was prepared for their sheets
 abbrev pub invariant-loop-id : goal.invariant-loop-id

@@ -1,0 +1,242 @@
+-- What a line comes to in a translation, and how lines follow one another.
+use Rattle.std.proofs.Common.{◌≡◌, ◌⊎◌, ◌≤◌, ◌<◌, ℕ, ◌+◌, ◌-◌, List, [], ◌∷◌, ◌++◌, Bool, true, false, ◌||◌, length, take, drop, get_or, Option, Some, None, IsSome, option_map, Ok, Err, inl, inr, refl, sym, ap, ap₂, subst, ◌∙◌, append_assoc, append-nil, arith, if◌then◌else◌, codes}
+use Rattle.std.specs.Prelude.{option_and_then}
+use Rattle.std.proofs.Math.Seq.{drop-length}
+use Rattle.std.proofs.lemmas.List.{drop_more}
+use Rattle.ic_laws.specs.declared.tree.Formula.{Formula}
+use Rattle.ic_machine.proofs.ReaderLemmas.{readers_leave}
+use Rattle.ic_machine.specs.Book.{Book, Stepped}
+use Rattle.ic_machine.specs.Command.{Command, OnSheets, command_in, served}
+use Rattle.ic_machine.specs.Readers.{LeavesIf, is_reader}
+use Rattle.ic_machine.specs.Reply.{Reply, reply_text}
+use Rattle.ic_machine.specs.Run.{after}
+use Rattle.ic_machine.specs.Step.{command_step, english_errors, machine, outcome_of, step}
+use Rattle.ic_machine.specs.Translation.{AreTranslated, AreTranslatedTexts, IsTranslation, StandsBefore, Why, first_hindered, first_of, in_notation, is_dropped, is_switch, kept_command, kept_in, left_after, left_by, line_of, own_formula, texts_of, why_line_not, why_not, with_last}
+use Rattle.ic_machine.specs.subjects.Sheets.{NewSheet, new_sheet_name}
+use Rattle.ic_book.specs.Book.{NotationState}
+use Rattle.ic_book.specs.Served.{served_line_step}
+use Rattle.ic_book.specs.Translated.{IsIn, IsToldWhere, IsWrittenIn, Owns, formula_owned, why_meant}
+use Rattle.ic_book.specs.declared.own_text.OwnText.{OwnText}
+use Rattle.ic_book.specs.declared.own_text.Why as code
+use Rattle.ic_run.specs.Counts.{begins_with_o}
+use Rattle.ic_run.specs.Make.{is_ok}
+use Rattle.ic_run.specs.Translate.{HasRunSome, IsKeptSo, IsTurn, StaysSo}
+use Rattle.ic_run.specs.declared.translate.Turn.{Turn}
+use Rattle.ic_run.specs.declared.translate.Turn.TheVariants as turns
+use Rattle.ic_run.proofs.RunLemmas.{next_taken}
+use Rattle.ic_run.proofs.TablesStay.{tables_stay}
+
+-- Replies. ----
+
+pub accepted_text : (r : Reply) → begins_with_o (reply_text r) ≡ is_ok r
+accepted_text (Ok fields) = refl
+accepted_text (Err refusal) = refl
+
+-- a step that is accepted, and one that isn't
+left_accepted : (book : Book) (made : Stepped Book) → true ≡ is_ok (outcome_of book made).1 → left_by made ≡ Some (outcome_of book made).0
+left_accepted book (Ok done) e = refl
+left_accepted book (Err refusal) e = cc
+
+left_refused : (book : Book) (made : Stepped Book) → false ≡ is_ok (outcome_of book made).1 → left_by made ≡ None
+left_refused book (Ok done) e = cc
+left_refused book (Err refusal) e = refl
+
+stays_refused : (book : Book) (made : Stepped Book) → left_by made ≡ None → book ≡ (outcome_of book made).0
+stays_refused book (Ok done) e = cc
+stays_refused book (Err refusal) e = refl
+
+-- A line with its command. ----
+
+module _ (old : Book) (line : List ℕ) (command : Command) (is : command_in (english_errors old) served line ≡ Some command) where
+  kept_is : kept_in old line ≡ kept_command old command
+  kept_is = ap (option_and_then (kept_command old)) is
+
+  left_is : left_after old line ≡ (outcome_of old (step old command)).0
+  left_is = ap (λ (o : Option Command). (command_step old o).0) is
+
+  told_is : (served_line_step old line).1 ≡ (outcome_of old (step old command)).1
+  told_is = ap (λ (o : Option Command). (command_step old o).1) is
+
+  dropped : is_dropped command ≡ true → kept_in old line ≡ None
+  dropped e = kept_is ∙ ap (λ (b : Bool). if b then None else option_map (λ (left : Book). (command, left)) (left_by (step old command))) e
+
+  refused : left_by (step old command) ≡ None → kept_in old line ≡ None
+  refused e = kept_is ∙ by_drop (is_dropped command)
+    where
+      by_drop : (b : Bool) → (if b then None else option_map (λ (left : Book). (command, left)) (left_by (step old command))) ≡ None
+      by_drop true = refl
+      by_drop false = ap (option_map (λ (left : Book). (command, left))) e
+
+  reads : (b : Bool) → is_reader command ≡ b → b ≡ true → LeavesIf b old (step old command) → old ≡ (outcome_of old (step old command)).0
+  reads true e yes h = leaves (step old command) h
+    where
+      leaves : (made : Stepped Book) → LeavesIf true old made → old ≡ (outcome_of old made).0
+      leaves (Ok done) h = sym h
+      leaves (Err refusal) h = refl
+  reads false e yes h = cc
+
+  -- a line that only asks, or is refused, without being run
+  pub goes_unrun : (locale language : List ℕ) → (is_reader command ≡ true) ⊎ (left_by (step old command) ≡ None) → IsTurn locale language old line old turns.Goes
+  goes_unrun locale language (inl read) = (dropped (ap (λ (b : Bool). b || is_switch command) read), reads (is_reader command) refl read (readers_leave old command) ∙ sym left_is)
+  goes_unrun locale language (inr none) = (refused none, stays_refused old (step old command) none ∙ sym left_is)
+
+  -- one that chooses the notation
+  pub goes_switched : (locale language : List ℕ) (new : Book) → is_switch command ≡ true → new ≡ left_after old line → IsTurn locale language old line new turns.Goes
+  goes_switched locale language new e left = (dropped (ap (λ (b : Bool). is_reader command || b) e ∙ either (is_reader command)), left)
+    where
+      either : (b : Bool) → (b || true) ≡ true
+      either true = refl
+      either false = refl
+
+  -- one that was run and refused
+  pub goes_refused : (locale language : List ℕ) (new : Book) → false ≡ is_ok (served_line_step old line).1 → new ≡ left_after old line → IsTurn locale language old line new turns.Goes
+  goes_refused locale language new e left = (refused (left_refused old (step old command) (e ∙ ap is_ok told_is)), left)
+
+  -- one that was run and accepted, and doesn't go
+  module _ (stays : is_dropped command ≡ false) (new : Book) (e : true ≡ is_ok (served_line_step old line).1) (left : new ≡ left_after old line) where
+    kept_there : kept_in old line ≡ Some (command, left_after old line)
+    kept_there =
+        kept_is ∙ ap (λ (b : Bool). if b then None else option_map (λ (left : Book). (command, left)) (left_by (step old command))) stays
+        ∙ ap (option_map (λ (left : Book). (command, left))) (left_accepted old (step old command) (e ∙ ap is_ok told_is))
+        ∙ ap (λ (b : Book). let o : Option (Command × Book) = Some (command, b) in o) (sym left_is)
+
+    why_is : (locale language : List ℕ) → why_line_not locale language old line ≡ option_and_then (why_not (in_notation locale language old)) (own_formula old command)
+    why_is locale language = ap (option_and_then (λ (kept : Command × Book). option_and_then (why_not (in_notation locale language old)) (own_formula old kept.0))) kept_there
+
+    pub becomes_so : (locale language : List ℕ) → option_and_then (why_not (in_notation locale language old)) (own_formula old command) ≡ None → (texts : List (List ℕ)) → AreTranslatedTexts old (in_notation locale language new) command (texts_of line) texts
+        → (text : List ℕ) → text ≡ line_of texts → IsTurn locale language old line new (turns.Becomes text)
+    becomes_so locale language can texts are text same = (
+      record {
+        kept = (command, left_after old line);
+        is = kept_there;
+        can = why_is locale language ∙ can;
+        becomes = (texts, (subst (λ (b : Book). AreTranslatedTexts old (in_notation locale language b) command (texts_of line) texts) left are, same));
+      },
+      left,
+    )
+
+    -- it keeps its texts
+    pub becomes_same : (locale language : List ℕ) → StaysSo old command → (text : List ℕ) → text ≡ line_of (texts_of line) → IsTurn locale language old line new (turns.Becomes text)
+    becomes_same locale language so text same =
+        becomes_so locale language (ap (option_and_then (why_not (in_notation locale language old))) so.plain) (texts_of line) (so.texts (in_notation locale language new) (texts_of line)) text same
+
+  -- its own text can't be written: it would be accepted
+  pub cannot_so : (target : NotationState) (own : OwnText) → is_dropped command ≡ false → IsToldWhere target old command (Some own) → IsIn target (in_notation target.locale target.language old)
+      → (o : Option code.Why) (why : code.Why) → option_map why_meant o ≡ option_and_then (why_not (in_notation target.locale target.language old)) (formula_owned own) → o ≡ Some why
+      → IsTurn target.locale target.language old line old (turns.Cannot why)
+  cannot_so target own stays told here o why tells some = (accepted (step old command) refl, refl)
+    where
+      its : option_and_then (why_not (in_notation target.locale target.language old)) (formula_owned own) ≡ Some (why_meant why)
+      its = sym tells ∙ ap (option_map why_meant) some
+
+      it_is : IsSome (option_and_then (why_not (in_notation target.locale target.language old)) (formula_owned own))
+      it_is = subst IsSome (sym its) tt
+
+      done : IsSome (left_by (step old command))
+      done = told.1 (in_notation target.locale target.language old) here it_is
+
+      why_there : (left : Book) → left_by (step old command) ≡ Some left → why_line_not target.locale target.language old line ≡ Some (why_meant why)
+      why_there left e =
+          ap (option_and_then (λ (kept : Command × Book). option_and_then (why_not (in_notation target.locale target.language old)) (own_formula old kept.0)))
+          (kept_is ∙ ap (λ (b : Bool). if b then None else option_map (λ (left : Book). (command, left)) (left_by (step old command))) stays ∙ ap (option_map (λ (left : Book). (command, left))) e)
+          ∙ ap (option_and_then (why_not (in_notation target.locale target.language old))) told.0.formula ∙ its
+
+      accepted : (made : Stepped Book) → step old command ≡ made → why_line_not target.locale target.language old line ≡ Some (why_meant why)
+      accepted (Ok done) e = why_there done.0 (ap left_by e)
+      accepted (Err refusal) e = absurd (subst IsSome (ap left_by e) done)
+
+-- what is no command goes
+pub goes_bad : (locale language : List ℕ) (old : Book) (line : List ℕ) → command_in (english_errors old) served line ≡ None → IsTurn locale language old line old turns.Goes
+goes_bad locale language old line e = (ap (option_and_then (kept_command old)) e, sym (ap (λ (o : Option Command). (command_step old o).0) e))
+
+-- Lines one after another. ----
+
+after_more : (start : Book) (lines : List (List ℕ)) (line : List ℕ) → after (machine served) start (lines ++ line ∷ []) ≡ left_after (after (machine served) start lines) line
+after_more start [] line = refl
+after_more start (first ∷ lines) line = after_more (machine served start first).0 lines line
+
+module _ (locale language : List ℕ) where
+  -- So many of the first lines ran: the book that they left, and what they became.
+  pub record IsSoFar (start : Book) (lines : List (List ℕ)) (count : ℕ) (book : Book) (made : List (List ℕ)) : Type 0 where
+    pub hindered : first_hindered locale language 1 start lines ≡ first_hindered locale language (count + 1) book (drop count lines)
+    pub left : book ≡ after (machine served) start (take count lines)
+    pub becomes : (rest : List (List ℕ)) → AreTranslated locale language book (drop count lines) rest → AreTranslated locale language start lines (made ++ rest)
+    pub tables : book.tables ≡ start.tables
+
+  pub none_yet : (start : Book) (lines : List (List ℕ)) → IsSoFar start lines 0 start []
+  none_yet start lines = record { hindered = refl; left = refl; becomes = λ rest h. h; tables = refl }
+
+  module _ (start : Book) (lines : List (List ℕ)) (count : ℕ) (book : Book) (made : List (List ℕ)) (so_far : IsSoFar start lines count book made) (line : List ℕ) (next : drop count lines ≡ line ∷ drop (count + 1) lines) where
+    abbrev more : List (List ℕ)
+    more = drop (count + 1) lines
+
+    taken : take (count + 1) lines ≡ take count lines ++ line ∷ []
+    taken = next_taken lines count line more next
+
+    pub left_so : left_after book line ≡ after (machine served) start (take (count + 1) lines)
+    left_so = ap (λ (b : Book). left_after b line) so_far.left ∙ sym (after_more start (take count lines) line) ∙ ap (after (machine served) start) (sym taken)
+
+    hindered_so : (new : Book) → why_line_not locale language book line ≡ None → new ≡ left_after book line → first_hindered locale language 1 start lines ≡ first_hindered locale language (count + 1 + 1) new more
+    hindered_so new can left =
+        so_far.hindered ∙ ap (first_hindered locale language (count + 1) book) next
+        ∙ ap (λ (o : Option Why). first_of (count + 1) o (first_hindered locale language (count + 1 + 1) (left_after book line) more)) can
+        ∙ ap (λ (b : Book). first_hindered locale language (count + 1 + 1) b more) (sym left)
+
+    tables_so : (new : Book) → new ≡ left_after book line → new.tables ≡ start.tables
+    tables_so new left = ap (λ (b : Book). b.tables) left ∙ tables_stay book line ∙ so_far.tables
+
+    pub goes_next : (new : Book) → IsTurn locale language book line new turns.Goes → IsSoFar start lines (count + 1) new made
+    goes_next new turn = record {
+      hindered = hindered_so new (ap (option_and_then (λ (kept : Command × Book). option_and_then (why_not (in_notation locale language book)) (own_formula book kept.0))) turn.0) turn.1;
+      left = turn.1 ∙ left_so;
+      becomes = λ rest h.
+          so_far.becomes rest
+          (subst (λ (ls : List (List ℕ)). AreTranslated locale language book ls rest) (sym next)
+          (subst (λ (o : Option (Command × Book)). StandsBefore locale language book line o (AreTranslated locale language (left_after book line) more) rest) (sym turn.0)
+          (subst (λ (b : Book). AreTranslated locale language b more rest) turn.1 h)));
+      tables = tables_so new turn.1;
+    }
+
+    pub becomes_next : (new : Book) (text : List ℕ) → IsTurn locale language book line new (turns.Becomes text) → IsSoFar start lines (count + 1) new (made ++ text ∷ [])
+    becomes_next new text turn = record {
+      hindered = hindered_so new turn.0.can turn.1;
+      left = turn.1 ∙ left_so;
+      becomes = λ rest h.
+          subst (AreTranslated locale language start lines) (sym (append_assoc made (text ∷ []) rest))
+          (so_far.becomes (text ∷ rest)
+          (subst (λ (ls : List (List ℕ)). AreTranslated locale language book ls (text ∷ rest)) (sym next)
+          (subst (λ (o : Option (Command × Book)). StandsBefore locale language book line o (AreTranslated locale language (left_after book line) more) (text ∷ rest)) (sym turn.0.is)
+          (turn.0.becomes, subst (λ (b : Book). AreTranslated locale language b more rest) turn.1 h))));
+      tables = tables_so new turn.1;
+    }
+
+    pub cannot_here : (new : Book) (why : code.Why) → IsTurn locale language book line new (turns.Cannot why) → IsTranslation locale language start lines (Err (count + 1, why_meant why)) new
+    cannot_here new why turn =
+        let less : count + 1 - 1 ≡ count = omega arith in (
+          so_far.hindered ∙ ap (first_hindered locale language (count + 1) book) next
+              ∙ ap (λ (o : Option Why). first_of (count + 1) o (first_hindered locale language (count + 1 + 1) (left_after book line) more)) turn.0,
+          turn.1 ∙ so_far.left ∙ ap (λ (n : ℕ). after (machine served) start (take n lines)) (sym less),
+        )
+
+    -- memory ran out in this line
+    pub memory_here : count < length lines → (new : Book) → (new ≡ book) ⊎ (new ≡ left_after book line) → HasRunSome start lines new
+    memory_here h new (inl same) = record { count = count; within = omega (arith, h); left = same ∙ so_far.left }
+    memory_here h new (inr left) = record { count = count + 1; within = omega (arith, h); left = left ∙ left_so }
+
+  -- all lines ran
+  pub all_done : (start : Book) (lines : List (List ℕ)) (count : ℕ) (book : Book) (made : List (List ℕ)) → IsSoFar start lines count book made → count ≡ length lines → IsTranslation locale language start lines (Ok made) book
+  all_done start lines count book made so_far e =
+      let none : drop count lines ≡ [] = ap (λ (n : ℕ). drop n lines) e ∙ drop-length lines in (
+        so_far.hindered ∙ ap (first_hindered locale language (count + 1) book) none,
+        (
+          subst (AreTranslated locale language start lines) (append-nil made) (so_far.becomes [] (subst (λ (ls : List (List ℕ)). AreTranslated locale language book ls []) (sym none) refl)),
+          so_far.left ∙ ap (after (machine served) start) (ap (λ (n : ℕ). take n lines) e ∙ whole lines),
+        ),
+      )
+    where
+      whole : (xs : List (List ℕ)) → take (length xs) xs ≡ xs
+      whole [] = refl
+      whole (x ∷ xs) = ap (λ (ys : List (List ℕ)). x ∷ ys) (whole xs)
+
+  pub some_done : (start : Book) (lines : List (List ℕ)) (count : ℕ) (book : Book) (made : List (List ℕ)) → IsSoFar start lines count book made → count ≤ length lines → HasRunSome start lines book
+  some_done start lines count book made so_far h = record { count = count; within = h; left = so_far.left }

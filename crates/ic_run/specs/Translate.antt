@@ -1,0 +1,115 @@
+-- Command lines in another notation: what a translation answers and leaves, and what `desk` writes of it.
+use Rattle.std.specs.Prelude.{◌≡◌, ◌⊎◌, ◌≤◌, ℕ, List, [], ◌∷◌, ◌++◌, Bool, false, true, Option, Some, None, Result, Ok, Err, String, chars, codes, bytes_eq, flat_map, length, map, option_map, string_bytes, take, encode_utf8_all, if◌then◌else◌}
+use Rattle.std.specs.Fmt.{decimal}
+use Rattle.std.specs.declared.alloc.Global.{Global}
+use Rattle.std.specs.Global.{Vec}
+use Rattle.ic_laws.specs.Character.{line_feed, tab}
+use Rattle.ic_laws.specs.Lines.{escaped}
+use Rattle.ic_laws.specs.Refusal.{InvalidLanguage, InvalidLocale, Refusal}
+use Rattle.ic_tables.specs.Tables.{TableSet}
+use Rattle.ic_machine.specs.Book.{Book}
+use Rattle.ic_machine.specs.Command.{Command, OnSheets, served}
+use Rattle.ic_machine.specs.Readers.{is_reader}
+use Rattle.ic_machine.specs.Run.{after}
+use Rattle.ic_machine.specs.Step.{machine, step}
+use Rattle.ic_machine.specs.Translation as translation
+use Rattle.ic_machine.specs.Translation.{AreTranslatedTexts, IsKeptLine, IsTranslation, is_dropped, is_switch, kept_in, left_after, left_by, own_formula, why_line_not, with_last}
+use Rattle.ic_machine.specs.subjects.Sheets.{NewSheet, new_sheet_name}
+use Rattle.ic_book.specs.Book.{NotationState}
+use Rattle.ic_book.specs.Translated.{IsToldWhere, notation_refusal, why_meant}
+use Rattle.ic_run.specs.declared.plan.Plan.{Plan}
+use Rattle.ic_run.specs.declared.plan.Plan.TheVariants as plans
+use Rattle.ic_run.specs.declared.translate.TranslateError.{TranslateError}
+use Rattle.ic_run.specs.declared.translate.TranslateError.TheVariants as errors
+use Rattle.ic_run.specs.declared.translate.Turn.{Turn}
+use Rattle.ic_run.specs.declared.translate.Turn.TheVariants as turns
+
+-- A command's line becomes one with the same texts: it doesn't go, has no formula of its own, and nothing in it is written
+-- anew.
+pub record StaysSo (book : Book) (command : Command) : Type 0 where
+  pub kept : is_dropped command ≡ false
+  pub plain : own_formula book command ≡ None
+  pub texts : (target : Book) (texts : List (List ℕ)) → AreTranslatedTexts book target command texts texts
+
+-- what is planned for a command where the target has this notation: to let it go, since it only asks or is refused; to run it
+-- alone; to run it and keep its texts; to add a sheet of a name in its place; to write its own text anew
+abbrev pub IsPlan : NotationState → Book → Command → Plan → Type 0
+IsPlan target book command plans.Goes = (is_reader command ≡ true) ⊎ (left_by (step book command) ≡ None)
+IsPlan target book command plans.Runs = is_switch command ≡ true
+IsPlan target book command plans.Stays = StaysSo book command
+IsPlan target book command (plans.AddsSheet name) = (command ≡ OnSheets NewSheet) × (chars (string_bytes name) ≡ new_sheet_name book)
+IsPlan target book command (plans.Writes own) = (is_dropped command ≡ false) × IsToldWhere target book command (Some own)
+
+module _ (locale language : List ℕ) where
+  -- a line is kept, can be written, and becomes this text
+  pub record IsKeptSo (old : Book) (line text : List ℕ) : Type 0 where
+    pub kept : Command × Book
+    pub is : kept_in old line ≡ Some kept
+    pub can : why_line_not locale language old line ≡ None
+    pub becomes : IsKeptLine locale language old line kept text
+
+  -- what a line came to in a book, and what is left then
+  abbrev pub IsTurn : Book → List ℕ → Book → Turn → Type 0
+  IsTurn old line new turns.Goes = (kept_in old line ≡ None) × (new ≡ left_after old line)
+  IsTurn old line new (turns.Becomes text) = IsKeptSo old line text × (new ≡ left_after old line)
+  IsTurn old line new (turns.Cannot why) = (why_line_not locale language old line ≡ Some (why_meant why)) × (new ≡ old)
+
+  -- some of the first lines ran
+  pub record HasRunSome (old : Book) (lines : List (List ℕ)) (new : Book) : Type 0 where
+    pub count : ℕ
+    pub within : count ≤ length lines
+    pub left : new ≡ after (machine served) old (take count lines)
+
+  -- What a translation answered of lines, and what is left of the book: after Ok and `Cannot` what is said of all lines; where
+  -- the locale or the language is unknown, the book as it was; where memory ran out, what some of the first lines leave.
+  abbrev pub HasTranslated : Book → List (List ℕ) → Result (Vec (List ℕ)) TranslateError → Book → Type 0
+  HasTranslated old lines (Ok new) left = IsTranslation locale language old lines (Ok new.items) left
+  HasTranslated old lines (Err (errors.Cannot line why)) left = IsTranslation locale language old lines (Err (line, why_meant why)) left
+  HasTranslated old lines (Err errors.OutOfMemory) left = HasRunSome old lines left
+  HasTranslated old lines (Err e) left = left ≡ old
+
+-- what of the notation is told to be unknown
+abbrev pub unknown_told : {T : Type 0} → Result T TranslateError → Option Refusal
+unknown_told (Err errors.InvalidLocale) = Some InvalidLocale
+unknown_told (Err errors.InvalidLanguage) = Some InvalidLanguage
+unknown_told result = None
+
+-- The words of the program, and what is written. ----
+
+-- a locale and a language, by their ids
+pub record Target : Type 0 where
+  pub locale : List ℕ
+  pub language : List ℕ
+
+-- what follows the word translate: a locale and a language
+abbrev pub target_of : List (List ℕ) → Option Target
+target_of (name ∷ locale ∷ language ∷ []) = if bytes_eq name (codes "translate") then Some (record { locale = locale; language = language }) else None
+target_of words = None
+
+-- what of them the tables lack
+abbrev pub target_refusal : Target → TableSet → Option Refusal
+target_refusal target tables = notation_refusal target.locale target.language tables
+
+-- a line with its line feed, in bytes
+abbrev pub line_bytes : List ℕ → List ℕ
+line_bytes line = encode_utf8_all line ++ line_feed ∷ []
+
+-- the lines that choose the notation
+abbrev pub switches : Target → List (List ℕ)
+switches target = (codes "set_locale\t" ++ escaped target.locale) ∷ (codes "set_language\t" ++ escaped target.language) ∷ []
+
+-- the name of a reason
+abbrev pub why_name : translation.Why → List ℕ
+why_name translation.Raw = codes "Raw"
+why_name translation.Clash = codes "Clash"
+
+-- what is written of a translation: the lines that choose the notation, and those that the lines become; or which line can't be
+-- translated, and why
+abbrev pub told_translation : Target → Result (List (List ℕ)) (ℕ × translation.Why) → List ℕ
+told_translation target (Ok lines) = flat_map line_bytes (switches target ++ lines)
+told_translation target (Err cannot) = codes "cannot\t" ++ (decimal cannot.0 ++ (tab ∷ (why_name cannot.1 ++ line_feed ∷ [])))
+
+-- the status for that
+abbrev pub translation_status : {T E : Type 0} → Result T E → ℕ
+translation_status (Ok lines) = 0
+translation_status (Err cannot) = 7
