@@ -96,7 +96,7 @@ pub fn answer_line(alloc: Global, model: &mut Model<'_>, line: &Line) -> Result<
 }
 
 /// The language `en` of the book's tables, by whose words error values are said.
-fn english_of<'a>(model: &Model<'a>) -> &'a Language
+pub fn english_of<'a>(model: &Model<'a>) -> &'a Language
     ensures { error_words result.now ≡ english_errors (whole_of model.now.book) }
 {
     model.tables().get_default_language()

@@ -7,4 +7,4 @@
 mod answer;
 mod told;
 
-pub use answer::{answer_line, reply_to};
+pub use answer::{answer_line, english_of, reply_to};

@@ -3,5 +3,8 @@ pub mod DeskLemmas
 pub mod MadeLemmas
 pub mod MakeLemmas
 pub mod ProgressLemmas
+pub mod RetoldLemmas
 pub mod RunLemmas
 pub mod ServedLemmas
+pub mod TablesStay
+pub mod TurnLemmas

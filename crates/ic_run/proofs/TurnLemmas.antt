@@ -21,8 +21,8 @@ use Rattle.ic_book.specs.declared.own_text.Why as code
 use Rattle.ic_run.specs.Counts.{begins_with_o}
 use Rattle.ic_run.specs.Make.{is_ok}
 use Rattle.ic_run.specs.Translate.{HasRunSome, IsKeptSo, IsTurn, StaysSo}
-use Rattle.ic_run.specs.declared.translate.Turn.{Turn}
-use Rattle.ic_run.specs.declared.translate.Turn.TheVariants as turns
+use Rattle.ic_run.specs.declared.translating.Turn.{Turn}
+use Rattle.ic_run.specs.declared.translating.Turn.TheVariants as turns
 use Rattle.ic_run.proofs.RunLemmas.{next_taken}
 use Rattle.ic_run.proofs.TablesStay.{tables_stay}
 

@@ -19,10 +19,10 @@ use Rattle.ic_book.specs.Book.{NotationState}
 use Rattle.ic_book.specs.Translated.{IsToldWhere, notation_refusal, why_meant}
 use Rattle.ic_run.specs.declared.plan.Plan.{Plan}
 use Rattle.ic_run.specs.declared.plan.Plan.TheVariants as plans
-use Rattle.ic_run.specs.declared.translate.TranslateError.{TranslateError}
-use Rattle.ic_run.specs.declared.translate.TranslateError.TheVariants as errors
-use Rattle.ic_run.specs.declared.translate.Turn.{Turn}
-use Rattle.ic_run.specs.declared.translate.Turn.TheVariants as turns
+use Rattle.ic_run.specs.declared.translating.TranslateError.{TranslateError}
+use Rattle.ic_run.specs.declared.translating.TranslateError.TheVariants as errors
+use Rattle.ic_run.specs.declared.translating.Turn.{Turn}
+use Rattle.ic_run.specs.declared.translating.Turn.TheVariants as turns
 
 -- A command's line becomes one with the same texts: it doesn't go, has no formula of its own, and nothing in it is written
 -- anew.

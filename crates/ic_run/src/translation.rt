@@ -1,7 +1,7 @@
 //! What the words `translate LOCALE LANGUAGE` do: the lines of the source are translated, and what they become is written.
 
 use crate::start::{english_start, first_book};
-use crate::translate::{TranslateError, translate};
+use crate::translating::{TranslateError, translate};
 use ic_book::{Model, Why};
 use ic_laws::OutOfMemory;
 use ic_laws::scan::{push_char, push_text, same_text};

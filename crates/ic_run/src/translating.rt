@@ -1,10 +1,9 @@
 //! Command lines in another notation, so that they leave the same book.
-ghost use Rattle.std.specs.Prelude.{◌≡◌, ◌⊎◌, ◌×◌, IfOk, IsSome, None, OnErr, OnOk, Some, chars, false};
+ghost use Rattle.std.specs.Prelude.{◌≡◌, ◌⊎◌, IfOk, IsSome, None, OnErr, OnOk, Some, chars, false};
 ghost use Rattle.ic_machine.specs.Command.{Command, OnSheets, command_in, served};
 ghost use Rattle.ic_machine.specs.Step.{english_errors};
 ghost use Rattle.ic_machine.specs.Translation.{is_dropped, is_switch, left_after};
 ghost use Rattle.ic_machine.specs.subjects.Sheets.{NewSheet, new_sheet_name};
-ghost use Rattle.ic_tables.specs.Words.{error_words};
 ghost use Rattle.ic_book.specs.Served.{served_line_step};
 ghost use Rattle.ic_book.specs.Translated.{IsToldWhere, notation_refusal};
 ghost use Rattle.ic_book.specs.Whole.{whole_of};
@@ -16,7 +15,7 @@ use crate::counts::is_ok;
 use crate::plan::{Plan, plan_of};
 use crate::retold::{line_with_last, new_sheet_line, same_line};
 use ic_book::{BookError, Model, Notation, OwnText, Why};
-use ic_commands::answer_line;
+use ic_commands::{answer_line, english_of};
 use ic_laws::OutOfMemory;
 use ic_lines::Line;
 use ic_words::command_in;
@@ -42,7 +41,7 @@ pub enum TranslateError {
 
 impl From<OutOfMemory> for TranslateError {
     ghost use Rattle.std.specs.Prelude.{◌≡◌};
-    ghost use Rattle.ic_run.specs.declared.translate.TranslateError.TheVariants as errors;
+    ghost use Rattle.ic_run.specs.declared.translating.TranslateError.TheVariants as errors;
 
     ghost from_gives = { λ _ e. e ≡ errors.OutOfMemory };
 
@@ -53,7 +52,7 @@ impl From<OutOfMemory> for TranslateError {
 
 impl From<AllocFailed<Line>> for TranslateError {
     ghost use Rattle.std.specs.Prelude.{◌≡◌};
-    ghost use Rattle.ic_run.specs.declared.translate.TranslateError.TheVariants as errors;
+    ghost use Rattle.ic_run.specs.declared.translating.TranslateError.TheVariants as errors;
 
     ghost from_gives = { λ _ e. e ≡ errors.OutOfMemory };
 
@@ -143,7 +142,7 @@ fn translate_line(
     ensures err { OnErr result ((whole_of model.new.book ≡ whole_of model.old.book)
         ⊎ (whole_of model.new.book ≡ left_after (whole_of model.old.book) line.now)) }
 {
-    let english = model.tables().get_default_language();
+    let english = english_of(model);
     let Some(command) = command_in(alloc, english, line.text().as_str())? else {
         return Ok(Turn::Goes);
     };
