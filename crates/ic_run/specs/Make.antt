@@ -108,19 +108,6 @@ making_of words = None
 abbrev pub made_setting : Setting
 made_setting = record { locale = codes "en"; language = codes "en"; zone = codes "UTC" }
 
--- the one of a making, if there is one
-abbrev pub setting_made_in : Option Making → Option Setting
-setting_made_in making = option_map (λ making. made_setting) making
-
--- the first of two settings that is there
-abbrev pub setting_or : Option Setting → Option Setting → Option Setting
-setting_or (Some setting) other = Some setting
-setting_or None other = other
-
--- the setting that the program begins with, by its words
-abbrev pub first_setting : List (List ℕ) → Option Setting
-first_setting words = setting_or (setting_of words) (setting_made_in (making_of words))
-
 -- What is told. ----
 
 -- the replies of the machine that is served to lines, from a book on
