@@ -1,5 +1,5 @@
 -- Lines written anew have no line feed; the texts of their words.
-use Rattle.std.proofs.Common.{◌≡◌, ◌<◌, ℕ, ◌+◌, ◌-◌, ◌==◌, List, [], ◌∷◌, ◌++◌, true, false, flat_map, length, take, drop, Option, Some, None, option_map, inl, inr, refl, sym, ap, subst, ◌∙◌, append_assoc, append-nil, arith}
+use Rattle.std.proofs.Common.{◌≡◌, ◌<◌, ℕ, suc, ◌+◌, ◌-◌, ◌==◌, List, [], ◌∷◌, ◌++◌, true, false, flat_map, length, take, drop, Option, Some, None, option_map, inl, inr, refl, sym, ap, subst, ◌∙◌, append_assoc, append-nil, arith}
 use Rattle.std.specs.Prelude.{option_and_then, unwrap_or}
 use Rattle.std.proofs.lemmas.Bool.Decides.{eqb_tells}
 use Rattle.ic_laws.specs.Character.{tab}
@@ -49,7 +49,10 @@ pub last_put : (xs : List (List ℕ)) (t : List ℕ) → 0 < length xs → with_
 last_put [] t h = absurd (omega (arith, h))
 last_put (x ∷ []) t h = refl
 last_put (x ∷ y ∷ xs) t h =
-    ap (λ (rest : List (List ℕ)). x ∷ rest) (last_put (y ∷ xs) t (omega arith))
+    let less : length (y ∷ xs) - 1 ≡ length xs = omega arith in
+    let more : length (x ∷ y ∷ xs) - 1 ≡ suc (length xs) = omega arith in
+    ap (λ (rest : List (List ℕ)). x ∷ rest) (last_put (y ∷ xs) t (omega arith) ∙ ap (λ (n : ℕ). take n (y ∷ xs) ++ t ∷ []) less)
+    ∙ sym (ap (λ (n : ℕ). take n (x ∷ y ∷ xs) ++ t ∷ []) more)
 
 -- The texts of words, one after another. ----
 

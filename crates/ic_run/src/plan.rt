@@ -1,7 +1,8 @@
 //! What a translation has to do with a command.
 ghost use Rattle.std.specs.Prelude.{◌≡◌, IfOk, false};
 ghost use Rattle.ic_machine.specs.Book as machine;
-ghost use Rattle.ic_machine.specs.Command.{Command, OnArrays, OnDefinitions, OnLayout, OnNotation, OnSheets, OnStyles, OnTabs, OnWriting};
+ghost use Rattle.ic_machine.specs.Command as commands;
+ghost use Rattle.ic_machine.specs.Command.{OnArrays, OnDefinitions, OnLayout, OnNotation, OnSheets, OnStyles, OnTabs, OnWriting};
 ghost use Rattle.ic_machine.specs.Translation.{is_dropped};
 ghost use Rattle.ic_words.specs.Command.{command_meant};
 ghost use Rattle.ic_words.specs.subjects.Arrays.{arrays_meant};
@@ -244,7 +245,7 @@ fn arrays_plan(model: &Model<'_>, command: &Arrays<'_>) -> Result<Plan, OutOfMem
 
 /// What is to be done with a command that writes this; one that is refused where there is none.
 fn written(own: Option<OwnText>) -> Plan
-    ensures { (target : NotationState) (book : machine.Book) (command : Command)
+    ensures { (target : NotationState) (book : machine.Book) (command : commands.Command)
         → is_dropped command ≡ false → IsToldWhere target book command own
         → IsPlan target book command result }
 {

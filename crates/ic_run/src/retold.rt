@@ -1,7 +1,7 @@
 //! Lines written anew.
-ghost use Rattle.std.specs.Prelude.{◌≡◌, ◌∷◌, ◌++◌, [], IfOk, OnOk, chars, codes, false, flat_map, string_bytes};
+ghost use Rattle.std.specs.Prelude.{List, ℕ, ◌≡◌, ◌∷◌, ◌++◌, [], IfOk, OnOk, chars, codes, false, flat_map, map, string_bytes};
 ghost use Rattle.ic_laws.specs.Character.{tab};
-ghost use Rattle.ic_laws.specs.Lines.{escaped};
+ghost use Rattle.ic_laws.specs.Lines.{escaped, words_of};
 ghost use Rattle.ic_lines.specs.Reading.{has_line_feed};
 ghost use Rattle.ic_machine.specs.Translation.{line_of, texts_of, with_last};
 
@@ -43,8 +43,16 @@ fn texts_in(alloc: Global, line: &str) -> Result<Vec<Text>, OutOfMemory>
     ensures { IfOk result (λ texts. texts.items ≡ texts_of (chars line.now)) }
 {
     let words = words_of(alloc, line)?;
+    texts_of_words(alloc, &words)
+}
+
+/// The texts that words spell; none where one of them has a wrong escape.
+fn texts_of_words(alloc: Global, words: &[&str]) -> Result<Vec<Text>, OutOfMemory>
+    ensures { (line : List ℕ) → map (λ w. chars w.now) words.now ≡ words_of line → IfOk result
+        (λ texts. texts.items ≡ texts_of line) }
+{
     let mut texts = Vec::new(alloc);
-    for word in &words {
+    for word in words {
         match unescape(alloc, word)? {
             Some(text) => texts.push(text)?,
             None => return Ok(Vec::new(alloc)),

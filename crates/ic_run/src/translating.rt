@@ -1,5 +1,6 @@
 //! Command lines in another notation, so that they leave the same book.
-ghost use Rattle.std.specs.Prelude.{◌≡◌, ◌⊎◌, IfOk, IsSome, None, OnErr, OnOk, Some, chars, false};
+ghost use Rattle.std.specs.Prelude.{List, ℕ, true, Err, IfErr, ◌≡◌, ◌⊎◌, IfOk, IsSome, None, OnErr, OnOk, Some, chars, false};
+ghost use Rattle.ic_machine.specs.Book as machine;
 ghost use Rattle.ic_machine.specs.Command.{Command, OnSheets, command_in, served};
 ghost use Rattle.ic_machine.specs.Step.{english_errors};
 ghost use Rattle.ic_machine.specs.Translation.{is_dropped, is_switch, left_after};
@@ -109,6 +110,8 @@ fn target_named<'a>(
     }) }
     ensures unknown { unknown_told result ≡ notation_refusal (chars locale_id.now)
         (chars language_id.now) model.now.book.tables }
+    ensures err { IfErr result (λ e. (locale language : List ℕ) (book : machine.Book)
+        (lines : List (List ℕ)) → HasTranslated locale language book lines (Err e) book) }
 {
     match model.notation_named(locale_id, language_id) {
         Ok(target) => Ok(target),
