@@ -7,4 +7,5 @@ pub mod RetoldLemmas
 pub mod RunLemmas
 pub mod ServedLemmas
 pub mod TablesStay
+pub mod TranslationLemmas
 pub mod TurnLemmas
