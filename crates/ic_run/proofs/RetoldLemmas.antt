@@ -54,6 +54,11 @@ last_put (x ∷ y ∷ xs) t h =
     ap (λ (rest : List (List ℕ)). x ∷ rest) (last_put (y ∷ xs) t (omega arith) ∙ ap (λ (n : ℕ). take n (y ∷ xs) ++ t ∷ []) less)
     ∙ sym (ap (λ (n : ℕ). take n (x ∷ y ∷ xs) ++ t ∷ []) more)
 
+-- where there is none nothing is put
+pub none_put : (xs : List (List ℕ)) (t : List ℕ) → length xs ≡ 0 → xs ≡ with_last t xs
+none_put [] t h = refl
+none_put (x ∷ xs) t h = absurd (omega (arith, h))
+
 -- The texts of words, one after another. ----
 
 -- the texts so far, before those of the words that are left

@@ -62,12 +62,15 @@ fn texts_of_words(alloc: Global, words: &[&str]) -> Result<Vec<Text>, OutOfMemor
 }
 
 /// Puts another text in the place of the last, where there is one.
+#[tactic(auto, using(crate::proofs::RetoldLemmas::last_put, crate::proofs::RetoldLemmas::none_put))]
 fn put_last(texts: &mut Vec<Text>, last: Text) -> Result<(), OutOfMemory>
     ensures { OnOk result (texts.new.items ≡ with_last last texts.old.items) }
 {
-    if texts.pop().is_none() {
+    let count = texts.len();
+    if count == 0 {
         return Ok(());
     }
+    texts.truncate(count - 1);
     texts.push(last)?;
     Ok(())
 }
@@ -76,12 +79,21 @@ fn put_last(texts: &mut Vec<Text>, last: Text) -> Result<(), OutOfMemory>
 fn line_from(alloc: Global, texts: &[Text]) -> Result<Line, OutOfMemory>
     ensures { IfOk result (λ line. line ≡ line_of texts.now) }
 {
-    let mut text = String::new(alloc);
-    if let Some((first, others)) = texts.split_first() {
-        push_escaped(&mut text, first.as_str())?;
-        push_others(&mut text, others)?;
-    }
+    let text = joined(alloc, texts)?;
     Ok(whole(text))
+}
+
+/// Its text.
+fn joined(alloc: Global, texts: &[Text]) -> Result<String, OutOfMemory>
+    ensures { IfOk result (λ text. chars (string_bytes text) ≡ line_of texts.now) }
+{
+    let mut text = String::new(alloc);
+    let Some((first, others)) = texts.split_first() else {
+        return Ok(text);
+    };
+    push_escaped(&mut text, first.as_str())?;
+    push_others(&mut text, others)?;
+    Ok(text)
 }
 
 /// Appends the words that spell these texts, each after a tab.
