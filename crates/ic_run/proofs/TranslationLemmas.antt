@@ -5,7 +5,15 @@ use Rattle.std.specs.declared.alloc.Global.{Global}
 use Rattle.ic_laws.specs.Lines.{escaped}
 use Rattle.ic_run.specs.Desk.{Setting, setting_of, texts}
 use Rattle.ic_run.specs.Make.{making_of, making_said}
-use Rattle.ic_run.specs.Translate.{Target, ended_line, switches, target_of}
+use Rattle.ic_book.specs.Book.{Book}
+use Rattle.ic_book.specs.Whole.{whole_of}
+use Rattle.ic_laws.specs.Lines.{texts_of}
+use Rattle.ic_lines.proofs.ToldLemmas.{IfTold-weaker}
+use Rattle.ic_lines.specs.Bytes.{IfTold}
+use Rattle.ic_tables.specs.Tables.{TableSet}
+use Rattle.ic_run.specs.Desk.{start_book}
+use Rattle.ic_run.specs.Make.{made_setting}
+use Rattle.ic_run.specs.Translate.{AppendsTold, AppendsToldFront, AppendsTranslated, AppendsTranslatedFront, Target, ended_line, switches, target_of}
 use Rattle.ic_run.proofs.DeskLemmas.{word_text}
 use Rattle.ic_run.proofs.MakeLemmas.{three_words}
 
@@ -57,3 +65,31 @@ told_lines target lines nothing one two all none first second rest =
     let a : one ≡ ended_line (codes "set_locale\t" ++ escaped target.locale) = first ∙ ap₂ (λ (n f : List ℕ). n ++ ended_line (f ++ escaped target.locale)) none locale_chars in
     let b : two ≡ ended_line (codes "set_locale\t" ++ escaped target.locale) ++ ended_line (codes "set_language\t" ++ escaped target.language) = second ∙ ap₂ (λ (n f : List ℕ). n ++ ended_line (f ++ escaped target.language)) a language_chars in
     rest ∙ ap (λ (t : List ℕ). t ++ flat_map ended_line lines) b ∙ append_assoc (ended_line (codes "set_locale\t" ++ escaped target.locale)) (ended_line (codes "set_language\t" ++ escaped target.language)) (flat_map ended_line lines)
+
+-- ---- by its status
+
+pub at_0 : (r : ℕ) → (r ≡ 0) ⊎ (r ≡ 7) → (r ≡ 0) ⊎ ((r ≡ 4) ⊎ (r ≡ 6)) → r ≡ 0
+at_0 r (inl zero) which = zero
+at_0 r (inr seven) (inl zero) = zero
+at_0 r (inr seven) (inr (inl four)) = absurd (omega (arith, seven, four))
+at_0 r (inr seven) (inr (inr six)) = absurd (omega (arith, seven, six))
+
+pub at_7 : (r : ℕ) → (r ≡ 0) ⊎ (r ≡ 7) → (r ≡ 7) ⊎ ((r ≡ 4) ⊎ (r ≡ 6)) → r ≡ 7
+at_7 r (inr seven) which = seven
+at_7 r (inl zero) (inl seven) = seven
+at_7 r (inl zero) (inr (inl four)) = absurd (omega (arith, zero, four))
+at_7 r (inl zero) (inr (inr six)) = absurd (omega (arith, zero, six))
+
+-- from the new book that lines are translated from
+module _ (target : Target) (tables : TableSet) (book : Book) (created : List ℕ) (is : book ≡ start_book made_setting created tables) (source left before now : Option (List ℕ)) where
+  pub translated_told : (r : ℕ) → IfTold source left (λ bytes _. IfTold before now (AppendsTold target (whole_of book) (texts_of bytes) r)) → IfTold source left (λ bytes _. IfTold before now (AppendsTranslated target tables r bytes))
+  translated_told r =
+      IfTold-weaker source left (λ bytes _. IfTold before now (AppendsTold target (whole_of book) (texts_of bytes) r)) (λ bytes _. IfTold before now (AppendsTranslated target tables r bytes))
+      (λ bytes rest. IfTold-weaker before now (AppendsTold target (whole_of book) (texts_of bytes) r) (AppendsTranslated target tables r bytes)
+      (λ x y told. (created, subst (λ (b : Book). AppendsTold target (whole_of b) (texts_of bytes) r x y) is told)))
+
+  pub translated_front : IfTold source left (λ bytes _. IfTold before now (AppendsToldFront target (whole_of book) (texts_of bytes))) → IfTold source left (λ bytes _. IfTold before now (AppendsTranslatedFront target tables bytes))
+  translated_front =
+      IfTold-weaker source left (λ bytes _. IfTold before now (AppendsToldFront target (whole_of book) (texts_of bytes))) (λ bytes _. IfTold before now (AppendsTranslatedFront target tables bytes))
+      (λ bytes rest. IfTold-weaker before now (AppendsToldFront target (whole_of book) (texts_of bytes)) (AppendsTranslatedFront target tables bytes)
+      (λ x y told. (created, subst (λ (b : Book). AppendsToldFront target (whole_of b) (texts_of bytes) x y) is told)))
