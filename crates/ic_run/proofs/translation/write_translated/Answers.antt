@@ -4,7 +4,8 @@ use Rattle.ic_book.specs.Whole.{whole_of}
 use Rattle.ic_lines.proofs.ToldLemmas.{IfTold-weaker}
 use Rattle.ic_lines.specs.Bytes.{AppendsFront}
 use Rattle.ic_run.specs.Start.{target}
-use Rattle.ic_run.specs.Translate.{AppendsTold, AppendsToldFront, told_bytes, told_cannot}
+use Rattle.ic_run.specs.Translate.{AppendsTold, AppendsToldFront, HasTranslated, told_bytes, told_cannot}
+use Rattle.ic_run.specs.declared.translating.TranslateError.{TranslateError}
 use Rattle.ic_run.proofs.TranslationLemmas.{at_0, at_7}
 use Rattle.ic_run.proofs.translation.write_translated.Goals as goal
 
@@ -43,7 +44,9 @@ returns-in-Err-Cannot-clause-told g c at =
     (λ before now q. record {
       answer = Err (c.in-Err-Cannot.line, why_meant c.in-Err-Cannot.why);
       left = whole_of c.translate.new.model.book;
-      is = c.in-Err-Cannot.ensures.translated;
+      is =
+          subst (λ (e : TranslateError). HasTranslated aim.locale aim.language (whole_of c.args.model.now.book) c.args.lines.now (Err e) (whole_of c.translate.new.model.book)) c.in-Err-Cannot.field-0-is
+          c.in-Err-Cannot.ensures.translated;
       tells = sym seven;
       written = q;
     }) (c.write_cannot.ensures.ok seven)
@@ -56,6 +59,8 @@ returns-in-Err-Cannot-clause-front g c at_4 =
     (λ before now q. record {
       answer = Err (c.in-Err-Cannot.line, why_meant c.in-Err-Cannot.why);
       left = whole_of c.translate.new.model.book;
-      is = c.in-Err-Cannot.ensures.translated;
+      is =
+          subst (λ (e : TranslateError). HasTranslated aim.locale aim.language (whole_of c.args.model.now.book) c.args.lines.now (Err e) (whole_of c.translate.new.model.book)) c.in-Err-Cannot.field-0-is
+          c.in-Err-Cannot.ensures.translated;
       written = q;
     }) (c.write_cannot.ensures.front at_4)
