@@ -54,10 +54,6 @@ language_chars : chars (codes "set_language\t") ≡ codes "set_language\t"
 unfolding chars
 language_chars = refl
 
-pub no_chars : chars [] ≡ []
-unfolding chars
-no_chars = refl
-
 -- the lines that choose the notation, and the others
 pub told_lines : (target : Target) (lines : List (List ℕ)) (nothing one two all : List ℕ) → nothing ≡ [] → one ≡ nothing ++ ended_line (chars (codes "set_locale\t") ++ escaped target.locale) → two ≡ one ++ ended_line (chars (codes "set_language\t") ++ escaped target.language)
     → all ≡ two ++ flat_map ended_line lines → all ≡ flat_map ended_line (switches target ++ lines)
