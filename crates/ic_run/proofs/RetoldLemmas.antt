@@ -1,7 +1,8 @@
 -- Lines written anew have no line feed; the texts of their words.
-use Rattle.std.proofs.Common.{◌≡◌, ◌<◌, ℕ, suc, ◌+◌, ◌-◌, ◌==◌, List, [], ◌∷◌, ◌++◌, true, false, flat_map, length, take, drop, Option, Some, None, option_map, inl, inr, refl, sym, ap, subst, ◌∙◌, append_assoc, append-nil, arith}
+use Rattle.std.proofs.Common.{◌≡◌, ◌<◌, ℕ, suc, ◌+◌, ◌-◌, List, [], ◌∷◌, ◌++◌, false, flat_map, length, take, drop, Option, Some, None, option_map, get_or, map, inl, inr, refl, sym, ap, subst, ◌∙◌, append_assoc, append-nil, arith}
 use Rattle.std.specs.Prelude.{option_and_then, unwrap_or}
 use Rattle.std.proofs.lemmas.Bool.Decides.{eqb_tells}
+use Rattle.std.proofs.lemmas.List.{drop_more, get_or-map, length-map}
 use Rattle.ic_laws.specs.Character.{tab}
 use Rattle.ic_laws.specs.Lines.{escape_of, escaped, unescaped, word_texts, words_of}
 use Rattle.ic_lines.specs.Reading.{has_line_feed}
@@ -86,3 +87,16 @@ no_text line texts count w so_far next is =
 pub all_texts : (line : List ℕ) (texts : List (List ℕ)) (count : ℕ) → AreSoFar (words_of line) count texts → drop count (words_of line) ≡ [] → texts_of line ≡ texts
 all_texts line texts count so_far none =
     ap (λ o. unwrap_or o []) (so_far ∙ ap (λ ws. option_map (λ rest. texts ++ rest) (word_texts ws)) none) ∙ append-nil texts
+
+-- The word after the first ones, in the texts of words. ----
+next_word : {A : Type 0} (f : A → List ℕ) (xs : List A) (k : ℕ) (d : A) → k < length xs → drop k (map f xs) ≡ f (get_or xs k d) ∷ drop (k + 1) (map f xs)
+next_word f xs k d h =
+    drop_more (map f xs) k (f d) (subst (λ (n : ℕ). k < n) (sym (length-map xs f)) h)
+    ∙ ap (λ (w : List ℕ). w ∷ drop (k + 1) (map f xs)) (get_or-map f xs k d (f d) h)
+
+pub next_so_far : {A : Type 0} (f : A → List ℕ) (xs : List A) (k : ℕ) (d : A) (texts : List (List ℕ)) (t : List ℕ) → k < length xs → AreSoFar (map f xs) k texts → unescaped (f (get_or xs k d)) ≡ Some t → AreSoFar (map f xs) (k + 1) (texts ++ t ∷ [])
+next_so_far f xs k d texts t h so_far is = one_text (map f xs) texts k (f (get_or xs k d)) t so_far (next_word f xs k d h) is
+
+pub no_texts_of : {A : Type 0} (f : A → List ℕ) (xs : List A) (k : ℕ) (d : A) (texts : List (List ℕ)) (line : List ℕ) → k < length xs → map f xs ≡ words_of line → AreSoFar (map f xs) k texts → unescaped (f (get_or xs k d)) ≡ None → [] ≡ texts_of line
+no_texts_of f xs k d texts line h same so_far is =
+    sym (no_text line texts k (f (get_or xs k d)) (subst (λ ws. AreSoFar ws k texts) same so_far) (subst (λ ws. drop k ws ≡ f (get_or xs k d) ∷ drop (k + 1) ws) same (next_word f xs k d h)) is)

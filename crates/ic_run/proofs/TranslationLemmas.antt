@@ -1,10 +1,9 @@
 -- The words that ask for a translation, and what is written of one.
-use Rattle.std.proofs.Common.{String, ◌≡◌, ◌≢◌, ◌++◌, ℕ, List, [], ◌∷◌, Bool, true, false, length, get_or, map, bytes_eq, Option, Some, None, Result, Ok, Err, codes, string_bytes, flat_map, append_assoc, IsNone, IsSome, refl, ap, ap₂, sym, subst, ◌∙◌, ◌⊎◌, inl, inr, arith}
+use Rattle.std.proofs.Common.{String, ◌≡◌, ◌++◌, ℕ, List, [], ◌∷◌, Bool, true, false, length, get_or, bytes_eq, Option, Some, None, codes, string_bytes, flat_map, append_assoc, refl, ap, ap₂, sym, subst, ◌∙◌, ◌⊎◌, inl, inr, arith}
 use Rattle.std.specs.Str.{chars}
 use Rattle.std.specs.declared.alloc.Global.{Global}
 use Rattle.ic_laws.specs.Lines.{escaped}
-use Rattle.ic_run.specs.Desk.{Setting, setting_of, texts}
-use Rattle.ic_run.specs.Make.{making_of, making_said}
+use Rattle.ic_run.specs.Desk.{texts}
 use Rattle.ic_book.specs.Book.{Book}
 use Rattle.ic_book.specs.Whole.{whole_of}
 use Rattle.ic_laws.specs.Lines.{texts_of}

@@ -1,29 +1,25 @@
 -- What a line comes to in a translation, and how lines follow one another.
-use Rattle.std.proofs.Common.{◌≡◌, ◌⊎◌, ◌≤◌, ◌<◌, ℕ, ◌+◌, ◌-◌, List, [], ◌∷◌, ◌++◌, Bool, true, false, ◌||◌, length, take, drop, get_or, Option, Some, None, IsSome, option_map, IsErr, IsErrAnd, Result, Ok, Err, inl, inr, refl, sym, ap, ap₂, subst, ◌∙◌, append_assoc, append-nil, arith, if◌then◌else◌, codes}
+use Rattle.std.proofs.Common.{◌≡◌, ◌⊎◌, ◌≤◌, ◌<◌, ℕ, ◌+◌, ◌-◌, List, [], ◌∷◌, ◌++◌, Bool, true, false, ◌||◌, length, take, drop, Option, Some, None, IsSome, option_map, IsErr, IsErrAnd, Result, Ok, Err, inl, inr, refl, sym, ap, subst, ◌∙◌, append_assoc, append-nil, arith, if◌then◌else◌}
 use Rattle.std.specs.Prelude.{option_and_then}
 use Rattle.std.proofs.Math.Seq.{drop-length}
-use Rattle.std.proofs.lemmas.List.{drop_more}
-use Rattle.ic_laws.specs.declared.tree.Formula.{Formula}
 use Rattle.ic_machine.proofs.ReaderLemmas.{readers_leave}
 use Rattle.ic_machine.specs.Book.{Book, Stepped}
-use Rattle.ic_machine.specs.Command.{Command, OnSheets, command_in, served}
+use Rattle.ic_machine.specs.Command.{Command, command_in, served}
 use Rattle.ic_machine.specs.Readers.{LeavesIf, is_reader}
 use Rattle.ic_machine.specs.Reply.{Reply, reply_text}
 use Rattle.ic_machine.specs.Run.{after}
 use Rattle.ic_machine.specs.Step.{command_step, english_errors, machine, outcome_of, step}
-use Rattle.ic_machine.specs.Translation.{AreTranslated, AreTranslatedTexts, IsTranslation, StandsBefore, Why, first_hindered, first_of, in_notation, is_dropped, is_switch, kept_command, kept_in, left_after, left_by, line_of, own_formula, texts_of, why_line_not, why_not, with_last}
-use Rattle.ic_machine.specs.subjects.Sheets.{NewSheet, new_sheet_name}
+use Rattle.ic_machine.specs.Translation.{AreTranslated, AreTranslatedTexts, IsTranslation, StandsBefore, Why, first_hindered, first_of, in_notation, is_dropped, is_switch, kept_command, kept_in, left_after, left_by, line_of, own_formula, texts_of, why_line_not, why_not}
 use Rattle.ic_book.specs.Book.{NotationState}
 use Rattle.ic_book.specs.Served.{served_line_step}
-use Rattle.ic_book.specs.Translated.{IsIn, IsToldOf, IsToldWhere, IsWrittenIn, Owns, formula_owned, why_meant}
+use Rattle.ic_book.specs.Translated.{IsIn, IsToldOf, IsToldWhere, formula_owned, why_meant}
 use Rattle.ic_book.specs.declared.own_text.OwnText.{OwnText}
 use Rattle.ic_book.specs.declared.own_text.Why as code
 use Rattle.ic_run.specs.Counts.{begins_with_o}
 use Rattle.ic_run.specs.Make.{is_ok}
-use Rattle.ic_run.specs.Translate.{HasRunSome, HasTranslated, IsKeptSo, IsTurn, StaysSo}
+use Rattle.ic_run.specs.Translate.{HasRunSome, HasTranslated, IsTurn, StaysSo}
 use Rattle.ic_run.specs.declared.translating.TranslateError.{TranslateError}
 use Rattle.std.specs.Global.{Vec}
-use Rattle.ic_run.specs.declared.translating.Turn.{Turn}
 use Rattle.ic_run.specs.declared.translating.Turn.TheVariants as turns
 use Rattle.ic_run.proofs.RunLemmas.{next_taken}
 use Rattle.ic_run.proofs.TablesStay.{tables_stay}

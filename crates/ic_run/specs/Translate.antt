@@ -1,7 +1,6 @@
 -- Command lines in another notation: what a translation answers and leaves, and what `desk` writes of it.
-use Rattle.std.specs.Prelude.{◌≡◌, ◌⊎◌, ◌≤◌, ℕ, List, [], ◌∷◌, ◌++◌, Bool, false, true, Option, Some, None, Result, Ok, Err, String, chars, codes, bytes_eq, flat_map, length, map, option_and_then, option_map, string_bytes, take, encode_utf8_all, if◌then◌else◌}
+use Rattle.std.specs.Prelude.{◌≡◌, ◌⊎◌, ◌≤◌, ℕ, List, [], ◌∷◌, ◌++◌, false, true, Option, Some, None, Result, Ok, Err, chars, codes, bytes_eq, flat_map, length, option_and_then, option_map, string_bytes, take, encode_utf8_all, if◌then◌else◌}
 use Rattle.std.specs.Fmt.{decimal}
-use Rattle.std.specs.declared.alloc.Global.{Global}
 use Rattle.std.specs.Global.{Vec}
 use Rattle.ic_laws.specs.Character.{line_feed, tab}
 use Rattle.ic_laws.specs.Lines.{escaped, texts_of}

@@ -100,9 +100,11 @@ fn definitions_plan(
         (OnDefinitions (definitions_meant command.now))) }
 {
     match command {
-        Definitions::NewDefinedName { name, scope, body } => Ok(written(
-            model.definition_to_add(name.as_str(), *scope, body.as_str())?,
-        )),
+        Definitions::NewDefinedName { name, scope, body } => Ok(written(model.definition_to_add(
+            name.as_str(),
+            *scope,
+            body.as_str(),
+        )?)),
         Definitions::UpdateDefinedName { update } => Ok(written(model.definition_to_leave(
             update.name.as_str(),
             update.scope,
@@ -145,17 +147,13 @@ fn writing_plan(model: &Model<'_>, command: &Writing<'_>) -> Result<Plan, OutOfM
             row,
             column,
             text,
-        } => Ok(written(
-            model.input_to_write(*sheet, *row, *column, text.as_str())?,
-        )),
+        } => Ok(written(model.input_to_write(*sheet, *row, *column, text.as_str())?)),
         Writing::UpdateCellWithFormula {
             sheet,
             row,
             column,
             text,
-        } => Ok(written(
-            model.formula_to_write(*sheet, *row, *column, text.as_str())?,
-        )),
+        } => Ok(written(model.formula_to_write(*sheet, *row, *column, text.as_str())?)),
         Writing::UpdateCellWithText { .. } => Ok(Plan::Stays),
         Writing::UpdateCellWithBool { .. } => Ok(Plan::Stays),
         Writing::UpdateCellWithNumber { .. } => Ok(Plan::Stays),

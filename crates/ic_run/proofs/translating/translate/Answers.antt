@@ -1,6 +1,5 @@
 use Rattle.std.proofs.Common.{◌≡◌, ◌+◌, ◌<◌, ◌∷◌, ℕ, List, Ok, inr, length, drop, chars, ap, arith, subst, sym, ◌∙◌}
 use Rattle.std.proofs.lemmas.List.{drop_more}
-use Rattle.ic_machine.specs.Book.{Book}
 use Rattle.ic_machine.specs.Translation.{IsTranslation}
 use Rattle.ic_book.specs.Book.{NotationState}
 use Rattle.ic_book.specs.Whole.{whole_of}

@@ -1,5 +1,4 @@
 use Rattle.std.proofs.Common.{◌≡◌, ap, ◌∙◌}
-use Rattle.ic_book.specs.Book.{Book}
 use Rattle.ic_run.specs.Desk.{Setting, start_book}
 use Rattle.ic_run.specs.Make.{made_setting}
 use Rattle.ic_run.specs.Start.{target}
