@@ -3,5 +3,9 @@ pub mod DeskLemmas
 pub mod MadeLemmas
 pub mod MakeLemmas
 pub mod ProgressLemmas
+pub mod RetoldLemmas
 pub mod RunLemmas
 pub mod ServedLemmas
+pub mod TablesStay
+pub mod TranslationLemmas
+pub mod TurnLemmas

@@ -83,7 +83,7 @@ seed_plus [] u h = absurd (omega (arith, h))
 seed_plus (c ∷ cs) u h = sym (same_seed (c ∷ cs) u ∙ ap (λ x. seed_said (x ∷ cs)) h)
 
 -- three words are taken apart
-three_words : {X : Type 0} (words : List X) → length words ≡ 3 → (a : X) × (b : X) × (c : X) × (words ≡ a ∷ b ∷ c ∷ [])
+pub three_words : {X : Type 0} (words : List X) → length words ≡ 3 → (a : X) × (b : X) × (c : X) × (words ≡ a ∷ b ∷ c ∷ [])
 three_words [] h = absurd (omega (arith, h))
 three_words (a ∷ []) h = absurd (omega (arith, h))
 three_words (a ∷ b ∷ []) h = absurd (omega (arith, h))

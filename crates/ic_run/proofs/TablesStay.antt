@@ -1,5 +1,5 @@
 -- No line changes the tables of a book.
-use Rattle.std.proofs.Common.{◌≡◌, ℕ, List, Bool, Option, Some, None, option_map, Ok, Err, refl, sym, ap, subst, ◌∙◌}
+use Rattle.std.proofs.Common.{◌≡◌, ℕ, List, Bool, Option, Some, None, option_map, Ok, Err, refl, ap, ◌∙◌}
 use Rattle.std.specs.List.{slice_get}
 use Rattle.ic_laws.specs.CoreStep.{Outcome, index_of_definition, scope_or_none}
 use Rattle.ic_laws.specs.FormulaReading.{Body, body_of}

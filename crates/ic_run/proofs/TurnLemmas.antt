@@ -1,28 +1,26 @@
 -- What a line comes to in a translation, and how lines follow one another.
-use Rattle.std.proofs.Common.{◌≡◌, ◌⊎◌, ◌≤◌, ◌<◌, ℕ, ◌+◌, ◌-◌, List, [], ◌∷◌, ◌++◌, Bool, true, false, ◌||◌, length, take, drop, get_or, Option, Some, None, IsSome, option_map, Ok, Err, inl, inr, refl, sym, ap, ap₂, subst, ◌∙◌, append_assoc, append-nil, arith, if◌then◌else◌, codes}
+use Rattle.std.proofs.Common.{◌≡◌, ◌⊎◌, ◌≤◌, ◌<◌, ℕ, ◌+◌, ◌-◌, List, [], ◌∷◌, ◌++◌, Bool, true, false, ◌||◌, length, take, drop, Option, Some, None, IsSome, option_map, IsErr, IsErrAnd, Result, Ok, Err, inl, inr, refl, sym, ap, subst, ◌∙◌, append_assoc, append-nil, arith, if◌then◌else◌}
 use Rattle.std.specs.Prelude.{option_and_then}
 use Rattle.std.proofs.Math.Seq.{drop-length}
-use Rattle.std.proofs.lemmas.List.{drop_more}
-use Rattle.ic_laws.specs.declared.tree.Formula.{Formula}
 use Rattle.ic_machine.proofs.ReaderLemmas.{readers_leave}
 use Rattle.ic_machine.specs.Book.{Book, Stepped}
-use Rattle.ic_machine.specs.Command.{Command, OnSheets, command_in, served}
+use Rattle.ic_machine.specs.Command.{Command, command_in, served}
 use Rattle.ic_machine.specs.Readers.{LeavesIf, is_reader}
 use Rattle.ic_machine.specs.Reply.{Reply, reply_text}
 use Rattle.ic_machine.specs.Run.{after}
 use Rattle.ic_machine.specs.Step.{command_step, english_errors, machine, outcome_of, step}
-use Rattle.ic_machine.specs.Translation.{AreTranslated, AreTranslatedTexts, IsTranslation, StandsBefore, Why, first_hindered, first_of, in_notation, is_dropped, is_switch, kept_command, kept_in, left_after, left_by, line_of, own_formula, texts_of, why_line_not, why_not, with_last}
-use Rattle.ic_machine.specs.subjects.Sheets.{NewSheet, new_sheet_name}
+use Rattle.ic_machine.specs.Translation.{AreTranslated, AreTranslatedTexts, IsTranslation, StandsBefore, Why, first_hindered, first_of, in_notation, is_dropped, is_switch, kept_command, kept_in, left_after, left_by, line_of, own_formula, texts_of, why_line_not, why_not}
 use Rattle.ic_book.specs.Book.{NotationState}
 use Rattle.ic_book.specs.Served.{served_line_step}
-use Rattle.ic_book.specs.Translated.{IsIn, IsToldWhere, IsWrittenIn, Owns, formula_owned, why_meant}
+use Rattle.ic_book.specs.Translated.{IsIn, IsToldOf, IsToldWhere, formula_owned, why_meant}
 use Rattle.ic_book.specs.declared.own_text.OwnText.{OwnText}
 use Rattle.ic_book.specs.declared.own_text.Why as code
 use Rattle.ic_run.specs.Counts.{begins_with_o}
 use Rattle.ic_run.specs.Make.{is_ok}
-use Rattle.ic_run.specs.Translate.{HasRunSome, IsKeptSo, IsTurn, StaysSo}
-use Rattle.ic_run.specs.declared.translate.Turn.{Turn}
-use Rattle.ic_run.specs.declared.translate.Turn.TheVariants as turns
+use Rattle.ic_run.specs.Translate.{HasRunSome, HasTranslated, IsTurn, StaysSo}
+use Rattle.ic_run.specs.declared.translating.TranslateError.{TranslateError}
+use Rattle.std.specs.Global.{Vec}
+use Rattle.ic_run.specs.declared.translating.Turn.TheVariants as turns
 use Rattle.ic_run.proofs.RunLemmas.{next_taken}
 use Rattle.ic_run.proofs.TablesStay.{tables_stay}
 
@@ -57,27 +55,29 @@ module _ (old : Book) (line : List ℕ) (command : Command) (is : command_in (en
   told_is : (served_line_step old line).1 ≡ (outcome_of old (step old command)).1
   told_is = ap (λ (o : Option Command). (command_step old o).1) is
 
+  abbrev by_drop_of : Bool → Option (Command × Book)
+  by_drop_of b = if b then None else option_map (λ (left : Book). let kept : Command × Book = (command, left) in kept) (left_by (step old command))
+
   dropped : is_dropped command ≡ true → kept_in old line ≡ None
-  dropped e = kept_is ∙ ap (λ (b : Bool). if b then None else option_map (λ (left : Book). (command, left)) (left_by (step old command))) e
+  dropped e = kept_is ∙ ap by_drop_of e
 
   refused : left_by (step old command) ≡ None → kept_in old line ≡ None
   refused e = kept_is ∙ by_drop (is_dropped command)
     where
-      by_drop : (b : Bool) → (if b then None else option_map (λ (left : Book). (command, left)) (left_by (step old command))) ≡ None
+      by_drop : (b : Bool) → by_drop_of b ≡ None
       by_drop true = refl
-      by_drop false = ap (option_map (λ (left : Book). (command, left))) e
+      by_drop false = ap (option_map (λ (left : Book). let kept : Command × Book = (command, left) in kept)) e
 
-  reads : (b : Bool) → is_reader command ≡ b → b ≡ true → LeavesIf b old (step old command) → old ≡ (outcome_of old (step old command)).0
-  reads true e yes h = leaves (step old command) h
+  reads : is_reader command ≡ true → old ≡ (outcome_of old (step old command)).0
+  reads e = leaves (step old command) (subst (λ (b : Bool). LeavesIf b old (step old command)) e (readers_leave old command))
     where
       leaves : (made : Stepped Book) → LeavesIf true old made → old ≡ (outcome_of old made).0
       leaves (Ok done) h = sym h
       leaves (Err refusal) h = refl
-  reads false e yes h = cc
 
   -- a line that only asks, or is refused, without being run
   pub goes_unrun : (locale language : List ℕ) → (is_reader command ≡ true) ⊎ (left_by (step old command) ≡ None) → IsTurn locale language old line old turns.Goes
-  goes_unrun locale language (inl read) = (dropped (ap (λ (b : Bool). b || is_switch command) read), reads (is_reader command) refl read (readers_leave old command) ∙ sym left_is)
+  goes_unrun locale language (inl read) = (dropped (ap (λ (b : Bool). b || is_switch command) read), reads read ∙ sym left_is)
   goes_unrun locale language (inr none) = (refused none, stays_refused old (step old command) none ∙ sym left_is)
 
   -- one that chooses the notation
@@ -96,8 +96,8 @@ module _ (old : Book) (line : List ℕ) (command : Command) (is : command_in (en
   module _ (stays : is_dropped command ≡ false) (new : Book) (e : true ≡ is_ok (served_line_step old line).1) (left : new ≡ left_after old line) where
     kept_there : kept_in old line ≡ Some (command, left_after old line)
     kept_there =
-        kept_is ∙ ap (λ (b : Bool). if b then None else option_map (λ (left : Book). (command, left)) (left_by (step old command))) stays
-        ∙ ap (option_map (λ (left : Book). (command, left))) (left_accepted old (step old command) (e ∙ ap is_ok told_is))
+        kept_is ∙ ap by_drop_of stays
+        ∙ ap (option_map (λ (left : Book). let kept : Command × Book = (command, left) in kept)) (left_accepted old (step old command) (e ∙ ap is_ok told_is))
         ∙ ap (λ (b : Book). let o : Option (Command × Book) = Some (command, b) in o) (sym left_is)
 
     why_is : (locale language : List ℕ) → why_line_not locale language old line ≡ option_and_then (why_not (in_notation locale language old)) (own_formula old command)
@@ -130,20 +130,20 @@ module _ (old : Book) (line : List ℕ) (command : Command) (is : command_in (en
       its = sym tells ∙ ap (option_map why_meant) some
 
       it_is : IsSome (option_and_then (why_not (in_notation target.locale target.language old)) (formula_owned own))
-      it_is = subst IsSome (sym its) tt
+      it_is = subst IsSome (sym its) refl
 
-      done : IsSome (left_by (step old command))
-      done = told.1 (in_notation target.locale target.language old) here it_is
+      it_does : IsSome (left_by (step old command))
+      it_does = told.1 (in_notation target.locale target.language old) here it_is
 
       why_there : (left : Book) → left_by (step old command) ≡ Some left → why_line_not target.locale target.language old line ≡ Some (why_meant why)
       why_there left e =
           ap (option_and_then (λ (kept : Command × Book). option_and_then (why_not (in_notation target.locale target.language old)) (own_formula old kept.0)))
-          (kept_is ∙ ap (λ (b : Bool). if b then None else option_map (λ (left : Book). (command, left)) (left_by (step old command))) stays ∙ ap (option_map (λ (left : Book). (command, left))) e)
+          (kept_is ∙ ap by_drop_of stays ∙ ap (option_map (λ (left : Book). let kept : Command × Book = (command, left) in kept)) e)
           ∙ ap (option_and_then (why_not (in_notation target.locale target.language old))) told.0.formula ∙ its
 
       accepted : (made : Stepped Book) → step old command ≡ made → why_line_not target.locale target.language old line ≡ Some (why_meant why)
       accepted (Ok done) e = why_there done.0 (ap left_by e)
-      accepted (Err refusal) e = absurd (subst IsSome (ap left_by e) done)
+      accepted (Err refusal) e = let none : IsSome {T = Book} None = subst IsSome (ap left_by e) it_does in cc
 
 -- what is no command goes
 pub goes_bad : (locale language : List ℕ) (old : Book) (line : List ℕ) → command_in (english_errors old) served line ≡ None → IsTurn locale language old line old turns.Goes
@@ -219,7 +219,7 @@ module _ (locale language : List ℕ) where
         )
 
     -- memory ran out in this line
-    pub memory_here : count < length lines → (new : Book) → (new ≡ book) ⊎ (new ≡ left_after book line) → HasRunSome start lines new
+    pub memory_here : count < length lines → (new : Book) → (new ≡ book) ⊎ (new ≡ left_after book line) → HasRunSome locale language start lines new
     memory_here h new (inl same) = record { count = count; within = omega (arith, h); left = same ∙ so_far.left }
     memory_here h new (inr left) = record { count = count + 1; within = omega (arith, h); left = left ∙ left_so }
 
@@ -228,15 +228,25 @@ module _ (locale language : List ℕ) where
   all_done start lines count book made so_far e =
       let none : drop count lines ≡ [] = ap (λ (n : ℕ). drop n lines) e ∙ drop-length lines in (
         so_far.hindered ∙ ap (first_hindered locale language (count + 1) book) none,
-        (
-          subst (AreTranslated locale language start lines) (append-nil made) (so_far.becomes [] (subst (λ (ls : List (List ℕ)). AreTranslated locale language book ls []) (sym none) refl)),
-          so_far.left ∙ ap (after (machine served) start) (ap (λ (n : ℕ). take n lines) e ∙ whole lines),
-        ),
+        subst (AreTranslated locale language start lines) (append-nil made) (so_far.becomes [] (subst (λ (ls : List (List ℕ)). AreTranslated locale language book ls []) (sym none) refl)),
+        so_far.left ∙ ap (after (machine served) start) (ap (λ (n : ℕ). take n lines) e ∙ whole lines),
       )
     where
       whole : (xs : List (List ℕ)) → take (length xs) xs ≡ xs
       whole [] = refl
       whole (x ∷ xs) = ap (λ (ys : List (List ℕ)). x ∷ ys) (whole xs)
 
-  pub some_done : (start : Book) (lines : List (List ℕ)) (count : ℕ) (book : Book) (made : List (List ℕ)) → IsSoFar start lines count book made → count ≤ length lines → HasRunSome start lines book
+  pub some_done : (start : Book) (lines : List (List ℕ)) (count : ℕ) (book : Book) (made : List (List ℕ)) → IsSoFar start lines count book made → count ≤ length lines → HasRunSome locale language start lines book
   some_done start lines count book made so_far h = record { count = count; within = h; left = so_far.left }
+
+-- An answer that is this error. ----
+
+pub at_error : (locale language : List ℕ) (old : Book) (lines : List (List ℕ)) (r : Result (Vec (List ℕ)) TranslateError) (e : TranslateError) (new : Book) → IsErr r × IsErrAnd r (λ x. x ≡ e) → HasTranslated locale language old lines (Err e) new
+    → HasTranslated locale language old lines r new
+at_error locale language old lines (Ok made) e new h t = let none : false ≡ true = h.0 in cc
+at_error locale language old lines (Err f) e new h t = subst (λ (x : TranslateError). HasTranslated locale language old lines (Err x) new) (sym h.1) t
+
+-- what is told of a command, whatever the notation
+pub told_where : (target : NotationState) (book : Book) (command : Command) (own : Option OwnText) → IsToldOf book command own → IsToldWhere target book command own
+told_where target book command None h = h
+told_where target book command (Some own) h = (h.0, λ b here why. h.1)

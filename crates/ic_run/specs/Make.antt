@@ -1,5 +1,5 @@
 -- The command lines that are made from a seed, and what is told of a run of them.
-use Rattle.std.specs.Prelude.{◌≡◌, ℕ, zero, suc, ◌+◌, ◌*◌, ◌/◌, ◌%◌, ◌^◌, ◌==◌, List, [], ◌∷◌, ◌++◌, Bool, true, false, bytes_eq, flat_map, length, Option, Some, None, option_map, option_and_then, Ok, Err, chars, codes, if◌then◌else◌}
+use Rattle.std.specs.Prelude.{◌≡◌, ℕ, zero, suc, ◌+◌, ◌*◌, ◌/◌, ◌%◌, ◌^◌, ◌==◌, List, [], ◌∷◌, ◌++◌, Bool, true, false, bytes_eq, flat_map, length, Option, None, option_map, option_and_then, Ok, Err, chars, codes, if◌then◌else◌}
 use Rattle.std.specs.Fmt.{decimal}
 use Rattle.std.specs.List.{count_by}
 use Rattle.ic_laws.specs.Character.{line_feed, tab}
@@ -13,7 +13,7 @@ use Rattle.ic_machine.specs.Reply.{Reply}
 use Rattle.ic_machine.specs.Run.{after}
 use Rattle.ic_book.specs.Served.{served_line_step, served_machine}
 use Rattle.ic_book.specs.Whole.{whole_of}
-use Rattle.ic_run.specs.Desk.{Setting, setting_of, start_book}
+use Rattle.ic_run.specs.Desk.{Setting, start_book}
 use Rattle.ic_run.specs.declared.made.MadeCommand.{MadeCommand}
 use Rattle.ic_run.specs.declared.made.MadeCommand.TheVariants as made
 use Rattle.ic_run.specs.declared.make.Making.{Making}
@@ -107,19 +107,6 @@ making_of words = None
 -- the setting that lines are made in: en, en and UTC
 abbrev pub made_setting : Setting
 made_setting = record { locale = codes "en"; language = codes "en"; zone = codes "UTC" }
-
--- the one of a making, if there is one
-abbrev pub setting_made_in : Option Making → Option Setting
-setting_made_in making = option_map (λ making. made_setting) making
-
--- the first of two settings that is there
-abbrev pub setting_or : Option Setting → Option Setting → Option Setting
-setting_or (Some setting) other = Some setting
-setting_or None other = other
-
--- the setting that the program begins with, by its words
-abbrev pub first_setting : List (List ℕ) → Option Setting
-first_setting words = setting_or (setting_of words) (setting_made_in (making_of words))
 
 -- What is told. ----
 

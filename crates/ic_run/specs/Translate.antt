@@ -1,12 +1,12 @@
 -- Command lines in another notation: what a translation answers and leaves, and what `desk` writes of it.
-use Rattle.std.specs.Prelude.{◌≡◌, ◌⊎◌, ◌≤◌, ℕ, List, [], ◌∷◌, ◌++◌, Bool, false, true, Option, Some, None, Result, Ok, Err, String, chars, codes, bytes_eq, flat_map, length, map, option_map, string_bytes, take, encode_utf8_all, if◌then◌else◌}
+use Rattle.std.specs.Prelude.{◌≡◌, ◌⊎◌, ◌≤◌, ℕ, List, [], ◌∷◌, ◌++◌, false, true, Option, Some, None, Result, Ok, Err, chars, codes, bytes_eq, flat_map, length, option_and_then, option_map, string_bytes, take, encode_utf8_all, if◌then◌else◌}
 use Rattle.std.specs.Fmt.{decimal}
-use Rattle.std.specs.declared.alloc.Global.{Global}
 use Rattle.std.specs.Global.{Vec}
 use Rattle.ic_laws.specs.Character.{line_feed, tab}
-use Rattle.ic_laws.specs.Lines.{escaped}
+use Rattle.ic_laws.specs.Lines.{escaped, texts_of}
 use Rattle.ic_laws.specs.Refusal.{InvalidLanguage, InvalidLocale, Refusal}
 use Rattle.ic_tables.specs.Tables.{TableSet}
+use Rattle.ic_lines.specs.Bytes.{AppendsFront}
 use Rattle.ic_machine.specs.Book.{Book}
 use Rattle.ic_machine.specs.Command.{Command, OnSheets, served}
 use Rattle.ic_machine.specs.Readers.{is_reader}
@@ -17,12 +17,15 @@ use Rattle.ic_machine.specs.Translation.{AreTranslatedTexts, IsKeptLine, IsTrans
 use Rattle.ic_machine.specs.subjects.Sheets.{NewSheet, new_sheet_name}
 use Rattle.ic_book.specs.Book.{NotationState}
 use Rattle.ic_book.specs.Translated.{IsToldWhere, notation_refusal, why_meant}
+use Rattle.ic_book.specs.Whole.{whole_of}
+use Rattle.ic_run.specs.Desk.{Setting, setting_of, start_book, start_refusal}
+use Rattle.ic_run.specs.Make.{made_setting, making_of}
 use Rattle.ic_run.specs.declared.plan.Plan.{Plan}
 use Rattle.ic_run.specs.declared.plan.Plan.TheVariants as plans
-use Rattle.ic_run.specs.declared.translate.TranslateError.{TranslateError}
-use Rattle.ic_run.specs.declared.translate.TranslateError.TheVariants as errors
-use Rattle.ic_run.specs.declared.translate.Turn.{Turn}
-use Rattle.ic_run.specs.declared.translate.Turn.TheVariants as turns
+use Rattle.ic_run.specs.declared.translating.TranslateError.{TranslateError}
+use Rattle.ic_run.specs.declared.translating.TranslateError.TheVariants as errors
+use Rattle.ic_run.specs.declared.translating.Turn.{Turn}
+use Rattle.ic_run.specs.declared.translating.Turn.TheVariants as turns
 
 -- A command's line becomes one with the same texts: it doesn't go, has no formula of its own, and nothing in it is written
 -- anew.
@@ -90,26 +93,77 @@ target_of words = None
 abbrev pub target_refusal : Target → TableSet → Option Refusal
 target_refusal target tables = notation_refusal target.locale target.language tables
 
--- a line with its line feed, in bytes
-abbrev pub line_bytes : List ℕ → List ℕ
-line_bytes line = encode_utf8_all line ++ line_feed ∷ []
-
 -- the lines that choose the notation
 abbrev pub switches : Target → List (List ℕ)
 switches target = (codes "set_locale\t" ++ escaped target.locale) ∷ (codes "set_language\t" ++ escaped target.language) ∷ []
+
+-- a line with its line feed
+abbrev pub ended_line : List ℕ → List ℕ
+ended_line line = line ++ line_feed ∷ []
 
 -- the name of a reason
 abbrev pub why_name : translation.Why → List ℕ
 why_name translation.Raw = codes "Raw"
 why_name translation.Clash = codes "Clash"
 
--- what is written of a translation: the lines that choose the notation, and those that the lines become; or which line can't be
--- translated, and why
-abbrev pub told_translation : Target → Result (List (List ℕ)) (ℕ × translation.Why) → List ℕ
-told_translation target (Ok lines) = flat_map line_bytes (switches target ++ lines)
-told_translation target (Err cannot) = codes "cannot\t" ++ (decimal cannot.0 ++ (tab ∷ (why_name cannot.1 ++ line_feed ∷ [])))
+-- which line can't be translated, and why
+abbrev pub told_cannot : ℕ → translation.Why → List ℕ
+told_cannot line why = codes "cannot\t" ++ (decimal line ++ (tab ∷ (why_name why ++ line_feed ∷ [])))
+
+-- what is told of a translation: the lines that choose the notation, and those that the lines become; or which line can't be
+-- translated
+abbrev pub told_bytes : Target → Result (List (List ℕ)) (ℕ × translation.Why) → List ℕ
+told_bytes target (Ok lines) = encode_utf8_all (flat_map ended_line (switches target ++ lines))
+told_bytes target (Err cannot) = told_cannot cannot.0 cannot.1
 
 -- the status for that
 abbrev pub translation_status : {T E : Type 0} → Result T E → ℕ
 translation_status (Ok lines) = 0
 translation_status (Err cannot) = 7
+
+-- what is told of the translation of lines, from a whole book, was appended, with this status
+pub record AppendsTold (target : Target) (book : Book) (lines : List (List ℕ)) (status : ℕ) (before now : List ℕ) : Type 0 where
+  pub answer : Result (List (List ℕ)) (ℕ × translation.Why)
+  pub left : Book
+  pub is : IsTranslation target.locale target.language book lines answer left
+  pub tells : translation_status answer ≡ status
+  pub written : now ≡ before ++ told_bytes target answer
+
+-- a front of that, which isn't all of it
+pub record AppendsToldFront (target : Target) (book : Book) (lines : List (List ℕ)) (before now : List ℕ) : Type 0 where
+  pub answer : Result (List (List ℕ)) (ℕ × translation.Why)
+  pub left : Book
+  pub is : IsTranslation target.locale target.language book lines answer left
+  pub written : AppendsFront (told_bytes target answer) before now
+
+-- the lines of these bytes, from the new book that lines are translated from, which was made at some moment
+abbrev pub AppendsTranslated : Target → TableSet → ℕ → List ℕ → List ℕ → List ℕ → Type 0
+AppendsTranslated target tables status bytes before now = (created : List ℕ) × AppendsTold target (whole_of (start_book made_setting created tables)) (texts_of bytes) status before now
+
+abbrev pub AppendsTranslatedFront : Target → TableSet → List ℕ → List ℕ → List ℕ → Type 0
+AppendsTranslatedFront target tables bytes before now = (created : List ℕ) × AppendsToldFront target (whole_of (start_book made_setting created tables)) (texts_of bytes) before now
+
+-- What the program begins with, by its words: the setting of a new book; the notation that lines are asked for in, if they
+-- are translated
+pub record Beginning : Type 0 where
+  pub setting : Setting
+  pub target : Option Target
+
+-- the first of two that is there
+abbrev pub first_beginning : Option Beginning → Option Beginning → Option Beginning
+first_beginning (Some beginning) other = Some beginning
+first_beginning None other = other
+
+-- en, en and UTC for lines that are made, and for those that are translated
+abbrev pub beginning_of : List (List ℕ) → Option Beginning
+beginning_of words =
+    first_beginning (option_map (λ setting. record { setting = setting; target = None }) (setting_of words))
+    (first_beginning (option_map (λ making. record { setting = made_setting; target = None }) (making_of words)) (option_map (λ target. record { setting = made_setting; target = Some target }) (target_of words)))
+
+-- what of this the tables lack: the new book's first
+abbrev pub either_refusal : Option Refusal → Option Refusal → Option Refusal
+either_refusal (Some refusal) other = Some refusal
+either_refusal None other = other
+
+abbrev pub beginning_refusal : Beginning → TableSet → Option Refusal
+beginning_refusal beginning tables = either_refusal (start_refusal beginning.setting tables) (option_and_then (λ target. target_refusal target tables) beginning.target)

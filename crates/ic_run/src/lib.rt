@@ -14,10 +14,10 @@ mod plan;
 mod program;
 mod retold;
 mod start;
-mod translate;
+mod translating;
 mod translation;
 
 pub use ic_book::Why;
 pub use lines::run;
 pub use program::desk;
-pub use translate::{TranslateError, translate};
+pub use translating::{TranslateError, translate};

@@ -1,5 +1,5 @@
 //! What the words `make SEED COUNT` do: lines are made and answered, and what became of them is told.
-ghost use Rattle.std.specs.Prelude.{◌≡◌, ◌⊎◌, ◌↔◌, ◌++◌, ◌==◌, IfOk, IsNone, IsSome, OnOk, chars, map, slice_index, string_bytes};
+ghost use Rattle.std.specs.Prelude.{◌≡◌, ◌≢◌, ◌⊎◌, ◌↔◌, ◌++◌, ◌==◌, IfOk, IsNone, IsSome, OnOk, chars, map, slice_index, string_bytes};
 ghost use Rattle.ic_lines.specs.Bytes.{AppendsFront, HasFault, IfTold};
 ghost use Rattle.ic_machine.specs.Reply.{reply_text};
 ghost use Rattle.ic_machine.specs.Run.{after};
@@ -90,24 +90,25 @@ pub fn make<K: Sink>(
 {
     match first_book(alloc, &english_start(), tables, moment) {
         Ok(mut model) => match told(alloc, &mut model, making) {
-            Ok(text) => written(sink, text.as_bytes()),
+            Ok(text) => written(sink, text.as_bytes(), 0),
             Err(OutOfMemory) => 6,
         },
         Err(status) => status,
     }
 }
 
-/// Writes all of these bytes, and answers the status for that.
-fn written<K: Sink>(sink: &mut K, bytes: &[u8]) -> u8
-    ensures ok { result ≡ 0 → IfTold (K.written sink.old) (K.written sink.new)
+/// Writes all of these bytes, and answers this status, or 4 where the sink had a fault.
+pub fn written<K: Sink>(sink: &mut K, bytes: &[u8], status: u8) -> u8
+    requires { status ≢ 4 }
+    ensures ok { result ≡ status → IfTold (K.written sink.old) (K.written sink.new)
         (λ before now. now ≡ before ++ bytes.now) }
     ensures front { result ≡ 4 → IfTold (K.written sink.old) (K.written sink.new)
         (AppendsFront bytes.now) }
     ensures fault { result ≡ 4 → HasFault (K.faults sink.old) (K.faults sink.new) }
-    ensures which { (result ≡ 0) ⊎ (result ≡ 4) }
+    ensures which { (result ≡ status) ⊎ (result ≡ 4) }
 {
     match write_all(sink, bytes) {
-        Ok(()) => 0,
+        Ok(()) => status,
         Err(_) => 4,
     }
 }

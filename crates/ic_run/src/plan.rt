@@ -1,7 +1,8 @@
 //! What a translation has to do with a command.
 ghost use Rattle.std.specs.Prelude.{◌≡◌, IfOk, false};
 ghost use Rattle.ic_machine.specs.Book as machine;
-ghost use Rattle.ic_machine.specs.Command.{Command, OnArrays, OnDefinitions, OnLayout, OnNotation, OnSheets, OnStyles, OnTabs, OnWriting};
+ghost use Rattle.ic_machine.specs.Command as commands;
+ghost use Rattle.ic_machine.specs.Command.{OnArrays, OnDefinitions, OnLayout, OnNotation, OnSheets, OnStyles, OnTabs, OnWriting};
 ghost use Rattle.ic_machine.specs.Translation.{is_dropped};
 ghost use Rattle.ic_words.specs.Command.{command_meant};
 ghost use Rattle.ic_words.specs.subjects.Arrays.{arrays_meant};
@@ -99,9 +100,11 @@ fn definitions_plan(
         (OnDefinitions (definitions_meant command.now))) }
 {
     match command {
-        Definitions::NewDefinedName { name, scope, body } => Ok(written(
-            model.definition_to_add(name.as_str(), *scope, body.as_str())?,
-        )),
+        Definitions::NewDefinedName { name, scope, body } => Ok(written(model.definition_to_add(
+            name.as_str(),
+            *scope,
+            body.as_str(),
+        )?)),
         Definitions::UpdateDefinedName { update } => Ok(written(model.definition_to_leave(
             update.name.as_str(),
             update.scope,
@@ -144,17 +147,13 @@ fn writing_plan(model: &Model<'_>, command: &Writing<'_>) -> Result<Plan, OutOfM
             row,
             column,
             text,
-        } => Ok(written(
-            model.input_to_write(*sheet, *row, *column, text.as_str())?,
-        )),
+        } => Ok(written(model.input_to_write(*sheet, *row, *column, text.as_str())?)),
         Writing::UpdateCellWithFormula {
             sheet,
             row,
             column,
             text,
-        } => Ok(written(
-            model.formula_to_write(*sheet, *row, *column, text.as_str())?,
-        )),
+        } => Ok(written(model.formula_to_write(*sheet, *row, *column, text.as_str())?)),
         Writing::UpdateCellWithText { .. } => Ok(Plan::Stays),
         Writing::UpdateCellWithBool { .. } => Ok(Plan::Stays),
         Writing::UpdateCellWithNumber { .. } => Ok(Plan::Stays),
@@ -244,7 +243,7 @@ fn arrays_plan(model: &Model<'_>, command: &Arrays<'_>) -> Result<Plan, OutOfMem
 
 /// What is to be done with a command that writes this; one that is refused where there is none.
 fn written(own: Option<OwnText>) -> Plan
-    ensures { (target : NotationState) (book : machine.Book) (command : Command)
+    ensures { (target : NotationState) (book : machine.Book) (command : commands.Command)
         → is_dropped command ≡ false → IsToldWhere target book command own
         → IsPlan target book command result }
 {

@@ -2,9 +2,10 @@ ghost use Rattle.std.specs.Prelude.{◌≡◌, ◌≢◌, ◌⊎◌, ◌↔◌, 
 ghost use Rattle.ic_laws.specs.Lines.{texts_of};
 ghost use Rattle.ic_lines.specs.Bytes.{IfTold, HasFault};
 ghost use Rattle.ic_run.specs.Desk.{setting_of, start, start_book, start_refusal, run_status, texts};
-ghost use Rattle.ic_run.specs.Make.{AppendsSummary, AppendsSummaryFront, first_setting, made_setting, making_of};
-ghost use Rattle.ic_run.specs.Start.{making_in, setting, setting_in};
+ghost use Rattle.ic_run.specs.Make.{AppendsSummary, AppendsSummaryFront, made_setting, making_of};
+ghost use Rattle.ic_run.specs.Start.{making_in, setting, setting_in, target_in};
 ghost use Rattle.ic_run.specs.Run.{AppendsReplies, AppendsServedFrom, AreCore, LeavesReplies, LeavesServedFrom};
+ghost use Rattle.ic_run.specs.Translate.{AppendsTranslated, AppendsTranslatedFront, beginning_of, beginning_refusal, target_of};
 ghost use Rattle.ic_tree.specs.Notations.{notations_of};
 
 use crate::lines::run;
@@ -20,9 +21,12 @@ use std::alloc::Global;
 /// book in this locale, this language and this zone; no words are `run en en UTC`. The words `make SEED COUNT` make lines
 /// from a seed, answer them on a new book in en, en and UTC, and write what became of them; the source isn't read.
 ///
-/// The status is 0 where `run` answers Ok or all of what became of made lines is written, 1 exactly for any other words, 2
-/// exactly where it isn't 1 and the tables lack the locale, the language or the zone, 3 for `ReadFault`, 4 for
-/// `WriteFault`, 5 for `TooManyTurns`, 6 where memory runs out.
+/// The words `translate LOCALE LANGUAGE` write what the lines of the source become in this notation (`translate`), from a new
+/// book in en, en and UTC.
+///
+/// The status is 0 where `run` answers Ok, or all of what became of made lines or of translated ones is written, 1 exactly
+/// for any other words, 2 exactly where it isn't 1 and the tables lack a locale, a language or the zone, 3 for `ReadFault`, 4
+/// for `WriteFault`, 5 for `TooManyTurns`, 6 where memory runs out, 7 where a line can't be translated and that is written.
 pub fn desk<S: Source, K: Sink>(
     alloc: Global,
     words: &[String],
@@ -61,10 +65,29 @@ pub fn desk<S: Source, K: Sink>(
         → sink.new ≡ sink.old }
     ensures unread { IsSome (making_of (texts words.now)) → source.new ≡ source.old }
 
+    // Of lines in another notation, 0 has written what the lines of all bytes become, from the new book in en, en and UTC,
+    // and 7 which line can't be written so, and why; with 4 a front of either was written, with 3, 5 and 6 nothing.
+    ensures translated { (result ≡ 0) ⊎ (result ≡ 7) → IfSome (target_of (texts words.now))
+        (λ target. IfTold (S.left source.old) (S.left source.new) (λ bytes _.
+        IfTold (K.written sink.old) (K.written sink.new)
+        (AppendsTranslated target tables.now result bytes))) }
+    ensures translated_front { result ≡ 4 → IfSome (target_of (texts words.now))
+        (λ target. IfTold (S.left source.old) (S.left source.new) (λ bytes _.
+        IfTold (K.written sink.old) (K.written sink.new)
+        (AppendsTranslatedFront target tables.now bytes))) }
+    ensures translated_end { (result ≡ 0) ⊎ (result ≡ 7) → IsSome (target_of (texts words.now))
+        → S.ended source.new ≡ true }
+    ensures translated_taken { (result ≡ 0) ⊎ (result ≡ 7)
+        → IsSome (target_of (texts words.now))
+        → IfTold (S.left source.old) (S.left source.new) (λ bytes left. left ≡ []) }
+    ensures translated_nothing { (result ≡ 3) ⊎ ((result ≡ 5) ⊎ (result ≡ 6))
+        → IsSome (target_of (texts words.now)) → sink.new ≡ sink.old }
+    ensures cannot { result ≡ 7 → IsSome (target_of (texts words.now)) }
+
     // Each other status has its cause; that memory ran out may come in place of all but 1 and 2.
-    ensures usage { (result ≡ 1) ↔ IsNone (first_setting (texts words.now)) }
-    ensures unknown { (result ≡ 2) ↔ IsSomeAnd (first_setting (texts words.now))
-        (λ setting. IsSome (start_refusal setting tables.now)) }
+    ensures usage { (result ≡ 1) ↔ IsNone (beginning_of (texts words.now)) }
+    ensures unknown { (result ≡ 2) ↔ IsSomeAnd (beginning_of (texts words.now))
+        (λ beginning. IsSome (beginning_refusal beginning tables.now)) }
     ensures untouched { (result ≡ 1) ⊎ (result ≡ 2) → (source.new ≡ source.old)
         × (sink.new ≡ sink.old) }
     ensures read_fault { result ≡ 3 → HasFault (S.faults source.old) (S.faults source.new) }
@@ -72,7 +95,7 @@ pub fn desk<S: Source, K: Sink>(
     ensures too_many { result ≡ 5 → IfTold (S.left source.old) (S.left source.new)
         (λ before now. 2 ^ 32 + length now ≤ length before) }
     ensures unseen { result ≡ 5 → S.ended source.new ≡ S.ended source.old }
-    ensures most { result ≤ 6 }
+    ensures most { result ≤ 7 }
     ensures made_status { IsSome (making_of (texts words.now))
         → (result ≢ 3) × (result ≢ 5) }
 
@@ -103,6 +126,11 @@ pub fn desk<S: Source, K: Sink>(
         → IsNone (start_refusal made_setting tables.now)
         → ¬ HasFault (K.faults sink.old) (K.faults sink.new)
         → (result ≡ 0) ⊎ (result ≡ 6) }
+    ensures translated_completes { IsSome (target_of (texts words.now)) → (result ≢ 2)
+        → IsSomeAnd (S.left source.old) (λ bytes. length bytes < 2 ^ 32)
+        → ¬ HasFault (S.faults source.old) (S.faults source.new)
+        → ¬ HasFault (K.faults sink.old) (K.faults sink.new)
+        → (result ≡ 0) ⊎ ((result ≡ 6) ⊎ (result ≡ 7)) }
 {
     match deed_named(words) {
         Deed::Run(start) => run_from(alloc, &start, tables, moment, source, sink),
@@ -129,6 +157,7 @@ pub enum Deed<'a> {
 fn deed_named(words: &[String]) -> Deed<'_>
     ensures run { setting_in result ≡ setting_of (texts words.now) }
     ensures made { making_in result ≡ making_of (texts words.now) }
+    ensures translated { target_in result ≡ target_of (texts words.now) }
 {
     if let Some(making) = making_named(words) {
         return Deed::Make(making);

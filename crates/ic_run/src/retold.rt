@@ -1,7 +1,7 @@
 //! Lines written anew.
-ghost use Rattle.std.specs.Prelude.{◌≡◌, ◌∷◌, ◌++◌, [], IfOk, OnOk, chars, codes, false, flat_map, string_bytes};
+ghost use Rattle.std.specs.Prelude.{List, ℕ, ◌≡◌, ◌∷◌, ◌++◌, [], IfOk, OnOk, chars, codes, false, flat_map, map, string_bytes};
 ghost use Rattle.ic_laws.specs.Character.{tab};
-ghost use Rattle.ic_laws.specs.Lines.{escaped};
+ghost use Rattle.ic_laws.specs.Lines.{escaped, words_of};
 ghost use Rattle.ic_lines.specs.Reading.{has_line_feed};
 ghost use Rattle.ic_machine.specs.Translation.{line_of, texts_of, with_last};
 
@@ -43,8 +43,16 @@ fn texts_in(alloc: Global, line: &str) -> Result<Vec<Text>, OutOfMemory>
     ensures { IfOk result (λ texts. texts.items ≡ texts_of (chars line.now)) }
 {
     let words = words_of(alloc, line)?;
+    texts_of_words(alloc, &words)
+}
+
+/// The texts that words spell; none where one of them has a wrong escape.
+fn texts_of_words(alloc: Global, words: &[&str]) -> Result<Vec<Text>, OutOfMemory>
+    ensures { (line : List ℕ) → map (λ w. chars w.now) words.now ≡ words_of line → IfOk result
+        (λ texts. texts.items ≡ texts_of line) }
+{
     let mut texts = Vec::new(alloc);
-    for word in &words {
+    for word in words {
         match unescape(alloc, word)? {
             Some(text) => texts.push(text)?,
             None => return Ok(Vec::new(alloc)),
@@ -54,12 +62,15 @@ fn texts_in(alloc: Global, line: &str) -> Result<Vec<Text>, OutOfMemory>
 }
 
 /// Puts another text in the place of the last, where there is one.
+#[tactic(auto, using(crate::proofs::RetoldLemmas::last_put, crate::proofs::RetoldLemmas::none_put))]
 fn put_last(texts: &mut Vec<Text>, last: Text) -> Result<(), OutOfMemory>
     ensures { OnOk result (texts.new.items ≡ with_last last texts.old.items) }
 {
-    if texts.pop().is_none() {
+    let count = texts.len();
+    if count == 0 {
         return Ok(());
     }
+    texts.truncate(count - 1);
     texts.push(last)?;
     Ok(())
 }
@@ -68,12 +79,21 @@ fn put_last(texts: &mut Vec<Text>, last: Text) -> Result<(), OutOfMemory>
 fn line_from(alloc: Global, texts: &[Text]) -> Result<Line, OutOfMemory>
     ensures { IfOk result (λ line. line ≡ line_of texts.now) }
 {
-    let mut text = String::new(alloc);
-    if let Some((first, others)) = texts.split_first() {
-        push_escaped(&mut text, first.as_str())?;
-        push_others(&mut text, others)?;
-    }
+    let text = joined(alloc, texts)?;
     Ok(whole(text))
+}
+
+/// Its text.
+fn joined(alloc: Global, texts: &[Text]) -> Result<String, OutOfMemory>
+    ensures { IfOk result (λ text. chars (string_bytes text) ≡ line_of texts.now) }
+{
+    let mut text = String::new(alloc);
+    let Some((first, others)) = texts.split_first() else {
+        return Ok(text);
+    };
+    push_escaped(&mut text, first.as_str())?;
+    push_others(&mut text, others)?;
+    Ok(text)
 }
 
 /// Appends the words that spell these texts, each after a tab.

@@ -1,10 +1,10 @@
 //! Command lines in another notation, so that they leave the same book.
-ghost use Rattle.std.specs.Prelude.{◌≡◌, ◌⊎◌, ◌×◌, IfOk, IsSome, None, OnErr, OnOk, Some, chars, false};
+ghost use Rattle.std.specs.Prelude.{List, ℕ, true, Err, IfErr, ◌≡◌, ◌⊎◌, IfOk, IsSome, None, OnErr, OnOk, Some, chars, false};
+ghost use Rattle.ic_machine.specs.Book as machine;
 ghost use Rattle.ic_machine.specs.Command.{Command, OnSheets, command_in, served};
 ghost use Rattle.ic_machine.specs.Step.{english_errors};
 ghost use Rattle.ic_machine.specs.Translation.{is_dropped, is_switch, left_after};
 ghost use Rattle.ic_machine.specs.subjects.Sheets.{NewSheet, new_sheet_name};
-ghost use Rattle.ic_tables.specs.Words.{error_words};
 ghost use Rattle.ic_book.specs.Served.{served_line_step};
 ghost use Rattle.ic_book.specs.Translated.{IsToldWhere, notation_refusal};
 ghost use Rattle.ic_book.specs.Whole.{whole_of};
@@ -16,7 +16,7 @@ use crate::counts::is_ok;
 use crate::plan::{Plan, plan_of};
 use crate::retold::{line_with_last, new_sheet_line, same_line};
 use ic_book::{BookError, Model, Notation, OwnText, Why};
-use ic_commands::answer_line;
+use ic_commands::{answer_line, english_of};
 use ic_laws::OutOfMemory;
 use ic_lines::Line;
 use ic_words::command_in;
@@ -42,7 +42,7 @@ pub enum TranslateError {
 
 impl From<OutOfMemory> for TranslateError {
     ghost use Rattle.std.specs.Prelude.{◌≡◌};
-    ghost use Rattle.ic_run.specs.declared.translate.TranslateError.TheVariants as errors;
+    ghost use Rattle.ic_run.specs.declared.translating.TranslateError.TheVariants as errors;
 
     ghost from_gives = { λ _ e. e ≡ errors.OutOfMemory };
 
@@ -53,7 +53,7 @@ impl From<OutOfMemory> for TranslateError {
 
 impl From<AllocFailed<Line>> for TranslateError {
     ghost use Rattle.std.specs.Prelude.{◌≡◌};
-    ghost use Rattle.ic_run.specs.declared.translate.TranslateError.TheVariants as errors;
+    ghost use Rattle.ic_run.specs.declared.translating.TranslateError.TheVariants as errors;
 
     ghost from_gives = { λ _ e. e ≡ errors.OutOfMemory };
 
@@ -110,6 +110,8 @@ fn target_named<'a>(
     }) }
     ensures unknown { unknown_told result ≡ notation_refusal (chars locale_id.now)
         (chars language_id.now) model.now.book.tables }
+    ensures err { IfErr result (λ e. (locale language : List ℕ) (book : machine.Book)
+        (lines : List (List ℕ)) → HasTranslated locale language book lines (Err e) book) }
 {
     match model.notation_named(locale_id, language_id) {
         Ok(target) => Ok(target),
@@ -143,7 +145,7 @@ fn translate_line(
     ensures err { OnErr result ((whole_of model.new.book ≡ whole_of model.old.book)
         ⊎ (whole_of model.new.book ≡ left_after (whole_of model.old.book) line.now)) }
 {
-    let english = model.tables().get_default_language();
+    let english = english_of(model);
     let Some(command) = command_in(alloc, english, line.text().as_str())? else {
         return Ok(Turn::Goes);
     };
