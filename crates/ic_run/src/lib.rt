@@ -14,6 +14,8 @@ mod plan;
 mod program;
 mod retold;
 mod start;
+#[cfg(test)]
+mod tests;
 mod translate;
 mod translation;
 
