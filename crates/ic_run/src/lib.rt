@@ -14,7 +14,10 @@ mod plan;
 mod program;
 mod retold;
 mod start;
+#[cfg(test)]
+mod tests;
 mod translating;
+mod translation;
 mod translation;
 
 pub use ic_book::Why;
