@@ -3,7 +3,8 @@
 //! `run` carries the main promise: where it answers Ok over core lines, the replies that it appended are those of the
 //! identity machine of `ic_laws`, and the book is the one that the machine leaves. For all lines it says the same of the
 //! machine that is served. `desk` gives that for the program's words; for the words `make SEED COUNT` it answers lines that
-//! are made from the seed, and writes what the machine that is served makes of them.
+//! are made from the seed, and writes what the machine that is served makes of them; for `translate LOCALE LANGUAGE` it
+//! writes what lines become in another notation, which is `translate`'s answer.
 #![tactic(auto)]
 
 mod counts;
@@ -17,7 +18,6 @@ mod start;
 #[cfg(test)]
 mod tests;
 mod translating;
-mod translation;
 mod translation;
 
 pub use ic_book::Why;
