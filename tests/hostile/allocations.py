@@ -1,11 +1,12 @@
 """Each allocation refused in turn, over lists of lines.
 
-python3 tests/hostile/allocations.py PROGRAM [FOLDER..] [--most=N]: each folder has files NAME.lines; those of tests/reading/sessions are
-run whole, the first list of each other folder to its 40th line, and 40 made lines besides. Once alone, and once with all that come
-after it, each call of malloc and realloc is refused: refuse.c, which needs a C compiler, stands before the C library. With --most=N only so many of each
-list's calls are, at even distances; the first and the last are always. A run has to end as it does without, or with status 6 and the first of
-the same replies, and with status 6 where the first call and all later ones are refused; the status is 1 where some run ends
-otherwise. It takes four minutes.
+python3 tests/hostile/allocations.py PROGRAM [FOLDER..] [--most=N]: each folder has files NAME.lines; those of
+tests/reading/sessions are run whole, the household book translated, too, the first list of each other folder to its 40th line,
+and 40 made lines besides. Once alone, and once with all that come after it, each call of malloc and realloc is refused:
+refuse.c, which needs a C compiler, stands before the C library. With --most=N only so many of each list's calls are, at even
+distances; the first and the last are always. A run has to end as it does without, or with status 6 and the first of the same
+replies, and with status 6 where the first call and all later ones are refused; the status is 1 where some run ends otherwise.
+It takes four minutes.
 
 python3 tests/hostile/allocations.py --unproved FILE N..: the same of the source that isn't proved, by `rt try --fail-alloc N` for the numbers
 N, over one list of lines. Each run takes a minute."""
@@ -26,6 +27,9 @@ def lists_in(folders):
     """The lists of lines, with their names and the words of the program."""
     yield "make 7 40", b"", ("make", "7", "40")
     paths = sorted(glob.glob(os.path.join(READING, "*.lines")))
+    household = os.path.join(READING, "household.lines")
+    with open(household, "rb") as f:
+        yield f"translate de de, {household}", f.read(), ("translate", "de", "de")
     for path in paths + [sorted(glob.glob(os.path.join(folder, "*.lines")))[0] for folder in folders]:
         with open(path, "rb") as f:
             lines = f.readlines()
