@@ -4,6 +4,7 @@ use Rattle.std.proofs.lemmas.List.{length-map}
 use Rattle.std.specs.List.{AllByRecursion}
 use Rattle.ic_laws.specs.CoreBook.{Definition, spelling_of}
 use Rattle.ic_laws.specs.CoreStep.{updated_at}
+use Rattle.ic_laws.specs.declared.scene.DefinitionSpelling.{DefinitionSpelling}
 use Rattle.ic_laws.specs.declared.scene.Scene.{Scene}
 use Rattle.ic_laws.specs.declared.scene.SheetName.{SheetName}
 use Rattle.ic_laws.specs.declared.tree.Formula.{Formula}
@@ -204,6 +205,19 @@ module _ (w : Workbook) (tables : TableSet) (numbers : List ℕ) where
       same = λ k. record {
         sheets = (named_filled (contents_scene c) w.worksheets ∙ ap (map named) (sym sheets)) k;
         names = map spelling_of c.definitions;
+      }
+
+  spelled_defined : (x : Scene) (ds : List DefinedName) → map spelling_of (map (defined tables x) ds) ≡ map spelling_of (map unread ds)
+  spelled_defined x [] = refl
+  spelled_defined x (d ∷ ds) = ap (λ (rest : List DefinitionSpelling). spelling_of (unread d) ∷ rest) (spelled_defined x ds)
+
+  pub defined_scene : (c after : Contents) → c.definitions ≡ map unread w.defined_names → FillsDefinitions tables w.defined_names c after → contents_scene after ≡ contents_scene c
+  defined_scene c after definitions made = ap₂ scene_of_parts made.sheets made.definitions ∙ same
+    where
+      same : scene_of_parts c.sheets (map (defined tables (contents_scene c)) w.defined_names) ≡ contents_scene c
+      same = λ k. record {
+        sheets = map named c.sheets;
+        names = (spelled_defined (contents_scene c) w.defined_names ∙ ap (map spelling_of) (sym definitions)) k;
       }
 
   module _ (c0 c1 : Contents) (sheets : c0.sheets ≡ map started w.worksheets) (definitions : c0.definitions ≡ map unread w.defined_names) (first : FillsSheets tables numbers w.worksheets c0 c1) where

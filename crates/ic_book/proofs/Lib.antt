@@ -38,6 +38,7 @@ pub mod MeetsLemmas
 pub mod MentionPairs
 pub mod ModelLemmas
 pub mod NameHeld
+mod NameIndexLemmas
 pub mod NameLemmas
 pub mod NewSheetLemmas
 pub mod NothingLemmas

@@ -7,6 +7,7 @@ use Rattle.ic_sheets.specs.declared.sheet.Sheet.{Sheet as HeldSheet}
 use Rattle.ic_book.specs.declared.lists.Lists.{Lists}
 use Rattle.ic_book.specs.declared.model.Model.TheInside.{Inside}
 use Rattle.ic_book.specs.Book.{Book, IsValidBook, ModelState}
+use Rattle.ic_book.specs.Names.{IsIndexed}
 
 -- the book that it holds
 abbrev pub held : Inside → Book
@@ -30,6 +31,11 @@ held_state inside = record { book = held inside; has_all = map (λ s. s.pool.is_
 -- that book is valid
 abbrev pub IsHeld : Inside → Type 0
 IsHeld inside = IsValidBook (held inside)
+
+-- and what finds its sheets and its definitions by their names does
+pub record IsKept (inside : Inside) : Type 0 where
+  pub book : IsHeld inside
+  pub names : IsIndexed inside.names inside.contents.sheets inside.contents.definitions
 
 -- the same with other sheets, with other definitions too, with other lists, and with other styles
 abbrev pub with_sheets : List HeldSheet → Inside → Inside

@@ -5,26 +5,32 @@ ghost use Rattle.std.specs.List.{list_all};
 ghost use Rattle.ic_laws.specs.CoreBook.{last_id};
 ghost use Rattle.ic_laws.specs.Name.{is_sheet_name};
 ghost use Rattle.ic_tables.specs.Tables.{TableSet};
+ghost use Rattle.ic_sheets.specs.Index.{FindsSheets};
 ghost use Rattle.ic_sheets.specs.Records.{HasApartNames, HasIds, started};
 ghost use Rattle.ic_book.specs.Asked.{Breaks, HasCount, HasNames, MeetsTo, TellsFirst, unread};
+ghost use Rattle.ic_book.specs.Names.{IsIndexed};
 
 mod definitions;
 mod sheets;
 
 use crate::BookError;
 use crate::contents::Contents;
+use crate::names::NameIndex;
 use definitions::ask_definitions;
 use ic_cells::{Workbook, Worksheet};
 use ic_refs::is_valid_sheet_name;
 use ic_sheets::{Sheets, has_apart_names, sheets_of};
 pub use sheets::ask_sheets;
 use std::alloc::Global;
+use std::collections::BTreeMap;
 
-/// Asks for the first four conditions, one after another; then gives the sheets and the definitions, which hold nothing yet.
-pub fn ask_contents(alloc: Global, workbook: &Workbook) -> Result<Contents, BookError>
-    ensures sheets { IfOk result (λ c. c.sheets ≡ map started workbook.now.worksheets) }
-    ensures definitions { IfOk result (λ c. c.definitions
+/// Asks for the first four conditions, one after another; then gives the sheets and the definitions, which hold nothing yet,
+/// and what finds them by their names.
+pub fn ask_contents(alloc: Global, workbook: &Workbook) -> Result<(Contents, NameIndex), BookError>
+    ensures sheets { IfOk result (λ c. c.0.sheets ≡ map started workbook.now.worksheets) }
+    ensures definitions { IfOk result (λ c. c.0.definitions
         ≡ map unread workbook.now.defined_names) }
+    ensures indexed { IfOk result (λ c. IsIndexed c.1 c.0.sheets c.0.definitions) }
     ensures met { OnOk result ((language : List ℕ) (tables : TableSet)
         → MeetsTo 4 workbook.now language tables) }
     ensures err { IfErr result (λ e. (tables : TableSet) → TellsFirst workbook.now tables e) }
@@ -32,12 +38,17 @@ pub fn ask_contents(alloc: Global, workbook: &Workbook) -> Result<Contents, Book
     let worksheets = workbook.worksheets.as_slice();
     ask_count(worksheets)?;
     ask_names(alloc, worksheets)?;
-    let sheets = ask_ids(alloc, worksheets)?;
-    let definitions = ask_definitions(alloc, workbook.defined_names.as_slice())?;
-    Ok(Contents {
+    let (sheets, ids) = ask_ids(alloc, worksheets)?;
+    let (definitions, places) = ask_definitions(alloc, workbook.defined_names.as_slice())?;
+    let contents = Contents {
         sheets,
         definitions,
-    })
+    };
+    let names = NameIndex {
+        sheets: ids,
+        names: places,
+    };
+    Ok((contents, names))
 }
 
 /// The greatest id of a sheet.
@@ -76,15 +87,18 @@ fn have_names(worksheets: &[Worksheet]) -> bool
 }
 
 /// Asks whether each sheet has an id, and no two the same; then gives sheets with these ids and names, which hold nothing
-/// yet.
-pub fn ask_ids(alloc: Global, worksheets: &[Worksheet]) -> Result<Sheets, BookError>
+/// yet, and what finds them by their names.
+pub fn ask_ids(
+    alloc: Global,
+    worksheets: &[Worksheet],
+) -> Result<(Sheets, BTreeMap<String, u32>), BookError>
     requires { HasApartNames worksheets.now }
     ensures { MatchResult result
-        (λ sheets. HasIds worksheets.now × (sheets ≡ map started worksheets.now))
-        (Breaks 3 (HasIds worksheets.now)) }
+        (λ made. HasIds worksheets.now × (made.0 ≡ map started worksheets.now)
+        × FindsSheets made.1 made.0) (Breaks 3 (HasIds worksheets.now)) }
 {
     match sheets_of(alloc, worksheets)? {
-        Some(sheets) => Ok(sheets),
+        Some(named) => Ok(named),
         None => Err(BookError::BadWorkbook(3)),
     }
 }

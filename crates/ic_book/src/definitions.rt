@@ -21,7 +21,7 @@ mod update;
 use crate::{BookError, Model};
 use body::TypedBody;
 pub(crate) use body::past_equals;
-use ic_definitions::Definition;
+use ic_definitions::{Definition, NamedDefinitions};
 use ic_laws::OutOfMemory;
 use ic_laws::scan::push_text;
 use ic_refs::is_valid_identifier;
@@ -129,7 +129,7 @@ impl<'a> Model<'a> {
     {
         let (id, body) = self.checked_definition(name, scope, formula)?;
         let definition = self.definition_of(name, id, &body)?;
-        add_definition(&mut self.contents, definition)?;
+        add_definition(&mut self.contents, &mut self.names.names, definition)?;
         Ok(())
     }
 
@@ -170,10 +170,14 @@ impl<'a> Model<'a> {
         let Some(id) = self.scope_id(scope) else {
             return Err(BookError::InvalidSheet);
         };
-        let Some(index) = self.contents.definitions.index_of(name, id) else {
+        let definitions = NamedDefinitions {
+            definitions: &self.contents.definitions,
+            places: &self.names.names,
+        };
+        let Some(index) = definitions.index_of(name, id) else {
             return Err(BookError::NameNotFound);
         };
-        delete_at(&mut self.contents, index)?;
+        delete_at(&mut self.contents, &mut self.names.names, index)?;
         Ok(())
     }
 
@@ -217,7 +221,11 @@ impl<'a> Model<'a> {
         let Some(id) = self.scope_id(scope) else {
             return Err(BookError::InvalidScope);
         };
-        if self.contents.definitions.index_of(name, id).is_some() {
+        let definitions = NamedDefinitions {
+            definitions: &self.contents.definitions,
+            places: &self.names.names,
+        };
+        if definitions.index_of(name, id).is_some() {
             return Err(BookError::NameExists);
         }
         match self.typed_body(formula)? {

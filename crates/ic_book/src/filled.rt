@@ -5,11 +5,13 @@ ghost use Rattle.std.specs.List.{AllByRecursion};
 ghost use Rattle.ic_sheets.specs.Records.{started};
 ghost use Rattle.ic_book.specs.Asked.{Breaks, unread};
 ghost use Rattle.ic_book.specs.Filled.{FillsDefinition, FillsDefinitions, FillsSheet, FillsSheets, HasBodyText, HasSheetTexts, contents_scene, numbered_grid, pool_read, record_tab};
+ghost use Rattle.ic_book.specs.Names.{IsIndexed};
 ghost use Rattle.ic_book.specs.Texts.{AreRead, record_body_in, sheet_formula_in};
 
 use crate::BookError;
 use crate::contents::Contents;
 use crate::copies::{copy_lines, copy_merges};
+use crate::names::NameIndex;
 use crate::numbered::copy_cells_numbered;
 use crate::scene::BookScene;
 use crate::texts::{body_formula, sheet_formulas};
@@ -26,16 +28,18 @@ pub fn fill_sheets(
     alloc: Global,
     tables: &Tables,
     contents: &mut Contents,
+    names: &NameIndex,
     numbers: &[usize],
     worksheets: &[Worksheet],
 ) -> Result<(), BookError>
-    requires { contents.old.sheets ≡ map started worksheets.now }
+    requires indexed { IsIndexed names.now contents.old.sheets contents.old.definitions }
+    requires started { contents.old.sheets ≡ map started worksheets.now }
     ensures { MatchResult result (λ done. FillsSheets tables.now numbers.now worksheets.now
         contents.old contents.new) (Breaks 5 (AllByRecursion (HasSheetTexts tables.now
         (contents_scene contents.old)) worksheets.now)) }
 {
     for (index, worksheet) in worksheets.iter().enumerate() {
-        fill_sheet(alloc, tables, contents, numbers, index, worksheet)?;
+        fill_sheet(alloc, tables, contents, names, numbers, index, worksheet)?;
     }
     Ok(())
 }
@@ -45,16 +49,18 @@ fn fill_sheet(
     alloc: Global,
     tables: &Tables,
     contents: &mut Contents,
+    names: &NameIndex,
     numbers: &[usize],
     index: usize,
     worksheet: &Worksheet,
 ) -> Result<(), BookError>
-    requires { index < length contents.old.sheets }
+    requires indexed { IsIndexed names.now contents.old.sheets contents.old.definitions }
+    requires within { index < length contents.old.sheets }
     ensures { MatchResult result (λ done. FillsSheet tables.now numbers.now index worksheet.now
         contents.old contents.new) (Breaks 5 (HasSheetTexts tables.now
         (contents_scene contents.old) worksheet.now)) }
 {
-    let pool = read_pool(alloc, tables, contents, worksheet)?;
+    let pool = read_pool(alloc, tables, contents, names, worksheet)?;
     let grid = numbered_grid(alloc, numbers, worksheet)?;
     let tab = record_tab(alloc, worksheet)?;
     contents.sheets.fill(index, pool, grid, tab);
@@ -66,14 +72,16 @@ fn read_pool(
     alloc: Global,
     tables: &Tables,
     contents: &Contents,
+    names: &NameIndex,
     worksheet: &Worksheet,
 ) -> Result<Pool, BookError>
+    requires { IsIndexed names.now contents.now.sheets contents.now.definitions }
     ensures { MatchResult result
         (λ pool. HasSheetTexts tables.now (contents_scene contents.now) worksheet.now
         × (pool ≡ pool_read tables.now (contents_scene contents.now) worksheet.now))
         (Breaks 5 (HasSheetTexts tables.now (contents_scene contents.now) worksheet.now)) }
 {
-    match read_formulas(alloc, tables, contents, worksheet)? {
+    match read_formulas(alloc, tables, contents, names, worksheet)? {
         Some(formulas) => Ok(Pool::from_formulas(alloc, formulas)?),
         None => Err(BookError::BadWorkbook(5)),
     }
@@ -84,13 +92,15 @@ fn read_formulas(
     alloc: Global,
     tables: &Tables,
     contents: &Contents,
+    names: &NameIndex,
     worksheet: &Worksheet,
 ) -> Result<Option<Vec<Formula>>, OutOfMemory>
+    requires { IsIndexed names.now contents.now.sheets contents.now.definitions }
     ensures { IfOk result (λ made. AreRead (sheet_formula_in tables.now
         (contents_scene contents.now) worksheet.now.sheet_id) worksheet.now.shared_formulas
         (option_map (λ formulas. formulas.items) made)) }
 {
-    let scene = BookScene::new(&contents.sheets, &contents.definitions);
+    let scene = BookScene::new(contents, names);
     let texts = worksheet.shared_formulas.as_slice();
     sheet_formulas(alloc, tables, &scene, worksheet.sheet_id, texts)
 }
@@ -134,15 +144,17 @@ pub fn fill_definitions(
     alloc: Global,
     tables: &Tables,
     contents: &mut Contents,
-    names: &[DefinedName],
+    names: &NameIndex,
+    records: &[DefinedName],
 ) -> Result<(), BookError>
-    requires { contents.old.definitions ≡ map unread names.now }
-    ensures { MatchResult result (λ done. FillsDefinitions tables.now names.now
+    requires indexed { IsIndexed names.now contents.old.sheets contents.old.definitions }
+    requires unread { contents.old.definitions ≡ map unread records.now }
+    ensures { MatchResult result (λ done. FillsDefinitions tables.now records.now
         contents.old contents.new) (Breaks 5 (AllByRecursion (HasBodyText tables.now
-        (contents_scene contents.old)) names.now)) }
+        (contents_scene contents.old)) records.now)) }
 {
-    for (index, name) in names.iter().enumerate() {
-        fill_definition(alloc, tables, contents, index, name)?;
+    for (index, record) in records.iter().enumerate() {
+        fill_definition(alloc, tables, contents, names, index, record)?;
     }
     Ok(())
 }
@@ -152,15 +164,17 @@ fn fill_definition(
     alloc: Global,
     tables: &Tables,
     contents: &mut Contents,
+    names: &NameIndex,
     index: usize,
     name: &DefinedName,
 ) -> Result<(), BookError>
-    requires { index < length contents.old.definitions }
+    requires indexed { IsIndexed names.now contents.old.sheets contents.old.definitions }
+    requires within { index < length contents.old.definitions }
     ensures { MatchResult result (λ done. FillsDefinition tables.now index name.now
         contents.old contents.new) (Breaks 5 (HasBodyText tables.now
         (contents_scene contents.old) name.now)) }
 {
-    match read_body(alloc, tables, contents, name)? {
+    match read_body(alloc, tables, contents, names, name)? {
         Some(body) => {
             contents.definitions.set_body(index, body);
             Ok(())
@@ -174,12 +188,14 @@ fn read_body(
     alloc: Global,
     tables: &Tables,
     contents: &Contents,
+    names: &NameIndex,
     name: &DefinedName,
 ) -> Result<Option<Formula>, OutOfMemory>
+    requires { IsIndexed names.now contents.now.sheets contents.now.definitions }
     ensures { IfOk result (λ body. body
         ≡ record_body_in tables.now (contents_scene contents.now) name.now) }
 {
-    let scene = BookScene::new(&contents.sheets, &contents.definitions);
+    let scene = BookScene::new(contents, names);
     let text = name.formula.as_str();
     body_formula(alloc, tables, &scene, name.sheet_id, text)
 }

@@ -5,6 +5,7 @@ ghost use Rattle.ic_book.specs.Asked.{Breaks, HasCount, IsTakenIn, MeetsTo, Tell
 ghost use Rattle.ic_book.specs.Book.{whole_of};
 ghost use Rattle.ic_book.specs.Filled.{AreFilled};
 ghost use Rattle.ic_book.specs.HandedIn.{MeetsAll, book_of, definition_of, notation_refusal};
+ghost use Rattle.ic_book.specs.Names.{IsIndexed};
 
 use crate::about::About;
 use crate::asked::{ask_contents, ask_sheets};
@@ -13,6 +14,7 @@ use crate::copies::{copy_metadata, copy_styles, copy_text};
 use crate::filled::{fill_definitions, fill_sheets};
 use crate::in_force::Notation;
 use crate::lists::Lists;
+use crate::names::NameIndex;
 use crate::numbered::number_texts;
 use crate::{BookError, Model};
 use ic_cells::{Workbook, Worksheet};
@@ -80,7 +82,7 @@ fn from_records<'a>(
     let texts = workbook.shared_strings.as_slice();
     let numbered = number_texts(alloc, texts)?;
     let numbers = numbered.numbers.as_slice();
-    let contents = contents_of(alloc, tables, workbook, numbers)?;
+    let (contents, names) = contents_of(alloc, tables, workbook, numbers)?;
     let sheets = contents.sheets.as_slice();
     ask_sheets(workbook, sheets)?;
     let styles = copy_styles(alloc, &workbook.styles)?;
@@ -90,6 +92,7 @@ fn from_records<'a>(
         alloc,
         notation: Notation::new(tables, locale, language),
         contents,
+        names,
         lists: Lists { styles, strings },
         about,
     })
@@ -105,28 +108,29 @@ fn memory_of(worksheets: &[Worksheet]) -> Result<Global, BookError>
     Ok(worksheets[0].cells.alloc())
 }
 
-/// The sheets and the definitions that records make, with the numbers of shared strings by their indexes. Asks for the first
-/// five conditions, one after another.
+/// The sheets and the definitions that records make, with the numbers of shared strings by their indexes, and what finds
+/// them by their names. Asks for the first five conditions, one after another.
 fn contents_of(
     alloc: Global,
     tables: &Tables,
     workbook: &Workbook,
     numbers: &[usize],
-) -> Result<Contents, BookError>
+) -> Result<(Contents, NameIndex), BookError>
     ensures sheets { IfOk result
-        (λ c. AreFilled workbook.now tables.now numbers.now c.sheets) }
-    ensures definitions { IfOk result (λ c. c.definitions
+        (λ c. AreFilled workbook.now tables.now numbers.now c.0.sheets) }
+    ensures definitions { IfOk result (λ c. c.0.definitions
         ≡ map (definition_of workbook.now tables.now) workbook.now.defined_names) }
+    ensures indexed { IfOk result (λ c. IsIndexed c.1 c.0.sheets c.0.definitions) }
     ensures met { OnOk result ((language : List ℕ)
         → MeetsTo 5 workbook.now language tables.now) }
     ensures err { IfErr result (TellsFirst workbook.now tables.now) }
 {
-    let mut contents = ask_contents(alloc, workbook)?;
+    let (mut contents, names) = ask_contents(alloc, workbook)?;
     let worksheets = workbook.worksheets.as_slice();
-    fill_sheets(alloc, tables, &mut contents, numbers, worksheets)?;
-    let names = workbook.defined_names.as_slice();
-    fill_definitions(alloc, tables, &mut contents, names)?;
-    Ok(contents)
+    fill_sheets(alloc, tables, &mut contents, &names, numbers, worksheets)?;
+    let records = workbook.defined_names.as_slice();
+    fill_definitions(alloc, tables, &mut contents, &names, records)?;
+    Ok((contents, names))
 }
 
 /// What records have beside their contents, their lists and their notation.

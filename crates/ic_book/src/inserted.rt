@@ -13,6 +13,7 @@ ghost use Rattle.ic_book.specs.Refused.{TellsOnly};
 ghost use Rattle.ic_book.specs.Whole.{whole_of};
 
 use crate::{BookError, Model};
+use ic_definitions::NamedDefinitions;
 use ic_laws::OutOfMemory;
 use ic_pool::SheetNamed;
 use ic_refs::is_valid_sheet_name;
@@ -62,7 +63,7 @@ impl<'a> Model<'a> {
         if !is_valid_sheet_name(name) {
             return Err(BookError::InvalidSheetName);
         }
-        if self.contents.sheets.is_taken(name) {
+        if self.contents.sheets.is_taken(&self.names.sheets, name) {
             return Err(BookError::SheetExists);
         }
         if index > self.contents.sheets.len() {
@@ -111,15 +112,19 @@ impl<'a> Model<'a> {
     {
         // What always holds of a model is known from here on.
         let _ = &self.contents;
+        let definitions = NamedDefinitions {
+            definitions: &self.contents.definitions,
+            places: &self.names.names,
+        };
         let named = SheetNamed {
             id,
             name,
-            definitions: &self.contents.definitions,
+            definitions: &definitions,
         };
         let bodies = self.contents.definitions.prepare_dangling(&named)?;
         self.contents
             .sheets
-            .insert_sheet(index, id, name, &self.contents.definitions)?;
+            .insert_sheet(&mut self.names.sheets, index, id, name, &definitions)?;
         self.contents.definitions.apply(bodies);
         Ok(())
     }

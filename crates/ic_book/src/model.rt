@@ -9,6 +9,7 @@ ghost use Rattle.ic_book.specs.Fields.{scope_field};
 ghost use Rattle.ic_book.specs.Refused.{Refuses};
 ghost use Rattle.ic_machine.specs.subjects.Sheets.{GetNewSheetId, sheet_step};
 ghost use Rattle.ic_cells.specs.Style.{default_style};
+ghost use Rattle.ic_sheets.specs.Index.{FindsSheets};
 ghost use Rattle.ic_sheets.specs.Sheet.{empty_grid, plain_tab};
 
 use crate::BookError;
@@ -16,6 +17,7 @@ use crate::about::{About, metadata_made};
 use crate::contents::Contents;
 use crate::in_force::Notation;
 use crate::lists::Lists;
+use crate::names::NameIndex;
 use crate::scene::BookScene;
 use crate::sheet_names::{NumberedName, base_name, put_name};
 use ic_cells::{SharedStrings, Styles};
@@ -25,6 +27,7 @@ use ic_sheets::Sheets;
 use ic_tables::{Language, Tables};
 use jiff::Timestamp;
 use std::alloc::Global;
+use std::collections::BTreeMap;
 use std::marker;
 
 /// A workbook. It borrows the tables that it is read and shown by.
@@ -32,6 +35,7 @@ pub struct Model<'a> {
     pub(crate) alloc: Global,
     pub(crate) notation: Notation<'a>,
     pub(crate) contents: Contents,
+    pub(crate) names: NameIndex,
     pub(crate) lists: Lists,
     pub(crate) about: About<'a>,
 }
@@ -42,12 +46,14 @@ impl Drop for Model<'_> {
             alloc,
             notation,
             contents,
+            names,
             lists,
             about,
         } = self;
         drop(alloc);
         drop(notation);
         drop(contents);
+        drop(names);
         drop(lists);
         drop(about);
     }
@@ -55,7 +61,7 @@ impl Drop for Model<'_> {
 
 impl<'a> marker::Model for Model<'a> {
     ghost use Rattle.ic_book.specs.Book.{ModelState};
-    ghost use Rattle.ic_book.specs.Inside.{IsHeld, held_state};
+    ghost use Rattle.ic_book.specs.Inside.{IsKept, held_state};
 
     ghost Value = { ModelState };
 
@@ -69,7 +75,7 @@ impl<'a> marker::Model for Model<'a> {
 
     ghost view = { held_state };
 
-    ghost invariant = { IsHeld };
+    ghost invariant = { IsKept };
 }
 
 impl<'a> Model<'a> {
@@ -101,7 +107,7 @@ impl<'a> Model<'a> {
         let Ok(language) = tables.get_language(language_id) else {
             return Err(BookError::InvalidLanguage);
         };
-        let sheets = first_sheet(alloc, language)?;
+        let (sheets, ids) = first_sheet(alloc, language)?;
         let about = about(alloc, name, zone, moment)?;
         let lists = lists(alloc)?;
         Ok(Model {
@@ -110,6 +116,10 @@ impl<'a> Model<'a> {
             contents: Contents {
                 sheets,
                 definitions: Definitions::new(alloc),
+            },
+            names: NameIndex {
+                sheets: ids,
+                names: BTreeMap::new(alloc),
             },
             lists,
             about,
@@ -143,7 +153,7 @@ impl<'a> Model<'a> {
     pub(crate) fn scene<'b>(&'b self) -> BookScene<'b>
         ensures { ⟦<BookScene<'b> as Finder>⟧.scene result ≡ scene_in self.now.book }
     {
-        BookScene::new(&self.contents.sheets, &self.contents.definitions)
+        BookScene::new(&self.contents, &self.names)
     }
 
     /// The formula at an index of the formulas that the sheet at an index keeps, both from 0. None exactly where there is
@@ -164,11 +174,24 @@ impl<'a> Model<'a> {
         let worksheet = self.contents.sheets.as_slice().get(sheet as usize)?;
         worksheet.pool.get(index)
     }
+
+    /// The body of the definition at an index of the book's definitions, from 0. None exactly where there is no such
+    /// definition. It takes no memory.
+    pub fn parsed_definition(&self, index: usize) -> Option<&Formula>
+        ensures { option_map (λ f. f.now) result ≡ option_map (λ d. d.body)
+            (slice_get self.now.book.definitions index) }
+    {
+        let definition = self.contents.definitions.as_slice().get(index)?;
+        Some(definition.body())
+    }
 }
 
-/// The sheets of a new book: one, with the id 1, named by the language.
-fn first_sheet(alloc: Global, language: &Language) -> Result<Sheets, OutOfMemory>
-    ensures { IfOk result (λ sheets. sheets
+/// The sheets of a new book, one, with the id 1, named by the language, and what finds it by its name.
+fn first_sheet(
+    alloc: Global,
+    language: &Language,
+) -> Result<(Sheets, BTreeMap<String, u32>), OutOfMemory>
+    ensures sheets { IfOk result (λ made. made.0
         ≡ record {
           id = 1;
           name = first_sheet_name_in language.now.code;
@@ -178,13 +201,15 @@ fn first_sheet(alloc: Global, language: &Language) -> Result<Sheets, OutOfMemory
           tab = plain_tab;
         }
         ∷ []) }
+    ensures finds { IfOk result (λ made. FindsSheets made.1 made.0) }
 {
     let base = NumberedName::Word(base_name(&language.code));
     let mut name = String::new(alloc);
     put_name(&mut name, &base, 1)?;
     let mut sheets = Sheets::new(alloc);
-    sheets.add_leaving_formulas(1, name.as_str())?;
-    Ok(sheets)
+    let mut ids = BTreeMap::new(alloc);
+    sheets.add_leaving_formulas(&mut ids, 1, name.as_str())?;
+    Ok((sheets, ids))
 }
 
 /// The lists of a new workbook: the default style, no shared strings.

@@ -53,6 +53,7 @@ impl<'a> Model<'a> {
         // What always holds of a model is known from here on.
         let _ = &self.contents;
         let base = NumberedName::Word(base_name(&self.notation.language().code));
-        free_name(self.alloc, &self.contents.sheets, &base)
+        let sheets = &self.contents.sheets;
+        free_name(self.alloc, sheets, &self.names.sheets, &base)
     }
 }

@@ -47,7 +47,10 @@ impl<'a> Model<'a> {
         ensures valid { IsValidBook self.now.book }
     {
         let rest = past_name(text);
-        let index = self.contents.sheets.index_of_name(front_of(text, rest))?;
+        let index = self
+            .contents
+            .sheets
+            .index_of_name(&self.names.sheets, front_of(text, rest))?;
         place_after(index as u32, rest)
     }
 }

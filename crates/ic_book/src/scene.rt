@@ -1,31 +1,43 @@
 ghost use Rattle.std.specs.Prelude.{◌≡◌, ◌&&◌, IfOk, chars, option_map};
 ghost use Rattle.ic_laws.specs.Name.{agrees, fold};
 ghost use Rattle.ic_laws.specs.Scene.{definition_at, key_of, same_scope};
+ghost use Rattle.ic_sheets.specs.Index.{FindsSheets};
+ghost use Rattle.ic_book.specs.Names.{IsIndexed};
 ghost use Rattle.ic_book.specs.Scene.{scene_with};
 
-use ic_definitions::Definitions;
+use crate::contents::Contents;
+use crate::names::NameIndex;
+use ic_definitions::NamedDefinitions;
 use ic_laws::{Finder, NameKey, OutOfMemory, agree};
 use ic_pool::{copy_key, same_key, same_scope};
 use ic_sheets::Sheets;
 use std::alloc::Global;
+use std::collections::BTreeMap;
 
 /// What the formulas of a book can mention: its sheets, which are found by their folded names in an ordered map, and its
 /// definitions, which are found so by their keys.
 #[derive(Clone, Copy)]
 pub struct BookScene<'b> {
     sheets: &'b Sheets,
-    definitions: &'b Definitions,
+    ids: &'b BTreeMap<String, u32>,
+    definitions: NamedDefinitions<'b>,
+    ghost own: { FindsSheets ids.now sheets.now },
 }
 
 impl<'b> BookScene<'b> {
-    /// The scene of a book with these sheets and these definitions.
-    pub fn new(sheets: &'b Sheets, definitions: &'b Definitions) -> BookScene<'b>
-        ensures sheets { result.sheets.now ≡ sheets.now }
-        ensures definitions { result.definitions.now ≡ definitions.now }
+    /// The scene of a book with these contents, and what finds them by their names.
+    pub fn new(contents: &'b Contents, names: &'b NameIndex) -> BookScene<'b>
+        requires { IsIndexed names.now contents.now.sheets contents.now.definitions }
+        ensures sheets { result.sheets.now ≡ contents.now.sheets }
+        ensures definitions { result.definitions.definitions.now ≡ contents.now.definitions }
     {
         BookScene {
-            sheets,
-            definitions,
+            sheets: &contents.sheets,
+            ids: &names.sheets,
+            definitions: NamedDefinitions {
+                definitions: &contents.definitions,
+                places: &names.names,
+            },
         }
     }
 }
@@ -33,10 +45,10 @@ impl<'b> BookScene<'b> {
 impl<'b> Finder for BookScene<'b> {
     ghost use Rattle.ic_book.specs.Scene.{scene_of_parts};
 
-    ghost scene = { λ s. scene_of_parts s.sheets.now s.definitions.now };
+    ghost scene = { λ s. scene_of_parts s.sheets.now s.definitions.definitions.now };
 
     fn find_sheet(&self, _alloc: Global, name: &str) -> Result<Option<u32>, OutOfMemory> {
-        Ok(self.sheets.find(name))
+        Ok(self.sheets.find(self.ids, name))
     }
 
     fn find_name(
@@ -85,7 +97,7 @@ impl<'b> SceneWithDefinition<'b> {
         word: &str,
     ) -> Result<Option<NameKey>, OutOfMemory>
         ensures { IfOk result (λ key. key ≡ option_map key_of (definition_at
-            (scene_with self.now.book.sheets.now self.now.book.definitions.now
+            (scene_with self.now.book.sheets.now self.now.book.definitions.definitions.now
             (chars self.now.name.now) self.now.key.now.scope) (fold (chars word.now)) scope)) }
     {
         if let Some(key) = self.book.definitions.key_at(scope, word)? {
@@ -110,7 +122,7 @@ impl<'b> Finder for SceneWithDefinition<'b> {
     ghost use Rattle.std.specs.Prelude.{chars};
     ghost use Rattle.ic_book.specs.Scene.{scene_with};
 
-    ghost scene = { λ s. scene_with s.book.sheets.now s.book.definitions.now (chars s.name.now) s.key.now.scope };
+    ghost scene = { λ s. scene_with s.book.sheets.now s.book.definitions.definitions.now (chars s.name.now) s.key.now.scope };
 
     fn find_sheet(&self, alloc: Global, name: &str) -> Result<Option<u32>, OutOfMemory> {
         self.book.find_sheet(alloc, name)
@@ -147,17 +159,26 @@ impl<'b> Finder for SceneWithDefinition<'b> {
 #[derive(Drop)]
 pub struct SceneOver<'b, F: Finder> {
     sheets: &'b Sheets,
+    ids: &'b BTreeMap<String, u32>,
     definitions: &'b F,
+    ghost own: { FindsSheets ids.now sheets.now },
 }
 
 impl<'b, F: Finder> SceneOver<'b, F> {
-    /// The scene of a book with these sheets, where the definitions are those that this finds.
-    pub fn new(sheets: &'b Sheets, definitions: &'b F) -> SceneOver<'b, F>
+    /// The scene of a book with these sheets, which this finds by their names, where the definitions are those that `F`
+    /// finds.
+    pub fn new(
+        sheets: &'b Sheets,
+        ids: &'b BTreeMap<String, u32>,
+        definitions: &'b F,
+    ) -> SceneOver<'b, F>
+        requires { FindsSheets ids.now sheets.now }
         ensures sheets { result.sheets.now ≡ sheets.now }
         ensures definitions { result.definitions.now ≡ definitions.now }
     {
         SceneOver {
             sheets,
+            ids,
             definitions,
         }
     }
@@ -170,7 +191,7 @@ impl<'b, F: Finder> Finder for SceneOver<'b, F> {
     ghost scene = { λ s. record { sheets = map named s.sheets.now; names = (F.scene s.definitions.now).names } };
 
     fn find_sheet(&self, _alloc: Global, name: &str) -> Result<Option<u32>, OutOfMemory> {
-        Ok(self.sheets.find(name))
+        Ok(self.sheets.find(self.ids, name))
     }
 
     fn find_name(

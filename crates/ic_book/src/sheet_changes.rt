@@ -14,6 +14,7 @@ ghost use Rattle.ic_book.specs.Refused.{Refuses, RefusesOnly};
 
 use crate::definitions::bodies_without;
 use crate::{BookError, Model};
+use ic_definitions::NamedDefinitions;
 use ic_pool::SheetNamed;
 use ic_refs::is_valid_sheet_name;
 
@@ -87,7 +88,11 @@ impl<'a> Model<'a> {
         ensures looks_up { OnOk result (AtName (chars old_name.now) self.old.book
             (λ index. LooksUpNamed index (chars new_name.now) self.old self.new)) }
     {
-        let Some(index) = self.contents.sheets.index_of_name(old_name) else {
+        let Some(index) = self
+            .contents
+            .sheets
+            .index_of_name(&self.names.sheets, old_name)
+        else {
             return Err(BookError::SheetNotFound);
         };
         self.rename_at(index, new_name)
@@ -145,7 +150,7 @@ impl<'a> Model<'a> {
         ensures looks_up { OnOk result (AtName (chars name.now) self.old.book
             (λ index. LooksUpWithout index self.old self.new)) }
     {
-        let Some(index) = self.contents.sheets.index_of_name(name) else {
+        let Some(index) = self.contents.sheets.index_of_name(&self.names.sheets, name) else {
             return Err(BookError::SheetNotFound);
         };
         self.delete_at(index)
@@ -194,21 +199,29 @@ impl<'a> Model<'a> {
         if !is_valid_sheet_name(sheet_name) {
             return Err(BookError::InvalidSheetName);
         }
-        if self.contents.sheets.is_taken(sheet_name) {
+        if self
+            .contents
+            .sheets
+            .is_taken(&self.names.sheets, sheet_name)
+        {
             return Err(BookError::SheetExists);
         }
         let Some(id) = self.get_new_sheet_id() else {
             return Err(BookError::IdsUsedUp);
         };
+        let definitions = NamedDefinitions {
+            definitions: &self.contents.definitions,
+            places: &self.names.names,
+        };
         let named = SheetNamed {
             id,
             name: sheet_name,
-            definitions: &self.contents.definitions,
+            definitions: &definitions,
         };
         let bodies = self.contents.definitions.prepare_dangling(&named)?;
         self.contents
             .sheets
-            .add_sheet(id, sheet_name, &self.contents.definitions)?;
+            .add_sheet(&mut self.names.sheets, id, sheet_name, &definitions)?;
         self.contents.definitions.apply(bodies);
         Ok(())
     }
@@ -263,21 +276,26 @@ impl<'a> Model<'a> {
         if !is_valid_sheet_name(new_name) {
             return Err(BookError::InvalidSheetName);
         }
-        if self.contents.sheets.is_taken_by_other(index, new_name) {
+        let ids = &self.names.sheets;
+        if self.contents.sheets.is_taken_by_other(ids, index, new_name) {
             return Err(BookError::SheetExists);
         }
         if index >= self.contents.sheets.len() {
             return Err(BookError::InvalidSheet);
         }
+        let definitions = NamedDefinitions {
+            definitions: &self.contents.definitions,
+            places: &self.names.names,
+        };
         let named = SheetNamed {
             id: self.contents.sheets.as_slice()[index].id,
             name: new_name,
-            definitions: &self.contents.definitions,
+            definitions: &definitions,
         };
         let bodies = self.contents.definitions.prepare_dangling(&named)?;
         self.contents
             .sheets
-            .rename_sheet(index, new_name, &self.contents.definitions)?;
+            .rename_sheet(&mut self.names.sheets, index, new_name, &definitions)?;
         self.contents.definitions.apply(bodies);
         Ok(())
     }
@@ -300,10 +318,14 @@ impl<'a> Model<'a> {
         if index >= self.contents.sheets.len() {
             return Err(BookError::SheetIndexTooLarge);
         }
-        let bodies = bodies_without(&self.contents, index)?;
+        let bodies = bodies_without(&self.contents, &self.names.names, index)?;
+        let definitions = NamedDefinitions {
+            definitions: &self.contents.definitions,
+            places: &self.names.names,
+        };
         self.contents
             .sheets
-            .delete_sheet(index, &self.contents.definitions)?;
+            .delete_sheet(&mut self.names.sheets, index, &definitions)?;
         self.contents.definitions.apply(bodies);
         Ok(())
     }

@@ -7,7 +7,7 @@ ghost use Rattle.ic_laws.specs.Name.{agrees, is_sheet_name};
 ghost use Rattle.ic_laws.specs.Scene.{same_key};
 ghost use Rattle.ic_tree.specs.LanguageWords.{function_of};
 ghost use Rattle.ic_definitions.specs.Bodies.{FitsBodies, with_bodies};
-ghost use Rattle.ic_definitions.specs.Named.{key_in, scopes_of};
+ghost use Rattle.ic_definitions.specs.Named.{FindsNames, key_in, scopes_of};
 ghost use Rattle.ic_sheets.specs.Sheet.{Sheet};
 ghost use Rattle.ic_sheets.specs.declared.sheet.Sheet.{Sheet as HeldSheet};
 ghost use Rattle.ic_machine.specs.subjects.Sheets as sheets;
@@ -17,6 +17,7 @@ ghost use Rattle.ic_book.specs.Change.{book_changed_by};
 ghost use Rattle.ic_book.specs.Copied.{BindsCopied, HasCopy, LooksUpCopied, MeansCopied, definitions_copied, filled_by, made_for, sheet_copied, with_copied_sheet};
 ghost use Rattle.ic_book.specs.Does.{Does};
 ghost use Rattle.ic_book.specs.Fields.{named_sheet_fields};
+ghost use Rattle.ic_book.specs.Names.{IsIndexed};
 ghost use Rattle.ic_book.specs.SheetNames.{IsNumbered};
 ghost use Rattle.ic_book.specs.Whole.{whole_of};
 
@@ -25,16 +26,18 @@ mod filling;
 mod mentions;
 
 use crate::contents::Contents;
+use crate::names::NameIndex;
 use crate::scene::SceneOver;
 use crate::sheet_names::{NumberedName, free_name};
 use crate::{BookError, Model};
 use definitions::{copied_definitions, put_bodies};
 use filling::{Filling, copied_bodies, filling_of};
-use ic_definitions::{BodyRewrites, BothDefinitions, Definitions};
+use ic_definitions::{BodyRewrites, BothDefinitions, Definitions, NamedDefinitions};
 use ic_laws::{Formula, OutOfMemory};
 use ic_pool::SheetNamed;
 use ic_tables::Language;
 use std::alloc::Global;
+use std::collections::BTreeMap;
 
 impl<'a> Model<'a> {
     /// Puts a copy of the sheet at an index, from 0, in directly after it, and answers its name and its index, from 0. The
@@ -91,7 +94,8 @@ impl<'a> Model<'a> {
         let _ = &self.contents;
         let source = &self.contents.sheets.as_slice()[index];
         let name = NumberedName::Copy(source.name.as_str());
-        free_name(self.alloc, &self.contents.sheets, &name)
+        let sheets = &self.contents.sheets;
+        free_name(self.alloc, sheets, &self.names.sheets, &name)
     }
 
     /// Puts a copy of the sheet at an index in, with this id, which is the fresh one, and this name.
@@ -112,7 +116,15 @@ impl<'a> Model<'a> {
         // What always holds of a model is known from here on.
         let _ = &self.contents;
         let english = self.notation.get_default_language();
-        copy_sheet(self.alloc, &mut self.contents, english, index, id, name)?;
+        copy_sheet(
+            self.alloc,
+            &mut self.contents,
+            &mut self.names,
+            english,
+            index,
+            id,
+            name,
+        )?;
         Ok(())
     }
 }
@@ -122,11 +134,13 @@ impl<'a> Model<'a> {
 fn copy_sheet(
     alloc: Global,
     contents: &mut Contents,
+    names: &mut NameIndex,
     english: &Language,
     index: usize,
     id: u32,
     name: &str,
 ) -> Result<(), OutOfMemory>
+    requires indexed { IsIndexed names.old contents.old.sheets contents.old.definitions }
     requires within { index < length contents.old.sheets }
     requires free { list_any (agrees (chars name.now))
         (map (λ s. s.name) contents.old.sheets) ≡ false }
@@ -138,26 +152,39 @@ fn copy_sheet(
         → HasCopy (function_of english.now) index id (chars name.now) source contents.old
         contents.new) }
     ensures err { OnErr result (contents.new ≡ contents.old) }
+    ensures indexed { IsIndexed names.new contents.new.sheets contents.new.definitions }
 {
     let source = contents.sheets.as_slice()[index].id;
-    let copies = copied_definitions(alloc, &contents.definitions, source, id)?;
-    let both = BothDefinitions::new(&contents.definitions, &copies);
-    let named = SheetNamed {
+    let named = NamedDefinitions {
+        definitions: &contents.definitions,
+        places: &names.names,
+    };
+    let (copies, places) = copied_definitions(alloc, &named, source, id)?;
+    let copied = NamedDefinitions {
+        definitions: &copies,
+        places: &places,
+    };
+    let both = BothDefinitions::new(named, copied);
+    let change = SheetNamed {
         id,
         name,
         definitions: &both,
     };
-    let bodies = contents.definitions.prepare_dangling(&named)?;
+    let bodies = contents.definitions.prepare_dangling(&change)?;
     let place = index + 1;
-    let prepared = contents.sheets.insert_unapplied(place, id, name, &both)?;
-    match add_copies(alloc, contents, english, index, id, copies, bodies) {
+    let prepared = contents
+        .sheets
+        .insert_unapplied(&mut names.sheets, place, id, name, &both)?;
+    match add_copies(
+        alloc, contents, names, english, index, id, copies, places, bodies,
+    ) {
         Ok(filling) => {
             contents.sheets.apply_own(prepared);
             filling.put(&mut contents.sheets, place);
             Ok(())
         }
         Err(error) => {
-            contents.sheets.take_out(place);
+            contents.sheets.take_out(&mut names.sheets, place);
             Err(error)
         }
     }
@@ -169,12 +196,16 @@ fn copy_sheet(
 fn add_copies(
     alloc: Global,
     contents: &mut Contents,
+    names: &mut NameIndex,
     english: &Language,
     index: usize,
     id: u32,
     mut copies: Definitions,
+    places: BTreeMap<(String, Option<u32>), usize>,
     bodies: BodyRewrites,
 ) -> Result<Filling, OutOfMemory>
+    requires indexed { IsIndexed names.old contents.old.sheets contents.old.definitions }
+    requires copied { FindsNames places copies }
     requires within { index < length contents.old.sheets }
     requires apart { AllByRecursion (λ d. list_any (is_named d.name d.scope)
         contents.old.definitions ≡ false) copies }
@@ -190,10 +221,18 @@ fn add_copies(
         (contents.old.definitions ++ copies) source.id id)) copies) }
     ensures sheets { OnOk result (contents.new.sheets ≡ contents.old.sheets) }
     ensures err { OnErr result (contents.new ≡ contents.old) }
+    ensures indexed { IsIndexed names.new contents.new.sheets contents.new.definitions }
 {
-    let (filling, own_bodies) = made_for(alloc, contents, english, index, id, &copies)?;
+    let copied = NamedDefinitions {
+        definitions: &copies,
+        places: &places,
+    };
+    let (filling, own_bodies) = made_for(alloc, contents, names, english, index, id, &copied)?;
+    drop(places);
     put_bodies(&mut copies, own_bodies);
-    contents.definitions.append(copies, bodies)?;
+    contents
+        .definitions
+        .append(&mut names.names, copies, bodies)?;
     Ok(filling)
 }
 
@@ -202,25 +241,32 @@ fn add_copies(
 fn made_for(
     alloc: Global,
     contents: &Contents,
+    names: &NameIndex,
     english: &Language,
     index: usize,
     id: u32,
-    copies: &Definitions,
+    copies: &NamedDefinitions,
 ) -> Result<(Filling, Vec<Formula>), OutOfMemory>
-    requires { index < length contents.now.sheets }
+    requires indexed { IsIndexed names.now contents.now.sheets contents.now.definitions }
+    requires within { index < length contents.now.sheets }
     ensures filling { IfOk result (λ made. (source : HeldSheet)
         → slice_get contents.now.sheets index ≡ Some source
         → made.0 ≡ filled_by (made_for (function_of english.now) contents.now.sheets
-        (contents.now.definitions ++ copies.now) source.id id) source) }
+        (contents.now.definitions ++ copies.now.definitions.now) source.id id) source) }
     ensures bodies { IfOk result (λ made. (source : HeldSheet)
         → slice_get contents.now.sheets index ≡ Some source
         → made.1.items ≡ map (λ d. made_for (function_of english.now) contents.now.sheets
-        (contents.now.definitions ++ copies.now) source.id id d.body) copies.now) }
+        (contents.now.definitions ++ copies.now.definitions.now) source.id id d.body)
+        copies.now.definitions.now) }
 {
-    let both = BothDefinitions::new(&contents.definitions, copies);
-    let after = SceneOver::new(&contents.sheets, &both);
+    let named = NamedDefinitions {
+        definitions: &contents.definitions,
+        places: &names.names,
+    };
+    let both = BothDefinitions::new(named, *copies);
+    let after = SceneOver::new(&contents.sheets, &names.sheets, &both);
     let source = &contents.sheets.as_slice()[index];
-    let list = copies.as_slice();
+    let list = copies.definitions.as_slice();
     let bodies = copied_bodies(alloc, &after, english, source.id, id, list)?;
     let filling = filling_of(alloc, &after, english, source, id)?;
     Ok((filling, bodies))

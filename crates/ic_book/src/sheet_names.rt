@@ -1,6 +1,7 @@
 //! Names that new sheets get, with a number that makes them differ from all others.
 ghost use Rattle.std.specs.Prelude.{◌≡◌, ◌<◌, ◌^◌, ◌+◌, ◌++◌, [], OnOk, IfOk, chars, length, map, string_bytes, take};
 ghost use Rattle.std.specs.Fmt.{decimal};
+ghost use Rattle.ic_sheets.specs.Index.{FindsSheets};
 ghost use Rattle.ic_machine.specs.subjects.Sheets.{base_name, copy_name, suffix_of};
 ghost use Rattle.ic_book.specs.SheetNames.{free_among, name_with};
 
@@ -8,6 +9,7 @@ use ic_laws::scan::{first_char, push_char, push_text};
 use ic_laws::{OutOfMemory, Text};
 use ic_sheets::Sheets;
 use std::alloc::Global;
+use std::collections::BTreeMap;
 
 /// A name that a number is put into.
 #[derive(Drop)]
@@ -39,9 +41,11 @@ pub(crate) fn base_name(language: &Text) -> &'static str
 pub(crate) fn free_name(
     alloc: Global,
     sheets: &Sheets,
+    ids: &BTreeMap<String, u32>,
     name: &NumberedName,
 ) -> Result<String, OutOfMemory>
-    requires { length sheets.now < 2 ^ 32 }
+    requires finds { FindsSheets ids.now sheets.now }
+    requires few { length sheets.now < 2 ^ 32 }
     ensures { IfOk result (λ text. chars (string_bytes text) ≡ name_with name.now
         (free_among (map (λ s. s.name) sheets.now) (name_with name.now))) }
 {
@@ -49,7 +53,7 @@ pub(crate) fn free_name(
     let count = sheets.len() as u64;
     for passed in 0..count {
         put_name(&mut text, name, passed + 1)?;
-        if !sheets.is_taken(text.as_str()) {
+        if !sheets.is_taken(ids, text.as_str()) {
             return Ok(text);
         }
     }

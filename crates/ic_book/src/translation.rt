@@ -283,6 +283,7 @@ impl<'a> Model<'a> {
                 let definition = updated_definition(
                     self.alloc,
                     &self.contents,
+                    &self.names,
                     english,
                     new_name,
                     &change.new,

@@ -1,7 +1,6 @@
-//! The texts of errors, and the words of the states of a sheet's tab.
+//! The texts of errors.
 use crate::row::Row;
 use ic_book::BookError;
-use ic_cells::SheetState;
 use ic_laws::{Items, OutOfMemory};
 use ic_lines::{Failed, RunError};
 
@@ -12,7 +11,6 @@ pub fn call(row: &mut Row<'_>) {
         "failed" => row.put_made(Failed.to_string(row.alloc)),
         "run_error" => put_run_error(row),
         "book_error" => put_book_error(row),
-        "SheetState" => put_state(row),
         _ => {}
     }
 }
@@ -26,15 +24,6 @@ fn put_run_error(row: &mut Row<'_>) {
         _ => RunError::OutOfMemory,
     };
     row.put_made(error.to_string(row.alloc));
-}
-
-fn put_state(row: &mut Row<'_>) {
-    let state = match row.word(1) {
-        "Visible" => SheetState::Visible,
-        "Hidden" => SheetState::Hidden,
-        _ => SheetState::VeryHidden,
-    };
-    row.put_made(state.to_string(row.alloc));
 }
 
 /// The errors of the book, but for one that tells places.

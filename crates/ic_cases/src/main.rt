@@ -16,8 +16,8 @@ mod broken;
 mod errors;
 mod formulas;
 mod handed_in;
-mod keeps;
 mod lookups;
+mod names;
 mod pools;
 mod references;
 mod row;
@@ -41,13 +41,13 @@ fn call(row: &mut Row<'_>, books: &mut Books<'_>) {
     references::call(row);
     lookups::call(row);
     formulas::call(row);
-    keeps::call(row);
     values::call(row);
     errors::call(row);
     broken::call(row);
     runs::call(row, books);
     books::call(row, books);
     pools::call(row, books);
+    names::call(row, books);
 }
 
 /// Puts the next word of a line behind the others, if it is one.

@@ -39,7 +39,7 @@ fn put_parsed(row: &mut Row<'_>, books: &Books<'_>) {
 }
 
 /// A tree stands in the stored form in a scene without sheets and names.
-fn put_formula(row: &mut Row<'_>, formula: Option<&Formula>) {
+pub fn put_formula(row: &mut Row<'_>, formula: Option<&Formula>) {
     match formula {
         None => row.none(),
         Some(Formula::Tree(tree)) => {

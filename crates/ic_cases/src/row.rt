@@ -187,6 +187,20 @@ impl<'w> Row<'w> {
         self.put(if holds { "true" } else { "false" });
     }
 
+    /// `true` or `false`, where this is the name of the call.
+    pub fn holds(&mut self, name: &str, holds: bool) {
+        if self.name == name {
+            self.put_bool(holds);
+        }
+    }
+
+    /// A text, where this is the name of the call.
+    pub fn finds(&mut self, name: &str, text: &str) {
+        if self.name == name {
+            self.put_text(text);
+        }
+    }
+
     /// A number.
     pub fn put_number(&mut self, n: i128) {
         self.answered = true;
@@ -196,6 +210,7 @@ impl<'w> Row<'w> {
     }
 
     /// The id of a sheet, or `none`.
+    #[allow(dead_code)]
     pub fn put_scope(&mut self, scope: Option<u32>) {
         match scope {
             Some(id) => self.put_number(i128::from(id)),

@@ -1,21 +1,18 @@
 //! Formulas in scenes: a text is read, its mentions are bound in the scene that the row gives, and it is written again.
 use crate::row::Row;
-use ic_laws::{
-    Bound, DefinitionSpelling, Dialect, Items, NameMention, OutOfMemory, Scene, SheetMention,
-    SheetName, Spelled, Tree,
-};
+use ic_laws::{Bound, DefinitionSpelling, Dialect, Items, OutOfMemory, Scene, SheetName, Spelled};
 use ic_tables::Tables;
 use ic_tree::{Shown, Stored, bind, clashes, is_dynamic, print, read, spell};
 use std::alloc::Global;
 
-/// The scene that stands in a row from a place on. A sheet and a name each stand after a word that says so.
-pub fn scene_in(row: &mut Row<'_>, from: usize, sheet: &str, name: &str) -> Scene {
+/// The scene that stands behind the text of a row. A sheet and a name each stand after a word that says so.
+fn scene_in(row: &mut Row<'_>) -> Scene {
     let mut scene = empty_scene(row.alloc);
-    for at in (from..row.words.len()).step_by(3) {
-        if row.word(at) == sheet {
+    for at in (5..row.words.len()).step_by(3) {
+        if row.word(at) == "sheet" {
             add_sheet(row, at, &mut scene.sheets);
         }
-        if row.word(at) == name {
+        if row.word(at) == "name" {
             add_name(row, at, &mut scene.names);
         }
     }
@@ -47,7 +44,7 @@ fn add_name(row: &mut Row<'_>, at: usize, names: &mut Items<DefinitionSpelling>)
 }
 
 /// A text read and bound in a scene; None where it doesn't read.
-pub fn bound_in<D: Dialect>(
+fn bound_in<D: Dialect>(
     row: &Row<'_>,
     dialect: &D,
     scene: &Scene,
@@ -83,35 +80,10 @@ pub fn put_stored(row: &mut Row<'_>, scene: &Scene, bound: &Bound) {
     put_spelled(row, &Stored::new(row.tables), scene, bound);
 }
 
-/// What the whole formula mentions: the sheet of a reference, as `own`, the id of the sheet, or `dangling` and its name;
-/// or `name`, the folded name of the definition and its scope or `none`, or `dangling` and the word.
-pub fn put_mention(row: &mut Row<'_>, bound: &Bound) {
-    match bound {
-        Tree::Reference(SheetMention::Own, _) => row.put("own"),
-        Tree::Reference(SheetMention::Sheet(id), _) => {
-            row.put("sheet\t");
-            row.put_number(i128::from(*id));
-        }
-        Tree::Reference(SheetMention::Dangling(word), _)
-        | Tree::Word(NameMention::Var(word))
-        | Tree::Word(NameMention::Dangling(word)) => {
-            row.put("dangling\t");
-            row.put_text(word.as_str());
-        }
-        Tree::Word(NameMention::Name(key)) => {
-            row.put("name\t");
-            row.put_text(key.name.as_str());
-            row.tab();
-            row.put_scope(key.scope);
-        }
-        _ => row.none(),
-    }
-}
-
 /// A text bound in the scene of the row, which is `sheet`, an id and a name, or `name`, a name and a scope or `none`, and
 /// so on: the formula, and what it clashes with.
 pub fn put_bound(row: &mut Row<'_>, shown: &Shown<'_>) {
-    let scene = scene_in(row, 5, "sheet", "name");
+    let scene = scene_in(row);
     let scope = row.scope(3);
     match &bound_in(row, shown, &scene, scope, row.word(4)) {
         Ok(Some(bound)) => {

@@ -15,12 +15,8 @@ use ic_refs::{
 /// Answers the call, if it is one of these.
 pub fn call(row: &mut Row<'_>) {
     let text = row.word(1);
-    if let Some(holds) = holds(row.name, text, row.word(2)) {
-        row.put_bool(holds);
-    }
-    if let Some(run) = run(row.name, text) {
-        row.put_text(run);
-    }
+    put_held(row, text, row.word(2));
+    put_run(row, text);
     match row.name {
         "quote_name" => row.put_made(quote_name(row.alloc, text)),
         "number_to_column" => {
@@ -33,38 +29,34 @@ pub fn call(row: &mut Row<'_>) {
     }
 }
 
-fn holds(name: &str, text: &str, other: &str) -> Option<bool> {
-    match name {
-        "agree" => Some(agree(text, other)),
-        "is_valid_column" => Some(is_valid_column(text)),
-        "is_valid_sheet_name" => Some(is_valid_sheet_name(text)),
-        "is_valid_identifier" => Some(is_valid_identifier(text)),
-        "is_valid_a1_identifier" => Some(is_valid_a1_identifier(text)),
-        "is_nothing" => Some(is_nothing(text)),
-        "is_variable_form" => Some(is_variable_form(text)),
-        "begins_with_digit" => Some(begins_with_digit(text)),
-        "begins_with_letter" => Some(begins_with_letter(text)),
-        "has_word_characters" => Some(has_word_characters(text)),
-        "is_lone" => Some(is_lone(text)),
-        "names_column" => Some(names_column(text)),
-        "names_row" => Some(names_row(text)),
-        "is_a1_cell" => Some(is_a1_cell(text)),
-        "are_digits" => Some(are_digits(text)),
-        _ => None,
-    }
+/// What holds of a text, or of two.
+fn put_held(row: &mut Row<'_>, text: &str, other: &str) {
+    row.holds("agree", agree(text, other));
+    row.holds("is_valid_column", is_valid_column(text));
+    row.holds("is_valid_sheet_name", is_valid_sheet_name(text));
+    row.holds("is_valid_identifier", is_valid_identifier(text));
+    row.holds("is_valid_a1_identifier", is_valid_a1_identifier(text));
+    row.holds("is_nothing", is_nothing(text));
+    row.holds("is_variable_form", is_variable_form(text));
+    row.holds("begins_with_digit", begins_with_digit(text));
+    row.holds("begins_with_letter", begins_with_letter(text));
+    row.holds("has_word_characters", has_word_characters(text));
+    row.holds("is_lone", is_lone(text));
+    row.holds("names_column", names_column(text));
+    row.holds("names_row", names_row(text));
+    row.holds("is_a1_cell", is_a1_cell(text));
+    row.holds("are_digits", are_digits(text));
 }
 
-fn run<'t>(name: &str, text: &'t str) -> Option<&'t str> {
-    match name {
-        "trimmed" => Some(trimmed(text)),
-        "past_plain" => Some(past_plain(text)),
-        "past_letters" => Some(past_letters(text)),
-        "past_digits" => Some(past_digits(text)),
-        "past_dollar" => Some(past_dollar(text)),
-        "plain_run" => Some(plain_run(text)),
-        "letters_run" => Some(letters_run(text)),
-        _ => None,
-    }
+/// What stands at the front of a text, or behind that.
+fn put_run(row: &mut Row<'_>, text: &str) {
+    row.finds("trimmed", trimmed(text));
+    row.finds("past_plain", past_plain(text));
+    row.finds("past_letters", past_letters(text));
+    row.finds("past_digits", past_digits(text));
+    row.finds("past_dollar", past_dollar(text));
+    row.finds("plain_run", plain_run(text));
+    row.finds("letters_run", letters_run(text));
 }
 
 fn put_number(row: &mut Row<'_>) {

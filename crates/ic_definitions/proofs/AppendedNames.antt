@@ -1,31 +1,26 @@
 -- What the definitions keep beside them stays true when several come at once, and when only the first ones stay.
 use Rattle.std.proofs.Common.{◌≡◌, ℕ, zero, suc, ◌<◌, ◌≤◌, List, [], ◌∷◌, ◌++◌, Bool, true, false, cond, ◌||◌, Option, Some, None, option_map, length, take, refl, sym, ap, ap₂, subst, ◌∙◌, arith, ltb}
-use Rattle.std.specs.BTreeMap.{IsOrdered, keys as keys_in}
-use Rattle.std.specs.Cmp.{eq_by_cmp_equiv}
-use Rattle.std.specs.Cmp.Lexicographic.{slice_cmp}
+use Rattle.std.specs.BTreeMap.{IsOrdered}
 use Rattle.std.specs.List.{AllByRecursion, IsDistinct, filter, list_any}
-use Rattle.std.specs.Map.{lookup}
-use Rattle.std.specs.Ordering.{nat_cmp}
 use Rattle.std.proofs.lemmas.Bool.{or_parts}
 use Rattle.std.proofs.lemmas.Bool.Decides.{nat_tests}
-use Rattle.std.proofs.lemmas.Cmp.{nat_list_cmp_total}
 use Rattle.std.proofs.lemmas.List.{length-append, take-map}
 use Rattle.std.proofs.lemmas.List.Folds.{list_any-append}
-use Rattle.std.proofs.lemmas.Map.Entries.{lookup-filter-values, option_filter}
-use Rattle.std.proofs.lemmas.Map.Keys.{IsDistinct-cons, IsDistinct-from_sorted, IsDistinct-head, IsDistinct-tail}
+use Rattle.std.proofs.lemmas.Map.Entries.{option_filter}
+use Rattle.std.proofs.lemmas.Map.Keys.{IsDistinct-cons, IsDistinct-head, IsDistinct-tail}
 use Rattle.ic_laws.proofs.core.Lists.{length_updated}
 use Rattle.ic_laws.specs.CoreBook.{Definition}
 use Rattle.ic_laws.specs.CoreStep.{is_named, updated_at}
 use Rattle.ic_laws.specs.Greatest.{greatest}
 use Rattle.ic_laws.specs.Scene.{same_key}
 use Rattle.ic_laws.specs.declared.tree.NameKey.{NameKey}
-use Rattle.ic_pool.specs.Code.{name_code}
 use Rattle.ic_definitions.specs.Bodies.{FitsBodies, HasFoundAll, with_bodies}
-use Rattle.ic_definitions.specs.Named.{AreNamed, index_with_key, key_in, scopes_of}
+use Rattle.ic_definitions.specs.Named.{AreNamed, FindsNames, Places, index_with_key, key_in, scopes_of}
 use Rattle.ic_definitions.specs.declared.bodies.BodyRewrites.{BodyRewrites}
 use Rattle.ic_definitions.specs.declared.bodies.NewBody.{NewBody}
 use Rattle.ic_definitions.proofs.BodyLemmas.{with_body}
-use Rattle.ic_definitions.proofs.NamedLemmas.{Places, keys}
+use Rattle.ic_definitions.proofs.HeldKeys.{held_cmp, taken_by_values}
+use Rattle.ic_definitions.proofs.NamedLemmas.{keys}
 
 -- ---- several come
 
@@ -116,15 +111,15 @@ module _ {X : Type 0} where
   distinct_taken same (suc n) [] h = tt
   distinct_taken same (suc n) (x ∷ xs) h = IsDistinct-cons same x (take n xs) (all_taken (λ y. same x y ≡ false) n xs (IsDistinct-head same x xs h)) (distinct_taken same n xs (IsDistinct-tail same x xs h))
 
-pub named_taken : (before after : Places) (last now_last n : ℕ) (may : Bool) (ds list : List Definition) → AreNamed before last may ds → IsOrdered (slice_cmp nat_cmp) before → after.entries ≡ filter (λ e. ltb e.1 n) before.entries
-    → now_last ≡ greatest (scopes_of list) → list ≡ take n ds → AreNamed after now_last may list
-named_taken before after last now_last n may ds list named ordered left most is = record {
-  finds = λ q.
-      ap (lookup _) left
-      ∙ lookup-filter-values (eq_by_cmp_equiv nat_list_cmp_total) (λ p. ltb p n) (name_code q) before.entries (IsDistinct-from_sorted (slice_cmp nat_cmp) (keys_in before) ordered)
-      ∙ ap (option_filter (λ p. ltb p n)) (named.finds q)
-      ∙ sym (place_taken q n ds)
-      ∙ ap (index_with_key q) (sym is);
+pub finds_taken : (before after : Places) (n : ℕ) (ds list : List Definition) → FindsNames before ds → IsOrdered held_cmp before → after.entries ≡ filter (λ e. ltb e.1 n) before.entries → list ≡ take n ds → FindsNames after list
+finds_taken before after n ds list finds ordered left is q =
+    taken_by_values before after (λ p. ltb p n) ordered left q
+    ∙ ap (option_filter (λ p. ltb p n)) (finds q)
+    ∙ sym (place_taken q n ds)
+    ∙ ap (index_with_key q) (sym is)
+
+pub named_taken : (last now_last n : ℕ) (may : Bool) (ds list : List Definition) → AreNamed last may ds → now_last ≡ greatest (scopes_of list) → list ≡ take n ds → AreNamed now_last may list
+named_taken last now_last n may ds list named most is = record {
   differ = subst (λ xs. IsDistinct same_key (keys xs)) (sym is) (subst (IsDistinct same_key) (take-map key_in n ds) (distinct_taken same_key n (keys ds) named.differ));
   greatest = most;
   dangles = λ e. subst (AllByRecursion HasFoundAll) (sym is) (all_taken HasFoundAll n ds (named.dangles e));

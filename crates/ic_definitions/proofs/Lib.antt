@@ -2,6 +2,7 @@ pub mod AppendedNames
 pub mod BodyLemmas
 pub mod FindingLemmas
 pub mod GoneDefinitions
+pub mod HeldKeys
 pub mod NamedLemmas
 pub mod NamesFacts
 pub mod RenamedLemmas

@@ -1,15 +1,12 @@
 -- What the definitions keep beside them stays true when definitions come and go, and when their bodies change.
-use Rattle.std.proofs.Common.{◌≡◌, ℕ, zero, suc, ◌<◌, List, [], ◌∷◌, ◌++◌, map, Bool, true, false, cond, ◌||◌, Option, Some, None, option_map, option_to_list, max, length, get_or, refl, sym, ap, ap₂, subst, ◌∙◌, bytes_eq, remove, arith}
-use Rattle.std.specs.BTreeMap.{BTreeMap, IsEmpty, Updates, get}
-use Rattle.std.specs.Cmp.Lexicographic.{slice_cmp}
+use Rattle.std.proofs.Common.{◌≡◌, ℕ, zero, suc, ◌<◌, List, [], ◌∷◌, ◌++◌, map, Bool, true, false, cond, ◌||◌, Option, Some, None, option_map, option_to_list, max, length, get_or, refl, sym, ap, ap₂, subst, ◌∙◌, remove, arith}
+use Rattle.std.specs.BTreeMap.{IsEmpty, Updates}
 use Rattle.std.specs.List.{AllByRecursion, IsDistinct, list_any}
 use Rattle.std.specs.Map.{lookup}
-use Rattle.std.specs.Ordering.{nat_cmp}
 use Rattle.std.proofs.lemmas.Bool.{or_parts}
 use Rattle.std.proofs.lemmas.Grind.{flat_map-append}
 use Rattle.std.proofs.lemmas.List.{map-append}
 use Rattle.std.proofs.lemmas.Map.Keys.{IsDistinct-head, IsDistinct-push, IsDistinct-tail}
-use Rattle.std.proofs.lemmas.Map.Text.{is_eq-slice_cmp}
 use Rattle.ic_laws.proofs.core.Defined.{same_key_equiv}
 use Rattle.ic_laws.proofs.core.Lists.{all_pushed, all_removed, distinct_removed, removed_seen}
 use Rattle.ic_laws.proofs.keeping.NameChanges.{same_key_from}
@@ -18,14 +15,11 @@ use Rattle.ic_laws.specs.CoreStep.{is_named}
 use Rattle.ic_laws.specs.Greatest.{greatest}
 use Rattle.ic_laws.specs.Scene.{same_key}
 use Rattle.ic_laws.specs.declared.tree.NameKey.{NameKey}
-use Rattle.ic_pool.proofs.KeyLemmas.{clash, same_name_code}
-use Rattle.ic_pool.specs.Code.{name_code}
+use Rattle.ic_pool.proofs.KeyLemmas.{clash}
 use Rattle.ic_definitions.specs.Bodies.{HasFoundAll}
-use Rattle.ic_definitions.specs.Named.{AreNamed, index_with_key, key_in, lowered, scopes_of}
+use Rattle.ic_definitions.specs.Named.{AreNamed, FindsNames, HeldKey, IsHeldKey, Places, index_with_key, key_in, lowered, place_at, scopes_of}
 use Rattle.ic_definitions.proofs.FindingLemmas.{has_key}
-
-abbrev pub Places : Type 0
-Places = BTreeMap (List ℕ) ℕ
+use Rattle.ic_definitions.proofs.HeldKeys.{held_cmp, updated}
 
 abbrev pub keys : List Definition → List NameKey
 keys definitions = map key_in definitions
@@ -34,10 +28,12 @@ none_apart : IsDistinct same_key []
 unfolding IsDistinct
 none_apart = tt
 
-pub named_empty : (indexes : Places) (ds : List Definition) → IsEmpty indexes → ds ≡ [] → AreNamed indexes 0 false ds
-named_empty indexes ds empty none =
-    subst (AreNamed indexes 0 false) (sym none)
-    (record { finds = λ key. ap (lookup _) empty; differ = none_apart; greatest = refl; dangles = λ e. tt })
+pub named_empty : (ds : List Definition) → ds ≡ [] → AreNamed 0 false ds
+named_empty ds none = subst (AreNamed 0 false) (sym none) (record { differ = none_apart; greatest = refl; dangles = λ e. tt })
+
+-- an empty look-up finds no definitions
+pub finds_empty : (places : Places) (ds : List Definition) → IsEmpty places → ds ≡ [] → FindsNames places ds
+finds_empty places ds empty none = subst (FindsNames places) (sym none) (λ key. ap (lookup _) empty)
 
 -- ---- keys
 
@@ -61,25 +57,16 @@ same_scopes (x ∷ xs) (y ∷ ys) e =
     ap₂ (λ (k : NameKey) scopes. option_to_list k.scope ++ scopes) first (same_scopes xs ys others)
 
 -- other bodies
-pub named_same : (indexes : Places) (last : ℕ) (may may_now : Bool) (ds list : List Definition) → AreNamed indexes last may ds → keys list ≡ keys ds → (may_now ≡ false → AllByRecursion HasFoundAll list) → AreNamed indexes last may_now list
-named_same indexes last may may_now ds list named same clean = record {
-  finds = λ key. named.finds key ∙ sym (same_place list ds same key);
+pub named_same : (last : ℕ) (may may_now : Bool) (ds list : List Definition) → AreNamed last may ds → keys list ≡ keys ds → (may_now ≡ false → AllByRecursion HasFoundAll list) → AreNamed last may_now list
+named_same last may may_now ds list named same clean = record {
   differ = subst (IsDistinct same_key) (sym same) named.differ;
   greatest = named.greatest ∙ sym (ap greatest (same_scopes list ds same));
   dangles = clean;
 }
 
--- ---- the look-up
-
--- what it has at these bytes after a change at bytes
-pub written : (before after : Places) (bytes : List ℕ) (place : Option ℕ) → Updates (slice_cmp nat_cmp) before after bytes place → (q : List ℕ) → get (slice_cmp nat_cmp) after q ≡ cond (bytes_eq bytes q) place (get (slice_cmp nat_cmp) before q)
-written before after bytes place u q = u.0 q ∙ ap (λ b. cond b place (get (slice_cmp nat_cmp) before q)) (is_eq-slice_cmp bytes q)
-
--- what it has at a key after a change at a key
-updated : (before after : Places) (bytes : List ℕ) (key : NameKey) (place : Option ℕ) → Updates (slice_cmp nat_cmp) before after bytes place → bytes ≡ name_code key
-    → (q : NameKey) → get (slice_cmp nat_cmp) after (name_code q) ≡ cond (same_key key q) place (get (slice_cmp nat_cmp) before (name_code q))
-updated before after bytes key place u same q =
-    written before after bytes place u (name_code q) ∙ ap (λ b. cond b place (get (slice_cmp nat_cmp) before (name_code q))) (ap (λ x. bytes_eq x (name_code q)) same ∙ same_name_code key q)
+-- what finds them by their keys goes by the keys alone
+pub finds_same : (places : Places) (ds list : List Definition) → FindsNames places ds → keys list ≡ keys ds → FindsNames places list
+finds_same places ds list finds same key = finds key ∙ sym (same_place list ds same key)
 
 -- ---- a definition comes
 
@@ -123,23 +110,30 @@ scopes_pushed ds d =
     alone None = refl
     alone (Some id) = refl
 
+keys_pushed : (ds others list : List Definition) (d : Definition) → keys others ≡ keys ds → list ≡ others ++ d ∷ [] → keys list ≡ keys (ds ++ d ∷ [])
+keys_pushed ds others list d same pushed = ap keys pushed ∙ map-append key_in others (d ∷ []) ∙ ap (λ ks. ks ++ key_in d ∷ []) same ∙ sym (map-append key_in ds (d ∷ []))
+
 -- behind others, which may have got other bodies
-pub named_pushed : (before after : Places) (last now_last place : ℕ) (may may_now : Bool) (ds others list : List Definition) (d : Definition) (bytes : List ℕ) → AreNamed before last may ds → keys others ≡ keys ds
-    → list_any (is_named d.name d.scope) ds ≡ false → bytes ≡ name_code (key_in d) → place ≡ length ds → Updates (slice_cmp nat_cmp) before after bytes (Some place) → now_last ≡ max last (greatest (option_to_list d.scope))
-    → (may_now ≡ false → AllByRecursion HasFoundAll others × HasFoundAll d) → list ≡ others ++ d ∷ [] → AreNamed after now_last may_now list
-named_pushed before after last now_last place may may_now ds others list d bytes named same free coded end u most clean pushed =
-    let more : keys list ≡ keys (ds ++ d ∷ []) = ap keys pushed ∙ map-append key_in others (d ∷ []) ∙ ap (λ ks. ks ++ key_in d ∷ []) same ∙ sym (map-append key_in ds (d ∷ [])) in
-    named_same after now_last true may_now (ds ++ d ∷ []) list
+pub finds_pushed : (before after : Places) (place : ℕ) (ds others list : List Definition) (d : Definition) (held : HeldKey) → FindsNames before ds → keys others ≡ keys ds → list_any (is_named d.name d.scope) ds ≡ false → IsHeldKey (key_in d) held
+    → place ≡ length ds → Updates held_cmp before after held (Some place) → list ≡ others ++ d ∷ [] → FindsNames after list
+finds_pushed before after place ds others list d held finds same free coded end u pushed =
+    finds_same after (ds ++ d ∷ []) list
+    (λ q.
+    updated before after held (key_in d) (Some place) u coded q
+    ∙ ap₂ (λ n o. cond (same_key (key_in d) q) (Some n) o) end (finds q)
+    ∙ sym (place_pushed d ds free q))
+    (keys_pushed ds others list d same pushed)
+
+pub named_pushed : (last now_last : ℕ) (may may_now : Bool) (ds others list : List Definition) (d : Definition) → AreNamed last may ds → keys others ≡ keys ds → list_any (is_named d.name d.scope) ds ≡ false
+    → now_last ≡ max last (greatest (option_to_list d.scope)) → (may_now ≡ false → AllByRecursion HasFoundAll others × HasFoundAll d) → list ≡ others ++ d ∷ [] → AreNamed now_last may_now list
+named_pushed last now_last may may_now ds others list d named same free most clean pushed =
+    named_same now_last true may_now (ds ++ d ∷ []) list
     (record {
-      finds = λ q.
-          updated before after bytes (key_in d) (Some place) u coded q
-          ∙ ap₂ (λ n o. cond (same_key (key_in d) q) (Some n) o) end (named.finds q)
-          ∙ sym (place_pushed d ds free q);
       differ = subst (IsDistinct same_key) (sym (map-append key_in ds (d ∷ []))) (IsDistinct-push same_key_equiv (keys ds) (key_in d) named.differ (key_free (key_in d) ds free));
       greatest = most ∙ ap (λ n. max n (greatest (option_to_list d.scope))) named.greatest ∙ sym (scopes_pushed ds d);
       dangles = λ e. absurd (clash true refl e);
     })
-    more (λ e. let parts = clean e in subst (AllByRecursion HasFoundAll) (sym pushed) (all_pushed HasFoundAll others d parts.0 parts.1))
+    (keys_pushed ds others list d same pushed) (λ e. let parts = clean e in subst (AllByRecursion HasFoundAll) (sym pushed) (all_pushed HasFoundAll others d parts.0 parts.1))
 
 -- ---- a definition goes
 
@@ -194,21 +188,25 @@ place_removed (x ∷ ds) (suc index) d lt read differ q =
     step false true place h = refl
     step false false place h = sym (lowered_later index place)
 
+keys_removed : (ds others list : List Definition) (index : ℕ) → keys others ≡ keys ds → list ≡ remove others index → keys list ≡ remove (keys ds) index
+keys_removed ds others list index same removed = ap keys removed ∙ removed_seen key_in others index ∙ ap (λ ks. remove ks index) same
+
 -- from among others, which may have got other bodies
-pub named_removed : (before between after : Places) (last now_last index : ℕ) (may may_now : Bool) (ds others list : List Definition) (d : Definition) (bytes : List ℕ) → AreNamed before last may ds → keys others ≡ keys ds
-    → index < length ds → d ≡ get_or ds index d → bytes ≡ name_code (key_in d) → Updates (slice_cmp nat_cmp) before between bytes None
-    → ((key : List ℕ) → get (slice_cmp nat_cmp) after key ≡ option_map (lowered index) (get (slice_cmp nat_cmp) between key))
-    → now_last ≡ greatest (scopes_of list) → (may_now ≡ false → AllByRecursion HasFoundAll others) → list ≡ remove others index → AreNamed after now_last may_now list
-named_removed before between after last now_last index may may_now ds others list d bytes named same lt read coded u low most clean removed = record {
-  finds = λ q.
-      low (name_code q)
-      ∙ ap (option_map (lowered index)) (updated before between bytes (key_in d) None u coded q ∙ ap (cond (same_key (key_in d) q) None) (named.finds q))
-      ∙ sym (place_removed ds index d lt read named.differ q)
-      ∙ same_place (remove ds index) list (removed_seen key_in ds index ∙ ap (λ ks. remove ks index) (sym same) ∙ sym left) q;
-  differ = subst (IsDistinct same_key) (sym left) (distinct_removed same_key_equiv (keys others) index (subst (IsDistinct same_key) (sym same) named.differ));
+pub finds_removed : (before between after : Places) (last index : ℕ) (may : Bool) (ds others list : List Definition) (d : Definition) (held : HeldKey) → AreNamed last may ds → FindsNames before ds → keys others ≡ keys ds
+    → index < length ds → d ≡ get_or ds index d → IsHeldKey (key_in d) held → Updates held_cmp before between held None
+    → ((key : NameKey) → place_at after key ≡ option_map (lowered index) (place_at between key)) → list ≡ remove others index → FindsNames after list
+finds_removed before between after last index may ds others list d held named finds same lt read coded u low removed =
+    finds_same after (remove ds index) list
+    (λ q.
+    low q
+    ∙ ap (option_map (lowered index)) (updated before between held (key_in d) None u coded q ∙ ap (cond (same_key (key_in d) q) None) (finds q))
+    ∙ sym (place_removed ds index d lt read named.differ q))
+    (keys_removed ds others list index same removed ∙ sym (removed_seen key_in ds index))
+
+pub named_removed : (last now_last index : ℕ) (may may_now : Bool) (ds others list : List Definition) → AreNamed last may ds → keys others ≡ keys ds → now_last ≡ greatest (scopes_of list) → (may_now ≡ false → AllByRecursion HasFoundAll others)
+    → list ≡ remove others index → AreNamed now_last may_now list
+named_removed last now_last index may may_now ds others list named same most clean removed = record {
+  differ = subst (IsDistinct same_key) (sym (keys_removed ds others list index same removed)) (distinct_removed same_key_equiv (keys ds) index named.differ);
   greatest = most;
   dangles = λ e. subst (AllByRecursion HasFoundAll) (sym removed) (all_removed HasFoundAll others index (clean e));
 }
-  where
-    left : keys list ≡ remove (keys others) index
-    left = ap keys removed ∙ removed_seen key_in others index

@@ -1,12 +1,8 @@
 -- What the definitions keep beside them stays true when one is put in the place of another.
-use Rattle.std.proofs.Common.{◌≡◌, ℕ, zero, suc, ◌<◌, List, [], ◌∷◌, Bool, true, false, cond, not, Option, Some, None, option_map, length, get_or, slice_set, refl, sym, ap, ap₂, subst, ◌∙◌, bytes_eq, remove, arith}
-use Rattle.std.specs.BTreeMap.{BTreeMap, Updates, get}
-use Rattle.std.specs.Cmp.Lexicographic.{slice_cmp}
+use Rattle.std.proofs.Common.{◌≡◌, ℕ, zero, suc, ◌<◌, List, [], ◌∷◌, Bool, true, false, cond, Option, Some, None, option_map, length, get_or, slice_set, refl, sym, ap, ap₂, subst, ◌∙◌, remove, arith}
 use Rattle.std.specs.List.{AllByRecursion, IsDistinct, list_any}
-use Rattle.std.specs.Ordering.{nat_cmp}
-use Rattle.std.proofs.lemmas.Bool.{not-false, not-true, or_parts}
+use Rattle.std.proofs.lemmas.Bool.{or_parts}
 use Rattle.std.proofs.lemmas.Map.Keys.{IsDistinct-head, IsDistinct-tail}
-use Rattle.std.proofs.lemmas.Slice.Eq.{bytes_eq-Decides}
 use Rattle.ic_laws.proofs.core.Defined.{same_key_equiv}
 use Rattle.ic_laws.proofs.core.Lists.{all_updated, distinct_replaced, updated_seen}
 use Rattle.ic_laws.proofs.keeping.NameChanges.{same_key_from}
@@ -15,44 +11,11 @@ use Rattle.ic_laws.specs.CoreStep.{updated_at}
 use Rattle.ic_laws.specs.Greatest.{greatest}
 use Rattle.ic_laws.specs.Scene.{same_key}
 use Rattle.ic_laws.specs.declared.tree.NameKey.{NameKey}
-use Rattle.ic_pool.proofs.KeyLemmas.{clash, same_name_code}
-use Rattle.ic_pool.specs.Code.{name_code}
+use Rattle.ic_pool.proofs.KeyLemmas.{clash}
 use Rattle.ic_definitions.specs.Bodies.{HasFoundAll}
-use Rattle.ic_definitions.specs.Named.{AreNamed, index_with_key, key_in, scopes_of}
-use Rattle.ic_definitions.proofs.NamedLemmas.{Places, keys, no_place, one_of, same_place, written}
-
--- ---- the look-up
-
-module _ (old new : List ℕ) (index : ℕ) where
-  -- what is had at a key where another is put in its place
-  abbrev pub replaced : List ℕ → Option ℕ → Option ℕ
-  replaced key before = cond (bytes_eq new key) (Some index) (cond (bytes_eq old key) None before)
-
-  -- the new one is put in, and the old one is taken away where it is another
-  pub key_replaced : (before between after : BTreeMap (List ℕ) ℕ) (is_other : Bool) → is_other ≡ not (bytes_eq old new) → is_other ≡ true → Updates (slice_cmp nat_cmp) before between new (Some index) → Updates (slice_cmp nat_cmp) between after old None
-      → (key : List ℕ) → get (slice_cmp nat_cmp) after key ≡ replaced key (get (slice_cmp nat_cmp) before key)
-  key_replaced before between after is_other is other put gone key =
-      written between after old None gone key
-      ∙ ap (cond (bytes_eq old key) None) (written before between new (Some index) put key)
-      ∙ step (bytes_eq old key) (bytes_eq new key) (get (slice_cmp nat_cmp) before key)
-      (λ s t. clash (bytes_eq old new) ((bytes_eq-Decides old new).1 ((bytes_eq-Decides old key).0 s ∙ sym ((bytes_eq-Decides new key).0 t))) (not-true (bytes_eq old new) (sym is ∙ other)))
-    where
-      step : (a b : Bool) (place : Option ℕ) → (a ≡ true → b ≡ true → ⊥) → cond a None (cond b (Some index) place) ≡ cond b (Some index) (cond a None place)
-      step true true place h = absurd (h refl refl)
-      step true false place h = refl
-      step false b place h = refl
-
-  -- which is itself where they are equal
-  pub key_kept : (before after : BTreeMap (List ℕ) ℕ) (is_other : Bool) → is_other ≡ not (bytes_eq old new) → is_other ≡ false → Updates (slice_cmp nat_cmp) before after new (Some index)
-      → (key : List ℕ) → get (slice_cmp nat_cmp) after key ≡ replaced key (get (slice_cmp nat_cmp) before key)
-  key_kept before after is_other is same put key =
-      written before after new (Some index) put key
-      ∙ step (bytes_eq new key) (get (slice_cmp nat_cmp) before key)
-      ∙ ap (λ k. cond (bytes_eq new key) (Some index) (cond (bytes_eq k key) None (get (slice_cmp nat_cmp) before key))) (sym ((bytes_eq-Decides old new).0 (not-false (bytes_eq old new) (sym is ∙ same))))
-    where
-      step : (b : Bool) (place : Option ℕ) → cond b (Some index) place ≡ cond b (Some index) (cond b None place)
-      step true place = refl
-      step false place = refl
+use Rattle.ic_definitions.specs.Named.{AreNamed, FindsNames, HeldKey, IsHeldKey, Places, index_with_key, key_in, place_at, scopes_of}
+use Rattle.ic_definitions.proofs.HeldKeys.{replaced, same_held}
+use Rattle.ic_definitions.proofs.NamedLemmas.{finds_same, keys, no_place, one_of}
 
 -- ---- the places of keys
 
@@ -91,26 +54,30 @@ replaced_at [] index new = refl
 replaced_at (x ∷ ds) zero new = refl
 replaced_at (x ∷ ds) (suc index) new = ap (λ rest. x ∷ rest) (replaced_at ds index new)
 
+keys_updated : (new : Definition) (index : ℕ) (ds : List Definition) → keys (updated_at (λ x. new) index ds) ≡ updated_at (λ k. key_in new) index (keys ds)
+keys_updated new index ds = updated_seen key_in (λ x. new) (λ k. key_in new) (λ x. refl) index ds
+
+keys_replaced : (new : Definition) (index : ℕ) (ds others list : List Definition) → keys others ≡ keys ds → list ≡ updated_at (λ x. new) index others → keys list ≡ updated_at (λ k. key_in new) index (keys ds)
+keys_replaced new index ds others list same is = ap keys is ∙ keys_updated new index others ∙ ap (updated_at (λ k. key_in new) index) same
+
 -- among others, which may have got other bodies
-pub named_replaced : (before after : Places) (last now_last index : ℕ) (may may_now : Bool) (ds others list : List Definition) (d new : Definition) (old_bytes new_bytes : List ℕ) → AreNamed before last may ds → keys others ≡ keys ds
-    → index < length ds → d ≡ get_or ds index d → old_bytes ≡ name_code (key_in d) → new_bytes ≡ name_code (key_in new)
-    → ((key : List ℕ) → get (slice_cmp nat_cmp) after key ≡ replaced old_bytes new_bytes index key (get (slice_cmp nat_cmp) before key))
-    → list_any (same_key (key_in new)) (remove (keys ds) index) ≡ false → now_last ≡ greatest (scopes_of list) → (may_now ≡ false → AllByRecursion HasFoundAll others × HasFoundAll new)
-    → list ≡ updated_at (λ x. new) index others → AreNamed after now_last may_now list
-named_replaced before after last now_last index may may_now ds others list d new old_bytes new_bytes named same lt read old_is new_is put apart most clean is = record {
-  finds = λ q.
-      put (name_code q)
-      ∙ ap₂ (λ n place. cond n (Some index) place) (ap (λ x. bytes_eq x (name_code q)) new_is ∙ same_name_code (key_in new) q)
-      (ap₂ (λ o place. cond o None place) (ap (λ x. bytes_eq x (name_code q)) old_is ∙ same_name_code (key_in d) q) (named.finds q))
-      ∙ sym (place_replaced ds index d new lt read named.differ apart q)
-      ∙ same_place (updated_at (λ x. new) index ds) list (seen ds ∙ ap (updated_at (λ k. key_in new) index) (sym same) ∙ sym left) q;
-  differ = subst (IsDistinct same_key) (sym (left ∙ ap (updated_at (λ k. key_in new) index) same)) (distinct_replaced same_key_equiv (key_in new) index (keys ds) named.differ apart);
+pub finds_replaced : (before after : Places) (last index : ℕ) (may : Bool) (ds others list : List Definition) (d new : Definition) (old_held new_held : HeldKey) → AreNamed last may ds → FindsNames before ds → keys others ≡ keys ds
+    → index < length ds → d ≡ get_or ds index d → IsHeldKey (key_in d) old_held → IsHeldKey (key_in new) new_held
+    → ((key : NameKey) → place_at after key ≡ replaced old_held new_held index key (place_at before key))
+    → list_any (same_key (key_in new)) (remove (keys ds) index) ≡ false → list ≡ updated_at (λ x. new) index others → FindsNames after list
+finds_replaced before after last index may ds others list d new old_held new_held named finds same lt read old_is new_is put apart is =
+    finds_same after (updated_at (λ x. new) index ds) list
+    (λ q.
+    put q
+    ∙ ap₂ (λ n place. cond n (Some index) place) (same_held (key_in new) q new_held new_is)
+    (ap₂ (λ o place. cond o None place) (same_held (key_in d) q old_held old_is) (finds q))
+    ∙ sym (place_replaced ds index d new lt read named.differ apart q))
+    (keys_replaced new index ds others list same is ∙ sym (keys_updated new index ds))
+
+pub named_replaced : (last now_last index : ℕ) (may may_now : Bool) (ds others list : List Definition) (new : Definition) → AreNamed last may ds → keys others ≡ keys ds → list_any (same_key (key_in new)) (remove (keys ds) index) ≡ false
+    → now_last ≡ greatest (scopes_of list) → (may_now ≡ false → AllByRecursion HasFoundAll others × HasFoundAll new) → list ≡ updated_at (λ x. new) index others → AreNamed now_last may_now list
+named_replaced last now_last index may may_now ds others list new named same apart most clean is = record {
+  differ = subst (IsDistinct same_key) (sym (keys_replaced new index ds others list same is)) (distinct_replaced same_key_equiv (key_in new) index (keys ds) named.differ apart);
   greatest = most;
   dangles = λ e. let parts = clean e in subst (AllByRecursion HasFoundAll) (sym is) (all_updated HasFoundAll (λ x. new) (λ x h. parts.1) index others parts.0);
 }
-  where
-    seen : (xs : List Definition) → keys (updated_at (λ x. new) index xs) ≡ updated_at (λ k. key_in new) index (keys xs)
-    seen xs = updated_seen key_in (λ x. new) (λ k. key_in new) (λ x. refl) index xs
-
-    left : keys list ≡ updated_at (λ k. key_in new) index (keys others)
-    left = ap keys is ∙ seen others

@@ -125,6 +125,19 @@ pub(crate) fn fold_name(alloc: Global, name: &str) -> Result<String, OutOfMemory
     Ok(folded)
 }
 
+/// A key as a look-up has it: a copy of a folded name, and the id of the sheet that a definition is local to, if there is one.
+pub(crate) fn held_key(
+    alloc: Global,
+    folded: &str,
+    scope: Option<u32>,
+) -> Result<(String, Option<u32>), OutOfMemory>
+    ensures name { IfOk result (λ held. string_bytes held.0 ≡ folded.now) }
+    ensures scope { IfOk result (λ held. held.1 ≡ scope) }
+{
+    let name = String::from_str(alloc, folded)?;
+    Ok((name, scope))
+}
+
 /// A key with this folded name.
 pub(crate) fn key_with(folded: String, scope: Option<u32>) -> NameKey
     ensures { result ≡ record { name = chars (string_bytes folded); scope = scope } }

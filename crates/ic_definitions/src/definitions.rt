@@ -1,22 +1,22 @@
-ghost use Rattle.std.specs.Prelude.{◌≡◌, [], length};
+ghost use Rattle.std.specs.Prelude.{◌≡◌, [], length, map};
+ghost use Rattle.std.specs.List.{IsDistinct};
 ghost use Rattle.ic_laws.specs.Greatest.{greatest};
-ghost use Rattle.ic_definitions.specs.Named.{scopes_of};
+ghost use Rattle.ic_laws.specs.Scene.{same_key};
+ghost use Rattle.ic_definitions.specs.Named.{key_in, scopes_of};
 
 mod changes;
-mod finding;
+mod named;
 
 use crate::Definition;
-use ic_pool::Key;
+pub use named::NamedDefinitions;
 use std::alloc::Global;
-use std::collections::BTreeMap;
 use std::marker::Model;
 
-/// The definitions of a book in their order. No two have one key.
+/// The definitions of a book in their order. No two have one key. What finds them by their keys is the caller's: a call that
+/// asks for a name is lent it, and one that changes names changes it, too.
 pub struct Definitions {
     alloc: Global,
     list: Vec<Definition>,
-    /// The index of each definition, from 0, by its key.
-    indexes: BTreeMap<Key, usize>,
     /// The greatest id that one is local to, 0 where none is.
     greatest: u32,
     /// Where it is false, all that the bodies mention was found.
@@ -28,13 +28,11 @@ impl Drop for Definitions {
         let Self {
             alloc,
             list,
-            indexes,
             greatest: _,
             may_dangle: _,
         } = self;
         drop(alloc);
         drop(list);
-        drop(indexes);
     }
 }
 
@@ -51,7 +49,7 @@ impl Model for Definitions {
 
     ghost view = { λ d. d.list.items };
 
-    ghost invariant = { λ d. AreNamed d.indexes d.greatest d.may_dangle d.list.items };
+    ghost invariant = { λ d. AreNamed d.greatest d.may_dangle d.list.items };
 }
 
 impl Definitions {
@@ -62,7 +60,6 @@ impl Definitions {
         Definitions {
             alloc,
             list: Vec::new(alloc),
-            indexes: BTreeMap::new(alloc),
             greatest: 0,
             may_dangle: false,
         }
@@ -73,6 +70,19 @@ impl Definitions {
         ensures { result.now ≡ self.now }
     {
         self.list.as_slice()
+    }
+
+    /// The same, with what always holds of them.
+    fn in_order(&self) -> &[Definition]
+        ensures list { result.now ≡ self.now }
+        ensures differ { IsDistinct same_key (map key_in self.now) }
+    {
+        self.list.as_slice()
+    }
+
+    /// Where their memory comes from.
+    fn alloc(&self) -> Global {
+        self.alloc
     }
 
     /// The greatest id of a sheet that one is local to, 0 where none is.

@@ -6,7 +6,7 @@ ghost use Rattle.ic_laws.specs.Scene.{definition_at, key_of, name_of_key, same_k
 ghost use Rattle.ic_definitions.specs.Named.{definitions_scene, is_before, is_there, renamed_scene};
 
 use crate::definition::{fold_name, key_with};
-use crate::{Definition, Definitions};
+use crate::{Definition, NamedDefinitions};
 use ic_laws::{Finder, NameKey, OutOfMemory};
 use ic_pool::same_key;
 use std::alloc::Global;
@@ -14,15 +14,15 @@ use std::alloc::Global;
 /// The definitions of a book and others that are to stand behind them.
 #[derive(Clone, Copy)]
 pub struct BothDefinitions<'d> {
-    first: &'d Definitions,
-    more: &'d Definitions,
+    first: NamedDefinitions<'d>,
+    more: NamedDefinitions<'d>,
 }
 
 impl<'d> BothDefinitions<'d> {
     /// These definitions, and behind them more.
-    pub fn new(first: &'d Definitions, more: &'d Definitions) -> BothDefinitions<'d>
-        ensures first { result.first.now ≡ first.now }
-        ensures more { result.more.now ≡ more.now }
+    pub fn new(first: NamedDefinitions<'d>, more: NamedDefinitions<'d>) -> BothDefinitions<'d>
+        ensures first { result.first ≡ first.entry }
+        ensures more { result.more ≡ more.entry }
     {
         BothDefinitions { first, more }
     }
@@ -30,7 +30,8 @@ impl<'d> BothDefinitions<'d> {
     /// The key of the definition of an agreeing name that is local to the sheet with this id, or to none.
     fn key_at(&self, scope: Option<u32>, word: &str) -> Result<Option<NameKey>, OutOfMemory>
         ensures { IfOk result (λ key. key ≡ option_map key_of (definition_at
-            (definitions_scene (self.now.first.now ++ self.now.more.now))
+            (definitions_scene
+            (self.now.first.definitions.now ++ self.now.more.definitions.now))
             (fold (chars word.now)) scope)) }
     {
         if let Some(key) = self.first.key_at(scope, word)? {
@@ -45,7 +46,7 @@ impl<'d> Finder for BothDefinitions<'d> {
     ghost use Rattle.std.specs.Prelude.{◌++◌};
     ghost use Rattle.ic_definitions.specs.Named.{definitions_scene};
 
-    ghost scene = { λ b. definitions_scene (b.first.now ++ b.more.now) };
+    ghost scene = { λ b. definitions_scene (b.first.definitions.now ++ b.more.definitions.now) };
 
     fn find_sheet(&self, _alloc: Global, _name: &str) -> Result<Option<u32>, OutOfMemory> {
         Ok(None)
@@ -79,7 +80,7 @@ impl<'d> Finder for BothDefinitions<'d> {
 /// stands at the index, they are as they are.
 #[derive(Clone, Copy)]
 pub struct UpdatedDefinitions<'d> {
-    definitions: &'d Definitions,
+    definitions: NamedDefinitions<'d>,
     index: usize,
     name: &'d str,
     key: &'d NameKey,
@@ -89,13 +90,13 @@ pub struct UpdatedDefinitions<'d> {
 impl<'d> UpdatedDefinitions<'d> {
     /// These definitions with another name and another key at an index, from 0. The key must be that of the name.
     pub fn new(
-        definitions: &'d Definitions,
+        definitions: NamedDefinitions<'d>,
         index: usize,
         name: &'d str,
         key: &'d NameKey,
     ) -> UpdatedDefinitions<'d>
         requires { key.now.name ≡ fold (chars name.now) }
-        ensures definitions { result.definitions.now ≡ definitions.now }
+        ensures definitions { result.definitions ≡ definitions.entry }
         ensures index { result.index ≡ index }
         ensures name { result.name.now ≡ name.now }
         ensures key { result.key.now ≡ key.now }
@@ -117,7 +118,8 @@ impl<'d> UpdatedDefinitions<'d> {
     ) -> Result<Option<NameKey>, OutOfMemory>
         ensures { IfOk result (λ key. key ≡ option_map key_of (definition_at
             (renamed_scene self.now.index (chars self.now.name.now)
-            self.now.key.now.scope self.now.definitions.now) (fold (chars word.now)) scope)) }
+            self.now.key.now.scope self.now.definitions.definitions.now)
+            (fold (chars word.now)) scope)) }
     {
         let key = key_with(fold_name(alloc, word)?, scope);
         if self.name_of(&key).is_some() {
@@ -130,7 +132,7 @@ impl<'d> UpdatedDefinitions<'d> {
     fn name_of(&self, key: &NameKey) -> Option<&str>
         ensures { option_map (λ name. chars name.now) result ≡ name_of_key (renamed_scene
             self.now.index (chars self.now.name.now) self.now.key.now.scope
-            self.now.definitions.now) key.now }
+            self.now.definitions.definitions.now) key.now }
     {
         let place = self.definitions.place_of(key);
         if self.is_found(key, place) {
@@ -139,15 +141,15 @@ impl<'d> UpdatedDefinitions<'d> {
         if is_there(place, self.index) {
             return None;
         }
-        name_in(self.definitions.as_slice(), place)
+        name_in(self.definitions.definitions.as_slice(), place)
     }
 
     /// Whether the one at the index has this key now, and none before it has: the place is that of the first that had it.
     fn is_found(&self, key: &NameKey, place: Option<usize>) -> bool
-        ensures { result ≡ ((nat_lt self.now.index (length self.now.definitions.now)
+        ensures { result ≡ ((nat_lt self.now.index (length self.now.definitions.definitions.now)
             && same_key self.now.key.now key.now) && not (is_before self.now.index place)) }
     {
-        let there = self.index < self.definitions.as_slice().len();
+        let there = self.index < self.definitions.definitions.as_slice().len();
         there && same_key(self.key, key) && !is_before(place, self.index)
     }
 }
@@ -157,7 +159,8 @@ impl<'d> Finder for UpdatedDefinitions<'d> {
     ghost use Rattle.std.specs.Prelude.{chars};
     ghost use Rattle.ic_definitions.specs.Named.{renamed_scene};
 
-    ghost scene = { λ u. renamed_scene u.index (chars u.name.now) u.key.now.scope u.definitions.now };
+    ghost scene = { λ u. renamed_scene u.index (chars u.name.now) u.key.now.scope
+        u.definitions.definitions.now };
 
     fn find_sheet(&self, _alloc: Global, _name: &str) -> Result<Option<u32>, OutOfMemory> {
         Ok(None)

@@ -1,13 +1,12 @@
 -- A formula that stands last, and nowhere before, is taken out again.
 use Rattle.std.proofs.Common.{◌≡◌, ℕ, List, [], ◌∷◌, ◌++◌, Bool, true, false, cond, Option, Some, None, refl, sym, ap, ap₂, ◌∙◌, length, bytes_eq}
 use Rattle.std.specs.BTreeMap.{Updates, get}
-use Rattle.std.specs.Cmp.Lexicographic.{slice_cmp}
-use Rattle.std.specs.Ordering.{nat_cmp}
-use Rattle.std.proofs.lemmas.Map.Text.{is_eq-slice_cmp}
 use Rattle.std.proofs.lemmas.Slice.Eq.{bytes_eq-Decides}
 use Rattle.ic_laws.specs.declared.tree.Formula.{Formula}
 use Rattle.ic_pool.specs.Code.{code}
+use Rattle.ic_pool.specs.Hash.{key_cmp}
 use Rattle.ic_pool.specs.Pool.{EndsWithNew, IsLookUp, KeepsPlaces, first_place}
+use Rattle.ic_pool.proofs.HashLemmas.{is_eq-key_cmp}
 use Rattle.ic_pool.proofs.IndexLemmas.{Index}
 use Rattle.ic_pool.proofs.LateLemmas.{whole_knows}
 use Rattle.ic_pool.proofs.PlacedLemmas.{first_place-push}
@@ -38,11 +37,11 @@ module _ (before after : Index) (xs ys : List Formula) (x : Formula) (is : xs �
   fresh : first_place (code x) ys ≡ None
   fresh = ap₂ first_place (sym same) parts.0 ∙ ends.fresh
 
-  module _ (u : Updates (slice_cmp nat_cmp) before after key None) where
+  module _ (u : Updates key_cmp before after key None) where
     places_back : KeepsPlaces before xs → KeepsPlaces after ys
     places_back kept = record {
       finds = λ q.
-          u.0 q ∙ ap (λ b. cond b None (get (slice_cmp nat_cmp) before q)) (is_eq-slice_cmp key q ∙ ap (λ k. bytes_eq k q) same)
+          u.0 q ∙ ap (λ b. cond b None (get key_cmp before q)) (is_eq-key_cmp key q ∙ ap (λ k. bytes_eq k q) same)
           ∙ ap (cond (bytes_eq (code x) q) None) (kept.finds q ∙ ap (first_place q) is ∙ first_place-push x ys fresh q)
           ∙ by_test q (bytes_eq (code x) q) refl;
     }

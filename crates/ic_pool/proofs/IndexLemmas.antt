@@ -3,15 +3,14 @@ use Rattle.std.proofs.Common.{◌≡◌, ◌<◌, ◌≤◌, ◌+◌, ◌-◌, �
 use Rattle.std.specs.List.{slice_get}
 use Rattle.std.proofs.Math.Seq.{drop-cons}
 use Rattle.std.specs.BTreeMap.{BTreeMap, Updates, get}
-use Rattle.std.specs.Cmp.Lexicographic.{slice_cmp}
-use Rattle.std.specs.Ordering.{nat_cmp}
 use Rattle.std.proofs.lemmas.List.{length-set, take_more}
 use Rattle.std.proofs.lemmas.Option.{slice_get-get_or}
-use Rattle.std.proofs.lemmas.Map.Text.{is_eq-slice_cmp}
 use Rattle.ic_laws.specs.declared.tree.Formula.{Formula}
 use Rattle.ic_pool.specs.Code.{code}
+use Rattle.ic_pool.specs.Hash.{key_cmp}
 use Rattle.ic_pool.specs.Mentions.{has_dangling}
 use Rattle.ic_pool.specs.Pool.{IsLookUp, KeepsPlaces, dangling_count, dangling_places, dangling_weight, first_place, places_from}
+use Rattle.ic_pool.proofs.HashLemmas.{is_eq-key_cmp}
 use Rattle.ic_pool.proofs.KeyLemmas.{bytes_eq-flip}
 use Rattle.ic_pool.proofs.LateLemmas.{whole_knows}
 use Rattle.ic_pool.proofs.PlacedLemmas.{KeepsPlaces-push}
@@ -21,7 +20,7 @@ Index = BTreeMap (List ℕ) ℕ
 
 -- at each key the look-up has the first place of a formula with that key, of those that stand at this place or after
 pub record KeepsFrom (index : Index) (at : ℕ) (formulas : List Formula) : Type 0 where
-  pub finds : (key : List ℕ) → get (slice_cmp nat_cmp) index key ≡ option_map (λ n. at + n) (first_place key (drop at formulas))
+  pub finds : (key : List ℕ) → get key_cmp index key ≡ option_map (λ n. at + n) (first_place key (drop at formulas))
 
 next_place : (at : ℕ) (b : Bool) (o : Option ℕ) → cond b (Some at) (option_map (λ n. at + 1 + n) o) ≡ option_map (λ n. at + n) (cond b (Some 0) (option_map suc o))
 next_place at true o = ap (λ n. Some n) (omega arith)
@@ -29,13 +28,13 @@ next_place at false None = refl
 next_place at false (Some n) = ap (λ k. Some k) (let e : at + 1 + n ≡ at + suc n = omega arith in e)
 
 pub KeepsFrom-step : (before after : Index) (at next : ℕ) (formulas : List Formula) (x : Formula) (key : List ℕ) → KeepsFrom before next formulas → at + 1 ≡ next → at < length formulas → x ≡ get_or formulas at x → key ≡ code x
-    → Updates (slice_cmp nat_cmp) before after key (Some at) → KeepsFrom after at formulas
+    → Updates key_cmp before after key (Some at) → KeepsFrom after at formulas
 KeepsFrom-step before after at next formulas x key kept is_next within item same u = record {
   finds = λ q.
       let rest = drop next formulas in
       let moved : suc at ≡ next = omega arith in
       let here : drop at formulas ≡ x ∷ rest = drop-cons formulas at x within ∙ ap₂ ◌∷◌ (sym item) (ap (λ n. drop n formulas) moved) in
-      u.0 q ∙ ap₂ (λ b o. cond b (Some at) o) (is_eq-slice_cmp key q ∙ bytes_eq-flip key q ∙ ap (bytes_eq q) same) (kept.finds q)
+      u.0 q ∙ ap₂ (λ b o. cond b (Some at) o) (is_eq-key_cmp key q ∙ bytes_eq-flip key q ∙ ap (bytes_eq q) same) (kept.finds q)
       ∙ ap (λ m. cond (bytes_eq q (code x)) (Some at) (option_map (λ n. m + n) (first_place q rest))) (sym is_next)
       ∙ next_place at (bytes_eq q (code x)) (first_place q rest) ∙ sym (ap (λ xs. option_map (λ n. at + n) (first_place q xs)) here);
 }
@@ -53,7 +52,7 @@ places_from-push test at (y ∷ xs) x = after (test y) (places_from-push test (s
     after false e = e ∙ ap (λ n. places_from test (suc at) xs ++ cond (test x) (n ∷ []) []) (let s : suc at + length xs ≡ at + suc (length xs) = omega arith in s)
 
 pub IsLookUp-push : (before after : Index) (is_whole knows_rest : Bool) (late : List ℕ) (xs list : List Formula) (x : Formula) (key : List ℕ) (at : ℕ) → IsLookUp before is_whole knows_rest late xs → is_whole ≡ true → first_place key xs ≡ None → key ≡ code x
-    → at ≡ length xs → Updates (slice_cmp nat_cmp) before after key (Some at) → list ≡ xs ++ x ∷ [] → IsLookUp after is_whole knows_rest late list
+    → at ≡ length xs → Updates key_cmp before after key (Some at) → list ≡ xs ++ x ∷ [] → IsLookUp after is_whole knows_rest late list
 IsLookUp-push before after is_whole knows_rest late xs list x key at kept whole none same end u put =
     let found : KeepsPlaces after list = KeepsPlaces-push before after xs list x key at (kept.finds whole) (sym (ap (λ k. first_place k xs) same) ∙ none) same end u put in
     record { finds = λ w. found; rest = λ k. whole_knows after late list found }

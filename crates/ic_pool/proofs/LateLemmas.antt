@@ -2,27 +2,26 @@
 use Rattle.std.proofs.Common.{◌≡◌, ◌≢◌, ℕ, zero, suc, ◌<◌, ◌≤◌, ◌+◌, List, [], ◌∷◌, ◌++◌, Bool, true, false, cond, ◌||◌, Option, Some, None, option_map, refl, sym, ap, ap₂, subst, ◌∙◌, bytes_eq, map, set, length, take, drop, get_or, ◌&&◌, arith}
 use Rattle.std.specs.Prelude.{MatchOption, nat_eq}
 use Rattle.std.specs.BTreeMap.{BTreeMap, Updates, get}
-use Rattle.std.specs.Cmp.Lexicographic.{slice_cmp}
 use Rattle.std.specs.List.{list_any, slice_get}
 use Rattle.std.specs.Map.{lookup}
-use Rattle.std.specs.Ordering.{nat_cmp}
 use Rattle.std.proofs.lemmas.Bool.{eq-eqb, eqb-true, or_parts}
 use Rattle.std.proofs.lemmas.List.{map_more, take_all, take_at}
 use Rattle.std.proofs.lemmas.List.Folds.{list_any-append}
-use Rattle.std.proofs.lemmas.Map.Text.{is_eq-slice_cmp}
 use Rattle.std.proofs.lemmas.Slice.Eq.{bytes_eq-Decides}
 use Rattle.ic_laws.specs.declared.tree.Formula.{Formula}
 use Rattle.ic_pool.specs.Code.{code}
+use Rattle.ic_pool.specs.Hash.{key_cmp}
 use Rattle.ic_pool.specs.Pool.{IsLookUp, KeepsPlaces, KnowsRest, first_place, is_among}
 use Rattle.ic_pool.specs.Rewrites.{FitsPool, RewritesState, changed_by, is_key_among, old_keys, places_of, rewritten_by}
 use Rattle.ic_pool.specs.declared.pool.rewrites.Replacement.{Replacement}
+use Rattle.ic_pool.proofs.HashLemmas.{is_eq-key_cmp}
 use Rattle.ic_pool.proofs.KeyLemmas.{bytes_eq-flip, clash}
 
 abbrev Index : Type 0
 Index = BTreeMap (List ℕ) ℕ
 
 abbrev at_key : Index → List ℕ → Option ℕ
-at_key index key = get (slice_cmp nat_cmp) index key
+at_key index key = get key_cmp index key
 
 -- ---- first places
 
@@ -127,14 +126,14 @@ module _ (before : Index) (at : ℕ) (xs : List Formula) (late : List ℕ) (know
         by_test k y e l false other = past k y e l other
 
     -- none is, or one after it
-    pub put_here : (after : Index) (key : List ℕ) → key ≡ code x → ((first : ℕ) → at_key before key ≡ Some first → at ≤ first) → Updates (slice_cmp nat_cmp) before after key (Some at) → KnowsRest after late xs
+    pub put_here : (after : Index) (key : List ℕ) → key ≡ code x → ((first : ℕ) → at_key before key ≡ Some first → at ≤ first) → Updates key_cmp before after key (Some at) → KnowsRest after late xs
     put_here after key is_key earlier u = record {
       is_true = λ q k e. true_by_test q k e (bytes_eq key q) refl;
       has_rest = λ k y e l. rest_by_test k y e l (bytes_eq key (code y)) refl;
     }
       where
         now_at : (q : List ℕ) → at_key after q ≡ cond (bytes_eq key q) (Some at) (at_key before q)
-        now_at q = u.0 q ∙ ap (λ b. cond b (Some at) (at_key before q)) (is_eq-slice_cmp key q)
+        now_at q = u.0 q ∙ ap (λ b. cond b (Some at) (at_key before q)) (is_eq-key_cmp key q)
 
         true_by_test : (q : List ℕ) (k : ℕ) → at_key after q ≡ Some k → (b : Bool) → bytes_eq key q ≡ b → option_map code (slice_get xs k) ≡ Some q
         true_by_test q k e true same =
@@ -192,7 +191,7 @@ module _ (before : Index) (at : ℕ) (xs : List Formula) (late : List ℕ) (know
       by_option None f t = absurd (clash r e t)
       by_option (Some first) f t = put_before before at xs late knows x is first (ap (at_key before) (sym is_key) ∙ f) (t.0 e)
 
-  pub put_in_place : r ≡ false → (after : Index) → Updates (slice_cmp nat_cmp) before after key (Some at) → KnowsRest after late xs
+  pub put_in_place : r ≡ false → (after : Index) → Updates key_cmp before after key (Some at) → KnowsRest after late xs
   put_in_place e after u = put_here before at xs late knows x is after key is_key (λ first f. by_option (at_key before key) refl tells first f) u
     where
       by_option : (o : Option ℕ) → at_key before key ≡ o → MatchOption o (r ≡ false) (λ first. (r ≡ true → first ≤ at) × (r ≡ false → at ≤ first)) → (first : ℕ) → at_key before key ≡ Some first → at ≤ first
@@ -215,10 +214,10 @@ one_more_out false true o = refl
 one_more_out false false o = refl
 
 pub removed_more : (old before after : Index) (changes : List Replacement) (i : ℕ) (x : Replacement) → i < length changes → x ≡ get_or changes i x
-    → ((key : List ℕ) → at_key before key ≡ cond (is_key_among key (old_keys (take i changes))) None (at_key old key)) → Updates (slice_cmp nat_cmp) before after x.old_key None
+    → ((key : List ℕ) → at_key before key ≡ cond (is_key_among key (old_keys (take i changes))) None (at_key old key)) → Updates key_cmp before after x.old_key None
     → (key : List ℕ) → at_key after key ≡ cond (is_key_among key (old_keys (take (i + 1) changes))) None (at_key old key)
 removed_more old before after changes i x within item done u key =
-    u.0 key ∙ ap₂ (λ b o. cond b None o) (is_eq-slice_cmp x.old_key key ∙ bytes_eq-flip x.old_key key) (done key)
+    u.0 key ∙ ap₂ (λ b o. cond b None o) (is_eq-key_cmp x.old_key key ∙ bytes_eq-flip x.old_key key) (done key)
     ∙ one_more_out (is_key_among key (old_keys (take i changes))) (bytes_eq key x.old_key) (at_key old key)
     ∙ ap (λ b. cond b None (at_key old key))
     (sym (ap (is_key_among key) (old_keys_more changes i x within item) ∙ list_any-append (bytes_eq key) (old_keys (take i changes)) (x.old_key ∷ [])))

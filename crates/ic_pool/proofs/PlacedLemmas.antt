@@ -1,15 +1,14 @@
 -- First places in a list of formulas, and a look-up that keeps up with it.
 use Rattle.std.proofs.Common.{◌≡◌, ◌≢◌, ℕ, zero, suc, ◌<◌, List, [], ◌∷◌, ◌++◌, Bool, true, false, cond, Option, Some, None, option_map, refl, sym, ap, subst, ◌∙◌, length, bytes_eq, arith}
 use Rattle.std.specs.List.{slice_get}
-use Rattle.std.specs.Cmp.Lexicographic.{slice_cmp}
-use Rattle.std.specs.Ordering.{nat_cmp}
 use Rattle.std.specs.BTreeMap.{BTreeMap, Updates, get}
 use Rattle.std.proofs.lemmas.Slice.Eq.{bytes_eq-Decides}
-use Rattle.std.proofs.lemmas.Map.Text.{is_eq-slice_cmp}
 use Rattle.ic_laws.specs.declared.tree.Formula.{Formula}
 use Rattle.ic_pool.specs.Code.{code}
+use Rattle.ic_pool.specs.Hash.{key_cmp}
 use Rattle.ic_pool.specs.Pool.{IsFirstAt, IsPlaced, first_place, KeepsPlaces}
 use Rattle.ic_pool.proofs.CodeLaws.{code_determines}
+use Rattle.ic_pool.proofs.HashLemmas.{is_eq-key_cmp}
 use Rattle.ic_pool.proofs.KeyLemmas.{bytes_eq-flip, clash}
 
 -- ---- in a list
@@ -91,13 +90,13 @@ IsPlaced-pushed x at xs after none end put = record {
 
 -- ---- the map
 
-pub KeepsPlaces-push : (before after : BTreeMap (List ℕ) ℕ) (xs list : List Formula) (x : Formula) (key : List ℕ) (at : ℕ) → KeepsPlaces before xs → first_place (code x) xs ≡ None → key ≡ code x → at ≡ length xs → Updates (slice_cmp nat_cmp) before after key (Some at) → list ≡ xs ++ x ∷ [] → KeepsPlaces after list
+pub KeepsPlaces-push : (before after : BTreeMap (List ℕ) ℕ) (xs list : List Formula) (x : Formula) (key : List ℕ) (at : ℕ) → KeepsPlaces before xs → first_place (code x) xs ≡ None → key ≡ code x → at ≡ length xs → Updates key_cmp before after key (Some at) → list ≡ xs ++ x ∷ [] → KeepsPlaces after list
 KeepsPlaces-push before after xs list x key at kept none same end u put =
     subst (KeepsPlaces after) (sym put)
     (record {
       finds = λ q.
           u.0 q
-          ∙ ap (λ b. cond b (Some at) (get (slice_cmp nat_cmp) before q)) (is_eq-slice_cmp key q ∙ ap (λ k. bytes_eq k q) same)
+          ∙ ap (λ b. cond b (Some at) (get key_cmp before q)) (is_eq-key_cmp key q ∙ ap (λ k. bytes_eq k q) same)
           ∙ ap (cond (bytes_eq (code x) q) (Some at)) (kept.finds q)
           ∙ ap (λ n. cond (bytes_eq (code x) q) (Some n) (first_place q xs)) end
           ∙ sym (first_place-push x xs none q);

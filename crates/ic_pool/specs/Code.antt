@@ -239,14 +239,3 @@ code (formulas.Raw text) = number_bytes 1 ++ text_bytes text
 -- equal codes are codes of equal formulas
 abbrev pub CodesDetermine : Type 0
 CodesDetermine = (a b : Formula) → code a ≡ code b → a ≡ b
-
--- ---- the code of a definition's key
-
--- none, or the sheet with this id
-abbrev pub scope_bytes : Option ℕ → List ℕ
-scope_bytes None = number_bytes 0
-scope_bytes (Some id) = joined number_bytes (1 ∷ id ∷ [])
-
--- a list of bytes that no other key has
-abbrev pub name_code : NameKey → List ℕ
-name_code key = text_bytes key.name ++ scope_bytes key.scope

@@ -1,5 +1,6 @@
 pub mod Bytes
 pub mod Code
+pub mod Hash
 pub mod Kept
 pub mod MentionPlaces
 pub mod Mentions

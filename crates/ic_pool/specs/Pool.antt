@@ -1,11 +1,10 @@
 -- The formulas of a sheet, each at its place, and where each stands first.
 use Rattle.std.specs.Prelude.{◌≡◌, ◌≢◌, ℕ, suc, ◌<◌, ◌≤◌, List, [], ◌∷◌, ◌++◌, Bool, true, false, Option, Some, None, length, option_map, bytes_eq, nat_eq, if◌then◌else◌}
 use Rattle.std.specs.BTreeMap.{BTreeMap, get}
-use Rattle.std.specs.Cmp.Lexicographic.{slice_cmp}
 use Rattle.std.specs.List.{list_any, slice_get}
-use Rattle.std.specs.Ordering.{nat_cmp}
 use Rattle.ic_laws.specs.declared.tree.Formula.{Formula}
 use Rattle.ic_pool.specs.Code.{code}
+use Rattle.ic_pool.specs.Hash.{key_cmp}
 use Rattle.ic_pool.specs.Mentions.{has_dangling}
 
 -- what a pool is to contracts: its formulas in their places, from 0, and whether its look-up knows each of them
@@ -40,7 +39,7 @@ pub record EndsWithNew (key : List ℕ) (formulas : List Formula) : Type 0 where
 
 -- at each key the look-up has the first place of a formula with that key
 pub record KeepsPlaces (index : BTreeMap (List ℕ) ℕ) (formulas : List Formula) : Type 0 where
-  pub finds : (key : List ℕ) → get (slice_cmp nat_cmp) index key ≡ first_place key formulas
+  pub finds : (key : List ℕ) → get key_cmp index key ≡ first_place key formulas
 
 -- a place is one of these
 abbrev pub is_among : ℕ → List ℕ → Bool
@@ -48,9 +47,9 @@ is_among at places = list_any (nat_eq at) places
 
 -- What the look-up has is true; and it has each formula that stands at none of the late places, there or at a place before.
 pub record KnowsRest (index : BTreeMap (List ℕ) ℕ) (late : List ℕ) (formulas : List Formula) : Type 0 where
-  pub is_true : (key : List ℕ) (at : ℕ) → get (slice_cmp nat_cmp) index key ≡ Some at → option_map code (slice_get formulas at) ≡ Some key
+  pub is_true : (key : List ℕ) (at : ℕ) → get key_cmp index key ≡ Some at → option_map code (slice_get formulas at) ≡ Some key
   pub has_rest : (at : ℕ) (formula : Formula) → slice_get formulas at ≡ Some formula → is_among at late ≡ false
-      → (first : ℕ) × (first ≤ at) × (get (slice_cmp nat_cmp) index (code formula) ≡ Some first)
+      → (first : ℕ) × (first ≤ at) × (get key_cmp index (code formula) ≡ Some first)
 
 -- the places of the formulas that pass a test, where the first formula stands at this place
 abbrev pub places_from : (Formula → Bool) → ℕ → List Formula → List ℕ

@@ -164,7 +164,7 @@ fn copy_all<C: MentionChange>(
     ensures { IfOk result (λ copies. copies.items ≡ map (mapped (C.sheet_becomes change.now)
         (C.word_becomes change.now) (C.local_becomes change.now)) trees.now) }
 {
-    let mut out = Vec::new(alloc);
+    let mut out = Vec::with_capacity(alloc, trees.len())?;
     for tree in trees {
         let copy = copy_changed(alloc, change, tree)?;
         out.push(copy)?;
@@ -182,7 +182,7 @@ fn copy_pairs<C: MentionChange>(
     ensures { IfOk result (λ copies. copies.items ≡ map (pair_mapped (C.sheet_becomes change.now)
         (C.word_becomes change.now) (C.local_becomes change.now)) pairs.now) }
 {
-    let mut out = Vec::new(alloc);
+    let mut out = Vec::with_capacity(alloc, pairs.len())?;
     for pair in pairs {
         let value = copy_changed(alloc, change, &pair.value)?;
         let variable = Text::from_str(alloc, pair.variable.as_str())?;

@@ -1,4 +1,4 @@
-ghost use Rattle.std.specs.Prelude.{◌≡◌, ◌++◌, [], OnOk};
+ghost use Rattle.std.specs.Prelude.{◌≡◌, ◌++◌, [], IfOk, OnOk};
 ghost use Rattle.ic_pool.specs.Bytes.{joined, number_bytes};
 
 use ic_laws::OutOfMemory;
@@ -28,6 +28,21 @@ impl Key {
         Key {
             bytes: Vec::new(alloc),
         }
+    }
+
+    /// No bytes, with room for so many.
+    pub(crate) fn with_room(alloc: Global, room: usize) -> Result<Key, OutOfMemory>
+        ensures { IfOk result (λ key. key ≡ []) }
+    {
+        let bytes = Vec::with_capacity(alloc, room)?;
+        Ok(Key { bytes })
+    }
+
+    /// Its bytes.
+    pub(crate) fn bytes(&self) -> &[u8]
+        ensures { result.now ≡ self.now }
+    {
+        self.bytes.as_slice()
     }
 
     /// Writes a number.

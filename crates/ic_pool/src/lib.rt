@@ -6,12 +6,13 @@
 //! `apply` then can't fail. The four changes are `SheetNamed`, `SheetGone`, `DefinitionAdded` and `DefinitionGone`;
 //! `changed_formula` says what one makes of a formula. A `Remaking` makes formulas anew by a rule of the caller's:
 //! `prepare_remade` makes that ready. A pool has an index from what its formulas mention, told by topics, so each change
-//! and each rule names the topics that it is about. Keys of definitions are `name_key`'s.
+//! and each rule names the topics that it is about.
 #![tactic(auto)]
 
 mod changes;
 mod code;
 mod copies;
+mod hashed;
 mod key;
 mod law;
 mod mention_index;
@@ -25,8 +26,9 @@ pub use changes::{
     BookChange, DefinitionAdded, DefinitionGone, SheetGone, SheetNamed, changed_formula, same_key,
     same_scope,
 };
-pub use code::{key_of, name_key};
+pub use code::key_of;
 pub use copies::{copy_formula, copy_key};
+pub use hashed::HashedKey;
 pub use key::Key;
 pub use law::law_code_determines;
 pub use mentions::has_dangling;

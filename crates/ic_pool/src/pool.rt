@@ -13,7 +13,7 @@ mod index;
 mod rewrites;
 
 use crate::mention_index::MentionIndex;
-use crate::{BookChange, Key, Remaking, Steps, copy_formula, key_of};
+use crate::{BookChange, HashedKey, Remaking, Steps, copy_formula, key_of};
 use ic_laws::{Formula, OutOfMemory};
 use index::{all_places, dangling_in, dangling_weight, index_of, put_late, renewed};
 pub use rewrites::{Replacement, Rewrites};
@@ -29,7 +29,7 @@ pub struct Pool {
     formulas: Vec<Formula>,
     /// Where it is whole: for each formula its first place, by its key. Where it isn't, a change has taken keys out, and
     /// the places of the formulas that it made are late: the next write puts their keys in.
-    index: BTreeMap<Key, usize>,
+    index: BTreeMap<HashedKey, usize>,
     is_whole: bool,
     /// Whether the look-up has all formulas but those at the late places.
     knows_rest: bool,
@@ -245,7 +245,7 @@ impl Pool {
     }
 
     /// Takes its last formula out again, where its key is this and no other formula has it. It takes no memory.
-    pub fn take_back(&mut self, key: &Key)
+    pub fn take_back(&mut self, key: &HashedKey)
         requires whole { self.old.is_whole ≡ true }
         requires last { EndsWithNew key.now self.old.formulas }
         ensures formulas { (formula : Formula) (before : List Formula)
@@ -338,7 +338,7 @@ impl Pool {
     }
 
     /// The first place of a formula with this key.
-    fn place_of(&self, key: &Key) -> Option<usize>
+    fn place_of(&self, key: &HashedKey) -> Option<usize>
         requires { self.now.is_whole ≡ true }
         ensures { result ≡ first_place key.now self.now.formulas }
     {
@@ -346,7 +346,7 @@ impl Pool {
     }
 
     /// Puts a formula with this key at the end, where none has it. What may fail comes before the first change.
-    fn append(&mut self, key: Key, formula: Formula) -> Result<usize, OutOfMemory>
+    fn append(&mut self, key: HashedKey, formula: Formula) -> Result<usize, OutOfMemory>
         requires whole { self.old.is_whole ≡ true }
         requires its { key ≡ code formula }
         requires fresh { first_place key self.old.formulas ≡ None }

@@ -1,4 +1,4 @@
-ghost use Rattle.std.specs.Prelude.{◌≡◌, ◌-◌, ◌≤◌, ◌≤ℤ◌, pos, true, Some, None, chars, option_map, if◌then◌else◌};
+ghost use Rattle.std.specs.Prelude.{◌≡◌, ◌-◌, ◌≤◌, ◌≤ℤ◌, pos, true, Some, None, chars, option_and_then, option_map, if◌then◌else◌};
 ghost use Rattle.ic_laws.specs.Position.{row_count};
 ghost use Rattle.ic_laws.specs.Scan.{past_dollar};
 ghost use Rattle.ic_refs.specs.A1.{a1_place_at, cell_at, column_at, has_dollar, IsAnOrigin, pair_at, past_colon, read_position, row_at, whole_columns, whole_rows};
@@ -88,15 +88,13 @@ fn past_colon(text: &str) -> Option<&str>
     if c == ':' { Some(rest) } else { None }
 }
 
-// Two cells with a colon between them.
-fn read_cells(text: &str, origin: Origin) -> Option<((RefPart, RefPart), &str)>
+// The cell after a colon at the front, and the rest.
+fn read_last_cell(text: &str, origin: Origin) -> Option<(RefPart, &str)>
     requires { IsAnOrigin origin.row origin.column }
     ensures { option_map (λ f. (f.0, chars f.1.now)) result
-        ≡ pair_at (cell_at origin.row origin.column) (chars text.now) }
+        ≡ option_and_then (cell_at origin.row origin.column) (past_colon (chars text.now)) }
 {
-    let (first, rest) = read_cell(text, origin)?;
-    let (last, rest) = read_cell(past_colon(rest)?, origin)?;
-    Some(((first, last), rest))
+    read_cell(past_colon(text)?, origin)
 }
 
 // Two columns with a colon between them.
@@ -139,11 +137,11 @@ fn read_place(text: &str, origin: Origin) -> Option<(Place, &str)>
     ensures exact { option_map (λ f. (f.0, chars f.1.now)) result
         ≡ a1_place_at origin.row origin.column (chars text.now) }
 {
-    if let Some(((first, last), rest)) = read_cells(text, origin) {
-        return Some((Place::Range(first, last), rest));
-    }
-    if let Some((part, rest)) = read_cell(text, origin) {
-        return Some((Place::Cell(part), rest));
+    if let Some((first, rest)) = read_cell(text, origin) {
+        return match read_last_cell(rest, origin) {
+            Some((last, end)) => Some((Place::Range(first, last), end)),
+            None => Some((Place::Cell(first), rest)),
+        };
     }
     if let Some(((first, last), rest)) = read_columns(text, origin.column) {
         return Some((whole_columns(first, last), rest));

@@ -1,7 +1,7 @@
-ghost use Rattle.std.specs.Prelude.{◌≡◌, ◌<◌, length, IfSome, ◌++◌, ◌∷◌, ◌==◌, false, None, chars, string_bytes, MatchOption, OnOk, option_map};
+ghost use Rattle.std.specs.Prelude.{◌≡◌, ◌<◌, length, IfSome, ◌++◌, ◌∷◌, ◌==◌, ◌||◌, false, None, chars, string_bytes, MatchOption, OnOk, option_map};
 ghost use Rattle.ic_laws.specs.Character.{quote};
-ghost use Rattle.ic_laws.specs.Scan.{first_is};
-ghost use Rattle.ic_laws.specs.SheetText.{is_quote, before_bang, name_in_quotes, sheet_at, sheet_text, written_name};
+ghost use Rattle.ic_laws.specs.Scan.{first_is, is_plain, past_run};
+ghost use Rattle.ic_laws.specs.SheetText.{is_bang, is_quote, before_bang, name_in_quotes, sheet_at, sheet_text, written_name};
 ghost use Rattle.ic_refs.specs.Written.{ClosesAt, name_of, plain_name};
 
 use crate::name::{needs_quotes, push_quoted};
@@ -13,9 +13,31 @@ use ic_laws::{OutOfMemory, Text};
 pub(crate) fn find_sheet(text: &str) -> Option<(WrittenName<'_>, &str)>
     ensures { option_map (λ f. (name_of f.0, chars f.1.now)) result ≡ sheet_at (chars text.now) }
 {
+    if !may_name_sheet(text) {
+        return None;
+    }
     let (name, rest) = written_name(text)?;
     let after = past_bang(&name, rest)?;
     Some((name, after))
+}
+
+/// Whether a quote stands at the front, or a `!` after the plain characters there: a text without them begins with no
+/// sheet's name.
+fn may_name_sheet(text: &str) -> bool
+    ensures { result ≡ (first_is is_quote (chars text.now)
+        || first_is is_bang (past_run is_plain (chars text.now))) }
+{
+    begins_with(text, '\'') || begins_with(past_plain(text), '!')
+}
+
+/// Whether a character stands at the front.
+fn begins_with(text: &str, mark: char) -> bool
+    ensures { result ≡ first_is (λ c. c == mark) (chars text.now) }
+{
+    match first_char(text) {
+        Some((c, _)) => c == mark,
+        None => false,
+    }
 }
 
 /// The name at the front, as it may stand before a `!`, and the rest.

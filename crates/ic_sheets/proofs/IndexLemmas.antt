@@ -13,12 +13,17 @@ use Rattle.std.proofs.lemmas.Map.Keys.{IsDistinct-head, IsDistinct-tail, IsDisti
 use Rattle.ic_laws.specs.Name.{fold, agrees}
 use Rattle.ic_sheets.specs.declared.sheet.Sheet.{Sheet}
 use Rattle.ic_sheets.specs.Search.{id_of}
-use Rattle.ic_sheets.specs.Index.{IsIndexed}
+use Rattle.ic_sheets.specs.Index.{FindsSheets}
 use Rattle.ic_sheets.proofs.SearchLemmas.{ids, names}
 use Rattle.ic_laws.specs.CoreStep.{updated_at}
 
 abbrev pub Index : Type 0
 Index = BTreeMap (String Global) ℕ
+
+-- a look-up finds the sheets by their names, no two of which agree
+pub record IsIndexed (index : Index) (sheets : List Sheet) : Type 0 where
+  pub finds : FindsSheets index sheets
+  pub differ : IsDistinct agrees (names sheets)
 
 -- ---- equality of keys
 
@@ -199,12 +204,6 @@ id_of-same (x ∷ xs) (y ∷ ys) e f key =
     let id : x.id ≡ y.id = cc in
     let others : ids xs ≡ ids ys = cc in
     ap₂ (λ n i. cond (bytes_eq key (fold n)) (Some i) (id_of key xs)) name id ∙ ap (cond (bytes_eq key (fold y.name)) (Some y.id)) (id_of-same xs ys more others key)
-
-pub IsIndexed-same : (index : Index) (xs ys : List Sheet) → names ys ≡ names xs → ids ys ≡ ids xs → IsIndexed index xs → IsIndexed index ys
-IsIndexed-same index xs ys e f indexed = record {
-  finds = λ key. indexed.finds key ∙ sym (id_of-same ys xs e f key);
-  differ = subst (IsDistinct agrees) (sym e) indexed.differ;
-}
 
 -- two changes in turn, the second of which takes out another key; or one, which writes the key over
 pub rekeyed : (before between after : Index) (old new : List ℕ) (w : Option ℕ) → bytes_eq new old ≡ false → ((q : List ℕ) → get_by_text between q ≡ cond (bytes_eq new q) w (get_by_text before q)) → ((q : List ℕ) → get_by_text after q ≡ cond (bytes_eq old q) None (get_by_text between q)) → (q : List ℕ) → get_by_text after q ≡ cond (bytes_eq new q) w (cond (bytes_eq old q) None (get_by_text before q))

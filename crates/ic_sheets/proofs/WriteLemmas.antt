@@ -11,7 +11,7 @@ use Rattle.ic_cells.specs.declared.style.Style.{Style}
 use Rattle.ic_grid.specs.Written.{with_array}
 use Rattle.ic_grid.specs.declared.block.Block.{Block}
 use Rattle.ic_pool.specs.Pool.{IsPlaced, PoolState}
-use Rattle.ic_sheets.proofs.IndexLemmas.{Index, set_updated}
+use Rattle.ic_sheets.proofs.IndexLemmas.{set_updated}
 use Rattle.ic_sheets.proofs.KeptLemmas.{kept_same}
 use Rattle.ic_sheets.specs.Index.{AreKept}
 use Rattle.ic_sheets.specs.Sheet.{AreSameOrLookUp, IsArrayWritten, IsSameOrLooksUp, IsWritten, Sheet, TakesCell, WritesArrayAt, formula_cell, looking_up, pool_at, sheet_of, with_cell_in}
@@ -36,9 +36,9 @@ pub like_written : (formula : Formula) (kind : FormulaKind) (style : ℕ) (cell 
 like_written formula kind style cell s after (Ok done) h e = record { id = ap (λ (x : HeldSheet). x.id) h.2; name = ap (λ (x : HeldSheet). x.name) h.2 }
 like_written formula kind style cell s after (Err error) h e = like_same s after e
 
-pub kept_over : (index : Index) (last : ℕ) (sheets : List HeldSheet) (place : ℕ) (s after : HeldSheet) → AreKept index last sheets → s ≡ get_or sheets place s → IsLike s after → AreKept index last (slice_set sheets place after)
-kept_over index last sheets place s after kept read like =
-    kept_same index last sheets (slice_set sheets place after) kept
+pub kept_over : (last : ℕ) (sheets : List HeldSheet) (place : ℕ) (s after : HeldSheet) → AreKept last sheets → s ≡ get_or sheets place s → IsLike s after → AreKept last (slice_set sheets place after)
+kept_over last sheets place s after kept read like =
+    kept_same last sheets (slice_set sheets place after) kept
     (seen_over (λ (x : HeldSheet). x.name) sheets place s after read like.name)
     (seen_over (λ (x : HeldSheet). x.id) sheets place s after read like.id)
 

@@ -11,10 +11,13 @@ use Rattle.ic_pool.specs.Pool.{dangling_places}
 use Rattle.ic_sheets.specs.Search.{id_of, index_with_id}
 use Rattle.ic_sheets.specs.declared.sheet.Sheet.{Sheet}
 
--- at each key the look-up has the id of the first sheet whose folded name is that key, and no two names agree
-pub record IsIndexed (ids : BTreeMap (String Global) ℕ) (sheets : List Sheet) : Type 0 where
-  pub finds : (key : List ℕ) → get_by_text ids (encode_utf8_all key) ≡ id_of key sheets
-  pub differ : IsDistinct agrees (map (λ s. s.name) sheets)
+-- at each key a look-up of ids has that of the first sheet whose folded name is that key, and nothing at any other
+abbrev pub FindsSheets : BTreeMap (String Global) ℕ → List Sheet → Type 0
+FindsSheets ids sheets = (key : List ℕ) → get_by_text ids (encode_utf8_all key) ≡ id_of key sheets
+
+-- what finds sheets by their names finds those that they became
+abbrev pub StillFinds : List Sheet → List Sheet → Type 0
+StillFinds before after = (ids : BTreeMap (String Global) ℕ) → FindsSheets ids before → FindsSheets ids after
 
 -- at each id the look-up has the index of the sheet with that id
 pub record AreAtIndexes (indexes : BTreeMap ℕ ℕ) (sheets : List Sheet) : Type 0 where
@@ -68,8 +71,8 @@ abbrev pub dangling_ids : List Sheet → List ℕ
 dangling_ids [] = []
 dangling_ids (s ∷ sheets) = if dangles s then s.id ∷ dangling_ids sheets else dangling_ids sheets
 
--- The look-up and the greatest id are true of the sheets, and no two ids are equal.
-pub record AreKept (ids : BTreeMap (String Global) ℕ) (last : ℕ) (sheets : List Sheet) : Type 0 where
-  pub names : IsIndexed ids sheets
+-- No two names agree and no two ids are equal, and the greatest id is that of the sheets.
+pub record AreKept (last : ℕ) (sheets : List Sheet) : Type 0 where
+  pub names_differ : IsDistinct agrees (map (λ s. s.name) sheets)
   pub ids_differ : IsDistinct nat_eq (map (λ s. s.id) sheets)
   pub greatest : last ≡ greatest (map (λ s. s.id) sheets)

@@ -1,12 +1,14 @@
 //! Sheets that are handed in as plain records: their names and their ids.
 ghost use Rattle.std.specs.Prelude.{◌≡◌, ◌↔◌, ◌≤◌, IfOk, IsTrue, MatchOption, length, map};
 ghost use Rattle.ic_laws.specs.CoreBook.{last_id};
+ghost use Rattle.ic_sheets.specs.Index.{FindsSheets};
 ghost use Rattle.ic_sheets.specs.Records.{HasApartNames, HasIds, started};
 
 use crate::Sheets;
 use ic_cells::Worksheet;
 use ic_laws::OutOfMemory;
 use std::alloc::Global;
+use std::collections::BTreeMap;
 
 /// Whether no two of these sheets, of which there are no more than ids, have names that agree.
 pub fn has_apart_names(alloc: Global, worksheets: &[Worksheet]) -> Result<bool, OutOfMemory>
@@ -15,30 +17,36 @@ pub fn has_apart_names(alloc: Global, worksheets: &[Worksheet]) -> Result<bool, 
 {
     // Which ids they get here doesn't matter.
     let mut named = Sheets::new(alloc);
+    let mut ids = BTreeMap::new(alloc);
     for (index, worksheet) in worksheets.iter().enumerate() {
         let name = worksheet.name.as_str();
-        if named.is_taken(name) {
+        if named.is_taken(&ids, name) {
             return Ok(false);
         }
-        named.add_leaving_formulas(index as u32 + 1, name)?;
+        named.add_leaving_formulas(&mut ids, index as u32 + 1, name)?;
     }
     Ok(true)
 }
 
-/// Sheets with the ids and the names of these, in their order, which hold nothing yet. None exactly where some id is 0, or
-/// two are equal. No two of their names may agree.
-pub fn sheets_of(alloc: Global, worksheets: &[Worksheet]) -> Result<Option<Sheets>, OutOfMemory>
+/// Sheets with the ids and the names of these, in their order, which hold nothing yet, and what finds them by their names.
+/// None exactly where some id is 0, or two are equal. No two of their names may agree.
+pub fn sheets_of(
+    alloc: Global,
+    worksheets: &[Worksheet],
+) -> Result<Option<(Sheets, BTreeMap<String, u32>)>, OutOfMemory>
     requires { HasApartNames worksheets.now }
     ensures { IfOk result (λ made. MatchOption made (HasIds worksheets.now → ⊥)
-        (λ sheets. HasIds worksheets.now × (sheets ≡ map started worksheets.now))) }
+        (λ named. HasIds worksheets.now × (named.0 ≡ map started worksheets.now)
+        × FindsSheets named.1 named.0)) }
 {
     let mut sheets = Sheets::new(alloc);
+    let mut ids = BTreeMap::new(alloc);
     for worksheet in worksheets {
         let id = worksheet.sheet_id;
         if id == 0 || sheets.has_id(id) {
             return Ok(None);
         }
-        sheets.add_leaving_formulas(id, worksheet.name.as_str())?;
+        sheets.add_leaving_formulas(&mut ids, id, worksheet.name.as_str())?;
     }
-    Ok(Some(sheets))
+    Ok(Some((sheets, ids)))
 }

@@ -4,7 +4,7 @@ ghost use Rattle.std.specs.List.{IsDistinct, list_any};
 ghost use Rattle.std.specs.Ordering.{nat_cmp};
 ghost use Rattle.ic_laws.specs.Greatest.{greatest};
 ghost use Rattle.ic_laws.specs.Name.{agrees, fold};
-ghost use Rattle.ic_sheets.specs.Search.{id_of};
+ghost use Rattle.ic_sheets.specs.Index.{FindsSheets};
 
 mod changes;
 mod dangling;
@@ -21,12 +21,11 @@ use std::alloc::Global;
 use std::collections::BTreeMap;
 use std::marker::Model;
 
-/// The sheets of a book in their order. No two have names that agree, and no two have one id.
+/// The sheets of a book in their order. No two have names that agree, and no two have one id. What finds them by their
+/// folded names is the caller's: a call that asks for a name is lent it, and one that changes names changes it, too.
 pub struct Sheets {
     alloc: Global,
     list: Vec<Sheet>,
-    /// The id of each sheet, by its folded name.
-    ids: BTreeMap<String, u32>,
     /// The index of each sheet, from 0, by its id.
     indexes: BTreeMap<u32, usize>,
     /// The greatest id of a sheet, 0 where there is none.
@@ -40,14 +39,12 @@ impl Drop for Sheets {
         let Self {
             alloc,
             list,
-            ids,
             indexes,
             greatest: _,
             dangling,
         } = self;
         drop(alloc);
         drop(list);
-        drop(ids);
         drop(indexes);
         drop(dangling);
     }
@@ -66,7 +63,7 @@ impl Model for Sheets {
 
     ghost view = { λ s. s.list.items };
 
-    ghost invariant = { λ s. AreKept s.ids s.greatest s.list.items × AreAtIndexes s.indexes s.list.items
+    ghost invariant = { λ s. AreKept s.greatest s.list.items × AreAtIndexes s.indexes s.list.items
         × AreDangling s.dangling.items s.list.items
         × (length s.list.items ≤ vec_capacity s.dangling) };
 }
@@ -112,7 +109,6 @@ impl Sheets {
         Sheets {
             alloc,
             list: Vec::new(alloc),
-            ids: BTreeMap::new(alloc),
             indexes: BTreeMap::new(alloc),
             greatest: 0,
             dangling: Vec::new(alloc),
@@ -144,23 +140,25 @@ impl Sheets {
 
     /// The id of the sheet whose name agrees with this one. None exactly where there is none. Where there is no memory for
     /// the folded name, all names are compared.
-    pub fn find(&self, name: &str) -> Option<u32>
+    pub fn find(&self, ids: &BTreeMap<String, u32>, name: &str) -> Option<u32>
+        requires { FindsSheets ids.now self.now }
         ensures { result ≡ option_map (λ s. s.id)
             (find (λ s. agrees s.name (chars name.now)) self.now) }
     {
         match folded(self.alloc, name) {
-            Ok(key) => self.find_by_key(key.as_str(), name),
+            Ok(key) => self.find_by_key(ids, key.as_str(), name),
             Err(_) => first_named(&self.list, name),
         }
     }
 
     /// The same, by the key of the name.
-    fn find_by_key(&self, key: &str, name: &str) -> Option<u32>
-        requires { key.now ≡ encode_utf8_all (fold (chars name.now)) }
+    fn find_by_key(&self, ids: &BTreeMap<String, u32>, key: &str, name: &str) -> Option<u32>
+        requires finds { FindsSheets ids.now self.now }
+        requires key { key.now ≡ encode_utf8_all (fold (chars name.now)) }
         ensures { result ≡ option_map (λ s. s.id)
             (find (λ s. agrees s.name (chars name.now)) self.now) }
     {
-        self.ids.get(key).copied()
+        ids.get(key).copied()
     }
 
     /// The index of the sheet with this id, from 0. None exactly where no sheet has it.
@@ -178,10 +176,11 @@ impl Sheets {
     }
 
     /// The index of the sheet whose name agrees with this one, from 0. None exactly where there is none.
-    pub fn index_of_name(&self, name: &str) -> Option<usize>
+    pub fn index_of_name(&self, ids: &BTreeMap<String, u32>, name: &str) -> Option<usize>
+        requires { FindsSheets ids.now self.now }
         ensures { result ≡ position (λ s. agrees s.name (chars name.now)) self.now }
     {
-        let id = self.find(name)?;
+        let id = self.find(ids, name)?;
         index_in(&self.indexes, id)
     }
 
@@ -205,19 +204,21 @@ impl Sheets {
     }
 
     /// Whether the name of a sheet agrees with this one.
-    pub fn is_taken(&self, name: &str) -> bool
+    pub fn is_taken(&self, ids: &BTreeMap<String, u32>, name: &str) -> bool
+        requires { FindsSheets ids.now self.now }
         ensures { result ≡ list_any (agrees (chars name.now)) (map (λ s. s.name) self.now) }
     {
-        self.find(name).is_some()
+        self.find(ids, name).is_some()
     }
 
     /// Whether the name of a sheet agrees with this one, other than the sheet at this index, from 0. Past the end no sheet
     /// is left out.
-    pub fn is_taken_by_other(&self, index: usize, name: &str) -> bool
+    pub fn is_taken_by_other(&self, ids: &BTreeMap<String, u32>, index: usize, name: &str) -> bool
+        requires { FindsSheets ids.now self.now }
         ensures { result ≡ list_any (agrees (chars name.now))
             (remove (map (λ s. s.name) self.now) index) }
     {
-        match (self.find(name), sheet_at(&self.list, index)) {
+        match (self.find(ids, name), sheet_at(&self.list, index)) {
             (None, _) => false,
             (Some(_), None) => true,
             (Some(id), Some(sheet)) => sheet.id != id,

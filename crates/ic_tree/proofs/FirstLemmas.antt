@@ -1,14 +1,17 @@
 -- The first character of a text tells which kinds of tokens can stand there.
-use Rattle.std.proofs.Common.{◌≡◌, ℕ, ◌<◌, ◌≤◌, List, [], ◌∷◌, ◌⊎◌, Bool, true, false, ◌||◌, ◌==◌, length, nat_le, Option, Some, None, option_map, refl, sym, ◌∙◌, ap, subst, inl, inr, arith, length-append}
-use Rattle.std.proofs.lemmas.Bool.{cases_Bool, le-leb}
+use Rattle.std.proofs.Common.{◌≡◌, ℕ, ◌<◌, ◌≤◌, List, [], ◌∷◌, ◌⊎◌, Bool, true, false, ◌||◌, ◌==◌, length, nat_le, not, Option, Some, None, option_map, refl, sym, ◌∙◌, ap, subst, inl, inr, arith, length-append}
+use Rattle.std.proofs.lemmas.Bool.{and_parts, cases_Bool, le-leb}
 use Rattle.std.proofs.lemmas.Bool.Decides.{eqb_tells}
 use Rattle.ucd_derived.proofs.Computing.{ucd_derived}
 use Rattle.ic_laws.specs.AmountFront.{number_in_one_pass}
+use Rattle.ic_laws.specs.Character.{open_bracket}
 use Rattle.ic_laws.specs.Dialect.{DialectMeaning, IsLawful, begins_reference}
-use Rattle.ic_laws.specs.Scan.{EndsWith, begins_word, is_digit, is_letter}
+use Rattle.ic_laws.specs.NextToken.{boolean_or_word}
+use Rattle.ic_laws.specs.declared.dialect.WordKind.TheVariants as kinds
+use Rattle.ic_laws.specs.Scan.{EndsWith, begins_word, first_is, is_blank, is_digit, is_letter, is_word_character, past_run, run_of}
 use Rattle.ic_laws.specs.Split.{FindsBest, longer, or_else}
 use Rattle.ic_laws.specs.Token.{Token, Close, Hash, Str, Spells}
-use Rattle.ic_laws.specs.TokenKinds.{OfKind, closed, error_at, head_at, is_number, local_at, one_at, reference_at, text_at, token_by_kinds, two_at, word_at}
+use Rattle.ic_laws.specs.TokenKinds.{OfKind, closed, error_at, head_at, head_before, is_number, local_at, one_at, reference_at, text_at, token_by_kinds, two_at, word_at}
 use Rattle.ic_laws.specs.declared.reference.RefToken.{RefToken}
 use Rattle.ic_laws.proofs.tokens.Kinds.{by_kinds, error_best}
 use Rattle.ic_laws.proofs.tokens.NameReaders.{head_at_sound, word_at_sound}
@@ -19,7 +22,7 @@ use Rattle.ic_laws.proofs.tokens.Splits.{none_or_some}
 use Rattle.ic_laws.proofs.printing.Signs.{mark_begins_none, no_error_first, no_number, not_decimal, or_neither, two_none}
 use Rattle.ic_laws.proofs.printing.Words.{start_kinds, starts, word_no_number}
 use Rattle.ic_tree.proofs.LocalFirst.{no_local_start}
-use Rattle.ic_tree.specs.Lexing.{found, named_at}
+use Rattle.ic_tree.specs.Lexing.{found, is_past_word, named_at}
 
 longer_none : (a : Option (Token × List ℕ)) → longer a None ≡ a
 longer_none None = refl
@@ -125,6 +128,24 @@ pub word_alone : (d : DialectMeaning) → IsLawful d → (text cs : List ℕ) (c
 word_alone d n text cs c is begins =
     let none : number_in_one_pass d text ≡ None = ap (number_in_one_pass d) is ∙ word_no_number d n c cs begins in
     ap (longer (head_at d text)) (sym (longer_none (word_at d text)) ∙ ap (longer (word_at d text)) (sym none))
+
+-- a reference that ends where the word does or later, where no bracket opens after the word
+no_head : (d : DialectMeaning) (name after : List ℕ) → not (first_is (λ c. c == open_bracket) after) ≡ true → head_before d name after ≡ None
+no_head d name [] h = refl
+no_head d name (c ∷ cs) h = elim (cases_Bool (c == open_bracket)) [ inl p ↦ absurd (let no : false ≡ true = rw p at h in cc) | inr p ↦ rw p refl ]
+
+no_longer_word : (f : Token × List ℕ) (rest : List ℕ) (w : Option Token) → nat_le (length f.1) (length rest) ≡ true → longer (Some f) (option_map (λ t. (t, rest)) w) ≡ Some f
+no_longer_word f rest None h = refl
+no_longer_word f rest (Some t) h = rw h refl
+
+pub reference_over_word : (d : DialectMeaning) → IsLawful d → (text cs : List ℕ) (c : ℕ) (f : Token × List ℕ) → text ≡ c ∷ cs → begins_word c ≡ true → is_past_word text f.1 ≡ true → longer (Some f) (named_at d text) ≡ Some f
+reference_over_word d n text cs c f is begins past =
+    let parts = and_parts _ _ past in
+    let first : first_is begins_word text ≡ true = ap (first_is begins_word) is ∙ begins in
+    let head : head_at d text ≡ None = rw first (no_head d (run_of is_word_character text) (past_run is_blank (past_run is_word_character text)) parts.1) in
+    let word : longer (Some f) (word_at d text) ≡ Some f =
+    rw first (no_longer_word f (past_run is_word_character text) (boolean_or_word d (run_of is_word_character text) (d.find kinds.Boolean (run_of is_word_character text))) parts.0) in
+    ap (longer (Some f)) (sym (word_alone d n text cs c is begins) ∙ ap (λ h. longer h (word_at d text)) head) ∙ word
 
 -- what stands after a head, a word or a number ends the text
 longer_from : (a b : Option (Token × List ℕ)) (f : Token × List ℕ) → longer a b ≡ Some f → (a ≡ Some f) ⊎ (b ≡ Some f)

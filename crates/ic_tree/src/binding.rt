@@ -220,7 +220,7 @@ fn bind_all<N: Finder>(
         seen.old) }
     ensures seen { OnOk result (seen.new ≡ seen.old) }
 {
-    let mut out = Vec::new(alloc);
+    let mut out = Vec::with_capacity(alloc, ts.len())?;
     for t in ts {
         let bound = bind_under(alloc, names, english, scope, seen, t)?;
         out.push(bound)?;
@@ -245,7 +245,7 @@ fn bind_pairs<N: Finder>(
         ≡ with_variables (map (pair_binds (function_of english.now) (N.scene names.now) scope)
         pairs.now) seen.old) }
 {
-    let mut out = Vec::new(alloc);
+    let mut out = Vec::with_capacity(alloc, pairs.len())?;
     for pair in pairs {
         let value = bind_under(alloc, names, english, scope, seen, &pair.value)?;
         let variable = Text::from_str(alloc, pair.variable.as_str())?;

@@ -207,7 +207,7 @@ fn spell_all<S: Spelling>(
     ensures { IfOk result (λ r. r.items ≡ map
         (spelled_with (S.sheet_text spelling.now) (S.key_text spelling.now)) trees.now) }
 {
-    let mut out = Vec::new(alloc);
+    let mut out = Vec::with_capacity(alloc, trees.len())?;
     for tree in trees {
         let written = spell_with(alloc, spelling, tree)?;
         out.push(written)?;
@@ -225,7 +225,7 @@ fn spell_pairs<S: Spelling>(
     ensures { IfOk result (λ r. r.items ≡ map
         (pair_spelled (S.sheet_text spelling.now) (S.key_text spelling.now)) pairs.now) }
 {
-    let mut out = Vec::new(alloc);
+    let mut out = Vec::with_capacity(alloc, pairs.len())?;
     for pair in pairs {
         let value = spell_with(alloc, spelling, &pair.value)?;
         let variable = Text::from_str(alloc, pair.variable.as_str())?;

@@ -3,31 +3,37 @@ ghost use Rattle.std.specs.Prelude.{◌≡◌, ◌↔◌, ◌++◌, [], ◌∷�
 ghost use Rattle.std.specs.List.{list_any};
 ghost use Rattle.ic_laws.specs.CoreStep.{is_named};
 ghost use Rattle.ic_laws.specs.ValidCore.{IsScope};
+ghost use Rattle.ic_definitions.specs.Named.{FindsNames};
 ghost use Rattle.ic_book.specs.Asked.{AreDefined, Breaks, IsDefined, unread};
 
 use crate::BookError;
 use crate::definitions::past_equals;
 use ic_cells::DefinedName;
-use ic_definitions::{Definition, Definitions};
+use ic_definitions::{Definition, Definitions, NamedDefinitions};
 use ic_laws::{Formula, OutOfMemory, Text};
 use ic_refs::is_valid_identifier;
 use std::alloc::Global;
+use std::collections::BTreeMap;
 
 /// Asks whether each definition's name is an identifier and its scope an id, and no two have one key; then gives
-/// definitions with these names and scopes, whose bodies aren't read yet.
-pub fn ask_definitions(alloc: Global, names: &[DefinedName]) -> Result<Definitions, BookError>
+/// definitions with these names and scopes, whose bodies aren't read yet, and what finds them by their keys.
+pub fn ask_definitions(
+    alloc: Global,
+    names: &[DefinedName],
+) -> Result<(Definitions, BTreeMap<(String, Option<u32>), usize>), BookError>
     ensures { MatchResult result
-        (λ definitions. AreDefined names.now × (definitions ≡ map unread names.now))
-        (Breaks 4 (AreDefined names.now)) }
+        (λ made. AreDefined names.now × (made.0 ≡ map unread names.now)
+        × FindsNames made.1 made.0) (Breaks 4 (AreDefined names.now)) }
 {
     let mut definitions = Definitions::new(alloc);
+    let mut places = BTreeMap::new(alloc);
     for name in names {
-        if !is_defined(name) || is_there(&definitions, name) {
+        if !is_defined(name) || is_there(&definitions, &places, name) {
             return Err(BookError::BadWorkbook(4));
         }
-        put_name(alloc, &mut definitions, name)?;
+        put_name(alloc, &mut definitions, &mut places, name)?;
     }
-    Ok(definitions)
+    Ok((definitions, places))
 }
 
 /// Whether a definition may have this name and this scope.
@@ -48,25 +54,35 @@ fn is_scope(scope: Option<u32>) -> bool
 }
 
 /// Whether a definition of an agreeing name with this scope is there.
-fn is_there(definitions: &Definitions, name: &DefinedName) -> bool
+fn is_there(
+    definitions: &Definitions,
+    places: &BTreeMap<(String, Option<u32>), usize>,
+    name: &DefinedName,
+) -> bool
+    requires { FindsNames places.now definitions.now }
     ensures { result ≡ list_any (is_named name.now.name name.now.sheet_id) definitions.now }
 {
-    definitions
-        .index_of(name.name.as_str(), name.sheet_id)
-        .is_some()
+    let named = NamedDefinitions {
+        definitions,
+        places,
+    };
+    named.index_of(name.name.as_str(), name.sheet_id).is_some()
 }
 
 /// Puts a definition at the end, whose body isn't read yet.
 fn put_name(
     alloc: Global,
     definitions: &mut Definitions,
+    places: &mut BTreeMap<(String, Option<u32>), usize>,
     name: &DefinedName,
 ) -> Result<(), OutOfMemory>
-    requires { list_any (is_named name.now.name name.now.sheet_id) definitions.old ≡ false }
-    ensures { OnOk result (definitions.new ≡ definitions.old ++ unread name.now ∷ []) }
+    requires finds { FindsNames places.old definitions.old }
+    requires free { list_any (is_named name.now.name name.now.sheet_id) definitions.old ≡ false }
+    ensures put { OnOk result (definitions.new ≡ definitions.old ++ unread name.now ∷ []) }
+    ensures finds { FindsNames places.new definitions.new }
 {
     let definition = unread(alloc, name)?;
-    definitions.add_leaving_bodies(definition)
+    definitions.add_leaving_bodies(places, definition)
 }
 
 /// A definition whose body isn't read yet.

@@ -7,18 +7,24 @@ ghost use Rattle.ic_laws.specs.CoreBook as core;
 ghost use Rattle.ic_laws.specs.CoreBook.{spelling_of};
 ghost use Rattle.ic_laws.specs.CoreStep.{is_named};
 ghost use Rattle.ic_definitions.specs.Bodies.{FitsBodies, StaysWhereFound, with_bodies};
-ghost use Rattle.ic_definitions.specs.Named.{definitions_scene};
+ghost use Rattle.ic_definitions.specs.Named.{FindsNames, definitions_scene};
 ghost use Rattle.ic_sheets.specs.Rewriting.{changed_pool, look_ups, looks_up_after, sheets_of};
 ghost use Rattle.ic_sheets.specs.declared.sheet.Sheet.{Sheet};
 
 use crate::contents::Contents;
-use ic_definitions::{BodyRewrites, Definition};
+use ic_definitions::{BodyRewrites, Definition, NamedDefinitions};
 use ic_laws::OutOfMemory;
 use ic_pool::{DefinitionAdded, DefinitionGone, SheetGone};
+use std::collections::BTreeMap;
 
 /// Adds a definition at the end. Words that could mean it do, with their sheets or without. Where it is local to no sheet, a
 /// body in which all was found must be one that it leaves.
-pub fn add_definition(contents: &mut Contents, definition: Definition) -> Result<(), OutOfMemory>
+pub fn add_definition(
+    contents: &mut Contents,
+    places: &mut BTreeMap<(String, Option<u32>), usize>,
+    definition: Definition,
+) -> Result<(), OutOfMemory>
+    requires finds { FindsNames places.old contents.old.definitions }
     requires free { list_any (is_named definition.name definition.scope)
         contents.old.definitions ≡ false }
     requires spares { definition.scope ≡ None → AllByRecursion (StaysWhereFound (definition_added
@@ -32,18 +38,24 @@ pub fn add_definition(contents: &mut Contents, definition: Definition) -> Result
         ≡ map (with_body_tree (changed_tree (definition_added (spelling_of definition))))
         contents.old.definitions ++ definition ∷ []) }
     ensures err { OnErr result (contents.new ≡ contents.old) }
+    ensures finds { FindsNames places.new contents.new.definitions }
 {
     let added = DefinitionAdded::new(definition.name(), definition.key());
     let formulas = contents.sheets.prepare_added(&added)?;
-    contents.definitions.add(definition)?;
+    contents.definitions.add(places, definition)?;
     contents.sheets.apply_own(formulas);
     Ok(())
 }
 
 /// Takes the definition at an index away, from 0. Words that meant it mean the one of an agreeing name that is local to none,
 /// or dangle by its name.
-pub fn delete_at(contents: &mut Contents, index: usize) -> Result<(), OutOfMemory>
-    requires { index < length contents.old.definitions }
+pub fn delete_at(
+    contents: &mut Contents,
+    places: &mut BTreeMap<(String, Option<u32>), usize>,
+    index: usize,
+) -> Result<(), OutOfMemory>
+    requires finds { FindsNames places.old contents.old.definitions }
+    requires within { index < length contents.old.definitions }
     ensures sheets { OnOk result ((d : core.Definition)
         → slice_get contents.old.definitions index ≡ Some d
         → sheets_of contents.new.sheets ≡ map (changed_pool (definition_gone
@@ -60,8 +72,9 @@ pub fn delete_at(contents: &mut Contents, index: usize) -> Result<(), OutOfMemor
         (definitions_scene (remove contents.old.definitions index)) (spelling_of d))))
         contents.old.definitions) index) }
     ensures err { OnErr result (contents.new ≡ contents.old) }
+    ensures finds { FindsNames places.new contents.new.definitions }
 {
-    let becomes = contents.definitions.mention_without(index)?;
+    let becomes = contents.definitions.mention_without(places, index)?;
     let definition = &contents.definitions.as_slice()[index];
     let gone = DefinitionGone {
         key: definition.key(),
@@ -69,14 +82,19 @@ pub fn delete_at(contents: &mut Contents, index: usize) -> Result<(), OutOfMemor
         becomes: &becomes,
     };
     let formulas = contents.sheets.prepare(&gone)?;
-    contents.definitions.delete(index)?;
+    contents.definitions.delete(places, index)?;
     contents.sheets.apply(formulas);
     Ok(())
 }
 
 /// What the bodies of definitions become where the sheet at an index, from 0, goes.
-pub fn bodies_without(contents: &Contents, index: usize) -> Result<BodyRewrites, OutOfMemory>
-    requires { index < length contents.now.sheets }
+pub fn bodies_without(
+    contents: &Contents,
+    places: &BTreeMap<(String, Option<u32>), usize>,
+    index: usize,
+) -> Result<BodyRewrites, OutOfMemory>
+    requires finds { FindsNames places.now contents.now.definitions }
+    requires within { index < length contents.now.sheets }
     ensures made { IfOk result (λ w. (sheet : Sheet)
         → slice_get contents.now.sheets index ≡ Some sheet
         → with_bodies w.bodies.items contents.now.definitions ≡ map (with_body_tree
@@ -85,10 +103,14 @@ pub fn bodies_without(contents: &Contents, index: usize) -> Result<BodyRewrites,
     ensures fits { IfOk result (λ w. FitsBodies w contents.now.definitions) }
 {
     let sheet = &contents.sheets.as_slice()[index];
+    let definitions = NamedDefinitions {
+        definitions: &contents.definitions,
+        places,
+    };
     let gone = SheetGone {
         id: sheet.id,
         name: sheet.name.as_str(),
-        definitions: &contents.definitions,
+        definitions: &definitions,
     };
     contents.definitions.prepare(&gone)
 }

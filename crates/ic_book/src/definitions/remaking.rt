@@ -8,9 +8,10 @@ ghost use Rattle.ic_laws.specs.Scene.{key_of, same_key};
 ghost use Rattle.ic_laws.specs.declared.tree.Formula.TheVariants as formulas;
 ghost use Rattle.ic_tree.specs.LanguageWords.{function_of};
 ghost use Rattle.ic_definitions.specs.Bodies.{FitsBodies, with_bodies};
-ghost use Rattle.ic_definitions.specs.Named.{key_in};
+ghost use Rattle.ic_definitions.specs.Named.{FindsNames, key_in};
 ghost use Rattle.ic_sheets.specs.Rewriting.{FitSheets, with_all_rewrites};
 ghost use Rattle.ic_machine.specs.Capture.{has_sites};
+ghost use Rattle.ic_book.specs.Names.{IsIndexed};
 ghost use Rattle.ic_book.specs.Scene.{scene_of_parts, scene_renamed};
 ghost use Rattle.ic_book.specs.Sites.{kept_where_touched, site_of};
 ghost use Rattle.ic_book.specs.Updated.{IsPrepared, LeavesAll, keys_named, rule_of_update};
@@ -18,16 +19,18 @@ ghost use Rattle.ic_book.specs.Updated.{IsPrepared, LeavesAll, keys_named, rule_
 use super::update::CheckedUpdate;
 use crate::MentionSite;
 use crate::contents::Contents;
+use crate::names::NameIndex;
 use crate::scene::{BookScene, SceneOver};
 use crate::sites::sites_of_update;
 use caseless::default_case_fold_str;
-use ic_definitions::{BodyRewrites, Definition, UpdatedDefinitions};
+use ic_definitions::{BodyRewrites, Definition, NamedDefinitions, UpdatedDefinitions};
 use ic_keep::{KeyChange, is_touched, keep_formula};
 use ic_laws::{Formula, Items, NameKey, OutOfMemory, Text};
 use ic_pool::{Remaking, Rewrites, folded_topic};
 use ic_tables::Language;
 use ic_tree::bind;
 use std::alloc::Global;
+use std::collections::BTreeMap;
 
 /// How an update makes the formulas of a book anew: those with a word that means the definition, or could mean it then, are
 /// kept over it.
@@ -46,22 +49,24 @@ impl<'u> Updating<'u> {
     /// found then.
     fn new(
         contents: &'u Contents,
+        names: &'u NameIndex,
         definitions: &'u UpdatedDefinitions<'u>,
         new_name: &'u str,
         change: &'u KeyChange,
         english: &'u Language,
     ) -> Updating<'u>
-        requires { change.now.new.name ≡ fold (chars new_name.now) }
+        requires indexed { IsIndexed names.now contents.now.sheets contents.now.definitions }
+        requires named { change.now.new.name ≡ fold (chars new_name.now) }
         ensures { ⟦<Updating<'u> as Remaking>⟧.made result ≡ kept_where_touched
             (function_of english.now)
             (scene_of_parts contents.now.sheets contents.now.definitions)
-            (scene_renamed contents.now.sheets definitions.now.definitions.now
+            (scene_renamed contents.now.sheets definitions.now.definitions.definitions.now
             definitions.now.index (chars definitions.now.name.now) definitions.now.key.now.scope)
             change.now.old change.now.new }
     {
         Updating {
-            before: BookScene::new(&contents.sheets, &contents.definitions),
-            after: SceneOver::new(&contents.sheets, definitions),
+            before: BookScene::new(contents, names),
+            after: SceneOver::new(&contents.sheets, &names.sheets, definitions),
             change,
             new_name,
             english,
@@ -75,7 +80,7 @@ impl<'u> Remaking for Updating<'u> {
     ghost use Rattle.ic_book.specs.Scene.{scene_of_parts, scene_renamed};
     ghost use Rattle.ic_book.specs.Sites.{kept_where_touched};
 
-    ghost made = { λ u. kept_where_touched (function_of u.english.now) (scene_of_parts u.before.sheets.now u.before.definitions.now) (scene_renamed u.after.sheets.now u.after.definitions.now.definitions.now u.after.definitions.now.index (chars u.after.definitions.now.name.now) u.after.definitions.now.key.now.scope) u.change.now.old u.change.now.new };
+    ghost made = { λ u. kept_where_touched (function_of u.english.now) (scene_of_parts u.before.sheets.now u.before.definitions.definitions.now) (scene_renamed u.after.sheets.now u.after.definitions.now.definitions.definitions.now u.after.definitions.now.index (chars u.after.definitions.now.name.now) u.after.definitions.now.key.now.scope) u.change.now.old u.change.now.new };
 
     fn topics(&self) -> (u64, u64) {
         let old = folded_topic(self.change.old.name.as_str());
@@ -152,9 +157,11 @@ impl PreparedUpdate {
     pub fn apply(
         self,
         contents: &mut Contents,
+        places: &mut BTreeMap<(String, Option<u32>), usize>,
         index: usize,
         definition: Definition,
     ) -> Result<(), OutOfMemory>
+        requires finds { FindsNames places.old contents.old.definitions }
         requires within { index < length contents.old.definitions }
         requires apart { list_any (same_key (key_in definition))
             (remove (map key_in contents.old.definitions) index) ≡ false }
@@ -166,6 +173,7 @@ impl PreparedUpdate {
             ≡ updated_at (λ d. definition) index
             (with_bodies self.bodies.bodies.items contents.old.definitions)) }
         ensures err { OnErr result (contents.new ≡ contents.old) }
+        ensures finds { FindsNames places.new contents.new.definitions }
     {
         let Self {
             formulas,
@@ -173,7 +181,9 @@ impl PreparedUpdate {
             sites,
         } = self;
         drop(sites);
-        contents.definitions.update(index, definition, bodies)?;
+        contents
+            .definitions
+            .update(places, index, definition, bodies)?;
         contents.sheets.apply(formulas);
         Ok(())
     }
@@ -184,19 +194,25 @@ impl PreparedUpdate {
 pub fn prepare_update(
     alloc: Global,
     contents: &Contents,
+    names: &NameIndex,
     english: &Language,
     new_name: &str,
     change: &KeyChange,
     index: usize,
 ) -> Result<PreparedUpdate, OutOfMemory>
+    requires indexed { IsIndexed names.now contents.now.sheets contents.now.definitions }
     requires named { change.now.new.name ≡ fold (chars new_name.now) }
     requires leaves { LeavesAll (rule_of_update (function_of english.now) contents.now index
         (chars new_name.now) change.now) contents.now }
     ensures { IfOk result (IsPrepared (rule_of_update (function_of english.now) contents.now index
         (chars new_name.now) change.now) change.now contents.now) }
 {
-    let definitions = UpdatedDefinitions::new(&contents.definitions, index, new_name, &change.new);
-    let updating = Updating::new(contents, &definitions, new_name, change, english);
+    let named = NamedDefinitions {
+        definitions: &contents.definitions,
+        places: &names.names,
+    };
+    let definitions = UpdatedDefinitions::new(named, index, new_name, &change.new);
+    let updating = Updating::new(contents, names, &definitions, new_name, change, english);
     let formulas = contents.sheets.prepare_remade(&updating)?;
     let bodies = contents.definitions.prepare_remade(&updating)?;
     let sites = sites_of_update(alloc, contents, change, &formulas, &bodies)?;
@@ -211,12 +227,14 @@ pub fn prepare_update(
 pub fn updated_definition(
     alloc: Global,
     contents: &Contents,
+    names: &NameIndex,
     english: &Language,
     new_name: &str,
     key: &NameKey,
     checked: &CheckedUpdate,
 ) -> Result<Definition, OutOfMemory>
-    requires { key.now ≡ key_of (record { name = chars new_name.now; scope = checked.now.new_scope }) }
+    requires indexed { IsIndexed names.now contents.now.sheets contents.now.definitions }
+    requires key { key.now ≡ key_of (record { name = chars new_name.now; scope = checked.now.new_scope }) }
     ensures { IfOk result (λ d. d ≡ record {
       name = chars new_name.now;
       scope = checked.now.new_scope;
@@ -226,8 +244,12 @@ pub fn updated_definition(
           checked.now.new_scope checked.now.body.tree);
     }) }
 {
-    let definitions = UpdatedDefinitions::new(&contents.definitions, checked.index, new_name, key);
-    let scene = SceneOver::new(&contents.sheets, &definitions);
+    let named = NamedDefinitions {
+        definitions: &contents.definitions,
+        places: &names.names,
+    };
+    let definitions = UpdatedDefinitions::new(named, checked.index, new_name, key);
+    let scene = SceneOver::new(&contents.sheets, &names.sheets, &definitions);
     let scope = checked.new_scope;
     let tree = bind(alloc, &scene, english, scope, &checked.body.tree)?;
     Definition::new(

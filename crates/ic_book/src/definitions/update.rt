@@ -20,7 +20,7 @@ ghost use Rattle.ic_book.specs.Whole.{whole_of};
 use super::body::{TypedBody, past_equals};
 use super::remaking::{keys_of_update, prepare_update, updated_definition};
 use crate::{BookError, Model};
-use ic_definitions::Definitions;
+use ic_definitions::NamedDefinitions;
 use ic_laws::{OutOfMemory, agree};
 use ic_pool::same_scope;
 use ic_refs::{CellReferenceIndex, is_valid_identifier, trimmed};
@@ -138,6 +138,7 @@ impl<'a> Model<'a> {
         let prepared = prepare_update(
             self.alloc,
             &self.contents,
+            &self.names,
             english,
             new_name,
             &change,
@@ -149,12 +150,13 @@ impl<'a> Model<'a> {
         let definition = updated_definition(
             self.alloc,
             &self.contents,
+            &self.names,
             english,
             new_name,
             &change.new,
             &checked,
         )?;
-        prepared.apply(&mut self.contents, index, definition)?;
+        prepared.apply(&mut self.contents, &mut self.names.names, index, definition)?;
         Ok(())
     }
 
@@ -183,6 +185,7 @@ impl<'a> Model<'a> {
         let prepared = prepare_update(
             self.alloc,
             &self.contents,
+            &self.names,
             english,
             new_name,
             &change,
@@ -208,7 +211,10 @@ impl<'a> Model<'a> {
             (chars formula.now)))) }
     {
         // What always holds of a model is known from here on.
-        let definitions = &self.contents.definitions;
+        let definitions = NamedDefinitions {
+            definitions: &self.contents.definitions,
+            places: &self.names.names,
+        };
         if !is_valid_identifier(new_name) {
             return Err(BookError::InvalidName);
         }
@@ -218,7 +224,7 @@ impl<'a> Model<'a> {
         let Some(new_scope) = self.scope_id(new_scope) else {
             return Err(BookError::InvalidScope);
         };
-        if meets_other(definitions, name, old_scope, new_name, new_scope) {
+        if meets_other(&definitions, name, old_scope, new_name, new_scope) {
             return Err(BookError::NameExists);
         }
         let found = definitions.index_of(name, old_scope);
@@ -252,21 +258,22 @@ impl<'a> Model<'a> {
 
 /// Whether another definition than the one of this name and this scope has the new name and the new scope.
 fn meets_other(
-    definitions: &Definitions,
+    definitions: &NamedDefinitions,
     name: &str,
     scope: Option<u32>,
     new_name: &str,
     new_scope: Option<u32>,
 ) -> bool
-    ensures { result ≡ (list_any (is_named (chars new_name.now) new_scope) definitions.now
+    ensures { result ≡ (list_any (is_named (chars new_name.now) new_scope)
+        definitions.now.definitions.now
         && not (agrees (chars name.now) (chars new_name.now) && same_scope scope new_scope)) }
 {
     is_defined(definitions, new_name, new_scope) && !is_same_name(name, scope, new_name, new_scope)
 }
 
 /// Whether a definition has an agreeing name and this scope.
-fn is_defined(definitions: &Definitions, name: &str, scope: Option<u32>) -> bool
-    ensures { result ≡ list_any (is_named (chars name.now) scope) definitions.now }
+fn is_defined(definitions: &NamedDefinitions, name: &str, scope: Option<u32>) -> bool
+    ensures { result ≡ list_any (is_named (chars name.now) scope) definitions.now.definitions.now }
 {
     definitions.index_of(name, scope).is_some()
 }

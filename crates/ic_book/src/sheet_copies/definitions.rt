@@ -4,15 +4,16 @@ ghost use Rattle.std.specs.List.{IsDistinct, list_any};
 ghost use Rattle.ic_laws.specs.CoreStep.{is_named};
 ghost use Rattle.ic_laws.specs.Name.{agrees};
 ghost use Rattle.ic_laws.specs.Scene.{same_key};
-ghost use Rattle.ic_definitions.specs.Named.{key_in};
+ghost use Rattle.ic_definitions.specs.Named.{FindsNames, key_in};
 ghost use Rattle.ic_machine.specs.subjects.Sheets.{copied_of, local_in, local_to};
 ghost use Rattle.ic_book.specs.Copied.{is_copied, with_each_body};
 
 use super::mentions::mentions_sheet;
-use ic_definitions::{Definition, Definitions};
+use ic_definitions::{Definition, Definitions, NamedDefinitions};
 use ic_laws::{Formula, OutOfMemory};
 use ic_pool::{copy_formula, same_scope};
 use std::alloc::Global;
+use std::collections::BTreeMap;
 
 /// Which of the definitions that are copied with a sheet.
 #[derive(Clone, Copy)]
@@ -27,19 +28,22 @@ pub enum CopiedKind {
 /// `copy`. Their bodies are as they are. No two of them have one key then.
 pub fn copied_definitions(
     alloc: Global,
-    definitions: &Definitions,
+    definitions: &NamedDefinitions,
     source: u32,
     copy: u32,
-) -> Result<Definitions, OutOfMemory>
+) -> Result<(Definitions, BTreeMap<(String, Option<u32>), usize>), OutOfMemory>
     requires { IsDistinct same_key
-        (map key_in (map (local_in copy) (copied_of source definitions.now))) }
-    ensures { IfOk result (λ copies. copies
-        ≡ map (local_in copy) (copied_of source definitions.now)) }
+        (map key_in (map (local_in copy) (copied_of source definitions.now.definitions.now))) }
+    ensures copies { IfOk result (λ made. made.0
+        ≡ map (local_in copy) (copied_of source definitions.now.definitions.now)) }
+    ensures finds { IfOk result (λ made. FindsNames made.1 made.0) }
 {
     let mut copies = Definitions::new(alloc);
+    let mut places = BTreeMap::new(alloc);
     push_copies(
         alloc,
         &mut copies,
+        &mut places,
         definitions,
         CopiedKind::Local,
         source,
@@ -48,43 +52,49 @@ pub fn copied_definitions(
     push_copies(
         alloc,
         &mut copies,
+        &mut places,
         definitions,
         CopiedKind::Shared,
         source,
         copy,
     )?;
-    Ok(copies)
+    Ok((copies, places))
 }
 
 /// Adds the copies of those of a kind.
 fn push_copies(
     alloc: Global,
     copies: &mut Definitions,
-    definitions: &Definitions,
+    places: &mut BTreeMap<(String, Option<u32>), usize>,
+    definitions: &NamedDefinitions,
     kind: CopiedKind,
     source: u32,
     copy: u32,
 ) -> Result<(), OutOfMemory>
-    requires { IsDistinct same_key (map key_in (copies.old ++ map (local_in copy)
-        (filter (is_copied kind source definitions.now) definitions.now))) }
-    ensures { OnOk result (copies.new ≡ copies.old ++ map (local_in copy)
-        (filter (is_copied kind source definitions.now) definitions.now)) }
+    requires finds { FindsNames places.old copies.old }
+    requires differ { IsDistinct same_key (map key_in (copies.old ++ map (local_in copy)
+        (filter (is_copied kind source definitions.now.definitions.now)
+        definitions.now.definitions.now))) }
+    ensures put { OnOk result (copies.new ≡ copies.old ++ map (local_in copy)
+        (filter (is_copied kind source definitions.now.definitions.now)
+        definitions.now.definitions.now)) }
+    ensures finds { FindsNames places.new copies.new }
 {
-    for definition in definitions.as_slice() {
+    for definition in definitions.definitions.as_slice() {
         let passes = is_copied(definitions, definition, kind, source);
-        push_if(alloc, copies, definition, copy, passes)?;
+        push_if(alloc, copies, places, definition, copy, passes)?;
     }
     Ok(())
 }
 
 /// Whether a definition is one of those of a kind.
 fn is_copied(
-    definitions: &Definitions,
+    definitions: &NamedDefinitions,
     definition: &Definition,
     kind: CopiedKind,
     source: u32,
 ) -> bool
-    ensures { result ≡ is_copied kind source definitions.now definition.now }
+    ensures { result ≡ is_copied kind source definitions.now.definitions.now definition.now }
 {
     match kind {
         CopiedKind::Local => same_scope(definition.scope(), Some(source)),
@@ -97,9 +107,9 @@ fn is_copied(
 }
 
 /// Whether a definition of an agreeing name is local to the sheet with this id.
-fn has_local(definitions: &Definitions, name: &str, id: u32) -> bool
+fn has_local(definitions: &NamedDefinitions, name: &str, id: u32) -> bool
     ensures { result ≡ list_any (λ other. agrees other.name (chars name.now))
-        (local_to id definitions.now) }
+        (local_to id definitions.now.definitions.now) }
 {
     definitions.index_of(name, Some(id)).is_some()
 }
@@ -108,18 +118,21 @@ fn has_local(definitions: &Definitions, name: &str, id: u32) -> bool
 fn push_if(
     alloc: Global,
     copies: &mut Definitions,
+    places: &mut BTreeMap<(String, Option<u32>), usize>,
     definition: &Definition,
     copy: u32,
     passes: bool,
 ) -> Result<(), OutOfMemory>
-    requires { passes ≡ true
+    requires finds { FindsNames places.old copies.old }
+    requires free { passes ≡ true
         → list_any (is_named definition.now.name (Some copy)) copies.old ≡ false }
-    ensures { OnOk result (copies.new
+    ensures put { OnOk result (copies.new
         ≡ copies.old ++ (if passes then local_in copy definition.now ∷ [] else [])) }
+    ensures finds { FindsNames places.new copies.new }
 {
     if passes {
         let definition = local_copy(alloc, definition, copy)?;
-        copies.add_leaving_bodies(definition)?;
+        copies.add_leaving_bodies(places, definition)?;
     }
     Ok(())
 }

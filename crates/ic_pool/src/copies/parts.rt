@@ -55,7 +55,7 @@ pub fn copy_key(alloc: Global, key: &NameKey) -> Result<NameKey, OutOfMemory>
 pub fn copy_texts(alloc: Global, texts: &[Text]) -> Result<Vec<Text>, OutOfMemory>
     ensures { IfOk result (λ copies. copies.items ≡ texts.now) }
 {
-    let mut out = Vec::new(alloc);
+    let mut out = Vec::with_capacity(alloc, texts.len())?;
     for text in texts {
         let copy = Text::from_str(alloc, text.as_str())?;
         out.push(copy)?;
@@ -82,7 +82,7 @@ fn copy_constant(alloc: Global, constant: &Constant) -> Result<Constant, OutOfMe
 fn copy_row(alloc: Global, row: &[Constant]) -> Result<Vec<Constant>, OutOfMemory>
     ensures { IfOk result (λ copies. copies.items ≡ row.now) }
 {
-    let mut out = Vec::new(alloc);
+    let mut out = Vec::with_capacity(alloc, row.len())?;
     for constant in row {
         let copy = copy_constant(alloc, constant)?;
         out.push(copy)?;
@@ -97,7 +97,7 @@ pub fn copy_rows(
 ) -> Result<Vec<Items<Constant>>, OutOfMemory>
     ensures { IfOk result (λ copies. copies.items ≡ rows.now) }
 {
-    let mut out = Vec::new(alloc);
+    let mut out = Vec::with_capacity(alloc, rows.len())?;
     for row in rows {
         let copy = copy_row(alloc, row.as_slice())?;
         out.push(Items::from(copy))?;

@@ -1,14 +1,14 @@
 ghost use Rattle.std.specs.Prelude.{◌≡◌, ◌<◌, ◌≤◌, ◌+◌, ℕ, List, [], ◌∷◌, false, true, length, option_map, IfOk, MatchOption, OnErr, OnOk};
 ghost use Rattle.std.specs.BTreeMap.{get};
 ghost use Rattle.std.specs.BTreeSet.{contains};
-ghost use Rattle.std.specs.Cmp.Lexicographic.{slice_cmp};
 ghost use Rattle.std.specs.List.{slice_get};
 ghost use Rattle.std.specs.Ordering.{nat_cmp};
+ghost use Rattle.ic_pool.specs.Hash.{key_cmp};
 ghost use Rattle.ic_pool.specs.MentionPlaces.{KnowsAll};
 ghost use Rattle.ic_pool.specs.Pool.{KeepsPlaces, KnowsRest, dangling_count, dangling_weight};
 
 use crate::mention_index::MentionIndex;
-use crate::{Key, Steps, has_dangling, key_of};
+use crate::{HashedKey, Steps, has_dangling, key_of};
 use ic_laws::{Formula, OutOfMemory};
 use std::alloc::Global;
 use std::collections::{BTreeMap, BTreeSet, LinkedList};
@@ -20,7 +20,7 @@ pub fn index_of<L: Ledger>(
     alloc: Global,
     formulas: &[Formula],
     steps: &mut Steps<L>,
-) -> Result<BTreeMap<Key, usize>, OutOfMemory>
+) -> Result<BTreeMap<HashedKey, usize>, OutOfMemory>
     ensures ok { IfOk result (λ index. KeepsPlaces index formulas.now) }
     ensures cost { steps.new ≤ steps.old + length formulas.now }
     ensures grows { steps.old ≤ steps.new }
@@ -94,7 +94,7 @@ pub fn renewed(
 pub fn put_late<L: Ledger>(
     alloc: Global,
     formulas: &[Formula],
-    index: &mut BTreeMap<Key, usize>,
+    index: &mut BTreeMap<HashedKey, usize>,
     late: &mut LinkedList<usize>,
     steps: &mut Steps<L>,
 ) -> Result<(), OutOfMemory>
@@ -117,7 +117,7 @@ pub fn put_late<L: Ledger>(
 fn put_place(
     alloc: Global,
     formulas: &[Formula],
-    index: &mut BTreeMap<Key, usize>,
+    index: &mut BTreeMap<HashedKey, usize>,
     at: usize,
 ) -> Result<(), OutOfMemory>
     ensures ok { OnOk result ((late : List ℕ) → KnowsRest index.old (at ∷ late) formulas.now
@@ -143,8 +143,8 @@ pub fn formula_in(formulas: &[Formula], at: usize) -> Option<&Formula>
 }
 
 /// Whether a look-up has a key at this place or before.
-fn is_before(index: &BTreeMap<Key, usize>, key: &Key, at: usize) -> bool
-    ensures { MatchOption (get (slice_cmp nat_cmp) index.now key.now) (result ≡ false)
+fn is_before(index: &BTreeMap<HashedKey, usize>, key: &HashedKey, at: usize) -> bool
+    ensures { MatchOption (get key_cmp index.now key.now) (result ≡ false)
         (λ first. (result ≡ true → first ≤ at) × (result ≡ false → at ≤ first)) }
 {
     match index.get(key).copied() {

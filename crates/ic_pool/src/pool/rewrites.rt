@@ -1,11 +1,10 @@
 ghost use Rattle.std.specs.Prelude.{◌≡◌, ◌<◌, ◌++◌, [], ◌∷◌, ℕ, List, None, cond, false, true, is_some, length, map, set, IfOk, OnOk, if◌then◌else◌};
 ghost use Rattle.std.specs.BTreeMap.{get};
-ghost use Rattle.std.specs.Cmp.Lexicographic.{slice_cmp};
 ghost use Rattle.std.specs.List.{AllByRecursion};
 ghost use Rattle.std.specs.Option.{unwrap_or};
-ghost use Rattle.std.specs.Ordering.{nat_cmp};
 ghost use Rattle.ic_laws.specs.declared.tree.Formula.{Formula};
 ghost use Rattle.ic_pool.specs.Code.{code};
+ghost use Rattle.ic_pool.specs.Hash.{key_cmp};
 ghost use Rattle.ic_pool.specs.MentionPlaces.{HasAt, HasPassing, KeepsAll};
 ghost use Rattle.ic_pool.specs.Mentions.{formula_after, is_changed_by};
 ghost use Rattle.ic_pool.specs.Pool.{dangling_count};
@@ -15,7 +14,7 @@ ghost use Rattle.ic_pool.specs.Topics.{topics_in};
 
 use super::index::{dangling_weight, formula_in};
 use crate::mention_index::MentionIndex;
-use crate::{BookChange, Key, Remaking, changed_formula, key_of, remade_formula};
+use crate::{BookChange, HashedKey, Remaking, changed_formula, key_of, remade_formula};
 use ic_laws::{Formula, OutOfMemory};
 use std::alloc::Global;
 use std::collections::{BTreeMap, BTreeSet, LinkedList};
@@ -28,7 +27,7 @@ pub struct Replacement {
     /// What it becomes.
     pub formula: Formula,
     /// The key that it had.
-    old_key: Key,
+    old_key: HashedKey,
 }
 
 impl Drop for Replacement {
@@ -108,10 +107,10 @@ impl Rewrites {
     }
 
     /// Takes the keys that the changed formulas have out of a look-up.
-    pub(super) fn take_out(&self, index: &mut BTreeMap<Key, usize>)
-        ensures { (key : List ℕ) → get (slice_cmp nat_cmp) index.new key
+    pub(super) fn take_out(&self, index: &mut BTreeMap<HashedKey, usize>)
+        ensures { (key : List ℕ) → get key_cmp index.new key
             ≡ cond (is_key_among key (old_keys self.now.changes)) None
-            (get (slice_cmp nat_cmp) index.old key) }
+            (get key_cmp index.old key) }
     {
         remove_keys(&self.changes, index);
     }
@@ -250,7 +249,12 @@ impl Rewrites {
     }
 
     /// Puts a change behind the others.
-    fn note_change(&mut self, at: usize, formula: Formula, old_key: Key) -> Result<(), OutOfMemory>
+    fn note_change(
+        &mut self,
+        at: usize,
+        formula: Formula,
+        old_key: HashedKey,
+    ) -> Result<(), OutOfMemory>
         ensures { OnOk result (self.new ≡ record self.old {
           changes = self.old.changes ++ record { at = at; formula = formula; old_key = old_key }
               ∷ [];
@@ -326,10 +330,10 @@ fn note_all(changes: &[Replacement], mentions: &mut MentionIndex) -> Result<(), 
 }
 
 /// Takes the keys that these formulas have out of a look-up.
-fn remove_keys(changes: &[Replacement], index: &mut BTreeMap<Key, usize>)
-    ensures { (key : List ℕ) → get (slice_cmp nat_cmp) index.new key
+fn remove_keys(changes: &[Replacement], index: &mut BTreeMap<HashedKey, usize>)
+    ensures { (key : List ℕ) → get key_cmp index.new key
         ≡ cond (is_key_among key (old_keys changes.now)) None
-        (get (slice_cmp nat_cmp) index.old key) }
+        (get key_cmp index.old key) }
 {
     for change in changes {
         index.remove(&change.old_key);

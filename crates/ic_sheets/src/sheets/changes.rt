@@ -7,6 +7,7 @@ ghost use Rattle.ic_laws.specs.Greatest.{greatest};
 ghost use Rattle.ic_laws.specs.Name.{agrees};
 ghost use Rattle.ic_pool.specs.Mentions.{KeepsAllFound, SparesFound};
 ghost use Rattle.ic_pool.specs.Remade.{LeavesUntouched};
+ghost use Rattle.ic_sheets.specs.Index.{FindsSheets};
 ghost use Rattle.ic_sheets.specs.Remade.{AreRemade};
 ghost use Rattle.ic_sheets.specs.Rewriting.{ArePrepared, FitOwn, FitSheets, Makes, SparesElsewhere, changed_pool, look_ups, looks_up_after, own_rewrites, sheets_of, with_all_rewrites, with_own_rewrites};
 ghost use Rattle.ic_sheets.specs.Sheet.{Sheet, empty_grid, plain_tab};
@@ -17,16 +18,19 @@ use super::dangling::{keep_dangling, looked_at, note_dangling};
 use super::rewriting::{apply_all, apply_own, prepare, prepare_own, prepare_remade};
 use ic_laws::{Finder, OutOfMemory};
 use ic_pool::{BookChange, DefinitionAdded, Remaking, Rewrites, SheetGone, SheetNamed};
+use std::collections::BTreeMap;
 
 impl Sheets {
     /// Adds a sheet at the end, which keeps no formulas. References of all sheets that dangle by an agreeing name become
     /// references to it, and words with such a sheet mean the definitions that are local to it. `OutOfMemory` changes nothing.
     pub fn add_sheet<F: Finder>(
         &mut self,
+        ids: &mut BTreeMap<String, u32>,
         id: u32,
         name: &str,
         definitions: &F,
     ) -> Result<(), OutOfMemory>
+        requires finds { FindsSheets ids.old self.old }
         requires free { list_any (agrees (chars name.now)) (map (λ s. s.name) self.old) ≡ false }
         requires fresh { greatest (map (λ s. s.id) self.old) < id }
         ensures ok { OnOk result (sheets_of self.new
@@ -44,9 +48,10 @@ impl Sheets {
             ≡ map (looks_up_after (sheet_named (F.scene definitions.now) id (chars name.now)))
             self.old ++ true ∷ []) }
         ensures err { OnErr result (self.new ≡ self.old) }
+        ensures finds { FindsSheets ids.new self.new }
     {
         let end = self.len();
-        self.insert_sheet(end, id, name, definitions)
+        self.insert_sheet(ids, end, id, name, definitions)
     }
 
     /// Puts a sheet without formulas in at an index, from 0 and at most the number of sheets, so that those from there on
@@ -54,11 +59,13 @@ impl Sheets {
     /// references to it, and words with such a sheet mean the definitions that are local to it. `OutOfMemory` changes nothing.
     pub fn insert_sheet<F: Finder>(
         &mut self,
+        ids: &mut BTreeMap<String, u32>,
         index: usize,
         id: u32,
         name: &str,
         definitions: &F,
     ) -> Result<(), OutOfMemory>
+        requires finds { FindsSheets ids.old self.old }
         requires within { index ≤ length self.old }
         requires free { list_any (agrees (chars name.now)) (map (λ s. s.name) self.old) ≡ false }
         requires fresh { list_any (nat_eq id) (map (λ s. s.id) self.old) ≡ false }
@@ -76,8 +83,9 @@ impl Sheets {
             (map (looks_up_after (sheet_named (F.scene definitions.now) id (chars name.now)))
             self.old) index true) }
         ensures err { OnErr result (self.new ≡ self.old) }
+        ensures finds { FindsSheets ids.new self.new }
     {
-        let prepared = self.insert_unapplied(index, id, name, definitions)?;
+        let prepared = self.insert_unapplied(ids, index, id, name, definitions)?;
         self.apply_own(prepared);
         Ok(())
     }
@@ -86,11 +94,13 @@ impl Sheets {
     /// it. `OutOfMemory` changes nothing.
     pub fn insert_unapplied<F: Finder>(
         &mut self,
+        ids: &mut BTreeMap<String, u32>,
         index: usize,
         id: u32,
         name: &str,
         definitions: &F,
     ) -> Result<Vec<(u32, Rewrites)>, OutOfMemory>
+        requires finds { FindsSheets ids.old self.old }
         requires within { index ≤ length self.old }
         requires free { list_any (agrees (chars name.now)) (map (λ s. s.name) self.old) ≡ false }
         requires fresh { list_any (nat_eq id) (map (λ s. s.id) self.old) ≡ false }
@@ -121,6 +131,7 @@ impl Sheets {
             self.old) index true) }
         ensures own { IfOk result (λ prepared. own_rewrites id prepared.items ≡ None) }
         ensures err { OnErr result (self.new ≡ self.old) }
+        ensures finds { FindsSheets ids.new self.new }
     {
         let named = SheetNamed {
             id,
@@ -128,7 +139,7 @@ impl Sheets {
             definitions,
         };
         let prepared = self.prepare_dangling(&named)?;
-        self.insert_leaving_formulas(index, id, name)?;
+        self.insert_leaving_formulas(ids, index, id, name)?;
         Ok(prepared)
     }
 
@@ -136,10 +147,12 @@ impl Sheets {
     /// references to it, and words with such a sheet mean the definitions that are local to it. `OutOfMemory` changes nothing.
     pub fn rename_sheet<F: Finder>(
         &mut self,
+        ids: &mut BTreeMap<String, u32>,
         index: usize,
         name: &str,
         definitions: &F,
     ) -> Result<(), OutOfMemory>
+        requires finds { FindsSheets ids.old self.old }
         requires within { index < length self.old }
         requires free { list_any (agrees (chars name.now))
             (remove (map (λ s. s.name) self.old) index) ≡ false }
@@ -151,6 +164,7 @@ impl Sheets {
             → look_ups self.new ≡ map (looks_up_after (sheet_named (F.scene definitions.now)
             sheet.id (chars name.now))) self.old) }
         ensures err { OnErr result (self.new ≡ self.old) }
+        ensures finds { FindsSheets ids.new self.new }
     {
         let id = self.list[index].id;
         let named = SheetNamed {
@@ -159,7 +173,7 @@ impl Sheets {
             definitions,
         };
         let prepared = self.prepare_dangling(&named)?;
-        self.rename_leaving_formulas(index, name)?;
+        self.rename_leaving_formulas(ids, index, name)?;
         self.apply_own(prepared);
         Ok(())
     }
@@ -168,10 +182,12 @@ impl Sheets {
     /// dangle with it. `OutOfMemory` changes nothing.
     pub fn delete_sheet<F: Finder>(
         &mut self,
+        ids: &mut BTreeMap<String, u32>,
         index: usize,
         definitions: &F,
     ) -> Result<(), OutOfMemory>
-        requires { index < length self.old }
+        requires finds { FindsSheets ids.old self.old }
+        requires within { index < length self.old }
         ensures ok { OnOk result ((sheet : HeldSheet) → slice_get self.old index ≡ Some sheet
             → sheets_of self.new ≡ remove (map (changed_pool (sheet_gone
             (F.scene definitions.now) sheet.id sheet.name)) (sheets_of self.old)) index) }
@@ -179,6 +195,7 @@ impl Sheets {
             → look_ups self.new ≡ remove (map (looks_up_after (sheet_gone
             (F.scene definitions.now) sheet.id sheet.name)) self.old) index) }
         ensures err { OnErr result (self.new ≡ self.old) }
+        ensures finds { FindsSheets ids.new self.new }
     {
         let sheet = &self.list[index];
         let name = sheet.name.as_str();
@@ -188,7 +205,7 @@ impl Sheets {
             definitions,
         };
         let mut prepared = self.prepare(&gone)?;
-        self.take_out(index);
+        self.take_out(ids, index);
         prepared.remove(index);
         self.apply(prepared);
         Ok(())

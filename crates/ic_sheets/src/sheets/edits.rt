@@ -5,7 +5,7 @@ ghost use Rattle.std.specs.List.{list_any};
 ghost use Rattle.std.specs.Ordering.{nat_cmp};
 ghost use Rattle.ic_laws.specs.CoreStep.{moved, updated_at};
 ghost use Rattle.ic_laws.specs.Name.{agrees};
-ghost use Rattle.ic_sheets.specs.Index.{lowered, moved_index, other_than};
+ghost use Rattle.ic_sheets.specs.Index.{FindsSheets, StillFinds, lowered, moved_index, other_than};
 ghost use Rattle.ic_sheets.specs.Sheet.{empty_grid, plain_tab};
 
 use super::dangling::{dangles, settle};
@@ -19,7 +19,13 @@ use std::collections::BTreeMap;
 impl Sheets {
     /// Adds a sheet at the end, whose id none of the others has, which keeps no formulas, and leaves the formulas of the
     /// others: a new book begins with it, and one that is handed in with all of its sheets. `OutOfMemory` changes nothing.
-    pub fn add_leaving_formulas(&mut self, id: u32, name: &str) -> Result<(), OutOfMemory>
+    pub fn add_leaving_formulas(
+        &mut self,
+        ids: &mut BTreeMap<String, u32>,
+        id: u32,
+        name: &str,
+    ) -> Result<(), OutOfMemory>
+        requires finds { FindsSheets ids.old self.old }
         requires free { list_any (agrees (chars name.now)) (map (λ s. s.name) self.old) ≡ false }
         requires fresh { list_any (nat_eq id) (map (λ s. s.id) self.old) ≡ false }
         ensures ok { OnOk result (self.new ≡ self.old
@@ -33,6 +39,7 @@ impl Sheets {
             }
             ∷ []) }
         ensures err { OnErr result (self.new ≡ self.old) }
+        ensures finds { FindsSheets ids.new self.new }
     {
         let key = folded(self.alloc, name)?;
         let name = Text::from_str(self.alloc, name)?;
@@ -40,7 +47,7 @@ impl Sheets {
         let place = self.list.len();
         self.dangling.reserve(place + 1)?;
         self.indexes.insert(id, place)?;
-        match put_id(&mut self.ids, key, id) {
+        match put_id(ids, key, id) {
             Ok(()) => {
                 self.list.push_reserved(Sheet::new(self.alloc, id, name));
                 self.greatest = self.greatest.max(id);
@@ -57,10 +64,12 @@ impl Sheets {
     /// None of the others has its id; it keeps no formulas, and those of the others stay. `OutOfMemory` changes nothing.
     pub fn insert_leaving_formulas(
         &mut self,
+        ids: &mut BTreeMap<String, u32>,
         index: usize,
         id: u32,
         name: &str,
     ) -> Result<(), OutOfMemory>
+        requires finds { FindsSheets ids.old self.old }
         requires within { index ≤ length self.old }
         requires free { list_any (agrees (chars name.now)) (map (λ s. s.name) self.old) ≡ false }
         requires fresh { list_any (nat_eq id) (map (λ s. s.id) self.old) ≡ false }
@@ -74,9 +83,10 @@ impl Sheets {
               tab = plain_tab;
             })) }
         ensures err { OnErr result (self.new ≡ self.old) }
+        ensures finds { FindsSheets ids.new self.new }
     {
         let last = self.len();
-        self.add_leaving_formulas(id, name)?;
+        self.add_leaving_formulas(ids, id, name)?;
         if index < last {
             self.move_to(last, index);
         }
@@ -99,36 +109,41 @@ impl Sheets {
     /// Gives the sheet at an index, from 0, another name, and leaves all formulas. `OutOfMemory` changes nothing.
     pub(crate) fn rename_leaving_formulas(
         &mut self,
+        ids: &mut BTreeMap<String, u32>,
         index: usize,
         name: &str,
     ) -> Result<(), OutOfMemory>
+        requires finds { FindsSheets ids.old self.old }
         requires within { index < length self.old }
         requires free { list_any (agrees (chars name.now))
             (remove (map (λ s. s.name) self.old) index) ≡ false }
         ensures ok { OnOk result (self.new ≡ updated_at (λ s. record s { name = chars name.now })
             index self.old) }
         ensures err { OnErr result (self.new ≡ self.old) }
+        ensures finds { FindsSheets ids.new self.new }
     {
         let key = folded(self.alloc, name)?;
         let new_name = Text::from_str(self.alloc, name)?;
         let sheet = &self.list[index];
         let id = sheet.id;
         let old_key = folded(self.alloc, sheet.name.as_str())?;
-        rekey(&mut self.ids, old_key.as_str(), key, id)?;
+        rekey(ids, old_key.as_str(), key, id)?;
         let sheet = &mut self.list[index];
         sheet.name = new_name;
         Ok(())
     }
 
     /// Takes the sheet at an index away, from 0, and leaves the formulas of the others. It takes no memory.
-    pub fn take_out(&mut self, index: usize)
-        requires { index < length self.old }
-        ensures { self.new ≡ remove self.old index }
+    pub fn take_out(&mut self, ids: &mut BTreeMap<String, u32>, index: usize)
+        requires finds { FindsSheets ids.old self.old }
+        requires within { index < length self.old }
+        ensures left { self.new ≡ remove self.old index }
+        ensures finds { FindsSheets ids.new self.new }
     {
         let sheet = &self.list[index];
         let id = sheet.id;
         settle(&mut self.dangling, id, dangles(sheet), false);
-        take_key(&mut self.ids, id);
+        take_key(ids, id);
         self.indexes.remove(&id);
         lower_indexes(&mut self.indexes, index);
         self.list.remove(index);
@@ -139,7 +154,10 @@ impl Sheets {
     pub fn move_to(&mut self, from: usize, to: usize)
         requires from { from < length self.old }
         requires to { to < length self.old }
-        ensures { self.new ≡ moved from to self.old }
+        ensures moved { self.new ≡ moved from to self.old }
+
+        // What finds them by their names still does.
+        ensures finds { StillFinds self.old self.new }
     {
         move_indexes(&mut self.indexes, from, to);
         let sheet = self.list.remove(from);

@@ -2,11 +2,13 @@ ghost use Rattle.std.specs.Prelude.{◌≡◌, chars, length, nat_le, option_map
 ghost use Rattle.ic_laws.specs.Scan.{EndsWith};
 ghost use Rattle.ic_laws.specs.Split.{longer};
 ghost use Rattle.ic_laws.specs.Token as tokens;
-ghost use Rattle.ic_tree.specs.Lexing.{found, seen_token};
+ghost use Rattle.ic_tree.specs.Lexing.{found, is_past_word, seen_token};
 ghost use Rattle.ic_tree.specs.Tokens.{token_of};
 
 use crate::Token;
+use crate::lexer::locals::begins_with;
 use crate::lexer::seen::{Seen, kept};
+use crate::lexer::words::{past_blanks, past_word};
 use ic_laws::{OutOfMemory, RefToken};
 use std::alloc::Global;
 
@@ -66,6 +68,16 @@ pub(crate) fn kept_with<'t>(
         Ok(token) => Ok(Some((token, rest))),
         Err(e) => Err(e),
     }
+}
+
+/// Whether a text has no word and no head that is longer than what stands before this rest of it: its word characters end
+/// there or before, and no bracket opens after them, blanks aside.
+pub(crate) fn is_past_word(text: &str, rest: &str) -> bool
+    requires { EndsWith (chars text.now) (chars rest.now) }
+    ensures { result ≡ is_past_word (chars text.now) (chars rest.now) }
+{
+    let after = past_word(text);
+    leaves_no_more(text, rest, after) && !begins_with(past_blanks(after), '(')
 }
 
 /// The first of two ends of a text has no more characters than the second: its bytes tell.

@@ -39,7 +39,7 @@ fn may_name_sheet(text: &str) -> bool
 }
 
 /// Whether a character stands at the front.
-fn begins_with(text: &str, mark: char) -> bool
+pub(crate) fn begins_with(text: &str, mark: char) -> bool
     ensures { result ≡ first_is (λ c. c == mark) (chars text.now) }
 {
     match first_char(text) {

@@ -1,7 +1,7 @@
 ghost use Rattle.std.specs.Prelude.{◌≡◌, ◌∷◌, ◌||◌, ℕ, List, Some, chars, false, option_map, IfOk};
 ghost use Rattle.ic_laws.specs.AmountFront.{number_in_one_pass};
 ghost use Rattle.ic_laws.specs.Dialect.{begins_reference};
-ghost use Rattle.ic_laws.specs.Scan.{begins_word};
+ghost use Rattle.ic_laws.specs.Scan.{EndsWith, begins_word};
 ghost use Rattle.ic_laws.specs.Split.{longer, or_else};
 ghost use Rattle.ic_laws.specs.Token as tokens;
 ghost use Rattle.ic_laws.specs.TokenKinds.{closed, error_at, local_at, reference_at, token_by_kinds};
@@ -9,7 +9,7 @@ ghost use Rattle.ic_tree.specs.Lexing.{found, named_at, seen_token};
 ghost use Rattle.ic_tree.specs.Tokens.{token_of};
 
 use crate::Token;
-use crate::lexer::choice::{kept_with, longer_of, longer_than_reference};
+use crate::lexer::choice::{is_past_word, kept_with, longer_of, longer_than_reference};
 use crate::lexer::errors::error_at;
 use crate::lexer::letters::{begins_word, is_letter};
 use crate::lexer::locals::local_at;
@@ -20,7 +20,7 @@ use crate::lexer::seen::Seen;
 use crate::lexer::signs::sign_at;
 use crate::lexer::words::word_at;
 use ic_laws::scan::first_char;
-use ic_laws::{Dialect, OutOfMemory};
+use ic_laws::{Dialect, OutOfMemory, RefToken};
 use std::alloc::Global;
 
 /// The token at the front of a text, and the rest: the longest one, and a reference where another is as long. None
@@ -115,11 +115,33 @@ fn named_token<'t, D: Dialect>(
             Ok(Some((token, after))) => {
                 Ok(Some(longer_than_reference(text, reference, rest, token, after)))
             }
-            Ok(None) => match named_at(d, c, text) {
-                None => Ok(Some((Token::Ref(reference), rest))),
-                Some((seen, after)) => longer_of(alloc, text, reference, rest, &seen, after),
-            },
+            Ok(None) => reference_or_named(alloc, d, c, text, reference, rest),
         },
+    }
+}
+
+/// A reference, or a head, a word or a number that is longer. Where the reference ends no sooner than a word would, and
+/// no bracket opens after that word, the word is looked up in no list.
+fn reference_or_named<'t, D: Dialect>(
+    alloc: Global,
+    d: &D,
+    c: char,
+    text: &'t str,
+    reference: RefToken,
+    rest: &'t str,
+) -> Result<Option<(Token, &'t str)>, OutOfMemory>
+    requires begins { (cs : List ℕ) × (chars text.now ≡ c ∷ cs) }
+    requires ends { EndsWith (chars text.now) (chars rest.now) }
+    ensures { IfOk result (λ r. option_map (λ f. found (token_of f.0) (chars f.1.now)) r
+        ≡ longer (Some (found (tokens.Ref reference) (chars rest.now)))
+        (named_at (D.meaning d.now) (chars text.now))) }
+{
+    if begins_word(c) && is_past_word(text, rest) {
+        return Ok(Some((Token::Ref(reference), rest)));
+    }
+    match named_at(d, c, text) {
+        None => Ok(Some((Token::Ref(reference), rest))),
+        Some((seen, after)) => longer_of(alloc, text, reference, rest, &seen, after),
     }
 }
 

@@ -81,7 +81,7 @@ fn whole_word<'t, D: Dialect>(d: &D, run: &'t str) -> Option<Seen<'t>>
 }
 
 /// What stands after the word characters at the front.
-fn past_word(text: &str) -> &str
+pub(crate) fn past_word(text: &str) -> &str
     ensures { chars result.now ≡ past_run is_word_character (chars text.now) }
 {
     let mut rest = text;

@@ -10,7 +10,7 @@ pub returns-in-Some : goal.returns-in-Some
 returns-in-Some c =
     let found = body_found c.args.tables.now (contents_scene c.args.contents.now) c.args.name.now c.in-Some.body (sym c.in-Some.is ∙ c.in_ok-body.ensures) in record {
       text = found.0;
-      definitions = c.set_body.ensures ∙ ap (λ (b : Formula). updated_at (λ (d : Definition). record d { body = b }) c.args.index c.args.contents.now.definitions) found.1;
+      definitions = c.set_body.ensures.bodies ∙ ap (λ (b : Formula). updated_at (λ (d : Definition). record d { body = b }) c.args.index c.args.contents.now.definitions) found.1;
       sheets = refl;
     }
 

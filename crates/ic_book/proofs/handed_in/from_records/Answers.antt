@@ -43,7 +43,7 @@ invariant_of-result c =
     subst (λ (s : List (List ℕ)). AreNumbered w.shared_strings numbers s) (sym c.into_strings-strings.ensures)
     (subst (λ (ns : List ℕ). AreNumbered w.shared_strings ns c.in_ok-numbered.numbered.strings) (sym c.as_slice-numbers.ensures.value)
     (subst (λ (texts : List (List ℕ)). AreNumbered texts c.in_ok-numbered.numbered.numbers.items c.in_ok-numbered.numbered.strings) c.as_slice-texts.ensures c.in_ok-numbered.ensures)) in
-    let inside : Inside = record { alloc = c.in_ok-alloc.alloc; notation = c.new.result; contents = c.in_ok-contents.contents; lists = record { styles = c.in_ok-styles.styles; strings = c.into_strings-strings.result }; about = c.in_ok-about.about } in
+    let inside : Inside = record { alloc = c.in_ok-alloc.alloc; notation = c.new.result; contents = c.in_ok-contents.contents; names = c.in_ok-contents.names; lists = record { styles = c.in_ok-styles.styles; strings = c.into_strings-strings.result }; about = c.in_ok-about.about } in
     let holds : HoldsRecords w c.args.language.now.code tables numbers inside = record {
       notation = c.new.ensures ∙ ap (λ (id : List ℕ). let state : NotationState = record { tables = tables; locale = id; language = c.args.language.now.code } in state) c.requires.locale;
       sheets = c.in_ok-contents.ensures.sheets;
@@ -57,7 +57,10 @@ invariant_of-result c =
     let meets : MeetsAll w c.args.language.now.code tables =
     met_all w c.args.language.now.code tables
     (c.in_ok-ask_sheets.ensures.met tables numbers (c.as_slice-sheets.ensures.sheets ∙ c.in_ok-contents.ensures.sheets) c.in_ok-contents.ensures.met c.args.language.now.code) in
-    records_held w c.args.language.now.code tables numbers inside holds meets c.requires.well_formed c.requires.free
+    record {
+      book = records_held w c.args.language.now.code tables numbers inside holds meets c.requires.well_formed c.requires.free;
+      names = c.in_ok-contents.ensures.indexed;
+    }
 
 pub returns-clause-ok : goal.returns-clause-ok
 returns-clause-ok c =
@@ -68,7 +71,7 @@ returns-clause-ok c =
     subst (λ (s : List (List ℕ)). AreNumbered w.shared_strings numbers s) (sym c.into_strings-strings.ensures)
     (subst (λ (ns : List ℕ). AreNumbered w.shared_strings ns c.in_ok-numbered.numbered.strings) (sym c.as_slice-numbers.ensures.value)
     (subst (λ (texts : List (List ℕ)). AreNumbered texts c.in_ok-numbered.numbered.numbers.items c.in_ok-numbered.numbered.strings) c.as_slice-texts.ensures c.in_ok-numbered.ensures)) in
-    let inside : Inside = record { alloc = c.in_ok-alloc.alloc; notation = c.new.result; contents = c.in_ok-contents.contents; lists = record { styles = c.in_ok-styles.styles; strings = c.into_strings-strings.result }; about = c.in_ok-about.about } in
+    let inside : Inside = record { alloc = c.in_ok-alloc.alloc; notation = c.new.result; contents = c.in_ok-contents.contents; names = c.in_ok-contents.names; lists = record { styles = c.in_ok-styles.styles; strings = c.into_strings-strings.result }; about = c.in_ok-about.about } in
     let holds : HoldsRecords w c.args.language.now.code tables numbers inside = record {
       notation = c.new.ensures ∙ ap (λ (id : List ℕ). let state : NotationState = record { tables = tables; locale = id; language = c.args.language.now.code } in state) c.requires.locale;
       sheets = c.in_ok-contents.ensures.sheets;

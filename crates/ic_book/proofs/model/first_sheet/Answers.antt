@@ -6,8 +6,8 @@ use Rattle.ic_sheets.specs.declared.sheet.Sheet.{Sheet as HeldSheet}
 use Rattle.ic_machine.specs.subjects.Sheets.{base_name}
 use Rattle.ic_book.proofs.model.first_sheet.Goals as goal
 
-pub returns : goal.returns
-returns c =
+pub returns-clause-sheets : goal.returns-clause-sheets
+returns-clause-sheets c =
     c.in_ok-add_leaving_formulas.ensures.ok
     ∙ ap (λ (front : List HeldSheet). front ++ record { id = 1; name = chars c.as_str.result.now; pool = record { formulas = []; is_whole = true }; grid = empty_grid; tab = plain_tab } ∷ []) c.new-sheets.ensures
     ∙ ap (λ (name : List ℕ). let sheets : List HeldSheet = record { id = 1; name = name; pool = record { formulas = []; is_whole = true }; grid = empty_grid; tab = plain_tab } ∷ [] in sheets)

@@ -11,15 +11,16 @@ returns-then-not-is_defined c =
     elim c.then-not-is_defined.branch [
       | then-not-is_defined-via-then-not-is_defined w ↦ (
         refl,
-        not_defined names i (i + 1) c.name-item.result refl c.loop-name-test.true c.name-item.is c.loop-name.definitions c.loop-name.invariant (λ d. let no = sym w.if-not-is_defined.true ∙ c.is_defined.ensures.1 d in cc),
+        not_defined names i (i + 1) c.name-item.result refl c.loop-name-test.true c.name-item.is c.loop-name.definitions c.loop-name.invariant.unread (λ d. let no = sym w.if-not-is_defined.true ∙ c.is_defined.ensures.1 d in cc),
       )
       | then-not-is_defined-via-else-not-is_defined+then-is_there w ↦ (
         refl,
-        key_taken names i (i + 1) c.name-item.result refl c.loop-name-test.true c.name-item.is c.loop-name.definitions c.loop-name.invariant (sym w.is_there.ensures ∙ w.if-is_there.true),
+        key_taken names i (i + 1) c.name-item.result refl c.loop-name-test.true c.name-item.is c.loop-name.definitions c.loop-name.invariant.unread (sym w.is_there.ensures ∙ w.if-is_there.true),
       )
     ]
 
 pub loop-name-preserved : goal.loop-name-preserved
 loop-name-preserved c =
-    unread_next c.args.names.now c.loop-name.name-index (c.loop-name.name-index + 1) c.name-item.result refl c.loop-name-test.true c.name-item.is c.loop-name.definitions c.loop-name.invariant c.put_name.new.definitions
-    (c.is_defined.ensures.0 c.if-not-is_defined.false) (sym c.is_there.ensures ∙ c.if-is_there.false) c.in_ok-put_name.ensures
+    let unread = unread_next c.args.names.now c.loop-name.name-index (c.loop-name.name-index + 1) c.name-item.result refl c.loop-name-test.true c.name-item.is c.loop-name.definitions c.loop-name.invariant.unread c.put_name.new.definitions
+    (c.is_defined.ensures.0 c.if-not-is_defined.false) (sym c.is_there.ensures ∙ c.if-is_there.false) c.in_ok-put_name.ensures.put in
+    record { unread = unread; finds = c.put_name.ensures.finds }

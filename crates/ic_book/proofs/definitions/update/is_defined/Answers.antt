@@ -4,4 +4,4 @@ use Rattle.ic_definitions.proofs.NamesFacts.{position_any}
 use Rattle.ic_book.proofs.definitions.update.is_defined.Goals as goal
 
 pub returns : goal.returns
-returns c = c.is_some.ensures ∙ ap is_some c.index_of.ensures ∙ position_any (is_named (chars c.args.name.now) c.args.scope) c.args.definitions.now
+returns c = c.is_some.ensures ∙ ap is_some c.index_of.ensures ∙ position_any (is_named (chars c.args.name.now) c.args.scope) c.args.definitions.now.definitions.now

@@ -30,7 +30,7 @@ returns-in_default-clause-refused c =
     subst (λ (m : ModelState). add_sheet_refusal (core_of m.book) name ≡ Some IdsUsedUp) c.self.view_is (add_used_up (core_of (held c.self.inside)) name (sym c.is_valid_sheet_name.ensures ∙ c.if-not-is_valid_sheet_name.false) (ap (list_any (agrees name)) (sym (seen_names c.self.inside.contents.sheets)) ∙ sym c.is_taken.ensures ∙ c.if-is_taken.false) (ap (λ (m : ModelState). fresh_id (core_of m.book)) c.self.view_is ∙ sym c.in_default.ensures.fresh))
 
 pub add_sheet-requires-clause-fresh : goal.add_sheet-requires-clause-fresh
-add_sheet-requires-clause-fresh c = fresh_above c.self.inside c.self.invariant c.in-Some.id (ap (λ (m : ModelState). fresh_id (core_of m.book)) c.self.view_is ∙ sym c.in-Some.ensures.fresh)
+add_sheet-requires-clause-fresh c = fresh_above c.self.inside c.self.invariant.book c.in-Some.id (ap (λ (m : ModelState). fresh_id (core_of m.book)) c.self.view_is ∙ sym c.in-Some.ensures.fresh)
 
 pub returns-in_err-bodies-clause-refused : goal.returns-in_err-bodies-clause-refused
 returns-in_err-bodies-clause-refused c =
@@ -49,14 +49,17 @@ pub invariant_of-self-2 : goal.invariant_of-self-2
 invariant_of-self-2 c =
     let name = chars c.args.sheet_name.now in
     let none = (add_accepts (core_of (held c.self.inside)) name c.in-Some.id (sym c.is_valid_sheet_name.ensures ∙ c.if-not-is_valid_sheet_name.false) (ap (list_any (agrees name)) (sym (seen_names c.self.inside.contents.sheets)) ∙ sym c.is_taken.ensures ∙ c.if-is_taken.false) (ap (λ (m : ModelState). fresh_id (core_of m.book)) c.self.view_is ∙ sym c.in-Some.ensures.fresh)) in
-    held_after c.self.inside c.self.invariant c.add_sheet.new.self c.apply.new.self (book_changed_by (with_added_sheet name) (held c.self.inside))
-    (added c.self.inside c.self.invariant c.add_sheet.new.self c.apply.new.self name c.in-Some.id none (ap (λ (m : ModelState). fresh_id (core_of m.book)) c.self.view_is ∙ sym c.in-Some.ensures.fresh) c.in_ok-add_sheet.ensures.ok (c.apply.ensures ∙ c.in_ok-bodies.ensures.made))
-    (added_valid (held c.self.inside) c.self.invariant name none)
+    record {
+      book = held_after c.self.inside c.self.invariant.book c.add_sheet.new.self c.apply.new.self (book_changed_by (with_added_sheet name) (held c.self.inside))
+          (added c.self.inside c.self.invariant.book c.add_sheet.new.self c.apply.new.self name c.in-Some.id none (ap (λ (m : ModelState). fresh_id (core_of m.book)) c.self.view_is ∙ sym c.in-Some.ensures.fresh) c.in_ok-add_sheet.ensures.ok (c.apply.ensures.bodies ∙ c.in_ok-bodies.ensures.made))
+          (added_valid (held c.self.inside) c.self.invariant.book name none);
+      names = record { sheets = c.add_sheet.ensures.finds; names = c.apply.ensures.finds c.self.inside.names.names c.self.invariant.names.names };
+    }
 
 pub returns-clause-ok : goal.returns-clause-ok
 returns-clause-ok c =
     let name = chars c.args.sheet_name.now in
-    added c.self.inside c.self.invariant c.add_sheet.new.self c.apply.new.self name c.in-Some.id (add_accepts (core_of (held c.self.inside)) name c.in-Some.id (sym c.is_valid_sheet_name.ensures ∙ c.if-not-is_valid_sheet_name.false) (ap (list_any (agrees name)) (sym (seen_names c.self.inside.contents.sheets)) ∙ sym c.is_taken.ensures ∙ c.if-is_taken.false) (ap (λ (m : ModelState). fresh_id (core_of m.book)) c.self.view_is ∙ sym c.in-Some.ensures.fresh)) (ap (λ (m : ModelState). fresh_id (core_of m.book)) c.self.view_is ∙ sym c.in-Some.ensures.fresh) c.in_ok-add_sheet.ensures.ok (c.apply.ensures ∙ c.in_ok-bodies.ensures.made) ∙ ap (λ (m : ModelState). book_changed_by (with_added_sheet name) m.book) c.self.view_is
+    added c.self.inside c.self.invariant.book c.add_sheet.new.self c.apply.new.self name c.in-Some.id (add_accepts (core_of (held c.self.inside)) name c.in-Some.id (sym c.is_valid_sheet_name.ensures ∙ c.if-not-is_valid_sheet_name.false) (ap (list_any (agrees name)) (sym (seen_names c.self.inside.contents.sheets)) ∙ sym c.is_taken.ensures ∙ c.if-is_taken.false) (ap (λ (m : ModelState). fresh_id (core_of m.book)) c.self.view_is ∙ sym c.in-Some.ensures.fresh)) (ap (λ (m : ModelState). fresh_id (core_of m.book)) c.self.view_is ∙ sym c.in-Some.ensures.fresh) c.in_ok-add_sheet.ensures.ok (c.apply.ensures.bodies ∙ c.in_ok-bodies.ensures.made) ∙ ap (λ (m : ModelState). book_changed_by (with_added_sheet name) m.book) c.self.view_is
 
 pub returns-clause-core : goal.returns-clause-core
 returns-clause-core c =
@@ -68,7 +71,7 @@ returns-clause-binds c =
     let name = chars c.args.sheet_name.now in
     returns-clause-core c
     ∙ subst (λ (m : ModelState). changed_by (notations_in m.book) (with_new_sheet name) (core_of m.book) ≡ with_sheet_at_end (greatest_id (core_of m.book) + 1) name (with_trees (changed_tree (sheet_named (scene_of (core_of m.book)) (greatest_id (core_of m.book) + 1) name)) (core_of m.book))) c.self.view_is
-    (binds_added c.self.inside c.self.invariant name (add_accepts (core_of (held c.self.inside)) name c.in-Some.id (sym c.is_valid_sheet_name.ensures ∙ c.if-not-is_valid_sheet_name.false) (ap (list_any (agrees name)) (sym (seen_names c.self.inside.contents.sheets)) ∙ sym c.is_taken.ensures ∙ c.if-is_taken.false) (ap (λ (m : ModelState). fresh_id (core_of m.book)) c.self.view_is ∙ sym c.in-Some.ensures.fresh)))
+    (binds_added c.self.inside c.self.invariant.book name (add_accepts (core_of (held c.self.inside)) name c.in-Some.id (sym c.is_valid_sheet_name.ensures ∙ c.if-not-is_valid_sheet_name.false) (ap (list_any (agrees name)) (sym (seen_names c.self.inside.contents.sheets)) ∙ sym c.is_taken.ensures ∙ c.if-is_taken.false) (ap (λ (m : ModelState). fresh_id (core_of m.book)) c.self.view_is ∙ sym c.in-Some.ensures.fresh)))
 
 pub returns-clause-refused : goal.returns-clause-refused
 returns-clause-refused c =
@@ -84,4 +87,4 @@ returns-clause-looks_up c =
     fresh_is _ (greatest_id (core_of state.book)) c.in-Some.id (ap (λ (m : ModelState). fresh_id (core_of m.book)) c.self.view_is ∙ sym c.in-Some.ensures.fresh) in
     subst (λ (m : ModelState). LooksUpAdded name m new) c.self.view_is
     (c.in_ok-add_sheet.ensures.looks_up ∙ ap (λ had. had ++ true ∷ []) (sym (looks_up_is (sheet_named (definitions_scene c.self.inside.contents.definitions) c.in-Some.id name) c.self.inside.contents.sheets))
-    ∙ ap (λ (change : Change). looks_up_in change state ++ true ∷ []) (same_naming c.self.inside c.self.invariant c.in-Some.id name) ∙ ap (λ k. looks_up_in (sheet_named (scene_of (core_of state.book)) k name) state ++ true ∷ []) id)
+    ∙ ap (λ (change : Change). looks_up_in change state ++ true ∷ []) (same_naming c.self.inside c.self.invariant.book c.in-Some.id name) ∙ ap (λ k. looks_up_in (sheet_named (scene_of (core_of state.book)) k name) state ++ true ∷ []) id)

@@ -12,11 +12,11 @@ use Rattle.ic_book.proofs.model.Model.cell_plain.Goals as goal
 
 pub formatted-requires : goal.formatted-requires
 formatted-requires c =
-    style_there c.args.self.now (subst (λ (m : ModelState). IsValidBook m.book) c.self.view_is c.self.invariant) (sheet_of c.args.worksheet.now) c.requires.stands (c.args.row, c.args.column) c.args.cell.now c.requires.there
+    style_there c.args.self.now (subst (λ (m : ModelState). IsValidBook m.book) c.self.view_is c.self.invariant.book) (sheet_of c.args.worksheet.now) c.requires.stands (c.args.row, c.args.column) c.args.cell.now c.requires.there
 
 pub returns-in-Some : goal.returns-in-Some
 returns-in-Some c =
-    let valid = (subst (λ (m : ModelState). IsValidBook m.book) c.self.view_is c.self.invariant) in
+    let valid = (subst (λ (m : ModelState). IsValidBook m.book) c.self.view_is c.self.invariant.book) in
     let s = sheet_of c.args.worksheet.now in
     IfOk-weaker c.show.result _ _
     (λ text e. e ∙ ap (λ (p : CellPlace). equals ∷ shown_formula (notations_in c.args.self.now.book) (core_of c.args.self.now.book) p.0 p.1 c.in-Some.formula.now) (stored_pair c.args.row c.args.column c.ranges.row c.ranges.column)
@@ -26,7 +26,7 @@ returns-in-Some c =
 
 pub returns-in-None : goal.returns-in-None
 returns-in-None c =
-    let valid = (subst (λ (m : ModelState). IsValidBook m.book) c.self.view_is c.self.invariant) in
+    let valid = (subst (λ (m : ModelState). IsValidBook m.book) c.self.view_is c.self.invariant.book) in
     let s = sheet_of c.args.worksheet.now in
     let lacks = formula_lacking c.args.self.now valid s c.requires.stands (c.args.row, c.args.column) c.args.cell.now c.requires.there (sym c.formula_in.ensures ∙ ap (option_map (λ f. f.now)) c.in-None.is) in
     IfOk-weaker c.formatted.result _ _

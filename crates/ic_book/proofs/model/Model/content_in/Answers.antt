@@ -24,5 +24,5 @@ pub returns-in-None : goal.returns-in-None
 unfolding chars
 returns-in-None c =
     ap chars c.new.ensures.bytes
-    ∙ shown_there c.args.self.now (subst (λ (m : ModelState). IsValidBook m.book) c.self.view_is c.self.invariant) (sheet_of c.args.worksheet.now) c.requires (c.args.row, c.args.column) None
+    ∙ shown_there c.args.self.now (subst (λ (m : ModelState). IsValidBook m.book) c.self.view_is c.self.invariant.book) (sheet_of c.args.worksheet.now) c.requires (c.args.row, c.args.column) None
     (ap (finite.get c.args.worksheet.now.grid.cells) (sym (stored_pair c.args.row c.args.column c.ranges.row c.ranges.column)) ∙ sym c.get.ensures ∙ ap option_copied c.in-None.is)

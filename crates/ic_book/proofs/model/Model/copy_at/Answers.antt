@@ -14,35 +14,38 @@ use Rattle.ic_book.proofs.model.Model.copy_at.Goals as goal
 
 pub copy_sheet-requires-clause-free : goal.copy_sheet-requires-clause-free
 copy_sheet-requires-clause-free c =
-    model_free c.self.inside c.self.invariant c.args.index c.args.id (chars c.args.name.now) (subst (λ (m : ModelState). c.args.index < length m.book.sheets) (sym c.self.view_is) c.requires.within)
+    model_free c.self.inside c.self.invariant.book c.args.index c.args.id (chars c.args.name.now) (subst (λ (m : ModelState). c.args.index < length m.book.sheets) (sym c.self.view_is) c.requires.within)
     (ap (λ (m : ModelState). fresh_id (core_of m.book)) c.self.view_is ∙ c.requires.fresh)
     (subst (λ (m : ModelState). (source : Sheet) → slice_get m.book.sheets c.args.index ≡ Some source → chars c.args.name.now ≡ name_of_copy (whole_of m.book) source.name) (sym c.self.view_is) c.requires.named)
 
 pub copy_sheet-requires-clause-fresh : goal.copy_sheet-requires-clause-fresh
 copy_sheet-requires-clause-fresh c =
-    model_fresh c.self.inside c.self.invariant c.args.index c.args.id (chars c.args.name.now) (subst (λ (m : ModelState). c.args.index < length m.book.sheets) (sym c.self.view_is) c.requires.within)
+    model_fresh c.self.inside c.self.invariant.book c.args.index c.args.id (chars c.args.name.now) (subst (λ (m : ModelState). c.args.index < length m.book.sheets) (sym c.self.view_is) c.requires.within)
     (ap (λ (m : ModelState). fresh_id (core_of m.book)) c.self.view_is ∙ c.requires.fresh)
     (subst (λ (m : ModelState). (source : Sheet) → slice_get m.book.sheets c.args.index ≡ Some source → chars c.args.name.now ≡ name_of_copy (whole_of m.book) source.name) (sym c.self.view_is) c.requires.named)
 
 pub copy_sheet-requires-clause-unscoped : goal.copy_sheet-requires-clause-unscoped
 copy_sheet-requires-clause-unscoped c =
-    model_unscoped c.self.inside c.self.invariant c.args.index c.args.id (chars c.args.name.now) (subst (λ (m : ModelState). c.args.index < length m.book.sheets) (sym c.self.view_is) c.requires.within)
+    model_unscoped c.self.inside c.self.invariant.book c.args.index c.args.id (chars c.args.name.now) (subst (λ (m : ModelState). c.args.index < length m.book.sheets) (sym c.self.view_is) c.requires.within)
     (ap (λ (m : ModelState). fresh_id (core_of m.book)) c.self.view_is ∙ c.requires.fresh)
     (subst (λ (m : ModelState). (source : Sheet) → slice_get m.book.sheets c.args.index ≡ Some source → chars c.args.name.now ≡ name_of_copy (whole_of m.book) source.name) (sym c.self.view_is) c.requires.named)
 
 pub invariant_of-self-2 : goal.invariant_of-self-2
 invariant_of-self-2 c =
-    model_valid c.self.inside c.self.invariant c.args.index c.args.id (chars c.args.name.now) (subst (λ (m : ModelState). c.args.index < length m.book.sheets) (sym c.self.view_is) c.requires.within)
-    (ap (λ (m : ModelState). fresh_id (core_of m.book)) c.self.view_is ∙ c.requires.fresh)
-    (subst (λ (m : ModelState). (source : Sheet) → slice_get m.book.sheets c.args.index ≡ Some source → chars c.args.name.now ≡ name_of_copy (whole_of m.book) source.name) (sym c.self.view_is) c.requires.named)
-    (function_of c.get_default_language-english.result.now) (sym (english_function_is c.self.inside.notation.tables c.get_default_language-english.result.now c.get_default_language-english.ensures.found))
-    c.copy_sheet.new.contents c.in_ok-copy_sheet.ensures.ok
+    record {
+      book = model_valid c.self.inside c.self.invariant.book c.args.index c.args.id (chars c.args.name.now) (subst (λ (m : ModelState). c.args.index < length m.book.sheets) (sym c.self.view_is) c.requires.within)
+          (ap (λ (m : ModelState). fresh_id (core_of m.book)) c.self.view_is ∙ c.requires.fresh)
+          (subst (λ (m : ModelState). (source : Sheet) → slice_get m.book.sheets c.args.index ≡ Some source → chars c.args.name.now ≡ name_of_copy (whole_of m.book) source.name) (sym c.self.view_is) c.requires.named)
+          (function_of c.get_default_language-english.result.now) (sym (english_function_is c.self.inside.notation.tables c.get_default_language-english.result.now c.get_default_language-english.ensures.found))
+          c.copy_sheet.new.contents c.in_ok-copy_sheet.ensures.ok;
+      names = c.copy_sheet.ensures.indexed;
+    }
 
 pub returns-clause-ok : goal.returns-clause-ok
 returns-clause-ok c = λ source at.
     subst (λ (m : ModelState). (x : Sheet) → slice_get m.book.sheets c.args.index ≡ Some x
     → held (with_contents c.copy_sheet.new.contents.sheets c.copy_sheet.new.contents.definitions c.self.inside) ≡ book_changed_by (with_copied_sheet c.args.index (sheet_copied m.book c.args.index x) (definitions_copied m.book c.args.index x)) m.book) c.self.view_is
-    (model_is c.self.inside c.self.invariant c.args.index c.args.id (chars c.args.name.now) (subst (λ (m : ModelState). c.args.index < length m.book.sheets) (sym c.self.view_is) c.requires.within)
+    (model_is c.self.inside c.self.invariant.book c.args.index c.args.id (chars c.args.name.now) (subst (λ (m : ModelState). c.args.index < length m.book.sheets) (sym c.self.view_is) c.requires.within)
     (ap (λ (m : ModelState). fresh_id (core_of m.book)) c.self.view_is ∙ c.requires.fresh)
     (subst (λ (m : ModelState). (source : Sheet) → slice_get m.book.sheets c.args.index ≡ Some source → chars c.args.name.now ≡ name_of_copy (whole_of m.book) source.name) (sym c.self.view_is) c.requires.named)
     (function_of c.get_default_language-english.result.now) (sym (english_function_is c.self.inside.notation.tables c.get_default_language-english.result.now c.get_default_language-english.ensures.found))
@@ -51,7 +54,7 @@ returns-clause-ok c = λ source at.
 pub returns-clause-looks_up : goal.returns-clause-looks_up
 returns-clause-looks_up c =
     subst (λ (m : ModelState). LooksUpCopied c.args.index m (held_state (with_contents c.copy_sheet.new.contents.sheets c.copy_sheet.new.contents.definitions c.self.inside))) c.self.view_is
-    (model_looks_up c.self.inside c.self.invariant c.args.index c.args.id (chars c.args.name.now) (subst (λ (m : ModelState). c.args.index < length m.book.sheets) (sym c.self.view_is) c.requires.within)
+    (model_looks_up c.self.inside c.self.invariant.book c.args.index c.args.id (chars c.args.name.now) (subst (λ (m : ModelState). c.args.index < length m.book.sheets) (sym c.self.view_is) c.requires.within)
     (ap (λ (m : ModelState). fresh_id (core_of m.book)) c.self.view_is ∙ c.requires.fresh)
     (subst (λ (m : ModelState). (source : Sheet) → slice_get m.book.sheets c.args.index ≡ Some source → chars c.args.name.now ≡ name_of_copy (whole_of m.book) source.name) (sym c.self.view_is) c.requires.named)
     (function_of c.get_default_language-english.result.now) (sym (english_function_is c.self.inside.notation.tables c.get_default_language-english.result.now c.get_default_language-english.ensures.found))

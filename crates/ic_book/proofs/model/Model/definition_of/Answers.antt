@@ -26,8 +26,8 @@ returns c =
     ∙ ap (λ (t : Bound). let definition : Definition = record { name = name; scope = c.args.scope; has_equals = c.args.body.now.has_equals; body = formulas.Tree t } in definition)
     (c.in_ok-tree.ensures
     ∙ ap₂ (λ f scene. bound f scene c.args.scope c.args.body.now.tree) (sym (english_function_is c.self.inside.notation.tables c.get_default_language-english.result.now c.get_default_language-english.ensures.found))
-    (ap (λ (b : BookScene). scene_with b.sheets.now b.definitions.now (chars c.new-scene.result.name.now) c.new-scene.result.key.now.scope) c.new-scene.ensures.book
-    ∙ ap₂ (λ (t : List ℕ) (k : NameKey). scene_with c.scene.result.sheets.now c.scene.result.definitions.now (chars t) k.scope) c.new-scene.ensures.name c.new-scene.ensures.key
-    ∙ scene_with_is c.scene.result.sheets.now c.scene.result.definitions.now (core_of c.args.self.now.book) name c.args.scope c.scene.ensures)
+    (ap (λ (b : BookScene). scene_with b.sheets.now b.definitions.definitions.now (chars c.new-scene.result.name.now) c.new-scene.result.key.now.scope) c.new-scene.ensures.book
+    ∙ ap₂ (λ (t : List ℕ) (k : NameKey). scene_with c.scene.result.sheets.now c.scene.result.definitions.definitions.now (chars t) k.scope) c.new-scene.ensures.name c.new-scene.ensures.key
+    ∙ scene_with_is c.scene.result.sheets.now c.scene.result.definitions.definitions.now (core_of c.args.self.now.book) name c.args.scope c.scene.ensures)
     ∙ ap (λ (m : ModelState). bound (english_function (notations_in m.book)) (scene_with_definition (core_of c.args.self.now.book) name c.args.scope) c.args.scope c.args.body.now.tree) c.self.view_is))
     c.new.ensures

@@ -21,14 +21,17 @@ use Rattle.ic_book.proofs.model.Model.delete_at.Goals as goal
 pub invariant_of-self-2 : goal.invariant_of-self-2
 invariant_of-self-2 c =
     let at = sheet_there c.self.inside.contents.sheets c.args.index (within_of c.self.inside.contents.sheets c.len-2.result c.args.index c.len-2.ensures c.if-index-len.false) in
-    held_after c.self.inside c.self.invariant c.delete_sheet.new.self c.apply.new.self (book_changed_by (with_removed_sheet c.args.index) (held c.self.inside))
-    (removed c.self.inside c.self.invariant c.delete_sheet.new.self c.apply.new.self c.args.index at.0 at.1 (c.in_ok-delete_sheet.ensures.ok at.0 at.1) (c.apply.ensures ∙ c.in_ok-bodies.ensures.made at.0 at.1))
-    (removed_valid (held c.self.inside) c.self.invariant c.args.index (delete_accepts (core_of (held c.self.inside)) c.args.index (more_than_one c.self.inside.contents.sheets c.len.result c.len.ensures c.if-len-eq1.false) (there_is c.self.inside.contents.sheets c.args.index (within_of c.self.inside.contents.sheets c.len-2.result c.args.index c.len-2.ensures c.if-index-len.false))))
+    record {
+      book = held_after c.self.inside c.self.invariant.book c.delete_sheet.new.self c.apply.new.self (book_changed_by (with_removed_sheet c.args.index) (held c.self.inside))
+          (removed c.self.inside c.self.invariant.book c.delete_sheet.new.self c.apply.new.self c.args.index at.0 at.1 (c.in_ok-delete_sheet.ensures.ok at.0 at.1) (c.apply.ensures.bodies ∙ c.in_ok-bodies.ensures.made at.0 at.1))
+          (removed_valid (held c.self.inside) c.self.invariant.book c.args.index (delete_accepts (core_of (held c.self.inside)) c.args.index (more_than_one c.self.inside.contents.sheets c.len.result c.len.ensures c.if-len-eq1.false) (there_is c.self.inside.contents.sheets c.args.index (within_of c.self.inside.contents.sheets c.len-2.result c.args.index c.len-2.ensures c.if-index-len.false))));
+      names = record { sheets = c.delete_sheet.ensures.finds; names = c.apply.ensures.finds c.self.inside.names.names c.self.invariant.names.names };
+    }
 
 pub returns-clause-ok : goal.returns-clause-ok
 returns-clause-ok c =
     let at = sheet_there c.self.inside.contents.sheets c.args.index (within_of c.self.inside.contents.sheets c.len-2.result c.args.index c.len-2.ensures c.if-index-len.false) in
-    removed c.self.inside c.self.invariant c.delete_sheet.new.self c.apply.new.self c.args.index at.0 at.1 (c.in_ok-delete_sheet.ensures.ok at.0 at.1) (c.apply.ensures ∙ c.in_ok-bodies.ensures.made at.0 at.1) ∙ ap (λ (m : ModelState). book_changed_by (with_removed_sheet c.args.index) m.book) c.self.view_is
+    removed c.self.inside c.self.invariant.book c.delete_sheet.new.self c.apply.new.self c.args.index at.0 at.1 (c.in_ok-delete_sheet.ensures.ok at.0 at.1) (c.apply.ensures.bodies ∙ c.in_ok-bodies.ensures.made at.0 at.1) ∙ ap (λ (m : ModelState). book_changed_by (with_removed_sheet c.args.index) m.book) c.self.view_is
 
 pub returns-clause-core : goal.returns-clause-core
 returns-clause-core c =
@@ -38,7 +41,7 @@ pub returns-clause-dangles : goal.returns-clause-dangles
 returns-clause-dangles c = λ sheet at.
     returns-clause-core c
     ∙ subst (λ (m : ModelState). slice_get (core_of m.book).sheets c.args.index ≡ Some sheet → changed_by (notations_in m.book) (without_sheet c.args.index) (core_of m.book) ≡ without_sheet c.args.index (with_trees (changed_tree (sheet_gone (scene_of (core_of m.book)) sheet.id sheet.name)) (core_of m.book))) c.self.view_is
-    (dangles_removed c.self.inside c.self.invariant c.args.index sheet (delete_accepts (core_of (held c.self.inside)) c.args.index (more_than_one c.self.inside.contents.sheets c.len.result c.len.ensures c.if-len-eq1.false) (there_is c.self.inside.contents.sheets c.args.index (within_of c.self.inside.contents.sheets c.len-2.result c.args.index c.len-2.ensures c.if-index-len.false)))) at
+    (dangles_removed c.self.inside c.self.invariant.book c.args.index sheet (delete_accepts (core_of (held c.self.inside)) c.args.index (more_than_one c.self.inside.contents.sheets c.len.result c.len.ensures c.if-len-eq1.false) (there_is c.self.inside.contents.sheets c.args.index (within_of c.self.inside.contents.sheets c.len-2.result c.args.index c.len-2.ensures c.if-index-len.false)))) at
 
 pub returns-clause-looks_up : goal.returns-clause-looks_up
 returns-clause-looks_up c =
@@ -46,4 +49,4 @@ returns-clause-looks_up c =
     let new = held_state (with_contents c.delete_sheet.new.self c.apply.new.self c.self.inside) in
     subst (λ (m : ModelState). LooksUpWithout c.args.index m new) c.self.view_is
     (looks_up_at (λ (s : Sheet). sheet_gone (scene_of (core_of (held c.self.inside))) s.id s.name) (λ (had : List Bool). remove had c.args.index) c.self.inside.contents.sheets c.args.index at.0 at.1 (look_ups c.delete_sheet.new.self)
-    (c.in_ok-delete_sheet.ensures.looks_up at.0 at.1 ∙ ap (λ (change : Change). remove (map (looks_up_after change) c.self.inside.contents.sheets) c.args.index) (same_going c.self.inside c.self.invariant at.0.id at.0.name)))
+    (c.in_ok-delete_sheet.ensures.looks_up at.0 at.1 ∙ ap (λ (change : Change). remove (map (looks_up_after change) c.self.inside.contents.sheets) c.args.index) (same_going c.self.inside c.self.invariant.book at.0.id at.0.name)))

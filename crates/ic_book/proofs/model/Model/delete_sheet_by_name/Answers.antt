@@ -10,7 +10,7 @@ use Rattle.ic_book.proofs.model.Model.delete_sheet_by_name.Goals as goal
 
 pub returns-in_default-clause-does : goal.returns-in_default-clause-does
 returns-in_default-clause-does c =
-    deletes_named_none c.args.self.now (subst (λ (m : ModelState). IsValidBook m.book) c.self.view_is c.self.invariant) (chars c.args.name.now)
+    deletes_named_none c.args.self.now (subst (λ (m : ModelState). IsValidBook m.book) c.self.view_is c.self.invariant.book) (chars c.args.name.now)
     (ap (λ (m : ModelState). index_of_name (core_of m.book) (chars c.args.name.now)) (sym c.self.view_is) ∙ sym (found_by_name c.self.inside.contents.sheets (chars c.args.name.now)) ∙ sym c.index_of_name.ensures ∙ c.in_default.is)
 
 pub returns-clause-does : goal.returns-clause-does

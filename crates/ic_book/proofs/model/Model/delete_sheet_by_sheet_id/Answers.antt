@@ -10,7 +10,7 @@ use Rattle.ic_book.proofs.model.Model.delete_sheet_by_sheet_id.Goals as goal
 
 pub returns-in_default-clause-does : goal.returns-in_default-clause-does
 returns-in_default-clause-does c =
-    deletes_no_id c.args.self.now (subst (λ (m : ModelState). IsValidBook m.book) c.self.view_is c.self.invariant) c.args.sheet_id
+    deletes_no_id c.args.self.now (subst (λ (m : ModelState). IsValidBook m.book) c.self.view_is c.self.invariant.book) c.args.sheet_id
     (ap (λ (m : ModelState). index_of_id (core_of m.book) c.args.sheet_id) (sym c.self.view_is) ∙ sym (found_by_id c.self.inside.contents.sheets c.args.sheet_id) ∙ sym c.index_of_id.ensures ∙ c.in_default.is)
 
 pub returns-clause-does : goal.returns-clause-does

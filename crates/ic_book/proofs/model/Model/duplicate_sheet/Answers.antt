@@ -12,18 +12,18 @@ use Rattle.ic_book.proofs.model.Model.duplicate_sheet.Goals as goal
 
 pub returns-then-index-len-clause-does : goal.returns-then-index-len-clause-does
 returns-then-index-len-clause-does c =
-    copy_lacks c.args.self.now (subst (λ (m : ModelState). IsValidBook m.book) c.self.view_is c.self.invariant) c.args.source_index
+    copy_lacks c.args.self.now (subst (λ (m : ModelState). IsValidBook m.book) c.self.view_is c.self.invariant.book) c.args.source_index
     (none_there c.self.inside c.args.self.now c.self.view_is c.args.source_index c.len.result c.len.ensures c.if-index-len.true) named_sheet_fields
 
 pub returns-in_default-clause-does : goal.returns-in_default-clause-does
 returns-in_default-clause-does c =
     let there = source_there c.self.inside c.args.self.now c.self.view_is c.args.source_index c.len.result c.len.ensures c.if-index-len.false in
-    copy_used_up c.args.self.now (subst (λ (m : ModelState). IsValidBook m.book) c.self.view_is c.self.invariant) c.args.source_index there.0 there.1 (ap is_none (sym c.in_default.ensures.fresh)) named_sheet_fields
+    copy_used_up c.args.self.now (subst (λ (m : ModelState). IsValidBook m.book) c.self.view_is c.self.invariant.book) c.args.source_index there.0 there.1 (ap is_none (sym c.in_default.ensures.fresh)) named_sheet_fields
 
 pub returns-in_err-name-clause-does : goal.returns-in_err-name-clause-does
 returns-in_err-name-clause-does c =
     let there = source_there c.self.inside c.args.self.now c.self.view_is c.args.source_index c.len.result c.len.ensures c.if-index-len.false in
-    copy_wants c.args.self.now (subst (λ (m : ModelState). IsValidBook m.book) c.self.view_is c.self.invariant) c.args.source_index there.0 there.1 (ap is_none (sym c.in-Some.ensures.fresh)) named_sheet_fields c.from_residual.result c.from_residual.ensures
+    copy_wants c.args.self.now (subst (λ (m : ModelState). IsValidBook m.book) c.self.view_is c.self.invariant.book) c.args.source_index there.0 there.1 (ap is_none (sym c.in-Some.ensures.fresh)) named_sheet_fields c.from_residual.result c.from_residual.ensures
     c.args.self.now refl
 
 pub returns-in_err-copy_at-clause-does : goal.returns-in_err-copy_at-clause-does

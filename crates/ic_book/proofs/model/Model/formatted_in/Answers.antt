@@ -11,12 +11,12 @@ use Rattle.ic_book.proofs.model.Model.formatted_in.Goals as goal
 
 pub formatted-requires : goal.formatted-requires
 formatted-requires c =
-    style_there c.args.self.now (subst (λ (m : ModelState). IsValidBook m.book) c.self.view_is c.self.invariant) (sheet_of c.args.worksheet.now) c.requires (c.args.row, c.args.column) c.in-Some.cell.now
+    style_there c.args.self.now (subst (λ (m : ModelState). IsValidBook m.book) c.self.view_is c.self.invariant.book) (sheet_of c.args.worksheet.now) c.requires (c.args.row, c.args.column) c.in-Some.cell.now
     (ap (finite.get c.args.worksheet.now.grid.cells) (sym (stored_pair c.args.row c.args.column c.ranges.row c.ranges.column)) ∙ sym c.get.ensures ∙ ap option_copied c.in-Some.is)
 
 pub returns-in-Some : goal.returns-in-Some
 returns-in-Some c =
-    let valid = (subst (λ (m : ModelState). IsValidBook m.book) c.self.view_is c.self.invariant) in
+    let valid = (subst (λ (m : ModelState). IsValidBook m.book) c.self.view_is c.self.invariant.book) in
     IfOk-weaker c.formatted.result _ _
     (λ text e. e ∙ cell_formatted_is c.args.self.now.book valid c.in-Some.cell.now
     ∙ formatted_at c.args.self.now valid (sheet_of c.args.worksheet.now) c.requires (c.args.row, c.args.column) (Some c.in-Some.cell.now)
@@ -27,5 +27,5 @@ pub returns-in-None : goal.returns-in-None
 unfolding chars
 returns-in-None c =
     ap chars c.new.ensures.bytes
-    ∙ formatted_at c.args.self.now (subst (λ (m : ModelState). IsValidBook m.book) c.self.view_is c.self.invariant) (sheet_of c.args.worksheet.now) c.requires (c.args.row, c.args.column) None
+    ∙ formatted_at c.args.self.now (subst (λ (m : ModelState). IsValidBook m.book) c.self.view_is c.self.invariant.book) (sheet_of c.args.worksheet.now) c.requires (c.args.row, c.args.column) None
     (ap (finite.get c.args.worksheet.now.grid.cells) (sym (stored_pair c.args.row c.args.column c.ranges.row c.ranges.column)) ∙ sym c.get.ensures ∙ ap option_copied c.in-None.is)

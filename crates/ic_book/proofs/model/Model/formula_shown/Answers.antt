@@ -11,12 +11,12 @@ use Rattle.ic_book.proofs.HeldLemmas.{at_index, formula_of_is, places_of}
 use Rattle.ic_book.proofs.model.Model.formula_shown.Goals as goal
 
 pub formula_at-requires : goal.formula_at-requires
-formula_at-requires c = places_of c.self.inside c.self.invariant c.args.sheet c.in-Some.worksheet.now (at_index c.as_slice.result.now c.self.inside.contents.sheets c.args.sheet c.in-Some.worksheet.now c.as_slice.ensures.sheets c.in-Some.ensures.lookup.0 c.in-Some.ensures.lookup.1)
+formula_at-requires c = places_of c.self.inside c.self.invariant.book c.args.sheet c.in-Some.worksheet.now (at_index c.as_slice.result.now c.self.inside.contents.sheets c.args.sheet c.in-Some.worksheet.now c.as_slice.ensures.sheets c.in-Some.ensures.lookup.0 c.in-Some.ensures.lookup.1)
 
 pub returns-in_default-formula_at-clause-shown : goal.returns-in_default-formula_at-clause-shown
-returns-in_default-formula_at-clause-shown c = sym (ap (option_map (λ f. equals ∷ shown_formula (notations_in c.args.self.now.book) (core_of c.args.self.now.book) c.args.row c.args.column f)) ((ap (λ (m : ModelState). formula_of (core_of m.book) c.args.sheet c.args.row c.args.column) (sym c.self.view_is) ∙ formula_of_is c.self.inside c.self.invariant c.args.sheet c.in-Some.worksheet.now c.args.row c.args.column (at_index c.as_slice.result.now c.self.inside.contents.sheets c.args.sheet c.in-Some.worksheet.now c.as_slice.ensures.sheets c.in-Some.ensures.lookup.0 c.in-Some.ensures.lookup.1)) ∙ sym (c.formula_at.ensures ∙ ap (λ (p : CellPlace). formula_at (cells_of c.in-Some.worksheet.now.pool.formulas (finite.entries c.in-Some.worksheet.now.grid.cells)) p.0 p.1) (stored_pair c.args.row c.args.column c.ranges.row c.ranges.column)) ∙ ap (option_map (λ f. f.now)) c.in_default-formula_at.is))
+returns-in_default-formula_at-clause-shown c = sym (ap (option_map (λ f. equals ∷ shown_formula (notations_in c.args.self.now.book) (core_of c.args.self.now.book) c.args.row c.args.column f)) ((ap (λ (m : ModelState). formula_of (core_of m.book) c.args.sheet c.args.row c.args.column) (sym c.self.view_is) ∙ formula_of_is c.self.inside c.self.invariant.book c.args.sheet c.in-Some.worksheet.now c.args.row c.args.column (at_index c.as_slice.result.now c.self.inside.contents.sheets c.args.sheet c.in-Some.worksheet.now c.as_slice.ensures.sheets c.in-Some.ensures.lookup.0 c.in-Some.ensures.lookup.1)) ∙ sym (c.formula_at.ensures ∙ ap (λ (p : CellPlace). formula_at (cells_of c.in-Some.worksheet.now.pool.formulas (finite.entries c.in-Some.worksheet.now.grid.cells)) p.0 p.1) (stored_pair c.args.row c.args.column c.ranges.row c.ranges.column)) ∙ ap (option_map (λ f. f.now)) c.in_default-formula_at.is))
 
 pub returns-clause-shown : goal.returns-clause-shown
 returns-clause-shown c =
     ap (λ (t : List ℕ). Some t) (c.in_ok-show.ensures ∙ ap (λ (p : CellPlace). equals ∷ shown_formula (notations_in c.args.self.now.book) (core_of c.args.self.now.book) p.0 p.1 c.in-Some-formula_at.formula.now) (stored_pair c.args.row c.args.column c.ranges.row c.ranges.column))
-    ∙ sym (ap (option_map (λ f. equals ∷ shown_formula (notations_in c.args.self.now.book) (core_of c.args.self.now.book) c.args.row c.args.column f)) ((ap (λ (m : ModelState). formula_of (core_of m.book) c.args.sheet c.args.row c.args.column) (sym c.self.view_is) ∙ formula_of_is c.self.inside c.self.invariant c.args.sheet c.in-Some.worksheet.now c.args.row c.args.column (at_index c.as_slice.result.now c.self.inside.contents.sheets c.args.sheet c.in-Some.worksheet.now c.as_slice.ensures.sheets c.in-Some.ensures.lookup.0 c.in-Some.ensures.lookup.1)) ∙ sym (c.formula_at.ensures ∙ ap (λ (p : CellPlace). formula_at (cells_of c.in-Some.worksheet.now.pool.formulas (finite.entries c.in-Some.worksheet.now.grid.cells)) p.0 p.1) (stored_pair c.args.row c.args.column c.ranges.row c.ranges.column)) ∙ ap (option_map (λ f. f.now)) c.in-Some-formula_at.is))
+    ∙ sym (ap (option_map (λ f. equals ∷ shown_formula (notations_in c.args.self.now.book) (core_of c.args.self.now.book) c.args.row c.args.column f)) ((ap (λ (m : ModelState). formula_of (core_of m.book) c.args.sheet c.args.row c.args.column) (sym c.self.view_is) ∙ formula_of_is c.self.inside c.self.invariant.book c.args.sheet c.in-Some.worksheet.now c.args.row c.args.column (at_index c.as_slice.result.now c.self.inside.contents.sheets c.args.sheet c.in-Some.worksheet.now c.as_slice.ensures.sheets c.in-Some.ensures.lookup.0 c.in-Some.ensures.lookup.1)) ∙ sym (c.formula_at.ensures ∙ ap (λ (p : CellPlace). formula_at (cells_of c.in-Some.worksheet.now.pool.formulas (finite.entries c.in-Some.worksheet.now.grid.cells)) p.0 p.1) (stored_pair c.args.row c.args.column c.ranges.row c.ranges.column)) ∙ ap (option_map (λ f. f.now)) c.in-Some-formula_at.is))

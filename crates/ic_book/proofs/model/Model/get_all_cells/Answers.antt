@@ -17,13 +17,13 @@ pub all_places-requires : goal.all_places-requires
 all_places-requires c =
     let sheets = c.self.inside.contents.sheets in
     subst (λ (ws : List HeldSheet). length ws ≤ last_id) (sym c.as_slice.ensures.sheets)
-    (subst (λ n. n ≤ last_id) (length-map _ (whole_sheet c.self.inside.lists.strings) ∙ length-map sheets sheet_of) c.self.invariant.whole.sheets.few)
+    (subst (λ n. n ≤ last_id) (length-map _ (whole_sheet c.self.inside.lists.strings) ∙ length-map sheets sheet_of) c.self.invariant.book.whole.sheets.few)
 
 pub returns : goal.returns
 unfolding all_cells_step
 returns c = record {
   does =
-      tells c.args.self.now (subst (λ (m : ModelState). IsValidBook m.book) c.self.view_is c.self.invariant) places_fields (flat_map sheet_places (enumerate_from 0 (whole_of c.args.self.now.book).sheets)) c.in_ok-all_places.field-0
+      tells c.args.self.now (subst (λ (m : ModelState). IsValidBook m.book) c.self.view_is c.self.invariant.book) places_fields (flat_map sheet_places (enumerate_from 0 (whole_of c.args.self.now.book).sheets)) c.in_ok-all_places.field-0
       (ap (flat_map fields_of_place) c.in_ok-all_places.ensures ∙ ap (λ (ws : List HeldSheet). flat_map fields_of_place (places_from 0 ws)) c.as_slice.ensures.sheets ∙ places_told c.self.inside.lists.strings 0 c.self.inside.contents.sheets
       ∙ ap (λ (m : ModelState). flat_map sheet_places (enumerate_from 0 (whole_of m.book).sheets)) c.self.view_is);
 }
@@ -32,5 +32,5 @@ pub returns-in_err-all_places : goal.returns-in_err-all_places
 unfolding all_cells_step
 returns-in_err-all_places c = record {
   does =
-      lacks_memory c.args.self.now (subst (λ (m : ModelState). IsValidBook m.book) c.self.view_is c.self.invariant) places_fields (flat_map sheet_places (enumerate_from 0 (whole_of c.args.self.now.book).sheets)) c.from_residual.result c.from_residual.ensures;
+      lacks_memory c.args.self.now (subst (λ (m : ModelState). IsValidBook m.book) c.self.view_is c.self.invariant.book) places_fields (flat_map sheet_places (enumerate_from 0 (whole_of c.args.self.now.book).sheets)) c.from_residual.result c.from_residual.ensures;
 }

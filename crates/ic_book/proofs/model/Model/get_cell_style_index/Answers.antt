@@ -14,7 +14,7 @@ pub returns-in_err-worksheet : goal.returns-in_err-worksheet
 unfolding style_index_step
 returns-in_err-worksheet c = record {
   does =
-      passes_missing c.args.self.now (subst (λ (m : ModelState). IsValidBook m.book) c.self.view_is c.self.invariant) c.args.sheet Never number_field [] (number_told (c.args.row, c.args.column)) c.in_err-worksheet.field-0.0 c.in_err-worksheet.ensures
+      passes_missing c.args.self.now (subst (λ (m : ModelState). IsValidBook m.book) c.self.view_is c.self.invariant.book) c.args.sheet Never number_field [] (number_told (c.args.row, c.args.column)) c.in_err-worksheet.field-0.0 c.in_err-worksheet.ensures
       c.from_residual.result c.from_residual.ensures;
 }
 
@@ -22,6 +22,6 @@ pub returns : goal.returns
 returns c = record {
   does =
       let grid = c.in_ok-worksheet.worksheet.now.grid in
-      tells_number c.args.self.now (subst (λ (m : ModelState). IsValidBook m.book) c.self.view_is c.self.invariant) c.args.sheet (sheet_of c.in_ok-worksheet.worksheet.now) c.in_ok-worksheet.ensures (c.args.row, c.args.column) c.style_at.result
+      tells_number c.args.self.now (subst (λ (m : ModelState). IsValidBook m.book) c.self.view_is c.self.invariant.book) c.args.sheet (sheet_of c.in_ok-worksheet.worksheet.now) c.in_ok-worksheet.ensures (c.args.row, c.args.column) c.style_at.result
       (c.style_at.ensures ∙ ap (style_at celled grid.cells grid.rows grid.columns) (stored_pair c.args.row c.args.column c.ranges.row c.ranges.column));
 }

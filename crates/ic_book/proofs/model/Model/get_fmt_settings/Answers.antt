@@ -14,7 +14,7 @@ pub returns : goal.returns
 unfolding settings_step
 returns c = record {
   does =
-      let valid = subst (λ (m : ModelState). IsValidBook m.book) c.self.view_is c.self.invariant in
+      let valid = subst (λ (m : ModelState). IsValidBook m.book) c.self.view_is c.self.invariant.book in
       tells c.args.self.now valid fields_of_settings (by_notation [] (λ f. settings_fields f.locale) (in_force (whole_of c.args.self.now.book))) c.in_ok-settings_of.field-0
       (c.in_ok-settings_of.ensures
       ∙ sym (settings_told c.args.self.now valid c.locale.result.now (language_there c.args.self.now.book valid).0
@@ -26,6 +26,6 @@ pub returns-in_err-settings_of : goal.returns-in_err-settings_of
 unfolding settings_step
 returns-in_err-settings_of c = record {
   does =
-      lacks_memory c.args.self.now (subst (λ (m : ModelState). IsValidBook m.book) c.self.view_is c.self.invariant) fields_of_settings
+      lacks_memory c.args.self.now (subst (λ (m : ModelState). IsValidBook m.book) c.self.view_is c.self.invariant.book) fields_of_settings
       (by_notation [] (λ f. settings_fields f.locale) (in_force (whole_of c.args.self.now.book))) c.from_residual.result c.from_residual.ensures;
 }

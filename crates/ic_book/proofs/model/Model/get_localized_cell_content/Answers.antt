@@ -18,7 +18,7 @@ pub returns-in_err-worksheet : goal.returns-in_err-worksheet
 unfolding content_step
 returns-in_err-worksheet c = record {
   does =
-      passes_missing c.args.self.now (subst (λ (m : ModelState). IsValidBook m.book) c.self.view_is c.self.invariant) c.args.sheet Wanted string_only [] (content_told (whole_of c.args.self.now.book) (c.args.row, c.args.column)) c.in_err-worksheet.field-0.0 c.in_err-worksheet.ensures
+      passes_missing c.args.self.now (subst (λ (m : ModelState). IsValidBook m.book) c.self.view_is c.self.invariant.book) c.args.sheet Wanted string_only [] (content_told (whole_of c.args.self.now.book) (c.args.row, c.args.column)) c.in_err-worksheet.field-0.0 c.in_err-worksheet.ensures
       c.from_residual.result c.from_residual.ensures;
 }
 
@@ -29,7 +29,7 @@ pub returns-in_err-content_in : goal.returns-in_err-content_in
 unfolding content_step
 returns-in_err-content_in c = record {
   does =
-      passes_memory c.args.self.now (subst (λ (m : ModelState). IsValidBook m.book) c.self.view_is c.self.invariant) c.args.sheet string_only [] (content_told (whole_of c.args.self.now.book) (c.args.row, c.args.column)) (sheet_of c.in_ok-worksheet.worksheet.now) c.in_ok-worksheet.ensures refl
+      passes_memory c.args.self.now (subst (λ (m : ModelState). IsValidBook m.book) c.self.view_is c.self.invariant.book) c.args.sheet string_only [] (content_told (whole_of c.args.self.now.book) (c.args.row, c.args.column)) (sheet_of c.in_ok-worksheet.worksheet.now) c.in_ok-worksheet.ensures refl
       c.from_residual-in_err-content_in.result c.from_residual-in_err-content_in.ensures;
 }
 
@@ -37,5 +37,5 @@ pub returns : goal.returns
 unfolding content_step
 returns c = record {
   does =
-      sheet_told c.args.self.now c.args.sheet (subst (λ (m : ModelState). IsValidBook m.book) c.self.view_is c.self.invariant) Wanted string_only [] (content_told (whole_of c.args.self.now.book) (c.args.row, c.args.column)) (sheet_of c.in_ok-worksheet.worksheet.now) c.in_ok-worksheet.ensures refl c.in_ok-content_in.field-0 (ap text_field (c.in_ok-content_in.ensures ∙ ap (λ (p : CellPlace). content_shown c.args.self.now.book (sheet_of c.in_ok-worksheet.worksheet.now) p) (stored_pair c.args.row c.args.column c.ranges.row c.ranges.column)));
+      sheet_told c.args.self.now c.args.sheet (subst (λ (m : ModelState). IsValidBook m.book) c.self.view_is c.self.invariant.book) Wanted string_only [] (content_told (whole_of c.args.self.now.book) (c.args.row, c.args.column)) (sheet_of c.in_ok-worksheet.worksheet.now) c.in_ok-worksheet.ensures refl c.in_ok-content_in.field-0 (ap text_field (c.in_ok-content_in.ensures ∙ ap (λ (p : CellPlace). content_shown c.args.self.now.book (sheet_of c.in_ok-worksheet.worksheet.now) p) (stored_pair c.args.row c.args.column c.ranges.row c.ranges.column)));
 }

@@ -15,7 +15,7 @@ pub returns-in_err-worksheet : goal.returns-in_err-worksheet
 unfolding markup_step
 returns-in_err-worksheet c = record {
   does =
-      passes_missing c.args.self.now (subst (λ (m : ModelState). IsValidBook m.book) c.self.view_is c.self.invariant) c.args.sheet Wanted string_only [] (markup_told (whole_of c.args.self.now.book)) c.in_err-worksheet.field-0.0 c.in_err-worksheet.ensures
+      passes_missing c.args.self.now (subst (λ (m : ModelState). IsValidBook m.book) c.self.view_is c.self.invariant.book) c.args.sheet Wanted string_only [] (markup_told (whole_of c.args.self.now.book)) c.in_err-worksheet.field-0.0 c.in_err-worksheet.ensures
       c.from_residual.result c.from_residual.ensures;
 }
 
@@ -26,7 +26,7 @@ pub returns-in_err-markup : goal.returns-in_err-markup
 unfolding markup_step
 returns-in_err-markup c = record {
   does =
-      passes_memory c.args.self.now (subst (λ (m : ModelState). IsValidBook m.book) c.self.view_is c.self.invariant) c.args.sheet string_only [] (markup_told (whole_of c.args.self.now.book)) (sheet_of c.in_ok-worksheet.worksheet.now) c.in_ok-worksheet.ensures refl
+      passes_memory c.args.self.now (subst (λ (m : ModelState). IsValidBook m.book) c.self.view_is c.self.invariant.book) c.args.sheet string_only [] (markup_told (whole_of c.args.self.now.book)) (sheet_of c.in_ok-worksheet.worksheet.now) c.in_ok-worksheet.ensures refl
       c.from_residual-in_err-markup.result c.from_residual-in_err-markup.ensures;
 }
 
@@ -34,5 +34,5 @@ pub returns : goal.returns
 unfolding markup_step
 returns c = record {
   does =
-      sheet_told c.args.self.now c.args.sheet (subst (λ (m : ModelState). IsValidBook m.book) c.self.view_is c.self.invariant) Wanted string_only [] (markup_told (whole_of c.args.self.now.book)) (sheet_of c.in_ok-worksheet.worksheet.now) c.in_ok-worksheet.ensures refl c.in_ok-markup.field-0 (ap text_field c.in_ok-markup.ensures);
+      sheet_told c.args.self.now c.args.sheet (subst (λ (m : ModelState). IsValidBook m.book) c.self.view_is c.self.invariant.book) Wanted string_only [] (markup_told (whole_of c.args.self.now.book)) (sheet_of c.in_ok-worksheet.worksheet.now) c.in_ok-worksheet.ensures refl c.in_ok-markup.field-0 (ap text_field c.in_ok-markup.ensures);
 }

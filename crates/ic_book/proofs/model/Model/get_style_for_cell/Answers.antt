@@ -17,14 +17,14 @@ pub returns-in_err-worksheet : goal.returns-in_err-worksheet
 unfolding cell_style_step
 returns-in_err-worksheet c = record {
   does =
-      passes_missing c.args.self.now (subst (λ (m : ModelState). IsValidBook m.book) c.self.view_is c.self.invariant) c.args.sheet Wanted style_fields [] (style_told (whole_of c.args.self.now.book) (c.args.row, c.args.column)) c.in_err-worksheet.field-0.0 c.in_err-worksheet.ensures
+      passes_missing c.args.self.now (subst (λ (m : ModelState). IsValidBook m.book) c.self.view_is c.self.invariant.book) c.args.sheet Wanted style_fields [] (style_told (whole_of c.args.self.now.book) (c.args.row, c.args.column)) c.in_err-worksheet.field-0.0 c.in_err-worksheet.ensures
       c.from_residual.result c.from_residual.ensures;
 }
 
 pub copy_of-requires : goal.copy_of-requires
 copy_of-requires c =
     let grid = c.in_ok-worksheet.worksheet.now.grid in
-    let valid = subst (λ (m : ModelState). IsValidBook m.book) c.self.view_is c.self.invariant in
+    let valid = subst (λ (m : ModelState). IsValidBook m.book) c.self.view_is c.self.invariant.book in
     let shown = c.style_at-number.ensures ∙ ap (grid_style.style_at celled grid.cells grid.rows grid.columns) (stored_pair c.args.row c.args.column c.ranges.row c.ranges.column) in
     subst (λ k. k < length c.self.inside.lists.styles) (sym shown)
     (subst (λ (m : ModelState). grid_style.style_at celled grid.cells grid.rows grid.columns (c.args.row, c.args.column) < length m.book.styles) (sym c.self.view_is)
@@ -34,7 +34,7 @@ pub returns-in_err-copy_of : goal.returns-in_err-copy_of
 unfolding cell_style_step
 returns-in_err-copy_of c = record {
   does =
-      passes_memory c.args.self.now (subst (λ (m : ModelState). IsValidBook m.book) c.self.view_is c.self.invariant) c.args.sheet style_fields [] (style_told (whole_of c.args.self.now.book) (c.args.row, c.args.column)) (sheet_of c.in_ok-worksheet.worksheet.now) c.in_ok-worksheet.ensures refl
+      passes_memory c.args.self.now (subst (λ (m : ModelState). IsValidBook m.book) c.self.view_is c.self.invariant.book) c.args.sheet style_fields [] (style_told (whole_of c.args.self.now.book) (c.args.row, c.args.column)) (sheet_of c.in_ok-worksheet.worksheet.now) c.in_ok-worksheet.ensures refl
       c.from_residual-in_err-copy_of.result c.from_residual-in_err-copy_of.ensures;
 }
 
@@ -42,7 +42,7 @@ pub returns : goal.returns
 returns c = record {
   does =
       let grid = c.in_ok-worksheet.worksheet.now.grid in
-      let valid = subst (λ (m : ModelState). IsValidBook m.book) c.self.view_is c.self.invariant in
+      let valid = subst (λ (m : ModelState). IsValidBook m.book) c.self.view_is c.self.invariant.book in
       let shown = c.style_at-number.ensures ∙ ap (grid_style.style_at celled grid.cells grid.rows grid.columns) (stored_pair c.args.row c.args.column c.ranges.row c.ranges.column) in
       tells_style c.args.self.now valid c.args.sheet (sheet_of c.in_ok-worksheet.worksheet.now) c.in_ok-worksheet.ensures (c.args.row, c.args.column) c.style_at-number.result _ shown
       (c.in_ok-copy_of.ensures ∙ ap (λ (m : ModelState). style_at m.book.styles c.style_at-number.result) c.self.view_is);

@@ -13,7 +13,7 @@ pub bold_at-requires : goal.bold_at-requires
 bold_at-requires c =
     let grid = c.args.worksheet.now.grid in
     subst (λ k. k < length c.args.self.now.book.styles) (sym (c.style_at.ensures ∙ ap (grid_style.style_at celled grid.cells grid.rows grid.columns) (stored_pair c.args.row c.args.column c.ranges.row c.ranges.column)))
-    (style_below c.args.self.now.book (subst (λ (m : ModelState). IsValidBook m.book) c.self.view_is c.self.invariant) c.requires.0 (sheet_of c.args.worksheet.now) c.requires.1 (c.args.row, c.args.column))
+    (style_below c.args.self.now.book (subst (λ (m : ModelState). IsValidBook m.book) c.self.view_is c.self.invariant.book) c.requires.0 (sheet_of c.args.worksheet.now) c.requires.1 (c.args.row, c.args.column))
 
 pub returns : goal.returns
 returns c =

@@ -6,4 +6,4 @@ use Rattle.ic_book.proofs.model.Model.is_typed_text.Goals as goal
 pub returns : goal.returns
 returns c =
     ap not c.is_nothing.ensures
-    ∙ plain_text c.args.self.now.book (subst (λ (m : ModelState). IsValidBook m.book) c.self.view_is c.self.invariant) (chars c.args.text.now) (sym c.in_ok-needs_quoting.ensures ∙ c.if-branch.false)
+    ∙ plain_text c.args.self.now.book (subst (λ (m : ModelState). IsValidBook m.book) c.self.view_is c.self.invariant.book) (chars c.args.text.now) (sym c.in_ok-needs_quoting.ensures ∙ c.if-branch.false)

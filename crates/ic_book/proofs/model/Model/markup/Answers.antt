@@ -14,14 +14,14 @@ pub push_rows-requires-clause-rows : goal.push_rows-requires-clause-rows
 push_rows-requires-clause-rows c =
     let s = sheet_of c.args.worksheet.now in
     let keys = same_keys c.as_map.result.now s.grid.cells c.last_of-rows.ensures.ordered c.as_map.ensures in
-    rows_within s (its_grid c.args.self.now.book (subst (λ (m : ModelState). IsValidBook m.book) c.self.view_is c.self.invariant) c.requires.0 s c.requires.1)
+    rows_within s (its_grid c.args.self.now.book (subst (λ (m : ModelState). IsValidBook m.book) c.self.view_is c.self.invariant.book) c.requires.0 s c.requires.1)
     c.last_of-rows.result.0 (ap (λ p. p.0) (c.last_of-rows.ensures.last ∙ ap last_of keys))
 
 pub push_rows-requires-clause-columns : goal.push_rows-requires-clause-columns
 push_rows-requires-clause-columns c =
     let s = sheet_of c.args.worksheet.now in
     let keys = same_keys c.as_map.result.now s.grid.cells c.last_of-rows.ensures.ordered c.as_map.ensures in
-    columns_within s (its_grid c.args.self.now.book (subst (λ (m : ModelState). IsValidBook m.book) c.self.view_is c.self.invariant) c.requires.0 s c.requires.1)
+    columns_within s (its_grid c.args.self.now.book (subst (λ (m : ModelState). IsValidBook m.book) c.self.view_is c.self.invariant.book) c.requires.0 s c.requires.1)
     c.last_of-rows.result.1 (ap (λ p. p.1) (c.last_of-rows.ensures.last ∙ ap last_of keys))
 
 pub returns : goal.returns

@@ -14,17 +14,20 @@ pub invariant_of-self : goal.invariant_of-self
 invariant_of-self c =
     let from = within_of c.self.inside.contents.sheets c.len.result c.args.sheet_index c.len.ensures c.if-sheet_index-len.false in
     let to = within_of c.self.inside.contents.sheets c.len-2.result c.args.new_index c.len-2.ensures c.if-new_index-len.false in
-    held_after c.self.inside c.self.invariant c.move_to.new.self c.self.inside.contents.definitions (with_moved_sheet c.args.sheet_index c.args.new_index (held c.self.inside))
-    (put c.self.inside c.self.invariant c.move_to.new.self c.args.sheet_index c.args.new_index c.move_to.ensures)
-    (moved_valid (held c.self.inside) c.self.invariant c.args.sheet_index c.args.new_index (move_accepts (core_of (held c.self.inside)) c.args.sheet_index c.args.new_index (there_is c.self.inside.contents.sheets c.args.sheet_index from) (there_is c.self.inside.contents.sheets c.args.new_index to)))
+    record {
+      book = held_after c.self.inside c.self.invariant.book c.move_to.new.self c.self.inside.contents.definitions (with_moved_sheet c.args.sheet_index c.args.new_index (held c.self.inside))
+          (put c.self.inside c.self.invariant.book c.move_to.new.self c.args.sheet_index c.args.new_index c.move_to.ensures.moved)
+          (moved_valid (held c.self.inside) c.self.invariant.book c.args.sheet_index c.args.new_index (move_accepts (core_of (held c.self.inside)) c.args.sheet_index c.args.new_index (there_is c.self.inside.contents.sheets c.args.sheet_index from) (there_is c.self.inside.contents.sheets c.args.new_index to)));
+      names = record { sheets = c.move_to.ensures.finds c.self.inside.names.sheets c.self.invariant.names.sheets; names = c.self.invariant.names.names };
+    }
 
 pub returns-clause-ok : goal.returns-clause-ok
 returns-clause-ok c =
-    put c.self.inside c.self.invariant c.move_to.new.self c.args.sheet_index c.args.new_index c.move_to.ensures ∙ ap (λ (m : ModelState). with_moved_sheet c.args.sheet_index c.args.new_index m.book) c.self.view_is
+    put c.self.inside c.self.invariant.book c.move_to.new.self c.args.sheet_index c.args.new_index c.move_to.ensures.moved ∙ ap (λ (m : ModelState). with_moved_sheet c.args.sheet_index c.args.new_index m.book) c.self.view_is
 
 pub returns-clause-looks_up : goal.returns-clause-looks_up
 returns-clause-looks_up c =
-    ap (map (λ (s : HeldSheet). s.pool.is_whole)) c.move_to.ensures ∙ moved-map (λ (s : HeldSheet). s.pool.is_whole) c.args.sheet_index c.args.new_index c.self.inside.contents.sheets
+    ap (map (λ (s : HeldSheet). s.pool.is_whole)) c.move_to.ensures.moved ∙ moved-map (λ (s : HeldSheet). s.pool.is_whole) c.args.sheet_index c.args.new_index c.self.inside.contents.sheets
     ∙ ap (λ (m : ModelState). moved c.args.sheet_index c.args.new_index m.has_all) c.self.view_is
 
 pub returns-clause-core : goal.returns-clause-core
@@ -36,4 +39,4 @@ returns-clause-found c =
     let to = within_of c.self.inside.contents.sheets c.len-2.result c.args.new_index c.len-2.ensures c.if-new_index-len.false in
     subst (IsMoved c.args.sheet_index c.args.new_index (core_of c.args.self.now.book)) (sym (returns-clause-core c))
     (subst (λ (m : ModelState). IsMoved c.args.sheet_index c.args.new_index (core_of m.book) (record (core_of m.book) { sheets = moved c.args.sheet_index c.args.new_index (core_of m.book).sheets })) c.self.view_is
-    (keeps_moved c.self.inside c.self.invariant c.args.sheet_index c.args.new_index (move_accepts (core_of (held c.self.inside)) c.args.sheet_index c.args.new_index (there_is c.self.inside.contents.sheets c.args.sheet_index from) (there_is c.self.inside.contents.sheets c.args.new_index to))))
+    (keeps_moved c.self.inside c.self.invariant.book c.args.sheet_index c.args.new_index (move_accepts (core_of (held c.self.inside)) c.args.sheet_index c.args.new_index (there_is c.self.inside.contents.sheets c.args.sheet_index from) (there_is c.self.inside.contents.sheets c.args.new_index to))))

@@ -7,11 +7,11 @@ use Rattle.ic_book.proofs.CopiedModel.{copy_named}
 use Rattle.ic_book.proofs.NewSheetLemmas.{few_sheets}
 use Rattle.ic_book.proofs.model.Model.name_of_copy.Goals as goal
 
-pub free_name-requires : goal.free_name-requires
-free_name-requires c = few_sheets c.self.inside c.self.invariant
+pub free_name-requires-clause-few : goal.free_name-requires-clause-few
+free_name-requires-clause-few c = few_sheets c.self.inside c.self.invariant.book
 
 pub returns : goal.returns
 returns c =
     subst (λ (m : ModelState). IfOk c.free_name.result (λ name. (source : Sheet) → slice_get m.book.sheets c.args.index ≡ Some source → chars (string_bytes name) ≡ name_of_copy (whole_of m.book) source.name)) c.self.view_is
-    (copy_named c.self.inside c.self.invariant c.args.index c.as_slice.result.now c.index-as_slice-index.result c.as_slice.ensures.sheets c.index-as_slice-index.is (chars c.as_str.result.now) c.as_str.ensures.characters c.free_name.result c.free_name.ensures
+    (copy_named c.self.inside c.self.invariant.book c.args.index c.as_slice.result.now c.index-as_slice-index.result c.as_slice.ensures.sheets c.index-as_slice-index.is (chars c.as_str.result.now) c.as_str.ensures.characters c.free_name.result c.free_name.ensures
     (subst (λ (m : ModelState). c.args.index < length m.book.sheets) (sym c.self.view_is) c.requires))

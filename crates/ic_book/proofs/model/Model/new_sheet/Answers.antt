@@ -12,12 +12,12 @@ use Rattle.ic_book.proofs.model.Model.new_sheet.Goals as goal
 
 pub returns-then-is_none-clause-does : goal.returns-then-is_none-clause-does
 returns-then-is_none-clause-does c =
-    new_used_up c.args.self.now (subst (λ (m : ModelState). IsValidBook m.book) c.self.view_is c.self.invariant)
+    new_used_up c.args.self.now (subst (λ (m : ModelState). IsValidBook m.book) c.self.view_is c.self.invariant.book)
     (ap is_none (sym c.get_new_sheet_id.ensures.fresh) ∙ search rules) named_sheet_fields
 
 pub returns-in_err-name-clause-does : goal.returns-in_err-name-clause-does
 returns-in_err-name-clause-does c =
-    new_wants c.args.self.now (subst (λ (m : ModelState). IsValidBook m.book) c.self.view_is c.self.invariant)
+    new_wants c.args.self.now (subst (λ (m : ModelState). IsValidBook m.book) c.self.view_is c.self.invariant.book)
     (ap is_none (sym c.get_new_sheet_id.ensures.fresh) ∙ search rules) named_sheet_fields c.from_residual.result c.from_residual.ensures
 
 pub returns-in_err-append_sheet-clause-does : goal.returns-in_err-append_sheet-clause-does

@@ -12,6 +12,6 @@ pub returns : goal.returns
 returns c =
     IfOk-weaker c.format_amount.result _ _
     (λ text h. formatted_is _ _ _ _ h
-    ∙ formatted_there _ c.self.invariant _ _ c.locale.ensures.found (language_there _ c.self.invariant).1 (chars c.args.code.now) c.args.amount
+    ∙ formatted_there _ c.self.invariant.book _ _ c.locale.ensures.found (language_there _ c.self.invariant.book).1 (chars c.args.code.now) c.args.amount
     ∙ ap (λ (m : ModelState). formatted_in (whole_of m.book) (chars c.args.code.now) c.args.amount) c.self.view_is)
     c.format_amount.ensures.shown

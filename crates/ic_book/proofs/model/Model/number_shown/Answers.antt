@@ -16,7 +16,7 @@ returns-in-Some c =
 pub returns-in-None : goal.returns-in-None
 returns-in-None c =
     IfOk-weaker c.amount_text.result _ _
-    (λ text e. e ∙ ap (λ d. amount_text d c.args.amount) (c.decimal_separator.ensures ∙ decimal_is _ c.self.invariant _ _ c.locale.ensures.found (language_there _ c.self.invariant).1
+    (λ text e. e ∙ ap (λ d. amount_text d c.args.amount) (c.decimal_separator.ensures ∙ decimal_is _ c.self.invariant.book _ _ c.locale.ensures.found (language_there _ c.self.invariant.book).1
     ∙ ap (λ (m : ModelState). decimal_in (whole_of m.book)) c.self.view_is)
     ∙ number_shown_by (whole_of c.args.self.now.book) (chars c.args.code.now) c.args.amount None (sym (ap (option_map (λ s. chars (string_bytes s))) c.in-None.is) ∙ c.in_ok-date.ensures))
     c.amount_text.ensures

@@ -15,9 +15,9 @@ use Rattle.ic_book.proofs.model.Model.of_tab.Goals as goal
 pub returns-in_default : goal.returns-in_default
 returns-in_default g c = record {
   does = λ memory step fields h.
-      tab_missing c.args.self.now (subst (λ (m : ModelState). IsValidBook m.book) c.self.view_is c.self.invariant) c.args.sheet memory step fields
+      tab_missing c.args.self.now (subst (λ (m : ModelState). IsValidBook m.book) c.self.view_is c.self.invariant.book) c.args.sheet memory step fields
       (subst (λ (m : ModelState). slice_get m.book.sheets c.args.sheet ≡ None) c.self.view_is
-      (not_held c.self.inside c.self.invariant c.args.sheet
+      (not_held c.self.inside c.self.invariant.book c.args.sheet
       (subst (λ ws. length ws ≤ c.args.sheet) c.as_slice.ensures.sheets (past_end c.args.sheet (length c.as_slice.result.now) c.in_default.ensures.lookup.0))));
 }
 
@@ -27,6 +27,6 @@ returns g c = record {
       let inside : ModelState = held_state c.self.inside in
       let there = at_index c.as_slice.result.now c.self.inside.contents.sheets c.args.sheet c.in-Some.sheet.now c.as_slice.ensures.sheets c.in-Some.ensures.lookup.0 c.in-Some.ensures.lookup.1 in
       subst (λ (m : ModelState). DoesStep (wants memory) (on_tab (whole_of m.book) c.args.sheet step) fields c.read.result m m) c.self.view_is
-      (tab_reads inside c.self.invariant c.args.sheet memory step fields (sheet_of c.in-Some.sheet.now) (slice_get-map sheet_of c.self.inside.contents.sheets c.args.sheet ∙ ap (option_map sheet_of) there) c.read.result
+      (tab_reads inside c.self.invariant.book c.args.sheet memory step fields (sheet_of c.in-Some.sheet.now) (slice_get-map sheet_of c.self.inside.contents.sheets c.args.sheet ∙ ap (option_map sheet_of) there) c.read.result
       (h c.in-Some.sheet.now.tab c.read.result (_, c.read.ensures, refl)));
 }

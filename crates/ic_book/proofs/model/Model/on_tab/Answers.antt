@@ -1,4 +1,4 @@
-use Rattle.std.proofs.Common.{◌≡◌, None, ap, option_map, subst, ◌∙◌}
+use Rattle.std.proofs.Common.{◌≡◌, None, ap, option_map, subst, ◌∙◌, refl}
 use Rattle.std.specs.List.{slice_get}
 use Rattle.std.proofs.lemmas.Option.{slice_get-map}
 use Rattle.ic_machine.specs.Book.{on_tab}
@@ -9,19 +9,23 @@ use Rattle.ic_book.specs.Inside.{held_state, with_sheets}
 use Rattle.ic_book.specs.Whole.{whole_of}
 use Rattle.ic_book.proofs.HeldLemmas.{past_of}
 use Rattle.ic_book.proofs.PartLemmas.{frozen_in, not_held, tab_does, tab_held, tab_missing, tab_state}
+use Rattle.ic_book.proofs.NameIndexLemmas.{indexed_updated}
 use Rattle.ic_book.proofs.model.Model.on_tab.Goals as goal
 
 pub returns-then-sheet-len-clause-changes : goal.returns-then-sheet-len-clause-changes
 returns-then-sheet-len-clause-changes g c = record {
   does = λ memory step fields h.
-      tab_missing c.args.self.now (subst (λ (m : ModelState). IsValidBook m.book) c.self.view_is c.self.invariant) c.args.sheet memory step fields
-      (subst (λ (m : ModelState). slice_get m.book.sheets c.args.sheet ≡ None) c.self.view_is (not_held c.self.inside c.self.invariant c.args.sheet (past_of c.self.inside.contents.sheets c.len.result c.args.sheet c.len.ensures c.if-sheet-len.true)));
+      tab_missing c.args.self.now (subst (λ (m : ModelState). IsValidBook m.book) c.self.view_is c.self.invariant.book) c.args.sheet memory step fields
+      (subst (λ (m : ModelState). slice_get m.book.sheets c.args.sheet ≡ None) c.self.view_is (not_held c.self.inside c.self.invariant.book c.args.sheet (past_of c.self.inside.contents.sheets c.len.result c.args.sheet c.len.ensures c.if-sheet-len.true)));
 }
 
 pub invariant_of-self : goal.invariant_of-self
 invariant_of-self g c =
-    tab_held c.self.inside c.self.invariant c.args.sheet c.change_tab.new.self c.change_tab.ensures.after c.change_tab.ensures.becomes
-    c.change_tab.ensures.sheet c.change_tab.ensures.there (c.requires.frozen c.change_tab.ensures.sheet.tab c.change_tab.ensures.after c.change_tab.result c.change_tab.ensures.called)
+    record {
+      book = tab_held c.self.inside c.self.invariant.book c.args.sheet c.change_tab.new.self c.change_tab.ensures.after c.change_tab.ensures.becomes
+          c.change_tab.ensures.sheet c.change_tab.ensures.there (c.requires.frozen c.change_tab.ensures.sheet.tab c.change_tab.ensures.after c.change_tab.result c.change_tab.ensures.called);
+      names = indexed_updated c.self.inside.names c.self.inside.contents.sheets _ c.self.inside.contents.definitions c.self.invariant.names _ c.args.sheet c.change_tab.ensures.becomes (λ s. refl);
+    }
 
 pub returns-clause-changes : goal.returns-clause-changes
 returns-clause-changes g c = record {
@@ -30,12 +34,12 @@ returns-clause-changes g c = record {
       let did = c.change_tab.ensures in
       let new : ModelState = held_state (with_sheets c.change_tab.new.self c.self.inside) in
       subst (λ (m : ModelState). DoesStep (wants memory) (on_tab (whole_of m.book) c.args.sheet step) fields c.change_tab.result m new) c.self.view_is
-      (tab_does old c.self.invariant c.args.sheet memory step fields (sheet_of did.sheet) (slice_get-map sheet_of c.self.inside.contents.sheets c.args.sheet ∙ ap (option_map sheet_of) did.there) did.after
-      (c.requires.frozen did.sheet.tab did.after c.change_tab.result did.called (frozen_in c.self.inside c.self.invariant c.args.sheet did.sheet did.there)) new
-      (tab_state c.self.inside c.self.invariant c.args.sheet c.change_tab.new.self did.after did.becomes) c.change_tab.result (h did.sheet.tab did.after c.change_tab.result did.called));
+      (tab_does old c.self.invariant.book c.args.sheet memory step fields (sheet_of did.sheet) (slice_get-map sheet_of c.self.inside.contents.sheets c.args.sheet ∙ ap (option_map sheet_of) did.there) did.after
+      (c.requires.frozen did.sheet.tab did.after c.change_tab.result did.called (frozen_in c.self.inside c.self.invariant.book c.args.sheet did.sheet did.there)) new
+      (tab_state c.self.inside c.self.invariant.book c.args.sheet c.change_tab.new.self did.after did.becomes) c.change_tab.result (h did.sheet.tab did.after c.change_tab.result did.called));
 }
 
 pub returns-clause-looks_up : goal.returns-clause-looks_up
 returns-clause-looks_up g c =
-    ap (λ (m : ModelState). m.has_all) (tab_state c.self.inside c.self.invariant c.args.sheet c.change_tab.new.self c.change_tab.ensures.after c.change_tab.ensures.becomes)
+    ap (λ (m : ModelState). m.has_all) (tab_state c.self.inside c.self.invariant.book c.args.sheet c.change_tab.new.self c.change_tab.ensures.after c.change_tab.ensures.becomes)
     ∙ ap (λ (m : ModelState). m.has_all) c.self.view_is

@@ -15,7 +15,7 @@ pub returns-in-Value : goal.returns-in-Value
 returns-in-Value c =
     let target = c.args.target.now in
     let book : machine.Book = in_notation target.locale target.language (whole_of c.args.self.now.book) in
-    let valid = subst (λ (m : ModelState). IsValidBook m.book) c.self.view_is c.self.invariant in
+    let valid = subst (λ (m : ModelState). IsValidBook m.book) c.self.view_is c.self.invariant.book in
     IfOk-weaker c.typed_text.result _ _ (λ text so. subst (λ own. IsWrittenIn book own (chars (string_bytes text))) (sym c.in-Value.is) so)
     (c.typed_text.ensures book valid.whole.tables (record { tables = sym c.requires; locale = refl; language = refl }))
 

@@ -52,15 +52,18 @@ invariant_of-self-2 c =
     let name = chars c.args.new_name.now in
     let none = (rename_accepts (core_of (held c.self.inside)) c.args.index name (sym c.is_valid_sheet_name.ensures ∙ c.if-not-is_valid_sheet_name.false) (ap (λ xs. list_any (agrees name) (remove xs c.args.index)) (sym (seen_names c.self.inside.contents.sheets)) ∙ sym c.is_taken_by_other.ensures ∙ c.if-is_taken_by_other.false) (there_is c.self.inside.contents.sheets c.args.index (within_of c.self.inside.contents.sheets c.len.result c.args.index c.len.ensures c.if-index-len.false))) in
     let at = sheet_there c.self.inside.contents.sheets c.args.index (within_of c.self.inside.contents.sheets c.len.result c.args.index c.len.ensures c.if-index-len.false) in
-    held_after c.self.inside c.self.invariant c.rename_sheet.new.self c.apply.new.self (book_changed_by (with_renamed_sheet c.args.index name) (held c.self.inside))
-    (renamed c.self.inside c.self.invariant c.rename_sheet.new.self c.apply.new.self c.args.index name at.0 none at.1 (c.in_ok-rename_sheet.ensures.ok at.0 at.1) (c.apply.ensures ∙ c.in_ok-bodies.ensures.made ∙ ap (λ (s : HeldSheet). map (with_body_tree (changed_tree (sheet_named (definitions_scene c.self.inside.contents.definitions) s.id name))) c.self.inside.contents.definitions) (sym c.index-as_slice-index.is ∙ read_is c.as_slice.result.now c.self.inside.contents.sheets c.args.index c.index-as_slice-index.result at.0 c.as_slice.ensures.sheets (within_of c.self.inside.contents.sheets c.len.result c.args.index c.len.ensures c.if-index-len.false) c.index-as_slice-index.is at.1)))
-    (renamed_valid (held c.self.inside) c.self.invariant c.args.index name none)
+    record {
+      book = held_after c.self.inside c.self.invariant.book c.rename_sheet.new.self c.apply.new.self (book_changed_by (with_renamed_sheet c.args.index name) (held c.self.inside))
+          (renamed c.self.inside c.self.invariant.book c.rename_sheet.new.self c.apply.new.self c.args.index name at.0 none at.1 (c.in_ok-rename_sheet.ensures.ok at.0 at.1) (c.apply.ensures.bodies ∙ c.in_ok-bodies.ensures.made ∙ ap (λ (s : HeldSheet). map (with_body_tree (changed_tree (sheet_named (definitions_scene c.self.inside.contents.definitions) s.id name))) c.self.inside.contents.definitions) (sym c.index-as_slice-index.is ∙ read_is c.as_slice.result.now c.self.inside.contents.sheets c.args.index c.index-as_slice-index.result at.0 c.as_slice.ensures.sheets (within_of c.self.inside.contents.sheets c.len.result c.args.index c.len.ensures c.if-index-len.false) c.index-as_slice-index.is at.1)))
+          (renamed_valid (held c.self.inside) c.self.invariant.book c.args.index name none);
+      names = record { sheets = c.rename_sheet.ensures.finds; names = c.apply.ensures.finds c.self.inside.names.names c.self.invariant.names.names };
+    }
 
 pub returns-clause-ok : goal.returns-clause-ok
 returns-clause-ok c =
     let name = chars c.args.new_name.now in
     let at = sheet_there c.self.inside.contents.sheets c.args.index (within_of c.self.inside.contents.sheets c.len.result c.args.index c.len.ensures c.if-index-len.false) in
-    renamed c.self.inside c.self.invariant c.rename_sheet.new.self c.apply.new.self c.args.index name at.0 (rename_accepts (core_of (held c.self.inside)) c.args.index name (sym c.is_valid_sheet_name.ensures ∙ c.if-not-is_valid_sheet_name.false) (ap (λ xs. list_any (agrees name) (remove xs c.args.index)) (sym (seen_names c.self.inside.contents.sheets)) ∙ sym c.is_taken_by_other.ensures ∙ c.if-is_taken_by_other.false) (there_is c.self.inside.contents.sheets c.args.index (within_of c.self.inside.contents.sheets c.len.result c.args.index c.len.ensures c.if-index-len.false))) at.1 (c.in_ok-rename_sheet.ensures.ok at.0 at.1) (c.apply.ensures ∙ c.in_ok-bodies.ensures.made ∙ ap (λ (s : HeldSheet). map (with_body_tree (changed_tree (sheet_named (definitions_scene c.self.inside.contents.definitions) s.id name))) c.self.inside.contents.definitions) (sym c.index-as_slice-index.is ∙ read_is c.as_slice.result.now c.self.inside.contents.sheets c.args.index c.index-as_slice-index.result at.0 c.as_slice.ensures.sheets (within_of c.self.inside.contents.sheets c.len.result c.args.index c.len.ensures c.if-index-len.false) c.index-as_slice-index.is at.1))
+    renamed c.self.inside c.self.invariant.book c.rename_sheet.new.self c.apply.new.self c.args.index name at.0 (rename_accepts (core_of (held c.self.inside)) c.args.index name (sym c.is_valid_sheet_name.ensures ∙ c.if-not-is_valid_sheet_name.false) (ap (λ xs. list_any (agrees name) (remove xs c.args.index)) (sym (seen_names c.self.inside.contents.sheets)) ∙ sym c.is_taken_by_other.ensures ∙ c.if-is_taken_by_other.false) (there_is c.self.inside.contents.sheets c.args.index (within_of c.self.inside.contents.sheets c.len.result c.args.index c.len.ensures c.if-index-len.false))) at.1 (c.in_ok-rename_sheet.ensures.ok at.0 at.1) (c.apply.ensures.bodies ∙ c.in_ok-bodies.ensures.made ∙ ap (λ (s : HeldSheet). map (with_body_tree (changed_tree (sheet_named (definitions_scene c.self.inside.contents.definitions) s.id name))) c.self.inside.contents.definitions) (sym c.index-as_slice-index.is ∙ read_is c.as_slice.result.now c.self.inside.contents.sheets c.args.index c.index-as_slice-index.result at.0 c.as_slice.ensures.sheets (within_of c.self.inside.contents.sheets c.len.result c.args.index c.len.ensures c.if-index-len.false) c.index-as_slice-index.is at.1))
     ∙ ap (λ (m : ModelState). book_changed_by (with_renamed_sheet c.args.index name) m.book) c.self.view_is
 
 pub returns-clause-core : goal.returns-clause-core
@@ -72,14 +75,14 @@ pub returns-clause-found : goal.returns-clause-found
 returns-clause-found c =
     let name = chars c.args.new_name.now in
     subst (BookKeepsFound (core_of c.args.self.now.book)) (sym (returns-clause-core c))
-    (subst (λ (m : ModelState). BookKeepsFound (core_of m.book) (changed_by (notations_in m.book) (with_sheet_name c.args.index name) (core_of m.book))) c.self.view_is (keeps_renamed c.self.inside c.self.invariant c.args.index name (rename_accepts (core_of (held c.self.inside)) c.args.index name (sym c.is_valid_sheet_name.ensures ∙ c.if-not-is_valid_sheet_name.false) (ap (λ xs. list_any (agrees name) (remove xs c.args.index)) (sym (seen_names c.self.inside.contents.sheets)) ∙ sym c.is_taken_by_other.ensures ∙ c.if-is_taken_by_other.false) (there_is c.self.inside.contents.sheets c.args.index (within_of c.self.inside.contents.sheets c.len.result c.args.index c.len.ensures c.if-index-len.false)))))
+    (subst (λ (m : ModelState). BookKeepsFound (core_of m.book) (changed_by (notations_in m.book) (with_sheet_name c.args.index name) (core_of m.book))) c.self.view_is (keeps_renamed c.self.inside c.self.invariant.book c.args.index name (rename_accepts (core_of (held c.self.inside)) c.args.index name (sym c.is_valid_sheet_name.ensures ∙ c.if-not-is_valid_sheet_name.false) (ap (λ xs. list_any (agrees name) (remove xs c.args.index)) (sym (seen_names c.self.inside.contents.sheets)) ∙ sym c.is_taken_by_other.ensures ∙ c.if-is_taken_by_other.false) (there_is c.self.inside.contents.sheets c.args.index (within_of c.self.inside.contents.sheets c.len.result c.args.index c.len.ensures c.if-index-len.false)))))
 
 pub returns-clause-binds : goal.returns-clause-binds
 returns-clause-binds c = λ sheet at.
     let name = chars c.args.new_name.now in
     returns-clause-core c
     ∙ subst (λ (m : ModelState). slice_get (core_of m.book).sheets c.args.index ≡ Some sheet → changed_by (notations_in m.book) (with_sheet_name c.args.index name) (core_of m.book) ≡ with_sheet_name c.args.index name (with_trees (changed_tree (sheet_named (scene_of (core_of m.book)) sheet.id name)) (core_of m.book))) c.self.view_is
-    (binds_renamed c.self.inside c.self.invariant c.args.index name sheet (rename_accepts (core_of (held c.self.inside)) c.args.index name (sym c.is_valid_sheet_name.ensures ∙ c.if-not-is_valid_sheet_name.false) (ap (λ xs. list_any (agrees name) (remove xs c.args.index)) (sym (seen_names c.self.inside.contents.sheets)) ∙ sym c.is_taken_by_other.ensures ∙ c.if-is_taken_by_other.false) (there_is c.self.inside.contents.sheets c.args.index (within_of c.self.inside.contents.sheets c.len.result c.args.index c.len.ensures c.if-index-len.false)))) at
+    (binds_renamed c.self.inside c.self.invariant.book c.args.index name sheet (rename_accepts (core_of (held c.self.inside)) c.args.index name (sym c.is_valid_sheet_name.ensures ∙ c.if-not-is_valid_sheet_name.false) (ap (λ xs. list_any (agrees name) (remove xs c.args.index)) (sym (seen_names c.self.inside.contents.sheets)) ∙ sym c.is_taken_by_other.ensures ∙ c.if-is_taken_by_other.false) (there_is c.self.inside.contents.sheets c.args.index (within_of c.self.inside.contents.sheets c.len.result c.args.index c.len.ensures c.if-index-len.false)))) at
 
 pub returns-clause-refused : goal.returns-clause-refused
 returns-clause-refused c =
@@ -93,4 +96,4 @@ returns-clause-looks_up c =
     let new = held_state (with_contents c.rename_sheet.new.self c.apply.new.self c.self.inside) in
     subst (λ (m : ModelState). LooksUpNamed c.args.index name m new) c.self.view_is
     (looks_up_at (λ (s : Sheet). sheet_named (scene_of (core_of (held c.self.inside))) s.id name) (λ (had : List Bool). had) c.self.inside.contents.sheets c.args.index at.0 at.1 (look_ups c.rename_sheet.new.self)
-    (c.in_ok-rename_sheet.ensures.looks_up at.0 at.1 ∙ ap (λ (change : Change). map (looks_up_after change) c.self.inside.contents.sheets) (same_naming c.self.inside c.self.invariant at.0.id name)))
+    (c.in_ok-rename_sheet.ensures.looks_up at.0 at.1 ∙ ap (λ (change : Change). map (looks_up_after change) c.self.inside.contents.sheets) (same_naming c.self.inside c.self.invariant.book at.0.id name)))

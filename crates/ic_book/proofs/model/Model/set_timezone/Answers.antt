@@ -9,16 +9,19 @@ pub invariant_of-self : goal.invariant_of-self
 invariant_of-self c =
     let book = held c.self.inside in
     let id = chars c.args.timezone.now in
-    subst (λ z. IsValidBook (with_zone z book)) (sym c.in-Some.ensures.name) (zone_valid book id c.self.invariant (ap (λ t. lists_zone t id) (sym c.tables.ensures) ∙ sym c.in-Some.ensures.listed))
+    record {
+      book = subst (λ z. IsValidBook (with_zone z book)) (sym c.in-Some.ensures.name) (zone_valid book id c.self.invariant.book (ap (λ t. lists_zone t id) (sym c.tables.ensures) ∙ sym c.in-Some.ensures.listed));
+      names = c.self.invariant.names;
+    }
 
 pub returns-in-Some-clause-does : goal.returns-in-Some-clause-does
 returns-in-Some-clause-does c =
     let state : ModelState = held_state c.self.inside in
     let id = chars c.args.timezone.now in
-    puts_zone c.args.self.now (subst (λ (m : ModelState). IsValidBook m.book) c.self.view_is c.self.invariant) id (subst (λ (m : ModelState). lists_zone m.book.tables id ≡ true) c.self.view_is (ap (λ t. lists_zone t id) (sym c.tables.ensures) ∙ sym c.in-Some.ensures.listed)) _
+    puts_zone c.args.self.now (subst (λ (m : ModelState). IsValidBook m.book) c.self.view_is c.self.invariant.book) id (subst (λ (m : ModelState). lists_zone m.book.tables id ≡ true) c.self.view_is (ap (λ t. lists_zone t id) (sym c.tables.ensures) ∙ sym c.in-Some.ensures.listed)) _
     (ap (λ z. let m : ModelState = record state { book = with_zone z state.book } in m) c.in-Some.ensures.name ∙ ap (λ (m : ModelState). let left : ModelState = record m { book = with_zone id m.book } in left) c.self.view_is)
 
 pub returns-in-None-clause-does : goal.returns-in-None-clause-does
 returns-in-None-clause-does c =
     let id = chars c.args.timezone.now in
-    unknown_zone c.args.self.now (subst (λ (m : ModelState). IsValidBook m.book) c.self.view_is c.self.invariant) id (subst (λ (m : ModelState). lists_zone m.book.tables id ≡ false) c.self.view_is (ap (λ t. lists_zone t id) (sym c.tables.ensures) ∙ sym c.in-None.ensures.listed))
+    unknown_zone c.args.self.now (subst (λ (m : ModelState). IsValidBook m.book) c.self.view_is c.self.invariant.book) id (subst (λ (m : ModelState). lists_zone m.book.tables id ≡ false) c.self.view_is (ap (λ t. lists_zone t id) (sym c.tables.ensures) ∙ sym c.in-None.ensures.listed))

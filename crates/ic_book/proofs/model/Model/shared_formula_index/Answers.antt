@@ -13,28 +13,44 @@ use Rattle.ic_book.specs.Book.{ModelState, core_of, notations_in, scene_in}
 use Rattle.ic_book.specs.Inside.{held, held_state, with_sheets}
 use Rattle.ic_book.specs.LookUps.{LooksUpAsBefore}
 use Rattle.ic_book.specs.Written.{pool_at, with_pool}
-use Rattle.ic_book.proofs.HeldLemmas.{placed, placed_core, placed_held, pool_at_is, whole_at, whole_updated, within_of}
+use Rattle.ic_book.proofs.HeldLemmas.{held_again, placed, placed_core, placed_held, pool_at_is, whole_at, whole_updated, within_of}
 use Rattle.ic_book.proofs.LookUpLemmas.{look_ups_left}
+use Rattle.ic_book.proofs.NameIndexLemmas.{indexed_seen, indexed_updated}
 use Rattle.ic_book.proofs.model.Model.shared_formula_index.Goals as goal
+
+pub invariant_of-self : goal.invariant_of-self
+invariant_of-self g c = record {
+  book = held_again c.self.inside c.self.invariant.book c.self.inside.lists.styles c.place_copy.new.self refl c.in_err-place_copy.ensures.err;
+  names = indexed_seen c.self.inside.names c.self.inside.contents.sheets _ c.self.inside.contents.definitions c.self.invariant.names c.in_err-place_copy.ensures.err;
+}
+
+pub returns-in_err-place_copy-clause-still : goal.returns-in_err-place_copy-clause-still
+returns-in_err-place_copy-clause-still g c = λ e. c.place_copy.ensures.still (sym (slice_get-map (λ (s : HeldSheet). s.pool.is_whole) c.self.inside.contents.sheets c.args.sheet) ∙ ap (λ (m : ModelState). slice_get m.has_all c.args.sheet) c.self.view_is ∙ e)
+
+pub returns-in_err-place_copy-clause-cost : goal.returns-in_err-place_copy-clause-cost
+returns-in_err-place_copy-clause-cost g c = subst (λ pool. c.place_copy.new.steps ≤ c.args.steps.now + length pool) (pool_at_is c.self.inside c.self.invariant.book c.args.sheet ∙ ap (λ (m : ModelState). pool_at m.book c.args.sheet) c.self.view_is) c.place_copy.ensures.cost
 
 pub invariant_of-self-2 : goal.invariant_of-self-2
 invariant_of-self-2 g c =
     let at = (sheet_there c.self.inside.contents.sheets c.args.sheet (within_of c.self.inside.contents.sheets c.len.result c.args.sheet c.len.ensures c.if-index-len.false)) in
-    placed_held c.self.inside c.self.invariant c.place_copy.new.self c.args.sheet at.0 at.1 c.args.tree.now c.in_ok-place_copy.field-0 c.in_ok-place_copy.ensures.ok.0 c.in_ok-place_copy.ensures.ok.1 c.in_ok-place_copy.ensures.ok.2
-    (subst (λ o. IfSome o (λ (s : Sheet). IsPooled (notations_in (held c.self.inside)) (scene_in (held c.self.inside)) (Some s.id) c.args.tree.now)) (slice_get-map sheets.sheet_of c.self.inside.contents.sheets c.args.sheet ∙ ap (option_map sheets.sheet_of) at.1)
-    (subst (λ (m : ModelState). IfSome (slice_get m.book.sheets c.args.sheet) (λ s. IsPooled (notations_in m.book) (scene_in m.book) (Some s.id) c.args.tree.now)) (sym c.self.view_is) c.requires))
+    record {
+      book = placed_held c.self.inside c.self.invariant.book c.place_copy.new.self c.args.sheet at.0 at.1 c.args.tree.now c.in_ok-place_copy.field-0 c.in_ok-place_copy.ensures.ok.0 c.in_ok-place_copy.ensures.ok.1 c.in_ok-place_copy.ensures.ok.2
+          (subst (λ o. IfSome o (λ (s : Sheet). IsPooled (notations_in (held c.self.inside)) (scene_in (held c.self.inside)) (Some s.id) c.args.tree.now)) (slice_get-map sheets.sheet_of c.self.inside.contents.sheets c.args.sheet ∙ ap (option_map sheets.sheet_of) at.1)
+          (subst (λ (m : ModelState). IfSome (slice_get m.book.sheets c.args.sheet) (λ s. IsPooled (notations_in m.book) (scene_in m.book) (Some s.id) c.args.tree.now)) (sym c.self.view_is) c.requires));
+      names = indexed_updated c.self.inside.names c.self.inside.contents.sheets _ c.self.inside.contents.definitions c.self.invariant.names _ c.args.sheet c.in_ok-place_copy.ensures.ok.2 (λ s. refl);
+    }
 
 pub returns-clause-placed : goal.returns-clause-placed
 returns-clause-placed g c = (
   c.in_ok-place_copy.ensures.ok.0,
-  subst (λ pool. IsPlaced c.args.tree.now c.in_ok-place_copy.field-0 pool c.in_ok-place_copy.ensures.ok.0) (pool_at_is c.self.inside c.self.invariant c.args.sheet ∙ ap (λ (m : ModelState). pool_at m.book c.args.sheet) c.self.view_is) c.in_ok-place_copy.ensures.ok.1,
-  placed c.self.inside c.self.invariant c.place_copy.new.self c.args.sheet c.in_ok-place_copy.ensures.ok.0 c.in_ok-place_copy.ensures.ok.2 ∙ ap (λ (m : ModelState). with_pool c.args.sheet c.in_ok-place_copy.ensures.ok.0 m.book) c.self.view_is,
+  subst (λ pool. IsPlaced c.args.tree.now c.in_ok-place_copy.field-0 pool c.in_ok-place_copy.ensures.ok.0) (pool_at_is c.self.inside c.self.invariant.book c.args.sheet ∙ ap (λ (m : ModelState). pool_at m.book c.args.sheet) c.self.view_is) c.in_ok-place_copy.ensures.ok.1,
+  placed c.self.inside c.self.invariant.book c.place_copy.new.self c.args.sheet c.in_ok-place_copy.ensures.ok.0 c.in_ok-place_copy.ensures.ok.2 ∙ ap (λ (m : ModelState). with_pool c.args.sheet c.in_ok-place_copy.ensures.ok.0 m.book) c.self.view_is,
 )
 
 pub returns-clause-core : goal.returns-clause-core
 returns-clause-core g c =
     let at = (sheet_there c.self.inside.contents.sheets c.args.sheet (within_of c.self.inside.contents.sheets c.len.result c.args.sheet c.len.ensures c.if-index-len.false)) in
-    placed_core c.self.inside c.self.invariant c.place_copy.new.self c.args.sheet at.0 at.1 c.args.tree.now c.in_ok-place_copy.field-0 c.in_ok-place_copy.ensures.ok.0 c.in_ok-place_copy.ensures.ok.1 c.in_ok-place_copy.ensures.ok.2 ∙ ap (λ (m : ModelState). core_of m.book) c.self.view_is
+    placed_core c.self.inside c.self.invariant.book c.place_copy.new.self c.args.sheet at.0 at.1 c.args.tree.now c.in_ok-place_copy.field-0 c.in_ok-place_copy.ensures.ok.0 c.in_ok-place_copy.ensures.ok.1 c.in_ok-place_copy.ensures.ok.2 ∙ ap (λ (m : ModelState). core_of m.book) c.self.view_is
 
 pub returns-clause-looks_up : goal.returns-clause-looks_up
 returns-clause-looks_up g c = ap (map (λ (s : HeldSheet). s.pool.is_whole)) c.in_ok-place_copy.ensures.ok.2 ∙ whole_updated _ (λ s. refl) c.args.sheet c.self.inside.contents.sheets ∙ ap (λ (m : ModelState). updated_at (λ b. true) c.args.sheet m.has_all) c.self.view_is
@@ -43,7 +59,7 @@ pub returns-clause-still : goal.returns-clause-still
 returns-clause-still g c = λ e. c.in_ok-place_copy.ensures.still (sym (slice_get-map (λ (s : HeldSheet). s.pool.is_whole) c.self.inside.contents.sheets c.args.sheet) ∙ ap (λ (m : ModelState). slice_get m.has_all c.args.sheet) c.self.view_is ∙ e)
 
 pub returns-clause-cost : goal.returns-clause-cost
-returns-clause-cost g c = subst (λ pool. c.place_copy.new.steps ≤ c.args.steps.now + length pool) (pool_at_is c.self.inside c.self.invariant c.args.sheet ∙ ap (λ (m : ModelState). pool_at m.book c.args.sheet) c.self.view_is) c.in_ok-place_copy.ensures.cost
+returns-clause-cost g c = subst (λ pool. c.place_copy.new.steps ≤ c.args.steps.now + length pool) (pool_at_is c.self.inside c.self.invariant.book c.args.sheet ∙ ap (λ (m : ModelState). pool_at m.book c.args.sheet) c.self.view_is) c.in_ok-place_copy.ensures.cost
 
 pub returns-clause-whole : goal.returns-clause-whole
 returns-clause-whole g c =

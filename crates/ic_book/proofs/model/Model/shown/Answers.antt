@@ -11,7 +11,7 @@ use Rattle.ic_book.proofs.model.Model.shown.Goals as goal
 
 pub new-requires-clause-locale : goal.new-requires-clause-locale
 new-requires-clause-locale c =
-    subst (λ t. HasGoodFormats t c.locale.result.now.locale) (sym c.tables.ensures) (formats_of_named c.self.inside.notation.tables c.self.invariant.whole.tables c.self.inside.notation.locale c.locale.result.now c.locale.ensures.found)
+    subst (λ t. HasGoodFormats t c.locale.result.now.locale) (sym c.tables.ensures) (formats_of_named c.self.inside.notation.tables c.self.invariant.book.whole.tables c.self.inside.notation.locale c.locale.result.now c.locale.ensures.found)
 
 pub returns : goal.returns
 returns c =

@@ -27,6 +27,6 @@ returns-in-None-clause-refused c =
     let place : CellPlace = (c.args.row, c.args.column) in
     let none =
     subst (λ (m : ModelState). slice_get m.book.sheets c.args.sheet ≡ None) c.self.view_is
-    (not_held c.self.inside c.self.invariant c.args.sheet
+    (not_held c.self.inside c.self.invariant.book c.args.sheet
     (subst (λ ws. length ws ≤ c.args.sheet) c.as_slice.ensures.sheets (past_end c.args.sheet (length c.as_slice.result.now) c.in-None.ensures.lookup.0))) in
     (InvalidSheet, refl, ap (value_refusal_in place) none)

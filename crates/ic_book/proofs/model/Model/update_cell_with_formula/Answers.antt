@@ -24,16 +24,16 @@ returns-in_err-style_to_write-clause-does c =
     let text = chars (string_bytes c.args.formula) in
     let t = c.in_err-style_to_write.ensures.refused in
     of_error (λ r. DoesStep WantedIn (formula_step c.args.sheet (c.args.row, c.args.column) text (whole_of now.book)) no_fields r now now) c.from_residual.result c.from_residual.ensures
-    (λ f same. formula_told now (subst (λ (m : ModelState). IsValidBook m.book) c.self.view_is c.self.invariant) c.args.sheet (c.args.row, c.args.column) text no_fields f (t.0, ap refusal_of same ∙ t.1, refusal_there now.book c.args.sheet c.args.row c.args.column _ (stored_pair c.args.row c.args.column c.ranges.row c.ranges.column) (Some t.0) t.2))
+    (λ f same. formula_told now (subst (λ (m : ModelState). IsValidBook m.book) c.self.view_is c.self.invariant.book) c.args.sheet (c.args.row, c.args.column) text no_fields f (t.0, ap refusal_of same ∙ t.1, refusal_there now.book c.args.sheet c.args.row c.args.column _ (stored_pair c.args.row c.args.column c.ranges.row c.ranges.column) (Some t.0) t.2))
 
 pub returns-in_default-clause-does : goal.returns-in_default-clause-does
 returns-in_default-clause-does c =
     let text = chars (string_bytes c.args.formula) in
     let typed =
-    ap (λ (m : ModelState). formula_typed (whole_of m.book) text) (sym c.self.view_is) ∙ formula_is c.self.inside c.self.invariant c.locale.result.now c.locale.ensures.found text
+    ap (λ (m : ModelState). formula_typed (whole_of m.book) text) (sym c.self.view_is) ∙ formula_is c.self.inside c.self.invariant.book c.locale.result.now c.locale.ensures.found text
     ∙ sym (c.formula_without_prefix.ensures.exact ∙ ap (λ b. formula_of c.locale.result.now.locale (chars b)) c.as_str.ensures.value)
     ∙ ap (option_map (λ f. chars f.now)) c.in_default.is in
-    no_formula_told c.args.self.now (subst (λ (m : ModelState). IsValidBook m.book) c.self.view_is c.self.invariant) c.args.sheet (c.args.row, c.args.column) text no_fields typed (refusal_there c.args.self.now.book c.args.sheet c.args.row c.args.column _ (stored_pair c.args.row c.args.column c.ranges.row c.ranges.column) None c.in_ok-style_to_write.ensures.refused)
+    no_formula_told c.args.self.now (subst (λ (m : ModelState). IsValidBook m.book) c.self.view_is c.self.invariant.book) c.args.sheet (c.args.row, c.args.column) text no_fields typed (refusal_there c.args.self.now.book c.args.sheet c.args.row c.args.column _ (stored_pair c.args.row c.args.column c.ranges.row c.ranges.column) None c.in_ok-style_to_write.ensures.refused)
 
 pub returns-clause-does : goal.returns-clause-does
 returns-clause-does c =
@@ -44,7 +44,7 @@ returns-clause-does c =
     let text = chars (string_bytes c.args.formula) in
     let body = chars c.in-Some.body.now in
     let typed =
-    ap (λ (m : ModelState). formula_typed (whole_of m.book) text) (sym c.self.view_is) ∙ formula_is c.self.inside c.self.invariant c.locale.result.now c.locale.ensures.found text
+    ap (λ (m : ModelState). formula_typed (whole_of m.book) text) (sym c.self.view_is) ∙ formula_is c.self.inside c.self.invariant.book c.locale.result.now c.locale.ensures.found text
     ∙ sym (c.formula_without_prefix.ensures.exact ∙ ap (λ b. formula_of c.locale.result.now.locale (chars b)) c.as_str.ensures.value)
     ∙ ap (option_map (λ f. chars f.now)) c.in-Some.is in
     let did =

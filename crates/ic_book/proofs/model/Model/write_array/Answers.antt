@@ -1,5 +1,5 @@
 use mir.Val.{SFits}
-use Rattle.std.proofs.Common.{rules, w32, ◌≡◌, None, Some, IfErr, IfSome, true, chars, sym, ap, subst, ◌∙◌}
+use Rattle.std.proofs.Common.{rules, w32, ◌≡◌, None, Some, IfErr, IfSome, true, chars, sym, ap, subst, ◌∙◌, refl}
 use Rattle.std.specs.List.{slice_get}
 use Rattle.ic_laws.specs.CoreBook.{CellPlace}
 use Rattle.ic_laws.specs.CoreStep.{updated_at}
@@ -16,6 +16,7 @@ use Rattle.ic_book.proofs.ArrayWritten.{array_held, array_looks_up, array_styled
 use Rattle.ic_book.proofs.CellReads.{of_error}
 use Rattle.ic_book.proofs.HeldLemmas.{book_again, held_again}
 use Rattle.ic_book.proofs.LookUpLemmas.{look_ups_left}
+use Rattle.ic_book.proofs.NameIndexLemmas.{indexed_updated, indexed_seen}
 use Rattle.ic_book.proofs.model.Model.write_array.Goals as goal
 
 pub returns-in_err-id-clause-memory : goal.returns-in_err-id-clause-memory
@@ -29,7 +30,7 @@ write_array-requires-clause-within c =
     let sheet = c.args.sheet in
     let block = c.args.block in
     let none = ap (λ (m : ModelState). array_refusal m.book sheet block) c.self.view_is ∙ c.requires.free in
-    array_within inside c.self.invariant sheet block none
+    array_within inside c.self.invariant.book sheet block none
 
 pub write_array-requires-clause-takes : goal.write_array-requires-clause-takes
 write_array-requires-clause-takes c =
@@ -37,7 +38,7 @@ write_array-requires-clause-takes c =
     let sheet = c.args.sheet in
     let block = c.args.block in
     let none = ap (λ (m : ModelState). array_refusal m.book sheet block) c.self.view_is ∙ c.requires.free in
-    array_takes inside c.self.invariant sheet block none
+    array_takes inside c.self.invariant.book sheet block none
 
 pub write_array-requires-clause-styled : goal.write_array-requires-clause-styled
 write_array-requires-clause-styled c =
@@ -45,7 +46,7 @@ write_array-requires-clause-styled c =
     let sheet = c.args.sheet in
     let block = c.args.block in
     let none = ap (λ (m : ModelState). array_refusal m.book sheet block) c.self.view_is ∙ c.requires.free in
-    array_styled inside c.self.invariant sheet block none
+    array_styled inside c.self.invariant.book sheet block none
 
 pub invariant_of-self-2 : goal.invariant_of-self-2
 invariant_of-self-2 c =
@@ -63,8 +64,11 @@ invariant_of-self-2 c =
     c.in_ok-formula.ensures
     ∙ ap (λ (p : CellPlace). cell_formula (notations_in book) (core_of book) found.id p.0 p.1 body) (stored_pair block.row block.column row column)
     ∙ ap (λ (m : ModelState). cell_formula (notations_in m.book) (core_of m.book) found.id block.row block.column body) (sym c.self.view_is)
-    ∙ formula_there inside c.self.invariant sheet block none found w.0 body (ap (λ (m : ModelState). slice_get m.book.sheets sheet) c.self.view_is ∙ c.in_ok-id.ensures) w.3 in
-    array_held inside c.self.invariant sheet block none body c.in_ok-formula.formula c.write_array.new.self c.write_array.new.styles w is c.requires.typed.0 c.requires.typed.1
+    ∙ formula_there inside c.self.invariant.book sheet block none found w.0 body (ap (λ (m : ModelState). slice_get m.book.sheets sheet) c.self.view_is ∙ c.in_ok-id.ensures) w.3 in
+    record {
+      book = array_held inside c.self.invariant.book sheet block none body c.in_ok-formula.formula c.write_array.new.self c.write_array.new.styles w is c.requires.typed.0 c.requires.typed.1;
+      names = indexed_updated inside.names inside.contents.sheets _ inside.contents.definitions c.self.invariant.names _ sheet w.5 (λ s. refl);
+    }
 
 pub returns-clause-written : goal.returns-clause-written
 returns-clause-written c =
@@ -82,10 +86,10 @@ returns-clause-written c =
     c.in_ok-formula.ensures
     ∙ ap (λ (p : CellPlace). cell_formula (notations_in book) (core_of book) found.id p.0 p.1 body) (stored_pair block.row block.column row column)
     ∙ ap (λ (m : ModelState). cell_formula (notations_in m.book) (core_of m.book) found.id block.row block.column body) (sym c.self.view_is)
-    ∙ formula_there inside c.self.invariant sheet block none found w.0 body (ap (λ (m : ModelState). slice_get m.book.sheets sheet) c.self.view_is ∙ c.in_ok-id.ensures) w.3 in
+    ∙ formula_there inside c.self.invariant.book sheet block none found w.0 body (ap (λ (m : ModelState). slice_get m.book.sheets sheet) c.self.view_is ∙ c.in_ok-id.ensures) w.3 in
     let new = held (with_styles c.write_array.new.styles (with_sheets c.write_array.new.self inside)) in
     subst (λ (m : ModelState). IfSome (slice_get m.book.sheets sheet) (λ s. WritesArray sheet s block body m.book new)) c.self.view_is
-    (array_there inside c.self.invariant sheet block none body c.in_ok-formula.formula c.write_array.new.self c.write_array.new.styles w is)
+    (array_there inside c.self.invariant.book sheet block none body c.in_ok-formula.formula c.write_array.new.self c.write_array.new.styles w is)
 
 pub returns-clause-looks_up : goal.returns-clause-looks_up
 returns-clause-looks_up c =
@@ -103,12 +107,16 @@ returns-clause-looks_up c =
     c.in_ok-formula.ensures
     ∙ ap (λ (p : CellPlace). cell_formula (notations_in book) (core_of book) found.id p.0 p.1 body) (stored_pair block.row block.column row column)
     ∙ ap (λ (m : ModelState). cell_formula (notations_in m.book) (core_of m.book) found.id block.row block.column body) (sym c.self.view_is)
-    ∙ formula_there inside c.self.invariant sheet block none found w.0 body (ap (λ (m : ModelState). slice_get m.book.sheets sheet) c.self.view_is ∙ c.in_ok-id.ensures) w.3 in
-    array_looks_up inside c.self.invariant sheet block none body c.in_ok-formula.formula c.write_array.new.self c.write_array.new.styles w is
+    ∙ formula_there inside c.self.invariant.book sheet block none found w.0 body (ap (λ (m : ModelState). slice_get m.book.sheets sheet) c.self.view_is ∙ c.in_ok-id.ensures) w.3 in
+    array_looks_up inside c.self.invariant.book sheet block none body c.in_ok-formula.formula c.write_array.new.self c.write_array.new.styles w is
     ∙ ap (λ (m : ModelState). updated_at (λ b. true) sheet m.has_all) c.self.view_is
 
 pub invariant_of-self : goal.invariant_of-self
-invariant_of-self c = held_again c.self.inside c.self.invariant c.write_array.new.styles c.write_array.new.self c.in_err-write_array.ensures.kept_styles c.in_err-write_array.ensures.err
+invariant_of-self c =
+    record {
+      book = held_again c.self.inside c.self.invariant.book c.write_array.new.styles c.write_array.new.self c.in_err-write_array.ensures.kept_styles c.in_err-write_array.ensures.err;
+      names = indexed_seen c.self.inside.names c.self.inside.contents.sheets _ c.self.inside.contents.definitions c.self.invariant.names c.in_err-write_array.ensures.err;
+    }
 
 pub returns-in_err-write_array-clause-memory : goal.returns-in_err-write_array-clause-memory
 returns-in_err-write_array-clause-memory c = of_error (λ r. IfErr r (λ e. refusal_of e ≡ None)) c.from_residual-in_err-write_array.result c.from_residual-in_err-write_array.ensures (λ e same. ap refusal_of same)
@@ -116,7 +124,7 @@ returns-in_err-write_array-clause-memory c = of_error (λ r. IfErr r (λ e. refu
 pub returns-in_err-write_array-clause-err : goal.returns-in_err-write_array-clause-err
 returns-in_err-write_array-clause-err c =
     at_err c.from_residual-in_err-write_array.result _
-    (book_again c.self.inside c.self.invariant c.write_array.new.styles c.write_array.new.self c.in_err-write_array.ensures.kept_styles c.in_err-write_array.ensures.err ∙ ap (λ (m : ModelState). m.book) c.self.view_is)
+    (book_again c.self.inside c.self.invariant.book c.write_array.new.styles c.write_array.new.self c.in_err-write_array.ensures.kept_styles c.in_err-write_array.ensures.err ∙ ap (λ (m : ModelState). m.book) c.self.view_is)
 
 pub returns-in_err-write_array-clause-left : goal.returns-in_err-write_array-clause-left
 returns-in_err-write_array-clause-left c =

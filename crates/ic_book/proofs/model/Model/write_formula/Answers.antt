@@ -20,6 +20,7 @@ use Rattle.ic_book.proofs.GridLemmas.{taken_back}
 use Rattle.ic_book.proofs.HeldLemmas.{book_again, clear_at, entry_at, held_again, is_within, style_within, takes_there, whole_at, whole_updated, written, written_held}
 use Rattle.ic_book.proofs.LookUpLemmas.{look_ups_left}
 use Rattle.ic_book.proofs.ValueLemmas.{refusal_there, shows_there}
+use Rattle.ic_book.proofs.NameIndexLemmas.{indexed_updated, indexed_seen}
 use Rattle.ic_book.proofs.model.Model.write_formula.Goals as goal
 
 pub without_quote-requires : goal.without_quote-requires
@@ -30,11 +31,11 @@ without_quote-requires c =
     let cell = stored_pair c.args.row c.args.column c.ranges.row c.ranges.column in
     let none = ap (λ (m : ModelState). value_refusal m.book sheet c.args.row c.args.column) c.self.view_is ∙ refusal_there c.args.self.now.book sheet c.args.row c.args.column _ (stored_pair c.args.row c.args.column c.ranges.row c.ranges.column) None c.in_ok-shown.ensures.refused in
     let entry = c.index-as_slice-sheet.result in
-    let there = entry_at c.self.inside c.self.invariant sheet place none c.as_slice.result.now entry c.as_slice.ensures.sheets c.index-as_slice-sheet.is in
+    let there = entry_at c.self.inside c.self.invariant.book sheet place none c.as_slice.result.now entry c.as_slice.ensures.sheets c.index-as_slice-sheet.is in
     let shown =
     subst (λ o. IfSome o (λ (s : Sheet). c.in_ok-shown.shown ≡ shown_style s c.args.row c.args.column)) (slice_get-map sheet_of c.self.inside.contents.sheets sheet ∙ ap (option_map sheet_of) there)
     (subst (λ (m : ModelState). Shows m.book sheet c.args.row c.args.column c.in_ok-shown.shown) (sym c.self.view_is) (shows_there c.args.self.now.book sheet c.args.row c.args.column c.in_ok-shown.shown _ (stored_pair c.args.row c.args.column c.ranges.row c.ranges.column) c.in_ok-shown.ensures.shows)) in
-    subst (λ k. k < length c.self.inside.lists.styles) (sym shown) (style_within c.self.inside c.self.invariant sheet place entry there)
+    subst (λ k. k < length c.self.inside.lists.styles) (sym shown) (style_within c.self.inside c.self.invariant.book sheet place entry there)
 
 pub write-requires-clause-within : goal.write-requires-clause-within
 write-requires-clause-within c =
@@ -43,7 +44,7 @@ write-requires-clause-within c =
     let body = chars c.args.body.now in
     let cell = stored_pair c.args.row c.args.column c.ranges.row c.ranges.column in
     let none = ap (λ (m : ModelState). value_refusal m.book sheet c.args.row c.args.column) c.self.view_is ∙ refusal_there c.args.self.now.book sheet c.args.row c.args.column _ (stored_pair c.args.row c.args.column c.ranges.row c.ranges.column) None c.in_ok-shown.ensures.refused in
-    is_within c.self.inside c.self.invariant sheet place none
+    is_within c.self.inside c.self.invariant.book sheet place none
 
 pub write-requires-clause-takes : goal.write-requires-clause-takes
 write-requires-clause-takes c =
@@ -53,9 +54,9 @@ write-requires-clause-takes c =
     let cell = stored_pair c.args.row c.args.column c.ranges.row c.ranges.column in
     let none = ap (λ (m : ModelState). value_refusal m.book sheet c.args.row c.args.column) c.self.view_is ∙ refusal_there c.args.self.now.book sheet c.args.row c.args.column _ (stored_pair c.args.row c.args.column c.ranges.row c.ranges.column) None c.in_ok-shown.ensures.refused in
     let entry = c.index-as_slice-sheet.result in
-    let there = entry_at c.self.inside c.self.invariant sheet place none c.as_slice.result.now entry c.as_slice.ensures.sheets c.index-as_slice-sheet.is in
+    let there = entry_at c.self.inside c.self.invariant.book sheet place none c.as_slice.result.now entry c.as_slice.ensures.sheets c.index-as_slice-sheet.is in
     subst (λ (p : CellPlace). IfSome (slice_get c.self.inside.contents.sheets sheet) (λ (s : HeldSheet). TakesCell p s.grid)) (sym cell)
-    (takes_there c.self.inside c.self.invariant sheet place none entry there)
+    (takes_there c.self.inside c.self.invariant.book sheet place none entry there)
 
 pub invariant_of-self-in-Ok : goal.invariant_of-self-in-Ok
 invariant_of-self-in-Ok c =
@@ -65,7 +66,7 @@ invariant_of-self-in-Ok c =
     let cell = stored_pair c.args.row c.args.column c.ranges.row c.ranges.column in
     let none = ap (λ (m : ModelState). value_refusal m.book sheet c.args.row c.args.column) c.self.view_is ∙ refusal_there c.args.self.now.book sheet c.args.row c.args.column _ (stored_pair c.args.row c.args.column c.ranges.row c.ranges.column) None c.in_ok-shown.ensures.refused in
     let entry = c.index-as_slice-sheet.result in
-    let there = entry_at c.self.inside c.self.invariant sheet place none c.as_slice.result.now entry c.as_slice.ensures.sheets c.index-as_slice-sheet.is in
+    let there = entry_at c.self.inside c.self.invariant.book sheet place none c.as_slice.result.now entry c.as_slice.ensures.sheets c.index-as_slice-sheet.is in
     let shown =
     subst (λ o. IfSome o (λ (s : Sheet). c.in_ok-shown.shown ≡ shown_style s c.args.row c.args.column)) (slice_get-map sheet_of c.self.inside.contents.sheets sheet ∙ ap (option_map sheet_of) there)
     (subst (λ (m : ModelState). Shows m.book sheet c.args.row c.args.column c.in_ok-shown.shown) (sym c.self.view_is) (shows_there c.args.self.now.book sheet c.args.row c.args.column c.in_ok-shown.shown _ (stored_pair c.args.row c.args.column c.ranges.row c.ranges.column) c.in_ok-shown.ensures.shows)) in
@@ -84,8 +85,11 @@ invariant_of-self-in-Ok c =
     let after =
     c.in-Ok.ensures.ok.3
     ∙ ap (λ (p : CellPlace). updated_at (λ (s : HeldSheet). record s { pool = record { formulas = pool; is_whole = true }; grid = with_cell_in p (formula_cell kind k number) s.grid }) sheet c.self.inside.contents.sheets) cell in
-    written_held c.self.inside c.self.invariant c.write.new.self sheet entry there place body c.in_ok-formula.formula kind number c.without_quote.new.styles k pool c.in-Ok.ensures.ok.2 is (c.kind_of-kind.ensures ∙ ap (λ (t : TableSet). kind_of t.kinds c.in_ok-formula.formula) c.tables.ensures) numbered styled after
-    (clear_at c.self.inside c.self.invariant sheet place none entry there)
+    record {
+      book = written_held c.self.inside c.self.invariant.book c.write.new.self sheet entry there place body c.in_ok-formula.formula kind number c.without_quote.new.styles k pool c.in-Ok.ensures.ok.2 is (c.kind_of-kind.ensures ∙ ap (λ (t : TableSet). kind_of t.kinds c.in_ok-formula.formula) c.tables.ensures) numbered styled after
+          (clear_at c.self.inside c.self.invariant.book sheet place none entry there);
+      names = indexed_updated c.self.inside.names c.self.inside.contents.sheets _ c.self.inside.contents.definitions c.self.invariant.names _ c.args.sheet c.in-Ok.ensures.ok.3 (λ s. refl);
+    }
 
 pub returns-in-Ok-clause-written : goal.returns-in-Ok-clause-written
 returns-in-Ok-clause-written c =
@@ -95,7 +99,7 @@ returns-in-Ok-clause-written c =
     let cell = stored_pair c.args.row c.args.column c.ranges.row c.ranges.column in
     let none = ap (λ (m : ModelState). value_refusal m.book sheet c.args.row c.args.column) c.self.view_is ∙ refusal_there c.args.self.now.book sheet c.args.row c.args.column _ (stored_pair c.args.row c.args.column c.ranges.row c.ranges.column) None c.in_ok-shown.ensures.refused in
     let entry = c.index-as_slice-sheet.result in
-    let there = entry_at c.self.inside c.self.invariant sheet place none c.as_slice.result.now entry c.as_slice.ensures.sheets c.index-as_slice-sheet.is in
+    let there = entry_at c.self.inside c.self.invariant.book sheet place none c.as_slice.result.now entry c.as_slice.ensures.sheets c.index-as_slice-sheet.is in
     let shown =
     subst (λ o. IfSome o (λ (s : Sheet). c.in_ok-shown.shown ≡ shown_style s c.args.row c.args.column)) (slice_get-map sheet_of c.self.inside.contents.sheets sheet ∙ ap (option_map sheet_of) there)
     (subst (λ (m : ModelState). Shows m.book sheet c.args.row c.args.column c.in_ok-shown.shown) (sym c.self.view_is) (shows_there c.args.self.now.book sheet c.args.row c.args.column c.in_ok-shown.shown _ (stored_pair c.args.row c.args.column c.ranges.row c.ranges.column) c.in_ok-shown.ensures.shows)) in
@@ -118,7 +122,7 @@ returns-in-Ok-clause-written c =
     let new = held (with_styles c.without_quote.new.styles (with_sheets c.write.new.self c.self.inside)) in
     subst (λ (m : ModelState). IfSome (slice_get m.book.sheets sheet) (λ s. WritesFormula sheet s place body m.book new)) c.self.view_is
     (subst (λ o. IfSome o (λ (s : Sheet). WritesFormula sheet s place body now new)) (sym (slice_get-map sheet_of c.self.inside.contents.sheets sheet ∙ ap (option_map sheet_of) there))
-    (written c.self.inside c.self.invariant c.write.new.self sheet entry there place body c.in_ok-formula.formula kind number c.without_quote.new.styles k pool c.in-Ok.ensures.ok.2 is (c.kind_of-kind.ensures ∙ ap (λ (t : TableSet). kind_of t.kinds c.in_ok-formula.formula) c.tables.ensures) numbered styled after))
+    (written c.self.inside c.self.invariant.book c.write.new.self sheet entry there place body c.in_ok-formula.formula kind number c.without_quote.new.styles k pool c.in-Ok.ensures.ok.2 is (c.kind_of-kind.ensures ∙ ap (λ (t : TableSet). kind_of t.kinds c.in_ok-formula.formula) c.tables.ensures) numbered styled after))
 
 pub returns-in-Ok-clause-looks_up : goal.returns-in-Ok-clause-looks_up
 returns-in-Ok-clause-looks_up c =
@@ -132,18 +136,21 @@ returns-in-Ok-clause-whole c =
     let cell = stored_pair c.args.row c.args.column c.ranges.row c.ranges.column in
     let none = ap (λ (m : ModelState). value_refusal m.book sheet c.args.row c.args.column) c.self.view_is ∙ refusal_there c.args.self.now.book sheet c.args.row c.args.column _ (stored_pair c.args.row c.args.column c.ranges.row c.ranges.column) None c.in_ok-shown.ensures.refused in
     let entry = c.index-as_slice-sheet.result in
-    let there = entry_at c.self.inside c.self.invariant sheet place none c.as_slice.result.now entry c.as_slice.ensures.sheets c.index-as_slice-sheet.is in
+    let there = entry_at c.self.inside c.self.invariant.book sheet place none c.as_slice.result.now entry c.as_slice.ensures.sheets c.index-as_slice-sheet.is in
     ap (λ (ws : List HeldSheet). slice_get (map (λ (s : HeldSheet). s.pool.is_whole) ws) sheet) c.in-Ok.ensures.ok.3 ∙ whole_at _ (λ s. refl) sheet c.self.inside.contents.sheets entry there
 
 pub invariant_of-self-in-Err : goal.invariant_of-self-in-Err
 invariant_of-self-in-Err c =
     let same = c.truncate.ensures ∙ ap₂ (λ (n : ℕ) (xs : List Style). take n xs) c.len-count.ensures.exact c.in_ok-style.ensures.styles ∙ taken_back c.self.inside.lists.styles c.in_ok-shown.shown in
-    held_again c.self.inside c.self.invariant c.truncate.new.self c.write.new.self same c.in-Err.ensures.err
+    record {
+      book = held_again c.self.inside c.self.invariant.book c.truncate.new.self c.write.new.self same c.in-Err.ensures.err;
+      names = indexed_seen c.self.inside.names c.self.inside.contents.sheets _ c.self.inside.contents.definitions c.self.invariant.names c.in-Err.ensures.err;
+    }
 
 pub returns-in-Err-clause-err : goal.returns-in-Err-clause-err
 returns-in-Err-clause-err c =
     let same = c.truncate.ensures ∙ ap₂ (λ (n : ℕ) (xs : List Style). take n xs) c.len-count.ensures.exact c.in_ok-style.ensures.styles ∙ taken_back c.self.inside.lists.styles c.in_ok-shown.shown in
-    book_again c.self.inside c.self.invariant c.truncate.new.self c.write.new.self same c.in-Err.ensures.err
+    book_again c.self.inside c.self.invariant.book c.truncate.new.self c.write.new.self same c.in-Err.ensures.err
     ∙ ap (λ (m : ModelState). m.book) c.self.view_is
 
 pub returns-in-Err-clause-left : goal.returns-in-Err-clause-left

@@ -15,6 +15,8 @@ use Rattle.ic_book.specs.Values.{Shows, put_step, style_change, value_content, v
 use Rattle.ic_book.proofs.CellReads.{of_error}
 use Rattle.ic_book.proofs.SharedLemmas.{held_as_before, put_done, put_held, put_look_ups, state_again, taken_away, value_is}
 use Rattle.ic_book.proofs.ValueLemmas.{is_within, refusal_there, shows_there, style_within, takes_there, value_refused, value_wants}
+use Rattle.ic_book.proofs.NameIndexLemmas.{indexed_updated}
+use Rattle.ic_book.specs.Names.{IsIndexed}
 use Rattle.ic_book.proofs.model.Model.write_value.Goals as goal
 
 pub new_cell-requires : goal.new_cell-requires
@@ -24,7 +26,7 @@ new_cell-requires c =
     let column = c.args.column in
     let none = ap (λ (m : ModelState). value_refusal m.book sheet row column) c.self.view_is ∙ refusal_there c.args.self.now.book sheet row column _ (stored_pair row column c.ranges.row c.ranges.column) None c.in_ok-shown.ensures.refused in
     let shows = subst (λ (m : ModelState). Shows m.book sheet row column c.in_ok-shown.shown) (sym c.self.view_is) (shows_there c.args.self.now.book sheet row column c.in_ok-shown.shown _ (stored_pair row column c.ranges.row c.ranges.column) c.in_ok-shown.ensures.shows) in
-    style_within c.self.inside c.self.invariant sheet row column none c.in_ok-shown.shown shows
+    style_within c.self.inside c.self.invariant.book sheet row column none c.in_ok-shown.shown shows
 
 pub write_cell-requires-clause-within : goal.write_cell-requires-clause-within
 write_cell-requires-clause-within c =
@@ -32,7 +34,7 @@ write_cell-requires-clause-within c =
     let row = c.args.row in
     let column = c.args.column in
     let none = ap (λ (m : ModelState). value_refusal m.book sheet row column) c.self.view_is ∙ refusal_there c.args.self.now.book sheet row column _ (stored_pair row column c.ranges.row c.ranges.column) None c.in_ok-shown.ensures.refused in
-    is_within c.self.inside c.self.invariant sheet row column none
+    is_within c.self.inside c.self.invariant.book sheet row column none
 
 pub write_cell-requires-clause-takes : goal.write_cell-requires-clause-takes
 write_cell-requires-clause-takes c =
@@ -41,7 +43,7 @@ write_cell-requires-clause-takes c =
     let column = c.args.column in
     let none = ap (λ (m : ModelState). value_refusal m.book sheet row column) c.self.view_is ∙ refusal_there c.args.self.now.book sheet row column _ (stored_pair row column c.ranges.row c.ranges.column) None c.in_ok-shown.ensures.refused in
     let stored = stored_pair row column c.ranges.row c.ranges.column in
-    subst (λ (p : CellPlace). IfSome (slice_get c.self.inside.contents.sheets sheet) (λ (s : HeldSheet). TakesCell p s.grid)) (sym stored) (takes_there c.self.inside c.self.invariant sheet row column none)
+    subst (λ (p : CellPlace). IfSome (slice_get c.self.inside.contents.sheets sheet) (λ (s : HeldSheet). TakesCell p s.grid)) (sym stored) (takes_there c.self.inside c.self.invariant.book sheet row column none)
 
 pub write_cell-requires-clause-loose : goal.write_cell-requires-clause-loose
 write_cell-requires-clause-loose c =
@@ -58,7 +60,10 @@ invariant_of-self-in-Ok c =
     let put =
     c.in-Ok.ensures.ok
     ∙ ap (λ (p : CellPlace). updated_at (λ (s : HeldSheet). record s { grid = with_cell_in p c.in_ok-cell.cell s.grid }) sheet c.self.inside.contents.sheets) stored in
-    put_held c.self.inside c.self.invariant sheet row column none c.in_ok-shown.shown shows c.args.value.now (style_change c.args.change.now) c.in_ok-cell.cell c.new_cell.new.lists c.write_cell.new.self c.in_ok-cell.ensures.cell c.in_ok-cell.ensures.lists put
+    record {
+      book = put_held c.self.inside c.self.invariant.book sheet row column none c.in_ok-shown.shown shows c.args.value.now (style_change c.args.change.now) c.in_ok-cell.cell c.new_cell.new.lists c.write_cell.new.self c.in_ok-cell.ensures.cell c.in_ok-cell.ensures.lists put;
+      names = indexed_updated c.self.inside.names c.self.inside.contents.sheets _ c.self.inside.contents.definitions c.self.invariant.names _ c.args.sheet c.in-Ok.ensures.ok (λ s. refl);
+    }
 
 pub returns-in-Ok-clause-does : goal.returns-in-Ok-clause-does
 returns-in-Ok-clause-does c =
@@ -73,7 +78,7 @@ returns-in-Ok-clause-does c =
     ∙ ap (λ (p : CellPlace). updated_at (λ (s : HeldSheet). record s { grid = with_cell_in p c.in_ok-cell.cell s.grid }) sheet c.self.inside.contents.sheets) stored in
     let now = held_state (with_lists c.new_cell.new.lists (with_sheets c.write_cell.new.self c.self.inside)) in
     subst (λ (m : ModelState). DoesStep Wanted (put_step (whole_of m.book) sheet row column (style_change c.args.change.now) (value_content c.args.value.now)) no_fields (Ok tt) m now) c.self.view_is
-    (put_done c.self.inside c.self.invariant sheet row column none c.in_ok-shown.shown shows c.args.value.now (style_change c.args.change.now) c.in_ok-cell.cell c.new_cell.new.lists c.write_cell.new.self c.in_ok-cell.ensures.cell c.in_ok-cell.ensures.lists put)
+    (put_done c.self.inside c.self.invariant.book sheet row column none c.in_ok-shown.shown shows c.args.value.now (style_change c.args.change.now) c.in_ok-cell.cell c.new_cell.new.lists c.write_cell.new.self c.in_ok-cell.ensures.cell c.in_ok-cell.ensures.lists put)
 
 pub returns-in-Ok-clause-looks_up : goal.returns-in-Ok-clause-looks_up
 returns-in-Ok-clause-looks_up c =
@@ -86,29 +91,32 @@ returns-in-Ok-clause-looks_up c =
     let put =
     c.in-Ok.ensures.ok
     ∙ ap (λ (p : CellPlace). updated_at (λ (s : HeldSheet). record s { grid = with_cell_in p c.in_ok-cell.cell s.grid }) sheet c.self.inside.contents.sheets) stored in
-    put_look_ups c.self.inside c.self.invariant sheet row column none c.in_ok-shown.shown shows c.args.value.now (style_change c.args.change.now) c.in_ok-cell.cell c.new_cell.new.lists c.write_cell.new.self c.in_ok-cell.ensures.cell c.in_ok-cell.ensures.lists put ∙ ap (λ (m : ModelState). m.has_all) c.self.view_is
+    put_look_ups c.self.inside c.self.invariant.book sheet row column none c.in_ok-shown.shown shows c.args.value.now (style_change c.args.change.now) c.in_ok-cell.cell c.new_cell.new.lists c.write_cell.new.self c.in_ok-cell.ensures.cell c.in_ok-cell.ensures.lists put ∙ ap (λ (m : ModelState). m.has_all) c.self.view_is
 
 pub invariant_of-self-in-Err : goal.invariant_of-self-in-Err
 invariant_of-self-in-Err c =
     let same =
     taken_away c.self.inside.lists c.new_cell.new.lists c.args.value.now (style_change c.args.change.now) c.in_ok-shown.shown c.in_ok-cell.ensures.lists c.truncate.new.self c.truncate-in-Err.new.self
     (c.truncate.ensures ∙ ap (λ (n : ℕ). take n c.new_cell.new.lists.styles) c.len-count.ensures.exact) (c.truncate-in-Err.ensures ∙ ap (λ (n : ℕ). take n c.new_cell.new.lists.strings) c.len-texts.ensures.exact) in
-    held_as_before c.self.inside c.self.invariant _ c.write_cell.new.self same c.in-Err.ensures.err
+    record {
+      book = held_as_before c.self.inside c.self.invariant.book _ c.write_cell.new.self same c.in-Err.ensures.err;
+      names = subst (λ ws. IsIndexed c.self.inside.names ws c.self.inside.contents.definitions) (sym c.in-Err.ensures.err) c.self.invariant.names;
+    }
 
 pub returns-in-Err-clause-does : goal.returns-in-Err-clause-does
 returns-in-Err-clause-does c =
     let same =
     taken_away c.self.inside.lists c.new_cell.new.lists c.args.value.now (style_change c.args.change.now) c.in_ok-shown.shown c.in_ok-cell.ensures.lists c.truncate.new.self c.truncate-in-Err.new.self
     (c.truncate.ensures ∙ ap (λ (n : ℕ). take n c.new_cell.new.lists.styles) c.len-count.ensures.exact) (c.truncate-in-Err.ensures ∙ ap (λ (n : ℕ). take n c.new_cell.new.lists.strings) c.len-texts.ensures.exact) in
-    let again = state_again c.self.inside c.self.invariant _ c.write_cell.new.self same c.in-Err.ensures.err ∙ c.self.view_is in
-    value_wants c.args.self.now (subst (λ (m : ModelState). IsValidBook m.book) c.self.view_is c.self.invariant) c.args.sheet c.args.row c.args.column (style_change c.args.change.now) (value_content c.args.value.now) _ again (refusal_there c.args.self.now.book c.args.sheet c.args.row c.args.column _ (stored_pair c.args.row c.args.column c.ranges.row c.ranges.column) None c.in_ok-shown.ensures.refused) c.from.result c.from.ensures
+    let again = state_again c.self.inside c.self.invariant.book _ c.write_cell.new.self same c.in-Err.ensures.err ∙ c.self.view_is in
+    value_wants c.args.self.now (subst (λ (m : ModelState). IsValidBook m.book) c.self.view_is c.self.invariant.book) c.args.sheet c.args.row c.args.column (style_change c.args.change.now) (value_content c.args.value.now) _ again (refusal_there c.args.self.now.book c.args.sheet c.args.row c.args.column _ (stored_pair c.args.row c.args.column c.ranges.row c.ranges.column) None c.in_ok-shown.ensures.refused) c.from.result c.from.ensures
 
 pub returns-in-Err-clause-looks_up : goal.returns-in-Err-clause-looks_up
 returns-in-Err-clause-looks_up c =
     let same =
     taken_away c.self.inside.lists c.new_cell.new.lists c.args.value.now (style_change c.args.change.now) c.in_ok-shown.shown c.in_ok-cell.ensures.lists c.truncate.new.self c.truncate-in-Err.new.self
     (c.truncate.ensures ∙ ap (λ (n : ℕ). take n c.new_cell.new.lists.styles) c.len-count.ensures.exact) (c.truncate-in-Err.ensures ∙ ap (λ (n : ℕ). take n c.new_cell.new.lists.strings) c.len-texts.ensures.exact) in
-    let again = state_again c.self.inside c.self.invariant _ c.write_cell.new.self same c.in-Err.ensures.err ∙ c.self.view_is in
+    let again = state_again c.self.inside c.self.invariant.book _ c.write_cell.new.self same c.in-Err.ensures.err ∙ c.self.view_is in
     ap (λ (m : ModelState). m.has_all) again
 
 pub returns-in_err-shown-clause-does : goal.returns-in_err-shown-clause-does
@@ -117,13 +125,13 @@ returns-in_err-shown-clause-does c =
     let step = put_step (whole_of now.book) c.args.sheet c.args.row c.args.column (style_change c.args.change.now) (value_content c.args.value.now) in
     let t = c.in_err-shown.ensures.refused in
     of_error (λ r. DoesStep Wanted step no_fields r now now) c.from_residual.result c.from_residual.ensures
-    (λ f same. value_refused now (subst (λ (m : ModelState). IsValidBook m.book) c.self.view_is c.self.invariant) c.args.sheet c.args.row c.args.column (style_change c.args.change.now) (value_content c.args.value.now) f (t.0, ap refusal_of same ∙ t.1, refusal_there now.book c.args.sheet c.args.row c.args.column _ (stored_pair c.args.row c.args.column c.ranges.row c.ranges.column) (Some t.0) t.2))
+    (λ f same. value_refused now (subst (λ (m : ModelState). IsValidBook m.book) c.self.view_is c.self.invariant.book) c.args.sheet c.args.row c.args.column (style_change c.args.change.now) (value_content c.args.value.now) f (t.0, ap refusal_of same ∙ t.1, refusal_there now.book c.args.sheet c.args.row c.args.column _ (stored_pair c.args.row c.args.column c.ranges.row c.ranges.column) (Some t.0) t.2))
 
 pub returns-in_err-cell-clause-does : goal.returns-in_err-cell-clause-does
 returns-in_err-cell-clause-does c =
     let now = c.args.self.now in
     let step = put_step (whole_of now.book) c.args.sheet c.args.row c.args.column (style_change c.args.change.now) (value_content c.args.value.now) in
     let new = held_state (with_lists c.new_cell.new.lists c.self.inside) in
-    let again = state_again c.self.inside c.self.invariant c.new_cell.new.lists c.self.inside.contents.sheets c.in_err-cell.ensures.err refl ∙ c.self.view_is in
+    let again = state_again c.self.inside c.self.invariant.book c.new_cell.new.lists c.self.inside.contents.sheets c.in_err-cell.ensures.err refl ∙ c.self.view_is in
     of_error (λ r. DoesStep Wanted step no_fields r now new) c.from_residual-in_err-cell.result c.from_residual-in_err-cell.ensures
-    (λ f out. value_wants now (subst (λ (m : ModelState). IsValidBook m.book) c.self.view_is c.self.invariant) c.args.sheet c.args.row c.args.column (style_change c.args.change.now) (value_content c.args.value.now) new again (refusal_there c.args.self.now.book c.args.sheet c.args.row c.args.column _ (stored_pair c.args.row c.args.column c.ranges.row c.ranges.column) None c.in_ok-shown.ensures.refused) f out)
+    (λ f out. value_wants now (subst (λ (m : ModelState). IsValidBook m.book) c.self.view_is c.self.invariant.book) c.args.sheet c.args.row c.args.column (style_change c.args.change.now) (value_content c.args.value.now) new again (refusal_there c.args.self.now.book c.args.sheet c.args.row c.args.column _ (stored_pair c.args.row c.args.column c.ranges.row c.ranges.column) None c.in_ok-shown.ensures.refused) f out)

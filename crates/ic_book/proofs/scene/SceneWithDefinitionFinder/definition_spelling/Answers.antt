@@ -7,16 +7,16 @@ use Rattle.ic_book.proofs.scene.SceneWithDefinitionFinder.definition_spelling.Go
 pub returns-in-Some : goal.returns-in-Some
 returns-in-Some c =
     let new : DefinitionSpelling = record { name = chars c.args.self.now.name.now; scope = c.args.self.now.key.now.scope } in
-    other_found (λ (d : DefinitionSpelling). d.name) c.args.self.now.book.definitions.now new c.args.key.now.name c.args.key.now.scope (chars c.in-Some.name.now) (sym (ap (option_map (λ name. chars name.now)) c.in-Some.is) ∙ c.definition_spelling.ensures)
+    other_found (λ (d : DefinitionSpelling). d.name) c.args.self.now.book.definitions.definitions.now new c.args.key.now.name c.args.key.now.scope (chars c.in-Some.name.now) (sym (ap (option_map (λ name. chars name.now)) c.in-Some.is) ∙ c.definition_spelling.ensures)
 
 pub returns-then-same_key : goal.returns-then-same_key
 returns-then-same_key c =
     let new : DefinitionSpelling = record { name = chars c.args.self.now.name.now; scope = c.args.self.now.key.now.scope } in
-    it_is_found (λ (d : DefinitionSpelling). d.name) c.args.self.now.book.definitions.now new c.args.key.now.name c.args.key.now.scope true (sym (ap (option_map (λ name. chars name.now)) c.in_default.is) ∙ c.definition_spelling.ensures)
+    it_is_found (λ (d : DefinitionSpelling). d.name) c.args.self.now.book.definitions.definitions.now new c.args.key.now.name c.args.key.now.scope true (sym (ap (option_map (λ name. chars name.now)) c.in_default.is) ∙ c.definition_spelling.ensures)
     (ap (λ folded. bytes_eq folded c.args.key.now.name && same_scope c.args.self.now.key.now.scope c.args.key.now.scope) (sym c.args.self.now.own) ∙ sym c.same_key.ensures ∙ c.if-same_key.true)
 
 pub returns : goal.returns
 returns c =
     let new : DefinitionSpelling = record { name = chars c.args.self.now.name.now; scope = c.args.self.now.key.now.scope } in
-    it_is_found (λ (d : DefinitionSpelling). d.name) c.args.self.now.book.definitions.now new c.args.key.now.name c.args.key.now.scope false (sym (ap (option_map (λ name. chars name.now)) c.in_default.is) ∙ c.definition_spelling.ensures)
+    it_is_found (λ (d : DefinitionSpelling). d.name) c.args.self.now.book.definitions.definitions.now new c.args.key.now.name c.args.key.now.scope false (sym (ap (option_map (λ name. chars name.now)) c.in_default.is) ∙ c.definition_spelling.ensures)
     (ap (λ folded. bytes_eq folded c.args.key.now.name && same_scope c.args.self.now.key.now.scope c.args.key.now.scope) (sym c.args.self.now.own) ∙ sym c.same_key.ensures ∙ c.if-same_key.false)

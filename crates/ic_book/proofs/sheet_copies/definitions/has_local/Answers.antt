@@ -7,4 +7,4 @@ use Rattle.ic_book.proofs.sheet_copies.definitions.has_local.Goals as goal
 
 pub returns : goal.returns
 returns c =
-    c.is_some.ensures ∙ ap is_some c.index_of.ensures ∙ position_any (is_named (chars c.args.name.now) (Some c.args.id)) c.args.definitions.now ∙ local_named (chars c.args.name.now) c.args.id c.args.definitions.now
+    c.is_some.ensures ∙ ap is_some c.index_of.ensures ∙ position_any (is_named (chars c.args.name.now) (Some c.args.id)) c.args.definitions.now.definitions.now ∙ local_named (chars c.args.name.now) c.args.id c.args.definitions.now.definitions.now

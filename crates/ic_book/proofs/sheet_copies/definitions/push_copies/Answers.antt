@@ -4,20 +4,21 @@ use Rattle.ic_book.specs.Copied.{is_copied}
 use Rattle.ic_book.proofs.CopiedDefinitions.{copy_is_free, copy_pushed}
 use Rattle.ic_book.proofs.sheet_copies.definitions.push_copies.Goals as goal
 
-pub push_if-requires : goal.push_if-requires
-push_if-requires c = λ passes.
-    let ds : List Definition = c.args.definitions.now in
+pub push_if-requires-clause-free : goal.push_if-requires-clause-free
+push_if-requires-clause-free c = λ passes.
+    let ds : List Definition = c.args.definitions.now.definitions.now in
     let d : Definition = c.definition-item.result in
-    copy_is_free c.args.copy (is_copied c.args.kind c.args.source ds) ds c.args.copies.now c.loop-definition.definition-index c.loop-definition.copies c.loop-definition.invariant d
+    copy_is_free c.args.copy (is_copied c.args.kind c.args.source ds) ds c.args.copies.now c.loop-definition.definition-index c.loop-definition.copies c.loop-definition.invariant.left d
     (subst (λ (xs : List Definition). c.loop-definition.definition-index < length xs) c.as_slice-definition-items.ensures c.loop-definition-test.true)
     (c.definition-item.is ∙ ap (λ (xs : List Definition). get_or xs c.loop-definition.definition-index d) c.as_slice-definition-items.ensures)
-    c.requires (sym c.is_copied-passes.ensures ∙ passes)
+    c.requires.differ (sym c.is_copied-passes.ensures ∙ passes)
 
 pub loop-definition-preserved : goal.loop-definition-preserved
 loop-definition-preserved c =
-    let ds : List Definition = c.args.definitions.now in
+    let ds : List Definition = c.args.definitions.now.definitions.now in
     let d : Definition = c.definition-item.result in
-    copy_pushed c.args.copy (is_copied c.args.kind c.args.source ds) ds c.args.copies.now c.loop-definition.definition-index c.loop-definition.copies c.loop-definition.invariant d
+    let left = copy_pushed c.args.copy (is_copied c.args.kind c.args.source ds) ds c.args.copies.now c.loop-definition.definition-index c.loop-definition.copies c.loop-definition.invariant.left d
     (subst (λ (xs : List Definition). c.loop-definition.definition-index < length xs) c.as_slice-definition-items.ensures c.loop-definition-test.true)
     (c.definition-item.is ∙ ap (λ (xs : List Definition). get_or xs c.loop-definition.definition-index d) c.as_slice-definition-items.ensures)
-    c.push_if.new.copies c.is_copied-passes.result c.is_copied-passes.ensures c.in_ok-push_if.ensures
+    c.push_if.new.copies c.is_copied-passes.result c.is_copied-passes.ensures c.in_ok-push_if.ensures.put in
+    record { left = left; finds = c.push_if.ensures.finds }

@@ -2,4 +2,4 @@ use Rattle.ic_definitions.proofs.NamedLemmas.{named_empty}
 use Rattle.ic_definitions.proofs.definitions.Definitions.new.Goals as goal
 
 pub invariant_of-result : goal.invariant_of-result
-invariant_of-result c = named_empty c.new-2.result c.new.result.items c.new-2.ensures.empty c.new.ensures.items
+invariant_of-result c = named_empty c.new.result.items c.new.ensures.items

@@ -10,6 +10,6 @@ pub returns-clause-made : goal.returns-clause-made
 returns-clause-made c =
     IfOk-weaker c.prepare.result _ _
     (λ w made d at. made ∙ ap (λ (change : Change). map (with_body_tree (changed_tree change)) c.args.self.now)
-    (change_is c.args.self.now c.args.index d at c.index-as_slice-index.result c.key.result.now (chars c.name.result.now) c.in_ok-becomes.becomes c.requires
+    (change_is c.args.self.now c.args.index d at c.index-as_slice-index.result c.key.result.now (chars c.name.result.now) c.in_ok-becomes.becomes c.requires.within
     (c.index-as_slice-index.is ∙ ap (λ (ds : List Definition). get_or ds c.args.index c.index-as_slice-index.result) c.as_slice.ensures) c.key.ensures c.name.ensures (c.in_ok-becomes.ensures d at)))
     c.prepare.ensures.made

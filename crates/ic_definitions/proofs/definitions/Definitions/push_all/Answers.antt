@@ -21,4 +21,5 @@ loop-definition-preserved c =
       free = subst (λ xs. AllByRecursion (IsFree xs) rest) (sym pushed) (still_free ds d rest free.1 (IsDistinct-head same_key (key_in d) (map key_in rest) differ));
       differ = IsDistinct-tail same_key (key_in d) (map key_in rest) differ;
       first = ap (take (length old)) pushed ∙ taken_first old ds d c.loop-definition.invariant.first;
+      finds = c.add_leaving_bodies.ensures.finds;
     }

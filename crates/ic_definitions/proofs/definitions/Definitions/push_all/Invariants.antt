@@ -1,7 +1,7 @@
 use Rattle.std.proofs.Common.{◌≡◌, ◌++◌, length, map, take}
 use Rattle.std.specs.List.{AllByRecursion, IsDistinct}
 use Rattle.ic_laws.specs.Scene.{same_key}
-use Rattle.ic_definitions.specs.Named.{key_in}
+use Rattle.ic_definitions.specs.Named.{FindsNames, key_in}
 use Rattle.ic_definitions.proofs.AppendedNames.{IsFree}
 use Rattle.ic_definitions.proofs.definitions.Definitions.push_all.Given as goal
 
@@ -12,4 +12,5 @@ invariant-loop-definition l = record {
   free : AllByRecursion (IsFree l.self) l.definition-iterator.rest.items;
   differ : IsDistinct same_key (map key_in l.definition-iterator.rest.items);
   first : take (length l.fn.self) l.self ≡ l.fn.self;
+  finds : FindsNames l.places l.self;
 }

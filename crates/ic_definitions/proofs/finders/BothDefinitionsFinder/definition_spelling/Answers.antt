@@ -6,10 +6,10 @@ use Rattle.ic_definitions.proofs.finders.BothDefinitionsFinder.definition_spelli
 pub returns-in-Some : goal.returns-in-Some
 returns-in-Some c =
     let b = c.args.self.now in
-    found_joined (λ (d : DefinitionSpelling). d.name) b.first.now b.more.now c.args.key.now.name c.args.key.now.scope (Some (chars c.in-Some.name.now)) (sym (ap (option_map (λ name. chars name.now)) c.in-Some.is) ∙ c.name_of.ensures)
+    found_joined (λ (d : DefinitionSpelling). d.name) b.first.definitions.now b.more.definitions.now c.args.key.now.name c.args.key.now.scope (Some (chars c.in-Some.name.now)) (sym (ap (option_map (λ name. chars name.now)) c.in-Some.is) ∙ c.name_of.ensures)
 
 pub returns : goal.returns
 returns c =
     let b = c.args.self.now in
     c.name_of-2.ensures
-    ∙ found_joined (λ (d : DefinitionSpelling). d.name) b.first.now b.more.now c.args.key.now.name c.args.key.now.scope None (sym (ap (option_map (λ name. chars name.now)) c.in_default.is) ∙ c.name_of.ensures)
+    ∙ found_joined (λ (d : DefinitionSpelling). d.name) b.first.definitions.now b.more.definitions.now c.args.key.now.name c.args.key.now.scope None (sym (ap (option_map (λ name. chars name.now)) c.in_default.is) ∙ c.name_of.ensures)

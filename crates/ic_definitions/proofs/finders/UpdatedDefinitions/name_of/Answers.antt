@@ -7,13 +7,13 @@ use Rattle.ic_definitions.proofs.finders.UpdatedDefinitions.name_of.Goals as goa
 pub returns-then-is_found : goal.returns-then-is_found
 returns-then-is_found c =
     let u = c.args.self.now in
-    renamed_name c.args.key.now u.index u.definitions.now (chars u.name.now) u.key.now c.place_of-place.result true _ u.own c.place_of-place.ensures.differ c.place_of-place.ensures.place
+    renamed_name c.args.key.now u.index u.definitions.definitions.now (chars u.name.now) u.key.now c.place_of-place.result true _ u.own c.place_of-place.ensures.differ c.place_of-place.ensures.place
     (sym c.if-is_found.true ∙ c.is_found.ensures) refl
 
 pub returns-then-is_there : goal.returns-then-is_there
 returns-then-is_there c =
     let u = c.args.self.now in
-    renamed_name c.args.key.now u.index u.definitions.now (chars u.name.now) u.key.now c.place_of-place.result false true u.own c.place_of-place.ensures.differ c.place_of-place.ensures.place
+    renamed_name c.args.key.now u.index u.definitions.definitions.now (chars u.name.now) u.key.now c.place_of-place.result false true u.own c.place_of-place.ensures.differ c.place_of-place.ensures.place
     (sym c.if-is_found.false ∙ c.is_found.ensures) (sym c.if-is_there.true ∙ c.is_there.ensures)
 
 pub returns : goal.returns
@@ -21,5 +21,5 @@ returns c =
     let u = c.args.self.now in
     c.name_in.ensures
     ∙ ap (λ ds. option_map (λ (d : Definition). d.name) (option_and_then (slice_get ds) c.place_of-place.result)) c.as_slice.ensures
-    ∙ renamed_name c.args.key.now u.index u.definitions.now (chars u.name.now) u.key.now c.place_of-place.result false false u.own c.place_of-place.ensures.differ c.place_of-place.ensures.place
+    ∙ renamed_name c.args.key.now u.index u.definitions.definitions.now (chars u.name.now) u.key.now c.place_of-place.result false false u.own c.place_of-place.ensures.differ c.place_of-place.ensures.place
     (sym c.if-is_found.false ∙ c.is_found.ensures) (sym c.if-is_there.false ∙ c.is_there.ensures)

@@ -18,7 +18,7 @@ pub invariant_of-self : goal.invariant_of-self
 invariant_of-self c =
     let back = written_back c.self.inside.list.len c.args.prepared.items c.self.inside.list.items c.deref_mut.result.now c.apply_all.new.sheets c.apply_all.ensures c.deref_mut.ensures.value c.self.inside.list.ok.0 in
     let same_ids = ap ids back ∙ ids_rewritten c.args.prepared.items c.self.inside.list.items in (
-      kept_same c.self.inside.ids c.self.inside.greatest c.self.inside.list.items _ c.self.invariant.0 (ap names back ∙ names_rewritten c.args.prepared.items c.self.inside.list.items) same_ids,
+      kept_same c.self.inside.greatest c.self.inside.list.items _ c.self.invariant.0 (ap names back ∙ names_rewritten c.args.prepared.items c.self.inside.list.items) same_ids,
       placed_same c.self.inside.indexes c.self.inside.list.items _ c.self.invariant.1 same_ids,
       dangling_anew c.note_dangling.new.ids.items _ (subst (IsDistinct nat_eq) (sym same_ids) c.self.invariant.0.ids_differ) (c.note_dangling.ensures.ids ∙ ap dangling_ids c.deref.ensures.value),
       omega (arith, ap length back, length_rewritten c.args.prepared.items c.self.inside.list.items, c.self.invariant.3, c.note_dangling.ensures.capacity),

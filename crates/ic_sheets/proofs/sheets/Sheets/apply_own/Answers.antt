@@ -37,7 +37,7 @@ invariant_of-self c =
     let back = own_back c.self.inside.list.len ps old c.deref_mut.result.now c.apply_own.new.sheets c.apply_own.ensures c.deref_mut.ensures.value c.self.inside.list.ok.0 in
     let ids_same = ap ids back ∙ same_ids ps old in
     let fits = subst (FitOwn ps) (sym c.self.view_is) c.requires in (
-      kept_same c.self.inside.ids c.self.inside.greatest old _ c.self.invariant.0 (ap names back ∙ same_names ps old) ids_same,
+      kept_same c.self.inside.greatest old _ c.self.invariant.0 (ap names back ∙ same_names ps old) ids_same,
       placed_same c.self.inside.indexes old _ c.self.invariant.1 ids_same,
       dangling_kept c.self.inside.dangling.items c.keep_dangling.new.ids.items old _ c.self.invariant.2 (λ q h. fewer_dangle ps q old fits.fits (sym (ap (dangles_at q) back) ∙ h))
           (c.keep_dangling.ensures.ids ∙ ap (λ xs. filter (λ id. dangles_at id xs) c.self.inside.dangling.items) c.deref.ensures.value),

@@ -19,7 +19,7 @@ invariant_of-self g c =
     let read = c.index_mut-sheet.ensures.value in
     let lt : c.args.index < length sheets = subst (λ xs. c.args.index < length xs) (sym c.self.view_is) c.requires.within in
     let differ = c.self.invariant.0.ids_differ in (
-      kept_over c.self.inside.ids c.self.inside.greatest sheets c.args.index s after c.self.invariant.0 read like,
+      kept_over c.self.inside.greatest sheets c.args.index s after c.self.invariant.0 read like,
       placed_same c.self.inside.indexes sheets _ c.self.invariant.1 (seen_over (λ (x : Sheet). x.id) sheets c.args.index s after read refl),
       dangling_over now sheets c.args.index s c.self.invariant.2 differ lt read now (dangles s)
           (left_alone now s.id (dangles s) (listed_at now sheets c.args.index s c.self.invariant.2 differ lt read)) c.self.invariant.2.differ after refl refl,

@@ -15,7 +15,7 @@ invariant_of-self c =
     let after : Sheet = c.fill.new.self in
     let lt : c.args.index < length sheets = subst (λ xs. c.args.index < length xs) (sym c.self.view_is) c.requires in
     let like : IsLike s after = record { id = ap (λ (x : Sheet). x.id) c.fill.ensures; name = ap (λ (x : Sheet). x.name) c.fill.ensures } in (
-      kept_over c.self.inside.ids c.self.inside.greatest sheets c.args.index s after c.self.invariant.0 c.index_mut-sheet.ensures.value like,
+      kept_over c.self.inside.greatest sheets c.args.index s after c.self.invariant.0 c.index_mut-sheet.ensures.value like,
       placed_same c.self.inside.indexes sheets _ c.self.invariant.1 (seen_over (λ (x : Sheet). x.id) sheets c.args.index s after c.index_mut-sheet.ensures.value like.id),
       dangling_over c.self.inside.dangling.items sheets c.args.index s c.self.invariant.2 c.self.invariant.0.ids_differ lt c.index_mut-sheet.ensures.value c.settle.new.ids.items c.dangles.result
           (subst (λ (k : ℕ). (q : ℕ) → is_listed q c.settle.new.ids.items ≡ cond (nat_eq q k) c.dangles.result (is_listed q c.self.inside.dangling.items)) like.id c.settle.ensures.finds) c.settle.ensures.differ after like.id c.dangles.ensures,

@@ -17,5 +17,5 @@ pub returns-in-Some-Some : goal.returns-in-Some-Some
 returns-in-Some-Some c =
     let at : slice_get c.args.self.now c.args.index ≡ Some c.in-Some-Some.sheet.now = ap (λ xs. slice_get xs c.args.index) (sym (c.deref.ensures.value ∙ c.self.view_is)) ∙ sym c.in-Some-Some.ensures' in
     another's (chars c.args.name.now) c.args.self.now c.args.index c.in-Some-Some.id c.in-Some-Some.sheet.now
-    (subst (λ xs. IsDistinct agrees (names xs)) c.self.view_is c.self.invariant.0.names.differ) (subst (λ xs. IsDistinct nat_eq (ids xs)) c.self.view_is c.self.invariant.0.ids_differ)
+    (subst (λ xs. IsDistinct agrees (names xs)) c.self.view_is c.self.invariant.0.names_differ) (subst (λ xs. IsDistinct nat_eq (ids xs)) c.self.view_is c.self.invariant.0.ids_differ)
     at (sym c.find.ensures ∙ c.in-Some-Some.is-0)

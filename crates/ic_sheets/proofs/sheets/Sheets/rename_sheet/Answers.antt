@@ -5,6 +5,9 @@ use Rattle.ic_sheets.proofs.OwnLemmas.{own_fits_called, renamed_looks_up, rename
 use Rattle.ic_sheets.proofs.RewritingLemmas.{read_there}
 use Rattle.ic_sheets.specs.Rewriting.{FitOwn, Makes}
 use Rattle.ic_sheets.specs.declared.sheet.Sheet.{Sheet}
+use Rattle.ic_sheets.proofs.KeptLemmas.{finds_same}
+use Rattle.ic_sheets.proofs.OwnLemmas.{same_ids, same_names}
+use Rattle.ic_sheets.proofs.SearchLemmas.{ids, names}
 use Rattle.ic_sheets.proofs.sheets.Sheets.rename_sheet.Goals as goal
 
 pub prepare_dangling-requires : goal.prepare_dangling-requires
@@ -27,3 +30,8 @@ returns-clause-looks_up g c = λ sheet at.
     (subst (λ (s : Sheet). Makes (sheet_named (g.F.Finder.scene c.args.definitions.now) s.id (chars c.args.name.now)) c.in_ok-prepared.prepared.items c.args.self.now)
     (read_there c.args.self.now c.args.index c.index.result.now sheet c.requires.within (c.index.ensures ∙ ap (λ xs. get_or xs c.args.index c.index.result.now) c.self.view_is) at) c.in_ok-prepared.ensures)
     c.args.index (chars c.args.name.now) c.rename_leaving_formulas.new.self c.apply_own.new.self c.in_ok-rename_leaving_formulas.ensures.ok c.apply_own.ensures
+
+pub returns-clause-finds : goal.returns-clause-finds
+returns-clause-finds g c =
+    finds_same c.rename_leaving_formulas.new.ids c.rename_leaving_formulas.new.self c.apply_own.new.self c.in_ok-rename_leaving_formulas.ensures.finds
+    (ap names c.apply_own.ensures ∙ same_names c.in_ok-prepared.prepared.items c.rename_leaving_formulas.new.self) (ap ids c.apply_own.ensures ∙ same_ids c.in_ok-prepared.prepared.items c.rename_leaving_formulas.new.self)

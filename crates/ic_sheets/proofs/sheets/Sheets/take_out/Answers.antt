@@ -6,15 +6,16 @@ use Rattle.ic_sheets.proofs.KeyLemmas.{gone_by_name}
 use Rattle.ic_sheets.proofs.KeptLemmas.{kept_removed}
 use Rattle.ic_sheets.proofs.PlaceLemmas.{placed_removed}
 use Rattle.ic_sheets.proofs.SearchLemmas.{ids}
+use Rattle.ic_sheets.proofs.KeptLemmas.{finds_removed}
+use Rattle.ic_sheets.specs.Index.{FindsSheets}
 use Rattle.ic_sheets.proofs.sheets.Sheets.take_out.Goals as goal
 
 pub invariant_of-self : goal.invariant_of-self
 invariant_of-self c =
     let sheets = c.self.inside.list.items in
     let s = c.index-sheet.result.now in
-    let lt : c.args.index < length sheets = subst (λ xs. c.args.index < length xs) (sym c.self.view_is) c.requires in (
-      kept_removed c.self.inside.ids c.take_key.new.ids c.self.inside.greatest c.greatest_of-self-inside.result sheets c.remove-2.new.self.items c.args.index s c.self.invariant.0 lt c.index-sheet.ensures c.remove-2.ensures.items
-          (gone_by_name c.self.inside.ids c.take_key.new.ids c.self.inside.greatest sheets c.args.index s c.self.invariant.0 lt c.index-sheet.ensures c.take_key.ensures)
+    let lt : c.args.index < length sheets = subst (λ xs. c.args.index < length xs) (sym c.self.view_is) c.requires.within in (
+      kept_removed c.self.inside.greatest c.greatest_of-self-inside.result sheets c.remove-2.new.self.items c.args.index s c.self.invariant.0 lt c.index-sheet.ensures c.remove-2.ensures.items
           (c.greatest_of-self-inside.ensures ∙ ap (λ xs. greatest (ids xs)) c.deref.ensures.value),
       placed_removed sheets c.args.index s c.self.invariant.0.ids_differ lt c.index-sheet.ensures c.self.inside.indexes c.remove.new.self c.lower_indexes.new.indexes c.remove-2.new.self.items c.self.invariant.1 c.remove-2.ensures.items
           c.remove.ensures.updates c.lower_indexes.ensures,
@@ -26,12 +27,21 @@ invariant_of-self c =
 pub settle-requires-clause-was : goal.settle-requires-clause-was
 settle-requires-clause-was c =
     let sheets = c.self.inside.list.items in
-    let lt : c.args.index < length sheets = subst (λ xs. c.args.index < length xs) (sym c.self.view_is) c.requires in
+    let lt : c.args.index < length sheets = subst (λ xs. c.args.index < length xs) (sym c.self.view_is) c.requires.within in
     listed_at c.self.inside.dangling.items sheets c.args.index c.index-sheet.result.now c.self.invariant.2 c.self.invariant.0.ids_differ lt c.index-sheet.ensures ∙ sym c.dangles.ensures
 
 pub settle-requires-clause-room : goal.settle-requires-clause-room
 settle-requires-clause-room c clean =
     let sheets = c.self.inside.list.items in
-    let lt : c.args.index < length sheets = subst (λ xs. c.args.index < length xs) (sym c.self.view_is) c.requires in
+    let lt : c.args.index < length sheets = subst (λ xs. c.args.index < length xs) (sym c.self.view_is) c.requires.within in
     subst (λ n. n < vec_capacity c.self.inside.dangling) (sym c.self.inside.dangling.ok.0)
     (room_at c.self.inside.dangling.items sheets c.args.index c.index-sheet.result.now c.self.invariant.2 c.self.invariant.0.ids_differ lt c.index-sheet.ensures (vec_capacity c.self.inside.dangling) c.self.invariant.3 (sym c.dangles.ensures ∙ clean))
+
+pub returns-clause-finds : goal.returns-clause-finds
+returns-clause-finds c =
+    let sheets = c.self.inside.list.items in
+    let s = c.index-sheet.result.now in
+    let lt : c.args.index < length sheets = subst (λ xs. c.args.index < length xs) (sym c.self.view_is) c.requires.within in
+    let finds = subst (FindsSheets c.args.ids.now) (sym c.self.view_is) c.requires.finds in
+    finds_removed c.args.ids.now c.take_key.new.ids c.self.inside.greatest sheets c.remove-2.new.self.items c.args.index s c.self.invariant.0 finds lt c.index-sheet.ensures c.remove-2.ensures.items
+    (gone_by_name c.args.ids.now c.take_key.new.ids c.self.inside.greatest sheets c.args.index s c.self.invariant.0 finds lt c.index-sheet.ensures c.take_key.ensures)

@@ -14,7 +14,7 @@ invariant_of-self c =
     let sheets = c.self.inside.list.items in
     let lt : c.args.index < length sheets = subst (λ xs. c.args.index < length xs) (sym c.self.view_is) c.requires.within in
     let like = like_written c.args.formula c.args.kind c.args.style _ s c.write-written.new.self c.write-written.result c.write-written.ensures.ok c.write-written.ensures.err in (
-      kept_over c.self.inside.ids c.self.inside.greatest sheets c.args.index s c.write-written.new.self c.self.invariant.0 c.index_mut-sheet.ensures.value like,
+      kept_over c.self.inside.greatest sheets c.args.index s c.write-written.new.self c.self.invariant.0 c.index_mut-sheet.ensures.value like,
       placed_same c.self.inside.indexes sheets _ c.self.invariant.1 (seen_over (λ (x : Sheet). x.id) sheets c.args.index s c.write-written.new.self c.index_mut-sheet.ensures.value like.id),
       dangling_over c.self.inside.dangling.items sheets c.args.index s c.self.invariant.2 c.self.invariant.0.ids_differ lt c.index_mut-sheet.ensures.value c.settle.new.ids.items c.dangles.result
           (subst (λ (k : ℕ). (q : ℕ) → is_listed q c.settle.new.ids.items ≡ cond (nat_eq q k) c.dangles.result (is_listed q c.self.inside.dangling.items)) like.id c.settle.ensures.finds) c.settle.ensures.differ c.write-written.new.self like.id c.dangles.ensures,

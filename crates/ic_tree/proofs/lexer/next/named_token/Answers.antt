@@ -3,19 +3,15 @@ use Rattle.ic_laws.specs.Split.{longer}
 use Rattle.ic_laws.specs.Token as tokens
 use Rattle.ic_laws.specs.TokenKinds.{local_at, reference_at}
 use Rattle.ic_laws.specs.declared.reference.RefToken.{RefToken}
-use Rattle.ic_tree.specs.Lexing.{found, named_at, seen_token}
+use Rattle.ic_tree.specs.Lexing.{found, named_at}
 use Rattle.ic_tree.specs.Tokens.{token_of}
-use Rattle.ic_tree.proofs.FirstLemmas.{named_ends, reference_ends}
+use Rattle.ic_tree.proofs.FirstLemmas.{reference_ends}
 use Rattle.ic_tree.proofs.LocalFirst.{local_ends, local_over_named}
 use Rattle.ic_tree.proofs.lexer.next.named_token.Goals as goal
 
-pub longer_of-requires-clause-reference_ends : goal.longer_of-requires-clause-reference_ends
-longer_of-requires-clause-reference_ends g c =
+pub reference_or_named-requires-clause-ends : goal.reference_or_named-requires-clause-ends
+reference_or_named-requires-clause-ends g c =
     reference_ends (g.D.Dialect.meaning c.args.d.now) (g.met.D.Dialect.laws c.args.d.now) (chars c.args.text.now) (chars c.in-Ok-Some.rest.now) c.in-Ok-Some.reference (rw c.in-Ok-Some.field-0-is at c.in-Ok-Some.ensures)
-
-pub longer_of-requires-clause-other_ends : goal.longer_of-requires-clause-other_ends
-longer_of-requires-clause-other_ends g c =
-    named_ends (g.D.Dialect.meaning c.args.d.now) (g.met.D.Dialect.laws c.args.d.now) (chars c.args.text.now) (found (seen_token c.in-Some.seen) (chars c.in-Some.after.now)) c.in-Some.ensures
 
 pub longer_than_reference-requires-clause-reference_ends : goal.longer_than_reference-requires-clause-reference_ends
 longer_than_reference-requires-clause-reference_ends g c =

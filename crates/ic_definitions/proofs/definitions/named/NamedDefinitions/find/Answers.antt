@@ -3,11 +3,11 @@ use Rattle.ic_laws.proofs.keeping.NameChanges.{key_at}
 use Rattle.ic_laws.specs.Name.{fold}
 use Rattle.ic_definitions.specs.Named.{definitions_scene}
 use Rattle.ic_definitions.proofs.FindingLemmas.{found_either, key_found, key_lacking}
-use Rattle.ic_definitions.proofs.definitions.Definitions.find.Goals as goal
+use Rattle.ic_definitions.proofs.definitions.named.NamedDefinitions.find.Goals as goal
 
 pub returns-then-is_some : goal.returns-then-is_some
 returns-then-is_some c =
-    let ds = c.args.self.now in
+    let ds = c.args.self.now.definitions.now in
     let same : chars c.as_str.result.now ≡ fold (chars c.args.word.now) = ap chars c.as_str.ensures.value ∙ c.in_ok-folded.ensures in
     let put = c.key_with.ensures ∙ ap (λ f. key_at (chars f) c.args.scope) (sym c.as_str.ensures.value) in
     found_either (definitions_scene ds) c.args.scope (chars c.args.word.now) (Some c.key_with.result) _
@@ -16,7 +16,7 @@ returns-then-is_some c =
 
 pub returns-then-is_some-2 : goal.returns-then-is_some-2
 returns-then-is_some-2 c =
-    let ds = c.args.self.now in
+    let ds = c.args.self.now.definitions.now in
     let same : chars c.as_str.result.now ≡ fold (chars c.args.word.now) = ap chars c.as_str.ensures.value ∙ c.in_ok-folded.ensures in
     let same_again : chars c.as_str-2.result.now ≡ fold (chars c.args.word.now) = ap chars c.as_str-2.ensures.value ∙ c.in_ok-folded.ensures in
     let put = c.key_with-then-is_some-2.ensures ∙ ap (λ f. key_at (chars f) None) (sym c.as_str-2.ensures.value) in
@@ -26,7 +26,7 @@ returns-then-is_some-2 c =
 
 pub returns : goal.returns
 returns c =
-    let ds = c.args.self.now in
+    let ds = c.args.self.now.definitions.now in
     let same : chars c.as_str.result.now ≡ fold (chars c.args.word.now) = ap chars c.as_str.ensures.value ∙ c.in_ok-folded.ensures in
     let same_again : chars c.as_str-2.result.now ≡ fold (chars c.args.word.now) = ap chars c.as_str-2.ensures.value ∙ c.in_ok-folded.ensures in
     found_either (definitions_scene ds) c.args.scope (chars c.args.word.now) None None

@@ -1,7 +1,0 @@
-use Rattle.std.proofs.Common.{◌∙◌, ap, position, sym}
-use Rattle.ic_definitions.proofs.FindingLemmas.{has_key, place_is}
-use Rattle.ic_definitions.proofs.definitions.Definitions.place_of.Goals as goal
-
-pub returns-in-Err-clause-place : goal.returns-in-Err-clause-place
-returns-in-Err-clause-place c =
-    c.first_with_key.ensures ∙ ap (position (has_key c.args.key.now)) (c.deref.ensures.value ∙ c.self.view_is) ∙ sym (place_is c.args.key.now c.args.self.now)

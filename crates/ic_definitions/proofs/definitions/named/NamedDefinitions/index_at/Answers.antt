@@ -1,0 +1,12 @@
+use Rattle.std.proofs.Common.{chars, sym, ◌∙◌}
+use Rattle.std.proofs.lemmas.Str.{encodes-chars}
+use Rattle.ic_laws.proofs.keeping.NameChanges.{key_at}
+use Rattle.ic_definitions.proofs.HeldKeys.{at_held}
+use Rattle.ic_definitions.proofs.definitions.named.NamedDefinitions.index_at.Goals as goal
+
+pub returns : goal.returns
+returns c =
+    let key = key_at (chars c.args.folded.now) c.args.scope in
+    c.copied.ensures ∙ c.get.ensures.value
+    ∙ at_held c.args.self.now.places.now key c.in_ok-key.key (c.in_ok-key.ensures.name ∙ sym (encodes-chars c.args.folded.now c.utf8.folded), c.in_ok-key.ensures.scope)
+    ∙ c.args.self.now.own key
