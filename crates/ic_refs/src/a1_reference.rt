@@ -1,7 +1,7 @@
-ghost use Rattle.std.specs.Prelude.{◌≡◌, ◌↔◌, ◌&&◌, ◌++◌, ℕ, List, true, false, Some, chars, string_bytes, option_map, IfOk, IfSome, IsNone};
+ghost use Rattle.std.specs.Prelude.{◌≡◌, ◌↔◌, ◌&&◌, ◌++◌, ℕ, List, true, false, Some, chars, string_bytes, option_map, IfOk, IfSome, IsNone, OnOk};
 ghost use Rattle.ic_laws.specs.Scan.{IsEnd};
-ghost use Rattle.ic_laws.specs.Position.{is_column, is_row};
-ghost use Rattle.ic_refs.specs.A1.{a1_at, a1_text, is_shown_spellable, is_spellable, SpellsA1};
+ghost use Rattle.ic_laws.specs.Position.{is_column, is_inside, is_row};
+ghost use Rattle.ic_refs.specs.A1.{a1_at, a1_text, is_shown_spellable, is_spellable, place_text, SpellsA1};
 ghost use Rattle.ic_refs.specs.Longest.{FindsLongestAt, read_at};
 
 use crate::a1::Origin;
@@ -9,7 +9,7 @@ use crate::a1_text::{is_inside, push_place};
 use crate::column::{is_valid_column_number, is_valid_row};
 use crate::find::read_reference;
 use crate::sheet::push_sheet;
-use ic_laws::{OutOfMemory, RefToken};
+use ic_laws::{OutOfMemory, Place, RefToken};
 use std::alloc::Global;
 
 // Whether a cell lies in the sheet.
@@ -62,7 +62,7 @@ fn spell_in_cell(alloc: Global, r: &RefToken, origin: Origin) -> Result<Option<S
     }
     let mut text = String::new(alloc);
     push_sheet(&mut text, &r.sheet)?;
-    push_place(alloc, &mut text, r.place, origin)?;
+    push_place(&mut text, r.place, origin)?;
     Ok(Some(text))
 }
 
@@ -85,4 +85,28 @@ pub fn spell_a1(
         → a1_at row column (chars (string_bytes t) ++ rest) ≡ Some (r.now, rest))) }
 {
     spell_in_cell(alloc, r, Origin { row, column })
+}
+
+/// Whether a place can be written in the A1 form in the cell at this row and column, both from 1: whether the cell and
+/// each corner of the place lie in the sheet.
+pub fn is_a1_place(place: Place, row: i32, column: i32) -> bool
+    ensures { result ≡ (is_row row && is_column column && is_inside place row column) }
+{
+    let origin = Origin { row, column };
+    is_in_sheet(origin) && is_inside(place, origin)
+}
+
+/// Appends a place as it is written in the A1 form in the cell at this row and column, both from 1. A range of all rows
+/// or all columns has the short form. Each corner has to lie in the sheet; `is_a1_place` tells it.
+pub fn push_a1_place(
+    out: &mut String,
+    place: Place,
+    row: i32,
+    column: i32,
+) -> Result<(), OutOfMemory>
+    requires { is_inside place row column ≡ true }
+    ensures { OnOk result (chars (string_bytes out.new) ≡ chars (string_bytes out.old)
+        ++ place_text row column place) }
+{
+    push_place(out, place, Origin { row, column })
 }

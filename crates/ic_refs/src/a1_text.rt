@@ -8,7 +8,7 @@ use crate::a1::Origin;
 use crate::column::push_column;
 use ic_laws::scan::{push_char, push_text};
 use ic_laws::{LAST_COLUMN, LAST_ROW, OutOfMemory, Place, Position, RefPart};
-use std::alloc::Global;
+use itoa::Buffer;
 
 // Where a position lies, in a cell whose row or column is the origin.
 fn place_at(position: Position, origin: i32) -> i64
@@ -51,12 +51,12 @@ fn push_dollar(out: &mut String, position: Position) -> Result<(), OutOfMemory>
 }
 
 // Appends a number in decimal.
-fn push_number(alloc: Global, out: &mut String, number: u32) -> Result<(), OutOfMemory>
+fn push_number(out: &mut String, number: u32) -> Result<(), OutOfMemory>
     ensures { OnOk result (chars (string_bytes out.new) ≡ chars (string_bytes out.old)
         ++ decimal number) }
 {
-    let digits = number.to_string(alloc)?;
-    push_text(out, digits.as_str())
+    let mut digits = Buffer::new();
+    push_text(out, digits.format(number))
 }
 
 // The number of a column in the sheet.
@@ -88,33 +88,23 @@ fn push_column_at(out: &mut String, position: Position, origin: Origin) -> Resul
 }
 
 // Appends a row as it is written in a cell of this row.
-fn push_row_at(
-    alloc: Global,
-    out: &mut String,
-    position: Position,
-    origin: Origin,
-) -> Result<(), OutOfMemory>
+fn push_row_at(out: &mut String, position: Position, origin: Origin) -> Result<(), OutOfMemory>
     requires { is_row (place_at position origin.row) ≡ true }
     ensures { OnOk result (chars (string_bytes out.new) ≡ chars (string_bytes out.old)
         ++ row_text origin.row position) }
 {
     push_dollar(out, position)?;
-    push_number(alloc, out, number_of_row(position, origin))
+    push_number(out, number_of_row(position, origin))
 }
 
 // Appends a cell as it is written in the cell at this row and column.
-fn push_cell(
-    alloc: Global,
-    out: &mut String,
-    part: RefPart,
-    origin: Origin,
-) -> Result<(), OutOfMemory>
+fn push_cell(out: &mut String, part: RefPart, origin: Origin) -> Result<(), OutOfMemory>
     requires { is_part_inside part origin.row origin.column ≡ true }
     ensures { OnOk result (chars (string_bytes out.new) ≡ chars (string_bytes out.old)
         ++ cell_text origin.row origin.column part) }
 {
     push_column_at(out, part.column, origin)?;
-    push_row_at(alloc, out, part.row, origin)
+    push_row_at(out, part.row, origin)
 }
 
 // Whether a position is the absolute one of this number.
@@ -160,7 +150,6 @@ fn push_columns(
 
 // Appends two rows with a colon between them.
 fn push_rows(
-    alloc: Global,
     out: &mut String,
     first: Position,
     last: Position,
@@ -171,14 +160,13 @@ fn push_rows(
     ensures { OnOk result (chars (string_bytes out.new) ≡ chars (string_bytes out.old)
         ++ (row_text origin.row first ++ colon ∷ row_text origin.row last)) }
 {
-    push_row_at(alloc, out, first, origin)?;
+    push_row_at(out, first, origin)?;
     push_char(out, ':')?;
-    push_row_at(alloc, out, last, origin)
+    push_row_at(out, last, origin)
 }
 
 // Appends two cells with a colon between them.
 fn push_cells(
-    alloc: Global,
     out: &mut String,
     first: RefPart,
     last: RefPart,
@@ -190,14 +178,13 @@ fn push_cells(
         ++ (cell_text origin.row origin.column first ++ colon
         ∷ cell_text origin.row origin.column last)) }
 {
-    push_cell(alloc, out, first, origin)?;
+    push_cell(out, first, origin)?;
     push_char(out, ':')?;
-    push_cell(alloc, out, last, origin)
+    push_cell(out, last, origin)
 }
 
 // Appends a range: whole columns and whole rows in their short form.
 fn push_range(
-    alloc: Global,
     out: &mut String,
     first: RefPart,
     last: RefPart,
@@ -211,25 +198,20 @@ fn push_range(
     if are_whole_columns(first, last) {
         push_columns(out, first.column, last.column, origin)
     } else if are_whole_rows(first, last) {
-        push_rows(alloc, out, first.row, last.row, origin)
+        push_rows(out, first.row, last.row, origin)
     } else {
-        push_cells(alloc, out, first, last, origin)
+        push_cells(out, first, last, origin)
     }
 }
 
 // Appends a place as it is written in the cell at this row and column.
-pub(crate) fn push_place(
-    alloc: Global,
-    out: &mut String,
-    place: Place,
-    origin: Origin,
-) -> Result<(), OutOfMemory>
+pub(crate) fn push_place(out: &mut String, place: Place, origin: Origin) -> Result<(), OutOfMemory>
     requires { is_inside place origin.row origin.column ≡ true }
     ensures { OnOk result (chars (string_bytes out.new) ≡ chars (string_bytes out.old)
         ++ place_text origin.row origin.column place) }
 {
     match place {
-        Place::Cell(part) => push_cell(alloc, out, part, origin),
-        Place::Range(first, last) => push_range(alloc, out, first, last, origin),
+        Place::Cell(part) => push_cell(out, part, origin),
+        Place::Range(first, last) => push_range(out, first, last, origin),
     }
 }

@@ -94,8 +94,8 @@ pub fn quote_name(alloc: Global, name: &str) -> Result<String, OutOfMemory>
     Ok(out)
 }
 
-/// Appends the name as it stands before a reference.
-pub(crate) fn push_quoted(out: &mut String, name: &str) -> Result<(), OutOfMemory>
+/// Appends the name as it stands before a reference: between quotes with each of its own doubled, where it needs them.
+pub fn push_quoted(out: &mut String, name: &str) -> Result<(), OutOfMemory>
     ensures { OnOk result (chars (string_bytes out.new) ≡ chars (string_bytes out.old)
         ++ quoted (chars name.now)) }
 {

@@ -27,12 +27,12 @@ fn spelled_reference(alloc: Global, reference: &RefToken) -> Result<String, OutO
 {
     let mut out = String::new(alloc);
     push_sheet(&mut out, &reference.sheet)?;
-    push_place(&mut out, reference.place)?;
+    push_rc_place(&mut out, reference.place)?;
     Ok(out)
 }
 
-// Appends a place.
-fn push_place(out: &mut String, place: Place) -> Result<(), OutOfMemory>
+/// Appends a place in the stored form.
+pub fn push_rc_place(out: &mut String, place: Place) -> Result<(), OutOfMemory>
     ensures { OnOk result (chars (string_bytes out.new) ≡ chars (string_bytes out.old)
         ++ place_text place) }
 {

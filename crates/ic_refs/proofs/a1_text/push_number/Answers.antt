@@ -5,5 +5,5 @@ use Rattle.ic_refs.proofs.a1_text.push_number.Goals as goal
 
 pub returns : goal.returns
 returns c =
-    let digits : chars c.as_str.result.now ≡ decimal c.args.number = ap chars (c.as_str.ensures.value ∙ c.in_ok-digits.ensures.ok) ∙ chars-decimal c.args.number (omega arith) in
+    let digits : chars c.format.result.now ≡ decimal c.args.number = ap chars c.format.ensures.text ∙ chars-decimal c.args.number (omega arith) in
     same_appended c.push_text.result _ _ _ _ digits c.push_text.ensures.ok

@@ -6,5 +6,5 @@ use Rattle.ic_refs.proofs.stored_text.spelled_reference.Goals as goal
 
 pub returns : goal.returns
 returns c =
-    c.in_ok-push_place.ensures
+    c.in_ok-push_rc_place.ensures
     ∙ ap (λ t. t ++ place_text c.args.reference.now.place) (c.in_ok-push_sheet.ensures ∙ ap (λ t. t ++ sheet_text c.args.reference.now.sheet) (ap chars c.new-out.ensures.bytes ∙ chars-nil))
