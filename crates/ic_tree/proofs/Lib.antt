@@ -2,6 +2,7 @@ pub mod AnyLemmas
 pub mod BindLemmas
 pub mod Binders
 pub mod BodyReference
+pub mod BoundPrintLemmas
 pub mod ClashLemmas
 pub mod CutLemmas
 pub mod DigitLemmas

@@ -1,4 +1,5 @@
 pub mod Begun
+pub mod BoundText
 pub mod Dynamic
 pub mod InScope
 pub mod LanguageWords

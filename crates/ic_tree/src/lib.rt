@@ -1,9 +1,11 @@
 //! Formulas as texts: the dialects of stored and of shown formulas, the reader that gives the tree of a text, and the
 //! printer that gives the text of a tree. Reader and printer are written once, for every dialect. `bind`
-//! finds what a formula mentions, `spell` writes it in its own spelling, and `spell_with` in any other.
+//! finds what a formula mentions, `spell` writes it in its own spelling, and `spell_with` in any other; `print_bound`
+//! gives the text of a bound formula at once.
 #![tactic(auto)]
 
 mod binding;
+mod bound_printer;
 mod clash;
 mod constant;
 mod copies;
@@ -17,12 +19,14 @@ mod number;
 mod printer;
 mod reader;
 mod reading;
+mod reference_printer;
 mod shown;
 mod spelling;
 mod stored;
 mod token;
 
 pub use binding::bind;
+pub use bound_printer::print_bound;
 pub use clash::clashes;
 pub use dynamic::is_dynamic;
 pub use law::{
@@ -32,6 +36,7 @@ pub use law::{
 pub(crate) use measured::Measured;
 pub use printer::print;
 pub use reading::{read, read_reference};
+pub use reference_printer::ReferencePrinter;
 pub use shown::Shown;
 pub use spelling::{Spelling, spell, spell_definition, spell_sheet, spell_with};
 pub use stored::Stored;

@@ -17,8 +17,11 @@ use ic_laws::{
     BinarySign, Dialect, LetPair, OutOfMemory, Place, PrefixSign, RefToken, Spelled, Text, Tree,
     WordKind,
 };
-use ic_refs::quote_name;
+use ic_refs::push_quoted;
 use std::alloc::Global;
+
+/// The room that the text of a formula has from the start, in bytes: most are no longer.
+pub(crate) const ROOM: usize = 64;
 
 /// The canonical text of a formula: its tokens in the spelling of the dialect, without blanks. A reference that the
 /// dialect can't spell is the word of `Error::REF`, and a word that it lacks is nothing.
@@ -26,13 +29,13 @@ use std::alloc::Global;
 pub fn print<D: Dialect>(alloc: Global, d: &D, tree: &Spelled) -> Result<String, OutOfMemory>
     ensures { IfOk result (λ s. chars (string_bytes s) ≡ printed (D.meaning d.now) tree.now) }
 {
-    let mut out = String::new(alloc);
+    let mut out = String::with_capacity(alloc, ROOM)?;
     push_tree(alloc, d, &mut out, tree)?;
     Ok(out)
 }
 
 // Appends a sign that stands before an operand.
-fn push_prefix(out: &mut String, sign: PrefixSign) -> Result<(), OutOfMemory>
+pub(crate) fn push_prefix(out: &mut String, sign: PrefixSign) -> Result<(), OutOfMemory>
     ensures { OnOk result (chars (string_bytes out.new) ≡ chars (string_bytes out.old)
         ++ prefix_sign sign ∷ []) }
 {
@@ -46,7 +49,7 @@ fn push_prefix(out: &mut String, sign: PrefixSign) -> Result<(), OutOfMemory>
 
 // The text of a sign between two operands.
 #[tactic(auto, unfolding(crate::proofs::Literals::literal))]
-fn sign_text(sign: BinarySign) -> &'static str
+pub(crate) fn sign_text(sign: BinarySign) -> &'static str
     ensures { chars result.now ≡ sign_text sign }
 {
     match sign {
@@ -91,34 +94,32 @@ fn copied(alloc: Global, text: &Option<Text>) -> Result<Option<Text>, OutOfMemor
 }
 
 // Appends a word with its sheet, whose name has quotes where it needs them.
-fn push_local(
-    alloc: Global,
-    out: &mut String,
-    sheet: &Option<Text>,
-    word: &Text,
-) -> Result<(), OutOfMemory>
+fn push_local(out: &mut String, sheet: &Option<Text>, word: &Text) -> Result<(), OutOfMemory>
     ensures { OnOk result (chars (string_bytes out.new) ≡ chars (string_bytes out.old)
         ++ local_text (sheet_name sheet.now) word.now) }
 {
-    push_sheet_name(alloc, out, sheet)?;
+    push_sheet_name(out, sheet)?;
     push_char(out, '!')?;
     push_text(out, word.as_str())
 }
 
 // Appends the name of a sheet, in quotes where it needs them; nothing where there is none.
-fn push_sheet_name(alloc: Global, out: &mut String, sheet: &Option<Text>) -> Result<(), OutOfMemory>
+fn push_sheet_name(out: &mut String, sheet: &Option<Text>) -> Result<(), OutOfMemory>
     ensures { OnOk result (chars (string_bytes out.new) ≡ chars (string_bytes out.old)
         ++ quoted (sheet_name sheet.now)) }
 {
     let Some(name) = sheet else {
         return Ok(());
     };
-    let quoted = quote_name(alloc, name.as_str())?;
-    push_text(out, quoted.as_str())
+    push_quoted(out, name.as_str())
 }
 
 // Appends the word of a function and the bracket that opens its arguments.
-fn push_head<D: Dialect>(d: &D, out: &mut String, number: usize) -> Result<(), OutOfMemory>
+pub(crate) fn push_head<D: Dialect>(
+    d: &D,
+    out: &mut String,
+    number: usize,
+) -> Result<(), OutOfMemory>
     ensures { OnOk result (chars (string_bytes out.new) ≡ chars (string_bytes out.old)
         ++ (word_text (D.meaning d.now) kinds.Function number ++ codes "(")) }
 {
@@ -136,7 +137,7 @@ fn push_name_head(out: &mut String, name: &Text) -> Result<(), OutOfMemory>
 }
 
 // Appends parameters, each before a separator.
-fn push_parameters<D: Dialect>(
+pub(crate) fn push_parameters<D: Dialect>(
     d: &D,
     out: &mut String,
     parameters: &[Text],
@@ -169,7 +170,7 @@ fn push_tree<D: Dialect>(
         Tree::Bool(value) => push_boolean(d, out, *value),
         Tree::Err(error) => push_error(d, out, *error),
         Tree::Reference(sheet, place) => push_reference(alloc, d, out, sheet, *place),
-        Tree::Local(sheet, word) => push_local(alloc, out, sheet, word),
+        Tree::Local(sheet, word) => push_local(out, sheet, word),
         Tree::Word(word) => push_text(out, word.as_str()),
         Tree::Empty => Ok(()),
         Tree::Paren(x) => {

@@ -1,13 +1,17 @@
-ghost use Rattle.std.specs.Prelude.{◌≡◌, true, Some, None, chars, string_bytes, option_map, if◌then◌else◌, IfOk, MatchOption};
+ghost use Rattle.std.specs.Prelude.{◌≡◌, ◌++◌, true, Some, None, chars, string_bytes, option_map, if◌then◌else◌, IfOk, MatchOption, OnOk};
+ghost use Rattle.std.specs.Option.{option_copied};
 ghost use Rattle.ic_laws.specs.declared.dialect.WordKind.TheVariants as kinds;
 ghost use Rattle.ic_refs.specs.A1.{is_shown_spellable};
 ghost use Rattle.ic_tables.specs.Order.{BeginsWithFound, BeginsWithNone};
+ghost use Rattle.ic_tree.specs.BoundText.{reference_to};
 ghost use Rattle.ic_tree.specs.Shown.{SpeaksBeside, found_in, shown_text};
 
 use crate::number::error_of;
+use crate::reference_printer::{ReferencePrinter, is_written_name, push_sheet};
 use crate::stored::{bytes_before, is_written_sheet};
-use ic_laws::{Dialect, Error, OutOfMemory, RefToken, WordKind};
-use ic_refs::{read_a1, spell_a1};
+use ic_laws::scan::push_text;
+use ic_laws::{Dialect, Error, OutOfMemory, Place, RefToken, WordKind};
+use ic_refs::{is_a1_place, push_a1_place, read_a1, spell_a1};
 use ic_tables::{Language, Locale, Tables, Words};
 use std::alloc::Global;
 
@@ -167,4 +171,42 @@ impl<'t> Dialect for Shown<'t> {
     }
 
     ghost laws = { λ d. shown_laws d.words.language.now d.english.language.now (list_of d.is_comma) (decimal_of d.is_comma) d.row d.column d.good (separators_of d.is_comma) };
+}
+
+// Whether a reference can be written in the cell at this row and column so that it is read back.
+fn is_shown_place(sheet: Option<&str>, place: Place, row: i32, column: i32) -> bool
+    ensures { result ≡ is_shown_spellable row column (reference_to (option_copied sheet.entry) place) }
+{
+    is_a1_place(place, row, column) && is_written_name(sheet)
+}
+
+// Appends a reference as it is written in the cell at this row and column.
+fn push_shown(
+    out: &mut String,
+    sheet: Option<&str>,
+    place: Place,
+    row: i32,
+    column: i32,
+) -> Result<(), OutOfMemory>
+    requires { is_shown_spellable row column (reference_to (option_copied sheet) place) ≡ true }
+    ensures { OnOk result (chars (string_bytes out.new) ≡ chars (string_bytes out.old)
+        ++ shown_text row column (reference_to (option_copied sheet.entry) place)) }
+{
+    push_sheet(out, sheet)?;
+    push_a1_place(out, place, row, column)
+}
+
+impl<'t> ReferencePrinter for Shown<'t> {
+    fn push_ref(
+        &self,
+        out: &mut String,
+        sheet: Option<&str>,
+        place: Place,
+    ) -> Result<(), OutOfMemory> {
+        if is_shown_place(sheet, place, self.row, self.column) {
+            push_shown(out, sheet, place, self.row, self.column)
+        } else {
+            push_text(out, self.words.language.errors.ref_word.as_str())
+        }
+    }
 }

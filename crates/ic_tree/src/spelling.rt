@@ -58,7 +58,7 @@ pub fn spell_sheet<N: Finder>(alloc: Global, names: &N, id: u32) -> Result<Text,
 }
 
 /// The decimal digits of an id.
-fn digits_of(alloc: Global, id: u32) -> Result<Text, OutOfMemory>
+pub(crate) fn digits_of(alloc: Global, id: u32) -> Result<Text, OutOfMemory>
     ensures { IfOk result (λ r. r ≡ decimal id) }
 {
     Ok(Text::from(id.to_string(alloc)?))

@@ -1,4 +1,5 @@
-ghost use Rattle.std.specs.Prelude.{◌≡◌, ◌++◌, ◌≤ℤ◌, ℕ, List, pos, nat_abs, chars, encode_utf8_all, length, MatchOption};
+ghost use Rattle.std.specs.Prelude.{◌≡◌, ◌++◌, ◌≤ℤ◌, ℕ, List, pos, nat_abs, chars, encode_utf8_all, length, string_bytes, MatchOption, OnOk};
+ghost use Rattle.std.specs.Option.{option_copied};
 ghost use Rattle.ic_laws.specs.Dialect.{FindsErrorAt};
 ghost use Rattle.ic_laws.specs.Position.{is_part_within as part_within, is_place_within as place_within, is_within};
 ghost use Rattle.ic_laws.specs.Scan.{EndsWith};
@@ -6,15 +7,18 @@ ghost use Rattle.ic_laws.specs.Tree.{is_written_sheet as written};
 ghost use Rattle.ic_laws.specs.declared.dialect.WordKind.TheVariants as kinds;
 ghost use Rattle.ic_tables.specs.Order.{BeginsWithFound, BeginsWithNone};
 ghost use Rattle.ic_tables.specs.Words.{first_agreeing, words_of};
-ghost use Rattle.ic_refs.specs.Stored.{is_stored_spellable as spellable};
+ghost use Rattle.ic_refs.specs.Stored.{is_stored_spellable as spellable, stored_text};
+ghost use Rattle.ic_tree.specs.BoundText.{reference_to};
 ghost use Rattle.ic_tree.specs.Stored.{SpeaksWell, stored_meaning};
 
 use crate::number::error_of;
+use crate::reference_printer::{ReferencePrinter, is_written_name, push_sheet};
+use ic_laws::scan::push_text;
 use ic_laws::{
     Dialect, Error, LAST_COLUMN, LAST_ROW, OutOfMemory, Place, Position, RefPart, RefToken, Text,
     WordKind,
 };
-use ic_refs::{is_valid_sheet_name, read_rc, spell_rc};
+use ic_refs::{is_valid_sheet_name, push_rc_place, read_rc, spell_rc};
 use ic_tables::{Tables, Words};
 use std::alloc::Global;
 
@@ -163,4 +167,35 @@ impl<'t> Dialect for Stored<'t> {
     }
 
     ghost laws = { λ d. stored_laws d.words.language.now d.good };
+}
+
+// Whether a reference can be written in the stored form so that it is read back.
+fn is_written_stored(sheet: Option<&str>, place: Place) -> bool
+    ensures { result ≡ spellable (reference_to (option_copied sheet.entry) place) }
+{
+    is_place_within(place) && is_written_name(sheet)
+}
+
+// Appends a reference in the stored form.
+fn push_stored(out: &mut String, sheet: Option<&str>, place: Place) -> Result<(), OutOfMemory>
+    ensures { OnOk result (chars (string_bytes out.new) ≡ chars (string_bytes out.old)
+        ++ stored_text (reference_to (option_copied sheet.entry) place)) }
+{
+    push_sheet(out, sheet)?;
+    push_rc_place(out, place)
+}
+
+impl<'t> ReferencePrinter for Stored<'t> {
+    fn push_ref(
+        &self,
+        out: &mut String,
+        sheet: Option<&str>,
+        place: Place,
+    ) -> Result<(), OutOfMemory> {
+        if is_written_stored(sheet, place) {
+            push_stored(out, sheet, place)
+        } else {
+            push_text(out, self.words.language.errors.ref_word.as_str())
+        }
+    }
 }

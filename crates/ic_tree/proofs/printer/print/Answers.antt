@@ -8,4 +8,4 @@ pub returns : goal.returns
 unfolding tree_text
 returns g c =
     c.in_ok-push_tree.ensures
-    ∙ ap (λ t. t ++ tree_text (g.D.Dialect.meaning c.args.d.now) c.args.tree.now) (ap chars c.new-out.ensures.bytes ∙ chars-nil)
+    ∙ ap (λ t. t ++ tree_text (g.D.Dialect.meaning c.args.d.now) c.args.tree.now) (ap chars c.in_ok-out.ensures.bytes ∙ chars-nil)

@@ -1,0 +1,13 @@
+use Rattle.std.proofs.Common.{◌≡◌, ◌++◌, chars, drop, string_bytes}
+use Rattle.ic_tree.specs.BoundText.{bound_pair_text, bound_text}
+use Rattle.ic_tree.specs.Printed.{each_before, each_from}
+use Rattle.ic_tree.proofs.bound_printer.+push.Given as goal
+
+-- what is written so far, and what is left to write, are the whole
+abbrev pub invariant-push_arguments-loop-n : goal.invariant-push_arguments-loop-n
+invariant-push_arguments-loop-n g l =
+    chars (string_bytes l.out) ++ each_from (g.D.Dialect.meaning l.d).list l.n (bound_text (g.D.Dialect.meaning l.d) (g.N.Finder.scene l.names)) (drop l.n l.arguments) ≡ chars (string_bytes l.fn.out) ++ each_from (g.D.Dialect.meaning l.d).list 0 (bound_text (g.D.Dialect.meaning l.d) (g.N.Finder.scene l.names)) l.arguments
+
+abbrev pub invariant-push_pairs-loop-pair : goal.invariant-push_pairs-loop-pair
+invariant-push_pairs-loop-pair g l =
+    chars (string_bytes l.out) ++ each_before (g.D.Dialect.meaning l.d).list (bound_pair_text (g.D.Dialect.meaning l.d) (g.N.Finder.scene l.names)) (drop l.pair-index l.pairs) ≡ chars (string_bytes l.fn.out) ++ each_before (g.D.Dialect.meaning l.d).list (bound_pair_text (g.D.Dialect.meaning l.d) (g.N.Finder.scene l.names)) l.pairs
