@@ -37,7 +37,7 @@ use ic_laws::{Bound, Dialect, Formula, OutOfMemory, Spelled, Text};
 use ic_pool::Steps;
 use ic_sheets::{FormulaKind, Sheet};
 use ic_tables::Tables;
-use ic_tree::{Shown, bind, is_dynamic, print, read, spell};
+use ic_tree::{Shown, bind, is_dynamic, print_bound, read};
 use std::alloc::Global;
 use std::sync::ledger::Ledger;
 
@@ -282,9 +282,8 @@ impl<'a> Model<'a> {
     {
         match formula {
             Formula::Tree(tree) => {
-                let spelled = spell(self.alloc, &self.scene(), tree)?;
-                let text = print(self.alloc, &self.shown(row, column), &spelled)?;
-                after_sign(self.alloc, sign, text.as_str())
+                let shown = self.shown(row, column);
+                print_bound(self.alloc, &shown, &self.scene(), sign, tree)
             }
             Formula::Raw(text) => after_sign(self.alloc, sign, text.as_str()),
         }

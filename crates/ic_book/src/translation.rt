@@ -26,7 +26,7 @@ use crate::{BookError, Model};
 use ic_grid::Block;
 use ic_input::formula_without_prefix;
 use ic_laws::{Dialect, Formula, OutOfMemory};
-use ic_tree::{Shown, print, spell};
+use ic_tree::{Shown, print_bound};
 
 impl<'a> Model<'a> {
     /// The notation of a locale and a language of the tables, whichever is in force. It takes no memory.
@@ -310,9 +310,8 @@ impl<'a> Model<'a> {
     {
         match formula {
             Formula::Tree(tree) => {
-                let spelled = spell(self.alloc, &self.scene(), tree)?;
-                let text = print(self.alloc, &dialect_in(target, row, column), &spelled)?;
-                after_sign(self.alloc, sign, text.as_str())
+                let dialect = dialect_in(target, row, column);
+                print_bound(self.alloc, &dialect, &self.scene(), sign, tree)
             }
             Formula::Raw(text) => after_sign(self.alloc, sign, text.as_str()),
         }
