@@ -1,6 +1,6 @@
 //! Texts read character by character: what stands first, the runs at the front, and what a front is.
-ghost use Rattle.std.specs.Prelude.{◌≡◌, ◌<◌, ◌++◌, [], ◌∷◌, ◌||◌, nat_eq, length, bytes_eq, chars, string_bytes, IfSome, MatchOption, OnErr, OnOk};
-ghost use Rattle.ic_laws.specs.Scan.{EndsWith, is_ascii_letter, is_digit, is_plain, is_word_character, begins_word, past_run, run_of, past_dollar};
+ghost use Rattle.std.specs.Prelude.{◌≡◌, ◌<◌, ◌++◌, [], ◌∷◌, ◌||◌, ◌==◌, nat_eq, length, bytes_eq, chars, string_bytes, IfSome, MatchOption, OnErr, OnOk};
+ghost use Rattle.ic_laws.specs.Scan.{EndsWith, is_ascii_letter, is_digit, is_plain, is_word_character, begins_word, first_is, past_run, run_of, past_dollar};
 
 mod form;
 
@@ -21,6 +21,16 @@ pub fn first_char(text: &str) -> Option<(char, &str)>
     let mut rest = text.chars();
     let c = rest.next()?;
     Some((c, rest.as_str()))
+}
+
+/// Whether this character stands at the front.
+pub fn begins_with(text: &str, mark: char) -> bool
+    ensures { result ≡ first_is (λ c. c == mark) (chars text.now) }
+{
+    match first_char(text) {
+        Some((c, _)) => c == mark,
+        None => false,
+    }
 }
 
 /// Whether two texts are the same, character by character.

@@ -40,6 +40,7 @@ pub use name::{
     is_valid_a1_identifier, is_valid_identifier, is_valid_sheet_name, push_quoted, quote_name,
 };
 pub use reference::{A1Reference, Area, CellReferenceIndex, ParsedReference};
+pub use sheet::may_name_sheet;
 pub use stored::read_rc;
 pub use stored_text::{push_rc_place, spell_rc};
 pub use trim::trimmed;

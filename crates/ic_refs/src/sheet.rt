@@ -1,4 +1,4 @@
-ghost use Rattle.std.specs.Prelude.{◌≡◌, ◌<◌, length, IfSome, ◌++◌, ◌∷◌, ◌==◌, ◌||◌, false, None, chars, string_bytes, MatchOption, OnOk, option_map};
+ghost use Rattle.std.specs.Prelude.{◌≡◌, ◌<◌, length, IfSome, ◌++◌, ◌∷◌, ◌||◌, false, None, chars, string_bytes, MatchOption, OnOk, option_map};
 ghost use Rattle.ic_laws.specs.Character.{quote};
 ghost use Rattle.ic_laws.specs.Scan.{first_is, is_plain, past_run};
 ghost use Rattle.ic_laws.specs.SheetText.{is_bang, is_quote, before_bang, name_in_quotes, sheet_at, sheet_text, written_name};
@@ -6,7 +6,7 @@ ghost use Rattle.ic_refs.specs.Written.{ClosesAt, name_of, plain_name};
 
 use crate::name::{needs_quotes, push_quoted};
 use crate::written::{Quoting, WrittenName};
-use ic_laws::scan::{first_char, front_of, past_plain, plain_run, push_char};
+use ic_laws::scan::{begins_with, first_char, front_of, past_plain, plain_run, push_char};
 use ic_laws::{OutOfMemory, Text};
 
 /// The sheet's name at the front of a text, and what stands after its `!`. None where no valid name stands there.
@@ -23,21 +23,11 @@ pub(crate) fn find_sheet(text: &str) -> Option<(WrittenName<'_>, &str)>
 
 /// Whether a quote stands at the front, or a `!` after the plain characters there: a text without them begins with no
 /// sheet's name.
-fn may_name_sheet(text: &str) -> bool
+pub fn may_name_sheet(text: &str) -> bool
     ensures { result ≡ (first_is is_quote (chars text.now)
         || first_is is_bang (past_run is_plain (chars text.now))) }
 {
     begins_with(text, '\'') || begins_with(past_plain(text), '!')
-}
-
-/// Whether a character stands at the front.
-fn begins_with(text: &str, mark: char) -> bool
-    ensures { result ≡ first_is (λ c. c == mark) (chars text.now) }
-{
-    match first_char(text) {
-        Some((c, _)) => c == mark,
-        None => false,
-    }
 }
 
 /// The name at the front, as it may stand before a `!`, and the rest.

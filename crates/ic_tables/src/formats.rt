@@ -7,7 +7,7 @@ ghost use Rattle.ic_tables.specs.Words.{words_of_booleans};
 
 use crate::{Booleans, Language, Locale, NumbersSymbols};
 use ic_laws::Text;
-use ic_laws::scan::{first_char, is_nothing};
+use ic_laws::scan::{begins_with, first_char, is_nothing};
 use unicode::properties::is_alphabetic;
 
 /// Whether the separators of arguments and decimals are `,` and `.`, or `;` and `,`.
@@ -97,15 +97,6 @@ fn begins_word_of(c: char, booleans: &Booleans) -> bool
     ensures { result ≡ list_any (first_is (λ d. d == c)) (words_of_booleans booleans.now) }
 {
     begins_with(booleans.true_word.as_str(), c) || begins_with(booleans.false_word.as_str(), c)
-}
-
-fn begins_with(text: &str, c: char) -> bool
-    ensures { result ≡ first_is (λ d. d == c) (chars text.now) }
-{
-    match first_char(text) {
-        Some((d, _)) => d == c,
-        None => false,
-    }
 }
 
 /// Whether there are at most so many characters, each of which may stand in a symbol and isn't the separator of groups.

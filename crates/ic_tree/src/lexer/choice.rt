@@ -6,9 +6,9 @@ ghost use Rattle.ic_tree.specs.Lexing.{found, is_past_word, seen_token};
 ghost use Rattle.ic_tree.specs.Tokens.{token_of};
 
 use crate::Token;
-use crate::lexer::locals::begins_with;
 use crate::lexer::seen::{Seen, kept};
 use crate::lexer::words::{past_blanks, past_word};
+use ic_laws::scan::begins_with;
 use ic_laws::{OutOfMemory, RefToken};
 use std::alloc::Global;
 
