@@ -1,5 +1,7 @@
-ghost use Rattle.std.specs.Prelude.{◌≡◌};
+ghost use Rattle.std.specs.Prelude.{◌≡◌, IfOk};
 
+use crate::OutOfMemory;
+use std::alloc::Global;
 use std::marker::Model;
 
 /// A `Box` that contracts see as the value in it, so that a tree of them is plain data.
@@ -22,6 +24,16 @@ impl<T> Boxed<T> {
         ensures { result.now ≡ self.now }
     {
         &self.inner
+    }
+}
+
+impl<T: Drop> Boxed<T> {
+    /// This value in a box.
+    pub fn new(alloc: Global, value: T) -> Result<Boxed<T>, OutOfMemory>
+        ensures { IfOk result (λ b. b ≡ value) }
+    {
+        let inner = Box::new(alloc, value)?;
+        Ok(Boxed { inner })
     }
 }
 

@@ -143,11 +143,12 @@ impl<S: Drop, W: Drop> Drop for LetPair<S, W> {
 /// A formula as its text spells it: a reference has the name of a sheet or none, a word is its text.
 pub type Spelled = Tree<Option<Text>, Text>;
 
-/// The sheet of a reference: the formula's own, one that was found, by its id, or one that wasn't, by its name.
+/// The sheet of a reference: the formula's own, one that was found, by its id, or one that wasn't, by its name. The name
+/// is boxed, so that a node of a tree is no larger for it.
 pub enum SheetMention {
     Own,
     Sheet(u32),
-    Dangling(Text),
+    Dangling(Boxed<Text>),
 }
 
 impl Drop for SheetMention {
@@ -166,10 +167,11 @@ pub struct NameKey {
     pub scope: Option<u32>,
 }
 
-/// A word: a variable of LET or LAMBDA, a definition that was found, by its key, or one that wasn't, by its spelling.
+/// A word: a variable of LET or LAMBDA, a definition that was found, by its key, or one that wasn't, by its spelling. The
+/// key is boxed, so that a node of a tree is no larger for it.
 pub enum NameMention {
     Var(Text),
-    Name(NameKey),
+    Name(Boxed<NameKey>),
     Dangling(Text),
 }
 
