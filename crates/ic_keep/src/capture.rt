@@ -132,7 +132,7 @@ fn is_captured(before: &NameMention, after: Option<&NameMention>, change: &KeyCh
         (option_map (λ word. word.now) after.entry) }
 {
     match before {
-        NameMention::Name(key) => !means(changed_key(Some(change), key), after),
+        NameMention::Name(key) => !means(changed_key(Some(change), key.as_ref()), after),
         _ => false,
     }
 }
@@ -142,7 +142,7 @@ fn means(key: &NameKey, word: Option<&NameMention>) -> bool
     ensures { result ≡ means key.now (option_map (λ word. word.now) word.entry) }
 {
     match word {
-        Some(NameMention::Name(found)) => is_same_key(found, key),
+        Some(NameMention::Name(found)) => is_same_key(found.as_ref(), key),
         _ => false,
     }
 }

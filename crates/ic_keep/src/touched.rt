@@ -97,6 +97,7 @@ fn touches_word(change: &KeyChange, new_name: &str, word: &NameMention) -> bool
     match word {
         NameMention::Var(_) => false,
         NameMention::Name(key) => {
+            let key = key.as_ref();
             is_same_key(&change.old, key) || change.new.name.is(key.name.as_str())
         }
         NameMention::Dangling(word) => agree(new_name, word.as_str()),

@@ -151,7 +151,7 @@ fn copy_boxed<C: MentionChange>(
         (C.word_becomes change.now) (C.local_becomes change.now) tree.now) }
 {
     let copy = copy_changed(alloc, change, tree.as_ref())?;
-    Ok(Boxed::from(Box::new(alloc, copy)?))
+    Boxed::new(alloc, copy)
 }
 
 /// A copy of each tree.

@@ -158,7 +158,7 @@ fn push_of_sheet(topics: &mut Vec<u64>, mention: &SheetMention) -> Result<(), Ou
     match mention {
         SheetMention::Own => {}
         SheetMention::Sheet(id) => topics.push(sheet_topic(*id))?,
-        SheetMention::Dangling(name) => topics.push(name_topic(name.as_str()))?,
+        SheetMention::Dangling(name) => topics.push(name_topic(name.as_ref().as_str()))?,
     }
     Ok(())
 }
@@ -169,7 +169,7 @@ fn push_of_word(topics: &mut Vec<u64>, mention: &NameMention) -> Result<(), OutO
 {
     match mention {
         NameMention::Var(_) => {}
-        NameMention::Name(key) => topics.push(folded_topic(key.name.as_str()))?,
+        NameMention::Name(key) => topics.push(folded_topic(key.as_ref().name.as_str()))?,
         NameMention::Dangling(word) => topics.push(name_topic(word.as_str()))?,
     }
     Ok(())

@@ -44,7 +44,10 @@ fn bind_sheet<N: Finder>(
         None => Ok(SheetMention::Own),
         Some(name) => match names.find_sheet(alloc, name.as_str())? {
             Some(id) => Ok(SheetMention::Sheet(id)),
-            None => Ok(SheetMention::Dangling(Text::from_str(alloc, name.as_str())?)),
+            None => {
+                let name = Text::from_str(alloc, name.as_str())?;
+                Ok(SheetMention::Dangling(Boxed::new(alloc, name)?))
+            }
         },
     }
 }
@@ -63,7 +66,7 @@ fn bind_word<N: Finder>(
         return Ok(NameMention::Var(Text::from_str(alloc, word.as_str())?));
     }
     match names.find_name(alloc, scope, word.as_str())? {
-        Some(key) => Ok(NameMention::Name(key)),
+        Some(key) => Ok(NameMention::Name(Boxed::new(alloc, key)?)),
         None => Ok(NameMention::Dangling(Text::from_str(alloc, word.as_str())?)),
     }
 }
@@ -79,7 +82,7 @@ fn bind_local_word<N: Finder>(
 {
     match sheet {
         SheetMention::Sheet(id) => match find_local(alloc, names, *id, word.as_str())? {
-            Some(key) => Ok(NameMention::Name(key)),
+            Some(key) => Ok(NameMention::Name(Boxed::new(alloc, key)?)),
             None => Ok(NameMention::Dangling(Text::from_str(alloc, word.as_str())?)),
         },
         _ => Ok(NameMention::Dangling(Text::from_str(alloc, word.as_str())?)),

@@ -62,7 +62,7 @@ fn push_reference<D: ReferencePrinter, N: Finder>(
                 d.push_ref(out, Some(digits.as_str()), place)
             }
         },
-        SheetMention::Dangling(name) => d.push_ref(out, Some(name.as_str()), place),
+        SheetMention::Dangling(name) => d.push_ref(out, Some(name.as_ref().as_str()), place),
     }
 }
 
@@ -85,7 +85,7 @@ fn push_sheet_name<N: Finder>(
                 push_quoted(out, digits.as_str())
             }
         },
-        SheetMention::Dangling(name) => push_quoted(out, name.as_str()),
+        SheetMention::Dangling(name) => push_quoted(out, name.as_ref().as_str()),
     }
 }
 
@@ -96,9 +96,9 @@ fn push_word<N: Finder>(names: &N, out: &mut String, word: &NameMention) -> Resu
 {
     match word {
         NameMention::Var(word) => push_text(out, word.as_str()),
-        NameMention::Name(key) => match names.definition_spelling(key) {
+        NameMention::Name(key) => match names.definition_spelling(key.as_ref()) {
             Some(name) => push_text(out, name),
-            None => push_text(out, key.name.as_str()),
+            None => push_text(out, key.as_ref().name.as_str()),
         },
         NameMention::Dangling(word) => push_text(out, word.as_str()),
     }

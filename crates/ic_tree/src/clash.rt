@@ -74,7 +74,7 @@ fn mentioned_name(word: &NameMention) -> &Text
 {
     match word {
         NameMention::Var(word) => word,
-        NameMention::Name(key) => &key.name,
+        NameMention::Name(key) => &key.as_ref().name,
         NameMention::Dangling(word) => word,
     }
 }

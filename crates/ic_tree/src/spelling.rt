@@ -97,7 +97,7 @@ fn spell_mention<S: Spelling>(
     match sheet {
         SheetMention::Own => Ok(None),
         SheetMention::Sheet(id) => Ok(Some(spelling.sheet_text(alloc, *id)?)),
-        SheetMention::Dangling(name) => Ok(Some(Text::from_str(alloc, name.as_str())?)),
+        SheetMention::Dangling(name) => Ok(Some(Text::from_str(alloc, name.as_ref().as_str())?)),
     }
 }
 
@@ -111,7 +111,7 @@ fn spell_word<S: Spelling>(
 {
     match word {
         NameMention::Var(word) => Ok(Text::from_str(alloc, word.as_str())?),
-        NameMention::Name(key) => spelling.key_text(alloc, key),
+        NameMention::Name(key) => spelling.key_text(alloc, key.as_ref()),
         NameMention::Dangling(word) => Ok(Text::from_str(alloc, word.as_str())?),
     }
 }

@@ -19,7 +19,7 @@ use super::Definitions;
 use crate::bodies::{rewrites_of, rewrites_remade};
 use crate::definition::held_key;
 use crate::{BodyRewrites, Definition, NamedDefinitions};
-use ic_laws::{Formula, NameKey, NameMention, OutOfMemory, Text};
+use ic_laws::{Boxed, Formula, NameKey, NameMention, OutOfMemory, Text};
 use ic_pool::{BookChange, DefinitionAdded, DefinitionGone, Remaking, has_dangling};
 use std::alloc::Global;
 use std::collections::BTreeMap;
@@ -215,7 +215,7 @@ impl Definitions {
     {
         let definition = &self.as_slice()[index];
         match self.key_without(places, definition)? {
-            Some(key) => Ok(NameMention::Name(key)),
+            Some(key) => Ok(NameMention::Name(Boxed::new(self.alloc, key)?)),
             None => Ok(NameMention::Dangling(Text::from_str(self.alloc, definition.name())?)),
         }
     }

@@ -1,13 +1,14 @@
 //! A definition comes, and a definition goes.
-ghost use Rattle.std.specs.Prelude.{◌≡◌, ◌||◌, None, chars};
+ghost use Rattle.std.specs.Prelude.{◌≡◌, ◌||◌, None, chars, IfOk};
 ghost use Rattle.ic_laws.specs.Changes.{could_mean, could_mean_local, is_of_name};
 ghost use Rattle.ic_laws.specs.Name.{fold};
 ghost use Rattle.ic_laws.specs.Scene.{key_of, same_key, same_scope};
+ghost use Rattle.ic_laws.specs.declared.tree.NameMention as words;
 
 use crate::changes::BookChange;
 use crate::copies::{copy_key, copy_local, copy_sheet, copy_word};
 use crate::topics::folded_topic;
-use ic_laws::{NameKey, NameMention, OutOfMemory, SheetMention, Text, agree};
+use ic_laws::{Boxed, NameKey, NameMention, OutOfMemory, SheetMention, Text, agree};
 use std::alloc::Global;
 use std::marker::Model;
 
@@ -54,6 +55,7 @@ impl<'n> DefinitionAdded<'n> {
         match mention {
             NameMention::Var(_) => false,
             NameMention::Name(found) => {
+                let found = found.as_ref();
                 self.key.name == found.name && same_scope(self.key.scope, scope)
             }
             NameMention::Dangling(word) => {
@@ -72,6 +74,14 @@ impl<'n> DefinitionAdded<'n> {
             }
             _ => false,
         }
+    }
+
+    /// A word that means it.
+    fn mention(&self, alloc: Global) -> Result<NameMention, OutOfMemory>
+        ensures { IfOk result (λ m. m ≡ words.Name (key_of self.now)) }
+    {
+        let key = copy_key(alloc, self.key)?;
+        Ok(NameMention::Name(Boxed::new(alloc, key)?))
     }
 
     /// Whether formulas whose words are looked up from this sheet find it where they find no other.
@@ -118,7 +128,7 @@ impl<'n> BookChange for DefinitionAdded<'n> {
         mention: &NameMention,
     ) -> Result<NameMention, OutOfMemory> {
         if self.could_mean(scope, mention) {
-            return Ok(NameMention::Name(copy_key(alloc, self.key)?));
+            return self.mention(alloc);
         }
         copy_word(alloc, mention)
     }
@@ -130,7 +140,7 @@ impl<'n> BookChange for DefinitionAdded<'n> {
         mention: &NameMention,
     ) -> Result<(SheetMention, NameMention), OutOfMemory> {
         if self.could_mean_local(sheet, mention) {
-            let word = NameMention::Name(copy_key(alloc, self.key)?);
+            let word = self.mention(alloc)?;
             return Ok((copy_sheet(alloc, sheet)?, word));
         }
         copy_local(alloc, sheet, mention)
@@ -209,7 +219,7 @@ fn is_of_name(key: &NameKey, mention: &NameMention) -> bool
     ensures { result ≡ is_of_name key.now mention.now }
 {
     match mention {
-        NameMention::Name(found) => same_key(found, key),
+        NameMention::Name(found) => same_key(found.as_ref(), key),
         _ => false,
     }
 }

@@ -3,11 +3,14 @@ ghost use Rattle.std.specs.Prelude.{◌≡◌, IfOk, chars};
 ghost use Rattle.ic_laws.specs.Binding.{spelled_word};
 ghost use Rattle.ic_laws.specs.Changes.{dangles_by, found_with_sheet, is_of_sheet};
 ghost use Rattle.ic_laws.specs.Scene.{definition_spelling};
+ghost use Rattle.ic_laws.specs.declared.tree.SheetMention as sheets;
 
 use crate::changes::BookChange;
 use crate::copies::{copy_local, copy_sheet, copy_word};
 use crate::topics::{name_topic, sheet_topic};
-use ic_laws::{Finder, NameKey, NameMention, OutOfMemory, SheetMention, Text, agree, find_local};
+use ic_laws::{
+    Boxed, Finder, NameKey, NameMention, OutOfMemory, SheetMention, Text, agree, find_local,
+};
 use std::alloc::Global;
 
 /// The sheet with this id, a new one or one that was there, gets a name: references that dangle by an agreeing one become
@@ -90,7 +93,7 @@ fn found_with_sheet<F: Finder>(
     match mention {
         NameMention::Dangling(word) => {
             match find_local(alloc, definitions, id, word.as_str())? {
-                Some(key) => Ok(NameMention::Name(key)),
+                Some(key) => Ok(NameMention::Name(Boxed::new(alloc, key)?)),
                 None => copy_word(alloc, mention),
             }
         }
@@ -106,6 +109,16 @@ pub struct SheetGone<'n, F: Finder> {
     pub name: &'n str,
     /// What finds the definitions of the book, those that are local to the sheet among them.
     pub definitions: &'n F,
+}
+
+impl<'n, F: Finder> SheetGone<'n, F> {
+    /// What a reference to it becomes.
+    fn dangling(&self, alloc: Global) -> Result<SheetMention, OutOfMemory>
+        ensures { IfOk result (λ m. m ≡ sheets.Dangling (chars self.now.name.now)) }
+    {
+        let name = Text::from_str(alloc, self.name)?;
+        Ok(SheetMention::Dangling(Boxed::new(alloc, name)?))
+    }
 }
 
 impl<'n, F: Finder> BookChange for SheetGone<'n, F> {
@@ -136,7 +149,7 @@ impl<'n, F: Finder> BookChange for SheetGone<'n, F> {
         mention: &SheetMention,
     ) -> Result<SheetMention, OutOfMemory> {
         if is_to_sheet(mention, self.id) {
-            return Ok(SheetMention::Dangling(Text::from_str(alloc, self.name)?));
+            return self.dangling(alloc);
         }
         copy_sheet(alloc, mention)
     }
@@ -158,8 +171,8 @@ impl<'n, F: Finder> BookChange for SheetGone<'n, F> {
     ) -> Result<(SheetMention, NameMention), OutOfMemory> {
         if is_to_sheet(sheet, self.id) {
             let word = Text::from_str(alloc, spelling(self.definitions, mention))?;
-            let name = Text::from_str(alloc, self.name)?;
-            return Ok((SheetMention::Dangling(name), NameMention::Dangling(word)));
+            let sheet = self.dangling(alloc)?;
+            return Ok((sheet, NameMention::Dangling(word)));
         }
         copy_local(alloc, sheet, mention)
     }
@@ -172,7 +185,7 @@ fn spelling<'n, F: Finder>(definitions: &'n F, mention: &'n NameMention) -> &'n 
 {
     match mention {
         NameMention::Var(word) => word.as_str(),
-        NameMention::Name(key) => definition_spelling(definitions, key),
+        NameMention::Name(key) => definition_spelling(definitions, key.as_ref()),
         NameMention::Dangling(word) => word.as_str(),
     }
 }
@@ -192,7 +205,7 @@ fn is_dangling_by(mention: &SheetMention, name: &str) -> bool
     ensures { result ≡ dangles_by (chars name.now) mention.now }
 {
     match mention {
-        SheetMention::Dangling(typed) => agree(name, typed.as_str()),
+        SheetMention::Dangling(typed) => agree(name, typed.as_ref().as_str()),
         _ => false,
     }
 }

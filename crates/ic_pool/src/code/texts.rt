@@ -128,7 +128,7 @@ fn sheet_spelling(sheet: &SheetMention) -> &str
     match sheet {
         SheetMention::Own => "",
         SheetMention::Sheet(_) => "",
-        SheetMention::Dangling(name) => name.as_str(),
+        SheetMention::Dangling(name) => name.as_ref().as_str(),
     }
 }
 
@@ -138,7 +138,7 @@ fn spelling(word: &NameMention) -> &str
 {
     match word {
         NameMention::Var(name) => name.as_str(),
-        NameMention::Name(key) => key.name.as_str(),
+        NameMention::Name(key) => key.as_ref().name.as_str(),
         NameMention::Dangling(name) => name.as_str(),
     }
 }

@@ -47,7 +47,7 @@ fn write_word(key: &mut Key, tag: u64, word: &NameMention) -> Result<(), OutOfMe
 {
     match word {
         NameMention::Var(_) => write_numbers(key, &[tag, 0]),
-        NameMention::Name(k) => match k.scope {
+        NameMention::Name(k) => match k.as_ref().scope {
             None => write_numbers(key, &[tag, 1]),
             Some(id) => write_numbers(key, &[tag, 1, u64::from(id)]),
         },
@@ -63,7 +63,7 @@ fn write_local(key: &mut Key, sheet: &SheetMention, word: &NameMention) -> Resul
     let (mention, id) = (mention_of(sheet), id_of(sheet));
     match word {
         NameMention::Var(_) => write_numbers(key, &[18, mention, id, 0]),
-        NameMention::Name(k) => match k.scope {
+        NameMention::Name(k) => match k.as_ref().scope {
             None => write_numbers(key, &[18, mention, id, 1]),
             Some(scope) => write_numbers(key, &[18, mention, id, 1, u64::from(scope)]),
         },

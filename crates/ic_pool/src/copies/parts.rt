@@ -1,6 +1,6 @@
 ghost use Rattle.std.specs.Prelude.{◌≡◌, IfOk};
 
-use ic_laws::{Constant, Items, NameKey, NameMention, OutOfMemory, SheetMention, Text};
+use ic_laws::{Boxed, Constant, Items, NameKey, NameMention, OutOfMemory, SheetMention, Text};
 use std::alloc::Global;
 
 /// A copy of what names the sheet of a reference.
@@ -11,7 +11,8 @@ pub fn copy_sheet(alloc: Global, sheet: &SheetMention) -> Result<SheetMention, O
         SheetMention::Own => Ok(SheetMention::Own),
         SheetMention::Sheet(id) => Ok(SheetMention::Sheet(*id)),
         SheetMention::Dangling(name) => {
-            Ok(SheetMention::Dangling(Text::from_str(alloc, name.as_str())?))
+            let name = Text::from_str(alloc, name.as_ref().as_str())?;
+            Ok(SheetMention::Dangling(Boxed::new(alloc, name)?))
         }
     }
 }
@@ -22,7 +23,10 @@ pub fn copy_word(alloc: Global, word: &NameMention) -> Result<NameMention, OutOf
 {
     match word {
         NameMention::Var(word) => Ok(NameMention::Var(Text::from_str(alloc, word.as_str())?)),
-        NameMention::Name(key) => Ok(NameMention::Name(copy_key(alloc, key)?)),
+        NameMention::Name(key) => {
+            let key = copy_key(alloc, key.as_ref())?;
+            Ok(NameMention::Name(Boxed::new(alloc, key)?))
+        }
         NameMention::Dangling(word) => {
             Ok(NameMention::Dangling(Text::from_str(alloc, word.as_str())?))
         }
