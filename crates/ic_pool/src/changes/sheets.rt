@@ -3,7 +3,7 @@ ghost use Rattle.std.specs.Prelude.{◌≡◌, IfOk, chars};
 ghost use Rattle.ic_laws.specs.Binding.{spelled_word};
 ghost use Rattle.ic_laws.specs.Changes.{dangles_by, found_with_sheet, is_of_sheet};
 ghost use Rattle.ic_laws.specs.Scene.{definition_spelling};
-ghost use Rattle.ic_laws.specs.declared.tree.SheetMention as sheets;
+ghost use Rattle.ic_laws.specs.declared.tree.SheetMention.TheVariants as sheets;
 
 use crate::changes::BookChange;
 use crate::copies::{copy_local, copy_sheet, copy_word};
