@@ -3,7 +3,7 @@ ghost use Rattle.std.specs.Prelude.{◌≡◌, ◌||◌, None, chars, IfOk};
 ghost use Rattle.ic_laws.specs.Changes.{could_mean, could_mean_local, is_of_name};
 ghost use Rattle.ic_laws.specs.Name.{fold};
 ghost use Rattle.ic_laws.specs.Scene.{key_of, same_key, same_scope};
-ghost use Rattle.ic_laws.specs.declared.tree.NameMention.TheVariants as words;
+ghost use Rattle.ic_laws.specs.declared.tree.NameMention.TheVariants as names;
 
 use crate::changes::BookChange;
 use crate::copies::{copy_key, copy_local, copy_sheet, copy_word};
@@ -78,7 +78,7 @@ impl<'n> DefinitionAdded<'n> {
 
     /// A word that means it.
     fn mention(&self, alloc: Global) -> Result<NameMention, OutOfMemory>
-        ensures { IfOk result (λ m. m ≡ words.Name (key_of self.now)) }
+        ensures { IfOk result (λ m. m ≡ names.Name (key_of self.now)) }
     {
         let key = copy_key(alloc, self.key)?;
         Ok(NameMention::Name(Boxed::new(alloc, key)?))
@@ -159,7 +159,6 @@ pub struct DefinitionGone<'n> {
 impl<'n> BookChange for DefinitionGone<'n> {
     ghost use Rattle.std.specs.Prelude.{chars};
     ghost use Rattle.ic_laws.specs.Changes.{OfWords, is_of_name};
-    ghost use Rattle.ic_laws.specs.declared.tree.NameMention.TheVariants as names;
 
     ghost change = { λ gone. OfWords (λ scope mention. is_of_name gone.key.now mention) gone.becomes.now
         (λ sheet mention. is_of_name gone.key.now mention) (names.Dangling (chars gone.name.now)) };
