@@ -8,10 +8,10 @@ use Rattle.ic_sheets.proofs.CellLemmas.{stored_pair}
 use Rattle.ic_book.specs.Book.{core_of, notations_in}
 use Rattle.ic_book.proofs.model.Model.show_after.Goals as goal
 
-pub returns-in_ok-text-in-Tree : goal.returns-in_ok-text-in-Tree
-returns-in_ok-text-in-Tree c =
-    IfOk-weaker c.after_sign.result _ _
+pub returns-in-Tree : goal.returns-in-Tree
+returns-in-Tree c =
+    IfOk-weaker c.print_bound.result _ _
     (λ text e. e ∙ ap (λ shown. chars c.args.sign.now ++ shown)
-    (ap chars c.as_str.ensures.value ∙ c.in_ok-text-in-Tree.ensures ∙ ap₂ printed (c.shown.ensures ∙ ap (λ (p : CellPlace). shown_at (notations_in c.args.self.now.book) (core_of c.args.self.now.book) p.0 p.1) (stored_pair c.args.row c.args.column c.ranges.row c.ranges.column)) (c.in_ok-spelled-in-Tree.ensures ∙ ap (λ scene. spelled scene c.in-Tree.tree) c.scene.ensures)
+    (ap₂ printed (c.shown.ensures ∙ ap (λ (p : CellPlace). shown_at (notations_in c.args.self.now.book) (core_of c.args.self.now.book) p.0 p.1) (stored_pair c.args.row c.args.column c.ranges.row c.ranges.column)) (ap (λ scene. spelled scene c.in-Tree.tree) c.scene.ensures)
     ∙ ap (shown_formula (notations_in c.args.self.now.book) (core_of c.args.self.now.book) c.args.row c.args.column) (sym c.in-Tree.is)))
-    c.after_sign.ensures
+    c.print_bound.ensures

@@ -10,15 +10,14 @@ use Rattle.ic_book.specs.Translated.{shown_in}
 use Rattle.ic_book.proofs.WholeLemmas.{whole_core}
 use Rattle.ic_book.proofs.model.Model.show_in.Goals as goal
 
-pub returns-in_ok-text-in-Tree : goal.returns-in_ok-text-in-Tree
-returns-in_ok-text-in-Tree c =
+pub returns-in-Tree : goal.returns-in-Tree
+returns-in-Tree c =
     let target = c.args.target.now in
-    IfOk-weaker c.after_sign.result _ _
+    IfOk-weaker c.print_bound.result _ _
     (λ text e. e ∙ ap (λ shown. chars c.args.sign.now ++ shown)
-    (ap chars c.as_str.ensures.value ∙ c.in_ok-text-in-Tree.ensures
-    ∙ ap₂ printed
+    (ap₂ printed
     (c.dialect_in.ensures ∙ ap (λ (p : CellPlace). (notations_of target.tables).shown target.locale target.language p.0 p.1) (stored_pair c.args.row c.args.column c.ranges.row c.ranges.column)
     ∙ ap (λ t. (notations_of t).shown target.locale target.language c.args.row c.args.column) c.requires)
-    (c.in_ok-spelled-in-Tree.ensures ∙ ap (λ scene. spelled scene c.in-Tree.tree) (c.scene.ensures ∙ ap (λ (core : CoreBook). scene_of core) (sym (whole_core c.args.self.now.book))))
+    (ap (λ scene. spelled scene c.in-Tree.tree) (c.scene.ensures ∙ ap (λ (core : CoreBook). scene_of core) (sym (whole_core c.args.self.now.book))))
     ∙ ap (shown_in target (whole_of c.args.self.now.book) c.args.row c.args.column) (sym c.in-Tree.is)))
-    c.after_sign.ensures
+    c.print_bound.ensures
