@@ -98,13 +98,13 @@ pub(crate) fn copy_cell(alloc: Global, cell: &Cell) -> Result<Cell, OutOfMemory>
             let v = copy_formula_value(alloc, v)?;
             Ok(Cell::CellFormula { f: *f, s: *s, v })
         }
-        Cell::ArrayFormula { f, s, r, kind, v } => {
+        Cell::ArrayFormula { kind, f, s, r, v } => {
             let v = copy_formula_value(alloc, v)?;
             Ok(Cell::ArrayFormula {
+                kind: *kind,
                 f: *f,
                 s: *s,
                 r: *r,
-                kind: *kind,
                 v,
             })
         }

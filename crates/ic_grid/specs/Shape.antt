@@ -100,18 +100,18 @@ shape_of (cells.NumberCell v s) = Value
 shape_of (cells.ErrorCell e s) = Value
 shape_of (cells.SharedString i s) = Value
 shape_of (cells.CellFormula f s v) = Formula
-shape_of (cells.ArrayFormula f s r kind v) = Anchor r.0 r.1 kind
+shape_of (cells.ArrayFormula kind f s r v) = Anchor r.0 r.1 kind
 shape_of (cells.SpillCell s a v) = SpillOf a
 
 -- a formula's cell with this value; other cells stay
 abbrev pub with_cell_value : FormulaValue → Cell → Cell
 with_cell_value value (cells.CellFormula f s v) = cells.CellFormula f s value
-with_cell_value value (cells.ArrayFormula f s r kind v) = cells.ArrayFormula f s r kind value
+with_cell_value value (cells.ArrayFormula kind f s r v) = cells.ArrayFormula kind f s r value
 with_cell_value value cell = cell
 
 -- an array formula's cell with this area; other cells stay
 abbrev pub with_cell_area : ℤ → ℤ → Cell → Cell
-with_cell_area width height (cells.ArrayFormula f s r kind v) = cells.ArrayFormula f s (width, height) kind v
+with_cell_area width height (cells.ArrayFormula kind f s r v) = cells.ArrayFormula kind f s (width, height) v
 with_cell_area width height cell = cell
 
 -- the style and the anchor of a spill's cell
@@ -133,5 +133,5 @@ celled = record {
   with_value = with_cell_value;
   with_area = with_cell_area;
   spill = λ s a v. cells.SpillCell s a v;
-  array = λ f s width height kind. cells.ArrayFormula f s (width, height) kind formulas.Unevaluated;
+  array = λ f s width height kind. cells.ArrayFormula kind f s (width, height) formulas.Unevaluated;
 }

@@ -205,10 +205,10 @@ impl Grid {
         };
         let anchor = block.first();
         items.push(Cell::ArrayFormula {
+            kind,
             f,
             s,
             r: block.area(),
-            kind,
             v: gathered(alloc, value),
         })?;
         let mut at = next_place(block, anchor);
