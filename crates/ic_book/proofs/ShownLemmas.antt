@@ -97,12 +97,12 @@ module _ (book : Book) (valid : IsValidBook book) (l : NamedLocale) (language : 
   number_same (cells.CellFormula f s (formulas.Boolean b)) = refl
   number_same (cells.CellFormula f s (formulas.Number n)) = refl
   number_same (cells.CellFormula f s (formulas.Text t)) = refl
-  number_same (cells.CellFormula f s (formulas.Error e o m)) = refl
+  number_same (cells.CellFormula f s (formulas.Error e note)) = refl
   number_same (cells.ArrayFormula kind f s r formulas.Unevaluated) = refl
   number_same (cells.ArrayFormula kind f s r (formulas.Boolean b)) = refl
   number_same (cells.ArrayFormula kind f s r (formulas.Number n)) = refl
   number_same (cells.ArrayFormula kind f s r (formulas.Text t)) = refl
-  number_same (cells.ArrayFormula kind f s r (formulas.Error e o m)) = refl
+  number_same (cells.ArrayFormula kind f s r (formulas.Error e note)) = refl
   number_same (cells.SpillCell s a (spills.Boolean b)) = refl
   number_same (cells.SpillCell s a (spills.Number n)) = refl
   number_same (cells.SpillCell s a (spills.Text t)) = refl

@@ -30,5 +30,5 @@ pub use sheet::{CellIndex, SheetProperties, SheetState, Worksheet};
 pub use strings::SharedStrings;
 pub use style::{Color, Style};
 pub use styles::Styles;
-pub use value::{CellType, CellValue, FormulaValue, SpillValue, law_equal_values};
+pub use value::{CellType, CellValue, ErrorNote, FormulaValue, SpillValue, law_equal_values};
 pub use workbook::{DefinedName, FmtSettings, Metadata, Theme, Workbook, WorkbookSettings};

@@ -1,7 +1,7 @@
 -- What a place of a sheet holds, by its shape; and how it is emptied and reset. The rules on arrays, spills and clearing
 -- look at nothing else, so they hold for cells and for whatever else a place holds.
 use Rattle.std.specs.Ordering.{int_eq}
-use Rattle.std.specs.Prelude.{ℕ, ℤ, pos, Bool, ◌&&◌, true, false, [], Option, Some, None}
+use Rattle.std.specs.Prelude.{ℕ, ℤ, pos, Bool, ◌&&◌, true, false, Option, Some, None}
 use Rattle.ic_laws.specs.declared.tree.Error.TheVariants as errors
 use Rattle.ic_cells.specs.Cell.{style_of}
 use Rattle.ic_cells.specs.declared.cell.ArrayKind.{ArrayKind}
@@ -82,14 +82,14 @@ spread formulas.Unevaluated = spills.Error errors.ERROR
 spread (formulas.Boolean b) = spills.Boolean b
 spread (formulas.Number n) = spills.Number n
 spread (formulas.Text t) = spills.Text t
-spread (formulas.Error e o m) = spills.Error e
+spread (formulas.Error e note) = spills.Error e
 
 -- the value of a spill's cell as a formula has it
 abbrev pub gathered : SpillValue → FormulaValue
 gathered (spills.Boolean b) = formulas.Boolean b
 gathered (spills.Number n) = formulas.Number n
 gathered (spills.Text t) = formulas.Text t
-gathered (spills.Error e) = formulas.Error e [] []
+gathered (spills.Error e) = formulas.Error e None
 
 -- cells ----
 

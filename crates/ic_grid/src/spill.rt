@@ -20,8 +20,7 @@ use crate::merges::is_merged;
 use crate::room::make_room;
 use crate::{Array, Block, Grid, GridError};
 use ic_cells::{ArrayKind, Cell, FormulaValue, Merge, PlaceMap, SpillValue};
-use ic_laws::{OutOfMemory, Text};
-use std::alloc::Global;
+use ic_laws::OutOfMemory;
 
 /// Whether a cell is empty, or one of the spill of the formula at a place.
 fn is_free(cell: &Cell, anchor: (i32, i32)) -> bool
@@ -143,19 +142,15 @@ fn can_spill(
     }
 }
 
-/// The value of a spill's cell as a formula has it: an error has no texts of its own. It takes no memory.
-pub fn gathered(alloc: Global, value: SpillValue) -> FormulaValue
+/// The value of a spill's cell as a formula has it: nothing is noted of an error. It takes no memory.
+pub fn gathered(value: SpillValue) -> FormulaValue
     ensures { result ≡ gathered value }
 {
     match value {
         SpillValue::Boolean(truth) => FormulaValue::Boolean(truth),
         SpillValue::Number(amount) => FormulaValue::Number(amount),
         SpillValue::Text(text) => FormulaValue::Text(text),
-        SpillValue::Error(ei) => FormulaValue::Error {
-            ei,
-            o: Text::from(String::new(alloc)),
-            m: Text::from(String::new(alloc)),
-        },
+        SpillValue::Error(ei) => FormulaValue::Error { ei, note: None },
     }
 }
 
@@ -209,7 +204,7 @@ impl Grid {
             f,
             s,
             r: block.area(),
-            v: gathered(alloc, value),
+            v: gathered(value),
         })?;
         let mut at = next_place(block, anchor);
         while let Some(v) = rest.next() {
