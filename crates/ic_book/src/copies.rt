@@ -2,10 +2,8 @@
 ghost use Rattle.std.specs.Prelude.{◌≡◌, IfOk, OnOk};
 ghost use Rattle.std.specs.FinMap as finite;
 
-use ic_cells::{
-    Cell, ErrorNote, FormulaValue, LineMap, Merge, Metadata, PlaceMap, SpillValue, Styles,
-};
-use ic_laws::{Boxed, Items, OutOfMemory, Text};
+use ic_cells::{Cell, FormulaValue, LineMap, Merge, Metadata, PlaceMap, SpillValue, Styles};
+use ic_laws::{Items, OutOfMemory, Text};
 use std::alloc::Global;
 
 /// A copy of a text.
@@ -57,15 +55,6 @@ pub(crate) fn copy_merges(alloc: Global, merges: &[Merge]) -> Result<Items<Merge
     Ok(Items::from(out))
 }
 
-/// A copy of what was noted of an error.
-fn copy_note(alloc: Global, note: &ErrorNote) -> Result<Boxed<ErrorNote>, OutOfMemory>
-    ensures { IfOk result (λ copy. copy ≡ note.now) }
-{
-    let o = copy_text(alloc, &note.o)?;
-    let m = copy_text(alloc, &note.m)?;
-    Boxed::new(alloc, ErrorNote { o, m })
-}
-
 /// A copy of the value of a formula.
 fn copy_formula_value(alloc: Global, value: &FormulaValue) -> Result<FormulaValue, OutOfMemory>
     ensures { IfOk result (λ copy. copy ≡ value.now) }
@@ -76,10 +65,7 @@ fn copy_formula_value(alloc: Global, value: &FormulaValue) -> Result<FormulaValu
         FormulaValue::Number(amount) => Ok(FormulaValue::Number(*amount)),
         FormulaValue::Text(text) => Ok(FormulaValue::Text(copy_text(alloc, text)?)),
         FormulaValue::Error { ei, note } => {
-            let note = match note {
-                Some(note) => Some(copy_note(alloc, note.as_ref())?),
-                None => None,
-            };
+            let note = note.copy(alloc)?;
             Ok(FormulaValue::Error { ei: *ei, note })
         }
     }

@@ -13,6 +13,7 @@ mod key;
 mod layout;
 mod lent;
 mod maps;
+mod note;
 mod sheet;
 mod strings;
 mod style;
@@ -26,9 +27,10 @@ pub use layout::{
     row_height,
 };
 pub use maps::{LineMap, PlaceMap};
+pub use note::{ErrorNote, ErrorTexts};
 pub use sheet::{CellIndex, SheetProperties, SheetState, Worksheet};
 pub use strings::SharedStrings;
 pub use style::{Color, Style};
 pub use styles::Styles;
-pub use value::{CellType, CellValue, ErrorNote, FormulaValue, SpillValue, law_equal_values};
+pub use value::{CellType, CellValue, FormulaValue, SpillValue, law_equal_values};
 pub use workbook::{DefinedName, FmtSettings, Metadata, Theme, Workbook, WorkbookSettings};

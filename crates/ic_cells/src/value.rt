@@ -2,7 +2,8 @@ ghost use Rattle.std.specs.Prelude.{◌≡◌, IfOk, chars};
 ghost use Rattle.std.specs.Bool.{Decides};
 ghost use Rattle.ic_cells.specs.declared.value.CellValue.{CellValue};
 
-use ic_laws::{Amount, Boxed, Error, OutOfMemory, Text};
+use crate::ErrorNote;
+use ic_laws::{Amount, Error, OutOfMemory, Text};
 use std::alloc::Global;
 
 /// The value of a cell, as whoever looks at the sheet sees it: an error is the text of its word.
@@ -68,19 +69,8 @@ pub enum FormulaValue {
     Boolean(bool),
     Number(Amount),
     Text(Text),
-    /// An error, and what was noted of it, if anything was. The note is boxed, since each cell has room for the widest
-    /// value.
-    Error {
-        ei: Error,
-        note: Option<Boxed<ErrorNote>>,
-    },
-}
-
-/// The place where an error arose (`o`) and what to say of it (`m`). Neither is shown.
-#[derive(Drop)]
-pub struct ErrorNote {
-    pub o: Text,
-    pub m: Text,
+    /// An error, and what was noted of it.
+    Error { ei: Error, note: ErrorNote },
 }
 
 /// The value that a cell of a spill keeps.

@@ -4,6 +4,7 @@ use Rattle.std.specs.Ordering.{int_eq}
 use Rattle.std.specs.Prelude.{ℕ, ℤ, pos, Bool, ◌&&◌, true, false, Option, Some, None}
 use Rattle.ic_laws.specs.declared.tree.Error.TheVariants as errors
 use Rattle.ic_cells.specs.Cell.{style_of}
+use Rattle.ic_cells.specs.Note.{no_note}
 use Rattle.ic_cells.specs.declared.cell.ArrayKind.{ArrayKind}
 use Rattle.ic_cells.specs.declared.cell.ArrayKind.TheVariants as kinds
 use Rattle.ic_cells.specs.declared.cell.Cell.{Cell}
@@ -89,7 +90,7 @@ abbrev pub gathered : SpillValue → FormulaValue
 gathered (spills.Boolean b) = formulas.Boolean b
 gathered (spills.Number n) = formulas.Number n
 gathered (spills.Text t) = formulas.Text t
-gathered (spills.Error e) = formulas.Error e None
+gathered (spills.Error e) = formulas.Error e no_note
 
 -- cells ----
 

@@ -19,7 +19,7 @@ use crate::changes::{next_place, put_all, unspill_block};
 use crate::merges::is_merged;
 use crate::room::make_room;
 use crate::{Array, Block, Grid, GridError};
-use ic_cells::{ArrayKind, Cell, FormulaValue, Merge, PlaceMap, SpillValue};
+use ic_cells::{ArrayKind, Cell, ErrorNote, FormulaValue, Merge, PlaceMap, SpillValue};
 use ic_laws::OutOfMemory;
 
 /// Whether a cell is empty, or one of the spill of the formula at a place.
@@ -142,7 +142,7 @@ fn can_spill(
     }
 }
 
-/// The value of a spill's cell as a formula has it: nothing is noted of an error. It takes no memory.
+/// The value of a spill's cell as a formula has it: the texts that go with an error are empty. It takes no memory.
 pub fn gathered(value: SpillValue) -> FormulaValue
     ensures { result ≡ gathered value }
 {
@@ -150,7 +150,10 @@ pub fn gathered(value: SpillValue) -> FormulaValue
         SpillValue::Boolean(truth) => FormulaValue::Boolean(truth),
         SpillValue::Number(amount) => FormulaValue::Number(amount),
         SpillValue::Text(text) => FormulaValue::Text(text),
-        SpillValue::Error(ei) => FormulaValue::Error { ei, note: None },
+        SpillValue::Error(ei) => FormulaValue::Error {
+            ei,
+            note: ErrorNote::empty(),
+        },
     }
 }
 
