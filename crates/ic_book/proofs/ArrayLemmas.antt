@@ -112,7 +112,7 @@ module _ (count : ℕ) where
   valued_has q (cells.ErrorCell e s) value h = tt
   valued_has q (cells.SharedString i s) value h = h
   valued_has q (cells.CellFormula f s v) value h = tt
-  valued_has q (cells.ArrayFormula f s r kind v) value h = tt
+  valued_has q (cells.ArrayFormula kind f s r v) value h = tt
   valued_has q (cells.SpillCell s a v) value h = tt
 
   widened_has : (q : Place) (x : Cell) (width height : ℤ) → HasText q x → HasText q (with_cell_area width height x)
@@ -122,7 +122,7 @@ module _ (count : ℕ) where
   widened_has q (cells.ErrorCell e s) width height h = tt
   widened_has q (cells.SharedString i s) width height h = h
   widened_has q (cells.CellFormula f s v) width height h = tt
-  widened_has q (cells.ArrayFormula f s r kind v) width height h = tt
+  widened_has q (cells.ArrayFormula kind f s r v) width height h = tt
   widened_has q (cells.SpillCell s a v) width height h = tt
 
   pub texts_passed : IsPassedOn celled HasText

@@ -64,7 +64,7 @@ value_same strings l (cells.NumberCell v s) = refl
 value_same strings l (cells.ErrorCell e s) = refl
 value_same strings l (cells.SharedString i s) = refl
 value_same strings l (cells.CellFormula f s v) = refl
-value_same strings l (cells.ArrayFormula f s r kind v) = refl
+value_same strings l (cells.ArrayFormula kind f s r v) = refl
 value_same strings l (cells.SpillCell s a v) = refl
 
 type_same : (strings : List (List ℕ)) (cell : Cell) → contents.type_of (content_of strings cell) ≡ type_of cell
@@ -74,7 +74,7 @@ type_same strings (cells.NumberCell v s) = refl
 type_same strings (cells.ErrorCell e s) = refl
 type_same strings (cells.SharedString i s) = refl
 type_same strings (cells.CellFormula f s v) = refl
-type_same strings (cells.ArrayFormula f s r kind v) = refl
+type_same strings (cells.ArrayFormula kind f s r v) = refl
 type_same strings (cells.SpillCell s a v) = refl
 
 -- what is read of a content, where as much is read of its cell

@@ -92,7 +92,7 @@ strings_reset count (cells.NumberCell v s) h = tt
 strings_reset count (cells.ErrorCell e s) h = tt
 strings_reset count (cells.SharedString i s) h = h
 strings_reset count (cells.CellFormula f s v) h = tt
-strings_reset count (cells.ArrayFormula f s r kind v) h = tt
+strings_reset count (cells.ArrayFormula kind f s r v) h = tt
 strings_reset count (cells.SpillCell s a v) h = tt
 
 formula_string : (count : ℕ) (kind : FormulaKind) (at style : ℕ) → HasString count (formula_cell kind at style)

@@ -60,7 +60,7 @@ module _ (now : ModelState) (valid : IsValidBook now.book) (s : Sheet) (stands :
         by_cell (cells.ErrorCell v n) e = cc
         by_cell (cells.SharedString i n) e = cc
         by_cell (cells.CellFormula i n v) e = held_text i e
-        by_cell (cells.ArrayFormula i n r kind v) e = held_text i e
+        by_cell (cells.ArrayFormula kind i n r v) e = held_text i e
         by_cell (cells.SpillCell n a v) e = cc
 
     pub value_marked : cell_formula_index cell ≡ None → formatted_content whole (content_of now.book.strings cell) ≡ content_markup whole seen place (content_of now.book.strings cell)
@@ -73,7 +73,7 @@ module _ (now : ModelState) (valid : IsValidBook now.book) (s : Sheet) (stands :
         by_cell (cells.ErrorCell v n) e = refl
         by_cell (cells.SharedString i n) e = refl
         by_cell (cells.CellFormula i n v) e = cc
-        by_cell (cells.ArrayFormula i n r kind v) e = cc
+        by_cell (cells.ArrayFormula kind i n r v) e = cc
         by_cell (cells.SpillCell n a v) e = refl
 
 abbrev pub markup_told : machine.Book → machine.Sheet → List Field

@@ -108,7 +108,7 @@ module _ (texts : List (List ℕ)) (numbers : List ℕ) (strings : List (List �
   content_told (cells.ErrorCell e s) h = refl
   content_told (cells.SharedString index s) h = ap (λ text. TextContent text s) (string_told index h)
   content_told (cells.CellFormula f s v) h = refl
-  content_told (cells.ArrayFormula f s r k v) h = refl
+  content_told (cells.ArrayFormula k f s r v) h = refl
   content_told (cells.SpillCell s a v) h = refl
 
   pub seen_told : (m : Contents Cell) → ((p : CellPlace) (cell : Cell) → finite.get m p ≡ Some cell → HasString (length texts) cell) → seen_by (content_of strings) (seen_by (renumbered numbers) m) ≡ seen_by (content_of texts) m
@@ -134,7 +134,7 @@ module _ (texts : List (List ℕ)) (numbers : List ℕ) (strings : List (List �
       go (n ∷ ns) zero d lt all = all.0
       go (n ∷ ns) (suc k) d lt all = go ns k d (omega (arith, lt)) all.1
   string_there (cells.CellFormula f s v) h = tt
-  string_there (cells.ArrayFormula f s r k v) h = tt
+  string_there (cells.ArrayFormula k f s r v) h = tt
   string_there (cells.SpillCell s a v) h = tt
 
 -- ---- cells that are copied one after another
@@ -168,5 +168,5 @@ string_decided count (cells.BooleanCell v s) = (λ e. tt, λ h. refl)
 string_decided count (cells.NumberCell v s) = (λ e. tt, λ h. refl)
 string_decided count (cells.ErrorCell e s) = (λ e. tt, λ h. refl)
 string_decided count (cells.CellFormula f s v) = (λ e. tt, λ h. refl)
-string_decided count (cells.ArrayFormula f s r k v) = (λ e. tt, λ h. refl)
+string_decided count (cells.ArrayFormula k f s r v) = (λ e. tt, λ h. refl)
 string_decided count (cells.SpillCell s a v) = (λ e. tt, λ h. refl)

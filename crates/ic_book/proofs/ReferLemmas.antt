@@ -219,7 +219,7 @@ index_kept numbers (cells.NumberCell v s) = refl
 index_kept numbers (cells.ErrorCell e s) = refl
 index_kept numbers (cells.SharedString i s) = refl
 index_kept numbers (cells.CellFormula f s v) = refl
-index_kept numbers (cells.ArrayFormula f s r kind v) = refl
+index_kept numbers (cells.ArrayFormula kind f s r v) = refl
 index_kept numbers (cells.SpillCell s a v) = refl
 
 pub formulas_numbered : (numbers : List ℕ) (pool : List Formula) (m : Contents Cell) → HasCellFormulas pool (seen_by (renumbered numbers) m) ↔ HasCellFormulas pool m

@@ -58,7 +58,7 @@ module _ (numbers : List ℕ) where
   same_shape (cells.ErrorCell e s) = refl
   same_shape (cells.SharedString i s) = refl
   same_shape (cells.CellFormula f s v) = refl
-  same_shape (cells.ArrayFormula f s r kind v) = refl
+  same_shape (cells.ArrayFormula kind f s r v) = refl
   same_shape (cells.SpillCell s a v) = refl
 
   same_style : (cell : Cell) → style_of (renumbered numbers cell) ≡ style_of cell
@@ -68,7 +68,7 @@ module _ (numbers : List ℕ) where
   same_style (cells.ErrorCell e s) = refl
   same_style (cells.SharedString i s) = refl
   same_style (cells.CellFormula f s v) = refl
-  same_style (cells.ArrayFormula f s r kind v) = refl
+  same_style (cells.ArrayFormula kind f s r v) = refl
   same_style (cells.SpillCell s a v) = refl
 
   same_value : (value : FormulaValue) (cell : Cell) → with_cell_value value (renumbered numbers cell) ≡ renumbered numbers (with_cell_value value cell)
@@ -78,7 +78,7 @@ module _ (numbers : List ℕ) where
   same_value value (cells.ErrorCell e s) = refl
   same_value value (cells.SharedString i s) = refl
   same_value value (cells.CellFormula f s v) = refl
-  same_value value (cells.ArrayFormula f s r kind v) = refl
+  same_value value (cells.ArrayFormula kind f s r v) = refl
   same_value value (cells.SpillCell s a v) = refl
 
   same_area : (width height : ℤ) (cell : Cell) → with_cell_area width height (renumbered numbers cell) ≡ renumbered numbers (with_cell_area width height cell)
@@ -88,7 +88,7 @@ module _ (numbers : List ℕ) where
   same_area width height (cells.ErrorCell e s) = refl
   same_area width height (cells.SharedString i s) = refl
   same_area width height (cells.CellFormula f s v) = refl
-  same_area width height (cells.ArrayFormula f s r kind v) = refl
+  same_area width height (cells.ArrayFormula kind f s r v) = refl
   same_area width height (cells.SpillCell s a v) = refl
 
   pub numbered_alike : HoldsAlike (renumbered numbers) celled celled

@@ -144,7 +144,7 @@ module _ (old strings : List (List ℕ)) (more : IsLonger old strings) where
   content_same (cells.ErrorCell e s) h = refl
   content_same (cells.SharedString i s) h = ap (λ (o : Option (List ℕ)). TextContent (unwrap_or o []) s) (more.stays i h)
   content_same (cells.CellFormula f s v) h = refl
-  content_same (cells.ArrayFormula f s r kind v) h = refl
+  content_same (cells.ArrayFormula kind f s r v) h = refl
   content_same (cells.SpillCell s a v) h = refl
 
   found_same : (o : Option Cell) → ((x : Cell) → o ≡ Some x → HasString (length old) x) → option_map (content_of strings) o ≡ option_map (content_of old) o
@@ -167,7 +167,7 @@ module _ (old strings : List (List ℕ)) (more : IsLonger old strings) where
   has_longer (cells.ErrorCell e s) h = tt
   has_longer (cells.SharedString i s) h = let longer = more.longer in omega (arith, h, longer)
   has_longer (cells.CellFormula f s v) h = tt
-  has_longer (cells.ArrayFormula f s r kind v) h = tt
+  has_longer (cells.ArrayFormula kind f s r v) h = tt
   has_longer (cells.SpillCell s a v) h = tt
 
   all_longer : (sheets : List Sheet) → AllByRecursion (λ (s : Sheet). HasStrings (length old) s.grid) sheets → AllByRecursion (λ (s : Sheet). HasStrings (length strings) s.grid) sheets

@@ -97,12 +97,12 @@ module _ (book : Book) (valid : IsValidBook book) (l : NamedLocale) (language : 
   number_same (cells.CellFormula f s (formulas.Boolean b)) = refl
   number_same (cells.CellFormula f s (formulas.Number n)) = refl
   number_same (cells.CellFormula f s (formulas.Text t)) = refl
-  number_same (cells.CellFormula f s (formulas.Error e o m)) = refl
-  number_same (cells.ArrayFormula f s r kind formulas.Unevaluated) = refl
-  number_same (cells.ArrayFormula f s r kind (formulas.Boolean b)) = refl
-  number_same (cells.ArrayFormula f s r kind (formulas.Number n)) = refl
-  number_same (cells.ArrayFormula f s r kind (formulas.Text t)) = refl
-  number_same (cells.ArrayFormula f s r kind (formulas.Error e o m)) = refl
+  number_same (cells.CellFormula f s (formulas.Error e note)) = refl
+  number_same (cells.ArrayFormula kind f s r formulas.Unevaluated) = refl
+  number_same (cells.ArrayFormula kind f s r (formulas.Boolean b)) = refl
+  number_same (cells.ArrayFormula kind f s r (formulas.Number n)) = refl
+  number_same (cells.ArrayFormula kind f s r (formulas.Text t)) = refl
+  number_same (cells.ArrayFormula kind f s r (formulas.Error e note)) = refl
   number_same (cells.SpillCell s a (spills.Boolean b)) = refl
   number_same (cells.SpillCell s a (spills.Number n)) = refl
   number_same (cells.SpillCell s a (spills.Text t)) = refl
@@ -115,7 +115,7 @@ module _ (book : Book) (valid : IsValidBook book) (l : NamedLocale) (language : 
   code_same (cells.ErrorCell e s) = refl
   code_same (cells.SharedString i s) = refl
   code_same (cells.CellFormula f s v) = refl
-  code_same (cells.ArrayFormula f s r kind v) = refl
+  code_same (cells.ArrayFormula kind f s r v) = refl
   code_same (cells.SpillCell s a v) = refl
 
   formatted_is_it : (cell : Cell) → cell_formatted book cell ≡ formatted_content (whole_of book) (content_of book.strings cell)
@@ -133,7 +133,7 @@ module _ (book : Book) (valid : IsValidBook book) (l : NamedLocale) (language : 
   shown_is_it s place (cells.ErrorCell v n) e = refl
   shown_is_it s place (cells.SharedString i n) e = refl
   shown_is_it s place (cells.CellFormula f n v) e = cc
-  shown_is_it s place (cells.ArrayFormula f n r kind v) e = cc
+  shown_is_it s place (cells.ArrayFormula kind f n r v) e = cc
   shown_is_it s place (cells.SpillCell n a (spills.Boolean b)) e = refl
   shown_is_it s place (cells.SpillCell n a (spills.Number v)) e = refl
   shown_is_it s place (cells.SpillCell n a (spills.Text t)) e = refl
@@ -200,7 +200,7 @@ module _ (now : ModelState) (valid : IsValidBook now.book) (s : Sheet) (stands :
         by_cell (cells.ErrorCell v n) e = cc
         by_cell (cells.SharedString i n) e = cc
         by_cell (cells.CellFormula i n v) e = held_text i e
-        by_cell (cells.ArrayFormula i n r kind v) e = held_text i e
+        by_cell (cells.ArrayFormula kind i n r v) e = held_text i e
         by_cell (cells.SpillCell n a v) e = cc
 
     pub formula_lacking : option_and_then (slice_get s.pool) (cell_formula_index cell) ≡ None → cell_formula_index cell ≡ None

@@ -38,7 +38,7 @@ index_seen strings (cells.NumberCell v s) = refl
 index_seen strings (cells.ErrorCell e s) = refl
 index_seen strings (cells.SharedString i s) = refl
 index_seen strings (cells.CellFormula f s v) = refl
-index_seen strings (cells.ArrayFormula f s r kind v) = refl
+index_seen strings (cells.ArrayFormula kind f s r v) = refl
 index_seen strings (cells.SpillCell s a v) = refl
 
 cells_seen : (strings : List (List ℕ)) (pool : List Formula) (es : List (CellPlace × Cell))

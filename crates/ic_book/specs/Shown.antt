@@ -48,7 +48,7 @@ spill_number value = None
 abbrev pub number_kept : Cell → Option ℤ
 number_kept (cells.NumberCell amount s) = Some amount
 number_kept (cells.CellFormula f s value) = formula_number value
-number_kept (cells.ArrayFormula f s r kind value) = formula_number value
+number_kept (cells.ArrayFormula kind f s r value) = formula_number value
 number_kept (cells.SpillCell s a value) = spill_number value
 number_kept cell = None
 

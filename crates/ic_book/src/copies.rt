@@ -64,10 +64,9 @@ fn copy_formula_value(alloc: Global, value: &FormulaValue) -> Result<FormulaValu
         FormulaValue::Boolean(truth) => Ok(FormulaValue::Boolean(*truth)),
         FormulaValue::Number(amount) => Ok(FormulaValue::Number(*amount)),
         FormulaValue::Text(text) => Ok(FormulaValue::Text(copy_text(alloc, text)?)),
-        FormulaValue::Error { ei, o, m } => {
-            let o = copy_text(alloc, o)?;
-            let m = copy_text(alloc, m)?;
-            Ok(FormulaValue::Error { ei: *ei, o, m })
+        FormulaValue::Error { ei, note } => {
+            let note = note.copy(alloc)?;
+            Ok(FormulaValue::Error { ei: *ei, note })
         }
     }
 }
@@ -98,13 +97,13 @@ pub(crate) fn copy_cell(alloc: Global, cell: &Cell) -> Result<Cell, OutOfMemory>
             let v = copy_formula_value(alloc, v)?;
             Ok(Cell::CellFormula { f: *f, s: *s, v })
         }
-        Cell::ArrayFormula { f, s, r, kind, v } => {
+        Cell::ArrayFormula { kind, f, s, r, v } => {
             let v = copy_formula_value(alloc, v)?;
             Ok(Cell::ArrayFormula {
+                kind: *kind,
                 f: *f,
                 s: *s,
                 r: *r,
-                kind: *kind,
                 v,
             })
         }

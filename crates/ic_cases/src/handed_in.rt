@@ -204,10 +204,10 @@ fn number(row: &mut Row<'_>, s: usize) -> Cell {
 
 fn array(row: &mut Row<'_>, s: usize, kind: ArrayKind) -> Cell {
     Cell::ArrayFormula {
+        kind,
         f: row.size(4),
         s,
         r: (row.int(5), row.int(6)),
-        kind,
         v: FormulaValue::Unevaluated,
     }
 }

@@ -112,7 +112,7 @@ fn put_cell(row: &mut Row<'_>, strings: &Items<Text>, cell: &Cell) {
     match cell {
         Cell::EmptyCell { .. } => row.put(",empty"),
         Cell::CellFormula { .. } => row.put(",formula"),
-        Cell::ArrayFormula { r, kind, .. } => put_pair(row, kind_of(*kind), r.0, "x", r.1),
+        Cell::ArrayFormula { kind, r, .. } => put_pair(row, kind_of(*kind), r.0, "x", r.1),
         Cell::SpillCell { a, .. } => put_pair(row, ",spill ", a.0, ":", a.1),
         _ => row.put(",value"),
     }

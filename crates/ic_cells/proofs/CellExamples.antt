@@ -58,7 +58,7 @@ strings l = refl
 spilled : (l : Language) → value_of [] l (cells.SpillCell 0 (pos 1, pos 3) (spills.Number (pos 2000000000))) ≡ values.Number (pos 2000000000)
 spilled l = refl
 
-no_formula : map cell_formula_index (cells.SpillCell 0 (pos 1, pos 3) (spills.Boolean true) ∷ cells.ArrayFormula 7 0 (pos 1, pos 3) kinds.Cse formulas.Unevaluated ∷ []) ≡ map (λ o. o) (cell_formula_index (cells.EmptyCell 0) ∷ Some 7 ∷ [])
+no_formula : map cell_formula_index (cells.SpillCell 0 (pos 1, pos 3) (spills.Boolean true) ∷ cells.ArrayFormula kinds.Cse 7 0 (pos 1, pos 3) formulas.Unevaluated ∷ []) ≡ map (λ o. o) (cell_formula_index (cells.EmptyCell 0) ∷ Some 7 ∷ [])
 no_formula = refl
 
 -- styles: the default, and one in bold

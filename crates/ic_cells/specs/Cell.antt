@@ -14,7 +14,7 @@ use Rattle.ic_cells.specs.declared.value.CellValue.TheVariants as values
 -- the index of a cell's formula
 abbrev pub cell_formula_index : Cell → Option ℕ
 cell_formula_index (cells.CellFormula f s v) = Some f
-cell_formula_index (cells.ArrayFormula f s r kind v) = Some f
+cell_formula_index (cells.ArrayFormula kind f s r v) = Some f
 cell_formula_index cell = None
 
 -- the number of a cell's style
@@ -25,7 +25,7 @@ style_of (cells.NumberCell v s) = s
 style_of (cells.ErrorCell e s) = s
 style_of (cells.SharedString i s) = s
 style_of (cells.CellFormula f s v) = s
-style_of (cells.ArrayFormula f s r kind v) = s
+style_of (cells.ArrayFormula kind f s r v) = s
 style_of (cells.SpillCell s a v) = s
 
 -- a cell with another style
@@ -36,7 +36,7 @@ with_style n (cells.NumberCell v s) = cells.NumberCell v n
 with_style n (cells.ErrorCell e s) = cells.ErrorCell e n
 with_style n (cells.SharedString i s) = cells.SharedString i n
 with_style n (cells.CellFormula f s v) = cells.CellFormula f n v
-with_style n (cells.ArrayFormula f s r kind v) = cells.ArrayFormula f n r kind v
+with_style n (cells.ArrayFormula kind f s r v) = cells.ArrayFormula kind f n r v
 with_style n (cells.SpillCell s a v) = cells.SpillCell n a v
 
 -- the shared string at a place, and the empty text where there is none
@@ -51,7 +51,7 @@ value_of strings l (cells.NumberCell v s) = values.Number v
 value_of strings l (cells.ErrorCell e s) = values.String (error_word l e)
 value_of strings l (cells.SharedString i s) = values.String (string_at strings i)
 value_of strings l (cells.CellFormula f s v) = formula_value l v
-value_of strings l (cells.ArrayFormula f s r kind v) = formula_value l v
+value_of strings l (cells.ArrayFormula kind f s r v) = formula_value l v
 value_of strings l (cells.SpillCell s a v) = spill_value l v
 
 -- its type
@@ -62,5 +62,5 @@ type_of (cells.NumberCell v s) = types.Number
 type_of (cells.ErrorCell e s) = types.ErrorValue
 type_of (cells.SharedString i s) = types.Text
 type_of (cells.CellFormula f s v) = formula_type v
-type_of (cells.ArrayFormula f s r kind v) = formula_type v
+type_of (cells.ArrayFormula kind f s r v) = formula_type v
 type_of (cells.SpillCell s a v) = spill_type v

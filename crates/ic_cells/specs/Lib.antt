@@ -4,6 +4,7 @@ pub mod Layout
 pub mod Lent
 pub mod Listed
 pub mod Maps
+pub mod Note
 pub mod Sheet
 pub mod Strings
 pub mod Style

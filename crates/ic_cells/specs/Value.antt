@@ -44,7 +44,7 @@ formula_value l formulas.Unevaluated = values.String unevaluated_text
 formula_value l (formulas.Boolean b) = values.Boolean b
 formula_value l (formulas.Number n) = values.Number n
 formula_value l (formulas.Text t) = values.String t
-formula_value l (formulas.Error e o m) = values.String (error_word l e)
+formula_value l (formulas.Error e note) = values.String (error_word l e)
 
 -- the value of a cell of a spill
 abbrev pub spill_value : Language → SpillValue → CellValue
@@ -59,7 +59,7 @@ formula_type formulas.Unevaluated = types.Number
 formula_type (formulas.Boolean b) = types.LogicalValue
 formula_type (formulas.Number n) = types.Number
 formula_type (formulas.Text t) = types.Text
-formula_type (formulas.Error e o m) = types.ErrorValue
+formula_type (formulas.Error e note) = types.ErrorValue
 
 abbrev pub spill_type : SpillValue → CellType
 spill_type (spills.Boolean b) = types.LogicalValue

@@ -49,10 +49,10 @@ pub enum Cell {
     /// A formula with several values. `r` is the width and the height of the area that they take up from this cell on, and
     /// `v` is the first of them.
     ArrayFormula {
+        kind: ArrayKind,
         f: usize,
         s: usize,
         r: (i32, i32),
-        kind: ArrayKind,
         v: FormulaValue,
     },
     /// Another cell of such an area. `a` is the row and the column of the formula's cell, from 1.
@@ -73,10 +73,10 @@ impl Drop for Cell {
             Self::SharedString { si: _, s: _ } => {}
             Self::CellFormula { f: _, s: _, v } => drop(v),
             Self::ArrayFormula {
+                kind: _,
                 f: _,
                 s: _,
                 r: _,
-                kind: _,
                 v,
             } => drop(v),
             Self::SpillCell { s: _, a: _, v } => drop(v),

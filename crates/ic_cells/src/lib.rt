@@ -13,6 +13,7 @@ mod key;
 mod layout;
 mod lent;
 mod maps;
+mod note;
 mod sheet;
 mod strings;
 mod style;
@@ -26,6 +27,7 @@ pub use layout::{
     row_height,
 };
 pub use maps::{LineMap, PlaceMap};
+pub use note::{ErrorNote, ErrorTexts};
 pub use sheet::{CellIndex, SheetProperties, SheetState, Worksheet};
 pub use strings::SharedStrings;
 pub use style::{Color, Style};

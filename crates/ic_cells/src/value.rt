@@ -2,6 +2,7 @@ ghost use Rattle.std.specs.Prelude.{◌≡◌, IfOk, chars};
 ghost use Rattle.std.specs.Bool.{Decides};
 ghost use Rattle.ic_cells.specs.declared.value.CellValue.{CellValue};
 
+use crate::ErrorNote;
 use ic_laws::{Amount, Error, OutOfMemory, Text};
 use std::alloc::Global;
 
@@ -68,8 +69,8 @@ pub enum FormulaValue {
     Boolean(bool),
     Number(Amount),
     Text(Text),
-    /// An error, with the place where it arose (`o`) and what to say of it (`m`). Neither is shown.
-    Error { ei: Error, o: Text, m: Text },
+    /// An error, and what was noted of it.
+    Error { ei: Error, note: ErrorNote },
 }
 
 /// The value that a cell of a spill keeps.

@@ -32,7 +32,7 @@ emptied_same (cells.NumberCell v s) = refl
 emptied_same (cells.ErrorCell v s) = refl
 emptied_same (cells.SharedString v s) = refl
 emptied_same (cells.CellFormula f s v) = refl
-emptied_same (cells.ArrayFormula f s r k v) = refl
+emptied_same (cells.ArrayFormula k f s r v) = refl
 emptied_same (cells.SpillCell s d v) = refl
 
 wiped_same : (all t : Bool) (x : Cell) → changed (wiping all) (cond t (loosened celled x) x) ≡ wiped celled all x

@@ -49,10 +49,10 @@ released_again test a q (cells.NumberCell v s) = either (same_place q a) (cells.
 released_again test a q (cells.ErrorCell v s) = either (same_place q a) (cells.ErrorCell v s)
 released_again test a q (cells.SharedString v s) = either (same_place q a) (cells.SharedString v s)
 released_again test a q (cells.CellFormula f s v) = either (same_place q a) (cells.CellFormula f s v)
-released_again test a q (cells.ArrayFormula f s r k v) = by_test (test q) (same_place q a)
+released_again test a q (cells.ArrayFormula k f s r v) = by_test (test q) (same_place q a)
   where
     one : Cell
-    one = cells.ArrayFormula f s r k v
+    one = cells.ArrayFormula k f s r v
 
     by_test : (t u : Bool) → (λ (y : Cell). cond u (anchor_reset celled (unspilled celled a y)) (unspilled celled a y)) (cond t (loosened celled one) one) ≡ cond (t || u) (loosened celled one) one
     by_test true true = refl
@@ -82,7 +82,7 @@ still_of true q a (cells.NumberCell v s) e = cc
 still_of true q a (cells.ErrorCell v s) e = cc
 still_of true q a (cells.SharedString v s) e = cc
 still_of true q a (cells.CellFormula f s v) e = cc
-still_of true q a (cells.ArrayFormula f s r k v) e = e
+still_of true q a (cells.ArrayFormula k f s r v) e = e
 still_of true q a (cells.SpillCell s d v) e = cc
 
 pub loose_now : (q : Place) (x : Cell) → IsLooseCell (loosened celled x)
@@ -92,7 +92,7 @@ loose_now q (cells.NumberCell v s) = refl
 loose_now q (cells.ErrorCell v s) = refl
 loose_now q (cells.SharedString v s) = refl
 loose_now q (cells.CellFormula f s v) = refl
-loose_now q (cells.ArrayFormula f s r k v) = refl
+loose_now q (cells.ArrayFormula k f s r v) = refl
 loose_now q (cells.SpillCell s d v) = refl
 
 module _ (m : Contents Cell) where

@@ -27,7 +27,7 @@ loosened_style (cells.NumberCell v s) = refl
 loosened_style (cells.ErrorCell v s) = refl
 loosened_style (cells.SharedString v s) = refl
 loosened_style (cells.CellFormula f s v) = refl
-loosened_style (cells.ArrayFormula f s r k v) = refl
+loosened_style (cells.ArrayFormula k f s r v) = refl
 loosened_style (cells.SpillCell s d v) = refl
 
 some_of : (o : Option Array) → IsSome o → (array : Array) × (o ≡ Some array)

@@ -79,7 +79,7 @@ unspilled_twice a (cells.NumberCell v s) = refl
 unspilled_twice a (cells.ErrorCell e s) = refl
 unspilled_twice a (cells.SharedString i s) = refl
 unspilled_twice a (cells.CellFormula f s v) = refl
-unspilled_twice a (cells.ArrayFormula f s r kind v) = refl
+unspilled_twice a (cells.ArrayFormula kind f s r v) = refl
 unspilled_twice a (cells.SpillCell s b v) = settled (same_place a b) (unspilled celled a) (cells.SpillCell s b v) (cells.EmptyCell s) refl refl
 
 -- what a spill's cell is, and that nothing else is emptied
@@ -91,7 +91,7 @@ spill_is (Some (cells.NumberCell v n)) s a e = cc
 spill_is (Some (cells.ErrorCell v n)) s a e = cc
 spill_is (Some (cells.SharedString v n)) s a e = cc
 spill_is (Some (cells.CellFormula f n v)) s a e = cc
-spill_is (Some (cells.ArrayFormula f n r kind v)) s a e = cc
+spill_is (Some (cells.ArrayFormula kind f n r v)) s a e = cc
 spill_is (Some (cells.SpillCell n b v)) s a e =
     let p : ◌≡◌ {A = ℕ × Place} (n, b) (s, a) = cc in
     (v, ap₂ (λ (k : ℕ) (c : Place). Some (cells.SpillCell k c v)) (ap (λ (z : ℕ × Place). z.0) p) (ap (λ (z : ℕ × Place). z.1) p))
@@ -103,12 +103,12 @@ no_spill (cells.NumberCell v n) a e = refl
 no_spill (cells.ErrorCell v n) a e = refl
 no_spill (cells.SharedString v n) a e = refl
 no_spill (cells.CellFormula f n v) a e = refl
-no_spill (cells.ArrayFormula f n r kind v) a e = refl
+no_spill (cells.ArrayFormula kind f n r v) a e = refl
 no_spill (cells.SpillCell n b v) a e = cc
 
 -- what stands where an array formula does
 pub there_array : (p : Place) (o : Option Cell) (f s : ℕ) (array : Array) → formula_array p o ≡ Some (f, s, array)
-    → (v : FormulaValue) × (o ≡ Some (cells.ArrayFormula f s (array.block.width, array.block.height) array.kind v)) × (block_at p array.block.width array.block.height ≡ array.block)
+    → (v : FormulaValue) × (o ≡ Some (cells.ArrayFormula array.kind f s (array.block.width, array.block.height) v)) × (block_at p array.block.width array.block.height ≡ array.block)
 there_array p None f s array e = cc
 there_array p (Some (cells.EmptyCell n)) f s array e = cc
 there_array p (Some (cells.BooleanCell v n)) f s array e = cc
@@ -117,10 +117,10 @@ there_array p (Some (cells.ErrorCell v n)) f s array e = cc
 there_array p (Some (cells.SharedString v n)) f s array e = cc
 there_array p (Some (cells.CellFormula g n v)) f s array e = cc
 there_array p (Some (cells.SpillCell n b v)) f s array e = cc
-there_array p (Some (cells.ArrayFormula g n r k v)) f s array e =
+there_array p (Some (cells.ArrayFormula k g n r v)) f s array e =
     let same : ◌≡◌ {A = ℕ × ℕ × Array} (g, n, record { block = block_at p r.0 r.1; kind = k }) (f, s, array) = cc in (
       v,
-      ap (λ (z : ℕ × ℕ × Array). Some (cells.ArrayFormula z.0 z.1 (z.2.block.width, z.2.block.height) z.2.kind v)) same,
+      ap (λ (z : ℕ × ℕ × Array). Some (cells.ArrayFormula z.2.kind z.0 z.1 (z.2.block.width, z.2.block.height) v)) same,
       ap (λ (z : ℕ × ℕ × Array). block_at p z.2.block.width z.2.block.height) (sym same) ∙ ap (λ (z : ℕ × ℕ × Array). z.2.block) same,
     )
 
@@ -132,7 +132,7 @@ no_anchor p (cells.ErrorCell v n) e = refl
 no_anchor p (cells.SharedString v n) e = refl
 no_anchor p (cells.CellFormula f n v) e = refl
 no_anchor p (cells.SpillCell n b v) e = refl
-no_anchor p (cells.ArrayFormula f n r kind v) e = cc
+no_anchor p (cells.ArrayFormula kind f n r v) e = cc
 
 passed : (t : Bool) (x y : Cell) → t ≡ true → x ≡ cond t x y
 passed true x y e = refl
@@ -161,10 +161,10 @@ module _ (m : Contents Cell) (p : Place) where
   none_there a e = one_kept m p (unspilled celled a) (λ x is. no_spill x a (ap spill_of (sym is) ∙ e))
 
   -- an array formula that was reset, if any
-  pub is_reset : (f s : ℕ) (array : Array) → formula_array p (finite.get m p) ≡ Some (f, s, array) → finite.insert m p (cells.ArrayFormula f s (pos 1, pos 1) array.kind formulas.Unevaluated) ≡ changed_where (λ q. same_place q p) (anchor_reset celled) m
+  pub is_reset : (f s : ℕ) (array : Array) → formula_array p (finite.get m p) ≡ Some (f, s, array) → finite.insert m p (cells.ArrayFormula array.kind f s (pos 1, pos 1) formulas.Unevaluated) ≡ changed_where (λ q. same_place q p) (anchor_reset celled) m
   is_reset f s array e =
       let here = there_array p (finite.get m p) f s array e in
-      one_changed m p (anchor_reset celled) (cells.ArrayFormula f s (array.block.width, array.block.height) array.kind here.0) here.1
+      one_changed m p (anchor_reset celled) (cells.ArrayFormula array.kind f s (array.block.width, array.block.height) here.0) here.1
 
   pub none_to_reset : formula_array p (finite.get m p) ≡ None → m ≡ changed_where (λ q. same_place q p) (anchor_reset celled) m
   none_to_reset e = one_kept m p (anchor_reset celled) (λ x is. no_anchor p x (ap (formula_array p) (sym is) ∙ e))

@@ -123,11 +123,11 @@ module _ (merges : List Merge) (m : Contents Cell) (b : Block) (count : ℕ) (w 
 
 module _ (grid : Grid) (ok : IsGrid grid) (b : Block) (f s : ℕ) (array : Array) (is : formula_array (first_place b) (finite.get grid.cells (first_place b)) ≡ Some (f, s, array)) (values : List SpillValue)
     (allowed : spill_answer celled grid.merged_cells grid.cells b (length values) (Anchor array.block.width array.block.height array.kind) ≡ Ok tt) where
-  here : (v : FormulaValue) × (finite.get grid.cells (first_place b) ≡ Some (cells.ArrayFormula f s (array.block.width, array.block.height) array.kind v)) × (block_at (first_place b) array.block.width array.block.height ≡ array.block)
+  here : (v : FormulaValue) × (finite.get grid.cells (first_place b) ≡ Some (cells.ArrayFormula array.kind f s (array.block.width, array.block.height) v)) × (block_at (first_place b) array.block.width array.block.height ≡ array.block)
   here = there_array (first_place b) (finite.get grid.cells (first_place b)) f s array is
 
   old_anchor : Has celled grid.cells (first_place b) (Anchor array.block.width array.block.height array.kind)
-  old_anchor = (cells.ArrayFormula f s (array.block.width, array.block.height) array.kind here.0, here.1, refl)
+  old_anchor = (cells.ArrayFormula array.kind f s (array.block.width, array.block.height) here.0, here.1, refl)
 
   pub array_fits : Fits grid.merged_cells grid.cells b (length values)
   array_fits = fits grid.merged_cells grid.cells b (length values) array.block.width array.block.height array.kind ok.inside ok.arrays ok.merges old_anchor allowed
@@ -168,7 +168,7 @@ module _ (grid : Grid) (ok : IsGrid grid) (b : Block) (f s : ℕ) (array : Array
         w = without_spill celled (first_place b) grid.cells
 
         x : Cell
-        x = cells.ArrayFormula f s (b.width, b.height) array.kind (gathered v.0)
+        x = cells.ArrayFormula array.kind f s (b.width, b.height) (gathered v.0)
 
         next : Place
         next = next_place b (first_place b)

@@ -24,7 +24,7 @@ module _ (rows : Rows) (columns : Columns) (m : Contents Cell) (b : Block) where
     pub same : items ++ rest_cells rows columns m b at rest ≡ all
 
   pub filling_begun : is_area b ≡ true → (f s : ℕ) (kind : ArrayKind) (values rest more : List SpillValue) (v : SpillValue) → length values ≡ place_count b → rest ≡ values → rest ≡ v ∷ more
-      → (items : List Cell) (x : Cell) → items ≡ [] ++ x ∷ [] → x ≡ cells.ArrayFormula f s (b.width, b.height) kind (gathered v) → (a at : Place) → a ≡ first_place b → at ≡ next_place b a
+      → (items : List Cell) (x : Cell) → items ≡ [] ++ x ∷ [] → x ≡ cells.ArrayFormula kind f s (b.width, b.height) (gathered v) → (a at : Place) → a ≡ first_place b → at ≡ next_place b a
       → IsFilling (array_cells rows columns m b f s kind values) items a at more
   filling_begun area f s kind values rest more v count e g items x h k a at first next =
       let is : values ≡ v ∷ more = sym e ∙ g in
@@ -35,7 +35,7 @@ module _ (rows : Rows) (columns : Columns) (m : Contents Cell) (b : Block) where
         anchor = first;
         same =
             ap (λ ys. ys ++ rest_cells rows columns m b at more) (h ∙ ap (λ y. y ∷ []) k)
-            ∙ ap (λ (p : Place). cells.ArrayFormula f s (b.width, b.height) kind (gathered v) ∷ rest_cells rows columns m b p more) here
+            ∙ ap (λ (p : Place). cells.ArrayFormula kind f s (b.width, b.height) (gathered v) ∷ rest_cells rows columns m b p more) here
             ∙ ap (array_cells rows columns m b f s kind) (sym is);
       }
 

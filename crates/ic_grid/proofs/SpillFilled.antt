@@ -46,13 +46,13 @@ module _ (rows : Rows) (columns : Columns) (m : Contents Cell) (b : Block) where
       either true = refl
       either false = refl
 
-  pub spilled_placed : (f s : ℕ) (r : ℤ × ℤ) (kind : ArrayKind) (old : FormulaValue) → finite.get m (first_place b) ≡ Some (cells.ArrayFormula f s r kind old) → (values : List SpillValue) → IsAt b (first_place b) (length values)
+  pub spilled_placed : (f s : ℕ) (r : ℤ × ℤ) (kind : ArrayKind) (old : FormulaValue) → finite.get m (first_place b) ≡ Some (cells.ArrayFormula kind f s r old) → (values : List SpillValue) → IsAt b (first_place b) (length values)
       → (v : SpillValue) (vs : List SpillValue) → values ≡ v ∷ vs
       → spilled celled rows columns b (v ∷ vs) m ≡ placed b (first_place b) (array_cells rows columns m b f s kind (v ∷ vs)) (without_spill celled (first_place b) m)
   spilled_placed f s r kind old here values at v vs e =
       ap (λ o. filled celled rows columns b (next_place b (first_place b)) vs (with_first celled b v o (without_spill celled (first_place b) m))) here
-      ∙ filled_placed vs (next_place b (first_place b)) (at_next b (first_place b) (length vs) one) (finite.insert (without_spill celled (first_place b) m) (first_place b) (cells.ArrayFormula f s (b.width, b.height) kind (gathered v))) (λ p left.
-      ap (option_map style_of) (insert_away (without_spill celled (first_place b) m) (first_place b) (cells.ArrayFormula f s (b.width, b.height) kind (gathered v)) p (left_apart b (first_place b) (length vs) one p left)
+      ∙ filled_placed vs (next_place b (first_place b)) (at_next b (first_place b) (length vs) one) (finite.insert (without_spill celled (first_place b) m) (first_place b) (cells.ArrayFormula kind f s (b.width, b.height) (gathered v))) (λ p left.
+      ap (option_map style_of) (insert_away (without_spill celled (first_place b) m) (first_place b) (cells.ArrayFormula kind f s (b.width, b.height) (gathered v)) p (left_apart b (first_place b) (length vs) one p left)
       ∙ get-remade _ m p)
       ∙ same_style (first_place b) (finite.get m p))
     where

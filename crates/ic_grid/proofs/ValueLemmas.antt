@@ -35,11 +35,11 @@ module _ (m : Contents Cell) (ok : AreArrays celled m) (f s : ℕ) (array : Arra
   abbrev t : ℤ
   t = array.block.height
 
-  found : (v : FormulaValue) × (finite.get m a ≡ Some (cells.ArrayFormula f s (w, t) array.kind v)) × (block_at a w t ≡ array.block)
+  found : (v : FormulaValue) × (finite.get m a ≡ Some (cells.ArrayFormula array.kind f s (w, t) v)) × (block_at a w t ≡ array.block)
   found = there_array a (finite.get m a) f s array is
 
   has : Has celled m a (Anchor w t array.kind)
-  has = (cells.ArrayFormula f s (w, t) array.kind found.0, found.1, refl)
+  has = (cells.ArrayFormula array.kind f s (w, t) found.0, found.1, refl)
 
   pub there_area : is_area array.block ≡ true
   there_area = ap is_area (sym found.2) ∙ ok.areas a w t array.kind has
@@ -58,13 +58,13 @@ module _ (m : Contents Cell) (ok : AreArrays celled m) (f s : ℕ) (array : Arra
     valued_at : (q : Place) → finite.get (valued celled a value m) q ≡ option_and_then (λ x. Some (valued_cell celled (is_cse array.kind) value a q x)) (finite.get m q)
     valued_at q = get-remade _ m q ∙ ap (λ c. option_and_then (λ x. Some (valued_cell celled c value a q x)) (finite.get m q)) cse_is
 
-    pub dynamic_valued : array.kind ≡ kinds.Dynamic → (between after : Contents Cell) → between ≡ without_spill celled a m → after ≡ finite.insert between a (cells.ArrayFormula f s (pos 1, pos 1) kinds.Dynamic value) → after ≡ valued celled a value m
+    pub dynamic_valued : array.kind ≡ kinds.Dynamic → (between after : Contents Cell) → between ≡ without_spill celled a m → after ≡ finite.insert between a (cells.ArrayFormula kinds.Dynamic f s (pos 1, pos 1) value) → after ≡ valued celled a value m
     dynamic_valued kind between after e g =
         g ∙ ap (λ (c : Contents Cell). finite.insert c a cell) e
         ∙ same_contents _ _ (λ q. finite.get-insert place_cmp_total (without_spill celled a m) a cell q ∙ ap (cond (same_place q a) (Some cell)) (get-remade _ m q) ∙ each q (same_place q a) refl ∙ sym (valued_at q ∙ ap (λ k. option_and_then (λ x. Some (valued_cell celled (is_cse k) value a q x)) (finite.get m q)) kind))
       where
         cell : Cell
-        cell = cells.ArrayFormula f s (pos 1, pos 1) kinds.Dynamic value
+        cell = cells.ArrayFormula kinds.Dynamic f s (pos 1, pos 1) value
 
         at_other : (o : Option Cell) (u : Bool) (q : Place) → u ≡ false → option_and_then (λ x. Some (unspilled celled a x)) o ≡ option_and_then (λ x. Some (cond u (celled.with_value value (celled.with_area (pos 1) (pos 1) x)) (cond (is_spill_of a (shape_of x)) (emptied celled x) x))) o
         at_other None u q h = refl
@@ -73,8 +73,8 @@ module _ (m : Contents Cell) (ok : AreArrays celled m) (f s : ℕ) (array : Arra
 
         each : (q : Place) (u : Bool) → same_place q a ≡ u → cond u (Some cell) (option_and_then (λ x. Some (unspilled celled a x)) (finite.get m q)) ≡ option_and_then (λ x. Some (valued_cell celled false value a q x)) (finite.get m q)
         each q true h =
-            let here : finite.get m q ≡ Some (cells.ArrayFormula f s (w, t) array.kind found.0) = ap (finite.get m) (same_is q a h) ∙ found.1 in
-            sym (ap (option_and_then (λ x. Some (valued_cell celled false value a q x))) here ∙ ap (λ u. Some (cond u (cells.ArrayFormula f s (pos 1, pos 1) array.kind value) (cells.ArrayFormula f s (w, t) array.kind found.0))) h ∙ ap (λ k. Some (cells.ArrayFormula f s (pos 1, pos 1) k value)) kind)
+            let here : finite.get m q ≡ Some (cells.ArrayFormula array.kind f s (w, t) found.0) = ap (finite.get m) (same_is q a h) ∙ found.1 in
+            sym (ap (option_and_then (λ x. Some (valued_cell celled false value a q x))) here ∙ ap (λ u. Some (cond u (cells.ArrayFormula array.kind f s (pos 1, pos 1) value) (cells.ArrayFormula array.kind f s (w, t) found.0))) h ∙ ap (λ k. Some (cells.ArrayFormula k f s (pos 1, pos 1) value)) kind)
         each q false h = at_other (finite.get m q) (same_place q a) q h
 
     -- the cells of a Cse array, each with the value
@@ -86,13 +86,13 @@ module _ (m : Contents Cell) (ok : AreArrays celled m) (f s : ℕ) (array : Arra
     abbrev spread_all : List Cell
     spread_all = spread_from m array.block (spread value) (first_place array.block) (place_count array.block)
 
-    pub cse_valued : array.kind ≡ kinds.Cse → (between after : Contents Cell) → between ≡ placed array.block (first_place array.block) spread_all m → after ≡ finite.insert between a (cells.ArrayFormula f s (w, t) kinds.Cse value) → after ≡ valued celled a value m
+    pub cse_valued : array.kind ≡ kinds.Cse → (between after : Contents Cell) → between ≡ placed array.block (first_place array.block) spread_all m → after ≡ finite.insert between a (cells.ArrayFormula kinds.Cse f s (w, t) value) → after ≡ valued celled a value m
     cse_valued kind between after e g =
         g ∙ ap (λ (c : Contents Cell). finite.insert c a cell) e
         ∙ same_contents _ _ (λ q. finite.get-insert place_cmp_total placed_all a cell q ∙ each q (same_place q a) refl ∙ sym (valued_at q ∙ ap (λ k. option_and_then (λ x. Some (valued_cell celled (is_cse k) value a q x)) (finite.get m q)) kind))
       where
         cell : Cell
-        cell = cells.ArrayFormula f s (w, t) kinds.Cse value
+        cell = cells.ArrayFormula kinds.Cse f s (w, t) value
 
         placed_all : Contents Cell
         placed_all = placed array.block (first_place array.block) spread_all m
@@ -110,8 +110,8 @@ module _ (m : Contents Cell) (ok : AreArrays celled m) (f s : ℕ) (array : Arra
 
         each : (q : Place) (u : Bool) → same_place q a ≡ u → cond u (Some cell) (finite.get placed_all q) ≡ option_and_then (λ x. Some (valued_cell celled true value a q x)) (finite.get m q)
         each q true h =
-            let here : finite.get m q ≡ Some (cells.ArrayFormula f s (w, t) array.kind found.0) = ap (finite.get m) (same_is q a h) ∙ found.1 in
-            sym (ap (option_and_then (λ x. Some (valued_cell celled true value a q x))) here ∙ ap (λ u. Some (cond u (cells.ArrayFormula f s (w, t) array.kind value) (cells.ArrayFormula f s (w, t) array.kind found.0))) h ∙ ap (λ k. Some (cells.ArrayFormula f s (w, t) k value)) kind)
+            let here : finite.get m q ≡ Some (cells.ArrayFormula array.kind f s (w, t) found.0) = ap (finite.get m) (same_is q a h) ∙ found.1 in
+            sym (ap (option_and_then (λ x. Some (valued_cell celled true value a q x))) here ∙ ap (λ u. Some (cond u (cells.ArrayFormula array.kind f s (w, t) value) (cells.ArrayFormula array.kind f s (w, t) found.0))) h ∙ ap (λ k. Some (cells.ArrayFormula k f s (w, t) value)) kind)
         each q false h = by_side (is_in_block array.block q) within outside
           where
             within : is_in_block array.block q ≡ true → finite.get placed_all q ≡ option_and_then (λ x. Some (valued_cell celled true value a q x)) (finite.get m q)
@@ -161,7 +161,7 @@ single_there (Some (cells.NumberCell v n)) f s e = cc
 single_there (Some (cells.ErrorCell v n)) f s e = cc
 single_there (Some (cells.SharedString v n)) f s e = cc
 single_there (Some (cells.SpillCell n b v)) f s e = cc
-single_there (Some (cells.ArrayFormula g n r k v)) f s e = cc
+single_there (Some (cells.ArrayFormula k g n r v)) f s e = cc
 single_there (Some (cells.CellFormula g n v)) f s e =
     let same : ◌≡◌ {A = ℕ × ℕ} (g, n) (f, s) = cc in
     (v, ap (λ (z : ℕ × ℕ). Some (cells.CellFormula z.0 z.1 v)) same)

@@ -67,7 +67,7 @@ module _ (m : Contents Cell) (a : Place) (value : FormulaValue) where
   same_shape (cells.ErrorCell v s) = refl
   same_shape (cells.SharedString v s) = refl
   same_shape (cells.CellFormula f s v) = refl
-  same_shape (cells.ArrayFormula f s r k v) = refl
+  same_shape (cells.ArrayFormula k f s r v) = refl
   same_shape (cells.SpillCell s d v) = refl
 
   cse_shape : (q : Place) (x : Cell) → shape_of (valued_cell celled true value a q x) ≡ shape_of x
@@ -88,9 +88,9 @@ module _ (m : Contents Cell) (a : Place) (value : FormulaValue) where
       same_cell q b (cells.ErrorCell v s) e t = cc
       same_cell q b (cells.SharedString v s) e t = cc
       same_cell q b (cells.CellFormula f s v) e t = cc
-      same_cell q b (cells.ArrayFormula f s r k v) e t =
+      same_cell q b (cells.ArrayFormula k f s r v) e t =
           let one : q ≡ b = cc in
-          ap (λ u. cond u (cells.ArrayFormula f s (pos 1, pos 1) k value) (cells.ArrayFormula f s r k v)) (ap (λ p. same_place p a) one ∙ t)
+          ap (λ u. cond u (cells.ArrayFormula k f s (pos 1, pos 1) value) (cells.ArrayFormula k f s r v)) (ap (λ p. same_place p a) one ∙ t)
       same_cell q b (cells.SpillCell s d v) e t =
           let one : d ≡ b = cc in
           ap (λ u. cond (same_place q a) (cells.SpillCell s d v) (cond u (cells.EmptyCell s) (cells.SpillCell s d v))) (same_turned a d ∙ ap (λ p. same_place p a) one ∙ t)
@@ -112,8 +112,8 @@ module _ (m : Contents Cell) (a : Place) (value : FormulaValue) where
           two : (u : Bool) → IsLooseCell (cond u (cells.CellFormula f s value) (cells.CellFormula f s v))
           two true = refl
           two false = refl
-      loose_cell q (cells.ArrayFormula f s r k v) is h =
-          ap (λ u. is_loose (shape_of (cond u (cells.ArrayFormula f s (pos 1, pos 1) k value) (cells.ArrayFormula f s r k v)))) (h q refl)
+      loose_cell q (cells.ArrayFormula k f s r v) is h =
+          ap (λ u. is_loose (shape_of (cond u (cells.ArrayFormula k f s (pos 1, pos 1) value) (cells.ArrayFormula k f s r v)))) (h q refl)
       loose_cell q (cells.SpillCell s d v) is h = two (same_place q a) refl
         where
           here : d ≡ a

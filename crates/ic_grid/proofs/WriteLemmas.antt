@@ -63,9 +63,9 @@ kept_cell a q (cells.NumberCell v s) b e t = cc
 kept_cell a q (cells.ErrorCell v s) b e t = cc
 kept_cell a q (cells.SharedString v s) b e t = cc
 kept_cell a q (cells.CellFormula f s v) b e t = cc
-kept_cell a q (cells.ArrayFormula f s r k v) b e t =
+kept_cell a q (cells.ArrayFormula k f s r v) b e t =
     let one : q ≡ b = cc in
-    second_of_two (same_place q a) (reset celled (cells.ArrayFormula f s r k v)) (cells.ArrayFormula f s r k v) (ap (λ p. same_place p a) one ∙ t)
+    second_of_two (same_place q a) (reset celled (cells.ArrayFormula k f s r v)) (cells.ArrayFormula k f s r v) (ap (λ p. same_place p a) one ∙ t)
 kept_cell a q (cells.SpillCell s d v) b e t =
     let one : d ≡ b = cc in
     let same : unspilled celled a (cells.SpillCell s d v) ≡ cells.SpillCell s d v =
@@ -83,8 +83,8 @@ loose_cell a q (cells.NumberCell v s) h = loose_either (same_place q a) (cells.N
 loose_cell a q (cells.ErrorCell v s) h = loose_either (same_place q a) (cells.ErrorCell v s) refl
 loose_cell a q (cells.SharedString v s) h = loose_either (same_place q a) (cells.SharedString v s) refl
 loose_cell a q (cells.CellFormula f s v) h = loose_either (same_place q a) (cells.CellFormula f s v) refl
-loose_cell a q (cells.ArrayFormula f s r k v) h =
-    ap (λ y. is_loose (shape_of y)) (first_of_two (same_place q a) (reset celled (cells.ArrayFormula f s r k v)) (cells.ArrayFormula f s r k v) (h q refl)) ∙ refl
+loose_cell a q (cells.ArrayFormula k f s r v) h =
+    ap (λ y. is_loose (shape_of y)) (first_of_two (same_place q a) (reset celled (cells.ArrayFormula k f s r v)) (cells.ArrayFormula k f s r v) (h q refl)) ∙ refl
 loose_cell a q (cells.SpillCell s d v) h =
     let same : unspilled celled a (cells.SpillCell s d v) ≡ cells.EmptyCell s =
     first_of_two (same_place a d) (cells.EmptyCell s) (cells.SpillCell s d v) (same_turned a d ∙ h d refl) in
@@ -98,7 +98,7 @@ free_cell q (cells.NumberCell v s) h = refl
 free_cell q (cells.ErrorCell v s) h = refl
 free_cell q (cells.SharedString v s) h = refl
 free_cell q (cells.CellFormula f s v) h = refl
-free_cell q (cells.ArrayFormula f s r k v) h = let never : false ≡ true = h q refl in cc
+free_cell q (cells.ArrayFormula k f s r v) h = let never : false ≡ true = h q refl in cc
 free_cell q (cells.SpillCell s d v) h = h d refl
 
 -- a place is the one that something was found to begin at

@@ -1,9 +1,10 @@
 -- What a place of a sheet holds, by its shape; and how it is emptied and reset. The rules on arrays, spills and clearing
 -- look at nothing else, so they hold for cells and for whatever else a place holds.
 use Rattle.std.specs.Ordering.{int_eq}
-use Rattle.std.specs.Prelude.{ℕ, ℤ, pos, Bool, ◌&&◌, true, false, [], Option, Some, None}
+use Rattle.std.specs.Prelude.{ℕ, ℤ, pos, Bool, ◌&&◌, true, false, Option, Some, None}
 use Rattle.ic_laws.specs.declared.tree.Error.TheVariants as errors
 use Rattle.ic_cells.specs.Cell.{style_of}
+use Rattle.ic_cells.specs.Note.{no_note}
 use Rattle.ic_cells.specs.declared.cell.ArrayKind.{ArrayKind}
 use Rattle.ic_cells.specs.declared.cell.ArrayKind.TheVariants as kinds
 use Rattle.ic_cells.specs.declared.cell.Cell.{Cell}
@@ -82,14 +83,14 @@ spread formulas.Unevaluated = spills.Error errors.ERROR
 spread (formulas.Boolean b) = spills.Boolean b
 spread (formulas.Number n) = spills.Number n
 spread (formulas.Text t) = spills.Text t
-spread (formulas.Error e o m) = spills.Error e
+spread (formulas.Error e note) = spills.Error e
 
 -- the value of a spill's cell as a formula has it
 abbrev pub gathered : SpillValue → FormulaValue
 gathered (spills.Boolean b) = formulas.Boolean b
 gathered (spills.Number n) = formulas.Number n
 gathered (spills.Text t) = formulas.Text t
-gathered (spills.Error e) = formulas.Error e [] []
+gathered (spills.Error e) = formulas.Error e no_note
 
 -- cells ----
 
@@ -100,18 +101,18 @@ shape_of (cells.NumberCell v s) = Value
 shape_of (cells.ErrorCell e s) = Value
 shape_of (cells.SharedString i s) = Value
 shape_of (cells.CellFormula f s v) = Formula
-shape_of (cells.ArrayFormula f s r kind v) = Anchor r.0 r.1 kind
+shape_of (cells.ArrayFormula kind f s r v) = Anchor r.0 r.1 kind
 shape_of (cells.SpillCell s a v) = SpillOf a
 
 -- a formula's cell with this value; other cells stay
 abbrev pub with_cell_value : FormulaValue → Cell → Cell
 with_cell_value value (cells.CellFormula f s v) = cells.CellFormula f s value
-with_cell_value value (cells.ArrayFormula f s r kind v) = cells.ArrayFormula f s r kind value
+with_cell_value value (cells.ArrayFormula kind f s r v) = cells.ArrayFormula kind f s r value
 with_cell_value value cell = cell
 
 -- an array formula's cell with this area; other cells stay
 abbrev pub with_cell_area : ℤ → ℤ → Cell → Cell
-with_cell_area width height (cells.ArrayFormula f s r kind v) = cells.ArrayFormula f s (width, height) kind v
+with_cell_area width height (cells.ArrayFormula kind f s r v) = cells.ArrayFormula kind f s (width, height) v
 with_cell_area width height cell = cell
 
 -- the style and the anchor of a spill's cell
@@ -133,5 +134,5 @@ celled = record {
   with_value = with_cell_value;
   with_area = with_cell_area;
   spill = λ s a v. cells.SpillCell s a v;
-  array = λ f s width height kind. cells.ArrayFormula f s (width, height) kind formulas.Unevaluated;
+  array = λ f s width height kind. cells.ArrayFormula kind f s (width, height) formulas.Unevaluated;
 }

@@ -113,4 +113,4 @@ rest_cells rows columns m b q (v ∷ vs) =
 abbrev pub array_cells : Rows → Columns → Contents Cell → Block → ℕ → ℕ → ArrayKind → List SpillValue → List Cell
 array_cells rows columns m b f s kind [] = []
 array_cells rows columns m b f s kind (v ∷ vs) =
-    cells.ArrayFormula f s (b.width, b.height) kind (gathered v) ∷ rest_cells rows columns m b (next_place b (first_place b)) vs
+    cells.ArrayFormula kind f s (b.width, b.height) (gathered v) ∷ rest_cells rows columns m b (next_place b (first_place b)) vs

@@ -34,7 +34,7 @@ module _ {X : Type 0} (h : Holding X) where
 
 -- the formula, the style and the array of an array formula at a place
 abbrev pub formula_array : Place → Option Cell → Option (ℕ × ℕ × Array)
-formula_array p (Some (cells.ArrayFormula f s r kind v)) = Some (f, s, record { block = block_at p r.0 r.1; kind = kind })
+formula_array p (Some (cells.ArrayFormula kind f s r v)) = Some (f, s, record { block = block_at p r.0 r.1; kind = kind })
 formula_array p cell = None
 
 -- such a formula stands at the first place of its array

@@ -27,7 +27,7 @@ pub fn formula_array(cells: &PlaceMap<Cell>, place: (i32, i32)) -> Option<(usize
     ensures { result ≡ formula_array place (finite.get cells.now place) }
 {
     match cells.get(place.0, place.1) {
-        Some(Cell::ArrayFormula { f, s, r, kind, .. }) => Some((
+        Some(Cell::ArrayFormula { kind, f, s, r, .. }) => Some((
             *f,
             *s,
             Array {
@@ -44,7 +44,7 @@ pub fn array_of(cells: &PlaceMap<Cell>, place: (i32, i32)) -> Option<Array>
     ensures { result ≡ array_of celled cells.now place }
 {
     match cells.get(place.0, place.1) {
-        Some(Cell::ArrayFormula { r, kind, .. }) => Some(Array {
+        Some(Cell::ArrayFormula { kind, r, .. }) => Some(Array {
             block: Block {
                 row: place.0,
                 column: place.1,

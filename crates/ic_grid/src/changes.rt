@@ -87,10 +87,10 @@ pub fn reset(cells: &mut PlaceMap<Cell>, place: (i32, i32))
 {
     if let Some((f, s, array)) = formula_array(cells, place) {
         let cell = Cell::ArrayFormula {
+            kind: array.kind,
             f,
             s,
             r: (1, 1),
-            kind: array.kind,
             v: FormulaValue::Unevaluated,
         };
         replace(cells, place, cell);

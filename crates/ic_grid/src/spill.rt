@@ -19,9 +19,8 @@ use crate::changes::{next_place, put_all, unspill_block};
 use crate::merges::is_merged;
 use crate::room::make_room;
 use crate::{Array, Block, Grid, GridError};
-use ic_cells::{ArrayKind, Cell, FormulaValue, Merge, PlaceMap, SpillValue};
-use ic_laws::{OutOfMemory, Text};
-use std::alloc::Global;
+use ic_cells::{ArrayKind, Cell, ErrorNote, FormulaValue, Merge, PlaceMap, SpillValue};
+use ic_laws::OutOfMemory;
 
 /// Whether a cell is empty, or one of the spill of the formula at a place.
 fn is_free(cell: &Cell, anchor: (i32, i32)) -> bool
@@ -143,8 +142,8 @@ fn can_spill(
     }
 }
 
-/// The value of a spill's cell as a formula has it: an error has no texts of its own. It takes no memory.
-pub fn gathered(alloc: Global, value: SpillValue) -> FormulaValue
+/// The value of a spill's cell as a formula has it: the texts that go with an error are empty. It takes no memory.
+pub fn gathered(value: SpillValue) -> FormulaValue
     ensures { result ≡ gathered value }
 {
     match value {
@@ -153,8 +152,7 @@ pub fn gathered(alloc: Global, value: SpillValue) -> FormulaValue
         SpillValue::Text(text) => FormulaValue::Text(text),
         SpillValue::Error(ei) => FormulaValue::Error {
             ei,
-            o: Text::from(String::new(alloc)),
-            m: Text::from(String::new(alloc)),
+            note: ErrorNote::empty(),
         },
     }
 }
@@ -205,11 +203,11 @@ impl Grid {
         };
         let anchor = block.first();
         items.push(Cell::ArrayFormula {
+            kind,
             f,
             s,
             r: block.area(),
-            kind,
-            v: gathered(alloc, value),
+            v: gathered(value),
         })?;
         let mut at = next_place(block, anchor);
         while let Some(v) = rest.next() {

@@ -88,10 +88,10 @@ fn value_dynamic(cells: &mut PlaceMap<Cell>, f: usize, s: usize, array: &Array, 
 {
     unspill_block(cells, &array.block);
     let cell = Cell::ArrayFormula {
+        kind: ArrayKind::Dynamic,
         f,
         s,
         r: (1, 1),
-        kind: ArrayKind::Dynamic,
         v: value,
     };
     replace(cells, array.block.first(), cell);
@@ -115,10 +115,10 @@ fn value_cse(
     let items = spread_cells(cells, &array.block, &value)?;
     put_all(cells, &array.block, items);
     let cell = Cell::ArrayFormula {
+        kind: ArrayKind::Cse,
         f,
         s,
         r: array.block.area(),
-        kind: ArrayKind::Cse,
         v: value,
     };
     replace(cells, array.block.first(), cell);

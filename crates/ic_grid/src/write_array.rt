@@ -43,10 +43,10 @@ fn blank_cell(alloc: Global, block: &Block, f: usize, s: usize, place: (i32, i32
     let anchor = block.first();
     if is_same(place, anchor) {
         Cell::ArrayFormula {
+            kind: ArrayKind::Cse,
             f,
             s,
             r: block.area(),
-            kind: ArrayKind::Cse,
             v: FormulaValue::Unevaluated,
         }
     } else {

@@ -17,7 +17,7 @@ module _ (strings : List (List ℕ)) where
   shapes (cells.ErrorCell e s) = refl
   shapes (cells.SharedString i s) = refl
   shapes (cells.CellFormula f s v) = refl
-  shapes (cells.ArrayFormula f s r kind v) = refl
+  shapes (cells.ArrayFormula kind f s r v) = refl
   shapes (cells.SpillCell s a v) = refl
 
   styles : (cell : Cell) → contents.style_of (content_of strings cell) ≡ style_of cell
@@ -27,7 +27,7 @@ module _ (strings : List (List ℕ)) where
   styles (cells.ErrorCell e s) = refl
   styles (cells.SharedString i s) = refl
   styles (cells.CellFormula f s v) = refl
-  styles (cells.ArrayFormula f s r kind v) = refl
+  styles (cells.ArrayFormula kind f s r v) = refl
   styles (cells.SpillCell s a v) = refl
 
   valued : (value : FormulaValue) (cell : Cell) → with_formula_value value (content_of strings cell) ≡ content_of strings (with_cell_value value cell)
@@ -37,7 +37,7 @@ module _ (strings : List (List ℕ)) where
   valued value (cells.ErrorCell e s) = refl
   valued value (cells.SharedString i s) = refl
   valued value (cells.CellFormula f s v) = refl
-  valued value (cells.ArrayFormula f s r kind v) = refl
+  valued value (cells.ArrayFormula kind f s r v) = refl
   valued value (cells.SpillCell s a v) = refl
 
   widened : (width height : ℤ) (cell : Cell) → with_array_area width height (content_of strings cell) ≡ content_of strings (with_cell_area width height cell)
@@ -47,7 +47,7 @@ module _ (strings : List (List ℕ)) where
   widened width height (cells.ErrorCell e s) = refl
   widened width height (cells.SharedString i s) = refl
   widened width height (cells.CellFormula f s v) = refl
-  widened width height (cells.ArrayFormula f s r kind v) = refl
+  widened width height (cells.ArrayFormula kind f s r v) = refl
   widened width height (cells.SpillCell s a v) = refl
 
 pub cells_are_contents : (strings : List (List ℕ)) → HoldsAlike (content_of strings) celled held
@@ -70,7 +70,7 @@ as_cell (contents.NumContent amount style) = cells.NumberCell amount style
 as_cell (contents.ErrContent e style) = cells.ErrorCell e style
 as_cell (contents.TextContent text style) = cells.SharedString 0 style
 as_cell (contents.FormulaContent index value style) = cells.CellFormula index style value
-as_cell (contents.AnchorContent index area kind value style) = cells.ArrayFormula index style area kind value
+as_cell (contents.AnchorContent index area kind value style) = cells.ArrayFormula kind index style area value
 as_cell (contents.SpillContent anchor value style) = cells.SpillCell style anchor value
 
 cell_shape : (x : Content) → shape_of (as_cell x) ≡ contents.shape_of x

@@ -52,7 +52,7 @@ pub none_blocks : (o : Option Place) → AllByRecursion (λ cause. cause.0 ≡ f
 none_blocks None h = refl
 none_blocks (Some p) h = let never : true ≡ false = h.0 in cc
 
-array_cell : (o : Option Cell) → is_anchor (unwrap_or (option_map shape_of o) Empty) ≡ true → (f : ℕ) × (s : ℕ) × (r : ℤ × ℤ) × (kind : ArrayKind) × (v : FormulaValue) × (o ≡ Some (cells.ArrayFormula f s r kind v))
+array_cell : (o : Option Cell) → is_anchor (unwrap_or (option_map shape_of o) Empty) ≡ true → (f : ℕ) × (s : ℕ) × (r : ℤ × ℤ) × (kind : ArrayKind) × (v : FormulaValue) × (o ≡ Some (cells.ArrayFormula kind f s r v))
 array_cell None e = cc
 array_cell (Some (cells.EmptyCell n)) e = cc
 array_cell (Some (cells.BooleanCell v n)) e = cc
@@ -60,7 +60,7 @@ array_cell (Some (cells.NumberCell v n)) e = cc
 array_cell (Some (cells.ErrorCell v n)) e = cc
 array_cell (Some (cells.SharedString v n)) e = cc
 array_cell (Some (cells.CellFormula f n v)) e = cc
-array_cell (Some (cells.ArrayFormula f n r kind v)) e = (f, n, r, kind, v, refl)
+array_cell (Some (cells.ArrayFormula kind f n r v)) e = (f, n, r, kind, v, refl)
 array_cell (Some (cells.SpillCell n a v)) e = cc
 
 -- the contents of a sheet as its cells ----
@@ -112,7 +112,7 @@ module _ (rows : Rows) (columns : Columns) (merges : List Merge) where
         same : shape_at celled c (first_place b) ≡ shape_at held m (first_place b)
         same = shape_same as_cell held celled contents_are_cells m c seen (first_place b)
 
-        cell : (f : ℕ) × (s : ℕ) × (r : ℤ × ℤ) × (kind : ArrayKind) × (v : FormulaValue) × (finite.get c (first_place b) ≡ Some (cells.ArrayFormula f s r kind v))
+        cell : (f : ℕ) × (s : ℕ) × (r : ℤ × ℤ) × (kind : ArrayKind) × (v : FormulaValue) × (finite.get c (first_place b) ≡ Some (cells.ArrayFormula kind f s r v))
         cell = array_cell (finite.get c (first_place b)) (ap is_anchor same ∙ not-false (is_anchor (shape_at held m (first_place b))) anchor)
 
         array : Array

@@ -81,7 +81,7 @@ content_of strings (cells.NumberCell amount style) = NumContent amount style
 content_of strings (cells.ErrorCell e style) = ErrContent e style
 content_of strings (cells.SharedString index style) = TextContent (string_at strings index) style
 content_of strings (cells.CellFormula index style value) = FormulaContent index value style
-content_of strings (cells.ArrayFormula index style area kind value) = AnchorContent index area kind value style
+content_of strings (cells.ArrayFormula kind index style area value) = AnchorContent index area kind value style
 content_of strings (cells.SpillCell style anchor value) = SpillContent anchor value style
 
 -- the formula at an index of a pool; past the end, an empty text

@@ -59,7 +59,7 @@ empty_grid = record { cells = finite.empty; rows = finite.empty; columns = finit
 -- the cell of a formula without a value, by its index and the number of a style; one that may spill is an array of one cell
 abbrev pub formula_cell : FormulaKind → ℕ → ℕ → Cell
 formula_cell kinds.Single at style = cells.CellFormula at style fvalues.Unevaluated
-formula_cell kinds.Dynamic at style = cells.ArrayFormula at style (pos 1, pos 1) arrays.Dynamic fvalues.Unevaluated
+formula_cell kinds.Dynamic at style = cells.ArrayFormula arrays.Dynamic at style (pos 1, pos 1) fvalues.Unevaluated
 
 -- with a cell at a place, which is prepared first
 abbrev pub with_cell_in : CellPlace → Cell → Grid → Grid

@@ -54,10 +54,10 @@ fn formula_cell(kind: FormulaKind, f: usize, s: usize) -> Cell
     match kind {
         FormulaKind::Single => Cell::new_formula(f, s),
         FormulaKind::Dynamic => Cell::ArrayFormula {
+            kind: ArrayKind::Dynamic,
             f,
             s,
             r: (1, 1),
-            kind: ArrayKind::Dynamic,
             v: FormulaValue::Unevaluated,
         },
     }

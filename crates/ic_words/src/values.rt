@@ -143,7 +143,7 @@ fn value_in(
         return Ok(Some(FormulaValue::Unevaluated));
     }
     match spill_value_in(alloc, english, text)? {
-        Some(value) => Ok(Some(gathered(alloc, value))),
+        Some(value) => Ok(Some(gathered(value))),
         None => Ok(None),
     }
 }

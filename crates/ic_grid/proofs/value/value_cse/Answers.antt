@@ -27,4 +27,4 @@ pub returns-clause-ok : goal.returns-clause-ok
 returns-clause-ok c =
     cse_valued c.args.cells.now c.requires.arrays c.args.f c.args.s c.args.array.now c.requires.formula c.args.value c.requires.kind c.put_all.new.cells c.replace.new.cells
     (cse_placed c.args.cells.now c.requires.arrays c.args.f c.args.s c.args.array.now c.requires.formula c.args.value c.in_ok-items.items.items c.in_ok-items.ensures c.put_all.new.cells c.put_all.ensures)
-    (c.replace.ensures ∙ ap₂ (λ (p : Place) (r : ℤ × ℤ). finite.insert c.put_all.new.cells p (cells.ArrayFormula c.args.f c.args.s r kinds.Cse c.args.value)) c.first.ensures c.area.ensures)
+    (c.replace.ensures ∙ ap₂ (λ (p : Place) (r : ℤ × ℤ). finite.insert c.put_all.new.cells p (cells.ArrayFormula kinds.Cse c.args.f c.args.s r c.args.value)) c.first.ensures c.area.ensures)

@@ -16,4 +16,4 @@ pub returns : goal.returns
 returns c =
     dynamic_valued c.args.cells.now c.requires.arrays c.args.f c.args.s c.args.array.now c.requires.formula c.args.value c.requires.kind c.unspill_block.new.cells c.replace.new.cells
     (unspilled_all c.args.cells.now c.requires.arrays c.args.f c.args.s c.args.array.now c.requires.formula c.unspill_block.new.cells c.unspill_block.ensures)
-    (c.replace.ensures ∙ ap (λ (p : Place). finite.insert c.unspill_block.new.cells p (cells.ArrayFormula c.args.f c.args.s (pos 1, pos 1) kinds.Dynamic c.args.value)) c.first.ensures)
+    (c.replace.ensures ∙ ap (λ (p : Place). finite.insert c.unspill_block.new.cells p (cells.ArrayFormula kinds.Dynamic c.args.f c.args.s (pos 1, pos 1) c.args.value)) c.first.ensures)
