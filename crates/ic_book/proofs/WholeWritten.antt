@@ -150,18 +150,10 @@ module _ (book : Book) (valid : IsValidBook book) (index : ℕ) (place : CellPla
       ap (λ (fixed : Bool). first_refusal ((not (is_row place.0), InvalidRow) ∷ (not (is_column place.1), InvalidColumn) ∷ (is_covered s.grid.merged_cells place, MergedPart) ∷ (fixed, ArrayPart) ∷ []))
       (is_fixed_at-seen (content_of book.strings) celled held (cells_are_contents book.strings) s.grid.cells place)
 
-  step_told : (o : Option Sheet) (r : Refusal) → value_refusal_in place o ≡ Some r → step_at (option_map seen o) ≡ Err r
-  step_told None r e = let is : InvalidSheet ≡ r = cc in ap (λ (x : Refusal). let made : Stepped machine.Book = Err x in made) is
-  step_told (Some s) r e = ap (λ o. unless o (left_at s) []) (causes_are s ∙ e)
-
   step_done : (s : Sheet) → first_refusal (value_causes s.grid place) ≡ None → step_at (Some (seen s)) ≡ Ok (left_at s, [])
   step_done s e = ap (λ o. unless o (left_at s) []) (causes_are s ∙ e)
 
-  -- a refused write
-  pub write_refused : (r : Refusal) → value_refusal book index place.0 place.1 ≡ Some r → put_formula_step (whole_of book) index place body ≡ Err r
-  write_refused r e = step_is ∙ step_told (slice_get book.sheets index) r e
-
-  -- one that isn't
+  -- a write that nothing refuses
   sheet_there : (o : Option Sheet) → value_refusal_in place o ≡ None → (s : Sheet) × (o ≡ Some s) × (first_refusal (value_causes s.grid place) ≡ None)
   sheet_there None e = cc
   sheet_there (Some s) e = (s, refl, e)
@@ -246,28 +238,25 @@ module _ (book : Book) (valid : IsValidBook book) (index : ℕ) (place : CellPla
       strings = all_updated (λ (s : Sheet). HasStrings (length book.strings) s.grid) put_in_sheet (λ s h. strings_written (length book.strings) place (kind_of kinds formula) w.at styled.number s.grid h) index book.sheets valid.strings;
     })
 
--- the call that writes
+-- the call that writes, where nothing refuses it
 module _ (result : Result (Unit {0}) BookError) (old new : ModelState) (valid : IsValidBook old.book) (index : ℕ) (place : CellPlace) (body : List ℕ) where
   -- what it says of a sheet that is there
   abbrev Writes : Sheet → Type 0
   Writes s = WritesFormula index s place body old.book new.book
 
-  writes_so : (r : Result (Unit {0}) BookError) → OnOk r (IfSome (slice_get old.book.sheets index) Writes) → Tells r (value_refusal old.book index place.0 place.1)
-      → ((refusal : Refusal) → value_refusal old.book index place.0 place.1 ≡ Some refusal → new ≡ old) → OnErr r (new.book ≡ old.book) → DoesStep WantedIn (put_formula_step (whole_of old.book) index place body) no_fields r old new
-  writes_so (Ok done) written e untouched same =
-      let found = sheet_there old.book valid index place body (slice_get old.book.sheets index) e in
+  writes_so : (r : Result (Unit {0}) BookError) → value_refusal old.book index place.0 place.1 ≡ None → OnOk r (IfSome (slice_get old.book.sheets index) Writes) → Tells r None → OnErr r (new.book ≡ old.book)
+      → DoesStep WantedIn (put_formula_step (whole_of old.book) index place body) no_fields r old new
+  writes_so (Ok done) none written e same =
+      let found = sheet_there old.book valid index place body (slice_get old.book.sheets index) none in
       let w : Writes found.0 = subst (λ o. IfSome o Writes) found.1 written in
       record {
         done = write_done old.book valid index place body found.0 found.1 new.book w found.2;
         before = valid;
         after = written_valid old.book valid index place body found.0 found.1 new.book w found.2;
       }
-  writes_so (Err error) written e untouched same = record { done = told_so (refusal_of error) e; before = valid; after = subst IsValidBook (sym same) valid }
-    where
-      told_so : (o : Option Refusal) → value_refusal old.book index place.0 place.1 ≡ o → Refused WantedIn (put_formula_step (whole_of old.book) index place body) old new o
-      told_so None e = (write_accepted old.book valid index place body e, same)
-      told_so (Some r) e = (write_refused old.book valid index place body r e, untouched r e)
+  writes_so (Err error) none written e same =
+      record { done = subst (Refused WantedIn (put_formula_step (whole_of old.book) index place body) old new) e (write_accepted old.book valid index place body none, same); before = valid; after = subst IsValidBook (sym same) valid }
 
-  pub writes : OnOk result (IfSome (slice_get old.book.sheets index) (λ s. WritesFormula index s place body old.book new.book)) → Tells result (value_refusal old.book index place.0 place.1)
-      → ((refusal : Refusal) → value_refusal old.book index place.0 place.1 ≡ Some refusal → new ≡ old) → OnErr result (new.book ≡ old.book) → DoesStep WantedIn (put_formula_step (whole_of old.book) index place body) no_fields result old new
+  pub writes : value_refusal old.book index place.0 place.1 ≡ None → OnOk result (IfSome (slice_get old.book.sheets index) (λ s. WritesFormula index s place body old.book new.book)) → Tells result None → OnErr result (new.book ≡ old.book)
+      → DoesStep WantedIn (put_formula_step (whole_of old.book) index place body) no_fields result old new
   writes = writes_so result

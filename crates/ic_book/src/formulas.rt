@@ -1,4 +1,4 @@
-ghost use Rattle.std.specs.Prelude.{◌≡◌, ◌+◌, ◌≤◌, ◌<◌, List, [], ◌∷◌, Some, true, chars, length, option_map, string_bytes, IfOk, IfSome, OnErr, OnOk, ◌++◌, codes};
+ghost use Rattle.std.specs.Prelude.{◌≡◌, ◌+◌, ◌≤◌, ◌<◌, List, [], ◌∷◌, None, Some, true, chars, length, option_map, string_bytes, IfOk, IfSome, OnErr, OnOk, ◌++◌, codes};
 ghost use Rattle.std.specs.FinMap as finite;
 ghost use Rattle.std.specs.List.{slice_get};
 ghost use Rattle.ic_laws.specs.Binding.{bound};
@@ -15,7 +15,7 @@ ghost use Rattle.ic_laws.specs.ValidCore.{IsPooled};
 ghost use Rattle.ic_laws.specs.declared.tree.Formula as kept;
 ghost use Rattle.ic_pool.specs.Pool.{IsPlaced};
 ghost use Rattle.ic_sheets.specs.Sheet.{HasIndexes, cells_of};
-ghost use Rattle.ic_machine.specs.Refusal.{Refusal, first_refusal};
+ghost use Rattle.ic_machine.specs.Refusal.{first_refusal};
 ghost use Rattle.ic_machine.specs.Styling.{restyled};
 ghost use Rattle.ic_machine.specs.subjects.Reading.{GetCellFormula, reading_step};
 ghost use Rattle.ic_machine.specs.subjects.Writing.{UpdateCellWithFormula, unquoted, writing_step};
@@ -24,6 +24,7 @@ ghost use Rattle.ic_book.specs.Does.{Does, DoesIn};
 ghost use Rattle.ic_book.specs.Fields.{no_fields, string_field};
 ghost use Rattle.ic_book.specs.LookUps.{LooksUpAsBefore};
 ghost use Rattle.ic_book.specs.Refused.{Refuses, Tells, TellsOnly};
+ghost use Rattle.ic_book.specs.Values.{Shows};
 ghost use Rattle.ic_book.specs.Written.{WritesFormula, cell_causes, kind_of, pool_at, value_refusal, with_pool};
 
 use crate::values::with_quote;
@@ -71,12 +72,12 @@ impl<'a> Model<'a> {
         // After an error the look-up of this sheet may be there; the others are as before.
         ensures left { OnErr result (LooksUpAsBefore sheet self.old self.new) }
     {
-        self.style_to_write(sheet, row, column)?;
+        let shown = self.style_to_write(sheet, row, column)?;
         let locale = &self.notation.locale().locale;
         let Some(body) = formula_without_prefix(formula.as_str(), locale) else {
             return Err(BookError::NotAFormula);
         };
-        self.write_formula(sheet, row, column, body)
+        self.write_formula(sheet, row, column, body, shown)
     }
 
     /// What is shown of the formula in the cell at a row and a column, both from 1, of the sheet at an index, from 0: `=`
@@ -145,29 +146,30 @@ impl<'a> Model<'a> {
         Ok(self.contents.sheets.place_copy(index, tree, steps)?)
     }
 
-    /// Writes the formula of a body, which stands after `=`, into a cell.
+    /// Writes the formula of a body, which stands after `=`, into a cell that may be written, given the number of the style
+    /// that it shows (`style_to_write`).
     pub(crate) fn write_formula(
         &mut self,
         sheet: u32,
         row: i32,
         column: i32,
         body: &str,
+        shown: usize,
     ) -> Result<(), BookError>
+        requires shows { Shows self.old.book sheet row column shown }
+        requires allowed { value_refusal self.old.book sheet row column ≡ None }
         ensures written { OnOk result (IfSome (slice_get self.old.book.sheets sheet) (λ s.
             WritesFormula sheet s (row, column) (chars body.now) self.old.book self.new.book)) }
         ensures looks_up { OnOk result
             (self.new.has_all ≡ updated_at (λ _. true) sheet self.old.has_all) }
         ensures whole { OnOk result (slice_get self.new.has_all sheet ≡ Some true) }
-        ensures refused { Tells result (value_refusal self.old.book sheet row column) }
-        ensures untouched { (refusal : Refusal) → value_refusal self.old.book sheet row column
-            ≡ Some refusal → self.new ≡ self.old }
+        ensures lacks { Tells result None }
         ensures err { OnErr result (self.new.book ≡ self.old.book) }
         ensures valid { IsValidBook self.old.book }
 
         // After an error the look-up of this sheet may be there; the others are as before.
         ensures left { OnErr result (LooksUpAsBefore sheet self.old self.new) }
     {
-        let shown = self.style_to_write(sheet, row, column)?;
         let worksheet = &self.contents.sheets.as_slice()[sheet as usize];
         let formula = self.formula_of_text(worksheet.id, row, column, body)?;
         let kind = kind_of(&formula, self.notation.tables());

@@ -1,5 +1,5 @@
 //! Texts that are typed into cells, or given to them.
-ghost use Rattle.std.specs.Prelude.{◌≡◌, IfOk, OnOk, chars, option_map, string_bytes};
+ghost use Rattle.std.specs.Prelude.{◌≡◌, None, IfOk, OnOk, chars, option_map, string_bytes};
 ghost use Rattle.ic_input.specs.Typed.{needs_quoting};
 ghost use Rattle.ic_machine.specs.InForce.{typed_in};
 ghost use Rattle.ic_machine.specs.subjects.Writing.{SetUserInput, UpdateCellWithText, writing_step};
@@ -7,8 +7,9 @@ ghost use Rattle.ic_book.specs.Does.{Does, DoesIn, DoesStep, WantedIn};
 ghost use Rattle.ic_book.specs.Fields.{no_fields};
 ghost use Rattle.ic_book.specs.LookUps.{LooksUpAsBefore};
 ghost use Rattle.ic_book.specs.Retyped.{Retypes};
-ghost use Rattle.ic_book.specs.Values.{style_change, typed_change, typed_content, typed_formula, typed_step, value_content};
+ghost use Rattle.ic_book.specs.Values.{Shows, style_change, typed_change, typed_content, typed_formula, typed_step, value_content};
 ghost use Rattle.ic_book.specs.Whole.{whole_of};
+ghost use Rattle.ic_book.specs.Written.{value_refusal};
 
 use crate::values::{Restyle, Value};
 use crate::{BookError, Model};
@@ -69,9 +70,9 @@ impl<'a> Model<'a> {
         // The look-up of this sheet's formulas may be there then; the others are as before.
         ensures looks_up { LooksUpAsBefore sheet self.old self.new }
     {
-        self.style_to_write(sheet, row, column)?;
+        let shown = self.style_to_write(sheet, row, column)?;
         let typed = self.typed(value.as_str())?;
-        self.write_typed(sheet, row, column, &typed)
+        self.write_typed(sheet, row, column, &typed, shown)
     }
 
     /// What a typed text is, in the notation in force.
@@ -84,14 +85,18 @@ impl<'a> Model<'a> {
         classify(self.alloc, text, locale, self.notation.language(), english)
     }
 
-    /// Writes what a typed text is into a cell.
+    /// Writes what a typed text is into a cell that may be written, given the number of the style that it shows
+    /// (`style_to_write`).
     fn write_typed(
         &mut self,
         sheet: u32,
         row: i32,
         column: i32,
         typed: &Typed,
+        shown: usize,
     ) -> Result<(), BookError>
+        requires shows { Shows self.old.book sheet row column shown }
+        requires allowed { value_refusal self.old.book sheet row column ≡ None }
         ensures does { DoesStep WantedIn
             (typed_step (whole_of self.old.book) sheet row column typed.now) no_fields
             result self.old self.new }
@@ -102,7 +107,7 @@ impl<'a> Model<'a> {
             let change = typed_change(typed);
             return self.write_value(sheet, row, column, &value, &change);
         };
-        self.write_formula(sheet, row, column, body)
+        self.write_formula(sheet, row, column, body, shown)
     }
 
     /// Whether a text has to be typed after a quote to stay a text, in the notation in force.

@@ -5,12 +5,17 @@ use Rattle.std.proofs.lemmas.Map.Lookups.{CmpEqualImpliesEq, exact_pairs, exact_
 use Rattle.std.proofs.lemmas.Int.{to_z-of_z}
 use Rattle.std.specs.BTreeMap as tree
 use Rattle.std.specs.BTreeMap.{BTreeMap, is_at}
+use Rattle.std.specs.BTreeMap.Entry.{IsEntryFor, map_with_value}
 use Rattle.std.specs.Cmp.{IsTotalOrder, eq_by_cmp_equiv}
 use Rattle.std.specs.FinMap.{FinMap, find, from_entries, get, get-from_entries, get-insert, get-remove, insert, remove, same_map}
 use Rattle.std.specs.Map.{lookup}
 use Rattle.std.specs.Ordering.{int_cmp}
 use Rattle.std.specs.Prelude.{Result, Ok, Err, OnErr}
+use Rattle.std.specs.declared.cmp.Ord as ord
 use Rattle.std.specs.declared.cmp.Ordering.{Ordering}
+use Rattle.std.specs.declared.cmp.PartialEq as eq
+use Rattle.std.specs.declared.cmp.PartialOrd as partial
+use Rattle.std.specs.declared.collections.btree_map.Entry.{Entry}
 use Rattle.ic_cells.specs.Maps.{place_cmp}
 
 -- places are in one order, in which no two different ones tie
@@ -50,6 +55,15 @@ module _ {K X : Type 0} {R : K → K → Ordering} (total : IsTotalOrder R) wher
   pub map_remove : CmpEqualImpliesEq R → (before after : BTreeMap K X) (m : FinMap R X) (k q : K) → k ≡ q → from_entries before.entries ≡ m → tree.Updates R before after k None → from_entries {R = R} after.entries ≡ remove m q
   map_remove exact before after m k q same e u =
       remove_here exact before after k u ∙ ap (λ l. remove (from_entries before.entries) l) same ∙ ap (λ n. remove n q) e
+
+  -- the same of an entry of it that is free
+  pub map_filled : CmpEqualImpliesEq R → {Z : Type 0} {g : ord.Ghosts K} {g' : eq.Ghosts K} {g'' : partial.Ghosts K} (before : BTreeMap K X) (after : List (K × X)) (m : FinMap R X) (k q : K) (e : Entry K X Z g g' g'') (v : X)
+      → k ≡ q → from_entries before.entries ≡ m → IsEntryFor R before k e → after ≡ (map_with_value e v).entries → from_entries after ≡ insert m q v
+  map_filled exact before after m k q e v same is h written = ap from_entries written ∙ map_insert exact before (map_with_value e v) m k q v same is (h.0 v)
+
+  -- and where the map is left alone
+  pub map_left : (before : BTreeMap K X) (after : List (K × X)) (m : FinMap R X) → from_entries before.entries ≡ m → after ≡ before.entries → from_entries after ≡ m
+  map_left before after m is same = ap from_entries same ∙ is
 
 -- a number as it is stored, and two of them
 pub stored : (z : ℤ) → SFits w32 z → to_z w32 (of_z w32 z) ≡ z

@@ -3,6 +3,7 @@ pub mod Key
 pub mod Layout
 pub mod Lent
 pub mod Listed
+pub mod Made
 pub mod Maps
 pub mod Note
 pub mod Sheet

@@ -261,3 +261,5 @@ impl Cell {
         }
     }
 }
+
+const _: () = prove!(size_of::<Cell>() == 64);

@@ -26,7 +26,7 @@ pub use layout::{
     ColumnProps, DEFAULT_COLUMN_WIDTH, DEFAULT_ROW_HEIGHT, Merge, RowProps, column_width,
     row_height,
 };
-pub use maps::{LineMap, PlaceMap};
+pub use maps::{LineMap, Maker, PlaceMap};
 pub use note::{ErrorNote, ErrorTexts};
 pub use sheet::{CellIndex, SheetProperties, SheetState, Worksheet};
 pub use strings::SharedStrings;

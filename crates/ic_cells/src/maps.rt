@@ -1,11 +1,28 @@
 //! Ordered maps that contracts see as finite maps, so that a record which holds one is plain data.
 ghost use Rattle.std.specs.Prelude.{◌≡◌, None, option_copied, IfOk, OnErr, OnOk};
 ghost use Rattle.std.specs.FinMap as map;
+ghost use Rattle.ic_cells.specs.Made.{PutsMade};
 
 use ic_laws::OutOfMemory;
 use std::alloc::Global;
 use std::collections::BTreeMap;
+use std::collections::btree_map::Entry;
 use std::marker::Model;
+
+/// What makes items, each of something that it is given.
+pub trait Maker<X, T> {
+    /// Whether it can make one now.
+    ghost ready: { Self → Type 0 };
+
+    /// What it was, what it was given, the item, and what it is then.
+    ghost makes: { Self → X → T → Self → Type 0 };
+
+    /// The item. `OutOfMemory` changes nothing.
+    fn make(&mut self, given: X) -> Result<T, OutOfMemory>
+        requires { ready self.old }
+        ensures ok { IfOk result (λ item. makes self.old given item self.new) }
+        ensures err { OnErr result (self.new ≡ self.old) };
+}
 
 /// A map from places, each a row and a column from 1, by row and then by column. Contracts see the finite map.
 #[derive(Drop)]
@@ -65,6 +82,30 @@ impl<T: Drop> PlaceMap<T> {
         ensures absent { OnErr result (map.get self.old (row, column) ≡ None) }
     {
         Ok(self.inner.insert((row, column), item)?)
+    }
+
+    /// Puts an item that is made of what is given at a place where nothing stands, and answers None; the place is searched
+    /// once. Where something stands there, it answers what it was given, and nothing has changed. Nor has it where memory is
+    /// missing.
+    pub fn put_made<X: Drop, M: Maker<X, T>>(
+        &mut self,
+        row: i32,
+        column: i32,
+        maker: &mut M,
+        given: X,
+    ) -> Result<Option<X>, OutOfMemory>
+        requires { M.ready maker.old }
+        ensures made { IfOk result
+            (PutsMade M.makes (row, column) given maker.old maker.new self.old self.new) }
+        ensures err { OnErr result (self.new ≡ self.old) }
+        ensures kept { OnErr result (maker.new ≡ maker.old) }
+    {
+        let Entry::Vacant(free) = self.inner.entry((row, column))? else {
+            return Ok(Some(given));
+        };
+        let item = maker.make(given)?;
+        free.insert(item);
+        Ok(None)
     }
 
     /// Takes away what stands at a place, and answers it. None exactly where nothing did.

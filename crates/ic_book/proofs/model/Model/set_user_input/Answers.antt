@@ -16,11 +16,11 @@ use Rattle.ic_book.proofs.TypedSteps.{input_is, input_told, input_wants}
 use Rattle.ic_book.proofs.ValueLemmas.{refusal_there}
 use Rattle.ic_book.proofs.model.Model.set_user_input.Goals as goal
 
-pub returns-in_err-style_to_write-clause-does : goal.returns-in_err-style_to_write-clause-does
-returns-in_err-style_to_write-clause-does c =
+pub returns-in_err-shown-clause-does : goal.returns-in_err-shown-clause-does
+returns-in_err-shown-clause-does c =
     let now = c.args.self.now in
     let text = chars (string_bytes c.args.value) in
-    let t = c.in_err-style_to_write.ensures.refused in
+    let t = c.in_err-shown.ensures.refused in
     of_error (λ r. DoesStep WantedIn (input_step c.args.sheet (c.args.row, c.args.column) text (whole_of now.book)) no_fields r now now) c.from_residual.result c.from_residual.ensures
     (λ f same. input_told now c.style_to_write.ensures.valid c.args.sheet c.args.row c.args.column text no_fields f (t.0, ap refusal_of same ∙ t.1, refusal_there now.book c.args.sheet c.args.row c.args.column _ (stored_pair c.args.row c.args.column c.ranges.row c.ranges.column) (Some t.0) t.2))
 
@@ -29,13 +29,19 @@ returns-in_err-typed-clause-does c =
     let now = c.args.self.now in
     let text = chars (string_bytes c.args.value) in
     of_error (λ r. DoesStep WantedIn (input_step c.args.sheet (c.args.row, c.args.column) text (whole_of now.book)) no_fields r now now) c.from_residual-in_err-typed.result c.from_residual-in_err-typed.ensures
-    (λ f out. input_wants now c.style_to_write.ensures.valid c.args.sheet c.args.row c.args.column text no_fields (refusal_there now.book c.args.sheet c.args.row c.args.column _ (stored_pair c.args.row c.args.column c.ranges.row c.ranges.column) None c.in_ok-style_to_write.ensures.refused) f out)
+    (λ f out. input_wants now c.style_to_write.ensures.valid c.args.sheet c.args.row c.args.column text no_fields (refusal_there now.book c.args.sheet c.args.row c.args.column _ (stored_pair c.args.row c.args.column c.ranges.row c.ranges.column) None c.in_ok-shown.ensures.refused) f out)
 
-pub returns-in_err-style_to_write-clause-looks_up : goal.returns-in_err-style_to_write-clause-looks_up
-returns-in_err-style_to_write-clause-looks_up c = inl refl
+pub returns-in_err-shown-clause-looks_up : goal.returns-in_err-shown-clause-looks_up
+returns-in_err-shown-clause-looks_up c = inl refl
 
 pub returns-in_err-typed-clause-looks_up : goal.returns-in_err-typed-clause-looks_up
 returns-in_err-typed-clause-looks_up c = inl refl
+
+pub write_typed-requires-clause-shows : goal.write_typed-requires-clause-shows
+write_typed-requires-clause-shows c = c.in_ok-shown.ensures.shows
+
+pub write_typed-requires-clause-allowed : goal.write_typed-requires-clause-allowed
+write_typed-requires-clause-allowed c = c.in_ok-shown.ensures.refused
 
 pub returns-clause-does : goal.returns-clause-does
 returns-clause-does c =
@@ -49,8 +55,8 @@ returns-clause-does c =
 pub returns-clause-looks_up : goal.returns-clause-looks_up
 returns-clause-looks_up c = c.write_typed.ensures.looks_up
 
-pub returns-in_err-style_to_write-clause-retyped : goal.returns-in_err-style_to_write-clause-retyped
-returns-in_err-style_to_write-clause-retyped c = retyped_so c.args.sheet c.args.row c.args.column (chars (string_bytes c.args.value)) c.args.self.now c.args.self.now c.from_residual.result (returns-in_err-style_to_write-clause-does c)
+pub returns-in_err-shown-clause-retyped : goal.returns-in_err-shown-clause-retyped
+returns-in_err-shown-clause-retyped c = retyped_so c.args.sheet c.args.row c.args.column (chars (string_bytes c.args.value)) c.args.self.now c.args.self.now c.from_residual.result (returns-in_err-shown-clause-does c)
 
 pub returns-in_err-typed-clause-retyped : goal.returns-in_err-typed-clause-retyped
 returns-in_err-typed-clause-retyped c = retyped_so c.args.sheet c.args.row c.args.column (chars (string_bytes c.args.value)) c.args.self.now c.args.self.now c.from_residual-in_err-typed.result (returns-in_err-typed-clause-does c)

@@ -1,4 +1,4 @@
-use Rattle.std.proofs.Common.{◌≡◌, ◌<◌, ℕ, List, None, IfSome, true, chars, length, map, take, option_map, refl, sym, ap, ap₂, subst, ◌∙◌}
+use Rattle.std.proofs.Common.{◌≡◌, ◌<◌, ℕ, List, IfSome, true, chars, length, map, take, option_map, refl, sym, ap, ap₂, subst, ◌∙◌}
 use Rattle.std.specs.List.{slice_get}
 use Rattle.std.proofs.lemmas.Option.{slice_get-map}
 use Rattle.ic_laws.specs.CoreBook.{CellPlace}
@@ -19,7 +19,6 @@ use Rattle.ic_book.specs.Written.{WritesFormula, kind_of, value_refusal}
 use Rattle.ic_book.proofs.GridLemmas.{taken_back}
 use Rattle.ic_book.proofs.HeldLemmas.{book_again, clear_at, entry_at, held_again, is_within, style_within, takes_there, whole_at, whole_updated, written, written_held}
 use Rattle.ic_book.proofs.LookUpLemmas.{look_ups_left}
-use Rattle.ic_book.proofs.ValueLemmas.{refusal_there, shows_there}
 use Rattle.ic_book.proofs.NameIndexLemmas.{indexed_updated, indexed_seen}
 use Rattle.ic_book.proofs.model.Model.write_formula.Goals as goal
 
@@ -29,12 +28,12 @@ without_quote-requires c =
     let place : CellPlace = (c.args.row, c.args.column) in
     let body = chars c.args.body.now in
     let cell = stored_pair c.args.row c.args.column c.ranges.row c.ranges.column in
-    let none = ap (λ (m : ModelState). value_refusal m.book sheet c.args.row c.args.column) c.self.view_is ∙ refusal_there c.args.self.now.book sheet c.args.row c.args.column _ (stored_pair c.args.row c.args.column c.ranges.row c.ranges.column) None c.in_ok-shown.ensures.refused in
+    let none = ap (λ (m : ModelState). value_refusal m.book sheet c.args.row c.args.column) c.self.view_is ∙ c.requires.allowed in
     let entry = c.index-as_slice-sheet.result in
     let there = entry_at c.self.inside c.self.invariant.book sheet place none c.as_slice.result.now entry c.as_slice.ensures.sheets c.index-as_slice-sheet.is in
     let shown =
-    subst (λ o. IfSome o (λ (s : Sheet). c.in_ok-shown.shown ≡ shown_style s c.args.row c.args.column)) (slice_get-map sheet_of c.self.inside.contents.sheets sheet ∙ ap (option_map sheet_of) there)
-    (subst (λ (m : ModelState). Shows m.book sheet c.args.row c.args.column c.in_ok-shown.shown) (sym c.self.view_is) (shows_there c.args.self.now.book sheet c.args.row c.args.column c.in_ok-shown.shown _ (stored_pair c.args.row c.args.column c.ranges.row c.ranges.column) c.in_ok-shown.ensures.shows)) in
+    subst (λ o. IfSome o (λ (s : Sheet). c.args.shown ≡ shown_style s c.args.row c.args.column)) (slice_get-map sheet_of c.self.inside.contents.sheets sheet ∙ ap (option_map sheet_of) there)
+    (subst (λ (m : ModelState). Shows m.book sheet c.args.row c.args.column c.args.shown) (sym c.self.view_is) c.requires.shows) in
     subst (λ k. k < length c.self.inside.lists.styles) (sym shown) (style_within c.self.inside c.self.invariant.book sheet place entry there)
 
 pub write-requires-clause-within : goal.write-requires-clause-within
@@ -43,7 +42,7 @@ write-requires-clause-within c =
     let place : CellPlace = (c.args.row, c.args.column) in
     let body = chars c.args.body.now in
     let cell = stored_pair c.args.row c.args.column c.ranges.row c.ranges.column in
-    let none = ap (λ (m : ModelState). value_refusal m.book sheet c.args.row c.args.column) c.self.view_is ∙ refusal_there c.args.self.now.book sheet c.args.row c.args.column _ (stored_pair c.args.row c.args.column c.ranges.row c.ranges.column) None c.in_ok-shown.ensures.refused in
+    let none = ap (λ (m : ModelState). value_refusal m.book sheet c.args.row c.args.column) c.self.view_is ∙ c.requires.allowed in
     is_within c.self.inside c.self.invariant.book sheet place none
 
 pub write-requires-clause-takes : goal.write-requires-clause-takes
@@ -52,7 +51,7 @@ write-requires-clause-takes c =
     let place : CellPlace = (c.args.row, c.args.column) in
     let body = chars c.args.body.now in
     let cell = stored_pair c.args.row c.args.column c.ranges.row c.ranges.column in
-    let none = ap (λ (m : ModelState). value_refusal m.book sheet c.args.row c.args.column) c.self.view_is ∙ refusal_there c.args.self.now.book sheet c.args.row c.args.column _ (stored_pair c.args.row c.args.column c.ranges.row c.ranges.column) None c.in_ok-shown.ensures.refused in
+    let none = ap (λ (m : ModelState). value_refusal m.book sheet c.args.row c.args.column) c.self.view_is ∙ c.requires.allowed in
     let entry = c.index-as_slice-sheet.result in
     let there = entry_at c.self.inside c.self.invariant.book sheet place none c.as_slice.result.now entry c.as_slice.ensures.sheets c.index-as_slice-sheet.is in
     subst (λ (p : CellPlace). IfSome (slice_get c.self.inside.contents.sheets sheet) (λ (s : HeldSheet). TakesCell p s.grid)) (sym cell)
@@ -64,12 +63,12 @@ invariant_of-self-in-Ok c =
     let place : CellPlace = (c.args.row, c.args.column) in
     let body = chars c.args.body.now in
     let cell = stored_pair c.args.row c.args.column c.ranges.row c.ranges.column in
-    let none = ap (λ (m : ModelState). value_refusal m.book sheet c.args.row c.args.column) c.self.view_is ∙ refusal_there c.args.self.now.book sheet c.args.row c.args.column _ (stored_pair c.args.row c.args.column c.ranges.row c.ranges.column) None c.in_ok-shown.ensures.refused in
+    let none = ap (λ (m : ModelState). value_refusal m.book sheet c.args.row c.args.column) c.self.view_is ∙ c.requires.allowed in
     let entry = c.index-as_slice-sheet.result in
     let there = entry_at c.self.inside c.self.invariant.book sheet place none c.as_slice.result.now entry c.as_slice.ensures.sheets c.index-as_slice-sheet.is in
     let shown =
-    subst (λ o. IfSome o (λ (s : Sheet). c.in_ok-shown.shown ≡ shown_style s c.args.row c.args.column)) (slice_get-map sheet_of c.self.inside.contents.sheets sheet ∙ ap (option_map sheet_of) there)
-    (subst (λ (m : ModelState). Shows m.book sheet c.args.row c.args.column c.in_ok-shown.shown) (sym c.self.view_is) (shows_there c.args.self.now.book sheet c.args.row c.args.column c.in_ok-shown.shown _ (stored_pair c.args.row c.args.column c.ranges.row c.ranges.column) c.in_ok-shown.ensures.shows)) in
+    subst (λ o. IfSome o (λ (s : Sheet). c.args.shown ≡ shown_style s c.args.row c.args.column)) (slice_get-map sheet_of c.self.inside.contents.sheets sheet ∙ ap (option_map sheet_of) there)
+    (subst (λ (m : ModelState). Shows m.book sheet c.args.row c.args.column c.args.shown) (sym c.self.view_is) c.requires.shows) in
     let book = c.args.self.now.book in
     let styles = c.self.inside.lists.styles in
     let pool = c.in-Ok.ensures.ok.0 in
@@ -97,12 +96,12 @@ returns-in-Ok-clause-written c =
     let place : CellPlace = (c.args.row, c.args.column) in
     let body = chars c.args.body.now in
     let cell = stored_pair c.args.row c.args.column c.ranges.row c.ranges.column in
-    let none = ap (λ (m : ModelState). value_refusal m.book sheet c.args.row c.args.column) c.self.view_is ∙ refusal_there c.args.self.now.book sheet c.args.row c.args.column _ (stored_pair c.args.row c.args.column c.ranges.row c.ranges.column) None c.in_ok-shown.ensures.refused in
+    let none = ap (λ (m : ModelState). value_refusal m.book sheet c.args.row c.args.column) c.self.view_is ∙ c.requires.allowed in
     let entry = c.index-as_slice-sheet.result in
     let there = entry_at c.self.inside c.self.invariant.book sheet place none c.as_slice.result.now entry c.as_slice.ensures.sheets c.index-as_slice-sheet.is in
     let shown =
-    subst (λ o. IfSome o (λ (s : Sheet). c.in_ok-shown.shown ≡ shown_style s c.args.row c.args.column)) (slice_get-map sheet_of c.self.inside.contents.sheets sheet ∙ ap (option_map sheet_of) there)
-    (subst (λ (m : ModelState). Shows m.book sheet c.args.row c.args.column c.in_ok-shown.shown) (sym c.self.view_is) (shows_there c.args.self.now.book sheet c.args.row c.args.column c.in_ok-shown.shown _ (stored_pair c.args.row c.args.column c.ranges.row c.ranges.column) c.in_ok-shown.ensures.shows)) in
+    subst (λ o. IfSome o (λ (s : Sheet). c.args.shown ≡ shown_style s c.args.row c.args.column)) (slice_get-map sheet_of c.self.inside.contents.sheets sheet ∙ ap (option_map sheet_of) there)
+    (subst (λ (m : ModelState). Shows m.book sheet c.args.row c.args.column c.args.shown) (sym c.self.view_is) c.requires.shows) in
     let book = c.args.self.now.book in
     let styles = c.self.inside.lists.styles in
     let pool = c.in-Ok.ensures.ok.0 in
@@ -134,14 +133,14 @@ returns-in-Ok-clause-whole c =
     let place : CellPlace = (c.args.row, c.args.column) in
     let body = chars c.args.body.now in
     let cell = stored_pair c.args.row c.args.column c.ranges.row c.ranges.column in
-    let none = ap (λ (m : ModelState). value_refusal m.book sheet c.args.row c.args.column) c.self.view_is ∙ refusal_there c.args.self.now.book sheet c.args.row c.args.column _ (stored_pair c.args.row c.args.column c.ranges.row c.ranges.column) None c.in_ok-shown.ensures.refused in
+    let none = ap (λ (m : ModelState). value_refusal m.book sheet c.args.row c.args.column) c.self.view_is ∙ c.requires.allowed in
     let entry = c.index-as_slice-sheet.result in
     let there = entry_at c.self.inside c.self.invariant.book sheet place none c.as_slice.result.now entry c.as_slice.ensures.sheets c.index-as_slice-sheet.is in
     ap (λ (ws : List HeldSheet). slice_get (map (λ (s : HeldSheet). s.pool.is_whole) ws) sheet) c.in-Ok.ensures.ok.3 ∙ whole_at _ (λ s. refl) sheet c.self.inside.contents.sheets entry there
 
 pub invariant_of-self-in-Err : goal.invariant_of-self-in-Err
 invariant_of-self-in-Err c =
-    let same = c.truncate.ensures ∙ ap₂ (λ (n : ℕ) (xs : List Style). take n xs) c.len-count.ensures.exact c.in_ok-style.ensures.styles ∙ taken_back c.self.inside.lists.styles c.in_ok-shown.shown in
+    let same = c.truncate.ensures ∙ ap₂ (λ (n : ℕ) (xs : List Style). take n xs) c.len-count.ensures.exact c.in_ok-style.ensures.styles ∙ taken_back c.self.inside.lists.styles c.args.shown in
     record {
       book = held_again c.self.inside c.self.invariant.book c.truncate.new.self c.write.new.self same c.in-Err.ensures.err;
       names = indexed_seen c.self.inside.names c.self.inside.contents.sheets _ c.self.inside.contents.definitions c.self.invariant.names c.in-Err.ensures.err;
@@ -149,7 +148,7 @@ invariant_of-self-in-Err c =
 
 pub returns-in-Err-clause-err : goal.returns-in-Err-clause-err
 returns-in-Err-clause-err c =
-    let same = c.truncate.ensures ∙ ap₂ (λ (n : ℕ) (xs : List Style). take n xs) c.len-count.ensures.exact c.in_ok-style.ensures.styles ∙ taken_back c.self.inside.lists.styles c.in_ok-shown.shown in
+    let same = c.truncate.ensures ∙ ap₂ (λ (n : ℕ) (xs : List Style). take n xs) c.len-count.ensures.exact c.in_ok-style.ensures.styles ∙ taken_back c.self.inside.lists.styles c.args.shown in
     book_again c.self.inside c.self.invariant.book c.truncate.new.self c.write.new.self same c.in-Err.ensures.err
     ∙ ap (λ (m : ModelState). m.book) c.self.view_is
 

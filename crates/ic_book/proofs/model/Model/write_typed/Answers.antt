@@ -8,8 +8,8 @@ use Rattle.ic_sheets.proofs.CellLemmas.{stored_pair}
 use Rattle.ic_book.specs.Book.{whole_of}
 use Rattle.ic_book.specs.Does.{DoesStep, Wanted, WantedIn}
 use Rattle.ic_book.specs.Fields.{no_fields}
-use Rattle.ic_book.specs.Values.{put_step, style_change, typed_step, value_content}
-use Rattle.ic_book.specs.Written.{put_formula_step}
+use Rattle.ic_book.specs.Values.{Shows, put_step, style_change, typed_step, value_content}
+use Rattle.ic_book.specs.Written.{put_formula_step, value_refusal}
 use Rattle.ic_book.proofs.TypedSteps.{either_look_up, formula_put, other_put, wanted_in}
 use Rattle.ic_book.proofs.WholeWritten.{writes}
 use Rattle.ic_book.proofs.model.Model.write_typed.Goals as goal
@@ -29,6 +29,14 @@ returns-in_default-clause-does c =
 pub returns-in_default-clause-looks_up : goal.returns-in_default-clause-looks_up
 returns-in_default-clause-looks_up c = inl c.write_value.ensures.looks_up
 
+pub write_formula-requires-clause-shows : goal.write_formula-requires-clause-shows
+write_formula-requires-clause-shows c =
+    subst (λ (p : CellPlace). Shows c.args.self.now.book c.args.sheet p.0 p.1 c.args.shown) (sym (stored_pair c.args.row c.args.column c.ranges.row c.ranges.column)) c.requires.shows
+
+pub write_formula-requires-clause-allowed : goal.write_formula-requires-clause-allowed
+write_formula-requires-clause-allowed c =
+    ap (λ (p : CellPlace). value_refusal c.args.self.now.book c.args.sheet p.0 p.1) (stored_pair c.args.row c.args.column c.ranges.row c.ranges.column) ∙ c.requires.allowed
+
 pub returns-clause-does : goal.returns-clause-does
 returns-clause-does c =
     let old = c.args.self.now in
@@ -38,7 +46,7 @@ returns-clause-does c =
     let some = sym c.typed_formula.ensures ∙ ap (option_map (λ f. chars f.now)) c.in-Some.is in
     let did =
     subst (λ (p : CellPlace). DoesStep WantedIn (put_formula_step (whole_of old.book) sheet p body) no_fields c.write_formula.result old new) (stored_pair c.args.row c.args.column c.ranges.row c.ranges.column)
-    (writes c.write_formula.result old new c.write_formula.ensures.valid sheet _ body c.write_formula.ensures.written c.write_formula.ensures.refused c.write_formula.ensures.untouched c.write_formula.ensures.err) in
+    (writes c.write_formula.result old new c.write_formula.ensures.valid sheet _ body (write_formula-requires-clause-allowed c) c.write_formula.ensures.written c.write_formula.ensures.lacks c.write_formula.ensures.err) in
     subst (λ (made : Stepped machine.Book). DoesStep WantedIn made no_fields c.write_formula.result old new) (formula_put (whole_of old.book) sheet c.args.row c.args.column c.args.typed.now body some) did
 
 pub returns-clause-looks_up : goal.returns-clause-looks_up
