@@ -1,5 +1,5 @@
 -- A sheet of a book: its formulas in their places, and what its cells, rows and columns hold.
-use Rattle.std.specs.Prelude.{◌≡◌, ◌⊎◌, ℕ, pos, ◌<◌, List, [], flat_map, map, length, true, Ok, Some, option_map, unwrap_or}
+use Rattle.std.specs.Prelude.{◌≡◌, ◌⊎◌, ℕ, pos, ◌<◌, List, [], flat_map, map, length, true, Ok, Option, Some, None, is_some, option_map, unwrap_or}
 use Rattle.std.specs.Borrow.{MutBor}
 use Rattle.std.specs.FinMap as finite
 use Rattle.std.specs.Fn.{FnOnceReturnsAtMut, Once}
@@ -30,7 +30,8 @@ use Rattle.ic_grid.specs.Whole.{IsGrid}
 use Rattle.ic_grid.specs.Written.{with_array}
 use Rattle.ic_grid.specs.declared.block.Block.{Block}
 use Rattle.ic_grid.specs.declared.grid.Grid.{Grid}
-use Rattle.ic_pool.specs.Pool.{IsPlaced}
+use Rattle.ic_pool.specs.Pool.{IsPlaced, PoolState}
+use Rattle.ic_sheets.specs.declared.sheet.Entered.{Entered}
 use Rattle.ic_sheets.specs.declared.sheet.FormulaKind.{FormulaKind}
 use Rattle.ic_sheets.specs.declared.sheet.FormulaKind.TheVariants as kinds
 use Rattle.ic_sheets.specs.declared.sheet.Sheet.{Sheet as HeldSheet}
@@ -86,6 +87,17 @@ abbrev pub IsWritten : Formula → FormulaKind → ℕ → CellPlace → HeldShe
 IsWritten formula kind style cell before after =
     (place : ℕ) × IsPlaced formula place before.pool.formulas after.pool.formulas
     × (after ≡ record before { pool = record { formulas = after.pool.formulas; is_whole = true }; grid = with_cell_in cell (formula_cell kind place style) before.grid })
+
+-- The cell of a formula has been made, which has got its place in a pool whose look-up is whole.
+abbrev pub MakesCell : PoolState → Entered → Cell → PoolState → Type 0
+MakesCell before entered cell after =
+    (place : ℕ) × IsPlaced entered.formula place before.formulas after.formulas × (after.is_whole ≡ true) × (cell ≡ formula_cell entered.kind place entered.style)
+
+-- A cell of a sheet has got a formula where there was no cell; where there was one, this is left, and nothing has changed.
+abbrev pub WritesNew : Entered → CellPlace → HeldSheet → HeldSheet → Option Entered → Type 0
+WritesNew entered cell before after None = IsWritten entered.formula entered.kind entered.style cell before after
+WritesNew entered cell before after (Some left) =
+    (left ≡ entered) × (is_some (finite.get before.grid.cells cell) ≡ true) × (after ≡ before)
 
 -- An array has been written into a block of a sheet: its formula has got its place among those that the sheet keeps, and
 -- styles may have come.

@@ -1,12 +1,12 @@
-ghost use Rattle.std.specs.Prelude.{◌≡◌, ◌≤◌, ◌+◌, [], IfOk, OnErr, OnOk, false, is_some, length, true};
+ghost use Rattle.std.specs.Prelude.{◌≡◌, ◌≤◌, ◌+◌, [], IfOk, OnErr, OnOk, is_some, length, true};
 ghost use Rattle.std.specs.FinMap as finite;
 ghost use Rattle.ic_grid.specs.Whole.{IsStyled};
 ghost use Rattle.ic_grid.specs.Written.{with_array};
 ghost use Rattle.ic_pool.specs.Pool.{IsPlaced};
-ghost use Rattle.ic_sheets.specs.Sheet.{IsArrayWritten, IsSameOrLooksUp, IsWritten, TakesArray, TakesCell, empty_grid, formula_cell, plain_tab, sheet_of};
+ghost use Rattle.ic_sheets.specs.Sheet.{IsArrayWritten, IsSameOrLooksUp, IsWritten, TakesArray, TakesCell, WritesNew, empty_grid, formula_cell, plain_tab, sheet_of};
 
 use crate::Tab;
-use ic_cells::{ArrayKind, Cell, FormulaValue, Styles};
+use ic_cells::{ArrayKind, Cell, FormulaValue, Maker, Styles};
 use ic_grid::{Block, Grid};
 use ic_laws::{Formula, OutOfMemory, Text};
 use ic_pool::{Pool, Steps, key_of};
@@ -60,6 +60,33 @@ fn formula_cell(kind: FormulaKind, f: usize, s: usize) -> Cell
             r: (1, 1),
             v: FormulaValue::Unevaluated,
         },
+    }
+}
+
+/// What is written into a cell: a formula, how many values it may have, and the number of the style.
+#[derive(Drop)]
+struct Entered {
+    formula: Formula,
+    kind: FormulaKind,
+    style: usize,
+}
+
+impl Maker<Entered, Cell> for Pool {
+    ghost use Rattle.std.specs.Prelude.{◌≡◌, true};
+    ghost use Rattle.ic_sheets.specs.Sheet.{MakesCell};
+
+    ghost ready = { λ pool. pool.is_whole ≡ true };
+
+    ghost makes = { MakesCell };
+
+    fn make(&mut self, entered: Entered) -> Result<Cell, OutOfMemory> {
+        let Entered {
+            formula,
+            kind,
+            style,
+        } = entered;
+        let place = self.place(formula)?;
+        Ok(formula_cell(kind, place, style))
     }
 }
 
@@ -138,10 +165,20 @@ impl Sheet {
         ensures looks_up { OnErr result (IsSameOrLooksUp self.old self.new) }
     {
         self.pool.make_whole_uncounted()?;
-        if self.grid.cells.get(row, column).is_some() {
-            self.write_over(row, column, formula, kind, style)
-        } else {
-            self.write_new(row, column, formula, kind, style)
+        let entered = Entered {
+            formula,
+            kind,
+            style,
+        };
+        match self.write_new(row, column, entered)? {
+            None => Ok(()),
+            Some(
+                Entered {
+                    formula,
+                    kind,
+                    style,
+                },
+            ) => self.write_over(row, column, formula, kind, style),
         }
     }
 
@@ -168,36 +205,20 @@ impl Sheet {
         Ok(())
     }
 
-    /// The same where there is none: an empty one is put there first, so that what follows the pool wants no memory.
+    /// The same where there is none; where there is one, nothing changes, and what was to be written is left.
     fn write_new(
         &mut self,
         row: i32,
         column: i32,
-        formula: Formula,
-        kind: FormulaKind,
-        style: usize,
-    ) -> Result<(), OutOfMemory>
+        entered: Entered,
+    ) -> Result<Option<Entered>, OutOfMemory>
         requires whole { self.old.pool.is_whole ≡ true }
-        requires free { is_some (finite.get self.old.grid.cells (row, column)) ≡ false }
-        ensures ok { OnOk result (IsWritten formula kind style (row, column) self.old self.new) }
+        ensures ok { IfOk result (WritesNew entered (row, column) self.old self.new) }
         ensures err { OnErr result (self.new ≡ self.old) }
     {
         self.grid
             .cells
-            .insert(row, column, Cell::EmptyCell { s: style })?;
-        match self.pool.place(formula) {
-            Ok(place) => {
-                let _ = self
-                    .grid
-                    .cells
-                    .insert(row, column, formula_cell(kind, place, style));
-                Ok(())
-            }
-            Err(error) => {
-                self.grid.cells.remove(row, column);
-                Err(error)
-            }
-        }
+            .put_made(row, column, &mut self.pool, entered)
     }
 
     /// Writes a Cse array with a formula into a block of the sheet, as the grid does (`Grid::write_array`); the formula gets its
