@@ -46,16 +46,15 @@ impl Key {
     }
 
     /// Writes a number.
-    #[tactic(auto, unfolding(crate::specs::Bytes::number_bytes))]
     pub(crate) fn push(&mut self, number: u64) -> Result<(), OutOfMemory>
         ensures { OnOk result (self.new ≡ self.old ++ number_bytes number) }
     {
-        if number < 255 {
-            self.bytes.push(number as u8)?;
-        } else {
-            self.bytes.push(255)?;
-            self.bytes.extend_from_slice(&number.to_be_bytes())?;
+        let mut rest = number;
+        while rest >= 128 {
+            self.bytes.push((rest % 128) as u8 + 128)?;
+            rest /= 128;
         }
+        self.bytes.push(rest as u8)?;
         Ok(())
     }
 
