@@ -38,6 +38,13 @@ impl Key {
         Ok(Key { bytes })
     }
 
+    /// Gives back the room that its bytes don't take.
+    pub(crate) fn shrink(&mut self)
+        ensures { self.new ≡ self.old }
+    {
+        self.bytes.shrink_to_fit();
+    }
+
     /// Its bytes.
     pub(crate) fn bytes(&self) -> &[u8]
         ensures { result.now ≡ self.now }
