@@ -1,12 +1,10 @@
 -- What is written as bytes can be told from what follows.
-use Rattle.std.proofs.Common.{◌≡◌, ◌<◌, ◌^◌, ℕ, List, [], ◌∷◌, ◌++◌, Bool, true, false, cond, refl, sym, ap, ap₂, ◌∙◌, map, length, arith, append_assoc}
+use Rattle.std.proofs.Common.{◌≡◌, ◌<◌, ◌≤◌, ◌+◌, ◌-◌, ◌*◌, ◌/◌, ◌%◌, ℕ, zero, suc, List, [], ◌∷◌, ◌++◌, Bool, true, false, cond, refl, sym, ap, ap₂, ◌∙◌, map, length, arith, append_assoc}
 use Rattle.std.specs.Prelude.{nat_lt}
-use Rattle.std.proofs.lemmas.Bool.{ltb-true}
+use Rattle.std.proofs.lemmas.Bool.{le-ltb, lt-ltb, ltb-false}
 use Rattle.std.proofs.lemmas.List.{length-map}
-use Rattle.std.proofs.lemmas.Nat.{from_be_bytes-to_be_bytes_8}
-use Rattle.std.specs.Int.{from_be_bytes, to_be_bytes, w64}
 use Rattle.std.specs.List.{AllByRecursion}
-use Rattle.ic_pool.specs.Bytes.{all_bytes, joined, number_bytes, text_bytes}
+use Rattle.ic_pool.specs.Bytes.{all_bytes, groups, joined, number_bytes, text_bytes}
 use Rattle.ic_pool.specs.Code.{rows_bytes}
 
 pub joined-map : {A : Type 0} (f : A → List ℕ) (xs : List A) → joined (λ c. c) (map f xs) ≡ joined f xs
@@ -26,50 +24,68 @@ all_bytes-map f xs = ap₂ (λ n bytes. number_bytes n ++ bytes) (length-map xs 
 abbrev pub Ends : {A : Type 0} → (A → List ℕ) → A → Type 0
 Ends {A} f x = (y : A) (r s : List ℕ) → f x ++ r ≡ f y ++ s → (x ≡ y) × (r ≡ s)
 
-pub append_ends : (a b r s : List ℕ) → length a ≡ length b → a ++ r ≡ b ++ s → (a ≡ b) × (r ≡ s)
-append_ends [] [] r s l e = (refl, e)
-append_ends [] (d ∷ b) r s l e = absurd (omega arith)
-append_ends (c ∷ a) [] r s l e = absurd (omega arith)
-append_ends (c ∷ a) (d ∷ b) r s l e =
-    let heads : c ≡ d = cc in
-    let tails : a ++ r ≡ b ++ s = cc in
-    let rest = append_ends a b r s (omega arith) tails in
-    let ends : a ≡ b = rest.0 in
-    (cc, rest.1)
+-- ---- the groups of a number
 
--- one byte, or the byte before eight, or that before a number that stands for itself
-written : Bool → Bool → ℕ → List ℕ
-written short fits n = cond short (n ∷ []) (cond fits (255 ∷ to_be_bytes w64 n) (256 ∷ n ∷ []))
+-- the groups of a number, by the test whether it is short, where what follows its lowest bits is alike
+alike_by_test : (n : ℕ) (rest others : List ℕ) (short : Bool) → (short ≡ false → rest ≡ others) → cond short (n ∷ []) ((n % 128 + 128) ∷ rest) ≡ cond short (n ∷ []) ((n % 128 + 128) ∷ others)
+alike_by_test n rest others true h = refl
+alike_by_test n rest others false h = ap (λ c. (n % 128 + 128) ∷ c) (h refl)
 
-heads : (a b : ℕ) (xs ys : List ℕ) → a ∷ xs ≡ b ∷ ys → a ≡ b
-heads a b xs ys e = cc
+-- more turns than a number needs change nothing
+groups_alike : (f g n : ℕ) → n ≤ f → n ≤ g → groups f n ≡ groups g n
+groups_alike zero zero n below other = refl
+groups_alike zero (suc g) zero below other = refl
+groups_alike zero (suc g) (suc n) below other = absurd (omega (arith, below))
+groups_alike (suc f) zero zero below other = refl
+groups_alike (suc f) zero (suc n) below other = absurd (omega (arith, other))
+groups_alike (suc f) (suc g) n below other =
+    alike_by_test n (groups f (n / 128)) (groups g (n / 128)) (nat_lt n 128)
+    (λ e. let least = ltb-false n 128 e in groups_alike f g (n / 128) (omega (arith, least, below)) (omega (arith, least, other)))
 
-below_255 : (n : ℕ) → nat_lt n 255 ≡ true → n < 255
-below_255 n e = ltb-true n 255 e
+-- a number below 128 is its byte
+pub number_short : (n : ℕ) → n < 128 → number_bytes n ≡ n ∷ []
+unfolding number_bytes
+number_short zero below = refl
+number_short (suc n) below = ap (λ short. cond short (suc n ∷ []) ((suc n % 128 + 128) ∷ groups n (suc n / 128))) (lt-ltb (suc n) 128 below)
 
-eight_end : (n m : ℕ) (r s : List ℕ) → n < 2 ^ 64 → m < 2 ^ 64 → to_be_bytes w64 n ++ r ≡ to_be_bytes w64 m ++ s → (n ≡ m) × (r ≡ s)
-eight_end n m r s below other e =
-    let parts = append_ends (to_be_bytes w64 n) (to_be_bytes w64 m) r s refl e in
-    (sym (from_be_bytes-to_be_bytes_8 n below) ∙ ap (from_be_bytes w64) parts.0 ∙ from_be_bytes-to_be_bytes_8 m other, parts.1)
+-- any other begins with its lowest seven bits
+pub number_long : (n : ℕ) → 128 ≤ n → number_bytes n ≡ (n % 128 + 128) ∷ number_bytes (n / 128)
+unfolding number_bytes
+number_long zero least = absurd (omega (arith, least))
+number_long (suc n) least =
+    ap (λ short. cond short (suc n ∷ []) ((suc n % 128 + 128) ∷ groups n (suc n / 128))) (le-ltb (suc n) 128 least)
+    ∙ ap (λ c. (suc n % 128 + 128) ∷ c) (groups_alike n (suc n / 128) (suc n / 128) (omega (arith, least)) (omega arith))
 
-tests_end : (n m : ℕ) (r s : List ℕ) (a b c d : Bool) → nat_lt n 255 ≡ a → nat_lt n (2 ^ 64) ≡ b → nat_lt m 255 ≡ c → nat_lt m (2 ^ 64) ≡ d → written a b n ++ r ≡ written c d m ++ s → (n ≡ m) × (r ≡ s)
-unfolding written
-tests_end n m r s true b true d e f g h is = (cc, cc)
-tests_end n m r s true b false true e f g h is = let same : n ≡ 255 = cc in let below = below_255 n e in absurd (omega arith)
-tests_end n m r s true b false false e f g h is = let same : n ≡ 256 = cc in let below = below_255 n e in absurd (omega arith)
-tests_end n m r s false true true d e f g h is = let same : m ≡ 255 = cc in let below = below_255 m g in absurd (omega arith)
-tests_end n m r s false false true d e f g h is = let same : m ≡ 256 = cc in let below = below_255 m g in absurd (omega arith)
-tests_end n m r s false true false false e f g h is = absurd (omega (arith, heads 255 256 _ _ is))
-tests_end n m r s false false false true e f g h is = absurd (omega (arith, heads 256 255 _ _ is))
-tests_end n m r s false true false true e f g h is =
-    let tails : to_be_bytes w64 n ++ r ≡ to_be_bytes w64 m ++ s = cc in
-    eight_end n m r s (ltb-true n (2 ^ 64) f) (ltb-true m (2 ^ 64) h) tails
-tests_end n m r s false false false false e f g h is = (cc, cc)
+-- the number whose groups stand at the front, and what follows
+read : List ℕ → ℕ × List ℕ
+read [] = (0, [])
+read (b ∷ bytes) = cond (nat_lt b 128) (b, bytes) (b - 128 + 128 * (read bytes).0, (read bytes).1)
+
+-- one group is read, where what follows it is
+read_by_test : (n : ℕ) (rest r : List ℕ) (short : Bool) → nat_lt n 128 ≡ short → (short ≡ false → read (rest ++ r) ≡ (n / 128, r)) → read (cond short (n ∷ []) ((n % 128 + 128) ∷ rest) ++ r) ≡ (n, r)
+unfolding read
+read_by_test n rest r true e h = ap (λ test. cond test (n, r) (n - 128 + 128 * (read r).0, (read r).1)) e
+read_by_test n rest r false e h =
+    let long : nat_lt (n % 128 + 128) 128 ≡ false = le-ltb (n % 128 + 128) 128 (omega arith) in
+    let number : n % 128 + 128 - 128 + 128 * (n / 128) ≡ n = omega arith in
+    let after : read (rest ++ r) ≡ (n / 128, r) = h refl in
+    ap (λ test. cond test (n % 128 + 128, rest ++ r) (n % 128 + 128 - 128 + 128 * (read (rest ++ r)).0, (read (rest ++ r)).1)) long
+    ∙ ap (λ x. (n % 128 + 128 - 128 + 128 * x.0, x.1)) after ∙ ap (λ m. (m, r)) number
+
+read_groups : (turns n : ℕ) (r : List ℕ) → n ≤ turns → read (groups turns n ++ r) ≡ (n, r)
+unfolding read
+read_groups zero zero r below = refl
+read_groups zero (suc n) r below = absurd (omega (arith, below))
+read_groups (suc turns) n r below =
+    read_by_test n (groups turns (n / 128)) r (nat_lt n 128) refl
+    (λ e. let least = ltb-false n 128 e in read_groups turns (n / 128) r (omega (arith, least, below)))
 
 -- the bytes of a number tell where they end
 pub number_ends : (n : ℕ) → Ends number_bytes n
-unfolding number_bytes written
-number_ends n m r s is = tests_end n m r s (nat_lt n 255) (nat_lt n (2 ^ 64)) (nat_lt m 255) (nat_lt m (2 ^ 64)) refl refl refl refl is
+unfolding number_bytes
+number_ends n m r s is =
+    let both : (n, r) ≡ (m, s) = sym (read_groups n n r (omega arith)) ∙ ap read is ∙ read_groups m m s (omega arith) in
+    (ap (λ x. x.0) both, ap (λ x. x.1) both)
 
 pub joined_end : {A : Type 0} (f : A → List ℕ) (xs : List A) → AllByRecursion (Ends f) xs → (ys : List A) (r s : List ℕ) → length xs ≡ length ys → joined f xs ++ r ≡ joined f ys ++ s → (xs ≡ ys) × (r ≡ s)
 joined_end f [] h [] r s l e = (refl, e)

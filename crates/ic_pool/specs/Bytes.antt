@@ -1,11 +1,14 @@
 -- How numbers and lists are written as bytes, so that what was written can be told from what follows.
-use Rattle.std.specs.Prelude.{ℕ, ◌^◌, List, [], ◌∷◌, ◌++◌, length, nat_lt, if◌then◌else◌}
-use Rattle.std.specs.Int.{to_be_bytes, w64}
+use Rattle.std.specs.Prelude.{ℕ, zero, suc, ◌+◌, ◌/◌, ◌%◌, List, [], ◌∷◌, ◌++◌, length, nat_lt, if◌then◌else◌}
 
--- A number below 255 is one byte; any other is the byte 255 and its eight bytes, highest first. A number that has more
--- than eight bytes, which no formula has, stands for itself.
+-- a number in groups of seven bits, the lowest first, 128 added to each but the last; at most so many before the last
+abbrev pub groups : ℕ → ℕ → List ℕ
+groups zero n = n ∷ []
+groups (suc turns) n = if nat_lt n 128 then n ∷ [] else (n % 128 + 128) ∷ groups turns (n / 128)
+
+-- A number below 128 is one byte; any other takes a byte for each seven bits.
 unfoldable pub number_bytes : ℕ → List ℕ
-number_bytes n = if nat_lt n 255 then n ∷ [] else if nat_lt n (2 ^ 64) then 255 ∷ to_be_bytes w64 n else 256 ∷ n ∷ []
+number_bytes n = groups n n
 
 -- items by their own bytes, one after another
 abbrev pub joined : {A : Type 0} → (A → List ℕ) → List A → List ℕ

@@ -11,8 +11,8 @@ use std::alloc::Global;
 use texts::write_text;
 use tree::write_tree;
 
-/// The bytes that most keys of a formula have room in.
-const ROOM: usize = 64;
+/// The bytes that most keys of a formula have room in while they are written.
+const ROOM: usize = 128;
 
 /// The key that determines a formula.
 pub fn key_of(alloc: Global, formula: &Formula) -> Result<HashedKey, OutOfMemory>
@@ -29,5 +29,6 @@ pub fn key_of(alloc: Global, formula: &Formula) -> Result<HashedKey, OutOfMemory
             write_text(&mut key, text.as_str())?;
         }
     }
+    key.shrink();
     Ok(HashedKey::new(key))
 }

@@ -38,6 +38,13 @@ impl Key {
         Ok(Key { bytes })
     }
 
+    /// Gives back the room that its bytes don't take.
+    pub(crate) fn shrink(&mut self)
+        ensures { self.new ≡ self.old }
+    {
+        self.bytes.shrink_to_fit();
+    }
+
     /// Its bytes.
     pub(crate) fn bytes(&self) -> &[u8]
         ensures { result.now ≡ self.now }
@@ -46,16 +53,15 @@ impl Key {
     }
 
     /// Writes a number.
-    #[tactic(auto, unfolding(crate::specs::Bytes::number_bytes))]
     pub(crate) fn push(&mut self, number: u64) -> Result<(), OutOfMemory>
         ensures { OnOk result (self.new ≡ self.old ++ number_bytes number) }
     {
-        if number < 255 {
-            self.bytes.push(number as u8)?;
-        } else {
-            self.bytes.push(255)?;
-            self.bytes.extend_from_slice(&number.to_be_bytes())?;
+        let mut rest = number;
+        while rest >= 128 {
+            self.bytes.push((rest % 128) as u8 + 128)?;
+            rest /= 128;
         }
+        self.bytes.push(rest as u8)?;
         Ok(())
     }
 
