@@ -44,9 +44,10 @@ returns-clause-does c =
     let sheet = c.args.sheet in
     let body = chars c.in-Some.body.now in
     let some = sym c.typed_formula.ensures ∙ ap (option_map (λ f. chars f.now)) c.in-Some.is in
+    let allowed = ap (λ (p : CellPlace). value_refusal old.book sheet p.0 p.1) (stored_pair c.args.row c.args.column c.ranges.row c.ranges.column) ∙ c.requires.allowed in
     let did =
     subst (λ (p : CellPlace). DoesStep WantedIn (put_formula_step (whole_of old.book) sheet p body) no_fields c.write_formula.result old new) (stored_pair c.args.row c.args.column c.ranges.row c.ranges.column)
-    (writes c.write_formula.result old new c.write_formula.ensures.valid sheet _ body (write_formula-requires-clause-allowed c) c.write_formula.ensures.written c.write_formula.ensures.lacks c.write_formula.ensures.err) in
+    (writes c.write_formula.result old new c.write_formula.ensures.valid sheet _ body allowed c.write_formula.ensures.written c.write_formula.ensures.lacks c.write_formula.ensures.err) in
     subst (λ (made : Stepped machine.Book). DoesStep WantedIn made no_fields c.write_formula.result old new) (formula_put (whole_of old.book) sheet c.args.row c.args.column c.args.typed.now body some) did
 
 pub returns-clause-looks_up : goal.returns-clause-looks_up
