@@ -210,7 +210,6 @@ impl<'w> Row<'w> {
     }
 
     /// The id of a sheet, or `none`.
-    #[allow(dead_code)]
     pub fn put_scope(&mut self, scope: Option<u32>) {
         match scope {
             Some(id) => self.put_number(i128::from(id)),
