@@ -12,6 +12,6 @@ pub returns-in-Tree : goal.returns-in-Tree
 returns-in-Tree c =
     IfOk-weaker c.print_bound.result _ _
     (λ text e. e ∙ ap (λ shown. chars c.args.sign.now ++ shown)
-    (ap₂ printed (c.shown.ensures ∙ ap (λ (p : CellPlace). shown_at (notations_in c.args.self.now.book) (core_of c.args.self.now.book) p.0 p.1) (stored_pair c.args.row c.args.column c.ranges.row c.ranges.column)) (ap (λ scene. spelled scene c.in-Tree.tree) c.scene.ensures)
+    (ap₂ printed (c.shown-shown.ensures ∙ ap (λ (p : CellPlace). shown_at (notations_in c.args.self.now.book) (core_of c.args.self.now.book) p.0 p.1) (stored_pair c.args.row c.args.column c.ranges.row c.ranges.column)) (ap (λ scene. spelled scene c.in-Tree.tree) c.scene.ensures)
     ∙ ap (shown_formula (notations_in c.args.self.now.book) (core_of c.args.self.now.book) c.args.row c.args.column) (sym c.in-Tree.is)))
     c.print_bound.ensures

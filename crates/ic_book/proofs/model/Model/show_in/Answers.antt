@@ -16,7 +16,7 @@ returns-in-Tree c =
     IfOk-weaker c.print_bound.result _ _
     (λ text e. e ∙ ap (λ shown. chars c.args.sign.now ++ shown)
     (ap₂ printed
-    (c.dialect_in.ensures ∙ ap (λ (p : CellPlace). (notations_of target.tables).shown target.locale target.language p.0 p.1) (stored_pair c.args.row c.args.column c.ranges.row c.ranges.column)
+    (c.dialect_in-dialect.ensures ∙ ap (λ (p : CellPlace). (notations_of target.tables).shown target.locale target.language p.0 p.1) (stored_pair c.args.row c.args.column c.ranges.row c.ranges.column)
     ∙ ap (λ t. (notations_of t).shown target.locale target.language c.args.row c.args.column) c.requires)
     (ap (λ scene. spelled scene c.in-Tree.tree) (c.scene.ensures ∙ ap (λ (core : CoreBook). scene_of core) (sym (whole_core c.args.self.now.book))))
     ∙ ap (shown_in target (whole_of c.args.self.now.book) c.args.row c.args.column) (sym c.in-Tree.is)))
