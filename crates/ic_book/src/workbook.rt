@@ -14,7 +14,7 @@ use ic_cells::{DefinedName, Theme, Workbook, WorkbookSettings, Worksheet};
 use ic_definitions::Definition;
 use ic_laws::{Dialect, Finder, Formula, Items, OutOfMemory, Text};
 use ic_sheets::Sheet;
-use ic_tree::{Stored, print, spell};
+use ic_tree::{Stored, print_bound};
 use std::alloc::Global;
 
 impl<'a> Model<'a> {
@@ -185,10 +185,7 @@ pub(crate) fn text_in<D: Dialect, N: Finder>(
         ≡ text_in (D.meaning d.now) (N.scene names.now) formula.now) }
 {
     match formula {
-        Formula::Tree(tree) => {
-            let spelled = spell(alloc, names, tree)?;
-            Ok(Text::from(print(alloc, d, &spelled)?))
-        }
+        Formula::Tree(tree) => Ok(Text::from(print_bound(alloc, d, names, "", tree)?)),
         Formula::Raw(text) => Ok(Text::from(after_sign(alloc, ")", text.as_str())?)),
     }
 }

@@ -1,10 +1,10 @@
 //! Formulas: a text is read and its tree printed, in the stored form or as it is shown in a cell.
 use crate::references::put_token;
 use crate::row::Row;
-use crate::scenes::put_bound;
+use crate::scenes::{empty_scene, put_bound, put_spelled};
 use ic_laws::{Dialect, Spelled};
 use ic_tables::{BookIdError, Tables};
-use ic_tree::{Shown, Stored, print, read, read_reference};
+use ic_tree::{Shown, Stored, bind, read, read_reference};
 
 /// `read_stored` and a text in the stored form. `read_shown`, a locale, a language, a row, a column and a text as it is
 /// shown there; `shown_to_stored` and `stored_to_shown` likewise, where the text is printed in the other form.
@@ -35,9 +35,22 @@ fn put_again<D: Dialect>(row: &mut Row<'_>, form: &D, text: &str) {
     put_canonical(row, form, form, text);
 }
 
+/// The tree of a text printed, whose names all dangle.
 fn put_printed<D: Dialect>(row: &mut Row<'_>, to: &D, tree: &Spelled) {
-    row.put("=");
-    row.put_made(print(row.alloc, to, tree));
+    let scene = empty_scene(row.alloc);
+    match &bind(
+        row.alloc,
+        &scene,
+        row.tables.get_default_language(),
+        None,
+        tree,
+    ) {
+        Ok(bound) => {
+            row.put("=");
+            put_spelled(row, to, &scene, bound);
+        }
+        Err(_) => row.bad(),
+    }
 }
 
 fn put_stored(row: &mut Row<'_>) {

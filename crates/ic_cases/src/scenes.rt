@@ -2,7 +2,7 @@
 use crate::row::Row;
 use ic_laws::{Bound, DefinitionSpelling, Dialect, Items, OutOfMemory, Scene, SheetName, Spelled};
 use ic_tables::Tables;
-use ic_tree::{Shown, Stored, bind, clashes, is_dynamic, print, read, spell};
+use ic_tree::{Shown, Stored, bind, clashes, is_dynamic, print_bound, read};
 use std::alloc::Global;
 
 /// The scene that stands behind the text of a row. A sheet and a name each stand after a word that says so.
@@ -68,11 +68,8 @@ fn bound(
 }
 
 /// A formula as it is written in a scene.
-fn put_spelled<D: Dialect>(row: &mut Row<'_>, dialect: &D, scene: &Scene, bound: &Bound) {
-    match &spell(row.alloc, scene, bound) {
-        Ok(tree) => row.put_made(print(row.alloc, dialect, tree)),
-        Err(_) => row.bad(),
-    }
+pub fn put_spelled<D: Dialect>(row: &mut Row<'_>, dialect: &D, scene: &Scene, bound: &Bound) {
+    row.put_made(print_bound(row.alloc, dialect, scene, "", bound));
 }
 
 /// A formula in the stored form, as it is written in a scene.

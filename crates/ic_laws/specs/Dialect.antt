@@ -1,5 +1,5 @@
 -- What a dialect means: its separators, its words and its references, and what always holds of them.
-use Rattle.std.specs.Prelude.{◌≡◌, ◌≢◌, ℕ, ◌<◌, ◌≤◌, ◌^◌, List, [], ◌∷◌, ◌++◌, Bool, true, false, not, ◌&&◌, ◌||◌, ◌==◌, ◌⊎◌, length, drop, Option, Some, None, IsSome, unwrap_or, chars, codes, encode_utf8_all, if◌then◌else◌}
+use Rattle.std.specs.Prelude.{◌≡◌, ◌≢◌, ℕ, ◌<◌, ◌≤◌, ◌^◌, List, [], ◌∷◌, ◌++◌, Bool, true, false, not, ◌&&◌, ◌||◌, ◌==◌, ◌⊎◌, length, drop, Option, Some, None, IsSome, option_map, unwrap_or, chars, codes, encode_utf8_all, if◌then◌else◌}
 use Rattle.std.specs.Str.{IsCharBoundary}
 use Rattle.std.specs.List.{list_all, list_any}
 use Rattle.ic_laws.specs.Amount.{unsigned_text}
@@ -9,6 +9,7 @@ use Rattle.ic_laws.specs.Scan.{IsEnd, first_is, is_blank, is_digit, is_letter, i
 use Rattle.ic_laws.specs.SheetText.{local_text, read_local}
 use Rattle.ic_laws.specs.declared.dialect.WordKind.{WordKind}
 use Rattle.ic_laws.specs.declared.dialect.WordKind.TheVariants as kinds
+use Rattle.ic_laws.specs.declared.reference.Place.{Place}
 use Rattle.ic_laws.specs.declared.reference.RefToken.{RefToken}
 use Rattle.ic_laws.specs.declared.tree.Error.{Error}
 use Rattle.ic_laws.specs.declared.tree.Error.TheVariants as errors
@@ -54,6 +55,14 @@ word_text d kind n = unwrap_or (d.word kind n) []
 -- the text of a reference, and in its place the error word where it can't be spelled
 abbrev pub reference_text : DialectMeaning → RefToken → List ℕ
 reference_text d r = if d.can_spell r then d.spell_ref r else word_text d kinds.Error 0
+
+-- a reference by the text of its sheet's name, if it has one
+abbrev pub reference_to : Option (List ℕ) → Place → RefToken
+reference_to sheet place = record { sheet = option_map chars sheet; place = place }
+
+-- its text
+abbrev pub spelled_place : DialectMeaning → Option (List ℕ) → Place → List ℕ
+spelled_place d sheet place = reference_text d (reference_to sheet place)
 
 -- a reference begins with a letter, a digit, `_`, `$` or a quote
 abbrev pub begins_reference : ℕ → Bool

@@ -1,8 +1,9 @@
-ghost use Rattle.std.specs.Prelude.{◌≡◌, chars, string_bytes, option_map, IfOk};
+ghost use Rattle.std.specs.Prelude.{◌≡◌, ◌++◌, chars, string_bytes, option_map, IfOk, OnOk};
+ghost use Rattle.std.specs.Option.{option_copied};
 ghost use Rattle.ic_laws.specs.Longest.{read_at};
-ghost use Rattle.ic_laws.specs.Dialect.{DialectMeaning, IsLawful, FindsErrorAt, reference_text};
+ghost use Rattle.ic_laws.specs.Dialect.{DialectMeaning, IsLawful, FindsErrorAt, spelled_place};
 
-use crate::{Error, OutOfMemory, RefToken};
+use crate::{Error, OutOfMemory, Place, RefToken};
 use std::alloc::Global;
 
 /// A list of words that a dialect has.
@@ -58,10 +59,16 @@ pub trait Dialect {
     ) -> Result<Option<(RefToken, usize)>, OutOfMemory>
         ensures { IfOk result (λ found. found ≡ read_at (meaning self.now).read_ref text.now at) };
 
-    /// The text of a reference; the word of `Error::REF` for one that the dialect can't spell.
-    fn spell_ref(&self, alloc: Global, r: &RefToken) -> Result<String, OutOfMemory>
-        ensures { IfOk result (λ s. chars (string_bytes s)
-            ≡ reference_text (meaning self.now) r.now) };
+    /// Appends a reference to a place of the sheet of this name, or, where there is none, of the formula's own sheet; the
+    /// word of `Error::REF` for one that the dialect can't spell.
+    fn push_ref(
+        &self,
+        out: &mut String,
+        sheet: Option<&str>,
+        place: Place,
+    ) -> Result<(), OutOfMemory>
+        ensures { OnOk result (chars (string_bytes out.new) ≡ chars (string_bytes out.old)
+            ++ spelled_place (meaning self.now) (option_copied sheet.entry) place) };
 
     ghost laws: { (d : Self) → IsLawful (meaning d) };
 }

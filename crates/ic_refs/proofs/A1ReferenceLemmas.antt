@@ -51,31 +51,14 @@ a1_again row column token rest h valid end =
     (place_text-again row column token.place rest inside.1 (end_of_place rest end))
     (λ _. place_no_sheet written rest (place_is_text row column written token.place spelled) end))
 
--- what is written of a reference
-pub written_token : (row column : ℤ) (token : RefToken) (empty named text : List ℕ) → (is_row row && is_column column) ≡ true → is_inside token.place row column ≡ true
-    → empty ≡ [] → named ≡ empty ++ sheet_text token.sheet → text ≡ named ++ place_text row column token.place → Some text ≡ a1_text row column token
-written_token row column token empty named text s i none n e =
-    rw (s, i) (ap Some (e ∙ ap (λ t. t ++ place_text row column token.place) (n ∙ ap (λ t. t ++ sheet_text token.sheet) none)))
-
--- so it is read again
-again_text : (row column : ℤ) (token : RefToken) (b : Bool) (text : List ℕ) → is_spellable row column token ≡ b
+-- so is a text that is what is spelled
+pub again_text : (row column : ℤ) (token : RefToken) (b : Bool) (text : List ℕ) → is_spellable row column token ≡ b
     → Some text ≡ (if b then Some (sheet_text token.sheet ++ place_text row column token.place) else None) → IfSome token.sheet (λ name. is_sheet_name name ≡ true)
     → (rest : List ℕ) → IsEnd rest → a1_at row column (text ++ rest) ≡ Some (token, rest)
 again_text row column token true text s e valid rest end =
     let same : text ≡ sheet_text token.sheet ++ place_text row column token.place = cc in
     ap (λ t. a1_at row column (t ++ rest)) same ∙ a1_again row column token rest s valid end
 again_text row column token false text s e valid rest end = absurd (cc)
-
-spelled_again : {Z : Type 0} (row column : ℤ) (token : RefToken) (text : Option (String Z)) → option_map (λ t. chars (string_bytes t)) text ≡ a1_text row column token
-    → IfSome token.sheet (λ name. is_sheet_name name ≡ true) → IfSome text (λ t. (rest : List ℕ) → IsEnd rest → a1_at row column (chars (string_bytes t) ++ rest) ≡ Some (token, rest))
-spelled_again {Z} row column token None e valid = tt
-spelled_again {Z} row column token (Some t) e valid = λ rest end. again_text row column token (is_spellable row column token) (chars (string_bytes t)) refl e valid rest end
-
--- the same where the row and the column were passed on
-pub spelled_string : {Z : Type 0} (row column r c : ℤ) (token : RefToken) (text : Option (String Z)) → r ≡ row → c ≡ column → option_map (λ t. chars (string_bytes t)) text ≡ a1_text r c token
-    → IfSome token.sheet (λ name. is_sheet_name name ≡ true) → IfSome text (λ t. (rest : List ℕ) → IsEnd rest → a1_at row column (chars (string_bytes t) ++ rest) ≡ Some (token, rest))
-spelled_string {Z} row column r c token text p q e valid =
-    spelled_again row column token text (e ∙ ap (λ x. a1_text x c token) p ∙ ap (λ x. a1_text row x token) q) valid
 
 pub longest_at : (row column r c : ℤ) (text : List ℕ) (at : ℕ) (found : Option (RefToken × ℕ)) → r ≡ row → c ≡ column → IsUtf8 text → found ≡ read_at (a1_at r c) text at
     → FindsLongestAt (SpellsA1 row column) text at found

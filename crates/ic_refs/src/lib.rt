@@ -14,6 +14,7 @@ mod equality;
 mod error;
 mod find;
 mod formula;
+mod law;
 mod local;
 mod name;
 mod number;
@@ -28,19 +29,20 @@ mod stored_text;
 mod trim;
 mod written;
 
-pub use a1_reference::{is_a1_place, push_a1_place, read_a1, spell_a1};
+pub use a1_reference::{is_a1_place, push_a1_place, read_a1};
 pub use column::{
     column_to_number, is_valid_column, is_valid_column_number, is_valid_row, number_to_column,
 };
 pub use equality::law_equal_references;
 pub use error::{ColumnError, ReferenceError};
 pub use formula::parse_reference_a1;
+pub use law::law_spelled_references;
 pub use local::read_local;
 pub use name::{
     is_valid_a1_identifier, is_valid_identifier, is_valid_sheet_name, push_quoted, quote_name,
 };
 pub use reference::{A1Reference, Area, CellReferenceIndex, ParsedReference};
-pub use sheet::may_name_sheet;
+pub use sheet::{is_written_name, may_name_sheet, push_sheet};
 pub use stored::read_rc;
-pub use stored_text::{push_rc_place, spell_rc};
+pub use stored_text::push_rc_place;
 pub use trim::trimmed;

@@ -1,13 +1,15 @@
 ghost use Rattle.std.specs.Prelude.{◌≡◌, ◌<◌, length, IfSome, ◌++◌, ◌∷◌, ◌||◌, false, None, chars, string_bytes, MatchOption, OnOk, option_map};
+ghost use Rattle.std.specs.Option.{option_copied};
 ghost use Rattle.ic_laws.specs.Character.{quote};
 ghost use Rattle.ic_laws.specs.Scan.{first_is, is_plain, past_run};
 ghost use Rattle.ic_laws.specs.SheetText.{is_bang, is_quote, before_bang, name_in_quotes, sheet_at, sheet_text, written_name};
+ghost use Rattle.ic_laws.specs.Tree.{is_written_sheet};
 ghost use Rattle.ic_refs.specs.Written.{ClosesAt, name_of, plain_name};
 
-use crate::name::{needs_quotes, push_quoted};
+use crate::name::{is_valid_sheet_name, needs_quotes, push_quoted};
 use crate::written::{Quoting, WrittenName};
+use ic_laws::OutOfMemory;
 use ic_laws::scan::{begins_with, first_char, front_of, past_plain, plain_run, push_char};
-use ic_laws::{OutOfMemory, Text};
 
 /// The sheet's name at the front of a text, and what stands after its `!`. None where no valid name stands there.
 pub(crate) fn find_sheet(text: &str) -> Option<(WrittenName<'_>, &str)>
@@ -117,14 +119,24 @@ fn past_bang<'t>(name: &WrittenName<'_>, rest: &'t str) -> Option<&'t str>
     }
 }
 
-/// Appends a sheet's name as it is spelled before a reference, or nothing where there is none.
-pub(crate) fn push_sheet(out: &mut String, sheet: &Option<Text>) -> Result<(), OutOfMemory>
+/// Whether a sheet may have this name, if there is one.
+pub fn is_written_name(sheet: Option<&str>) -> bool
+    ensures { result ≡ is_written_sheet (option_map chars (option_copied sheet.entry)) }
+{
+    match sheet {
+        None => true,
+        Some(name) => is_valid_sheet_name(name),
+    }
+}
+
+/// Appends a sheet's name as it is spelled before a reference, with the `!` after it; nothing where there is none.
+pub fn push_sheet(out: &mut String, sheet: Option<&str>) -> Result<(), OutOfMemory>
     ensures { OnOk result (chars (string_bytes out.new) ≡ chars (string_bytes out.old)
-        ++ sheet_text sheet.now) }
+        ++ sheet_text (option_map chars (option_copied sheet.entry))) }
 {
     let Some(name) = sheet else {
         return Ok(());
     };
-    push_quoted(out, name.as_str())?;
+    push_quoted(out, name)?;
     push_char(out, '!')
 }

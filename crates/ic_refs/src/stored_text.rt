@@ -1,35 +1,9 @@
-ghost use Rattle.std.specs.Prelude.{◌≡◌, ◌++◌, List, ℕ, true, IfOk, OnOk, chars, string_bytes};
+ghost use Rattle.std.specs.Prelude.{◌≡◌, ◌++◌, OnOk, chars, string_bytes};
 ghost use Rattle.std.specs.Fmt.{signed_decimal};
-ghost use Rattle.ic_refs.specs.Sheet.{reference_at};
-ghost use Rattle.ic_refs.specs.Stored.{is_stored_spellable, stored_place_at, position_text, cell_text, place_text, stored_text};
-ghost use Rattle.ic_laws.specs.Scan.{IsEnd};
+ghost use Rattle.ic_refs.specs.Stored.{position_text, cell_text, place_text};
 
-use crate::sheet::push_sheet;
 use ic_laws::scan::push_char;
-use ic_laws::{OutOfMemory, Place, Position, RefPart, RefToken};
-use std::alloc::Global;
-
-/// The reference in the stored form.
-pub fn spell_rc(alloc: Global, reference: &RefToken) -> Result<String, OutOfMemory>
-    ensures exact { IfOk result (λ text. chars (string_bytes text) ≡ stored_text reference.now) }
-
-    // What is spelled is read back, wherever it ends, if the numbers are within the limits and the name is a sheet's.
-    ensures again { is_stored_spellable reference.now ≡ true → (rest : List ℕ) → IsEnd rest
-        → IfOk result (λ text. reference_at stored_place_at (chars (string_bytes text) ++ rest)
-        ≡ Some (reference.now, rest)) }
-{
-    spelled_reference(alloc, reference)
-}
-
-// The same, with the clause that says it all.
-fn spelled_reference(alloc: Global, reference: &RefToken) -> Result<String, OutOfMemory>
-    ensures { IfOk result (λ text. chars (string_bytes text) ≡ stored_text reference.now) }
-{
-    let mut out = String::new(alloc);
-    push_sheet(&mut out, &reference.sheet)?;
-    push_rc_place(&mut out, reference.place)?;
-    Ok(out)
-}
+use ic_laws::{OutOfMemory, Place, Position, RefPart};
 
 /// Appends a place in the stored form.
 pub fn push_rc_place(out: &mut String, place: Place) -> Result<(), OutOfMemory>

@@ -168,18 +168,3 @@ step_of separator n text xs x old a b whole lt item p q h =
 pub level_text : (d : DialectMeaning) (kind : SpelledKind) → tree_text d (node kind) ≡ kind_text d kind
 unfolding tree_text
 level_text d kind = level d kind
-
-pub text_at : (d : DialectMeaning) (t : Spelled) (kind : SpelledKind) → t ≡ node kind → tree_text d t ≡ kind_text d kind
-text_at d t kind e = ap (tree_text d) e ∙ level_text d kind
-
--- a level that is written in one, two or three steps
-pub one_step : {T E : Type 0} (r : Result T E) (new old a : List ℕ) (d : DialectMeaning) (t : Spelled) (kind : SpelledKind) → t ≡ node kind → a ≡ kind_text d kind → OnOk r (new ≡ old ++ a) → OnOk r (new ≡ old ++ tree_text d t)
-one_step r new old a d t kind e q h = subst (λ k. OnOk r (new ≡ old ++ k)) (q ∙ sym (text_at d t kind e)) h
-
-pub two_steps : {T E : Type 0} (r : Result T E) (new mid old a b : List ℕ) (d : DialectMeaning) (t : Spelled) (kind : SpelledKind) → t ≡ node kind → mid ≡ old ++ a → a ++ b ≡ kind_text d kind → OnOk r (new ≡ mid ++ b) → OnOk r (new ≡ old ++ tree_text d t)
-two_steps r new mid old a b d t kind e p q h =
-    one_step r new old (a ++ b) d t kind e q (subst (λ k. OnOk r (new ≡ k)) (ap (λ m. m ++ b) p ∙ append_assoc old a b) h)
-
-pub three_steps : {T E : Type 0} (r : Result T E) (new later mid old a b c : List ℕ) (d : DialectMeaning) (t : Spelled) (kind : SpelledKind) → t ≡ node kind → mid ≡ old ++ a → later ≡ mid ++ b → (a ++ b) ++ c ≡ kind_text d kind → OnOk r (new ≡ later ++ c) → OnOk r (new ≡ old ++ tree_text d t)
-three_steps r new later mid old a b c d t kind e p s q h =
-    two_steps r new later old (a ++ b) c d t kind e (s ∙ ap (λ m. m ++ b) p ∙ append_assoc old a b) q h

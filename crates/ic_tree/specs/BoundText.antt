@@ -1,16 +1,10 @@
 -- The canonical text of a bound formula: that of the formula with all that it mentions in its own spelling.
-use Rattle.std.specs.Prelude.{List, ℕ, ◌∷◌, ◌++◌, Option, chars, option_map}
+use Rattle.std.specs.Prelude.{List, ℕ, ◌∷◌, ◌++◌}
 use Rattle.ic_laws.specs.Binding.{BoundPair, spelled}
 use Rattle.ic_laws.specs.Dialect.{DialectMeaning}
 use Rattle.ic_laws.specs.Tree.{Bound}
-use Rattle.ic_laws.specs.declared.reference.Place.{Place}
-use Rattle.ic_laws.specs.declared.reference.RefToken.{RefToken}
 use Rattle.ic_laws.specs.declared.scene.Scene.{Scene}
 use Rattle.ic_tree.specs.Printed.{all_between, tree_text}
-
--- a reference by the text of its sheet's name, if it has one
-abbrev pub reference_to : Option (List ℕ) → Place → RefToken
-reference_to sheet place = record { sheet = option_map chars sheet; place = place }
 
 -- the text of a bound formula, in a scene
 unfoldable pub bound_text : DialectMeaning → Scene → Bound → List ℕ

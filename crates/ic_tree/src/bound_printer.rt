@@ -13,16 +13,17 @@ use crate::constant::{
     push_amount, push_boolean, push_error, push_rows, push_separator, push_string,
 };
 use crate::printer::{ROOM, push_head, push_parameters, push_prefix, sign_text};
-use crate::reference_printer::ReferencePrinter;
 use crate::spelling::digits_of;
 use ic_laws::scan::{push_char, push_text};
-use ic_laws::{Bound, Finder, LetPair, NameMention, OutOfMemory, Place, SheetMention, Text, Tree};
+use ic_laws::{
+    Bound, Dialect, Finder, LetPair, NameMention, OutOfMemory, Place, SheetMention, Text, Tree,
+};
 use ic_refs::push_quoted;
 use std::alloc::Global;
 
 /// A sign, and after it the canonical text of a formula with each sheet and each definition that it mentions in its
 /// present spelling: what `print` gives of what `spell` gives. It makes no other tree and no other text on the way.
-pub fn print_bound<D: ReferencePrinter, N: Finder>(
+pub fn print_bound<D: Dialect, N: Finder>(
     alloc: Global,
     d: &D,
     names: &N,
@@ -39,7 +40,7 @@ pub fn print_bound<D: ReferencePrinter, N: Finder>(
 }
 
 // Appends a reference, a found sheet by the name that it has.
-fn push_reference<D: ReferencePrinter, N: Finder>(
+fn push_reference<D: Dialect, N: Finder>(
     alloc: Global,
     d: &D,
     names: &N,
@@ -137,7 +138,7 @@ fn push_called<N: Finder>(
 
 // Appends a formula.
 #[cycle(push)]
-fn push_tree<D: ReferencePrinter, N: Finder>(
+fn push_tree<D: Dialect, N: Finder>(
     alloc: Global,
     d: &D,
     names: &N,
@@ -210,7 +211,7 @@ fn push_tree<D: ReferencePrinter, N: Finder>(
 
 // Appends a formula and the bracket that closes it.
 #[cycle(push)]
-fn push_closed<D: ReferencePrinter, N: Finder>(
+fn push_closed<D: Dialect, N: Finder>(
     alloc: Global,
     d: &D,
     names: &N,
@@ -226,7 +227,7 @@ fn push_closed<D: ReferencePrinter, N: Finder>(
 
 // Appends arguments and the bracket that closes them.
 #[cycle(push)]
-fn push_arguments<D: ReferencePrinter, N: Finder>(
+fn push_arguments<D: Dialect, N: Finder>(
     alloc: Global,
     d: &D,
     names: &N,
@@ -246,7 +247,7 @@ fn push_arguments<D: ReferencePrinter, N: Finder>(
 
 // Appends the variables of LET with their values, each before a separator.
 #[cycle(push)]
-fn push_pairs<D: ReferencePrinter, N: Finder>(
+fn push_pairs<D: Dialect, N: Finder>(
     alloc: Global,
     d: &D,
     names: &N,

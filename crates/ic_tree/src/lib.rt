@@ -1,7 +1,7 @@
 //! Formulas as texts: the dialects of stored and of shown formulas, the reader that gives the tree of a text, and the
 //! printer that gives the text of a tree. Reader and printer are written once, for every dialect. `bind`
-//! finds what a formula mentions, `spell` writes it in its own spelling, and `spell_with` in any other; `print_bound`
-//! gives the text of a bound formula at once.
+//! finds what a formula mentions, `print_bound` gives the text of a bound formula with the names that things have, and
+//! `spell_with` the tree that it has with any others.
 #![tactic(auto)]
 
 mod binding;
@@ -19,7 +19,6 @@ mod number;
 mod printer;
 mod reader;
 mod reading;
-mod reference_printer;
 mod shown;
 mod spelling;
 mod stored;
@@ -34,10 +33,8 @@ pub use law::{
     law_stored_formula, law_tokens_before,
 };
 pub(crate) use measured::Measured;
-pub use printer::print;
 pub use reading::{read, read_reference};
-pub use reference_printer::ReferencePrinter;
 pub use shown::Shown;
-pub use spelling::{Spelling, spell, spell_definition, spell_sheet, spell_with};
+pub use spelling::{Spelling, spell_definition, spell_sheet, spell_with};
 pub use stored::Stored;
 pub(crate) use token::{Ahead, Token, TokenSource};

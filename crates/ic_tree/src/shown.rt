@@ -3,15 +3,14 @@ ghost use Rattle.std.specs.Option.{option_copied};
 ghost use Rattle.ic_laws.specs.declared.dialect.WordKind.TheVariants as kinds;
 ghost use Rattle.ic_refs.specs.A1.{is_shown_spellable};
 ghost use Rattle.ic_tables.specs.Order.{BeginsWithFound, BeginsWithNone};
-ghost use Rattle.ic_tree.specs.BoundText.{reference_to};
+ghost use Rattle.ic_laws.specs.Dialect.{reference_to};
 ghost use Rattle.ic_tree.specs.Shown.{SpeaksBeside, found_in, shown_text};
 
 use crate::number::error_of;
-use crate::reference_printer::{ReferencePrinter, is_written_name, push_sheet};
-use crate::stored::{bytes_before, is_written_sheet};
+use crate::stored::bytes_before;
 use ic_laws::scan::push_text;
 use ic_laws::{Dialect, Error, OutOfMemory, Place, RefToken, WordKind};
-use ic_refs::{is_a1_place, push_a1_place, read_a1, spell_a1};
+use ic_refs::{is_a1_place, is_written_name, push_a1_place, push_sheet, read_a1};
 use ic_tables::{Language, Locale, Tables, Words};
 use std::alloc::Global;
 
@@ -60,33 +59,6 @@ impl<'t> Shown<'t> {
             row,
             column,
         }
-    }
-
-    // The text of a reference in the cell. None exactly where it can't be spelled so that it is read back.
-    fn spell_inside(&self, alloc: Global, r: &RefToken) -> Result<Option<String>, OutOfMemory>
-        ensures { IfOk result (λ text. option_map (λ t. chars (string_bytes t)) text
-            ≡ (if is_shown_spellable self.now.row self.now.column r.now then Some
-            (shown_text self.now.row self.now.column r.now) else None)) }
-    {
-        spell_in_cell(alloc, r, self.row, self.column)
-    }
-}
-
-// The same in the cell at this row and column.
-fn spell_in_cell(
-    alloc: Global,
-    r: &RefToken,
-    row: i32,
-    column: i32,
-) -> Result<Option<String>, OutOfMemory>
-    ensures { IfOk result (λ text. option_map (λ t. chars (string_bytes t)) text
-        ≡ (if is_shown_spellable row column r.now then Some (shown_text row column r.now)
-        else None)) }
-{
-    if is_written_sheet(&r.sheet) {
-        spell_a1(alloc, r, row, column)
-    } else {
-        Ok(None)
     }
 }
 
@@ -163,10 +135,16 @@ impl<'t> Dialect for Shown<'t> {
         read_a1(alloc, text, at, self.row, self.column)
     }
 
-    fn spell_ref(&self, alloc: Global, r: &RefToken) -> Result<String, OutOfMemory> {
-        match self.spell_inside(alloc, r)? {
-            Some(text) => Ok(text),
-            None => Ok(String::from_str(alloc, self.words.language.errors.ref_word.as_str())?),
+    fn push_ref(
+        &self,
+        out: &mut String,
+        sheet: Option<&str>,
+        place: Place,
+    ) -> Result<(), OutOfMemory> {
+        if is_shown_place(sheet, place, self.row, self.column) {
+            push_shown(out, sheet, place, self.row, self.column)
+        } else {
+            push_text(out, self.words.language.errors.ref_word.as_str())
         }
     }
 
@@ -194,19 +172,4 @@ fn push_shown(
 {
     push_sheet(out, sheet)?;
     push_a1_place(out, place, row, column)
-}
-
-impl<'t> ReferencePrinter for Shown<'t> {
-    fn push_ref(
-        &self,
-        out: &mut String,
-        sheet: Option<&str>,
-        place: Place,
-    ) -> Result<(), OutOfMemory> {
-        if is_shown_place(sheet, place, self.row, self.column) {
-            push_shown(out, sheet, place, self.row, self.column)
-        } else {
-            push_text(out, self.words.language.errors.ref_word.as_str())
-        }
-    }
 }

@@ -1,24 +1,21 @@
 ghost use Rattle.std.specs.Prelude.{◌≡◌, ◌++◌, ◌≤ℤ◌, ℕ, List, pos, nat_abs, chars, encode_utf8_all, length, string_bytes, MatchOption, OnOk};
 ghost use Rattle.std.specs.Option.{option_copied};
-ghost use Rattle.ic_laws.specs.Dialect.{FindsErrorAt};
+ghost use Rattle.ic_laws.specs.Dialect.{FindsErrorAt, reference_to};
 ghost use Rattle.ic_laws.specs.Position.{is_part_within as part_within, is_place_within as place_within, is_within};
 ghost use Rattle.ic_laws.specs.Scan.{EndsWith};
-ghost use Rattle.ic_laws.specs.Tree.{is_written_sheet as written};
 ghost use Rattle.ic_laws.specs.declared.dialect.WordKind.TheVariants as kinds;
 ghost use Rattle.ic_tables.specs.Order.{BeginsWithFound, BeginsWithNone};
 ghost use Rattle.ic_tables.specs.Words.{first_agreeing, words_of};
 ghost use Rattle.ic_refs.specs.Stored.{is_stored_spellable as spellable, stored_text};
-ghost use Rattle.ic_tree.specs.BoundText.{reference_to};
 ghost use Rattle.ic_tree.specs.Stored.{SpeaksWell, stored_meaning};
 
 use crate::number::error_of;
-use crate::reference_printer::{ReferencePrinter, is_written_name, push_sheet};
 use ic_laws::scan::push_text;
 use ic_laws::{
-    Dialect, Error, LAST_COLUMN, LAST_ROW, OutOfMemory, Place, Position, RefPart, RefToken, Text,
+    Dialect, Error, LAST_COLUMN, LAST_ROW, OutOfMemory, Place, Position, RefPart, RefToken,
     WordKind,
 };
-use ic_refs::{is_valid_sheet_name, push_rc_place, read_rc, spell_rc};
+use ic_refs::{is_written_name, push_rc_place, push_sheet, read_rc};
 use ic_tables::{Tables, Words};
 use std::alloc::Global;
 
@@ -71,23 +68,6 @@ fn is_place_within(place: Place) -> bool
         Place::Cell(part) => is_part_within(part),
         Place::Range(first, last) => is_part_within(first) && is_part_within(last),
     }
-}
-
-// Whether a sheet may have this name, if there is one.
-pub fn is_written_sheet(sheet: &Option<Text>) -> bool
-    ensures { result ≡ written sheet.now }
-{
-    match sheet {
-        None => true,
-        Some(name) => is_valid_sheet_name(name.as_str()),
-    }
-}
-
-// Whether a reference can be written so that it is read back.
-fn is_stored_spellable(r: &RefToken) -> bool
-    ensures { result ≡ spellable r.now }
-{
-    is_place_within(r.place) && is_written_sheet(&r.sheet)
 }
 
 // The error whose word begins at a byte, and how many bytes that word has.
@@ -158,11 +138,16 @@ impl<'t> Dialect for Stored<'t> {
         read_rc(alloc, text, at)
     }
 
-    fn spell_ref(&self, alloc: Global, r: &RefToken) -> Result<String, OutOfMemory> {
-        if is_stored_spellable(r) {
-            spell_rc(alloc, r)
+    fn push_ref(
+        &self,
+        out: &mut String,
+        sheet: Option<&str>,
+        place: Place,
+    ) -> Result<(), OutOfMemory> {
+        if is_written_stored(sheet, place) {
+            push_stored(out, sheet, place)
         } else {
-            Ok(String::from_str(alloc, self.words.language.errors.ref_word.as_str())?)
+            push_text(out, self.words.language.errors.ref_word.as_str())
         }
     }
 
@@ -183,19 +168,4 @@ fn push_stored(out: &mut String, sheet: Option<&str>, place: Place) -> Result<()
 {
     push_sheet(out, sheet)?;
     push_rc_place(out, place)
-}
-
-impl<'t> ReferencePrinter for Stored<'t> {
-    fn push_ref(
-        &self,
-        out: &mut String,
-        sheet: Option<&str>,
-        place: Place,
-    ) -> Result<(), OutOfMemory> {
-        if is_written_stored(sheet, place) {
-            push_stored(out, sheet, place)
-        } else {
-            push_text(out, self.words.language.errors.ref_word.as_str())
-        }
-    }
 }

@@ -7,7 +7,7 @@ use Rattle.ic_laws.specs.SheetText.{sheet_text}
 use Rattle.ic_laws.specs.Tree.{is_written_sheet}
 use Rattle.ic_refs.proofs.PushLemmas.{both_appended}
 use Rattle.ic_refs.specs.A1.{is_spellable, place_text}
-use Rattle.ic_tree.specs.BoundText.{reference_to}
+use Rattle.ic_laws.specs.Dialect.{reference_to}
 use Rattle.ic_tree.proofs.shown.push_shown.Goals as goal
 
 pub push_a1_place-requires : goal.push_a1_place-requires
