@@ -1,5 +1,5 @@
 -- Rows, columns and where a reference points.
-use Rattle.std.specs.Prelude.{ℕ, ℤ, pos, ◌+◌, ◌-◌, ◌*◌, ◌^◌, List, [], ◌∷◌, Bool, ◌&&◌, length, nat_lt, nat_le, nat_abs, int_le, ◌+ℤ◌, if◌then◌else◌}
+use Rattle.std.specs.Prelude.{ℕ, ℤ, pos, true, false, ◌+◌, ◌-◌, ◌*◌, ◌^◌, List, [], ◌∷◌, Bool, ◌&&◌, length, nat_lt, nat_le, nat_abs, int_le, ◌+ℤ◌, if◌then◌else◌}
 use Rattle.std.specs.List.{list_all}
 use Rattle.ic_laws.specs.Character.{at_sign, grave, lower_a}
 use Rattle.ic_laws.specs.Scan.{is_ascii_letter}
@@ -65,3 +65,17 @@ is_part_within part = is_within row_count part.row && is_within column_count par
 abbrev pub is_place_within : Place → Bool
 is_place_within (places.Cell part) = is_part_within part
 is_place_within (places.Range first last) = is_part_within first && is_part_within last
+
+-- a position by its parts: whether it is absolute, and its number
+abbrev pub position_of : Bool → ℤ → Position
+position_of true n = at.Abs n
+position_of false n = at.Rel n
+
+-- a corner by the parts of its row and its column
+abbrev pub part_of : Bool → ℤ → Bool → ℤ → RefPart
+part_of is_row_absolute row is_column_absolute column = record { row = position_of is_row_absolute row; column = position_of is_column_absolute column }
+
+-- a place by its corners, where a cell has the first alone
+abbrev pub place_of : Bool → RefPart → RefPart → Place
+place_of true first last = places.Range first last
+place_of false first last = places.Cell first

@@ -40,6 +40,7 @@ mod items;
 mod law;
 mod memory;
 mod name;
+mod packed_place;
 mod reference;
 pub mod scan;
 mod scene;
@@ -63,6 +64,7 @@ pub use law::{
 };
 pub use memory::OutOfMemory;
 pub use name::agree;
+pub use packed_place::PackedPlace;
 pub use reference::{LAST_COLUMN, LAST_ROW, Place, Position, RefPart, RefToken};
 pub use scene::{DefinitionSpelling, Finder, Scene, SheetName, find_local};
 pub use text::Text;

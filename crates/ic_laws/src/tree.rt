@@ -1,4 +1,4 @@
-use crate::{Amount, Boxed, Items, Place, Text};
+use crate::{Amount, Boxed, Items, PackedPlace, Text};
 
 /// An error value. Its number is its place in this list, from 0.
 #[derive(Clone, Copy, Debug, PartialEq)]
@@ -58,7 +58,7 @@ pub enum Tree<S, W> {
     Str(Text),
     Bool(bool),
     Err(Error),
-    Reference(S, Place),
+    Reference(S, PackedPlace),
     /// A name with its sheet, `Sheet1!tax`: what is local to that sheet.
     Local(S, W),
     Word(W),
@@ -167,12 +167,12 @@ pub struct NameKey {
     pub scope: Option<u32>,
 }
 
-/// A word: a variable of LET or LAMBDA, a definition that was found, by its key, or one that wasn't, by its spelling. The
-/// key is boxed, so that a node of a tree is no larger for it.
+/// A word: a variable of LET or LAMBDA, a definition that was found, by its key, or one that wasn't, by its spelling. Each
+/// is boxed, so that a node of a tree is no larger for it.
 pub enum NameMention {
-    Var(Text),
+    Var(Boxed<Text>),
     Name(Boxed<NameKey>),
-    Dangling(Text),
+    Dangling(Boxed<Text>),
 }
 
 impl Drop for NameMention {
@@ -187,6 +187,8 @@ impl Drop for NameMention {
 
 /// A formula whose mentions are found or dangling.
 pub type Bound = Tree<SheetMention, NameMention>;
+
+const _: () = prove!(size_of::<Bound>() == 48);
 
 /// What is kept of a formula: a tree, or its text where that doesn't read.
 pub enum Formula {
