@@ -1,6 +1,6 @@
-ghost use Rattle.std.specs.Prelude.{◌≡◌, IfOk};
+ghost use Rattle.std.specs.Prelude.{◌≡◌, IfOk, chars};
 
-use crate::OutOfMemory;
+use crate::{OutOfMemory, Text};
 use std::alloc::Global;
 use std::marker::Model;
 
@@ -34,6 +34,15 @@ impl<T: Drop> Boxed<T> {
     {
         let inner = Box::new(alloc, value)?;
         Ok(Boxed { inner })
+    }
+}
+
+impl Boxed<Text> {
+    /// A copy of `s` in a box.
+    pub fn from_str(alloc: Global, s: &str) -> Result<Boxed<Text>, OutOfMemory>
+        ensures { IfOk result (λ b. b ≡ chars s.now) }
+    {
+        Boxed::new(alloc, Text::from_str(alloc, s)?)
     }
 }
 

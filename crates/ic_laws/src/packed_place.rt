@@ -43,6 +43,23 @@ impl PackedPlace {
         }
     }
 
+    /// A copy.
+    pub fn copy(&self) -> PackedPlace
+        ensures { result ≡ self.now }
+    {
+        PackedPlace {
+            is_range: self.is_range,
+            is_row_absolute: self.is_row_absolute,
+            is_column_absolute: self.is_column_absolute,
+            is_last_row_absolute: self.is_last_row_absolute,
+            is_last_column_absolute: self.is_last_column_absolute,
+            row: self.row,
+            column: self.column,
+            last_row: self.last_row,
+            last_column: self.last_column,
+        }
+    }
+
     /// The place itself.
     pub fn place(&self) -> Place
         ensures { result ≡ self.now }
