@@ -64,7 +64,7 @@ fn some_outside(tree: &Bound, at: &(i32, i32)) -> bool
     ensures { result ≡ some_outside at.now.0 at.now.1 tree.now }
 {
     match tree {
-        Tree::Reference(_, place) => !is_inside(*place, at),
+        Tree::Reference(_, place) => !is_inside(place.place(), at),
         Tree::Paren(x) => some_outside(x.as_ref(), at),
         Tree::Prefix(_, x) => some_outside(x.as_ref(), at),
         Tree::Percent(x) => some_outside(x.as_ref(), at),

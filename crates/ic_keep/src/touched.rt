@@ -100,6 +100,6 @@ fn touches_word(change: &KeyChange, new_name: &str, word: &NameMention) -> bool
             let key = key.as_ref();
             is_same_key(&change.old, key) || change.new.name.is(key.name.as_str())
         }
-        NameMention::Dangling(word) => agree(new_name, word.as_str()),
+        NameMention::Dangling(word) => agree(new_name, word.as_ref().as_str()),
     }
 }

@@ -93,7 +93,10 @@ pub fn copy_changed<C: MentionChange>(
         Tree::Str(text) => Ok(Tree::Str(Text::from_str(alloc, text.as_str())?)),
         Tree::Bool(value) => Ok(Tree::Bool(*value)),
         Tree::Err(error) => Ok(Tree::Err(*error)),
-        Tree::Reference(sheet, place) => Ok(Tree::Reference(change.sheet(alloc, sheet)?, *place)),
+        Tree::Reference(sheet, place) => Ok(Tree::Reference(
+            change.sheet(alloc, sheet)?,
+            place.copy(),
+        )),
         Tree::Local(sheet, word) => {
             let (sheet, word) = change.local(alloc, sheet, word)?;
             Ok(Tree::Local(sheet, word))

@@ -170,7 +170,7 @@ fn push_of_word(topics: &mut Vec<u64>, mention: &NameMention) -> Result<(), OutO
     match mention {
         NameMention::Var(_) => {}
         NameMention::Name(key) => topics.push(folded_topic(key.as_ref().name.as_str()))?,
-        NameMention::Dangling(word) => topics.push(name_topic(word.as_str()))?,
+        NameMention::Dangling(word) => topics.push(name_topic(word.as_ref().as_str()))?,
     }
     Ok(())
 }

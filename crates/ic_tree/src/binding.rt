@@ -44,10 +44,7 @@ fn bind_sheet<N: Finder>(
         None => Ok(SheetMention::Own),
         Some(name) => match names.find_sheet(alloc, name.as_str())? {
             Some(id) => Ok(SheetMention::Sheet(id)),
-            None => {
-                let name = Text::from_str(alloc, name.as_str())?;
-                Ok(SheetMention::Dangling(Boxed::new(alloc, name)?))
-            }
+            None => Ok(SheetMention::Dangling(Boxed::from_str(alloc, name.as_str())?)),
         },
     }
 }
@@ -63,11 +60,11 @@ fn bind_word<N: Finder>(
     ensures { IfOk result (λ r. r ≡ bound_word (N.scene names.now) scope seen.now word.now) }
 {
     if seen.has(word.as_str())? {
-        return Ok(NameMention::Var(Text::from_str(alloc, word.as_str())?));
+        return Ok(NameMention::Var(Boxed::from_str(alloc, word.as_str())?));
     }
     match names.find_name(alloc, scope, word.as_str())? {
         Some(key) => Ok(NameMention::Name(Boxed::new(alloc, key)?)),
-        None => Ok(NameMention::Dangling(Text::from_str(alloc, word.as_str())?)),
+        None => Ok(NameMention::Dangling(Boxed::from_str(alloc, word.as_str())?)),
     }
 }
 
@@ -83,9 +80,9 @@ fn bind_local_word<N: Finder>(
     match sheet {
         SheetMention::Sheet(id) => match find_local(alloc, names, *id, word.as_str())? {
             Some(key) => Ok(NameMention::Name(Boxed::new(alloc, key)?)),
-            None => Ok(NameMention::Dangling(Text::from_str(alloc, word.as_str())?)),
+            None => Ok(NameMention::Dangling(Boxed::from_str(alloc, word.as_str())?)),
         },
-        _ => Ok(NameMention::Dangling(Text::from_str(alloc, word.as_str())?)),
+        _ => Ok(NameMention::Dangling(Boxed::from_str(alloc, word.as_str())?)),
     }
 }
 
@@ -125,7 +122,7 @@ fn bind_under<N: Finder>(
         Tree::Err(error) => Ok(Tree::Err(*error)),
         Tree::Reference(sheet, place) => Ok(Tree::Reference(
             bind_sheet(alloc, names, sheet)?,
-            *place,
+            place.copy(),
         )),
         Tree::Local(sheet, word) => bind_local(alloc, names, sheet, word),
         Tree::Word(word) => Ok(Tree::Word(bind_word(alloc, names, scope, seen, word)?)),

@@ -96,12 +96,12 @@ fn push_word<N: Finder>(names: &N, out: &mut String, word: &NameMention) -> Resu
         ++ spelled_word (definition_spelling (N.scene names.now)) word.now) }
 {
     match word {
-        NameMention::Var(word) => push_text(out, word.as_str()),
+        NameMention::Var(word) => push_text(out, word.as_ref().as_str()),
         NameMention::Name(key) => match names.definition_spelling(key.as_ref()) {
             Some(name) => push_text(out, name),
             None => push_text(out, key.as_ref().name.as_str()),
         },
-        NameMention::Dangling(word) => push_text(out, word.as_str()),
+        NameMention::Dangling(word) => push_text(out, word.as_ref().as_str()),
     }
 }
 
@@ -153,7 +153,7 @@ fn push_tree<D: Dialect, N: Finder>(
         Tree::Str(text) => push_string(out, text.as_str()),
         Tree::Bool(value) => push_boolean(d, out, *value),
         Tree::Err(error) => push_error(d, out, *error),
-        Tree::Reference(sheet, place) => push_reference(alloc, d, names, out, sheet, *place),
+        Tree::Reference(sheet, place) => push_reference(alloc, d, names, out, sheet, place.place()),
         Tree::Local(sheet, word) => push_local(alloc, names, out, sheet, word),
         Tree::Word(word) => push_word(names, out, word),
         Tree::Empty => Ok(()),

@@ -73,9 +73,9 @@ fn mentioned_name(word: &NameMention) -> &Text
     ensures { result.now ≡ mentioned_name word.now }
 {
     match word {
-        NameMention::Var(word) => word,
+        NameMention::Var(word) => word.as_ref(),
         NameMention::Name(key) => &key.as_ref().name,
-        NameMention::Dangling(word) => word,
+        NameMention::Dangling(word) => word.as_ref(),
     }
 }
 

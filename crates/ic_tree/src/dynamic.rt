@@ -13,7 +13,7 @@ pub fn is_dynamic(tree: &Bound, tables: &Tables) -> bool
     ensures { result ≡ dynamic_with tables.now.kinds tree.now }
 {
     match tree {
-        Tree::Reference(_, place) => is_range(*place),
+        Tree::Reference(_, place) => is_range(place.place()),
         Tree::Paren(x) => is_dynamic(x.as_ref(), tables),
         Tree::Prefix(sign, x) => !is_at(*sign) && is_dynamic(x.as_ref(), tables),
         Tree::Percent(x) => is_dynamic(x.as_ref(), tables),

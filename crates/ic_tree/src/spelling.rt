@@ -82,9 +82,9 @@ fn spell_word<S: Spelling>(
     ensures { IfOk result (λ r. r ≡ spelled_word (S.key_text spelling.now) word.now) }
 {
     match word {
-        NameMention::Var(word) => Ok(Text::from_str(alloc, word.as_str())?),
+        NameMention::Var(word) => Ok(Text::from_str(alloc, word.as_ref().as_str())?),
         NameMention::Name(key) => spelling.key_text(alloc, key.as_ref()),
-        NameMention::Dangling(word) => Ok(Text::from_str(alloc, word.as_str())?),
+        NameMention::Dangling(word) => Ok(Text::from_str(alloc, word.as_ref().as_str())?),
     }
 }
 
@@ -106,7 +106,7 @@ pub fn spell_with<S: Spelling>(
         Tree::Err(error) => Ok(Tree::Err(*error)),
         Tree::Reference(sheet, place) => Ok(Tree::Reference(
             spell_mention(alloc, spelling, sheet)?,
-            *place,
+            place.copy(),
         )),
         Tree::Local(sheet, word) => {
             let sheet = spell_mention(alloc, spelling, sheet)?;

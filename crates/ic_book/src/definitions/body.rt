@@ -13,7 +13,7 @@ use crate::scene::{BookScene, SceneWithDefinition};
 use caseless::default_case_fold_str;
 use ic_definitions::Definition;
 use ic_laws::scan::first_char;
-use ic_laws::{Dialect, Finder, Formula, NameKey, OutOfMemory, Spelled, Text, Tree};
+use ic_laws::{Dialect, Finder, Formula, NameKey, OutOfMemory, PackedPlace, Spelled, Text, Tree};
 use ic_refs::trimmed;
 use ic_tree::{Shown, bind, read, read_reference};
 use std::alloc::Global;
@@ -117,7 +117,7 @@ fn reference_in<D: Dialect, N: Finder>(
     if names.find_sheet(alloc, name.as_str())?.is_none() {
         return Ok(None);
     }
-    let place = reference.place;
+    let place = PackedPlace::new(reference.place);
     Ok(Some(Tree::Reference(reference.sheet, place)))
 }
 

@@ -19,7 +19,7 @@ use super::Definitions;
 use crate::bodies::{rewrites_of, rewrites_remade};
 use crate::definition::held_key;
 use crate::{BodyRewrites, Definition, NamedDefinitions};
-use ic_laws::{Boxed, Formula, NameKey, NameMention, OutOfMemory, Text};
+use ic_laws::{Boxed, Formula, NameKey, NameMention, OutOfMemory};
 use ic_pool::{BookChange, DefinitionAdded, DefinitionGone, Remaking, has_dangling};
 use std::alloc::Global;
 use std::collections::BTreeMap;
@@ -216,7 +216,7 @@ impl Definitions {
         let definition = &self.as_slice()[index];
         match self.key_without(places, definition)? {
             Some(key) => Ok(NameMention::Name(Boxed::new(self.alloc, key)?)),
-            None => Ok(NameMention::Dangling(Text::from_str(self.alloc, definition.name())?)),
+            None => Ok(NameMention::Dangling(Boxed::from_str(self.alloc, definition.name())?)),
         }
     }
 

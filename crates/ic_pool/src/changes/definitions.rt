@@ -8,7 +8,7 @@ ghost use Rattle.ic_laws.specs.declared.tree.NameMention.TheVariants as names;
 use crate::changes::BookChange;
 use crate::copies::{copy_key, copy_local, copy_sheet, copy_word};
 use crate::topics::folded_topic;
-use ic_laws::{Boxed, NameKey, NameMention, OutOfMemory, SheetMention, Text, agree};
+use ic_laws::{Boxed, NameKey, NameMention, OutOfMemory, SheetMention, agree};
 use std::alloc::Global;
 use std::marker::Model;
 
@@ -59,7 +59,7 @@ impl<'n> DefinitionAdded<'n> {
                 self.key.name == found.name && same_scope(self.key.scope, scope)
             }
             NameMention::Dangling(word) => {
-                agree(self.name, word.as_str()) && self.reaches(scope)
+                agree(self.name, word.as_ref().as_str()) && self.reaches(scope)
             }
         }
     }
@@ -70,7 +70,7 @@ impl<'n> DefinitionAdded<'n> {
     {
         match (sheet, mention) {
             (SheetMention::Sheet(id), NameMention::Dangling(word)) => {
-                agree(self.name, word.as_str()) && same_scope(self.key.scope, Some(*id))
+                agree(self.name, word.as_ref().as_str()) && same_scope(self.key.scope, Some(*id))
             }
             _ => false,
         }
@@ -206,7 +206,7 @@ impl<'n> BookChange for DefinitionGone<'n> {
         mention: &NameMention,
     ) -> Result<(SheetMention, NameMention), OutOfMemory> {
         if is_of_name(self.key, mention) {
-            let word = NameMention::Dangling(Text::from_str(alloc, self.name)?);
+            let word = NameMention::Dangling(Boxed::from_str(alloc, self.name)?);
             return Ok((copy_sheet(alloc, sheet)?, word));
         }
         copy_local(alloc, sheet, mention)

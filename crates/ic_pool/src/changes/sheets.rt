@@ -8,9 +8,7 @@ ghost use Rattle.ic_laws.specs.declared.tree.SheetMention.TheVariants as sheets;
 use crate::changes::BookChange;
 use crate::copies::{copy_local, copy_sheet, copy_word};
 use crate::topics::{name_topic, sheet_topic};
-use ic_laws::{
-    Boxed, Finder, NameKey, NameMention, OutOfMemory, SheetMention, Text, agree, find_local,
-};
+use ic_laws::{Boxed, Finder, NameKey, NameMention, OutOfMemory, SheetMention, agree, find_local};
 use std::alloc::Global;
 
 /// The sheet with this id, a new one or one that was there, gets a name: references that dangle by an agreeing one become
@@ -92,7 +90,7 @@ fn found_with_sheet<F: Finder>(
 {
     match mention {
         NameMention::Dangling(word) => {
-            match find_local(alloc, definitions, id, word.as_str())? {
+            match find_local(alloc, definitions, id, word.as_ref().as_str())? {
                 Some(key) => Ok(NameMention::Name(Boxed::new(alloc, key)?)),
                 None => copy_word(alloc, mention),
             }
@@ -116,8 +114,7 @@ impl<'n, F: Finder> SheetGone<'n, F> {
     fn dangling(&self, alloc: Global) -> Result<SheetMention, OutOfMemory>
         ensures { IfOk result (λ m. m ≡ sheets.Dangling (chars self.now.name.now)) }
     {
-        let name = Text::from_str(alloc, self.name)?;
-        Ok(SheetMention::Dangling(Boxed::new(alloc, name)?))
+        Ok(SheetMention::Dangling(Boxed::from_str(alloc, self.name)?))
     }
 }
 
@@ -170,7 +167,7 @@ impl<'n, F: Finder> BookChange for SheetGone<'n, F> {
         mention: &NameMention,
     ) -> Result<(SheetMention, NameMention), OutOfMemory> {
         if is_to_sheet(sheet, self.id) {
-            let word = Text::from_str(alloc, spelling(self.definitions, mention))?;
+            let word = Boxed::from_str(alloc, spelling(self.definitions, mention))?;
             let sheet = self.dangling(alloc)?;
             return Ok((sheet, NameMention::Dangling(word)));
         }
@@ -184,9 +181,9 @@ fn spelling<'n, F: Finder>(definitions: &'n F, mention: &'n NameMention) -> &'n 
         mention.now }
 {
     match mention {
-        NameMention::Var(word) => word.as_str(),
+        NameMention::Var(word) => word.as_ref().as_str(),
         NameMention::Name(key) => definition_spelling(definitions, key.as_ref()),
-        NameMention::Dangling(word) => word.as_str(),
+        NameMention::Dangling(word) => word.as_ref().as_str(),
     }
 }
 

@@ -137,9 +137,9 @@ fn spelling(word: &NameMention) -> &str
     ensures { chars result.now ≡ word_text word.now }
 {
     match word {
-        NameMention::Var(name) => name.as_str(),
+        NameMention::Var(name) => name.as_ref().as_str(),
         NameMention::Name(key) => key.as_ref().name.as_str(),
-        NameMention::Dangling(name) => name.as_str(),
+        NameMention::Dangling(name) => name.as_ref().as_str(),
     }
 }
 

@@ -85,7 +85,7 @@ fn write_node(key: &mut Key, tree: &Bound) -> Result<(), OutOfMemory>
         Tree::Str(_) => write_numbers(key, &[1]),
         Tree::Bool(value) => write_numbers(key, &[2, bit_of(*value)]),
         Tree::Err(error) => write_numbers(key, &[3, error_of(*error)]),
-        Tree::Reference(sheet, place) => write_reference(key, sheet, *place),
+        Tree::Reference(sheet, place) => write_reference(key, sheet, place.place()),
         Tree::Local(sheet, word) => write_local(key, sheet, word),
         Tree::Word(word) => write_word(key, 5, word),
         Tree::Empty => write_numbers(key, &[6]),

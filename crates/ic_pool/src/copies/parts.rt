@@ -11,8 +11,7 @@ pub fn copy_sheet(alloc: Global, sheet: &SheetMention) -> Result<SheetMention, O
         SheetMention::Own => Ok(SheetMention::Own),
         SheetMention::Sheet(id) => Ok(SheetMention::Sheet(*id)),
         SheetMention::Dangling(name) => {
-            let name = Text::from_str(alloc, name.as_ref().as_str())?;
-            Ok(SheetMention::Dangling(Boxed::new(alloc, name)?))
+            Ok(SheetMention::Dangling(Boxed::from_str(alloc, name.as_ref().as_str())?))
         }
     }
 }
@@ -22,13 +21,16 @@ pub fn copy_word(alloc: Global, word: &NameMention) -> Result<NameMention, OutOf
     ensures { IfOk result (λ copy. copy ≡ word.now) }
 {
     match word {
-        NameMention::Var(word) => Ok(NameMention::Var(Text::from_str(alloc, word.as_str())?)),
+        NameMention::Var(word) => Ok(NameMention::Var(Boxed::from_str(
+            alloc,
+            word.as_ref().as_str(),
+        )?)),
         NameMention::Name(key) => {
             let key = copy_key(alloc, key.as_ref())?;
             Ok(NameMention::Name(Boxed::new(alloc, key)?))
         }
         NameMention::Dangling(word) => {
-            Ok(NameMention::Dangling(Text::from_str(alloc, word.as_str())?))
+            Ok(NameMention::Dangling(Boxed::from_str(alloc, word.as_ref().as_str())?))
         }
     }
 }

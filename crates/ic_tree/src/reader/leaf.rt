@@ -10,7 +10,8 @@ ghost use Rattle.ic_tree.specs.Turned.{leaf, reference_leaf};
 
 use crate::{Measured, Token};
 use ic_laws::{
-    LAST_COLUMN, LAST_ROW, OutOfMemory, Place, Position, RefPart, RefToken, Text, Tree, agree,
+    LAST_COLUMN, LAST_ROW, OutOfMemory, PackedPlace, Place, Position, RefPart, RefToken, Text,
+    Tree, agree,
 };
 use ic_refs::{is_valid_a1_identifier, is_valid_identifier, is_valid_sheet_name};
 use std::alloc::Global;
@@ -132,6 +133,6 @@ fn read_reference(
     if !is_written_sheet(&reference.sheet) || !is_place_within(reference.place) {
         return Ok(None);
     }
-    let tree = Tree::Reference(reference.sheet, reference.place);
+    let tree = Tree::Reference(reference.sheet, PackedPlace::new(reference.place));
     Ok(Measured::leaf(alloc, tree, most)?)
 }
