@@ -1,8 +1,8 @@
 -- An index by mention keeps up with the formulas.
-use Rattle.std.proofs.Common.{◌≡◌, ℕ, zero, suc, ◌<◌, List, [], ◌∷◌, ◌++◌, Bool, true, false, ◌&&◌, ◌||◌, OnOk, Option, Some, None, refl, sym, ap, ◌∙◌, subst, length, set, ◌⊎◌, inl, inr}
+use Rattle.std.proofs.Common.{◌≡◌, ℕ, zero, suc, ◌<◌, List, [], ◌∷◌, ◌++◌, Bool, true, false, ◌&&◌, ◌||◌, OnOk, Some, refl, sym, ap, ◌∙◌, subst, length, set, ◌⊎◌, inl, inr}
 use Rattle.std.specs.Prelude.{nat_eq}
 use Rattle.std.specs.BTreeSet.{BTreeSet, contains}
-use Rattle.std.specs.List.{AllByRecursion, list_any, slice_get}
+use Rattle.std.specs.List.{AllByRecursion, slice_get}
 use Rattle.std.specs.Ordering.{nat_cmp}
 use Rattle.std.specs.declared.result.Result.{Result}
 use Rattle.std.specs.declared.result.Result.TheVariants.{Err, Ok}
@@ -79,6 +79,13 @@ pub noted_rewritten : {E : Type 0} (before after : Noted) (changes : List Replac
 noted_rewritten before after changes xs list knows noted r known keeps is has made e =
     let both = both_true knows noted e in
     subst (KnowsAll after) (sym made) (knows_changed after changes xs (knows_still before after xs (known both.0) keeps) (told r has (sym is ∙ both.1)))
+
+-- the same where a formula is put at the end
+pub noted_pushed : {E : Type 0} (before after : Noted) (xs list : List Formula) (x : Formula) (at : ℕ) (knows noted : Bool) (r : Result (Unit {0}) E) → (knows ≡ true → KnowsAll before xs) → KeepsAll before after → noted ≡ is_ok r
+    → OnOk r (HasAt after at (topics_in x)) → at ≡ length xs → list ≡ xs ++ x ∷ [] → (knows && noted) ≡ true → KnowsAll after list
+noted_pushed before after xs list x at knows noted r known keeps is has end put e =
+    let both = both_true knows noted e in
+    knows_pushed before after xs list x at (known both.0) keeps (told r has (sym is ∙ both.1)) end put
 
 -- ---- where something is mentioned
 

@@ -101,3 +101,13 @@ KeepsPlaces-push before after xs list x key at kept none same end u put =
           ∙ ap (λ n. cond (bytes_eq (code x) q) (Some n) (first_place q xs)) end
           ∙ sym (first_place-push x xs none q);
     })
+
+-- what the map has at a formula's key is its first place
+pub IsPlaced-kept : (index : BTreeMap (List ℕ) ℕ) (before xs : List Formula) (x : Formula) (key : List ℕ) (at : ℕ) → KeepsPlaces index xs → key ≡ code x → get key_cmp index key ≡ Some at → xs ≡ before → IsPlaced x at before xs × (at < length xs)
+IsPlaced-kept index before xs x key at kept same got is =
+    let found : first_place (code x) xs ≡ Some at = ap (λ k. first_place k xs) (sym same) ∙ sym (kept.finds key) ∙ got in
+    (subst (λ ys. IsPlaced x at ys xs) is (IsPlaced-found x at xs found), below_length x at xs (first_found x xs at found).here)
+
+-- where the map has nothing at its key, no formula has that key
+pub none_kept : (index : BTreeMap (List ℕ) ℕ) (xs : List Formula) (key : List ℕ) → KeepsPlaces index xs → get key_cmp index key ≡ None → first_place key xs ≡ None
+none_kept index xs key kept got = sym (kept.finds key) ∙ got

@@ -19,6 +19,7 @@ use index::{all_places, dangling_in, dangling_weight, index_of, put_late, renewe
 pub use rewrites::{Replacement, Rewrites};
 use rewrites::{rewrites_at, rewrites_remade};
 use std::alloc::Global;
+use std::collections::btree_map::Entry;
 use std::collections::{BTreeMap, BTreeSet, LinkedList};
 use std::marker::{Brand, Model};
 use std::sync::ledger::{Blank, Ledger};
@@ -219,10 +220,7 @@ impl Pool {
         ensures err { OnErr result (self.new ≡ self.old) }
     {
         let key = key_of(self.alloc, &formula)?;
-        match self.place_of(&key) {
-            Some(at) => Ok(at),
-            None => self.append(key, formula),
-        }
+        self.place_by(key, formula)
     }
 
     /// The same for a formula that stays its owner's: where there is no equal one, a copy is put at the end.
@@ -239,7 +237,7 @@ impl Pool {
             Some(at) => Ok(at),
             None => {
                 let copy = copy_formula(self.alloc, formula)?;
-                self.append(key, copy)
+                self.place_by(key, copy)
             }
         }
     }
@@ -345,23 +343,29 @@ impl Pool {
         self.index.get(key).copied()
     }
 
-    /// Puts a formula with this key at the end, where none has it. What may fail comes before the first change.
-    fn append(&mut self, key: HashedKey, formula: Formula) -> Result<usize, OutOfMemory>
+    /// The first place of a formula with this key, which is this formula's; where there is none, it is put at the end. One
+    /// search finds its place or makes it. Where there is no memory for the index by mention alone, later changes look at
+    /// all formulas; what else may fail comes before the first change.
+    fn place_by(&mut self, key: HashedKey, formula: Formula) -> Result<usize, OutOfMemory>
         requires whole { self.old.is_whole ≡ true }
         requires its { key ≡ code formula }
-        requires fresh { first_place key self.old.formulas ≡ None }
         ensures ok { IfOk result (λ at. IsPlaced formula at self.old.formulas self.new.formulas) }
         ensures within { IfOk result (λ at. at < length self.new.formulas) }
         ensures whole { OnOk result (self.new.is_whole ≡ true) }
         ensures err { OnErr result (self.new ≡ self.old) }
     {
-        let at = self.len();
-        let weight = dangling_weight(&formula);
-        self.mentions.note(at, &formula)?;
         self.formulas.reserve(1)?;
-        self.index.insert(key, at)?;
-        self.formulas.push_reserved(formula);
-        self.dangling += weight;
-        Ok(at)
+        match self.index.entry(key)? {
+            Entry::Occupied(entry) => Ok(*entry.get()),
+            Entry::Vacant(entry) => {
+                let at = self.formulas.len();
+                let weight = dangling_weight(&formula);
+                entry.insert(at);
+                self.knows_mentions &= self.mentions.note(at, &formula).is_ok();
+                self.formulas.push_reserved(formula);
+                self.dangling += weight;
+                Ok(at)
+            }
+        }
     }
 }
