@@ -1,6 +1,6 @@
 -- Amounts, and the numbers that are written in formulas. An amount is a whole number of units of 10^-9, below 10^27 of
 -- them in absolute value.
-use Rattle.std.specs.Prelude.{◌≡◌, ◌≢◌, ◌⊎◌, ◌<◌, ◌≤◌, ℕ, zero, suc, ℤ, pos, negsuc, ◌+◌, ◌*◌, ◌-◌, ◌/◌, ◌%◌, ◌^◌, List, [], ◌∷◌, ◌++◌, Bool, true, ◌&&◌, ◌==◌, nat_lt, nat_le, nat_abs, length, replicate, Option, Some, None, if◌then◌else◌}
+use Rattle.std.specs.Prelude.{◌≡◌, ◌≢◌, ◌⊎◌, ◌<◌, ◌≤◌, ℕ, zero, suc, ℤ, pos, negsuc, ◌+◌, ◌*◌, ◌-◌, ◌/◌, ◌%◌, ◌^◌, List, [], ◌∷◌, ◌++◌, Bool, true, false, neg_ℤ, ◌&&◌, ◌==◌, nat_lt, nat_le, nat_abs, length, replicate, Option, Some, None, if◌then◌else◌}
 use Rattle.std.specs.Fmt.{decimal}
 use Rattle.std.specs.Str.{all_ascii_digits}
 use Rattle.std.specs.Str.Parse.{digits_value}
@@ -14,6 +14,11 @@ units_of_one = 1000000000
 -- so many units are an amount
 abbrev pub is_amount : ℤ → Bool
 is_amount units = nat_lt (nat_abs units) (10 ^ 27)
+
+-- so many units of a whole part and a fraction, below 0 or not
+abbrev pub signed_units : Bool → ℕ → ℕ → ℤ
+signed_units true whole fraction = neg_ℤ (pos (whole * units_of_one + fraction))
+signed_units false whole fraction = pos (whole * units_of_one + fraction)
 
 -- the digits of a fraction of so many places, up to the last one that isn't zero
 unfoldable pub fraction_digits : ℕ → ℕ → List ℕ

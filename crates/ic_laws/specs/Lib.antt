@@ -1,4 +1,5 @@
 pub mod Amount
+pub mod AmountFields
 pub mod AmountFront
 pub mod Binding
 pub mod BookTrees

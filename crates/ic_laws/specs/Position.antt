@@ -1,5 +1,5 @@
 -- Rows, columns and where a reference points.
-use Rattle.std.specs.Prelude.{ℕ, ℤ, pos, true, false, ◌+◌, ◌-◌, ◌*◌, ◌^◌, List, [], ◌∷◌, Bool, ◌&&◌, length, nat_lt, nat_le, nat_abs, int_le, ◌+ℤ◌, if◌then◌else◌}
+use Rattle.std.specs.Prelude.{ℕ, ℤ, pos, ◌-ℤ◌, int_lt, ◌+◌, ◌-◌, ◌*◌, ◌^◌, List, [], ◌∷◌, Bool, ◌&&◌, length, nat_lt, nat_le, nat_abs, int_le, ◌+ℤ◌, if◌then◌else◌}
 use Rattle.std.specs.List.{list_all}
 use Rattle.ic_laws.specs.Character.{at_sign, grave, lower_a}
 use Rattle.ic_laws.specs.Scan.{is_ascii_letter}
@@ -66,16 +66,22 @@ abbrev pub is_place_within : Place → Bool
 is_place_within (places.Cell part) = is_part_within part
 is_place_within (places.Range first last) = is_part_within first && is_part_within last
 
--- a position by its parts: whether it is absolute, and its number
-abbrev pub position_of : Bool → ℤ → Position
-position_of true n = at.Abs n
-position_of false n = at.Rel n
+-- A position as one number: an absolute one as it is, a distance as 2^22 more. Within the limits the first is less than
+-- 2^21, and the second is not.
+abbrev pub packed_limit : ℤ
+packed_limit = pos 2097152
 
--- a corner by the parts of its row and its column
-abbrev pub part_of : Bool → ℤ → Bool → ℤ → RefPart
-part_of is_row_absolute row is_column_absolute column = record { row = position_of is_row_absolute row; column = position_of is_column_absolute column }
+abbrev pub packed_origin : ℤ
+packed_origin = pos 4194304
 
--- a place by its corners, where a cell has the first alone
-abbrev pub place_of : Bool → RefPart → RefPart → Place
-place_of true first last = places.Range first last
-place_of false first last = places.Cell first
+abbrev pub position_of : ℤ → Position
+position_of n = if int_lt n packed_limit then at.Abs n else at.Rel (n -ℤ packed_origin)
+
+-- a corner by the numbers of its row and its column
+abbrev pub part_of : ℤ → ℤ → RefPart
+part_of row column = record { row = position_of row; column = position_of column }
+
+-- a place by the numbers of both corners, where a cell has 0 for the last row
+abbrev pub place_of : ℤ → ℤ → ℤ → ℤ → Place
+place_of row column last_row last_column =
+    if int_lt (pos 0) last_row then places.Range (part_of row column) (part_of last_row last_column) else places.Cell (part_of row column)

@@ -21,20 +21,33 @@ const GREATEST_WHOLE: u64 = 999_999_999_999_999_999;
 /// A number of units of 10^-9, below 10^27 of them in absolute value.
 #[derive(Clone, Copy, Debug, PartialEq)]
 pub struct Amount {
-    units: i128,
+    whole: u64,
+    fraction: u32,
+    is_below: bool,
 }
 
+const _: () = prove!(size_of::<Amount>() == 16);
+
 impl Model for Amount {
-    ghost use Rattle.std.specs.Prelude.{ℤ, ◌≡◌, true};
-    ghost use Rattle.ic_laws.specs.Amount.{is_amount};
+    ghost use Rattle.std.specs.Prelude.{ℤ, pos, ◌≡◌, ◌<◌, ◌/◌, ◌%◌, nat_abs, int_lt, true};
+    ghost use Rattle.ic_laws.specs.Amount.{is_amount, signed_units, units_of_one};
+    ghost use Rattle.ic_laws.specs.AmountFields.{fields_again};
 
     ghost Value = { ℤ };
 
-    ghost view = { λ a. a.units };
+    ghost view = { λ a. signed_units a.is_below a.whole a.fraction };
 
-    ghost invariant = { λ a. is_amount a.units ≡ true };
+    ghost invariant = { λ a. (is_amount (signed_units a.is_below a.whole a.fraction) ≡ true)
+        × (a.fraction < units_of_one)
+        × (a.is_below ≡ int_lt (signed_units a.is_below a.whole a.fraction) (pos 0)) };
 
-    ghost inverse = { λ z. record { units = z } };
+    ghost inverse = { λ z. record {
+      whole = nat_abs z / units_of_one;
+      fraction = nat_abs z % units_of_one;
+      is_below = int_lt z (pos 0);
+    } };
+
+    ghost inverse_ok = { λ a h. fields_again a.is_below a.whole a.fraction h.1 h.2 };
 }
 
 impl Amount {
@@ -46,11 +59,15 @@ impl Amount {
         ensures { MatchOption result (is_amount units ≡ false)
             (λ a. (a ≡ units) × (is_amount units ≡ true)) }
     {
-        if units.unsigned_abs() < TOO_MANY {
-            Some(Amount { units })
-        } else {
-            None
+        let size = units.unsigned_abs();
+        if size >= TOO_MANY {
+            return None;
         }
+        Some(Amount {
+            whole: (size / ONE) as u64,
+            fraction: (size % ONE) as u32,
+            is_below: units < 0,
+        })
     }
 
     /// How many units of 10^-9 it has.
@@ -58,7 +75,8 @@ impl Amount {
         ensures exact { result ≡ self.now }
         ensures within { is_amount result ≡ true }
     {
-        self.units
+        let size = (self.whole as u128 * ONE + self.fraction as u128) as i128;
+        if self.is_below { -size } else { size }
     }
 }
 

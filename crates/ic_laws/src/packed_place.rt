@@ -1,18 +1,20 @@
 //! A place in the room that a node of a tree has for it.
-ghost use Rattle.std.specs.Prelude.{◌≡◌};
-ghost use Rattle.ic_laws.specs.Position.{place_of, position_of};
+ghost use Rattle.std.specs.Prelude.{◌≡◌, ◌<ℤ◌, pos, true};
+ghost use Rattle.ic_laws.specs.Position.{is_part_within, is_place_within, is_within, part_of, position_of, row_count};
 
 use crate::{Place, Position, RefPart};
 use std::marker::Model;
 
-/// A `Place` in 24 bytes, where a `Place` of its own takes 36: trees keep their references so. Contracts see the place.
+/// What the number of a distance is more than the distance.
+const ORIGIN: i32 = 4_194_304;
+
+/// The numbers of distances begin here.
+const LIMIT: i32 = 2_097_152;
+
+/// A place within the limits in 16 bytes, where a `Place` takes 36: trees keep their references so. Contracts see the
+/// place.
 #[derive(Drop)]
 pub struct PackedPlace {
-    is_range: bool,
-    is_row_absolute: bool,
-    is_column_absolute: bool,
-    is_last_row_absolute: bool,
-    is_last_column_absolute: bool,
     row: i32,
     column: i32,
     last_row: i32,
@@ -21,25 +23,39 @@ pub struct PackedPlace {
 
 impl Model for PackedPlace {
     ghost use Rattle.ic_laws.specs.declared.reference.Place.{Place};
-    ghost use Rattle.ic_laws.specs.Position.{part_of, place_of};
+    ghost use Rattle.ic_laws.specs.Position.{place_of};
 
     ghost Value = { Place };
 
-    ghost view = { λ p. place_of p.is_range
-        (part_of p.is_row_absolute p.row p.is_column_absolute p.column)
-        (part_of p.is_last_row_absolute p.last_row p.is_last_column_absolute p.last_column) };
+    ghost view = { λ p. place_of p.row p.column p.last_row p.last_column };
 }
-
-const _: () = prove!(size_of::<PackedPlace>() == 24);
 
 impl PackedPlace {
     /// This place.
     pub fn new(place: Place) -> PackedPlace
+        requires { is_place_within place ≡ true }
         ensures { result ≡ place }
     {
         match place {
-            Place::Cell(part) => packed(false, part, part),
-            Place::Range(first, last) => packed(true, first, last),
+            Place::Cell(part) => {
+                let (row, column) = numbers(part);
+                PackedPlace {
+                    row,
+                    column,
+                    last_row: 0,
+                    last_column: 0,
+                }
+            }
+            Place::Range(first, last) => {
+                let (row, column) = numbers(first);
+                let (last_row, last_column) = numbers(last);
+                PackedPlace {
+                    row,
+                    column,
+                    last_row,
+                    last_column,
+                }
+            }
         }
     }
 
@@ -48,11 +64,6 @@ impl PackedPlace {
         ensures { result ≡ self.now }
     {
         PackedPlace {
-            is_range: self.is_range,
-            is_row_absolute: self.is_row_absolute,
-            is_column_absolute: self.is_column_absolute,
-            is_last_row_absolute: self.is_last_row_absolute,
-            is_last_column_absolute: self.is_last_column_absolute,
             row: self.row,
             column: self.column,
             last_row: self.last_row,
@@ -64,56 +75,53 @@ impl PackedPlace {
     pub fn place(&self) -> Place
         ensures { result ≡ self.now }
     {
-        let row = position(self.is_row_absolute, self.row);
-        let column = position(self.is_column_absolute, self.column);
-        let first = RefPart { row, column };
-        if !self.is_range {
-            return Place::Cell(first);
+        let first = part(self.row, self.column);
+        if self.last_row > 0 {
+            Place::Range(first, part(self.last_row, self.last_column))
+        } else {
+            Place::Cell(first)
         }
-        let row = position(self.is_last_row_absolute, self.last_row);
-        let column = position(self.is_last_column_absolute, self.last_column);
-        Place::Range(first, RefPart { row, column })
     }
 }
 
-// The place of these corners, or of the first alone.
-fn packed(is_range: bool, first: RefPart, last: RefPart) -> PackedPlace
-    ensures { result ≡ place_of is_range first last }
+// The numbers of a corner.
+fn numbers(part: RefPart) -> (i32, i32)
+    requires { is_part_within part ≡ true }
+    ensures part { part_of result.0 result.1 ≡ part }
+    ensures some { pos 0 <ℤ result.0 }
 {
-    let (is_row_absolute, row) = parts(first.row);
-    let (is_column_absolute, column) = parts(first.column);
-    let (is_last_row_absolute, last_row) = parts(last.row);
-    let (is_last_column_absolute, last_column) = parts(last.column);
-    PackedPlace {
-        is_range,
-        is_row_absolute,
-        is_column_absolute,
-        is_last_row_absolute,
-        is_last_column_absolute,
-        row,
-        column,
-        last_row,
-        last_column,
-    }
+    (number(part.row), number(part.column))
 }
 
-// Whether a position is absolute, and its number.
-fn parts(position: Position) -> (bool, i32)
-    ensures { position_of result.0 result.1 ≡ position }
+// The number of a position.
+fn number(position: Position) -> i32
+    requires { is_within row_count position ≡ true }
+    ensures position { position_of result ≡ position }
+    ensures some { pos 0 <ℤ result }
 {
     match position {
-        Position::Abs(number) => (true, number),
-        Position::Rel(distance) => (false, distance),
+        Position::Abs(number) => number,
+        Position::Rel(distance) => distance + ORIGIN,
     }
 }
 
-// The position of these parts.
-fn position(is_absolute: bool, number: i32) -> Position
-    ensures { result ≡ position_of is_absolute number }
+// The corner of two numbers.
+fn part(row: i32, column: i32) -> RefPart
+    ensures { result ≡ part_of row column }
 {
-    if is_absolute {
+    RefPart {
+        row: position(row),
+        column: position(column),
+    }
+}
+
+// The position of a number.
+fn position(number: i32) -> Position
+    ensures { result ≡ position_of number }
+{
+    if number < LIMIT {
         Position::Abs(number)
     } else {
-        Position::Rel(number)
+        Position::Rel(number - ORIGIN)
     }
 }

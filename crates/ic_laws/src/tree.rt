@@ -72,8 +72,8 @@ pub enum Tree<S, W> {
     Binary(BinarySign, Boxed<Tree<S, W>>, Boxed<Tree<S, W>>),
     /// A function of the tables, by its number.
     Fun(usize, Items<Tree<S, W>>),
-    /// A name that is called.
-    Call(W, Items<Tree<S, W>>),
+    /// A name that is called. It is boxed, so that no node is larger for it.
+    Call(Boxed<W>, Items<Tree<S, W>>),
     Let(Items<LetPair<S, W>>, Boxed<Tree<S, W>>),
     Lambda(Items<Text>, Boxed<Tree<S, W>>),
     /// What a tree gives, called: `f(1)(2)`.
@@ -188,7 +188,7 @@ impl Drop for NameMention {
 /// A formula whose mentions are found or dangling.
 pub type Bound = Tree<SheetMention, NameMention>;
 
-const _: () = prove!(size_of::<Bound>() == 48);
+const _: () = prove!(size_of::<Bound>() == 40);
 
 /// What is kept of a formula: a tree, or its text where that doesn't read.
 pub enum Formula {
