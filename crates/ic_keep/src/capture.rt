@@ -56,7 +56,7 @@ fn is_captured_beside(tree: &Bound, kept: &Bound, change: &KeyChange) -> bool
             is_some_captured(arguments.as_slice(), arguments_of(kept), change)
         }
         Tree::Call(word, arguments) => {
-            is_captured(word, word_of(kept), change)
+            is_captured(word.as_ref(), word_of(kept), change)
                 || is_some_captured(arguments.as_slice(), arguments_of(kept), change)
         }
         Tree::Let(pairs, body) => {
@@ -154,7 +154,7 @@ fn word_of(tree: &Bound) -> Option<&NameMention>
     match tree {
         Tree::Local(_, word) => Some(word),
         Tree::Word(word) => Some(word),
-        Tree::Call(word, _) => Some(word),
+        Tree::Call(word, _) => Some(word.as_ref()),
         _ => None,
     }
 }

@@ -39,7 +39,7 @@ fn touches(change: &KeyChange, new_name: &str, tree: &Bound) -> bool
         }
         Tree::Fun(_, arguments) => touches_some(change, new_name, arguments.as_slice()),
         Tree::Call(word, arguments) => {
-            touches_word(change, new_name, word)
+            touches_word(change, new_name, word.as_ref())
                 || touches_some(change, new_name, arguments.as_slice())
         }
         Tree::Let(pairs, body) => {

@@ -119,7 +119,8 @@ pub fn copy_changed<C: MentionChange>(
         Tree::Call(word, arguments) => {
             let arguments = copy_all(alloc, change, arguments.as_slice())?;
             let arguments = Items::from(arguments);
-            Ok(Tree::Call(change.word(alloc, word)?, arguments))
+            let word = change.word(alloc, word.as_ref())?;
+            Ok(Tree::Call(Boxed::new(alloc, word)?, arguments))
         }
         Tree::Let(pairs, body) => {
             let pairs = copy_pairs(alloc, change, pairs.as_slice())?;

@@ -47,7 +47,8 @@ pub fn some_mention<T: MentionTest>(test: &T, tree: &Bound) -> bool
             some_mention(test, a.as_ref()) || some_mention(test, b.as_ref())
         }
         Tree::Fun(_, arguments) => some_of_all(test, arguments.as_slice()),
-        Tree::Call(word, arguments) => test.word(word) || some_of_all(test, arguments.as_slice()),
+        Tree::Call(word, arguments) => test.word(word.as_ref())
+            || some_of_all(test, arguments.as_slice()),
         Tree::Let(pairs, body) => {
             some_of_values(test, pairs.as_slice()) || some_mention(test, body.as_ref())
         }

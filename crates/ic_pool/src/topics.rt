@@ -108,7 +108,7 @@ fn push_of_tree(topics: &mut Vec<u64>, tree: &Bound) -> Result<(), OutOfMemory>
         }
         Tree::Fun(_, arguments) => push_of_all(topics, arguments.as_slice()),
         Tree::Call(word, arguments) => {
-            push_of_word(topics, word)?;
+            push_of_word(topics, word.as_ref())?;
             push_of_all(topics, arguments.as_slice())
         }
         Tree::Let(pairs, body) => {

@@ -155,9 +155,12 @@ fn bind_under<N: Finder>(
         Tree::Call(word, arguments) => {
             let arguments = bind_all(alloc, names, english, scope, seen, arguments.as_slice())?;
             let arguments = Items::from(arguments);
-            match function_of(english, word.as_str()) {
+            match function_of(english, word.as_ref().as_str()) {
                 Some(number) => Ok(Tree::Fun(number, arguments)),
-                None => Ok(Tree::Call(bind_word(alloc, names, scope, seen, word)?, arguments)),
+                None => {
+                    let word = bind_word(alloc, names, scope, seen, word.as_ref())?;
+                    Ok(Tree::Call(Boxed::new(alloc, word)?, arguments))
+                }
             }
         }
         Tree::Let(pairs, body) => {

@@ -183,7 +183,7 @@ fn push_tree<D: Dialect, N: Finder>(
             push_arguments(alloc, d, names, out, arguments.as_slice())
         }
         Tree::Call(word, arguments) => {
-            push_called(names, out, word)?;
+            push_called(names, out, word.as_ref())?;
             push_arguments(alloc, d, names, out, arguments.as_slice())
         }
         Tree::Let(pairs, body) => {

@@ -23,7 +23,7 @@ pub fn clashes(tree: &Bound, language: &Language) -> bool
         Tree::Binary(_, a, b) => clashes(a.as_ref(), language) || clashes(b.as_ref(), language),
         Tree::Fun(_, arguments) => one_clashes(arguments.as_slice(), language),
         Tree::Call(word, arguments) => {
-            is_function(mentioned_name(word), language)
+            is_function(mentioned_name(word.as_ref()), language)
                 || one_clashes(arguments.as_slice(), language)
         }
         Tree::Let(pairs, body) => {

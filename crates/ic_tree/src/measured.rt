@@ -187,7 +187,7 @@ impl Measured {
             ≡ made most (one.Call name arguments) rest) }
     {
         let (items, below) = arguments.into_parts();
-        let tree = Tree::Call(name, items);
+        let tree = Tree::Call(Boxed::new(alloc, name)?, items);
         Ok(Measured::built(alloc, tree, below, most)?)
     }
 

@@ -131,7 +131,8 @@ pub fn spell_with<S: Spelling>(
         Tree::Call(word, arguments) => {
             let arguments = spell_all(alloc, spelling, arguments.as_slice())?;
             let arguments = Items::from(arguments);
-            Ok(Tree::Call(spell_word(alloc, spelling, word)?, arguments))
+            let word = spell_word(alloc, spelling, word.as_ref())?;
+            Ok(Tree::Call(Boxed::new(alloc, word)?, arguments))
         }
         Tree::Let(pairs, body) => {
             let pairs = spell_pairs(alloc, spelling, pairs.as_slice())?;

@@ -1,5 +1,7 @@
 //! The bodies of definitions, read and bound.
-ghost use Rattle.std.specs.Prelude.{◌≡◌, ◌==◌, IfOk, chars, option_map, pos};
+ghost use Rattle.std.specs.Prelude.{◌≡◌, ◌==◌, ℕ, List, Some, true, IfOk, chars, option_map, pos};
+ghost use Rattle.ic_laws.specs.Position.{is_place_within};
+ghost use Rattle.ic_laws.specs.declared.reference.RefToken.{RefToken};
 ghost use Rattle.ic_laws.specs.CoreStep.{new_definition};
 ghost use Rattle.ic_laws.specs.FormulaReading.{body_of, if_lambda, lambda_tree, reference_tree, shown_at, without_equals};
 ghost use Rattle.ic_laws.specs.Notations.{english};
@@ -98,13 +100,16 @@ impl<'a> Model<'a> {
     }
 }
 
-/// The tree of a text that is a reference with the name of a sheet that is there, with or without blanks around it.
+/// The tree of a text that is a reference with the name of a sheet that is there, with or without blanks around it. What
+/// the dialect reads is within the limits.
 fn reference_in<D: Dialect, N: Finder>(
     alloc: Global,
     d: &D,
     names: &N,
     text: &str,
 ) -> Result<Option<Spelled>, OutOfMemory>
+    requires { (read rest : List ℕ) (r : RefToken) → (D.meaning d.now).read_ref read ≡ Some (r, rest)
+        → is_place_within r.place ≡ true }
     ensures { IfOk result (λ t. t ≡ reference_tree (D.meaning d.now) (N.scene names.now)
         (chars text.now)) }
 {

@@ -153,7 +153,7 @@ pub fn write_texts(key: &mut Key, tree: &Bound) -> Result<(), OutOfMemory>
         Tree::Reference(sheet, _) => write_one(key, sheet_spelling(sheet)),
         Tree::Local(sheet, word) => write_two(key, sheet_spelling(sheet), spelling(word)),
         Tree::Word(word) => write_one(key, spelling(word)),
-        Tree::Call(word, _) => write_one(key, spelling(word)),
+        Tree::Call(word, _) => write_one(key, spelling(word.as_ref())),
         Tree::Lambda(parameters, _) => {
             key.push(1)?;
             write_row(key, parameters.as_slice())

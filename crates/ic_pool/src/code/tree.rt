@@ -95,7 +95,7 @@ fn write_node(key: &mut Key, tree: &Bound) -> Result<(), OutOfMemory>
         Tree::Spill(_) => write_numbers(key, &[10]),
         Tree::Binary(sign, _, _) => write_numbers(key, &[11, binary_of(*sign)]),
         Tree::Fun(number, _) => write_numbers(key, &[12, *number as u64]),
-        Tree::Call(word, _) => write_word(key, 13, word),
+        Tree::Call(word, _) => write_word(key, 13, word.as_ref()),
         Tree::Let(_, _) => write_numbers(key, &[14]),
         Tree::Lambda(_, _) => write_numbers(key, &[15]),
         Tree::Apply(_, _) => write_numbers(key, &[16]),
