@@ -69,7 +69,8 @@ pub(crate) fn sites_of_update(
     bodies: &BodyRewrites,
 ) -> Result<Vec<MentionSite>, OutOfMemory>
     requires pools { AreAlikePools formulas.now contents.now.sheets }
-    requires bodies { AllByRecursion (IsAlikeBody contents.now.definitions) bodies.now.bodies.items }
+    requires bodies { AllByRecursion (IsAlikeBody contents.now.definitions)
+        bodies.now.bodies.items }
     ensures { IfOk result (λ sites. sites.items
         ≡ listed_sites (changed_key change.now.old change.now.new) change.now.old
         contents.now.sheets contents.now.definitions formulas.now bodies.now.bodies.items) }

@@ -59,7 +59,8 @@ impl Places {
     /// Puts a place at the end, where it isn't the last one.
     fn note(&mut self, at: usize) -> Result<(), OutOfMemory>
         ensures noted { OnOk result (is_among at self.new ≡ true) }
-        ensures kept { (other : ℕ) → is_among other self.old ≡ true → is_among other self.new ≡ true }
+        ensures kept { (other : ℕ) → is_among other self.old ≡ true
+            → is_among other self.new ≡ true }
     {
         if !self.ends_with(at) {
             self.list.push(at)?;

@@ -93,7 +93,8 @@ fn bind_local<N: Finder>(
     sheet: &Option<Text>,
     word: &Text,
 ) -> Result<Bound, OutOfMemory>
-    ensures { IfOk result (λ r. r ≡ bound_node (one.Local (bound_sheet (N.scene names.now) sheet.now)
+    ensures { IfOk result (λ r. r ≡ bound_node
+        (one.Local (bound_sheet (N.scene names.now) sheet.now)
         (bound_local (N.scene names.now) (bound_sheet (N.scene names.now) sheet.now) word.now))) }
 {
     let sheet = bind_sheet(alloc, names, sheet)?;

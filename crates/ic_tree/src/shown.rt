@@ -153,7 +153,8 @@ impl<'t> Dialect for Shown<'t> {
 
 // Whether a reference can be written in the cell at this row and column so that it is read back.
 fn is_shown_place(sheet: Option<&str>, place: Place, row: i32, column: i32) -> bool
-    ensures { result ≡ is_shown_spellable row column (reference_to (option_copied sheet.entry) place) }
+    ensures { result ≡ is_shown_spellable row column
+        (reference_to (option_copied sheet.entry) place) }
 {
     is_a1_place(place, row, column) && is_written_name(sheet)
 }

@@ -108,7 +108,7 @@ fn reference_in<D: Dialect, N: Finder>(
     names: &N,
     text: &str,
 ) -> Result<Option<Spelled>, OutOfMemory>
-    requires { (read rest : List ℕ) (r : RefToken) → (D.meaning d.now).read_ref read ≡ Some (r, rest)
+    requires { (t rest : List ℕ) (r : RefToken) → (D.meaning d.now).read_ref t ≡ Some (r, rest)
         → is_place_within r.place ≡ true }
     ensures { IfOk result (λ t. t ≡ reference_tree (D.meaning d.now) (N.scene names.now)
         (chars text.now)) }

@@ -234,7 +234,10 @@ pub fn updated_definition(
     checked: &CheckedUpdate,
 ) -> Result<Definition, OutOfMemory>
     requires indexed { IsIndexed names.now contents.now.sheets contents.now.definitions }
-    requires key { key.now ≡ key_of (record { name = chars new_name.now; scope = checked.now.new_scope }) }
+    requires key { key.now ≡ key_of (record {
+      name = chars new_name.now;
+      scope = checked.now.new_scope;
+    }) }
     ensures { IfOk result (λ d. d ≡ record {
       name = chars new_name.now;
       scope = checked.now.new_scope;

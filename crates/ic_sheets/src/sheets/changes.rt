@@ -224,7 +224,8 @@ impl Sheets {
     pub fn prepare_remade<R: Remaking>(&self, remaking: &R) -> Result<Vec<Rewrites>, OutOfMemory>
         requires { AllByRecursion (λ s. AllByRecursion (LeavesUntouched (R.made remaking.now)
             (Some s.id)) s.pool.formulas) self.now }
-        ensures { IfOk result (λ prepared. AreRemade (R.made remaking.now) prepared.items self.now) }
+        ensures { IfOk result (λ prepared.
+            AreRemade (R.made remaking.now) prepared.items self.now) }
     {
         prepare_remade(self.alloc, &self.list, remaking)
     }
