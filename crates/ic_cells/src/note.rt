@@ -13,8 +13,8 @@ pub struct ErrorTexts {
     pub m: Text,
 }
 
-/// Both texts, of one word's size and a mark, since each cell has room for the widest value. Contracts see the texts; where
-/// both are empty they take no memory.
+/// Both texts, of one word's size and a mark, since each cell has room for the widest value. Contracts see the texts; those
+/// of `empty` take no memory.
 #[derive(Drop)]
 pub struct ErrorNote {
     inner: Option<Boxed<ErrorTexts>>,
@@ -67,7 +67,7 @@ impl ErrorNote {
         }
     }
 
-    /// A copy. Only memory can be missing; two empty texts take none.
+    /// A copy. Only memory can be missing; one of `empty` takes none.
     pub fn copy(&self, alloc: Global) -> Result<ErrorNote, OutOfMemory>
         ensures { IfOk result (λ n. n ≡ self.now) }
     {
