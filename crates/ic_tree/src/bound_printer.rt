@@ -22,7 +22,7 @@ use ic_refs::push_quoted;
 use std::alloc::Global;
 
 /// A sign, and after it the canonical text of a formula with each sheet and each definition that it mentions in its
-/// present spelling: what `print` gives of what `spell` gives. It makes no other tree and no other text on the way.
+/// present spelling. It makes no other tree and no other text on the way.
 pub fn print_bound<D: Dialect, N: Finder>(
     alloc: Global,
     d: &D,

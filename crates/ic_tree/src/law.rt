@@ -32,8 +32,8 @@ pub fn law_tokens_before<D: Dialect>()
         else None) }
 {}
 
-/// What `bind` gives is settled, whatever the language, where no two sheets have names that agree: written out by `spell`
-/// and bound again with the same names, it is the same formula.
+/// What `bind` gives is settled, whatever the language, where no two sheets have names that agree: written out with its
+/// names and bound again with the same ones, it is the same formula.
 pub fn law_language_settled()
     ensures { (l : Language) (scene : Scene) (scope : Option ℕ) → SheetsDiffer scene → (t : Spelled)
         → IsSettled (function_of l) scene scope (bound (function_of l) scene scope t) }
