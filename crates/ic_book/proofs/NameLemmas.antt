@@ -12,7 +12,10 @@ use Rattle.ic_laws.specs.CoreStep.{delete_definition_refusal, index_of_definitio
 use Rattle.ic_laws.specs.Character.{equals}
 use Rattle.ic_laws.specs.FormulaReading.{Body, body_of, lambda_tree, reference_tree, shown_at, shown_body, shown_formula, without_equals}
 use Rattle.ic_laws.specs.Name.{is_identifier}
-use Rattle.ic_laws.specs.Notations.{Notations, english}
+use Rattle.ic_laws.specs.Notations.{AreNotations, Notations, english}
+use Rattle.ic_laws.specs.Dialect.{DialectMeaning}
+use Rattle.ic_laws.specs.Position.{is_place_within}
+use Rattle.ic_laws.specs.declared.reference.RefToken.{RefToken}
 use Rattle.ic_laws.specs.Refusal.{InvalidName, InvalidNameFormula, InvalidScope, InvalidSheet, NameExists, NameNotFound, Refusal}
 use Rattle.ic_definitions.proofs.NamesFacts.{position_none, some_position}
 use Rattle.ic_sheets.specs.Sheet.{sheet_core, sheet_of}
@@ -115,3 +118,11 @@ module _ (n : Notations) (core : CoreBook) (has : Bool) (body read : Formula) wh
 
   pub shown_bare : has ≡ false → read ≡ body → shown_formula n core (pos 1) (pos 1) read ≡ shown_body n core has body
   shown_bare has_none same = sym (ap₂ (λ (b : Bool) (f : Formula). shown_body n core b f) has_none (sym same))
+
+-- ---- the body of a definition
+
+-- a reference that the notation in force reads is within the limits
+pub reads_within : (n : Notations) (core : CoreBook) → AreNotations n → n.knows_locale core.locale ≡ true → n.knows_language core.language ≡ true
+    → (d : DialectMeaning) → d ≡ shown_at n core (pos 1) (pos 1) → (text rest : List ℕ) (r : RefToken) → d.read_ref text ≡ Some (r, rest) → is_place_within r.place ≡ true
+reads_within n core are locale language d is text rest r e =
+    ((are.shown core.locale core.language (pos 1) (pos 1) locale language).reads_inside text rest r (subst (λ (m : DialectMeaning). m.read_ref text ≡ Some (r, rest)) is e)).1
