@@ -1,11 +1,13 @@
 use Rattle.std.proofs.Common.{◌++◌, ◌∷◌, codes, chars, string_bytes, refl, sym, ap, ap₂, ◌∙◌}
 use Rattle.std.proofs.lemmas.List.{append-nil}
 use Rattle.ic_laws.specs.Amount.{amount_text}
-use Rattle.ic_laws.specs.Binding.{spelled_word}
-use Rattle.ic_laws.specs.Dialect.{word_text}
-use Rattle.ic_laws.specs.Scene.{definition_spelling}
+use Rattle.ic_laws.specs.Binding.{spelled_sheet, spelled_word}
+use Rattle.ic_laws.specs.Dialect.{reference_text, word_text}
+use Rattle.ic_laws.specs.Scene.{definition_spelling, sheet_spelling}
 use Rattle.ic_laws.specs.Token.{sign_text, string_text}
 use Rattle.ic_laws.specs.declared.dialect.WordKind.TheVariants as kinds
+use Rattle.ic_laws.specs.declared.reference.Place.{Place}
+use Rattle.ic_laws.specs.declared.reference.RefToken.{RefToken}
 use Rattle.ic_laws.specs.declared.tree.Tree as trees
 use Rattle.ic_laws.specs.declared.tree.Tree.TheOpen as one
 use denote.Hole.Carrier
@@ -37,7 +39,7 @@ push_tree-returns-in-Err g t c =
 pub push_tree-returns-in-Reference : goal.push_tree-returns-in-Reference
 unfolding trees.roll-Tree denote.Hole.Carrier.roll
 push_tree-returns-in-Reference g t c =
-    one_bound _ _ _ _ (g.D.Dialect.meaning c.args.d.now) (g.N.Finder.scene c.args.names.now) _ (one.Reference c.in-Reference.sheet c.in-Reference.place) c.in-Reference.is refl c.push_reference.ensures
+    one_bound _ _ _ _ (g.D.Dialect.meaning c.args.d.now) (g.N.Finder.scene c.args.names.now) _ (one.Reference c.in-Reference.sheet c.in-Reference.place) c.in-Reference.is (ap (λ (place : Place). let r : RefToken = record { sheet = spelled_sheet (sheet_spelling (g.N.Finder.scene c.args.names.now)) c.in-Reference.sheet; place = place } in reference_text (g.D.Dialect.meaning c.args.d.now) r) c.place.ensures) c.push_reference.ensures
 
 pub push_tree-returns-in-Local : goal.push_tree-returns-in-Local
 unfolding trees.roll-Tree denote.Hole.Carrier.roll
@@ -87,7 +89,7 @@ push_tree-returns-in_ok-push_head-in-Fun g t c =
 pub push_tree-returns-in_ok-push_called-in-Call : goal.push_tree-returns-in_ok-push_called-in-Call
 unfolding trees.roll-Tree denote.Hole.Carrier.roll
 push_tree-returns-in_ok-push_called-in-Call g t c =
-    two_bound _ _ _ _ _ _ (g.D.Dialect.meaning c.args.d.now) (g.N.Finder.scene c.args.names.now) _ (one.Call c.in-Call.word c.in-Call.arguments) c.in-Call.is c.in_ok-push_called-in-Call.ensures (ap (λ xs. spelled_word (definition_spelling (g.N.Finder.scene c.args.names.now)) c.in-Call.word ++ codes "(" ++ (bound_arguments_text (g.D.Dialect.meaning c.args.d.now) (g.N.Finder.scene c.args.names.now) xs ++ codes ")")) c.as_slice-in-Call.ensures) c.push_arguments-in-Call.ensures
+    two_bound _ _ _ _ _ _ (g.D.Dialect.meaning c.args.d.now) (g.N.Finder.scene c.args.names.now) _ (one.Call c.in-Call.word c.in-Call.arguments) c.in-Call.is c.in_ok-push_called-in-Call.ensures (ap₂ (λ word xs. spelled_word (definition_spelling (g.N.Finder.scene c.args.names.now)) word ++ codes "(" ++ (bound_arguments_text (g.D.Dialect.meaning c.args.d.now) (g.N.Finder.scene c.args.names.now) xs ++ codes ")")) c.as_ref-in-Call.ensures c.as_slice-in-Call.ensures) c.push_arguments-in-Call.ensures
 
 pub push_tree-returns-in_ok-push_pairs-in-Let : goal.push_tree-returns-in_ok-push_pairs-in-Let
 unfolding trees.roll-Tree denote.Hole.Carrier.roll
