@@ -6,6 +6,7 @@ pub mod CoreLemmas
 pub mod FoldLaws
 pub mod FormLemmas
 mod FormulaExamples
+pub mod LetterLemmas
 mod LineExamples
 mod LocalExamples
 mod NameExamples

@@ -1,6 +1,6 @@
 //! Texts read character by character: what stands first, the runs at the front, and what a front is.
 ghost use Rattle.std.specs.Prelude.{◌≡◌, ◌<◌, ◌++◌, [], ◌∷◌, ◌||◌, ◌==◌, nat_eq, length, bytes_eq, chars, string_bytes, IfSome, MatchOption, OnErr, OnOk};
-ghost use Rattle.ic_laws.specs.Scan.{EndsWith, is_ascii_letter, is_digit, is_plain, is_word_character, begins_word, first_is, past_run, run_of, past_dollar};
+ghost use Rattle.ic_laws.specs.Scan.{EndsWith, is_ascii_letter, is_digit, is_letter, is_plain, is_word_character, begins_word, first_is, past_run, run_of, past_dollar};
 
 mod form;
 
@@ -76,11 +76,23 @@ pub fn is_nothing(text: &str) -> bool
     first_char(text).is_none()
 }
 
+/// Whether it is a letter by Unicode. An ASCII character meets no table.
+#[tactic(auto, using(crate::proofs::LetterLemmas::ascii_letter))]
+pub fn is_letter(c: char) -> bool
+    ensures { result ≡ is_letter c }
+{
+    match c {
+        'A'..='Z' | 'a'..='z' => true,
+        '\0'..='\x7f' => false,
+        _ => is_alphabetic(c),
+    }
+}
+
 /// Whether it is a letter by Unicode, a digit, `_` or `.`.
 pub fn is_plain(c: char) -> bool
     ensures { result ≡ is_plain c }
 {
-    is_alphabetic(c) || c.is_ascii_digit() || c == '_' || c == '.'
+    is_letter(c) || c.is_ascii_digit() || c == '_' || c == '.'
 }
 
 /// Whether a word may have it: it is plain or a backslash.
@@ -94,7 +106,7 @@ pub fn is_word_character(c: char) -> bool
 pub fn begins_word(c: char) -> bool
     ensures { result ≡ begins_word c }
 {
-    is_alphabetic(c) || c == '_' || c == '\\'
+    is_letter(c) || c == '_' || c == '\\'
 }
 
 /// Whether it is an ASCII letter.
