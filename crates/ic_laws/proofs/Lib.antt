@@ -2,6 +2,7 @@ mod AmountExamples
 pub mod AmountLemmas
 pub mod AmountReading
 pub mod AmountTexts
+pub mod ByteRuns
 pub mod CoreLemmas
 pub mod FoldLaws
 pub mod FormLemmas
