@@ -2,10 +2,12 @@ mod AmountExamples
 pub mod AmountLemmas
 pub mod AmountReading
 pub mod AmountTexts
+pub mod ByteRuns
 pub mod CoreLemmas
 pub mod FoldLaws
 pub mod FormLemmas
 mod FormulaExamples
+pub mod LetterLemmas
 mod LineExamples
 mod LocalExamples
 mod NameExamples

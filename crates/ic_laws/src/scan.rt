@@ -1,6 +1,6 @@
 //! Texts read character by character: what stands first, the runs at the front, and what a front is.
-ghost use Rattle.std.specs.Prelude.{◌≡◌, ◌<◌, ◌++◌, [], ◌∷◌, ◌||◌, ◌==◌, nat_eq, length, bytes_eq, chars, string_bytes, IfSome, MatchOption, OnErr, OnOk};
-ghost use Rattle.ic_laws.specs.Scan.{EndsWith, is_ascii_letter, is_digit, is_plain, is_word_character, begins_word, first_is, past_run, run_of, past_dollar};
+ghost use Rattle.std.specs.Prelude.{◌≡◌, ◌<◌, ◌++◌, true, [], ◌∷◌, ◌||◌, ◌==◌, nat_eq, length, bytes_eq, chars, string_bytes, IfSome, MatchOption, OnErr, OnOk};
+ghost use Rattle.ic_laws.specs.Scan.{EndsWith, is_ascii_letter, is_digit, is_letter, is_plain, is_word_character, begins_word, first_is, past_run, run_of, past_dollar};
 
 mod form;
 
@@ -76,11 +76,23 @@ pub fn is_nothing(text: &str) -> bool
     first_char(text).is_none()
 }
 
+/// Whether it is a letter by Unicode. An ASCII character meets no table.
+#[tactic(auto, using(crate::proofs::LetterLemmas::ascii_letter))]
+pub fn is_letter(c: char) -> bool
+    ensures { result ≡ is_letter c }
+{
+    match c {
+        'A'..='Z' | 'a'..='z' => true,
+        '\0'..='\x7f' => false,
+        _ => is_alphabetic(c),
+    }
+}
+
 /// Whether it is a letter by Unicode, a digit, `_` or `.`.
 pub fn is_plain(c: char) -> bool
     ensures { result ≡ is_plain c }
 {
-    is_alphabetic(c) || c.is_ascii_digit() || c == '_' || c == '.'
+    is_letter(c) || c.is_ascii_digit() || c == '_' || c == '.'
 }
 
 /// Whether a word may have it: it is plain or a backslash.
@@ -94,7 +106,7 @@ pub fn is_word_character(c: char) -> bool
 pub fn begins_word(c: char) -> bool
     ensures { result ≡ begins_word c }
 {
-    is_alphabetic(c) || c == '_' || c == '\\'
+    is_letter(c) || c == '_' || c == '\\'
 }
 
 /// Whether it is an ASCII letter.
@@ -104,8 +116,30 @@ pub fn is_ascii_letter(c: char) -> bool
     matches!(c, 'A'..='Z' | 'a'..='z')
 }
 
-/// What stands after the run of plain characters at the front.
+/// What stands after the run of plain characters at the front. ASCII characters are told by their bytes.
 pub fn past_plain(text: &str) -> &str
+    ensures { chars result.now ≡ past_run is_plain (chars text.now) }
+{
+    let bytes = text.as_bytes();
+    let mut at = 0;
+    while at < bytes.len() && is_plain_byte(bytes[at]) {
+        at += 1;
+    }
+    let (_, rest) = text.split_at(at);
+    past_plain_characters(rest)
+}
+
+// Whether it is an ASCII character that is plain.
+#[tactic(auto, using(crate::proofs::LetterLemmas::ascii_letter))]
+fn is_plain_byte(byte: u8) -> bool
+    ensures ascii { result ≡ true → byte < 128 }
+    ensures plain { result ≡ true → is_plain byte ≡ true }
+{
+    matches!(byte, b'A'..=b'Z' | b'a'..=b'z' | b'0'..=b'9' | b'_' | b'.')
+}
+
+// What stands after the run of plain characters at the front, told by characters.
+fn past_plain_characters(text: &str) -> &str
     ensures { chars result.now ≡ past_run is_plain (chars text.now) }
 {
     let mut rest = text;
@@ -146,8 +180,29 @@ pub fn past_digits(text: &str) -> &str
     rest
 }
 
-/// What stands after the run of word characters at the front.
+/// What stands after the run of word characters at the front. ASCII characters are told by their bytes.
 pub fn past_word(text: &str) -> &str
+    ensures { chars result.now ≡ past_run is_word_character (chars text.now) }
+{
+    let bytes = text.as_bytes();
+    let mut at = 0;
+    while at < bytes.len() && is_word_byte(bytes[at]) {
+        at += 1;
+    }
+    let (_, rest) = text.split_at(at);
+    past_word_characters(rest)
+}
+
+// Whether it is an ASCII character that a word may have.
+fn is_word_byte(byte: u8) -> bool
+    ensures ascii { result ≡ true → byte < 128 }
+    ensures word { result ≡ true → is_word_character byte ≡ true }
+{
+    is_plain_byte(byte) || byte == b'\\'
+}
+
+// What stands after the run of word characters at the front, told by characters.
+fn past_word_characters(text: &str) -> &str
     ensures { chars result.now ≡ past_run is_word_character (chars text.now) }
 {
     let mut rest = text;

@@ -1,14 +1,18 @@
 -- Cells and places: what reads the longest at the front.
-use Rattle.std.proofs.Common.{◌≡◌, ℕ, ℤ, ◌<◌, List, [], ◌∷◌, ◌++◌, true, false, Some, None, option_map, option_and_then, refl, sym, ◌∙◌, ap, subst, arith, inl, inr, append_assoc}
+use Rattle.std.proofs.Common.{◌≡◌, ℕ, ℤ, pos, negsuc, ◌<◌, ◌≤ℤ◌, List, [], ◌∷◌, ◌++◌, true, false, Some, None, option_map, option_and_then, Option, refl, sym, ◌∙◌, ap, subst, arith, inl, inr, append_assoc}
 use Rattle.std.specs.List.{list_all}
+use Rattle.std.proofs.lemmas.Int.{ints, to_z-of_z}
+use mir.Syntax.{w32}
+use mir.Val.{of_z, to_z}
 use Rattle.std.proofs.lemmas.Bool.{and_parts}
 use Rattle.std.proofs.lemmas.Bool.Decides.{eqb_tells, nat_tests}
 use Rattle.ic_laws.specs.Scan.{is_digit, first_is, is_ascii_letter}
 use Rattle.ic_laws.specs.Position.{letter_digit}
+use Rattle.ic_laws.specs.declared.reference.TheConstants.{LAST_ROW}
 use Rattle.ic_laws.specs.declared.reference.Position.{Position}
 use Rattle.ic_laws.specs.declared.reference.Position.TheVariants as at
 use Rattle.ic_laws.specs.declared.reference.RefPart.{RefPart}
-use Rattle.ic_refs.specs.A1.{SpellsColumn, SpellsRow, SpellsCell, dollar_of, read_position, column_at, row_at, cell_at}
+use Rattle.ic_refs.specs.A1.{IsAnOrigin, SpellsColumn, SpellsRow, SpellsCell, a1_place_at, dollar_of, past_colon, read_position, column_at, row_at, cell_at}
 use Rattle.ic_refs.specs.Digits.{digit_number, number_value}
 use Rattle.ic_refs.proofs.DigitsLemmas.{read_stops}
 use Rattle.ic_refs.proofs.LongestLemmas.{IsTaken}
@@ -100,3 +104,31 @@ cell_reads row column = record {
       (column_at-exact column s.column_text (s.row_text ++ rest) v.column s.column (row_no_letter row s.row_text rest v.row s.row))
       (row_at-exact row s.row_text rest v.row s.row ends);
 }
+
+-- a text that begins with a column begins with no row
+pub column_no_row : (row column : ℤ) (text : List ℕ) (found : Position × List ℕ) → column_at column text ≡ Some found → row_at row text ≡ None
+column_no_row row column text found e = by (row_at row text) refl
+  where
+    by : (r : Option (Position × List ℕ)) → row_at row text ≡ r → row_at row text ≡ None
+    by None h = h
+    by (Some read) h =
+        let s = (row_reads row).spelled text read h in
+        absurd (let no : Some found ≡ None = sym e ∙ ap (column_at column) s.whole ∙ row_no_column row column s.front read.1 read.0 s.spelled in cc)
+
+-- a row or a column of an origin is the same number in 32 bits
+same_number : (z : ℤ) → pos 0 ≤ℤ z → z ≤ℤ LAST_ROW → to_z w32 (of_z w32 z) ≡ z
+same_number (pos n) low high = to_z-of_z w32 (pos n) (record { sfits = omega (arith, ints, high) })
+same_number (negsuc n) low high = absurd (omega (arith, ints, low))
+
+-- a text that begins with a column, and with neither a cell nor two columns, begins with no place
+pub lone_column : (row column : ℤ) → IsAnOrigin row column → (text rest : List ℕ) (p : Position) → column_at (to_z w32 (of_z w32 column)) text ≡ Some (p, rest)
+    → row_at (to_z w32 (of_z w32 row)) rest ≡ None
+    → option_and_then {U = (Position × Position) × List ℕ} (λ after. option_map (λ (b : Position × List ℕ). ((p, b.0), b.1)) (column_at (to_z w32 (of_z w32 column)) after)) (past_colon rest) ≡ None
+    → None ≡ a1_place_at row column text
+lone_column row column origin text rest p first second more =
+    let same_row = same_number row origin.0 origin.1 in
+    let same_column = same_number column origin.2 (omega (arith, ints, origin.3)) in
+    let e = rw same_column at first in
+    let r = rw same_row at second in
+    let n = rw same_column at more in
+    rw e (rw r (rw n (rw (column_no_row row column text (p, rest) e) refl)))

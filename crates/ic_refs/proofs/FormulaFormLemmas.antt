@@ -97,7 +97,7 @@ trimmed_only text core t = ap trimmed t.whole ∙ trimmed_core t.before core t.a
 
 -- Whole references
 
-whole_some : {T : Type 0} (o : Option (T × List ℕ)) (value : T) → whole_of o ≡ Some value → o ≡ Some (value, [])
+pub whole_some : {T : Type 0} (o : Option (T × List ℕ)) (value : T) → whole_of o ≡ Some value → o ≡ Some (value, [])
 whole_some None value e = absurd (cc)
 whole_some (Some (x, [])) value e = let same : x ≡ value = cc in ap (λ x. Some (x, [])) same
 whole_some (Some (x, c ∷ rest)) value e = absurd (cc)

@@ -97,18 +97,6 @@ fn read_last_cell(text: &str, origin: Origin) -> Option<(RefPart, &str)>
     read_cell(past_colon(text)?, origin)
 }
 
-// Two columns with a colon between them.
-fn read_columns(text: &str, column: i32) -> Option<((Position, Position), &str)>
-    requires low { pos 0 ≤ℤ column }
-    requires high { column ≤ℤ LAST_COLUMN }
-    ensures { option_map (λ f. (f.0, chars f.1.now)) result
-        ≡ pair_at (column_at column) (chars text.now) }
-{
-    let (first, rest) = read_column(text, column)?;
-    let (last, rest) = read_column(past_colon(rest)?, column)?;
-    Some(((first, last), rest))
-}
-
 // Two rows with a colon between them.
 fn read_rows(text: &str, row: i32) -> Option<((Position, Position), &str)>
     requires low { pos 0 ≤ℤ row }
@@ -131,23 +119,27 @@ impl PlaceForm for Origin {
     }
 }
 
-// The longest place at the front, read at a row and a column, and the rest.
+// The longest place at the front, read at a row and a column, and the rest. A text that begins with a column begins with no
+// row, and the column is read once.
+#[tactic(auto, using(crate::proofs::A1CellLemmas::column_no_row))]
 fn read_place(text: &str, origin: Origin) -> Option<(Place, &str)>
     requires { IsAnOrigin origin.row origin.column }
     ensures exact { option_map (λ f. (f.0, chars f.1.now)) result
         ≡ a1_place_at origin.row origin.column (chars text.now) }
 {
-    if let Some((first, rest)) = read_cell(text, origin) {
+    let Some((column, rest)) = read_column(text, origin.column) else {
+        let ((first, last), rest) = read_rows(text, origin.row)?;
+        return Some((whole_rows(first, last), rest));
+    };
+    if let Some((row, rest)) = read_row(rest, origin.row) {
+        let first = RefPart { row, column };
         return match read_last_cell(rest, origin) {
             Some((last, end)) => Some((Place::Range(first, last), end)),
             None => Some((Place::Cell(first), rest)),
         };
     }
-    if let Some(((first, last), rest)) = read_columns(text, origin.column) {
-        return Some((whole_columns(first, last), rest));
-    }
-    let ((first, last), rest) = read_rows(text, origin.row)?;
-    Some((whole_rows(first, last), rest))
+    let (last, rest) = read_column(past_colon(rest)?, origin.column)?;
+    Some((whole_columns(column, last), rest))
 }
 
 // All rows of these columns.

@@ -10,7 +10,6 @@ pub mod EnglishLemmas
 pub mod ErrorLemmas
 pub mod FirstLemmas
 pub mod Heights
-pub mod LetterLemmas
 pub mod LexLemmas
 pub mod ListSteps
 pub mod LocalFirst

@@ -1,6 +1,5 @@
 mod choice;
 mod errors;
-mod letters;
 mod locals;
 mod next;
 mod numbers;

@@ -7,8 +7,8 @@ ghost use Rattle.ic_tree.specs.Tokens.{token_of};
 
 use crate::Token;
 use crate::lexer::seen::{Seen, kept};
-use crate::lexer::words::{past_blanks, past_word};
-use ic_laws::scan::begins_with;
+use crate::lexer::words::past_blanks;
+use ic_laws::scan::{begins_with, past_word};
 use ic_laws::{OutOfMemory, RefToken};
 use std::alloc::Global;
 

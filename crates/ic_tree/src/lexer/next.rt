@@ -11,7 +11,6 @@ ghost use Rattle.ic_tree.specs.Tokens.{token_of};
 use crate::Token;
 use crate::lexer::choice::{is_past_word, kept_with, longer_of, longer_than_reference};
 use crate::lexer::errors::error_at;
-use crate::lexer::letters::{begins_word, is_letter};
 use crate::lexer::locals::local_at;
 use crate::lexer::numbers::number_at;
 use crate::lexer::quoted::quoted_at;
@@ -19,7 +18,7 @@ use crate::lexer::references::reference_at;
 use crate::lexer::seen::Seen;
 use crate::lexer::signs::sign_at;
 use crate::lexer::words::word_at;
-use ic_laws::scan::first_char;
+use ic_laws::scan::{begins_word, first_char, is_letter};
 use ic_laws::{Dialect, OutOfMemory, RefToken};
 use std::alloc::Global;
 

@@ -1,14 +1,13 @@
 ghost use Rattle.std.specs.Prelude.{◌≡◌, chars, option_map, true};
-ghost use Rattle.ic_laws.specs.Scan.{begins_word, first_is, is_blank, is_word_character, past_run};
+ghost use Rattle.ic_laws.specs.Scan.{begins_word, first_is, is_blank, past_run};
 ghost use Rattle.ic_laws.specs.NextToken.{boolean_or_word, head_token};
 ghost use Rattle.ic_laws.specs.Split.{longer};
 ghost use Rattle.ic_laws.specs.TokenKinds.{head_at, head_before, word_at};
 ghost use Rattle.ic_laws.specs.declared.dialect.WordKind.TheVariants as kinds;
 ghost use Rattle.ic_tree.specs.Lexing.{seen_token};
 
-use crate::lexer::letters::is_word_character;
 use crate::lexer::seen::Seen;
-use ic_laws::scan::{first_char, front_of};
+use ic_laws::scan::{first_char, front_of, past_word};
 use ic_laws::{Dialect, WordKind};
 use ic_refs::is_valid_a1_identifier;
 
@@ -78,20 +77,6 @@ fn whole_word<'t, D: Dialect>(d: &D, run: &'t str) -> Option<Seen<'t>>
             }
         }
     }
-}
-
-/// What stands after the word characters at the front.
-pub(crate) fn past_word(text: &str) -> &str
-    ensures { chars result.now ≡ past_run is_word_character (chars text.now) }
-{
-    let mut rest = text;
-    while let Some((c, after)) = first_char(rest) {
-        if !is_word_character(c) {
-            break;
-        }
-        rest = after;
-    }
-    rest
 }
 
 /// What stands after the blanks at the front.

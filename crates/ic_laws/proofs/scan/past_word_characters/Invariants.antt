@@ -1,9 +1,8 @@
 use Rattle.std.proofs.Common.{◌≡◌, chars, length}
 use denote.Text.{Utf8}
 use denote.Shadow.{shadow}
-use Rattle.ic_laws.specs.Scan.{past_run}
-use Rattle.ic_laws.specs.Scan.{is_word_character}
-use Rattle.ic_tree.proofs.lexer.words.past_word.Given as goal
+use Rattle.ic_laws.specs.Scan.{is_word_character, past_run}
+use Rattle.ic_laws.proofs.scan.past_word_characters.Given as goal
 
 -- what is left ends as the whole text does
 abbrev pub invariant-loop-c : goal.invariant-loop-c

@@ -1,0 +1,12 @@
+use Rattle.std.proofs.Common.{◌≡◌, chars, length}
+use denote.Text.{Utf8}
+use denote.Shadow.{shadow}
+use Rattle.ic_laws.specs.Scan.{is_plain, past_run}
+use Rattle.ic_laws.proofs.scan.past_plain_characters.Given as goal
+
+-- what is left ends as the whole text does
+abbrev pub invariant-loop-c : goal.invariant-loop-c
+invariant-loop-c l = shadow (Utf8 l.rest) × (past_run is_plain (chars l.rest) ≡ past_run is_plain (chars l.text))
+
+abbrev pub decreases-loop-c : goal.decreases-loop-c
+decreases-loop-c l = length l.rest
