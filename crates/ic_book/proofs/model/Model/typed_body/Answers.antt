@@ -30,5 +30,5 @@ returns-in-None c =
 pub reference_in-requires : goal.reference_in-requires
 reference_in-requires c =
     let held = subst (λ (m : ModelState). AreNotations (notations_in m.book) × ((notations_in m.book).knows_locale m.book.locale ≡ true) × ((notations_in m.book).knows_language m.book.language ≡ true)) c.self.view_is
-        (notations c.self.inside c.self.invariant.book, c.self.invariant.book.whole.locale, c.self.invariant.book.whole.language) in
+    (notations c.self.inside c.self.invariant.book, c.self.invariant.book.whole.locale, c.self.invariant.book.whole.language) in
     reads_within (notations_in c.args.self.now.book) (core_of c.args.self.now.book) held.0 held.1 held.2 _ c.shown-shown.ensures
