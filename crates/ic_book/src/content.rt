@@ -293,7 +293,7 @@ fn number_kept(cell: &Cell) -> Option<Amount>
     match cell {
         Cell::NumberCell { v, .. } => Some(*v),
         Cell::CellFormula { v, .. } => formula_number(v),
-        Cell::ArrayFormula { v, .. } => formula_number(v),
+        Cell::ArrayFormula { v, .. } => formula_number(v.kept()?),
         Cell::SpillCell { v, .. } => spill_number(v),
         _ => None,
     }
@@ -304,7 +304,7 @@ fn spill_text(value: &SpillValue) -> Option<&str>
     ensures { option_map (λ t. chars t.now) result ≡ spill_text value.entry.now }
 {
     match value {
-        SpillValue::Text(text) => Some(text.as_str()),
+        SpillValue::Text(text) => Some(text.as_ref().as_str()),
         _ => None,
     }
 }

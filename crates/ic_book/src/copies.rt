@@ -2,8 +2,10 @@
 ghost use Rattle.std.specs.Prelude.{◌≡◌, IfOk, OnOk};
 ghost use Rattle.std.specs.FinMap as finite;
 
-use ic_cells::{Cell, FormulaValue, LineMap, Merge, Metadata, PlaceMap, SpillValue, Styles};
-use ic_laws::{Items, OutOfMemory, Text};
+use ic_cells::{
+    ArrayValue, Cell, FormulaValue, LineMap, Merge, Metadata, PlaceMap, SpillValue, Styles,
+};
+use ic_laws::{Boxed, Items, OutOfMemory, Text};
 use std::alloc::Global;
 
 /// A copy of a text.
@@ -11,6 +13,13 @@ pub(crate) fn copy_text(alloc: Global, text: &Text) -> Result<Text, OutOfMemory>
     ensures { IfOk result (λ copy. copy ≡ text.now) }
 {
     Text::from_str(alloc, text.as_str())
+}
+
+/// A copy of a text in a box.
+fn copy_boxed(alloc: Global, text: &Boxed<Text>) -> Result<Boxed<Text>, OutOfMemory>
+    ensures { IfOk result (λ copy. copy ≡ text.now) }
+{
+    Boxed::from_str(alloc, text.as_ref().as_str())
 }
 
 /// A copy of each text.
@@ -63,11 +72,21 @@ fn copy_formula_value(alloc: Global, value: &FormulaValue) -> Result<FormulaValu
         FormulaValue::Unevaluated => Ok(FormulaValue::Unevaluated),
         FormulaValue::Boolean(truth) => Ok(FormulaValue::Boolean(*truth)),
         FormulaValue::Number(amount) => Ok(FormulaValue::Number(*amount)),
-        FormulaValue::Text(text) => Ok(FormulaValue::Text(copy_text(alloc, text)?)),
+        FormulaValue::Text(text) => Ok(FormulaValue::Text(copy_boxed(alloc, text)?)),
         FormulaValue::Error { ei, note } => {
             let note = note.copy(alloc)?;
             Ok(FormulaValue::Error { ei: *ei, note })
         }
+    }
+}
+
+/// A copy of the value of an array formula.
+fn copy_array_value(alloc: Global, value: &ArrayValue) -> Result<ArrayValue, OutOfMemory>
+    ensures { IfOk result (λ copy. copy ≡ value.now) }
+{
+    match value.kept() {
+        Some(value) => ArrayValue::new(alloc, copy_formula_value(alloc, value)?),
+        None => Ok(ArrayValue::unevaluated()),
     }
 }
 
@@ -78,7 +97,7 @@ fn copy_spill_value(alloc: Global, value: &SpillValue) -> Result<SpillValue, Out
     match value {
         SpillValue::Boolean(truth) => Ok(SpillValue::Boolean(*truth)),
         SpillValue::Number(amount) => Ok(SpillValue::Number(*amount)),
-        SpillValue::Text(text) => Ok(SpillValue::Text(copy_text(alloc, text)?)),
+        SpillValue::Text(text) => Ok(SpillValue::Text(copy_boxed(alloc, text)?)),
         SpillValue::Error(error) => Ok(SpillValue::Error(*error)),
     }
 }
@@ -98,7 +117,7 @@ pub(crate) fn copy_cell(alloc: Global, cell: &Cell) -> Result<Cell, OutOfMemory>
             Ok(Cell::CellFormula { f: *f, s: *s, v })
         }
         Cell::ArrayFormula { kind, f, s, r, v } => {
-            let v = copy_formula_value(alloc, v)?;
+            let v = copy_array_value(alloc, v)?;
             Ok(Cell::ArrayFormula {
                 kind: *kind,
                 f: *f,

@@ -3,7 +3,7 @@ use crate::books::{Books, put_book_error, take_book};
 use crate::row::Row;
 use ic_book::Model;
 use ic_cells::{
-    ArrayKind, Cell, Color, ColumnProps, DefinedName, FormulaValue, LineMap, Merge, PlaceMap,
+    ArrayKind, ArrayValue, Cell, Color, ColumnProps, DefinedName, LineMap, Merge, PlaceMap,
     RowProps, SheetState, SpillValue, Workbook, Worksheet,
 };
 use ic_input::read_amount;
@@ -208,6 +208,6 @@ fn array(row: &mut Row<'_>, s: usize, kind: ArrayKind) -> Cell {
         f: row.size(4),
         s,
         r: (row.int(5), row.int(6)),
-        v: FormulaValue::Unevaluated,
+        v: ArrayValue::unevaluated(),
     }
 }

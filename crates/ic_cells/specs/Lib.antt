@@ -1,3 +1,4 @@
+pub mod ArrayValue
 pub mod Cell
 pub mod Key
 pub mod Layout

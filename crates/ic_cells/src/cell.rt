@@ -4,7 +4,7 @@ ghost use Rattle.ic_cells.specs.Value.{AsShown, FitsType, shown_text};
 ghost use Rattle.ic_tables.specs.Formats.{decimal_separator};
 
 use crate::lent::{LentValue, boolean_word, lent_from};
-use crate::{CellType, CellValue, FormulaValue, SpillValue};
+use crate::{ArrayValue, CellType, CellValue, FormulaValue, SpillValue};
 use ic_laws::{Amount, Error, Items, OutOfMemory, Text, amount_spelling};
 use ic_tables::{Language, Locale};
 use std::alloc::Global;
@@ -53,7 +53,7 @@ pub enum Cell {
         f: usize,
         s: usize,
         r: (i32, i32),
-        v: FormulaValue,
+        v: ArrayValue,
     },
     /// Another cell of such an area. `a` is the row and the column of the formula's cell, from 1.
     SpillCell {
@@ -262,4 +262,4 @@ impl Cell {
     }
 }
 
-const _: () = prove!(size_of::<Cell>() == 64);
+const _: () = prove!(size_of::<Cell>() == 48);

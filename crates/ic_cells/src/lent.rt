@@ -4,7 +4,7 @@ ghost use Rattle.ic_cells.specs.Cell.{string_at, value_of};
 ghost use Rattle.ic_cells.specs.Lent.{value_lent};
 ghost use Rattle.ic_cells.specs.Value.{boolean_word, error_word, formula_type, formula_value, spill_type, spill_value};
 
-use crate::{Cell, CellType, CellValue, FormulaValue, SpillValue};
+use crate::{ArrayValue, Cell, CellType, CellValue, FormulaValue, SpillValue};
 use ic_laws::scan::first_char;
 use ic_laws::{Amount, Error, OutOfMemory, Text};
 use ic_tables::{Language, Locale};
@@ -47,7 +47,7 @@ pub fn lent_from<'c>(cell: &'c Cell, strings: &'c [Text], language: &'c Language
         Cell::ErrorCell { ei, .. } => LentValue::Text(error_word(language, *ei)),
         Cell::SharedString { si, .. } => LentValue::Text(string_at(strings, *si)),
         Cell::CellFormula { v, .. } => lent_formula(v, language),
-        Cell::ArrayFormula { v, .. } => lent_formula(v, language),
+        Cell::ArrayFormula { v, .. } => lent_array(v, language),
         Cell::SpillCell { v, .. } => lent_spill(v, language),
     }
 }
@@ -60,8 +60,18 @@ fn lent_formula<'c>(value: &'c FormulaValue, language: &'c Language) -> LentValu
         FormulaValue::Unevaluated => LentValue::Text(UNEVALUATED),
         FormulaValue::Boolean(truth) => LentValue::Boolean(*truth),
         FormulaValue::Number(amount) => LentValue::Number(*amount),
-        FormulaValue::Text(text) => LentValue::Text(text.as_str()),
+        FormulaValue::Text(text) => LentValue::Text(text.as_ref().as_str()),
         FormulaValue::Error { ei, .. } => LentValue::Text(error_word(language, *ei)),
+    }
+}
+
+#[tactic(auto, using(crate::proofs::Literals::literals))]
+fn lent_array<'c>(value: &'c ArrayValue, language: &'c Language) -> LentValue<'c>
+    ensures { value_lent result ≡ formula_value language.now value.now }
+{
+    match value.kept() {
+        Some(value) => lent_formula(value, language),
+        None => LentValue::Text(UNEVALUATED),
     }
 }
 
@@ -71,7 +81,7 @@ fn lent_spill<'c>(value: &'c SpillValue, language: &'c Language) -> LentValue<'c
     match value {
         SpillValue::Boolean(truth) => LentValue::Boolean(*truth),
         SpillValue::Number(amount) => LentValue::Number(*amount),
-        SpillValue::Text(text) => LentValue::Text(text.as_str()),
+        SpillValue::Text(text) => LentValue::Text(text.as_ref().as_str()),
         SpillValue::Error(error) => LentValue::Text(error_word(language, *error)),
     }
 }

@@ -8,6 +8,7 @@
 //! lists and maps contracts see as lists and finite maps.
 #![tactic(auto)]
 
+mod array_value;
 mod cell;
 mod key;
 mod layout;
@@ -21,6 +22,7 @@ mod styles;
 mod value;
 mod workbook;
 
+pub use array_value::ArrayValue;
 pub use cell::{ArrayKind, Cell};
 pub use layout::{
     ColumnProps, DEFAULT_COLUMN_WIDTH, DEFAULT_ROW_HEIGHT, Merge, RowProps, column_width,

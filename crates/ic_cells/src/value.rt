@@ -3,7 +3,7 @@ ghost use Rattle.std.specs.Bool.{Decides};
 ghost use Rattle.ic_cells.specs.declared.value.CellValue.{CellValue};
 
 use crate::ErrorNote;
-use ic_laws::{Amount, Error, OutOfMemory, Text};
+use ic_laws::{Amount, Boxed, Error, OutOfMemory, Text};
 use std::alloc::Global;
 
 /// The value of a cell, as whoever looks at the sheet sees it: an error is the text of its word.
@@ -61,24 +61,25 @@ pub fn law_equal_values()
     ensures { (a b : CellValue) → Decides (⟦<CellValue as PartialEq>⟧.eq a b) (a ≡ b) }
 {}
 
-/// The value that a formula cell keeps. A higher layer writes it.
+/// The value that a formula cell keeps. A higher layer writes it. Its text is boxed, since each cell has room for the widest
+/// value.
 #[derive(Drop)]
 pub enum FormulaValue {
     /// Nothing was written since the formula was.
     Unevaluated,
     Boolean(bool),
     Number(Amount),
-    Text(Text),
+    Text(Boxed<Text>),
     /// An error, and what was noted of it.
     Error { ei: Error, note: ErrorNote },
 }
 
-/// The value that a cell of a spill keeps.
+/// The value that a cell of a spill keeps, its text boxed too.
 #[derive(Drop)]
 pub enum SpillValue {
     Boolean(bool),
     Number(Amount),
-    Text(Text),
+    Text(Boxed<Text>),
     Error(Error),
 }
 
@@ -90,3 +91,7 @@ pub enum CellType {
     LogicalValue,
     ErrorValue,
 }
+
+const _: () = prove!(size_of::<FormulaValue>() == 24);
+
+const _: () = prove!(size_of::<SpillValue>() == 24);

@@ -16,7 +16,7 @@ use crate::Block;
 use crate::arrays::formula_array;
 use crate::block::is_same;
 use crate::walk::next_in;
-use ic_cells::{Cell, FormulaValue, PlaceMap};
+use ic_cells::{ArrayValue, Cell, PlaceMap};
 
 /// Puts a cell where one stands.
 pub fn replace(cells: &mut PlaceMap<Cell>, place: (i32, i32), cell: Cell)
@@ -91,7 +91,7 @@ pub fn reset(cells: &mut PlaceMap<Cell>, place: (i32, i32))
             f,
             s,
             r: (1, 1),
-            v: FormulaValue::Unevaluated,
+            v: ArrayValue::unevaluated(),
         };
         replace(cells, place, cell);
     }

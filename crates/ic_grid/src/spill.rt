@@ -19,8 +19,9 @@ use crate::changes::{next_place, put_all, unspill_block};
 use crate::merges::is_merged;
 use crate::room::make_room;
 use crate::{Array, Block, Grid, GridError};
-use ic_cells::{ArrayKind, Cell, ErrorNote, FormulaValue, Merge, PlaceMap, SpillValue};
+use ic_cells::{ArrayKind, ArrayValue, Cell, ErrorNote, FormulaValue, Merge, PlaceMap, SpillValue};
 use ic_laws::OutOfMemory;
+use std::alloc::Global;
 
 /// Whether a cell is empty, or one of the spill of the formula at a place.
 fn is_free(cell: &Cell, anchor: (i32, i32)) -> bool
@@ -157,6 +158,13 @@ pub fn gathered(value: SpillValue) -> FormulaValue
     }
 }
 
+/// The same as an array formula keeps it. Only memory can be missing.
+fn gathered_kept(alloc: Global, value: SpillValue) -> Result<ArrayValue, OutOfMemory>
+    ensures { IfOk result (λ kept. kept ≡ gathered value) }
+{
+    ArrayValue::new(alloc, gathered(value))
+}
+
 /// Puts the cells of an array into a block, in place of the spill of the array whose formula stands at its first place.
 fn place_array(
     cells: &mut PlaceMap<Cell>,
@@ -202,12 +210,13 @@ impl Grid {
             return Ok(items);
         };
         let anchor = block.first();
+        let kept = gathered_kept(alloc, value)?;
         items.push(Cell::ArrayFormula {
             kind,
             f,
             s,
             r: block.area(),
-            v: gathered(value),
+            v: kept,
         })?;
         let mut at = next_place(block, anchor);
         while let Some(v) = rest.next() {

@@ -13,8 +13,8 @@ ghost use Rattle.ic_grid.specs.Whole.{IsGrid};
 use crate::arrays::formula_array;
 use crate::changes::{next_place, put_all, replace, style_or_zero, unspill_block};
 use crate::{Array, Block, Grid, GridError};
-use ic_cells::{ArrayKind, Cell, FormulaValue, PlaceMap, SpillValue};
-use ic_laws::{Error, OutOfMemory, Text};
+use ic_cells::{ArrayKind, ArrayValue, Cell, FormulaValue, PlaceMap, SpillValue};
+use ic_laws::{Boxed, Error, OutOfMemory};
 use std::alloc::Global;
 
 /// A copy of a formula's value as the cells of a spill have it: none at all is the error `ERROR`.
@@ -25,7 +25,10 @@ fn spread(alloc: Global, value: &FormulaValue) -> Result<SpillValue, OutOfMemory
         FormulaValue::Unevaluated => Ok(SpillValue::Error(Error::ERROR)),
         FormulaValue::Boolean(truth) => Ok(SpillValue::Boolean(*truth)),
         FormulaValue::Number(amount) => Ok(SpillValue::Number(*amount)),
-        FormulaValue::Text(text) => Ok(SpillValue::Text(Text::from_str(alloc, text.as_str())?)),
+        FormulaValue::Text(text) => Ok(SpillValue::Text(Boxed::from_str(
+            alloc,
+            text.as_ref().as_str(),
+        )?)),
         FormulaValue::Error { ei, .. } => Ok(SpillValue::Error(*ei)),
     }
 }
@@ -80,7 +83,7 @@ fn single_at(cells: &PlaceMap<Cell>, place: (i32, i32)) -> Option<(usize, usize)
 }
 
 /// Gives a dynamic formula a value: its spill is emptied, and it is for its own cell alone.
-fn value_dynamic(cells: &mut PlaceMap<Cell>, f: usize, s: usize, array: &Array, value: FormulaValue)
+fn value_dynamic(cells: &mut PlaceMap<Cell>, f: usize, s: usize, array: &Array, value: ArrayValue)
     requires arrays { AreArrays celled cells.old }
     requires formula { IsArrayThere cells.old f s array.now }
     requires kind { array.now.kind ≡ kinds.Dynamic }
@@ -113,19 +116,20 @@ fn value_cse(
     ensures err { OnErr result (cells.new ≡ cells.old) }
 {
     let items = spread_cells(cells, &array.block, &value)?;
+    let kept = ArrayValue::new(cells.alloc(), value)?;
     put_all(cells, &array.block, items);
     let cell = Cell::ArrayFormula {
         kind: ArrayKind::Cse,
         f,
         s,
         r: array.block.area(),
-        v: value,
+        v: kept,
     };
     replace(cells, array.block.first(), cell);
     Ok(())
 }
 
-/// Gives an array formula a value.
+/// Gives an array formula a value. What is kept of it is made before anything changes.
 fn value_array(
     cells: &mut PlaceMap<Cell>,
     f: usize,
@@ -141,7 +145,8 @@ fn value_array(
 {
     match array.kind {
         ArrayKind::Dynamic => {
-            value_dynamic(cells, f, s, array, value);
+            let kept = ArrayValue::new(cells.alloc(), value)?;
+            value_dynamic(cells, f, s, array, kept);
             Ok(())
         }
         ArrayKind::Cse => value_cse(cells, f, s, array, value),
@@ -189,8 +194,8 @@ fn value_at(
 impl Grid {
     /// Writes the value of the formula at a place of the sheet. The spill of a dynamic array is emptied, and the formula is
     /// for its own cell alone. Each other cell of a Cse array gets the value too, where none at all is the error `ERROR`.
-    /// `NoFormulaCell` comes exactly where no formula stands at the place. Memory can only be missing for a Cse array. After
-    /// an error all is as before.
+    /// `NoFormulaCell` comes exactly where no formula stands at the place. Memory can only be missing for an array formula.
+    /// After an error all is as before.
     pub fn write_value(
         &mut self,
         row: i32,

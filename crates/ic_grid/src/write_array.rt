@@ -16,8 +16,8 @@ use crate::changes::{next_place, put_all};
 use crate::prepare::prepare_block;
 use crate::room::fill_up;
 use crate::{Block, Grid, GridError};
-use ic_cells::{ArrayKind, Cell, FormulaValue, PlaceMap, SpillValue, Styles};
-use ic_laws::{OutOfMemory, Text};
+use ic_cells::{ArrayKind, ArrayValue, Cell, PlaceMap, SpillValue, Styles};
+use ic_laws::{Boxed, OutOfMemory};
 use std::alloc::Global;
 
 /// The number of a style without its quote flag: where no style is so, one is put at the end.
@@ -36,25 +36,32 @@ fn unquoted(styles: &mut Styles, number: usize) -> Result<usize, OutOfMemory>
 }
 
 /// The cell of an array at a place of its block: its formula at the first one, which has no value, and a cell of its spill at
-/// each other, which has the empty text.
-fn blank_cell(alloc: Global, block: &Block, f: usize, s: usize, place: (i32, i32)) -> Cell
-    ensures { result ≡ blank_cell block.now f s place }
+/// each other, which has the empty text. Only memory can be missing.
+fn blank_cell(
+    alloc: Global,
+    block: &Block,
+    f: usize,
+    s: usize,
+    place: (i32, i32),
+) -> Result<Cell, OutOfMemory>
+    ensures { IfOk result (λ cell. cell ≡ blank_cell block.now f s place) }
 {
     let anchor = block.first();
     if is_same(place, anchor) {
-        Cell::ArrayFormula {
+        Ok(Cell::ArrayFormula {
             kind: ArrayKind::Cse,
             f,
             s,
             r: block.area(),
-            v: FormulaValue::Unevaluated,
-        }
+            v: ArrayValue::unevaluated(),
+        })
     } else {
-        Cell::SpillCell {
+        let text = Boxed::from_str(alloc, "")?;
+        Ok(Cell::SpillCell {
             s,
             a: anchor,
-            v: SpillValue::Text(Text::from(String::new(alloc))),
-        }
+            v: SpillValue::Text(text),
+        })
     }
 }
 
@@ -117,7 +124,8 @@ impl Grid {
         let mut at = block.first();
         'places: while block.has(at) {
             let s = self.written_style(styles, at)?;
-            items.push(blank_cell(alloc, block, f, s, at))?;
+            let cell = blank_cell(alloc, block, f, s, at)?;
+            items.push(cell)?;
             at = next_place(block, at);
         }
         Ok(items)

@@ -6,7 +6,7 @@ ghost use Rattle.ic_pool.specs.Pool.{IsPlaced};
 ghost use Rattle.ic_sheets.specs.Sheet.{IsArrayWritten, IsSameOrLooksUp, IsWritten, TakesArray, TakesCell, WritesNew, empty_grid, formula_cell, plain_tab, sheet_of};
 
 use crate::Tab;
-use ic_cells::{ArrayKind, Cell, FormulaValue, Maker, Styles};
+use ic_cells::{ArrayKind, ArrayValue, Cell, Maker, Styles};
 use ic_grid::{Block, Grid};
 use ic_laws::{Formula, OutOfMemory, Text};
 use ic_pool::{Pool, Steps, key_of};
@@ -58,7 +58,7 @@ fn formula_cell(kind: FormulaKind, f: usize, s: usize) -> Cell
             f,
             s,
             r: (1, 1),
-            v: FormulaValue::Unevaluated,
+            v: ArrayValue::unevaluated(),
         },
     }
 }

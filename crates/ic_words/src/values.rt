@@ -17,7 +17,7 @@ use ic_cells::{FormulaValue, SpillValue};
 use ic_grid::gathered;
 use ic_input::{error_at, read_amount};
 use ic_laws::scan::{first_char, same_text};
-use ic_laws::{OutOfMemory, Text, WordKind};
+use ic_laws::{Boxed, OutOfMemory, WordKind};
 use ic_tables::{Language, find_word};
 use std::alloc::Global;
 
@@ -179,7 +179,7 @@ fn value_of_kind(
     match kind {
         'n' => Ok(number_value(said)),
         'b' => Ok(boolean_value(said)),
-        't' => Ok(Some(SpillValue::Text(Text::from_str(alloc, said)?))),
+        't' => Ok(Some(SpillValue::Text(Boxed::from_str(alloc, said)?))),
         'e' => Ok(error_value(english, said)),
         _ => Ok(None),
     }

@@ -17,9 +17,9 @@ next_place-at-requires-clause-column c = first_column c.args.block.now c.require
 pub loop-v-init : goal.loop-v-init
 loop-v-init c =
     filling_begun c.args.self.now.rows c.args.self.now.columns c.args.self.now.cells c.args.block.now c.requires.area c.args.f c.args.s c.args.kind c.args.values.items (into_iter_items c.into_iter-rest.result) (into_iter_items c.next.new.self) c.in-Some.value c.requires.count
-    c.into_iter-rest.ensures.rest c.in-Some.ensures.items c.push.new.self.items (cells.ArrayFormula c.args.kind c.args.f c.args.s c.area.result c.gathered.result)
-    (c.in_ok-push.ensures.items ∙ ap (λ (ys : List Cell). ys ++ cells.ArrayFormula c.args.kind c.args.f c.args.s c.area.result c.gathered.result ∷ []) c.new-items.ensures.items)
-    (ap₂ (λ (r : ℤ × ℤ) (v : FormulaValue). cells.ArrayFormula c.args.kind c.args.f c.args.s r v) c.area.ensures c.gathered.ensures) c.first-anchor.result c.next_place-at.result c.first-anchor.ensures c.next_place-at.ensures
+    c.into_iter-rest.ensures.rest c.in-Some.ensures.items c.push.new.self.items (cells.ArrayFormula c.args.kind c.args.f c.args.s c.area.result c.in_ok-kept.kept)
+    (c.in_ok-push.ensures.items ∙ ap (λ (ys : List Cell). ys ++ cells.ArrayFormula c.args.kind c.args.f c.args.s c.area.result c.in_ok-kept.kept ∷ []) c.new-items.ensures.items)
+    (ap₂ (λ (r : ℤ × ℤ) (v : FormulaValue). cells.ArrayFormula c.args.kind c.args.f c.args.s r v) c.area.ensures c.in_ok-kept.ensures) c.first-anchor.result c.next_place-at.result c.first-anchor.ensures c.next_place-at.ensures
 
 pub next_place-at-requires-in-Some-next-clause-row : goal.next_place-at-requires-in-Some-next-clause-row
 next_place-at-requires-in-Some-next-clause-row c =

@@ -14,6 +14,11 @@ places-init c =
     writing_begun c.args.self.now c.args.block.now c.args.f c.args.styles.now c.requires.area c.reserve.new.self.items (c.reserve.ensures.items ∙ c.new-items.ensures.items) c.first-at.result
     c.first-at.ensures
 
+pub returns-in_err-cell-clause-more : goal.returns-in_err-cell-clause-more
+returns-in_err-cell-clause-more c =
+    subst (λ (l : List Style). StartWith l c.args.styles.now) (sym c.in_ok-s.ensures.styles)
+    (start_more c.args.styles.now c.places.styles _ c.places.invariant.more (written_more c.args.self.now c.places.styles c.places.at))
+
 pub returns-in_err-push-clause-more : goal.returns-in_err-push-clause-more
 returns-in_err-push-clause-more c =
     subst (λ (l : List Style). StartWith l c.args.styles.now) (sym c.in_ok-s.ensures.styles)
@@ -37,7 +42,7 @@ places-smaller c = next_nearer c.args.block.now c.places.at c.requires.area (sym
 pub places-preserved : goal.places-preserved
 places-preserved c =
     writing_more c.args.self.now c.args.block.now c.args.f c.args.styles.now c.places.items.items c.places.at c.places.styles c.places.invariant (sym c.places-test.ensures) c.written_style.new.styles c.in_ok-s.ensures.styles
-    c.in_ok-s.s c.in_ok-s.ensures.number c.push.new.self.items c.blank_cell.result c.in_ok-push.ensures.items c.blank_cell.ensures c.next_place-at.result c.next_place-at.ensures
+    c.in_ok-s.s c.in_ok-s.ensures.number c.push.new.self.items c.in_ok-cell.cell c.in_ok-push.ensures.items c.in_ok-cell.ensures c.next_place-at.result c.next_place-at.ensures
 
 pub returns-clause-cells : goal.returns-clause-cells
 returns-clause-cells c = (writing_done c.args.self.now c.args.block.now c.args.f c.args.styles.now c.places.items.items c.places.at c.places.styles c.places.invariant (sym c.places-test.ensures)).0
