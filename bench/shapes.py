@@ -26,6 +26,22 @@ def formulas(count):
         )[i % 5]
 
 
+def stored_formulas(count):
+    """Formulas of the same forms as they are written in the stored form."""
+    x = 12345
+    for i in range(1, count + 1):
+        x = (x * 1103515245 + 12345) % 2147483648
+        a, b, c = i % 1000 + 1, i // 1000 + 1, x % 97 + 2
+        name, sheet = FUNCTIONS[i % 8], SHEETS[x % 4]
+        yield (
+            f"{name}({sheet}!R{a}C1:R{a + 9}C2)*{i % 100}%+{b}",
+            f"{name}(R[{c}]C[1],'My data'!R{a}C3,2.5)+{i}",
+            f'IF(R{a}C1>{i},"yes {b}",R{a}C2&"no")',
+            f"{name}({{1,2;3,{i}}},R[{c}]C[3])/R{a}C3",
+            f"(R{a}C1-{sheet}!R[{c}]C[2])^2*{name}({i},0.75)",
+        )[i % 5]
+
+
 def sheets_named(*names):
     return [f"add_sheet\t{name}" for name in names]
 

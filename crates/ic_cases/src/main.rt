@@ -23,6 +23,7 @@ mod references;
 mod row;
 mod runs;
 mod scenes;
+mod streams;
 mod texts;
 mod values;
 mod workbooks;
@@ -44,6 +45,7 @@ fn call(row: &mut Row<'_>, books: &mut Books<'_>) {
     values::call(row);
     errors::call(row);
     broken::call(row);
+    streams::call(row);
     runs::call(row, books);
     books::call(row, books);
     pools::call(row, books);

@@ -2,14 +2,15 @@
 use crate::books::Books;
 use crate::row::Row;
 use ic_book::Model;
-use ic_lines::{MemorySink, MemorySource};
+use ic_lines::{MemorySink, MemorySource, Sink, Source, SteadySink, SteadySource};
 use ic_run::{desk, run};
 use jiff::Timestamp;
 
 /// `desk`, the program's words with `|` between two, the input, the most bytes of a read, the number of the read that
 /// fails, the room of the sink, and the number of the write that fails, 0 for none: the status, and what was written.
 /// `run`, the same without words, on the book of the last `new_empty`: `ok` and the number of lines or the error, and
-/// what was written.
+/// what was written. `steady`, the input and the room of the sink: a run on that book over a source and a sink that fail at
+/// no read and no write.
 pub fn call(row: &mut Row<'_>, books: &mut Books<'_>) {
     match row.name {
         "desk" => {
@@ -21,6 +22,7 @@ pub fn call(row: &mut Row<'_>, books: &mut Books<'_>) {
             row.skip(1);
             with_source(row, books, &[]);
         }
+        "steady" => put_steady(row, books),
         _ => {}
     }
 }
@@ -56,11 +58,30 @@ fn with_sink(
     match MemorySink::new(row.alloc, room, &[write]) {
         Ok(mut sink) => {
             put_answered(row, books, words, source, &mut sink);
-            row.tab();
-            match str::from_utf8(sink.bytes()) {
-                Ok(text) => row.put_text(text),
-                Err(_) => row.bad(),
+            put_written(row, sink.bytes());
+        }
+        Err(_) => row.bad(),
+    }
+}
+
+/// A tab, and what was written.
+fn put_written(row: &mut Row<'_>, bytes: &[u8]) {
+    row.tab();
+    match str::from_utf8(bytes) {
+        Ok(text) => row.put_text(text),
+        Err(_) => row.bad(),
+    }
+}
+
+fn put_steady(row: &mut Row<'_>, books: &mut Books<'_>) {
+    let mut source = SteadySource::new(row.word(1).as_bytes());
+    match SteadySink::new(row.alloc, row.size(2)) {
+        Ok(mut sink) => {
+            match &mut books.book {
+                Some(model) => put_run(row, model, &mut source, &mut sink),
+                None => row.bad(),
             }
+            put_written(row, sink.bytes());
         }
         Err(_) => row.bad(),
     }
@@ -92,11 +113,11 @@ fn put_answered(
     }
 }
 
-fn put_run(
+fn put_run<S: Source, K: Sink>(
     row: &mut Row<'_>,
     model: &mut Model<'_>,
-    source: &mut MemorySource,
-    sink: &mut MemorySink,
+    source: &mut S,
+    sink: &mut K,
 ) {
     match run(row.alloc, model, source, sink) {
         Ok(count) => {

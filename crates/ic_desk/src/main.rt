@@ -1,9 +1,6 @@
 //! The program: command lines in, one reply a line out. `desk` of `ic_run` says what it does with its words.
 #![tactic(auto)]
 
-#[cfg(test)]
-mod tests;
-
 use ic_lines::{StdSink, StdSource};
 use ic_run::desk;
 use ic_tables::sample_tables;

@@ -15,8 +15,6 @@ mod plan;
 mod program;
 mod retold;
 mod start;
-#[cfg(test)]
-mod tests;
 mod translating;
 mod translation;
 
