@@ -1,20 +1,22 @@
 -- What a search by a key finds among definitions.
-use Rattle.std.proofs.Common.{◌≡◌, ℕ, suc, ◌+◌, List, [], ◌∷◌, ◌++◌, map, Bool, true, false, cond, ◌&&◌, Option, Some, None, option_map, is_some, refl, sym, ap, ap₂, ◌∙◌, arith}
+use Rattle.std.proofs.Common.{◌≡◌, ℕ, suc, ◌+◌, ◌<◌, List, [], ◌∷◌, ◌++◌, map, Bool, true, false, cond, ◌&&◌, Option, Some, None, option_map, option_to_list, is_some, refl, sym, ap, ap₂, ◌∙◌, arith}
 use Rattle.std.specs.Prelude.{bytes_eq, find, position, slice_get}
 use Rattle.std.specs.List.{position_from}
 use Rattle.std.specs.Option.{option_and_then, option_or}
+use Rattle.std.proofs.lemmas.Bool.{lt-ltb, ltb-true, ne_eqb}
 use Rattle.std.proofs.lemmas.Iterator.Adapters.{position_from-zero}
 use Rattle.std.proofs.lemmas.List.{map-append}
 use Rattle.std.proofs.lemmas.List.Folds.{find-append}
 use Rattle.ic_laws.proofs.keeping.NameChanges.{key_at, same_key_from}
 use Rattle.ic_laws.specs.CoreBook.{Definition, spelling_of}
 use Rattle.ic_laws.specs.CoreStep.{is_named}
+use Rattle.ic_laws.specs.Greatest.{greatest}
 use Rattle.ic_laws.specs.Name.{fold}
 use Rattle.ic_laws.specs.Scene.{definition_at, found_name, key_of, name_of_key, same_key, same_scope}
 use Rattle.ic_laws.specs.declared.scene.DefinitionSpelling.{DefinitionSpelling}
 use Rattle.ic_laws.specs.declared.scene.Scene.{Scene}
 use Rattle.ic_laws.specs.declared.tree.NameKey.{NameKey}
-use Rattle.ic_definitions.specs.Named.{definitions_scene, index_with_key, key_in}
+use Rattle.ic_definitions.specs.Named.{definitions_scene, index_with_key, is_past, key_in, scopes_of}
 
 -- ---- by a test
 
@@ -108,3 +110,22 @@ found_joined g xs ys folded scope first e =
     ap (λ o. option_or o (option_map g (definition_at (definitions_scene ys) folded scope))) e
     ∙ sym (either_seen g (definition_at (definitions_scene xs) folded scope) (definition_at (definitions_scene ys) folded scope))
     ∙ ap (option_map g) (sym (ap (find passes) (map-append spelling_of xs ys) ∙ find-append passes (map spelling_of xs) (map spelling_of ys)))
+
+-- ---- past the greatest id
+
+apart : (scope : Option ℕ) (ids : List ℕ) (id : ℕ) → greatest (option_to_list scope ++ ids) < id → (same_scope scope (Some id) ≡ false) × (greatest ids < id)
+apart None ids id h = (refl, h)
+apart (Some other) ids id h = (ne_eqb other id (λ same. omega (arith, same, h)), omega (arith, h))
+
+neither : (b c : Bool) → c ≡ false → (b && c) ≡ false
+neither true c h = h
+neither false c h = refl
+
+-- no definition is local to a sheet whose id is greater than each that one is local to
+pub none_past : (name : List ℕ) (scope : Option ℕ) (ds : List Definition) → is_past (greatest (scopes_of ds)) scope ≡ true → index_with_key (key_at name scope) ds ≡ None
+none_past name None ds h = absurd (cc)
+none_past name (Some id) [] h = refl
+none_past name (Some id) (d ∷ ds) h =
+    let p = apart d.scope (scopes_of ds) id (ltb-true (greatest (scopes_of (d ∷ ds))) id h) in
+    ap (λ b. cond b (Some 0) (option_map suc (index_with_key (key_at name (Some id)) ds))) (neither _ _ p.0)
+    ∙ ap (option_map suc) (none_past name (Some id) ds (lt-ltb (greatest (scopes_of ds)) id p.1))

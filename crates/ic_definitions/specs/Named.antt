@@ -50,6 +50,11 @@ lowered index place = if nat_lt index place then place - 1 else place
 abbrev pub scopes_of : List Definition → List ℕ
 scopes_of definitions = flat_map (λ d. option_to_list d.scope) definitions
 
+-- it is the id of a sheet, and greater than this one
+abbrev pub is_past : ℕ → Option ℕ → Bool
+is_past id None = false
+is_past id (Some scope) = nat_lt id scope
+
 -- ---- the look-up
 
 -- a key as the look-up has it: a folded name, and the id that the definition is local to

@@ -2,9 +2,10 @@
 ghost use Rattle.std.specs.Prelude.{◌≡◌, IfOk, chars, find, map, option_map, position, slice_get};
 ghost use Rattle.std.specs.List.{IsDistinct};
 ghost use Rattle.ic_laws.specs.CoreStep.{is_named};
+ghost use Rattle.ic_laws.specs.Greatest.{greatest};
 ghost use Rattle.ic_laws.specs.Name.{fold};
 ghost use Rattle.ic_laws.specs.Scene.{definition_at, found_name, key_of, name_of_key, same_key};
-ghost use Rattle.ic_definitions.specs.Named.{FindsNames, definitions_scene, index_with_key, key_in};
+ghost use Rattle.ic_definitions.specs.Named.{FindsNames, definitions_scene, index_with_key, is_past, key_in, scopes_of};
 
 use super::Definitions;
 use crate::Definition;
@@ -123,8 +124,21 @@ impl<'d> NamedDefinitions<'d> {
         ensures { IfOk result (λ place. place ≡ index_with_key
             (record { name = chars folded.now; scope = scope }) self.now.definitions.now) }
     {
+        if self.is_past(scope) {
+            return Ok(None);
+        }
         let key = held_key(self.definitions.alloc(), folded, scope)?;
         Ok(self.places.get(&key).copied())
+    }
+
+    /// Whether it is the id of a sheet that is greater than each that a definition is local to.
+    fn is_past(&self, scope: Option<u32>) -> bool
+        ensures { result ≡ is_past (greatest (scopes_of self.now.definitions.now)) scope }
+    {
+        match scope {
+            Some(id) => id > self.definitions.greatest_scope(),
+            None => false,
+        }
     }
 }
 
