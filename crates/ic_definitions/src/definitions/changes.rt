@@ -5,7 +5,6 @@ ghost use Rattle.ic_laws.specs.Binding.{name_or_dangling};
 ghost use Rattle.ic_laws.specs.BookTrees.{with_body_tree};
 ghost use Rattle.ic_laws.specs.Changes.{changed_tree, definition_added, definition_gone};
 ghost use Rattle.ic_laws.specs.CoreBook as core;
-ghost use Rattle.ic_laws.specs.CoreBook.{spelling_of};
 ghost use Rattle.ic_laws.specs.CoreStep.{is_named, updated_at};
 ghost use Rattle.ic_laws.specs.Greatest.{greatest};
 ghost use Rattle.ic_laws.specs.Scene.{found_name, same_key};
@@ -84,9 +83,9 @@ impl Definitions {
         requires finds { FindsNames places.old self.old }
         requires free { list_any (is_named definition.name definition.scope) self.old ≡ false }
         requires spares { definition.scope ≡ None → AllByRecursion (StaysWhereFound
-            (definition_added (spelling_of definition))) self.old }
+            (definition_added (core.spelling_of definition))) self.old }
         ensures ok { OnOk result (self.new ≡ map (with_body_tree (changed_tree (definition_added
-            (spelling_of definition)))) self.old ++ definition ∷ []) }
+            (core.spelling_of definition)))) self.old ++ definition ∷ []) }
         ensures err { OnErr result (self.new ≡ self.old) }
         ensures finds { FindsNames places.new self.new }
     {
@@ -192,7 +191,7 @@ impl Definitions {
         requires within { index < length self.old }
         ensures ok { OnOk result ((d : core.Definition) → slice_get self.old index ≡ Some d
             → self.new ≡ remove (map (with_body_tree (changed_tree (definition_gone
-            (definitions_scene (remove self.old index)) (spelling_of d)))) self.old) index) }
+            (definitions_scene (remove self.old index)) (core.spelling_of d)))) self.old) index) }
         ensures err { OnErr result (self.new ≡ self.old) }
         ensures finds { FindsNames places.new self.new }
     {
@@ -246,10 +245,10 @@ impl Definitions {
     /// What a definition that comes does to the bodies.
     fn prepare_added(&self, definition: &Definition) -> Result<BodyRewrites, OutOfMemory>
         requires { definition.now.scope ≡ None → AllByRecursion (StaysWhereFound
-            (definition_added (spelling_of definition.now))) self.now }
+            (definition_added (core.spelling_of definition.now))) self.now }
         ensures made { IfOk result (λ w. with_bodies w.bodies.items self.now
             ≡ map (with_body_tree (changed_tree (definition_added
-            (spelling_of definition.now)))) self.now) }
+            (core.spelling_of definition.now)))) self.now) }
         ensures fits { IfOk result (λ w. FitsBodies w self.now) }
     {
         let added = DefinitionAdded::new(definition.name(), definition.key());
@@ -269,7 +268,7 @@ impl Definitions {
         requires within { index < length self.now }
         ensures made { IfOk result (λ w. (d : core.Definition) → slice_get self.now index ≡ Some d
             → with_bodies w.bodies.items self.now ≡ map (with_body_tree (changed_tree
-            (definition_gone (definitions_scene (remove self.now index)) (spelling_of d))))
+            (definition_gone (definitions_scene (remove self.now index)) (core.spelling_of d))))
             self.now) }
         ensures fits { IfOk result (λ w. FitsBodies w self.now) }
     {
