@@ -1,7 +1,7 @@
-ghost use Rattle.std.specs.Prelude.{◌≡◌, ◌<◌, length, IfSome, ◌++◌, ◌∷◌, ◌||◌, false, None, chars, string_bytes, MatchOption, OnOk, option_and_then, option_map};
+ghost use Rattle.std.specs.Prelude.{◌≡◌, ◌<◌, length, IfSome, ◌++◌, ◌∷◌, ◌||◌, ◌==◌, false, None, chars, string_bytes, MatchOption, OnOk, option_and_then, option_map};
 ghost use Rattle.std.specs.Option.{option_copied};
-ghost use Rattle.ic_laws.specs.Character.{quote};
-ghost use Rattle.ic_laws.specs.Scan.{first_is, is_plain, past_run};
+ghost use Rattle.ic_laws.specs.Character.{dollar, quote};
+ghost use Rattle.ic_laws.specs.Scan.{first_is, is_digit, is_plain, past_run};
 ghost use Rattle.ic_laws.specs.SheetText.{is_bang, is_quote, before_bang, name_in_quotes, sheet_at, sheet_text};
 ghost use Rattle.ic_laws.specs.Tree.{is_written_sheet};
 ghost use Rattle.ic_refs.specs.Written.{ClosesAt, name_of, plain_name};
@@ -11,16 +11,26 @@ use crate::written::{Quoting, WrittenName};
 use ic_laws::OutOfMemory;
 use ic_laws::scan::{begins_with, first_char, front_of, past_plain, push_char};
 
-/// The sheet's name at the front of a text, and what stands after its `!`. None where no valid name stands there.
+/// The sheet's name at the front of a text, and what stands after its `!`. None where no valid name stands there: so where
+/// a cell with a dollar sign or a number begins.
 pub(crate) fn find_sheet(text: &str) -> Option<(WrittenName<'_>, &str)>
     ensures { option_map (λ f. (name_of f.0, chars f.1.now)) result ≡ sheet_at (chars text.now) }
 {
     let (c, after) = first_char(text)?;
     if c == '\'' {
         quoted_sheet(after)
+    } else if begins_no_name(c) {
+        None
     } else {
         plain_sheet(text)
     }
+}
+
+/// Whether a dollar sign or a number begins with it: no sheet's name does without quotes.
+fn begins_no_name(c: char) -> bool
+    ensures { result ≡ (c == dollar || is_digit c) }
+{
+    c == '$' || c.is_ascii_digit()
 }
 
 /// Whether a quote stands at the front, or a `!` after the plain characters there: a text without them begins with no
