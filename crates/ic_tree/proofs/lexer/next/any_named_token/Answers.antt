@@ -7,7 +7,7 @@ use Rattle.ic_tree.specs.Lexing.{found, named_at}
 use Rattle.ic_tree.specs.Tokens.{token_of}
 use Rattle.ic_tree.proofs.FirstLemmas.{reference_ends}
 use Rattle.ic_tree.proofs.LocalFirst.{local_ends, local_over_named}
-use Rattle.ic_tree.proofs.lexer.next.named_token.Goals as goal
+use Rattle.ic_tree.proofs.lexer.next.any_named_token.Goals as goal
 
 pub reference_or_named-requires-clause-ends : goal.reference_or_named-requires-clause-ends
 reference_or_named-requires-clause-ends g c =
