@@ -1,26 +1,36 @@
-ghost use Rattle.std.specs.Prelude.{◌≡◌, ◌<◌, length, IfSome, ◌++◌, ◌∷◌, ◌||◌, false, None, chars, string_bytes, MatchOption, OnOk, option_map};
+ghost use Rattle.std.specs.Prelude.{◌≡◌, ◌<◌, length, IfSome, ◌++◌, ◌∷◌, ◌||◌, ◌==◌, false, None, chars, string_bytes, MatchOption, OnOk, option_and_then, option_map};
 ghost use Rattle.std.specs.Option.{option_copied};
-ghost use Rattle.ic_laws.specs.Character.{quote};
-ghost use Rattle.ic_laws.specs.Scan.{first_is, is_plain, past_run};
-ghost use Rattle.ic_laws.specs.SheetText.{is_bang, is_quote, before_bang, name_in_quotes, sheet_at, sheet_text, written_name};
+ghost use Rattle.ic_laws.specs.Character.{dollar, quote};
+ghost use Rattle.ic_laws.specs.Scan.{first_is, is_digit, is_plain, past_run};
+ghost use Rattle.ic_laws.specs.SheetText.{is_bang, is_quote, before_bang, name_in_quotes, sheet_at, sheet_text};
 ghost use Rattle.ic_laws.specs.Tree.{is_written_sheet};
 ghost use Rattle.ic_refs.specs.Written.{ClosesAt, name_of, plain_name};
 
 use crate::name::{is_valid_sheet_name, needs_quotes, push_quoted};
 use crate::written::{Quoting, WrittenName};
 use ic_laws::OutOfMemory;
-use ic_laws::scan::{begins_with, first_char, front_of, past_plain, plain_run, push_char};
+use ic_laws::scan::{begins_with, first_char, front_of, past_plain, push_char};
 
-/// The sheet's name at the front of a text, and what stands after its `!`. None where no valid name stands there.
+/// The sheet's name at the front of a text, and what stands after its `!`. None where no valid name stands there: so where
+/// a cell with a dollar sign or a number begins.
 pub(crate) fn find_sheet(text: &str) -> Option<(WrittenName<'_>, &str)>
     ensures { option_map (λ f. (name_of f.0, chars f.1.now)) result ≡ sheet_at (chars text.now) }
 {
-    if !may_name_sheet(text) {
-        return None;
+    let (c, after) = first_char(text)?;
+    if c == '\'' {
+        quoted_sheet(after)
+    } else if begins_no_name(c) {
+        None
+    } else {
+        plain_sheet(text)
     }
-    let (name, rest) = written_name(text)?;
-    let after = past_bang(&name, rest)?;
-    Some((name, after))
+}
+
+/// Whether a dollar sign or a number begins with it: no sheet's name does without quotes.
+fn begins_no_name(c: char) -> bool
+    ensures { result ≡ (c == dollar || is_digit c) }
+{
+    c == '$' || c.is_ascii_digit()
 }
 
 /// Whether a quote stands at the front, or a `!` after the plain characters there: a text without them begins with no
@@ -32,32 +42,34 @@ pub fn may_name_sheet(text: &str) -> bool
     begins_with(text, '\'') || begins_with(past_plain(text), '!')
 }
 
-/// The name at the front, as it may stand before a `!`, and the rest.
-fn written_name(text: &str) -> Option<(WrittenName<'_>, &str)>
+/// The sheet's name after an opening quote, and what stands after its `!`.
+fn quoted_sheet(text: &str) -> Option<(WrittenName<'_>, &str)>
     ensures { option_map (λ f. (name_of f.0, chars f.1.now)) result
-        ≡ written_name (chars text.now) }
+        ≡ option_and_then (λ f. before_bang f.0 f.1) (name_in_quotes (chars text.now)) }
 {
-    let (c, after) = first_char(text)?;
-    if c == '\'' {
-        name_in_quotes(after)
-    } else {
-        unquoted_name(text)
-    }
+    let (name, rest) = name_in_quotes(text)?;
+    before_bang(name, rest)
 }
 
-/// The plain name at the front, and the rest.
-fn unquoted_name(text: &str) -> Option<(WrittenName<'_>, &str)>
-    ensures { option_map (λ f. (name_of f.0, chars f.1.now)) result ≡ plain_name (chars text.now) }
+/// The sheet's name without quotes at the front, and what stands after its `!`. Most texts have no `!` there, and nothing
+/// else is asked of them.
+fn plain_sheet(text: &str) -> Option<(WrittenName<'_>, &str)>
+    ensures { option_map (λ f. (name_of f.0, chars f.1.now)) result
+        ≡ option_and_then (λ f. before_bang f.0 f.1) (plain_name (chars text.now)) }
 {
-    let name = plain_run(text);
-    if needs_quotes(name) {
+    let rest = past_plain(text);
+    if !begins_with(rest, '!') {
         return None;
     }
-    let written = WrittenName {
-        inside: name,
+    let inside = front_of(text, rest);
+    if needs_quotes(inside) {
+        return None;
+    }
+    let name = WrittenName {
+        inside,
         quoting: Quoting::Plain,
     };
-    Some((written, past_plain(text)))
+    before_bang(name, rest)
 }
 
 /// The name after an opening quote, and what stands after the quote that closes it. None where none does.
@@ -106,14 +118,14 @@ fn past_quote(text: &str) -> Option<&str>
     if c == '\'' { Some(after) } else { None }
 }
 
-/// What stands after the `!` that follows this name, if it is a sheet's name.
-fn past_bang<'t>(name: &WrittenName<'_>, rest: &'t str) -> Option<&'t str>
-    ensures { option_map (λ r. (name_of name.now, chars r.now)) result
-        ≡ before_bang (name_of name.now) (chars rest.now) }
+/// The name, if it is a sheet's and a `!` follows it, and what stands after the `!`.
+fn before_bang<'t>(name: WrittenName<'t>, rest: &'t str) -> Option<(WrittenName<'t>, &'t str)>
+    ensures { option_map (λ f. (name_of f.0, chars f.1.now)) result
+        ≡ before_bang (name_of name.entry) (chars rest.now) }
 {
     let (c, after) = first_char(rest)?;
     if c == '!' && name.is_sheet_name() {
-        Some(after)
+        Some((name, after))
     } else {
         None
     }

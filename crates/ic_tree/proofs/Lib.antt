@@ -9,6 +9,7 @@ pub mod DigitLemmas
 pub mod EnglishLemmas
 pub mod ErrorLemmas
 pub mod FirstLemmas
+pub mod HeadFirst
 pub mod Heights
 pub mod LexLemmas
 pub mod ListSteps

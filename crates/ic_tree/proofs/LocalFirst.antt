@@ -2,7 +2,7 @@
 use Rattle.std.proofs.Common.{◌≡◌, ℕ, ◌-◌, ◌≤◌, List, [], ◌∷◌, ◌++◌, true, false, ◌||◌, ◌==◌, length, drop, Option, Some, None, option_map, option_and_then, chars, encode_utf8_all, IsUtf8, refl, sym, ◌∙◌, ap, subst, inl, inr, arith, append_assoc, length-append}
 use Rattle.std.specs.List.{list_all}
 use Rattle.std.specs.Str.{IsCharBoundary}
-use Rattle.std.proofs.lemmas.Bool.{and_parts, both_ways, cases_Bool, or_parts}
+use Rattle.std.proofs.lemmas.Bool.{and_parts, both_ways, cases_Bool}
 use Rattle.std.proofs.lemmas.Bool.Decides.{eqb_tells}
 use Rattle.std.proofs.lemmas.Str.{encodes-append, encodes-chars}
 use Rattle.ucd_derived.proofs.Computing.{ucd_derived}
@@ -63,9 +63,19 @@ no_local_start c cs h =
         let u = or_neither (is_letter c) (c == 95) w.0 in
         rw (b.0, b.1, u.1, k) refl
 
--- nor does a text that begins with no quote and has no `!` after its plain characters
-pub no_local_named : (text : List ℕ) → (first_is (λ c. c == 39) text || first_is (λ c. c == 33) (past_run is_plain text)) ≡ false → local_at text ≡ None
-no_local_named text h = let p = or_parts (first_is (λ c. c == 39) text) (first_is (λ c. c == 33) (past_run is_plain text)) h in no_local_without_bang text p.0 p.1
+-- nor does a text that begins with no quote and has no `!` after its word characters
+bang_behind : (text : List ℕ) → first_is (λ c. c == 33) (past_run is_word_character text) ≡ false → first_is (λ c. c == 33) (past_run is_plain text) ≡ false
+bang_behind [] h = refl
+bang_behind (c ∷ cs) h =
+    elim (cases_Bool (is_plain c)) [
+      | inl p ↦ let more : first_is (λ c. c == 33) (past_run is_word_character cs) ≡ false = rw p at h in rw p (bang_behind cs more)
+      | inr p ↦ rw p (elim (eqb_tells c 33) [ inl e ↦ absurd (let word : is_word_character c ≡ false = ap is_word_character e.1 ∙ bang_no_word in let no : true ≡ false = rw (word, e.0) at h in cc) | inr e ↦ e.0 ])
+    ]
+
+pub no_local_by_word : (text cs : List ℕ) (c : ℕ) → text ≡ c ∷ cs → (c ≡ 39 → ⊥) → first_is (λ c. c == 33) (past_run is_word_character text) ≡ false → local_at text ≡ None
+no_local_by_word text cs c is no_quote h =
+    let quote : first_is (λ c. c == 39) text ≡ false = ap (first_is (λ c. c == 39)) is ∙ elim (eqb_tells c 39) [ inl e ↦ absurd (no_quote e.1) | inr e ↦ e.0 ] in
+    no_local_without_bang text quote (bang_behind text h)
 
 -- where one begins, no head, word or number is longer
 all_words : (name : List ℕ) → list_all is_plain name ≡ true → list_all is_word_character name ≡ true

@@ -4,7 +4,7 @@ use Rattle.ic_laws.specs.Dialect.{DialectMeaning}
 use Rattle.ic_laws.specs.Token.{Token}
 use Rattle.ic_tree.specs.Lexing.{tokens_before}
 use Rattle.ic_tree.specs.Sight.{in_sight, is_settled}
-use Rattle.ic_tree.specs.Tokens.{token_of}
+use Rattle.ic_tree.specs.Tokens.{after_first, token_of}
 use Rattle.ic_tree.specs.declared.token.Token as code
 
 abbrev Gives : DialectMeaning → Option code.Token → Option code.Token → List ℕ → List ℕ → Option code.Token → Type 0
@@ -26,6 +26,10 @@ more_given d (Some first) token rest after some next = ap (λ ts. token_of first
 pub takes_more : (d : DialectMeaning) (old new given : Option code.Token) (token : code.Token) (rest after : List ℕ) → given ≡ old → new ≡ Some token → is_some old ≡ true → tokens_before d rest ≡ token_of token ∷ tokens_before d after → Gives d old new rest after given
 takes_more d old new given token rest after g n some next =
     subst (λ x. Gives d old x rest after given) (sym n) (subst (Gives d old (Some token) rest after) (sym g) (more_given d old token rest after some next))
+
+pub passes_one : (d : DialectMeaning) (old : Option code.Token) (rest : List ℕ) → is_some old ≡ true → after_first (in_sight d old rest) ≡ tokens_before d rest
+passes_one d None rest some = absurd (cc)
+passes_one d (Some first) rest some = refl
 
 pub settled_none : (new : Option code.Token) (ts : List Token) → new ≡ None → ts ≡ [] → is_settled new ts ≡ true
 settled_none new ts n e = ap (λ s. is_settled s ts) n ∙ ap (is_settled None) e

@@ -1,12 +1,13 @@
 -- How the code falls a text into tokens: what is seen before it is copied, and the tokens before the first place where
 -- none begins.
-use Rattle.std.specs.Prelude.{ℕ, zero, suc, ◌+◌, List, [], ◌∷◌, length, not, Bool, true, false, Some, None, ◌==◌, ◌&&◌, chars, nat_le, Option, if◌then◌else◌}
+use Rattle.std.specs.Prelude.{◌≡◌, ℕ, zero, suc, ◌+◌, List, [], ◌∷◌, length, not, Bool, true, false, Some, None, ◌==◌, ◌&&◌, chars, nat_le, Option, if◌then◌else◌}
 use Rattle.ic_laws.specs.AmountFront.{number_in_one_pass, some_digits}
 use Rattle.ic_laws.specs.Dialect.{DialectMeaning}
 use Rattle.ic_laws.specs.Scan.{first_is, is_blank, is_word_character, past_run}
 use Rattle.ic_laws.specs.Split.{longer}
 use Rattle.ic_laws.specs.TokenKinds.{head_at, token_by_kinds, word_at}
 use Rattle.ic_laws.specs.Character.{double_quote, open_bracket}
+use Rattle.ic_laws.specs.declared.dialect.WordKind.TheVariants as kinds
 use Rattle.ic_laws.specs.Token as tokens
 use Rattle.ic_laws.specs.Token.{Token}
 use Rattle.ic_tree.specs.declared.lexer.seen.Seen.{Seen}
@@ -36,6 +37,10 @@ found token rest = (token, rest)
 -- a head, a word or a number, the longest
 abbrev pub named_at : DialectMeaning → List ℕ → Option (Token × List ℕ)
 named_at d text = longer (head_at d text) (longer (word_at d text) (number_in_one_pass d text))
+
+-- the function of this number has this word, and the word is found as it
+abbrev pub IsSpelledFunction : DialectMeaning → ℕ → List ℕ → Type 0
+IsSpelledFunction d number name = (d.find kinds.Function name ≡ Some number) × (d.word kinds.Function number ≡ Some name)
 
 -- no word and no head at the front of a text is longer than what stands before this rest
 abbrev pub is_past_word : List ℕ → List ℕ → Bool

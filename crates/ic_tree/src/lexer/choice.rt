@@ -1,5 +1,5 @@
 ghost use Rattle.std.specs.Prelude.{◌≡◌, chars, length, nat_le, option_map, Some, IfOk};
-ghost use Rattle.ic_laws.specs.Scan.{EndsWith};
+ghost use Rattle.ic_laws.specs.Scan.{EndsWith, is_word_character, past_run};
 ghost use Rattle.ic_laws.specs.Split.{longer};
 ghost use Rattle.ic_laws.specs.Token as tokens;
 ghost use Rattle.ic_tree.specs.Lexing.{found, is_past_word, seen_token};
@@ -8,7 +8,7 @@ ghost use Rattle.ic_tree.specs.Tokens.{token_of};
 use crate::Token;
 use crate::lexer::seen::{Seen, kept};
 use crate::lexer::words::past_blanks;
-use ic_laws::scan::{begins_with, past_word};
+use ic_laws::scan::begins_with;
 use ic_laws::{OutOfMemory, RefToken};
 use std::alloc::Global;
 
@@ -70,13 +70,13 @@ pub(crate) fn kept_with<'t>(
     }
 }
 
-/// Whether a text has no word and no head that is longer than what stands before this rest of it: its word characters end
-/// there or before, and no bracket opens after them, blanks aside.
-pub(crate) fn is_past_word(text: &str, rest: &str) -> bool
-    requires { EndsWith (chars text.now) (chars rest.now) }
+/// Whether a text, which goes on so after its word characters, has no word and no head that is longer than what stands
+/// before this rest of it: its word characters end there or before, and no bracket opens after them, blanks aside.
+pub(crate) fn is_past_word(text: &str, after: &str, rest: &str) -> bool
+    requires word { chars after.now ≡ past_run is_word_character (chars text.now) }
+    requires ends { EndsWith (chars text.now) (chars rest.now) }
     ensures { result ≡ is_past_word (chars text.now) (chars rest.now) }
 {
-    let after = past_word(text);
     leaves_no_more(text, rest, after) && !begins_with(past_blanks(after), '(')
 }
 

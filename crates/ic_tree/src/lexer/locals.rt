@@ -1,4 +1,5 @@
-ghost use Rattle.std.specs.Prelude.{◌≡◌, chars, option_map, IfOk};
+ghost use Rattle.std.specs.Prelude.{◌≡◌, ◌∷◌, ℕ, List, chars, option_map, IfOk};
+ghost use Rattle.ic_laws.specs.Scan.{is_word_character, past_run};
 ghost use Rattle.ic_laws.specs.TokenKinds.{local_at};
 ghost use Rattle.ic_tree.specs.Lexing.{found};
 ghost use Rattle.ic_tree.specs.Tokens.{token_of};
@@ -6,15 +7,24 @@ ghost use Rattle.ic_tree.specs.Tokens.{token_of};
 use crate::Token;
 use crate::lexer::references::past_bytes;
 use ic_laws::OutOfMemory;
-use ic_refs::{may_name_sheet, read_local};
+use ic_laws::scan::begins_with;
+use ic_refs::read_local;
 use std::alloc::Global;
 
-/// The word with its sheet at the front of a text, and the rest.
-pub(crate) fn local_at(alloc: Global, text: &str) -> Result<Option<(Token, &str)>, OutOfMemory>
+/// The word with its sheet at the front of a text that begins with this character and goes on so after its word
+/// characters, and the rest. A sheet's name stands between quotes or before a `!`.
+pub(crate) fn local_at<'t>(
+    alloc: Global,
+    c: char,
+    text: &'t str,
+    after: &str,
+) -> Result<Option<(Token, &'t str)>, OutOfMemory>
+    requires begins { (cs : List ℕ) × (chars text.now ≡ c ∷ cs) }
+    requires word { chars after.now ≡ past_run is_word_character (chars text.now) }
     ensures { IfOk result (λ r. option_map (λ f. found (token_of f.0) (chars f.1.now)) r
         ≡ local_at (chars text.now)) }
 {
-    if !may_name_sheet(text) {
+    if c != '\'' && !begins_with(after, '!') {
         return Ok(None);
     }
     match read_local(alloc, text, 0) {

@@ -1,11 +1,11 @@
-ghost use Rattle.std.specs.Prelude.{◌≡◌, ◌∷◌, ◌||◌, ℕ, List, Some, chars, false, option_map, IfOk};
+ghost use Rattle.std.specs.Prelude.{◌≡◌, ◌∷◌, ◌||◌, ℕ, List, Some, chars, false, option_map, IfOk, IfSome};
 ghost use Rattle.ic_laws.specs.AmountFront.{number_in_one_pass};
 ghost use Rattle.ic_laws.specs.Dialect.{begins_reference};
-ghost use Rattle.ic_laws.specs.Scan.{EndsWith, begins_word};
+ghost use Rattle.ic_laws.specs.Scan.{EndsWith, begins_word, is_word_character, past_run};
 ghost use Rattle.ic_laws.specs.Split.{longer, or_else};
 ghost use Rattle.ic_laws.specs.Token as tokens;
 ghost use Rattle.ic_laws.specs.TokenKinds.{closed, error_at, local_at, reference_at, token_by_kinds};
-ghost use Rattle.ic_tree.specs.Lexing.{found, named_at, seen_token};
+ghost use Rattle.ic_tree.specs.Lexing.{IsSpelledFunction, found, named_at, seen_token};
 ghost use Rattle.ic_tree.specs.Tokens.{token_of};
 
 use crate::Token;
@@ -17,9 +17,9 @@ use crate::lexer::quoted::quoted_at;
 use crate::lexer::references::reference_at;
 use crate::lexer::seen::Seen;
 use crate::lexer::signs::sign_at;
-use crate::lexer::words::word_at;
-use ic_laws::scan::{begins_word, first_char, is_letter};
-use ic_laws::{Dialect, OutOfMemory, RefToken};
+use crate::lexer::words::{past_blanks, word_at};
+use ic_laws::scan::{begins_word, first_char, front_of, is_letter, past_word, same_text};
+use ic_laws::{Dialect, OutOfMemory, RefToken, WordKind};
 use std::alloc::Global;
 
 /// The token at the front of a text, and the rest: the longest one, and a reference where another is as long. None
@@ -94,7 +94,8 @@ fn decimal_token<'t, D: Dialect>(
     }
 }
 
-/// A reference, a word with its sheet, a head, a word or a number.
+/// A reference, a word with its sheet, a head, a word or a number. The word characters at the front are passed once for all
+/// of them.
 fn named_token<'t, D: Dialect>(
     alloc: Global,
     d: &D,
@@ -106,41 +107,109 @@ fn named_token<'t, D: Dialect>(
         ≡ longer (reference_at (D.meaning d.now) (chars text.now))
         (longer (local_at (chars text.now)) (named_at (D.meaning d.now) (chars text.now)))) }
 {
+    let after = past_word(text);
+    match function_at(d, c, text, after) {
+        Some((number, rest)) => Ok(Some((Token::FunHead(number), rest))),
+        None => any_named_token(alloc, d, c, text, after),
+    }
+}
+
+/// A function's head whose word stands as the dialect spells it: no reference before a bracket is longer than such a
+/// word, and none is read.
+fn function_at<'t, D: Dialect>(
+    d: &D,
+    c: char,
+    text: &'t str,
+    after: &'t str,
+) -> Option<(usize, &'t str)>
+    requires begins { (cs : List ℕ) × (chars text.now ≡ c ∷ cs) }
+    requires word { chars after.now ≡ past_run is_word_character (chars text.now) }
+    ensures { IfSome result (λ f. Some (found (tokens.FunHead f.0) (chars f.1.now))
+        ≡ longer (reference_at (D.meaning d.now) (chars text.now))
+        (longer (local_at (chars text.now)) (named_at (D.meaning d.now) (chars text.now)))) }
+{
+    if !begins_word(c) {
+        return None;
+    }
+    match first_char(past_blanks(after)) {
+        Some(('(', rest)) => match spelled_function(d, front_of(text, after)) {
+            Some(number) => Some((number, rest)),
+            None => None,
+        },
+        _ => None,
+    }
+}
+
+/// The number of the function whose word this is, letter by letter.
+fn spelled_function<D: Dialect>(d: &D, name: &str) -> Option<usize>
+    ensures { IfSome result (λ n. IsSpelledFunction (D.meaning d.now) n (chars name.now)) }
+{
+    match d.find(WordKind::Function, name) {
+        Some(number) => match d.word(WordKind::Function, number) {
+            Some(word) => {
+                if same_text(word, name) {
+                    Some(number)
+                } else {
+                    None
+                }
+            }
+            None => None,
+        },
+        None => None,
+    }
+}
+
+/// The same as `named_token`, where the text goes on so after its word characters.
+fn any_named_token<'t, D: Dialect>(
+    alloc: Global,
+    d: &D,
+    c: char,
+    text: &'t str,
+    after: &'t str,
+) -> Result<Option<(Token, &'t str)>, OutOfMemory>
+    requires begins { (cs : List ℕ) × (chars text.now ≡ c ∷ cs) }
+    requires word { chars after.now ≡ past_run is_word_character (chars text.now) }
+    ensures { IfOk result (λ r. option_map (λ f. found (token_of f.0) (chars f.1.now)) r
+        ≡ longer (reference_at (D.meaning d.now) (chars text.now))
+        (longer (local_at (chars text.now)) (named_at (D.meaning d.now) (chars text.now)))) }
+{
     match reference_at(alloc, d, text) {
         Err(e) => Err(e),
-        Ok(None) => local_or_named(alloc, d, c, text),
-        Ok(Some((reference, rest))) => match local_at(alloc, text) {
+        Ok(None) => local_or_named(alloc, d, c, text, after),
+        Ok(Some((reference, rest))) => match local_at(alloc, c, text, after) {
             Err(e) => Err(e),
-            Ok(Some((token, after))) => {
-                Ok(Some(longer_than_reference(text, reference, rest, token, after)))
+            Ok(Some((token, end))) => {
+                Ok(Some(longer_than_reference(text, reference, rest, token, end)))
             }
-            Ok(None) => reference_or_named(alloc, d, c, text, reference, rest),
+            Ok(None) => reference_or_named(alloc, d, c, text, after, reference, rest),
         },
     }
 }
 
-/// A reference, or a head, a word or a number that is longer. Where the reference ends no sooner than a word would, and
-/// no bracket opens after that word, the word is looked up in no list.
+/// A reference, or a head, a word or a number that is longer, where the text goes on so after its word characters. Where
+/// the reference ends no sooner than a word would, and no bracket opens after that word, the word is looked up in no list.
 fn reference_or_named<'t, D: Dialect>(
     alloc: Global,
     d: &D,
     c: char,
     text: &'t str,
+    after: &'t str,
     reference: RefToken,
     rest: &'t str,
 ) -> Result<Option<(Token, &'t str)>, OutOfMemory>
     requires begins { (cs : List ℕ) × (chars text.now ≡ c ∷ cs) }
+    requires word { chars after.now ≡ past_run is_word_character (chars text.now) }
     requires ends { EndsWith (chars text.now) (chars rest.now) }
     ensures { IfOk result (λ r. option_map (λ f. found (token_of f.0) (chars f.1.now)) r
         ≡ longer (Some (found (tokens.Ref reference) (chars rest.now)))
         (named_at (D.meaning d.now) (chars text.now))) }
 {
-    if begins_word(c) && is_past_word(text, rest) {
+    if begins_word(c) && is_past_word(text, after, rest) {
         return Ok(Some((Token::Ref(reference), rest)));
     }
-    match named_at(d, c, text) {
+    match named_at(d, c, text, after) {
         None => Ok(Some((Token::Ref(reference), rest))),
-        Some((seen, after)) => longer_of(alloc, text, reference, rest, &seen, after),
+        Some((seen, end)) => longer_of(alloc, text, reference, rest, &seen, end),
     }
 }
 
@@ -150,29 +219,37 @@ fn local_or_named<'t, D: Dialect>(
     d: &D,
     c: char,
     text: &'t str,
+    after: &'t str,
 ) -> Result<Option<(Token, &'t str)>, OutOfMemory>
-    requires { (cs : List ℕ) × (chars text.now ≡ c ∷ cs) }
+    requires begins { (cs : List ℕ) × (chars text.now ≡ c ∷ cs) }
+    requires word { chars after.now ≡ past_run is_word_character (chars text.now) }
     ensures { IfOk result (λ r. option_map (λ f. found (token_of f.0) (chars f.1.now)) r
         ≡ longer (local_at (chars text.now)) (named_at (D.meaning d.now) (chars text.now))) }
 {
-    match local_at(alloc, text) {
+    match local_at(alloc, c, text, after) {
         Err(e) => Err(e),
         Ok(Some(found)) => Ok(Some(found)),
-        Ok(None) => match named_at(d, c, text) {
+        Ok(None) => match named_at(d, c, text, after) {
             None => Ok(None),
-            Some((seen, after)) => kept_with(alloc, &seen, after),
+            Some((seen, end)) => kept_with(alloc, &seen, end),
         },
     }
 }
 
 /// A head, a word or a number.
-fn named_at<'t, D: Dialect>(d: &D, c: char, text: &'t str) -> Option<(Seen<'t>, &'t str)>
-    requires { (cs : List ℕ) × (chars text.now ≡ c ∷ cs) }
+fn named_at<'t, D: Dialect>(
+    d: &D,
+    c: char,
+    text: &'t str,
+    after: &'t str,
+) -> Option<(Seen<'t>, &'t str)>
+    requires begins { (cs : List ℕ) × (chars text.now ≡ c ∷ cs) }
+    requires word { chars after.now ≡ past_run is_word_character (chars text.now) }
     ensures { option_map (λ f. found (seen_token f.0) (chars f.1.now)) result
         ≡ named_at (D.meaning d.now) (chars text.now) }
 {
     if begins_word(c) {
-        word_at(d, text)
+        word_at(d, text, after)
     } else {
         number_at(d, text)
     }

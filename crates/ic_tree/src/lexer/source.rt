@@ -77,8 +77,23 @@ impl<'t, D: Dialect, K: TextEnd> TokenSource for Lexer<'t, D, K> {
     }
 
     fn skip(&mut self, alloc: Global) -> Result<(), OutOfMemory> {
-        let _ = self.next(alloc)?;
-        Ok(())
+        if self.sight.is_none() {
+            return Ok(());
+        }
+        let rest = past_blanks(self.rest);
+        match next_token(alloc, self.dialect, rest) {
+            Err(e) => Err(e),
+            Ok(None) => {
+                self.rest = rest;
+                self.sight = None;
+                Ok(())
+            }
+            Ok(Some((token, after))) => {
+                self.rest = after;
+                self.sight = Some(token);
+                Ok(())
+            }
+        }
     }
 
     fn next(&mut self, alloc: Global) -> Result<Option<Token>, OutOfMemory> {

@@ -1,5 +1,5 @@
 ghost use Rattle.std.specs.Prelude.{◌≡◌, chars, option_map, true};
-ghost use Rattle.ic_laws.specs.Scan.{begins_word, first_is, is_blank, past_run};
+ghost use Rattle.ic_laws.specs.Scan.{begins_word, first_is, is_blank, is_word_character, past_run};
 ghost use Rattle.ic_laws.specs.NextToken.{boolean_or_word, head_token};
 ghost use Rattle.ic_laws.specs.Split.{longer};
 ghost use Rattle.ic_laws.specs.TokenKinds.{head_at, head_before, word_at};
@@ -7,23 +7,28 @@ ghost use Rattle.ic_laws.specs.declared.dialect.WordKind.TheVariants as kinds;
 ghost use Rattle.ic_tree.specs.Lexing.{seen_token};
 
 use crate::lexer::seen::Seen;
-use ic_laws::scan::{first_char, front_of, past_word};
+use ic_laws::scan::{first_char, front_of};
 use ic_laws::{Dialect, WordKind};
 use ic_refs::is_valid_a1_identifier;
 
-/// The head or the word at the front of a text that begins as a word does, and the rest. A head is longer than a word.
-pub(crate) fn word_at<'t, D: Dialect>(d: &D, text: &'t str) -> Option<(Seen<'t>, &'t str)>
-    requires { first_is begins_word (chars text.now) ≡ true }
+/// The head or the word at the front of a text that begins as a word does and goes on so after its word characters, and
+/// the rest. A head is longer than a word.
+pub(crate) fn word_at<'t, D: Dialect>(
+    d: &D,
+    text: &'t str,
+    after: &'t str,
+) -> Option<(Seen<'t>, &'t str)>
+    requires begins { first_is begins_word (chars text.now) ≡ true }
+    requires word { chars after.now ≡ past_run is_word_character (chars text.now) }
     ensures { option_map (λ f. (seen_token f.0, chars f.1.now)) result
         ≡ longer (head_at (D.meaning d.now) (chars text.now))
         (word_at (D.meaning d.now) (chars text.now)) }
 {
-    let rest = past_word(text);
-    let run = front_of(text, rest);
-    match head_before(d, run, rest) {
+    let run = front_of(text, after);
+    match head_before(d, run, after) {
         Some(found) => Some(found),
         None => match whole_word(d, run) {
-            Some(seen) => Some((seen, rest)),
+            Some(seen) => Some((seen, after)),
             None => None,
         },
     }

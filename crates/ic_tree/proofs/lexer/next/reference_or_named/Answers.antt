@@ -6,7 +6,7 @@ use Rattle.ic_tree.proofs.lexer.next.reference_or_named.Goals as goal
 
 pub longer_of-requires-clause-other_ends : goal.longer_of-requires-clause-other_ends
 longer_of-requires-clause-other_ends g c =
-    named_ends (g.D.Dialect.meaning c.args.d.now) (g.met.D.Dialect.laws c.args.d.now) (chars c.args.text.now) (found (seen_token c.in-Some.seen) (chars c.in-Some.after.now)) c.in-Some.ensures
+    named_ends (g.D.Dialect.meaning c.args.d.now) (g.met.D.Dialect.laws c.args.d.now) (chars c.args.text.now) (found (seen_token c.in-Some.seen) (chars c.in-Some.end.now)) c.in-Some.ensures
 
 pub returns-then-is_past_word : goal.returns-then-is_past_word
 returns-then-is_past_word g c =

@@ -7,7 +7,7 @@ use Rattle.ic_tree.specs.Lexing.{found, named_at}
 use Rattle.ic_tree.specs.Tokens.{token_of}
 use Rattle.ic_tree.proofs.FirstLemmas.{reference_ends}
 use Rattle.ic_tree.proofs.LocalFirst.{local_ends, local_over_named}
-use Rattle.ic_tree.proofs.lexer.next.named_token.Goals as goal
+use Rattle.ic_tree.proofs.lexer.next.any_named_token.Goals as goal
 
 pub reference_or_named-requires-clause-ends : goal.reference_or_named-requires-clause-ends
 reference_or_named-requires-clause-ends g c =
@@ -19,7 +19,7 @@ longer_than_reference-requires-clause-reference_ends g c =
 
 pub longer_than_reference-requires-clause-other_ends : goal.longer_than_reference-requires-clause-other_ends
 longer_than_reference-requires-clause-other_ends g c =
-    local_ends (g.D.Dialect.meaning c.args.d.now) (chars c.args.text.now) (found (token_of c.in-Ok-Some-local_at.token) (chars c.in-Ok-Some-local_at.after.now)) (rw c.in-Ok-Some-local_at.field-0-is at c.in-Ok-Some-local_at.ensures)
+    local_ends (g.D.Dialect.meaning c.args.d.now) (chars c.args.text.now) (found (token_of c.in-Ok-Some-local_at.token) (chars c.in-Ok-Some-local_at.end.now)) (rw c.in-Ok-Some-local_at.field-0-is at c.in-Ok-Some-local_at.ensures)
 
 pub returns-in-Ok-Some-local_at : goal.returns-in-Ok-Some-local_at
 returns-in-Ok-Some-local_at g c =
@@ -27,7 +27,7 @@ returns-in-Ok-Some-local_at g c =
     let text = chars c.args.text.now in
     let reference : Some (found (tokens.Ref c.in-Ok-Some.reference) (chars c.in-Ok-Some.rest.now)) ≡ reference_at d text =
     ap (option_map (λ (f : RefToken × List ℕ). found (tokens.Ref f.0) f.1)) (rw c.in-Ok-Some.field-0-is at c.in-Ok-Some.ensures) in
-    let local : longer (local_at text) (named_at d text) ≡ Some (found (token_of c.in-Ok-Some-local_at.token) (chars c.in-Ok-Some-local_at.after.now)) =
-    local_over_named d (g.met.D.Dialect.laws c.args.d.now) text (found (token_of c.in-Ok-Some-local_at.token) (chars c.in-Ok-Some-local_at.after.now))
+    let local : longer (local_at text) (named_at d text) ≡ Some (found (token_of c.in-Ok-Some-local_at.token) (chars c.in-Ok-Some-local_at.end.now)) =
+    local_over_named d (g.met.D.Dialect.laws c.args.d.now) text (found (token_of c.in-Ok-Some-local_at.token) (chars c.in-Ok-Some-local_at.end.now))
     (rw c.in-Ok-Some-local_at.field-0-is at c.in-Ok-Some-local_at.ensures) in
     c.longer_than_reference.ensures ∙ ap₂ longer reference (sym local)
