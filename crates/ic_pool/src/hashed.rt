@@ -38,6 +38,13 @@ impl HashedKey {
         let hash = hash_of(key.bytes());
         HashedKey { hash, key }
     }
+
+    /// Its hash.
+    pub(crate) fn hash(&self) -> u64
+        ensures { result ≡ hash_of self.now }
+    {
+        self.hash
+    }
 }
 
 /// A number with another mixed in.
