@@ -77,11 +77,12 @@ impl LookUp {
         }
     }
 
-    /// Puts a place under a whole key.
-    pub fn keep(&mut self, key: HashedKey, at: usize) -> Result<(), OutOfMemory>
+    /// Puts a place under a whole key, which takes no more room than its bytes.
+    pub fn keep(&mut self, mut key: HashedKey, at: usize) -> Result<(), OutOfMemory>
         ensures ok { OnOk result (IsKept key at self.old self.new) }
         ensures err { OnErr result (IsSame self.old self.new) }
     {
+        key.shrink();
         self.by_key.insert(key, at)?;
         Ok(())
     }
