@@ -1,43 +1,54 @@
 -- A look-up that is made from the last formula to the first, and one that is kept up with the formulas.
-use Rattle.std.proofs.Common.{◌≡◌, ◌<◌, ◌≤◌, ◌+◌, ◌-◌, ℕ, zero, suc, List, [], ◌∷◌, ◌++◌, Bool, true, false, cond, Option, Some, None, option_map, refl, sym, ap, ap₂, ◌∙◌, length, length-append, drop, get_or, set, take, bytes_eq, arith}
+use Rattle.std.proofs.Common.{◌≡◌, ◌<◌, ◌≤◌, ◌+◌, ◌-◌, ℕ, zero, suc, List, [], ◌∷◌, ◌++◌, Bool, true, false, cond, Option, Some, None, option_map, refl, sym, ap, ap₂, subst, ◌∙◌, length, length-append, drop, get_or, set, take, bytes_eq, arith}
 use Rattle.std.specs.List.{slice_get}
 use Rattle.std.proofs.Math.Seq.{drop-cons}
-use Rattle.std.specs.BTreeMap.{BTreeMap, Updates, get}
-use Rattle.std.proofs.lemmas.List.{length-set, take_more}
+use Rattle.std.proofs.lemmas.List.{drop_all, length-set, take_more}
 use Rattle.std.proofs.lemmas.Option.{slice_get-get_or}
 use Rattle.ic_laws.specs.declared.tree.Formula.{Formula}
 use Rattle.ic_pool.specs.Code.{code}
-use Rattle.ic_pool.specs.Hash.{key_cmp}
+use Rattle.ic_pool.specs.LookUp.{AreHashed, IsEmpty, IsPut, found}
 use Rattle.ic_pool.specs.Mentions.{has_dangling}
 use Rattle.ic_pool.specs.Pool.{IsLookUp, KeepsPlaces, dangling_count, dangling_places, dangling_weight, first_place, places_from}
-use Rattle.ic_pool.proofs.HashLemmas.{is_eq-key_cmp}
+use Rattle.ic_pool.specs.declared.look_up.LookUp.{LookUp}
+use Rattle.ic_pool.proofs.FoundLemmas.{StandsIn, empty_found, empty_hashed, last_stands, put_found, put_hashed, stands_before, stands_itself}
 use Rattle.ic_pool.proofs.KeyLemmas.{bytes_eq-flip}
 use Rattle.ic_pool.proofs.LateLemmas.{whole_knows}
-use Rattle.ic_pool.proofs.PlacedLemmas.{KeepsPlaces-push}
+use Rattle.ic_pool.proofs.PlacedLemmas.{Finds, KeepsPlaces-push}
 
-abbrev pub Index : Type 0
-Index = BTreeMap (List ℕ) ℕ
-
--- at each key the look-up has the first place of a formula with that key, of those that stand at this place or after
-pub record KeepsFrom (index : Index) (at : ℕ) (formulas : List Formula) : Type 0 where
-  pub finds : (key : List ℕ) → get key_cmp index key ≡ option_map (λ n. at + n) (first_place key (drop at formulas))
+-- by each key the first place of a formula with that key is found, of those that stand at this place or after
+pub record KeepsFrom (find : List ℕ → Option ℕ) (at : ℕ) (formulas : List Formula) : Type 0 where
+  pub finds : (key : List ℕ) → find key ≡ option_map (λ n. at + n) (first_place key (drop at formulas))
 
 next_place : (at : ℕ) (b : Bool) (o : Option ℕ) → cond b (Some at) (option_map (λ n. at + 1 + n) o) ≡ option_map (λ n. at + n) (cond b (Some 0) (option_map suc o))
 next_place at true o = ap (λ n. Some n) (omega arith)
 next_place at false None = refl
 next_place at false (Some n) = ap (λ k. Some k) (let e : at + 1 + n ≡ at + suc n = omega arith in e)
 
-pub KeepsFrom-step : (before after : Index) (at next : ℕ) (formulas : List Formula) (x : Formula) (key : List ℕ) → KeepsFrom before next formulas → at + 1 ≡ next → at < length formulas → x ≡ get_or formulas at x → key ≡ code x
-    → Updates key_cmp before after key (Some at) → KeepsFrom after at formulas
+pub KeepsFrom-step : (before after : List ℕ → Option ℕ) (at next : ℕ) (formulas : List Formula) (x : Formula) (key : List ℕ) → KeepsFrom before next formulas → at + 1 ≡ next → at < length formulas → x ≡ get_or formulas at x → key ≡ code x
+    → Finds before after key (Some at) → KeepsFrom after at formulas
 KeepsFrom-step before after at next formulas x key kept is_next within item same u = record {
   finds = λ q.
       let rest = drop next formulas in
       let moved : suc at ≡ next = omega arith in
       let here : drop at formulas ≡ x ∷ rest = drop-cons formulas at x within ∙ ap₂ ◌∷◌ (sym item) (ap (λ n. drop n formulas) moved) in
-      u.0 q ∙ ap₂ (λ b o. cond b (Some at) o) (is_eq-key_cmp key q ∙ bytes_eq-flip key q ∙ ap (bytes_eq q) same) (kept.finds q)
+      u q ∙ ap₂ (λ b o. cond b (Some at) o) (bytes_eq-flip key q ∙ ap (bytes_eq q) same) (kept.finds q)
       ∙ ap (λ m. cond (bytes_eq q (code x)) (Some at) (option_map (λ n. m + n) (first_place q rest))) (sym is_next)
       ∙ next_place at (bytes_eq q (code x)) (first_place q rest) ∙ sym (ap (λ xs. option_map (λ n. at + n) (first_place q xs)) here);
 }
+
+pub empty_from : (look : LookUp) (xs : List Formula) (at : ℕ) → IsEmpty look → length xs ≤ at → KeepsFrom (found look xs) at xs × AreHashed look xs
+empty_from look xs at none end = (
+  record { finds = λ q. empty_found look xs none q ∙ sym (ap (λ ys. option_map (λ n. at + n) (first_place q ys)) (drop_all at xs end)) },
+  empty_hashed look xs none,
+)
+
+pub put_from : (before after : LookUp) (at next : ℕ) (xs : List Formula) (x : Formula) (key : List ℕ) → KeepsFrom (found before xs) next xs → AreHashed before xs → at + 1 ≡ next → at < length xs → x ≡ get_or xs at x → key ≡ code x → IsPut key at before after
+    → KeepsFrom (found after xs) at xs × AreHashed after xs
+put_from before after at next xs x key kept hashed is_next within item same put =
+    let is : slice_get xs at ≡ Some x = slice_get-get_or xs at x within ∙ ap (λ z. Some z) (sym item) in (
+      KeepsFrom-step (found before xs) (found after xs) at next xs x key kept is_next within item same (put_found before after xs xs x key at hashed is same (stands_itself xs) put),
+      put_hashed before after xs xs x key at hashed is same (stands_itself xs) put,
+    )
 
 -- ---- a formula is put at the end
 
@@ -51,11 +62,18 @@ places_from-push test at (y ∷ xs) x = after (test y) (places_from-push test (s
     after true e = ap (λ ps. at ∷ ps) (e ∙ ap (λ n. places_from test (suc at) xs ++ cond (test x) (n ∷ []) []) (let s : suc at + length xs ≡ at + suc (length xs) = omega arith in s))
     after false e = e ∙ ap (λ n. places_from test (suc at) xs ++ cond (test x) (n ∷ []) []) (let s : suc at + length xs ≡ at + suc (length xs) = omega arith in s)
 
-pub IsLookUp-push : (before after : Index) (is_whole knows_rest : Bool) (late : List ℕ) (xs list : List Formula) (x : Formula) (key : List ℕ) (at : ℕ) → IsLookUp before is_whole knows_rest late xs → is_whole ≡ true → first_place key xs ≡ None → key ≡ code x
-    → at ≡ length xs → Updates key_cmp before after key (Some at) → list ≡ xs ++ x ∷ [] → IsLookUp after is_whole knows_rest late list
-IsLookUp-push before after is_whole knows_rest late xs list x key at kept whole none same end u put =
-    let found : KeepsPlaces after list = KeepsPlaces-push before after xs list x key at (kept.finds whole) (sym (ap (λ k. first_place k xs) same) ∙ none) same end u put in
-    record { finds = λ w. found; rest = λ k. whole_knows after late list found }
+pub IsLookUp-push : (before after : LookUp) (is_whole knows_rest : Bool) (late : List ℕ) (xs list : List Formula) (x : Formula) (key : List ℕ) (at : ℕ) → IsLookUp before is_whole knows_rest late xs → is_whole ≡ true → first_place key xs ≡ None → key ≡ code x
+    → at ≡ length xs → IsPut key at before after → list ≡ xs ++ x ∷ [] → IsLookUp after is_whole knows_rest late list
+IsLookUp-push before after is_whole knows_rest late xs list x key at kept whole none same end put pushed =
+    let is : slice_get list at ≡ Some x = ap₂ slice_get pushed end ∙ last_stands xs x in
+    let stands : StandsIn xs list = subst (StandsIn xs) (sym pushed) (stands_before xs x) in
+    let u : Finds (found before xs) (found after list) key (Some at) = put_found before after xs list x key at kept.hashed is same stands put in
+    let places : KeepsPlaces (found after list) list = KeepsPlaces-push (found before xs) (found after list) xs list x key at (kept.finds whole) (sym (ap (λ k. first_place k xs) same) ∙ none) same end u pushed in
+    record {
+      finds = λ w. places;
+      rest = λ k. whole_knows (found after list) late list places;
+      hashed = put_hashed before after xs list x key at kept.hashed is same stands put;
+    }
 
 -- ---- how many formulas mention something that wasn't found
 

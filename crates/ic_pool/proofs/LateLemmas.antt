@@ -1,27 +1,30 @@
 -- A look-up that lacks the formulas at some places.
-use Rattle.std.proofs.Common.{◌≡◌, ◌≢◌, ℕ, zero, suc, ◌<◌, ◌≤◌, ◌+◌, List, [], ◌∷◌, ◌++◌, Bool, true, false, cond, ◌||◌, Option, Some, None, option_map, refl, sym, ap, ap₂, subst, ◌∙◌, bytes_eq, map, set, length, take, drop, get_or, ◌&&◌, arith}
+use Rattle.std.proofs.Common.{◌≡◌, ℕ, zero, suc, ◌<◌, ◌≤◌, ◌+◌, List, [], ◌∷◌, ◌++◌, Bool, true, false, cond, ◌||◌, Option, Some, None, option_map, refl, sym, ap, ap₂, subst, ◌∙◌, bytes_eq, set, length, take, drop, get_or, ◌&&◌, arith}
 use Rattle.std.specs.Prelude.{MatchOption, nat_eq}
-use Rattle.std.specs.BTreeMap.{BTreeMap, Updates, get}
-use Rattle.std.specs.List.{list_any, slice_get}
-use Rattle.std.specs.Map.{lookup}
+use Rattle.std.specs.BTreeMap.{get}
+use Rattle.std.specs.List.{AllByRecursion, slice_get}
+use Rattle.std.specs.Ordering.{nat_cmp}
 use Rattle.std.proofs.lemmas.Bool.{eq-eqb, eqb-true, or_parts}
-use Rattle.std.proofs.lemmas.List.{map_more, take_all, take_at}
+use Rattle.std.proofs.lemmas.List.{drop_all, drop_more, take_at}
 use Rattle.std.proofs.lemmas.List.Folds.{list_any-append}
 use Rattle.std.proofs.lemmas.Slice.Eq.{bytes_eq-Decides}
 use Rattle.ic_laws.specs.declared.tree.Formula.{Formula}
 use Rattle.ic_pool.specs.Code.{code}
-use Rattle.ic_pool.specs.Hash.{key_cmp}
+use Rattle.ic_pool.specs.Hash.{hash_of, key_cmp}
+use Rattle.ic_pool.specs.LookUp.{AreHashed, IsLeftOut, apart_from, checked, first_of, found, has_key}
 use Rattle.ic_pool.specs.Pool.{IsLookUp, KeepsPlaces, KnowsRest, first_place, is_among}
-use Rattle.ic_pool.specs.Rewrites.{FitsPool, RewritesState, changed_by, is_key_among, old_keys, places_of, rewritten_by}
+use Rattle.ic_pool.specs.Rewrites.{AreOut, FitsPool, RewritesState, left_by_hash, left_by_key, changed_by, is_key_among, old_keys, places_of, rewritten_by}
 use Rattle.ic_pool.specs.declared.pool.rewrites.Replacement.{Replacement}
-use Rattle.ic_pool.proofs.HashLemmas.{is_eq-key_cmp}
+use Rattle.ic_pool.specs.declared.look_up.LookUp.{LookUp}
+use Rattle.ic_pool.proofs.FoundLemmas.{same_both}
 use Rattle.ic_pool.proofs.KeyLemmas.{bytes_eq-flip, clash}
+use Rattle.ic_pool.proofs.PlacedLemmas.{Finds}
 
 abbrev Index : Type 0
-Index = BTreeMap (List ℕ) ℕ
+Index = List ℕ → Option ℕ
 
 abbrev at_key : Index → List ℕ → Option ℕ
-at_key index key = get key_cmp index key
+at_key index key = index key
 
 -- ---- first places
 
@@ -39,7 +42,7 @@ first_is_there key (x ∷ xs) at e = by_test (bytes_eq key (code x)) refl e (λ 
         subst (λ k. option_map code (slice_get (x ∷ xs) k) ≡ Some key) here (ap (λ k. Some k) (sym ((bytes_eq-Decides key (code x)).0 same)))
     by_test false other f rest = further (first_place key xs) refl f rest
 
-first_up_to : (xs : List Formula) (at : ℕ) (x : Formula) → slice_get xs at ≡ Some x → (first : ℕ) × (first ≤ at) × (first_place (code x) xs ≡ Some first)
+pub first_up_to : (xs : List Formula) (at : ℕ) (x : Formula) → slice_get xs at ≡ Some x → (first : ℕ) × (first ≤ at) × (first_place (code x) xs ≡ Some first)
 first_up_to [] at x e = cc
 first_up_to (y ∷ xs) zero x e =
     let same : y ≡ x = cc in
@@ -91,10 +94,10 @@ knows_whole index xs knows = record { finds = λ key. same key (at_key index key
         let equal : k ≡ j = omega (arith, has.1, first.1, k_is, j_is) in
         e ∙ ap (λ n. Some n) equal ∙ sym f
 
-pub same_entries : (before after : Index) (late : List ℕ) (xs : List Formula) → after.entries ≡ before.entries → KnowsRest before late xs → KnowsRest after late xs
-same_entries before after late xs e knows = record {
-  is_true = λ key at f. knows.is_true key at (sym (ap (lookup _) e) ∙ f);
-  has_rest = λ at x f l. let has = knows.has_rest at x f l in (has.0, has.1, ap (lookup _) e ∙ has.2);
+pub knows_alike : (before after : Index) (late : List ℕ) (xs : List Formula) → ((q : List ℕ) → after q ≡ before q) → KnowsRest before late xs → KnowsRest after late xs
+knows_alike before after late xs alike knows = record {
+  is_true = λ key at f. knows.is_true key at (sym (alike key) ∙ f);
+  has_rest = λ at x f l. let has = knows.has_rest at x f l in (has.0, has.1, alike (code x) ∙ has.2);
 }
 
 -- ---- a late place is put in
@@ -126,14 +129,14 @@ module _ (before : Index) (at : ℕ) (xs : List Formula) (late : List ℕ) (know
         by_test k y e l false other = past k y e l other
 
     -- none is, or one after it
-    pub put_here : (after : Index) (key : List ℕ) → key ≡ code x → ((first : ℕ) → at_key before key ≡ Some first → at ≤ first) → Updates key_cmp before after key (Some at) → KnowsRest after late xs
+    pub put_here : (after : Index) (key : List ℕ) → key ≡ code x → ((first : ℕ) → at_key before key ≡ Some first → at ≤ first) → Finds before after key (Some at) → KnowsRest after late xs
     put_here after key is_key earlier u = record {
       is_true = λ q k e. true_by_test q k e (bytes_eq key q) refl;
       has_rest = λ k y e l. rest_by_test k y e l (bytes_eq key (code y)) refl;
     }
       where
         now_at : (q : List ℕ) → at_key after q ≡ cond (bytes_eq key q) (Some at) (at_key before q)
-        now_at q = u.0 q ∙ ap (λ b. cond b (Some at) (at_key before q)) (is_eq-key_cmp key q)
+        now_at q = u q
 
         true_by_test : (q : List ℕ) (k : ℕ) → at_key after q ≡ Some k → (b : Bool) → bytes_eq key q ≡ b → option_map code (slice_get xs k) ≡ Some q
         true_by_test q k e true same =
@@ -173,7 +176,7 @@ set_other (x ∷ xs) (suc at) y (suc k) e = set_other xs at y k (apart (nat_eq k
     apart true same = absurd (clash (nat_eq (suc k) (suc at)) (eq-eqb (suc k) (suc at) (ap suc (eqb-true k at same))) e)
     apart false other = other
 
-stays : (changes : List Replacement) (xs : List Formula) (k : ℕ) → is_among k (places_of changes) ≡ false → slice_get (changed_by changes xs) k ≡ slice_get xs k
+pub stays : (changes : List Replacement) (xs : List Formula) (k : ℕ) → is_among k (places_of changes) ≡ false → slice_get (changed_by changes xs) k ≡ slice_get xs k
 stays [] xs k e = refl
 stays (c ∷ changes) xs k e =
     let parts = or_parts (nat_eq k c.at) (is_among k (places_of changes)) e in
@@ -191,7 +194,7 @@ module _ (before : Index) (at : ℕ) (xs : List Formula) (late : List ℕ) (know
       by_option None f t = absurd (clash r e t)
       by_option (Some first) f t = put_before before at xs late knows x is first (ap (at_key before) (sym is_key) ∙ f) (t.0 e)
 
-  pub put_in_place : r ≡ false → (after : Index) → Updates key_cmp before after key (Some at) → KnowsRest after late xs
+  pub put_in_place : r ≡ false → (after : Index) → Finds before after key (Some at) → KnowsRest after late xs
   put_in_place e after u = put_here before at xs late knows x is after key is_key (λ first f. by_option (at_key before key) refl tells first f) u
     where
       by_option : (o : Option ℕ) → at_key before key ≡ o → MatchOption o (r ≡ false) (λ first. (r ≡ true → first ≤ at) × (r ≡ false → at ≤ first)) → (first : ℕ) → at_key before key ≡ Some first → at ≤ first
@@ -201,32 +204,7 @@ module _ (before : Index) (at : ℕ) (xs : List Formula) (late : List ℕ) (know
           let equal : found ≡ first = cc in
           let le : at ≤ found = t.1 e in omega (arith, le, equal)
 
--- ---- keys that are taken out one after another
-
-old_keys_more : (changes : List Replacement) (i : ℕ) (x : Replacement) → i < length changes → x ≡ get_or changes i x → old_keys (take (i + 1) changes) ≡ old_keys (take i changes) ++ x.old_key ∷ []
-old_keys_more changes i x within item =
-    map_more (λ (c : Replacement). c.old_key) changes i x within ∙ ap (λ (c : Replacement). old_keys (take i changes) ++ c.old_key ∷ []) (sym item)
-
-one_more_out : (a b : Bool) (o : Option ℕ) → cond b None (cond a None o) ≡ cond (a || (b || false)) None o
-one_more_out true true o = refl
-one_more_out true false o = refl
-one_more_out false true o = refl
-one_more_out false false o = refl
-
-pub removed_more : (old before after : Index) (changes : List Replacement) (i : ℕ) (x : Replacement) → i < length changes → x ≡ get_or changes i x
-    → ((key : List ℕ) → at_key before key ≡ cond (is_key_among key (old_keys (take i changes))) None (at_key old key)) → Updates key_cmp before after x.old_key None
-    → (key : List ℕ) → at_key after key ≡ cond (is_key_among key (old_keys (take (i + 1) changes))) None (at_key old key)
-removed_more old before after changes i x within item done u key =
-    u.0 key ∙ ap₂ (λ b o. cond b None o) (is_eq-key_cmp x.old_key key ∙ bytes_eq-flip x.old_key key) (done key)
-    ∙ one_more_out (is_key_among key (old_keys (take i changes))) (bytes_eq key x.old_key) (at_key old key)
-    ∙ ap (λ b. cond b None (at_key old key))
-    (sym (ap (is_key_among key) (old_keys_more changes i x within item) ∙ list_any-append (bytes_eq key) (old_keys (take i changes)) (x.old_key ∷ [])))
-
-pub removed_all : (old now : Index) (changes : List Replacement) (i : ℕ) → length changes ≤ i
-    → ((key : List ℕ) → at_key now key ≡ cond (is_key_among key (old_keys (take i changes))) None (at_key old key)) → (key : List ℕ) → at_key now key ≡ cond (is_key_among key (old_keys changes)) None (at_key old key)
-removed_all old now changes i end done key = done key ∙ ap (λ cs. cond (is_key_among key (old_keys cs)) None (at_key old key)) (take_all i changes end)
-
--- ---- and in their place others are late
+-- ---- formulas become others, and their places are late
 
 not_taken : {X : Type 0} (b : Bool) (o : Option X) (x : X) → cond b None o ≡ Some x → (b ≡ false) × (o ≡ Some x)
 not_taken true o x e = cc
@@ -248,6 +226,122 @@ taken_knows before after late more w xs knows fits taken moved = record {
       (has.0, has.1, taken (code y) ∙ ap (λ b. cond b None (at_key before (code y))) (fits.together at y is ∙ left) ∙ has.2);
 }
 
+-- ---- what is left of a look-up after the keys of changed formulas were taken out
+
+none_left_by_hash : (changes : List Replacement) (hash : ℕ) → left_by_hash changes hash None ≡ None
+none_left_by_hash [] hash = refl
+none_left_by_hash (c ∷ changes) hash = ap (left_by_hash changes hash) (either (nat_eq (hash_of c.old_key) hash)) ∙ none_left_by_hash changes hash
+  where
+    either : (b : Bool) → cond b (apart_from c.at None) None ≡ None
+    either true = refl
+    either false = refl
+
+apart_stays : (b : Bool) (at k : ℕ) → nat_eq k at ≡ false → cond b (apart_from at (Some k)) (Some k) ≡ Some k
+apart_stays true at k other = ap (λ c. cond c None (Some k)) other
+apart_stays false at k other = refl
+
+others_left_by_hash : (changes : List Replacement) (hash k : ℕ) → is_among k (places_of changes) ≡ false → left_by_hash changes hash (Some k) ≡ Some k
+others_left_by_hash [] hash k e = refl
+others_left_by_hash (c ∷ changes) hash k e =
+    let parts = or_parts (nat_eq k c.at) (is_among k (places_of changes)) e in
+    ap (left_by_hash changes hash) (apart_stays (nat_eq (hash_of c.old_key) hash) c.at k parts.0) ∙ others_left_by_hash changes hash k parts.1
+
+gone_by_hash : (changes : List Replacement) (xs : List Formula) (hash k : ℕ) → AllByRecursion (λ change. option_map code (slice_get xs change.at) ≡ Some change.old_key) changes
+    → option_map (λ x. hash_of (code x)) (slice_get xs k) ≡ Some hash → is_among k (places_of changes) ≡ true → left_by_hash changes hash (Some k) ≡ None
+gone_by_hash [] xs hash k own its e = cc
+gone_by_hash (c ∷ changes) xs hash k own its e = by_test (λ f. gone_by_hash changes xs hash k own.1 its f) (nat_eq k c.at) refl
+  where
+    by_test : (is_among k (places_of changes) ≡ true → left_by_hash changes hash (Some k) ≡ None) → (b : Bool) → nat_eq k c.at ≡ b → left_by_hash (c ∷ changes) hash (Some k) ≡ None
+    by_test later true same =
+        let place : k ≡ c.at = eqb-true k c.at same in
+        let x = there (slice_get xs c.at) c.old_key own.0 in
+        let one : Some (hash_of (code x.0)) ≡ Some hash = ap (option_map (λ z. hash_of (code z))) (sym (ap (slice_get xs) place ∙ x.1)) ∙ its in
+        let equal : hash_of (code x.0) ≡ hash = cc in
+        ap₂ (λ b d. left_by_hash changes hash (cond b (cond d None (Some k)) (Some k))) (eq-eqb (hash_of c.old_key) hash (ap hash_of (sym x.2) ∙ equal)) same
+        ∙ none_left_by_hash changes hash
+    by_test later false other =
+        ap (left_by_hash changes hash) (apart_stays (nat_eq (hash_of c.old_key) hash) c.at k other)
+        ∙ later (sym (ap (λ b. b || is_among k (places_of changes)) other) ∙ e)
+
+one_more_out : (a b : Bool) (o : Option ℕ) → cond b None (cond a None o) ≡ cond (a || b) None o
+one_more_out true true o = refl
+one_more_out true false o = refl
+one_more_out false true o = refl
+one_more_out false false o = refl
+
+left_keys : (changes : List Replacement) (key : List ℕ) (o : Option ℕ) → left_by_key changes key o ≡ cond (is_key_among key (old_keys changes)) None o
+left_keys [] key o = refl
+left_keys (c ∷ changes) key o =
+    left_keys changes key (cond (bytes_eq c.old_key key) None o)
+    ∙ ap (λ b. cond (is_key_among key (old_keys changes)) None (cond b None o)) (bytes_eq-flip c.old_key key)
+    ∙ one_more_out (bytes_eq key c.old_key) (is_key_among key (old_keys changes)) o
+
+-- the keys of these are still to be taken out of what is there now, where all were to be
+pub record AreLeft (changes left : List Replacement) (before now : LookUp) : Type 0 where
+  pub by_hash : (hash : ℕ) → left_by_hash left hash (get nat_cmp now.by_hash hash) ≡ left_by_hash changes hash (get nat_cmp before.by_hash hash)
+  pub by_key : (key : List ℕ) → left_by_key left key (get key_cmp now.by_key key) ≡ left_by_key changes key (get key_cmp before.by_key key)
+
+pub one_out : (before now after : LookUp) (changes : List Replacement) (i : ℕ) (x : Replacement) → i < length changes → x ≡ get_or changes i x → AreLeft changes (drop i changes) before now → IsLeftOut x.old_key x.at now after → AreLeft changes (drop (i + 1) changes) before after
+one_out before now after changes i x within item left out =
+    let rest : drop i changes ≡ x ∷ drop (i + 1) changes = drop_more changes i x within ∙ ap (λ y. y ∷ drop (i + 1) changes) (sym item) in
+    record {
+      by_hash = λ hash. ap (left_by_hash (drop (i + 1) changes) hash) (out.by_hash hash) ∙ sym (ap (λ cs. left_by_hash cs hash (get nat_cmp now.by_hash hash)) rest) ∙ left.by_hash hash;
+      by_key = λ key. ap (left_by_key (drop (i + 1) changes) key) (out.by_key key) ∙ sym (ap (λ cs. left_by_key cs key (get key_cmp now.by_key key)) rest) ∙ left.by_key key;
+    }
+
+pub all_out : (before now : LookUp) (changes : List Replacement) (i : ℕ) → length changes ≤ i → AreLeft changes (drop i changes) before now → AreOut changes before now
+all_out before now changes i end left = record {
+  by_hash = λ hash. ap (λ cs. left_by_hash cs hash (get nat_cmp now.by_hash hash)) (sym (drop_all i changes end)) ∙ left.by_hash hash;
+  by_key = λ key. ap (λ cs. left_by_key cs key (get key_cmp now.by_key key)) (sym (drop_all i changes end)) ∙ left.by_key key;
+}
+
+module _ (before after : LookUp) (changes : List Replacement) (xs : List Formula) (hashed : AreHashed before xs) (own : AllByRecursion (λ change. option_map code (slice_get xs change.at) ≡ Some change.old_key) changes) where
+  pub out_hashed : AreOut changes before after → AreHashed after (changed_by changes xs)
+  out_hashed out hash n e = by_place (get nat_cmp before.by_hash hash) refl (sym (out.by_hash hash) ∙ e)
+    where
+      by_place : (o : Option ℕ) → get nat_cmp before.by_hash hash ≡ o → left_by_hash changes hash o ≡ Some n → option_map (λ x. hash_of (code x)) (slice_get (changed_by changes xs) n) ≡ Some hash
+      by_place None f g = let no : None ≡ Some n = sym (none_left_by_hash changes hash) ∙ g in cc
+      by_place (Some k) f g = by_test (is_among k (places_of changes)) refl
+        where
+          by_test : (b : Bool) → is_among k (places_of changes) ≡ b → option_map (λ x. hash_of (code x)) (slice_get (changed_by changes xs) n) ≡ Some hash
+          by_test true gone = let no : None ≡ Some n = sym (gone_by_hash changes xs hash k own (hashed hash k f) gone) ∙ g in cc
+          by_test false left =
+              let place : Some k ≡ Some n = sym (others_left_by_hash changes hash k left) ∙ g in
+              let moved : k ≡ n = cc in
+              ap (λ m. option_map (λ x. hash_of (code x)) (slice_get (changed_by changes xs) m)) (sym moved) ∙ ap (option_map (λ x. hash_of (code x))) (stays changes xs k left) ∙ hashed hash k f
+
+  module _ (together : (at : ℕ) (formula : Formula) → slice_get xs at ≡ Some formula → is_key_among (code formula) (old_keys changes) ≡ is_among at (places_of changes)) where
+    -- a formula with this key is at one of the places exactly where the key is one of the keys
+    with_key : (key : List ℕ) (k : ℕ) (o : Option Formula) → slice_get xs k ≡ o → has_key key o ≡ true → is_key_among key (old_keys changes) ≡ is_among k (places_of changes)
+    with_key key k None f has = cc
+    with_key key k (Some x) f has = ap (λ q. is_key_among q (old_keys changes)) ((bytes_eq-Decides key (code x)).0 has) ∙ together k x f
+
+    checked_out : (key : List ℕ) (o : Option ℕ) → get nat_cmp before.by_hash (hash_of key) ≡ o → checked (changed_by changes xs) key (left_by_hash changes (hash_of key) o) ≡ cond (is_key_among key (old_keys changes)) None (checked xs key o)
+    checked_out key None f = ap (checked (changed_by changes xs) key) (none_left_by_hash changes (hash_of key)) ∙ same_both (is_key_among key (old_keys changes)) None
+    checked_out key (Some k) f = by_test (is_among k (places_of changes)) refl (has_key key (slice_get xs k)) refl (is_key_among key (old_keys changes)) refl
+      where
+        stay : is_among k (places_of changes) ≡ false → checked (changed_by changes xs) key (left_by_hash changes (hash_of key) (Some k)) ≡ checked xs key (Some k)
+        stay left = ap (checked (changed_by changes xs) key) (others_left_by_hash changes (hash_of key) k left) ∙ ap (λ o. cond (has_key key o) (Some k) None) (stays changes xs k left)
+
+        by_test : (b : Bool) → is_among k (places_of changes) ≡ b → (c : Bool) → has_key key (slice_get xs k) ≡ c → (d : Bool) → is_key_among key (old_keys changes) ≡ d
+            → checked (changed_by changes xs) key (left_by_hash changes (hash_of key) (Some k)) ≡ cond d None (cond c (Some k) None)
+        by_test true gone c has true among = ap (checked (changed_by changes xs) key) (gone_by_hash changes xs (hash_of key) k own (hashed (hash_of key) k f) gone)
+        by_test true gone false has false among = ap (checked (changed_by changes xs) key) (gone_by_hash changes xs (hash_of key) k own (hashed (hash_of key) k f) gone)
+        by_test true gone true has false among = absurd (clash (is_key_among key (old_keys changes)) (with_key key k (slice_get xs k) refl has ∙ gone) among)
+        by_test false left true has true among = absurd (clash (is_key_among key (old_keys changes)) among (with_key key k (slice_get xs k) refl has ∙ left))
+        by_test false left false has true among = stay left ∙ ap (λ c. cond c (Some k) None) has
+        by_test false left c has false among = stay left ∙ ap (λ c. cond c (Some k) None) has
+
+    both_out : (b : Bool) (m n : Option ℕ) → first_of (cond b None m) (cond b None n) ≡ cond b None (first_of m n)
+    both_out true m n = refl
+    both_out false m n = refl
+
+    pub out_found : AreOut changes before after → (key : List ℕ) → found after (changed_by changes xs) key ≡ cond (is_key_among key (old_keys changes)) None (found before xs key)
+    out_found out key =
+        ap₂ (λ a b. first_of a (checked (changed_by changes xs) key b)) (out.by_key key ∙ left_keys changes key (get key_cmp before.by_key key)) (out.by_hash (hash_of key))
+        ∙ ap (first_of (cond (is_key_among key (old_keys changes)) None (get key_cmp before.by_key key))) (checked_out key (get nat_cmp before.by_hash (hash_of key)) refl)
+        ∙ both_out (is_key_among key (old_keys changes)) (get key_cmp before.by_key key) (checked xs key (get nat_cmp before.by_hash (hash_of key)))
+
 -- ---- what a pool keeps
 
 length_set : (xs : List Formula) (at : ℕ) (y : Formula) → length (set xs at y) ≡ length xs
@@ -268,30 +362,34 @@ pub both_true : (a b : Bool) → (a && b) ≡ true → (a ≡ true) × (b ≡ tr
 both_true true b e = (refl, e)
 both_true false b e = (e, cc)
 
-pub look_up_taken : (before after : Index) (late more : List ℕ) (w : RewritesState) (knows moved : Bool) (xs list : List Formula) → (knows ≡ true → KnowsRest before late xs) → FitsPool w xs
-    → ((key : List ℕ) → at_key after key ≡ cond (is_key_among key (old_keys w.changes)) None (at_key before key)) → (moved ≡ true → more ≡ late ++ w.places) → list ≡ rewritten_by w xs
-    → IsLookUp after false (knows && moved) more list
-look_up_taken before after late more w knows moved xs list rest fits taken put made = record {
+pub look_up_taken : (before after : LookUp) (late more : List ℕ) (w : RewritesState) (knows moved : Bool) (xs list : List Formula) → (knows ≡ true → KnowsRest (found before xs) late xs) → AreHashed before xs → FitsPool w xs
+    → AreOut w.changes before after → (moved ≡ true → more ≡ late ++ w.places) → list ≡ rewritten_by w xs → IsLookUp after false (knows && moved) more list
+look_up_taken before after late more w knows moved xs list rest hashed fits out put made = record {
   finds = λ e. cc;
   rest = λ e.
       let both = both_true knows moved e in
-      subst (KnowsRest after more) (sym made) (taken_knows before after late more w xs (rest both.0) fits taken (put both.1));
+      subst (λ ys. KnowsRest (found after ys) more ys) (sym made) (taken_knows (found before xs) (found after (rewritten_by w xs)) late more w xs (rest both.0) fits (out_found before after w.changes xs hashed fits.own fits.together out) (put both.1));
+  hashed = subst (AreHashed after) (sym made) (out_hashed before after w.changes xs hashed fits.own out);
 }
 
-pub look_up_late : (index : Index) (knows : Bool) (late : List ℕ) (xs list : List Formula) → KnowsRest index late xs → late ≡ [] → list ≡ xs → IsLookUp index true knows late list
-look_up_late index knows late xs list rest none same = record {
-  finds = λ e. subst (KeepsPlaces index) (sym same) (knows_whole index xs (subst (λ l. KnowsRest index l xs) none rest));
-  rest = λ e. subst (KnowsRest index late) (sym same) rest;
+pub look_up_late : (index : LookUp) (knows : Bool) (late : List ℕ) (xs list : List Formula) → KnowsRest (found index xs) late xs → AreHashed index xs → late ≡ [] → list ≡ xs → IsLookUp index true knows late list
+look_up_late index knows late xs list rest hashed none same = record {
+  finds = λ e. subst (λ ys. KeepsPlaces (found index ys) ys) (sym same) (knows_whole (found index xs) xs (subst (λ l. KnowsRest (found index xs) l xs) none rest));
+  rest = λ e. subst (λ ys. KnowsRest (found index ys) late ys) (sym same) rest;
+  hashed = subst (AreHashed index) (sym same) hashed;
 }
 
-pub look_up_anew : (index : Index) (knows : Bool) (late : List ℕ) (xs list : List Formula) → KeepsPlaces index xs → list ≡ xs → IsLookUp index true knows late list
-look_up_anew index knows late xs list found same = record {
-  finds = λ e. subst (KeepsPlaces index) (sym same) found;
-  rest = λ e. subst (KnowsRest index late) (sym same) (whole_knows index late xs found);
+pub look_up_anew : (index : LookUp) (knows : Bool) (late : List ℕ) (xs list : List Formula) → KeepsPlaces (found index xs) xs → AreHashed index xs → list ≡ xs → IsLookUp index true knows late list
+look_up_anew index knows late xs list places hashed same = record {
+  finds = λ e. subst (λ ys. KeepsPlaces (found index ys) ys) (sym same) places;
+  rest = λ e. subst (λ ys. KnowsRest (found index ys) late ys) (sym same) (whole_knows (found index xs) late xs places);
+  hashed = subst (AreHashed index) (sym same) hashed;
 }
 
-pub look_up_entries : (before after : Index) (is_whole knows : Bool) (late : List ℕ) (xs list : List Formula) → IsLookUp before is_whole knows late xs → after.entries ≡ before.entries → list ≡ xs → IsLookUp after is_whole knows late list
-look_up_entries before after is_whole knows late xs list kept e same = record {
-  finds = λ w. subst (KeepsPlaces after) (sym same) (record { finds = λ key. ap (lookup _) e ∙ (kept.finds w).finds key });
-  rest = λ k. subst (KnowsRest after late) (sym same) (same_entries before after late xs e (kept.rest k));
+-- what is found stays alike
+pub look_up_alike : (before after : LookUp) (is_whole knows : Bool) (late : List ℕ) (xs list : List Formula) → IsLookUp before is_whole knows late xs → ((q : List ℕ) → found after xs q ≡ found before xs q) → AreHashed after xs → list ≡ xs → IsLookUp after is_whole knows late list
+look_up_alike before after is_whole knows late xs list kept alike hashed same = record {
+  finds = λ w. subst (λ ys. KeepsPlaces (found after ys) ys) (sym same) (record { finds = λ key. alike key ∙ (kept.finds w).finds key });
+  rest = λ k. subst (λ ys. KnowsRest (found after ys) late ys) (sym same) (knows_alike (found before xs) (found after xs) late xs alike (kept.rest k));
+  hashed = subst (AreHashed after) (sym same) hashed;
 }

@@ -4,6 +4,7 @@ pub mod ChangeLemmas
 pub mod ChangeTopics
 pub mod CodeLaws
 pub mod CopyLemmas
+pub mod FoundLemmas
 pub mod HashLemmas
 pub mod IndexLemmas
 pub mod KeyLemmas

@@ -1,7 +1,7 @@
 -- The formulas of a pool that pass a test, by their places and by their keys.
-use Rattle.std.proofs.Common.{◌≡◌, ℕ, zero, suc, ◌<◌, ◌+◌, List, [], ◌∷◌, ◌++◌, Bool, true, false, cond, ◌||◌, Some, refl, sym, ap, ap₂, ◌∙◌, bytes_eq, length, arith}
+use Rattle.std.proofs.Common.{◌≡◌, ℕ, zero, suc, ◌<◌, ◌+◌, List, [], ◌∷◌, ◌++◌, Bool, true, false, cond, ◌||◌, Some, option_map, refl, sym, ap, ap₂, subst, ◌∙◌, bytes_eq, length, arith}
 use Rattle.std.specs.Prelude.{nat_eq, not, if◌then◌else◌}
-use Rattle.std.specs.List.{list_any, slice_get}
+use Rattle.std.specs.List.{AllByRecursion, list_any, slice_get}
 use Rattle.std.proofs.lemmas.Bool.{eq-eqb, eqb-true}
 use Rattle.std.proofs.lemmas.Slice.Eq.{bytes_eq-Decides}
 use Rattle.ic_laws.specs.declared.tree.Formula.{Formula}
@@ -109,6 +109,20 @@ module _ (test : Formula → Bool) (becomes : Formula → Formula) where
       after : (b : Bool) → old_keys (replaced_from test becomes (suc at) xs) ≡ keys_where test xs
           → old_keys (cond b (record { at = at; formula = becomes x; old_key = code x } ∷ replaced_from test becomes (suc at) xs) (replaced_from test becomes (suc at) xs)) ≡ cond b (code x ∷ keys_where test xs) (keys_where test xs)
       after true rest = ap (λ ks. code x ∷ ks) rest
+      after false rest = rest
+
+  -- each key is that of the formula at its place
+  pub replaced_own : (ys : List Formula) (at : ℕ) (xs : List Formula) → ((k : ℕ) (y : Formula) → slice_get xs k ≡ Some y → slice_get ys (at + k) ≡ Some y)
+      → AllByRecursion (λ change. option_map code (slice_get ys change.at) ≡ Some change.old_key) (replaced_from test becomes at xs)
+  replaced_own ys at [] there = tt
+  replaced_own ys at (x ∷ xs) there = after (test x) (replaced_own ys (suc at) xs (λ k y e. subst (λ n. slice_get ys n ≡ Some y) (let n : at + suc k ≡ suc at + k = omega arith in n) (there (suc k) y e)))
+    where
+      here_is : option_map code (slice_get ys at) ≡ Some (code x)
+      here_is = ap (λ n. option_map code (slice_get ys n)) (let n : at ≡ at + 0 = omega arith in n) ∙ ap (option_map code) (there zero x refl)
+
+      after : (b : Bool) → AllByRecursion (λ change. option_map code (slice_get ys change.at) ≡ Some change.old_key) (replaced_from test becomes (suc at) xs)
+          → AllByRecursion (λ change. option_map code (slice_get ys change.at) ≡ Some change.old_key) (cond b (record { at = at; formula = becomes x; old_key = code x } ∷ replaced_from test becomes (suc at) xs) (replaced_from test becomes (suc at) xs))
+      after true rest = (here_is, rest)
       after false rest = rest
 
   -- there is none exactly where no formula passes

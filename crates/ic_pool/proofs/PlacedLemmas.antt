@@ -1,14 +1,11 @@
 -- First places in a list of formulas, and a look-up that keeps up with it.
 use Rattle.std.proofs.Common.{◌≡◌, ◌≢◌, ℕ, zero, suc, ◌<◌, List, [], ◌∷◌, ◌++◌, Bool, true, false, cond, Option, Some, None, option_map, refl, sym, ap, subst, ◌∙◌, length, bytes_eq, arith}
 use Rattle.std.specs.List.{slice_get}
-use Rattle.std.specs.BTreeMap.{BTreeMap, Updates, get}
 use Rattle.std.proofs.lemmas.Slice.Eq.{bytes_eq-Decides}
 use Rattle.ic_laws.specs.declared.tree.Formula.{Formula}
 use Rattle.ic_pool.specs.Code.{code}
-use Rattle.ic_pool.specs.Hash.{key_cmp}
 use Rattle.ic_pool.specs.Pool.{IsFirstAt, IsPlaced, first_place, KeepsPlaces}
 use Rattle.ic_pool.proofs.CodeLaws.{code_determines}
-use Rattle.ic_pool.proofs.HashLemmas.{is_eq-key_cmp}
 use Rattle.ic_pool.proofs.KeyLemmas.{bytes_eq-flip, clash}
 
 -- ---- in a list
@@ -90,24 +87,28 @@ IsPlaced-pushed x at xs after none end put = record {
 
 -- ---- the map
 
-pub KeepsPlaces-push : (before after : BTreeMap (List ℕ) ℕ) (xs list : List Formula) (x : Formula) (key : List ℕ) (at : ℕ) → KeepsPlaces before xs → first_place (code x) xs ≡ None → key ≡ code x → at ≡ length xs → Updates key_cmp before after key (Some at) → list ≡ xs ++ x ∷ [] → KeepsPlaces after list
+-- by a key another place is found, or none; by each other key what was found before
+abbrev pub Finds : (List ℕ → Option ℕ) → (List ℕ → Option ℕ) → List ℕ → Option ℕ → Type 0
+Finds before after key place = (q : List ℕ) → after q ≡ cond (bytes_eq key q) place (before q)
+
+pub KeepsPlaces-push : (before after : List ℕ → Option ℕ) (xs list : List Formula) (x : Formula) (key : List ℕ) (at : ℕ) → KeepsPlaces before xs → first_place (code x) xs ≡ None → key ≡ code x → at ≡ length xs → Finds before after key (Some at) → list ≡ xs ++ x ∷ [] → KeepsPlaces after list
 KeepsPlaces-push before after xs list x key at kept none same end u put =
     subst (KeepsPlaces after) (sym put)
     (record {
       finds = λ q.
-          u.0 q
-          ∙ ap (λ b. cond b (Some at) (get key_cmp before q)) (is_eq-key_cmp key q ∙ ap (λ k. bytes_eq k q) same)
+          u q
+          ∙ ap (λ b. cond b (Some at) (before q)) (ap (λ k. bytes_eq k q) same)
           ∙ ap (cond (bytes_eq (code x) q) (Some at)) (kept.finds q)
           ∙ ap (λ n. cond (bytes_eq (code x) q) (Some n) (first_place q xs)) end
           ∙ sym (first_place-push x xs none q);
     })
 
 -- what the map has at a formula's key is its first place
-pub IsPlaced-kept : (index : BTreeMap (List ℕ) ℕ) (before xs : List Formula) (x : Formula) (key : List ℕ) (at : ℕ) → KeepsPlaces index xs → key ≡ code x → get key_cmp index key ≡ Some at → xs ≡ before → IsPlaced x at before xs × (at < length xs)
-IsPlaced-kept index before xs x key at kept same got is =
+pub IsPlaced-kept : (find : List ℕ → Option ℕ) (before xs : List Formula) (x : Formula) (key : List ℕ) (at : ℕ) → KeepsPlaces find xs → key ≡ code x → find key ≡ Some at → xs ≡ before → IsPlaced x at before xs × (at < length xs)
+IsPlaced-kept find before xs x key at kept same got is =
     let found : first_place (code x) xs ≡ Some at = ap (λ k. first_place k xs) (sym same) ∙ sym (kept.finds key) ∙ got in
     (subst (λ ys. IsPlaced x at ys xs) is (IsPlaced-found x at xs found), below_length x at xs (first_found x xs at found).here)
 
 -- where the map has nothing at its key, no formula has that key
-pub none_kept : (index : BTreeMap (List ℕ) ℕ) (xs : List Formula) (key : List ℕ) → KeepsPlaces index xs → get key_cmp index key ≡ None → first_place key xs ≡ None
-none_kept index xs key kept got = sym (kept.finds key) ∙ got
+pub none_kept : (find : List ℕ → Option ℕ) (xs : List Formula) (key : List ℕ) → KeepsPlaces find xs → find key ≡ None → first_place key xs ≡ None
+none_kept find xs key kept got = sym (kept.finds key) ∙ got

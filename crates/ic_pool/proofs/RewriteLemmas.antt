@@ -1,5 +1,5 @@
 -- Rewriting the formulas of a pool, one after another.
-use Rattle.std.proofs.Common.{◌≡◌, ◌<◌, ◌≤◌, ◌+◌, ◌-◌, ℕ, zero, suc, List, [], ◌∷◌, ◌++◌, Bool, true, false, cond, ◌||◌, Option, Some, None, refl, sym, ap, ap₂, subst, ◌∙◌, map, length, take, drop, get_or, set, arith, append_assoc, append-nil, ◌⊎◌, inl, inr}
+use Rattle.std.proofs.Common.{◌≡◌, ◌<◌, ◌≤◌, ◌+◌, ◌-◌, ℕ, zero, suc, List, [], ◌∷◌, ◌++◌, Bool, true, false, cond, ◌||◌, Option, Some, None, option_map, refl, sym, ap, ap₂, subst, ◌∙◌, map, length, take, drop, get_or, set, arith, append_assoc, append-nil, ◌⊎◌, inl, inr}
 use Rattle.std.specs.Prelude.{MatchOption, nat_eq}
 use Rattle.std.specs.BTreeMap.{is_at}
 use Rattle.std.specs.BTreeSet.{BTreeSet}
@@ -19,7 +19,7 @@ use Rattle.ic_pool.specs.Rewrites.{FitsPool, IsNoted, IsNotedAt, RewritesState, 
 use Rattle.ic_pool.specs.declared.pool.rewrites.Replacement.{Replacement}
 use Rattle.ic_pool.proofs.IndexLemmas.{places_from-push}
 use Rattle.ic_pool.proofs.KeyLemmas.{clash}
-use Rattle.ic_pool.proofs.ListedLemmas.{above, below, key_passes, keys_where, passes_there, replaced_from-push, replaced_keys, replaced_places}
+use Rattle.ic_pool.proofs.ListedLemmas.{above, below, key_passes, keys_where, passes_there, replaced_from-push, replaced_keys, replaced_own, replaced_places}
 
 -- a change behind others is made after them
 changed_by-push : (changes : List Replacement) (change : Replacement) (formulas : List Formula) → changed_by (changes ++ change ∷ []) formulas ≡ set (changed_by changes formulas) change.at change.formula
@@ -63,6 +63,7 @@ module _ (f : Formula → Formula) (test : Formula → Bool) (formulas : List Fo
         fits = record {
           within = done.within;
           places = done.places ∙ ap (places_where test) all ∙ sym listed;
+          own = subst (AllByRecursion (λ change. option_map code (slice_get formulas change.at) ≡ Some change.old_key)) (sym changes) (replaced_own test f formulas 0 formulas (λ k y e. subst (λ n. slice_get formulas n ≡ Some y) (let n : k ≡ 0 + k = omega arith in n) e));
           together = λ at x e. ap (is_key_among (code x)) keys ∙ key_passes test formulas at x e ∙ sym (ap (is_among at) listed ∙ passes_there test formulas at x e);
         };
       }

@@ -2,6 +2,7 @@ pub mod Bytes
 pub mod Code
 pub mod Hash
 pub mod Kept
+pub mod LookUp
 pub mod MentionPlaces
 pub mod Mentions
 pub mod Pool

@@ -1,11 +1,11 @@
 -- The formulas of a sheet, each at its place, and where each stands first.
 use Rattle.std.specs.Prelude.{◌≡◌, ◌≢◌, ℕ, suc, ◌<◌, ◌≤◌, List, [], ◌∷◌, ◌++◌, Bool, true, false, Option, Some, None, length, option_map, bytes_eq, nat_eq, if◌then◌else◌}
-use Rattle.std.specs.BTreeMap.{BTreeMap, get}
 use Rattle.std.specs.List.{list_any, slice_get}
 use Rattle.ic_laws.specs.declared.tree.Formula.{Formula}
 use Rattle.ic_pool.specs.Code.{code}
-use Rattle.ic_pool.specs.Hash.{key_cmp}
+use Rattle.ic_pool.specs.LookUp.{AreHashed, found}
 use Rattle.ic_pool.specs.Mentions.{has_dangling}
+use Rattle.ic_pool.specs.declared.look_up.LookUp.{LookUp}
 
 -- what a pool is to contracts: its formulas in their places, from 0, and whether its look-up knows each of them
 pub record PoolState : Type 0 where
@@ -37,19 +37,19 @@ pub record EndsWithNew (key : List ℕ) (formulas : List Formula) : Type 0 where
   pub its : key ≡ code formula
   pub fresh : first_place key before ≡ None
 
--- at each key the look-up has the first place of a formula with that key
-pub record KeepsPlaces (index : BTreeMap (List ℕ) ℕ) (formulas : List Formula) : Type 0 where
-  pub finds : (key : List ℕ) → get key_cmp index key ≡ first_place key formulas
+-- by each key the look-up finds the first place of a formula with that key
+pub record KeepsPlaces (find : List ℕ → Option ℕ) (formulas : List Formula) : Type 0 where
+  pub finds : (key : List ℕ) → find key ≡ first_place key formulas
 
 -- a place is one of these
 abbrev pub is_among : ℕ → List ℕ → Bool
 is_among at places = list_any (nat_eq at) places
 
--- What the look-up has is true; and it has each formula that stands at none of the late places, there or at a place before.
-pub record KnowsRest (index : BTreeMap (List ℕ) ℕ) (late : List ℕ) (formulas : List Formula) : Type 0 where
-  pub is_true : (key : List ℕ) (at : ℕ) → get key_cmp index key ≡ Some at → option_map code (slice_get formulas at) ≡ Some key
+-- What the look-up finds is true; and it finds each formula that stands at none of the late places, there or at a place before.
+pub record KnowsRest (find : List ℕ → Option ℕ) (late : List ℕ) (formulas : List Formula) : Type 0 where
+  pub is_true : (key : List ℕ) (at : ℕ) → find key ≡ Some at → option_map code (slice_get formulas at) ≡ Some key
   pub has_rest : (at : ℕ) (formula : Formula) → slice_get formulas at ≡ Some formula → is_among at late ≡ false
-      → (first : ℕ) × (first ≤ at) × (get key_cmp index (code formula) ≡ Some first)
+      → (first : ℕ) × (first ≤ at) × (find (code formula) ≡ Some first)
 
 -- the places of the formulas that pass a test, where the first formula stands at this place
 abbrev pub places_from : (Formula → Bool) → ℕ → List Formula → List ℕ
@@ -76,7 +76,8 @@ dangling_count formulas = length (dangling_places formulas)
 abbrev pub dangling_weight : Formula → ℕ
 dangling_weight formula = if has_dangling formula then 1 else 0
 
--- what a look-up that is whole, or knows all but those at the late places, has is true
-pub record IsLookUp (index : BTreeMap (List ℕ) ℕ) (is_whole knows_rest : Bool) (late : List ℕ) (formulas : List Formula) : Type 0 where
-  pub finds : is_whole ≡ true → KeepsPlaces index formulas
-  pub rest : knows_rest ≡ true → KnowsRest index late formulas
+-- what a look-up that is whole, or knows all but those at the late places, finds is true, and its hashes are those of keys
+pub record IsLookUp (index : LookUp) (is_whole knows_rest : Bool) (late : List ℕ) (formulas : List Formula) : Type 0 where
+  pub finds : is_whole ≡ true → KeepsPlaces (found index formulas) formulas
+  pub rest : knows_rest ≡ true → KnowsRest (found index formulas) late formulas
+  pub hashed : AreHashed index formulas

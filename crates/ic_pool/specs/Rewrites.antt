@@ -1,11 +1,16 @@
 -- What is prepared before the formulas of a pool are rewritten.
-use Rattle.std.specs.Prelude.{◌≡◌, ◌<◌, ℕ, suc, List, [], ◌∷◌, ◌++◌, Bool, true, false, Option, Some, MatchOption, bytes_eq, length, map, set, if◌then◌else◌}
+use Rattle.std.specs.Prelude.{◌≡◌, ◌<◌, ℕ, suc, List, [], ◌∷◌, ◌++◌, Bool, true, false, Option, None, Some, MatchOption, bytes_eq, length, map, nat_eq, option_map, set, if◌then◌else◌}
+use Rattle.std.specs.BTreeMap.{get}
 use Rattle.std.specs.List.{AllByRecursion, list_any, slice_get}
+use Rattle.std.specs.Ordering.{nat_cmp}
 use Rattle.ic_laws.specs.Changes.{Change}
 use Rattle.ic_laws.specs.declared.tree.Formula.{Formula}
 use Rattle.ic_pool.specs.Code.{code}
+use Rattle.ic_pool.specs.Hash.{hash_of, key_cmp}
+use Rattle.ic_pool.specs.LookUp.{apart_from}
 use Rattle.ic_pool.specs.Mentions.{is_changed_by}
 use Rattle.ic_pool.specs.Pool.{is_among, places_where}
+use Rattle.ic_pool.specs.declared.look_up.LookUp.{LookUp}
 use Rattle.ic_pool.specs.declared.pool.rewrites.Replacement.{Replacement}
 
 -- the formulas that become others, and their places once more
@@ -43,11 +48,27 @@ old_keys changes = map (λ change. change.old_key) changes
 abbrev pub is_key_among : List ℕ → List (List ℕ) → Bool
 is_key_among key keys = list_any (bytes_eq key) keys
 
+-- what stood by a hash, without the places of changes that had it
+abbrev pub left_by_hash : List Replacement → ℕ → Option ℕ → Option ℕ
+left_by_hash [] hash place = place
+left_by_hash (change ∷ changes) hash place = left_by_hash changes hash (if nat_eq (hash_of change.old_key) hash then apart_from change.at place else place)
+
+-- what stood by a key that no change had
+abbrev pub left_by_key : List Replacement → List ℕ → Option ℕ → Option ℕ
+left_by_key [] key place = place
+left_by_key (change ∷ changes) key place = left_by_key changes key (if bytes_eq change.old_key key then None else place)
+
+-- the keys that the changed formulas had are out of a look-up
+pub record AreOut (changes : List Replacement) (before after : LookUp) : Type 0 where
+  pub by_hash : (hash : ℕ) → get nat_cmp after.by_hash hash ≡ left_by_hash changes hash (get nat_cmp before.by_hash hash)
+  pub by_key : (key : List ℕ) → get key_cmp after.by_key key ≡ left_by_key changes key (get key_cmp before.by_key key)
+
 -- It was prepared for these formulas: the places are theirs, and so are the keys, where equal formulas become others
 -- together.
 pub record FitsPool (rewrites : RewritesState) (formulas : List Formula) : Type 0 where
   pub within : AllByRecursion (λ change. change.at < length formulas) rewrites.changes
   pub places : rewrites.places ≡ places_of rewrites.changes
+  pub own : AllByRecursion (λ change. option_map code (slice_get formulas change.at) ≡ Some change.old_key) rewrites.changes
   pub together : (at : ℕ) (formula : Formula) → slice_get formulas at ≡ Some formula
       → is_key_among (code formula) (old_keys rewrites.changes) ≡ is_among at (places_of rewrites.changes)
 

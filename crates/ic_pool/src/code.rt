@@ -29,6 +29,5 @@ pub fn key_of(alloc: Global, formula: &Formula) -> Result<HashedKey, OutOfMemory
             write_text(&mut key, text.as_str())?;
         }
     }
-    key.shrink();
     Ok(HashedKey::new(key))
 }

@@ -38,6 +38,20 @@ impl HashedKey {
         let hash = hash_of(key.bytes());
         HashedKey { hash, key }
     }
+
+    /// Gives back the room that its bytes don't take.
+    pub(crate) fn shrink(&mut self)
+        ensures { self.new ≡ self.old }
+    {
+        self.key.shrink();
+    }
+
+    /// Its hash.
+    pub(crate) fn hash(&self) -> u64
+        ensures { result ≡ hash_of self.now }
+    {
+        self.hash
+    }
 }
 
 /// A number with another mixed in.

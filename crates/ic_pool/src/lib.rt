@@ -15,6 +15,7 @@ mod copies;
 mod hashed;
 mod key;
 mod law;
+mod look_up;
 mod mention_index;
 mod mentions;
 mod pool;

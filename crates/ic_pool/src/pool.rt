@@ -12,6 +12,7 @@ ghost use Rattle.ic_pool.specs.Topics.{mentions_some};
 mod index;
 mod rewrites;
 
+use crate::look_up::LookUp;
 use crate::mention_index::MentionIndex;
 use crate::{BookChange, HashedKey, Remaking, Steps, copy_formula, key_of};
 use ic_laws::{Formula, OutOfMemory};
@@ -19,8 +20,7 @@ use index::{all_places, dangling_in, dangling_weight, index_of, put_late, renewe
 pub use rewrites::{Replacement, Rewrites};
 use rewrites::{rewrites_at, rewrites_remade};
 use std::alloc::Global;
-use std::collections::btree_map::Entry;
-use std::collections::{BTreeMap, BTreeSet, LinkedList};
+use std::collections::{BTreeSet, LinkedList};
 use std::marker::{Brand, Model};
 use std::sync::ledger::{Blank, Ledger};
 
@@ -30,7 +30,7 @@ pub struct Pool {
     formulas: Vec<Formula>,
     /// Where it is whole: for each formula its first place, by its key. Where it isn't, a change has taken keys out, and
     /// the places of the formulas that it made are late: the next write puts their keys in.
-    index: BTreeMap<HashedKey, usize>,
+    index: LookUp,
     is_whole: bool,
     /// Whether the look-up has all formulas but those at the late places.
     knows_rest: bool,
@@ -89,7 +89,7 @@ impl Pool {
         Pool {
             alloc,
             formulas: Vec::new(alloc),
-            index: BTreeMap::new(alloc),
+            index: LookUp::new(alloc),
             is_whole: true,
             knows_rest: true,
             late: LinkedList::new(alloc),
@@ -109,7 +109,7 @@ impl Pool {
         Ok(Pool {
             alloc,
             formulas,
-            index: BTreeMap::new(alloc),
+            index: LookUp::new(alloc),
             is_whole: false,
             knows_rest: false,
             late: LinkedList::new(alloc),
@@ -233,7 +233,8 @@ impl Pool {
         ensures err { OnErr result (self.new ≡ self.old) }
     {
         let key = key_of(self.alloc, formula)?;
-        match self.place_of(&key) {
+        let found = self.place_of(&key)?;
+        match found {
             Some(at) => Ok(at),
             None => {
                 let copy = copy_formula(self.alloc, formula)?;
@@ -250,8 +251,8 @@ impl Pool {
             → self.old.formulas ≡ before ++ formula ∷ [] → self.new.formulas ≡ before }
         ensures whole { self.new.is_whole ≡ true }
     {
-        self.index.remove(key);
         if let Some(formula) = self.formulas.pop() {
+            self.index.take_out(key, self.formulas.len());
             self.dangling -= dangling_weight(&formula);
         }
     }
@@ -336,16 +337,15 @@ impl Pool {
     }
 
     /// The first place of a formula with this key.
-    fn place_of(&self, key: &HashedKey) -> Option<usize>
+    fn place_of(&self, key: &HashedKey) -> Result<Option<usize>, OutOfMemory>
         requires { self.now.is_whole ≡ true }
-        ensures { result ≡ first_place key.now self.now.formulas }
+        ensures { IfOk result (λ place. place ≡ first_place key.now self.now.formulas) }
     {
-        self.index.get(key).copied()
+        self.index.find(self.alloc, &self.formulas, key)
     }
 
     /// The first place of a formula with this key, which is this formula's; where there is none, it is put at the end. One
-    /// search finds its place or makes it. Where there is no memory for the index by mention alone, later changes look at
-    /// all formulas; what else may fail comes before the first change.
+    /// that is met by its hash is found by its key from then on.
     fn place_by(&mut self, key: HashedKey, formula: Formula) -> Result<usize, OutOfMemory>
         requires whole { self.old.is_whole ≡ true }
         requires its { key ≡ code formula }
@@ -354,18 +354,36 @@ impl Pool {
         ensures whole { OnOk result (self.new.is_whole ≡ true) }
         ensures err { OnErr result (self.new ≡ self.old) }
     {
-        self.formulas.reserve(1)?;
-        match self.index.entry(key)? {
-            Entry::Occupied(entry) => Ok(*entry.get()),
-            Entry::Vacant(entry) => {
-                let at = self.formulas.len();
-                let weight = dangling_weight(&formula);
-                entry.insert(at);
-                self.knows_mentions &= self.mentions.note(at, &formula).is_ok();
-                self.formulas.push_reserved(formula);
-                self.dangling += weight;
+        if let Some(at) = self.index.kept(&key) {
+            return Ok(at);
+        }
+        match self.index.met(self.alloc, &self.formulas, &key)? {
+            Some(at) => {
+                self.index.keep(key, at)?;
                 Ok(at)
             }
+            None => self.push_new(key, formula),
         }
+    }
+
+    /// Puts a formula with this key, which no other one has, at the end, and answers its place. Where there is no memory for
+    /// the index by mention alone, later changes look at all formulas; what else may fail comes before the first change.
+    fn push_new(&mut self, key: HashedKey, formula: Formula) -> Result<usize, OutOfMemory>
+        requires whole { self.old.is_whole ≡ true }
+        requires its { key ≡ code formula }
+        requires fresh { first_place key self.old.formulas ≡ None }
+        ensures ok { IfOk result (λ at. IsPlaced formula at self.old.formulas self.new.formulas) }
+        ensures within { IfOk result (λ at. at < length self.new.formulas) }
+        ensures whole { OnOk result (self.new.is_whole ≡ true) }
+        ensures err { OnErr result (self.new ≡ self.old) }
+    {
+        self.formulas.reserve(1)?;
+        let at = self.formulas.len();
+        self.index.put(key, at)?;
+        let weight = dangling_weight(&formula);
+        self.knows_mentions &= self.mentions.note(at, &formula).is_ok();
+        self.formulas.push_reserved(formula);
+        self.dangling += weight;
+        Ok(at)
     }
 }

@@ -1,17 +1,17 @@
 ghost use Rattle.std.specs.Prelude.{◌≡◌, ◌<◌, ◌≤◌, ◌+◌, ℕ, List, [], ◌∷◌, false, true, length, option_map, IfOk, MatchOption, OnErr, OnOk};
-ghost use Rattle.std.specs.BTreeMap.{get};
 ghost use Rattle.std.specs.BTreeSet.{contains};
 ghost use Rattle.std.specs.List.{slice_get};
 ghost use Rattle.std.specs.Ordering.{nat_cmp};
-ghost use Rattle.ic_pool.specs.Hash.{key_cmp};
+ghost use Rattle.ic_pool.specs.LookUp.{AreHashed, IsSame, found};
 ghost use Rattle.ic_pool.specs.MentionPlaces.{KnowsAll};
 ghost use Rattle.ic_pool.specs.Pool.{KeepsPlaces, KnowsRest, dangling_count, dangling_weight};
 
+use crate::look_up::LookUp;
 use crate::mention_index::MentionIndex;
 use crate::{HashedKey, Steps, has_dangling, key_of};
 use ic_laws::{Formula, OutOfMemory};
 use std::alloc::Global;
-use std::collections::{BTreeMap, BTreeSet, LinkedList};
+use std::collections::{BTreeSet, LinkedList};
 use std::sync::ledger::Ledger;
 
 /// The first place of each formula, by its key, in one step for each. It goes from the last to the first, so that the
@@ -20,18 +20,19 @@ pub fn index_of<L: Ledger>(
     alloc: Global,
     formulas: &[Formula],
     steps: &mut Steps<L>,
-) -> Result<BTreeMap<HashedKey, usize>, OutOfMemory>
-    ensures ok { IfOk result (λ index. KeepsPlaces index formulas.now) }
+) -> Result<LookUp, OutOfMemory>
+    ensures ok { IfOk result (λ index. KeepsPlaces (found index formulas.now) formulas.now) }
+    ensures hashed { IfOk result (λ index. AreHashed index formulas.now) }
     ensures cost { steps.new ≤ steps.old + length formulas.now }
     ensures grows { steps.old ≤ steps.new }
 {
-    let mut index = BTreeMap::new(alloc);
+    let mut index = LookUp::new(alloc);
     let mut at = formulas.len();
     while at > 0 {
         at -= 1;
         steps.tick();
         let key = key_of(alloc, &formulas[at])?;
-        index.insert(key, at)?;
+        index.put(key, at)?;
     }
     Ok(index)
 }
@@ -94,12 +95,14 @@ pub fn renewed(
 pub fn put_late<L: Ledger>(
     alloc: Global,
     formulas: &[Formula],
-    index: &mut BTreeMap<HashedKey, usize>,
+    index: &mut LookUp,
     late: &mut LinkedList<usize>,
     steps: &mut Steps<L>,
 ) -> Result<(), OutOfMemory>
-    requires { KnowsRest index.old late.old formulas.now }
-    ensures knows { KnowsRest index.new late.new formulas.now }
+    requires knows { KnowsRest (found index.old formulas.now) late.old formulas.now }
+    requires hashed { AreHashed index.old formulas.now }
+    ensures knows { KnowsRest (found index.new formulas.now) late.new formulas.now }
+    ensures hashed { AreHashed index.new formulas.now }
     ensures done { OnOk result (late.new ≡ []) }
     ensures cost { steps.new ≤ steps.old + length late.old }
     ensures grows { steps.old ≤ steps.new }
@@ -117,21 +120,24 @@ pub fn put_late<L: Ledger>(
 fn put_place(
     alloc: Global,
     formulas: &[Formula],
-    index: &mut BTreeMap<HashedKey, usize>,
+    index: &mut LookUp,
     at: usize,
 ) -> Result<(), OutOfMemory>
-    ensures ok { OnOk result ((late : List ℕ) → KnowsRest index.old (at ∷ late) formulas.now
-        → KnowsRest index.new late formulas.now) }
-    ensures err { OnErr result (index.new.entries ≡ index.old.entries) }
+    requires { AreHashed index.old formulas.now }
+    ensures ok { OnOk result ((late : List ℕ)
+        → KnowsRest (found index.old formulas.now) (at ∷ late) formulas.now
+        → KnowsRest (found index.new formulas.now) late formulas.now) }
+    ensures err { OnErr result (IsSame index.old index.new) }
+    ensures hashed { AreHashed index.new formulas.now }
 {
     let Some(formula) = formula_in(formulas, at) else {
         return Ok(());
     };
     let key = key_of(alloc, formula)?;
-    if is_before(index, &key, at) {
+    if is_before(alloc, formulas, index, &key, at)? {
         return Ok(());
     }
-    index.insert(key, at)?;
+    index.put(key, at)?;
     Ok(())
 }
 
@@ -143,12 +149,18 @@ pub fn formula_in(formulas: &[Formula], at: usize) -> Option<&Formula>
 }
 
 /// Whether a look-up has a key at this place or before.
-fn is_before(index: &BTreeMap<HashedKey, usize>, key: &HashedKey, at: usize) -> bool
-    ensures { MatchOption (get key_cmp index.now key.now) (result ≡ false)
-        (λ first. (result ≡ true → first ≤ at) × (result ≡ false → at ≤ first)) }
+fn is_before(
+    alloc: Global,
+    formulas: &[Formula],
+    index: &LookUp,
+    key: &HashedKey,
+    at: usize,
+) -> Result<bool, OutOfMemory>
+    ensures { IfOk result (λ is. MatchOption (found index.now formulas.now key.now) (is ≡ false)
+        (λ first. (is ≡ true → first ≤ at) × (is ≡ false → at ≤ first))) }
 {
-    match index.get(key).copied() {
-        Some(first) => first <= at,
-        None => false,
+    match index.find(alloc, formulas, key)? {
+        Some(first) => Ok(first <= at),
+        None => Ok(false),
     }
 }

@@ -1,23 +1,22 @@
-ghost use Rattle.std.specs.Prelude.{◌≡◌, ◌<◌, ◌++◌, [], ◌∷◌, ℕ, List, None, cond, false, true, is_some, length, map, set, IfOk, OnOk, if◌then◌else◌};
-ghost use Rattle.std.specs.BTreeMap.{get};
+ghost use Rattle.std.specs.Prelude.{◌≡◌, ◌<◌, ◌++◌, [], ◌∷◌, false, true, is_some, length, map, set, IfOk, OnOk, if◌then◌else◌};
 ghost use Rattle.std.specs.List.{AllByRecursion};
 ghost use Rattle.std.specs.Option.{unwrap_or};
 ghost use Rattle.ic_laws.specs.declared.tree.Formula.{Formula};
 ghost use Rattle.ic_pool.specs.Code.{code};
-ghost use Rattle.ic_pool.specs.Hash.{key_cmp};
 ghost use Rattle.ic_pool.specs.MentionPlaces.{HasAt, HasPassing, KeepsAll};
 ghost use Rattle.ic_pool.specs.Mentions.{formula_after, is_changed_by};
 ghost use Rattle.ic_pool.specs.Pool.{dangling_count};
 ghost use Rattle.ic_pool.specs.Remade.{LeavesUntouched, touched_from};
-ghost use Rattle.ic_pool.specs.Rewrites.{FitsPool, IsNoted, IsNotedAt, ListsChanged, changed_by, changes_nothing, is_key_among, old_keys, rewritten_by};
+ghost use Rattle.ic_pool.specs.Rewrites.{AreOut, FitsPool, IsNoted, IsNotedAt, ListsChanged, changed_by, changes_nothing, rewritten_by};
 ghost use Rattle.ic_pool.specs.Topics.{topics_in};
 
 use super::index::{dangling_weight, formula_in};
+use crate::look_up::LookUp;
 use crate::mention_index::MentionIndex;
 use crate::{BookChange, HashedKey, Remaking, changed_formula, key_of, remade_formula};
 use ic_laws::{Formula, OutOfMemory};
 use std::alloc::Global;
-use std::collections::{BTreeMap, BTreeSet, LinkedList};
+use std::collections::{BTreeSet, LinkedList};
 use std::marker::Model;
 
 /// A formula that becomes another.
@@ -107,10 +106,8 @@ impl Rewrites {
     }
 
     /// Takes the keys that the changed formulas have out of a look-up.
-    pub(super) fn take_out(&self, index: &mut BTreeMap<HashedKey, usize>)
-        ensures { (key : List ℕ) → get key_cmp index.new key
-            ≡ cond (is_key_among key (old_keys self.now.changes)) None
-            (get key_cmp index.old key) }
+    pub(super) fn take_out(&self, index: &mut LookUp)
+        ensures { AreOut self.now.changes index.old index.new }
     {
         remove_keys(&self.changes, index);
     }
@@ -330,13 +327,11 @@ fn note_all(changes: &[Replacement], mentions: &mut MentionIndex) -> Result<(), 
 }
 
 /// Takes the keys that these formulas have out of a look-up.
-fn remove_keys(changes: &[Replacement], index: &mut BTreeMap<HashedKey, usize>)
-    ensures { (key : List ℕ) → get key_cmp index.new key
-        ≡ cond (is_key_among key (old_keys changes.now)) None
-        (get key_cmp index.old key) }
+fn remove_keys(changes: &[Replacement], index: &mut LookUp)
+    ensures { AreOut changes.now index.old index.new }
 {
     for change in changes {
-        index.remove(&change.old_key);
+        index.take_out(&change.old_key, change.at);
     }
 }
 

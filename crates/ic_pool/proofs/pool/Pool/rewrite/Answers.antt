@@ -27,7 +27,7 @@ invariant_of-self c =
     let new : c.put-self-inside.new.formulas ≡ changed_by c.args.rewrites.changes xs = c.put-self-inside.ensures.formulas ∙ ap₂ changed_by c.move_places.ensures.changes c.deref_mut.ensures.value in
     let back = written_back c.self.inside.formulas.len c.args.rewrites.changes c.put-self-inside.new.formulas xs new c.self.inside.formulas.ok.0 in
     record {
-      look_up = look_up_taken c.self.inside.index c.take_out.new.index c.self.inside.late c.move_places.new.late c.args.rewrites c.self.inside.knows_rest c.move_places.result xs _ c.self.invariant.look_up.rest
+      look_up = look_up_taken c.self.inside.index c.take_out.new.index c.self.inside.late c.move_places.new.late c.args.rewrites c.self.inside.knows_rest c.move_places.result xs _ c.self.invariant.look_up.rest c.self.invariant.look_up.hashed
           (subst (FitsPool c.args.rewrites) (sym same) c.requires.fits) c.take_out.ensures c.move_places.ensures.moved back;
       mentioned = λ e. subst (KnowsAll c.renewed-self-inside.new.mentions) c.deref.ensures.value (c.renewed-self-inside.ensures e);
       dangles = c.put-self-inside.ensures.counted ∙ ap dangling_count (new ∙ sym back);

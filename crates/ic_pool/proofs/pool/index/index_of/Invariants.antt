@@ -1,4 +1,5 @@
 use Rattle.std.proofs.Common.{◌≡◌, ◌≤◌, ◌+◌, length}
+use Rattle.ic_pool.specs.LookUp.{AreHashed, found}
 use Rattle.ic_pool.proofs.IndexLemmas.{KeepsFrom}
 use Rattle.ic_pool.proofs.pool.index.index_of.Given as goal
 
@@ -7,7 +8,8 @@ abbrev pub invariant-loop-at : goal.invariant-loop-at
 invariant-loop-at g l = record {
   within : l.at ≤ length l.formulas;
   counted : l.steps + l.at ≡ l.initial.steps + length l.formulas;
-  found : KeepsFrom l.index l.at l.formulas;
+  found : KeepsFrom (found l.index l.formulas) l.at l.formulas;
+  hashed : AreHashed l.index l.formulas;
 }
 
 abbrev pub decreases-loop-at : goal.decreases-loop-at

@@ -1,9 +1,13 @@
-use Rattle.ic_pool.proofs.LateLemmas.{removed_more, removed_all}
+use Rattle.std.proofs.Common.{refl}
+use Rattle.ic_pool.proofs.LateLemmas.{all_out, one_out}
 use Rattle.ic_pool.proofs.pool.rewrites.remove_keys.Goals as goal
+
+pub loop-change-init : goal.loop-change-init
+loop-change-init c = record { by_hash = λ hash. refl; by_key = λ key. refl }
 
 pub loop-change-preserved : goal.loop-change-preserved
 loop-change-preserved c =
-    removed_more c.args.index.now c.loop-change.index c.remove.new.self c.args.changes.now c.loop-change.change-index c.change-item.result c.loop-change-test.true c.change-item.is c.loop-change.invariant c.remove.ensures.updates
+    one_out c.args.index.now c.loop-change.index c.take_out.new.self c.args.changes.now c.loop-change.change-index c.change-item.result c.loop-change-test.true c.change-item.is c.loop-change.invariant c.take_out.ensures
 
 pub returns : goal.returns
-returns c = removed_all c.args.index.now c.loop-change.index c.args.changes.now c.loop-change.change-index c.loop-change-test.false c.loop-change.invariant
+returns c = all_out c.args.index.now c.loop-change.index c.args.changes.now c.loop-change.change-index c.loop-change-test.false c.loop-change.invariant
