@@ -1,11 +1,11 @@
 -- References in the A1 form: the longest at the front of a text, and what is written read again.
-use Rattle.std.proofs.Common.{◌≡◌, ℕ, ℤ, List, [], ◌++◌, Bool, true, false, ◌&&◌, chars, IsUtf8, string_bytes, String, option_map, if◌then◌else◌, Option, Some, None, refl, sym, ◌∙◌, ap, subst, inl, inr}
+use Rattle.std.proofs.Common.{◌≡◌, ℕ, ℤ, List, ◌++◌, Bool, true, false, ◌&&◌, IsUtf8, if◌then◌else◌, Option, Some, None, sym, ◌∙◌, ap, subst, inl, inr}
 use Rattle.std.specs.Option.{IfSome}
 use Rattle.std.proofs.lemmas.Bool.{and_parts, and_from, cases_Bool, both_ways}
 use Rattle.ic_laws.specs.Name.{is_sheet_name}
 use Rattle.ic_laws.specs.Position.{is_row, is_column, is_inside}
 use Rattle.ic_laws.specs.declared.reference.RefToken.{RefToken}
-use Rattle.ic_refs.specs.A1.{SpellsPlace, SpellsA1, is_spellable, place_text, a1_text, a1_place_at, a1_at}
+use Rattle.ic_refs.specs.A1.{SpellsPlace, SpellsA1, is_spellable, place_text, a1_place_at, a1_at}
 use Rattle.ic_laws.specs.Scan.{IsEnd}
 use Rattle.ic_refs.specs.Longest.{FindsLongest, FindsLongestAt, read_at}
 use Rattle.ic_laws.specs.SheetText.{sheet_text}

@@ -42,7 +42,7 @@ pub use name::{
     is_valid_a1_identifier, is_valid_identifier, is_valid_sheet_name, push_quoted, quote_name,
 };
 pub use reference::{A1Reference, Area, CellReferenceIndex, ParsedReference};
-pub use sheet::{is_written_name, may_name_sheet, push_sheet};
+pub use sheet::{is_written_name, push_sheet};
 pub use stored::read_rc;
 pub use stored_text::push_rc_place;
 pub use trim::trimmed;

@@ -1,8 +1,8 @@
 ghost use Rattle.std.specs.Prelude.{◌≡◌, ◌<◌, length, IfSome, ◌++◌, ◌∷◌, ◌||◌, ◌==◌, false, None, chars, string_bytes, MatchOption, OnOk, option_and_then, option_map};
 ghost use Rattle.std.specs.Option.{option_copied};
 ghost use Rattle.ic_laws.specs.Character.{dollar, quote};
-ghost use Rattle.ic_laws.specs.Scan.{first_is, is_digit, is_plain, past_run};
-ghost use Rattle.ic_laws.specs.SheetText.{is_bang, is_quote, before_bang, name_in_quotes, sheet_at, sheet_text};
+ghost use Rattle.ic_laws.specs.Scan.{first_is, is_digit};
+ghost use Rattle.ic_laws.specs.SheetText.{is_quote, before_bang, name_in_quotes, sheet_at, sheet_text};
 ghost use Rattle.ic_laws.specs.Tree.{is_written_sheet};
 ghost use Rattle.ic_refs.specs.Written.{ClosesAt, name_of, plain_name};
 
@@ -31,15 +31,6 @@ fn begins_no_name(c: char) -> bool
     ensures { result ≡ (c == dollar || is_digit c) }
 {
     c == '$' || c.is_ascii_digit()
-}
-
-/// Whether a quote stands at the front, or a `!` after the plain characters there: a text without them begins with no
-/// sheet's name.
-pub fn may_name_sheet(text: &str) -> bool
-    ensures { result ≡ (first_is is_quote (chars text.now)
-        || first_is is_bang (past_run is_plain (chars text.now))) }
-{
-    begins_with(text, '\'') || begins_with(past_plain(text), '!')
 }
 
 /// The sheet's name after an opening quote, and what stands after its `!`.
