@@ -115,7 +115,8 @@ fn named_token<'t, D: Dialect>(
 }
 
 /// A function's head whose word stands as the dialect spells it: no reference before a bracket is longer than such a
-/// word, and none is read.
+/// word, and none is read. A word that begins in lower case is not looked up here: function words are
+/// spelled in upper case.
 fn function_at<'t, D: Dialect>(
     d: &D,
     c: char,
@@ -128,7 +129,7 @@ fn function_at<'t, D: Dialect>(
         ≡ longer (reference_at (D.meaning d.now) (chars text.now))
         (longer (local_at (chars text.now)) (named_at (D.meaning d.now) (chars text.now)))) }
 {
-    if !begins_word(c) {
+    if !begins_word(c) || c.is_ascii_lowercase() {
         return None;
     }
     match first_char(past_blanks(after)) {
