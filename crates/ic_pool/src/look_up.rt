@@ -1,6 +1,6 @@
 //! Where formulas are found by their keys.
-ghost use Rattle.std.specs.Prelude.{◌≡◌, ℕ, List, None, Some, IfOk, OnErr, OnOk};
-ghost use Rattle.std.specs.BTreeMap.{get};
+ghost use Rattle.std.specs.Prelude.{◌≡◌, ℕ, List, None, Some, false, true, IfOk, OnErr, OnOk};
+ghost use Rattle.std.specs.BTreeMap.{Updates, get};
 ghost use Rattle.std.specs.List.{slice_get};
 ghost use Rattle.std.specs.Ordering.{nat_cmp};
 ghost use Rattle.ic_laws.specs.declared.tree.Formula.{Formula};
@@ -11,6 +11,7 @@ use crate::{HashedKey, key_of};
 use ic_laws::{Formula, OutOfMemory};
 use std::alloc::Global;
 use std::collections::BTreeMap;
+use std::collections::btree_map::Entry;
 
 /// The places of formulas, each found by its key. Most stand under a hash of their keys alone, and the formula at the place
 /// says whether it is the one; those that came again, and those whose hash another has, stand under their whole keys.
@@ -92,12 +93,28 @@ impl LookUp {
         ensures ok { OnOk result (IsPut key at self.old self.new) }
         ensures err { OnErr result (IsSame self.old self.new) }
     {
-        let hash = key.hash();
-        if self.by_hash.get(&hash).is_some() || self.kept(&key).is_some() {
-            return self.keep(key, at);
+        if self.kept(&key).is_none() && self.put_hash(key.hash(), at)? {
+            return Ok(());
         }
-        self.by_hash.insert(hash, at)?;
-        Ok(())
+        self.keep(key, at)
+    }
+
+    /// Puts a place under a hash where none stands there, and answers whether it did.
+    fn put_hash(&mut self, hash: u64, at: usize) -> Result<bool, OutOfMemory>
+        ensures put { IfOk result (λ put. put ≡ true → get nat_cmp self.old.by_hash hash ≡ None
+            × Updates nat_cmp self.old.by_hash self.new.by_hash hash (Some at)) }
+        ensures left { IfOk result (λ put. put ≡ false
+            → self.new.by_hash.entries ≡ self.old.by_hash.entries) }
+        ensures err { OnErr result (self.new.by_hash.entries ≡ self.old.by_hash.entries) }
+        ensures keys { self.new.by_key ≡ self.old.by_key }
+    {
+        match self.by_hash.entry(hash)? {
+            Entry::Occupied(_) => Ok(false),
+            Entry::Vacant(entry) => {
+                entry.insert(at);
+                Ok(true)
+            }
+        }
     }
 
     /// Takes out what stands under a key, and this place where it stands under the key's hash.
