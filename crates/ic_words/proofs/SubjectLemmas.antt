@@ -1,7 +1,7 @@
 -- The table of all served commands, one subject after another.
-use Rattle.std.proofs.Common.{◌≡◌, ◌≢◌, ℕ, List, [], ◌∷◌, ◌++◌, Bool, true, false, not, ◌&&◌, ◌||◌, Option, Some, None, IsUtf8, bytes_eq, chars, codes, option_map, option_and_then, refl, ap, sym, subst, ◌∙◌, inl, inr}
+use Rattle.std.proofs.Common.{◌≡◌, ◌≢◌, ℕ, List, [], ◌∷◌, ◌++◌, Bool, true, false, ◌&&◌, ◌||◌, Option, Some, None, IsUtf8, bytes_eq, chars, codes, option_map, option_and_then, refl, ap, sym, subst, ◌∙◌, inl, inr}
 use Rattle.std.specs.List.{AllByRecursion, list_all}
-use Rattle.std.proofs.lemmas.Bool.{and_parts, cases_Bool, false_from_ne_true, not-true}
+use Rattle.std.proofs.lemmas.Bool.{and_parts, cases_Bool, false_from_ne_true}
 use Rattle.std.proofs.lemmas.Slice.Eq.{bytes_eq-Decides}
 use Rattle.ic_laws.specs.Lines.{word_texts}
 use Rattle.ic_machine.specs.Command.{Command, OnArrays, OnDefinitions, OnExtending, OnLayout, OnNotation, OnReading, OnSheets, OnStyles, OnTabs, OnWriting, commands, served}
@@ -99,52 +99,6 @@ module _ (english : List (List ℕ)) (name : List ℕ) (words : List (List ℕ))
   one_after_another (row ∷ rows) =
       elim (cases_Bool (bytes_eq row.name name)) [ inl e ↦ rw e refl | inr e ↦ rw e (one_after_another rows) ]
 
--- Two tables that share no name are asked in either order ----
-
-abbrev has_name : List (Row Command) → List ℕ → Bool
-has_name [] name = false
-has_name (row ∷ rows) name = bytes_eq row.name name || has_name rows name
-
-abbrev share_none : List (Row Command) → List (Row Command) → Bool
-share_none [] others = true
-share_none (row ∷ rows) others = not (has_name others row.name) && share_none rows others
-
-lacks_name : (rows others : List (Row Command)) (name : List ℕ) → share_none rows others ≡ true → has_name rows name ≡ true → has_name others name ≡ false
-lacks_name [] others name h is = absurd (cc)
-lacks_name (row ∷ rows) others name h is =
-    let p = and_parts (not (has_name others row.name)) (share_none rows others) h in
-    elim (cases_Bool (bytes_eq row.name name)) [
-      | inl e ↦ ap (has_name others) (sym ((bytes_eq-Decides row.name name).0 e)) ∙ not-true (has_name others row.name) p.0
-      | inr e ↦ lacks_name rows others name p.1 (rw e at is)
-    ]
-
-module _ (english : List (List ℕ)) (name : List ℕ) (words : List (List ℕ)) where
-  none_named : (rows : List (Row Command)) → has_name rows name ≡ false → named english rows name words ≡ None
-  none_named [] h = refl
-  none_named (row ∷ rows) h =
-      elim (cases_Bool (bytes_eq row.name name)) [
-        | inl e ↦ absurd (let no : true ≡ false = rw e at h in cc)
-        | inr e ↦ rw e (none_named rows (rw e at h))
-      ]
-
-  past_none : (rows later : List (Row Command)) → has_name rows name ≡ false → named english (rows ++ later) name words ≡ named english later name words
-  past_none rows later h = one_after_another english name words later rows ∙ ap (λ o. first_of o (named english later name words)) (none_named rows h)
-
-  either_first : (rows others later : List (Row Command)) → share_none rows others ≡ true → named english (rows ++ (others ++ later)) name words ≡ named english (others ++ (rows ++ later)) name words
-  either_first rows others later h =
-      elim (cases_Bool (has_name rows name)) [
-        | inl has ↦
-            one_after_another english name words (others ++ later) rows
-            ∙ ap (first_of (named english rows name words)) (past_none others later (lacks_name rows others name h has))
-            ∙ sym (one_after_another english name words later rows)
-            ∙ sym (past_none others (rows ++ later) (lacks_name rows others name h has))
-        | inr lacks ↦
-            past_none rows (others ++ later) lacks
-            ∙ one_after_another english name words later others
-            ∙ ap (first_of (named english others name words)) (sym (past_none rows later lacks))
-            ∙ sym (one_after_another english name words (rows ++ later) others)
-      ]
-
 -- Names are ASCII, so it is the same to find them by bytes or by characters. ----
 
 served_ascii : has_ascii_names (λ (row : Row Command). row.name) served ≡ true
@@ -154,7 +108,7 @@ served_ascii = refl
 found_same_named : (english : List (List ℕ)) (name : List ℕ) (words : List (List ℕ)) → IsUtf8 name → named english served (chars name) words ≡ named english served name words
 found_same_named english name words u = ap (λ (o : Option (Row Command)). option_map (λ (row : Row Command). option_map row.command (words_said english row.words words)) o) (found_same (λ (row : Row Command). row.name) served name u served_ascii)
 
--- The served rows are those of the subjects, one after another: what writes and what reads a cell is asked first ----
+-- The served rows are those of the subjects, one after another ----
 
 abbrev pub from_arrays : List (Row Command)
 from_arrays = served_of OnArrays array_rows
@@ -171,39 +125,24 @@ from_styles = served_of OnStyles style_rows ++ from_layout
 abbrev pub from_extending : List (Row Command)
 from_extending = served_of OnExtending extending_rows ++ from_styles
 
+abbrev pub from_reading : List (Row Command)
+from_reading = served_of OnReading reading_rows ++ from_extending
+
+abbrev pub from_writing : List (Row Command)
+from_writing = served_of OnWriting writing_rows ++ from_reading
+
 abbrev pub from_notation : List (Row Command)
-from_notation = served_of OnNotation notation_rows ++ from_extending
+from_notation = served_of OnNotation notation_rows ++ from_writing
 
 abbrev pub from_definitions : List (Row Command)
 from_definitions = served_of OnDefinitions definition_rows ++ from_notation
 
-abbrev pub from_sheets : List (Row Command)
-from_sheets = served_of OnSheets sheet_rows ++ from_definitions
-
-abbrev pub from_reading : List (Row Command)
-from_reading = served_of OnReading reading_rows ++ from_sheets
-
--- the rows that stand before those in the table
-abbrev rows_before : List (Row Command)
-rows_before = served_of OnSheets sheet_rows ++ (served_of OnDefinitions definition_rows ++ served_of OnNotation notation_rows)
-
-abbrev cell_rows : List (Row Command)
-cell_rows = served_of OnWriting writing_rows ++ served_of OnReading reading_rows
-
-by_rows : served ≡ rows_before ++ (cell_rows ++ from_extending)
+by_rows : served ≡ served_of OnSheets sheet_rows ++ from_definitions
 unfolding commands served
 by_rows = refl
 
-cells_apart : share_none rows_before cell_rows ≡ true
-cells_apart = refl
-
-cells_first : cell_rows ++ (rows_before ++ from_extending) ≡ served_of OnWriting writing_rows ++ from_reading
-cells_first = refl
-
-pub by_subjects : (english : List (List ℕ)) (name : List ℕ) (words : List (List ℕ)) → IsUtf8 name → named english served (chars name) words ≡ named english (served_of OnWriting writing_rows ++ from_reading) name words
-by_subjects english name words u =
-    found_same_named english name words u ∙ ap (λ rows. named english rows name words) by_rows
-    ∙ either_first english name words rows_before cell_rows from_extending cells_apart ∙ ap (λ rows. named english rows name words) cells_first
+pub by_subjects : (english : List (List ℕ)) (name : List ℕ) (words : List (List ℕ)) → IsUtf8 name → named english served (chars name) words ≡ named english (served_of OnSheets sheet_rows ++ from_definitions) name words
+by_subjects english name words u = found_same_named english name words u ∙ ap (λ rows. named english rows name words) by_rows
 
 -- what the code has of the subject that is next: the kind of the name, or none
 module _ (english : List (List ℕ)) (name : List ℕ) (words : List (List ℕ)) (other : copies_values name ≡ false) (table : Option (Option Command)) (kind : Option Kind) (rows : List (Row Command)) (known : known_rows english rows ≡ true)
