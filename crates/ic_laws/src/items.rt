@@ -1,4 +1,7 @@
-ghost use Rattle.std.specs.Prelude.{◌≡◌, [], ◌∷◌, ◌++◌, OnErr, OnOk, length, take};
+ghost use Rattle.std.specs.Prelude.{◌≡◌, ◌<◌, [], ◌∷◌, ◌++◌, OnErr, OnOk, Some, length, slice_set, take};
+ghost use Rattle.std.specs.List.{slice_get};
+ghost use Rattle.std.specs.Borrow.{Lends, sem};
+ghost use Rattle.ic_laws.specs.contracts.items.Items.{the_row};
 
 use crate::OutOfMemory;
 use std::marker::Model;
@@ -26,6 +29,16 @@ impl<T> Items<T> {
         ensures { result.now ≡ self.now }
     {
         self.inner.as_slice()
+    }
+
+    /// The item at a place, from 0, which may be changed there.
+    pub fn at_mut(&mut self, place: usize) -> &mut T
+        requires { place < length self.old }
+        ensures* writes_back { sem 𝓛 (Lends (the_row T.row) T.row self.entry result
+            (slice_set self.old place)) }
+        ensures value { slice_get self.old place ≡ Some result.now }
+    {
+        &mut self.inner[place]
     }
 
     /// How many items there are.
