@@ -1,4 +1,4 @@
-ghost use Rattle.std.specs.Prelude.{◌≡◌, ◌+◌, ◌≤◌, IfOk, OnErr, OnOk, chars, false, string_bytes, string_capacity, string_len};
+ghost use Rattle.std.specs.Prelude.{◌≡◌, ◌+◌, ◌≤◌, [], IfOk, OnErr, OnOk, chars, false, string_bytes, string_capacity, string_len};
 ghost use Rattle.ic_laws.specs.Lines.{line_step, reply_bytes, reply_text};
 ghost use Rattle.ic_machine.specs.Reply.{reply_text as told_text};
 ghost use Rattle.ic_tables.specs.Words.{error_words};
@@ -67,12 +67,52 @@ pub fn reply_to(alloc: Global, model: &mut Model<'_>, line: &Line) -> Result<Str
         (λ reply. DoesLine line.now model.old model.new (string_bytes reply)) }
     ensures err { OnErr result (model.new.book ≡ model.old.book) }
 {
+    reply_in(alloc, model, line, String::new(alloc))
+}
+
+/// The same, with the reply in the memory of a text that is needed no more: it takes none where that has room for one
+/// without a field.
+pub fn reply_in(
+    alloc: Global,
+    model: &mut Model<'_>,
+    line: &Line,
+    last: String,
+) -> Result<String, OutOfMemory>
+    ensures reply { IsPlainBook (whole_of model.old.book)
+        → IsCore model.old.book.tables line.now → IfOk result
+        (λ reply. string_bytes reply ≡ reply_bytes
+        (line_step (notations_in model.old.book) served (core_of model.old.book) line.now).1) }
+    ensures line { IsPlainBook (whole_of model.old.book)
+        → IsCore model.old.book.tables line.now → IfOk result
+        (λ _. IsLineText (reply_text
+        (line_step (notations_in model.old.book) served (core_of model.old.book) line.now).1)) }
+    ensures book { IsPlainBook (whole_of model.old.book)
+        → IsCore model.old.book.tables line.now → OnOk result
+        (StepsTo model.old.book model.new.book
+        (line_step (notations_in model.old.book) served (core_of model.old.book) line.now).0) }
+    ensures plain { IsPlainBook (whole_of model.old.book)
+        → IsCore model.old.book.tables line.now → OnOk result
+        (IsPlainBook (whole_of model.new.book)) }
+    ensures whole { IfOk result
+        (λ reply. DoesLine line.now model.old model.new (string_bytes reply)) }
+    ensures err { OnErr result (model.new.book ≡ model.old.book) }
+{
     let command = command_in(alloc, english_of(model), line.text().as_str())?;
-    let reply = String::with_capacity(alloc, REPLY_ROOM)?;
+    let reply = emptied(last)?;
     match command {
         Some(command) => answer(alloc, model, command, reply),
         None => Ok(error_reply(reply, BookError::BadLine.name())),
     }
+}
+
+/// The text with nothing in it, and with room for a reply.
+fn emptied(mut text: String) -> Result<String, OutOfMemory>
+    ensures bytes { IfOk result (λ reply. string_bytes reply ≡ []) }
+    ensures room { IfOk result (λ reply. string_len reply + reply_room ≤ string_capacity reply) }
+{
+    text.clear();
+    text.reserve(REPLY_ROOM)?;
+    Ok(text)
 }
 
 /// The same, with the reply as a line: without the line feed at its end.

@@ -1,18 +1,18 @@
 -- Bytes and the lines in them.
-use Rattle.std.proofs.Common.{◌≡◌, ◌≢◌, ℕ, suc, ◌+◌, ◌<◌, ◌≤◌, List, [], ◌∷◌, ◌++◌, length, take, drop, get_or, Bool, true, false, not, cond, ◌==◌, ◌||◌, Option, Some, None, MatchOption, MatchResult, Result, Ok, Err, Bor, Contains, chars, IsUtf8, ◌⊎◌, refl, sym, subst, ◌∙◌, ap, inl, inr, arith, append_assoc, length-drop}
-use Rattle.std.specs.List.{list_any, onto_first, position, position_or_len}
+use Rattle.std.proofs.Common.{◌≡◌, ◌≢◌, ℕ, ◌+◌, List, [], ◌∷◌, ◌++◌, take, drop, get_or, Bool, true, false, cond, ◌==◌, ◌||◌, Option, Some, None, MatchOption, MatchResult, Result, Ok, Err, Bor, Contains, chars, IsUtf8, ◌⊎◌, refl, sym, ◌∙◌, ap, inl, inr, arith, append_assoc, length-drop}
+use Rattle.std.specs.List.{list_any, onto_first}
 use Rattle.std.specs.Result.{result_unwrap_or}
 use Rattle.std.specs.Str.{is_utf8}
 use Rattle.std.proofs.Math.Seq.{take-add}
-use Rattle.std.proofs.lemmas.Bool.{eq-eqb, eqb-true}
-use Rattle.std.proofs.lemmas.Bool.Decides.{eqb_tells, leb_tells}
-use Rattle.std.proofs.lemmas.List.{drop-drop, drop_more, get_or-take, length-take, take-append-drop}
+use Rattle.std.proofs.lemmas.Bool.{eq-eqb}
+use Rattle.std.proofs.lemmas.Bool.Decides.{eqb_tells}
+use Rattle.std.proofs.lemmas.List.{drop-drop, take-append-drop}
 use Rattle.std.proofs.lemmas.List.Folds.{list_any-append, list_any_at, list_any_none}
-use Rattle.std.proofs.lemmas.List.Quantifiers.{position-Some}
 use Rattle.std.proofs.lemmas.Str.{chars-nil, encodes-chars, is_utf8-from_IsUtf8, IsUtf8-from_is_utf8}
+use Rattle.memchr.specs.Find.{IsFirstByte, is_byte}
 use Rattle.ic_laws.specs.Lines.{line_text, lines_of}
 use Rattle.ic_lines.specs.Reading.{has_line_feed, IsFirstLineFeed, without_return}
-use Rattle.ic_lines.proofs.TextLemmas.{line_feed-same}
+use Rattle.ic_lines.proofs.TextLemmas.{byte-before, byte-cut, byte-searched, line_feed-same}
 
 neither : (a b : Bool) → (a || b) ≡ false → (a ≡ false) × (b ≡ false)
 neither true b h = cc
@@ -73,37 +73,14 @@ pub no_line_feed-line_text : (bytes : List ℕ) → has_line_feed bytes ≡ fals
 no_line_feed-line_text bytes h =
     elim (tells (is_utf8 bytes)) [ inl e ↦ rw e (line_feed-same bytes (chars bytes) (sym (encodes-chars bytes (IsUtf8-from_is_utf8 bytes e))) ∙ h) | inr e ↦ rw e refl ]
 
--- the place of the first line feed
-none_before : (bytes : List ℕ) → length bytes ≤ position_or_len (λ b. b == 10) bytes → has_line_feed bytes ≡ false
-none_before [] h = refl
-none_before (b ∷ bs) h =
-    elim (tells (b == 10)) [
-      | inl e ↦ absurd (let k : length (b ∷ bs) ≤ cond (not true) (1 + position_or_len (λ b. b == 10) bs) 0 = subst (λ t. length (b ∷ bs) ≤ cond (not t) (1 + position_or_len (λ b. b == 10) bs) 0) e h in omega (arith, k))
-      | inr e ↦ let k : length (b ∷ bs) ≤ 1 + position_or_len (λ b. b == 10) bs = subst (λ t. length (b ∷ bs) ≤ cond (not t) (1 + position_or_len (λ b. b == 10) bs) 0) e h in
-          rw e (none_before bs (omega (arith, k)))
-    ]
-
-none_from_position : (bytes : List ℕ) → position (λ b. b == 10) bytes ≡ None → has_line_feed bytes ≡ false
-none_from_position bytes h =
-    let place = position_or_len (λ b. b == 10) bytes in
-    elim (leb_tells (suc place) (length bytes)) [
-      | inl q ↦ let k = subst (λ t. cond t (Some place) None ≡ None) q.0 h in absurd (cc)
-      | inr q ↦ none_before bytes (omega (arith, q.1))
-    ]
-
-first_from_position : (bytes : List ℕ) (n : ℕ) → position (λ b. b == 10) bytes ≡ Some n → IsFirstLineFeed bytes n
-first_from_position bytes n h =
-    let found = position-Some (λ b. b == 10) bytes n 0 h in
-    record {
-      within = found.0;
-      parts = sym (take-append-drop n bytes) ∙ ap (λ v. take n bytes ++ v) (drop_more bytes n 0 found.0 ∙ ap (λ b. b ∷ drop (n + 1) bytes) (eqb-true (get_or bytes n 0) 10 found.1));
-      first = list_any_none (λ b. b == 10) (take n bytes)
-          (λ k d l. let near : k < n = omega (arith, l, length-take n bytes) in rw (get_or-take n bytes k d near) ((position-Some (λ b. b == 10) bytes n d h).2 k near));
-    }
-
-pub found_from_position : (bytes : List ℕ) (r : Option ℕ) → r ≡ position (λ b. b == 10) bytes → MatchOption r (has_line_feed bytes ≡ false) (IsFirstLineFeed bytes)
-found_from_position bytes None e = none_from_position bytes (sym e)
-found_from_position bytes (Some n) e = first_from_position bytes n (sym e)
+-- the place of the first line feed, as a search finds it
+pub found_from_search : (bytes : List ℕ) (r : Option ℕ) → IsFirstByte (is_byte 10) bytes r → MatchOption r (has_line_feed bytes ≡ false) (IsFirstLineFeed bytes)
+found_from_search bytes None h = sym (byte-searched 10 bytes None h)
+found_from_search bytes (Some n) h = record {
+  within = h.0.high;
+  parts = byte-cut 10 bytes n h;
+  first = list_any_none (λ b. b == 10) (take n bytes) (λ k d l. byte-before 10 bytes n k d h l);
+}
 
 -- after a front with no line feed the first one of the rest is the first one
 pub first_after : (held : List ℕ) (k place : ℕ) → has_line_feed (take k held) ≡ false → IsFirstLineFeed (drop k held) place → IsFirstLineFeed held (k + place)

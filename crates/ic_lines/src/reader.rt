@@ -1,10 +1,11 @@
-ghost use Rattle.std.specs.Prelude.{◌≡◌, ◌≢◌, ◌==◌, ◌⊎◌, ℕ, ◌+◌, ◌++◌, ◌<◌, ◌≤◌, [], true, false, None, Some, Err, IsSome, chars, take, drop, length, vec_len, position, Contains, IfOk, IfErr, OnOk, OnErr, MatchOption, MatchResult};
+ghost use Rattle.std.specs.Prelude.{◌≡◌, ◌≢◌, ◌⊎◌, ℕ, ◌+◌, ◌++◌, ◌<◌, ◌≤◌, [], true, false, None, Some, Err, IsSome, chars, take, drop, length, vec_len, Contains, IfOk, IfErr, OnOk, OnErr, MatchOption, MatchResult};
 ghost use Rattle.ic_laws.specs.Lines.{line_text};
 ghost use Rattle.ic_lines.specs.Bytes.{IfTold, HasFault, ShowsEnd};
 ghost use Rattle.ic_lines.specs.Reading.{GivesHeld, GivesLine, GoesOn, HasToAsk, IsFirstLineFeed, Reading, SeesEnd, TakesAfter, TakesLine, TakesRead, budget, has_line_feed, most_turns, unread, without_return};
 
 use crate::{Line, RunError, Source};
 use ic_laws::{OutOfMemory, Text};
+use memchr::memchr;
 use std::alloc::Global;
 use std::marker::Model;
 
@@ -256,14 +257,7 @@ impl LineReader {
 fn first_line_feed(bytes: &[u8]) -> Option<usize>
     ensures { MatchOption result (has_line_feed bytes.now ≡ false) (IsFirstLineFeed bytes.now) }
 {
-    line_feed_place(bytes)
-}
-
-// The place of the first line feed.
-fn line_feed_place(bytes: &[u8]) -> Option<usize>
-    ensures { result ≡ position (λ b. b == 10) bytes.now }
-{
-    bytes.iter().position(|b| *b == b'\n')
+    memchr(b'\n', bytes)
 }
 
 // The bytes without a carriage return at their end.

@@ -8,9 +8,10 @@ ghost use Rattle.ic_commands.specs.Plain.{IsPlainBook};
 ghost use Rattle.ic_run.specs.Run.{AppendsReplies, AppendsServed, AreCore, HasCause, IsServed, Leaves, LineDoes, LinesDo, TakesAll};
 
 use ic_book::Model;
-use ic_commands::reply_to;
+use ic_commands::reply_in;
 use ic_lines::{Line, LineReader, RunError, Sink, Source, write_all};
 use std::alloc::Global;
+use std::mem;
 
 /// Answers the lines of a source, one reply a line, and answers their number. It answers every whole line that it
 /// has before it reads again. A core line is one that is no command or one that the core machine has.
@@ -74,19 +75,21 @@ pub fn run<S: Source, K: Sink>(
         → IfErr result (λ e. e ≡ RunError.OutOfMemory) }
 {
     let mut reader = LineReader::new(alloc);
+    let mut room = String::new(alloc);
     let mut count = 0;
     'lines: while let Some(line) = reader.next_line(source)? {
-        answer_to(alloc, model, &line, sink)?;
+        answer_to(alloc, model, &line, &mut room, sink)?;
         count += 1;
     }
     Ok(count)
 }
 
-/// Answers one line into the sink, in one write.
+/// Answers one line into the sink, in one write. The reply stays in `room`, whose memory the next one has.
 fn answer_to<K: Sink>(
     alloc: Global,
     model: &mut Model<'_>,
     line: &Line,
+    room: &mut String,
     sink: &mut K,
 ) -> Result<(), RunError>
     ensures reply { OnOk result (IfTold (K.written sink.old) (K.written sink.new)
@@ -103,6 +106,7 @@ fn answer_to<K: Sink>(
     ensures counted { K.faults sink.old ≤ K.faults sink.new }
     ensures quiet { OnOk result (K.faults sink.new ≡ K.faults sink.old) }
 {
-    let reply = reply_to(alloc, model, line)?;
-    write_all(sink, reply.as_bytes())
+    let reply = reply_in(alloc, model, line, mem::replace(room, String::new(alloc)))?;
+    *room = reply;
+    write_all(sink, room.as_bytes())
 }

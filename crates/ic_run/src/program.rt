@@ -16,6 +16,7 @@ use ic_lines::{RunError, Sink, Source};
 use ic_tables::Tables;
 use jiff::Timestamp;
 use std::alloc::Global;
+use std::mem::ManuallyDrop;
 
 /// Does all that the program does, and answers its status. The words `run LOCALE LANGUAGE ZONE` are `run` on a new
 /// book in this locale, this language and this zone; no words are `run en en UTC`. The words `make SEED COUNT` make lines
@@ -23,6 +24,8 @@ use std::alloc::Global;
 ///
 /// The words `translate LOCALE LANGUAGE` write what the lines of the source become in this notation (`translate`), from a new
 /// book in en, en and UTC.
+///
+/// The memory of the book that `run` answered on isn't given back: whoever calls this ends the process with the status.
 ///
 /// The status is 0 where `run` answers Ok, or all of what became of made lines or of translated ones is written, 1 exactly
 /// for any other words, 2 exactly where it isn't 1 and the tables lack a locale, a language or the zone, 3 for `ReadFault`, 4
@@ -171,7 +174,8 @@ fn deed_named(words: &[String]) -> Deed<'_>
     }
 }
 
-/// Answers the lines of a source on the new book of a start, and answers the status.
+/// Answers the lines of a source on the new book of a start, and answers the status. The book isn't taken apart: its memory
+/// goes with the process.
 fn run_from<S: Source, K: Sink>(
     alloc: Global,
     first: &Start<'_>,
@@ -213,7 +217,12 @@ fn run_from<S: Source, K: Sink>(
         → (result ≡ 0) ⊎ (result ≡ 6) }
 {
     match first_book(alloc, first, tables, moment) {
-        Ok(mut model) => status_of(run(alloc, &mut model, source, sink)),
+        Ok(mut model) => {
+            let answer = run(alloc, &mut model, source, sink);
+            // To give back its pieces one by one took six in a hundred instructions of a written formula.
+            let _ = ManuallyDrop::new(model);
+            status_of(answer)
+        }
         Err(status) => status,
     }
 }

@@ -1,47 +1,40 @@
 -- The first word of a line, and words with an escape and without.
-use Rattle.std.proofs.Common.{◌≡◌, ◌≢◌, ℕ, ◌+◌, ◌<◌, List, [], ◌∷◌, ◌++◌, ◌==◌, length, map, drop, get_or, Bool, true, false, ◌||◌, Option, None, Some, lit<, Bor, chars, IsUtf8, All, option_map, refl, ap, sym, subst, ◌∙◌, arith, length-append, append_assoc, inl, inr}
+use Rattle.std.proofs.Common.{◌≡◌, ◌≢◌, ℕ, ◌+◌, List, [], ◌∷◌, ◌==◌, length, map, take, drop, get_or, Bool, true, false, ◌||◌, Option, None, Some, Bor, chars, IsUtf8, All, option_map, refl, ap, sym, ◌∙◌, arith}
 use Rattle.std.specs.List.{list_any, slice_split}
-use Rattle.std.proofs.lemmas.Bool.Decides.{eqb_tells}
-use Rattle.std.proofs.lemmas.List.{drop_at}
+use Rattle.std.specs.Str.{IsCharBoundary}
+use Rattle.std.proofs.lemmas.Bool.{eqb-true, false_from_ne_true}
 use Rattle.std.proofs.lemmas.List.Elements.{All-from_get_or}
 use Rattle.std.proofs.lemmas.List.Splits.{length-slice_split, slice_split_at, slice_split_none}
-use Rattle.std.proofs.lemmas.Option.{MatchOption-at_none, MatchOption-at_some}
-use Rattle.std.proofs.lemmas.Str.Pattern.{IsSplitOnceResult, split_parts}
 use Rattle.std.proofs.lemmas.Str.{IsCharBoundary-after_ascii, IsUtf8-drop, encodes-chars, scalars-chars}
-use Rattle.std.proofs.Math.Seq.{get_or-append_seam}
+use Rattle.memchr.specs.Find.{IsFirstByte, is_byte}
 use Rattle.ic_laws.specs.Lines.{unescaped, words_of}
+use Rattle.ic_lines.proofs.TextLemmas.{byte-before, byte-cut}
 use Rattle.ic_lines.proofs.WordLemmas.{pieces}
 use Rattle.ic_words.specs.Words.{HasEscape, HaveEscape, has_escape, words_left}
 
--- what stands after a tab is text
-after_tab : (bytes word rest : List ℕ) → IsUtf8 bytes → bytes ≡ word ++ 9 ∷ rest → IsUtf8 rest
-after_tab bytes word rest u e =
-    let within : length word < length bytes = omega (arith, ap length e, length-append word (9 ∷ rest)) in
-    let at : get_or bytes (length word) 0 ≡ 9 = ap (λ b. get_or b (length word) 0) e ∙ get_or-append_seam word 9 rest 0 in
-    let is_rest : drop (length word + 1) bytes ≡ rest =
-    ap (drop (length word + 1)) (e ∙ sym (append_assoc word (9 ∷ []) rest)) ∙ drop_at (word ++ 9 ∷ []) rest (length word + 1) (length-append word (9 ∷ [])) in
-    subst IsUtf8 is_rest (IsUtf8-drop bytes (length word + 1) u (IsCharBoundary-after_ascii bytes (length word) u within (omega (arith, at))))
-
-no_tabs : (bytes : List ℕ) → ((i : ℕ) → i < length bytes → get_or bytes i 0 ≢ 9) → All (λ b. (b == 9) ≡ false) bytes
-no_tabs bytes h = All-from_get_or (λ b. (b == 9) ≡ false) bytes 0 (λ i within.
-    elim (eqb_tells (get_or bytes i 0) 9) [ inl p ↦ absurd (h i within p.1) | inr p ↦ p.0 ])
+-- a text can be cut after a tab
+pub after_tab : (bytes : List ℕ) (tab : ℕ) → IsUtf8 bytes → IsFirstByte (is_byte 9) bytes (Some tab) → IsCharBoundary bytes (tab + 1)
+after_tab bytes tab u found =
+    IsCharBoundary-after_ascii bytes tab u found.0.high (omega (arith, eqb-true (get_or bytes tab 0) 9 found.1))
 
 words_of-bytes : (bytes : List ℕ) → IsUtf8 bytes → words_of (chars bytes) ≡ map chars (slice_split (λ b. b == 9) bytes)
 words_of-bytes bytes u =
     sym (pieces (chars bytes) (scalars-chars bytes u)) ∙ ap (λ b. map chars (slice_split (λ b. b == 9) b)) (encodes-chars bytes u)
 
 -- a line without a tab is one word
-pub lone_word : (bytes : List ℕ) (split : Option (Bor (List ℕ) × Bor (List ℕ))) → IsUtf8 bytes → IsSplitOnceResult 9 bytes split → split ≡ None → words_of (chars bytes) ≡ chars bytes ∷ []
-lone_word bytes split u cut none =
-    words_of-bytes bytes u ∙ ap (map chars) (slice_split_none (λ b. b == 9) bytes (no_tabs bytes (MatchOption-at_none _ _ none (split_parts 9 bytes split cut (lit< tt)))))
+pub lone_word : (bytes : List ℕ) → IsUtf8 bytes → IsFirstByte (is_byte 9) bytes None → words_of (chars bytes) ≡ chars bytes ∷ []
+lone_word bytes u none =
+    let no_tabs : All (λ b. (b == 9) ≡ false) bytes = All-from_get_or (λ b. (b == 9) ≡ false) bytes 0 (λ i within. false_from_ne_true (get_or bytes i 0 == 9) (none i (omega arith) within)) in
+    words_of-bytes bytes u ∙ ap (map chars) (slice_split_none (λ b. b == 9) bytes no_tabs)
 
 -- what stands before the first tab is a word, and the others stand after it
-pub word_before : (bytes : List ℕ) (split : Option (Bor (List ℕ) × Bor (List ℕ))) (word rest : Bor (List ℕ)) → IsUtf8 bytes → IsSplitOnceResult 9 bytes split → split ≡ Some (word, rest) → words_of (chars bytes) ≡ chars word.now ∷ words_of (chars rest.now)
-word_before bytes split word rest u cut some =
-    let parts = MatchOption-at_some _ _ (word, rest) some (split_parts 9 bytes split cut (lit< tt)) in
-    words_of-bytes bytes u ∙ ap (λ b. map chars (slice_split (λ b. b == 9) b)) parts.0
-    ∙ ap (map chars) (slice_split_at (λ b. b == 9) word.now 9 rest.now (no_tabs word.now parts.1) refl)
-    ∙ ap (λ ws. chars word.now ∷ ws) (sym (words_of-bytes rest.now (after_tab bytes word.now rest.now u parts.0)))
+pub word_before : (bytes : List ℕ) (tab : ℕ) → IsUtf8 bytes → IsFirstByte (is_byte 9) bytes (Some tab) → words_of (chars bytes) ≡ chars (take tab bytes) ∷ words_of (chars (drop (tab + 1) bytes))
+word_before bytes tab u found =
+    let rest = drop (tab + 1) bytes in
+    let no_tabs : All (λ b. (b == 9) ≡ false) (take tab bytes) = All-from_get_or (λ b. (b == 9) ≡ false) (take tab bytes) 0 (λ i within. byte-before 9 bytes tab i 0 found within) in
+    words_of-bytes bytes u ∙ ap (λ b. map chars (slice_split (λ b. b == 9) b)) (byte-cut 9 bytes tab found)
+    ∙ ap (map chars) (slice_split_at (λ b. b == 9) (take tab bytes) 9 rest no_tabs refl)
+    ∙ ap (λ ws. chars (take tab bytes) ∷ ws) (sym (words_of-bytes rest (IsUtf8-drop bytes (tab + 1) u (after_tab bytes tab u found))))
 
 -- where something is left there is a word
 pub some_word : (left : Option (Bor (List ℕ))) (line : Bor (List ℕ)) → left ≡ Some line → length (words_left left) ≢ 0

@@ -5,6 +5,7 @@ ghost use Rattle.ic_words.specs.Words.{HasEscape, has_escape};
 
 use ic_laws::{OutOfMemory, Text};
 use ic_lines::unescape;
+use memchr::memchr;
 use std::alloc::Global;
 use std::marker::Model;
 
@@ -74,5 +75,5 @@ pub fn text_of<'l>(alloc: Global, word: &'l str) -> Result<Option<WordText<'l>>,
 fn has_escape(word: &str) -> bool
     ensures { result ≡ has_escape (chars word.now) }
 {
-    word.chars().any(|c| c == '\\')
+    memchr(b'\\', word.as_bytes()).is_some()
 }

@@ -6,6 +6,7 @@ ghost use Rattle.ic_words.specs.Words.{HaveEscape, words_left, words_said};
 
 use crate::word::Word;
 use ic_laws::OutOfMemory;
+use memchr::memchr;
 use std::alloc::Global;
 
 /// The values that the words of a command say.
@@ -59,8 +60,8 @@ impl<'l, A: Word<'l>, B: Words<'l>> Words<'l> for (A, B) {
 pub(crate) fn first_word(line: &str) -> (&str, Option<&str>)
     ensures { words_of (chars line.now) ≡ chars result.0.now ∷ words_left result.1 }
 {
-    match line.split_once('\t') {
-        Some((word, rest)) => (word, Some(rest)),
+    match memchr(b'\t', line.as_bytes()) {
+        Some(tab) => (&line[..tab], Some(&line[tab + 1..])),
         None => (line, None),
     }
 }

@@ -17,19 +17,19 @@ use Rattle.ic_run.proofs.program.run_from.Goals as goal
 
 pub returns-in-Ok-clause-taken : goal.returns-in-Ok-clause-taken
 returns-in-Ok-clause-taken g c at_0 =
-    on_ok_at_0 c.run.result _ (all_taken c.run.result _ _ (g.S.Source.left c.args.source.now) (g.S.Source.left c.run.new.source) c.run.ensures.book) (sym c.status_of.ensures ∙ at_0)
+    on_ok_at_0 c.run-answer.result _ (all_taken c.run-answer.result _ _ (g.S.Source.left c.args.source.now) (g.S.Source.left c.run-answer.new.source) c.run-answer.ensures.book) (sym c.status_of.ensures ∙ at_0)
 
 pub returns-in-Ok-clause-replies : goal.returns-in-Ok-clause-replies
 returns-in-Ok-clause-replies g c at_0 =
     let left = g.S.Source.left in
     let written = g.K.Sink.written in
     let book = c.in-Ok.model.book in
-    let Told : TableSet → CoreBook → Type 0 = λ t core. IfTold (left c.args.source.now) (left c.run.new.source) (λ bytes _. AreCore t (texts_of bytes) → IfTold (written c.args.sink.now) (written c.run.new.sink) (AppendsReplies (notations_of t) core bytes)) in
-    let Given : List ℕ → List ℕ → Type 0 = λ bytes _. IsPlainBook (whole_of book) → AreCore book.tables (texts_of bytes) → IfTold (written c.args.sink.now) (written c.run.new.sink) (AppendsReplies (notations_of book.tables) (core_of book) bytes) in
+    let Told : TableSet → CoreBook → Type 0 = λ t core. IfTold (left c.args.source.now) (left c.run-answer.new.source) (λ bytes _. AreCore t (texts_of bytes) → IfTold (written c.args.sink.now) (written c.run-answer.new.sink) (AppendsReplies (notations_of t) core bytes)) in
+    let Given : List ℕ → List ℕ → Type 0 = λ bytes _. IsPlainBook (whole_of book) → AreCore book.tables (texts_of bytes) → IfTold (written c.args.sink.now) (written c.run-answer.new.sink) (AppendsReplies (notations_of book.tables) (core_of book) bytes) in
     let plain = start_plain book _ _ _ _ _ _ c.in-Ok.ensures.start in
     let told : Told book.tables (core_of book) =
-    IfTold-weaker (left c.args.source.now) (left c.run.new.source) Given (λ bytes _. AreCore book.tables (texts_of bytes) → IfTold (written c.args.sink.now) (written c.run.new.sink) (AppendsReplies (notations_of book.tables) (core_of book) bytes))
-    (λ bytes rest h. h plain) (on_ok_at_0 c.run.result (IfTold (left c.args.source.now) (left c.run.new.source) Given) c.run.ensures.replies (sym c.status_of.ensures ∙ at_0)) in
+    IfTold-weaker (left c.args.source.now) (left c.run-answer.new.source) Given (λ bytes _. AreCore book.tables (texts_of bytes) → IfTold (written c.args.sink.now) (written c.run-answer.new.sink) (AppendsReplies (notations_of book.tables) (core_of book) bytes))
+    (λ bytes rest h. h plain) (on_ok_at_0 c.run-answer.result (IfTold (left c.args.source.now) (left c.run-answer.new.source) Given) c.run-answer.ensures.replies (sym c.status_of.ensures ∙ at_0)) in
     subst (Told c.args.tables.now) (start_core book _ _ _ _ _ _ c.in-Ok.ensures.start) (subst (λ (b : Book). Told b.tables (core_of book)) c.in-Ok.ensures.start told)
 
 pub returns-in-Ok-clause-stopped : goal.returns-in-Ok-clause-stopped
@@ -37,9 +37,9 @@ returns-in-Ok-clause-stopped g c e stopped =
     let left = g.S.Source.left in
     let written = g.K.Sink.written in
     let book = c.in-Ok.model.book in
-    let Told : TableSet → CoreBook → Type 0 = λ t core. IfTold (left c.args.source.now) (left c.run.new.source) (λ bytes rest. LeavesReplies e t core bytes rest (written c.args.sink.now) (written c.run.new.sink)) in
+    let Told : TableSet → CoreBook → Type 0 = λ t core. IfTold (left c.args.source.now) (left c.run-answer.new.source) (λ bytes rest. LeavesReplies e t core bytes rest (written c.args.sink.now) (written c.run-answer.new.sink)) in
     let told : Told book.tables (core_of book) =
-    leaves_replies_told c.run.result e book c.run.new.model.book (left c.args.source.now) (left c.run.new.source) (written c.args.sink.now) (written c.run.new.sink) (start_plain book _ _ _ _ _ _ c.in-Ok.ensures.start) (sym c.status_of.ensures ∙ stopped) c.run.ensures.front in
+    leaves_replies_told c.run-answer.result e book c.run-answer.new.model.book (left c.args.source.now) (left c.run-answer.new.source) (written c.args.sink.now) (written c.run-answer.new.sink) (start_plain book _ _ _ _ _ _ c.in-Ok.ensures.start) (sym c.status_of.ensures ∙ stopped) c.run-answer.ensures.front in
     subst (Told c.args.tables.now) (start_core book _ _ _ _ _ _ c.in-Ok.ensures.start) (subst (λ (b : Book). Told b.tables (core_of book)) c.in-Ok.ensures.start told)
 
 pub returns-in-Ok-clause-served : goal.returns-in-Ok-clause-served
@@ -48,9 +48,9 @@ returns-in-Ok-clause-served g c at_0 =
     let written = g.K.Sink.written in
     let book = c.in-Ok.model.book in
     let tables = c.args.tables.now in
-    let Told : Book → Type 0 = λ b. IfTold (left c.args.source.now) (left c.run.new.source) (λ bytes _. IfTold (written c.args.sink.now) (written c.run.new.sink) (AppendsServed (whole_of b) bytes)) in
-    let told : Told book = on_ok_at_0 c.run.result (Told book) c.run.ensures.served (sym c.status_of.ensures ∙ at_0) in
-    some_moment (left c.args.source.now) (left c.run.new.source) (written c.args.sink.now) (written c.run.new.sink) (λ created. start_book (setting c.args.first.now) created tables) book.metadata.created
+    let Told : Book → Type 0 = λ b. IfTold (left c.args.source.now) (left c.run-answer.new.source) (λ bytes _. IfTold (written c.args.sink.now) (written c.run-answer.new.sink) (AppendsServed (whole_of b) bytes)) in
+    let told : Told book = on_ok_at_0 c.run-answer.result (Told book) c.run-answer.ensures.served (sym c.status_of.ensures ∙ at_0) in
+    some_moment (left c.args.source.now) (left c.run-answer.new.source) (written c.args.sink.now) (written c.run-answer.new.sink) (λ created. start_book (setting c.args.first.now) created tables) book.metadata.created
     (subst Told c.in-Ok.ensures.start told)
 
 pub returns-in-Ok-clause-stopped_served : goal.returns-in-Ok-clause-stopped_served
@@ -58,5 +58,5 @@ returns-in-Ok-clause-stopped_served g c e stopped =
     let left = g.S.Source.left in
     let written = g.K.Sink.written in
     let book = c.in-Ok.model.book in
-    leaves_served_told c.run.result e book c.run.new.model.book (λ created. start_book (setting c.args.first.now) created c.args.tables.now) book.metadata.created (left c.args.source.now) (left c.run.new.source)
-    (written c.args.sink.now) (written c.run.new.sink) c.in-Ok.ensures.start (sym c.status_of.ensures ∙ stopped) c.run.ensures.front
+    leaves_served_told c.run-answer.result e book c.run-answer.new.model.book (λ created. start_book (setting c.args.first.now) created c.args.tables.now) book.metadata.created (left c.args.source.now) (left c.run-answer.new.source)
+    (written c.args.sink.now) (written c.run-answer.new.sink) c.in-Ok.ensures.start (sym c.status_of.ensures ∙ stopped) c.run-answer.ensures.front

@@ -9,7 +9,7 @@ use Rattle.ic_book.specs.Whole.{whole_of}
 use Rattle.ic_commands.specs.Answered.{IsAnswered}
 use Rattle.ic_commands.proofs.AnswerLemmas.{on_ok}
 use Rattle.ic_commands.proofs.LineLemmas.{bad_answered, bad_done, line_answered, line_done}
-use Rattle.ic_commands.proofs.answer.reply_to.Goals as goal
+use Rattle.ic_commands.proofs.answer.reply_in.Goals as goal
 
 pub returns-in-Some-clause-reply : goal.returns-in-Some-clause-reply
 returns-in-Some-clause-reply c plain core =
