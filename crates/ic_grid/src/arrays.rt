@@ -1,7 +1,7 @@
 //! Which array a place belongs to.
 ghost use Rattle.std.specs.Prelude.{◌≡◌, option_and_then, true};
 ghost use Rattle.std.specs.FinMap as finite;
-ghost use Rattle.ic_grid.specs.Arrays.{anchor_at, anchor_of, array_at, array_of, has_sought, is_cut_by, is_fixed, is_fixed_at, is_sought};
+ghost use Rattle.ic_grid.specs.Arrays.{anchor_at, anchor_of, array_at, array_of, has_sought, is_cut_by, is_fixed, is_sought};
 ghost use Rattle.ic_grid.specs.Block.{is_area};
 ghost use Rattle.ic_grid.specs.Shape.{celled, shape_of};
 ghost use Rattle.ic_grid.specs.Value.{formula_array};
@@ -70,7 +70,7 @@ fn array_of_cell(cells: &PlaceMap<Cell>, place: (i32, i32), cell: &Cell) -> Opti
 }
 
 /// The array that a place belongs to.
-pub fn array_at(cells: &PlaceMap<Cell>, place: (i32, i32)) -> Option<Array>
+fn array_at(cells: &PlaceMap<Cell>, place: (i32, i32)) -> Option<Array>
     ensures { result ≡ array_at celled cells.now place }
 {
     match cells.get(place.0, place.1) {
@@ -100,13 +100,6 @@ pub fn is_fixed_cell(cells: &PlaceMap<Cell>, place: (i32, i32), cell: &Cell) -> 
         (option_and_then (array_of celled cells.now) (anchor_of place (shape_of cell.now))) }
 {
     is_fixed(&array_of_cell(cells, place, cell))
-}
-
-/// Whether a place belongs to a Cse array of more than one cell.
-pub fn is_fixed_at(cells: &PlaceMap<Cell>, place: (i32, i32)) -> bool
-    ensures { result ≡ is_fixed_at celled cells.now place }
-{
-    is_fixed(&array_at(cells, place))
 }
 
 /// Whether it is such an array, of which some cell is outside of a block.

@@ -5,7 +5,7 @@ ghost use Rattle.ic_grid.specs.Calls.{can_write, can_write_array};
 ghost use Rattle.ic_grid.specs.Shape.{celled};
 ghost use Rattle.ic_grid.specs.Style.{first_style, style_at};
 
-use crate::arrays::{Sought, has_sought, is_fixed_at, is_fixed_cell};
+use crate::arrays::{Sought, has_sought, is_fixed_cell};
 use crate::merges::{is_covered, meets_merge};
 use crate::{Block, GridError};
 use ic_cells::{Cell, ColumnProps, LineMap, Merge, PlaceMap, RowProps};
@@ -76,13 +76,10 @@ impl Grid {
     pub fn can_write(&self, row: i32, column: i32) -> Result<(), GridError>
         ensures { result ≡ can_write celled self.now.merged_cells self.now.cells (row, column) }
     {
-        if is_covered(self.merged_cells.as_slice(), row, column) {
-            return Err(GridError::MergedPart);
+        match self.style_to_write(row, column) {
+            Ok(_) => Ok(()),
+            Err(error) => Err(error),
         }
-        if is_fixed_at(&self.cells, (row, column)) {
-            return Err(GridError::ArrayPart);
-        }
-        Ok(())
     }
 
     /// The number of the style that a place shows (`style_at`) where its cell can be written, else why it can't

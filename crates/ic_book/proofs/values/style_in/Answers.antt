@@ -16,6 +16,6 @@ returns-clause-refused c =
     let place : CellPlace = (c.args.row, c.args.column) in
     subst (TellsOnly c.allowed_style.result)
     (sym
-      (value_told grid place (subst (λ r. is_row r ≡ true) (to_z-of_z w32 c.args.row c.ranges.row) (search (rules, arith))) (subst (λ r. is_column r ≡ true) (to_z-of_z w32 c.args.column c.ranges.column) (search (rules, arith)))
-          ∙ ap (λ (p : CellPlace). first_refusal (cell_causes grid p)) (sym (stored_pair c.args.row c.args.column c.ranges.row c.ranges.column))))
+    (value_told grid place (subst (λ r. is_row r ≡ true) (to_z-of_z w32 c.args.row c.ranges.row) (search (rules, arith))) (subst (λ r. is_column r ≡ true) (to_z-of_z w32 c.args.column c.ranges.column) (search (rules, arith)))
+    ∙ ap (λ (p : CellPlace). first_refusal (cell_causes grid p)) (sym (stored_pair c.args.row c.args.column c.ranges.row c.ranges.column))))
     c.allowed_style.ensures.refused
