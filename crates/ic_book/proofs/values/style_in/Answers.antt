@@ -2,7 +2,7 @@ use Rattle.std.proofs.Common.{◌≡◌, ◌∙◌, true, sym, ap, subst, rules,
 use Rattle.std.proofs.lemmas.Int.{to_z-of_z}
 use Rattle.ic_laws.specs.CoreBook.{CellPlace}
 use Rattle.ic_laws.specs.Position.{is_column, is_row}
-use Rattle.ic_machine.specs.Refusal.{Refusal, first_refusal}
+use Rattle.ic_machine.specs.Refusal.{first_refusal}
 use Rattle.ic_sheets.proofs.CellLemmas.{stored_pair}
 use Rattle.ic_book.specs.Refused.{TellsOnly}
 use Rattle.ic_book.specs.Values.{value_causes}
