@@ -15,7 +15,6 @@ ghost use Rattle.ic_laws.specs.ValidCore.{IsPooled};
 ghost use Rattle.ic_laws.specs.declared.tree.Formula as kept;
 ghost use Rattle.ic_pool.specs.Pool.{IsPlaced};
 ghost use Rattle.ic_sheets.specs.Sheet.{HasIndexes, cells_of};
-ghost use Rattle.ic_machine.specs.Refusal.{first_refusal};
 ghost use Rattle.ic_machine.specs.Styling.{restyled};
 ghost use Rattle.ic_machine.specs.subjects.Reading.{GetCellFormula, reading_step};
 ghost use Rattle.ic_machine.specs.subjects.Writing.{UpdateCellWithFormula, unquoted, writing_step};
@@ -23,15 +22,14 @@ ghost use Rattle.ic_book.specs.Book.{IsValidBook, core_of, notations_in, scene_i
 ghost use Rattle.ic_book.specs.Does.{Does, DoesIn};
 ghost use Rattle.ic_book.specs.Fields.{no_fields, string_field};
 ghost use Rattle.ic_book.specs.LookUps.{LooksUpAsBefore};
-ghost use Rattle.ic_book.specs.Refused.{Refuses, Tells, TellsOnly};
+ghost use Rattle.ic_book.specs.Refused.{Refuses, Tells};
 ghost use Rattle.ic_book.specs.Values.{Shows};
-ghost use Rattle.ic_book.specs.Written.{WritesFormula, cell_causes, kind_of, pool_at, value_refusal, with_pool};
+ghost use Rattle.ic_book.specs.Written.{WritesFormula, kind_of, pool_at, value_refusal, with_pool};
 
 use crate::values::with_quote;
 use crate::{BookError, Model};
 use ic_cells::Styles;
 use ic_definitions::Definition;
-use ic_grid::{Grid, GridError};
 use ic_input::formula_without_prefix;
 use ic_laws::scan::{push_char, push_text};
 use ic_laws::{Bound, Dialect, Formula, OutOfMemory, Spelled, Text};
@@ -322,17 +320,6 @@ pub(crate) fn formula_at(worksheet: &Sheet, row: i32, column: i32) -> Option<&Fo
     let cell = worksheet.grid.cells.get(row, column)?;
     let place = cell.get_formula()?;
     worksheet.pool.get(place)
-}
-
-/// Whether merged cells or an array forbid to write a cell of a sheet.
-pub(crate) fn can_write(grid: &Grid, row: i32, column: i32) -> Result<(), BookError>
-    ensures { TellsOnly result (first_refusal (cell_causes grid.now (row, column))) }
-{
-    match grid.can_write(row, column) {
-        Ok(()) => Ok(()),
-        Err(GridError::MergedPart) => Err(BookError::MergedPart),
-        Err(_) => Err(BookError::ArrayPart),
-    }
 }
 
 /// How many values a formula may have.

@@ -14,13 +14,13 @@ ghost use Rattle.ic_book.specs.Fields.{no_fields};
 ghost use Rattle.ic_book.specs.Refused.{TellsOnly};
 ghost use Rattle.ic_book.specs.Values.{Shows, keeps_code, put_step, style_change, value_causes, value_cell, value_content, value_refusal, value_strings, with_put};
 ghost use Rattle.ic_book.specs.Whole.{whole_of};
+ghost use Rattle.ic_book.specs.Written.{cell_causes};
 
-use crate::formulas::can_write;
 use crate::lists::Lists;
 use crate::styled::copy_of;
 use crate::{BookError, Model};
 use ic_cells::{Cell, SharedStrings, Style, Styles};
-use ic_grid::Grid;
+use ic_grid::{Grid, GridError};
 use ic_input::is_date_code;
 use ic_laws::{Amount, Error, LAST_COLUMN, LAST_ROW, OutOfMemory, Text};
 use std::alloc::Global;
@@ -155,8 +155,20 @@ fn style_in(grid: &Grid, row: i32, column: i32) -> Result<usize, BookError>
     if column < 1 || column > LAST_COLUMN {
         return Err(BookError::InvalidColumn);
     }
-    can_write(grid, row, column)?;
-    Ok(grid.style_at(row, column))
+    allowed_style(grid, row, column)
+}
+
+/// The number of the style that a cell of a sheet shows, unless merged cells or an array forbid to write it.
+fn allowed_style(grid: &Grid, row: i32, column: i32) -> Result<usize, BookError>
+    ensures shown { IfOk result (λ n. n
+        ≡ grid_style.style_at celled grid.now.cells grid.now.rows grid.now.columns (row, column)) }
+    ensures refused { TellsOnly result (first_refusal (cell_causes grid.now (row, column))) }
+{
+    match grid.style_to_write(row, column) {
+        Ok(style) => Ok(style),
+        Err(GridError::MergedPart) => Err(BookError::MergedPart),
+        Err(_) => Err(BookError::ArrayPart),
+    }
 }
 
 /// The cell of a value in a style that is changed from the one of a number. The style, and the text that cells share, may

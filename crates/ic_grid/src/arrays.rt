@@ -1,9 +1,9 @@
 //! Which array a place belongs to.
-ghost use Rattle.std.specs.Prelude.{◌≡◌, true};
+ghost use Rattle.std.specs.Prelude.{◌≡◌, option_and_then, true};
 ghost use Rattle.std.specs.FinMap as finite;
-ghost use Rattle.ic_grid.specs.Arrays.{anchor_at, array_at, array_of, has_sought, is_cut_by, is_fixed, is_fixed_at, is_sought};
+ghost use Rattle.ic_grid.specs.Arrays.{anchor_at, anchor_of, array_at, array_of, has_sought, is_cut_by, is_fixed, is_sought};
 ghost use Rattle.ic_grid.specs.Block.{is_area};
-ghost use Rattle.ic_grid.specs.Shape.{celled};
+ghost use Rattle.ic_grid.specs.Shape.{celled, shape_of};
 ghost use Rattle.ic_grid.specs.Value.{formula_array};
 
 use crate::changes::right_of;
@@ -57,12 +57,24 @@ pub fn array_of(cells: &PlaceMap<Cell>, place: (i32, i32)) -> Option<Array>
     }
 }
 
+/// The array that a cell belongs to which is at a place.
+fn array_of_cell(cells: &PlaceMap<Cell>, place: (i32, i32), cell: &Cell) -> Option<Array>
+    ensures { result
+        ≡ option_and_then (array_of celled cells.now) (anchor_of place (shape_of cell.now)) }
+{
+    match cell {
+        Cell::ArrayFormula { .. } => array_of(cells, place),
+        Cell::SpillCell { a, .. } => array_of(cells, *a),
+        _ => None,
+    }
+}
+
 /// The array that a place belongs to.
-pub fn array_at(cells: &PlaceMap<Cell>, place: (i32, i32)) -> Option<Array>
+fn array_at(cells: &PlaceMap<Cell>, place: (i32, i32)) -> Option<Array>
     ensures { result ≡ array_at celled cells.now place }
 {
-    match anchor_at(cells, place) {
-        Some(anchor) => array_of(cells, anchor),
+    match cells.get(place.0, place.1) {
+        Some(cell) => array_of_cell(cells, place, cell),
         None => None,
     }
 }
@@ -82,11 +94,12 @@ fn is_fixed(array: &Option<Array>) -> bool
     }
 }
 
-/// Whether a place belongs to a Cse array of more than one cell.
-pub fn is_fixed_at(cells: &PlaceMap<Cell>, place: (i32, i32)) -> bool
-    ensures { result ≡ is_fixed_at celled cells.now place }
+/// Whether a cell which is at a place belongs to a Cse array of more than one cell.
+pub fn is_fixed_cell(cells: &PlaceMap<Cell>, place: (i32, i32), cell: &Cell) -> bool
+    ensures { result ≡ is_fixed
+        (option_and_then (array_of celled cells.now) (anchor_of place (shape_of cell.now))) }
 {
-    is_fixed(&array_at(cells, place))
+    is_fixed(&array_of_cell(cells, place, cell))
 }
 
 /// Whether it is such an array, of which some cell is outside of a block.

@@ -1,10 +1,11 @@
-ghost use Rattle.std.specs.Prelude.{◌≡◌, true};
+ghost use Rattle.std.specs.Prelude.{◌≡◌, Err, IfErr, IfOk, None, Ok, OnOk, option_and_then, true};
+ghost use Rattle.std.specs.FinMap as finite;
 ghost use Rattle.ic_grid.specs.Block.{block_at, is_area};
 ghost use Rattle.ic_grid.specs.Calls.{can_write, can_write_array};
 ghost use Rattle.ic_grid.specs.Shape.{celled};
-ghost use Rattle.ic_grid.specs.Style.{style_at};
+ghost use Rattle.ic_grid.specs.Style.{first_style, style_at};
 
-use crate::arrays::{Sought, has_sought, is_fixed_at};
+use crate::arrays::{Sought, has_sought, is_fixed_cell};
 use crate::merges::{is_covered, meets_merge};
 use crate::{Block, GridError};
 use ic_cells::{Cell, ColumnProps, LineMap, Merge, PlaceMap, RowProps};
@@ -43,9 +44,18 @@ impl Grid {
         ensures { result
             ≡ style_at celled self.now.cells self.now.rows self.now.columns (row, column) }
     {
-        if let Some(cell) = self.cells.get(row, column) {
-            return cell.get_style();
+        match self.cells.get(row, column) {
+            Some(cell) => cell.get_style(),
+            None => self.line_style(row, column),
         }
+    }
+
+    /// The number of the style that a place without a cell shows.
+    fn line_style(&self, row: i32, column: i32) -> usize
+        ensures { result ≡ first_style None
+            (option_and_then (λ props. props.style) (finite.get self.now.rows row))
+            (option_and_then (λ props. props.style) (finite.get self.now.columns column)) }
+    {
         match (self.row_style(row), self.column_style(column)) {
             (Some(style), _) => style,
             (None, Some(style)) => style,
@@ -66,13 +76,34 @@ impl Grid {
     pub fn can_write(&self, row: i32, column: i32) -> Result<(), GridError>
         ensures { result ≡ can_write celled self.now.merged_cells self.now.cells (row, column) }
     {
+        match self.style_to_write(row, column) {
+            Ok(_) => Ok(()),
+            Err(error) => Err(error),
+        }
+    }
+
+    /// The number of the style that a place shows (`style_at`) where its cell can be written, else why it can't
+    /// (`can_write`). The place is searched once. No memory is taken.
+    pub fn style_to_write(&self, row: i32, column: i32) -> Result<usize, GridError>
+        ensures style { IfOk result (λ n. n
+            ≡ style_at celled self.now.cells self.now.rows self.now.columns (row, column)) }
+        ensures allowed { OnOk result
+            (can_write celled self.now.merged_cells self.now.cells (row, column) ≡ Ok tt) }
+        ensures refused { IfErr result (λ e.
+            can_write celled self.now.merged_cells self.now.cells (row, column) ≡ Err e) }
+    {
         if is_covered(self.merged_cells.as_slice(), row, column) {
             return Err(GridError::MergedPart);
         }
-        if is_fixed_at(&self.cells, (row, column)) {
-            return Err(GridError::ArrayPart);
+        match self.cells.get(row, column) {
+            Some(cell) => {
+                if is_fixed_cell(&self.cells, (row, column), cell) {
+                    return Err(GridError::ArrayPart);
+                }
+                Ok(cell.get_style())
+            }
+            None => Ok(self.line_style(row, column)),
         }
-        Ok(())
     }
 
     /// Whether an array can be written into a block of the sheet, from a place on: Ok, or why it can't. `MergedPart` comes

@@ -4,19 +4,18 @@ use Rattle.ic_laws.specs.CoreBook.{CellPlace}
 use Rattle.ic_laws.specs.Position.{is_column, is_row}
 use Rattle.ic_machine.specs.Refusal.{first_refusal}
 use Rattle.ic_sheets.proofs.CellLemmas.{stored_pair}
+use Rattle.ic_book.specs.Refused.{TellsOnly}
 use Rattle.ic_book.specs.Values.{value_causes}
 use Rattle.ic_book.specs.Written.{cell_causes}
-use Rattle.ic_book.proofs.GridLemmas.{told_again, value_told}
+use Rattle.ic_book.proofs.GridLemmas.{value_told}
 use Rattle.ic_book.proofs.values.style_in.Goals as goal
 
-pub returns-in_err-can_write-clause-refused : goal.returns-in_err-can_write-clause-refused
-returns-in_err-can_write-clause-refused c =
+pub returns-clause-refused : goal.returns-clause-refused
+returns-clause-refused c =
     let grid = c.args.grid.now in
     let place : CellPlace = (c.args.row, c.args.column) in
-    let t = c.in_err-can_write.ensures in
-    told_again c.from_residual.result c.in_err-can_write.field-0.0 (first_refusal (value_causes grid place)) c.from_residual.ensures (
-      t.0,
-      t.1,
-      value_told grid place (subst (λ r. is_row r ≡ true) (to_z-of_z w32 c.args.row c.ranges.row) (search (rules, arith))) (subst (λ r. is_column r ≡ true) (to_z-of_z w32 c.args.column c.ranges.column) (search (rules, arith)))
-          ∙ ap (λ (p : CellPlace). first_refusal (cell_causes grid p)) (sym (stored_pair c.args.row c.args.column c.ranges.row c.ranges.column)) ∙ t.2,
-    )
+    subst (TellsOnly c.allowed_style.result)
+    (sym
+    (value_told grid place (subst (λ r. is_row r ≡ true) (to_z-of_z w32 c.args.row c.ranges.row) (search (rules, arith))) (subst (λ r. is_column r ≡ true) (to_z-of_z w32 c.args.column c.ranges.column) (search (rules, arith)))
+    ∙ ap (λ (p : CellPlace). first_refusal (cell_causes grid p)) (sym (stored_pair c.args.row c.args.column c.ranges.row c.ranges.column))))
+    c.allowed_style.ensures.refused
