@@ -24,9 +24,9 @@ abbrev pub mixed_words : ℕ → List ℕ → ℕ
 mixed_words number (a ∷ b ∷ c ∷ d ∷ e ∷ f ∷ g ∷ h ∷ bytes) = mixed_words (mixed number (from_le_bytes w64 (a ∷ b ∷ c ∷ d ∷ e ∷ f ∷ g ∷ h ∷ []))) bytes
 mixed_words number bytes = mixed_bytes number bytes
 
--- the hash of a key
+-- the hash of a key, below 2^32
 unfoldable pub hash_of : List ℕ → ℕ
-hash_of bytes = mixed_words 0 bytes
+hash_of bytes = mixed_words 0 bytes % 2 ^ 32
 
 -- by their hashes, and where those are equal by their bytes
 abbrev pub key_cmp : List ℕ → List ℕ → Ordering

@@ -11,11 +11,14 @@ const MULTIPLIER: u128 = 11_400_714_819_323_198_485;
 /// 2^64.
 const WORD: u128 = 18_446_744_073_709_551_616;
 
+/// 2^32.
+const HALF: u64 = 4_294_967_296;
+
 /// The key of a formula, as a pool looks it up: a hash of its bytes stands before them, so that two keys mostly differ in one
 /// number, and none of their bytes is read. Contracts see the bytes.
 #[derive(Drop)]
 pub struct HashedKey {
-    hash: u64,
+    hash: u32,
     key: Key,
 }
 
@@ -47,7 +50,7 @@ impl HashedKey {
     }
 
     /// Its hash.
-    pub(crate) fn hash(&self) -> u64
+    pub(crate) fn hash(&self) -> u32
         ensures { result ≡ hash_of self.now }
     {
         self.hash
@@ -89,10 +92,10 @@ fn mixed_words(number: u64, bytes: &[u8]) -> u64
 
 /// The hash of a key's bytes.
 #[tactic(auto, unfolding(crate::specs::Hash::hash_of))]
-fn hash_of(bytes: &[u8]) -> u64
+fn hash_of(bytes: &[u8]) -> u32
     ensures { result ≡ hash_of bytes.now }
 {
-    mixed_words(0, bytes)
+    (mixed_words(0, bytes) % HALF) as u32
 }
 
 impl PartialEq for HashedKey {

@@ -14,11 +14,12 @@ use std::collections::BTreeMap;
 use std::collections::btree_map::Entry;
 
 /// The places of formulas, each found by its key. Most stand under a hash of their keys alone, and the formula at the place
-/// says whether it is the one; those that came again, and those whose hash another has, stand under their whole keys.
+/// says whether it is the one; those that came again, those whose hash another has, and those at places from 2^32 on stand
+/// under their whole keys.
 #[derive(Drop)]
 pub struct LookUp {
     /// By a hash the place of one formula whose key has it.
-    pub by_hash: BTreeMap<u64, usize>,
+    pub by_hash: BTreeMap<u32, u32>,
     /// By keys the places of some, which go before those by their hashes.
     pub by_key: BTreeMap<HashedKey, usize>,
 }
@@ -54,6 +55,7 @@ impl LookUp {
         match self.by_hash.get(&key.hash()).copied() {
             None => Ok(None),
             Some(at) => {
+                let at = at as usize;
                 if has_key(alloc, formulas, at, key)? {
                     Ok(Some(at))
                 } else {
@@ -88,7 +90,8 @@ impl LookUp {
         Ok(())
     }
 
-    /// Puts a place under the hash of a key, where no place stands there and none under the key, else under the key.
+    /// Puts a place under the hash of a key, where it is below 2^32, no place stands there and none under the key, else under
+    /// the key.
     pub fn put(&mut self, key: HashedKey, at: usize) -> Result<(), OutOfMemory>
         ensures ok { OnOk result (IsPut key at self.old self.new) }
         ensures err { OnErr result (IsSame self.old self.new) }
@@ -99,8 +102,8 @@ impl LookUp {
         self.keep(key, at)
     }
 
-    /// Puts a place under a hash where none stands there, and answers whether it did.
-    fn put_hash(&mut self, hash: u64, at: usize) -> Result<bool, OutOfMemory>
+    /// Puts a place below 2^32 under a hash where none stands there, and answers whether it did.
+    fn put_hash(&mut self, hash: u32, at: usize) -> Result<bool, OutOfMemory>
         ensures put { IfOk result (λ put. put ≡ true → get nat_cmp self.old.by_hash hash ≡ None
             × Updates nat_cmp self.old.by_hash self.new.by_hash hash (Some at)) }
         ensures left { IfOk result (λ put. put ≡ false
@@ -108,6 +111,9 @@ impl LookUp {
         ensures err { OnErr result (self.new.by_hash.entries ≡ self.old.by_hash.entries) }
         ensures keys { self.new.by_key ≡ self.old.by_key }
     {
+        let Ok(at) = u32::try_from(at) else {
+            return Ok(false);
+        };
         match self.by_hash.entry(hash)? {
             Entry::Occupied(_) => Ok(false),
             Entry::Vacant(entry) => {
@@ -129,11 +135,11 @@ impl LookUp {
     }
 
     /// Whether this place stands under a hash.
-    fn stands_at(&self, hash: u64, at: usize) -> bool
+    fn stands_at(&self, hash: u32, at: usize) -> bool
         ensures { result ≡ is_place at (get nat_cmp self.now.by_hash hash) }
     {
         match self.by_hash.get(&hash) {
-            Some(other) => *other == at,
+            Some(other) => *other as usize == at,
             None => false,
         }
     }

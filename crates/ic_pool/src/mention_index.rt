@@ -15,10 +15,10 @@ use std::marker::Model;
 /// So many notes more are never too many.
 const FEW: usize = 1024;
 
-/// Some places, from 0, in the order in which they were noted.
+/// Some places, from 0 and below 2^32, in the order in which they were noted.
 #[derive(Drop)]
 struct Places {
-    list: Vec<usize>,
+    list: Vec<u32>,
 }
 
 impl Model for Places {
@@ -40,7 +40,7 @@ impl Places {
     }
 
     /// All of them.
-    fn as_slice(&self) -> &[usize]
+    fn as_slice(&self) -> &[u32]
         ensures { result.now ≡ self.now }
     {
         &self.list
@@ -51,19 +51,22 @@ impl Places {
         ensures { result ≡ true → is_among at self.now ≡ true }
     {
         match self.list.last() {
-            Some(last) => *last == at,
+            Some(last) => *last as usize == at,
             None => false,
         }
     }
 
-    /// Puts a place at the end, where it isn't the last one.
+    /// Puts a place at the end, where it isn't the last one. There is no memory for places from 2^32 on.
     fn note(&mut self, at: usize) -> Result<(), OutOfMemory>
         ensures noted { OnOk result (is_among at self.new ≡ true) }
         ensures kept { (other : ℕ) → is_among other self.old ≡ true
             → is_among other self.new ≡ true }
     {
         if !self.ends_with(at) {
-            self.list.push(at)?;
+            let Ok(place) = u32::try_from(at) else {
+                return Err(OutOfMemory);
+            };
+            self.list.push(place)?;
         }
         Ok(())
     }
@@ -200,7 +203,7 @@ impl MentionIndex {
     }
 
     /// The places of those that mention something with this topic, and maybe others.
-    fn places_with(&self, topic: u64) -> &[usize]
+    fn places_with(&self, topic: u64) -> &[u32]
         ensures { result.now ≡ places_with self.now topic }
     {
         match self.places.get(&topic) {
@@ -211,14 +214,14 @@ impl MentionIndex {
 }
 
 /// Puts places in.
-fn insert_all(places: &mut BTreeSet<usize>, more: &[usize]) -> Result<(), OutOfMemory>
+fn insert_all(places: &mut BTreeSet<usize>, more: &[u32]) -> Result<(), OutOfMemory>
     ensures kept { (at : ℕ) → contains nat_cmp places.old at ≡ true
         → contains nat_cmp places.new at ≡ true }
     ensures put { OnOk result ((at : ℕ) → is_among at more.now ≡ true
         → contains nat_cmp places.new at ≡ true) }
 {
     for at in more {
-        places.insert(*at)?;
+        places.insert(*at as usize)?;
     }
     Ok(())
 }
