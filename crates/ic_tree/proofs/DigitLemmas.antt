@@ -55,7 +55,7 @@ all_some zero cs = refl
 all_some (suc k) [] = refl
 all_some (suc k) (c ∷ cs) = elim (cases_Bool (is_digit c)) [ inl e ↦ rw e (and_from (is_digit c) (all_ascii_digits (some_digits k cs)) e (all_some k cs)) | inr e ↦ rw e refl ]
 
-all_whole : (most n : ℕ) (text : List ℕ) → list_all is_digit (digits_to most n text) ≡ true
+pub all_whole : (most n : ℕ) (text : List ℕ) → list_all is_digit (digits_to most n text) ≡ true
 all_whole most n [] = refl
 all_whole most n (c ∷ cs) =
     elim (cases_Bool (is_digit c && nat_le (n * 10 + digit_value c) most)) [

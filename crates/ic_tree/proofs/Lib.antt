@@ -16,6 +16,7 @@ pub mod ListSteps
 pub mod LocalFirst
 pub mod Literals
 pub mod NotationLaws
+pub mod NumberFirst
 pub mod Operands
 pub mod Parts
 pub mod PrintLemmas

@@ -1,15 +1,17 @@
 -- Words with their sheets at the front of a text: what begins with none, and what else begins where one does.
-use Rattle.std.proofs.Common.{◌≡◌, ℕ, ◌-◌, ◌≤◌, List, [], ◌∷◌, ◌++◌, true, false, ◌||◌, ◌==◌, length, drop, Option, Some, None, option_map, option_and_then, chars, encode_utf8_all, IsUtf8, refl, sym, ◌∙◌, ap, subst, inl, inr, arith, append_assoc, length-append}
-use Rattle.std.specs.List.{list_all}
+use Rattle.std.proofs.Common.{◌≡◌, ℕ, ◌-◌, ◌<◌, ◌≤◌, Bool, nat_le, List, [], ◌∷◌, ◌++◌, true, false, ◌||◌, ◌==◌, length, drop, Option, Some, None, option_map, option_and_then, chars, encode_utf8, encode_utf8_all, IsUtf8, refl, sym, ◌∙◌, ap, subst, inl, inr, arith, append_assoc, length-append}
+use Rattle.std.specs.List.{list_all, list_any}
 use Rattle.std.specs.Str.{IsCharBoundary}
-use Rattle.std.proofs.lemmas.Bool.{and_parts, both_ways, cases_Bool}
-use Rattle.std.proofs.lemmas.Bool.Decides.{eqb_tells}
-use Rattle.std.proofs.lemmas.Str.{encodes-append, encodes-chars}
+use Rattle.std.proofs.lemmas.Bool.{and_parts, both_ways, cases_Bool, leb-true}
+use Rattle.std.proofs.lemmas.Bool.Decides.{eqb_tells, nat_tests}
+use Rattle.std.proofs.lemmas.List.{append_cancel_left}
+use Rattle.std.proofs.lemmas.List.Folds.{list_any-append}
+use Rattle.std.proofs.lemmas.Str.{encode_ascii, encodes-append, encodes-chars}
 use Rattle.ucd_derived.proofs.Computing.{ucd_derived}
 use Rattle.ic_laws.specs.AmountFront.{number_in_one_pass}
 use Rattle.ic_laws.specs.Dialect.{DialectMeaning, IsLawful, begins_reference}
 use Rattle.ic_laws.specs.Longest.{read_at}
-use Rattle.ic_laws.specs.Name.{needs_quotes}
+use Rattle.ic_laws.specs.Name.{in_quotes, is_identifier, needs_quotes}
 use Rattle.ic_laws.specs.NextToken.{boolean_or_word}
 use Rattle.ic_laws.specs.Scan.{EndsWith, begins_word, first_is, is_blank, is_digit, is_letter, is_plain, is_word_character, past_run, run_of}
 use Rattle.ic_laws.specs.SheetText.{SpellsLocal, before_bang, doubled, read_local, sheet_at, written_name}
@@ -23,7 +25,8 @@ use Rattle.ic_laws.proofs.tokens.SheetTexts.{all_plain, plain_read, written_othe
 use Rattle.ic_laws.proofs.printing.Signs.{no_number, not_decimal, or_neither}
 use Rattle.ic_laws.proofs.printing.Words.{keeps_first, starts, word_no_number}
 use Rattle.ic_tree.proofs.CutLemmas.{cut_after, reads_front}
-use Rattle.ic_tree.specs.Lexing.{named_at}
+use Rattle.ic_laws.proofs.tokens.Splits.{front_in_front, mapped, none_or_some}
+use Rattle.ic_tree.specs.Lexing.{IsPastLocal, named_at}
 
 -- what begins neither a word nor a reference begins none
 dot_quotes : (cs : List ℕ) → needs_quotes (46 ∷ cs) ≡ true
@@ -150,3 +153,120 @@ local_found_first text found u e = subst (HasLocal text) (sym (e ∙ reads_front
           subst (IsCharBoundary text) (sym size) cut.boundary,
           rw e (ap (λ x. Some (Local sheet word, x)) (sym cut.after ∙ ap (λ k. chars (drop k text)) (sym size))),
         )
+
+-- where it ends: a rest of a text that goes on with no word, from behind a sheet's name on, is no longer than what stands
+-- after the word
+no_longer : (word after front rest : List ℕ) → list_all is_word_character word ≡ true → word ++ after ≡ front ++ rest → first_is is_word_character rest ≡ false → length rest ≤ length after
+no_longer [] after front rest all e stop = omega (arith, ap length e, length-append front rest)
+no_longer (c ∷ cs) after [] rest all e stop =
+    absurd (let goes : first_is is_word_character rest ≡ true = ap (first_is is_word_character) (sym e) ∙ (and_parts (is_word_character c) (list_all is_word_character cs) all).0 in both_ways (first_is is_word_character rest) stop goes)
+no_longer (c ∷ cs) after (x ∷ xs) rest all e stop = no_longer cs after xs rest (and_parts (is_word_character c) (list_all is_word_character cs) all).1 (cc) stop
+
+-- the mark of a front stands in each rest from before it on
+marked : (front before : List ℕ) (mark o : ℕ) (other : List ℕ) → front ++ mark ∷ [] ≡ before ++ o ∷ other → list_any (λ c. c == mark) (o ∷ other) ≡ true
+marked front [] mark o other e = ap (list_any (λ c. c == mark)) (sym e) ∙ list_any-append (λ c. c == mark) front (mark ∷ []) ∙ last (list_any (λ c. c == mark) front)
+  where
+    last : (b : Bool) → (b || list_any (λ c. c == mark) (mark ∷ [])) ≡ true
+    last true = refl
+    last false = let same : (mark == mark) ≡ true = grind (arith, nat_tests) in rw same refl
+marked [] (b ∷ bs) mark o other e = absurd (omega (arith, ap length e, length-append (b ∷ bs) (o ∷ other)))
+marked (f ∷ fs) (b ∷ bs) mark o other e = marked fs bs mark o other (cc)
+
+-- what a text with a word with its sheet falls into
+record LocalParts (text rest : List ℕ) : Type 0 where
+  name : List ℕ
+  word : List ℕ
+  split : text ≡ name ++ 33 ∷ (word ++ rest)
+  all : list_all is_word_character word ≡ true
+  plain : first_is (λ c. c == 39) text ≡ false → list_all is_word_character name ≡ true
+
+of_identifier : (word : List ℕ) → is_identifier word ≡ true → list_all is_word_character word ≡ true
+of_identifier word h =
+    let form = and_parts _ _ (and_parts _ _ (and_parts _ _ h).0).0 in
+    let apart = and_parts _ _ (and_parts _ _ (and_parts _ _ (and_parts _ _ form.0).0).0).0 in
+    (and_parts _ _ apart.0).1
+
+local_parts : (text : List ℕ) (f : Token × List ℕ) → local_at text ≡ Some f → LocalParts text f.1
+local_parts text f e =
+    let m = mapped (λ (f : (List ℕ × List ℕ) × List ℕ). let t : Token × List ℕ = (Local f.0.0 f.0.1, f.1) in t) (read_local text) f e in
+    subst (LocalParts text) (ap (λ (t : Token × List ℕ). t.1) m.2) (read m.0 m.1)
+  where
+    read : (x : (List ℕ × List ℕ) × List ℕ) → read_local text ≡ Some x → LocalParts text x.1
+    read ((sheet, word), rest) k =
+        let s = local_sound text sheet word rest k in
+        let words = of_identifier word s.2.identifier in
+        let spelled = s.2 in
+        elim spelled.named.1 [
+          | inl q ↦ let is : text ≡ in_quotes sheet ++ 33 ∷ (word ++ rest) = s.1 ∙ ap (λ x. x ++ rest) (spelled.whole ∙ ap (λ b. b ++ word) q ∙ append_assoc (in_quotes sheet) (33 ∷ []) word) ∙ append_assoc (in_quotes sheet) (33 ∷ word) rest in
+              record { name = in_quotes sheet; word = word; split = is; all = words; plain = λ no. absurd (let yes : true ≡ false = sym (ap (first_is (λ c. c == 39)) is) ∙ no in cc) }
+          | inr q ↦ let is : text ≡ sheet ++ 33 ∷ (word ++ rest) = s.1 ∙ ap (λ x. x ++ rest) (spelled.whole ∙ ap (λ b. b ++ word) q.1 ∙ append_assoc sheet (33 ∷ []) word) ∙ append_assoc sheet (33 ∷ word) rest in
+              record { name = sheet; word = word; split = is; all = words; plain = λ no. all_words sheet (all_plain sheet q.0) }
+        ]
+
+-- so where the mark doesn't stand in the rest
+by_mark : (text rest : List ℕ) (f : Token × List ℕ) → EndsWith text rest → first_is is_word_character rest ≡ false → (p : LocalParts text f.1)
+    → ((o : ℕ) (other : List ℕ) → rest ≡ (o ∷ other) ++ (p.word ++ f.1) → list_any (λ c. c == 33) (o ∷ other) ≡ true → ⊥) → length rest ≤ length f.1
+by_mark text rest f ends stop p unmarked =
+    let body = p.word ++ f.1 in
+    let whole : (p.name ++ 33 ∷ []) ++ body ≡ ends.0 ++ rest = append_assoc p.name (33 ∷ []) body ∙ sym p.split ∙ ends.1 in
+    let m = front_in_front (p.name ++ 33 ∷ []) body ends.0 rest whole in
+    elim m.2 [
+      | inl e ↦ no_longer p.word f.1 m.0 rest p.all (append_cancel_left (p.name ++ 33 ∷ []) body (m.0 ++ rest) (whole ∙ ap (λ x. x ++ rest) e ∙ append_assoc (p.name ++ 33 ∷ []) m.0 rest)) stop
+      | inr e ↦ before m.1 e (append_cancel_left ends.0 rest (m.1 ++ body) (sym whole ∙ ap (λ x. x ++ body) e ∙ append_assoc ends.0 m.1 body))
+    ]
+  where
+    before : (other : List ℕ) → p.name ++ 33 ∷ [] ≡ ends.0 ++ other → rest ≡ other ++ (p.word ++ f.1) → length rest ≤ length f.1
+    before [] e is = no_longer p.word f.1 [] rest p.all (sym is) stop
+    before (o ∷ other) e is = absurd (unmarked o other is (marked p.name ends.0 33 o other e))
+
+any_byte : (text : List ℕ) → list_any (λ c. c == 33) text ≡ true → list_any (λ b. b == 33) (encode_utf8_all text) ≡ true
+any_byte [] h = h
+any_byte (c ∷ cs) h =
+    list_any-append (λ b. b == 33) (encode_utf8 c) (encode_utf8_all cs)
+    ∙ elim (eqb_tells c 33) [
+      | inl e ↦ ap (λ x. list_any (λ b. b == 33) x || list_any (λ b. b == 33) (encode_utf8_all cs)) (ap encode_utf8 e.1 ∙ encode_ascii 33 (omega arith))
+      | inr e ↦ let more : list_any (λ c. c == 33) cs ≡ true = rw (e.0) at h in rw (any_byte cs more) (or_true (list_any (λ b. b == 33) (encode_utf8 c)))
+    ]
+  where
+    or_true : (b : Bool) → (b || true) ≡ true
+    or_true true = refl
+    or_true false = refl
+
+pub past_by_bytes : (text bytes : List ℕ) → IsUtf8 bytes → EndsWith text (chars bytes) → first_is is_word_character (chars bytes) ≡ false → list_any (λ b. b == 33) bytes ≡ false → IsPastLocal text (chars bytes)
+past_by_bytes text bytes u ends stop none f e =
+    let p = local_parts text f e in
+    by_mark text (chars bytes) f ends stop p
+    (λ o other is any.
+    let in_rest : list_any (λ c. c == 33) (chars bytes) ≡ true = ap (list_any (λ c. c == 33)) is ∙ list_any-append (λ c. c == 33) (o ∷ other) (p.word ++ f.1) ∙ rw any refl in
+    let in_bytes : list_any (λ b. b == 33) bytes ≡ true = ap (list_any (λ b. b == 33)) (sym (encodes-chars bytes u)) ∙ any_byte (chars bytes) in_rest in
+    both_ways (list_any (λ b. b == 33) bytes) none in_bytes)
+
+-- or where it stands after the word characters, and the rest is shorter
+pub past_by_length : (text cs after rest : List ℕ) (c : ℕ) → text ≡ c ∷ cs → (c ≡ 39 → ⊥) → after ≡ past_run is_word_character text → EndsWith text rest → first_is is_word_character rest ≡ false → length rest < length after → IsPastLocal text rest
+past_by_length text cs after rest c is no_quote word ends stop short f e =
+    let p = local_parts text f e in
+    let plain : first_is (λ c. c == 39) text ≡ false = ap (first_is (λ c. c == 39)) is ∙ elim (eqb_tells c 39) [ inl q ↦ absurd (no_quote q.1) | inr q ↦ q.0 ] in
+    let mark : after ≡ 33 ∷ (p.word ++ f.1) = word ∙ ap (past_run is_word_character) p.split ∙ past_run_all is_word_character p.name (33 ∷ (p.word ++ f.1)) (p.plain plain) bang_no_word in
+    by_mark text rest f ends stop p (λ o other k any. omega (arith, ap length mark, ap length k, length-append (o ∷ other) (p.word ++ f.1), short))
+
+-- a reference that no word with its sheet is longer than is compared with a head, a word and a number alone
+under : (f l : Token × List ℕ) (m : Option (Token × List ℕ)) → longer (Some l) m ≡ Some l → length f.1 ≤ length l.1 → longer (Some f) m ≡ Some f
+under f l None e le = refl
+under f l (Some x) e le = keeps_first f.1 x.1 f.0 x.0 (below x e)
+  where
+    below : (x : Token × List ℕ) → longer (Some l) (Some x) ≡ Some l → length f.1 ≤ length x.1
+    below x e =
+        elim (cases_Bool (nat_le (length l.1) (length x.1))) [
+          | inl p ↦ omega (arith, le, leb-true (length l.1) (length x.1) p)
+          | inr p ↦ let same : ◌≡◌ {A = Option (Token × List ℕ)} (Some x) (Some l) = rw p at e in let is : x ≡ l = cc in omega (arith, le, ap (λ (t : Token × List ℕ). length t.1) is)
+        ]
+
+pub without_local : (d : DialectMeaning) → IsLawful d → (text : List ℕ) (f : Token × List ℕ) → IsPastLocal text f.1 → longer (Some f) (named_at d text) ≡ longer (Some f) (longer (local_at text) (named_at d text))
+without_local d n text f past =
+    elim (none_or_some (local_at text)) [
+      | inl e ↦ rw e refl
+      | inr e ↦ let over = local_over_named d n text e.0 (sym e.1) in
+          let le = past e.0 e.1 in
+          let first : longer (Some e.0) (named_at d text) ≡ Some e.0 = ap (λ l. longer l (named_at d text)) (sym e.1) ∙ over in
+          under f e.0 (named_at d text) first le ∙ sym (ap (longer (Some f)) over ∙ keeps_first f.1 e.0.1 f.0 e.0.0 le)
+    ]

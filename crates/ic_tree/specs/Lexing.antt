@@ -1,11 +1,12 @@
 -- How the code falls a text into tokens: what is seen before it is copied, and the tokens before the first place where
 -- none begins.
-use Rattle.std.specs.Prelude.{◌≡◌, ℕ, zero, suc, ◌+◌, List, [], ◌∷◌, length, not, Bool, true, false, Some, None, ◌==◌, ◌&&◌, chars, nat_le, Option, if◌then◌else◌}
+use Rattle.std.specs.Prelude.{◌≡◌, ℕ, zero, suc, ◌+◌, ◌<◌, ◌≤◌, ◌^◌, List, [], ◌∷◌, ◌++◌, length, not, Bool, true, false, Some, None, ◌==◌, ◌&&◌, chars, nat_le, Option, if◌then◌else◌}
+use Rattle.ic_laws.specs.Amount.{unsigned_text}
 use Rattle.ic_laws.specs.AmountFront.{number_in_one_pass, some_digits}
 use Rattle.ic_laws.specs.Dialect.{DialectMeaning}
-use Rattle.ic_laws.specs.Scan.{first_is, is_blank, is_word_character, past_run}
+use Rattle.ic_laws.specs.Scan.{IsEnd, first_is, is_blank, is_word_character, past_run}
 use Rattle.ic_laws.specs.Split.{longer}
-use Rattle.ic_laws.specs.TokenKinds.{head_at, token_by_kinds, word_at}
+use Rattle.ic_laws.specs.TokenKinds.{head_at, local_at, token_by_kinds, word_at}
 use Rattle.ic_laws.specs.Character.{double_quote, open_bracket}
 use Rattle.ic_laws.specs.declared.dialect.WordKind.TheVariants as kinds
 use Rattle.ic_laws.specs.Token as tokens
@@ -46,6 +47,18 @@ IsSpelledFunction d number name = (d.find kinds.Function name ≡ Some number) �
 abbrev pub is_past_word : List ℕ → List ℕ → Bool
 is_past_word text rest =
     nat_le (length rest) (length (past_run is_word_character text)) && not (first_is (λ c. c == open_bracket) (past_run is_blank (past_run is_word_character text)))
+
+-- the amount at the front of a text, in its canonical spelling and before an end: no reference is as long
+pub record IsWholeNumber (d : DialectMeaning) (text : List ℕ) (token : Token) (rest : List ℕ) : Type 0 where
+  pub units : ℕ
+  pub whole : text ≡ unsigned_text d.decimal units ++ rest
+  pub small : units < 10 ^ 27
+  pub end : IsEnd rest
+  pub reads : number_in_one_pass d text ≡ Some (token, rest)
+
+-- no word with its sheet at the front of a text is longer than what stands before this rest
+abbrev pub IsPastLocal : List ℕ → List ℕ → Type 0
+IsPastLocal text rest = (f : Token × List ℕ) → local_at text ≡ Some f → length rest ≤ length f.1
 
 -- The tokens of a text before its end, or before the first place where none begins; and whether that is the end, blanks
 -- aside.

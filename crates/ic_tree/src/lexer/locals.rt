@@ -1,13 +1,13 @@
-ghost use Rattle.std.specs.Prelude.{◌≡◌, ◌∷◌, ℕ, List, chars, option_map, IfOk};
-ghost use Rattle.ic_laws.specs.Scan.{is_word_character, past_run};
+ghost use Rattle.std.specs.Prelude.{◌≡◌, ◌∷◌, ℕ, List, true, chars, option_map, IfOk};
+ghost use Rattle.ic_laws.specs.Scan.{EndsWith, first_is, is_word_character, past_run};
 ghost use Rattle.ic_laws.specs.TokenKinds.{local_at};
-ghost use Rattle.ic_tree.specs.Lexing.{found};
+ghost use Rattle.ic_tree.specs.Lexing.{IsPastLocal, found};
 ghost use Rattle.ic_tree.specs.Tokens.{token_of};
 
 use crate::Token;
 use crate::lexer::references::past_bytes;
 use ic_laws::OutOfMemory;
-use ic_laws::scan::begins_with;
+use ic_laws::scan::{begins_with, first_char, is_word_character};
 use ic_refs::read_local;
 use std::alloc::Global;
 
@@ -33,5 +33,34 @@ pub(crate) fn local_at<'t>(
         Ok(Some((sheet, word, size))) => {
             Ok(Some((Token::Local(sheet, word), past_bytes(text, size))))
         }
+    }
+}
+
+/// Whether a text, which begins with this character and goes on so after its word characters, has no word with its sheet
+/// that is longer than what stands before this rest of it: the rest goes on with no word, and the `!` of a sheet's
+/// name stands before it.
+pub(crate) fn is_past_local(c: char, text: &str, after: &str, rest: &str) -> bool
+    requires begins { (cs : List ℕ) × (chars text.now ≡ c ∷ cs) }
+    requires word { chars after.now ≡ past_run is_word_character (chars text.now) }
+    requires ends { EndsWith (chars text.now) (chars rest.now) }
+    ensures { result ≡ true → IsPastLocal (chars text.now) (chars rest.now) }
+{
+    if begins_word_character(rest) {
+        return false;
+    }
+    if c == '\'' {
+        !rest.as_bytes().contains(&b'!')
+    } else {
+        rest.len() < after.len()
+    }
+}
+
+/// Whether a word goes on at the front.
+fn begins_word_character(text: &str) -> bool
+    ensures { result ≡ first_is is_word_character (chars text.now) }
+{
+    match first_char(text) {
+        Some((c, _)) => is_word_character(c),
+        None => false,
     }
 }

@@ -11,8 +11,8 @@ ghost use Rattle.ic_tree.specs.Tokens.{token_of};
 use crate::Token;
 use crate::lexer::choice::{is_past_word, kept_with, longer_of, longer_than_reference};
 use crate::lexer::errors::error_at;
-use crate::lexer::locals::local_at;
-use crate::lexer::numbers::number_at;
+use crate::lexer::locals::{is_past_local, local_at};
+use crate::lexer::numbers::{number_at, whole_number};
 use crate::lexer::quoted::quoted_at;
 use crate::lexer::references::reference_at;
 use crate::lexer::seen::Seen;
@@ -94,8 +94,8 @@ fn decimal_token<'t, D: Dialect>(
     }
 }
 
-/// A reference, a word with its sheet, a head, a word or a number. The word characters at the front are passed once for all
-/// of them.
+/// A reference, a word with its sheet, a head, a word or a number. Where a whole number is longer than any reference there,
+/// none is read. The word characters at the front are passed once for all others.
 fn named_token<'t, D: Dialect>(
     alloc: Global,
     d: &D,
@@ -107,6 +107,11 @@ fn named_token<'t, D: Dialect>(
         ≡ longer (reference_at (D.meaning d.now) (chars text.now))
         (longer (local_at (chars text.now)) (named_at (D.meaning d.now) (chars text.now)))) }
 {
+    if c.is_ascii_digit() {
+        if let Some((seen, rest)) = whole_number(d, text) {
+            return kept_with(alloc, &seen, rest);
+        }
+    }
     let after = past_word(text);
     match function_at(d, c, text, after) {
         Some((number, rest)) => Ok(Some((Token::FunHead(number), rest))),
@@ -177,13 +182,18 @@ fn any_named_token<'t, D: Dialect>(
     match reference_at(alloc, d, text) {
         Err(e) => Err(e),
         Ok(None) => local_or_named(alloc, d, c, text, after),
-        Ok(Some((reference, rest))) => match local_at(alloc, c, text, after) {
-            Err(e) => Err(e),
-            Ok(Some((token, end))) => {
-                Ok(Some(longer_than_reference(text, reference, rest, token, end)))
+        Ok(Some((reference, rest))) => {
+            if is_past_local(c, text, after, rest) {
+                return reference_or_named(alloc, d, c, text, after, reference, rest);
             }
-            Ok(None) => reference_or_named(alloc, d, c, text, after, reference, rest),
-        },
+            match local_at(alloc, c, text, after) {
+                Err(e) => Err(e),
+                Ok(Some((token, end))) => {
+                    Ok(Some(longer_than_reference(text, reference, rest, token, end)))
+                }
+                Ok(None) => reference_or_named(alloc, d, c, text, after, reference, rest),
+            }
+        }
     }
 }
 

@@ -1,12 +1,12 @@
-ghost use Rattle.std.specs.Prelude.{◌≡◌, ◌+◌, ◌<◌, ◌≤◌, ◌^◌, pos, chars, length, option_map, false, MatchOption};
+ghost use Rattle.std.specs.Prelude.{◌≡◌, ◌+◌, ◌*◌, ◌<◌, ◌≤◌, ◌^◌, pos, Some, chars, length, option_map, false, ◌||◌, ◌==◌, IfSome, MatchOption};
 ghost use Rattle.std.specs.Str.Parse.{digits_value};
-ghost use Rattle.ic_laws.specs.Amount.{units_by};
+ghost use Rattle.ic_laws.specs.Amount.{units_by, units_of_one};
 ghost use Rattle.ic_laws.specs.AmountFront.{digits_to, last_whole, number_in_one_pass, past_fraction, past_some, past_to, some_digits};
-ghost use Rattle.ic_tree.specs.Lexing.{fraction_run, seen_token};
-ghost use Rattle.ic_laws.specs.Scan.{is_digit};
+ghost use Rattle.ic_tree.specs.Lexing.{IsWholeNumber, fraction_run, seen_token};
+ghost use Rattle.ic_laws.specs.Scan.{first_is, is_digit, joins};
 
 use crate::lexer::seen::Seen;
-use ic_laws::scan::first_char;
+use ic_laws::scan::{begins_with, first_char, is_word_character};
 use ic_laws::{Amount, Dialect};
 
 /// The units of one.
@@ -25,6 +25,45 @@ pub(crate) fn number_at<'t, D: Dialect>(d: &D, text: &'t str) -> Option<(Seen<'t
     match amount_by(whole.value, whole.count, fraction.value, fraction.count) {
         Some(amount) => Some((Seen::Num(amount), fraction.rest)),
         None => None,
+    }
+}
+
+/// The whole number at the front of a text, and the rest, where it has no zero in front and nothing goes on with it: there
+/// no reference is as long.
+pub(crate) fn whole_number<'t, D: Dialect>(d: &D, text: &'t str) -> Option<(Seen<'t>, &'t str)>
+    ensures { IfSome result (λ f. IsWholeNumber (D.meaning d.now) (chars text.now)
+        (seen_token f.0) (chars f.1.now)) }
+{
+    let whole = whole_part(text);
+    if whole.count == 0 || whole.count > 1 && begins_with(text, '0') {
+        return None;
+    }
+    if goes_on(whole.rest, d.decimal()) {
+        return None;
+    }
+    match whole_amount(whole.value) {
+        Some(amount) => Some((Seen::Num(amount), whole.rest)),
+        None => None,
+    }
+}
+
+/// The amount of a whole number.
+fn whole_amount(whole: u64) -> Option<Amount>
+    requires { whole ≤ last_whole }
+    ensures { result ≡ Some (pos (whole * units_of_one)) }
+{
+    Amount::from_units((whole as u128 * ONE) as i128)
+}
+
+/// Whether a character that goes on with a word, a reference or a number stands at the front.
+fn goes_on(text: &str, decimal: char) -> bool
+    ensures { result ≡ first_is (λ c. joins c || c == decimal) (chars text.now) }
+{
+    match first_char(text) {
+        Some((c, _)) => {
+            is_word_character(c) || matches!(c, '!' | ':' | '$' | '[') || c == decimal
+        }
+        None => false,
     }
 }
 
