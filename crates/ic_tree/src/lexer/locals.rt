@@ -1,4 +1,4 @@
-ghost use Rattle.std.specs.Prelude.{◌≡◌, ◌∷◌, ℕ, List, true, chars, option_map, IfOk};
+ghost use Rattle.std.specs.Prelude.{◌≡◌, ◌∷◌, ℕ, List, Some, true, chars, option_map, IfOk, MatchOption};
 ghost use Rattle.ic_laws.specs.Scan.{EndsWith, first_is, is_word_character, past_run};
 ghost use Rattle.ic_laws.specs.TokenKinds.{local_at};
 ghost use Rattle.ic_tree.specs.Lexing.{IsPastLocal, found};
@@ -36,10 +36,31 @@ pub(crate) fn local_at<'t>(
     }
 }
 
+/// The word with its sheet at the front of such a text, where one is longer than what stands before this rest of it: none is
+/// looked for where none can be.
+pub(crate) fn longer_local_at<'t>(
+    alloc: Global,
+    c: char,
+    text: &'t str,
+    after: &str,
+    rest: &str,
+) -> Result<Option<(Token, &'t str)>, OutOfMemory>
+    requires begins { (cs : List ℕ) × (chars text.now ≡ c ∷ cs) }
+    requires word { chars after.now ≡ past_run is_word_character (chars text.now) }
+    requires ends { EndsWith (chars text.now) (chars rest.now) }
+    ensures { IfOk result (λ r. MatchOption r (IsPastLocal (chars text.now) (chars rest.now))
+        (λ f. Some (found (token_of f.0) (chars f.1.now)) ≡ local_at (chars text.now))) }
+{
+    if is_past_local(c, text, after, rest) {
+        return Ok(None);
+    }
+    local_at(alloc, c, text, after)
+}
+
 /// Whether a text, which begins with this character and goes on so after its word characters, has no word with its sheet
 /// that is longer than what stands before this rest of it: the rest goes on with no word, and the `!` of a sheet's
 /// name stands before it.
-pub(crate) fn is_past_local(c: char, text: &str, after: &str, rest: &str) -> bool
+fn is_past_local(c: char, text: &str, after: &str, rest: &str) -> bool
     requires begins { (cs : List ℕ) × (chars text.now ≡ c ∷ cs) }
     requires word { chars after.now ≡ past_run is_word_character (chars text.now) }
     requires ends { EndsWith (chars text.now) (chars rest.now) }

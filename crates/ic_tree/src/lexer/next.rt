@@ -11,7 +11,7 @@ ghost use Rattle.ic_tree.specs.Tokens.{token_of};
 use crate::Token;
 use crate::lexer::choice::{is_past_word, kept_with, longer_of, longer_than_reference};
 use crate::lexer::errors::error_at;
-use crate::lexer::locals::{is_past_local, local_at};
+use crate::lexer::locals::{local_at, longer_local_at};
 use crate::lexer::numbers::{number_at, whole_number};
 use crate::lexer::quoted::quoted_at;
 use crate::lexer::references::reference_at;
@@ -182,18 +182,13 @@ fn any_named_token<'t, D: Dialect>(
     match reference_at(alloc, d, text) {
         Err(e) => Err(e),
         Ok(None) => local_or_named(alloc, d, c, text, after),
-        Ok(Some((reference, rest))) => {
-            if is_past_local(c, text, after, rest) {
-                return reference_or_named(alloc, d, c, text, after, reference, rest);
+        Ok(Some((reference, rest))) => match longer_local_at(alloc, c, text, after, rest) {
+            Err(e) => Err(e),
+            Ok(Some((token, end))) => {
+                Ok(Some(longer_than_reference(text, reference, rest, token, end)))
             }
-            match local_at(alloc, c, text, after) {
-                Err(e) => Err(e),
-                Ok(Some((token, end))) => {
-                    Ok(Some(longer_than_reference(text, reference, rest, token, end)))
-                }
-                Ok(None) => reference_or_named(alloc, d, c, text, after, reference, rest),
-            }
-        }
+            Ok(None) => reference_or_named(alloc, d, c, text, after, reference, rest),
+        },
     }
 }
 

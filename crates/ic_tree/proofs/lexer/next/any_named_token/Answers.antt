@@ -20,24 +20,24 @@ longer_than_reference-requires-clause-reference_ends g c =
 
 pub longer_than_reference-requires-clause-other_ends : goal.longer_than_reference-requires-clause-other_ends
 longer_than_reference-requires-clause-other_ends g c =
-    local_ends (g.D.Dialect.meaning c.args.d.now) (chars c.args.text.now) (found (token_of c.in-Ok-Some-local_at.token) (chars c.in-Ok-Some-local_at.end.now)) (rw c.in-Ok-Some-local_at.field-0-is at c.in-Ok-Some-local_at.ensures)
+    local_ends (g.D.Dialect.meaning c.args.d.now) (chars c.args.text.now) (found (token_of c.in-Ok-Some-longer_local_at.token) (chars c.in-Ok-Some-longer_local_at.end.now)) (rw c.in-Ok-Some-longer_local_at.field-0-is at c.in-Ok-Some-longer_local_at.ensures)
 
-pub returns-in-Ok-Some-local_at : goal.returns-in-Ok-Some-local_at
-returns-in-Ok-Some-local_at g c =
+pub returns-in-Ok-Some-longer_local_at : goal.returns-in-Ok-Some-longer_local_at
+returns-in-Ok-Some-longer_local_at g c =
     let d = g.D.Dialect.meaning c.args.d.now in
     let text = chars c.args.text.now in
     let reference : Some (found (tokens.Ref c.in-Ok-Some.reference) (chars c.in-Ok-Some.rest.now)) ≡ reference_at d text =
     ap (option_map (λ (f : RefToken × List ℕ). found (tokens.Ref f.0) f.1)) (rw c.in-Ok-Some.field-0-is at c.in-Ok-Some.ensures) in
-    let local : longer (local_at text) (named_at d text) ≡ Some (found (token_of c.in-Ok-Some-local_at.token) (chars c.in-Ok-Some-local_at.end.now)) =
-    local_over_named d (g.met.D.Dialect.laws c.args.d.now) text (found (token_of c.in-Ok-Some-local_at.token) (chars c.in-Ok-Some-local_at.end.now))
-    (rw c.in-Ok-Some-local_at.field-0-is at c.in-Ok-Some-local_at.ensures) in
+    let local : longer (local_at text) (named_at d text) ≡ Some (found (token_of c.in-Ok-Some-longer_local_at.token) (chars c.in-Ok-Some-longer_local_at.end.now)) =
+    local_over_named d (g.met.D.Dialect.laws c.args.d.now) text (found (token_of c.in-Ok-Some-longer_local_at.token) (chars c.in-Ok-Some-longer_local_at.end.now))
+    (rw c.in-Ok-Some-longer_local_at.field-0-is at c.in-Ok-Some-longer_local_at.ensures) in
     c.longer_than_reference.ensures ∙ ap₂ longer reference (sym local)
 
-pub returns-then-is_past_local : goal.returns-then-is_past_local
-returns-then-is_past_local g c =
+pub returns-in-Ok-None-longer_local_at : goal.returns-in-Ok-None-longer_local_at
+returns-in-Ok-None-longer_local_at g c =
     let d = g.D.Dialect.meaning c.args.d.now in
     let text = chars c.args.text.now in
     let f = found (tokens.Ref c.in-Ok-Some.reference) (chars c.in-Ok-Some.rest.now) in
     let reference : Some f ≡ reference_at d text = ap (option_map (λ (f : RefToken × List ℕ). found (tokens.Ref f.0) f.1)) (rw c.in-Ok-Some.field-0-is at c.in-Ok-Some.ensures) in
-    let past = without_local d (g.met.D.Dialect.laws c.args.d.now) text f (c.is_past_local.ensures c.if-is_past_local.true) in
+    let past = without_local d (g.met.D.Dialect.laws c.args.d.now) text f (rw c.in-Ok-None-longer_local_at.field-0-is at c.in-Ok-None-longer_local_at.ensures) in
     IfOk-weaker c.reference_or_named.result _ _ (λ r h. h ∙ past ∙ ap (λ l. longer l (longer (local_at text) (named_at d text))) reference) c.reference_or_named.ensures
