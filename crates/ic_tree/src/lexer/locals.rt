@@ -4,7 +4,7 @@ ghost use Rattle.ic_laws.specs.TokenKinds.{local_at};
 ghost use Rattle.ic_tree.specs.Lexing.{found};
 ghost use Rattle.ic_tree.specs.Tokens.{token_of};
 
-use crate::Token;
+use crate::{LocalWord, Token};
 use crate::lexer::references::past_bytes;
 use ic_laws::OutOfMemory;
 use ic_laws::scan::begins_with;
@@ -31,7 +31,8 @@ pub(crate) fn local_at<'t>(
         Err(e) => Err(e),
         Ok(None) => Ok(None),
         Ok(Some((sheet, word, size))) => {
-            Ok(Some((Token::Local(sheet, word), past_bytes(text, size))))
+            let local = Box::new(alloc, LocalWord { sheet, word })?;
+            Ok(Some((Token::Local(local), past_bytes(text, size))))
         }
     }
 }

@@ -9,7 +9,9 @@ ghost use Rattle.ic_tree.specs.Lexing.{IsSpelledFunction, found, named_at, seen_
 ghost use Rattle.ic_tree.specs.Tokens.{token_of};
 
 use crate::Token;
-use crate::lexer::choice::{is_past_word, kept_with, longer_of, longer_than_reference};
+use crate::lexer::choice::{
+    is_past_word, kept_with, longer_of, longer_than_reference, reference_with,
+};
 use crate::lexer::errors::error_at;
 use crate::lexer::locals::local_at;
 use crate::lexer::numbers::number_at;
@@ -24,6 +26,8 @@ use std::alloc::Global;
 
 /// The token at the front of a text, and the rest: the longest one, and a reference where another is as long. None
 /// where no token begins there. The first character tells which kinds of tokens can be there.
+// More than half of all tokens are signs: each is told where it is taken, in few instructions; the rest is called.
+#[inline(always)]
 pub fn next_token<'t, D: Dialect>(
     alloc: Global,
     d: &D,
@@ -56,6 +60,7 @@ fn begins_name(c: char) -> bool
 }
 
 /// The text after an opening quote.
+#[inline(never)]
 fn quoted_token<'t>(alloc: Global, text: &'t str) -> Result<Option<(Token, &'t str)>, OutOfMemory>
     ensures { IfOk result (λ r. option_map (λ f. found (token_of f.0) (chars f.1.now)) r
         ≡ option_map (λ f. found (tokens.Str f.0) f.1) (closed false (chars text.now))) }
@@ -68,6 +73,7 @@ fn quoted_token<'t>(alloc: Global, text: &'t str) -> Result<Option<(Token, &'t s
 }
 
 /// An error's word, or else the sign `#`, at the front of a text that begins with it.
+#[inline(never)]
 fn error_or_hash<'t, D: Dialect>(d: &D, text: &'t str, after: &'t str) -> Option<(Token, &'t str)>
     ensures { option_map (λ f. found (token_of f.0) (chars f.1.now)) result
         ≡ or_else (error_at (D.meaning d.now) (chars text.now))
@@ -80,6 +86,7 @@ fn error_or_hash<'t, D: Dialect>(d: &D, text: &'t str, after: &'t str) -> Option
 }
 
 /// A number that begins with the decimal separator.
+#[inline(never)]
 fn decimal_token<'t, D: Dialect>(
     alloc: Global,
     d: &D,
@@ -96,6 +103,7 @@ fn decimal_token<'t, D: Dialect>(
 
 /// A reference, a word with its sheet, a head, a word or a number. The word characters at the front are passed once for all
 /// of them.
+#[inline(never)]
 fn named_token<'t, D: Dialect>(
     alloc: Global,
     d: &D,
@@ -180,7 +188,7 @@ fn any_named_token<'t, D: Dialect>(
         Ok(Some((reference, rest))) => match local_at(alloc, c, text, after) {
             Err(e) => Err(e),
             Ok(Some((token, end))) => {
-                Ok(Some(longer_than_reference(text, reference, rest, token, end)))
+                longer_than_reference(alloc, text, reference, rest, token, end)
             }
             Ok(None) => reference_or_named(alloc, d, c, text, after, reference, rest),
         },
@@ -206,10 +214,10 @@ fn reference_or_named<'t, D: Dialect>(
         (named_at (D.meaning d.now) (chars text.now))) }
 {
     if begins_word(c) && is_past_word(text, after, rest) {
-        return Ok(Some((Token::Ref(reference), rest)));
+        return reference_with(alloc, reference, rest);
     }
     match named_at(d, c, text, after) {
-        None => Ok(Some((Token::Ref(reference), rest))),
+        None => reference_with(alloc, reference, rest),
         Some((seen, end)) => longer_of(alloc, text, reference, rest, &seen, end),
     }
 }
