@@ -19,6 +19,7 @@ pub enum Token {
     SheetRef(Text, NearPlace),
     /// A reference whose place no tree can hold.
     FarRef(Box<FarReference>),
+    /// A word with its sheet.
     Local(Box<LocalWord>),
     Word(Text),
     /// A function, by its number.
@@ -39,7 +40,7 @@ pub enum Token {
 // A token is moved some times before a tree has it: what is rare is boxed.
 const _: () = prove!(size_of::<Token>() <= 48);
 
-/// A word with its sheet.
+/// The name of a sheet, and a word of it.
 #[derive(Drop)]
 pub struct LocalWord {
     pub sheet: Text,

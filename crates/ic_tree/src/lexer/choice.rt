@@ -51,10 +51,9 @@ pub(crate) fn longer_than_reference<'t>(
         (Some (found (token_of token) (chars after.now)))) }
 {
     if leaves_no_more(text, rest, after) {
-        reference_with(alloc, reference, rest)
-    } else {
-        Ok(Some((token, after)))
+        return reference_with(alloc, reference, rest);
     }
+    Ok(Some((token, after)))
 }
 
 /// The token of a reference, and the rest.

@@ -59,11 +59,7 @@ pub fn read_leaf(alloc: Global, most: usize, token: Token) -> Result<Option<Meas
 }
 
 /// A word with its sheet as a leaf, where both are what they may be.
-fn read_local(
-    alloc: Global,
-    most: usize,
-    local: LocalWord,
-) -> Result<Option<Measured>, OutOfMemory>
+fn read_local(alloc: Global, most: usize, local: LocalWord) -> Result<Option<Measured>, OutOfMemory>
     ensures { IfOk result (λ r. (rest : List tokens.Token) → option_map (λ t. (t, rest)) r
         ≡ made_if (is_sheet_name local.sheet && is_identifier local.word) most
         (one.Local (Some local.sheet) local.word) rest) }
@@ -76,11 +72,7 @@ fn read_local(
 }
 
 /// A reference without a sheet as a leaf.
-fn read_here(
-    alloc: Global,
-    most: usize,
-    place: NearPlace,
-) -> Result<Option<Measured>, OutOfMemory>
+fn read_here(alloc: Global, most: usize, place: NearPlace) -> Result<Option<Measured>, OutOfMemory>
     ensures { IfOk result (λ r. (rest : List tokens.Token) → option_map (λ t. (t, rest)) r
         ≡ reference_leaf most (on_own_sheet place.place) rest) }
 {

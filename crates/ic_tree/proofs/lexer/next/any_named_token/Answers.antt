@@ -1,4 +1,5 @@
 use Rattle.std.proofs.Common.{◌≡◌, ℕ, List, Some, ap, ap₂, chars, option_map, sym, ◌∙◌}
+use Rattle.std.proofs.lemmas.Result.{IfOk-weaker}
 use Rattle.ic_laws.specs.Split.{longer}
 use Rattle.ic_laws.specs.Token as tokens
 use Rattle.ic_laws.specs.TokenKinds.{local_at, reference_at}
@@ -30,4 +31,5 @@ returns-in-Ok-Some-local_at g c =
     let local : longer (local_at text) (named_at d text) ≡ Some (found (token_of c.in-Ok-Some-local_at.token) (chars c.in-Ok-Some-local_at.end.now)) =
     local_over_named d (g.met.D.Dialect.laws c.args.d.now) text (found (token_of c.in-Ok-Some-local_at.token) (chars c.in-Ok-Some-local_at.end.now))
     (rw c.in-Ok-Some-local_at.field-0-is at c.in-Ok-Some-local_at.ensures) in
-    c.longer_than_reference.ensures ∙ ap₂ longer reference (sym local)
+    let all = ap₂ longer reference (sym local) in
+    IfOk-weaker c.longer_than_reference.result _ _ (λ r h. h ∙ all) c.longer_than_reference.ensures
