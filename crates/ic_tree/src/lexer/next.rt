@@ -26,8 +26,6 @@ use std::alloc::Global;
 
 /// The token at the front of a text, and the rest: the longest one, and a reference where another is as long. None
 /// where no token begins there. The first character tells which kinds of tokens can be there.
-// More than half of all tokens are signs: each is told where it is taken, in few instructions; the rest is called.
-#[inline(always)]
 pub fn next_token<'t, D: Dialect>(
     alloc: Global,
     d: &D,
@@ -60,7 +58,6 @@ fn begins_name(c: char) -> bool
 }
 
 /// The text after an opening quote.
-#[inline(never)]
 fn quoted_token<'t>(alloc: Global, text: &'t str) -> Result<Option<(Token, &'t str)>, OutOfMemory>
     ensures { IfOk result (λ r. option_map (λ f. found (token_of f.0) (chars f.1.now)) r
         ≡ option_map (λ f. found (tokens.Str f.0) f.1) (closed false (chars text.now))) }
@@ -73,7 +70,6 @@ fn quoted_token<'t>(alloc: Global, text: &'t str) -> Result<Option<(Token, &'t s
 }
 
 /// An error's word, or else the sign `#`, at the front of a text that begins with it.
-#[inline(never)]
 fn error_or_hash<'t, D: Dialect>(d: &D, text: &'t str, after: &'t str) -> Option<(Token, &'t str)>
     ensures { option_map (λ f. found (token_of f.0) (chars f.1.now)) result
         ≡ or_else (error_at (D.meaning d.now) (chars text.now))
@@ -86,7 +82,6 @@ fn error_or_hash<'t, D: Dialect>(d: &D, text: &'t str, after: &'t str) -> Option
 }
 
 /// A number that begins with the decimal separator.
-#[inline(never)]
 fn decimal_token<'t, D: Dialect>(
     alloc: Global,
     d: &D,
@@ -103,7 +98,6 @@ fn decimal_token<'t, D: Dialect>(
 
 /// A reference, a word with its sheet, a head, a word or a number. The word characters at the front are passed once for all
 /// of them.
-#[inline(never)]
 fn named_token<'t, D: Dialect>(
     alloc: Global,
     d: &D,
