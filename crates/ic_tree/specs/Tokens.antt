@@ -1,11 +1,20 @@
 -- What the tokens of the code mean, and what stands first in a list of tokens.
-use Rattle.std.specs.Prelude.{List, [], ◌∷◌}
+use Rattle.std.specs.Prelude.{ℕ, List, [], ◌∷◌, Some, None}
 use Rattle.ic_laws.specs.Token as tokens
+use Rattle.ic_laws.specs.declared.reference.Place.{Place}
+use Rattle.ic_laws.specs.declared.reference.RefToken.{RefToken}
 use Rattle.ic_laws.specs.Token.{Token}
 use Rattle.ic_tree.specs.declared.token.Ahead.{Ahead}
 use Rattle.ic_tree.specs.declared.token.Ahead.TheVariants as ahead
 use Rattle.ic_tree.specs.declared.token.Token as code
 use Rattle.ic_tree.specs.declared.token.Token.TheVariants as of
+
+-- a reference without a sheet, and one with the name of its sheet
+abbrev pub on_own_sheet : Place → RefToken
+on_own_sheet place = record { sheet = None; place = place }
+
+abbrev pub on_sheet : List ℕ → Place → RefToken
+on_sheet sheet place = record { sheet = Some sheet; place = place }
 
 -- the token of the definitions that a token of the code is
 abbrev pub token_of : code.Token → Token
@@ -13,8 +22,10 @@ token_of (of.Num units) = tokens.Num units
 token_of (of.Str text) = tokens.Str text
 token_of (of.Boolean value) = tokens.Boolean value
 token_of (of.Err error) = tokens.Err error
-token_of (of.Ref reference) = tokens.Ref reference
-token_of (of.Local sheet word) = tokens.Local sheet word
+token_of (of.Ref near) = tokens.Ref (on_own_sheet near.place)
+token_of (of.SheetRef sheet near) = tokens.Ref (on_sheet sheet near.place)
+token_of (of.FarRef far) = tokens.Ref far.value.reference
+token_of (of.Local local) = tokens.Local local.value.sheet local.value.word
 token_of (of.Word text) = tokens.Word text
 token_of (of.FunHead number) = tokens.FunHead number
 token_of (of.NameHead name) = tokens.NameHead name

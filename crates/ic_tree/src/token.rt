@@ -2,7 +2,8 @@ ghost use Rattle.std.specs.Prelude.{◌≡◌, ◌∷◌, [], List, IfOk, OnOk, 
 ghost use Rattle.ic_laws.specs.Token as tokens;
 ghost use Rattle.ic_tree.specs.Tokens.{ahead_of, after_first, token_of};
 
-use ic_laws::{Amount, BinarySign, Error, OutOfMemory, RefToken, Text};
+use crate::near::{FarReference, NearPlace};
+use ic_laws::{Amount, BinarySign, Error, OutOfMemory, Text};
 use std::alloc::Global;
 
 /// A token of a formula. A head is a name together with the bracket that opens its arguments.
@@ -12,9 +13,14 @@ pub enum Token {
     Str(Text),
     Boolean(bool),
     Err(Error),
-    Ref(RefToken),
-    /// A word with its sheet: the name of the sheet, and the word.
-    Local(Text, Text),
+    /// A reference without a sheet.
+    Ref(NearPlace),
+    /// A reference with the name of its sheet.
+    SheetRef(Text, NearPlace),
+    /// A reference whose place no tree can hold.
+    FarRef(Box<FarReference>),
+    /// A word with its sheet.
+    Local(Box<LocalWord>),
     Word(Text),
     /// A function, by its number.
     FunHead(usize),
@@ -29,6 +35,16 @@ pub enum Token {
     OpenBrace,
     CloseBrace,
     Semicolon,
+}
+
+// A token is moved some times before a tree has it: what is rare is boxed.
+const _: () = prove!(size_of::<Token>() <= 48);
+
+/// The name of a sheet, and a word of it.
+#[derive(Drop)]
+pub struct LocalWord {
+    pub sheet: Text,
+    pub word: Text,
 }
 
 /// What the next token is, as far as a reader needs to know before it takes it.

@@ -8,6 +8,7 @@ ghost use Rattle.ic_tree.specs.Tokens.{token_of};
 use crate::Token;
 use crate::lexer::seen::{Seen, kept};
 use crate::lexer::words::past_blanks;
+use crate::near::{FarReference, NearPlace, is_place_within};
 use ic_laws::scan::begins_with;
 use ic_laws::{OutOfMemory, RefToken};
 use std::alloc::Global;
@@ -28,7 +29,7 @@ pub(crate) fn longer_of<'t>(
         (Some (found (seen_token seen.now) (chars after.now)))) }
 {
     if leaves_no_more(text, rest, after) {
-        Ok(Some((Token::Ref(reference), rest)))
+        reference_with(alloc, reference, rest)
     } else {
         kept_with(alloc, seen, after)
     }
@@ -36,22 +37,43 @@ pub(crate) fn longer_of<'t>(
 
 /// The longer of a reference and another token at the front of one text; the reference where both are of one length.
 pub(crate) fn longer_than_reference<'t>(
+    alloc: Global,
     text: &str,
     reference: RefToken,
     rest: &'t str,
     token: Token,
     after: &'t str,
-) -> (Token, &'t str)
+) -> Result<Option<(Token, &'t str)>, OutOfMemory>
     requires reference_ends { EndsWith (chars text.now) (chars rest.now) }
     requires other_ends { EndsWith (chars text.now) (chars after.now) }
-    ensures { Some (found (token_of result.0) (chars result.1.now))
+    ensures { IfOk result (λ r. option_map (λ f. found (token_of f.0) (chars f.1.now)) r
         ≡ longer (Some (found (tokens.Ref reference) (chars rest.now)))
-        (Some (found (token_of token) (chars after.now))) }
+        (Some (found (token_of token) (chars after.now)))) }
 {
     if leaves_no_more(text, rest, after) {
-        (Token::Ref(reference), rest)
-    } else {
-        (token, after)
+        return reference_with(alloc, reference, rest);
+    }
+    Ok(Some((token, after)))
+}
+
+/// The token of a reference, and the rest.
+pub(crate) fn reference_with<'t>(
+    alloc: Global,
+    reference: RefToken,
+    rest: &'t str,
+) -> Result<Option<(Token, &'t str)>, OutOfMemory>
+    ensures { IfOk result (λ r. option_map (λ f. found (token_of f.0) (chars f.1.now)) r
+        ≡ Some (found (tokens.Ref reference) (chars rest.now))) }
+{
+    if !is_place_within(reference.place) {
+        let far = Box::new(alloc, FarReference { reference })?;
+        return Ok(Some((Token::FarRef(far), rest)));
+    }
+    let RefToken { sheet, place } = reference;
+    let near = NearPlace::new(place);
+    match sheet {
+        None => Ok(Some((Token::Ref(near), rest))),
+        Some(sheet) => Ok(Some((Token::SheetRef(sheet, near), rest))),
     }
 }
 

@@ -1,13 +1,14 @@
 ghost use Rattle.std.specs.Prelude.{◌≡◌, ◌∷◌, ℕ, List, Some, true, chars, option_map, IfOk, MatchOption};
 ghost use Rattle.ic_laws.specs.Scan.{EndsWith, first_is, is_word_character, past_run};
+ghost use Rattle.ic_laws.specs.Token as tokens;
 ghost use Rattle.ic_laws.specs.TokenKinds.{local_at};
 ghost use Rattle.ic_tree.specs.Lexing.{IsPastLocal, found};
 ghost use Rattle.ic_tree.specs.Tokens.{token_of};
 
-use crate::Token;
 use crate::lexer::references::past_bytes;
-use ic_laws::OutOfMemory;
+use crate::{LocalWord, Token};
 use ic_laws::scan::{begins_with, first_char, is_word_character};
+use ic_laws::{OutOfMemory, Text};
 use ic_refs::read_local;
 use std::alloc::Global;
 
@@ -30,9 +31,7 @@ pub(crate) fn local_at<'t>(
     match read_local(alloc, text, 0) {
         Err(e) => Err(e),
         Ok(None) => Ok(None),
-        Ok(Some((sheet, word, size))) => {
-            Ok(Some((Token::Local(sheet, word), past_bytes(text, size))))
-        }
+        Ok(Some((sheet, word, size))) => { local_with(alloc, sheet, word, past_bytes(text, size)) }
     }
 }
 
@@ -84,4 +83,18 @@ fn begins_word_character(text: &str) -> bool
         Some((c, _)) => is_word_character(c),
         None => false,
     }
+}
+
+/// The token of a word with its sheet, and the rest.
+fn local_with<'t>(
+    alloc: Global,
+    sheet: Text,
+    word: Text,
+    rest: &'t str,
+) -> Result<Option<(Token, &'t str)>, OutOfMemory>
+    ensures { IfOk result (λ r. option_map (λ f. found (token_of f.0) (chars f.1.now)) r
+        ≡ Some (found (tokens.Local sheet word) (chars rest.now))) }
+{
+    let local = Box::new(alloc, LocalWord { sheet, word })?;
+    Ok(Some((Token::Local(local), rest)))
 }

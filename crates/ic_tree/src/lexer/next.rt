@@ -9,7 +9,9 @@ ghost use Rattle.ic_tree.specs.Lexing.{IsSpelledFunction, found, named_at, seen_
 ghost use Rattle.ic_tree.specs.Tokens.{token_of};
 
 use crate::Token;
-use crate::lexer::choice::{is_past_word, kept_with, longer_of, longer_than_reference};
+use crate::lexer::choice::{
+    is_past_word, kept_with, longer_of, longer_than_reference, reference_with,
+};
 use crate::lexer::errors::error_at;
 use crate::lexer::locals::{local_at, longer_local_at};
 use crate::lexer::numbers::{number_at, whole_number};
@@ -185,7 +187,7 @@ fn any_named_token<'t, D: Dialect>(
         Ok(Some((reference, rest))) => match longer_local_at(alloc, c, text, after, rest) {
             Err(e) => Err(e),
             Ok(Some((token, end))) => {
-                Ok(Some(longer_than_reference(text, reference, rest, token, end)))
+                longer_than_reference(alloc, text, reference, rest, token, end)
             }
             Ok(None) => reference_or_named(alloc, d, c, text, after, reference, rest),
         },
@@ -211,10 +213,10 @@ fn reference_or_named<'t, D: Dialect>(
         (named_at (D.meaning d.now) (chars text.now))) }
 {
     if begins_word(c) && is_past_word(text, after, rest) {
-        return Ok(Some((Token::Ref(reference), rest)));
+        return reference_with(alloc, reference, rest);
     }
     match named_at(d, c, text, after) {
-        None => Ok(Some((Token::Ref(reference), rest))),
+        None => reference_with(alloc, reference, rest),
         Some((seen, end)) => longer_of(alloc, text, reference, rest, &seen, end),
     }
 }

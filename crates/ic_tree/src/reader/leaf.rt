@@ -2,63 +2,16 @@ ghost use Rattle.std.specs.Prelude.{◌≡◌, List, IfOk, Some, not, ◌&&◌, 
 ghost use Rattle.ic_laws.specs.Name.{agrees, is_identifier, is_sheet_name, is_variable};
 ghost use Rattle.ic_laws.specs.Parse.{made_if};
 ghost use Rattle.ic_laws.specs.declared.tree.Tree.TheOpen as one;
-ghost use Rattle.ic_laws.specs.Position.{column_count, is_part_within as part_within, is_place_within as place_within, is_within, row_count};
 ghost use Rattle.ic_laws.specs.Token as tokens;
 ghost use Rattle.ic_laws.specs.Tree.{is_called_name as called_name, is_written_sheet as written_sheet};
-ghost use Rattle.ic_tree.specs.Tokens.{token_of};
+ghost use Rattle.ic_tree.specs.Tokens.{on_own_sheet, on_sheet, token_of};
 ghost use Rattle.ic_tree.specs.Turned.{leaf, reference_leaf};
 
-use crate::{Measured, Token};
-use ic_laws::{
-    LAST_COLUMN, LAST_ROW, OutOfMemory, PackedPlace, Place, Position, RefPart, RefToken, Text,
-    Tree, agree,
-};
+use crate::near::NearPlace;
+use crate::{LocalWord, Measured, Token};
+use ic_laws::{OutOfMemory, Text, Tree, agree};
 use ic_refs::{is_valid_a1_identifier, is_valid_identifier, is_valid_sheet_name};
 use std::alloc::Global;
-
-fn is_row_within(row: Position) -> bool
-    ensures { result ≡ is_within row_count row }
-{
-    match row {
-        Position::Abs(n) => 1 <= n && n <= LAST_ROW,
-        Position::Rel(k) => k.unsigned_abs() < LAST_ROW.unsigned_abs(),
-    }
-}
-
-fn is_column_within(column: Position) -> bool
-    ensures { result ≡ is_within column_count column }
-{
-    match column {
-        Position::Abs(n) => 1 <= n && n <= LAST_COLUMN,
-        Position::Rel(k) => k.unsigned_abs() < LAST_COLUMN.unsigned_abs(),
-    }
-}
-
-fn is_part_within(part: RefPart) -> bool
-    ensures { result ≡ part_within part }
-{
-    is_row_within(part.row) && is_column_within(part.column)
-}
-
-/// Whether a place is within the limits of the stored form.
-fn is_place_within(place: Place) -> bool
-    ensures { result ≡ place_within place }
-{
-    match place {
-        Place::Cell(part) => is_part_within(part),
-        Place::Range(first, last) => is_part_within(first) && is_part_within(last),
-    }
-}
-
-/// Whether it is no sheet or the name of one.
-fn is_written_sheet(sheet: &Option<Text>) -> bool
-    ensures { result ≡ written_sheet sheet.now }
-{
-    match sheet {
-        None => true,
-        Some(name) => is_valid_sheet_name(name.as_str()),
-    }
-}
 
 /// Whether it is a variable.
 pub fn is_variable(name: &Text) -> bool
@@ -92,8 +45,9 @@ pub fn read_leaf(alloc: Global, most: usize, token: Token) -> Result<Option<Meas
         Token::Str(text) => Ok(Measured::leaf(alloc, Tree::Str(text), most)?),
         Token::Boolean(value) => Ok(Measured::leaf(alloc, Tree::Bool(value), most)?),
         Token::Err(error) => Ok(Measured::leaf(alloc, Tree::Err(error), most)?),
-        Token::Ref(reference) => Ok(read_reference(alloc, most, reference)?),
-        Token::Local(sheet, word) => Ok(read_local(alloc, most, sheet, word)?),
+        Token::Ref(place) => Ok(read_here(alloc, most, place)?),
+        Token::SheetRef(sheet, place) => Ok(read_on_sheet(alloc, most, sheet, place)?),
+        Token::Local(local) => Ok(read_local(alloc, most, Box::into_inner(local))?),
         Token::Word(text) => {
             if !is_variable(&text) {
                 return Ok(None);
@@ -105,34 +59,39 @@ pub fn read_leaf(alloc: Global, most: usize, token: Token) -> Result<Option<Meas
 }
 
 /// A word with its sheet as a leaf, where both are what they may be.
-fn read_local(
-    alloc: Global,
-    most: usize,
-    sheet: Text,
-    word: Text,
-) -> Result<Option<Measured>, OutOfMemory>
+fn read_local(alloc: Global, most: usize, local: LocalWord) -> Result<Option<Measured>, OutOfMemory>
     ensures { IfOk result (λ r. (rest : List tokens.Token) → option_map (λ t. (t, rest)) r
-        ≡ made_if (is_sheet_name sheet && is_identifier word) most (one.Local (Some sheet) word)
-        rest) }
+        ≡ made_if (is_sheet_name local.sheet && is_identifier local.word) most
+        (one.Local (Some local.sheet) local.word) rest) }
 {
+    let LocalWord { sheet, word } = local;
     if !is_valid_sheet_name(sheet.as_str()) || !is_valid_identifier(word.as_str()) {
         return Ok(None);
     }
     Ok(Measured::leaf(alloc, Tree::Local(Some(sheet), word), most)?)
 }
 
-/// A reference as a leaf, where its sheet is a name and its place within the limits.
-fn read_reference(
+/// A reference without a sheet as a leaf.
+fn read_here(alloc: Global, most: usize, place: NearPlace) -> Result<Option<Measured>, OutOfMemory>
+    ensures { IfOk result (λ r. (rest : List tokens.Token) → option_map (λ t. (t, rest)) r
+        ≡ reference_leaf most (on_own_sheet place.place) rest) }
+{
+    Ok(Measured::leaf(alloc, Tree::Reference(None, place.packed()), most)?)
+}
+
+/// A reference with its sheet as a leaf, where the sheet is a name.
+fn read_on_sheet(
     alloc: Global,
     most: usize,
-    reference: RefToken,
+    sheet: Text,
+    place: NearPlace,
 ) -> Result<Option<Measured>, OutOfMemory>
     ensures { IfOk result (λ r. (rest : List tokens.Token) → option_map (λ t. (t, rest)) r
-        ≡ reference_leaf most reference rest) }
+        ≡ reference_leaf most (on_sheet sheet place.place) rest) }
 {
-    if !is_written_sheet(&reference.sheet) || !is_place_within(reference.place) {
+    if !is_valid_sheet_name(sheet.as_str()) {
         return Ok(None);
     }
-    let tree = Tree::Reference(reference.sheet, PackedPlace::new(reference.place));
+    let tree = Tree::Reference(Some(sheet), place.packed());
     Ok(Measured::leaf(alloc, tree, most)?)
 }

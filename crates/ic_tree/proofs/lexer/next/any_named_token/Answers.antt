@@ -31,7 +31,8 @@ returns-in-Ok-Some-longer_local_at g c =
     let local : longer (local_at text) (named_at d text) ≡ Some (found (token_of c.in-Ok-Some-longer_local_at.token) (chars c.in-Ok-Some-longer_local_at.end.now)) =
     local_over_named d (g.met.D.Dialect.laws c.args.d.now) text (found (token_of c.in-Ok-Some-longer_local_at.token) (chars c.in-Ok-Some-longer_local_at.end.now))
     (rw c.in-Ok-Some-longer_local_at.field-0-is at c.in-Ok-Some-longer_local_at.ensures) in
-    c.longer_than_reference.ensures ∙ ap₂ longer reference (sym local)
+    let all = ap₂ longer reference (sym local) in
+    IfOk-weaker c.longer_than_reference.result _ _ (λ r h. h ∙ all) c.longer_than_reference.ensures
 
 pub returns-in-Ok-None-longer_local_at : goal.returns-in-Ok-None-longer_local_at
 returns-in-Ok-None-longer_local_at g c =

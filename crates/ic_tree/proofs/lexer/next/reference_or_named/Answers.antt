@@ -1,4 +1,5 @@
-use Rattle.std.proofs.Common.{chars, sym}
+use Rattle.std.proofs.Common.{chars, sym, ◌∙◌}
+use Rattle.std.proofs.lemmas.Result.{IfOk-weaker}
 use Rattle.ic_laws.specs.Token as tokens
 use Rattle.ic_tree.specs.Lexing.{found, seen_token}
 use Rattle.ic_tree.proofs.FirstLemmas.{named_ends, reference_over_word}
@@ -10,6 +11,6 @@ longer_of-requires-clause-other_ends g c =
 
 pub returns-then-is_past_word : goal.returns-then-is_past_word
 returns-then-is_past_word g c =
-    sym
-    (reference_over_word (g.D.Dialect.meaning c.args.d.now) (g.met.D.Dialect.laws c.args.d.now) (chars c.args.text.now) c.requires.begins.0 c.args.c (found (tokens.Ref c.args.reference) (chars c.args.rest.now))
-    c.requires.begins.1 (sym c.if-begins_word.ensures) (sym c.if-is_past_word.ensures))
+    let all = reference_over_word (g.D.Dialect.meaning c.args.d.now) (g.met.D.Dialect.laws c.args.d.now) (chars c.args.text.now) c.requires.begins.0 c.args.c (found (tokens.Ref c.args.reference) (chars c.args.rest.now))
+    c.requires.begins.1 (sym c.if-begins_word.ensures) (sym c.if-is_past_word.ensures) in
+    IfOk-weaker c.reference_with.result _ _ (λ r h. h ∙ sym all) c.reference_with.ensures
