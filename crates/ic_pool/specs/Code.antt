@@ -17,7 +17,6 @@ use Rattle.ic_laws.specs.declared.tree.Error.TheVariants as errors
 use Rattle.ic_laws.specs.declared.tree.Formula.{Formula}
 use Rattle.ic_laws.specs.declared.tree.Formula.TheVariants as formulas
 use Rattle.ic_laws.specs.declared.tree.LetPair.{fold-LetPair}
-use Rattle.ic_laws.specs.declared.tree.NameKey.{NameKey}
 use Rattle.ic_laws.specs.declared.tree.NameMention.{NameMention}
 use Rattle.ic_laws.specs.declared.tree.NameMention.TheVariants as words
 use Rattle.ic_laws.specs.declared.tree.PrefixSign.{PrefixSign}
@@ -27,7 +26,7 @@ use Rattle.ic_laws.specs.declared.tree.SheetMention.TheVariants as sheets
 use Rattle.ic_laws.specs.declared.tree.Tree.{Tree-F, fold-Tree}
 use Rattle.ic_laws.specs.declared.tree.Tree.TheOpen.{LetPair-F}
 use Rattle.ic_laws.specs.declared.tree.Tree.TheOpen as one
-use Rattle.ic_pool.specs.Bytes.{all_bytes, joined, number_bytes, text_bytes}
+use Rattle.ic_pool.specs.Bytes.{all_bytes, number_bytes, text_bytes}
 
 -- one node of a formula, with these below it
 abbrev pub Node : Type 0 → Type 0 → Type 0

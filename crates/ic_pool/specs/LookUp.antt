@@ -58,6 +58,11 @@ pub record IsHashed (key : List ℕ) (at : ℕ) (before after : LookUp) : Type 0
 abbrev pub IsPut : List ℕ → ℕ → LookUp → LookUp → Type 0
 IsPut key at before after = IsHashed key at before after ⊎ IsKept key at before after
 
+-- a place that was met was put under a key; where none was met, this one was put
+abbrev pub IsMetOrPut : List ℕ → ℕ → Option ℕ → LookUp → LookUp → Type 0
+IsMetOrPut key at None before after = IsPut key at before after
+IsMetOrPut key at (Some other) before after = IsKept key other before after
+
 -- a place, if there is one, is this
 abbrev pub is_place : ℕ → Option ℕ → Bool
 is_place at None = false

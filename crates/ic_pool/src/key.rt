@@ -52,8 +52,21 @@ impl Key {
         self.bytes.as_slice()
     }
 
-    /// Writes a number.
+    /// Writes a number. Most take one byte, and that is what a caller inlines.
+    #[inline]
     pub(crate) fn push(&mut self, number: u64) -> Result<(), OutOfMemory>
+        ensures { OnOk result (self.new ≡ self.old ++ number_bytes number) }
+    {
+        if number < 128 {
+            self.bytes.push(number as u8)?;
+            return Ok(());
+        }
+        self.push_long(number)
+    }
+
+    /// Writes a number of any size.
+    #[inline(never)]
+    fn push_long(&mut self, number: u64) -> Result<(), OutOfMemory>
         ensures { OnOk result (self.new ≡ self.old ++ number_bytes number) }
     {
         let mut rest = number;
@@ -66,6 +79,7 @@ impl Key {
     }
 
     /// Writes numbers, one after another.
+    #[inline]
     pub(crate) fn extend(&mut self, numbers: &[u64]) -> Result<(), OutOfMemory>
         ensures { OnOk result (self.new ≡ self.old ++ joined number_bytes numbers.now) }
     {

@@ -1,11 +1,11 @@
 //! Where formulas are found by their keys.
-ghost use Rattle.std.specs.Prelude.{◌≡◌, ℕ, List, None, Some, false, true, IfOk, OnErr, OnOk};
+ghost use Rattle.std.specs.Prelude.{◌≡◌, ℕ, List, None, Some, false, true, is_some, IfOk, OnErr, OnOk};
 ghost use Rattle.std.specs.BTreeMap.{Updates, get};
 ghost use Rattle.std.specs.List.{slice_get};
 ghost use Rattle.std.specs.Ordering.{nat_cmp};
 ghost use Rattle.ic_laws.specs.declared.tree.Formula.{Formula};
 ghost use Rattle.ic_pool.specs.Hash.{hash_of, key_cmp};
-ghost use Rattle.ic_pool.specs.LookUp.{IsEmpty, IsKept, IsLeftOut, IsPut, IsSame, checked, found, has_key, is_place};
+ghost use Rattle.ic_pool.specs.LookUp.{IsEmpty, IsKept, IsLeftOut, IsMetOrPut, IsPut, IsSame, checked, found, has_key, is_place};
 
 use crate::{HashedKey, key_of};
 use ic_laws::{Formula, OutOfMemory};
@@ -100,6 +100,76 @@ impl LookUp {
             return Ok(());
         }
         self.keep(key, at)
+    }
+
+    /// The place of the formula with this key, which stands under no whole key: one that is met by its hash gets its key. Where
+    /// there is none, this place is put.
+    pub fn meet_or_put(
+        &mut self,
+        alloc: Global,
+        formulas: &[Formula],
+        key: HashedKey,
+        at: usize,
+    ) -> Result<Option<usize>, OutOfMemory>
+        requires { get key_cmp self.old.by_key key ≡ None }
+        ensures met { IfOk result (λ place. place ≡ checked formulas.now key
+            (get nat_cmp self.old.by_hash (hash_of key))) }
+        ensures put { IfOk result (λ place. IsMetOrPut key at place self.old self.new) }
+        ensures err { OnErr result (IsSame self.old self.new) }
+    {
+        let Ok(small) = u32::try_from(at) else {
+            return self.meet_or_keep(alloc, formulas, key, at);
+        };
+        match self.meet(key.hash(), small)? {
+            None => Ok(None),
+            Some(other) => {
+                let other = other as usize;
+                if has_key(alloc, formulas, other, &key)? {
+                    self.keep(key, other)?;
+                    Ok(Some(other))
+                } else {
+                    self.keep(key, at)?;
+                    Ok(None)
+                }
+            }
+        }
+    }
+
+    /// The same for a place that stands under no hash.
+    fn meet_or_keep(
+        &mut self,
+        alloc: Global,
+        formulas: &[Formula],
+        key: HashedKey,
+        at: usize,
+    ) -> Result<Option<usize>, OutOfMemory>
+        ensures met { IfOk result (λ place. place ≡ checked formulas.now key
+            (get nat_cmp self.old.by_hash (hash_of key))) }
+        ensures put { IfOk result (λ place. IsMetOrPut key at place self.old self.new) }
+        ensures err { OnErr result (IsSame self.old self.new) }
+    {
+        let met = self.met(alloc, formulas, &key)?;
+        self.keep(key, met.unwrap_or(at))?;
+        Ok(met)
+    }
+
+    /// What stands under a hash; where nothing does, this place is put there.
+    fn meet(&mut self, hash: u32, at: u32) -> Result<Option<u32>, OutOfMemory>
+        ensures met { IfOk result (λ place. place ≡ get nat_cmp self.old.by_hash hash) }
+        ensures put { IfOk result (λ place. place ≡ None
+            → Updates nat_cmp self.old.by_hash self.new.by_hash hash (Some at)) }
+        ensures left { IfOk result (λ place. is_some place ≡ true
+            → self.new.by_hash.entries ≡ self.old.by_hash.entries) }
+        ensures err { OnErr result (self.new.by_hash.entries ≡ self.old.by_hash.entries) }
+        ensures keys { self.new.by_key ≡ self.old.by_key }
+    {
+        match self.by_hash.entry(hash)? {
+            Entry::Occupied(entry) => Ok(Some(*entry.get())),
+            Entry::Vacant(entry) => {
+                entry.insert(at);
+                Ok(None)
+            }
+        }
     }
 
     /// Puts a place below 2^32 under a hash where none stands there, and answers whether it did.

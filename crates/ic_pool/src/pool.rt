@@ -345,7 +345,8 @@ impl Pool {
     }
 
     /// The first place of a formula with this key, which is this formula's; where there is none, it is put at the end. One
-    /// that is met by its hash is found by its key from then on.
+    /// that is met by its hash is found by its key from then on. Where there is no memory for the index by mention alone, later
+    /// changes look at all formulas; what else may fail comes before the first change.
     fn place_by(&mut self, key: HashedKey, formula: Formula) -> Result<usize, OutOfMemory>
         requires whole { self.old.is_whole ≡ true }
         requires its { key ≡ code formula }
@@ -357,29 +358,11 @@ impl Pool {
         if let Some(at) = self.index.kept(&key) {
             return Ok(at);
         }
-        match self.index.met(self.alloc, &self.formulas, &key)? {
-            Some(at) => {
-                self.index.keep(key, at)?;
-                Ok(at)
-            }
-            None => self.push_new(key, formula),
-        }
-    }
-
-    /// Puts a formula with this key, which no other one has, at the end, and answers its place. Where there is no memory for
-    /// the index by mention alone, later changes look at all formulas; what else may fail comes before the first change.
-    fn push_new(&mut self, key: HashedKey, formula: Formula) -> Result<usize, OutOfMemory>
-        requires whole { self.old.is_whole ≡ true }
-        requires its { key ≡ code formula }
-        requires fresh { first_place key self.old.formulas ≡ None }
-        ensures ok { IfOk result (λ at. IsPlaced formula at self.old.formulas self.new.formulas) }
-        ensures within { IfOk result (λ at. at < length self.new.formulas) }
-        ensures whole { OnOk result (self.new.is_whole ≡ true) }
-        ensures err { OnErr result (self.new ≡ self.old) }
-    {
         self.formulas.reserve(1)?;
         let at = self.formulas.len();
-        self.index.put(key, at)?;
+        if let Some(other) = self.index.meet_or_put(self.alloc, &self.formulas, key, at)? {
+            return Ok(other);
+        }
         let weight = dangling_weight(&formula);
         self.knows_mentions &= self.mentions.note(at, &formula).is_ok();
         self.formulas.push_reserved(formula);

@@ -152,6 +152,7 @@ pub fn id_of(s: &SheetMention) -> u64
 }
 
 /// Writes numbers.
+#[inline]
 pub fn write_numbers(key: &mut Key, numbers: &[u64]) -> Result<(), OutOfMemory>
     ensures { OnOk result (key.new ≡ key.old ++ text_bytes numbers.now) }
 {

@@ -1,4 +1,4 @@
-use Rattle.std.proofs.Common.{◌∙◌, ap, inl, inr, sym}
+use Rattle.std.proofs.Common.{◌∙◌, ap, inl, inr}
 use Rattle.ic_pool.specs.MentionPlaces.{has_place}
 use Rattle.ic_pool.specs.Pool.{is_among}
 use Rattle.ic_pool.proofs.PlaceLemmas.{any_more}

@@ -1,6 +1,5 @@
-use Rattle.std.proofs.Common.{◌∙◌, List, ap, length, subst}
+use Rattle.std.proofs.Common.{◌∙◌, ap, length, subst}
 use Rattle.std.proofs.lemmas.Result.{IfOk-weaker}
-use Rattle.ic_laws.specs.declared.tree.Formula.{Formula}
 use Rattle.ic_pool.specs.MentionPlaces.{KnowsAll}
 use Rattle.ic_pool.specs.Pool.{PoolState}
 use Rattle.ic_pool.proofs.MentionedLemmas.{places_all, places_found}

@@ -1,6 +1,6 @@
 use Rattle.std.proofs.Common.{◌≡◌, ◌++◌}
 use Rattle.ic_pool.specs.Bytes.{number_bytes}
-use Rattle.ic_pool.proofs.key.Key.push.Given as goal
+use Rattle.ic_pool.proofs.key.Key.push_long.Given as goal
 
 -- what is written and what is left to write
 abbrev pub invariant-loop-rest : goal.invariant-loop-rest
