@@ -57,6 +57,8 @@ pub(crate) fn longer_than_reference<'t>(
 }
 
 /// The token of a reference, and the rest.
+// Inlined, since its result is large: a call would copy it, and set it to zero before.
+#[inline(always)]
 pub(crate) fn reference_with<'t>(
     alloc: Global,
     reference: RefToken,
@@ -78,6 +80,8 @@ pub(crate) fn reference_with<'t>(
 }
 
 /// The token that is seen, with a copy of its text, and the rest.
+// Inlined, since its result is large: a call would copy it, and set it to zero before.
+#[inline(always)]
 pub(crate) fn kept_with<'t>(
     alloc: Global,
     seen: &Seen,

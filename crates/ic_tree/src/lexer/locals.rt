@@ -14,6 +14,8 @@ use std::alloc::Global;
 
 /// The word with its sheet at the front of a text that begins with this character and goes on so after its word
 /// characters, and the rest. A sheet's name stands between quotes or before a `!`.
+// Inlined, since its result is large: a call would copy it, and set it to zero before.
+#[inline(always)]
 pub(crate) fn local_at<'t>(
     alloc: Global,
     c: char,

@@ -245,6 +245,8 @@ fn local_or_named<'t, D: Dialect>(
 }
 
 /// A head, a word or a number.
+// Inlined, since its result is large: a call would copy it, and set it to zero before.
+#[inline(always)]
 fn named_at<'t, D: Dialect>(
     d: &D,
     c: char,

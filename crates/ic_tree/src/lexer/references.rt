@@ -5,6 +5,8 @@ use ic_laws::{Dialect, OutOfMemory, RefToken};
 use std::alloc::Global;
 
 /// The longest reference at the front of a text, and the rest.
+// Inlined, since its result is large: a call would copy it, and set it to zero before.
+#[inline(always)]
 pub(crate) fn reference_at<'t, D: Dialect>(
     alloc: Global,
     d: &D,
