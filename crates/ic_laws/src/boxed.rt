@@ -1,4 +1,6 @@
 ghost use Rattle.std.specs.Prelude.{◌≡◌, IfOk, chars};
+ghost use Rattle.std.specs.Borrow.{Lends, sem};
+ghost use Rattle.ic_laws.specs.contracts.boxed.Boxed.{the_row};
 
 use crate::{OutOfMemory, Text};
 use std::alloc::Global;
@@ -11,6 +13,8 @@ pub struct Boxed<T> {
 }
 
 impl<T> Model for Boxed<T> {
+    ghost use Rattle.std.specs.Prelude.{List};
+
     ghost Value = { T };
 
     ghost coded = { T.code };
@@ -24,6 +28,14 @@ impl<T> Boxed<T> {
         ensures { result.now ≡ self.now }
     {
         &self.inner
+    }
+
+    /// The value in it, which may be changed there.
+    pub fn as_mut(&mut self) -> &mut T
+        ensures* writes_back { sem 𝓛 (Lends (the_row T.row) T.row self.entry result (λ w. w)) }
+        ensures value { result.now ≡ self.old }
+    {
+        &mut *self.inner
     }
 }
 

@@ -1,4 +1,6 @@
 ghost use Rattle.std.specs.Prelude.{◌≡◌, [], ◌∷◌, ◌++◌, OnErr, OnOk, length, take};
+ghost use Rattle.std.specs.Borrow.{Array, Lends, sem};
+ghost use Rattle.ic_laws.specs.contracts.items.Items.{the_row};
 
 use crate::OutOfMemory;
 use std::marker::Model;
@@ -26,6 +28,14 @@ impl<T> Items<T> {
         ensures { result.now ≡ self.now }
     {
         self.inner.as_slice()
+    }
+
+    /// The items in their order, each of which may be changed there.
+    pub fn as_mut_slice(&mut self) -> &mut [T]
+        ensures* writes_back { sem 𝓛 (Lends (the_row T.row) (Array T.row 0) self.entry result (λ w. w)) }
+        ensures items { result.now ≡ self.old }
+    {
+        self.inner.as_mut_slice()
     }
 
     /// How many items there are.

@@ -7,11 +7,12 @@ ghost use Rattle.ic_laws.specs.Token as tokens;
 ghost use Rattle.ic_laws.specs.Tree.{is_called_name as called_name, is_written_sheet as written_sheet};
 ghost use Rattle.ic_tree.specs.Tokens.{token_of};
 ghost use Rattle.ic_tree.specs.Turned.{leaf, reference_leaf};
+ghost use Rattle.ic_tree.specs.Typed.{typed_sheet};
 
 use crate::{Measured, Token};
 use ic_laws::{
-    LAST_COLUMN, LAST_ROW, OutOfMemory, PackedPlace, Place, Position, RefPart, RefToken, Text,
-    Tree, agree,
+    Boxed, LAST_COLUMN, LAST_ROW, NameMention, OutOfMemory, PackedPlace, Place, Position, RefPart,
+    RefToken, SheetMention, Text, Tree, agree,
 };
 use ic_refs::{is_valid_a1_identifier, is_valid_identifier, is_valid_sheet_name};
 use std::alloc::Global;
@@ -98,7 +99,8 @@ pub fn read_leaf(alloc: Global, most: usize, token: Token) -> Result<Option<Meas
             if !is_variable(&text) {
                 return Ok(None);
             }
-            Ok(Measured::leaf(alloc, Tree::Word(text), most)?)
+            let word = NameMention::Dangling(Boxed::new(alloc, text)?);
+            Ok(Measured::leaf(alloc, Tree::Word(word), most)?)
         }
         _ => Ok(None),
     }
@@ -118,7 +120,19 @@ fn read_local(
     if !is_valid_sheet_name(sheet.as_str()) || !is_valid_identifier(word.as_str()) {
         return Ok(None);
     }
-    Ok(Measured::leaf(alloc, Tree::Local(Some(sheet), word), most)?)
+    let sheet = SheetMention::Dangling(Boxed::new(alloc, sheet)?);
+    let word = NameMention::Dangling(Boxed::new(alloc, word)?);
+    Ok(Measured::leaf(alloc, Tree::Local(sheet, word), most)?)
+}
+
+/// The sheet of a reference as it was typed.
+fn as_mention(alloc: Global, sheet: Option<Text>) -> Result<SheetMention, OutOfMemory>
+    ensures { IfOk result (λ r. typed_sheet r ≡ sheet) }
+{
+    match sheet {
+        None => Ok(SheetMention::Own),
+        Some(name) => Ok(SheetMention::Dangling(Boxed::new(alloc, name)?)),
+    }
 }
 
 /// A reference as a leaf, where its sheet is a name and its place within the limits.
@@ -133,6 +147,8 @@ fn read_reference(
     if !is_written_sheet(&reference.sheet) || !is_place_within(reference.place) {
         return Ok(None);
     }
-    let tree = Tree::Reference(reference.sheet, PackedPlace::new(reference.place));
+    let RefToken { sheet, place } = reference;
+    let sheet = as_mention(alloc, sheet)?;
+    let tree = Tree::Reference(sheet, PackedPlace::new(place));
     Ok(Measured::leaf(alloc, tree, most)?)
 }

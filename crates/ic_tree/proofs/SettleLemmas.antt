@@ -1,0 +1,42 @@
+-- Binding in place: arguments and pairs of which the first are bound and the others stand as they were read.
+use Rattle.std.proofs.Common.{◌≡◌, ℕ, ◌+◌, ◌<◌, ◌≤◌, length, take, drop, get_or, set, List, [], ◌∷◌, ◌++◌, map, refl, sym, ap, ap₂, ◌∙◌, append_assoc, arith, Option}
+use Rattle.std.proofs.lemmas.List.{append-nil, drop_all, drop_more, get_or_at, length-map, length-take, set_at, take_all}
+use Rattle.ic_laws.specs.Binding.{Binders, BindsPair, BoundPair, all_bound, bound_pair_of, bound_under, pair_binds, pairs_bound, with_variables}
+use Rattle.ic_laws.specs.Parse.{Pair}
+use Rattle.ic_laws.specs.Tree.{Bound, Spelled}
+use Rattle.ic_laws.specs.declared.scene.Scene.{Scene}
+use Rattle.ic_laws.proofs.binding.PairLemmas.{pairs_more, variables_more}
+use Rattle.ic_tree.specs.Typed.{as_typed, pair_as_typed}
+
+-- one more item is put in its place
+pub put_next : {X : Type 0} (xs ys front : List X) (i : ℕ) (d y : X) → i < length xs → ys ≡ front ++ drop i xs → length front ≡ i → set ys i y ≡ (front ++ y ∷ []) ++ drop (i + 1) xs
+put_next xs ys front i d y within half long =
+    ap (λ l. set l i y) (half ∙ ap (λ l. front ++ l) (drop_more xs i d within))
+    ∙ (set_at front (get_or xs i d) (drop (i + 1) xs) y i long
+    ∙ sym (append_assoc front (y ∷ []) (drop (i + 1) xs)))
+
+-- the item that comes next stands as before
+pub next_stands : {X : Type 0} (xs ys front : List X) (i : ℕ) (d : X) → i < length xs → ys ≡ front ++ drop i xs → length front ≡ i → get_or ys i d ≡ get_or xs i d
+next_stands xs ys front i d within half long =
+    ap (λ l. get_or l i d) (half ∙ ap (λ l. front ++ l) (drop_more xs i d within))
+    ∙ get_or_at front (get_or xs i d) (drop (i + 1) xs) d i long
+
+module _ (english : List ℕ → Option ℕ) (scene : Scene) (scope : Option ℕ) where
+  -- an argument, and a variable of LET, bound
+  abbrev pub settled : Binders → Bound → Bound
+  settled seen t = bound_under english scene scope (as_typed t) seen
+
+  abbrev pub pair_settles : BoundPair → BindsPair
+  pair_settles pair = pair_binds english scene scope (pair_as_typed pair)
+
+  pub all_settled : (ts : List Bound) (seen : Binders) → map (settled seen) ts ≡ all_bound (map (bound_under english scene scope) (map as_typed ts)) seen
+  all_settled [] seen = refl
+  all_settled (t ∷ ts) seen = ap (λ us. settled seen t ∷ us) (all_settled ts seen)
+
+  pub pairs_settled : (ps : List BoundPair) → map pair_settles ps ≡ map (pair_binds english scene scope) (map pair_as_typed ps)
+  pairs_settled [] = refl
+  pairs_settled (p ∷ ps) = ap (λ us. pair_settles p ∷ us) (pairs_settled ps)
+
+  pub length-pairs_bound : (ps : List BindsPair) (seen : Binders) → length (pairs_bound ps seen) ≡ length ps
+  length-pairs_bound [] seen = refl
+  length-pairs_bound (p ∷ ps) seen = ap (λ n. n + 1) (length-pairs_bound ps _)
