@@ -1,5 +1,6 @@
-ghost use Rattle.std.specs.Prelude.{◌≡◌, [], ◌∷◌, ◌++◌, OnErr, OnOk, length, take};
-ghost use Rattle.std.specs.Borrow.{Array, Lends, sem};
+ghost use Rattle.std.specs.Prelude.{◌≡◌, ◌<◌, [], ◌∷◌, ◌++◌, OnErr, OnOk, Some, length, slice_set, take};
+ghost use Rattle.std.specs.List.{slice_get};
+ghost use Rattle.std.specs.Borrow.{Lends, sem};
 ghost use Rattle.ic_laws.specs.contracts.items.Items.{the_row};
 
 use crate::OutOfMemory;
@@ -30,12 +31,14 @@ impl<T> Items<T> {
         self.inner.as_slice()
     }
 
-    /// The items in their order, each of which may be changed there.
-    pub fn as_mut_slice(&mut self) -> &mut [T]
-        ensures* writes_back { sem 𝓛 (Lends (the_row T.row) (Array T.row 0) self.entry result (λ w. w)) }
-        ensures items { result.now ≡ self.old }
+    /// The item at a place, from 0, which may be changed there.
+    pub fn at_mut(&mut self, place: usize) -> &mut T
+        requires { place < length self.old }
+        ensures* writes_back { sem 𝓛 (Lends (the_row T.row) T.row self.entry result
+            (slice_set self.old place)) }
+        ensures value { slice_get self.old place ≡ Some result.now }
     {
-        self.inner.as_mut_slice()
+        &mut self.inner[place]
     }
 
     /// How many items there are.

@@ -24,6 +24,7 @@ pub mod ReadLemmas
 pub mod ScopeLemmas
 pub mod ShownLemmas
 pub mod SightLemmas
+pub mod SettleLemmas
 pub mod Signs
 pub mod StoredLemmas
 pub mod Turning

@@ -5,8 +5,10 @@ use Rattle.ic_laws.specs.Binding.{Binders, BindsPair, BoundPair, all_bound, boun
 use Rattle.ic_laws.specs.Parse.{Pair}
 use Rattle.ic_laws.specs.Tree.{Bound, Spelled}
 use Rattle.ic_laws.specs.declared.scene.Scene.{Scene}
+use Rattle.ic_laws.proofs.binding.Again.{BoundKind, bound_node, bound-node, children_spelled, once, spelled-node}
 use Rattle.ic_laws.proofs.binding.PairLemmas.{pairs_more, variables_more}
-use Rattle.ic_tree.specs.Typed.{as_typed, pair_as_typed}
+use Rattle.ic_laws.specs.Binding.{spelled_kind}
+use Rattle.ic_tree.specs.Typed.{as_typed, no_text, own_name, pair_as_typed}
 
 -- one more item is put in its place
 pub put_next : {X : Type 0} (xs ys front : List X) (i : ℕ) (d y : X) → i < length xs → ys ≡ front ++ drop i xs → length front ≡ i → set ys i y ≡ (front ++ y ∷ []) ++ drop (i + 1) xs
@@ -40,3 +42,9 @@ module _ (english : List ℕ → Option ℕ) (scene : Scene) (scope : Option ℕ
   pub length-pairs_bound : (ps : List BindsPair) (seen : Binders) → length (pairs_bound ps seen) ≡ length ps
   length-pairs_bound [] seen = refl
   length-pairs_bound (p ∷ ps) seen = ap (λ n. n + 1) (length-pairs_bound ps _)
+
+  -- what a node that was only read is bound to
+  pub settled_node : (kind : BoundKind) (seen : Binders) → bound_under english scene scope (as_typed (bound_node kind)) seen ≡ bound_node (once english scene scope (spelled_kind no_text own_name (children_spelled no_text own_name kind)) seen)
+  settled_node kind seen =
+      ap (λ (t : Spelled). bound_under english scene scope t seen) (spelled-node no_text own_name kind)
+      ∙ bound-node english scene scope (spelled_kind no_text own_name (children_spelled no_text own_name kind)) seen

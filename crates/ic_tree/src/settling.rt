@@ -129,10 +129,10 @@ fn settle_under<N: Finder>(
             settle_under(alloc, names, english, scope, seen, b.as_mut())
         }
         Tree::Fun(_, arguments) => {
-            settle_all(alloc, names, english, scope, seen, arguments.as_mut_slice())
+            settle_all(alloc, names, english, scope, seen, arguments)
         }
         Tree::Call(word, arguments) => {
-            settle_all(alloc, names, english, scope, seen, arguments.as_mut_slice())?;
+            settle_all(alloc, names, english, scope, seen, arguments)?;
             match function_of(english, typed_word(word.as_ref())) {
                 Some(number) => {
                     let list = std::mem::replace(arguments, Items::from(Vec::new(alloc)));
@@ -144,7 +144,7 @@ fn settle_under<N: Finder>(
         }
         Tree::Let(pairs, body) => {
             let count = seen.len();
-            settle_pairs(alloc, names, english, scope, seen, pairs.as_mut_slice())?;
+            settle_pairs(alloc, names, english, scope, seen, pairs)?;
             settle_under(alloc, names, english, scope, seen, body.as_mut())?;
             seen.leave(count)
         }
@@ -156,7 +156,7 @@ fn settle_under<N: Finder>(
         }
         Tree::Apply(x, arguments) => {
             settle_under(alloc, names, english, scope, seen, x.as_mut())?;
-            settle_all(alloc, names, english, scope, seen, arguments.as_mut_slice())
+            settle_all(alloc, names, english, scope, seen, arguments)
         }
     }
 }
@@ -169,14 +169,14 @@ fn settle_all<N: Finder>(
     english: &Language,
     scope: Option<u32>,
     seen: &mut Binders,
-    ts: &mut [Bound],
+    ts: &mut Items<Bound>,
 ) -> Result<(), OutOfMemory>
     ensures bound { OnOk result (ts.new ≡ all_bound (map (bound_under (function_of english.now)
         (N.scene names.now) scope) (map as_typed ts.old)) seen.old) }
     ensures seen { OnOk result (seen.new ≡ seen.old) }
 {
-    for t in ts.iter_mut() {
-        settle_under(alloc, names, english, scope, seen, t)?;
+    for place in 0..ts.len() {
+        settle_under(alloc, names, english, scope, seen, ts.at_mut(place))?;
     }
     Ok(())
 }
@@ -189,7 +189,7 @@ fn settle_pairs<N: Finder>(
     english: &Language,
     scope: Option<u32>,
     seen: &mut Binders,
-    pairs: &mut [LetPair<SheetMention, NameMention>],
+    pairs: &mut Items<LetPair<SheetMention, NameMention>>,
 ) -> Result<(), OutOfMemory>
     ensures values { OnOk result (pairs.new
         ≡ pairs_bound (map (pair_binds (function_of english.now) (N.scene names.now) scope)
@@ -198,7 +198,8 @@ fn settle_pairs<N: Finder>(
         ≡ with_variables (map (pair_binds (function_of english.now) (N.scene names.now) scope)
         (map pair_as_typed pairs.old)) seen.old) }
 {
-    for pair in pairs.iter_mut() {
+    for place in 0..pairs.len() {
+        let pair = pairs.at_mut(place);
         settle_under(alloc, names, english, scope, seen, &mut pair.value)?;
         seen.push(pair.variable.as_str())?;
     }
