@@ -24,6 +24,17 @@ pub fn read<D: Dialect>(alloc: Global, d: &D, text: &str) -> Result<Option<Spell
     ensures none { IfOk result (λ r. MatchOption r
         ((t : trees.Spelled) → Reads (D.meaning d.now) (chars text.now) t → ⊥) (λ t. Unit {0})) }
 {
+    read_spelled(alloc, d, text)
+}
+
+/// The same, without what it means to read.
+fn read_spelled<D: Dialect>(
+    alloc: Global,
+    d: &D,
+    text: &str,
+) -> Result<Option<Spelled>, OutOfMemory>
+    ensures { IfOk result (λ r. r ≡ read_as (D.meaning d.now) (chars text.now)) }
+{
     match read_typed(alloc, d, text) {
         Err(e) => Err(e),
         Ok(None) => Ok(None),
