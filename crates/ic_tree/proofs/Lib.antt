@@ -28,5 +28,6 @@ pub mod SettleLemmas
 pub mod Signs
 pub mod StoredLemmas
 pub mod Turning
+pub mod TypedLet
 pub mod WordLemmas
 mod machine

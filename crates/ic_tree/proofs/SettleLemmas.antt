@@ -1,6 +1,9 @@
 -- Binding in place: arguments and pairs of which the first are bound and the others stand as they were read.
-use Rattle.std.proofs.Common.{◌≡◌, ℕ, ◌+◌, ◌<◌, ◌≤◌, length, take, drop, get_or, set, List, [], ◌∷◌, ◌++◌, map, refl, sym, ap, ap₂, ◌∙◌, append_assoc, arith, Option}
+use Rattle.std.proofs.Common.{◌≡◌, ℕ, ◌+◌, ◌<◌, ◌≤◌, length, take, drop, get_or, set, List, [], ◌∷◌, ◌++◌, map, refl, sym, ap, ap₂, ◌∙◌, append_assoc, arith, Option, Some}
 use Rattle.std.proofs.lemmas.List.{append-nil, drop_all, drop_more, get_or_at, length-map, length-take, set_at, take_all}
+use Rattle.std.proofs.lemmas.List.Edits.{map_over_more}
+use Rattle.std.proofs.lemmas.Option.{get_or_from_slice_get}
+use Rattle.std.specs.List.{slice_get}
 use Rattle.ic_laws.specs.Binding.{Binders, BindsPair, BoundPair, all_bound, bound_pair_of, bound_under, pair_binds, pairs_bound, with_variables}
 use Rattle.ic_laws.specs.Parse.{Pair}
 use Rattle.ic_laws.specs.Tree.{Bound, Spelled}
@@ -42,6 +45,50 @@ module _ (english : List ℕ → Option ℕ) (scene : Scene) (scope : Option ℕ
   pub length-pairs_bound : (ps : List BindsPair) (seen : Binders) → length (pairs_bound ps seen) ≡ length ps
   length-pairs_bound [] seen = refl
   length-pairs_bound (p ∷ ps) seen = ap (λ n. n + 1) (length-pairs_bound ps _)
+
+  -- one more argument is bound
+  pub all_step : (xs ys : List Bound) (i : ℕ) (old new : Bound) (seen : Binders) → i < length xs → ys ≡ map (settled seen) (take i xs) ++ drop i xs → slice_get ys i ≡ Some old → new ≡ settled seen old → set ys i new ≡ map (settled seen) (take (i + 1) xs) ++ drop (i + 1) xs
+  all_step xs ys i old new seen within half stands is =
+      ap (λ t. set ys i t) is ∙ map_over_more (settled seen) xs ys i old within half (sym (get_or_from_slice_get ys i old old stands))
+
+  -- all are
+  pub all_done : (xs ys : List Bound) (n : ℕ) (seen : Binders) → length xs ≤ n → ys ≡ map (settled seen) (take n xs) ++ drop n xs → ys ≡ all_bound (map (bound_under english scene scope) (map as_typed xs)) seen
+  all_done xs ys n seen le half =
+      half ∙ (ap₂ (λ (a b : List Bound). map (settled seen) a ++ b) (take_all n xs le) (drop_all n xs le) ∙ (append-nil _ ∙ all_settled xs seen))
+
+  module _ (xs ys : List BoundPair) (i : ℕ) (old : BoundPair) (seen first : Binders) (within : i < length xs) (half : ys ≡ pairs_bound (map pair_settles (take i xs)) first ++ drop i xs) (seen_is : seen ≡ with_variables (map pair_settles (take i xs)) first) (stands : slice_get ys i ≡ Some old) where
+    front : List BoundPair
+    front = pairs_bound (map pair_settles (take i xs)) first
+
+    long : length front ≡ i
+    unfolding front
+    long = length-pairs_bound (map pair_settles (take i xs)) first ∙ (length-map (take i xs) pair_settles ∙ omega (arith, length-take i xs, within))
+
+    same : old ≡ get_or xs i old
+    unfolding front
+    same = sym (get_or_from_slice_get ys i old old stands) ∙ next_stands xs ys front i old within half long
+
+    -- one more value of a variable is bound
+    pub pairs_put : (value : Bound) → value ≡ settled seen old.value → set ys i (bound_pair_of old.variable value) ≡ pairs_bound (map pair_settles (take (i + 1) xs)) first ++ drop (i + 1) xs
+    unfolding front
+    pairs_put value is =
+        put_next xs ys front i old (bound_pair_of old.variable value) within half long
+        ∙ ap (λ l. l ++ drop (i + 1) xs)
+        (ap (λ p. front ++ p ∷ []) (ap₂ bound_pair_of (ap (λ (p : BoundPair). p.variable) same) (is ∙ ap₂ (λ (p : BoundPair) (s : Binders). settled s p.value) same seen_is))
+        ∙ sym (pairs_more pair_settles xs first i old within))
+
+    -- and the variable is seen
+    pub pairs_seen : seen ++ old.variable ∷ [] ≡ with_variables (map pair_settles (take (i + 1) xs)) first
+    pairs_seen = ap₂ (λ (s : Binders) (v : List ℕ). s ++ v ∷ []) seen_is (ap (λ (p : BoundPair). p.variable) same) ∙ sym (variables_more pair_settles xs first i old within)
+
+  -- all pairs are bound
+  pub pairs_done : (xs ys : List BoundPair) (n : ℕ) (first : Binders) → length xs ≤ n → ys ≡ pairs_bound (map pair_settles (take n xs)) first ++ drop n xs → ys ≡ pairs_bound (map (pair_binds english scene scope) (map pair_as_typed xs)) first
+  pairs_done xs ys n first le half =
+      half ∙ (ap₂ (λ (a b : List BoundPair). pairs_bound (map pair_settles a) first ++ b) (take_all n xs le) (drop_all n xs le) ∙ (append-nil _ ∙ ap (λ ps. pairs_bound ps first) (pairs_settled xs)))
+
+  pub seen_done : (xs : List BoundPair) (n : ℕ) (seen first : Binders) → length xs ≤ n → seen ≡ with_variables (map pair_settles (take n xs)) first → seen ≡ with_variables (map (pair_binds english scene scope) (map pair_as_typed xs)) first
+  seen_done xs n seen first le is =
+      is ∙ ap (λ ps. with_variables ps first) (ap (λ (a : List BoundPair). map pair_settles a) (take_all n xs le) ∙ pairs_settled xs)
 
   -- what a node that was only read is bound to
   pub settled_node : (kind : BoundKind) (seen : Binders) → bound_under english scene scope (as_typed (bound_node kind)) seen ≡ bound_node (once english scene scope (spelled_kind no_text own_name (children_spelled no_text own_name kind)) seen)

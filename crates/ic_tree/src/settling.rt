@@ -1,7 +1,8 @@
-ghost use Rattle.std.specs.Prelude.{◌≡◌, OnOk, chars, map};
+ghost use Rattle.std.specs.Prelude.{◌≡◌, OnOk, chars, map, option_map};
 ghost use Rattle.ic_laws.specs.Binding.{all_bound, bound, bound_local, bound_sheet, bound_under, bound_word, pair_binds, pairs_bound, with_variables};
+ghost use Rattle.ic_laws.specs.declared.tree.NameMention.TheVariants as mentions;
 ghost use Rattle.ic_tree.specs.LanguageWords.{function_of};
-ghost use Rattle.ic_tree.specs.Typed.{as_typed, pair_as_typed, typed_sheet, typed_word};
+ghost use Rattle.ic_tree.specs.Typed.{as_typed, dangling_sheet, pair_as_typed, typed_sheet, typed_word};
 
 use crate::in_scope::Binders;
 use crate::language_words::function_of;
@@ -12,8 +13,9 @@ use ic_laws::{
 use ic_tables::Language;
 use std::alloc::Global;
 
-/// Binds a formula where it stands, as `bind` does a copy of it. What it mentions dangles before, as it was typed. After
-/// an error nothing is known of the formula.
+/// Binds a formula where it stands, as `bind` does a copy of it. It is one that was only read, so what it mentions dangles
+/// as it was typed; what doesn't is looked for again, by the text that it would dangle by. After an error nothing is known
+/// of the formula.
 pub fn settle<N: Finder>(
     alloc: Global,
     names: &N,
@@ -34,13 +36,37 @@ fn settle_sheet<N: Finder>(
     names: &N,
     sheet: &mut SheetMention,
 ) -> Result<(), OutOfMemory>
-    ensures { OnOk result (sheet.new
-        ≡ bound_sheet (N.scene names.now) (typed_sheet sheet.old)) }
+    ensures { OnOk result (sheet.new ≡ bound_sheet (N.scene names.now) (typed_sheet sheet.old)) }
 {
-    if let SheetMention::Dangling(name) = sheet {
-        if let Some(id) = names.find_sheet(alloc, name.as_ref().as_str())? {
+    let Some(name) = typed_sheet(sheet) else {
+        return Ok(());
+    };
+    match names.find_sheet(alloc, name)? {
+        Some(id) => {
             *sheet = SheetMention::Sheet(id);
+            Ok(())
         }
+        None => dangle_sheet(alloc, sheet),
+    }
+}
+
+/// A sheet as it was typed, None where the formula's own is meant.
+fn typed_sheet(sheet: &SheetMention) -> Option<&str>
+    ensures { option_map (λ s. chars s.now) result ≡ typed_sheet sheet.now }
+{
+    match sheet {
+        SheetMention::Own => None,
+        SheetMention::Sheet(_) => Some(""),
+        SheetMention::Dangling(name) => Some(name.as_ref().as_str()),
+    }
+}
+
+/// A sheet that isn't found dangles.
+fn dangle_sheet(alloc: Global, sheet: &mut SheetMention) -> Result<(), OutOfMemory>
+    ensures { OnOk result (sheet.new ≡ dangling_sheet (typed_sheet sheet.old)) }
+{
+    if let SheetMention::Sheet(_) = sheet {
+        *sheet = SheetMention::Dangling(Boxed::from_str(alloc, "")?);
     }
     Ok(())
 }
@@ -62,10 +88,13 @@ fn settle_word<N: Finder>(
         *word = NameMention::Var(text);
         return Ok(());
     }
-    if let Some(key) = names.find_name(alloc, scope, text)? {
-        *word = NameMention::Name(Boxed::new(alloc, key)?);
+    match names.find_name(alloc, scope, text)? {
+        Some(key) => {
+            *word = NameMention::Name(Boxed::new(alloc, key)?);
+            Ok(())
+        }
+        None => dangle_word(alloc, word),
     }
-    Ok(())
 }
 
 /// A word as it was typed.
@@ -79,6 +108,18 @@ fn typed_word(word: &NameMention) -> &str
     }
 }
 
+/// A word that isn't found dangles.
+fn dangle_word(alloc: Global, word: &mut NameMention) -> Result<(), OutOfMemory>
+    ensures { OnOk result (word.new ≡ mentions.Dangling (typed_word word.old)) }
+{
+    if let NameMention::Dangling(_) = word {
+        return Ok(());
+    }
+    let text = Boxed::from_str(alloc, typed_word(word))?;
+    *word = NameMention::Dangling(text);
+    Ok(())
+}
+
 /// The definition that a word with this sheet means: one that is local to that sheet, and no other.
 fn settle_local_word<N: Finder>(
     alloc: Global,
@@ -89,12 +130,16 @@ fn settle_local_word<N: Finder>(
     ensures { OnOk result (word.new
         ≡ bound_local (N.scene names.now) sheet.now (typed_word word.old)) }
 {
-    if let SheetMention::Sheet(id) = sheet {
-        if let Some(key) = find_local(alloc, names, *id, typed_word(word))? {
+    let SheetMention::Sheet(id) = sheet else {
+        return dangle_word(alloc, word);
+    };
+    match find_local(alloc, names, *id, typed_word(word))? {
+        Some(key) => {
             *word = NameMention::Name(Boxed::new(alloc, key)?);
+            Ok(())
         }
+        None => dangle_word(alloc, word),
     }
-    Ok(())
 }
 
 /// A formula that stands where these variables are seen. They are the same after an Ok.
@@ -128,9 +173,7 @@ fn settle_under<N: Finder>(
             settle_under(alloc, names, english, scope, seen, a.as_mut())?;
             settle_under(alloc, names, english, scope, seen, b.as_mut())
         }
-        Tree::Fun(_, arguments) => {
-            settle_all(alloc, names, english, scope, seen, arguments)
-        }
+        Tree::Fun(_, arguments) => { settle_all(alloc, names, english, scope, seen, arguments) }
         Tree::Call(word, arguments) => {
             settle_all(alloc, names, english, scope, seen, arguments)?;
             match function_of(english, typed_word(word.as_ref())) {
