@@ -1,5 +1,5 @@
 -- Binding in place: arguments and pairs of which the first are bound and the others stand as they were read.
-use Rattle.std.proofs.Common.{◌≡◌, ℕ, ◌+◌, ◌<◌, ◌≤◌, length, take, drop, get_or, set, List, [], ◌∷◌, ◌++◌, map, refl, sym, ap, ap₂, ◌∙◌, append_assoc, arith, Option, Some}
+use Rattle.std.proofs.Common.{◌≡◌, ℕ, suc, ◌+◌, ◌<◌, ◌≤◌, length, take, drop, get_or, set, List, [], ◌∷◌, ◌++◌, map, refl, sym, ap, ap₂, ◌∙◌, append_assoc, arith, Option, Some}
 use Rattle.std.proofs.lemmas.List.{append-nil, drop_all, drop_more, get_or_at, length-map, length-take, set_at, take_all}
 use Rattle.std.proofs.lemmas.List.Edits.{map_over_more}
 use Rattle.std.proofs.lemmas.Option.{get_or_from_slice_get}
@@ -8,6 +8,7 @@ use Rattle.ic_laws.specs.Binding.{Binders, BindsPair, BoundPair, all_bound, boun
 use Rattle.ic_laws.specs.Parse.{Pair}
 use Rattle.ic_laws.specs.Tree.{Bound, Spelled}
 use Rattle.ic_laws.specs.declared.scene.Scene.{Scene}
+use Rattle.ic_laws.specs.declared.tree.Tree.TheOpen as one
 use Rattle.ic_laws.proofs.binding.Again.{BoundKind, bound_node, bound-node, children_spelled, once, spelled-node}
 use Rattle.ic_laws.proofs.binding.PairLemmas.{pairs_more, variables_more}
 use Rattle.ic_laws.specs.Binding.{spelled_kind}
@@ -44,7 +45,7 @@ module _ (english : List ℕ → Option ℕ) (scene : Scene) (scope : Option ℕ
 
   pub length-pairs_bound : (ps : List BindsPair) (seen : Binders) → length (pairs_bound ps seen) ≡ length ps
   length-pairs_bound [] seen = refl
-  length-pairs_bound (p ∷ ps) seen = ap (λ n. n + 1) (length-pairs_bound ps _)
+  length-pairs_bound (p ∷ ps) seen = ap suc (length-pairs_bound ps (seen ++ p.variable ∷ []))
 
   -- one more argument is bound
   pub all_step : (xs ys : List Bound) (i : ℕ) (old new : Bound) (seen : Binders) → i < length xs → ys ≡ map (settled seen) (take i xs) ++ drop i xs → slice_get ys i ≡ Some old → new ≡ settled seen old → set ys i new ≡ map (settled seen) (take (i + 1) xs) ++ drop (i + 1) xs
@@ -95,3 +96,10 @@ module _ (english : List ℕ → Option ℕ) (scene : Scene) (scope : Option ℕ
   settled_node kind seen =
       ap (λ (t : Spelled). bound_under english scene scope t seen) (spelled-node no_text own_name kind)
       ∙ bound-node english scene scope (spelled_kind no_text own_name (children_spelled no_text own_name kind)) seen
+
+  -- what a LET that was only read is bound to
+  pub settled_let : (pairs : List BoundPair) (body : Bound) (ps : List BoundPair) (t : Bound) (later seen : Binders) → ps ≡ pairs_bound (map (pair_binds english scene scope) (map pair_as_typed pairs)) seen → later ≡ with_variables (map (pair_binds english scene scope) (map pair_as_typed pairs)) seen
+      → t ≡ bound_under english scene scope (as_typed body) later → bound_node (one.Let ps t) ≡ bound_under english scene scope (as_typed (bound_node (one.Let pairs body))) seen
+  settled_let pairs body ps t later seen e v f =
+      ap₂ (λ (xs : List BoundPair) (u : Bound). bound_node (one.Let xs u)) e (f ∙ ap (λ (s : Binders). bound_under english scene scope (as_typed body) s) v)
+      ∙ sym (settled_node (one.Let pairs body) seen)

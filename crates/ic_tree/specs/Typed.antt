@@ -1,6 +1,6 @@
 -- A formula that was only read: each sheet and each word dangles in it as it was typed. What its text spells.
 use Rattle.std.specs.Prelude.{ℕ, List, [], Option, None, Some}
-use Rattle.ic_laws.specs.Binding.{BoundPair, spelled_pair_step, spelled_sheet, spelled_with, spelled_word}
+use Rattle.ic_laws.specs.Binding.{Binders, BindsPair, BoundPair, bound_pair_of, spelled_pair_step, spelled_sheet, spelled_with, spelled_word}
 use Rattle.ic_laws.specs.Parse.{Pair, pair_of}
 use Rattle.ic_laws.specs.Tree.{Bound, Spelled}
 use Rattle.ic_laws.specs.declared.tree.NameKey.{NameKey}
@@ -36,3 +36,7 @@ as_typed t = spelled_with no_text own_name t
 -- a variable of LET with its value, both as they were typed
 abbrev pub pair_as_typed : BoundPair → Pair
 pair_as_typed pair = pair_of pair.variable (as_typed pair.value)
+
+-- a variable of LET with its value, bound where these variables are seen
+abbrev pub pair_bound : BindsPair → Binders → BoundPair
+pair_bound pair binders = bound_pair_of pair.variable (pair.value binders)

@@ -1,8 +1,8 @@
-ghost use Rattle.std.specs.Prelude.{◌≡◌, OnOk, chars, map, option_map};
+ghost use Rattle.std.specs.Prelude.{◌≡◌, ◌∷◌, [], OnOk, chars, map, option_map};
 ghost use Rattle.ic_laws.specs.Binding.{all_bound, bound, bound_local, bound_sheet, bound_under, bound_word, pair_binds, pairs_bound, with_variables};
 ghost use Rattle.ic_laws.specs.declared.tree.NameMention.TheVariants as mentions;
 ghost use Rattle.ic_tree.specs.LanguageWords.{function_of};
-ghost use Rattle.ic_tree.specs.Typed.{as_typed, dangling_sheet, pair_as_typed, typed_sheet, typed_word};
+ghost use Rattle.ic_tree.specs.Typed.{as_typed, dangling_sheet, pair_as_typed, pair_bound, typed_sheet, typed_word};
 
 use crate::in_scope::Binders;
 use crate::language_words::function_of;
@@ -242,9 +242,28 @@ fn settle_pairs<N: Finder>(
         (map pair_as_typed pairs.old)) seen.old) }
 {
     for place in 0..pairs.len() {
-        let pair = pairs.at_mut(place);
-        settle_under(alloc, names, english, scope, seen, &mut pair.value)?;
-        seen.push(pair.variable.as_str())?;
+        settle_pair(alloc, names, english, scope, seen, pairs.at_mut(place))?;
     }
     Ok(())
+}
+
+/// A variable of LET with its value; it is seen from then on.
+#[cycle(settle)]
+fn settle_pair<N: Finder>(
+    alloc: Global,
+    names: &N,
+    english: &Language,
+    scope: Option<u32>,
+    seen: &mut Binders,
+    pair: &mut LetPair<SheetMention, NameMention>,
+) -> Result<(), OutOfMemory>
+    ensures value { OnOk result (pair.new
+        ≡ pair_bound (pair_binds (function_of english.now) (N.scene names.now) scope
+        (pair_as_typed pair.old)) seen.old) }
+    ensures variable { OnOk result (seen.new
+        ≡ with_variables (pair_binds (function_of english.now) (N.scene names.now) scope
+        (pair_as_typed pair.old) ∷ []) seen.old) }
+{
+    settle_under(alloc, names, english, scope, seen, &mut pair.value)?;
+    seen.push(pair.variable.as_str())
 }

@@ -1,5 +1,5 @@
-use Rattle.std.proofs.Common.{◌≡◌, ◌++◌, take, drop, map}
-use Rattle.ic_laws.specs.Binding.{pairs_bound, with_variables}
+use Rattle.std.proofs.Common.{◌≡◌, ◌++◌, ◌≤◌, ℕ, get_or, length, take, drop, map}
+use Rattle.ic_laws.specs.Binding.{BoundPair, pairs_bound, with_variables}
 use Rattle.ic_tree.specs.LanguageWords.{function_of}
 use Rattle.ic_tree.proofs.SettleLemmas.{pair_settles, settled}
 use Rattle.ic_tree.proofs.settling.+settle.Given as goal
@@ -13,3 +13,5 @@ abbrev pub invariant-settle_pairs-loop-place : goal.invariant-settle_pairs-loop-
 invariant-settle_pairs-loop-place g l =
     (l.pairs ≡ pairs_bound (map (pair_settles (function_of l.english) (g.N.Finder.scene l.names) l.scope) (take l.place l.initial.pairs)) l.initial.seen ++ drop l.place l.initial.pairs)
     × (l.seen ≡ with_variables (map (pair_settles (function_of l.english) (g.N.Finder.scene l.names) l.scope) (take l.place l.initial.pairs)) l.initial.seen)
+    × (length l.pairs ≡ length l.initial.pairs)
+    × ((k : ℕ) (d : BoundPair) → l.place ≤ k → get_or l.pairs k d ≡ get_or l.initial.pairs k d)

@@ -1,4 +1,4 @@
-use Rattle.std.proofs.Common.{ap, length, sym, ◌∙◌}
+use Rattle.std.proofs.Common.{ap, if◌then◌else◌, length, nat_le, None, Some, sym, ◌∙◌}
 use Rattle.std.proofs.lemmas.Bool.{eqb-false}
 use Rattle.ic_laws.specs.Tree.{Bound, height}
 use Rattle.ic_laws.specs.declared.tree.Tree.TheVariants.{rolls-Let}
@@ -13,5 +13,6 @@ built-requires c =
 
 pub returns : goal.returns
 returns c rest =
-    let_taken c.args.most c.into_parts-items.result.0 c.as_slice.result.now c.from.result c.args.pairs _ _ rest c.into_parts-items.ensures.pairs (ap as_typed c.from.ensures) c.as_slice.ensures
-    (eqb-false (length c.as_slice.result.now) 0 (sym c.is_empty.ensures ∙ c.if-is_empty.false)) c.in_ok-built.ensures
+    let_taken c.args.most c.into_parts-items.result.0 c.as_slice.result.now c.from.result c.args.pairs c.args.self _ rest c.into_parts-items.ensures.pairs (ap as_typed c.from.ensures ∙ c.self.view_is) c.as_slice.ensures
+    (eqb-false (length c.as_slice.result.now) 0 (sym c.is_empty.ensures ∙ c.if-is_empty.false))
+    (c.in_ok-built.ensures ∙ ap (λ (t : Bound). if nat_le (height (as_typed t)) c.args.most then Some (as_typed t) else None) (sym (rolls-Let c.into_parts-items.result.0 c.from.result)))
