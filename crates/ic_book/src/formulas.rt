@@ -36,7 +36,7 @@ use ic_laws::{Bound, Dialect, Formula, OutOfMemory, Spelled, Text};
 use ic_pool::Steps;
 use ic_sheets::{FormulaKind, Sheet};
 use ic_tables::Tables;
-use ic_tree::{Shown, bind, is_dynamic, print_bound, read};
+use ic_tree::{Shown, bind, is_dynamic, print_bound, read_typed, settle};
 use std::alloc::Global;
 use std::sync::ledger::Ledger;
 
@@ -220,7 +220,7 @@ impl<'a> Model<'a> {
             (core_of self.now.book) id row column (chars body.now)) }
     {
         match read_cell(self.alloc, &self.shown(row, column), body)? {
-            Some(tree) => Ok(Formula::Tree(self.bound(id, &tree)?)),
+            Some(tree) => self.settled(id, tree),
             None => Ok(Formula::Raw(Text::from_str(self.alloc, body)?)),
         }
     }
@@ -232,6 +232,17 @@ impl<'a> Model<'a> {
     {
         let english = self.notation.get_default_language();
         bind(self.alloc, &self.scene(), english, Some(id), tree)
+    }
+
+    /// A formula of the sheet with this id that was only read, bound to what it finds in the book.
+    fn settled(&self, id: u32, tree: Bound) -> Result<Formula, OutOfMemory>
+        ensures { IfOk result (λ f. f ≡ kept.Tree (bound (english_function (notations_in self.now.book))
+            (scene_in self.now.book) (Some id) (as_typed tree))) }
+    {
+        let mut tree = tree;
+        let english = self.notation.get_default_language();
+        settle(self.alloc, &self.scene(), english, Some(id), &mut tree)?;
+        Ok(Formula::Tree(tree))
     }
 
     /// How formulas are written now, in the cell at a row and a column.
@@ -291,23 +302,23 @@ impl<'a> Model<'a> {
 }
 
 /// The tree of a text in a cell: as it stands, or else with a `)` added.
-fn read_cell<D: Dialect>(alloc: Global, d: &D, text: &str) -> Result<Option<Spelled>, OutOfMemory>
+fn read_cell<D: Dialect>(alloc: Global, d: &D, text: &str) -> Result<Option<Bound>, OutOfMemory>
     ensures { IfOk result (λ t. t ≡ cell_tree (D.meaning d.now) (chars text.now)) }
 {
-    match read(alloc, d, text)? {
+    match read_typed(alloc, d, text)? {
         Some(tree) => Ok(Some(tree)),
         None => read_closed(alloc, d, text),
     }
 }
 
 /// The tree of a text with a `)` added.
-fn read_closed<D: Dialect>(alloc: Global, d: &D, text: &str) -> Result<Option<Spelled>, OutOfMemory>
+fn read_closed<D: Dialect>(alloc: Global, d: &D, text: &str) -> Result<Option<Bound>, OutOfMemory>
     ensures { IfOk result (λ t. t ≡ read_as (D.meaning d.now) (chars text.now ++ codes ")")) }
 {
     let mut closed = String::with_capacity(alloc, text.len())?;
     push_text(&mut closed, text)?;
     push_char(&mut closed, ')')?;
-    read(alloc, d, closed.as_str())
+    read_typed(alloc, d, closed.as_str())
 }
 
 /// The formula in a cell of a sheet.

@@ -25,8 +25,10 @@ pub mod ReadLemmas
 pub mod ScopeLemmas
 pub mod ShownLemmas
 pub mod SightLemmas
+pub mod SettleLemmas
 pub mod Signs
 pub mod StoredLemmas
 pub mod Turning
+pub mod TypedLet
 pub mod WordLemmas
 mod machine

@@ -15,4 +15,5 @@ pub mod StoredText
 pub mod Tokens
 pub mod Turn
 pub mod Turned
+pub mod Typed
 pub mod laws

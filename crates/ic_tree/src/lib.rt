@@ -20,6 +20,7 @@ mod number;
 mod printer;
 mod reader;
 mod reading;
+mod settling;
 mod shown;
 mod spelling;
 mod stored;
@@ -34,7 +35,8 @@ pub use law::{
     law_stored_formula, law_tokens_before,
 };
 pub(crate) use measured::Measured;
-pub use reading::{read, read_reference};
+pub use reading::{read, read_reference, read_typed};
+pub use settling::settle;
 pub use shown::Shown;
 pub use spelling::{Spelling, spell_definition, spell_sheet, spell_with};
 pub use stored::Stored;

@@ -4,16 +4,18 @@ ghost use Rattle.ic_laws.specs.Tree.{height, is_callable};
 ghost use Rattle.ic_laws.specs.Parse.{made, node};
 ghost use Rattle.ic_laws.specs.declared.tree.Tree.TheOpen as one;
 ghost use Rattle.ic_tree.specs.Turned.{let_made};
+ghost use Rattle.ic_tree.specs.Typed.{as_typed};
 
 use crate::reader::{Arguments, Pairs};
-use ic_laws::{BinarySign, Boxed, Items, OutOfMemory, PrefixSign, Spelled, Text, Tree};
+use ic_laws::{BinarySign, Bound, Boxed, Items, NameMention, OutOfMemory, PrefixSign, Text, Tree};
 use std::alloc::Global;
 use std::marker::Model;
 
-/// A tree with its height. Contracts see the tree.
+/// A tree that was read, with its height: each sheet and each word dangles in it as it was typed. Contracts see what the
+/// text spells.
 #[derive(Drop)]
 pub struct Measured {
-    tree: Box<Spelled>,
+    tree: Box<Bound>,
     nodes: usize,
 }
 
@@ -31,22 +33,24 @@ impl Model for Measured {
     ghost coded = { Prim.hlevel (codes, (trees.the_row (option.the_row text.the_row) text.the_row).coded) };
 
     ghost use Rattle.ic_laws.specs.Tree.{height};
+    ghost use Rattle.ic_tree.specs.Typed.{as_typed};
 
-    ghost view = { λ m. m.tree.value };
+    ghost view = { λ m. as_typed m.tree.value };
 
-    ghost invariant = { λ m. m.nodes ≡ height m.tree.value };
+    ghost invariant = { λ m. m.nodes ≡ height (as_typed m.tree.value) };
 }
 
 impl Measured {
     /// The tree, whose parts are so high, where it may be one higher.
     fn built(
         alloc: Global,
-        tree: Spelled,
+        tree: Bound,
         below: usize,
         most: usize,
     ) -> Result<Option<Measured>, OutOfMemory>
-        requires { height tree ≡ below + 1 }
-        ensures { IfOk result (λ r. r ≡ (if nat_le (height tree) most then Some tree else None)) }
+        requires { height (as_typed tree) ≡ below + 1 }
+        ensures { IfOk result (λ r. r ≡ (if nat_le (height (as_typed tree)) most
+            then Some (as_typed tree) else None)) }
     {
         if below >= most {
             return Ok(None);
@@ -59,9 +63,10 @@ impl Measured {
     }
 
     /// A leaf, where a tree may be so high.
-    pub fn leaf(alloc: Global, tree: Spelled, most: usize) -> Result<Option<Measured>, OutOfMemory>
-        requires { height tree ≡ 1 }
-        ensures { IfOk result (λ r. r ≡ (if nat_le (height tree) most then Some tree else None)) }
+    pub fn leaf(alloc: Global, tree: Bound, most: usize) -> Result<Option<Measured>, OutOfMemory>
+        requires { height (as_typed tree) ≡ 1 }
+        ensures { IfOk result (λ r. r ≡ (if nat_le (height (as_typed tree)) most
+            then Some (as_typed tree) else None)) }
     {
         Measured::built(alloc, tree, 0, most)
     }
@@ -75,15 +80,15 @@ impl Measured {
     }
 
     /// The tree alone.
-    pub fn into_tree(self) -> Spelled
-        ensures { result ≡ self }
+    pub fn into_tree(self) -> Bound
+        ensures { as_typed result ≡ self }
     {
         Box::into_inner(self.tree)
     }
 
     /// The tree and its height.
-    pub fn into_parts(self) -> (Spelled, usize)
-        ensures tree { result.0 ≡ self }
+    pub fn into_parts(self) -> (Bound, usize)
+        ensures tree { as_typed result.0 ≡ self }
         ensures nodes { result.1 ≡ height self }
     {
         (Box::into_inner(self.tree), self.nodes)
@@ -187,6 +192,7 @@ impl Measured {
             ≡ made most (one.Call name arguments) rest) }
     {
         let (items, below) = arguments.into_parts();
+        let name = NameMention::Dangling(Boxed::new(alloc, name)?);
         let tree = Tree::Call(Boxed::new(alloc, name)?, items);
         Ok(Measured::built(alloc, tree, below, most)?)
     }

@@ -3,6 +3,7 @@ ghost use Rattle.ic_laws.specs.Parse.{argument, arguments, binary, bracketed, fo
 ghost use Rattle.ic_tree.specs.Listing.{all_listed};
 ghost use Rattle.ic_tree.specs.Tokens.{token_of};
 ghost use Rattle.ic_tree.specs.Turn.{IsTurn, turn_of};
+ghost use Rattle.ic_tree.specs.Typed.{as_typed};
 
 mod array;
 mod binder;
@@ -14,7 +15,7 @@ use crate::{Ahead, Measured, Token, TokenSource};
 use array::read_array;
 use binder::{Begun, next_part};
 pub use gathered::{Arguments, Pairs};
-use ic_laws::{Dialect, OutOfMemory, Spelled, Text};
+use ic_laws::{Bound, Dialect, OutOfMemory, Text};
 use leaf::{is_called_name, read_leaf};
 use sign::{ends_argument, level_of, sign_before, take_close, take_separator};
 use std::alloc::Global;
@@ -37,8 +38,9 @@ pub fn parse<D: Dialect, S: TokenSource>(
     alloc: Global,
     d: &D,
     source: &mut S,
-) -> Result<Option<Spelled>, OutOfMemory>
-    ensures tree { IfOk result (λ r. r ≡ parsed (D.meaning d.now) (S.left source.old)) }
+) -> Result<Option<Bound>, OutOfMemory>
+    ensures tree { IfOk result (λ r. option_map as_typed r
+        ≡ parsed (D.meaning d.now) (S.left source.old)) }
     ensures whole { IfOk result (λ r. IfSome r (λ t. S.left source.new ≡ [])) }
 {
     let Some(tree) = read(alloc, d, source, 1024, 128, 1)? else {

@@ -76,6 +76,7 @@ fn read_row<S: TokenSource>(
         };
         constants.push(next)?;
         if !take_separator(alloc, source)? {
+            constants.shrink_to_fit();
             return Ok(Some(Items::from(constants)));
         }
     }
@@ -97,6 +98,7 @@ fn read_rows<D: Dialect, S: TokenSource>(
         };
         rows.push(next)?;
         if !take_row_sign(alloc, d, source)? {
+            rows.shrink_to_fit();
             return Ok(Some(Items::from(rows)));
         }
     }

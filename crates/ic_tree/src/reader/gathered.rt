@@ -3,16 +3,17 @@ ghost use Rattle.ic_laws.specs.Greatest.{greatest};
 ghost use Rattle.ic_laws.specs.Tree.{height};
 ghost use Rattle.ic_laws.specs.Parse.{pair_of};
 ghost use Rattle.ic_tree.specs.Turned.{value_height};
+ghost use Rattle.ic_tree.specs.Typed.{as_typed, pair_as_typed};
 
 use crate::Measured;
-use ic_laws::{Items, LetPair, OutOfMemory, Spelled, Text};
+use ic_laws::{Bound, Items, LetPair, NameMention, OutOfMemory, SheetMention, Text};
 use std::alloc::Global;
 use std::marker::Model;
 
 /// The arguments of a call, in their order, with the greatest height of them. Contracts see the trees.
 #[derive(Drop)]
 pub struct Arguments {
-    trees: Vec<Spelled>,
+    trees: Vec<Bound>,
     highest: usize,
 }
 
@@ -30,9 +31,11 @@ impl Model for Arguments {
 
     ghost coded = { Prim.hlevel (codes, (tree.the_row (option.the_row text.the_row) text.the_row).coded) };
 
-    ghost view = { λ a. a.trees.items };
+    ghost use Rattle.ic_tree.specs.Typed.{as_typed};
 
-    ghost invariant = { λ a. a.highest ≡ greatest (map height a.trees.items) };
+    ghost view = { λ a. map as_typed a.trees.items };
+
+    ghost invariant = { λ a. a.highest ≡ greatest (map height (map as_typed a.trees.items)) };
 }
 
 impl Arguments {
@@ -57,11 +60,13 @@ impl Arguments {
     }
 
     /// The arguments and the greatest height of them, 0 for none.
-    pub fn into_parts(self) -> (Items<Spelled>, usize)
-        ensures trees { result.0 ≡ self }
+    pub fn into_parts(self) -> (Items<Bound>, usize)
+        ensures trees { map as_typed result.0 ≡ self }
         ensures highest { result.1 ≡ greatest (map height self) }
     {
-        (Items::from(self.trees), self.highest)
+        let Arguments { mut trees, highest } = self;
+        trees.shrink_to_fit();
+        (Items::from(trees), highest)
     }
 }
 
@@ -69,7 +74,7 @@ impl Arguments {
 /// pairs.
 #[derive(Drop)]
 pub struct Pairs {
-    pairs: Vec<LetPair<Option<Text>, Text>>,
+    pairs: Vec<LetPair<SheetMention, NameMention>>,
     highest: usize,
 }
 
@@ -88,9 +93,11 @@ impl Model for Pairs {
 
     ghost coded = { Prim.hlevel (codes, (pair.the_row (option.the_row text.the_row) text.the_row).coded) };
 
-    ghost view = { λ p. p.pairs.items };
+    ghost use Rattle.ic_tree.specs.Typed.{pair_as_typed};
 
-    ghost invariant = { λ p. p.highest ≡ greatest (map value_height p.pairs.items) };
+    ghost view = { λ p. map pair_as_typed p.pairs.items };
+
+    ghost invariant = { λ p. p.highest ≡ greatest (map value_height (map pair_as_typed p.pairs.items)) };
 }
 
 impl Pairs {
@@ -115,10 +122,12 @@ impl Pairs {
     }
 
     /// The pairs and the greatest height of their values, 0 for none.
-    pub fn into_parts(self) -> (Items<LetPair<Option<Text>, Text>>, usize)
-        ensures pairs { result.0 ≡ self }
+    pub fn into_parts(self) -> (Items<LetPair<SheetMention, NameMention>>, usize)
+        ensures pairs { map pair_as_typed result.0 ≡ self }
         ensures highest { result.1 ≡ greatest (map value_height self) }
     {
-        (Items::from(self.pairs), self.highest)
+        let Pairs { mut pairs, highest } = self;
+        pairs.shrink_to_fit();
+        (Items::from(pairs), highest)
     }
 }

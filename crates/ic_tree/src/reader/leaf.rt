@@ -9,7 +9,7 @@ ghost use Rattle.ic_tree.specs.Turned.{leaf, reference_leaf};
 
 use crate::near::NearPlace;
 use crate::{LocalWord, Measured, Token};
-use ic_laws::{OutOfMemory, Text, Tree, agree};
+use ic_laws::{Boxed, NameMention, OutOfMemory, SheetMention, Text, Tree, agree};
 use ic_refs::{is_valid_a1_identifier, is_valid_identifier, is_valid_sheet_name};
 use std::alloc::Global;
 
@@ -52,7 +52,8 @@ pub fn read_leaf(alloc: Global, most: usize, token: Token) -> Result<Option<Meas
             if !is_variable(&text) {
                 return Ok(None);
             }
-            Ok(Measured::leaf(alloc, Tree::Word(text), most)?)
+            let word = NameMention::Dangling(Boxed::new(alloc, text)?);
+            Ok(Measured::leaf(alloc, Tree::Word(word), most)?)
         }
         _ => Ok(None),
     }
@@ -68,7 +69,9 @@ fn read_local(alloc: Global, most: usize, local: LocalWord) -> Result<Option<Mea
     if !is_valid_sheet_name(sheet.as_str()) || !is_valid_identifier(word.as_str()) {
         return Ok(None);
     }
-    Ok(Measured::leaf(alloc, Tree::Local(Some(sheet), word), most)?)
+    let sheet = SheetMention::Dangling(Boxed::new(alloc, sheet)?);
+    let word = NameMention::Dangling(Boxed::new(alloc, word)?);
+    Ok(Measured::leaf(alloc, Tree::Local(sheet, word), most)?)
 }
 
 /// A reference without a sheet as a leaf.
@@ -76,7 +79,11 @@ fn read_here(alloc: Global, most: usize, place: NearPlace) -> Result<Option<Meas
     ensures { IfOk result (λ r. (rest : List tokens.Token) → option_map (λ t. (t, rest)) r
         ≡ reference_leaf most (on_own_sheet place.place) rest) }
 {
-    Ok(Measured::leaf(alloc, Tree::Reference(None, place.packed()), most)?)
+    Ok(Measured::leaf(
+        alloc,
+        Tree::Reference(SheetMention::Own, place.packed()),
+        most,
+    )?)
 }
 
 /// A reference with its sheet as a leaf, where the sheet is a name.
@@ -92,6 +99,7 @@ fn read_on_sheet(
     if !is_valid_sheet_name(sheet.as_str()) {
         return Ok(None);
     }
-    let tree = Tree::Reference(Some(sheet), place.packed());
+    let sheet = SheetMention::Dangling(Boxed::new(alloc, sheet)?);
+    let tree = Tree::Reference(sheet, place.packed());
     Ok(Measured::leaf(alloc, tree, most)?)
 }

@@ -12,7 +12,7 @@ returns-in_default g c =
 pub returns-then-not-branch : goal.returns-then-not-branch
 returns-then-not-branch g c =
     let d = g.D.Dialect.meaning c.args.d.now in
-    list_last row (past_row_sign d) (rows_shrink d) c.items.rows.items _ _ _ _ _ _ _ c.in_ok-next.ensures c.in-Some.is (c.from.ensures ∙ c.in_ok-push.ensures.items) c.in_ok-take_row_sign.ensures c.if-not-branch.true ∙ c.items.invariant
+    list_last row (past_row_sign d) (rows_shrink d) c.items.rows.items _ _ _ _ _ _ _ c.in_ok-next.ensures c.in-Some.is (c.from.ensures ∙ (c.shrink_to_fit.ensures.items ∙ c.in_ok-push.ensures.items)) c.in_ok-take_row_sign.ensures c.if-not-branch.true ∙ c.items.invariant
 
 pub items-smaller : goal.items-smaller
 items-smaller g c =
