@@ -15,6 +15,7 @@ ghost use Rattle.ic_laws.specs.ValidCore.{IsPooled};
 ghost use Rattle.ic_laws.specs.declared.tree.Formula as kept;
 ghost use Rattle.ic_pool.specs.Pool.{IsPlaced};
 ghost use Rattle.ic_sheets.specs.Sheet.{HasIndexes, cells_of};
+ghost use Rattle.ic_tree.specs.Typed.{as_typed};
 ghost use Rattle.ic_machine.specs.Styling.{restyled};
 ghost use Rattle.ic_machine.specs.subjects.Reading.{GetCellFormula, reading_step};
 ghost use Rattle.ic_machine.specs.subjects.Writing.{UpdateCellWithFormula, unquoted, writing_step};
@@ -220,7 +221,7 @@ impl<'a> Model<'a> {
             (core_of self.now.book) id row column (chars body.now)) }
     {
         match read_cell(self.alloc, &self.shown(row, column), body)? {
-            Some(tree) => self.settled(id, tree),
+            Some(tree) => Ok(Formula::Tree(self.settled(id, tree)?)),
             None => Ok(Formula::Raw(Text::from_str(self.alloc, body)?)),
         }
     }
@@ -234,15 +235,15 @@ impl<'a> Model<'a> {
         bind(self.alloc, &self.scene(), english, Some(id), tree)
     }
 
-    /// A formula of the sheet with this id that was only read, bound to what it finds in the book.
-    fn settled(&self, id: u32, tree: Bound) -> Result<Formula, OutOfMemory>
-        ensures { IfOk result (λ f. f ≡ kept.Tree (bound (english_function (notations_in self.now.book))
-            (scene_in self.now.book) (Some id) (as_typed tree))) }
+    /// The same of a formula that was only read, which is bound where it stands.
+    fn settled(&self, id: u32, tree: Bound) -> Result<Bound, OutOfMemory>
+        ensures { IfOk result (λ t. t ≡ bound (english_function (notations_in self.now.book))
+            (scene_in self.now.book) (Some id) (as_typed tree)) }
     {
         let mut tree = tree;
         let english = self.notation.get_default_language();
         settle(self.alloc, &self.scene(), english, Some(id), &mut tree)?;
-        Ok(Formula::Tree(tree))
+        Ok(tree)
     }
 
     /// How formulas are written now, in the cell at a row and a column.
@@ -303,7 +304,8 @@ impl<'a> Model<'a> {
 
 /// The tree of a text in a cell: as it stands, or else with a `)` added.
 fn read_cell<D: Dialect>(alloc: Global, d: &D, text: &str) -> Result<Option<Bound>, OutOfMemory>
-    ensures { IfOk result (λ t. t ≡ cell_tree (D.meaning d.now) (chars text.now)) }
+    ensures { IfOk result (λ t. option_map as_typed t
+        ≡ cell_tree (D.meaning d.now) (chars text.now)) }
 {
     match read_typed(alloc, d, text)? {
         Some(tree) => Ok(Some(tree)),
@@ -313,7 +315,8 @@ fn read_cell<D: Dialect>(alloc: Global, d: &D, text: &str) -> Result<Option<Boun
 
 /// The tree of a text with a `)` added.
 fn read_closed<D: Dialect>(alloc: Global, d: &D, text: &str) -> Result<Option<Bound>, OutOfMemory>
-    ensures { IfOk result (λ t. t ≡ read_as (D.meaning d.now) (chars text.now ++ codes ")")) }
+    ensures { IfOk result (λ t. option_map as_typed t
+        ≡ read_as (D.meaning d.now) (chars text.now ++ codes ")")) }
 {
     let mut closed = String::with_capacity(alloc, text.len())?;
     push_text(&mut closed, text)?;
