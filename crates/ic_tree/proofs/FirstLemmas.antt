@@ -1,26 +1,26 @@
 -- The first character of a text tells which kinds of tokens can stand there.
-use Rattle.std.proofs.Common.{◌≡◌, ℕ, ◌<◌, ◌≤◌, List, [], ◌∷◌, ◌⊎◌, Bool, true, false, ◌||◌, ◌==◌, length, nat_le, not, Option, Some, None, option_map, refl, sym, ◌∙◌, ap, subst, inl, inr, arith, length-append}
+use Rattle.std.proofs.Common.{◌≡◌, ℕ, ◌<◌, ◌≤◌, List, [], ◌∷◌, ◌⊎◌, Bool, true, false, ◌||◌, ◌==◌, length, nat_le, not, Option, Some, None, option_map, refl, sym, ◌∙◌, ap, ap₂, subst, inl, inr, arith, length-append}
 use Rattle.std.proofs.lemmas.Bool.{and_parts, cases_Bool, le-leb}
 use Rattle.std.proofs.lemmas.Bool.Decides.{eqb_tells}
 use Rattle.ucd_derived.proofs.Computing.{ucd_derived}
 use Rattle.ic_laws.specs.AmountFront.{number_in_one_pass}
 use Rattle.ic_laws.specs.Character.{open_bracket}
 use Rattle.ic_laws.specs.Dialect.{DialectMeaning, IsLawful, begins_reference}
-use Rattle.ic_laws.specs.NextToken.{boolean_or_word}
+use Rattle.ic_laws.specs.NextToken.{boolean_or_word, look_up}
 use Rattle.ic_laws.specs.declared.dialect.WordKind.TheVariants as kinds
 use Rattle.ic_laws.specs.Scan.{EndsWith, begins_word, first_is, is_blank, is_digit, is_letter, is_word_character, past_run, run_of}
 use Rattle.ic_laws.specs.Split.{FindsBest, longer, or_else}
 use Rattle.ic_laws.specs.Token.{Token, Close, Hash, Str, Spells}
-use Rattle.ic_laws.specs.TokenKinds.{OfKind, closed, error_at, head_at, head_before, is_number, local_at, one_at, reference_at, text_at, token_by_kinds, two_at, word_at}
+use Rattle.ic_laws.specs.TokenKinds.{OfKind, closed, error_at, head_at, head_before, is_number, local_at, one_at, one_table, reference_at, text_at, token_by_kinds, two_at, two_table, word_at}
 use Rattle.ic_laws.specs.declared.reference.RefToken.{RefToken}
 use Rattle.ic_laws.proofs.tokens.Kinds.{by_kinds, error_best}
 use Rattle.ic_laws.proofs.tokens.NameReaders.{head_at_sound, word_at_sound}
 use Rattle.ic_laws.proofs.tokens.Lexing.{Begins, spelled_begins}
 use Rattle.ic_laws.proofs.tokens.Next.{ComesAfter, token_best}
 use Rattle.ic_laws.proofs.tokens.Numbers.{number_in_one_pass_best}
-use Rattle.ic_laws.proofs.tokens.Splits.{none_or_some}
+use Rattle.ic_laws.proofs.tokens.Splits.{mapped, none_or_some}
 use Rattle.ic_laws.proofs.printing.Signs.{mark_begins_none, no_error_first, no_number, not_decimal, or_neither, two_none}
-use Rattle.ic_laws.proofs.printing.Words.{start_kinds, starts, word_no_number}
+use Rattle.ic_laws.proofs.printing.Words.{keeps_first, start_kinds, starts, word_no_number}
 use Rattle.ic_tree.proofs.LocalFirst.{no_local_start}
 use Rattle.ic_tree.specs.Lexing.{found, is_past_word, named_at}
 
@@ -46,6 +46,18 @@ pub quote_kinds : (d : DialectMeaning) → IsLawful d → (cs : List ℕ) → to
 quote_kinds d n cs =
     plain_first d n 34 cs (mark_first 34 (mark_begins_none 34 (omega arith) refl))
     ∙ rw (no_number d 34 cs refl (not_decimal d n 34 refl refl), no_error_first d n 34 cs refl, two_none 34 cs refl refl, quote_no_sign d n cs) (longer_none (text_at (34 ∷ cs)))
+
+-- a sign of two characters is longer than the sign of its first
+pub two_first : (d : DialectMeaning) (text : List ℕ) (f : Token × List ℕ) → two_at text ≡ Some f → longer (two_at text) (one_at d text) ≡ Some f
+two_first d [] f k = absurd (cc)
+two_first d (c ∷ []) f k = absurd (cc)
+two_first d (c ∷ e ∷ cs) f k =
+    let m = mapped (λ t. let p : Token × List ℕ = (t, cs) in p) (look_up two_table (c ∷ e ∷ [])) f k in
+    let two : two_at (c ∷ e ∷ cs) ≡ Some (m.0, cs) = k ∙ ap (λ p. Some p) (sym m.2) in
+    elim (none_or_some (look_up (one_table d.list) (c ∷ []))) [
+      | inl n ↦ ap₂ longer two (ap (option_map (λ t. let p : Token × List ℕ = (t, e ∷ cs) in p)) n) ∙ ap (λ p. Some p) m.2
+      | inr s ↦ ap₂ longer two (ap (option_map (λ t. let p : Token × List ℕ = (t, e ∷ cs) in p)) s.1) ∙ keeps_first cs (e ∷ cs) m.0 s.0 (omega arith) ∙ ap (λ p. Some p) m.2
+    ]
 
 -- a closing bracket
 pub close_kinds : (d : DialectMeaning) → IsLawful d → (cs : List ℕ) → token_by_kinds d (41 ∷ cs) ≡ Some (found Close cs)

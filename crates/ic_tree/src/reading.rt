@@ -104,7 +104,8 @@ fn read_text<D: Dialect, K: TextEnd>(
     unread: &Unread,
 ) -> Result<Option<Bound>, OutOfMemory>
     requires { K.whole ≡ ends_whole (D.meaning d.now) (chars unread.now.text.now) }
-    ensures { IfOk result (λ r. option_map as_typed r ≡ read_as (D.meaning d.now) (chars unread.now.text.now)) }
+    ensures { IfOk result (λ r. option_map as_typed r
+        ≡ read_as (D.meaning d.now) (chars unread.now.text.now)) }
 {
     match Lexer::<D, K>::new(alloc, d, unread.text) {
         Err(e) => Err(e),
