@@ -1,6 +1,6 @@
 -- The canonical text of a tree is that of its top level, with the texts of what is below it in their places.
 use mathlib.Core.Path.{fun_ext}
-use Rattle.std.proofs.Common.{◌≡◌, ℕ, suc, ◌+◌, ◌<◌, List, [], ◌∷◌, ◌++◌, true, false, codes, nat_eq, append_assoc, map, refl, sym, ap, ap₂, ◌∙◌, arith, inl, inr, length, get_or, drop, subst, Result, OnOk}
+use Rattle.std.proofs.Common.{◌≡◌, ℕ, suc, ◌+◌, ◌<◌, List, [], ◌∷◌, ◌++◌, true, false, codes, nat_eq, append_assoc, map, refl, sym, ap, ap₂, ◌∙◌, arith, inl, inr, length, get_or, drop}
 use Rattle.std.proofs.lemmas.Bool.{cases_Bool}
 use Rattle.std.proofs.lemmas.Grind.{flat_map-append}
 use Rattle.std.proofs.Math.Seq.{drop-cons}

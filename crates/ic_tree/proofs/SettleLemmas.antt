@@ -5,7 +5,6 @@ use Rattle.std.proofs.lemmas.List.Edits.{map_over_more}
 use Rattle.std.proofs.lemmas.Option.{get_or_from_slice_get}
 use Rattle.std.specs.List.{slice_get}
 use Rattle.ic_laws.specs.Binding.{Binders, BindsPair, BoundPair, all_bound, bound_pair_of, bound_under, pair_binds, pairs_bound, with_variables}
-use Rattle.ic_laws.specs.Parse.{Pair}
 use Rattle.ic_laws.specs.Tree.{Bound, Spelled}
 use Rattle.ic_laws.specs.declared.scene.Scene.{Scene}
 use Rattle.ic_laws.specs.declared.tree.Tree.TheOpen as one

@@ -1,6 +1,6 @@
 -- A formula that was only read: each sheet and each word dangles in it as it was typed. What its text spells.
 use Rattle.std.specs.Prelude.{ℕ, List, [], Option, None, Some}
-use Rattle.ic_laws.specs.Binding.{Binders, BindsPair, BoundPair, bound_pair_of, spelled_pair_step, spelled_sheet, spelled_with, spelled_word}
+use Rattle.ic_laws.specs.Binding.{Binders, BindsPair, BoundPair, bound_pair_of, spelled_sheet, spelled_with, spelled_word}
 use Rattle.ic_laws.specs.Parse.{Pair, pair_of}
 use Rattle.ic_laws.specs.Tree.{Bound, Spelled}
 use Rattle.ic_laws.specs.declared.tree.NameKey.{NameKey}

@@ -1,10 +1,9 @@
-use Rattle.std.proofs.Common.{◌≡◌, ◌∙◌, ap, arith, get_or, get_or-set_other, length, length-set, List, map, ℕ, ◌≢◌, ◌≤◌, ◌+◌, refl, set, sym, subst}
+use Rattle.std.proofs.Common.{◌≡◌, ◌∙◌, ap, arith, get_or-set_other, length-set, List, map, ◌≢◌, refl, set, sym, subst}
 use Rattle.std.proofs.lemmas.Result.{on_ok_weaker}
 use Rattle.ic_laws.proofs.binding.Again.{bound_node}
 use Rattle.ic_laws.specs.Binding.{Binders, BoundPair, bound_under, pair_binds, pairs_bound, with_variables}
 use Rattle.ic_laws.specs.declared.tree.Tree as trees
 use Rattle.ic_laws.specs.declared.tree.Tree.TheOpen as one
-use Rattle.ic_laws.specs.Parse.{Pair}
 use Rattle.ic_laws.specs.Tree.{Bound}
 use Rattle.ic_tree.specs.LanguageWords.{function_of}
 use Rattle.ic_tree.specs.Typed.{as_typed, pair_as_typed}

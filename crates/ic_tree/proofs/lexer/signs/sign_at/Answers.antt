@@ -1,4 +1,4 @@
-use Rattle.std.proofs.Common.{◌∷◌, chars, sym, ◌∙◌}
+use Rattle.std.proofs.Common.{◌∷◌, chars, sym}
 use Rattle.ic_tree.proofs.FirstLemmas.{two_first}
 use Rattle.ic_tree.proofs.lexer.signs.sign_at.Goals as goal
 
