@@ -2,9 +2,9 @@
 use crate::references::put_token;
 use crate::row::Row;
 use crate::scenes::{empty_scene, put_bound, put_spelled};
-use ic_laws::{Dialect, Spelled};
+use ic_laws::{Bound, Dialect};
 use ic_tables::{BookIdError, Tables};
-use ic_tree::{Shown, Stored, bind, read, read_reference};
+use ic_tree::{Shown, Stored, read_reference, read_typed, settle};
 
 /// `read_stored` and a text in the stored form. `read_shown`, a locale, a language, a row, a column and a text as it is
 /// shown there; `shown_to_stored` and `stored_to_shown` likewise, where the text is printed in the other form.
@@ -23,7 +23,7 @@ pub fn call(row: &mut Row<'_>) {
 /// A formula is read in the one form and printed in the other: `=` and its canonical text there, `none` where the text is
 /// no formula.
 fn put_canonical<A: Dialect, B: Dialect>(row: &mut Row<'_>, from: &A, to: &B, text: &str) {
-    match &read(row.alloc, from, text) {
+    match read_typed(row.alloc, from, text) {
         Ok(Some(tree)) => put_printed(row, to, tree),
         Ok(None) => row.none(),
         Err(_) => row.bad(),
@@ -36,18 +36,14 @@ fn put_again<D: Dialect>(row: &mut Row<'_>, form: &D, text: &str) {
 }
 
 /// The tree of a text printed, whose names all dangle.
-fn put_printed<D: Dialect>(row: &mut Row<'_>, to: &D, tree: &Spelled) {
+fn put_printed<D: Dialect>(row: &mut Row<'_>, to: &D, tree: Bound) {
     let scene = empty_scene(row.alloc);
-    match &bind(
-        row.alloc,
-        &scene,
-        row.tables.get_default_language(),
-        None,
-        tree,
-    ) {
-        Ok(bound) => {
+    let english = row.tables.get_default_language();
+    let mut tree = tree;
+    match settle(row.alloc, &scene, english, None, &mut tree) {
+        Ok(()) => {
             row.put("=");
-            put_spelled(row, to, &scene, bound);
+            put_spelled(row, to, &scene, &tree);
         }
         Err(_) => row.bad(),
     }
