@@ -20,7 +20,7 @@ use Rattle.ic_cells.specs.Cell.{style_of}
 use Rattle.ic_grid.proofs.WriteLemmas.{after_release, released_at}
 use Rattle.ic_grid.specs.Arrays.{anchor_at, is_fixed_at}
 use Rattle.ic_grid.specs.Block.{Place, same_place}
-use Rattle.ic_grid.specs.Calls.{refused_by}
+use Rattle.ic_grid.specs.Calls.{can_write, refused_by}
 use Rattle.ic_grid.specs.Contents.{Contents}
 use Rattle.ic_grid.specs.Merges.{is_covered}
 use Rattle.ic_grid.specs.Prepare.{prepared, released_if, unspilled, written}
@@ -28,6 +28,7 @@ use Rattle.ic_grid.specs.Shape.{celled, is_anchor, is_spill_of, reset, shape_of}
 use Rattle.ic_grid.specs.Style as grid_style
 use Rattle.ic_grid.specs.Conditions.{IsStyleNumber}
 use Rattle.ic_grid.specs.Whole.{IsGrid, IsStyled}
+use Rattle.ic_grid.specs.declared.error.GridError.{GridError}
 use Rattle.ic_grid.specs.declared.error.GridError.TheVariants as grid_errors
 use Rattle.ic_grid.specs.declared.grid.Grid.{Grid}
 use Rattle.ic_input.specs.Code.{is_date_code}
@@ -45,7 +46,7 @@ use Rattle.ic_sheets.specs.Sheet.{Sheet, TakesCell, formula_cell, with_cell_in}
 use Rattle.ic_sheets.specs.declared.sheet.FormulaKind.{FormulaKind}
 use Rattle.ic_sheets.specs.declared.sheet.FormulaKind.TheVariants as kinds
 use Rattle.ic_book.specs.Book.{Book, HasString, HasStrings, IsValidBook, notations_in, whole_of, whole_sheet}
-use Rattle.ic_book.specs.Refused.{TellsOnly, refusal_of}
+use Rattle.ic_book.specs.Refused.{TellsOnly, of_grid, refusal_of}
 use Rattle.ic_book.specs.Values.{keeps_code, value_causes}
 use Rattle.ic_book.specs.Written.{cell_causes}
 use Rattle.ic_book.specs.declared.error.BookError.{BookError}
@@ -147,6 +148,15 @@ module _ (book : Book) (valid : IsValidBook book) (index : ℕ) (s : Sheet) (at 
 pub told_again : {T : Type 0} (r : Result T BookError) (e : BookError) (o : Option Refusal) → IsErr r × IsErrAnd r (λ f. f ≡ e) → (told : Refusal) × (refusal_of e ≡ Some told) × (o ≡ Some told) → TellsOnly r o
 told_again (Ok x) e o h t = let no : false ≡ true = h.0 in cc
 told_again (Err f) e o h t = (t.0, ap refusal_of h.1 ∙ t.1, t.2)
+
+-- what refuses to write a cell is told by the error that a grid's error becomes
+pub cell_told : (T : Type 0) (grid : Grid) (place : CellPlace) (e : GridError) (f : BookError) → can_write celled grid.merged_cells grid.cells place ≡ Err e → f ≡ of_grid e → TellsOnly {T = T} (Err f) (first_refusal (cell_causes grid place))
+cell_told T grid place e f refused is = told (is_covered grid.merged_cells place) (is_fixed_at celled grid.cells place) refused
+  where
+    told : (covered fixed : Bool) → refused_by covered grid_errors.MergedPart (refused_by fixed grid_errors.ArrayPart (Ok tt)) ≡ Err e → TellsOnly {T = T} (Err f) (first_refusal ((covered, MergedPart) ∷ (fixed, ArrayPart) ∷ []))
+    told true fixed h = let same : e ≡ grid_errors.MergedPart = cc in (MergedPart, ap refusal_of is ∙ ap (λ (x : GridError). refusal_of (of_grid x)) same, refl)
+    told false true h = let same : e ≡ grid_errors.ArrayPart = cc in (ArrayPart, ap refusal_of is ∙ ap (λ (x : GridError). refusal_of (of_grid x)) same, refl)
+    told false false h = absurd (cc)
 
 free_cell : (grid : Grid) (place : CellPlace) → IsGrid grid → is_row place.0 ≡ true → is_column place.1 ≡ true → is_covered grid.merged_cells place ≡ false → is_fixed_at celled grid.cells place ≡ false → TakesCell place grid
 free_cell grid place whole row column uncovered unfixed = record {

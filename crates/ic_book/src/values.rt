@@ -20,7 +20,7 @@ use crate::lists::Lists;
 use crate::styled::copy_of;
 use crate::{BookError, Model};
 use ic_cells::{Cell, SharedStrings, Style, Styles};
-use ic_grid::{Grid, GridError};
+use ic_grid::Grid;
 use ic_input::is_date_code;
 use ic_laws::{Amount, Error, LAST_COLUMN, LAST_ROW, OutOfMemory, Text};
 use std::alloc::Global;
@@ -166,8 +166,7 @@ fn allowed_style(grid: &Grid, row: i32, column: i32) -> Result<usize, BookError>
 {
     match grid.style_to_write(row, column) {
         Ok(style) => Ok(style),
-        Err(GridError::MergedPart) => Err(BookError::MergedPart),
-        Err(_) => Err(BookError::ArrayPart),
+        Err(error) => Err(BookError::from(error)),
     }
 }
 
