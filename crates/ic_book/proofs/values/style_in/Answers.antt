@@ -5,7 +5,6 @@ use Rattle.ic_laws.specs.Position.{is_column, is_row}
 use Rattle.ic_machine.specs.Refusal.{first_refusal}
 use Rattle.ic_sheets.proofs.CellLemmas.{stored_pair}
 use Rattle.ic_book.specs.Refused.{TellsOnly}
-use Rattle.ic_book.specs.Values.{value_causes}
 use Rattle.ic_book.specs.Written.{cell_causes}
 use Rattle.ic_book.proofs.GridLemmas.{value_told}
 use Rattle.ic_book.proofs.values.style_in.Goals as goal
