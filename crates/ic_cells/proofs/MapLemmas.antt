@@ -1,5 +1,5 @@
 -- An ordered map as a finite map.
-use Rattle.std.proofs.Common.{◌≡◌, ℤ, SFits, to_z, of_z, w32, ap₂, List, [], ◌∷◌, cond, Some, None, refl, sym, ap, ◌∙◌}
+use Rattle.std.proofs.Common.{◌≡◌, Bool, true, false, IsSome, Option, ℤ, SFits, to_z, of_z, w32, ap₂, List, [], ◌∷◌, cond, Some, None, refl, sym, ap, ◌∙◌}
 use Rattle.std.proofs.lemmas.Cmp.{int_cmp_total, on_total, then_total}
 use Rattle.std.proofs.lemmas.Map.Lookups.{CmpEqualImpliesEq, exact_pairs, exact_signed}
 use Rattle.std.proofs.lemmas.Int.{to_z-of_z}
@@ -9,7 +9,7 @@ use Rattle.std.specs.BTreeMap.Entry.{IsEntryFor, map_with_value}
 use Rattle.std.specs.Cmp.{IsTotalOrder, eq_by_cmp_equiv}
 use Rattle.std.specs.FinMap.{FinMap, find, from_entries, get, get-from_entries, get-insert, get-remove, insert, remove, same_map}
 use Rattle.std.specs.Map.{lookup}
-use Rattle.std.specs.Ordering.{int_cmp}
+use Rattle.std.specs.Ordering.{int_cmp, is_lt}
 use Rattle.std.specs.Prelude.{Result, Ok, Err, OnErr}
 use Rattle.std.specs.declared.cmp.Ord as ord
 use Rattle.std.specs.declared.cmp.Ordering.{Ordering}
@@ -25,6 +25,10 @@ places_total = then_total (on_total (λ p. p.0) int_cmp_total) (on_total (λ p. 
 pub places_exact : CmpEqualImpliesEq place_cmp
 places_exact = exact_pairs int_cmp int_cmp exact_signed exact_signed
 
+none_unless : {X : Type 0} (found : Option X) (b : Bool) → (IsSome found → b ≡ false) → b ≡ true → found ≡ None
+none_unless None b ahead behind = refl
+none_unless (Some x) b ahead behind = let no : false ≡ true = sym (ahead refl) ∙ behind in cc
+
 module _ {K X : Type 0} {R : K → K → Ordering} (total : IsTotalOrder R) where
   find_is : (es : List (K × X)) (q : K) → find R q es ≡ lookup (is_at (R q)) es
   find_is [] q = refl
@@ -37,6 +41,10 @@ module _ {K X : Type 0} {R : K → K → Ordering} (total : IsTotalOrder R) wher
   -- the key of the code, k, is q
   pub read_at : (m : BTreeMap K X) (v : FinMap R X) (k q : K) → k ≡ q → from_entries m.entries ≡ v → tree.get R m k ≡ get v q
   read_at m v k q same e = sym (ap (λ w. get w q) (sym e) ∙ map_get m q ∙ ap (tree.get R m) (sym same))
+
+  -- behind the last key nothing stands
+  pub none_behind : (m : BTreeMap K X) (v : FinMap R X) (last k q : K) → k ≡ q → from_entries m.entries ≡ v → tree.IsUpperBound R m last → is_lt (R last k) ≡ true → get v q ≡ None
+  none_behind m v last k q same e ahead behind = sym (read_at m v k q same e) ∙ none_unless (tree.get R m k) (is_lt (R last k)) (ahead k) behind
 
   insert_here : CmpEqualImpliesEq R → (before after : BTreeMap K X) (k : K) (v : X) → tree.Updates R before after k (Some v) → from_entries {R = R} after.entries ≡ insert (from_entries before.entries) k v
   insert_here exact before after k v u = same_map total exact _ _ (λ q.

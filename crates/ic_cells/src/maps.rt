@@ -73,6 +73,19 @@ impl<T: Drop> PlaceMap<T> {
         self.inner.get(&(row, column))
     }
 
+    /// The same. The last place is asked first, behind which nothing stands: so it takes no search where places come in their
+    /// order.
+    pub fn get_from_last(&self, row: i32, column: i32) -> Option<&T>
+        ensures { option_copied result ≡ map.get self.now (row, column) }
+    {
+        if let Some((last, _)) = self.inner.last_key_value() {
+            if *last < (row, column) {
+                return None;
+            }
+        }
+        self.get(row, column)
+    }
+
     /// Puts an item at a place, and answers what stood there. Memory can only be missing where nothing stands there, and
     /// then nothing has changed.
     pub fn insert(&mut self, row: i32, column: i32, item: T) -> Result<Option<T>, OutOfMemory>

@@ -95,7 +95,7 @@ impl Grid {
         if is_covered(self.merged_cells.as_slice(), row, column) {
             return Err(GridError::MergedPart);
         }
-        match self.cells.get(row, column) {
+        match self.cells.get_from_last(row, column) {
             Some(cell) => {
                 if is_fixed_cell(&self.cells, (row, column), cell) {
                     return Err(GridError::ArrayPart);
