@@ -1,8 +1,9 @@
 -- Comparing foldings character by character, and fronts that fold to a text.
-use Rattle.std.proofs.Common.{◌≡◌, ℕ, ◌+◌, ◌<◌, suc, Bool, true, false, List, [], ◌∷◌, ◌++◌, length, get_or, take, drop, nat_lt, bytes_eq, Option, Some, None, append_assoc, refl, sym, ap, ap₂, subst, ◌∙◌, arith, cond}
-use Rattle.std.proofs.lemmas.Bool.{agree_below, agree_below_at, both_ways, false_from_ne_true}
+use Rattle.std.proofs.Common.{◌≡◌, ℕ, ◌+◌, ◌<◌, suc, Bool, true, false, List, [], ◌∷◌, ◌++◌, length, get_or, take, drop, chars, IsUtf8, IsCharBoundary, ◌==◌, ◌&&◌, nat_lt, bytes_eq, Option, Some, None, append_assoc, refl, sym, ap, ap₂, subst, ◌∙◌, arith, cond}
+use Rattle.std.proofs.lemmas.Bool.{agree_below, agree_below_at, and_parts, both_ways, false_from_ne_true, ltb-true}
 use Rattle.std.proofs.lemmas.Bool.Decides.{nat_tests}
 use Rattle.std.proofs.lemmas.List.{take_more, drop_more, take-append-drop, append_cancel_left}
+use Rattle.std.proofs.lemmas.Str.{IsCharBoundary-after_ascii, IsUtf8-drop, chars_past_char, encode_ascii}
 use Rattle.std.proofs.lemmas.Map.Text.{is_eq-slice_cmp}
 use Rattle.std.proofs.lemmas.Slice.Eq.{bytes_eq-Decides}
 use Rattle.std.proofs.lemmas.Cmp.{tied_itself, nat_cmp_total}
@@ -144,3 +145,33 @@ module _ (whole text : List ℕ) where
       equal s =
           let first : b ≡ c = cc in
           append_cancel_left (full_fold c) (fold front) left (sym (fold-cons c front) ∙ ap (λ x. fold (x ∷ front)) (sym first) ∙ s ∙ k)
+
+-- ASCII characters are told by their bytes
+low_below : agree_below (λ c. nat_lt (to_ascii_lowercase c) 128) (λ c. true) 128 ≡ true
+low_below = refl
+
+byte_first : (bytes : List ℕ) (at b : ℕ) → IsUtf8 bytes → IsCharBoundary bytes at → at < length bytes → b ≡ get_or bytes at 0 → b < 128
+    → IsCharBoundary bytes (at + 1) × (chars (drop at bytes) ≡ b ∷ chars (drop (at + 1) bytes))
+byte_first bytes at b utf8 cut within is ascii =
+    let more : drop at bytes ≡ b ∷ drop (at + 1) bytes = drop_more bytes at 0 within ∙ ap (λ x. x ∷ drop (at + 1) bytes) (sym is) in
+    let spelled = more ∙ ap (λ front. front ++ drop (at + 1) bytes) (sym (encode_ascii b ascii)) in (
+      IsCharBoundary-after_ascii bytes at utf8 within (subst (λ x. x < 128) is ascii),
+      chars_past_char (drop at bytes) (drop (at + 1) bytes) b (IsUtf8-drop bytes at utf8 cut) spelled,
+    )
+
+pub bytes_go_on : (text folded : List ℕ) (at b d : ℕ) → IsUtf8 text → IsUtf8 folded → IsCharBoundary text at → IsCharBoundary folded at → at < length text → at < length folded
+    → b ≡ get_or text at 0 → d ≡ get_or folded at 0 → (nat_lt b 128 && to_ascii_lowercase b == d) ≡ true
+    → IsCharBoundary text (at + 1) × IsCharBoundary folded (at + 1)
+    × (slice_cmp nat_cmp (fold (chars (drop (at + 1) text))) (chars (drop (at + 1) folded)) ≡ slice_cmp nat_cmp (fold (chars (drop at text))) (chars (drop at folded)))
+bytes_go_on text folded at b d u v cut_text cut_folded in_text in_folded is_b is_d same =
+    let parts = and_parts (nat_lt b 128) (to_ascii_lowercase b == d) same in
+    let ascii : b < 128 = ltb-true b 128 parts.0 in
+    let low : to_ascii_lowercase b ≡ d = eqb_same (to_ascii_lowercase b) d parts.1 in
+    let small : d < 128 = subst (λ x. x < 128) low (ltb-true (to_ascii_lowercase b) 128 (agree_below_at (λ c. nat_lt (to_ascii_lowercase c) 128) (λ c. true) 128 b low_below ascii)) in
+    let t = byte_first text at b u cut_text in_text is_b ascii in
+    let f = byte_first folded at d v cut_folded in_folded is_d small in
+    let whole : chars (drop at folded) ≡ full_fold b ++ chars (drop (at + 1) folded) = f.1 ∙ ap (λ x. x ++ chars (drop (at + 1) folded)) (ap (λ x. x ∷ []) (sym low) ∙ sym (full_fold-ascii b ascii)) in
+    (t.0, f.0, sym (passed b (chars (drop (at + 1) text)) (chars (drop at text)) (chars (drop at folded)) (chars (drop (at + 1) folded)) t.1 whole))
+  where
+    eqb_same : (a c : ℕ) → (a == c) ≡ true → a ≡ c
+    eqb_same a c h = grind (arith, nat_tests, h)

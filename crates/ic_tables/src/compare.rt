@@ -1,5 +1,6 @@
 //! Folding a text character by character, against a text that is folded already.
-ghost use Rattle.std.specs.Prelude.{◌≡◌, ◌∷◌, [], ◌++◌, chars, MatchOption, MatchResult};
+ghost use Rattle.std.specs.Prelude.{◌≡◌, ◌==◌, ◌&&◌, nat_lt, ◌∷◌, [], ◌++◌, chars, MatchOption, MatchResult};
+ghost use Rattle.std.specs.Char.{to_ascii_lowercase};
 ghost use Rattle.std.specs.Cmp.Lexicographic.{slice_cmp};
 ghost use Rattle.std.specs.Ordering.{nat_cmp};
 ghost use Rattle.ucd_case.specs.CaseFolding.{full_fold};
@@ -10,9 +11,31 @@ use ic_laws::scan::first_char;
 use std::cmp::Ordering;
 use ucd_case::full_folding;
 
+/// How the folding of a text compares with a folded text. ASCII characters at the front of both are told by their bytes.
+pub fn compare_folded(text: &str, folded: &str) -> Ordering
+    ensures { result ≡ slice_cmp nat_cmp (fold (chars text.now)) (chars folded.now) }
+{
+    let bytes = text.as_bytes();
+    let others = folded.as_bytes();
+    let mut at = 0;
+    while at < bytes.len() && at < others.len() && is_folding_byte(bytes[at], others[at]) {
+        at += 1;
+    }
+    let (_, front) = text.split_at(at);
+    let (_, whole) = folded.split_at(at);
+    compare_characters(front, whole)
+}
+
+/// Whether the first is an ASCII character and the second its folding.
+fn is_folding_byte(byte: u8, folded: u8) -> bool
+    ensures { result ≡ (nat_lt byte 128 && to_ascii_lowercase byte == folded) }
+{
+    byte.is_ascii() && byte.to_ascii_lowercase() == folded
+}
+
 /// How the folding of a text compares with a folded text, character by character.
 #[tactic(auto, using(crate::proofs::CompareLemmas::compare_steps))]
-pub fn compare_folded(text: &str, folded: &str) -> Ordering
+fn compare_characters(text: &str, folded: &str) -> Ordering
     ensures { result ≡ slice_cmp nat_cmp (fold (chars text.now)) (chars folded.now) }
 {
     let mut front = text;

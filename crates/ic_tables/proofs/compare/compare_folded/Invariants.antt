@@ -1,16 +1,14 @@
-use Rattle.std.proofs.Common.{◌≡◌, chars, length}
+use Rattle.std.proofs.Common.{◌≡◌, ◌-◌, chars, drop, length, IsCharBoundary}
 use Rattle.std.specs.Cmp.Lexicographic.{slice_cmp}
 use Rattle.std.specs.Ordering.{nat_cmp}
-use denote.Shadow.{shadow}
-use denote.Text.{Utf8}
 use Rattle.ic_laws.specs.Name.{fold}
 use Rattle.ic_tables.proofs.compare.compare_folded.Given as goal
 
--- what is left of both decides
-abbrev pub invariant-loop-c : goal.invariant-loop-c
-invariant-loop-c l =
-    shadow (Utf8 l.front) × shadow (Utf8 l.whole)
-    × (slice_cmp nat_cmp (fold (chars l.front)) (chars l.whole) ≡ slice_cmp nat_cmp (fold (chars l.text)) (chars l.folded))
+-- both are cut before a character, and what is left of both decides
+abbrev pub invariant-loop-at : goal.invariant-loop-at
+invariant-loop-at l =
+    IsCharBoundary l.text l.at × IsCharBoundary l.folded l.at
+    × (slice_cmp nat_cmp (fold (chars (drop l.at l.text))) (chars (drop l.at l.folded)) ≡ slice_cmp nat_cmp (fold (chars l.text)) (chars l.folded))
 
-abbrev pub decreases-loop-c : goal.decreases-loop-c
-decreases-loop-c l = length l.front
+abbrev pub decreases-loop-at : goal.decreases-loop-at
+decreases-loop-at l = length l.text - l.at
