@@ -1,9 +1,9 @@
 -- Comparing foldings character by character, and fronts that fold to a text.
-use Rattle.std.proofs.Common.{◌≡◌, ℕ, ◌+◌, ◌<◌, suc, Bool, true, false, List, [], ◌∷◌, ◌++◌, length, get_or, take, drop, chars, IsUtf8, IsCharBoundary, ◌==◌, ◌&&◌, nat_lt, bytes_eq, Option, Some, None, append_assoc, refl, sym, ap, ap₂, subst, ◌∙◌, arith, cond}
+use Rattle.std.proofs.Common.{◌≡◌, ℕ, ◌+◌, ◌<◌, suc, Bool, true, false, List, [], ◌∷◌, ◌++◌, length, get_or, take, drop, chars, IsUtf8, IsCharBoundary, ◌==◌, ◌&&◌, nat_lt, not, bytes_eq, Option, Some, None, append_assoc, refl, sym, ap, ap₂, subst, ◌∙◌, arith, cond}
 use Rattle.std.proofs.lemmas.Bool.{agree_below, agree_below_at, and_parts, both_ways, false_from_ne_true, ltb-true}
 use Rattle.std.proofs.lemmas.Bool.Decides.{nat_tests}
 use Rattle.std.proofs.lemmas.List.{take_more, drop_more, take-append-drop, append_cancel_left}
-use Rattle.std.proofs.lemmas.Str.{IsCharBoundary-after_ascii, IsUtf8-drop, chars_past_char, encode_ascii}
+use Rattle.std.proofs.lemmas.Str.{IsCharBoundary-after_ascii, IsCharBoundary-start, IsUtf8-drop, chars_past_char, encode_ascii}
 use Rattle.std.proofs.lemmas.Map.Text.{is_eq-slice_cmp}
 use Rattle.std.proofs.lemmas.Slice.Eq.{bytes_eq-Decides}
 use Rattle.std.proofs.lemmas.Cmp.{tied_itself, nat_cmp_total}
@@ -147,6 +147,12 @@ module _ (whole text : List ℕ) where
           append_cancel_left (full_fold c) (fold front) left (sym (fold-cons c front) ∙ ap (λ x. fold (x ∷ front)) (sym first) ∙ s ∙ k)
 
 -- ASCII characters are told by their bytes
+eqb_same : (a c : ℕ) → (a == c) ≡ true → a ≡ c
+eqb_same a c h = grind (arith, nat_tests, h)
+
+unequal_first : (a c : ℕ) (o : Ordering) → not (a == c) ≡ true → ordering_then (nat_cmp a c) o ≡ nat_cmp a c
+unequal_first a c o h = grind (arith, nat_tests, h)
+
 low_below : agree_below (λ c. nat_lt (to_ascii_lowercase c) 128) (λ c. true) 128 ≡ true
 low_below = refl
 
@@ -172,6 +178,18 @@ bytes_go_on text folded at b d u v cut_text cut_folded in_text in_folded is_b is
     let f = byte_first folded at d v cut_folded in_folded is_d small in
     let whole : chars (drop at folded) ≡ full_fold b ++ chars (drop (at + 1) folded) = f.1 ∙ ap (λ x. x ++ chars (drop (at + 1) folded)) (ap (λ x. x ∷ []) (sym low) ∙ sym (full_fold-ascii b ascii)) in
     (t.0, f.0, sym (passed b (chars (drop (at + 1) text)) (chars (drop at text)) (chars (drop at folded)) (chars (drop (at + 1) folded)) t.1 whole))
-  where
-    eqb_same : (a c : ℕ) → (a == c) ≡ true → a ≡ c
-    eqb_same a c h = grind (arith, nat_tests, h)
+
+pub some_there : (n : ℕ) → false ≡ (n == 0) → 0 < n
+some_there n h = let other : (n == 0) ≡ false = sym h in grind (arith, nat_tests, other)
+
+pub bytes_differ : (text folded : List ℕ) (b d : ℕ) → IsUtf8 text → IsUtf8 folded → 0 < length text → 0 < length folded → b ≡ get_or text 0 0 → d ≡ get_or folded 0 0
+    → (nat_lt b 128 && nat_lt d 128 && not (to_ascii_lowercase b == d)) ≡ true → nat_cmp (to_ascii_lowercase b) d ≡ slice_cmp nat_cmp (fold (chars text)) (chars folded)
+bytes_differ text folded b d u v in_text in_folded is_b is_d apart =
+    let parts = and_parts (nat_lt b 128 && nat_lt d 128) (not (to_ascii_lowercase b == d)) apart in
+    let both = and_parts (nat_lt b 128) (nat_lt d 128) parts.0 in
+    let ascii : b < 128 = ltb-true b 128 both.0 in
+    let t = byte_first text 0 b u (IsCharBoundary-start text u) in_text is_b ascii in
+    let f = byte_first folded 0 d v (IsCharBoundary-start folded v) in_folded is_d (ltb-true d 128 both.1) in
+    let front : fold (chars text) ≡ to_ascii_lowercase b ∷ fold (chars (drop 1 text)) =
+    ap fold t.1 ∙ fold-cons b (chars (drop 1 text)) ∙ ap (λ x. x ++ fold (chars (drop 1 text))) (full_fold-ascii b ascii) in
+    sym (ap₂ (slice_cmp nat_cmp) front f.1 ∙ unequal_first (to_ascii_lowercase b) d (slice_cmp nat_cmp (fold (chars (drop 1 text))) (chars (drop 1 folded))) parts.1)

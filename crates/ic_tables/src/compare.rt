@@ -1,5 +1,5 @@
 //! Folding a text character by character, against a text that is folded already.
-ghost use Rattle.std.specs.Prelude.{◌≡◌, ◌==◌, ◌&&◌, nat_lt, ◌∷◌, [], ◌++◌, chars, MatchOption, MatchResult};
+ghost use Rattle.std.specs.Prelude.{◌≡◌, ◌==◌, ◌&&◌, nat_lt, not, ◌∷◌, [], ◌++◌, chars, MatchOption, MatchResult};
 ghost use Rattle.std.specs.Char.{to_ascii_lowercase};
 ghost use Rattle.std.specs.Cmp.Lexicographic.{slice_cmp};
 ghost use Rattle.std.specs.Ordering.{nat_cmp};
@@ -23,7 +23,19 @@ pub fn compare_folded(text: &str, folded: &str) -> Ordering
     }
     let (_, front) = text.split_at(at);
     let (_, whole) = folded.split_at(at);
-    compare_characters(front, whole)
+    compare_fronts(front, whole)
+}
+
+/// The same, where the first characters are told by their bytes if both are ASCII and differ.
+fn compare_fronts(text: &str, folded: &str) -> Ordering
+    ensures { result ≡ slice_cmp nat_cmp (fold (chars text.now)) (chars folded.now) }
+{
+    let bytes = text.as_bytes();
+    let others = folded.as_bytes();
+    if !bytes.is_empty() && !others.is_empty() && is_other_byte(bytes[0], others[0]) {
+        return bytes[0].to_ascii_lowercase().cmp(&others[0]);
+    }
+    compare_characters(text, folded)
 }
 
 /// Whether the first is an ASCII character and the second its folding.
@@ -31,6 +43,14 @@ fn is_folding_byte(byte: u8, folded: u8) -> bool
     ensures { result ≡ (nat_lt byte 128 && to_ascii_lowercase byte == folded) }
 {
     byte.is_ascii() && byte.to_ascii_lowercase() == folded
+}
+
+/// Whether both are ASCII characters and the second isn't the folding of the first.
+fn is_other_byte(byte: u8, folded: u8) -> bool
+    ensures { result ≡ (nat_lt byte 128 && nat_lt folded 128
+        && not (to_ascii_lowercase byte == folded)) }
+{
+    byte.is_ascii() && folded.is_ascii() && byte.to_ascii_lowercase() != folded
 }
 
 /// How the folding of a text compares with a folded text, character by character.
