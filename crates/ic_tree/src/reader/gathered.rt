@@ -49,10 +49,13 @@ impl Arguments {
         }
     }
 
-    /// Adds an argument at the end.
+    /// Adds an argument at the end. Up to four of them take no more room than they need.
     pub fn push(&mut self, tree: Measured) -> Result<(), OutOfMemory>
         ensures { OnOk result (self.new ≡ self.old ++ tree ∷ []) }
     {
+        if self.trees.len() < 4 {
+            self.trees.reserve_exact(1)?;
+        }
         let (tree, nodes) = tree.into_parts();
         self.trees.push(tree)?;
         self.highest = self.highest.max(nodes);
