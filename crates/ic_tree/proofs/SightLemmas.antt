@@ -1,5 +1,5 @@
 -- What a lexer gives and still has, by the token in sight.
-use Rattle.std.proofs.Common.{◌≡◌, ℕ, List, [], ◌∷◌, true, Option, Some, None, MatchOption, is_some, refl, sym, ◌∙◌, ap, subst}
+use Rattle.std.proofs.Common.{◌≡◌, ℕ, List, [], ◌∷◌, true, false, Option, Some, None, MatchOption, is_some, refl, sym, ◌∙◌, ap, subst}
 use Rattle.ic_laws.specs.Dialect.{DialectMeaning}
 use Rattle.ic_laws.specs.Token.{Token}
 use Rattle.ic_tree.specs.Lexing.{tokens_before}
@@ -34,8 +34,9 @@ passes_one d (Some first) rest some = refl
 pub settled_none : (new : Option code.Token) (ts : List Token) → new ≡ None → ts ≡ [] → is_settled new ts ≡ true
 settled_none new ts n e = ap (λ s. is_settled s ts) n ∙ ap (is_settled None) e
 
-pub settled_some : (new : Option code.Token) (token : code.Token) (ts : List Token) → new ≡ Some token → is_settled new ts ≡ true
-settled_some new token ts n = ap (λ s. is_settled s ts) n
+pub settled_so : (old new taken : Option code.Token) (ts : List Token) → taken ≡ old → new ≡ None → is_some taken ≡ false → is_settled old ts ≡ true → is_settled new ts ≡ true
+settled_so None new taken ts t n none s = ap (λ x. is_settled x ts) n ∙ s
+settled_so (Some token) new taken ts t n none s = let some : true ≡ false = ap is_some (sym t) ∙ none in absurd (cc)
 
 -- where none is in sight none comes
 pub none_comes : (d : DialectMeaning) (sight : Option code.Token) (rest : List ℕ) → is_settled sight (tokens_before d rest) ≡ true → in_sight d sight rest ≡ [] → tokens_before d rest ≡ []

@@ -97,19 +97,24 @@ impl<'t, D: Dialect, K: TextEnd> TokenSource for Lexer<'t, D, K> {
     }
 
     fn next(&mut self, alloc: Global) -> Result<Option<Token>, OutOfMemory> {
-        if self.sight.is_none() {
+        let taken = self.sight.take();
+        if taken.is_none() {
             return Ok(None);
         }
         let rest = past_blanks(self.rest);
         match next_token(alloc, self.dialect, rest) {
-            Err(e) => Err(e),
+            Err(e) => {
+                self.sight = taken;
+                Err(e)
+            }
             Ok(None) => {
                 self.rest = rest;
-                Ok(self.sight.take())
+                Ok(taken)
             }
             Ok(Some((token, after))) => {
                 self.rest = after;
-                Ok(self.sight.replace(token))
+                self.sight = Some(token);
+                Ok(taken)
             }
         }
     }
