@@ -28,7 +28,7 @@ at_key index key = index key
 
 -- ---- first places
 
-first_is_there : (key : List ℕ) (xs : List Formula) (at : ℕ) → first_place key xs ≡ Some at → option_map code (slice_get xs at) ≡ Some key
+pub first_is_there : (key : List ℕ) (xs : List Formula) (at : ℕ) → first_place key xs ≡ Some at → option_map code (slice_get xs at) ≡ Some key
 first_is_there key [] at e = cc
 first_is_there key (x ∷ xs) at e = by_test (bytes_eq key (code x)) refl e (λ n f. first_is_there key xs n f)
   where

@@ -1,10 +1,10 @@
 -- First places in a list of formulas, and a look-up that keeps up with it.
-use Rattle.std.proofs.Common.{◌≡◌, ◌≢◌, ℕ, zero, suc, ◌<◌, List, [], ◌∷◌, ◌++◌, Bool, true, false, cond, Option, Some, None, option_map, refl, sym, ap, subst, ◌∙◌, length, bytes_eq, arith}
+use Rattle.std.proofs.Common.{◌≡◌, ◌≢◌, ℕ, zero, suc, ◌<◌, List, [], ◌∷◌, ◌++◌, Bool, true, false, cond, Option, Some, None, option_map, refl, sym, ap, ap₂, subst, ◌∙◌, length, bytes_eq, arith}
 use Rattle.std.specs.List.{slice_get}
 use Rattle.std.proofs.lemmas.Slice.Eq.{bytes_eq-Decides}
 use Rattle.ic_laws.specs.declared.tree.Formula.{Formula}
 use Rattle.ic_pool.specs.Code.{code}
-use Rattle.ic_pool.specs.Pool.{IsFirstAt, IsPlaced, first_place, KeepsPlaces}
+use Rattle.ic_pool.specs.Pool.{IsFirstAt, IsFirstPlace, IsPlaced, first_place, KeepsPlaces}
 use Rattle.ic_pool.proofs.CodeLaws.{code_determines}
 use Rattle.ic_pool.proofs.KeyLemmas.{bytes_eq-flip, clash}
 
@@ -69,6 +69,24 @@ first_place-push x (y ∷ xs) none key =
     (λ t b.
     let same : code x ≡ code y = (bytes_eq-Decides (code x) key).0 b ∙ (bytes_eq-Decides key (code y)).0 t in
     clash (bytes_eq (code x) (code y)) ((bytes_eq-Decides (code x) (code y)).1 same) parts.0)
+
+-- a first place stays first where formulas are put at the end
+first_stays : (key : List ℕ) (xs ys : List Formula) (at : ℕ) → first_place key xs ≡ Some at → first_place key (xs ++ ys) ≡ Some at
+first_stays key [] ys at e = cc
+first_stays key (x ∷ xs) ys at e = step (bytes_eq key (code x)) (first_place key xs) (first_place key (xs ++ ys)) (first_stays key xs ys) e
+  where
+    step : (b : Bool) (o p : Option ℕ) → ((k : ℕ) → o ≡ Some k → p ≡ Some k) → cond b (Some 0) (option_map suc o) ≡ Some at → cond b (Some 0) (option_map suc p) ≡ Some at
+    step true o p h e = e
+    step false None p h e = cc
+    step false (Some k) p h e = ap (option_map suc) (h k refl) ∙ e
+
+pub IsFirstPlace-push : (at : ℕ) (xs list : List Formula) (x : Formula) → list ≡ xs ++ x ∷ [] → IsFirstPlace at xs → IsFirstPlace at list
+IsFirstPlace-push at xs list x put first = (first.0, ap (first_place first.0) put ∙ first_stays first.0 xs (x ∷ []) at first.1)
+
+pub first_at_end : (x : Formula) (xs list : List Formula) (key : List ℕ) (at : ℕ) → first_place key xs ≡ None → key ≡ code x → at ≡ length xs → list ≡ xs ++ x ∷ [] → first_place key list ≡ Some at
+first_at_end x xs list key at none same end put =
+    ap₂ first_place same put ∙ first_place-push x xs (ap (λ k. first_place k xs) (sym same) ∙ none) (code x)
+    ∙ ap (λ b. cond b (Some (length xs)) (first_place (code x) xs)) ((bytes_eq-Decides (code x) (code x)).1 refl) ∙ ap (λ n. Some n) (sym end)
 
 -- ---- what `place` answers
 

@@ -29,6 +29,10 @@ abbrev pub first_place : List ℕ → List Formula → Option ℕ
 first_place key [] = None
 first_place key (x ∷ xs) = if bytes_eq key (code x) then Some 0 else option_map suc (first_place key xs)
 
+-- no formula with the same key stands before this place
+abbrev pub IsFirstPlace : ℕ → List Formula → Type 0
+IsFirstPlace at formulas = (key : List ℕ) × (first_place key formulas ≡ Some at)
+
 -- The last formula has this key, and no other one does.
 pub record EndsWithNew (key : List ℕ) (formulas : List Formula) : Type 0 where
   pub before : List Formula

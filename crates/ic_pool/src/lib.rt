@@ -20,6 +20,7 @@ mod mention_index;
 mod mentions;
 mod pool;
 mod remaking;
+mod same;
 mod steps;
 mod topics;
 

@@ -1,4 +1,4 @@
-ghost use Rattle.std.specs.Prelude.{◌≡◌, ◌≤◌, ◌+◌, ◌<◌, ◌&&◌, ◌++◌, List, [], ◌∷◌, None, false, true, length, map, option_map, IfOk, IsOk, OnErr, OnOk};
+ghost use Rattle.std.specs.Prelude.{◌≡◌, ◌≤◌, ◌+◌, ◌<◌, ◌&&◌, ◌++◌, List, [], ◌∷◌, None, false, true, length, map, option_map, IfOk, IfSome, IsOk, OnErr, OnOk, Some};
 ghost use Rattle.std.specs.List.{AllByRecursion, slice_get};
 ghost use Rattle.ic_laws.specs.declared.tree.Formula.{Formula};
 ghost use Rattle.ic_pool.specs.Code.{code};
@@ -14,6 +14,7 @@ mod rewrites;
 
 use crate::look_up::LookUp;
 use crate::mention_index::MentionIndex;
+use crate::same::are_same;
 use crate::{BookChange, HashedKey, Remaking, Steps, copy_formula, key_of};
 use ic_laws::{Formula, OutOfMemory};
 use index::{all_places, dangling_in, dangling_weight, index_of, put_late, renewed};
@@ -32,6 +33,8 @@ pub struct Pool {
     /// the places of the formulas that it made are late: the next write puts their keys in.
     index: LookUp,
     is_whole: bool,
+    /// The place where a formula was found or put last, while it is the first one of an equal formula.
+    last: Option<usize>,
     /// Whether the look-up has all formulas but those at the late places.
     knows_rest: bool,
     late: LinkedList<usize>,
@@ -50,6 +53,7 @@ impl Drop for Pool {
             formulas,
             index,
             is_whole: _,
+            last: _,
             knows_rest: _,
             late,
             mentions,
@@ -77,7 +81,7 @@ impl Model for Pool {
 
     ghost view = { λ p. record { formulas = p.formulas.items; is_whole = p.is_whole } };
 
-    ghost invariant = { λ p. IsKept p.index p.is_whole p.knows_rest p.late p.mentions p.knows_mentions p.dangling p.formulas.items };
+    ghost invariant = { λ p. IsKept p.index p.is_whole p.last p.knows_rest p.late p.mentions p.knows_mentions p.dangling p.formulas.items };
 }
 
 impl Pool {
@@ -91,6 +95,7 @@ impl Pool {
             formulas: Vec::new(alloc),
             index: LookUp::new(alloc),
             is_whole: true,
+            last: None,
             knows_rest: true,
             late: LinkedList::new(alloc),
             mentions: MentionIndex::new(alloc),
@@ -111,6 +116,7 @@ impl Pool {
             formulas,
             index: LookUp::new(alloc),
             is_whole: false,
+            last: None,
             knows_rest: false,
             late: LinkedList::new(alloc),
             mentions,
@@ -219,8 +225,26 @@ impl Pool {
         ensures whole { OnOk result (self.new.is_whole ≡ true) }
         ensures err { OnErr result (self.new ≡ self.old) }
     {
+        if let Some(at) = self.met_last(&formula) {
+            return Ok(at);
+        }
         let key = key_of(self.alloc, &formula)?;
-        self.place_by(key, formula)
+        let at = self.place_by(key, formula)?;
+        self.last = Some(at);
+        Ok(at)
+    }
+
+    /// The place where a formula was found or put last, if this one is seen to equal that. A formula that is filled down or put
+    /// into many cells is mostly found here, without its key.
+    fn met_last(&self, formula: &Formula) -> Option<usize>
+        ensures { IfSome result (λ at.
+            first_place (code formula.now) self.now.formulas ≡ Some at) }
+    {
+        let at = self.last?;
+        match self.get(at) {
+            Some(other) if are_same(formula, other) => Some(at),
+            _ => None,
+        }
     }
 
     /// The same for a formula that stays its owner's: where there is no equal one, a copy is put at the end.
@@ -252,6 +276,7 @@ impl Pool {
         ensures whole { self.new.is_whole ≡ true }
     {
         if let Some(formula) = self.formulas.pop() {
+            self.last = None;
             self.index.take_out(key, self.formulas.len());
             self.dangling -= dangling_weight(&formula);
         }
@@ -326,6 +351,7 @@ impl Pool {
         rewrites.take_out(&mut self.index);
         self.knows_rest &= rewrites.move_places(&mut self.late);
         self.is_whole = false;
+        self.last = None;
         self.knows_mentions &= rewrites.note_in(&mut self.mentions).is_ok();
         self.dangling = rewrites.put(&mut self.formulas, self.dangling);
         self.knows_mentions = renewed(
@@ -350,6 +376,7 @@ impl Pool {
     fn place_by(&mut self, key: HashedKey, formula: Formula) -> Result<usize, OutOfMemory>
         requires whole { self.old.is_whole ≡ true }
         requires its { key ≡ code formula }
+        ensures first { IfOk result (λ at. first_place key self.new.formulas ≡ Some at) }
         ensures ok { IfOk result (λ at. IsPlaced formula at self.old.formulas self.new.formulas) }
         ensures within { IfOk result (λ at. at < length self.new.formulas) }
         ensures whole { OnOk result (self.new.is_whole ≡ true) }

@@ -31,4 +31,5 @@ invariant_of-self c =
           (subst (FitsPool c.args.rewrites) (sym same) c.requires.fits) c.take_out.ensures c.move_places.ensures.moved back;
       mentioned = λ e. subst (KnowsAll c.renewed-self-inside.new.mentions) c.deref.ensures.value (c.renewed-self-inside.ensures e);
       dangles = c.put-self-inside.ensures.counted ∙ ap dangling_count (new ∙ sym back);
+      last_is_first = λ at e. cc;
     }

@@ -20,4 +20,5 @@ invariant_of-self c =
           c.self.inside.late c.self.invariant.look_up whole;
       mentioned = λ k. knows_back c.self.inside.mentions c.self.inside.formulas.items c.pop.new.self.items c.in-Some.formula c.in-Some.ensures.items (c.self.invariant.mentioned k);
       dangles = omega (arith, counted, c.dangling_weight.ensures.value);
+      last_is_first = λ at e. cc;
     }
