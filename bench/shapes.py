@@ -95,6 +95,12 @@ def filled_down(count):
         yield put(i, f"SUM(A{i % ROWS + 1}:B{i % ROWS + 1})*2.5%+IF(C{i % ROWS + 1}>1,\"yes\",D{i % ROWS + 1})")
 
 
+def short_filled(count):
+    """A short formula with relative references, filled down likewise."""
+    for i in range(1, count + 1):
+        yield put(i, f"SUM(A{i % ROWS + 1}:B{i % ROWS + 1})*2")
+
+
 def one_text(count):
     """One formula with absolute references in all cells."""
     for i in range(1, count + 1):
