@@ -1,5 +1,5 @@
 -- The table of all served commands, one subject after another.
-use Rattle.std.proofs.Common.{◌≡◌, ◌≢◌, ℕ, List, [], ◌∷◌, ◌++◌, Bool, true, false, ◌&&◌, ◌||◌, ◌⊎◌, not, Option, Some, None, IsUtf8, bytes_eq, chars, codes, option_map, option_and_then, refl, ap, sym, subst, ◌∙◌, inl, inr}
+use Rattle.std.proofs.Common.{◌≡◌, ◌≢◌, ℕ, List, [], ◌∷◌, ◌++◌, Bool, true, false, ◌&&◌, ◌||◌, Option, Some, None, IsUtf8, bytes_eq, chars, codes, option_map, option_and_then, refl, ap, sym, subst, ◌∙◌, inl, inr}
 use Rattle.std.specs.List.{AllByRecursion, list_all}
 use Rattle.std.proofs.lemmas.Bool.{and_parts, cases_Bool, false_from_ne_true}
 use Rattle.std.proofs.lemmas.Slice.Eq.{bytes_eq-Decides}
@@ -125,73 +125,24 @@ from_styles = served_of OnStyles style_rows ++ from_layout
 abbrev pub from_extending : List (Row Command)
 from_extending = served_of OnExtending extending_rows ++ from_styles
 
--- Those that write and read cells are looked up first, which is the same, since no other row has a name of theirs.
-module _ (english : List (List ℕ)) (name : List ℕ) (words : List (List ℕ)) where
-  abbrev has_other_name : Row Command → List (Row Command) → Bool
-  has_other_name row rows = list_all (λ (other : Row Command). not (bytes_eq row.name other.name)) rows
+abbrev pub from_reading : List (Row Command)
+from_reading = served_of OnReading reading_rows ++ from_extending
 
-  abbrev are_apart : List (Row Command) → List (Row Command) → Bool
-  are_apart rows others = list_all (λ (row : Row Command). has_other_name row others) rows
-
-  lacks : (row : Row Command) (rows : List (Row Command)) → has_other_name row rows ≡ true → bytes_eq row.name name ≡ true → named english rows name words ≡ None
-  lacks row [] h e = refl
-  lacks row (other ∷ rows) h e =
-      let p = and_parts (not (bytes_eq row.name other.name)) (has_other_name row rows) h in
-      elim (cases_Bool (bytes_eq other.name name)) [
-        | inl f ↦ absurd (differ p.0 ((bytes_eq-Decides row.name other.name).1 ((bytes_eq-Decides row.name name).0 e ∙ sym ((bytes_eq-Decides other.name name).0 f))))
-        | inr f ↦ rw f (lacks row rows p.1 e)
-      ]
-    where
-      differ : not (bytes_eq row.name other.name) ≡ true → bytes_eq row.name other.name ≡ true → ⊥
-      differ apart same = let wrong : false ≡ true = sym (ap not same) ∙ apart in cc
-
-  one_lacks : (rows others : List (Row Command)) → are_apart rows others ≡ true → (named english rows name words ≡ None) ⊎ (named english others name words ≡ None)
-  one_lacks [] others h = inl refl
-  one_lacks (row ∷ rows) others h =
-      let p = and_parts (has_other_name row others) (are_apart rows others) h in
-      elim (cases_Bool (bytes_eq row.name name)) [
-        | inl e ↦ inr (lacks row others p.0 e)
-        | inr e ↦ rw e (one_lacks rows others p.1)
-      ]
-
-  turned : {A : Type 0} (a b later : Option A) → (a ≡ None) ⊎ (b ≡ None) → first_of a (first_of b later) ≡ first_of b (first_of a later)
-  turned None b later h = refl
-  turned (Some x) None later h = refl
-  turned (Some x) (Some y) later (inl e) = absurd (cc)
-  turned (Some x) (Some y) later (inr e) = absurd (cc)
-
-  moved_first : (rows others later : List (Row Command)) → are_apart rows others ≡ true → named english (rows ++ (others ++ later)) name words ≡ named english (others ++ (rows ++ later)) name words
-  moved_first rows others later h =
-      let first = λ (xs ys : List (Row Command)). one_after_another english name words ys xs in
-      first rows (others ++ later) ∙ ap (first_of (named english rows name words)) (first others later)
-      ∙ turned (named english rows name words) (named english others name words) (named english later name words) (one_lacks rows others h)
-      ∙ sym (first others (rows ++ later) ∙ ap (first_of (named english others name words)) (first rows later))
-
-abbrev on_cells : List (Row Command)
-on_cells = served_of OnWriting writing_rows ++ served_of OnReading reading_rows
-
-abbrev on_others : List (Row Command)
-on_others = served_of OnSheets sheet_rows ++ (served_of OnDefinitions definition_rows ++ served_of OnNotation notation_rows)
+abbrev pub from_writing : List (Row Command)
+from_writing = served_of OnWriting writing_rows ++ from_reading
 
 abbrev pub from_notation : List (Row Command)
-from_notation = served_of OnNotation notation_rows ++ from_extending
+from_notation = served_of OnNotation notation_rows ++ from_writing
 
 abbrev pub from_definitions : List (Row Command)
 from_definitions = served_of OnDefinitions definition_rows ++ from_notation
 
-abbrev pub from_sheets : List (Row Command)
-from_sheets = served_of OnSheets sheet_rows ++ from_definitions
-
-abbrev pub from_reading : List (Row Command)
-from_reading = served_of OnReading reading_rows ++ from_sheets
-
-by_rows : served ≡ on_others ++ (on_cells ++ from_extending)
+by_rows : served ≡ served_of OnSheets sheet_rows ++ from_definitions
 unfolding commands served
 by_rows = refl
 
-pub by_subjects : (english : List (List ℕ)) (name : List ℕ) (words : List (List ℕ)) → IsUtf8 name → named english served (chars name) words ≡ named english (served_of OnWriting writing_rows ++ from_reading) name words
-by_subjects english name words u =
-    found_same_named english name words u ∙ ap (λ rows. named english rows name words) by_rows ∙ moved_first english name words on_others on_cells from_extending refl
+pub by_subjects : (english : List (List ℕ)) (name : List ℕ) (words : List (List ℕ)) → IsUtf8 name → named english served (chars name) words ≡ named english (served_of OnSheets sheet_rows ++ from_definitions) name words
+by_subjects english name words u = found_same_named english name words u ∙ ap (λ rows. named english rows name words) by_rows
 
 -- what the code has of the subject that is next: the kind of the name, or none
 module _ (english : List (List ℕ)) (name : List ℕ) (words : List (List ℕ)) (other : copies_values name ≡ false) (table : Option (Option Command)) (kind : Option Kind) (rows : List (Row Command)) (known : known_rows english rows ≡ true)

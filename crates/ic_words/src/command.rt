@@ -94,17 +94,10 @@ fn command_named<'l>(
     }
 }
 
-/// The kind of the command of this name, where its words aren't values: that of the one subject that has the name. Cells are
-/// written and read most often, so these names are compared first.
+/// The kind of the command of this name, where its words aren't values: that of the one subject that has the name.
 fn kind_named(name: &str) -> Option<Kind>
     ensures { copies_values name.now ≡ false → IsServedKind (chars name.now) result }
 {
-    if let Some(kind) = writing_named(name) {
-        return Some(kind);
-    }
-    if let Some(kind) = reading_named(name) {
-        return Some(kind);
-    }
     if let Some(kind) = sheets_named(name) {
         return Some(kind);
     }
@@ -112,6 +105,12 @@ fn kind_named(name: &str) -> Option<Kind>
         return Some(kind);
     }
     if let Some(kind) = notation_named(name) {
+        return Some(kind);
+    }
+    if let Some(kind) = writing_named(name) {
+        return Some(kind);
+    }
+    if let Some(kind) = reading_named(name) {
         return Some(kind);
     }
     if let Some(kind) = extending_named(name) {
