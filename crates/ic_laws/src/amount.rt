@@ -92,7 +92,15 @@ pub fn amount_spelling(alloc: Global, v: Amount, decimal: char) -> Result<String
     spelled(alloc, v.units(), decimal)
 }
 
-// The same of so many units.
+/// Appends the text of an amount, as `amount_spelling` gives it. Where memory runs out some of it may stand there.
+pub fn push_amount(text: &mut String, v: Amount, decimal: char) -> Result<(), OutOfMemory>
+    ensures { OnOk result (chars (string_bytes text.new) ≡ chars (string_bytes text.old)
+        ++ amount_text decimal v) }
+{
+    push_signed(text, v.units(), decimal)
+}
+
+// The text of so many units.
 fn spelled(alloc: Global, units: i128, decimal: char) -> Result<String, OutOfMemory>
     requires { is_amount units ≡ true }
     ensures { IfOk result (λ s. chars (string_bytes s) ≡ amount_text decimal units) }

@@ -47,7 +47,7 @@ mod scene;
 mod text;
 mod tree;
 
-pub use amount::{Amount, amount_spelling, unsigned_amount};
+pub use amount::{Amount, amount_spelling, push_amount, unsigned_amount};
 pub use book_law::{
     law_add_sheet_binds, law_delete_definition_dangles, law_delete_sheet_dangles, law_move_keeps,
     law_new_definition_binds, law_notation_keeps, law_rename_back, law_rename_binds,

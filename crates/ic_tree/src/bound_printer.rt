@@ -9,14 +9,12 @@ ghost use Rattle.ic_laws.specs.Yield.{sheet_name};
 ghost use Rattle.ic_tree.specs.BoundText.{bound_arguments_text, bound_pair_text, bound_text};
 ghost use Rattle.ic_tree.specs.Printed.{each_before};
 
-use crate::constant::{
-    push_amount, push_boolean, push_error, push_rows, push_separator, push_string,
-};
+use crate::constant::{push_boolean, push_error, push_rows, push_separator, push_string};
 use crate::printer::{ROOM, push_head, push_parameters, push_prefix, sign_text};
 use crate::spelling::digits_of;
 use ic_laws::scan::{push_char, push_text};
 use ic_laws::{
-    Bound, Dialect, Finder, LetPair, NameMention, OutOfMemory, Place, SheetMention, Text, Tree,
+    Bound, Dialect, Finder, LetPair, NameMention, OutOfMemory, Place, SheetMention, Text, Tree, push_amount,
 };
 use ic_refs::push_quoted;
 use std::alloc::Global;
@@ -149,7 +147,7 @@ fn push_tree<D: Dialect, N: Finder>(
         ++ bound_text (D.meaning d.now) (N.scene names.now) tree.now) }
 {
     match tree {
-        Tree::Num(amount) => push_amount(alloc, out, *amount, d.decimal()),
+        Tree::Num(amount) => push_amount(out, *amount, d.decimal()),
         Tree::Str(text) => push_string(out, text.as_str()),
         Tree::Bool(value) => push_boolean(d, out, *value),
         Tree::Err(error) => push_error(d, out, *error),
@@ -203,7 +201,7 @@ fn push_tree<D: Dialect, N: Finder>(
         }
         Tree::Array(rows) => {
             push_char(out, '{')?;
-            push_rows(alloc, d, out, rows.as_slice())?;
+            push_rows(d, out, rows.as_slice())?;
             push_char(out, '}')
         }
     }

@@ -7,8 +7,7 @@ ghost use Rattle.ic_tree.specs.Printed.{all_between, constant_text, doubled, dou
 
 use crate::number::error_number;
 use ic_laws::scan::{first_char, push_char, push_text};
-use ic_laws::{Amount, Constant, Dialect, Error, Items, OutOfMemory, WordKind, amount_spelling};
-use std::alloc::Global;
+use ic_laws::{Amount, Constant, Dialect, Error, Items, OutOfMemory, WordKind, push_amount};
 
 /// Appends what stands before the text of this number among several: nothing before the first one, number 0.
 pub fn push_separator(out: &mut String, separator: char, n: usize) -> Result<(), OutOfMemory>
@@ -20,20 +19,6 @@ pub fn push_separator(out: &mut String, separator: char, n: usize) -> Result<(),
     } else {
         push_char(out, separator)
     }
-}
-
-/// Appends an amount.
-pub fn push_amount(
-    alloc: Global,
-    out: &mut String,
-    amount: Amount,
-    decimal: char,
-) -> Result<(), OutOfMemory>
-    ensures { OnOk result (chars (string_bytes out.new) ≡ chars (string_bytes out.old)
-        ++ amount_text decimal amount) }
-{
-    let text = amount_spelling(alloc, amount, decimal)?;
-    push_text(out, text.as_str())
 }
 
 /// Appends a text between quotes, each quote in it doubled.
@@ -104,7 +89,6 @@ pub fn push_error<D: Dialect>(d: &D, out: &mut String, error: Error) -> Result<(
 
 // Appends a constant.
 fn push_constant<D: Dialect>(
-    alloc: Global,
     d: &D,
     out: &mut String,
     constant: &Constant,
@@ -117,7 +101,7 @@ fn push_constant<D: Dialect>(
             if *minus {
                 push_char(out, '-')?;
             }
-            push_amount(alloc, out, *amount, d.decimal())
+            push_amount(out, *amount, d.decimal())
         }
         Constant::Str(text) => push_string(out, text.as_str()),
         Constant::Bool(value) => push_boolean(d, out, *value),
@@ -127,7 +111,6 @@ fn push_constant<D: Dialect>(
 
 // Appends a row of an array.
 fn push_row<D: Dialect>(
-    alloc: Global,
     d: &D,
     out: &mut String,
     row: &[Constant],
@@ -137,7 +120,7 @@ fn push_row<D: Dialect>(
 {
     for (n, constant) in row.iter().enumerate() {
         push_separator(out, d.list(), n)?;
-        push_constant(alloc, d, out, constant)?;
+        push_constant(d, out, constant)?;
     }
     Ok(())
 }
@@ -151,7 +134,6 @@ fn row_separator<D: Dialect>(d: &D) -> char
 
 /// Appends the rows of an array.
 pub fn push_rows<D: Dialect>(
-    alloc: Global,
     d: &D,
     out: &mut String,
     rows: &[Items<Constant>],
@@ -161,7 +143,7 @@ pub fn push_rows<D: Dialect>(
 {
     for (n, row) in rows.iter().enumerate() {
         push_separator(out, row_separator(d), n)?;
-        push_row(alloc, d, out, row.as_slice())?;
+        push_row(d, out, row.as_slice())?;
     }
     Ok(())
 }
