@@ -1,7 +1,7 @@
 ghost use Rattle.std.specs.Prelude.{◌≡◌, ◌++◌, ◌∷◌, [], ◌+◌, ◌-◌, ◌*◌, ◌/◌, ◌%◌, ◌^◌, ◌<◌, ◌≤◌, ℕ, ℤ, pos, Some, chars, length, nat_abs, option_map, string_bytes, true, false, IfOk, IfSome, MatchOption, OnOk};
 ghost use Rattle.std.specs.Fmt.{decimal};
 ghost use Rattle.std.specs.Str.Parse.{digits_value};
-ghost use Rattle.ic_laws.specs.Amount.{WritesUnits, amount_text, fraction_digits, is_amount, units_by, units_of, unsigned_amount, unsigned_text};
+ghost use Rattle.ic_laws.specs.Amount.{WritesUnits, amount_text, fraction_digits, is_amount, units_by, units_of, unsigned_amount, units_of_one, unsigned_text};
 ghost use Rattle.ic_laws.specs.Scan.{is_digit, past_run, run_of};
 
 use crate::OutOfMemory;
@@ -89,49 +89,42 @@ pub fn amount_spelling(alloc: Global, v: Amount, decimal: char) -> Result<String
     ensures read_back { (n : ℕ) → v ≡ pos n → is_digit decimal ≡ false
         → IfOk result (λ s. unsigned_amount decimal (chars (string_bytes s)) ≡ Some n) }
 {
-    spelled(alloc, v.units(), decimal)
+    spelled(alloc, v, decimal)
 }
 
-/// Appends the text of an amount, as `amount_spelling` gives it. Where memory runs out some of it may stand there.
+// The same by the function alone.
+fn spelled(alloc: Global, v: Amount, decimal: char) -> Result<String, OutOfMemory>
+    ensures text { IfOk result (λ s. chars (string_bytes s) ≡ amount_text decimal v) }
+    ensures within { is_amount v ≡ true }
+{
+    let mut text = String::new(alloc);
+    push_amount(&mut text, v, decimal)?;
+    Ok(text)
+}
+
+/// Appends the text of an amount, as `amount_spelling` gives it. Where memory runs out a front of it may stand there.
 pub fn push_amount(text: &mut String, v: Amount, decimal: char) -> Result<(), OutOfMemory>
     ensures { OnOk result (chars (string_bytes text.new) ≡ chars (string_bytes text.old)
         ++ amount_text decimal v) }
 {
-    push_signed(text, v.units(), decimal)
-}
-
-// The text of so many units.
-fn spelled(alloc: Global, units: i128, decimal: char) -> Result<String, OutOfMemory>
-    requires { is_amount units ≡ true }
-    ensures { IfOk result (λ s. chars (string_bytes s) ≡ amount_text decimal units) }
-{
-    let mut text = String::new(alloc);
-    push_signed(&mut text, units, decimal)?;
-    Ok(text)
-}
-
-// Appends the text of an amount.
-fn push_signed(text: &mut String, units: i128, decimal: char) -> Result<(), OutOfMemory>
-    requires { is_amount units ≡ true }
-    ensures { OnOk result (chars (string_bytes text.new) ≡ chars (string_bytes text.old)
-        ++ amount_text decimal units) }
-{
-    if units < 0 {
+    if v.is_below {
         push_char(text, '-')?;
-        push_unsigned(text, units.unsigned_abs(), decimal)
-    } else {
-        push_unsigned(text, units.unsigned_abs(), decimal)
     }
+    push_parts(text, v.whole, v.fraction, decimal)
 }
 
-// Appends the text of an amount from 0 on.
-fn push_unsigned(text: &mut String, units: u128, decimal: char) -> Result<(), OutOfMemory>
-    requires { units < 10 ^ 27 }
+// Appends a whole part, and a fraction after the separator where there is one.
+fn push_parts(
+    text: &mut String,
+    whole: u64,
+    fraction: u32,
+    decimal: char,
+) -> Result<(), OutOfMemory>
+    requires { fraction < units_of_one }
     ensures { OnOk result (chars (string_bytes text.new) ≡ chars (string_bytes text.old)
-        ++ unsigned_text decimal units) }
+        ++ unsigned_text decimal (whole * units_of_one + fraction)) }
 {
-    push_number(text, (units / ONE) as u64)?;
-    let fraction = (units % ONE) as u32;
+    push_number(text, whole)?;
     if fraction != 0 {
         push_char(text, decimal)?;
         push_fraction(text, fraction)?;

@@ -137,12 +137,12 @@ pub fn names_row(digits: &str) -> bool
     0 < row && row <= LAST_ROW
 }
 
-/// Whether it is an A1 cell of the sheet.
+/// Whether it is an A1 cell of the sheet. Most words have no digits after their letters, and nothing else is asked of them.
 pub fn is_a1_cell(text: &str) -> bool
     ensures { result ≡ is_a1_cell (chars text.now) }
 {
     let letters = past_dollar(text);
-    names_column(letters_run(letters)) && names_row(past_dollar(past_letters(letters)))
+    names_row(past_dollar(past_letters(letters))) && names_column(letters_run(letters))
 }
 
 /// Whether a text has digits alone, or nothing.

@@ -1,8 +1,5 @@
 use Rattle.std.proofs.Common.{◌≡◌, ◌<◌, ◌^◌, ap, subst, ◌∙◌, pos, Ok, Err, IfOk, Result, true, arith}
 use Rattle.std.proofs.lemmas.Bool.Decides.{nat_tests}
-use Rattle.std.proofs.lemmas.Int.{to_z-of_z}
-use mir.Syntax.{w128}
-use mir.Val.{SFits, to_z, of_z}
 use Rattle.ic_laws.specs.Amount.{is_amount, amount_text, unsigned_amount}
 use Rattle.ic_laws.proofs.AmountTexts.{unsigned_amount-text}
 use Rattle.ic_laws.proofs.amount.amount_spelling.Goals as goal
@@ -13,9 +10,7 @@ weaker (Err e) f h = tt
 
 pub returns-clause-read_back : goal.returns-clause-read_back
 returns-clause-read_back c n e apart =
-    let is : is_amount (pos n) ≡ true = subst (λ z. is_amount z ≡ true) (c.units.ensures.exact ∙ e) c.units.ensures.within in
+    let is : is_amount (pos n) ≡ true = subst (λ z. is_amount z ≡ true) e c.spelled.ensures.within in
     let small : n < 10 ^ 27 = grind (arith, nat_tests) in
-    let fits : SFits w128 c.units.result = record { sfits = c.units.type_inv } in
-    let same : to_z w128 (of_z w128 c.units.result) ≡ pos n = to_z-of_z w128 c.units.result fits ∙ c.units.ensures.exact ∙ e in
     weaker c.spelled.result
-    (λ s h. ap (unsigned_amount c.args.decimal) (h ∙ ap (amount_text c.args.decimal) same) ∙ unsigned_amount-text c.args.decimal n small apart) c.spelled.ensures
+    (λ s h. ap (unsigned_amount c.args.decimal) (h ∙ ap (amount_text c.args.decimal) e) ∙ unsigned_amount-text c.args.decimal n small apart) c.spelled.ensures.text
