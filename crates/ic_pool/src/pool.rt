@@ -33,7 +33,7 @@ pub struct Pool {
     /// the places of the formulas that it made are late: the next write puts their keys in.
     index: LookUp,
     is_whole: bool,
-    /// The place where a formula was found or put last, while it is the first one of an equal formula.
+    /// The place where `place` found or put a formula last, while it is the first one of an equal formula.
     last: Option<usize>,
     /// Whether the look-up has all formulas but those at the late places.
     knows_rest: bool,
@@ -234,8 +234,8 @@ impl Pool {
         Ok(at)
     }
 
-    /// The place where a formula was found or put last, if this one is seen to equal that. A formula that is filled down or put
-    /// into many cells is mostly found here, without its key.
+    /// The place where `place` found or put a formula last, if this one is seen to equal that. A formula that is filled down or
+    /// put into many cells is mostly found here, without its key.
     fn met_last(&self, formula: &Formula) -> Option<usize>
         ensures { IfSome result (λ at.
             first_place (code formula.now) self.now.formulas ≡ Some at) }

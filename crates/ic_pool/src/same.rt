@@ -1,8 +1,9 @@
 //! Formulas compared node by node. A yes is true; a no says nothing, since what is rare isn't compared.
 ghost use Rattle.std.specs.Prelude.{◌≡◌, true};
 
+use crate::changes::same_key;
 use ic_laws::{
-    Bound, Formula, NameKey, NameMention, Place, Position, PrefixSign, RefPart, SheetMention, Tree,
+    Bound, Formula, NameMention, Place, Position, PrefixSign, RefPart, SheetMention, Tree,
 };
 
 /// Whether two formulas are seen to be equal.
@@ -81,30 +82,19 @@ fn are_same_sheets(a: &SheetMention, b: &SheetMention) -> bool
     }
 }
 
-/// Whether two words are seen to mean the same, as it was typed.
+/// Whether two words are seen to be equal.
+#[tactic(auto, using(ic_laws::proofs::keeping::NameChanges::same_key_from))]
 fn are_same_words(a: &NameMention, b: &NameMention) -> bool
     ensures { result ≡ true → a.now ≡ b.now }
 {
     match (a, b) {
         (NameMention::Var(x), NameMention::Var(y)) => x.as_ref().is(y.as_ref().as_str()),
-        (NameMention::Name(x), NameMention::Name(y)) => are_same_keys(x.as_ref(), y.as_ref()),
+        (NameMention::Name(x), NameMention::Name(y)) => same_key(x.as_ref(), y.as_ref()),
         (NameMention::Dangling(x), NameMention::Dangling(y)) => {
             x.as_ref().is(y.as_ref().as_str())
         }
         _ => false,
     }
-}
-
-/// Whether two keys of definitions are equal.
-fn are_same_keys(a: &NameKey, b: &NameKey) -> bool
-    ensures { result ≡ true → a.now ≡ b.now }
-{
-    a.name.is(b.name.as_str())
-        && match (a.scope, b.scope) {
-            (None, None) => true,
-            (Some(m), Some(n)) => m == n,
-            _ => false,
-        }
 }
 
 /// Whether two signs before an operand are equal.

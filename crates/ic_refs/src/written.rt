@@ -28,9 +28,10 @@ impl<'t> WrittenName<'t> {
     pub(crate) fn name(&self, alloc: Global) -> Result<Text, OutOfMemory>
         ensures { IfOk result (λ t. t ≡ name_of self.now) }
     {
-        let mut name = String::with_capacity(alloc, self.inside.len())?;
-        push_spelled(&mut name, self.inside, self.quoting)?;
-        Ok(Text::from(name))
+        match self.quoting {
+            Quoting::Plain => Text::from_str(alloc, self.inside),
+            Quoting::Doubled => undoubled(alloc, self.inside),
+        }
     }
 
     /// Whether it is a sheet's name: 1 to 31 characters, none of `\ / * ? : [ ]`.
@@ -41,13 +42,22 @@ impl<'t> WrittenName<'t> {
     }
 }
 
-/// Appends the name that is written so.
-fn push_spelled(out: &mut String, inside: &str, quoting: Quoting) -> Result<(), OutOfMemory>
+/// A name whose quotes are doubled.
+fn undoubled(alloc: Global, inside: &str) -> Result<Text, OutOfMemory>
+    ensures { IfOk result (λ t. t ≡ undoubled (chars inside.now)) }
+{
+    let mut name = String::with_capacity(alloc, inside.len())?;
+    push_undoubled(&mut name, inside)?;
+    Ok(Text::from(name))
+}
+
+/// Appends a name whose quotes are doubled.
+fn push_undoubled(out: &mut String, inside: &str) -> Result<(), OutOfMemory>
     ensures { OnOk result (chars (string_bytes out.new) ≡ chars (string_bytes out.old)
-        ++ spelled quoting (chars inside.now)) }
+        ++ undoubled (chars inside.now)) }
 {
     let mut rest = inside;
-    while let Some((c, after)) = first_spelled(rest, quoting) {
+    while let Some((c, after)) = first_undoubled(rest) {
         push_char(out, c)?;
         rest = after;
     }
