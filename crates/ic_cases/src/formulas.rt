@@ -1,10 +1,10 @@
 //! Formulas: a text is read and its tree printed, in the stored form or as it is shown in a cell.
 use crate::references::put_token;
 use crate::row::Row;
-use crate::scenes::{empty_scene, put_bound, put_spelled};
+use crate::scenes::{empty_scene, put_bound};
 use ic_laws::{Bound, Dialect};
 use ic_tables::{BookIdError, Tables};
-use ic_tree::{Shown, Stored, read_reference, read_typed, settle};
+use ic_tree::{Shown, Stored, print_bound, read_reference, read_typed, settle};
 
 /// `read_stored` and a text in the stored form. `read_shown`, a locale, a language, a row, a column and a text as it is
 /// shown there; `shown_to_stored` and `stored_to_shown` likewise, where the text is printed in the other form.
@@ -41,10 +41,7 @@ fn put_printed<D: Dialect>(row: &mut Row<'_>, to: &D, tree: Bound) {
     let english = row.tables.get_default_language();
     let mut tree = tree;
     match settle(row.alloc, &scene, english, None, &mut tree) {
-        Ok(()) => {
-            row.put("=");
-            put_spelled(row, to, &scene, &tree);
-        }
+        Ok(()) => row.put_made(print_bound(row.alloc, to, &scene, "=", &tree)),
         Err(_) => row.bad(),
     }
 }

@@ -14,7 +14,8 @@ use crate::printer::{ROOM, push_head, push_parameters, push_prefix, sign_text};
 use crate::spelling::digits_of;
 use ic_laws::scan::{push_char, push_text};
 use ic_laws::{
-    Bound, Dialect, Finder, LetPair, NameMention, OutOfMemory, Place, SheetMention, Text, Tree, push_amount,
+    Bound, Dialect, Finder, LetPair, NameMention, OutOfMemory, Place, SheetMention, Text, Tree,
+    push_amount,
 };
 use ic_refs::push_quoted;
 use std::alloc::Global;

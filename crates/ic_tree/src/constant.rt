@@ -110,11 +110,7 @@ fn push_constant<D: Dialect>(
 }
 
 // Appends a row of an array.
-fn push_row<D: Dialect>(
-    d: &D,
-    out: &mut String,
-    row: &[Constant],
-) -> Result<(), OutOfMemory>
+fn push_row<D: Dialect>(d: &D, out: &mut String, row: &[Constant]) -> Result<(), OutOfMemory>
     ensures { OnOk result (chars (string_bytes out.new) ≡ chars (string_bytes out.old)
         ++ row_text (D.meaning d.now) row.now) }
 {

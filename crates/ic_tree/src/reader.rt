@@ -369,8 +369,9 @@ fn read_list<D: Dialect, S: TokenSource>(
         let Some(next) = read_argument(alloc, d, source, most, b)? else {
             return Ok(None);
         };
-        found.push(next)?;
-        if !take_separator(alloc, source)? {
+        let more = take_separator(alloc, source)?;
+        found.push(next, more)?;
+        if !more {
             return Ok(Some(found));
         }
     }

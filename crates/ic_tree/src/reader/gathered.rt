@@ -49,12 +49,12 @@ impl Arguments {
         }
     }
 
-    /// Adds an argument at the end. Up to four of them take no more room than they need.
-    pub fn push(&mut self, tree: Measured) -> Result<(), OutOfMemory>
+    /// Adds an argument at the end, where more may follow. Up to five of them take no more room than they need.
+    pub fn push(&mut self, tree: Measured, more: bool) -> Result<(), OutOfMemory>
         ensures { OnOk result (self.new ≡ self.old ++ tree ∷ []) }
     {
         if self.trees.len() < 4 {
-            self.trees.reserve_exact(1)?;
+            self.trees.reserve_exact(if more { 2 } else { 1 })?;
         }
         let (tree, nodes) = tree.into_parts();
         self.trees.push(tree)?;

@@ -136,20 +136,20 @@ read_list-returns-in_default g t c =
     let d = g.D.Dialect.meaning c.args.d.now in
     list_fails (argument (reader d (c.args.most - 1)) c.args.b) past_separator (arguments_shrink d (c.args.most - 1) c.args.b) c.items.found _ _ _ c.in_ok-next.ensures c.in_default.is ∙ c.items.invariant
 
-pub read_list-returns-then-not-branch : goal.read_list-returns-then-not-branch
-read_list-returns-then-not-branch g t c =
+pub read_list-returns-then-not-more : goal.read_list-returns-then-not-more
+read_list-returns-then-not-more g t c =
     let d = g.D.Dialect.meaning c.args.d.now in
-    list_last (argument (reader d (c.args.most - 1)) c.args.b) past_separator (arguments_shrink d (c.args.most - 1) c.args.b) c.items.found _ _ _ _ _ _ _ c.in_ok-next.ensures c.in-Some.is c.in_ok-push.ensures c.in_ok-take_separator.ensures c.if-not-branch.true ∙ c.items.invariant
+    list_last (argument (reader d (c.args.most - 1)) c.args.b) past_separator (arguments_shrink d (c.args.most - 1) c.args.b) c.items.found _ _ _ _ _ _ _ c.in_ok-next.ensures c.in-Some.is c.in_ok-push.ensures c.in_ok-more.ensures c.if-not-more.true ∙ c.items.invariant
 
 pub read_list-items-smaller : goal.read_list-items-smaller
 read_list-items-smaller g t c =
     let d = g.D.Dialect.meaning c.args.d.now in
-    list_smaller (argument (reader d (c.args.most - 1)) c.args.b) past_separator (arguments_shrink d (c.args.most - 1) c.args.b) _ _ _ _ _ _ c.in_ok-next.ensures c.in-Some.is c.in_ok-take_separator.ensures c.if-not-branch.false
+    list_smaller (argument (reader d (c.args.most - 1)) c.args.b) past_separator (arguments_shrink d (c.args.most - 1) c.args.b) _ _ _ _ _ _ c.in_ok-next.ensures c.in-Some.is c.in_ok-more.ensures c.if-not-more.false
 
 pub read_list-items-preserved : goal.read_list-items-preserved
 read_list-items-preserved g t c =
     let d = g.D.Dialect.meaning c.args.d.now in
-    list_more (argument (reader d (c.args.most - 1)) c.args.b) past_separator (arguments_shrink d (c.args.most - 1) c.args.b) c.items.found _ _ _ _ _ _ _ c.in_ok-next.ensures c.in-Some.is c.in_ok-push.ensures c.in_ok-take_separator.ensures c.if-not-branch.false ∙ c.items.invariant
+    list_more (argument (reader d (c.args.most - 1)) c.args.b) past_separator (arguments_shrink d (c.args.most - 1) c.args.b) c.items.found _ _ _ _ _ _ _ c.in_ok-next.ensures c.in-Some.is c.in_ok-push.ensures c.in_ok-more.ensures c.if-not-more.false ∙ c.items.invariant
 
 pub read_argument-returns-then-ends_argument : goal.read_argument-returns-then-ends_argument
 read_argument-returns-then-ends_argument g t c = argument_left_out c.args.most _ _ _ _ _ c.ends_argument.ensures c.if-ends_argument.true c.in_ok-left_out.ensures
