@@ -15,7 +15,7 @@ use crate::workbook::text_in;
 use ic_laws::scan::first_char;
 use ic_laws::{Dialect, Finder, Formula, OutOfMemory, Text};
 use ic_tables::{Language, Tables};
-use ic_tree::{Shown, Stored, bind, read};
+use ic_tree::{Shown, Stored, read_typed, settle};
 use std::alloc::Global;
 
 /// The formulas of the sheet with this id, by their texts in the stored form, with the names that things have in a scene.
@@ -130,13 +130,11 @@ fn tree_read<D: Dialect, N: Finder>(
     ensures { IfOk result (λ f. f ≡ option_map (λ t. formulas.Tree (bound (function_of english.now)
         (N.scene names.now) scope t)) (read_as (D.meaning d.now) (chars text.now))) }
 {
-    match read(alloc, d, text)? {
-        Some(tree) => {
-            let tree = bind(alloc, names, english, scope, &tree)?;
-            Ok(Some(Formula::Tree(tree)))
-        }
-        None => Ok(None),
-    }
+    let Some(mut tree) = read_typed(alloc, d, text)? else {
+        return Ok(None);
+    };
+    settle(alloc, names, english, scope, &mut tree)?;
+    Ok(Some(Formula::Tree(tree)))
 }
 
 /// A formula where a text is its own in a form.
