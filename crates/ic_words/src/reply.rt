@@ -13,7 +13,7 @@ ghost use Rattle.ic_words.specs.Reply.{IsLineText, reply_room};
 
 use crate::fields::Fields;
 use ic_laws::scan::{first_char, push_char};
-use ic_laws::{Amount, OutOfMemory};
+use ic_laws::{Amount, OutOfMemory, amount_spelling};
 use ic_lines::push_escaped;
 use itoa::Buffer;
 
@@ -123,8 +123,8 @@ pub(crate) fn push_amount(reply: &mut String, amount: Amount) -> Result<(), OutO
         ++ field_word (AmountField amount)) }
     ensures text { OnOk result (scalars (field_text (AmountField amount)) ≡ true) }
 {
-    push_char(reply, '\t')?;
-    ic_laws::push_amount(reply, amount, '.')
+    let text = amount_spelling(*reply.allocator(), amount, '.')?;
+    push_field(reply, text.as_str())
 }
 
 /// Appends a field that is `true` or `false`.
