@@ -17,7 +17,7 @@ use Rattle.ic_laws.specs.Token.{FunHead, Ref, Spells, Token}
 use Rattle.ic_laws.specs.Tree.{Kind, Spelled}
 use Rattle.ic_laws.specs.ValidCore.{IsKeptBody, IsKeptFormula, IsPlaceInside, IsPooled, LiesWhere}
 use Rattle.ic_laws.specs.Yield.{yield}
-use Rattle.ic_laws.specs.declared.scene.DefinitionSpelling.{DefinitionSpelling}
+use Rattle.ic_laws.specs.declared.scene.NameSpelling.{NameSpelling}
 use Rattle.ic_laws.specs.declared.scene.Scene.{Scene}
 use Rattle.ic_laws.specs.declared.scene.SheetName.{SheetName}
 use Rattle.ic_laws.specs.declared.tree.Formula.{Formula}
@@ -151,12 +151,12 @@ module _ (w : Workbook) (language : List ℕ) (tables : TableSet) where
   sheets_named [] = refl
   sheets_named (s ∷ sheets) = ap (λ (rest : List SheetName). let named : SheetName = record { id = s.sheet_id; name = s.name } in named ∷ rest) (sheets_named sheets)
 
-  names_spelled : (names : List DefinedName) → map spelling_of (map (definition_of w tables) names) ≡ map (λ (d : DefinedName). let spelling : DefinitionSpelling = record { name = d.name; scope = d.sheet_id } in spelling) names
+  names_spelled : (names : List DefinedName) → map spelling_of (map (definition_of w tables) names) ≡ map (λ (d : DefinedName). let spelling : NameSpelling = record { name = d.name; scope = d.sheet_id } in spelling) names
   names_spelled [] = refl
-  names_spelled (d ∷ names) = ap (λ (rest : List DefinitionSpelling). let spelling : DefinitionSpelling = record { name = d.name; scope = d.sheet_id } in spelling ∷ rest) (names_spelled names)
+  names_spelled (d ∷ names) = ap (λ (rest : List NameSpelling). let spelling : NameSpelling = record { name = d.name; scope = d.sheet_id } in spelling ∷ rest) (names_spelled names)
 
   pub same_scene : machine.scene_in book ≡ scene_of w
-  same_scene = ap₂ (λ (sheets : List SheetName) (names : List DefinitionSpelling). let scene : Scene = record { sheets = sheets; names = names } in scene) (sheets_named w.worksheets) (names_spelled w.defined_names)
+  same_scene = ap₂ (λ (sheets : List SheetName) (names : List NameSpelling). let scene : Scene = record { sheets = sheets; names = names } in scene) (sheets_named w.worksheets) (names_spelled w.defined_names)
 
   same_names : (sheets : List Worksheet) → map (λ (m : SheetName). m.name) (map (λ (s : Worksheet). let named : SheetName = record { id = s.sheet_id; name = s.name } in named) sheets)
       ≡ map (λ (s : machine.Sheet). s.name) (map (sheet_of w tables) sheets)

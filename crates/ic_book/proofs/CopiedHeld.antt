@@ -18,7 +18,7 @@ use Rattle.ic_laws.specs.Keeping.{kept_in_body, same_keys}
 use Rattle.ic_laws.specs.Name.{agrees}
 use Rattle.ic_laws.specs.Notations.{Notations, english_function}
 use Rattle.ic_laws.specs.Scene.{same_scope}
-use Rattle.ic_laws.specs.declared.scene.DefinitionSpelling.{DefinitionSpelling}
+use Rattle.ic_laws.specs.declared.scene.NameSpelling.{NameSpelling}
 use Rattle.ic_laws.specs.declared.scene.Scene.{Scene}
 use Rattle.ic_laws.specs.declared.scene.SheetName.{SheetName}
 use Rattle.ic_laws.specs.declared.tree.Formula.{Formula}
@@ -110,12 +110,12 @@ module _ (book : Book) (valid : IsValidBook book) (index : ℕ) (source : Sheet)
   abbrev among : Scene
   among = scene_of (with_sheet_among (index + 1) id name (core_of book))
 
-  abbrev spelled : List DefinitionSpelling
+  abbrev spelled : List NameSpelling
   spelled = map spelling_of copies
 
-  of_copy : AllByRecursion (λ (m : DefinitionSpelling). m.scope ≡ Some id) spelled
+  of_copy : AllByRecursion (λ (m : NameSpelling). m.scope ≡ Some id) spelled
   of_copy =
-      all_in_map spelling_of (λ (m : DefinitionSpelling). m.scope ≡ Some id) copies
+      all_in_map spelling_of (λ (m : NameSpelling). m.scope ≡ Some id) copies
       (all_in_map (with_formula (formula_copied whole index ws)) (λ (d : Definition). d.scope ≡ Some id) moved
       (all_in_map (local_in id) (λ (d : Definition). d.scope ≡ Some id) (copied_of source.id book.definitions) (each (copied_of source.id book.definitions))))
     where
@@ -129,7 +129,7 @@ module _ (book : Book) (valid : IsValidBook book) (index : ℕ) (source : Sheet)
   later_is : scene_in (change book) ≡ later
   later_is =
       let empty : core_book.Sheet = record { id = id; name = name; cells = [] } in
-      ap₂ (λ (ss : List SheetName) (ms : List DefinitionSpelling). let scene : Scene = record { sheets = ss; names = ms } in scene)
+      ap₂ (λ (ss : List SheetName) (ms : List NameSpelling). let scene : Scene = record { sheets = ss; names = ms } in scene)
       (ap (map mentioned) (insert-map sheet_core book.sheets (index + 1) copy) ∙ insert-map mentioned (map sheet_core book.sheets) (index + 1) (sheet_core copy)
       ∙ sym (insert-map mentioned (map sheet_core book.sheets) (index + 1) empty))
       (map-append spelling_of book.definitions copies)
@@ -146,11 +146,11 @@ module _ (book : Book) (valid : IsValidBook book) (index : ℕ) (source : Sheet)
   spelled_is : spelled ≡ map spelling_of moved
   spelled_is = sym (map_twice (with_formula (formula_copied whole index ws)) spelling_of moved)
 
-  abbrev naming_with : List DefinitionSpelling → Change
+  abbrev naming_with : List NameSpelling → Change
   naming_with names = let scene : Scene = record { sheets = []; names = names } in sheet_named scene id name
 
   pub naming_is : sheet_named (definitions_scene (book.definitions ++ definitions_moved (whole_of book) index (whole_source book index source))) (copy_id (whole_of book) index (whole_source book index source)) (name_of_copy (whole_of book) source.name) ≡ sheet_named later id name
-  naming_is = ap naming_with (map-append spelling_of book.definitions moved ∙ ap (λ (names : List DefinitionSpelling). map spelling_of book.definitions ++ names) (sym spelled_is))
+  naming_is = ap naming_with (map-append spelling_of book.definitions moved ∙ ap (λ (names : List NameSpelling). map spelling_of book.definitions ++ names) (sym spelled_is))
 
   apart_sheets : AllByRecursion (λ (s : Sheet). nat_eq id s.id ≡ false) book.sheets
   apart_sheets = go book.sheets (none_passes (nat_eq id) (ids_of (core_of book)) unused.0)

@@ -15,7 +15,7 @@ use Rattle.ic_laws.specs.CoreBook.{Sheet}
 use Rattle.ic_laws.specs.Mentions.{LocalMention}
 use Rattle.ic_laws.specs.Name.{agrees, fold}
 use Rattle.ic_laws.specs.Scene.{definition_at, key_found, key_of, same_scope}
-use Rattle.ic_laws.specs.declared.scene.DefinitionSpelling.{DefinitionSpelling}
+use Rattle.ic_laws.specs.declared.scene.NameSpelling.{NameSpelling}
 use Rattle.ic_laws.specs.declared.scene.Scene.{Scene}
 use Rattle.ic_laws.specs.declared.tree.NameMention.{NameMention}
 use Rattle.ic_laws.specs.declared.tree.NameMention.TheVariants as names
@@ -30,11 +30,11 @@ ids_there id [] = refl
 ids_there id (s ∷ ss) = ap₂ (λ (x y : Bool). x || y) (nat_eq_equiv.symm s.id id) (ids_there id ss)
 
 -- the sheets of another scene, and more definitions behind the others
-abbrev pub scene_with_more : List DefinitionSpelling → Scene → Scene → Scene
+abbrev pub scene_with_more : List NameSpelling → Scene → Scene → Scene
 scene_with_more ns before among = record { sheets = among.sheets; names = before.names ++ ns }
 
 -- those that come are local to the sheet with this id
-module _ (id : ℕ) (ns : List DefinitionSpelling) (all : AllByRecursion (λ (m : DefinitionSpelling). m.scope ≡ Some id) ns) (before among : Scene) where
+module _ (id : ℕ) (ns : List NameSpelling) (all : AllByRecursion (λ (m : NameSpelling). m.scope ≡ Some id) ns) (before among : Scene) where
   abbrev with_more : Scene
   with_more = scene_with_more ns before among
 
@@ -42,11 +42,11 @@ module _ (id : ℕ) (ns : List DefinitionSpelling) (all : AllByRecursion (λ (m 
   module _ (scope : Option ℕ) (apart : same_scope (Some id) scope ≡ false) where
     same_at : (folded : List ℕ) (at : Option ℕ) → same_scope (Some id) at ≡ false → definition_at with_more folded at ≡ definition_at before folded at
     same_at folded at other =
-        find-append (λ (m : DefinitionSpelling). bytes_eq (fold m.name) folded && same_scope m.scope at) before.names ns
-        ∙ ap (option_or (definition_at before folded at)) (unfound folded at ns (all_of (λ (m : DefinitionSpelling). m.scope ≡ Some id) (λ (m : DefinitionSpelling). same_scope m.scope at ≡ false) (λ m e. ap (λ o. same_scope o at) e ∙ other) ns all)) ∙ or_none (definition_at before folded at)
+        find-append (λ (m : NameSpelling). bytes_eq (fold m.name) folded && same_scope m.scope at) before.names ns
+        ∙ ap (option_or (definition_at before folded at)) (unfound folded at ns (all_of (λ (m : NameSpelling). m.scope ≡ Some id) (λ (m : NameSpelling). same_scope m.scope at ≡ false) (λ m e. ap (λ o. same_scope o at) e ∙ other) ns all)) ∙ or_none (definition_at before folded at)
 
     same_found : (folded : List ℕ) → key_found with_more scope folded ≡ key_found before scope folded
-    same_found folded = ap₂ (λ (local global : Option DefinitionSpelling). option_map key_of (option_or local global)) (same_at folded scope apart) (same_at folded None refl)
+    same_found folded = ap₂ (λ (local global : Option NameSpelling). option_map key_of (option_or local global)) (same_at folded scope apart) (same_at folded None refl)
 
     words_hold : (m : NameMention) → WordHolds before scope m → WordHolds with_more scope m
     words_hold (names.Var word) h = tt

@@ -4,7 +4,7 @@ use Rattle.std.proofs.lemmas.List.{length-map}
 use Rattle.std.specs.List.{AllByRecursion}
 use Rattle.ic_laws.specs.CoreBook.{Definition, spelling_of}
 use Rattle.ic_laws.specs.CoreStep.{updated_at}
-use Rattle.ic_laws.specs.declared.scene.DefinitionSpelling.{DefinitionSpelling}
+use Rattle.ic_laws.specs.declared.scene.NameSpelling.{NameSpelling}
 use Rattle.ic_laws.specs.declared.scene.Scene.{Scene}
 use Rattle.ic_laws.specs.declared.scene.SheetName.{SheetName}
 use Rattle.ic_laws.specs.declared.tree.Formula.{Formula}
@@ -209,7 +209,7 @@ module _ (w : Workbook) (tables : TableSet) (numbers : List ℕ) where
 
   spelled_defined : (x : Scene) (ds : List DefinedName) → map spelling_of (map (defined tables x) ds) ≡ map spelling_of (map unread ds)
   spelled_defined x [] = refl
-  spelled_defined x (d ∷ ds) = ap (λ (rest : List DefinitionSpelling). spelling_of (unread d) ∷ rest) (spelled_defined x ds)
+  spelled_defined x (d ∷ ds) = ap (λ (rest : List NameSpelling). spelling_of (unread d) ∷ rest) (spelled_defined x ds)
 
   pub defined_scene : (c after : Contents) → c.definitions ≡ map unread w.defined_names → FillsDefinitions tables w.defined_names c after → contents_scene after ≡ contents_scene c
   defined_scene c after definitions made = ap₂ scene_of_parts made.sheets made.definitions ∙ same

@@ -15,7 +15,7 @@ use Rattle.ic_laws.specs.Reading.{printed}
 use Rattle.ic_laws.specs.Scan.{first_is}
 use Rattle.ic_laws.specs.Tree.{Bound, Kind, Spelled}
 use Rattle.ic_laws.specs.ValidCore.{IsKeptBody, IsKeptFormula, IsPlaceInside, IsPooled, LiesWhere}
-use Rattle.ic_laws.specs.declared.scene.DefinitionSpelling.{DefinitionSpelling}
+use Rattle.ic_laws.specs.declared.scene.NameSpelling.{NameSpelling}
 use Rattle.ic_laws.specs.declared.scene.Scene.{Scene}
 use Rattle.ic_laws.specs.declared.scene.SheetName.{SheetName}
 use Rattle.ic_laws.specs.declared.tree.Formula.{Formula}
@@ -100,13 +100,13 @@ module _ (book : Book) (valid : IsValidBook book) where
   sheets_named [] = refl
   sheets_named (s ∷ sheets) = ap (λ (rest : List SheetName). let named : SheetName = record { id = s.id; name = s.name } in named ∷ rest) (sheets_named sheets)
 
-  names_spelled : (definitions : List Definition) → map (λ (d : DefinedName). let spelling : DefinitionSpelling = record { name = d.name; scope = d.sheet_id } in spelling) (map (defined_name_of book) definitions)
+  names_spelled : (definitions : List Definition) → map (λ (d : DefinedName). let spelling : NameSpelling = record { name = d.name; scope = d.sheet_id } in spelling) (map (defined_name_of book) definitions)
       ≡ map spelling_of definitions
   names_spelled [] = refl
-  names_spelled (d ∷ definitions) = ap (λ (rest : List DefinitionSpelling). spelling_of d ∷ rest) (names_spelled definitions)
+  names_spelled (d ∷ definitions) = ap (λ (rest : List NameSpelling). spelling_of d ∷ rest) (names_spelled definitions)
 
   same_scene : scene_of taken ≡ scene_in book
-  same_scene = ap₂ (λ (sheets : List SheetName) (names : List DefinitionSpelling). let scene : Scene = record { sheets = sheets; names = names } in scene) (sheets_named book.sheets) (names_spelled book.definitions)
+  same_scene = ap₂ (λ (sheets : List SheetName) (names : List NameSpelling). let scene : Scene = record { sheets = sheets; names = names } in scene) (sheets_named book.sheets) (names_spelled book.definitions)
 
   -- the formulas of a sheet
   pooled_binds : (id : ℕ) (formula : Formula) → IsPooled n (scene_in book) (Some id) formula → BindsAgain n.stored (notations book valid).stored (english_function n) (scene_in book) (Some id) formula

@@ -6,7 +6,7 @@ use Rattle.ic_laws.specs.CoreBook.{Definition, IsId, spelling_of}
 use Rattle.ic_laws.specs.Name.{agrees, is_identifier, is_sheet_name}
 use Rattle.ic_laws.specs.Scene.{key_of, same_key}
 use Rattle.ic_laws.specs.ValidCore.{IsScope}
-use Rattle.ic_laws.specs.declared.scene.DefinitionSpelling.{DefinitionSpelling}
+use Rattle.ic_laws.specs.declared.scene.NameSpelling.{NameSpelling}
 use Rattle.ic_laws.specs.declared.scene.SheetName.{SheetName}
 use Rattle.ic_tables.specs.Tables.{TableSet}
 use Rattle.ic_cells.specs.declared.sheet.Worksheet.{Worksheet}
@@ -94,9 +94,9 @@ named_started : (ws : List Worksheet) → map named (map started ws) ≡ map (λ
 named_started [] = refl
 named_started (s ∷ ws) = ap (λ (rest : List SheetName). named (started s) ∷ rest) (named_started ws)
 
-spelled_unread : (ds : List DefinedName) → map spelling_of (map unread ds) ≡ map (λ (d : DefinedName). let spelling : DefinitionSpelling = record { name = d.name; scope = d.sheet_id } in spelling) ds
+spelled_unread : (ds : List DefinedName) → map spelling_of (map unread ds) ≡ map (λ (d : DefinedName). let spelling : NameSpelling = record { name = d.name; scope = d.sheet_id } in spelling) ds
 spelled_unread [] = refl
-spelled_unread (d ∷ ds) = ap (λ (rest : List DefinitionSpelling). spelling_of (unread d) ∷ rest) (spelled_unread ds)
+spelled_unread (d ∷ ds) = ap (λ (rest : List NameSpelling). spelling_of (unread d) ∷ rest) (spelled_unread ds)
 
 -- the sheets and the definitions that hold nothing yet are what the formulas of the workbook can mention
 pub started_scene : (w : Workbook) → scene_of_parts (map started w.worksheets) (map unread w.defined_names) ≡ scene_of w

@@ -18,7 +18,7 @@ use Rattle.ic_laws.specs.Notations.{Notations, english_function}
 use Rattle.ic_laws.specs.Scene.{definition_at, key_of, same_scope}
 use Rattle.ic_laws.specs.Tree.{Bound}
 use Rattle.ic_laws.specs.ValidCore.{IsValidCore}
-use Rattle.ic_laws.specs.declared.scene.DefinitionSpelling.{DefinitionSpelling}
+use Rattle.ic_laws.specs.declared.scene.NameSpelling.{NameSpelling}
 use Rattle.ic_laws.specs.declared.scene.Scene.{Scene}
 use Rattle.ic_laws.specs.declared.tree.Formula.{Formula}
 use Rattle.ic_laws.specs.declared.tree.Formula.TheVariants as formulas
@@ -51,18 +51,18 @@ naming_bodies scene id name (d ∷ ds) =
 
 -- ---- a definition that is local to none
 
-none_named : (name : List ℕ) (ds : List Definition) → list_any (is_named name None) ds ≡ false → find (λ (x : DefinitionSpelling). bytes_eq (fold x.name) (fold name) && same_scope x.scope None) (map spelling_of ds) ≡ None
+none_named : (name : List ℕ) (ds : List Definition) → list_any (is_named name None) ds ≡ false → find (λ (x : NameSpelling). bytes_eq (fold x.name) (fold name) && same_scope x.scope None) (map spelling_of ds) ≡ None
 none_named name [] e = refl
 none_named name (d ∷ ds) e = step (is_named name None d) e (none_named name ds)
   where
-    rest : Option DefinitionSpelling
-    rest = find (λ (x : DefinitionSpelling). bytes_eq (fold x.name) (fold name) && same_scope x.scope None) (map spelling_of ds)
+    rest : Option NameSpelling
+    rest = find (λ (x : NameSpelling). bytes_eq (fold x.name) (fold name) && same_scope x.scope None) (map spelling_of ds)
 
     step : (b : Bool) → (b || list_any (is_named name None) ds) ≡ false → (list_any (is_named name None) ds ≡ false → rest ≡ None) → cond b (Some (spelling_of d)) rest ≡ None
     step true e none = cc
     step false e none = none e
 
-module _ (book : CoreBook) (d : DefinitionSpelling) (global : d.scope ≡ None) (free : has_definition book d.name None ≡ false) where
+module _ (book : CoreBook) (d : NameSpelling) (global : d.scope ≡ None) (free : has_definition book d.name None ≡ false) where
   abbrev scene : Scene
   scene = scene_of book
 
@@ -81,7 +81,7 @@ module _ (book : CoreBook) (d : DefinitionSpelling) (global : d.scope ≡ None) 
       by_name true t =
           let same : fold d.name ≡ found.name = (bytes_eq-Decides (fold d.name) found.name).0 t in
           let none : definition_at scene found.name None ≡ None = ap (λ f. definition_at scene f None) (sym same) ∙ nothing_there in
-          absurd (nothing_is_found (sym (ap (λ (o : Option DefinitionSpelling). option_map key_of (option_or o o)) none) ∙ holds))
+          absurd (nothing_is_found (sym (ap (λ (o : Option NameSpelling). option_map key_of (option_or o o)) none) ∙ holds))
 
   -- nor can a word with its sheet that found something
   local_cant_mean : (s : SheetMention) (m : NameMention) → is_dangling_word m ≡ false → could_mean_local (key_of d) s m ≡ false

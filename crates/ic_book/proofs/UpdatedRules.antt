@@ -13,7 +13,7 @@ use Rattle.ic_laws.specs.Keeping.{changed_key}
 use Rattle.ic_laws.specs.Notations.{Notations, english_function}
 use Rattle.ic_laws.specs.Scene.{key_of}
 use Rattle.ic_laws.specs.ValidCore.{IsKeptBody, IsPooled}
-use Rattle.ic_laws.specs.declared.scene.DefinitionSpelling.{DefinitionSpelling}
+use Rattle.ic_laws.specs.declared.scene.NameSpelling.{NameSpelling}
 use Rattle.ic_laws.specs.declared.scene.Scene.{Scene}
 use Rattle.ic_laws.specs.declared.scene.SheetName.{SheetName}
 use Rattle.ic_laws.specs.declared.tree.Formula.{Formula}
@@ -84,7 +84,7 @@ module _ (inside : Inside) (h : IsHeld inside) (u : Update) (index : ℕ) (found
   abbrev made : Remade
   made = rule book u index found has_equals body
 
-  names_are : after.names ≡ updated_at (λ (m : DefinitionSpelling). spelling_of new) index before.names
+  names_are : after.names ≡ updated_at (λ (m : NameSpelling). spelling_of new) index before.names
   names_are = updated_seen spelling_of (λ d. new) (λ m. spelling_of new) (λ d. refl) index ds
 
   old_is : option_map key_of (slice_get before.names index) ≡ Some (old_key whole u)
@@ -119,8 +119,8 @@ module _ (inside : Inside) (h : IsHeld inside) (u : Update) (index : ℕ) (found
 
   pub after_is : (scope : Option ℕ) → new_scope_id (whole_of (held inside)) u ≡ scope → scene_renamed inside.contents.sheets inside.contents.definitions index u.new_name scope ≡ later (held inside) u index found has_equals body
   after_is scope same =
-      ap₂ (λ (ss : List SheetName) (ms : List DefinitionSpelling). let s : Scene = record { sheets = ss; names = ms } in s) (ap (λ (s : Scene). s.sheets) before_is)
-      (ap (λ (o : Option ℕ). updated_at (λ (m : DefinitionSpelling). let d : DefinitionSpelling = record { name = u.new_name; scope = o } in d) index (map spelling_of ds)) (sym same) ∙ sym names_are)
+      ap₂ (λ (ss : List SheetName) (ms : List NameSpelling). let s : Scene = record { sheets = ss; names = ms } in s) (ap (λ (s : Scene). s.sheets) before_is)
+      (ap (λ (o : Option ℕ). updated_at (λ (m : NameSpelling). let d : NameSpelling = record { name = u.new_name; scope = o } in d) index (map spelling_of ds)) (sym same) ∙ sym names_are)
 
   -- the rule of a model
   module _ (checked : CheckedUpdate) (c : IsChecked (whole_of (held inside)) u checked) (english : Language) (en : language_of inside.notation.tables (codes "en") ≡ Some english) where

@@ -64,7 +64,7 @@ impl<'b> Finder for BookScene<'b> {
         self.sheets.name_of(id)
     }
 
-    fn definition_spelling(&self, key: &NameKey) -> Option<&str> {
+    fn name_spelling(&self, key: &NameKey) -> Option<&str> {
         self.definitions.name_of(key)
     }
 }
@@ -144,8 +144,8 @@ impl<'b> Finder for SceneWithDefinition<'b> {
         self.book.sheet_spelling(id)
     }
 
-    fn definition_spelling(&self, key: &NameKey) -> Option<&str> {
-        if let Some(name) = self.book.definition_spelling(key) {
+    fn name_spelling(&self, key: &NameKey) -> Option<&str> {
+        if let Some(name) = self.book.name_spelling(key) {
             return Some(name);
         }
         if same_key(self.key, key) {
@@ -207,7 +207,7 @@ impl<'b, F: Finder> Finder for SceneOver<'b, F> {
         self.sheets.name_of(id)
     }
 
-    fn definition_spelling(&self, key: &NameKey) -> Option<&str> {
-        self.definitions.definition_spelling(key)
+    fn name_spelling(&self, key: &NameKey) -> Option<&str> {
+        self.definitions.name_spelling(key)
     }
 }

@@ -1,6 +1,6 @@
 //! Formulas in scenes: a text is read, its mentions are bound in the scene that the row gives, and it is written again.
 use crate::row::Row;
-use ic_laws::{Bound, DefinitionSpelling, Dialect, Items, OutOfMemory, Scene, SheetName, Spelled};
+use ic_laws::{Bound, NameSpelling, Dialect, Items, OutOfMemory, Scene, SheetName, Spelled};
 use ic_tables::Tables;
 use ic_tree::{Shown, Stored, bind, clashes, is_dynamic, print_bound, read};
 use std::alloc::Global;
@@ -35,8 +35,8 @@ fn add_sheet(row: &mut Row<'_>, at: usize, sheets: &mut Items<SheetName>) {
     row.done(sheets.push(sheet).is_ok());
 }
 
-fn add_name(row: &mut Row<'_>, at: usize, names: &mut Items<DefinitionSpelling>) {
-    let name = DefinitionSpelling {
+fn add_name(row: &mut Row<'_>, at: usize, names: &mut Items<NameSpelling>) {
+    let name = NameSpelling {
         name: row.text(row.word(at.saturating_add(1))),
         scope: row.scope(at.saturating_add(2)),
     };

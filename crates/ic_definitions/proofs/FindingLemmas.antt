@@ -13,7 +13,7 @@ use Rattle.ic_laws.specs.CoreStep.{is_named}
 use Rattle.ic_laws.specs.Greatest.{greatest}
 use Rattle.ic_laws.specs.Name.{fold}
 use Rattle.ic_laws.specs.Scene.{definition_at, found_name, key_of, name_of_key, same_key, same_scope}
-use Rattle.ic_laws.specs.declared.scene.DefinitionSpelling.{DefinitionSpelling}
+use Rattle.ic_laws.specs.declared.scene.NameSpelling.{NameSpelling}
 use Rattle.ic_laws.specs.declared.scene.Scene.{Scene}
 use Rattle.ic_laws.specs.declared.tree.NameKey.{NameKey}
 use Rattle.ic_definitions.specs.Named.{definitions_scene, index_with_key, is_past, key_in, scopes_of}
@@ -62,7 +62,7 @@ name_of_first key [] = refl
 name_of_first key (d ∷ ds) = step (has_key key d) (name_of_first key ds)
   where
     step : (b : Bool) → option_map (λ x. x.name) (find (has_key key) ds) ≡ name_of_key (definitions_scene ds) key
-        → option_map (λ x. x.name) (cond b (Some d) (find (has_key key) ds)) ≡ option_map (λ (x : DefinitionSpelling). x.name) (cond b (Some (spelling_of d)) (definition_at (definitions_scene ds) key.name key.scope))
+        → option_map (λ x. x.name) (cond b (Some d) (find (has_key key) ds)) ≡ option_map (λ (x : NameSpelling). x.name) (cond b (Some (spelling_of d)) (definition_at (definitions_scene ds) key.name key.scope))
     step true e = refl
     step false e = e
 
@@ -92,7 +92,7 @@ key_lacking ds name folded scope place same looked_up f =
     sym (its_key ds name folded scope (key_at folded scope) place same refl looked_up ∙ ap (λ b. cond b (Some (key_at folded scope)) None) f)
 
 -- what is seen of the one that comes first
-either_seen : {X : Type 0} (g : DefinitionSpelling → X) (a b : Option DefinitionSpelling) → option_map g (option_or a b) ≡ option_or (option_map g a) (option_map g b)
+either_seen : {X : Type 0} (g : NameSpelling → X) (a b : Option NameSpelling) → option_map g (option_or a b) ≡ option_or (option_map g a) (option_map g b)
 either_seen g None b = refl
 either_seen g (Some d) b = refl
 
@@ -103,10 +103,10 @@ found_either scene scope word local global e f =
     ap₂ option_or e f ∙ sym (either_seen key_of (definition_at scene (fold word) scope) (definition_at scene (fold word) None))
 
 -- among those of two lists, the one of the first list, or else the one of the second
-pub found_joined : {X : Type 0} (g : DefinitionSpelling → X) (xs ys : List Definition) (folded : List ℕ) (scope : Option ℕ) (first : Option X) → first ≡ option_map g (definition_at (definitions_scene xs) folded scope)
+pub found_joined : {X : Type 0} (g : NameSpelling → X) (xs ys : List Definition) (folded : List ℕ) (scope : Option ℕ) (first : Option X) → first ≡ option_map g (definition_at (definitions_scene xs) folded scope)
     → option_or first (option_map g (definition_at (definitions_scene ys) folded scope)) ≡ option_map g (definition_at (definitions_scene (xs ++ ys)) folded scope)
 found_joined g xs ys folded scope first e =
-    let passes : DefinitionSpelling → Bool = λ d. bytes_eq (fold d.name) folded && same_scope d.scope scope in
+    let passes : NameSpelling → Bool = λ d. bytes_eq (fold d.name) folded && same_scope d.scope scope in
     ap (λ o. option_or o (option_map g (definition_at (definitions_scene ys) folded scope))) e
     ∙ sym (either_seen g (definition_at (definitions_scene xs) folded scope) (definition_at (definitions_scene ys) folded scope))
     ∙ ap (option_map g) (sym (ap (find passes) (map-append spelling_of xs ys) ∙ find-append passes (map spelling_of xs) (map spelling_of ys)))

@@ -12,7 +12,7 @@ use Rattle.ic_laws.specs.Changes.{OfWords, is_of_name, definition_gone}
 use Rattle.ic_laws.specs.CoreBook.{Definition, spelling_of}
 use Rattle.ic_laws.specs.Name.{fold}
 use Rattle.ic_laws.specs.Scene.{definition_at, found_name, key_of, same_key, same_scope}
-use Rattle.ic_laws.specs.declared.scene.DefinitionSpelling.{DefinitionSpelling}
+use Rattle.ic_laws.specs.declared.scene.NameSpelling.{NameSpelling}
 use Rattle.ic_laws.specs.declared.tree.NameKey.{NameKey}
 use Rattle.ic_laws.specs.declared.tree.NameMention.{NameMention}
 use Rattle.ic_laws.specs.declared.tree.NameMention.TheVariants as names
@@ -22,18 +22,18 @@ never : (a : Bool) → (a && false) ≡ false
 never true = refl
 never false = refl
 
-twice : (o : Option DefinitionSpelling) → option_map key_of (option_or o o) ≡ option_map key_of o
+twice : (o : Option NameSpelling) → option_map key_of (option_or o o) ≡ option_map key_of o
 twice None = refl
 twice (Some d) = refl
 
 module _ (ds : List Definition) (index : ℕ) (d : Definition) (at : slice_get ds index ≡ Some d) where
-  abbrev p : DefinitionSpelling → Bool
+  abbrev p : NameSpelling → Bool
   p x = bytes_eq (fold x.name) (fold d.name) && same_scope x.scope None
 
   seen : slice_get (map spelling_of ds) index ≡ Some (spelling_of d)
   seen = slice_get-map spelling_of ds index ∙ ap (option_map spelling_of) at
 
-  left : (o : Option DefinitionSpelling) → find p (remove (map spelling_of ds) index) ≡ o → found_name (definitions_scene (remove ds index)) None d.name ≡ option_map key_of o
+  left : (o : Option NameSpelling) → find p (remove (map spelling_of ds) index) ≡ o → found_name (definitions_scene (remove ds index)) None d.name ≡ option_map key_of o
   left o e = twice (find p (map spelling_of (remove ds index))) ∙ ap (λ xs. option_map key_of (find p xs)) (remove_map spelling_of ds index) ∙ ap (option_map key_of) e
 
   -- a local one leaves the one that is local to none
@@ -45,7 +45,7 @@ module _ (ds : List Definition) (index : ℕ) (d : Definition) (at : slice_get d
   pub global_gone : IsDistinct same_key (map key_in ds) → d.scope ≡ None → None ≡ found_name (definitions_scene (remove ds index)) None d.name
   global_gone differ global =
       sym (left None
-      (subst (λ s. find (λ (x : DefinitionSpelling). bytes_eq (fold x.name) (fold d.name) && same_scope x.scope s) (remove (map spelling_of ds) index) ≡ None) global
+      (subst (λ s. find (λ (x : NameSpelling). bytes_eq (fold x.name) (fold d.name) && same_scope x.scope s) (remove (map spelling_of ds) index) ≡ None) global
       (finds_no_other key_of same_key same_key_flip (map spelling_of ds) index (spelling_of d) (subst (IsDistinct same_key) (sym (map-map key_of spelling_of ds)) differ) seen)))
 
   same_read : (read : Definition) → Some read ≡ Some d → read ≡ d

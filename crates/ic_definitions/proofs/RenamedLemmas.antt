@@ -10,7 +10,7 @@ use Rattle.ic_laws.specs.CoreBook.{Definition, spelling_of}
 use Rattle.ic_laws.specs.CoreStep.{updated_at}
 use Rattle.ic_laws.specs.Name.{fold}
 use Rattle.ic_laws.specs.Scene.{definition_at, key_of, name_of_key, same_key}
-use Rattle.ic_laws.specs.declared.scene.DefinitionSpelling.{DefinitionSpelling}
+use Rattle.ic_laws.specs.declared.scene.NameSpelling.{NameSpelling}
 use Rattle.ic_laws.specs.declared.scene.Scene.{Scene}
 use Rattle.ic_laws.specs.declared.tree.NameKey.{NameKey}
 use Rattle.ic_definitions.specs.Named.{index_with_key, is_before, is_there, key_in, renamed_scene}
@@ -20,7 +20,7 @@ use Rattle.ic_definitions.proofs.FindingLemmas.{has_key}
 key_with_name : (scene : Scene) (folded : List ℕ) (scope : Option ℕ) → option_map key_of (definition_at scene folded scope) ≡ cond (is_some (name_of_key scene (key_at folded scope))) (Some (key_at folded scope)) None
 key_with_name scene folded scope = step (definition_at scene folded scope) refl
   where
-    step : (o : Option DefinitionSpelling) → definition_at scene folded scope ≡ o → option_map key_of o ≡ cond (is_some (option_map (λ (d : DefinitionSpelling). d.name) o)) (Some (key_at folded scope)) None
+    step : (o : Option NameSpelling) → definition_at scene folded scope ≡ o → option_map key_of o ≡ cond (is_some (option_map (λ (d : NameSpelling). d.name) o)) (Some (key_at folded scope)) None
     step None e = refl
     step (Some d) e = ap (λ k. Some k) (same_key_from (key_of d) (key_at folded scope) (found_passes (λ x. same_key (key_of x) (key_at folded scope)) scene.names d e))
 
@@ -34,7 +34,7 @@ key_named {X} chars_of scene folded scope key name is named some =
     seen (Some x) = refl
 
 module _ (key : NameKey) where
-  abbrev passes : DefinitionSpelling → Bool
+  abbrev passes : NameSpelling → Bool
   passes m = same_key (key_of m) key
 
   first_spelled : (ds : List Definition) → find passes (map spelling_of ds) ≡ option_map spelling_of (option_and_then (slice_get ds) (index_with_key key ds))
@@ -57,9 +57,9 @@ module _ (key : NameKey) where
   not_before_first None = refl
   not_before_first (Some n) = grind arith
 
-  module _ (new : DefinitionSpelling) where
+  module _ (new : NameSpelling) where
     -- the one at the index, where it has the key and no one before it has
-    abbrev chosen : Bool → ℕ → Option ℕ → List Definition → Option DefinitionSpelling
+    abbrev chosen : Bool → ℕ → Option ℕ → List Definition → Option NameSpelling
     chosen hit index place ds = cond (hit && not (is_before index place)) (Some new) (cond (is_there index place) None (option_map spelling_of (option_and_then (slice_get ds) place)))
 
     at_first : (x : Definition) (ds : List Definition) (hit b : Bool) (place : Option ℕ) → (b ≡ true → find passes (map spelling_of ds) ≡ None)
@@ -73,7 +73,7 @@ module _ (key : NameKey) where
         later : (n : ℕ) → nat_eq (suc n) 0 ≡ false
         later n = grind arith
 
-    at_later : (x : Definition) (ds : List Definition) (index : ℕ) (hit b : Bool) (place : Option ℕ) (found : Option DefinitionSpelling) → found ≡ chosen hit index place ds
+    at_later : (x : Definition) (ds : List Definition) (index : ℕ) (hit b : Bool) (place : Option ℕ) (found : Option NameSpelling) → found ≡ chosen hit index place ds
         → cond b (Some (spelling_of x)) found ≡ chosen hit (suc index) (cond b (Some 0) (option_map suc place)) (x ∷ ds)
     at_later x ds index hit true place found e =
         sym (ap₂ (λ s t. cond (hit && not s) (Some new) (cond t None (Some (spelling_of x)))) (before index) (apart index) ∙ never hit)
@@ -117,7 +117,7 @@ module _ (key : NameKey) where
         later : (index n : ℕ) → nat_lt (suc index) (suc n) ≡ nat_lt index n
         later index n = grind arith
 
-    names_chosen : (t there : Bool) (o : Option Definition) → option_map (λ (m : DefinitionSpelling). m.name) (cond t (Some new) (cond there None (option_map spelling_of o))) ≡ cond t (Some new.name) (cond there None (option_map (λ (d : Definition). d.name) o))
+    names_chosen : (t there : Bool) (o : Option Definition) → option_map (λ (m : NameSpelling). m.name) (cond t (Some new) (cond there None (option_map spelling_of o))) ≡ cond t (Some new.name) (cond there None (option_map (λ (d : Definition). d.name) o))
     names_chosen true there o = refl
     names_chosen false true o = refl
     names_chosen false false None = refl
@@ -127,10 +127,10 @@ module _ (key : NameKey) where
       → is_found ≡ ((nat_lt index (length ds) && same_key k key) && not (is_before index place)) → there ≡ is_there index place
       → cond is_found (Some name) (cond there None (option_map (λ (d : Definition). d.name) (option_and_then (slice_get ds) place))) ≡ name_of_key (renamed_scene index name k.scope ds) key
   renamed_name index ds name k place is_found there own differ at found_is there_is =
-      let new : DefinitionSpelling = record { name = name; scope = k.scope } in
+      let new : NameSpelling = record { name = name; scope = k.scope } in
       let hit : Bool = nat_lt index (length ds) && passes new in
       ap₂ (λ t s. cond t (Some name) (cond s None (option_map (λ (d : Definition). d.name) (option_and_then (slice_get ds) place))))
       (found_is ∙ ap (λ folded. (nat_lt index (length ds) && same_key (key_at folded k.scope) key) && not (is_before index place)) own) there_is
       ∙ sym (names_chosen new (hit && not (is_before index place)) (is_there index place) (option_and_then (slice_get ds) place))
-      ∙ ap (λ o. option_map (λ (m : DefinitionSpelling). m.name) (chosen new hit index o ds)) at
-      ∙ ap (option_map (λ (m : DefinitionSpelling). m.name)) (sym (found_renamed new index ds differ))
+      ∙ ap (λ o. option_map (λ (m : NameSpelling). m.name) (chosen new hit index o ds)) at
+      ∙ ap (option_map (λ (m : NameSpelling). m.name)) (sym (found_renamed new index ds differ))

@@ -68,7 +68,7 @@ impl<'d> Finder for BothDefinitions<'d> {
         None
     }
 
-    fn definition_spelling(&self, key: &NameKey) -> Option<&str> {
+    fn name_spelling(&self, key: &NameKey) -> Option<&str> {
         if let Some(name) = self.first.name_of(key) {
             return Some(name);
         }
@@ -182,7 +182,7 @@ impl<'d> Finder for UpdatedDefinitions<'d> {
         None
     }
 
-    fn definition_spelling(&self, key: &NameKey) -> Option<&str> {
+    fn name_spelling(&self, key: &NameKey) -> Option<&str> {
         self.name_of(key)
     }
 }

@@ -20,7 +20,7 @@ use Rattle.ic_laws.specs.Notations.{Notations, english_function}
 use Rattle.ic_laws.specs.Scene.{SheetsDiffer, definition_at, definition_spelling, found_sheet, key_found, key_of, local_key, name_of_key, same_key, same_scope}
 use Rattle.ic_laws.specs.Tree.{Bound, Kind}
 use Rattle.ic_laws.specs.ValidCore.{IsKeptFormula, IsPooled}
-use Rattle.ic_laws.specs.declared.scene.DefinitionSpelling.{DefinitionSpelling}
+use Rattle.ic_laws.specs.declared.scene.NameSpelling.{NameSpelling}
 use Rattle.ic_laws.specs.declared.scene.Scene.{Scene}
 use Rattle.ic_laws.specs.declared.scene.SheetName.{SheetName}
 use Rattle.ic_laws.specs.declared.tree.Formula.{Formula}
@@ -62,11 +62,11 @@ module _ {X K : Type 0} (key : X → K) (k : K) (p : X → Bool) (q : K → Bool
 
 -- an update of the definition at an index ----
 
-module _ (before after : Scene) (old new : NameKey) (index : ℕ) (d : DefinitionSpelling) (scope : Option ℕ) (same_sheets : after.sheets ≡ before.sheets) (put : after.names ≡ updated_at (λ m. d) index before.names) (is_new : key_of d ≡ new) (is_old : option_map key_of (slice_get before.names index) ≡ Some old) where
+module _ (before after : Scene) (old new : NameKey) (index : ℕ) (d : NameSpelling) (scope : Option ℕ) (same_sheets : after.sheets ≡ before.sheets) (put : after.names ≡ updated_at (λ m. d) index before.names) (is_new : key_of d ≡ new) (is_old : option_map key_of (slice_get before.names index) ≡ Some old) where
   abbrev has : List ℕ → Option ℕ → NameKey → Bool
   has folded at key = same_key key (key_at folded at)
 
-  abbrev passes : List ℕ → Option ℕ → DefinitionSpelling → Bool
+  abbrev passes : List ℕ → Option ℕ → NameSpelling → Bool
   passes folded at x = has folded at (key_of x)
 
   -- the new name isn't this one
@@ -77,10 +77,10 @@ module _ (before after : Scene) (old new : NameKey) (index : ℕ) (d : Definitio
   not_new folded at apart = ap (has folded at) is_new ∙ ap (λ b. b && same_scope new.scope at) apart
 
   -- what is found is found again, where it isn't the one that is updated
-  abbrev IsOther : Option DefinitionSpelling → Type 0
-  IsOther o = (x : DefinitionSpelling) → o ≡ Some x → same_key old (key_of x) ≡ false
+  abbrev IsOther : Option NameSpelling → Type 0
+  IsOther o = (x : NameSpelling) → o ≡ Some x → same_key old (key_of x) ≡ false
 
-  found_again : (folded : List ℕ) (at : Option ℕ) (o : Option DefinitionSpelling) → Apart folded → IsOther o → definition_at before folded at ≡ o → definition_at after folded at ≡ o
+  found_again : (folded : List ℕ) (at : Option ℕ) (o : Option NameSpelling) → Apart folded → IsOther o → definition_at before folded at ≡ o → definition_at after folded at ≡ o
   found_again folded at o apart other e =
       elim (cases_Bool (has folded at old)) [
         | inl t ↦
@@ -99,13 +99,13 @@ module _ (before after : Scene) (old new : NameKey) (index : ℕ) (d : Definitio
   none_other : IsOther None
   none_other x e = absurd (let no : None ≡ Some x = e in cc)
 
-  some_other : (x : DefinitionSpelling) (key : NameKey) → Some (key_of x) ≡ Some key → same_key old key ≡ false → IsOther (Some x)
+  some_other : (x : NameSpelling) (key : NameKey) → Some (key_of x) ≡ Some key → same_key old key ≡ false → IsOther (Some x)
   some_other x key e f y g = let same : key_of y ≡ key = cc in ap (same_key old) same ∙ f
 
-  abbrev either : Option DefinitionSpelling → Option DefinitionSpelling → Option NameKey
+  abbrev either : Option NameSpelling → Option NameSpelling → Option NameKey
   either local global = option_map key_of (option_or local global)
 
-  none_of : (o : Option DefinitionSpelling) → option_map key_of o ≡ None → o ≡ None
+  none_of : (o : Option NameSpelling) → option_map key_of o ≡ None → o ≡ None
   none_of None e = refl
   none_of (Some x) e = absurd (let no : Some (key_of x) ≡ None = e in cc)
 
@@ -113,7 +113,7 @@ module _ (before after : Scene) (old new : NameKey) (index : ℕ) (d : Definitio
   key_again : (key : NameKey) → same_key old key ≡ false → Apart key.name → key_found before scope key.name ≡ Some key → key_found after scope key.name ≡ Some key
   key_again key f apart h = go (definition_at before key.name scope) refl (definition_at before key.name None) refl h
     where
-      go : (local : Option DefinitionSpelling) → definition_at before key.name scope ≡ local → (global : Option DefinitionSpelling) → definition_at before key.name None ≡ global → either local global ≡ Some key → key_found after scope key.name ≡ Some key
+      go : (local : Option NameSpelling) → definition_at before key.name scope ≡ local → (global : Option NameSpelling) → definition_at before key.name None ≡ global → either local global ≡ Some key → key_found after scope key.name ≡ Some key
       go (Some x) a global b e = ap (λ o. either o (definition_at after key.name None)) (found_again key.name scope (Some x) apart (some_other x key e f) a) ∙ e
       go None a (Some y) b e = ap₂ either (found_again key.name scope None apart none_other a) (found_again key.name None (Some y) apart (some_other y key e f) b) ∙ e
       go None a None b e = absurd (let no : None ≡ Some key = e in cc)
@@ -121,7 +121,7 @@ module _ (before after : Scene) (old new : NameKey) (index : ℕ) (d : Definitio
   local_again : (id : ℕ) (key : NameKey) → same_key old key ≡ false → Apart key.name → local_key before id key.name ≡ Some key → local_key after id key.name ≡ Some key
   local_again id key f apart h = go (definition_at before key.name (Some id)) refl h
     where
-      go : (o : Option DefinitionSpelling) → definition_at before key.name (Some id) ≡ o → option_map key_of o ≡ Some key → local_key after id key.name ≡ Some key
+      go : (o : Option NameSpelling) → definition_at before key.name (Some id) ≡ o → option_map key_of o ≡ Some key → local_key after id key.name ≡ Some key
       go (Some x) a e = ap (option_map key_of) (found_again key.name (Some id) (Some x) apart (some_other x key e f) a) ∙ e
       go None a e = absurd (let no : None ≡ Some key = e in cc)
 
@@ -132,7 +132,7 @@ module _ (before after : Scene) (old new : NameKey) (index : ℕ) (d : Definitio
   neither_again : (folded : List ℕ) → Apart folded → key_found before scope folded ≡ None → key_found after scope folded ≡ None
   neither_again folded apart h = go (definition_at before folded scope) refl (definition_at before folded None) refl h
     where
-      go : (local : Option DefinitionSpelling) → definition_at before folded scope ≡ local → (global : Option DefinitionSpelling) → definition_at before folded None ≡ global → either local global ≡ None → key_found after scope folded ≡ None
+      go : (local : Option NameSpelling) → definition_at before folded scope ≡ local → (global : Option NameSpelling) → definition_at before folded None ≡ global → either local global ≡ None → key_found after scope folded ≡ None
       go None a None b e = ap₂ either (none_again folded scope apart a) (none_again folded None apart b)
       go None a (Some y) b e = absurd (let no : Some (key_of y) ≡ None = e in cc)
       go (Some x) a global b e = absurd (let no : Some (key_of x) ≡ None = e in cc)
@@ -193,14 +193,14 @@ module _ (before after : Scene) (old new : NameKey) (index : ℕ) (d : Definitio
       ∙ kept_same english before after scope differ by_fold t settled hold
 
 -- a tree that isn't touched
-pub untouched_stays : (english : List ℕ → Option ℕ) (before after : Scene) (old new : NameKey) (index : ℕ) (d : DefinitionSpelling) (scope : Option ℕ) → RespectsFolding english → SheetsDiffer after → after.sheets ≡ before.sheets
+pub untouched_stays : (english : List ℕ → Option ℕ) (before after : Scene) (old new : NameKey) (index : ℕ) (d : NameSpelling) (scope : Option ℕ) → RespectsFolding english → SheetsDiffer after → after.sheets ≡ before.sheets
     → after.names ≡ updated_at (λ m. d) index before.names → key_of d ≡ new → option_map key_of (slice_get before.names index) ≡ Some old
     → (t : Bound) → IsSettled english before scope t → is_touched old new (formulas.Tree t) ≡ false → kept english before after (changed_key old new) scope t ≡ t
 untouched_stays english before after old new index d scope by_fold differ same_sheets put is_new is_old t settled f =
     untouched_tree before after old new index d scope same_sheets put is_new is_old english by_fold differ t settled f
 
 -- and a formula
-pub untouched_formula_stays : (english : List ℕ → Option ℕ) (before after : Scene) (old new : NameKey) (index : ℕ) (d : DefinitionSpelling) (scope : Option ℕ) → RespectsFolding english → SheetsDiffer after → after.sheets ≡ before.sheets
+pub untouched_formula_stays : (english : List ℕ → Option ℕ) (before after : Scene) (old new : NameKey) (index : ℕ) (d : NameSpelling) (scope : Option ℕ) → RespectsFolding english → SheetsDiffer after → after.sheets ≡ before.sheets
     → after.names ≡ updated_at (λ m. d) index before.names → key_of d ≡ new → option_map key_of (slice_get before.names index) ≡ Some old
     → (f : Formula) → IsSettledFormula english before scope f → is_touched old new f ≡ false → kept_formula english before after (changed_key old new) scope f ≡ f
 untouched_formula_stays english before after old new index d scope by_fold differ same_sheets put is_new is_old (formulas.Tree t) settled f =

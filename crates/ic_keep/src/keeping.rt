@@ -31,7 +31,7 @@ impl<'k, B: Finder, A: Finder> Spelling for Change<'k, B, A> {
     }
 
     fn key_text(&self, alloc: Global, key: &NameKey) -> Result<Text, OutOfMemory> {
-        match self.after.definition_spelling(changed_key(self.key, key)) {
+        match self.after.name_spelling(changed_key(self.key, key)) {
             Some(name) => Ok(Text::from_str(alloc, name)?),
             None => spell_definition(alloc, self.before, key),
         }

@@ -8,7 +8,7 @@ use Rattle.ic_laws.specs.Mentions.{AllMentions, LocalMention, mapped, some_menti
 use Rattle.ic_laws.specs.Name.{agrees, fold}
 use Rattle.ic_laws.specs.Scene.{definition_spelling, found_local, found_name, found_sheet, key_found, key_of, local_key, same_key, same_scope}
 use Rattle.ic_laws.specs.Tree.{Bound}
-use Rattle.ic_laws.specs.declared.scene.DefinitionSpelling.{DefinitionSpelling}
+use Rattle.ic_laws.specs.declared.scene.NameSpelling.{NameSpelling}
 use Rattle.ic_laws.specs.declared.scene.Scene.{Scene}
 use Rattle.ic_laws.specs.declared.tree.NameKey.{NameKey}
 use Rattle.ic_laws.specs.declared.tree.NameMention.{NameMention}
@@ -143,7 +143,7 @@ could_mean_local key (sheets.Sheet id) (names.Dangling word) = bytes_eq key.name
 could_mean_local key sheet mention = false
 
 -- A definition comes: what could mean it does.
-abbrev pub definition_added : DefinitionSpelling → Change
+abbrev pub definition_added : NameSpelling → Change
 definition_added definition =
     OfWords (could_mean (key_of definition)) (names.Name (key_of definition)) (could_mean_local (key_of definition)) (names.Name (key_of definition))
 
@@ -154,7 +154,7 @@ is_of_name key mention = false
 
 -- A definition goes: what meant it means the one of an agreeing name that is local to none, and dangles by its name where
 -- there is no such one; a word with its sheet dangles in any case.
-abbrev pub definition_gone : Scene → DefinitionSpelling → Change
+abbrev pub definition_gone : Scene → NameSpelling → Change
 definition_gone after definition =
     OfWords (λ scope mention. is_of_name (key_of definition) mention) (name_or_dangling definition.name (found_name after None definition.name))
     (λ sheet mention. is_of_name (key_of definition) mention) (names.Dangling definition.name)

@@ -8,7 +8,7 @@ use Rattle.std.specs.Ordering.{int_cmp, ordering_then}
 use Rattle.std.specs.declared.cmp.Ordering.{Ordering}
 use Rattle.ic_laws.specs.Greatest.{greatest}
 use Rattle.ic_laws.specs.Name.{agrees}
-use Rattle.ic_laws.specs.declared.scene.DefinitionSpelling.{DefinitionSpelling}
+use Rattle.ic_laws.specs.declared.scene.NameSpelling.{NameSpelling}
 use Rattle.ic_laws.specs.declared.scene.Scene.{Scene}
 use Rattle.ic_laws.specs.declared.tree.Formula.{Formula}
 
@@ -66,7 +66,7 @@ abbrev pub has_sheet : CoreBook → List ℕ → Bool
 has_sheet book name = list_any (agrees name) (names_of book)
 
 -- what formulas can mention: the sheets with their ids, the definitions with their scopes
-abbrev pub spelling_of : Definition → DefinitionSpelling
+abbrev pub spelling_of : Definition → NameSpelling
 spelling_of definition = record { name = definition.name; scope = definition.scope }
 
 abbrev pub scene_of : CoreBook → Scene

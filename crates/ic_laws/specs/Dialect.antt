@@ -72,7 +72,7 @@ begins_reference c = is_letter c || is_digit c || list_any (λ x. c == x) (codes
 abbrev pub is_sign : ℕ → Bool
 is_sign c = list_any (λ x. c == x) (codes "+-*/^&=<>%#@,;.(){}\"'")
 
--- an error word begins with `#` and goes on with no sign and no blank
+-- an error word begins with `#`, and the character after it is no sign and no blank
 abbrev pub has_error_shape : List ℕ → Bool
 has_error_shape (c ∷ e ∷ cs) = c == hash && not (is_sign e) && not (is_blank e)
 has_error_shape cs = false

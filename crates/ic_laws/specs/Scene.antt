@@ -5,7 +5,7 @@ use Rattle.std.specs.Fmt.{decimal}
 use Rattle.std.specs.List.{find, IsDistinct}
 use Rattle.std.specs.Option.{option_or}
 use Rattle.ic_laws.specs.Name.{fold, agrees}
-use Rattle.ic_laws.specs.declared.scene.DefinitionSpelling.{DefinitionSpelling}
+use Rattle.ic_laws.specs.declared.scene.NameSpelling.{NameSpelling}
 use Rattle.ic_laws.specs.declared.scene.Scene.{Scene}
 use Rattle.ic_laws.specs.declared.scene.SheetName.{SheetName}
 use Rattle.ic_laws.specs.declared.tree.NameKey.{NameKey}
@@ -17,7 +17,7 @@ same_scope (Some a) (Some b) = nat_eq a b
 same_scope a b = false
 
 -- the key of a definition: its folded name, and the sheet that it is local to
-abbrev pub key_of : DefinitionSpelling → NameKey
+abbrev pub key_of : NameSpelling → NameKey
 key_of definition = record { name = fold definition.name; scope = definition.scope }
 
 -- two keys are equal
@@ -41,7 +41,7 @@ abbrev pub found_sheet : Scene → List ℕ → Option ℕ
 found_sheet scene name = option_map (λ sheet. sheet.id) (find (λ sheet. agrees sheet.name name) scene.sheets)
 
 -- the first definition of this folded name that is local to this sheet, or to none
-abbrev pub definition_at : Scene → List ℕ → Option ℕ → Option DefinitionSpelling
+abbrev pub definition_at : Scene → List ℕ → Option ℕ → Option NameSpelling
 definition_at scene folded scope = find (λ definition. bytes_eq (fold definition.name) folded && same_scope definition.scope scope) scene.names
 
 -- a local definition is found before the one for all sheets

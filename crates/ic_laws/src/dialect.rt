@@ -1,7 +1,7 @@
 ghost use Rattle.std.specs.Prelude.{◌≡◌, ◌++◌, chars, string_bytes, option_map, IfOk, OnOk};
 ghost use Rattle.std.specs.Option.{option_copied};
 ghost use Rattle.ic_laws.specs.Longest.{read_at};
-ghost use Rattle.ic_laws.specs.Dialect.{DialectMeaning, IsLawful, FindsErrorAt, spelled_place};
+ghost use Rattle.ic_laws.specs.Dialect.{DialectMeaning, IsLawful, FindsErrorAt, reference_text, spelled_place};
 
 use crate::{Error, OutOfMemory, Place, RefToken};
 use std::alloc::Global;
@@ -69,6 +69,16 @@ pub trait Dialect {
     ) -> Result<(), OutOfMemory>
         ensures { OnOk result (chars (string_bytes out.new) ≡ chars (string_bytes out.old)
             ++ spelled_place (meaning self.now) (option_copied sheet.entry) place) };
+
+    /// The text of a reference; the word of `Error::REF` for one that the dialect can't spell.
+    fn spell_ref(&self, alloc: Global, r: &RefToken) -> Result<String, OutOfMemory>
+        ensures { IfOk result (λ s. chars (string_bytes s)
+            ≡ reference_text (meaning self.now) r.now) }
+    {
+        let mut text = String::new(alloc);
+        self.push_ref(&mut text, r.sheet_name(), r.place)?;
+        Ok(text)
+    }
 
     ghost laws: { (d : Self) → IsLawful (meaning d) };
 }

@@ -66,7 +66,7 @@ pub use memory::OutOfMemory;
 pub use name::agree;
 pub use packed_place::PackedPlace;
 pub use reference::{LAST_COLUMN, LAST_ROW, Place, Position, RefPart, RefToken};
-pub use scene::{DefinitionSpelling, Finder, Scene, SheetName, find_local};
+pub use scene::{Finder, NameSpelling, Scene, SheetName, find_local};
 pub use text::Text;
 pub use tree::{
     BinarySign, Bound, Constant, Error, Formula, LetPair, NameKey, NameMention, PrefixSign,

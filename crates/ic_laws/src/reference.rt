@@ -1,3 +1,6 @@
+ghost use Rattle.std.specs.Prelude.{◌≡◌, chars, option_map};
+ghost use Rattle.std.specs.Option.{option_copied};
+
 use crate::Text;
 
 /// The last row of a sheet, from 1.
@@ -34,4 +37,16 @@ pub enum Place {
 pub struct RefToken {
     pub sheet: Option<Text>,
     pub place: Place,
+}
+
+impl RefToken {
+    /// The name of the sheet, None where none is written.
+    pub fn sheet_name(&self) -> Option<&str>
+        ensures { option_map chars (option_copied result) ≡ self.now.sheet }
+    {
+        match &self.sheet {
+            None => None,
+            Some(name) => Some(name.as_str()),
+        }
+    }
 }

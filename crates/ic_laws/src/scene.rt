@@ -19,7 +19,7 @@ pub struct SheetName {
 
 /// A definition as formulas see it: its name, and the id of the sheet that it is local to, if there is one.
 #[derive(Drop)]
-pub struct DefinitionSpelling {
+pub struct NameSpelling {
     pub name: Text,
     pub scope: Option<u32>,
 }
@@ -28,7 +28,7 @@ pub struct DefinitionSpelling {
 #[derive(Drop)]
 pub struct Scene {
     pub sheets: Items<SheetName>,
-    pub names: Items<DefinitionSpelling>,
+    pub names: Items<NameSpelling>,
 }
 
 /// What finds the sheets and definitions that formulas mention. It stands for a scene, and each call answers what that
@@ -55,7 +55,7 @@ pub trait Finder {
         ensures { option_map (λ name. chars name.now) result ≡ name_of_sheet (scene self.now) id };
 
     /// The name of the definition with this key as it was given, None where no definition has it.
-    fn definition_spelling(&self, key: &NameKey) -> Option<&str>
+    fn name_spelling(&self, key: &NameKey) -> Option<&str>
         ensures { option_map (λ name. chars name.now) result
             ≡ name_of_key (scene self.now) key.now };
 }
@@ -110,7 +110,7 @@ impl Finder for Scene {
         Some(sheet.name.as_str())
     }
 
-    fn definition_spelling(&self, key: &NameKey) -> Option<&str> {
+    fn name_spelling(&self, key: &NameKey) -> Option<&str> {
         let definition = first_with_key(self.names.as_slice(), key)?;
         Some(definition.name.as_str())
     }
@@ -134,10 +134,10 @@ fn first_with_id(sheets: &[SheetName], id: u32) -> Option<&SheetName>
 
 /// The first definition of an agreeing name that is local to this sheet, or to none.
 fn first_local<'a>(
-    names: &'a [DefinitionSpelling],
+    names: &'a [NameSpelling],
     scope: Option<u32>,
     word: &str,
-) -> Option<&'a DefinitionSpelling>
+) -> Option<&'a NameSpelling>
     ensures { option_map (λ found. found.now) result
         ≡ find (λ definition. bytes_eq (fold definition.name) (fold (chars word.now))
         && same_scope definition.scope scope) names.now }
@@ -147,10 +147,7 @@ fn first_local<'a>(
 }
 
 /// The definition with this key.
-fn first_with_key<'a>(
-    names: &'a [DefinitionSpelling],
-    key: &NameKey,
-) -> Option<&'a DefinitionSpelling>
+fn first_with_key<'a>(names: &'a [NameSpelling], key: &NameKey) -> Option<&'a NameSpelling>
     ensures { option_map (λ found. found.now) result
         ≡ find (λ definition. bytes_eq (fold definition.name) key.now.name
         && same_scope definition.scope key.now.scope) names.now }
@@ -160,7 +157,7 @@ fn first_with_key<'a>(
 }
 
 /// The key of a definition.
-fn key_of(alloc: Global, definition: &DefinitionSpelling) -> Result<NameKey, OutOfMemory>
+fn key_of(alloc: Global, definition: &NameSpelling) -> Result<NameKey, OutOfMemory>
     ensures { IfOk result (λ key. key ≡ key_of definition.now) }
 {
     let name = fold_text(alloc, definition.name.as_str())?;

@@ -13,7 +13,7 @@ use Rattle.ic_laws.specs.Keeping.{KeyChange, kept_formula, kept_in_body}
 use Rattle.ic_laws.specs.Name.{agrees, is_identifier, is_sheet_name}
 use Rattle.ic_laws.specs.Notations.{AreNotations, Notations, english_function}
 use Rattle.ic_laws.specs.ValidCore.{IsKeptBody, IsKeptFormula, IsPlaceInside, IsPooled, IsScope, IsValidCore, IsValidDefinition, IsValidSheet}
-use Rattle.ic_laws.specs.declared.scene.DefinitionSpelling.{DefinitionSpelling}
+use Rattle.ic_laws.specs.declared.scene.NameSpelling.{NameSpelling}
 use Rattle.ic_laws.specs.declared.scene.Scene.{Scene}
 use Rattle.ic_laws.specs.declared.scene.SheetName.{SheetName}
 use Rattle.ic_laws.specs.declared.tree.Formula.{Formula}
@@ -127,7 +127,7 @@ with_parts b sheets definitions = record b { sheets = sheets; definitions = defi
 abbrev pub seen : Sheet → SheetName
 seen s = record { id = s.id; name = s.name }
 
-abbrev scene_by : List SheetName → List DefinitionSpelling → Scene
+abbrev scene_by : List SheetName → List NameSpelling → Scene
 scene_by sheets names = record { sheets = sheets; names = names }
 
 module _ (b : Book) where

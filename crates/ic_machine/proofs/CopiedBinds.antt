@@ -25,7 +25,7 @@ use Rattle.ic_laws.specs.Name.{agrees, fold}
 use Rattle.ic_laws.specs.Notations.{Notations, english_function}
 use Rattle.ic_laws.specs.Scene.{definition_at, key_found, key_of, same_scope}
 use Rattle.ic_laws.specs.Tree.{Bound}
-use Rattle.ic_laws.specs.declared.scene.DefinitionSpelling.{DefinitionSpelling}
+use Rattle.ic_laws.specs.declared.scene.NameSpelling.{NameSpelling}
 use Rattle.ic_laws.specs.declared.scene.Scene.{Scene}
 use Rattle.ic_laws.specs.declared.scene.SheetName.{SheetName}
 use Rattle.ic_laws.specs.declared.tree.Formula.{Formula}
@@ -51,28 +51,28 @@ use Rattle.ic_machine.proofs.ValidLemmas.{all_of}
 
 -- definitions of other scopes are found from no sheet ----
 
-pub unfound : (folded : List ℕ) (scope : Option ℕ) (ms : List DefinitionSpelling) → AllByRecursion (λ (m : DefinitionSpelling). same_scope m.scope scope ≡ false) ms
-    → find (λ (m : DefinitionSpelling). bytes_eq (fold m.name) folded && same_scope m.scope scope) ms ≡ None
+pub unfound : (folded : List ℕ) (scope : Option ℕ) (ms : List NameSpelling) → AllByRecursion (λ (m : NameSpelling). same_scope m.scope scope ≡ false) ms
+    → find (λ (m : NameSpelling). bytes_eq (fold m.name) folded && same_scope m.scope scope) ms ≡ None
 unfound folded scope [] h = refl
 unfound folded scope (m ∷ ms) h =
-    find_later (λ (x : DefinitionSpelling). bytes_eq (fold x.name) folded && same_scope x.scope scope) m ms (and_right (bytes_eq (fold m.name) folded) (same_scope m.scope scope) h.0) ∙ unfound folded scope ms h.1
+    find_later (λ (x : NameSpelling). bytes_eq (fold x.name) folded && same_scope x.scope scope) m ms (and_right (bytes_eq (fold m.name) folded) (same_scope m.scope scope) h.0) ∙ unfound folded scope ms h.1
 
 pub or_none : {A : Type 0} (o : Option A) → option_or o None ≡ o
 or_none None = refl
 or_none (Some x) = refl
 
-module _ (id : ℕ) (ns : List DefinitionSpelling) (all : AllByRecursion (λ (m : DefinitionSpelling). m.scope ≡ Some id) ns) where
+module _ (id : ℕ) (ns : List NameSpelling) (all : AllByRecursion (λ (m : NameSpelling). m.scope ≡ Some id) ns) where
   module _ (before : Scene) (sheets : List SheetName) (scope : Option ℕ) (apart : same_scope (Some id) scope ≡ false) where
     abbrev with_more : Scene
     with_more = record { sheets = sheets; names = before.names ++ ns }
 
     same_at : (folded : List ℕ) (at : Option ℕ) → same_scope (Some id) at ≡ false → definition_at with_more folded at ≡ definition_at before folded at
     same_at folded at other =
-        find-append (λ (m : DefinitionSpelling). bytes_eq (fold m.name) folded && same_scope m.scope at) before.names ns
-        ∙ ap (option_or (definition_at before folded at)) (unfound folded at ns (all_of (λ (m : DefinitionSpelling). m.scope ≡ Some id) (λ (m : DefinitionSpelling). same_scope m.scope at ≡ false) (λ m e. ap (λ o. same_scope o at) e ∙ other) ns all)) ∙ or_none (definition_at before folded at)
+        find-append (λ (m : NameSpelling). bytes_eq (fold m.name) folded && same_scope m.scope at) before.names ns
+        ∙ ap (option_or (definition_at before folded at)) (unfound folded at ns (all_of (λ (m : NameSpelling). m.scope ≡ Some id) (λ (m : NameSpelling). same_scope m.scope at ≡ false) (λ m e. ap (λ o. same_scope o at) e ∙ other) ns all)) ∙ or_none (definition_at before folded at)
 
     same_found : (folded : List ℕ) → key_found with_more scope folded ≡ key_found before scope folded
-    same_found folded = ap₂ (λ (local global : Option DefinitionSpelling). option_map key_of (option_or local global)) (same_at folded scope apart) (same_at folded None refl)
+    same_found folded = ap₂ (λ (local global : Option NameSpelling). option_map key_of (option_or local global)) (same_at folded scope apart) (same_at folded None refl)
 
     words_hold : (m : NameMention) → WordHolds before scope m → WordHolds with_more scope m
     words_hold (names.Var word) h = tt
@@ -134,12 +134,12 @@ module _ (b : Book) (valid : IsValidBook b) (index : ℕ) (source : Sheet) (at :
   later_is : scene_of (with_copied index (core_sheet copy) copies (core_of b)) ≡ later
   later_is =
       let empty : core_book.Sheet = record { id = id; name = name; cells = [] } in
-      ap₂ (λ (ss : List SheetName) (ms : List DefinitionSpelling). let scene : Scene = record { sheets = ss; names = ms } in scene)
+      ap₂ (λ (ss : List SheetName) (ms : List NameSpelling). let scene : Scene = record { sheets = ss; names = ms } in scene)
       (insert-map mentioned (core_of b).sheets (index + 1) (core_sheet copy) ∙ sym (insert-map mentioned (core_of b).sheets (index + 1) empty)) (map-append spelling_of b.definitions copies)
 
-  of_copy : AllByRecursion (λ (m : DefinitionSpelling). m.scope ≡ Some id) (map spelling_of copies)
+  of_copy : AllByRecursion (λ (m : NameSpelling). m.scope ≡ Some id) (map spelling_of copies)
   of_copy =
-      all_in_map spelling_of (λ (m : DefinitionSpelling). m.scope ≡ Some id) copies
+      all_in_map spelling_of (λ (m : NameSpelling). m.scope ≡ Some id) copies
       (all_in_map (with_formula (formula_copied b index source)) (λ (d : Definition). d.scope ≡ Some id) (definitions_moved b index source)
       (all_in_map (local_in id) (λ (d : Definition). d.scope ≡ Some id) (copied_of source.id b.definitions) (each (copied_of source.id b.definitions))))
     where

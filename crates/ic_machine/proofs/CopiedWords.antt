@@ -25,7 +25,7 @@ use Rattle.ic_laws.specs.Notations.{Notations, english_function}
 use Rattle.ic_laws.specs.Scene.{definition_at, found_name, found_sheet, key_found, key_of, local_key, name_of_key, name_of_sheet, definition_spelling, same_scope, sheet_spelling}
 use Rattle.ic_laws.specs.Tree.{Bound}
 use Rattle.ic_laws.specs.ValidCore.{IsKeptBody, IsKeptFormula, IsPooled}
-use Rattle.ic_laws.specs.declared.scene.DefinitionSpelling.{DefinitionSpelling}
+use Rattle.ic_laws.specs.declared.scene.NameSpelling.{NameSpelling}
 use Rattle.ic_laws.specs.declared.scene.Scene.{Scene}
 use Rattle.ic_laws.specs.declared.scene.SheetName.{SheetName}
 use Rattle.ic_laws.specs.declared.tree.Formula.{Formula}
@@ -53,28 +53,28 @@ use Rattle.ic_machine.proofs.UpdatedBinds.{zip_mapped}
 use Rattle.ic_machine.proofs.ValidLemmas.{all_at}
 use Rattle.ic_machine.proofs.WordLemmas.{locals_become, mapped_zip, plain_words_become, sheets_become}
 
-abbrev is_at : List ℕ → Option ℕ → DefinitionSpelling → Bool
+abbrev is_at : List ℕ → Option ℕ → NameSpelling → Bool
 is_at folded scope m = bytes_eq (fold m.name) folded && same_scope m.scope scope
 
 -- definitions that are local to the copy are found from it by their names
-local_found : (copy : ℕ) (folded : List ℕ) (global : Option DefinitionSpelling) (ds : List Definition)
+local_found : (copy : ℕ) (folded : List ℕ) (global : Option NameSpelling) (ds : List Definition)
     → option_map key_of (option_or (find (is_at folded (Some copy)) (map spelling_of (map (local_in copy) ds))) global) ≡ (if is_copied ds folded then Some (key_in_copy copy folded) else option_map key_of global)
 local_found copy folded global [] = refl
 local_found copy folded global (d ∷ ds) =
-    let m : DefinitionSpelling = record { name = d.name; scope = Some copy } in
+    let m : NameSpelling = record { name = d.name; scope = Some copy } in
     elim (cases_Bool (bytes_eq (fold d.name) folded)) [
       | inl t ↦
-          ap (λ (o : Option DefinitionSpelling). option_map key_of (option_or o global)) (find_here (is_at folded (Some copy)) m (map spelling_of (map (local_in copy) ds)) (and_from (bytes_eq (fold d.name) folded) (same_scope (Some copy) (Some copy)) t (same_scope_self (Some copy))))
+          ap (λ (o : Option NameSpelling). option_map key_of (option_or o global)) (find_here (is_at folded (Some copy)) m (map spelling_of (map (local_in copy) ds)) (and_from (bytes_eq (fold d.name) folded) (same_scope (Some copy) (Some copy)) t (same_scope_self (Some copy))))
           ∙ ap (λ (name : List ℕ). Some (key_in_copy copy name)) ((bytes_eq-Decides (fold d.name) folded).0 t)
           ∙ sym (ap (λ (c : Bool). if c || is_copied ds folded then Some (key_in_copy copy folded) else option_map key_of global) t)
       | inr f ↦
-          ap (λ (o : Option DefinitionSpelling). option_map key_of (option_or o global)) (find_later (is_at folded (Some copy)) m (map spelling_of (map (local_in copy) ds)) (ap (λ (c : Bool). c && same_scope (Some copy) (Some copy)) f))
+          ap (λ (o : Option NameSpelling). option_map key_of (option_or o global)) (find_later (is_at folded (Some copy)) m (map spelling_of (map (local_in copy) ds)) (ap (λ (c : Bool). c && same_scope (Some copy) (Some copy)) f))
           ∙ local_found copy folded global ds
           ∙ sym (ap (λ (c : Bool). if c || is_copied ds folded then Some (key_in_copy copy folded) else option_map key_of global) f)
     ]
 
 -- one that is found from a sheet as local to it is one of those that are local to it
-local_has : (id : ℕ) (folded : List ℕ) (x : DefinitionSpelling) (ds : List Definition) → find (is_at folded (Some id)) (map spelling_of ds) ≡ Some x → list_any (λ (d : Definition). bytes_eq (fold d.name) folded) (local_to id ds) ≡ true
+local_has : (id : ℕ) (folded : List ℕ) (x : NameSpelling) (ds : List Definition) → find (is_at folded (Some id)) (map spelling_of ds) ≡ Some x → list_any (λ (d : Definition). bytes_eq (fold d.name) folded) (local_to id ds) ≡ true
 local_has id folded x [] e = cc
 local_has id folded x (d ∷ ds) e = by_test (bytes_eq (fold d.name) folded) (same_scope d.scope (Some id)) refl refl (local_has id folded x ds)
   where
@@ -117,22 +117,22 @@ module _ (b : Book) (valid : IsValidBook b) (index : ℕ) (source : Sheet) (at :
   local_there : (folded : List ℕ) → definition_at later folded (Some id) ≡ find (is_at folded (Some id)) (map spelling_of (definitions_moved b index source))
   local_there folded =
       ap (find (is_at folded (Some id))) names_are ∙ find-append (is_at folded (Some id)) before.names (map spelling_of (definitions_moved b index source))
-      ∙ ap (λ (o : Option DefinitionSpelling). option_or o (find (is_at folded (Some id)) (map spelling_of (definitions_moved b index source)))) (unfound folded (Some id) before.names unseen)
+      ∙ ap (λ (o : Option NameSpelling). option_or o (find (is_at folded (Some id)) (map spelling_of (definitions_moved b index source)))) (unfound folded (Some id) before.names unseen)
     where
-      unseen : AllByRecursion (λ (m : DefinitionSpelling). same_scope m.scope (Some id) ≡ false) before.names
-      unseen = all_in_map spelling_of (λ (m : DefinitionSpelling). same_scope m.scope (Some id) ≡ false) b.definitions (no_scope source.id id b.definitions (parts b valid index source at room).1)
+      unseen : AllByRecursion (λ (m : NameSpelling). same_scope m.scope (Some id) ≡ false) before.names
+      unseen = all_in_map spelling_of (λ (m : NameSpelling). same_scope m.scope (Some id) ≡ false) b.definitions (no_scope source.id id b.definitions (parts b valid index source at room).1)
 
   -- what a name finds from the copy
   copy_finds : (folded : List ℕ) → key_found later (Some id) folded ≡ (if is_copied copied folded then Some (key_in_copy id folded) else option_map key_of (definition_at before folded None))
   copy_finds folded =
-      ap₂ (λ (local global : Option DefinitionSpelling). option_map key_of (option_or local global)) local global ∙ local_found id folded (definition_at before folded None) copied
+      ap₂ (λ (local global : Option NameSpelling). option_map key_of (option_or local global)) local global ∙ local_found id folded (definition_at before folded None) copied
     where
-      moved : List DefinitionSpelling
+      moved : List NameSpelling
       moved = map spelling_of (definitions_moved b index source)
 
-      of_copy : AllByRecursion (λ (m : DefinitionSpelling). same_scope m.scope None ≡ false) moved
+      of_copy : AllByRecursion (λ (m : NameSpelling). same_scope m.scope None ≡ false) moved
       of_copy =
-          all_in_map spelling_of (λ (m : DefinitionSpelling). same_scope m.scope None ≡ false) (definitions_moved b index source)
+          all_in_map spelling_of (λ (m : NameSpelling). same_scope m.scope None ≡ false) (definitions_moved b index source)
           (all_in_map (local_in id) (λ (d : Definition). same_scope d.scope None ≡ false) copied (each copied))
         where
           each : (ds : List Definition) → AllByRecursion (λ (d : Definition). same_scope (local_in id d).scope None ≡ false) ds
@@ -147,7 +147,7 @@ module _ (b : Book) (valid : IsValidBook b) (index : ℕ) (source : Sheet) (at :
           ap (find (is_at folded None)) names_are ∙ find-append (is_at folded None) before.names moved ∙ ap (option_or (definition_at before folded None)) (unfound folded None moved of_copy)
           ∙ or_none (definition_at before folded None)
 
-  local_copied : (folded : List ℕ) (x : DefinitionSpelling) → definition_at before folded (Some source.id) ≡ Some x → is_copied copied folded ≡ true
+  local_copied : (folded : List ℕ) (x : NameSpelling) → definition_at before folded (Some source.id) ≡ Some x → is_copied copied folded ≡ true
   local_copied folded x e =
       list_any-append (λ (d : Definition). bytes_eq (fold d.name) folded) (local_to source.id b.definitions) (shared_about source.id b.definitions)
       ∙ ap (λ (c : Bool). c || list_any (λ (d : Definition). bytes_eq (fold d.name) folded) (shared_about source.id b.definitions)) (local_has source.id folded x b.definitions e)
@@ -156,7 +156,7 @@ module _ (b : Book) (valid : IsValidBook b) (index : ℕ) (source : Sheet) (at :
   for_all : (scope : Option ℕ) → IsSource scope → (k : NameKey) (folded : List ℕ) → key_found before scope folded ≡ Some k → is_copied copied folded ≡ false → option_map key_of (definition_at before folded None) ≡ Some k
   for_all scope is k folded e none = go (definition_at before folded scope) refl e
     where
-      go : (local : Option DefinitionSpelling) → definition_at before folded scope ≡ local → option_map key_of (option_or local (definition_at before folded None)) ≡ Some k → option_map key_of (definition_at before folded None) ≡ Some k
+      go : (local : Option NameSpelling) → definition_at before folded scope ≡ local → option_map key_of (option_or local (definition_at before folded None)) ≡ Some k → option_map key_of (definition_at before folded None) ≡ Some k
       go None f g = g
       go (Some x) f g = elim is [
         | inl s ↦ ap (λ (o : Option ℕ). option_map key_of (definition_at before folded o)) (sym s) ∙ ap (option_map key_of) f ∙ g
@@ -212,12 +212,12 @@ module _ (b : Book) (valid : IsValidBook b) (index : ℕ) (source : Sheet) (at :
   spelled_at : (scope : Option ℕ) (word : List ℕ) (k : NameKey) → found_name before scope word ≡ Some k → fold (key_text k) ≡ fold word
   spelled_at scope word k e =
       let has = found_has_definition before scope (fold word) k e in
-      of_later k has.same (definition_at later k.name k.scope) refl (has_key b valid index source at room k (ap (λ (o : Option DefinitionSpelling). is_some (option_map (λ (m : DefinitionSpelling). m.name) o)) has.found))
+      of_later k has.same (definition_at later k.name k.scope) refl (has_key b valid index source at room k (ap (λ (o : Option NameSpelling). is_some (option_map (λ (m : NameSpelling). m.name) o)) has.found))
     where
-      of_later : (k : NameKey) → k.name ≡ fold word → (o : Option DefinitionSpelling) → definition_at later k.name k.scope ≡ o → IsSome (name_of_key later k) → fold (key_text k) ≡ fold word
-      of_later k same None f some = absurd (let no : false ≡ true = sym (ap (λ (o : Option DefinitionSpelling). is_some (option_map (λ (m : DefinitionSpelling). m.name) o)) f) ∙ some in cc)
+      of_later : (k : NameKey) → k.name ≡ fold word → (o : Option NameSpelling) → definition_at later k.name k.scope ≡ o → IsSome (name_of_key later k) → fold (key_text k) ≡ fold word
+      of_later k same None f some = absurd (let no : false ≡ true = sym (ap (λ (o : Option NameSpelling). is_some (option_map (λ (m : NameSpelling). m.name) o)) f) ∙ some in cc)
       of_later k same (Some d) f some =
-          ap (λ (o : Option DefinitionSpelling). fold (unwrap_or (option_map (λ (m : DefinitionSpelling). m.name) o) k.name)) f ∙ folds_to_key later k.name k.scope d f ∙ same
+          ap (λ (o : Option NameSpelling). fold (unwrap_or (option_map (λ (m : NameSpelling). m.name) o) k.name)) f ∙ folds_to_key later k.name k.scope d f ∙ same
 
   -- what a name with the copy's sheet finds
   copy_local : (folded : List ℕ) → local_key later id folded ≡ (if is_copied copied folded then Some (key_in_copy id folded) else None)
@@ -230,9 +230,9 @@ module _ (b : Book) (valid : IsValidBook b) (index : ℕ) (source : Sheet) (at :
       (ap (find (is_at folded (Some i))) names_are ∙ find-append (is_at folded (Some i)) before.names (map spelling_of (definitions_moved b index source))
       ∙ ap (option_or (definition_at before folded (Some i))) (unfound folded (Some i) (map spelling_of (definitions_moved b index source)) elsewhere) ∙ or_none (definition_at before folded (Some i)))
     where
-      elsewhere : AllByRecursion (λ (m : DefinitionSpelling). same_scope m.scope (Some i) ≡ false) (map spelling_of (definitions_moved b index source))
+      elsewhere : AllByRecursion (λ (m : NameSpelling). same_scope m.scope (Some i) ≡ false) (map spelling_of (definitions_moved b index source))
       elsewhere =
-          all_in_map spelling_of (λ (m : DefinitionSpelling). same_scope m.scope (Some i) ≡ false) (definitions_moved b index source)
+          all_in_map spelling_of (λ (m : NameSpelling). same_scope m.scope (Some i) ≡ false) (definitions_moved b index source)
           (all_in_map (local_in id) (λ (d : Definition). same_scope d.scope (Some i) ≡ false) copied (each copied))
         where
           each : (ds : List Definition) → AllByRecursion (λ (d : Definition). same_scope (local_in id d).scope (Some i) ≡ false) ds
@@ -273,7 +273,7 @@ module _ (b : Book) (valid : IsValidBook b) (index : ℕ) (source : Sheet) (at :
       either false = refl
 
   -- one with the sheet that is copied
-  of_source : (word : List ℕ) (o : Option DefinitionSpelling) → definition_at before (fold word) (Some source.id) ≡ o
+  of_source : (word : List ℕ) (o : Option NameSpelling) → definition_at before (fold word) (Some source.id) ≡ o
       → bound_local later (sheets.Sheet id) (local_text (name_or_dangling word (option_map key_of o))) ≡ copied_word id copied (name_or_dangling word (option_map key_of o))
   of_source word None e = in_copy word
   of_source word (Some x) e =
@@ -360,7 +360,7 @@ module _ (b : Book) (valid : IsValidBook b) (index : ℕ) (source : Sheet) (at :
         global_none : key_found before scope (fold word) ≡ None → option_map key_of (definition_at before (fold word) None) ≡ None
         global_none e = of_local (definition_at before (fold word) scope) e
           where
-            of_local : (o : Option DefinitionSpelling) → option_map key_of (option_or o (definition_at before (fold word) None)) ≡ None → option_map key_of (definition_at before (fold word) None) ≡ None
+            of_local : (o : Option NameSpelling) → option_map key_of (option_or o (definition_at before (fold word) None)) ≡ None → option_map key_of (definition_at before (fold word) None) ≡ None
             of_local None f = f
             of_local (Some x) f = cc
 

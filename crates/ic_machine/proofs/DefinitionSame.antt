@@ -27,7 +27,7 @@ use Rattle.ic_laws.specs.Scene.{found_sheet, definition_spelling, sheet_spelling
 use Rattle.ic_laws.specs.Tree.{Bound, Spelled}
 use Rattle.ic_laws.specs.ValidCore.{IsKept, IsKeptBody}
 use Rattle.ic_laws.specs.declared.reference.Place.{Place}
-use Rattle.ic_laws.specs.declared.scene.DefinitionSpelling.{DefinitionSpelling}
+use Rattle.ic_laws.specs.declared.scene.NameSpelling.{NameSpelling}
 use Rattle.ic_laws.specs.declared.scene.Scene.{Scene}
 use Rattle.ic_laws.specs.declared.tree.Formula.TheVariants as formulas
 use Rattle.ic_laws.specs.declared.tree.SheetMention.TheVariants as sheets
@@ -137,9 +137,9 @@ module _ (b c : Book) (valid : IsValidBook b) (valid_there : IsValidBook c) (sam
     scene_left =
         let later : Scene = scene_in (with_definition new b) in
         changed.scene_same b (kept_sheets b valid later same_keys) b.sheets (kept_definitions b valid later same_keys ++ new ∷ []) (b.definitions ++ new ∷ []) (seen_kept b valid later same_keys)
-        (map-append spelling_of (kept_definitions b valid later same_keys) (new ∷ []) ∙ ap (λ (names : List DefinitionSpelling). names ++ spelling_of new ∷ []) (spelled_kept b valid later same_keys)
+        (map-append spelling_of (kept_definitions b valid later same_keys) (new ∷ []) ∙ ap (λ (names : List NameSpelling). names ++ spelling_of new ∷ []) (spelled_kept b valid later same_keys)
         ∙ sym (map-append spelling_of b.definitions (new ∷ [])))
-        ∙ ap (λ (names : List DefinitionSpelling). let scene : Scene = record { sheets = (scene_in b).sheets; names = names } in scene) (map-append spelling_of b.definitions (new ∷ []))
+        ∙ ap (λ (names : List NameSpelling). let scene : Scene = record { sheets = (scene_in b).sheets; names = names } in scene) (map-append spelling_of b.definitions (new ∷ []))
 
     module _ (valid_left : IsValidBook left) (typed : body_of n (core_of b) text ≡ Some body) (free : clashes_in (in_notation c.locale c.language b) tree ≡ false) where
       kept : IsKept (notations_in left) (scene_in left) scope (pos 1) (pos 1) tree

@@ -21,7 +21,7 @@ use Rattle.ic_laws.specs.Scene.{key_of, name_of_key, name_of_sheet, definition_s
 use Rattle.ic_laws.specs.Tree.{Bound}
 use Rattle.ic_laws.specs.ValidCore.{IsKeptFormula, IsKeptWhere, IsPlaceInside, IsPooled, IsValidDefinition}
 use Rattle.ic_laws.specs.declared.reference.Place as places
-use Rattle.ic_laws.specs.declared.scene.DefinitionSpelling.{DefinitionSpelling}
+use Rattle.ic_laws.specs.declared.scene.NameSpelling.{NameSpelling}
 use Rattle.ic_laws.specs.declared.scene.Scene.{Scene}
 use Rattle.ic_laws.specs.declared.scene.SheetName.{SheetName}
 use Rattle.ic_laws.specs.declared.tree.Formula.{Formula}
@@ -122,7 +122,7 @@ module _ (b : Book) (valid : IsValidBook b) (index : ℕ) (source : Sheet) (at :
   scene_is xs ds e f =
       scene_same b (insert xs (index + 1) copy) (insert b.sheets (index + 1) (copy_named b index source)) (ds ++ copies) (b.definitions ++ definitions_moved b index source)
       (insert-map seen xs (index + 1) copy ∙ ap (λ (ms : List SheetName). insert ms (index + 1) (seen copy)) e ∙ sym (insert-map seen b.sheets (index + 1) (copy_named b index source)))
-      (map-append spelling_of ds copies ∙ ap₂ (λ (ms ns : List DefinitionSpelling). ms ++ ns) f spelled_copies ∙ sym (map-append spelling_of b.definitions (definitions_moved b index source)))
+      (map-append spelling_of ds copies ∙ ap₂ (λ (ms ns : List NameSpelling). ms ++ ns) f spelled_copies ∙ sym (map-append spelling_of b.definitions (definitions_moved b index source)))
 
   names_differ : (xs : List Sheet) → map (λ (s : Sheet). s.name) xs ≡ map (λ (s : Sheet). s.name) b.sheets → IsDistinct agrees (map (λ (s : Sheet). s.name) (insert xs (index + 1) copy))
   names_differ xs e =
@@ -185,12 +185,12 @@ module _ (b : Book) (valid : IsValidBook b) (index : ℕ) (source : Sheet) (at :
 
   pub has_key : (k : NameKey) → IsSome (name_of_key (scene_in b) k) → IsSome (name_of_key later k)
   has_key k h =
-      let test : DefinitionSpelling → Bool = λ m. same_key (key_of m) k in
-      some_mapped (λ (m : DefinitionSpelling). m.name) (find test later.names)
+      let test : NameSpelling → Bool = λ m. same_key (key_of m) k in
+      some_mapped (λ (m : NameSpelling). m.name) (find test later.names)
       (found_some test later.names
       (ap (list_any test) (map-append spelling_of b.definitions (definitions_moved b index source))
       ∙ any_appended test (map spelling_of b.definitions) (map spelling_of (definitions_moved b index source))
-      (some_found test (map spelling_of b.definitions) (some_unmapped (λ (m : DefinitionSpelling). m.name) (find test (map spelling_of b.definitions)) h))))
+      (some_found test (map spelling_of b.definitions) (some_unmapped (λ (m : NameSpelling). m.name) (find test (map spelling_of b.definitions)) h))))
 
   writes : WritesNames (scene_in b) sheet_text (definition_spelling later)
   writes = record { sheet = λ i h. by_source i (nat_eq i source.id) h; definition = λ k h. (spelling_writes later named).definition k (has_key k h) }

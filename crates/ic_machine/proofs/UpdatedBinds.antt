@@ -20,7 +20,7 @@ use Rattle.ic_laws.specs.Notations.{Notations, english_function}
 use Rattle.ic_laws.specs.Scene.{definition_at, found_name, key_of, same_key}
 use Rattle.ic_laws.specs.Tree.{Bound}
 use Rattle.ic_laws.specs.ValidCore.{IsKeptBody, IsKeptFormula, IsPooled}
-use Rattle.ic_laws.specs.declared.scene.DefinitionSpelling.{DefinitionSpelling}
+use Rattle.ic_laws.specs.declared.scene.NameSpelling.{NameSpelling}
 use Rattle.ic_laws.specs.declared.scene.Scene.{Scene}
 use Rattle.ic_laws.specs.declared.tree.Formula.{Formula}
 use Rattle.ic_laws.specs.declared.tree.Formula.TheVariants as formulas
@@ -69,23 +69,23 @@ find_updated p d (suc i) (x ∷ xs) e =
       | inr f ↦ inr (find_later p x (updated_at (λ y. d) i xs) none.0 ∙ f)
     ]
 
-neither : (local global : Option DefinitionSpelling) → option_map key_of (option_or local global) ≡ None → (local ≡ None) × (global ≡ None)
+neither : (local global : Option NameSpelling) → option_map key_of (option_or local global) ≡ None → (local ≡ None) × (global ≡ None)
 neither None None e = (refl, refl)
 neither None (Some d) e = cc
 neither (Some d) global e = cc
 
-key_is : (d : DefinitionSpelling) (k : NameKey) (local global : Option DefinitionSpelling) → (local ≡ None) ⊎ (local ≡ Some d) → (global ≡ None) ⊎ (global ≡ Some d) → option_map key_of (option_or local global) ≡ Some k → k ≡ key_of d
+key_is : (d : NameSpelling) (k : NameKey) (local global : Option NameSpelling) → (local ≡ None) ⊎ (local ≡ Some d) → (global ≡ None) ⊎ (global ≡ Some d) → option_map key_of (option_or local global) ≡ Some k → k ≡ key_of d
 key_is d k local global (inr p) q e =
-    let some : Some (key_of d) ≡ Some k = sym (ap (λ (o : Option DefinitionSpelling). option_map key_of (option_or o global)) p) ∙ e in
+    let some : Some (key_of d) ≡ Some k = sym (ap (λ (o : Option NameSpelling). option_map key_of (option_or o global)) p) ∙ e in
     let same : key_of d ≡ k = cc in sym same
 key_is d k local global (inl p) (inr q) e =
-    let some : Some (key_of d) ≡ Some k = sym (ap₂ (λ (o g : Option DefinitionSpelling). option_map key_of (option_or o g)) p q) ∙ e in
+    let some : Some (key_of d) ≡ Some k = sym (ap₂ (λ (o g : Option NameSpelling). option_map key_of (option_or o g)) p q) ∙ e in
     let same : key_of d ≡ k = cc in sym same
-key_is d k local global (inl p) (inl q) e = absurd (let no : None ≡ Some k = sym (ap₂ (λ (o g : Option DefinitionSpelling). option_map key_of (option_or o g)) p q) ∙ e in cc)
+key_is d k local global (inl p) (inl q) e = absurd (let no : None ≡ Some k = sym (ap₂ (λ (o g : Option NameSpelling). option_map key_of (option_or o g)) p q) ∙ e in cc)
 
 -- one word ----
 
-module _ (english : List ℕ → Option ℕ) (before after : Scene) (d : DefinitionSpelling) (index : ℕ) (updated : after.names ≡ updated_at (λ m. d) index before.names) (keys : KeyChange) (scope : Option ℕ) where
+module _ (english : List ℕ → Option ℕ) (before after : Scene) (d : NameSpelling) (index : ℕ) (updated : after.names ≡ updated_at (λ m. d) index before.names) (keys : KeyChange) (scope : Option ℕ) where
   abbrev key_text : NameKey → List ℕ
   key_text = kept_name before after keys
 
@@ -94,8 +94,8 @@ module _ (english : List ℕ → Option ℕ) (before after : Scene) (d : Definit
 
   found_after : (folded : List ℕ) (at : Option ℕ) → definition_at before folded at ≡ None → (definition_at after folded at ≡ None) ⊎ (definition_at after folded at ≡ Some d)
   found_after folded at e =
-      let p : DefinitionSpelling → Bool = λ m. same_key (key_of m) (record { name = folded; scope = at }) in
-      subst (λ (ms : List DefinitionSpelling). (find p ms ≡ None) ⊎ (find p ms ≡ Some d)) (sym updated) (find_updated p d index before.names e)
+      let p : NameSpelling → Bool = λ m. same_key (key_of m) (record { name = folded; scope = at }) in
+      subst (λ (ms : List NameSpelling). (find p ms ≡ None) ⊎ (find p ms ≡ Some d)) (sym updated) (find_updated p d index before.names e)
 
   means_it : (word : List ℕ) (k : NameKey) → found_name before scope word ≡ None → found_name after scope word ≡ Some k → k ≡ key_of d
   means_it word k none e =
@@ -137,12 +137,12 @@ module _ (english : List ℕ → Option ℕ) (before after : Scene) (d : Definit
         (there (bound_sheet before name))
       where
         -- one that dangled finds the definition that was updated, or nothing
-        found : (id : ℕ) → (o : Option DefinitionSpelling) → definition_at before (fold word) (Some id) ≡ o
+        found : (id : ℕ) → (o : Option NameSpelling) → definition_at before (fold word) (Some id) ≡ o
             → Becomes (Some (name_or_dangling word (option_map key_of o))) (Some (bound_local after (sheets.Sheet id) (spelled_word key_text (name_or_dangling word (option_map key_of o)))))
         found id (Some m) f = tt
         found id None f = elim (found_after (fold word) (Some id) f) [
-          | inl e ↦ inl (ap (λ (o : Option DefinitionSpelling). Some (name_or_dangling word (option_map key_of o))) e)
-          | inr e ↦ inr (ap (λ (o : Option DefinitionSpelling). Some (name_or_dangling word (option_map key_of o))) e)
+          | inl e ↦ inl (ap (λ (o : Option NameSpelling). Some (name_or_dangling word (option_map key_of o))) e)
+          | inr e ↦ inr (ap (λ (o : Option NameSpelling). Some (name_or_dangling word (option_map key_of o))) e)
         ]
 
         there : (s : SheetMention) → Becomes (Some (bound_local before s word)) (Some (bound_local after s (spelled_word key_text (bound_local before s word))))

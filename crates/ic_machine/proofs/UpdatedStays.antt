@@ -30,7 +30,7 @@ use Rattle.ic_laws.specs.Scan.{first_is}
 use Rattle.ic_laws.specs.Scene.{key_of, same_key, same_scope}
 use Rattle.ic_laws.specs.Tree.{Spelled}
 use Rattle.ic_laws.specs.ValidCore.{IsKept, IsKeptFormula, IsScope, IsValidDefinition, IsValidSheet}
-use Rattle.ic_laws.specs.declared.scene.DefinitionSpelling.{DefinitionSpelling}
+use Rattle.ic_laws.specs.declared.scene.NameSpelling.{NameSpelling}
 use Rattle.ic_laws.specs.declared.scene.Scene.{Scene}
 use Rattle.ic_laws.specs.declared.tree.Formula.{Formula}
 use Rattle.ic_laws.specs.declared.tree.Formula.TheVariants as formulas
@@ -76,7 +76,7 @@ none_of_less p (x ∷ xs) (suc i) e = elim (cases_Bool (p x)) [
 ]
 
 -- no key is that of a name that none has in its scope
-key_of_none : (name : DefinitionSpelling) (definitions : List Definition) → list_any (is_named name.name name.scope) definitions ≡ false → list_any (same_key (key_of name)) (map key definitions) ≡ false
+key_of_none : (name : NameSpelling) (definitions : List Definition) → list_any (is_named name.name name.scope) definitions ≡ false → list_any (same_key (key_of name)) (map key definitions) ≡ false
 key_of_none name [] e = refl
 key_of_none name (d ∷ definitions) e =
     let turned : same_key (key_of name) (key d) ≡ is_named name.name name.scope d = same_key_flip (key_of name) (key d) in

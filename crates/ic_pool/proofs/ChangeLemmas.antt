@@ -7,7 +7,7 @@ use Rattle.ic_laws.specs.Changes.{Change, changed_local, changed_sheet, changed_
 use Rattle.ic_laws.specs.Name.{fold}
 use Rattle.ic_laws.specs.Scene.{key_of, same_scope}
 use Rattle.ic_laws.specs.Tree.{Bound}
-use Rattle.ic_laws.specs.declared.scene.DefinitionSpelling.{DefinitionSpelling}
+use Rattle.ic_laws.specs.declared.scene.NameSpelling.{NameSpelling}
 use Rattle.ic_laws.specs.declared.scene.Scene.{Scene}
 use Rattle.ic_laws.specs.declared.tree.Formula.{Formula}
 use Rattle.ic_laws.specs.declared.tree.Formula.TheVariants as formulas
@@ -49,7 +49,7 @@ both_false true = refl
 both_false false = refl
 
 -- and that of a definition, in the formulas of a sheet that it isn't local to
-pub adding_spares_found : (d : DefinitionSpelling) (id : ℕ) → same_scope d.scope (Some id) ≡ false → SparesFound (definition_added d) (Some id)
+pub adding_spares_found : (d : NameSpelling) (id : ℕ) → same_scope d.scope (Some id) ≡ false → SparesFound (definition_added d) (Some id)
 adding_spares_found d id other = spares_found (definition_added d) (Some id) (λ m e. refl) word local
   where
     word : (m : NameMention) → is_dangling_word m ≡ false → could_mean (key_of d) (Some id) m ≡ false
@@ -65,7 +65,7 @@ adding_spares_found d id other = spares_found (definition_added d) (Some id) (λ
     local (sheets.Dangling typed) m e = refl
 
 -- a definition that comes lets nothing dangle
-pub adding_keeps_found : (d : DefinitionSpelling) (scope : Option ℕ) → KeepsAllFound (definition_added d) scope
+pub adding_keeps_found : (d : NameSpelling) (scope : Option ℕ) → KeepsAllFound (definition_added d) scope
 adding_keeps_found d scope (formulas.Raw text) e = refl
 adding_keeps_found d scope (formulas.Tree t) e =
     none_becomes is_dangling is_dangling is_dangling_word is_dangling_word is_dangling_local is_dangling_local (changed_sheet change) (changed_word change scope) (changed_local change) (λ m e. e) word local t e

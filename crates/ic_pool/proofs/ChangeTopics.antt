@@ -7,7 +7,7 @@ use Rattle.ic_laws.specs.Changes.{Change, could_mean, could_mean_local, definiti
 use Rattle.ic_laws.specs.Changes as changes
 use Rattle.ic_laws.specs.Name.{fold}
 use Rattle.ic_laws.specs.Scene.{key_of, same_scope}
-use Rattle.ic_laws.specs.declared.scene.DefinitionSpelling.{DefinitionSpelling}
+use Rattle.ic_laws.specs.declared.scene.NameSpelling.{NameSpelling}
 use Rattle.ic_laws.specs.declared.scene.Scene.{Scene}
 use Rattle.ic_laws.specs.declared.tree.NameKey.{NameKey}
 use Rattle.ic_laws.specs.declared.tree.NameMention.{NameMention}
@@ -53,7 +53,7 @@ going_spares scene id name = spares_others (sheet_gone scene id name) (sheet_top
     sheet (sheets.Sheet found) e = sheets_apart id found e
     sheet (sheets.Dangling typed) e = refl
 
-pub adding_spares : (d : DefinitionSpelling) → SparesOthers (definition_added d) (folded_topic (key_of d).name ∷ [])
+pub adding_spares : (d : NameSpelling) → SparesOthers (definition_added d) (folded_topic (key_of d).name ∷ [])
 adding_spares d = spares_others (definition_added d) (folded_topic (key_of d).name) (λ m e. refl) word local
   where
     word : (scope : Option ℕ) (m : NameMention) → is_among (folded_topic (key_of d).name) (word_topics m) ≡ false → could_mean (key_of d) scope m ≡ false

@@ -89,7 +89,7 @@ no_two_agree (w ∷ ws) = not (list_any (agrees w) ws) && no_two_agree ws
 unfoldable pub has_function_words : Language → Bool
 has_function_words l = list_all has_function_shape l.functions.words && no_two_agree l.functions.words
 
--- each error's word begins with # and goes on with no sign and no blank, and no two agree
+-- each error's word begins with #, the character after it is no sign and no blank, and no two agree
 unfoldable pub has_error_words : Language → Bool
 has_error_words l = list_all has_error_shape (error_words l) && no_two_agree (error_words l)
 

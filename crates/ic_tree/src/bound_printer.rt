@@ -96,7 +96,7 @@ fn push_word<N: Finder>(names: &N, out: &mut String, word: &NameMention) -> Resu
 {
     match word {
         NameMention::Var(word) => push_text(out, word.as_ref().as_str()),
-        NameMention::Name(key) => match names.definition_spelling(key.as_ref()) {
+        NameMention::Name(key) => match names.name_spelling(key.as_ref()) {
             Some(name) => push_text(out, name),
             None => push_text(out, key.as_ref().name.as_str()),
         },

@@ -52,7 +52,7 @@ pub fn spell_definition<N: Finder>(
 ) -> Result<Text, OutOfMemory>
     ensures { IfOk result (λ r. r ≡ definition_spelling (N.scene names.now) key.now) }
 {
-    match names.definition_spelling(key) {
+    match names.name_spelling(key) {
         Some(name) => Ok(Text::from_str(alloc, name)?),
         None => Ok(Text::from_str(alloc, key.name.as_str())?),
     }

@@ -165,7 +165,7 @@ impl<'d> Finder for NamedDefinitions<'d> {
         None
     }
 
-    fn definition_spelling(&self, key: &NameKey) -> Option<&str> {
+    fn name_spelling(&self, key: &NameKey) -> Option<&str> {
         self.name_of(key)
     }
 }

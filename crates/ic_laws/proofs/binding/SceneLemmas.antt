@@ -14,7 +14,7 @@ use Rattle.std.specs.Fmt.{decimal}
 use Rattle.std.specs.Prelude.{if◌then◌else◌}
 use Rattle.ic_laws.specs.Binding.{Binders, bound_local, bound_sheet, bound_word, is_bound_by, name_or_dangling, sheet_or_dangling, spelled_sheet, spelled_word}
 use Rattle.ic_laws.specs.Scene.{IdsDiffer, SheetsDiffer, definition_at, found_local, found_name, found_sheet, key_found, key_of, local_key, name_of_key, name_of_sheet, definition_spelling, same_scope, sheet_spelling}
-use Rattle.ic_laws.specs.declared.scene.DefinitionSpelling.{DefinitionSpelling}
+use Rattle.ic_laws.specs.declared.scene.NameSpelling.{NameSpelling}
 use Rattle.ic_laws.specs.declared.scene.Scene.{Scene}
 use Rattle.ic_laws.specs.declared.scene.SheetName.{SheetName}
 
@@ -152,26 +152,26 @@ same_scope_self None = refl
 same_scope_self (Some n) = eq-eqb n n refl
 
 -- a definition that is found by a key has a name of that folding
-pub folds_to_key : (scene : Scene) (folded : List ℕ) (scope : Option ℕ) (definition : DefinitionSpelling) → definition_at scene folded scope ≡ Some definition → fold definition.name ≡ folded
+pub folds_to_key : (scene : Scene) (folded : List ℕ) (scope : Option ℕ) (definition : NameSpelling) → definition_at scene folded scope ≡ Some definition → fold definition.name ≡ folded
 folds_to_key scene folded scope d e =
     (bytes_eq-Decides (fold d.name) folded).0 (and_parts _ _ (found_passes (λ x. bytes_eq (fold x.name) folded && same_scope x.scope scope) scene.names d e)).0
 
 -- a key that is found has the folded name that finds it, and a definition
 pub record HasDefinition (scene : Scene) (folded : List ℕ) (key : NameKey) : Type 0 where
   pub same : key.name ≡ folded
-  pub definition : DefinitionSpelling
+  pub definition : NameSpelling
   pub found : definition_at scene key.name key.scope ≡ Some definition
 
 pub found_has_definition : (scene : Scene) (scope : Option ℕ) (folded : List ℕ) (key : NameKey) → key_found scene scope folded ≡ Some key → HasDefinition scene folded key
 found_has_definition scene scope folded key e = go (definition_at scene folded scope) refl (definition_at scene folded None) refl e
   where
-    own : (d : DefinitionSpelling) (at : Option ℕ) → definition_at scene folded at ≡ Some d → HasDefinition scene folded (key_of d)
+    own : (d : NameSpelling) (at : Option ℕ) → definition_at scene folded at ≡ Some d → HasDefinition scene folded (key_of d)
     own d at f =
         let passes = and_from _ _ ((bytes_eq-Decides (fold d.name) (fold d.name)).1 refl) (same_scope_self d.scope) in
         let other = found_by_other (λ x. bytes_eq (fold x.name) folded && same_scope x.scope at) (λ x. bytes_eq (fold x.name) (fold d.name) && same_scope x.scope d.scope) scene.names d f passes in
         record { same = folds_to_key scene folded at d f; definition = other.0; found = other.1 }
 
-    go : (local : Option DefinitionSpelling) → definition_at scene folded scope ≡ local → (global : Option DefinitionSpelling) → definition_at scene folded None ≡ global → option_map key_of (option_or local global) ≡ Some key → HasDefinition scene folded key
+    go : (local : Option NameSpelling) → definition_at scene folded scope ≡ local → (global : Option NameSpelling) → definition_at scene folded None ≡ global → option_map key_of (option_or local global) ≡ Some key → HasDefinition scene folded key
     go (Some d) f global g e = subst (HasDefinition scene folded) (some_same (key_of d) key e) (own d scope f)
     go None f (Some d) g e = subst (HasDefinition scene folded) (some_same (key_of d) key e) (own d None g)
     go None f None g e = absurd (let no : None ≡ Some key = e in cc)
@@ -180,7 +180,7 @@ found_has_definition scene scope folded key e = go (definition_at scene folded s
 pub spelled_alike : (scene : Scene) (scope : Option ℕ) (folded : List ℕ) (key : NameKey) (other : List ℕ) → key_found scene scope folded ≡ Some key → fold (unwrap_or (name_of_key scene key) other) ≡ folded
 spelled_alike scene scope folded key other e =
     let has = found_has_definition scene scope folded key e in
-    ap (λ o. fold (unwrap_or (option_map (λ (x : DefinitionSpelling). x.name) o) other)) has.found ∙ (folds_to_key scene key.name key.scope has.definition has.found ∙ has.same)
+    ap (λ o. fold (unwrap_or (option_map (λ (x : NameSpelling). x.name) o) other)) has.found ∙ (folds_to_key scene key.name key.scope has.definition has.found ∙ has.same)
 
 pub found_spelled_alike : (scene : Scene) (scope : Option ℕ) (word : List ℕ) (key : NameKey) → found_name scene scope word ≡ Some key → fold (definition_spelling scene key) ≡ fold word
 found_spelled_alike scene scope word key e = spelled_alike scene scope (fold word) key key.name e
@@ -210,7 +210,7 @@ word_settles scene scope binders word = go (is_bound_by binders word) refl (foun
 pub local_is_found : (scene : Scene) (id : ℕ) (folded : List ℕ) (key : NameKey) → local_key scene id folded ≡ Some key → key_found scene (Some id) folded ≡ Some key
 local_is_found scene id folded key e = go (definition_at scene folded (Some id)) refl e
   where
-    go : (o : Option DefinitionSpelling) → definition_at scene folded (Some id) ≡ o → option_map key_of o ≡ Some key → key_found scene (Some id) folded ≡ Some key
+    go : (o : Option NameSpelling) → definition_at scene folded (Some id) ≡ o → option_map key_of o ≡ Some key → key_found scene (Some id) folded ≡ Some key
     go None f g = absurd (let no : None ≡ Some key = g in cc)
     go (Some d) f g = ap (λ o. option_map key_of (option_or o (definition_at scene folded None))) f ∙ g
 

@@ -16,7 +16,7 @@ use Rattle.ic_laws.specs.Name.{agrees, fold}
 use Rattle.ic_laws.specs.Notations.{Notations}
 use Rattle.ic_laws.specs.Scene.{same_key, same_scope}
 use Rattle.ic_laws.specs.ValidCore.{IsValidCore, IsValidDefinition}
-use Rattle.ic_laws.specs.declared.scene.DefinitionSpelling.{DefinitionSpelling}
+use Rattle.ic_laws.specs.declared.scene.NameSpelling.{NameSpelling}
 use Rattle.ic_laws.specs.declared.scene.Scene.{Scene}
 use Rattle.ic_laws.specs.declared.scene.SheetName.{SheetName}
 use Rattle.ic_laws.specs.declared.tree.NameKey.{NameKey}
@@ -77,7 +77,7 @@ module _ (n : Notations) (book : CoreBook) (new : Definition) (valid : IsValidCo
   same_after : scene_of defined ≡ later
   same_after =
       ap (λ (x : List SheetName). record { sheets = x; names = map spelling_of (kept_bodies ++ new ∷ []) }) (same_sheets n before later mentioned (λ s. refl) book.sheets)
-      ∙ ap (λ (x : List DefinitionSpelling). record { sheets = later.sheets; names = x })
+      ∙ ap (λ (x : List NameSpelling). record { sheets = later.sheets; names = x })
       (map-append spelling_of kept_bodies (new ∷ []) ∙ ap (λ x. x ++ spelling_of new ∷ []) (same_definitions n before later spelling_of (λ d. refl) book.definitions) ∙ sym (map-append spelling_of book.definitions (new ∷ [])))
 
   pub defined_valid : IsValidCore n defined
@@ -107,7 +107,7 @@ module _ (n : Notations) (book : CoreBook) (index : ℕ) (valid : IsValidCore n 
   same_after' : scene_of undefined ≡ later'
   same_after' =
       ap (λ (x : List SheetName). record { sheets = x; names = map spelling_of (remove kept_bodies' index) }) (same_sheets n before' later' mentioned (λ s. refl) book.sheets)
-      ∙ ap (λ (x : List DefinitionSpelling). record { sheets = later'.sheets; names = x })
+      ∙ ap (λ (x : List NameSpelling). record { sheets = later'.sheets; names = x })
       (removed_seen spelling_of kept_bodies' index ∙ ap (λ x. remove x index) (same_definitions n before' later' spelling_of (λ d. refl) book.definitions) ∙ sym (removed_seen spelling_of book.definitions index))
 
   pub undefined_valid : IsValidCore n undefined

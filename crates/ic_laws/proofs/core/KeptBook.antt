@@ -8,7 +8,7 @@ use Rattle.ic_laws.specs.Keeping.{kept, kept_formula, kept_in_body, kept_on_shee
 use Rattle.ic_laws.specs.Notations.{Notations, english_function}
 use Rattle.ic_laws.specs.Tree.{Bound}
 use Rattle.ic_laws.specs.ValidCore.{IsKept, IsKeptCell, IsKeptFormula, IsValidDefinition, IsValidSheet}
-use Rattle.ic_laws.specs.declared.scene.DefinitionSpelling.{DefinitionSpelling}
+use Rattle.ic_laws.specs.declared.scene.NameSpelling.{NameSpelling}
 use Rattle.ic_laws.specs.declared.scene.Scene.{Scene}
 use Rattle.ic_laws.specs.declared.scene.SheetName.{SheetName}
 use Rattle.ic_laws.specs.declared.tree.Formula.{Formula}
@@ -81,4 +81,4 @@ module _ (n : Notations) (before after : Scene) where
 pub same_scene : (n : Notations) (before after : Scene) (book : CoreBook) → scene_of (with_kept n before after same_keys book) ≡ scene_of book
 same_scene n before after book =
     ap (λ (x : List SheetName). record { sheets = x; names = map spelling_of (map (in_body n before after) book.definitions) }) (same_sheets n before after mentioned (λ s. refl) book.sheets)
-    ∙ ap (λ (x : List DefinitionSpelling). record { sheets = map mentioned book.sheets; names = x }) (same_definitions n before after spelling_of (λ d. refl) book.definitions)
+    ∙ ap (λ (x : List NameSpelling). record { sheets = map mentioned book.sheets; names = x }) (same_definitions n before after spelling_of (λ d. refl) book.definitions)

@@ -12,7 +12,7 @@ use Rattle.ic_laws.specs.Name.{agrees, is_identifier, is_sheet_name}
 use Rattle.ic_laws.specs.Notations.{Notations}
 use Rattle.ic_laws.specs.Scene.{SheetsDiffer}
 use Rattle.ic_laws.specs.ValidCore.{IsValidCore, IsValidDefinition, IsValidSheet}
-use Rattle.ic_laws.specs.declared.scene.DefinitionSpelling.{DefinitionSpelling}
+use Rattle.ic_laws.specs.declared.scene.NameSpelling.{NameSpelling}
 use Rattle.ic_laws.specs.declared.scene.Scene.{Scene}
 use Rattle.ic_laws.specs.declared.scene.SheetName.{SheetName}
 
@@ -26,14 +26,14 @@ HasIdentifier d = is_identifier d.name ≡ true
 -- each sheet and each definition that can be mentioned has a good name, and no two sheets' names agree
 pub record IsNamed (scene : Scene) : Type 0 where
   pub sheets : AllByRecursion (λ (m : SheetName). is_sheet_name m.name ≡ true) scene.sheets
-  pub names : AllByRecursion (λ (m : DefinitionSpelling). is_identifier m.name ≡ true) scene.names
+  pub names : AllByRecursion (λ (m : NameSpelling). is_identifier m.name ≡ true) scene.names
   pub differ : SheetsDiffer scene
 
 sheets_named : (sheets : List Sheet) → AllByRecursion HasSheetName sheets → AllByRecursion (λ (m : SheetName). is_sheet_name m.name ≡ true) (map mentioned sheets)
 sheets_named [] h = tt
 sheets_named (s ∷ sheets) h = (h.0, sheets_named sheets h.1)
 
-definitions_named : (definitions : List Definition) → AllByRecursion HasIdentifier definitions → AllByRecursion (λ (m : DefinitionSpelling). is_identifier m.name ≡ true) (map spelling_of definitions)
+definitions_named : (definitions : List Definition) → AllByRecursion HasIdentifier definitions → AllByRecursion (λ (m : NameSpelling). is_identifier m.name ≡ true) (map spelling_of definitions)
 definitions_named [] h = tt
 definitions_named (d ∷ definitions) h = (h.0, definitions_named definitions h.1)
 

@@ -19,7 +19,7 @@ use Rattle.ic_laws.specs.Name.{agrees, is_sheet_name}
 use Rattle.ic_laws.specs.Notations.{Notations}
 use Rattle.ic_laws.specs.Scene.{same_key}
 use Rattle.ic_laws.specs.ValidCore.{IsValidCore, IsValidSheet}
-use Rattle.ic_laws.specs.declared.scene.DefinitionSpelling.{DefinitionSpelling}
+use Rattle.ic_laws.specs.declared.scene.NameSpelling.{NameSpelling}
 use Rattle.ic_laws.specs.declared.scene.Scene.{Scene}
 use Rattle.ic_laws.specs.declared.scene.SheetName.{SheetName}
 
@@ -75,7 +75,7 @@ module _ (n : Notations) (book : CoreBook) (name : List ℕ) (valid : IsValidCor
       (map-append mentioned kept_sheets (new_sheet ∷ []) ∙ ap (λ x. x ++ record { id = new_id; name = name } ∷ []) (same_sheets n before later mentioned (λ s. refl) book.sheets)
       ∙ ap (λ m. map mentioned book.sheets ++ record { id = m + 1; name = name } ∷ []) same_fresh
       ∙ sym (map-append mentioned book.sheets (record { id = greatest_id book + 1; name = name; cells = [] } ∷ [])))
-      ∙ ap (λ (x : List DefinitionSpelling). record { sheets = later.sheets; names = x }) (same_definitions n before later spelling_of (λ d. refl) book.definitions)
+      ∙ ap (λ (x : List NameSpelling). record { sheets = later.sheets; names = x }) (same_definitions n before later spelling_of (λ d. refl) book.definitions)
 
   pub added_valid : IsValidCore n added
   added_valid =

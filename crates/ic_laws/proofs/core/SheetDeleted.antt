@@ -14,7 +14,7 @@ use Rattle.ic_laws.specs.Name.{agrees}
 use Rattle.ic_laws.specs.Notations.{Notations}
 use Rattle.ic_laws.specs.Scene.{same_key}
 use Rattle.ic_laws.specs.ValidCore.{IsValidCore, IsValidSheet}
-use Rattle.ic_laws.specs.declared.scene.DefinitionSpelling.{DefinitionSpelling}
+use Rattle.ic_laws.specs.declared.scene.NameSpelling.{NameSpelling}
 use Rattle.ic_laws.specs.declared.scene.Scene.{Scene}
 use Rattle.ic_laws.specs.declared.scene.SheetName.{SheetName}
 
@@ -35,7 +35,7 @@ module _ (n : Notations) (book : CoreBook) (index : ℕ) (valid : IsValidCore n 
   same_after =
       ap (λ (x : List SheetName). record { sheets = x; names = map spelling_of (map (in_body n before later) book.definitions) })
       (removed_seen mentioned kept_sheets index ∙ ap (λ xs. remove xs index) (same_sheets n before later mentioned (λ s. refl) book.sheets) ∙ sym (removed_seen mentioned book.sheets index))
-      ∙ ap (λ (x : List DefinitionSpelling). record { sheets = later.sheets; names = x }) (same_definitions n before later spelling_of (λ d. refl) book.definitions)
+      ∙ ap (λ (x : List NameSpelling). record { sheets = later.sheets; names = x }) (same_definitions n before later spelling_of (λ d. refl) book.definitions)
 
   same_count : length kept_sheets ≡ length book.sheets
   same_count = length-map book.sheets (on_sheet n before later)

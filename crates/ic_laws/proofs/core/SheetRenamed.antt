@@ -12,7 +12,7 @@ use Rattle.ic_laws.specs.Name.{agrees, is_sheet_name}
 use Rattle.ic_laws.specs.Notations.{Notations}
 use Rattle.ic_laws.specs.Scene.{same_key}
 use Rattle.ic_laws.specs.ValidCore.{IsValidCore, IsValidSheet}
-use Rattle.ic_laws.specs.declared.scene.DefinitionSpelling.{DefinitionSpelling}
+use Rattle.ic_laws.specs.declared.scene.NameSpelling.{NameSpelling}
 use Rattle.ic_laws.specs.declared.scene.Scene.{Scene}
 use Rattle.ic_laws.specs.declared.scene.SheetName.{SheetName}
 
@@ -38,7 +38,7 @@ module _ (n : Notations) (book : CoreBook) (index : ℕ) (name : List ℕ) (vali
       (updated_seen mentioned called (λ m. record m { name = name }) (λ s. refl) index kept_sheets
       ∙ ap (updated_at (λ (m : SheetName). record m { name = name }) index) (same_sheets n before later mentioned (λ s. refl) book.sheets)
       ∙ sym (updated_seen mentioned called (λ m. record m { name = name }) (λ s. refl) index book.sheets))
-      ∙ ap (λ (x : List DefinitionSpelling). record { sheets = later.sheets; names = x }) (same_definitions n before later spelling_of (λ d. refl) book.definitions)
+      ∙ ap (λ (x : List NameSpelling). record { sheets = later.sheets; names = x }) (same_definitions n before later spelling_of (λ d. refl) book.definitions)
 
   pub renamed_valid : IsValidCore n renamed
   renamed_valid =

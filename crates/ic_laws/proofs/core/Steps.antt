@@ -27,7 +27,7 @@ use Rattle.ic_laws.specs.ReadAs.{read_as}
 use Rattle.ic_laws.specs.Refusal.{InvalidLanguage, InvalidLocale}
 use Rattle.ic_laws.specs.Tree.{Spelled}
 use Rattle.ic_laws.specs.ValidCore.{IsKept, IsKeptFormula, IsScope, IsValidCore, IsValidDefinition, IsValidSheet}
-use Rattle.ic_laws.specs.declared.scene.DefinitionSpelling.{DefinitionSpelling}
+use Rattle.ic_laws.specs.declared.scene.NameSpelling.{NameSpelling}
 use Rattle.ic_laws.specs.declared.scene.Scene.{Scene}
 use Rattle.ic_laws.specs.declared.tree.Formula.TheVariants as formulas
 
@@ -135,7 +135,7 @@ module _ (n : Notations) (are : AreNotations n) (facts : TreeFacts n) (book : Co
 
   scene_named : (name : List ℕ) (scope : Option ℕ) (d : Definition) → spelling_of d ≡ record { name = name; scope = scope } → scene_of (with_definition d book) ≡ scene_with_definition book name scope
   scene_named name scope d same =
-      ap (λ (x : List DefinitionSpelling). record { sheets = (scene_of book).sheets; names = x })
+      ap (λ (x : List NameSpelling). record { sheets = (scene_of book).sheets; names = x })
       (map-append spelling_of book.definitions (d ∷ []) ∙ ap (λ x. map spelling_of book.definitions ++ x ∷ []) same)
 
   scope_good : (index : Option ℕ) (scope : Option ℕ) → scope_of book index ≡ Some scope → IsScope scope

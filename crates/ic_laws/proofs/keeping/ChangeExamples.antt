@@ -2,17 +2,17 @@
 use Rattle.std.proofs.Common.{◌≡◌, ℕ, [], ◌∷◌, Option, None, Some, codes, refl}
 use Rattle.caseless.proofs.Computing.{caseless}
 use Rattle.ic_laws.specs.Changes.{changed_local, changed_sheet, changed_word, definition_added, definition_gone, sheet_gone, sheet_named}
-use Rattle.ic_laws.specs.declared.scene.DefinitionSpelling.{DefinitionSpelling}
+use Rattle.ic_laws.specs.declared.scene.NameSpelling.{NameSpelling}
 use Rattle.ic_laws.specs.declared.scene.Scene.{Scene}
 use Rattle.ic_laws.specs.declared.tree.NameMention.{NameMention}
 use Rattle.ic_laws.specs.declared.tree.NameMention.TheVariants as names
 use Rattle.ic_laws.specs.declared.tree.SheetMention.TheVariants as sheets
 
 -- a definition for all sheets, and one for sheet 1 alone
-abbrev everywhere : DefinitionSpelling
+abbrev everywhere : NameSpelling
 everywhere = record { name = codes "Tax"; scope = None }
 
-abbrev on_one : DefinitionSpelling
+abbrev on_one : NameSpelling
 on_one = record { name = codes "TAX"; scope = Some 1 }
 
 abbrev tax_at : Option ℕ → NameMention

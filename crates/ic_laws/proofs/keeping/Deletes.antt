@@ -25,7 +25,7 @@ use Rattle.ic_laws.specs.Name.{agrees}
 use Rattle.ic_laws.specs.Notations.{AreNotations, Notations}
 use Rattle.ic_laws.specs.Scene.{IdsDiffer, KeysDiffer, SheetsDiffer, key_of, same_key, sheet_spelling}
 use Rattle.ic_laws.specs.ValidCore.{IsValidCore}
-use Rattle.ic_laws.specs.declared.scene.DefinitionSpelling.{DefinitionSpelling}
+use Rattle.ic_laws.specs.declared.scene.NameSpelling.{NameSpelling}
 use Rattle.ic_laws.specs.declared.scene.Scene.{Scene}
 use Rattle.ic_laws.specs.declared.scene.SheetName.{SheetName}
 
@@ -63,7 +63,7 @@ pub new_definition_binds : (n : Notations) (book after : CoreBook) (name : List 
     → after ≡ with_definition (new_definition n book name (scope_or_none book index) body) (with_trees (changed_tree (definition_added (record { name = name; scope = scope_or_none book index }))) book)
 new_definition_binds n book after name index text body fields are valid typed e =
     let scope : Option ℕ = scope_or_none book index in
-    let d : DefinitionSpelling = record { name = name; scope = scope } in
+    let d : NameSpelling = record { name = name; scope = scope } in
     let new : Definition = new_definition n book name scope body in
     let before : Scene = scene_of book in
     let more : Scene = scene_of (with_definition new book) in

@@ -14,7 +14,7 @@ use Rattle.ic_laws.specs.Mentions.{LocalMention, mapped}
 use Rattle.ic_laws.specs.Name.{fold}
 use Rattle.ic_laws.specs.Scene.{SheetsDiffer, definition_at, found_name, key_found, local_key, definition_spelling, sheet_spelling}
 use Rattle.ic_laws.specs.Tree.{Bound}
-use Rattle.ic_laws.specs.declared.scene.DefinitionSpelling.{DefinitionSpelling}
+use Rattle.ic_laws.specs.declared.scene.NameSpelling.{NameSpelling}
 use Rattle.ic_laws.specs.declared.scene.Scene.{Scene}
 use Rattle.ic_laws.specs.declared.scene.SheetName.{SheetName}
 use Rattle.ic_laws.specs.declared.tree.NameKey.{NameKey}
@@ -38,7 +38,7 @@ module _ (before after : Scene) (scope : Option ℕ) where
   pub key_kept : (folded : List ℕ) (key : NameKey) → key_found before scope folded ≡ Some key → fold (kept_name before after same_keys key) ≡ folded
   key_kept folded key e = go (definition_at after key.name key.scope) refl
     where
-      go : (o : Option DefinitionSpelling) → definition_at after key.name key.scope ≡ o → fold (unwrap_or (option_map (λ (x : DefinitionSpelling). x.name) o) (definition_spelling before key)) ≡ folded
+      go : (o : Option NameSpelling) → definition_at after key.name key.scope ≡ o → fold (unwrap_or (option_map (λ (x : NameSpelling). x.name) o) (definition_spelling before key)) ≡ folded
       go None f = spelled_alike before scope folded key key.name e
       go (Some d) f = folds_to_key after key.name key.scope d f ∙ (found_has_definition before scope folded key e).same
 

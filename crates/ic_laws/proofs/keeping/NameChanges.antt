@@ -16,7 +16,7 @@ use Rattle.ic_laws.specs.Changes.{LocalHolds, SheetHolds, WordHolds, changed_loc
 use Rattle.ic_laws.specs.Keeping.{kept_name, same_keys}
 use Rattle.ic_laws.specs.Name.{fold}
 use Rattle.ic_laws.specs.Scene.{KeysDiffer, SheetsDiffer, definition_at, found_local, found_name, found_sheet, key_found, key_of, local_key, definition_spelling, same_key, same_scope}
-use Rattle.ic_laws.specs.declared.scene.DefinitionSpelling.{DefinitionSpelling}
+use Rattle.ic_laws.specs.declared.scene.NameSpelling.{NameSpelling}
 use Rattle.ic_laws.specs.declared.scene.Scene.{Scene}
 use Rattle.ic_laws.specs.declared.scene.SheetName.{SheetName}
 use Rattle.ic_laws.specs.declared.tree.NameKey.{NameKey}
@@ -53,14 +53,14 @@ pub same_key_from : (a b : NameKey) → same_key a b ≡ true → a ≡ b
 same_key_from a b e = let parts = and_parts (bytes_eq a.name b.name) (same_scope a.scope b.scope) e in ap₂ key_at ((bytes_eq-Decides a.name b.name).0 parts.0) (same_scope_from a.scope b.scope parts.1)
 
 -- a definition that is found under a name and a scope has that key
-found_key : (scene : Scene) (folded : List ℕ) (scope : Option ℕ) (d : DefinitionSpelling) → definition_at scene folded scope ≡ Some d → key_of d ≡ key_at folded scope
+found_key : (scene : Scene) (folded : List ℕ) (scope : Option ℕ) (d : NameSpelling) → definition_at scene folded scope ≡ Some d → key_of d ≡ key_at folded scope
 found_key scene folded scope d e = same_key_from (key_of d) (key_at folded scope) (found_passes (λ x. same_key (key_of x) (key_at folded scope)) scene.names d e)
 
 -- the local one is found, else the one for all sheets
-abbrev either_key : Option DefinitionSpelling → Option DefinitionSpelling → Option NameKey
+abbrev either_key : Option NameSpelling → Option NameSpelling → Option NameKey
 either_key local global = option_map key_of (option_or local global)
 
-neither : (local global : Option DefinitionSpelling) → either_key local global ≡ None → (local ≡ None) × (global ≡ None)
+neither : (local global : Option NameSpelling) → either_key local global ≡ None → (local ≡ None) × (global ≡ None)
 neither None None e = (refl, refl)
 neither None (Some d) e = absurd (let no : Some (key_of d) ≡ None = e in cc)
 neither (Some d) global e = absurd (let no : Some (key_of d) ≡ None = e in cc)
@@ -73,16 +73,16 @@ sheets_hold before after e (sheets.Dangling name) h = ap (λ (ss : List SheetNam
 
 -- a definition comes ----
 
-pub record Adding (before after : Scene) (d : DefinitionSpelling) : Type 0 where
+pub record Adding (before after : Scene) (d : NameSpelling) : Type 0 where
   pub sheets : after.sheets ≡ before.sheets
   pub differ : SheetsDiffer after
   pub names : after.names ≡ before.names ++ d ∷ []
 
-module _ (before after : Scene) (d : DefinitionSpelling) (adding : Adding before after d) (scope : Option ℕ) where
+module _ (before after : Scene) (d : NameSpelling) (adding : Adding before after d) (scope : Option ℕ) where
   abbrev has_key : List ℕ → Option ℕ → Bool
   has_key folded at = same_key (key_of d) (key_at folded at)
 
-  abbrev new_at : List ℕ → Option ℕ → Option DefinitionSpelling
+  abbrev new_at : List ℕ → Option ℕ → Option NameSpelling
   new_at folded at = cond (has_key folded at) (Some d) None
 
   -- it is found where no other is
@@ -90,7 +90,7 @@ module _ (before after : Scene) (d : DefinitionSpelling) (adding : Adding before
   found_after folded = ap₂ either_key (at_after scope) (at_after None)
     where
       at_after : (at : Option ℕ) → definition_at after folded at ≡ option_or (definition_at before folded at) (new_at folded at)
-      at_after at = let p : DefinitionSpelling → Bool = λ x. same_key (key_of x) (key_at folded at) in ap (find p) adding.names ∙ find-append p before.names (d ∷ [])
+      at_after at = let p : NameSpelling → Bool = λ x. same_key (key_of x) (key_at folded at) in ap (find p) adding.names ∙ find-append p before.names (d ∷ [])
 
   -- a word that found nothing
   dangling_becomes : (word : List ℕ) → WordHolds before scope (names.Dangling word) → word_after before after scope (names.Dangling word) ≡ changed_word (definition_added d) scope (names.Dangling word)
@@ -109,7 +109,7 @@ module _ (before after : Scene) (d : DefinitionSpelling) (adding : Adding before
   key_becomes : (key : NameKey) → key_found before scope key.name ≡ Some key → key_found after scope key.name ≡ Some (if has_key key.name scope then key_of d else key)
   key_becomes key h = found_after key.name ∙ go (definition_at before key.name scope) refl (definition_at before key.name None) h (has_key key.name scope) refl
     where
-      go : (local : Option DefinitionSpelling) → definition_at before key.name scope ≡ local → (global : Option DefinitionSpelling) → either_key local global ≡ Some key → (b : Bool) → has_key key.name scope ≡ b
+      go : (local : Option NameSpelling) → definition_at before key.name scope ≡ local → (global : Option NameSpelling) → either_key local global ≡ Some key → (b : Bool) → has_key key.name scope ≡ b
           → either_key (option_or local (cond b (Some d) None)) (option_or global (new_at key.name None)) ≡ Some (if b then key_of d else key)
       go (Some x) f global e true t = ap (λ k. Some k) (found_key before key.name scope x f ∙ sym (same_key_from (key_of d) (key_at key.name scope) t))
       go (Some x) f global e false t = e
@@ -128,14 +128,14 @@ module _ (before after : Scene) (d : DefinitionSpelling) (adding : Adding before
 
   -- a word with its sheet
   local_key_after : (id : ℕ) (folded : List ℕ) → local_key after id folded ≡ option_map key_of (option_or (definition_at before folded (Some id)) (new_at folded (Some id)))
-  local_key_after id folded = let p : DefinitionSpelling → Bool = λ x. same_key (key_of x) (key_at folded (Some id)) in ap (option_map key_of) (ap (find p) adding.names ∙ find-append p before.names (d ∷ []))
+  local_key_after id folded = let p : NameSpelling → Bool = λ x. same_key (key_of x) (key_at folded (Some id)) in ap (option_map key_of) (ap (find p) adding.names ∙ find-append p before.names (d ∷ []))
 
   local_dangling : (id : ℕ) (word : List ℕ) → local_key before id (fold word) ≡ None → name_or_dangling word (found_local after id word) ≡ (if could_mean_local (key_of d) (sheets.Sheet id) (names.Dangling word) then names.Name (key_of d) else names.Dangling word)
   local_dangling id word h =
       ap (name_or_dangling word) (local_key_after id (fold word) ∙ ap (λ o. option_map key_of (option_or o (new_at (fold word) (Some id)))) (none_of (definition_at before (fold word) (Some id)) h))
       ∙ go (bytes_eq (fold d.name) (fold word) && same_scope d.scope (Some id))
     where
-      none_of : (o : Option DefinitionSpelling) → option_map key_of o ≡ None → o ≡ None
+      none_of : (o : Option NameSpelling) → option_map key_of o ≡ None → o ≡ None
       none_of None e = refl
       none_of (Some x) e = absurd (let no : Some (key_of x) ≡ None = e in cc)
 
@@ -146,7 +146,7 @@ module _ (before after : Scene) (d : DefinitionSpelling) (adding : Adding before
   local_named : (id : ℕ) (key : NameKey) → local_key before id key.name ≡ Some key → local_key after id key.name ≡ Some key
   local_named id key h = local_key_after id key.name ∙ go (definition_at before key.name (Some id)) h
     where
-      go : (o : Option DefinitionSpelling) → option_map key_of o ≡ Some key → option_map key_of (option_or o (new_at key.name (Some id))) ≡ Some key
+      go : (o : Option NameSpelling) → option_map key_of o ≡ Some key → option_map key_of (option_or o (new_at key.name (Some id))) ≡ Some key
       go None e = absurd (let no : None ≡ Some key = e in cc)
       go (Some x) e = e
 
@@ -175,22 +175,22 @@ module _ (before after : Scene) (d : DefinitionSpelling) (adding : Adding before
 
 -- a definition goes ----
 
-pub record Removing (before after : Scene) (index : ℕ) (d : DefinitionSpelling) : Type 0 where
+pub record Removing (before after : Scene) (index : ℕ) (d : NameSpelling) : Type 0 where
   pub sheets : after.sheets ≡ before.sheets
   pub differ : SheetsDiffer after
   pub keys : KeysDiffer before
   pub at : slice_get before.names index ≡ Some d
   pub names : after.names ≡ remove before.names index
 
-module _ (before after : Scene) (index : ℕ) (d : DefinitionSpelling) (removing : Removing before after index d) (scope : Option ℕ) where
-  abbrev of_key : List ℕ → Option ℕ → DefinitionSpelling → Bool
+module _ (before after : Scene) (index : ℕ) (d : NameSpelling) (removing : Removing before after index d) (scope : Option ℕ) where
+  abbrev of_key : List ℕ → Option ℕ → NameSpelling → Bool
   of_key folded at x = same_key (key_of x) (key_at folded at)
 
   none_after : (folded : List ℕ) (at : Option ℕ) → definition_at before folded at ≡ None → definition_at after folded at ≡ None
   none_after folded at e = ap (find (of_key folded at)) removing.names ∙ removed_finds_none (of_key folded at) before.names index e
 
   -- another definition is found as before
-  other_after : (key : NameKey) (at : Option ℕ) (x : DefinitionSpelling) → same_key key (key_of d) ≡ false → definition_at before key.name at ≡ Some x → key_of x ≡ key → definition_at after key.name at ≡ Some x
+  other_after : (key : NameKey) (at : Option ℕ) (x : NameSpelling) → same_key key (key_of d) ≡ false → definition_at before key.name at ≡ Some x → key_of x ≡ key → definition_at after key.name at ≡ Some x
   other_after key at x apart f e =
       ap (find (of_key key.name at)) removing.names
       ∙ (removed_finds (of_key key.name at) before.names index d removing.at not_it
@@ -208,10 +208,10 @@ module _ (before after : Scene) (index : ℕ) (d : DefinitionSpelling) (removing
   other_holds : (key : NameKey) → same_key key (key_of d) ≡ false → WordHolds before scope (names.Name key) → WordHolds after scope (names.Name key)
   other_holds key apart h = go (definition_at before key.name scope) refl (definition_at before key.name None) refl h
     where
-      some : (x : DefinitionSpelling) → Some (key_of x) ≡ Some key → key_of x ≡ key
+      some : (x : NameSpelling) → Some (key_of x) ≡ Some key → key_of x ≡ key
       some x e = cc
 
-      go : (local : Option DefinitionSpelling) → definition_at before key.name scope ≡ local → (global : Option DefinitionSpelling) → definition_at before key.name None ≡ global → either_key local global ≡ Some key → key_found after scope key.name ≡ Some key
+      go : (local : Option NameSpelling) → definition_at before key.name scope ≡ local → (global : Option NameSpelling) → definition_at before key.name None ≡ global → either_key local global ≡ Some key → key_found after scope key.name ≡ Some key
       go (Some x) f global g e = ap (λ o. either_key o (definition_at after key.name None)) (other_after key scope x apart f (some x e)) ∙ e
       go None f (Some y) g e = ap₂ either_key (none_after key.name scope f) (other_after key None y apart g (some y e)) ∙ e
       go None f None g e = absurd (let no : None ≡ Some key = e in cc)
@@ -222,16 +222,16 @@ module _ (before after : Scene) (index : ℕ) (d : DefinitionSpelling) (removing
 
   spelled_so : kept_name before after same_keys (key_of d) ≡ d.name
   spelled_so =
-      ap (λ o. unwrap_or (option_map (λ (x : DefinitionSpelling). x.name) o) (definition_spelling before (key_of d))) no_longer
-      ∙ ap (λ o. unwrap_or (option_map (λ (x : DefinitionSpelling). x.name) o) (fold d.name)) (finds_itself key_of same_key same_key_flip key_itself before.names index d removing.keys removing.at)
+      ap (λ o. unwrap_or (option_map (λ (x : NameSpelling). x.name) o) (definition_spelling before (key_of d))) no_longer
+      ∙ ap (λ o. unwrap_or (option_map (λ (x : NameSpelling). x.name) o) (fold d.name)) (finds_itself key_of same_key same_key_flip key_itself before.names index d removing.keys removing.at)
 
   local_gone : key_found before scope (fold d.name) ≡ Some (key_of d) → definition_at after (fold d.name) scope ≡ None
   local_gone h = go (definition_at before (fold d.name) scope) refl (definition_at before (fold d.name) None) h
     where
-      some : (x : DefinitionSpelling) → Some (key_of x) ≡ Some (key_of d) → key_of x ≡ key_of d
+      some : (x : NameSpelling) → Some (key_of x) ≡ Some (key_of d) → key_of x ≡ key_of d
       some x e = cc
 
-      go : (local : Option DefinitionSpelling) → definition_at before (fold d.name) scope ≡ local → (global : Option DefinitionSpelling) → either_key local global ≡ Some (key_of d) → definition_at after (fold d.name) scope ≡ None
+      go : (local : Option NameSpelling) → definition_at before (fold d.name) scope ≡ local → (global : Option NameSpelling) → either_key local global ≡ Some (key_of d) → definition_at after (fold d.name) scope ≡ None
       go None f global e = none_after (fold d.name) scope f
       go (Some x) f global e =
           let same : key_of d ≡ key_at (fold d.name) scope = sym (some x e) ∙ found_key before (fold d.name) scope x f in
@@ -242,12 +242,12 @@ module _ (before after : Scene) (index : ℕ) (d : DefinitionSpelling) (removing
       ap (λ text. name_or_dangling text (found_name after scope text)) spelled_so
       ∙ ap (name_or_dangling d.name) (ap (λ o. either_key o (definition_at after (fold d.name) None)) (local_gone h) ∙ ap (option_map key_of) (sym (twice (definition_at after (fold d.name) None))))
     where
-      twice : (o : Option DefinitionSpelling) → option_or o o ≡ o
+      twice : (o : Option NameSpelling) → option_or o o ≡ o
       twice None = refl
       twice (Some x) = refl
 
   -- a word with its sheet
-  local_none : (o : Option DefinitionSpelling) → option_map key_of o ≡ None → o ≡ None
+  local_none : (o : Option NameSpelling) → option_map key_of o ≡ None → o ≡ None
   local_none None e = refl
   local_none (Some x) e = absurd (let no : Some (key_of x) ≡ None = e in cc)
 
@@ -255,10 +255,10 @@ module _ (before after : Scene) (index : ℕ) (d : DefinitionSpelling) (removing
   local_gone_here : (id : ℕ) → local_key before id (fold d.name) ≡ Some (key_of d) → definition_at after (fold d.name) (Some id) ≡ None
   local_gone_here id h = go (definition_at before (fold d.name) (Some id)) refl h
     where
-      some : (x : DefinitionSpelling) → Some (key_of x) ≡ Some (key_of d) → key_of x ≡ key_of d
+      some : (x : NameSpelling) → Some (key_of x) ≡ Some (key_of d) → key_of x ≡ key_of d
       some x e = cc
 
-      go : (local : Option DefinitionSpelling) → definition_at before (fold d.name) (Some id) ≡ local → option_map key_of local ≡ Some (key_of d) → definition_at after (fold d.name) (Some id) ≡ None
+      go : (local : Option NameSpelling) → definition_at before (fold d.name) (Some id) ≡ local → option_map key_of local ≡ Some (key_of d) → definition_at after (fold d.name) (Some id) ≡ None
       go None f e = none_after (fold d.name) (Some id) f
       go (Some x) f e =
           let same : key_of d ≡ key_at (fold d.name) (Some id) = sym (some x e) ∙ found_key before (fold d.name) (Some id) x f in
@@ -271,10 +271,10 @@ module _ (before after : Scene) (index : ℕ) (d : DefinitionSpelling) (removing
   local_other : (id : ℕ) (key : NameKey) → same_key key (key_of d) ≡ false → local_key before id key.name ≡ Some key → local_key after id key.name ≡ Some key
   local_other id key apart h = go (definition_at before key.name (Some id)) refl h
     where
-      some : (x : DefinitionSpelling) → Some (key_of x) ≡ Some key → key_of x ≡ key
+      some : (x : NameSpelling) → Some (key_of x) ≡ Some key → key_of x ≡ key
       some x e = cc
 
-      go : (local : Option DefinitionSpelling) → definition_at before key.name (Some id) ≡ local → option_map key_of local ≡ Some key → local_key after id key.name ≡ Some key
+      go : (local : Option NameSpelling) → definition_at before key.name (Some id) ≡ local → option_map key_of local ≡ Some key → local_key after id key.name ≡ Some key
       go None f e = absurd (let no : None ≡ Some key = e in cc)
       go (Some x) f e = ap (option_map key_of) (other_after key (Some id) x apart f (some x e)) ∙ e
 

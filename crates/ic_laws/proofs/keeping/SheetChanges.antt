@@ -10,7 +10,7 @@ use Rattle.ic_laws.specs.Keeping.{kept_name, kept_sheet, same_keys}
 use Rattle.ic_laws.specs.Mentions.{LocalMention}
 use Rattle.ic_laws.specs.Name.{agrees, fold}
 use Rattle.ic_laws.specs.Scene.{SheetsDiffer, definition_spelling, found_sheet, key_found, local_key, name_of_key}
-use Rattle.ic_laws.specs.declared.scene.DefinitionSpelling.{DefinitionSpelling}
+use Rattle.ic_laws.specs.declared.scene.NameSpelling.{NameSpelling}
 use Rattle.ic_laws.specs.declared.scene.Scene.{Scene}
 use Rattle.ic_laws.specs.declared.scene.SheetName.{SheetName}
 use Rattle.ic_laws.specs.declared.tree.NameKey.{NameKey}
@@ -28,7 +28,7 @@ words_hold : (before after : Scene) → after.names ≡ before.names → (scope 
 words_hold before after e scope m h = go m h
   where
     same : (folded : List ℕ) → key_found after scope folded ≡ key_found before scope folded
-    same folded = ap (λ (ns : List DefinitionSpelling). let scene : Scene = record { sheets = before.sheets; names = ns } in key_found scene scope folded) e
+    same folded = ap (λ (ns : List NameSpelling). let scene : Scene = record { sheets = before.sheets; names = ns } in key_found scene scope folded) e
 
     go : (m : NameMention) → WordHolds before scope m → WordHolds after scope m
     go (names.Var word) h = tt
@@ -37,7 +37,7 @@ words_hold before after e scope m h = go m h
 
 -- so do words with their sheets
 locals_same : (before after : Scene) → after.names ≡ before.names → (id : ℕ) (folded : List ℕ) → local_key after id folded ≡ local_key before id folded
-locals_same before after e id folded = ap (λ (ns : List DefinitionSpelling). let scene : Scene = record { sheets = before.sheets; names = ns } in local_key scene id folded) e
+locals_same before after e id folded = ap (λ (ns : List NameSpelling). let scene : Scene = record { sheets = before.sheets; names = ns } in local_key scene id folded) e
 
 local_holds_there : (before after : Scene) → after.names ≡ before.names → (id : ℕ) (m : NameMention) → LocalHolds before (sheets.Sheet id) m → LocalHolds after (sheets.Sheet id) m
 local_holds_there before after e id (names.Var word) h = h
@@ -112,7 +112,7 @@ gone_becomes before after id name going scope = record { sheet = sheet; word = �
     -- a definition stays, and is written as before
     key_text : (key : NameKey) → kept_name before after same_keys key ≡ definition_spelling before key
     key_text key =
-        ap (λ (ns : List DefinitionSpelling). let scene : Scene = record { sheets = before.sheets; names = ns } in unwrap_or (name_of_key scene key) (definition_spelling before key)) going.words ∙ twice (name_of_key before key)
+        ap (λ (ns : List NameSpelling). let scene : Scene = record { sheets = before.sheets; names = ns } in unwrap_or (name_of_key scene key) (definition_spelling before key)) going.words ∙ twice (name_of_key before key)
       where
         twice : (o : Option (List ℕ)) → unwrap_or o (unwrap_or o key.name) ≡ unwrap_or o key.name
         twice None = refl

@@ -20,7 +20,7 @@ use Rattle.ic_laws.specs.Yield.{yield}
 use Rattle.ic_laws.specs.declared.dialect.WordKind.TheVariants as kinds
 use Rattle.ic_laws.specs.declared.reference.Place.{Place}
 use Rattle.ic_laws.specs.declared.reference.RefToken.{RefToken}
-use Rattle.ic_laws.specs.declared.scene.DefinitionSpelling.{DefinitionSpelling}
+use Rattle.ic_laws.specs.declared.scene.NameSpelling.{NameSpelling}
 use Rattle.ic_laws.specs.declared.scene.Scene.{Scene}
 use Rattle.ic_laws.specs.declared.scene.SheetName.{SheetName}
 use Rattle.ic_laws.specs.declared.tree.NameKey.{NameKey}
@@ -211,8 +211,8 @@ found_has {X} P p (y ∷ ys) all x e =
 abbrev sheet_named : Option SheetName → Option (List ℕ)
 sheet_named o = option_map (λ (s : SheetName). s.name) o
 
-abbrev definition_named : Option DefinitionSpelling → Option (List ℕ)
-definition_named o = option_map (λ (d : DefinitionSpelling). d.name) o
+abbrev definition_named : Option NameSpelling → Option (List ℕ)
+definition_named o = option_map (λ (d : NameSpelling). d.name) o
 
 module _ (scene : Scene) (named : IsNamed scene) where
   -- the name of a sheet that has one is the name of a sheet, whatever one without a name is written by
@@ -228,8 +228,8 @@ module _ (scene : Scene) (named : IsNamed scene) where
   key_name_valid : (key : NameKey) (other : List ℕ) → (IsSome (name_of_key scene key)) ⊎ (is_identifier other ≡ true) → is_identifier (unwrap_or (name_of_key scene key) other) ≡ true
   key_name_valid key other h = at (definition_at scene key.name key.scope) refl h
     where
-      at : (o : Option DefinitionSpelling) → definition_at scene key.name key.scope ≡ o → (IsSome (definition_named o)) ⊎ (is_identifier other ≡ true) → is_identifier (unwrap_or (definition_named o) other) ≡ true
-      at (Some d) e g = found_has (λ (x : DefinitionSpelling). is_identifier x.name ≡ true) (λ (x : DefinitionSpelling). bytes_eq (fold x.name) key.name && same_scope x.scope key.scope) scene.names named.names d e
+      at : (o : Option NameSpelling) → definition_at scene key.name key.scope ≡ o → (IsSome (definition_named o)) ⊎ (is_identifier other ≡ true) → is_identifier (unwrap_or (definition_named o) other) ≡ true
+      at (Some d) e g = found_has (λ (x : NameSpelling). is_identifier x.name ≡ true) (λ (x : NameSpelling). bytes_eq (fold x.name) key.name && same_scope x.scope key.scope) scene.names named.names d e
       at None e (inl g) = cc
       at None e (inr g) = g
 

@@ -9,7 +9,7 @@ use Rattle.ic_laws.specs.Name.{agrees, fold}
 use Rattle.ic_laws.specs.Parse.{SpelledKind}
 use Rattle.ic_laws.specs.Scene.{definition_at, found_local, found_name, found_sheet, key_found, name_of_key, name_of_sheet, definition_spelling}
 use Rattle.ic_laws.specs.Tree.{Bound, Spelled}
-use Rattle.ic_laws.specs.declared.scene.DefinitionSpelling.{DefinitionSpelling}
+use Rattle.ic_laws.specs.declared.scene.NameSpelling.{NameSpelling}
 use Rattle.ic_laws.specs.declared.scene.Scene.{Scene}
 use Rattle.ic_laws.specs.declared.scene.SheetName.{SheetName}
 use Rattle.ic_laws.specs.declared.tree.NameKey.{NameKey}
@@ -85,7 +85,7 @@ name_stays scene scope binders word = go (is_bound_by binders word) (found_name 
     go false None e = e
     go false (Some key) e =
         let has = found_has_definition scene scope (fold word) key e in record {
-          named = some_there (λ (d : DefinitionSpelling). d.name) (definition_at scene key.name key.scope) has.definition has.found;
+          named = some_there (λ (d : NameSpelling). d.name) (definition_at scene key.name key.scope) has.definition has.found;
           found = ap (key_found scene scope) has.same ∙ e;
         }
 
@@ -98,7 +98,7 @@ local_stays scene (sheets.Sheet id) word = go (found_local scene id word) refl
     go None e = tt
     go (Some key) e =
         let has = found_has_definition scene (Some id) (fold word) key (local_is_found scene id (fold word) key e) in
-        some_there (λ (d : DefinitionSpelling). d.name) (definition_at scene key.name key.scope) has.definition has.found
+        some_there (λ (d : NameSpelling). d.name) (definition_at scene key.name key.scope) has.definition has.found
 
 module _ (english : List ℕ → Option ℕ) (scene : Scene) (scope : Option ℕ) (by_fold : RespectsFolding english) where
   here : (kind : SpelledKind) (binders : Binders) → Stays english scene scope (once english scene scope kind binders)

@@ -15,7 +15,7 @@ use Rattle.ic_laws.specs.declared.reference.Place.{Place}
 use Rattle.ic_laws.specs.declared.reference.Place.TheVariants as places
 use Rattle.ic_laws.specs.declared.reference.Position.TheVariants as at
 use Rattle.ic_laws.specs.declared.reference.RefToken.{RefToken}
-use Rattle.ic_laws.specs.declared.scene.DefinitionSpelling.{DefinitionSpelling}
+use Rattle.ic_laws.specs.declared.scene.NameSpelling.{NameSpelling}
 use Rattle.ic_laws.specs.declared.scene.Scene.{Scene}
 use Rattle.ic_laws.specs.declared.scene.SheetName.{SheetName}
 use Rattle.ic_laws.specs.declared.tree.Formula.{Formula}
@@ -69,17 +69,17 @@ book definitions = record start { definitions = definitions }
 abbrev first_sheet : List SheetName
 first_sheet = record { id = 1; name = codes "Sheet1" } ∷ []
 
-abbrev named : List ℕ → Option ℕ → DefinitionSpelling
+abbrev named : List ℕ → Option ℕ → NameSpelling
 named name scope = record { name = name; scope = scope }
 
-abbrev with_names : List DefinitionSpelling → Scene
+abbrev with_names : List NameSpelling → Scene
 with_names names = record { sheets = first_sheet; names = names }
 
-binds : (names : List DefinitionSpelling) (scope : Option ℕ) (place : Place) → bound (english_function small) (with_names names) scope (reference (on (codes "Sheet1") place)) ≡ mention 1 place
+binds : (names : List NameSpelling) (scope : Option ℕ) (place : Place) → bound (english_function small) (with_names names) scope (reference (on (codes "Sheet1") place)) ≡ mention 1 place
 unfolding caseless notations_of
 binds names scope place = simp bound-node
 
-stays : (before after : List DefinitionSpelling) (scope : Option ℕ) (place : Place) → kept (english_function small) (with_names before) (with_names after) same_keys scope (mention 1 place) ≡ mention 1 place
+stays : (before after : List NameSpelling) (scope : Option ℕ) (place : Place) → kept (english_function small) (with_names before) (with_names after) same_keys scope (mention 1 place) ≡ mention 1 place
 unfolding caseless notations_of
 stays before after scope place = simp (spelled-node, bound-node)
 
@@ -87,7 +87,7 @@ abbrev body : Place → Body
 body place = record { has_equals = false; tree = reference (on (codes "Sheet1") place) }
 
 -- the body of the third, as it is bound
-abbrev local_tree : List DefinitionSpelling → Bound
+abbrev local_tree : List NameSpelling → Bound
 local_tree names = bound (english_function small) (with_names names) (Some 1) (reference (on (codes "Sheet1") (cell 1)))
 
 shared_body : body_of small (core_of (book [])) (codes "Sheet1!$A$1") ≡ Some (body (cell 1))
@@ -111,8 +111,8 @@ shared_made =
 own_made : step (book (shared ∷ [])) (codes "new_defined_name\tshared\t0\tSheet1!$B$2") ≡ (book (shared ∷ own ∷ []), Ok [])
 unfolding step commands caseless ucd_derived core_step new_definition_step
 own_made =
-    let before : List DefinitionSpelling = named (codes "shared") None ∷ [] in
-    let after : List DefinitionSpelling = named (codes "shared") None ∷ named (codes "shared") (Some 1) ∷ [] in
+    let before : List NameSpelling = named (codes "shared") None ∷ [] in
+    let after : List NameSpelling = named (codes "shared") None ∷ named (codes "shared") (Some 1) ∷ [] in
     ap (λ (o : Option Body). outcome_of (book (shared ∷ [])) (made_by (book (shared ∷ [])) (codes "shared") (Some 0) o)) own_body
     ∙ ap₂ (λ (s t : Bound). let left : Book × Reply = (book (record shared { body = formulas.Tree s } ∷ record own { body = formulas.Tree t } ∷ []), Ok []) in left)
     (stays before after None (cell 1)) (binds after (Some 1) (cell 2))
@@ -120,8 +120,8 @@ own_made =
 local_made : step (book (shared ∷ own ∷ [])) (codes "new_defined_name\tlocal_name\t0\tSheet1!$A$1") ≡ (book (shared ∷ own ∷ local ∷ []), Ok [])
 unfolding step commands caseless ucd_derived core_step new_definition_step
 local_made =
-    let before : List DefinitionSpelling = named (codes "shared") None ∷ named (codes "shared") (Some 1) ∷ [] in
-    let after : List DefinitionSpelling = named (codes "shared") None ∷ named (codes "shared") (Some 1) ∷ named (codes "local_name") (Some 1) ∷ [] in
+    let before : List NameSpelling = named (codes "shared") None ∷ named (codes "shared") (Some 1) ∷ [] in
+    let after : List NameSpelling = named (codes "shared") None ∷ named (codes "shared") (Some 1) ∷ named (codes "local_name") (Some 1) ∷ [] in
     ap (λ (o : Option Body). outcome_of (book (shared ∷ own ∷ [])) (made_by (book (shared ∷ own ∷ [])) (codes "local_name") (Some 0) o)) local_body
     ∙ ap₂ (λ (s t : Bound). let left : Book × Reply = (book (record shared { body = formulas.Tree s } ∷ record own { body = formulas.Tree t } ∷ record local { body = formulas.Tree (local_tree after) } ∷ []), Ok []) in left)
     (stays before after None (cell 1)) (stays before after (Some 1) (cell 2))

@@ -23,9 +23,9 @@ pub struct DefinitionAdded<'n> {
 impl<'n> Model for DefinitionAdded<'n> {
     ghost use Rattle.std.specs.Prelude.{◌≡◌, chars};
     ghost use Rattle.ic_laws.specs.Name.{fold};
-    ghost use Rattle.ic_laws.specs.declared.scene.DefinitionSpelling.{DefinitionSpelling};
+    ghost use Rattle.ic_laws.specs.declared.scene.NameSpelling.{NameSpelling};
 
-    ghost Value = { DefinitionSpelling };
+    ghost Value = { NameSpelling };
 
     ghost view = { λ a. record { name = chars a.name.now; scope = a.key.now.scope } };
 

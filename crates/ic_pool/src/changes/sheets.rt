@@ -191,7 +191,7 @@ fn spelling<'n, F: Finder>(definitions: &'n F, mention: &'n NameMention) -> &'n 
 fn definition_spelling<'n, F: Finder>(definitions: &'n F, key: &'n NameKey) -> &'n str
     ensures { chars result.now ≡ definition_spelling (F.scene definitions.now) key.now }
 {
-    match definitions.definition_spelling(key) {
+    match definitions.name_spelling(key) {
         Some(name) => name,
         None => key.name.as_str(),
     }
