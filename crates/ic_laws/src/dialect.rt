@@ -3,7 +3,7 @@ ghost use Rattle.std.specs.Option.{option_copied};
 ghost use Rattle.ic_laws.specs.Longest.{read_at};
 ghost use Rattle.ic_laws.specs.Dialect.{DialectMeaning, IsLawful, FindsErrorAt, reference_text, spelled_place};
 
-use crate::{Error, OutOfMemory, Place, RefToken};
+use crate::{Error, OutOfMemory, Place, RefToken, lent_name};
 use std::alloc::Global;
 
 /// A list of words that a dialect has.
@@ -76,7 +76,7 @@ pub trait Dialect {
             ≡ reference_text (meaning self.now) r.now) }
     {
         let mut text = String::new(alloc);
-        self.push_ref(&mut text, r.sheet_name(), r.place)?;
+        self.push_ref(&mut text, lent_name(&r.sheet), r.place)?;
         Ok(text)
     }
 

@@ -65,7 +65,7 @@ pub use law::{
 pub use memory::OutOfMemory;
 pub use name::agree;
 pub use packed_place::PackedPlace;
-pub use reference::{LAST_COLUMN, LAST_ROW, Place, Position, RefPart, RefToken};
+pub use reference::{LAST_COLUMN, LAST_ROW, Place, Position, RefPart, RefToken, lent_name};
 pub use scene::{Finder, NameSpelling, Scene, SheetName, find_local};
 pub use text::Text;
 pub use tree::{

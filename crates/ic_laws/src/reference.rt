@@ -39,14 +39,12 @@ pub struct RefToken {
     pub place: Place,
 }
 
-impl RefToken {
-    /// The name of the sheet, None where none is written.
-    pub fn sheet_name(&self) -> Option<&str>
-        ensures { option_map chars (option_copied result) ≡ self.now.sheet }
-    {
-        match &self.sheet {
-            None => None,
-            Some(name) => Some(name.as_str()),
-        }
+/// The name of a reference's sheet, lent. None where none is written.
+pub fn lent_name(sheet: &Option<Text>) -> Option<&str>
+    ensures { option_map chars (option_copied result) ≡ sheet.now }
+{
+    match sheet {
+        None => None,
+        Some(name) => Some(name.as_str()),
     }
 }

@@ -1,11 +1,11 @@
 -- References in the A1 form: the longest at the front of a text, and what is written read again.
-use Rattle.std.proofs.Common.{◌≡◌, ℕ, ℤ, List, ◌++◌, Bool, true, false, ◌&&◌, IsUtf8, if◌then◌else◌, Option, Some, None, sym, ◌∙◌, ap, subst, inl, inr}
+use Rattle.std.proofs.Common.{◌≡◌, ℕ, ℤ, List, [], ◌++◌, Bool, true, false, ◌&&◌, chars, IsUtf8, string_bytes, String, option_map, if◌then◌else◌, Option, Some, None, refl, sym, ◌∙◌, ap, subst, inl, inr}
 use Rattle.std.specs.Option.{IfSome}
 use Rattle.std.proofs.lemmas.Bool.{and_parts, and_from, cases_Bool, both_ways}
 use Rattle.ic_laws.specs.Name.{is_sheet_name}
 use Rattle.ic_laws.specs.Position.{is_row, is_column, is_inside}
 use Rattle.ic_laws.specs.declared.reference.RefToken.{RefToken}
-use Rattle.ic_refs.specs.A1.{SpellsPlace, SpellsA1, is_spellable, place_text, a1_place_at, a1_at}
+use Rattle.ic_refs.specs.A1.{SpellsPlace, SpellsA1, is_spellable, place_text, a1_text, a1_place_at, a1_at}
 use Rattle.ic_laws.specs.Scan.{IsEnd}
 use Rattle.ic_refs.specs.Longest.{FindsLongest, FindsLongestAt, read_at}
 use Rattle.ic_laws.specs.SheetText.{sheet_text}
@@ -51,6 +51,12 @@ a1_again row column token rest h valid end =
     (place_text-again row column token.place rest inside.1 (end_of_place rest end))
     (λ _. place_no_sheet written rest (place_is_text row column written token.place spelled) end))
 
+-- what is written of a reference
+pub written_token : (row column : ℤ) (token : RefToken) (empty named text : List ℕ) → (is_row row && is_column column) ≡ true → is_inside token.place row column ≡ true
+    → empty ≡ [] → named ≡ empty ++ sheet_text token.sheet → text ≡ named ++ place_text row column token.place → Some text ≡ a1_text row column token
+written_token row column token empty named text s i none n e =
+    rw (s, i) (ap Some (e ∙ ap (λ t. t ++ place_text row column token.place) (n ∙ ap (λ t. t ++ sheet_text token.sheet) none)))
+
 -- so is a text that is what is spelled
 pub again_text : (row column : ℤ) (token : RefToken) (b : Bool) (text : List ℕ) → is_spellable row column token ≡ b
     → Some text ≡ (if b then Some (sheet_text token.sheet ++ place_text row column token.place) else None) → IfSome token.sheet (λ name. is_sheet_name name ≡ true)
@@ -59,6 +65,17 @@ again_text row column token true text s e valid rest end =
     let same : text ≡ sheet_text token.sheet ++ place_text row column token.place = cc in
     ap (λ t. a1_at row column (t ++ rest)) same ∙ a1_again row column token rest s valid end
 again_text row column token false text s e valid rest end = absurd (cc)
+
+spelled_again : {Z : Type 0} (row column : ℤ) (token : RefToken) (text : Option (String Z)) → option_map (λ t. chars (string_bytes t)) text ≡ a1_text row column token
+    → IfSome token.sheet (λ name. is_sheet_name name ≡ true) → IfSome text (λ t. (rest : List ℕ) → IsEnd rest → a1_at row column (chars (string_bytes t) ++ rest) ≡ Some (token, rest))
+spelled_again {Z} row column token None e valid = tt
+spelled_again {Z} row column token (Some t) e valid = λ rest end. again_text row column token (is_spellable row column token) (chars (string_bytes t)) refl e valid rest end
+
+-- what was written in a cell whose row and column were handed on is read again there
+pub spelled_string : {Z : Type 0} (row column r c : ℤ) (token : RefToken) (text : Option (String Z)) → r ≡ row → c ≡ column → option_map (λ t. chars (string_bytes t)) text ≡ a1_text r c token
+    → IfSome token.sheet (λ name. is_sheet_name name ≡ true) → IfSome text (λ t. (rest : List ℕ) → IsEnd rest → a1_at row column (chars (string_bytes t) ++ rest) ≡ Some (token, rest))
+spelled_string {Z} row column r c token text p q e valid =
+    spelled_again row column token text (e ∙ ap (λ x. a1_text x c token) p ∙ ap (λ x. a1_text row x token) q) valid
 
 pub longest_at : (row column r c : ℤ) (text : List ℕ) (at : ℕ) (found : Option (RefToken × ℕ)) → r ≡ row → c ≡ column → IsUtf8 text → found ≡ read_at (a1_at r c) text at
     → FindsLongestAt (SpellsA1 row column) text at found

@@ -1,13 +1,15 @@
-ghost use Rattle.std.specs.Prelude.{◌≡◌, ◌&&◌, ◌++◌, true, chars, string_bytes, IfOk, OnOk};
+ghost use Rattle.std.specs.Prelude.{◌≡◌, ◌↔◌, ◌&&◌, ◌++◌, ℕ, List, true, false, Some, chars, string_bytes, option_map, IfOk, IfSome, IsNone, OnOk};
+ghost use Rattle.ic_laws.specs.Scan.{IsEnd};
 ghost use Rattle.ic_laws.specs.Position.{is_column, is_inside, is_row};
-ghost use Rattle.ic_refs.specs.A1.{a1_at, place_text, SpellsA1};
+ghost use Rattle.ic_refs.specs.A1.{a1_at, a1_text, is_shown_spellable, is_spellable, place_text, SpellsA1};
 ghost use Rattle.ic_refs.specs.Longest.{FindsLongestAt, read_at};
 
 use crate::a1::Origin;
 use crate::a1_text::{is_inside, push_place};
 use crate::column::{is_valid_column_number, is_valid_row};
 use crate::find::read_reference;
-use ic_laws::{OutOfMemory, Place, RefToken};
+use crate::sheet::push_sheet;
+use ic_laws::{OutOfMemory, Place, RefToken, lent_name};
 use std::alloc::Global;
 
 // Whether a cell lies in the sheet.
@@ -48,6 +50,41 @@ pub fn read_a1(
         found) }
 {
     read_in_cell(alloc, text, at, Origin { row, column })
+}
+
+// The reference as it is written in a cell.
+fn spell_in_cell(alloc: Global, r: &RefToken, origin: Origin) -> Result<Option<String>, OutOfMemory>
+    ensures { IfOk result (λ text. option_map (λ t. chars (string_bytes t)) text
+        ≡ a1_text origin.row origin.column r.now) }
+{
+    if !is_in_sheet(origin) || !is_inside(r.place, origin) {
+        return Ok(None);
+    }
+    let mut text = String::new(alloc);
+    push_sheet(&mut text, lent_name(&r.sheet))?;
+    push_place(&mut text, r.place, origin)?;
+    Ok(Some(text))
+}
+
+/// The reference as it is written in the A1 form in the cell at this row and column, both from 1. A range of all rows
+/// or all columns has the short form. None exactly where the cell or a corner of the reference lies outside the sheet.
+///
+/// What it gives is read back, where the name of the sheet is a valid one or there is none: before each end `read_a1`
+/// finds this reference and no longer one.
+pub fn spell_a1(
+    alloc: Global,
+    r: &RefToken,
+    row: i32,
+    column: i32,
+) -> Result<Option<String>, OutOfMemory>
+    ensures exact { IfOk result (λ text. option_map (λ t. chars (string_bytes t)) text
+        ≡ a1_text row column r.now) }
+    ensures none { IfOk result (λ text. IsNone text ↔ (is_spellable row column r.now ≡ false)) }
+    ensures again { is_shown_spellable row column r.now ≡ true
+        → IfOk result (λ text. IfSome text (λ t. (rest : List ℕ) → IsEnd rest
+        → a1_at row column (chars (string_bytes t) ++ rest) ≡ Some (r.now, rest))) }
+{
+    spell_in_cell(alloc, r, Origin { row, column })
 }
 
 /// Whether a place can be written in the A1 form in the cell at this row and column, both from 1: whether the cell and

@@ -29,7 +29,7 @@ mod stored_text;
 mod trim;
 mod written;
 
-pub use a1_reference::{is_a1_place, push_a1_place, read_a1};
+pub use a1_reference::{is_a1_place, push_a1_place, read_a1, spell_a1};
 pub use column::{
     column_to_number, is_valid_column, is_valid_column_number, is_valid_row, number_to_column,
 };
@@ -44,5 +44,5 @@ pub use name::{
 pub use reference::{A1Reference, Area, CellReferenceIndex, ParsedReference};
 pub use sheet::{is_written_name, push_sheet};
 pub use stored::read_rc;
-pub use stored_text::push_rc_place;
+pub use stored_text::{push_rc_place, spell_rc};
 pub use trim::trimmed;

@@ -8,4 +8,4 @@ pub returns : goal.returns
 returns g c =
     c.in_ok-push_ref.ensures
     ∙ ap₂ ◌++◌ (ap chars c.new-text.ensures.bytes ∙ chars-nil)
-    (ap (λ (sheet : Option (List ℕ)). let r : RefToken = record { sheet = sheet; place = c.args.r.now.place } in reference_text (g.Self.Dialect.meaning c.args.self.now) r) c.sheet_name.ensures)
+    (ap (λ (sheet : Option (List ℕ)). let r : RefToken = record { sheet = sheet; place = c.args.r.now.place } in reference_text (g.Self.Dialect.meaning c.args.self.now) r) c.lent_name.ensures)
