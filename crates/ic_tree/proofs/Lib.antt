@@ -2,7 +2,6 @@ pub mod AnyLemmas
 pub mod BindLemmas
 pub mod Binders
 pub mod BodyReference
-pub mod BoundPrintLemmas
 pub mod ClashLemmas
 pub mod CutLemmas
 pub mod DigitLemmas
@@ -11,6 +10,7 @@ pub mod ErrorLemmas
 pub mod FirstLemmas
 pub mod HeadFirst
 pub mod Heights
+pub mod LevelLemmas
 pub mod LexLemmas
 pub mod ListSteps
 pub mod LocalFirst

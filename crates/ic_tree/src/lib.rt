@@ -1,11 +1,10 @@
 //! Formulas as texts: the dialects of stored and of shown formulas, the reader that gives the tree of a text, and the
-//! printer that gives the text of a tree. Reader and printer are written once, for every dialect. `bind`
-//! finds what a formula mentions, `print_bound` gives the text of a bound formula with the names that things have, and
-//! `spell_with` the tree that it has with any others.
+//! printer that gives the text of a tree. Reader and printer are written once, for every dialect, and the printer for every
+//! kind of mentions. `bind` finds what a formula mentions, `spell` gives the spelled tree of a bound formula with the
+//! names that things have, `print_bound` its text at once, and `spell_with` the tree that it has with any other names.
 #![tactic(auto)]
 
 mod binding;
-mod bound_printer;
 mod clash;
 mod constant;
 mod copies;
@@ -15,6 +14,7 @@ mod language_words;
 mod law;
 mod lexer;
 mod measured;
+mod mentions;
 mod near;
 mod number;
 mod printer;
@@ -25,9 +25,9 @@ mod shown;
 mod spelling;
 mod stored;
 mod token;
+mod tree_printer;
 
 pub use binding::bind;
-pub use bound_printer::print_bound;
 pub use clash::clashes;
 pub use dynamic::is_dynamic;
 pub use law::{
@@ -38,6 +38,7 @@ pub(crate) use measured::Measured;
 pub use reading::{read, read_reference, read_typed};
 pub use settling::settle;
 pub use shown::Shown;
-pub use spelling::{Spelling, spell_definition, spell_sheet, spell_with};
+pub use spelling::{Spelling, spell, spell_definition, spell_sheet, spell_with};
 pub use stored::Stored;
 pub(crate) use token::{Ahead, LocalWord, Token, TokenSource};
+pub use tree_printer::{print, print_bound};

@@ -1,11 +1,12 @@
 ghost use Rattle.std.specs.Prelude.{◌≡◌, List, ℕ, IfOk, map};
 ghost use Rattle.std.specs.Fmt.{decimal};
-ghost use Rattle.ic_laws.specs.Binding.{spelled_sheet, spelled_with, spelled_word};
+ghost use Rattle.ic_laws.specs.Binding.{spelled, spelled_sheet, spelled_with, spelled_word};
 ghost use Rattle.ic_laws.specs.Scene.{definition_spelling, sheet_spelling};
 ghost use Rattle.ic_laws.specs.declared.tree.NameKey.{NameKey};
 ghost use Rattle.ic_laws.proofs.binding.Again.{pair_spelled};
 
 use crate::copies::{copy_rows, copy_texts};
+use crate::mentions::AtPresent;
 use ic_laws::{
     Bound, Boxed, Finder, Items, LetPair, NameKey, NameMention, OutOfMemory, SheetMention, Spelled,
     Text, Tree,
@@ -25,6 +26,20 @@ pub trait Spelling {
     /// The text of the definition with this key.
     fn key_text(&self, alloc: Global, key: &NameKey) -> Result<Text, OutOfMemory>
         ensures { IfOk result (λ r. r ≡ key_text self.now key.now) };
+}
+
+impl<'n, N: Finder> Spelling for AtPresent<'n, N> {
+    ghost sheet_text = { λ present. sheet_spelling (N.scene present.names.now) };
+
+    ghost key_text = { λ present. definition_spelling (N.scene present.names.now) };
+
+    fn sheet_text(&self, alloc: Global, id: u32) -> Result<Text, OutOfMemory> {
+        spell_sheet(alloc, self.names, id)
+    }
+
+    fn key_text(&self, alloc: Global, key: &NameKey) -> Result<Text, OutOfMemory> {
+        spell_definition(alloc, self.names, key)
+    }
 }
 
 /// The name of the sheet with this id, or the digits of the id where no sheet has it.
@@ -56,6 +71,14 @@ pub fn spell_definition<N: Finder>(
         Some(name) => Ok(Text::from_str(alloc, name)?),
         None => Ok(Text::from_str(alloc, key.name.as_str())?),
     }
+}
+
+/// A formula with each sheet and each definition that it mentions in its present spelling. What dangles and variables are
+/// written as they were typed, an id without a sheet by its digits, a key without a definition by its folded name.
+pub fn spell<N: Finder>(alloc: Global, names: &N, tree: &Bound) -> Result<Spelled, OutOfMemory>
+    ensures { IfOk result (λ r. r ≡ spelled (N.scene names.now) tree.now) }
+{
+    spell_with(alloc, &AtPresent { names }, tree)
 }
 
 /// The sheet of a reference: a found one by its text.
