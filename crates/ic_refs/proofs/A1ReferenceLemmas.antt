@@ -1,5 +1,5 @@
 -- References in the A1 form: the longest at the front of a text, and what is written read again.
-use Rattle.std.proofs.Common.{◌≡◌, ℕ, ℤ, List, [], ◌++◌, Bool, true, false, ◌&&◌, chars, IsUtf8, string_bytes, String, option_map, if◌then◌else◌, Option, Some, None, refl, sym, ◌∙◌, ap, subst, inl, inr}
+use Rattle.std.proofs.Common.{◌≡◌, ℕ, ℤ, List, [], ◌++◌, Bool, true, false, ◌&&◌, chars, IsUtf8, string_bytes, String, option_map, if◌then◌else◌, Option, Some, None, refl, sym, ◌∙◌, ap, ap₂, subst, inl, inr}
 use Rattle.std.specs.Option.{IfSome}
 use Rattle.std.proofs.lemmas.Bool.{and_parts, and_from, cases_Bool, both_ways}
 use Rattle.ic_laws.specs.Name.{is_sheet_name}
@@ -52,10 +52,10 @@ a1_again row column token rest h valid end =
     (λ _. place_no_sheet written rest (place_is_text row column written token.place spelled) end))
 
 -- what is written of a reference
-pub written_token : (row column : ℤ) (token : RefToken) (empty named text : List ℕ) → (is_row row && is_column column) ≡ true → is_inside token.place row column ≡ true
-    → empty ≡ [] → named ≡ empty ++ sheet_text token.sheet → text ≡ named ++ place_text row column token.place → Some text ≡ a1_text row column token
-written_token row column token empty named text s i none n e =
-    rw (s, i) (ap Some (e ∙ ap (λ t. t ++ place_text row column token.place) (n ∙ ap (λ t. t ++ sheet_text token.sheet) none)))
+pub written_token : (row column : ℤ) (token : RefToken) (sheet : Option (List ℕ)) (empty named text : List ℕ) → (is_row row && is_column column) ≡ true → is_inside token.place row column ≡ true
+    → sheet ≡ token.sheet → empty ≡ [] → named ≡ empty ++ sheet_text sheet → text ≡ named ++ place_text row column token.place → Some text ≡ a1_text row column token
+written_token row column token sheet empty named text s i same none n e =
+    rw (s, i) (ap Some (e ∙ ap (λ t. t ++ place_text row column token.place) (n ∙ ap₂ (λ t s. t ++ sheet_text s) none same)))
 
 -- so is a text that is what is spelled
 pub again_text : (row column : ℤ) (token : RefToken) (b : Bool) (text : List ℕ) → is_spellable row column token ≡ b
