@@ -118,7 +118,7 @@ impl BookError {
             BookError::MergedPart => "Cannot edit a cell that is part of a merged cell",
             BookError::ArrayPart => "Cannot write in a cell that is part of an array formula",
             BookError::ClearArray => "Cannot clear the range because it contains array formulas",
-            BookError::FrozenNegative => "Frozen rows or columns cannot be negative",
+            BookError::FrozenNegative => "Frozen rows cannot be negative",
             BookError::TooManyRows => "Too many rows",
             BookError::TooManyColumns => "Too many columns",
             BookError::NoFormulaCell => "No formula cell",

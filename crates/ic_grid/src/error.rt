@@ -1,29 +1,29 @@
 use ic_laws::OutOfMemory;
 use thiserror::Error;
 
-/// Why a call on the cells of a sheet was refused. After each of them the sheet is as before.
+/// Why a call on the cells of a sheet was refused. After each of them the sheet is as before. Each displays its name.
 #[derive(Clone, Copy, Debug, Error)]
 pub enum GridError {
     /// Merged cells cover the place, or the block of an array meets some.
-    #[error("Cannot edit a cell that is part of a merged cell")]
+    #[error("MergedPart")]
     MergedPart,
     /// A cell to be written belongs to a Cse array of more than one cell.
-    #[error("Cannot write in a cell that is part of an array formula")]
+    #[error("ArrayPart")]
     ArrayPart,
     /// A Cse array of more than one cell lies partly in the block to be cleared.
-    #[error("Cannot clear the range because it contains array formulas")]
+    #[error("ClearArray")]
     ClearArray,
     /// The place has no formula; for a spill, no array formula.
-    #[error("No formula cell")]
+    #[error("NoFormulaCell")]
     NoFormulaCell,
     /// The width or the height is below 1, the number of values isn't their product, or a Cse array has another area.
-    #[error("Invalid area")]
+    #[error("BadArea")]
     BadArea,
     /// This is the first cell, by rows, that keeps the array from spilling. Rows and columns count from 1.
-    #[error("Cannot spill array result")]
+    #[error("SpillBlocked")]
     SpillBlocked { row: i32, column: i32 },
     /// Memory ran out.
-    #[error("Out of memory")]
+    #[error("OutOfMemory")]
     OutOfMemory,
 }
 

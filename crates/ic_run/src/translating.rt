@@ -23,20 +23,20 @@ use ic_words::command_in;
 use std::alloc::{AllocFailed, Global};
 use thiserror::Error;
 
-/// Why command lines couldn't be translated.
+/// Why command lines could not be translated. Each displays its name.
 #[derive(Debug, Drop, Error)]
 pub enum TranslateError {
     /// No locale of the tables has the id.
-    #[error("Invalid locale")]
+    #[error("InvalidLocale")]
     InvalidLocale,
     /// No language of the tables has the code.
-    #[error("Invalid language")]
+    #[error("InvalidLanguage")]
     InvalidLanguage,
     /// This is the first line, counted from 1, that can't be translated, and why.
-    #[error("A line can't be translated")]
+    #[error("Cannot")]
     Cannot { line: u64, why: Why },
     /// Memory ran out.
-    #[error("Out of memory")]
+    #[error("OutOfMemory")]
     OutOfMemory,
 }
 
