@@ -5,7 +5,7 @@ use crate::row::Row;
 use ic_laws::{OutOfMemory, Place, Position, RefPart, RefToken, Text};
 use ic_refs::{
     CellReferenceIndex, ParsedReference, ReferenceError, is_valid_column_number, is_valid_row,
-    parse_reference_a1, read_a1, read_rc,
+    parse_reference_a1, read_a1, read_rc, spell_a1, spell_rc,
 };
 
 /// Answers the call, if it is one of these.
@@ -16,6 +16,8 @@ pub fn call(row: &mut Row<'_>) {
         "parse_r1c1_reference" => parse_r1c1(row),
         "read_a1" => put_read_a1(row),
         "read_rc" => put_read_rc(row),
+        "spell_a1" => put_spelled_a1(row),
+        "spell_rc" => put_spelled_rc(row),
         _ => {}
     }
 }
@@ -28,6 +30,24 @@ fn put_read_a1(row: &mut Row<'_>) {
 fn put_read_rc(row: &mut Row<'_>) {
     let at = row.size(1);
     put_found(row, read_rc(row.alloc, row.word(2), at));
+}
+
+/// A reference of the stored form, spelled in the cell at a row and a column; `none` where it can't be.
+fn put_spelled_a1(row: &mut Row<'_>) {
+    let (number, column) = (row.int(1), row.int(2));
+    match &read_rc(row.alloc, row.word(3), 0) {
+        Ok(Some(found)) => row.put_found(spell_a1(row.alloc, &found.0, number, column)),
+        _ => row.bad(),
+    }
+}
+
+/// A reference in the cell at a row and a column, spelled in the stored form.
+fn put_spelled_rc(row: &mut Row<'_>) {
+    let (number, column) = (row.int(1), row.int(2));
+    match &read_a1(row.alloc, row.word(3), 0, number, column) {
+        Ok(Some(found)) => row.put_made(spell_rc(row.alloc, &found.0)),
+        _ => row.bad(),
+    }
 }
 
 /// The sheets that rows on whole references know, by index.

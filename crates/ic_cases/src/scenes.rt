@@ -1,8 +1,8 @@
 //! Formulas in scenes: a text is read, its mentions are bound in the scene that the row gives, and it is written again.
 use crate::row::Row;
-use ic_laws::{Bound, NameSpelling, Dialect, Items, OutOfMemory, Scene, SheetName, Spelled};
+use ic_laws::{Bound, Dialect, Items, NameSpelling, OutOfMemory, Scene, SheetName, Spelled};
 use ic_tables::Tables;
-use ic_tree::{Shown, Stored, bind, clashes, is_dynamic, print_bound, read};
+use ic_tree::{Shown, Stored, bind, clashes, is_dynamic, print, print_bound, read, spell};
 use std::alloc::Global;
 
 /// The scene that stands behind the text of a row. A sheet and a name each stand after a word that says so.
@@ -83,11 +83,25 @@ pub fn put_bound(row: &mut Row<'_>, shown: &Shown<'_>) {
     let scene = scene_in(row);
     let scope = row.scope(3);
     match &bound_in(row, shown, &scene, scope, row.word(4)) {
-        Ok(Some(bound)) => {
-            put_spelled(row, shown, &scene, bound);
-            put_clashes(row, bound);
-        }
+        Ok(Some(bound)) => put_bound_in(row, shown, &scene, bound),
         Ok(None) => row.none(),
+        Err(_) => row.bad(),
+    }
+}
+
+fn put_bound_in(row: &mut Row<'_>, shown: &Shown<'_>, scene: &Scene, bound: &Bound) {
+    if row.name == "spell" {
+        put_spelled_tree(row, shown, scene, bound);
+    } else {
+        put_spelled(row, shown, scene, bound);
+        put_clashes(row, bound);
+    }
+}
+
+/// The spelled tree of a formula in a scene, printed.
+fn put_spelled_tree(row: &mut Row<'_>, shown: &Shown<'_>, scene: &Scene, bound: &Bound) {
+    match &spell(row.alloc, scene, bound) {
+        Ok(tree) => row.put_made(print(row.alloc, shown, tree)),
         Err(_) => row.bad(),
     }
 }
