@@ -10,7 +10,6 @@ pub mod ErrorLemmas
 pub mod FirstLemmas
 pub mod HeadFirst
 pub mod Heights
-pub mod LevelLemmas
 pub mod LexLemmas
 pub mod ListSteps
 pub mod LocalFirst

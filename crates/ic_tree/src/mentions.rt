@@ -7,7 +7,7 @@ ghost use Rattle.ic_laws.specs.Yield.{sheet_name};
 ghost use Rattle.ic_laws.specs.declared.tree.Tree.{Tree};
 ghost use Rattle.ic_tree.specs.BoundText.{bound_text, sheet_in, word_in};
 ghost use Rattle.ic_tree.specs.Printed.{IsByLevels, as_it_is, tree_text};
-ghost use Rattle.ic_tree.proofs.LevelLemmas.{bound_by_levels, spelled_by_levels};
+ghost use Rattle.ic_tree.specs.laws.LevelLaws.{bound_by_levels, spelled_by_levels};
 
 use crate::spelling::digits_of;
 use ic_laws::scan::push_text;
@@ -93,6 +93,7 @@ impl Mentions<Option<Text>, Text> for AsSpelled {
 }
 
 /// The mentions of a bound tree: each by the name that its sheet or its definition has at present.
+#[derive(Drop)]
 pub(crate) struct AtPresent<'n, N: Finder> {
     pub(crate) names: &'n N,
 }

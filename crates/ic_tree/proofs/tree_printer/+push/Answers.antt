@@ -10,7 +10,7 @@ use Rattle.ic_laws.specs.declared.tree.Tree as trees
 use Rattle.ic_laws.specs.declared.tree.Tree.TheOpen as one
 use denote.Hole.Carrier
 use Rattle.ic_tree.specs.Printed.{all_between, each_before, prefix_sign, row_separator, row_text, written_arguments, written_pair}
-use Rattle.ic_tree.proofs.LevelLemmas.{level_at, one_step, three_steps, two_steps}
+use Rattle.ic_tree.proofs.PrintLemmas.{level_at, one_step, three_steps, two_steps}
 use Rattle.ic_tree.proofs.tree_printer.+push.Goals as goal
 
 pub push_tree-returns-in-Num : goal.push_tree-returns-in-Num

@@ -1,16 +1,15 @@
 -- The canonical text of a formula is that of its top level, with the texts of what is below it in their places: of a
 -- spelled tree, and of a bound one in a scene.
-use Rattle.std.proofs.Common.{◌≡◌, ℕ, ◌+◌, List, [], ◌∷◌, ◌++◌, Option, codes, append_assoc, map, refl, sym, ap, subst, ◌∙◌, Result, OnOk}
+use Rattle.std.proofs.Common.{◌≡◌, ℕ, ◌+◌, List, [], ◌∷◌, ◌++◌, codes, map, refl, ap, ◌∙◌}
 use Rattle.ic_laws.proofs.binding.Again.{BoundKind, bound_node, children_spelled, pair_spelled, spell, spelled-node}
 use Rattle.ic_laws.specs.Binding.{BoundPair, spelled_kind}
 use Rattle.ic_laws.specs.Dialect.{DialectMeaning, word_text}
 use Rattle.ic_laws.specs.Scene.{definition_spelling, sheet_spelling}
-use Rattle.ic_laws.specs.Tree.{Bound, Kind}
+use Rattle.ic_laws.specs.Tree.{Bound}
 use Rattle.ic_laws.specs.declared.dialect.WordKind.TheVariants as kinds
 use Rattle.ic_laws.specs.declared.scene.Scene.{Scene}
-use Rattle.ic_laws.specs.declared.tree.Tree.{Tree, roll-Tree}
 use Rattle.ic_laws.specs.declared.tree.Tree.TheOpen as one
-use Rattle.ic_tree.proofs.PrintLemmas.{level_text}
+use Rattle.ic_tree.specs.laws.PrintLaws.{level_text}
 use Rattle.ic_tree.specs.BoundText.{bound_text, sheet_in, word_in}
 use Rattle.ic_tree.specs.Printed.{IsByLevels, all_between, as_it_is, each_before, each_from, kind_text, pair_text, separator_before, tree_text, written_arguments, written_kind, written_pair}
 
@@ -41,7 +40,7 @@ module _ (d : DialectMeaning) (s : Scene) where
   level_spelled (one.Num units) = refl
   level_spelled (one.Str text) = refl
   level_spelled (one.Bool value) = refl
-  level_spelled (one.Err error) = refl
+  level_spelled (one.Err e) = refl
   level_spelled (one.Reference sheet place) = refl
   level_spelled (one.Local sheet word) = refl
   level_spelled (one.Word word) = refl
@@ -71,19 +70,3 @@ bound_by_levels s = record { level = λ d kind. level_bound d s kind }
 
 pub spelled_by_levels : IsByLevels as_it_is as_it_is tree_text
 spelled_by_levels = record { level = λ d kind. level_text d kind }
-
-module _ {S W : Type 0} {sheet : S → Option (List ℕ)} {word : W → List ℕ} {text : DialectMeaning → Tree S W → List ℕ} (levels : IsByLevels sheet word text) (d : DialectMeaning) where
-  pub level_at : (t : Tree S W) (kind : Kind S W) → t ≡ roll-Tree S W kind → text d t ≡ written_kind d (text d) sheet word kind
-  level_at t kind e = ap (text d) e ∙ levels.level d kind
-
-  -- a level that is written in one, two or three steps
-  pub one_step : {T E : Type 0} (r : Result T E) (new old a : List ℕ) (t : Tree S W) (kind : Kind S W) → t ≡ roll-Tree S W kind → a ≡ written_kind d (text d) sheet word kind → OnOk r (new ≡ old ++ a) → OnOk r (new ≡ old ++ text d t)
-  one_step r new old a t kind e q h = subst (λ k. OnOk r (new ≡ old ++ k)) (q ∙ sym (level_at t kind e)) h
-
-  pub two_steps : {T E : Type 0} (r : Result T E) (new mid old a b : List ℕ) (t : Tree S W) (kind : Kind S W) → t ≡ roll-Tree S W kind → mid ≡ old ++ a → a ++ b ≡ written_kind d (text d) sheet word kind → OnOk r (new ≡ mid ++ b) → OnOk r (new ≡ old ++ text d t)
-  two_steps r new mid old a b t kind e p q h =
-      one_step r new old (a ++ b) t kind e q (subst (λ k. OnOk r (new ≡ k)) (ap (λ m. m ++ b) p ∙ append_assoc old a b) h)
-
-  pub three_steps : {T E : Type 0} (r : Result T E) (new later mid old a b c : List ℕ) (t : Tree S W) (kind : Kind S W) → t ≡ roll-Tree S W kind → mid ≡ old ++ a → later ≡ mid ++ b → (a ++ b) ++ c ≡ written_kind d (text d) sheet word kind → OnOk r (new ≡ later ++ c) → OnOk r (new ≡ old ++ text d t)
-  three_steps r new later mid old a b c t kind e p m q h =
-      two_steps r new later old (a ++ b) c t kind e (m ∙ ap (λ x. x ++ b) p ∙ append_assoc old a b) q h
