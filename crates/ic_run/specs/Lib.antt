@@ -1,6 +1,7 @@
 pub mod Counts
 pub mod Desk
 pub mod Make
+pub mod Prepared
 pub mod Run
 pub mod Start
 pub mod Translate
