@@ -6,4 +6,5 @@ pub mod Date
 pub mod Formatted
 pub mod Group
 pub mod Number
+pub mod Rules
 pub mod Typed
