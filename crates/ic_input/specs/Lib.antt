@@ -2,6 +2,7 @@ pub mod Again
 pub mod Amount
 pub mod Code
 pub mod Convention
+pub mod Counted
 pub mod Date
 pub mod Formatted
 pub mod Group
