@@ -18,6 +18,7 @@ pub mod CoreValid
 mod DefinitionSame
 pub mod DuplicatedStays
 pub mod ExtendedLemmas
+pub mod FormatLemmas
 pub mod FormulaLemmas
 mod FormulaSame
 pub mod FormulaStepped

@@ -9,6 +9,7 @@ pub mod Core
 pub mod Extended
 pub mod Fields
 pub mod Format
+pub mod FormattedLaws
 pub mod InForce
 pub mod Kept
 pub mod Laws

@@ -10,6 +10,7 @@ ghost use Rattle.ic_machine.specs.Command.{Command};
 ghost use Rattle.ic_machine.specs.Content.{content_of, held};
 ghost use Rattle.ic_machine.specs.Core.{FormulaIsStepped, IsSteppedAs, core_command};
 ghost use Rattle.ic_machine.specs.Extended.{ExtendedIsSame};
+ghost use Rattle.ic_machine.specs.FormattedLaws.{DateIsCounted, FormattedIsRuled, RuledIsFormatted};
 ghost use Rattle.ic_machine.specs.Kept.{CoreIsValid, CoreStaysValid, KeepsValid, KeepsValidIf};
 ghost use Rattle.ic_machine.specs.Kept.{gives_id};
 ghost use Rattle.ic_machine.specs.Laws.{BadLineStays, CounterpartsAreBack, NumbersAreSmall};
@@ -151,4 +152,13 @@ pub fn law_extended_is_same()
 /// value ends with a blank.
 pub fn law_translation_keeps_book()
     ensures { (locale language : List ℕ) → TranslationKeepsBook locale language }
+{}
+
+/// By any locale and any code, what an amount is shown as by the machine, which tries the kinds of codes one after another,
+/// is what shows it by the rules, and nothing else is. The date that is shown of day n is 30 December 1899 and n days,
+/// counted one by one.
+pub fn law_formatted_by_rules()
+    ensures answered { RuledIsFormatted }
+    ensures ruled { FormattedIsRuled }
+    ensures dates { DateIsCounted }
 {}
