@@ -14,6 +14,7 @@ pub mod CopiedWords
 pub mod CopyKeys
 pub mod CopyNames
 pub mod CoreLemmas
+pub mod CoreLines
 pub mod CoreValid
 mod DefinitionSame
 pub mod DuplicatedStays
@@ -39,13 +40,13 @@ pub mod NewSheetStays
 mod NotationStays
 pub mod NumberLemmas
 mod OthersSame
+pub mod PlacedLemmas
 pub mod ReaderLemmas
 pub mod RetypedLemmas
 mod SameLemmas
 mod SameSteps
 pub mod SceneLemmas
 pub mod SeenLemmas
-pub mod ServedLemmas
 mod SheetsSame
 pub mod SheetsStay
 mod SitesSame

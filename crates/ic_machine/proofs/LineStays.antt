@@ -6,7 +6,7 @@ use Rattle.std.specs.Prelude.{bytes_eq, nat_le, option_and_then, option_map}
 use Rattle.ic_laws.proofs.kept.Kept.{found_has}
 use Rattle.ic_laws.specs.Command.{at_most, index_said, number_said, scope_said}
 use Rattle.ic_machine.specs.Book.{Book, Stepped}
-use Rattle.ic_machine.specs.Command.{Command, OnArrays, OnDefinitions, OnExtending, OnLayout, OnNotation, OnReading, OnSheets, OnStyles, OnTabs, OnWriting, command_in, served}
+use Rattle.ic_machine.specs.Command.{Command, OnArrays, OnDefinitions, OnExtending, OnLayout, OnNotation, OnReading, OnSheets, OnStyles, OnTabs, OnWriting, command_in, commands}
 use Rattle.ic_machine.specs.Kept.{StaysValid, StaysValidIf, gives_id, is_given_id}
 use Rattle.ic_machine.specs.Row.{Row, row_in}
 use Rattle.ic_machine.specs.Step.{command_step, english_errors, outcome_of, step}
@@ -25,7 +25,7 @@ use Rattle.ic_machine.specs.subjects.Styles as styles
 use Rattle.ic_machine.specs.subjects.Tabs as tabs
 use Rattle.ic_machine.specs.subjects.Writing as writing
 use Rattle.ic_machine.proofs.ArraysStay.{arrays_stay}
-use Rattle.ic_machine.proofs.LineRead.{all_rows, both_said, is_read, served_all}
+use Rattle.ic_machine.proofs.LineRead.{all_rows, both_said, is_read}
 use Rattle.ic_machine.proofs.NamesStay.{definitions_stay, sheets_stay}
 use Rattle.ic_machine.proofs.StylesStay.{styles_stay}
 use Rattle.ic_machine.proofs.SubjectsStay.{extending_stays, layout_stays, notation_stays, reading_stays, tabs_are}
@@ -99,19 +99,18 @@ module _ (english : List (List ℕ)) where
     ),
   )
 
-  all_give : AllByRecursion GivesIds served
+  all_give : AllByRecursion GivesIds commands
   all_give =
-      served_all GivesIds
-      (all_rows GivesIds sheets_give (others_give OnDefinitions (λ command. refl) definitions.definition_rows) (others_give OnNotation (λ command. refl) notation.notation_rows)
+      all_rows GivesIds sheets_give (others_give OnDefinitions (λ command. refl) definitions.definition_rows) (others_give OnNotation (λ command. refl) notation.notation_rows)
       (others_give OnWriting (λ command. refl) writing.writing_rows) (others_give OnReading (λ command. refl) reading.reading_rows) (others_give OnExtending (λ command. refl) extending.extending_rows)
       (others_give OnStyles (λ command. refl) styles.style_rows) (others_give OnLayout (λ command. refl) layout.layout_rows) (others_give OnTabs (λ command. refl) tabs.tab_rows)
-      (others_give OnArrays (λ command. refl) arrays.array_rows))
+      (others_give OnArrays (λ command. refl) arrays.array_rows)
 
   -- the ids that the command of a line gives are such
-  line_gives : (line : List ℕ) (command : Command) → command_in english served line ≡ Some command → given command ≡ true
+  line_gives : (line : List ℕ) (command : Command) → command_in english commands line ≡ Some command → given command ≡ true
   line_gives line command e =
       let read = is_read english line command e in
-      ap given (sym read.is) ∙ found_has GivesIds (λ (row : Row Command). bytes_eq row.name read.name) served all_give read.row read.found read.texts read.w read.says
+      ap given (sym read.is) ∙ found_has GivesIds (λ (row : Row Command). bytes_eq row.name read.name) commands all_give read.row read.found read.texts read.w read.says
 
 -- so a valid book stays valid over it
 module _ (b : Book) (valid : IsValidBook b) where
@@ -136,8 +135,8 @@ module _ (b : Book) (valid : IsValidBook b) where
   outcome_stays (Err refusal) h = valid
 
   pub line_stays : (line : List ℕ) → IsValidBook (left_after b line)
-  line_stays line = by_command (command_in (english_errors b) served line) refl
+  line_stays line = by_command (command_in (english_errors b) commands line) refl
     where
-      by_command : (o : Option Command) → command_in (english_errors b) served line ≡ o → IsValidBook (command_step b o).0
+      by_command : (o : Option Command) → command_in (english_errors b) commands line ≡ o → IsValidBook (command_step b o).0
       by_command None e = valid
       by_command (Some command) e = outcome_stays (step b command) (command_stays command (line_gives (english_errors b) line command e))

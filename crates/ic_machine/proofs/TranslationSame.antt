@@ -5,7 +5,7 @@ use Rattle.std.specs.Prelude.{reverse}
 use Rattle.ic_laws.specs.Scan.{first_is, is_blank}
 use Rattle.ic_tables.specs.Tables.{TableSet}
 use Rattle.ic_machine.specs.Book.{Book, Sheet, Stepped}
-use Rattle.ic_machine.specs.Command.{Command, served}
+use Rattle.ic_machine.specs.Command.{Command, commands}
 use Rattle.ic_machine.specs.InForce.{error_in}
 use Rattle.ic_machine.specs.Run.{after}
 use Rattle.ic_machine.specs.Same.{IsSameBook, IsSameSheet}
@@ -64,7 +64,7 @@ none_first number (Some why) others e = absurd (cc)
 
 module _ (locale language : List ℕ) where
   abbrev Keeps : Book → Book → List (List ℕ) → List (List ℕ) → Type 0
-  Keeps book other lines new = AreAccepted other new × IsSameBook (after (machine served) book lines) (after (machine served) other new)
+  Keeps book other lines new = AreAccepted other new × IsSameBook (after (machine commands) book lines) (after (machine commands) other new)
 
   -- the other books that lines leave, after one that goes and after one that is kept
   beside_gone : (book other : Book) (line : List ℕ) → IsBeside locale language book other → kept_in book line ≡ None → IsBeside locale language (left_after book line) other

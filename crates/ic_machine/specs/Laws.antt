@@ -5,7 +5,7 @@ use Rattle.ic_laws.specs.CoreBook.{CoreBook}
 use Rattle.ic_laws.specs.Lines as lines
 use Rattle.ic_laws.specs.Notations.{Notations}
 use Rattle.ic_machine.specs.Book.{Book}
-use Rattle.ic_machine.specs.Command.{Command, command_in, core_names, served}
+use Rattle.ic_machine.specs.Command.{Command, command_in, commands}
 use Rattle.ic_machine.specs.Core.{counterpart, is_core_line, whole_command}
 use Rattle.ic_machine.specs.Refusal.{BadLine, Refusal}
 use Rattle.ic_machine.specs.Row.{Row}
@@ -33,18 +33,18 @@ abbrev pub RunsTellSame : Type 0
 RunsTellSame =
     (n : Notations) (table : List core.CommandRow) (book : CoreBook) (all : List (List ℕ)) → replies (core_machine n table) book all ≡ lines.replies n table book all
 
--- the command that a core line is by the rows which are served is the one that it is by the rows of the core machine with
--- the names that both have; where it is none of these, it is none of those
-abbrev pub ServedIsCore : Type 0
-ServedIsCore =
+-- the command that a core line is by the whole table is the one that it is by the core machine's table; where it is none of
+-- these, it is none of those
+abbrev pub CoreLinesAreCore : Type 0
+CoreLinesAreCore =
     (english : List (List ℕ)) (line : List ℕ) → is_core_line english line ≡ true
-    → command_in english served line ≡ option_map whole_command (lines.command_of (core.rows_named core_names) line)
+    → command_in english commands line ≡ option_map whole_command (lines.command_of core.commands line)
 
--- and each line that is a command of the core machine is served as that, whatever the English words are
-abbrev pub CoreIsServed : Type 0
-CoreIsServed =
-    (english : List (List ℕ)) (line : List ℕ) (command : core.Command) → lines.command_of (core.rows_named core_names) line ≡ Some command
-    → command_in english served line ≡ Some (whole_command command)
+-- and each line that is a command of the core machine is just that by the whole table, whatever the English words are
+abbrev pub CoreIsRead : Type 0
+CoreIsRead =
+    (english : List (List ℕ)) (line : List ℕ) (command : core.Command) → lines.command_of core.commands line ≡ Some command
+    → command_in english commands line ≡ Some (whole_command command)
 
 -- and no two commands of the core machine are one
 abbrev pub CounterpartsAreBack : Type 0

@@ -6,7 +6,7 @@ use Rattle.ic_laws.specs.declared.tree.Error.{Error}
 use Rattle.ic_grid.specs.declared.block.Block.{Block}
 use Rattle.ic_grid.specs.Block.{first_place}
 use Rattle.ic_machine.specs.Book.{Book, Stepped}
-use Rattle.ic_machine.specs.Command.{Command, OnArrays, OnDefinitions, OnSheets, OnWriting, served}
+use Rattle.ic_machine.specs.Command.{Command, OnArrays, OnDefinitions, OnSheets, OnWriting, commands}
 use Rattle.ic_machine.specs.InForce.{error_in, typed_in}
 use Rattle.ic_machine.specs.Reply.{Field}
 use Rattle.ic_machine.specs.Run.{after}
@@ -54,7 +54,7 @@ GoneIsSame = (book : Book) (line : List ℕ) → kept_in book line ≡ None → 
 -- each line is accepted in its turn
 abbrev pub AreAccepted : Book → List (List ℕ) → Type 0
 AreAccepted book [] = Unit {0}
-AreAccepted book (line ∷ lines) = ((fields : List Field) × ((line_step served book line).1 ≡ Ok fields)) × AreAccepted (left_after book line) lines
+AreAccepted book (line ∷ lines) = ((fields : List Field) × ((line_step commands book line).1 ≡ Ok fields)) × AreAccepted (left_after book line) lines
 
 module _ (locale language : List ℕ) where
   -- The commands that look at the notation. ----
@@ -111,9 +111,9 @@ module _ (locale language : List ℕ) where
   LineIsSame =
       (book left other : Book) (command : Command) (line new : List ℕ) → IsBeside locale language book other → ErrorsEndPlain other → kept_in book line ≡ Some (command, left)
       → why_line_not locale language book line ≡ None → IsKeptLine locale language book line (command, left) new
-      → (fields : List Field) × ((line_step served other new).1 ≡ Ok fields) × IsSameBook left (line_step served other new).0
+      → (fields : List Field) × ((line_step commands other new).1 ≡ Ok fields) × IsSameBook left (line_step commands other new).0
 
   abbrev pub TranslationKeepsBook : Type 0
   TranslationKeepsBook =
       (book other : Book) (lines new : List (List ℕ)) → IsBeside locale language book other → ErrorsEndPlain other
-      → first_hindered locale language 1 book lines ≡ None → AreTranslated locale language book lines new → AreAccepted other new × IsSameBook (after (machine served) book lines) (after (machine served) other new)
+      → first_hindered locale language 1 book lines ≡ None → AreTranslated locale language book lines new → AreAccepted other new × IsSameBook (after (machine commands) book lines) (after (machine commands) other new)

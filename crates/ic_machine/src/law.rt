@@ -14,8 +14,9 @@ ghost use Rattle.ic_machine.specs.FormattedLaws.{DateIsCounted, FormattedIsRuled
 ghost use Rattle.ic_machine.specs.Kept.{CoreIsValid, CoreStaysValid, KeepsValid, KeepsValidIf};
 ghost use Rattle.ic_machine.specs.Kept.{gives_id};
 ghost use Rattle.ic_machine.specs.Laws.{BadLineStays, CounterpartsAreBack, NumbersAreSmall};
-ghost use Rattle.ic_machine.specs.Laws.{CoreIsServed, RefusedStays, ServedIsCore};
+ghost use Rattle.ic_machine.specs.Laws.{CoreIsRead, CoreLinesAreCore, RefusedStays};
 ghost use Rattle.ic_machine.specs.Laws.{RunsLeaveSame, RunsTellSame};
+ghost use Rattle.ic_machine.specs.Placed.{FormulaIsPlaced, PlacedAlone};
 ghost use Rattle.ic_machine.specs.Readers.{LeavesIf, is_reader};
 ghost use Rattle.ic_machine.specs.Retyped.{RetypedStays};
 ghost use Rattle.ic_machine.specs.Scene.{KeepsSceneIf, leaves_names};
@@ -59,6 +60,13 @@ pub fn law_numbers_are_small()
     ensures { NumbersAreSmall }
 {}
 
+/// The index of a formula that is written is the first place of an equal one in the pool with it: where the pool has an equal
+/// one it stays as it is, and else the formula is put at its end. No other index and no other pool are that.
+pub fn law_formula_is_placed()
+    ensures placed { FormulaIsPlaced }
+    ensures alone { PlacedAlone }
+{}
+
 /// A cell, with the texts of the shared strings, is a content: of the same shape and style, and emptied, with another value
 /// or area, as a cell of a spill and as the formula of an array it is the content that was so changed or made.
 pub fn law_cells_are_contents()
@@ -77,12 +85,11 @@ pub fn law_runs_shared()
     ensures told { RunsTellSame }
 {}
 
-/// The command that a core line is, of those that are served, is the core machine's, and none where the core machine has
-/// none. Each line that is a command of the core machine is a core line, and so is each that is no command; which further
-/// commands are served doesn't matter.
-pub fn law_served_is_core()
-    ensures served { ServedIsCore }
-    ensures all { CoreIsServed }
+/// The command that a core line is by the table of all commands is the core machine's, and none where the core machine has
+/// none. Each line that is a command of the core machine is that command, and so a core line; and no two of these are one.
+pub fn law_core_lines_are_core()
+    ensures lines { CoreLinesAreCore }
+    ensures all { CoreIsRead }
     ensures back { CounterpartsAreBack }
 {}
 
