@@ -31,6 +31,7 @@ mod LineRead
 mod LineSame
 mod LineStays
 mod LinesAgain
+pub mod MetadataFree
 pub mod NamesStay
 pub mod NewNames
 mod NewSheetSame
@@ -38,6 +39,7 @@ pub mod NewSheetStays
 mod NotationStays
 pub mod NumberLemmas
 mod OthersSame
+mod PlainEnds
 pub mod ReaderLemmas
 pub mod RetypedLemmas
 mod SameLemmas
@@ -53,7 +55,7 @@ pub mod SteppedLemmas
 pub mod StylesStay
 pub mod SubjectsStay
 mod TextEnds
-mod TranslationSame
+pub mod TranslationSame
 mod TreeAgain
 mod UpdateSame
 pub mod UpdatedBinds
