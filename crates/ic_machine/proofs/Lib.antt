@@ -33,6 +33,7 @@ mod LineRead
 mod LineSame
 mod LineStays
 mod LinesAgain
+pub mod MetadataFree
 pub mod NamesStay
 pub mod NewNames
 mod NewSheetSame
@@ -41,6 +42,7 @@ mod NotationStays
 pub mod NumberLemmas
 mod OthersSame
 pub mod PlacedLemmas
+mod PlainEnds
 pub mod ReaderLemmas
 pub mod RetypedLemmas
 mod SameLemmas
@@ -55,7 +57,7 @@ pub mod SteppedLemmas
 pub mod StylesStay
 pub mod SubjectsStay
 mod TextEnds
-mod TranslationSame
+pub mod TranslationSame
 mod TreeAgain
 mod UpdateSame
 pub mod UpdatedBinds

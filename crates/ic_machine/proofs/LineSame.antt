@@ -10,9 +10,10 @@ use Rattle.ic_machine.specs.Reply.{Field, Reply}
 use Rattle.ic_machine.specs.Same.{IsSameBook}
 use Rattle.ic_machine.specs.Step.{command_step, english_errors, line_step, outcome_of, step}
 use Rattle.ic_machine.specs.Translation.{AreTranslatedTexts, IsKeptLine, in_notation, is_dropped, is_switch, kept_command, kept_in, left_by, line_of, own_formula, texts_of, why_line_not, why_not}
-use Rattle.ic_machine.specs.TranslationLaws.{ErrorsEndPlain, IsBeside, IsWritable, LeavesSame, LineIsSame, looks_at_notation}
+use Rattle.ic_machine.specs.TranslationLaws.{BodyEndsPlain, ErrorsEndPlain, IsBeside, IsWritable, LeavesSame, LineIsSame, looks_at_notation}
 use Rattle.ic_machine.specs.subjects.Arrays as arrays
 use Rattle.ic_machine.specs.subjects.Definitions as definitions
+use Rattle.ic_machine.specs.subjects.Definitions.{Update}
 use Rattle.ic_machine.specs.subjects.Sheets as sheets
 use Rattle.ic_machine.specs.subjects.Writing as writing
 use Rattle.ic_machine.proofs.ArraySame.{array_is_same}
@@ -23,7 +24,7 @@ use Rattle.ic_machine.proofs.LineRead.{IsRead, is_read, last_line, same_line, sh
 use Rattle.ic_machine.proofs.NewSheetSame.{new_sheet_is_same}
 use Rattle.ic_machine.proofs.NotationStays.{IsSameNotation, KeepsNotation, KeepsNotationUnless, notation_stays}
 use Rattle.ic_machine.proofs.OthersSame.{others_are_same}
-use Rattle.ic_machine.proofs.UpdateSame.{update_is_same}
+use Rattle.ic_machine.proofs.UpdateSame.{update_ends_plain, update_is_same}
 
 -- a line is accepted, leaves the same as another, and keeps the notation
 pub record LineStays (left other : Book) (new : List ℕ) : Type 0 where
@@ -66,7 +67,12 @@ kept_as book line command left e = by_command (command_in (english_errors book) 
     by_command None read h = absurd (cc)
     by_command (Some c) read h = by_drop c read (is_dropped c) refl h
 
-module _ (locale language : List ℕ) (book left other : Book) (line : List ℕ) (beside : IsBeside locale language book other) (plain : ErrorsEndPlain other) where
+-- where it updates a definition, the new body doesn't end with a blank in the target
+abbrev EndsPlain : (book : Book) (line : List ℕ) (left target : Book) → Type 0
+EndsPlain book line left target =
+    (update : Update) → IsKeptAs book line (OnDefinitions (definitions.UpdateDefinedName update)) left → BodyEndsPlain book target (OnDefinitions (definitions.UpdateDefinedName update))
+
+module _ (locale language : List ℕ) (book left other : Book) (line : List ℕ) (beside : IsBeside locale language book other) (plain : EndsPlain book line left (in_notation locale language left)) where
   abbrev Goal : List ℕ → Type 0
   Goal new = LineStays left other new
 
@@ -134,7 +140,7 @@ module _ (locale language : List ℕ) (book left other : Book) (line : List ℕ)
       leaves new _
       (ap (command_in (english_errors book) commands) (is ∙ ap line_of are)
       ∙ last_line (english_errors book) line (OnDefinitions (definitions.UpdateDefinedName update)) (is_read (english_errors book) line (OnDefinitions (definitions.UpdateDefinedName update)) kept.read) _ _ refl) refl
-      (update_is_same locale language book left other kept.fields update beside plain kept.stepped writable)
+      (update_is_same locale language book left other kept.fields update beside kept.stepped writable (plain update kept))
   by_command (OnDefinitions command) kept writable texts new are is = others (OnDefinitions command) kept writable texts new are is kept.stays
   by_command (OnNotation command) kept writable texts new are is = others (OnNotation command) kept writable texts new are is kept.stays
   by_command (OnReading command) kept writable texts new are is = others (OnReading command) kept writable texts new are is kept.stays
@@ -149,12 +155,30 @@ pub writable_of : (locale language : List ℕ) (book left : Book) (command : Com
 writable_of locale language book left command line kept none =
     sym (ap (option_and_then (λ (kept : Command × Book). option_and_then (why_not (in_notation locale language book)) (own_formula book kept.0))) kept) ∙ none
 
-pub line_stays_same : (locale language : List ℕ) (book left other : Book) (command : Command) (line new : List ℕ) → IsBeside locale language book other → ErrorsEndPlain other → kept_in book line ≡ Some (command, left)
-    → why_line_not locale language book line ≡ None → IsKeptLine locale language book line (command, left) new → LineStays left other new
-line_stays_same locale language book left other command line new beside plain kept none are =
-    by_command locale language book left other line beside plain command (kept_as book line command left kept) (writable_of locale language book left command line kept none) are.0 new are.1.0 are.1.1
+pub line_stays_same : (locale language : List ℕ) (book left other : Book) (command : Command) (line new : List ℕ) → IsBeside locale language book other → kept_in book line ≡ Some (command, left)
+    → BodyEndsPlain book (in_notation locale language left) command → why_line_not locale language book line ≡ None → IsKeptLine locale language book line (command, left) new → LineStays left other new
+line_stays_same locale language book left other command line new beside kept plain none are =
+    let whole = kept_as book line command left kept in
+    let ends : EndsPlain book line left (in_notation locale language left) =
+    λ update k.
+    let both : Some command ≡ Some (OnDefinitions (definitions.UpdateDefinedName update)) = sym whole.read ∙ k.read in
+    let same : command ≡ OnDefinitions (definitions.UpdateDefinedName update) = cc in
+    subst (BodyEndsPlain book (in_notation locale language left)) same plain in
+    by_command locale language book left other line beside ends command whole (writable_of locale language book left command line kept none) are.0 new are.1.0 are.1.1
 
 pub line_is_same : (locale language : List ℕ) → LineIsSame locale language
-line_is_same locale language book left other command line new beside plain kept none are =
-    let stays = line_stays_same locale language book left other command line new beside plain kept none are in
+line_is_same locale language book left other command line new beside kept plain none are =
+    let stays = line_stays_same locale language book left other command line new beside kept plain none are in
     (stays.fields, stays.accepted, stays.same)
+
+-- where no error word ends with a blank, no body does that a line updates
+body_ends_plain : (locale language : List ℕ) (book left other : Book) (line : List ℕ) (command : Command) → IsBeside locale language book other → ErrorsEndPlain other → IsKeptAs book line command left
+    → IsWritable locale language book command → BodyEndsPlain book (in_notation locale language left) command
+body_ends_plain locale language book left other line (OnDefinitions (definitions.UpdateDefinedName update)) beside plain_ends kept writable =
+    update_ends_plain locale language book left other kept.fields update beside kept.stepped writable plain_ends
+body_ends_plain locale language book left other line command beside plain_ends kept writable = tt
+
+pub line_ends_plain : (locale language : List ℕ) (book left other : Book) (command : Command) (line : List ℕ) → IsBeside locale language book other → ErrorsEndPlain other → kept_in book line ≡ Some (command, left)
+    → why_line_not locale language book line ≡ None → BodyEndsPlain book (in_notation locale language left) command
+line_ends_plain locale language book left other command line beside plain_ends kept none =
+    body_ends_plain locale language book left other line command beside plain_ends (kept_as book line command left kept) (writable_of locale language book left command line kept none)

@@ -20,7 +20,10 @@ use Rattle.ic_machine.specs.subjects.Definitions.{Update}
 use Rattle.ic_machine.specs.subjects.Sheets as sheets
 use Rattle.ic_machine.specs.subjects.Writing as writing
 
--- another book is the same as one, and has this notation
+-- Another book is the same as one, and has this notation. Both are valid, as each book is that a model holds. Of the other's
+-- validity the laws use that its notation is one of its tables, that these are well-formed, and that its core is valid: its
+-- sheets, their names and ids, its definitions with their bodies, and the formulas of its cells. That its styles, arrays,
+-- merged cells, lines and zone are as they must be is nowhere used.
 pub record IsBeside (locale language : List ℕ) (book other : Book) : Type 0 where
   pub valid : IsValidBook book
   pub valid_beside : IsValidBook other
@@ -28,10 +31,16 @@ pub record IsBeside (locale language : List ℕ) (book other : Book) : Type 0 wh
   pub locale_is : other.locale ≡ locale
   pub language_is : other.language ≡ language
 
--- In the notation in force no word of an error value ends with a blank. What an update of a definition is given loses the
--- blanks at its ends, so that no body could be given that ends with such a word.
+-- in the notation in force no word of an error value ends with a blank
 abbrev pub ErrorsEndPlain : Book → Type 0
 ErrorsEndPlain book = (e : Error) → first_is is_blank (reverse (error_in book e)) ≡ false
+
+-- Where a command updates a definition, its new body, as it is written in the target, doesn't end with a blank. An update
+-- drops the blanks at both ends of the body that it is given, and so the last blank of an error word that has one.
+abbrev pub BodyEndsPlain : Book → Book → Command → Type 0
+BodyEndsPlain book target (OnDefinitions (definitions.UpdateDefinedName update)) =
+    first_is is_blank (reverse (body_text target (defined book (definitions.UpdateDefinedName update)))) ≡ false
+BodyEndsPlain book target command = Unit {0}
 
 -- a step is accepted, and leaves a book that is the same as this one
 abbrev pub LeavesSame : Book → Stepped Book → Type 0
@@ -95,8 +104,9 @@ module _ (locale language : List ℕ) where
 
   abbrev pub UpdateIsSame : Type 0
   UpdateIsSame =
-      (book left other : Book) (fields : List Field) (update : Update) → IsBeside locale language book other → ErrorsEndPlain other
+      (book left other : Book) (fields : List Field) (update : Update) → IsBeside locale language book other
       → step book (OnDefinitions (definitions.UpdateDefinedName update)) ≡ Ok (left, fields) → IsWritable book (OnDefinitions (definitions.UpdateDefinedName update))
+      → BodyEndsPlain book (in_notation locale language left) (OnDefinitions (definitions.UpdateDefinedName update))
       → LeavesSame left (step other (OnDefinitions (definitions.UpdateDefinedName (record update { body = body_text (in_notation locale language left) (defined book (definitions.UpdateDefinedName update)) }))))
 
   -- All others, lines that are kept, and lists. ----
@@ -109,11 +119,26 @@ module _ (locale language : List ℕ) where
   -- what a line becomes is a command that leaves the same
   abbrev pub LineIsSame : Type 0
   LineIsSame =
-      (book left other : Book) (command : Command) (line new : List ℕ) → IsBeside locale language book other → ErrorsEndPlain other → kept_in book line ≡ Some (command, left)
-      → why_line_not locale language book line ≡ None → IsKeptLine locale language book line (command, left) new
+      (book left other : Book) (command : Command) (line new : List ℕ) → IsBeside locale language book other → kept_in book line ≡ Some (command, left)
+      → BodyEndsPlain book (in_notation locale language left) command → why_line_not locale language book line ≡ None → IsKeptLine locale language book line (command, left) new
       → (fields : List Field) × ((line_step commands other new).1 ≡ Ok fields) × IsSameBook left (line_step commands other new).0
+
+  -- that holds of what a line is kept as, and of each line of a list that is kept
+  abbrev pub KeptEndsPlain : Book → Option (Command × Book) → Type 0
+  KeptEndsPlain book None = Unit {0}
+  KeptEndsPlain book (Some kept) = BodyEndsPlain book (in_notation locale language kept.1) kept.0
+
+  abbrev pub BodiesEndPlain : Book → List (List ℕ) → Type 0
+  BodiesEndPlain book [] = Unit {0}
+  BodiesEndPlain book (line ∷ lines) = KeptEndsPlain book (kept_in book line) × BodiesEndPlain (left_after book line) lines
 
   abbrev pub TranslationKeepsBook : Type 0
   TranslationKeepsBook =
-      (book other : Book) (lines new : List (List ℕ)) → IsBeside locale language book other → ErrorsEndPlain other
+      (book other : Book) (lines new : List (List ℕ)) → IsBeside locale language book other → BodiesEndPlain book lines
       → first_hindered locale language 1 book lines ≡ None → AreTranslated locale language book lines new → AreAccepted other new × IsSameBook (after (machine commands) book lines) (after (machine commands) other new)
+
+  -- where no error word ends with a blank, no body of a translated list does
+  abbrev pub PlainErrorsEndBodies : Type 0
+  PlainErrorsEndBodies =
+      (book other : Book) (lines new : List (List ℕ)) → IsBeside locale language book other → ErrorsEndPlain other
+      → first_hindered locale language 1 book lines ≡ None → AreTranslated locale language book lines new → BodiesEndPlain book lines

@@ -21,7 +21,7 @@ ghost use Rattle.ic_machine.specs.Readers.{LeavesIf, is_reader};
 ghost use Rattle.ic_machine.specs.Retyped.{RetypedStays};
 ghost use Rattle.ic_machine.specs.Scene.{KeepsSceneIf, leaves_names};
 ghost use Rattle.ic_machine.specs.Step.{step};
-ghost use Rattle.ic_machine.specs.TranslationLaws.{TranslationKeepsBook};
+ghost use Rattle.ic_machine.specs.TranslationLaws.{PlainErrorsEndBodies, TranslationKeepsBook};
 ghost use Rattle.ic_machine.specs.subjects.Arrays.{arrays_step};
 ghost use Rattle.ic_machine.specs.subjects.Definitions.{definition_step};
 ghost use Rattle.ic_machine.specs.subjects.Extending.{extending_step};
@@ -155,10 +155,11 @@ pub fn law_extended_is_same()
 
 /// Lines that are translated are each accepted in their turn by every book that is the same as the one before and has the
 /// notation that is asked for, and leave a book that is the same as the one after the lines that they were translated
-/// from. None of these can't be translated, both books are valid, and in the notation that is asked for no word of an error
-/// value ends with a blank.
+/// from. None of these can't be translated, both books are valid, and no definition is updated to a body that ends with a
+/// blank in the notation that is asked for. Only an error word that ends with a blank can be at the end of such a body.
 pub fn law_translation_keeps_book()
-    ensures { (locale language : List ℕ) → TranslationKeepsBook locale language }
+    ensures keeps { (locale language : List ℕ) → TranslationKeepsBook locale language }
+    ensures plain { (locale language : List ℕ) → PlainErrorsEndBodies locale language }
 {}
 
 /// By any locale and any code, what an amount is shown as by the machine, which tries the kinds of codes one after another,
