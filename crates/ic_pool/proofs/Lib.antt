@@ -12,6 +12,7 @@ pub mod LateLemmas
 pub mod ListedLemmas
 pub mod MentionLemmas
 pub mod MentionedLemmas
+pub mod MentioningLemmas
 pub mod PlaceLemmas
 pub mod PlacedLemmas
 pub mod Rebuilt

@@ -136,7 +136,7 @@ module _ (f : Formula → Formula) (test : Formula → Bool) (formulas : List Fo
     pub done : RewrittenTo i s
     pub awaits : Awaits i ps
 
-  same_test : (k : ℕ) (ks : List ℕ) → is_among k ks ≡ list_any (is_at (nat_cmp k)) ks
+  pub same_test : (k : ℕ) (ks : List ℕ) → is_among k ks ≡ list_any (is_at (nat_cmp k)) ks
   same_test k [] = refl
   same_test k (q ∷ ks) = ap₂ (λ a b. a || b) (sym (unsigned_tied k q)) (same_test k ks)
 

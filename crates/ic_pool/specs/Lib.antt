@@ -4,6 +4,7 @@ pub mod Hash
 pub mod Kept
 pub mod LookUp
 pub mod MentionPlaces
+pub mod Mentioning
 pub mod Mentions
 pub mod Pool
 pub mod Remade

@@ -11,8 +11,10 @@ mod sheets;
 
 use crate::copies::{MentionChange, copy_changed};
 use crate::mentions::{MentionTest, some_in};
+pub(crate) use definitions::is_of_name;
 pub use definitions::{DefinitionAdded, DefinitionGone, same_key, same_scope};
 use ic_laws::{Formula, NameMention, OutOfMemory, SheetMention};
+pub(crate) use sheets::is_to_sheet;
 pub use sheets::{SheetGone, SheetNamed};
 use std::alloc::Global;
 

@@ -6,7 +6,8 @@
 //! `apply` then can't fail. The four changes are `SheetNamed`, `SheetGone`, `DefinitionAdded` and `DefinitionGone`;
 //! `changed_formula` says what one makes of a formula. A `Remaking` makes formulas anew by a rule of the caller's:
 //! `prepare_remade` makes that ready. A pool has an index from what its formulas mention, told by topics, so each change
-//! and each rule names the topics that it is about.
+//! and each rule names the topics that it is about. `places_of_sheet` and `places_of_name` tell by it where a sheet or a
+//! definition is mentioned.
 #![tactic(auto)]
 
 mod changes;
@@ -34,7 +35,7 @@ pub use hashed::HashedKey;
 pub use key::Key;
 pub use law::law_code_determines;
 pub use mentions::has_dangling;
-pub use pool::{Pool, Replacement, Rewrites};
+pub use pool::{Pool, Replacement, Rewrites, mentions_name, mentions_sheet};
 pub use remaking::{Remaking, remade_formula};
 pub use steps::Steps;
 pub use topics::folded_topic;

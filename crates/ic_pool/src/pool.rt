@@ -10,6 +10,7 @@ ghost use Rattle.ic_pool.specs.Pool.{EndsWithNew, IsPlaced, dangling_places, fir
 ghost use Rattle.ic_pool.specs.Topics.{mentions_some};
 
 mod index;
+mod mentioning;
 mod rewrites;
 
 use crate::look_up::LookUp;
@@ -18,6 +19,7 @@ use crate::same::are_same;
 use crate::{BookChange, HashedKey, Remaking, Steps, copy_formula, key_of};
 use ic_laws::{Formula, OutOfMemory};
 use index::{all_places, dangling_in, dangling_weight, index_of, put_late, renewed};
+pub use mentioning::{mentions_name, mentions_sheet};
 pub use rewrites::{Replacement, Rewrites};
 use rewrites::{rewrites_at, rewrites_remade};
 use std::alloc::Global;

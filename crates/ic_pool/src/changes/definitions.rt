@@ -214,7 +214,7 @@ impl<'n> BookChange for DefinitionGone<'n> {
 }
 
 /// Whether a word means the definition with this key.
-fn is_of_name(key: &NameKey, mention: &NameMention) -> bool
+pub(crate) fn is_of_name(key: &NameKey, mention: &NameMention) -> bool
     ensures { result ≡ is_of_name key.now mention.now }
 {
     match mention {

@@ -208,7 +208,7 @@ fn is_dangling_by(mention: &SheetMention, name: &str) -> bool
 }
 
 /// Whether a reference is to the sheet with this id.
-fn is_to_sheet(mention: &SheetMention, id: u32) -> bool
+pub(crate) fn is_to_sheet(mention: &SheetMention, id: u32) -> bool
     ensures { result ≡ is_of_sheet id mention.now }
 {
     match mention {
