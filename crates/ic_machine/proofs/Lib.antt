@@ -31,6 +31,7 @@ mod LineRead
 mod LineSame
 mod LineStays
 mod LinesAgain
+mod NamesFirst
 pub mod NamesStay
 pub mod NewNames
 mod NewSheetSame

@@ -13,7 +13,8 @@ ghost use Rattle.ic_machine.specs.Extended.{ExtendedIsSame};
 ghost use Rattle.ic_machine.specs.Kept.{CoreIsValid, CoreStaysValid, KeepsValid, KeepsValidIf};
 ghost use Rattle.ic_machine.specs.Kept.{gives_id};
 ghost use Rattle.ic_machine.specs.Laws.{BadLineStays, CounterpartsAreBack, NumbersAreSmall};
-ghost use Rattle.ic_machine.specs.Laws.{CoreIsServed, RefusedStays, ServedIsCore};
+ghost use Rattle.ic_machine.specs.Laws.{CopyIsNamedFirst, CoreIsServed, NewIsNamedFirst};
+ghost use Rattle.ic_machine.specs.Laws.{RefusedStays, ServedIsCore};
 ghost use Rattle.ic_machine.specs.Laws.{RunsLeaveSame, RunsTellSame};
 ghost use Rattle.ic_machine.specs.Readers.{LeavesIf, is_reader};
 ghost use Rattle.ic_machine.specs.Retyped.{RetypedStays};
@@ -56,6 +57,13 @@ pub fn law_cells_leave_names()
 /// The number in the name that a new sheet or a copy gets is at most one more than there are sheets.
 pub fn law_numbers_are_small()
     ensures { NumbersAreSmall }
+{}
+
+/// In a valid book the number in the name that a new sheet or a copy gets is the least from 1 that gives a free name: no
+/// sheet had that name, and with each smaller number the name agrees with that of some sheet.
+pub fn law_names_are_first_free()
+    ensures new { NewIsNamedFirst }
+    ensures copy { CopyIsNamedFirst }
 {}
 
 /// A cell, with the texts of the shared strings, is a content: of the same shape and style, and emptied, with another value
