@@ -18,6 +18,7 @@ pub mod CoreValid
 mod DefinitionSame
 pub mod DuplicatedStays
 pub mod ExtendedLemmas
+mod FoldFusion
 pub mod FormulaLemmas
 mod FormulaSame
 pub mod FormulaStepped
@@ -31,6 +32,10 @@ mod LineRead
 mod LineSame
 mod LineStays
 mod LinesAgain
+mod LostKept
+mod LostTokens
+mod LostTrees
+mod LostWell
 mod NamesFirst
 pub mod NamesStay
 pub mod NewNames

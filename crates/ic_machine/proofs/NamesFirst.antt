@@ -1,20 +1,19 @@
 -- The number in the name of a new sheet or of a copy is the first that gives a free name.
-use Rattle.std.proofs.Common.{◌≡◌, ℕ, ◌+◌, ◌<◌, List, [], ◌∷◌, ◌++◌, length, false, Option, Some, None, Ok, refl, sym, ap, ◌∙◌, arith, length-append}
+use Rattle.std.proofs.Common.{◌≡◌, ℕ, ◌+◌, ◌<◌, List, [], ◌∷◌, ◌++◌, length, false, Option, Some, Ok, refl, sym, ap, ◌∙◌, arith, length-append}
 use Rattle.std.proofs.Math.Seq.{get_or-append_seam}
 use Rattle.std.proofs.lemmas.List.{length-map}
 use Rattle.std.proofs.lemmas.Option.{slice_get_read, slice_get_within}
 use Rattle.std.specs.Prelude.{is_none, option_map, slice_get}
 use Rattle.ic_laws.specs.CoreBook.{fresh_id, greatest_id, has_sheet}
 use Rattle.ic_laws.specs.Keeping.{same_keys}
-use Rattle.ic_machine.specs.Book.{Book, Sheet, Stepped, core_of, empty_sheet, found_or, notations_in, scene_in, unless}
+use Rattle.ic_machine.specs.Book.{Book, Sheet, core_of, empty_sheet, found_or, notations_in, scene_in}
 use Rattle.ic_machine.specs.Changed.{changed_by, with_kept_formulas}
 use Rattle.ic_machine.specs.Laws.{CopyIsNamedFirst, IsFirstFree, NewIsNamedFirst}
 use Rattle.ic_machine.specs.Refusal.{IdsUsedUp, InvalidSheet, Refusal, first_refusal}
-use Rattle.ic_machine.specs.Reply.{Field}
 use Rattle.ic_machine.specs.subjects.Sheets.{copies_of_definitions, copy_name, copy_of_sheet, duplicate_sheet_step, duplicated, free_number, name_of_copy, named_fields, new_sheet_name, new_sheet_step, numbered_name, with_copy, with_new_sheet}
 use Rattle.ic_machine.proofs.CopiedWords.{got_inserted}
 use Rattle.ic_machine.proofs.DuplicatedStays as copies
-use Rattle.ic_machine.proofs.InsertedBinds.{accepted}
+use Rattle.ic_machine.proofs.InsertedBinds.{accepted, told}
 use Rattle.ic_machine.proofs.InsertedStays.{none_holds}
 use Rattle.ic_machine.proofs.NewSheetStays.{is_free}
 use Rattle.ic_machine.proofs.NumberLemmas.{from_one, smaller_taken}
@@ -24,15 +23,6 @@ got_at_end : {X : Type 0} (xs : List X) (x : X) → slice_get (xs ++ x ∷ []) (
 got_at_end xs x =
     let long : length (xs ++ x ∷ []) ≡ length xs + 1 = length-append xs (x ∷ []) in
     slice_get_read (xs ++ x ∷ []) (length (xs ++ x ∷ [])) (length xs) x refl (omega (arith, long)) (sym (get_or-append_seam xs x [] x))
-
--- an accepted step answers what it says
-told : (refusal : Option Refusal) (left after : Book) (said fields : List Field) → unless refusal left said ≡ Ok (after, fields) → fields ≡ said
-told (Some r) left after said fields e = absurd cc
-told None left after said fields e =
-    let both : (left, said) ≡ (after, fields) = same (left, said) (after, fields) e in sym (ap (λ (p : Book × List Field). p.1) both)
-  where
-    same : (p q : Book × List Field) → (let o : Stepped Book = Ok p in o ≡ Ok q) → p ≡ q
-    same p q e = cc
 
 first_free : (b : Book) (name : ℕ → List ℕ) → has_sheet (core_of b) (name (free_number b name)) ≡ false → IsFirstFree b name (free_number b name)
 first_free b name free = record { from_one = from_one b name; free = free; taken = smaller_taken b name }
