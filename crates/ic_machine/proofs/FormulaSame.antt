@@ -105,10 +105,10 @@ module _ (b c : Book) (valid : IsValidBook b) (valid_there : IsValidBook c) (sam
       let shown : List ℕ = printed (shown_at (notations_in c) (core_of c) place.0 place.1) (spelled (scene_in c) u) in
       record {
         shown = shown;
-        some = some_shown c valid_there index t there place cell u kept free;
+        some = some_shown c valid_there (Some t.id) place cell u kept free;
         text = ap (λ (formula : Formula). formula_text (in_notation c.locale c.language left) place formula) tree.1 ∙ shown_there c left tables (names ∙ sym (scene_same b c same)) place u;
-        typed = retyped.formula_typed c valid_there index t there place cell u kept free;
-        told = formula_told c valid_there index t there place cell u kept free;
+        typed = retyped.formula_typed c valid_there (Some t.id) place cell u kept free;
+        told = formula_told c valid_there (Some t.id) place cell u kept free;
         reads = read_again c valid_there index t there place cell u kept free ∙ sym tree.1;
       }
 

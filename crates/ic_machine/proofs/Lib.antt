@@ -19,6 +19,7 @@ pub mod CoreValid
 mod DefinitionSame
 pub mod DuplicatedStays
 pub mod ExtendedLemmas
+mod FoldFusion
 pub mod FormatLemmas
 pub mod FormulaLemmas
 mod FormulaSame
@@ -33,7 +34,12 @@ mod LineRead
 mod LineSame
 mod LineStays
 mod LinesAgain
+mod LostKept
+mod LostTokens
+mod LostTrees
+mod LostWell
 pub mod MetadataFree
+mod NamesFirst
 pub mod NamesStay
 pub mod NewNames
 mod NewSheetSame

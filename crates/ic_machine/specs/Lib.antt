@@ -14,6 +14,7 @@ pub mod InForce
 pub mod Kept
 pub mod Laws
 pub mod Line
+pub mod Lost
 pub mod Parsed
 pub mod Placed
 pub mod Readers

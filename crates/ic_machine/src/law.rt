@@ -9,12 +9,14 @@ ghost use Rattle.ic_machine.specs.Book.{Book};
 ghost use Rattle.ic_machine.specs.Command.{Command};
 ghost use Rattle.ic_machine.specs.Content.{content_of, held};
 ghost use Rattle.ic_machine.specs.Core.{FormulaIsStepped, IsSteppedAs, core_command};
-ghost use Rattle.ic_machine.specs.Extended.{ExtendedIsSame};
+ghost use Rattle.ic_machine.specs.Extended.{CopiedIsOver, CopiedTextStays, ReferenceIsWritten};
+ghost use Rattle.ic_machine.specs.Extended.{ExtendedIsSame, ExtendedIsTyped, ExtendedIsWritten};
 ghost use Rattle.ic_machine.specs.FormattedLaws.{DateIsCounted, FormattedIsRuled, RuledIsFormatted};
 ghost use Rattle.ic_machine.specs.Kept.{CoreIsValid, CoreStaysValid, KeepsValid, KeepsValidIf};
 ghost use Rattle.ic_machine.specs.Kept.{gives_id};
 ghost use Rattle.ic_machine.specs.Laws.{BadLineStays, CounterpartsAreBack, NumbersAreSmall};
-ghost use Rattle.ic_machine.specs.Laws.{CoreIsRead, CoreLinesAreCore, RefusedStays};
+ghost use Rattle.ic_machine.specs.Laws.{CopyIsNamedFirst, CoreIsRead, CoreLinesAreCore};
+ghost use Rattle.ic_machine.specs.Laws.{NewIsNamedFirst, RefusedStays};
 ghost use Rattle.ic_machine.specs.Laws.{RunsLeaveSame, RunsTellSame};
 ghost use Rattle.ic_machine.specs.Placed.{FormulaIsPlaced, PlacedAlone};
 ghost use Rattle.ic_machine.specs.Readers.{LeavesIf, is_reader};
@@ -65,6 +67,13 @@ pub fn law_numbers_are_small()
 pub fn law_formula_is_placed()
     ensures placed { FormulaIsPlaced }
     ensures alone { PlacedAlone }
+{}
+
+/// In a valid book the number in the name that a new sheet or a copy gets is the least from 1 that gives a free name: no
+/// sheet had that name, and with each smaller number the name agrees with that of some sheet.
+pub fn law_names_are_first_free()
+    ensures new { NewIsNamedFirst }
+    ensures copy { CopyIsNamedFirst }
 {}
 
 /// A cell, with the texts of the shared strings, is a content: of the same shape and style, and emptied, with another value
@@ -147,10 +156,28 @@ pub fn law_retyped_stays()
     ensures { RetypedStays }
 {}
 
-/// A cell's formula that is extended to another cell is typed there as the same tree, with the same offsets and the same
-/// fixed positions, unless a reference leaves the sheet or a name is a word of the language in force.
+/// A cell's formula that is extended to another cell is written there as it is, with the word for a lost reference in the
+/// place of each reference that leaves the sheet there. It is typed there as that tree, with the same offsets and the same
+/// fixed positions, and so as the same tree where no reference leaves the sheet, unless a name is a word of the language
+/// in force.
 pub fn law_extended_is_same()
-    ensures { ExtendedIsSame }
+    ensures same { ExtendedIsSame }
+    ensures written { ExtendedIsWritten }
+    ensures typed { ExtendedIsTyped }
+{}
+
+/// What is written of a reference in a cell, whatever the other references of its formula do: where it lies in the sheet, it
+/// is read as the same reference; where it leaves the sheet, it is the word of the error value REF.
+pub fn law_reference_is_written()
+    ensures { ReferenceIsWritten }
+{}
+
+/// A formula that was copied from a cell reads there as a tree. What it is extended to is written of that tree, bound and
+/// spelled, with its lost references, and reads so at the target, unless a name is a word of the language in force. A
+/// copied text that is no formula stays.
+pub fn law_copied_is_extended()
+    ensures formula { CopiedIsOver }
+    ensures text { CopiedTextStays }
 {}
 
 /// Lines that are translated are each accepted in their turn by every book that is the same as the one before and has the
