@@ -5,6 +5,7 @@ mod ArraySame
 pub mod ArrayStays
 pub mod ArraysStay
 mod BareGrid
+mod BesideLemmas
 pub mod BindsLemmas
 mod BodyAgain
 mod ChangedSame

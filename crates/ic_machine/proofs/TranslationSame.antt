@@ -4,6 +4,7 @@ use Rattle.std.specs.List.{AllZip}
 use Rattle.std.specs.Prelude.{reverse}
 use Rattle.ic_laws.specs.Scan.{first_is, is_blank}
 use Rattle.ic_tables.specs.Tables.{TableSet}
+use Rattle.ic_tree.specs.Notations.{notations_of}
 use Rattle.ic_machine.specs.Book.{Book, Sheet, Stepped}
 use Rattle.ic_machine.specs.Command.{Command, commands}
 use Rattle.ic_machine.specs.InForce.{error_in}
@@ -70,16 +71,21 @@ module _ (locale language : List ℕ) where
   beside_gone : (book other : Book) (line : List ℕ) → IsBeside locale language book other → kept_in book line ≡ None → IsBeside locale language (left_after book line) other
   beside_gone book other line beside gone = record {
     valid = line_stays book beside.valid line;
-    valid_beside = beside.valid_beside;
+    known_locale = ap (λ (t : TableSet). (notations_of t).knows_locale locale) (gone_is_same book line gone).tables ∙ beside.known_locale;
+    known_language = ap (λ (t : TableSet). (notations_of t).knows_language language) (gone_is_same book line gone).tables ∙ beside.known_language;
     same = book_joined (left_after book line) book other (gone_is_same book line gone) beside.same;
     locale_is = beside.locale_is;
     language_is = beside.language_is;
   }
 
+  tables_kept : (book other left : Book) (line new : List ℕ) → IsBeside locale language book other → left_after book line ≡ left → LineStays left other new → (left_after book line).tables ≡ book.tables
+  tables_kept book other left line new beside is stays = ap (λ (b : Book). b.tables) is ∙ stays.same.tables ∙ stays.notation.tables ∙ sym beside.same.tables
+
   beside_kept : (book other left : Book) (line new : List ℕ) → IsBeside locale language book other → left_after book line ≡ left → LineStays left other new → IsBeside locale language (left_after book line) (left_after other new)
   beside_kept book other left line new beside is stays = record {
     valid = line_stays book beside.valid line;
-    valid_beside = line_stays other beside.valid_beside new;
+    known_locale = ap (λ (t : TableSet). (notations_of t).knows_locale locale) (tables_kept book other left line new beside is stays) ∙ beside.known_locale;
+    known_language = ap (λ (t : TableSet). (notations_of t).knows_language language) (tables_kept book other left line new beside is stays) ∙ beside.known_language;
     same = subst (λ (b : Book). IsSameBook b (left_after other new)) (sym is) stays.same;
     locale_is = stays.notation.locale ∙ beside.locale_is;
     language_is = stays.notation.language ∙ beside.language_is;

@@ -43,6 +43,7 @@ use Rattle.ic_machine.specs.TranslationLaws.{BodyEndsPlain, ErrorsEndPlain, IsBe
 use Rattle.ic_machine.specs.Valid.{IsValidBook}
 use Rattle.ic_machine.specs.subjects.Definitions as definitions
 use Rattle.ic_machine.specs.subjects.Definitions.{Update, captures, keys_of_update, meets_other, new_key, new_scope_id, old_key, old_scope, scene_updated, update_body, update_causes, update_name_step, update_sites, updated_book, updated_index, with_body, with_update}
+use Rattle.ic_machine.proofs.BesideLemmas.{twin_valid}
 use Rattle.ic_machine.proofs.ChangedSame.{changed_same}
 use Rattle.ic_machine.proofs.ChangedStays.{kept_definitions, kept_sheets, seen_kept, spelled_kept}
 use Rattle.ic_machine.proofs.ChangedStays as changed
@@ -67,9 +68,13 @@ none_refuses : (causes : Causes) → AllByRecursion (λ (cause : Bool × Refusal
 none_refuses [] h = refl
 none_refuses (cause ∷ causes) h = ap (λ (b : Bool). cond b (Some cause.1) (first_refusal causes)) h.0 ∙ none_refuses causes h.1
 
-module _ (b c : Book) (valid : IsValidBook b) (valid_there : IsValidBook c) (same : IsSameBook b c) (u : Update) (given : List ℕ) where
+module _ (b c : Book) (valid : IsValidBook b) (valid_there : IsValidBook (in_notation c.locale c.language b)) (same : IsSameBook b c) (u : Update) (given : List ℕ) where
   abbrev n : Notations
   n = notations_in b
+
+  -- the book itself in the other notation
+  abbrev twin : Book
+  twin = in_notation c.locale c.language b
 
   abbrev u' : Update
   u' = record u { body = given }
@@ -146,24 +151,24 @@ module _ (b c : Book) (valid : IsValidBook b) (valid_there : IsValidBook c) (sam
           put_holds (IsKeptBody (notations_in left) (scene_in left)) (kept_in_body n (scene_in b) later (keys_of_update b u)) made index b.definitions at.0 at.1 valid_left.kept.bodies
 
       abbrev d : DialectMeaning
-      d = form left c valid_left valid_there same.tables
+      d = form left twin valid_left valid_there refl
 
       abbrev v : Spelled
       v = spelled (scene_in left) tree
 
       fits : Fits d v
-      fits = fits_there left c valid_left valid_there same.tables (new_scope_id b u) tree kept free
+      fits = fits_there left twin valid_left valid_there refl (new_scope_id b u) tree kept free
 
       reads : read_as d (printed d v) ≡ Some v
-      reads = reads_there left c valid_left valid_there same.tables (new_scope_id b u) tree kept free
+      reads = reads_there left twin valid_left valid_there refl (new_scope_id b u) tree kept free
 
       ends : ErrorsEndPlain c → EndsSolid d
       ends plain_ends = record {
         errors = λ e.
             ap (λ (word : List ℕ). first_is is_blank (reverse word))
-            (error_there left c valid_left valid_there same.tables e ∙ ap (by_notation [] (λ (f : InForce). error_word f.language e)) (force_same c left same.tables))
+            (error_there left twin valid_left valid_there refl e ∙ ap (by_notation [] (λ (f : InForce). error_word f.language e)) (force_same c left same.tables))
             ∙ plain_ends e;
-        references = references_there left c valid_left valid_there same.tables;
+        references = references_there left twin valid_left valid_there refl;
       }
 
       abbrev body_there : Body
@@ -176,12 +181,12 @@ module _ (b c : Book) (valid : IsValidBook b) (valid_there : IsValidBook c) (sam
       -- where no error word ends with a blank, it doesn't
       text_plain : ErrorsEndPlain c → first_is is_blank (reverse text_there) ≡ false
       text_plain plain_ends =
-          let lawful = (form_there left c valid_left valid_there same.tables).lawful in
+          let lawful = (form_there left twin valid_left valid_there refl).lawful in
           ends_plain text_there (tight_front body.has_equals (printed d v) (printed_tight d lawful v fits reads (ends plain_ends)))
 
       read_there : first_is is_blank (reverse text_there) ≡ false → update_body n (core_of c) text_there ≡ Some body_there
       read_there plain =
-          let lawful = (form_there left c valid_left valid_there same.tables).lawful in
+          let lawful = (form_there left twin valid_left valid_there refl).lawful in
           let bare = no_equals d lawful v fits reads in
           let tight = tight_unless text_there (begins_front body.has_equals (printed d v) (printed_begins d lawful v fits reads)) plain in
           let trims : trimmed text_there ≡ text_there = trimmed_tight text_there tight in
@@ -264,7 +269,7 @@ UpdateStays book left other update locale language =
     × (BodyEndsPlain book (in_notation locale language left) (OnDefinitions (definitions.UpdateDefinedName update))
     → LeavesSame left (step other (OnDefinitions (definitions.UpdateDefinedName (record update { body = body_text (in_notation locale language left) (defined book (definitions.UpdateDefinedName update)) })))))
 
-module _ (b left c : Book) (valid : IsValidBook b) (valid_there : IsValidBook c) (same : IsSameBook b c) (fields : List Field) (u : Update)
+module _ (b left c : Book) (valid : IsValidBook b) (valid_there : IsValidBook (in_notation c.locale c.language b)) (same : IsSameBook b c) (fields : List Field) (u : Update)
     (e : step b (OnDefinitions (definitions.UpdateDefinedName u)) ≡ Ok (left, fields)) where
   update_stays : UpdateStays b left c u c.locale c.language
   unfolding update_name_step
@@ -299,7 +304,7 @@ told_by : (locale language : List ℕ) (book left other : Book) (fields : List F
 told_by locale language book left other fields update beside e =
     subst (λ (l : List ℕ). UpdateStays book left other update l language) beside.locale_is
     (subst (λ (l : List ℕ). UpdateStays book left other update other.locale l) beside.language_is
-    (update_stays book left other beside.valid beside.valid_beside beside.same fields update e))
+    (update_stays book left other beside.valid (twin_valid locale language book other beside) beside.same fields update e))
 
 pub update_is_same : (locale language : List ℕ) → UpdateIsSame locale language
 update_is_same locale language book left other fields update beside e writable plain = (told_by locale language book left other fields update beside e writable).1 plain

@@ -5,7 +5,7 @@ use Rattle.ic_laws.specs.Scan.{first_is, is_blank}
 use Rattle.ic_laws.specs.declared.tree.Error.{Error}
 use Rattle.ic_grid.specs.declared.block.Block.{Block}
 use Rattle.ic_grid.specs.Block.{first_place}
-use Rattle.ic_machine.specs.Book.{Book, Stepped}
+use Rattle.ic_machine.specs.Book.{Book, Stepped, notations_in}
 use Rattle.ic_machine.specs.Command.{Command, OnArrays, OnDefinitions, OnSheets, OnWriting, commands}
 use Rattle.ic_machine.specs.InForce.{error_in, typed_in}
 use Rattle.ic_machine.specs.Reply.{Field}
@@ -20,13 +20,12 @@ use Rattle.ic_machine.specs.subjects.Definitions.{Update}
 use Rattle.ic_machine.specs.subjects.Sheets as sheets
 use Rattle.ic_machine.specs.subjects.Writing as writing
 
--- Another book is the same as one, and has this notation. Both are valid, as each book is that a model holds. Of the other's
--- validity the laws use that its notation is one of its tables, that these are well-formed, and that its core is valid: its
--- sheets, their names and ids, its definitions with their bodies, and the formulas of its cells. That its styles, arrays,
--- merged cells, lines and zone are as they must be is nowhere used.
+-- Another book is the same as a valid one, and has this notation, which is one of their tables. Nothing else is asked of the
+-- other, and so not that it is valid: its styles and their numbers may be any.
 pub record IsBeside (locale language : List ℕ) (book other : Book) : Type 0 where
   pub valid : IsValidBook book
-  pub valid_beside : IsValidBook other
+  pub known_locale : (notations_in book).knows_locale locale ≡ true
+  pub known_language : (notations_in book).knows_language language ≡ true
   pub same : IsSameBook book other
   pub locale_is : other.locale ≡ locale
   pub language_is : other.language ≡ language

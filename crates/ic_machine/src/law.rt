@@ -182,8 +182,9 @@ pub fn law_copied_is_extended()
 
 /// Lines that are translated are each accepted in their turn by every book that is the same as the one before and has the
 /// notation that is asked for, and leave a book that is the same as the one after the lines that they were translated
-/// from. None of these can't be translated, both books are valid, and no definition is updated to a body that ends with a
-/// blank in the notation that is asked for. Only an error word that ends with a blank can be at the end of such a body.
+/// from. None of these can't be translated, the book that they were translated from is valid, its tables have the notation,
+/// and no definition is updated to a body that ends with a blank in it. Only an error word that ends with a blank can be at
+/// the end of such a body.
 pub fn law_translation_keeps_book()
     ensures keeps { (locale language : List ℕ) → TranslationKeepsBook locale language }
     ensures plain { (locale language : List ℕ) → PlainErrorsEndBodies locale language }
