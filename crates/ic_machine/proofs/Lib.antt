@@ -67,6 +67,7 @@ mod TextEnds
 pub mod TranslationSame
 mod TreeAgain
 mod UpdateSame
+mod TypedAmounts
 pub mod UpdatedBinds
 pub mod UpdatedStays
 pub mod ValidLemmas

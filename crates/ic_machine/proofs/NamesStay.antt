@@ -15,16 +15,13 @@ use Rattle.ic_machine.specs.subjects.Sheets as sheets
 use Rattle.ic_machine.specs.subjects.Sheets.{add_sheet_step, delete_by_id_step, delete_by_name_step, delete_sheet_step, move_sheet_step, rename_by_index_step, rename_sheet_step, sheet_step, with_new_sheet}
 use Rattle.ic_machine.proofs.ReaderLemmas.{readers_leave}
 use Rattle.ic_machine.proofs.UpdatedStays.{update_name_stays}
-use Rattle.ic_machine.proofs.ValidLemmas.{stays_leaving}
+use Rattle.ic_machine.proofs.ValidLemmas.{by_asking, stays_leaving}
 use Rattle.ic_machine.proofs.DuplicatedStays.{duplicate_stays}
 use Rattle.ic_machine.proofs.InsertedStays.{insert_stays}
 use Rattle.ic_machine.proofs.NewSheetStays.{new_sheet_stays}
 use Rattle.ic_machine.proofs.SheetsStay.{added_stays, move_stays, named_stays, removed_stays, renamed_stays, stays_lifted, undefined_stays}
 
 -- what is asked of a command where a test is passed
-by_asking : (t : Bool) (stepped : Stepped Book) → (t ≡ true → StaysValid stepped) → StaysValidIf t stepped
-by_asking true stepped h = h refl
-by_asking false stepped h = tt
 
 module _ (b : Book) (valid : IsValidBook b) where
   pub sheets_stay : (command : sheets.Sheets) → StaysValidIf (gives_id command) (sheet_step b command)

@@ -56,7 +56,7 @@ use Rattle.ic_machine.specs.Refusal.{Causes, InvalidSheet, Refusal, first_refusa
 use Rattle.ic_machine.specs.Reply.{Field, text_field}
 use Rattle.ic_machine.specs.Retyped.{HoldsThere, IsSameAs, IsSameAsAny, RetypedStays, SameFormula, clashes_in}
 use Rattle.ic_machine.specs.Styling.{restyled}
-use Rattle.ic_machine.specs.Valid.{HasFormula, IsValidBook}
+use Rattle.ic_machine.specs.Valid.{HasAmount, HasFormula, IsValidBook}
 use Rattle.ic_machine.specs.subjects.Reading.{content_step, format_of, formula_text, shown_content}
 use Rattle.ic_machine.specs.subjects.Writing.{Written, formula_at_place, formula_written, input_step, place_causes, typed_written, with_content, with_written, write_causes}
 use Rattle.ic_machine.proofs.CoreValid.{core_valid}
@@ -276,18 +276,18 @@ module _ (b : Book) (valid : IsValidBook b) where
     same_formula (formulas.Raw text) cell kept k = tt
     same_formula (formulas.Tree t) cell kept k = λ free. held_again index s at place cell t kept free (again (formula_text b place (formulas.Tree t))) refl k
 
-    same_as : (was : Content) → is_cell place.0 place.1 ≡ true → HasFormula (notations_in b) (scene_in b) s place (formula_index was) → (k : ℕ)
+    same_as : (was : Content) → is_cell place.0 place.1 ≡ true → HasFormula (notations_in b) (scene_in b) s place (formula_index was) → HasAmount was → (k : ℕ)
         → IsSameAs b s (left (again (shown_content b s place was)) k) was ((again (shown_content b s place was)).content k)
-    same_as (EmptyContent style) cell has k = put (λ j. EmptyContent j) (λ j. refl) _ k (nothing k)
-    same_as (BoolContent truth style) cell has k = put (λ j. BoolContent truth j) (λ j. refl) _ k (told (boolean_in b truth) (kinds.Boolean truth) k (boolean_typed truth))
-    same_as (NumContent amount style) cell has k = λ good.
+    same_as (EmptyContent style) cell has good k = put (λ j. EmptyContent j) (λ j. refl) _ k (nothing k)
+    same_as (BoolContent truth style) cell has good k = put (λ j. BoolContent truth j) (λ j. refl) _ k (told (boolean_in b truth) (kinds.Boolean truth) k (boolean_typed truth))
+    same_as (NumContent amount style) cell has good k =
         let t = number_typed (format_of b (NumContent amount style)) amount good in
         put (λ j. NumContent amount j) (λ j. refl) _ k (told (shown_number b (format_of b (NumContent amount style)) amount) (kinds.Number amount t.0) k t.1)
-    same_as (ErrContent e style) cell has k = put (λ j. ErrContent e j) (λ j. refl) _ k (told (error_in b e) (kinds.Error e) k (error_typed e))
-    same_as (TextContent text style) cell has k = put (λ j. TextContent text j) (λ j. refl) _ k (words_written s place text k)
-    same_as (FormulaContent i value style) cell has k = same_formula (formula_in s.pool i) cell has.1 k
-    same_as (AnchorContent i area kind value style) cell has k = same_formula (formula_in s.pool i) cell has.1 k
-    same_as (SpillContent anchor value style) cell has k = tt
+    same_as (ErrContent e style) cell has good k = put (λ j. ErrContent e j) (λ j. refl) _ k (told (error_in b e) (kinds.Error e) k (error_typed e))
+    same_as (TextContent text style) cell has good k = put (λ j. TextContent text j) (λ j. refl) _ k (words_written s place text k)
+    same_as (FormulaContent i value style) cell has good k = same_formula (formula_in s.pool i) cell has.1 k
+    same_as (AnchorContent i area kind value style) cell has good k = same_formula (formula_in s.pool i) cell has.1 k
+    same_as (SpillContent anchor value style) cell has good k = tt
 
     -- what the place shows
     abbrev shown_at_place : Option Content → List ℕ
@@ -297,7 +297,7 @@ module _ (b : Book) (valid : IsValidBook b) where
     same_any None e k = put (λ j. EmptyContent j) (λ j. refl) _ k (nothing k)
     same_any (Some was) e k =
         let holds = holds_at b valid index s at in
-        same_as was (holds.inside place was e) (holds.formulas place was e) k
+        same_as was (holds.inside place was e) (holds.formulas place was e) (holds.amounts place was e) k
 
     -- the sheet that is left stands at the index, and the content at the place
     sheet_there : (new : Sheet) (i : ℕ) (xs : List Sheet) (old : Sheet) → slice_get xs i ≡ Some old → slice_get (updated_at (λ x. new) i xs) i ≡ Some new

@@ -47,6 +47,7 @@ with_notation b locale language zone theme valid l g z = record {
   arrays = valid.arrays;
   merges = valid.merges;
   layout = valid.layout;
+  amounts = valid.amounts;
   locale = l;
   language = g;
   zone = z;

@@ -13,7 +13,7 @@ ghost use Rattle.ic_machine.specs.Extended.{CopiedIsOver, CopiedTextStays, Refer
 ghost use Rattle.ic_machine.specs.Extended.{ExtendedIsSame, ExtendedIsTyped, ExtendedIsWritten};
 ghost use Rattle.ic_machine.specs.FormattedLaws.{DateIsCounted, FormattedIsRuled, RuledIsFormatted};
 ghost use Rattle.ic_machine.specs.Kept.{CoreIsValid, CoreStaysValid, KeepsValid, KeepsValidIf};
-ghost use Rattle.ic_machine.specs.Kept.{gives_id};
+ghost use Rattle.ic_machine.specs.Kept.{gives_amount, gives_id};
 ghost use Rattle.ic_machine.specs.Laws.{BadLineStays, CounterpartsAreBack, NumbersAreSmall};
 ghost use Rattle.ic_machine.specs.Laws.{CopyIsNamedFirst, CoreIsRead, CoreLinesAreCore};
 ghost use Rattle.ic_machine.specs.Laws.{NewIsNamedFirst, RefusedStays};
@@ -107,11 +107,11 @@ pub fn law_formula_is_stepped()
     ensures { FormulaIsStepped }
 {}
 
-/// A step of each command keeps what always holds of a book. The id that a sheet is inserted with, where one is given, is one
-/// that a word can say.
+/// A step of each command keeps what always holds of a book. The id that a sheet is inserted with, where one is given, and
+/// the number that is written into a cell are such as a word can say.
 pub fn law_book_stays_valid()
     ensures notation { KeepsValid notation_step }
-    ensures writing { KeepsValid writing_step }
+    ensures writing { KeepsValidIf gives_amount writing_step }
     ensures reading { KeepsValid reading_step }
     ensures extending { KeepsValid extending_step }
     ensures styles { KeepsValid style_step }
