@@ -1,10 +1,10 @@
 -- The commands on sheets and on definitions keep what always holds of a book.
-use Rattle.std.proofs.Common.{true, false, Bool, ◌≡◌, ℕ, Option, refl}
+use Rattle.std.proofs.Common.{ℕ, Option, refl}
 use Rattle.std.specs.Prelude.{unwrap_or}
 use Rattle.ic_laws.specs.Command as core
 use Rattle.ic_laws.specs.CoreStep.{core_step, index_of_definition, index_of_id, index_of_name, scope_or_none}
 use Rattle.ic_laws.specs.FormulaReading.{body_of}
-use Rattle.ic_machine.specs.Book.{Book, Stepped, core_of, notations_in}
+use Rattle.ic_machine.specs.Book.{Book, core_of, notations_in}
 use Rattle.ic_machine.specs.Changed.{changed_by, with_removed_sheet, with_renamed_sheet, without_definition}
 use Rattle.ic_machine.specs.Command.{OnDefinitions, OnSheets}
 use Rattle.ic_machine.specs.Kept.{StaysValid, StaysValidIf, gives_id, is_given_id}
