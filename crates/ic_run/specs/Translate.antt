@@ -8,7 +8,7 @@ use Rattle.ic_laws.specs.Refusal.{InvalidLanguage, InvalidLocale, Refusal}
 use Rattle.ic_tables.specs.Tables.{TableSet}
 use Rattle.ic_lines.specs.Bytes.{AppendsFront}
 use Rattle.ic_machine.specs.Book.{Book}
-use Rattle.ic_machine.specs.Command.{Command, OnSheets, served}
+use Rattle.ic_machine.specs.Command.{Command, OnSheets, commands}
 use Rattle.ic_machine.specs.Readers.{is_reader}
 use Rattle.ic_machine.specs.Run.{after}
 use Rattle.ic_machine.specs.Step.{machine, step}
@@ -61,7 +61,7 @@ module _ (locale language : List ℕ) where
   pub record HasRunSome (old : Book) (lines : List (List ℕ)) (new : Book) : Type 0 where
     pub count : ℕ
     pub within : count ≤ length lines
-    pub left : new ≡ after (machine served) old (take count lines)
+    pub left : new ≡ after (machine commands) old (take count lines)
 
   -- What a translation answered of lines, and what is left of the book: after Ok and `Cannot` what is said of all lines; where
   -- the locale or the language is unknown, the book as it was; where memory ran out, what some of the first lines leave.

@@ -2,9 +2,9 @@
 //!
 //! `run` carries the main promise: where it answers Ok over core lines, the replies that it appended are those of the
 //! identity machine of `ic_laws`, and the book is the one that the machine leaves. For all lines it says the same of the
-//! machine that is served. `desk` gives that for the program's words; for the words `make SEED COUNT` it answers lines that
-//! are made from the seed, and writes what the machine that is served makes of them; for `translate LOCALE LANGUAGE` it
-//! writes what lines become in another notation, which is `translate`'s answer.
+//! whole machine. `desk` gives that for the program's words; for the words `make SEED COUNT` it answers lines that are made
+//! from the seed, and writes what the whole machine makes of them; for `translate LOCALE LANGUAGE` it writes what lines
+//! become in another notation, which is `translate`'s answer.
 #![tactic(auto)]
 
 mod counts;
@@ -19,6 +19,6 @@ mod translating;
 mod translation;
 
 pub use ic_book::Why;
-pub use lines::run;
+pub use lines::{law_core_lines_are_done, run};
 pub use program::desk;
 pub use translating::{TranslateError, translate};
