@@ -65,12 +65,12 @@ first_less k = search (rules, arith)
 same_less : (m k : ℕ) → nat_lt (suc m) (suc k) ≡ nat_lt m k
 same_less m k = search (rules, arith)
 
-none_past : {A : Type 0} (xs : List A) (i : ℕ) → slice_get xs i ≡ None → nat_lt i (length xs) ≡ false
+pub none_past : {A : Type 0} (xs : List A) (i : ℕ) → slice_get xs i ≡ None → nat_lt i (length xs) ≡ false
 none_past [] i e = no_less i zero (omega arith)
 none_past (x ∷ xs) zero e = cc
 none_past (x ∷ xs) (suc i) e = same_less i (length xs) ∙ none_past xs i e
 
-some_within : {A : Type 0} (xs : List A) (i : ℕ) (x : A) → slice_get xs i ≡ Some x → nat_lt i (length xs) ≡ true
+pub some_within : {A : Type 0} (xs : List A) (i : ℕ) (x : A) → slice_get xs i ≡ Some x → nat_lt i (length xs) ≡ true
 some_within [] i x e = cc
 some_within (y ∷ xs) zero x e = first_less (length xs)
 some_within (y ∷ xs) (suc i) x e = same_less i (length xs) ∙ some_within xs i x e

@@ -35,6 +35,7 @@ pub mod LookUpLemmas
 pub mod MarkupLemmas
 pub mod MeetsLemmas
 pub mod MentionPairs
+pub mod MentioningLemmas
 pub mod ModelLemmas
 pub mod NameHeld
 mod NameIndexLemmas

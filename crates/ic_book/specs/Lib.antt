@@ -14,6 +14,7 @@ pub mod Inside
 pub mod LookUps
 pub mod Markup
 pub mod Mentioned
+pub mod Mentioning
 pub mod Names
 pub mod Numbered
 pub mod Parts

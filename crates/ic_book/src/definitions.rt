@@ -235,7 +235,7 @@ impl<'a> Model<'a> {
     }
 
     /// The id of the sheet at an index, or none for none. None exactly where no sheet stands at the index.
-    fn scope_id(&self, scope: Option<u32>) -> Option<Option<u32>>
+    pub(crate) fn scope_id(&self, scope: Option<u32>) -> Option<Option<u32>>
         ensures { result ≡ scope_of (core_of self.now.book) scope }
     {
         match scope {

@@ -30,6 +30,7 @@ mod line_styles;
 mod lines;
 mod lists;
 mod markup;
+mod mentioning;
 mod model;
 mod names;
 mod new_sheets;

@@ -162,7 +162,7 @@ fn captures(pool: &Pool, new: &Replacement, change: &KeyChange) -> bool
 }
 
 /// Puts the cells of a sheet whose formulas stand at one of these places at the end.
-fn push_cells(
+pub(crate) fn push_cells(
     sites: &mut Vec<MentionSite>,
     id: u32,
     places: &BTreeSet<usize>,

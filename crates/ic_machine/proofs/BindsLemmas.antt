@@ -27,7 +27,7 @@ core_told b after k fields (Ok done) e told =
     let is : ◌≡◌ {A = CoreBook × List Field} (done.0, of_core_fields done.1) (core_of after, fields) = cc in
     (done.1, e ∙ ap (λ (c : CoreBook). Ok (c, done.1)) (ap (λ (p : CoreBook × List Field). p.0) is))
 
-core_left : (b after : Book) (command : Command) (k : core.Command) (fields : List Field) → core_command command ≡ Some k → step b command ≡ Ok (after, fields)
+pub core_left : (b after : Book) (command : Command) (k : core.Command) (fields : List Field) → core_command command ≡ Some k → step b command ≡ Ok (after, fields)
     → (told : List core.Field) × (core_step (notations_in b) (core_of b) k ≡ Ok (core_of after, told))
 core_left b after command k fields is e =
     core_told b after k fields (core_step (notations_in b) (core_of b) k) refl

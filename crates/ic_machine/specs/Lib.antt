@@ -25,6 +25,7 @@ pub mod Row
 pub mod Run
 pub mod Same
 pub mod Scene
+pub mod Sites
 pub mod Step
 pub mod Styling
 pub mod Translation
