@@ -87,8 +87,8 @@ module _ (old new : ModelState) (count : ℕ) (lines : List (List ℕ)) (did : L
   runs_answered : (before now : Option (List ℕ)) → count ≤ length lines → IfTold before now (HasReplied whole_machine (whole_of old.book) count lines) → RunsAnswered old.book new.book lines before now count
   runs_answered before now within told = record {
     within = within;
-    whole = record { state = lines_leave (take count lines) old new did; told = told };
-    core = λ plain are. record { state = core_left (take count lines) old new did plain are; told = core_told before now told plain are };
+    whole = record { left = lines_leave (take count lines) old new did; told = told };
+    core = λ plain are. record { left = core_left (take count lines) old new did plain are; told = core_told before now told plain are };
   }
 
 -- one line after others
@@ -181,11 +181,11 @@ module _ (old mid : ModelState) (count : ℕ) (reader new_reader : Reading) (bef
       }) p.told part in
       record {
         within = within_after;
-        whole = record { state = lines_leave (take (count + 1) (texts_of bytes)) old new (did_after new does); told = told };
+        whole = record { left = lines_leave (take (count + 1) (texts_of bytes)) old new (did_after new does); told = told };
         core = λ plain are.
             let first = first_core old.book.tables (take count (texts_of bytes)) (line ∷ []) (subst (AreCore old.book.tables) taken are) in
             record {
-              state = core_left (take (count + 1) (texts_of bytes)) old new (did_after new does) plain are;
+              left = core_left (take (count + 1) (texts_of bytes)) old new (did_after new does) plain are;
               told = IfTold-weaker before written (HasPartlyReplied whole_machine (whole_of old.book) count (texts_of bytes)) (HasPartlyReplied (identity_machine (notations_in old.book)) (core_of old.book) count (texts_of bytes))
                   (λ x y q. partly_same whole_machine (whole_of old.book) (identity_machine (notations_in old.book)) (core_of old.book) count (texts_of bytes) x y (replies_same (take count (texts_of bytes)) old mid p.did plain first)
                   (replies_same (take (count + 1) (texts_of bytes)) old new (did_after new does) plain are) q)

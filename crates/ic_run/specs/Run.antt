@@ -46,12 +46,12 @@ module _ {S : Type 0} (machine : Machine S) (state : S) where
   -- Exactly the first so many lines were answered: what was reached is the state that they leave, and its replies to them
   -- were appended.
   pub record HasAnswered (reached : S → Type 0) (count : ℕ) (lines : List (List ℕ)) (before now : Option (List ℕ)) : Type 0 where
-    pub state : reached (after machine state (take count lines))
+    pub left : reached (after machine state (take count lines))
     pub told : IfTold before now (HasReplied count lines)
 
   -- the same, and one line more, whose reply was appended in part
   pub record HasPartlyAnswered (reached : S → Type 0) (count : ℕ) (lines : List (List ℕ)) (before now : Option (List ℕ)) : Type 0 where
-    pub state : reached (after machine state (take (count + 1) lines))
+    pub left : reached (after machine state (take (count + 1) lines))
     pub told : IfTold before now (HasPartlyReplied count lines)
 
   -- what an error leaves of its replies, where the lines that were answered are such
