@@ -1,5 +1,5 @@
 -- What a line is answered with.
-use Rattle.std.proofs.Common.{◌≡◌, ℕ, List, [], Option, Some, None, Err, refl, subst}
+use Rattle.std.proofs.Common.{◌≡◌, ℕ, List, [], Some, None, Err, refl, subst}
 use Rattle.ic_machine.specs.Command.{Command, command_in, commands}
 use Rattle.ic_machine.specs.Refusal.{BadLine}
 use Rattle.ic_machine.specs.Reply.{reply_bytes, reply_text}
