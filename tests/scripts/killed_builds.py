@@ -8,6 +8,7 @@ toolchain: that takes half a second for a crate, and refuses one whose kept file
 thing that it tried, and ends with 1 where one went wrong.
 """
 import os
+import re
 import signal
 import subprocess
 import sys
@@ -169,7 +170,8 @@ class Project:
 
     def left(self):
         """What should be gone after a run."""
-        rooms = [it for it in os.listdir(f"{self.top}/out") if it.startswith("room-")]
+        at = f"{self.top}/out"
+        rooms = [it for it in os.listdir(at) if it.startswith("room-")] if os.path.isdir(at) else []
         return ["a room is left"] * bool(rooms) + ["a proof is left at work"] * bool(self.at_work())
 
     def whole(self):
@@ -196,8 +198,9 @@ def main():
             found(f"killed {words}, with {gone} of 4 crates' kept files out of place", faults + it.whole())
     for where, name, number, words in AGAIN:
         with project() as folder:
-            it = Project(folder)
-            it.run(killed=("after", "build.pause", 2))
+            it = Project(folder, 20)
+            it.run(killed=("after", "build.pause", 10))
+            it.play("pace", "0.05")
             status, _, _ = it.run(killed=(where, name, number))
             faults = [f"the second run wasn't killed, and ended with {status}"] * (status != -signal.SIGKILL)
             found(f"killed, and the next run killed {words}", faults + it.whole())
@@ -218,7 +221,8 @@ def main():
                 run.send_signal(number)
                 _, err = run.communicate(timeout=60)
                 faults = it.lost() + it.left()
-                faults += [f"it ended with {run.returncode}"] * (run.returncode != 128 + number)
+                # On a busy machine it may be told before it listens.
+                faults += [f"it ended with {run.returncode}"] * (run.returncode not in (128 + number, -number))
                 found(f"told to stop by {number.name} after {seconds} s, at once and after the next run", faults + it.whole())
     with project() as folder:
         it = Project(folder)
@@ -262,8 +266,8 @@ def main():
         it = Project(folder, 0.5)
         status, _, err = it.run()
         faults = [f"it ended with {status}"] * (status != 0)
-        for text in ("4 crates, none of them proved by earlier runs", "expect ", "at work: low for 1 s", "3 of 4 crates done"):
-            faults += [f"it didn't say '{text}'"] * (text not in err)
+        for text in ("4 crates, none of them proved by earlier runs", "expect ", r"at work: low for \d+ s", "3 of 4 crates done"):
+            faults += [f"it didn't say '{text}'"] * (not re.search(text, err))
         faults += ["a log is left"] * bool(os.listdir(f"{it.top}/out/logs"))
         status, _, err = it.run()
         faults += [f"the second run said otherwise: {err}"] * ("4 of them proved by earlier runs" not in err or status != 0)
