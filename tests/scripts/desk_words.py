@@ -25,8 +25,7 @@ echo "began" > "$PLAYED/began"
 cat
 trap 'echo told > "$PLAYED/told"; exit 143' TERM
 for turn in $(seq "$(cat "$PLAYED/turns" 2> /dev/null || echo 0)"); do sleep 0.1; done
-echo "rt: notes that nobody needs" >&2
-cat "$PLAYED/last" >&2 2> /dev/null || echo "rt: try: run=ended proved=no" >&2
+cat "$PLAYED/last" >&2 2> /dev/null || printf 'notes that nobody needs\nrun=ended proved=no\n' >&2
 exit "$(cat "$PLAYED/status" 2> /dev/null || echo 0)"
 """
 # Plays the program that ./build makes.
@@ -256,11 +255,11 @@ def main():
         status, out, err = desk.run(given=None, stdin=slow.stdout)
         slow.wait()
         found("not built, with an input that pauses", [f"{status}, {out!r}"] * (status != 0 or not out.endswith("a\nb\n")))
-        for last, text in (("rt: try: run=no-answer", "within a minute and a megabyte"), ("rt: ran out of stack run=no-answer", "no more stack"), ("rt: run=none", "the source didn't run")):
+        for last, text in (("run=no-answer", "within a minute and a megabyte"), ("it ran out of stack\nrun=no-answer", "no more stack"), ("error: it doesn't compile\nrun=none", "it doesn't compile\ndesk: the source didn't run"), ("run=none", "want of memory\ndesk: the source didn't run")):
             desk.play("last", f"{last}\n")
             desk.play("status", "6")
             status, out, err = desk.run()
-            found(f"not built, with the last note '{last}'", [f"{status}, {err!r}"] * (status != 125 or text not in err) + desk.left())
+            found(f"not built, with the notes {last!r}", [f"{status}, {err!r}"] * (status != 125 or text not in err) + desk.left())
             desk.unplay("last")
             desk.unplay("status")
         desk.play("turns", "35")
