@@ -1,6 +1,6 @@
 -- A step of the whole machine is seen by its core, and leaves beside it what stands beside.
 use Rattle.std.proofs.Common.{◌≡◌, ℕ, List, [], ◌∷◌, ◌++◌, flat_map, Option, Some, None, Result, Ok, Err, option_map, slice_get, unwrap_or, refl, ap, ap₂, ◌∙◌}
-use Rattle.std.specs.Prelude.{is_none, ◌||◌}
+use Rattle.std.specs.Prelude.{is_none}
 use Rattle.ic_laws.specs.Character.{tab}
 use Rattle.ic_laws.specs.Command as core
 use Rattle.ic_laws.specs.CoreBook.{CoreBook}

@@ -1,5 +1,5 @@
 -- A core line does what the core machine does.
-use Rattle.std.proofs.Common.{◌≡◌, ℕ, List, [], ◌∷◌, ◌++◌, Option, Some, None, Ok, Err, encode_utf8_all, option_map, refl, ap, sym, subst, ◌∙◌}
+use Rattle.std.proofs.Common.{◌≡◌, ℕ, List, [], ◌∷◌, ◌++◌, Option, Some, None, encode_utf8_all, option_map, refl, ap, sym, subst, ◌∙◌}
 use Rattle.ic_laws.specs.Command as core
 use Rattle.ic_laws.specs.CoreStep.{core_step}
 use Rattle.ic_laws.specs.Lines as lines
@@ -13,7 +13,7 @@ use Rattle.ic_book.specs.Book.{Book, IsSameBeside, IsValidBook, ModelState, Step
 use Rattle.ic_book.specs.Whole.{whole_of}
 use Rattle.ic_book.proofs.WholeLemmas.{whole_core}
 use Rattle.ic_commands.specs.Answered.{AreValid, StaysAfter}
-use Rattle.ic_run.specs.Core.{CoreLinesAreDone, DoesCoreLine, HasNoSign, IsCore, IsPlainBook, WritesNoSign}
+use Rattle.ic_run.specs.Core.{CoreLinesAreDone, HasNoSign, IsPlainBook, WritesNoSign}
 use Rattle.ic_run.proofs.CoreLemmas.{StandsBeside, core_left, stands_beside, text_told}
 use Rattle.ic_run.proofs.CoreSteps.{told_as_core}
 use Rattle.ic_run.proofs.PlainLemmas.{stays_plain}

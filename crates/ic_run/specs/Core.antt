@@ -1,6 +1,6 @@
 -- Core lines: those that the core machine knows, in books of which it knows all; and that it does with them what the whole
 -- machine does.
-use Rattle.std.specs.Prelude.{◌≡◌, ℕ, List, [], Bool, true, false, Option, Some, None}
+use Rattle.std.specs.Prelude.{◌≡◌, ℕ, List, [], true, false, Option, Some, None}
 use Rattle.std.specs.FinMap as finite
 use Rattle.std.specs.List.{AllByRecursion}
 use Rattle.ic_laws.specs.Command as core
