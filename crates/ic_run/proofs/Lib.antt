@@ -1,3 +1,4 @@
+pub mod AcceptedLemmas
 pub mod CoreLemmas
 pub mod CoreLineLemmas
 pub mod CoreSteps

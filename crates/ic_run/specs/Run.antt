@@ -5,7 +5,6 @@ use Rattle.ic_lines.specs.Bytes.{IfTold}
 use Rattle.ic_lines.specs.Reading.{line_feeds}
 use Rattle.ic_lines.specs.declared.error.RunError.{RunError}
 use Rattle.ic_lines.specs.declared.error.RunError.TheVariants as errors
-use Rattle.ic_machine.specs.Book as machine
 use Rattle.ic_machine.specs.Run.{Machine, after, replies}
 use Rattle.ic_book.specs.Whole.{whole_of}
 use Rattle.ic_book.specs.Book.{Book, ModelState, StepsTo, core_of, notations_in}

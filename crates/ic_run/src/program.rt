@@ -6,7 +6,7 @@ ghost use Rattle.ic_run.specs.Make.{AppendsSummary, AppendsSummaryFront, made_se
 ghost use Rattle.ic_run.specs.Start.{making_in, setting, setting_in, target_in};
 ghost use Rattle.ic_run.specs.Core.{AreCore, identity_machine};
 ghost use Rattle.ic_run.specs.Run.{AppendsReplies, AppendsWhole, LeavesReplies, LeavesWhole};
-ghost use Rattle.ic_run.specs.Translate.{AppendsTranslated, AppendsTranslatedFront, beginning_of, beginning_refusal, target_of};
+ghost use Rattle.ic_run.specs.Translate.{AppendsTranslated, AppendsTranslatedFront, IsDue, beginning_of, beginning_refusal, target_of};
 ghost use Rattle.ic_tree.specs.Notations.{notations_of};
 
 use crate::lines::run;
@@ -87,6 +87,11 @@ pub fn desk<S: Source, K: Sink>(
     ensures translated_nothing { (result ≡ 3) ⊎ ((result ≡ 5) ⊎ (result ≡ 6))
         → IsSome (target_of (texts words.now)) → sink.new ≡ sink.old }
     ensures cannot { result ≡ 7 → IsSome (target_of (texts words.now)) }
+
+    // Whatever the sink tells, 7 comes where one of these lines can't be written so, and 0 where each can.
+    ensures translated_due { (result ≡ 0) ⊎ (result ≡ 7) → IfSome (target_of (texts words.now))
+        (λ target. IfTold (S.left source.old) (S.left source.new) (λ bytes _.
+        IsDue target tables.now result bytes)) }
 
     // Each other status has its cause; that memory ran out may come in place of all but 1 and 2.
     ensures usage { (result ≡ 1) ↔ IsNone (beginning_of (texts words.now)) }

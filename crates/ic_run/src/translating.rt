@@ -5,11 +5,12 @@ ghost use Rattle.ic_machine.specs.Command.{Command, OnSheets, command_in, comman
 ghost use Rattle.ic_machine.specs.Step.{english_errors, line_step};
 ghost use Rattle.ic_machine.specs.Translation.{is_dropped, is_switch, left_after};
 ghost use Rattle.ic_machine.specs.subjects.Sheets.{NewSheet, new_sheet_name};
+ghost use Rattle.ic_book.specs.Book.{IsValidBook};
 ghost use Rattle.ic_book.specs.Translated.{IsToldWhere, notation_refusal};
 ghost use Rattle.ic_book.specs.Whole.{whole_of};
 ghost use Rattle.ic_run.specs.Counts.{begins_with_o};
 ghost use Rattle.ic_run.specs.Make.{is_ok};
-ghost use Rattle.ic_run.specs.Translate.{HasTranslated, IsPlan, IsTurn, StaysSo, unknown_told};
+ghost use Rattle.ic_run.specs.Translate.{AreAcceptedBeside, HasTranslated, IsPlan, IsTurn, StaysSo, unknown_told};
 
 use crate::counts::is_ok;
 use crate::plan::{Plan, plan_of};
@@ -70,6 +71,10 @@ impl From<AllocFailed<Line>> for TranslateError {
 /// exactly where the own formula of a line that would become one doesn't read (`Raw`), or has a name that is a word of the
 /// language (`Clash`): it names the first such line, and the book is as the lines before that one leave it. `OutOfMemory`
 /// leaves the book as some of the first lines do.
+///
+/// Every book that is the same as the one before, apart from its notation and its styles, and has that notation, accepts the
+/// answered lines in their turn and is then the same as the one after, unless a definition is updated to a body that ends
+/// with a blank in that notation.
 pub fn translate(
     alloc: Global,
     model: &mut Model<'_>,
@@ -81,6 +86,9 @@ pub fn translate(
         (whole_of model.old.book) lines.now result (whole_of model.new.book) }
     ensures unknown { unknown_told result ≡ notation_refusal (chars locale_id.now)
         (chars language_id.now) model.old.book.tables }
+    ensures accepted { IfOk result (λ new. AreAcceptedBeside (chars locale_id.now)
+        (chars language_id.now) (whole_of model.old.book) lines.now
+        (whole_of model.new.book) new.items) }
 {
     let target = target_named(model, locale_id, language_id)?;
     let mut translated = Vec::new(alloc);
@@ -111,7 +119,10 @@ fn target_named<'a>(
         (chars language_id.now) model.now.book.tables }
     ensures err { IfErr result (λ e. (locale language : List ℕ) (book : machine.Book)
         (lines : List (List ℕ)) → HasTranslated locale language book lines (Err e) book) }
+    ensures valid { IsValidBook model.now.book }
 {
+    // What always holds of a model is known from here on.
+    let _ = model.parsed_formula(0, 0);
     match model.notation_named(locale_id, language_id) {
         Ok(target) => Ok(target),
         Err(BookError::InvalidLocale) => Err(TranslateError::InvalidLocale),
