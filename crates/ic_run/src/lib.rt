@@ -4,7 +4,8 @@
 //! identity machine of `ic_laws`, and the book is the one that the machine leaves. For all lines it says the same of the
 //! whole machine. `desk` gives that for the program's words; for the words `make SEED COUNT` it answers lines that are made
 //! from the seed, and writes what the whole machine makes of them; for `translate LOCALE LANGUAGE` it writes what lines
-//! become in another notation, which is `translate`'s answer.
+//! become in another notation, which is `translate`'s answer. `book_after` reads all lines and answers them with no replies
+//! kept, for programs that look at the book.
 #![tactic(auto)]
 
 mod counts;
@@ -12,6 +13,7 @@ mod lines;
 mod made;
 mod make;
 mod plan;
+mod prepared;
 mod program;
 mod retold;
 mod start;
@@ -20,5 +22,7 @@ mod translation;
 
 pub use ic_book::Why;
 pub use lines::{law_core_lines_are_done, run};
+pub use make::written;
+pub use prepared::book_after;
 pub use program::desk;
 pub use translating::{TranslateError, translate};

@@ -1,0 +1,3 @@
+pub mod AskedLemmas
+pub mod GoneLemmas
+pub mod ListedLemmas

@@ -1,0 +1,4 @@
+pub mod Asked
+pub mod Gone
+pub mod Listed
+pub mod Refused
