@@ -383,7 +383,7 @@ def cleared_blocks(count, width, height, command="range_clear_contents"):
 
 
 def each_command(count):
-    """Each command that is served: its name, what stands before, and so many lines of it."""
+    """Each command: its name, what stands before, and so many lines of it."""
     cells = [f"set_user_input\t0\t{i}\t1\t{i}" for i in range(1, 101)] + [f"set_user_input\t0\t{i}\t2\t=A{i}*2+SUM(A1:A9)" for i in range(1, 101)]
     names = [f"new_defined_name\tname_{i}\t-\tSheet1!$A${i}" for i in range(count + 1)]
     sheets = [f"add_sheet\tT{i}" for i in range(count + 1)]

@@ -13,7 +13,7 @@ sys.path.insert(0, os.path.dirname(os.path.abspath(__file__)))
 from ic_laws import tokens  # noqa: E402
 from ic_laws.lines import line_text, lines_of  # noqa: E402
 from ic_machine.book import new_book  # noqa: E402
-from ic_machine.command import COMMANDS, SERVED  # noqa: E402
+from ic_machine.command import COMMANDS, CORE_COMMANDS  # noqa: E402
 from ic_machine.step import core_machine, machine  # noqa: E402
 from ic_tables.sample import SAMPLE  # noqa: E402
 
@@ -48,7 +48,7 @@ def show(name, lines, found):
 
 def main(words):
     tokens.READS_LOCALS = "--no-names-behind-sheets" not in words
-    one_step, rows = (core_machine, SERVED) if "--core" in words else (machine, COMMANDS)
+    one_step, rows = (core_machine, CORE_COMMANDS) if "--core" in words else (machine, COMMANDS)
     for word in words:
         if word.startswith("--without="):
             rows = [row for row in rows if word[len("--without="):] not in row[0]]

@@ -1,5 +1,6 @@
 -- A workbook that meets what is asked of it stands for a valid book.
 use Rattle.std.proofs.Common.{◌≡◌, ◌∙◌, ◌<◌, ℕ, zero, suc, ℤ, pos, List, [], ◌∷◌, map, length, Bool, true, false, not, Option, Some, None, is_none, is_some, option_map, refl, sym, ap, ap₂, subst, arith, if◌then◌else◌}
+use Rattle.std.specs.FinMap as finite
 use Rattle.std.specs.List.{AllByRecursion, IsDistinct}
 use Rattle.std.specs.Option.{option_or}
 use Rattle.std.specs.Prelude.{bytes_eq, codes, option_and_then}
@@ -30,19 +31,23 @@ use Rattle.ic_laws.proofs.kept.Kept.{CanBeKeptWhere, bound_is_kept, bound_kept}
 use Rattle.ic_laws.proofs.kept.Tokens.{OfToken, lexed_all, nodes_of_tokens}
 use Rattle.ic_laws.proofs.parsing.ReadAs.{read_as_sound}
 use Rattle.ic_tables.specs.Tables.{IsWellFormed, TableSet, language_of, lists_zone, locale_of}
+use Rattle.ic_cells.specs.declared.cell.Cell.{Cell}
 use Rattle.ic_cells.specs.declared.sheet.Worksheet.{Worksheet}
 use Rattle.ic_cells.specs.declared.workbook.DefinedName.{DefinedName}
 use Rattle.ic_cells.specs.declared.workbook.Workbook.{Workbook}
 use Rattle.ic_tree.proofs.NotationLaws.{knows_language_is, knows_locale_is, notations_are}
 use Rattle.ic_tree.specs.Notations.{in_english, notations_of}
+use Rattle.ic_machine.proofs.AlikeGrid.{get-seen}
 use Rattle.ic_machine.proofs.ValidLemmas.{all_of}
 use Rattle.ic_machine.specs.Book as machine
 use Rattle.ic_machine.specs.Book.{core_sheet}
-use Rattle.ic_machine.specs.Content.{formula_in, formula_index}
+use Rattle.ic_machine.specs.Content.{content_of, formula_in, formula_index}
 use Rattle.ic_machine.specs.Valid as valid_machine
-use Rattle.ic_book.specs.HandedIn.{Arrays, Definitions, Formulas, HasFormulaAt, HasFormulas, IsFormula, IsReferenceInside, Layout, MeetsAll, Merges, Places, RefersInside, SheetCount, SheetIds, SheetNames, Styles, Texts, body_formula, book_of, definition_of, formula_of, formula_or_none, if_own, notation_refusal, scene_of, sheet_formula, sheet_of}
+use Rattle.ic_book.specs.Book.{HasString}
+use Rattle.ic_book.specs.HandedIn.{Arrays, Definitions, Formulas, HasFormulaAt, HasFormulas, HasStrings, IsFormula, IsReferenceInside, Layout, MeetsAll, Merges, Places, RefersInside, SheetCount, SheetIds, SheetNames, Strings, Styles, Texts, body_formula, book_of, definition_of, formula_of, formula_or_none, if_own, notation_refusal, scene_of, sheet_formula, sheet_of}
 use Rattle.ic_book.specs.Workbook.{text_in}
 use Rattle.ic_book.proofs.HandedInLemmas.{all_mapped}
+use Rattle.ic_book.proofs.WholeLemmas.{amount_seen}
 
 -- the formula of a text ----
 
@@ -199,6 +204,16 @@ module _ (w : Workbook) (language : List ℕ) (tables : TableSet) where
         (all_of (λ (name : DefinedName). IsFormula (body_formula w tables name.sheet_id name.formula)) (λ (name : DefinedName). IsKeptBody n (scene_of w) (definition_of w tables name))
         (λ name h. body_kept name.sheet_id name.formula h) w.defined_names (meets Texts).bodies)
 
+    -- the numbers of its cells
+    amounts_there : (s : Worksheet) → HasStrings (length w.shared_strings) s → valid_machine.HasAmounts (sheet_of w tables s)
+    amounts_there s h place content e = at (finite.get s.cells place) (h place) (sym (get-seen (content_of w.shared_strings) s.cells place) ∙ e)
+      where
+        at : (o : Option Cell) → ((cell : Cell) → o ≡ Some cell → HasString (length w.shared_strings) cell) → option_map (content_of w.shared_strings) o ≡ Some content → valid_machine.HasAmount content
+        at None has f = absurd (cc)
+        at (Some cell) has f =
+            let same : content_of w.shared_strings cell ≡ content = cc in
+            subst valid_machine.HasAmount same (amount_seen w.shared_strings (length w.shared_strings) cell (has cell refl))
+
     there : (is_none (locale_of tables w.settings.locale) ≡ false) × (not (lists_zone tables w.settings.tz) ≡ false) × (is_none (language_of tables language) ≡ false)
     there = none_of (is_none (locale_of tables w.settings.locale)) (not (lists_zone tables w.settings.tz)) (is_none (language_of tables language)) InvalidLocale InvalidTimezone InvalidLanguage free
 
@@ -219,6 +234,8 @@ module _ (w : Workbook) (language : List ℕ) (tables : TableSet) where
       arrays = meets Arrays;
       merges = meets Merges;
       layout = meets Layout;
+      amounts = all_mapped valid_machine.HasAmounts (sheet_of w tables) w.worksheets
+          (all_of (HasStrings (length w.shared_strings)) (λ (s : Worksheet). valid_machine.HasAmounts (sheet_of w tables s)) amounts_there w.worksheets (meets Strings));
       locale = knows_locale_is tables w.settings.locale ∙ some_there (locale_of tables w.settings.locale) there.0;
       language = knows_language_is tables language ∙ some_there (language_of tables language) there.2;
       zone = so (lists_zone tables w.settings.tz) there.1;

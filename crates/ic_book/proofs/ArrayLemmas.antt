@@ -108,7 +108,7 @@ module _ (count : ℕ) where
   valued_has : (q : Place) (x : Cell) (value : FormulaValue) → HasText q x → HasText q (with_cell_value value x)
   valued_has q (cells.EmptyCell s) value h = tt
   valued_has q (cells.BooleanCell v s) value h = tt
-  valued_has q (cells.NumberCell v s) value h = tt
+  valued_has q (cells.NumberCell v s) value h = h
   valued_has q (cells.ErrorCell e s) value h = tt
   valued_has q (cells.SharedString i s) value h = h
   valued_has q (cells.CellFormula f s v) value h = tt
@@ -118,7 +118,7 @@ module _ (count : ℕ) where
   widened_has : (q : Place) (x : Cell) (width height : ℤ) → HasText q x → HasText q (with_cell_area width height x)
   widened_has q (cells.EmptyCell s) width height h = tt
   widened_has q (cells.BooleanCell v s) width height h = tt
-  widened_has q (cells.NumberCell v s) width height h = tt
+  widened_has q (cells.NumberCell v s) width height h = h
   widened_has q (cells.ErrorCell e s) width height h = tt
   widened_has q (cells.SharedString i s) width height h = h
   widened_has q (cells.CellFormula f s v) width height h = tt

@@ -32,6 +32,7 @@ use Rattle.ic_machine.proofs.AlikeGrid.{insert-seen, style_at-seen}
 use Rattle.ic_machine.proofs.AlikeLemmas.{cells_are_contents}
 use Rattle.ic_machine.proofs.ArraysStay.{arrays_stay}
 use Rattle.ic_machine.proofs.HaveLemmas.{AllHave, all_loosened, all_put}
+use Rattle.ic_machine.proofs.PlacedLemmas.{placed_index}
 use Rattle.ic_machine.proofs.SeenLemmas.{released_seen}
 use Rattle.ic_machine.specs.Alike.{seen_by}
 use Rattle.ic_machine.specs.Book as machine
@@ -61,7 +62,6 @@ use Rattle.ic_book.proofs.ArrayLemmas.{each_there, has_in_seen, is_seen, seen_is
 use Rattle.ic_book.proofs.GridLemmas.{its_grid, its_styles}
 use Rattle.ic_book.proofs.HeldLemmas.{whole_updated}
 use Rattle.ic_book.proofs.WholeLemmas.{whole_core}
-use Rattle.ic_book.proofs.WholeWritten.{placed_index}
 use Rattle.ic_book.proofs.WrittenLemmas.{one_of_all, updated_alike}
 
 -- How the machine sees the cells. ----

@@ -250,6 +250,7 @@ module _ (book : Book) (valid : IsValidBook book) where
           arrays = holds.arrays;
           merges = holds.merges;
           layout = record { frozen = holds.layout.frozen; lines = holds.layout.lines };
+          amounts = holds.amounts;
         }
 
     pub placed_valid : IsValidBook (with_pool index pool book)

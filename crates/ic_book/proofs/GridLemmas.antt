@@ -89,7 +89,7 @@ module _ (Q : Cell → Type 0) (empties : (s : ℕ) → Q (cells.EmptyCell s)) (
 strings_reset : (count : ℕ) (x : Cell) → HasString count x → HasString count (reset celled x)
 strings_reset count (cells.EmptyCell s) h = tt
 strings_reset count (cells.BooleanCell v s) h = tt
-strings_reset count (cells.NumberCell v s) h = tt
+strings_reset count (cells.NumberCell v s) h = h
 strings_reset count (cells.ErrorCell e s) h = tt
 strings_reset count (cells.SharedString i s) h = h
 strings_reset count (cells.CellFormula f s v) h = tt

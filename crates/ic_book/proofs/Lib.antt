@@ -21,7 +21,6 @@ pub mod DoesLemmas
 pub mod ExtendLemmas
 pub mod FilledLemmas
 pub mod FirstLemmas
-pub mod FormatLemmas
 pub mod FreeNames
 pub mod GridLemmas
 pub mod GridPartLemmas

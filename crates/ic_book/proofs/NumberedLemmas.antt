@@ -124,7 +124,7 @@ module _ (texts : List (List ℕ)) (numbers : List ℕ) (strings : List (List �
   pub string_there : (cell : Cell) → HasString (length texts) cell → HasString (length strings) (renumbered numbers cell)
   string_there (cells.EmptyCell s) h = tt
   string_there (cells.BooleanCell v s) h = tt
-  string_there (cells.NumberCell v s) h = tt
+  string_there (cells.NumberCell v s) h = h
   string_there (cells.ErrorCell e s) h = tt
   string_there (cells.SharedString index s) h =
       go numbers index index (let lt : index < length texts = h in let e = ap length kept.told in let f = length-map numbers (string_at strings) in omega (arith, lt, e, f)) kept.within
@@ -165,7 +165,7 @@ pub string_decided : (count : ℕ) (cell : Cell) → Decides (is_string_below co
 string_decided count (cells.SharedString index s) = Decides-ltb index count
 string_decided count (cells.EmptyCell s) = (λ e. tt, λ h. refl)
 string_decided count (cells.BooleanCell v s) = (λ e. tt, λ h. refl)
-string_decided count (cells.NumberCell v s) = (λ e. tt, λ h. refl)
+string_decided count (cells.NumberCell v s) = (λ e. e, λ h. h)
 string_decided count (cells.ErrorCell e s) = (λ e. tt, λ h. refl)
 string_decided count (cells.CellFormula f s v) = (λ e. tt, λ h. refl)
 string_decided count (cells.ArrayFormula k f s r v) = (λ e. tt, λ h. refl)

@@ -73,6 +73,7 @@ module _ (index : ℕ) (tab : Tab) (book : Book) (valid : IsValidBook book) (she
           arrays = old_holds.arrays;
           merges = old_holds.merges;
           layout = record { frozen = frozen; lines = old_holds.layout.lines };
+          amounts = old_holds.amounts;
         }));
     strings = all_updated (λ (s : Sheet). HasStrings (length book.strings) s.grid) (λ s. record s { tab = tab }) (λ s h. h) index book.sheets valid.strings;
   }

@@ -13,6 +13,7 @@ use Rattle.ic_cells.specs.declared.cell.Cell.TheVariants as cells
 use Rattle.ic_cells.specs.declared.style.Style.{Style}
 use Rattle.ic_grid.proofs.ContentsLemmas.{same_contents}
 use Rattle.ic_grid.specs.Contents.{Contents}
+use Rattle.ic_grid.specs.Shape.{is_loose, shape_of}
 use Rattle.ic_machine.proofs.AlikeGrid.{get-seen}
 use Rattle.ic_machine.specs.Alike.{seen_by}
 use Rattle.ic_machine.specs.Book as machine
@@ -25,7 +26,7 @@ use Rattle.ic_book.specs.Book.{HasString, HasStrings, whole_of, whole_sheet, who
 use Rattle.ic_book.specs.Does.{DoesStep, Wanted}
 use Rattle.ic_book.specs.Fields.{no_fields}
 use Rattle.ic_book.specs.Inside.{IsHeld, held, held_state, with_lists, with_sheets}
-use Rattle.ic_book.specs.Values.{IsLonger, IsValueCell, Shows, put_step, value_cell, value_content, value_refusal, value_step, value_strings, with_put}
+use Rattle.ic_book.specs.Values.{IsAmountValue, IsLonger, IsValueCell, Shows, put_step, value_cell, value_content, value_refusal, value_step, value_strings, with_put}
 use Rattle.ic_book.specs.declared.lists.Lists.{Lists}
 use Rattle.ic_book.specs.declared.model.Model.TheInside.{Inside}
 use Rattle.ic_book.specs.declared.values.Value.{Value}
@@ -113,13 +114,20 @@ strings_back (values.Number amount) strings = take_all strings
 strings_back (values.Error e) strings = take_all strings
 strings_back (values.Text text) strings = string_back (chars text.now) strings
 
--- a value's cell is one, and is seen as its content
-pub value_is : (value : Value) (strings : List (List ℕ)) → IsValueCell (length (value_strings value strings)) (value_cell strings value)
-value_is values.Empty strings = record { loose = λ k. refl; style = λ k. refl; formula = λ k. refl; string = λ k. tt }
-value_is (values.Boolean truth) strings = record { loose = λ k. refl; style = λ k. refl; formula = λ k. refl; string = λ k. tt }
-value_is (values.Number amount) strings = record { loose = λ k. refl; style = λ k. refl; formula = λ k. refl; string = λ k. tt }
-value_is (values.Error e) strings = record { loose = λ k. refl; style = λ k. refl; formula = λ k. refl; string = λ k. tt }
-value_is (values.Text text) strings = record {
+-- a value's cell is one where its number is an amount, and is seen as its content
+pub value_loose : (value : Value) (strings : List (List ℕ)) (style : ℕ) → is_loose (shape_of (value_cell strings value style)) ≡ true
+value_loose values.Empty strings style = refl
+value_loose (values.Boolean truth) strings style = refl
+value_loose (values.Number amount) strings style = refl
+value_loose (values.Error e) strings style = refl
+value_loose (values.Text text) strings style = refl
+
+value_is : (value : Value) (strings : List (List ℕ)) → IsAmountValue value → IsValueCell (length (value_strings value strings)) (value_cell strings value)
+value_is values.Empty strings good = record { loose = λ k. refl; style = λ k. refl; formula = λ k. refl; string = λ k. tt }
+value_is (values.Boolean truth) strings good = record { loose = λ k. refl; style = λ k. refl; formula = λ k. refl; string = λ k. tt }
+value_is (values.Number amount) strings good = record { loose = λ k. refl; style = λ k. refl; formula = λ k. refl; string = λ k. good }
+value_is (values.Error e) strings good = record { loose = λ k. refl; style = λ k. refl; formula = λ k. refl; string = λ k. tt }
+value_is (values.Text text) strings good = record {
   loose = λ k. refl;
   style = λ k. refl;
   formula = λ k. refl;
@@ -163,7 +171,7 @@ module _ (old strings : List (List ℕ)) (more : IsLonger old strings) where
   has_longer : (x : Cell) → HasString (length old) x → HasString (length strings) x
   has_longer (cells.EmptyCell s) h = tt
   has_longer (cells.BooleanCell v s) h = tt
-  has_longer (cells.NumberCell v s) h = tt
+  has_longer (cells.NumberCell v s) h = h
   has_longer (cells.ErrorCell e s) h = tt
   has_longer (cells.SharedString i s) h = let longer = more.longer in omega (arith, h, longer)
   has_longer (cells.CellFormula f s v) h = tt
@@ -193,7 +201,7 @@ module _ (inside : Inside) (h : IsHeld inside) where
   -- What a model holds where a value was put into a cell. ----
 
   module _ (index : ℕ) (row column : ℤ) (none : value_refusal (held inside) index row column ≡ None) (n : ℕ) (shows : Shows (held inside) index row column n) (value : Value) (change : Style → Style)
-      (cell : Cell) (then : Lists) (now : List HeldSheet) (is_cell : cell ≡ value_cell inside.lists.strings value (restyled change n inside.lists.styles).number) (put_lists : then ≡ with_put value (restyled change n inside.lists.styles) inside.lists)
+      (good : IsAmountValue value) (cell : Cell) (then : Lists) (now : List HeldSheet) (is_cell : cell ≡ value_cell inside.lists.strings value (restyled change n inside.lists.styles).number) (put_lists : then ≡ with_put value (restyled change n inside.lists.styles) inside.lists)
       (e : now ≡ updated_at (λ s. record s { grid = with_cell_in (row, column) cell s.grid }) index ws)
     where
       abbrev other : Lists
@@ -212,11 +220,11 @@ module _ (inside : Inside) (h : IsHeld inside) where
       pub put_held : IsHeld (with_lists then (with_sheets now inside))
       put_held =
           subst (λ (a : Lists). IsHeld (with_lists a (with_sheets now inside))) (sym put_lists)
-          (value_held (with_lists other inside) other_held index row column none n shows change (value_cell inside.lists.strings value) (restyled change n inside.lists.styles).number (restyled change n inside.lists.styles).styles now refl refl put (value_is value inside.lists.strings))
+          (value_held (with_lists other inside) other_held index row column none n shows change (value_cell inside.lists.strings value) (restyled change n inside.lists.styles).number (restyled change n inside.lists.styles).styles now refl refl put (value_is value inside.lists.strings good))
 
       pub put_done : DoesStep Wanted (put_step (whole_of (held inside)) index row column change (value_content value)) no_fields (Ok tt) (held_state inside) (held_state (with_lists then (with_sheets now inside)))
       put_done =
-          let d = value_done (with_lists other inside) other_held index row column none n shows change (value_cell inside.lists.strings value) (restyled change n inside.lists.styles).number (restyled change n inside.lists.styles).styles now refl refl put (value_is value inside.lists.strings) in
+          let d = value_done (with_lists other inside) other_held index row column none n shows change (value_cell inside.lists.strings value) (restyled change n inside.lists.styles).number (restyled change n inside.lists.styles).styles now refl refl put (value_is value inside.lists.strings good) in
           subst (λ (a : Lists). DoesStep Wanted (put_step (whole_of (held inside)) index row column change (value_content value)) no_fields (Ok tt) (held_state inside) (held_state (with_lists a (with_sheets now inside))))
           (sym put_lists) (record { done = sym step_same ∙ d.done; before = h; after = d.after })
 

@@ -65,6 +65,7 @@ start_whole name locale zone language created tables l g z well =
       arrays = (holds.arrays, tt);
       merges = (holds.merges, tt);
       layout = (holds.layout, tt);
+      amounts = (holds.amounts, tt);
       locale = l;
       language = g;
       zone = z;

@@ -37,7 +37,7 @@ use Rattle.ic_book.specs.declared.model.Model.TheInside.{Inside}
 use Rattle.ic_book.specs.declared.error.BookError.{BookError}
 use Rattle.ic_book.specs.declared.error.BookError.TheVariants as errors
 use Rattle.ic_book.proofs.GridLemmas.{its_grid, strings_with, style_below, takes_cell}
-use Rattle.ic_book.proofs.WholeLemmas.{index_seen}
+use Rattle.ic_book.proofs.WholeLemmas.{amount_seen, index_seen}
 use Rattle.ic_book.proofs.WrittenLemmas.{updated_alike}
 
 -- a sheet stands there where nothing refuses a value
@@ -117,6 +117,7 @@ module _ (book : Book) (valid : IsValidBook book) (index : ℕ) (row column : �
       longer = omega (arith);
       stays = λ i lt. refl;
       formula = λ k. subst (HasFormula (machine.notations_in its_whole) (machine.scene_in its_whole) s its_place) (sym (index_seen book.strings (cell k) ∙ is_value.formula k)) tt;
+      amount = λ k. amount_seen book.strings (length book.strings) (cell k) (is_value.string k);
     }
 
     stays : StaysValid (value_step book index row column change cell)

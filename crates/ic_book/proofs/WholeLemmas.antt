@@ -21,10 +21,11 @@ use Rattle.ic_machine.specs.Book.{Entry, core_cells, core_sheet, empty_sheet}
 use Rattle.ic_machine.specs.Changed as changed
 use Rattle.ic_machine.specs.Changed.{with_kept_formulas, with_kept_pool}
 use Rattle.ic_machine.specs.Content.{Content, content_of, formula_in, formula_index}
+use Rattle.ic_machine.specs.Valid.{HasAmount}
 use Rattle.ic_machine.specs.subjects.Sheets as sheets
 use Rattle.ic_machine.specs.subjects.Sheets.{with_new_sheet}
 use Rattle.ic_sheets.specs.Sheet.{Sheet, cells_of, empty_grid, kept_pool, plain_tab, sheet_core}
-use Rattle.ic_book.specs.Book.{Book, core_of, notations_in, scene_in, whole_of, whole_sheet}
+use Rattle.ic_book.specs.Book.{Book, HasString, core_of, notations_in, scene_in, whole_of, whole_sheet}
 use Rattle.ic_book.specs.Change.{book_changed_by, with_added_definition, with_added_sheet, with_inserted_sheet, with_kept_pools, with_moved_sheet, with_removed_definition, with_removed_sheet, with_renamed_sheet}
 use Rattle.ic_book.proofs.BookLemmas.{moved-map}
 
@@ -40,6 +41,17 @@ index_seen strings (cells.SharedString i s) = refl
 index_seen strings (cells.CellFormula f s v) = refl
 index_seen strings (cells.ArrayFormula kind f s r v) = refl
 index_seen strings (cells.SpillCell s a v) = refl
+
+-- and its number is an amount
+pub amount_seen : (strings : List (List ℕ)) (count : ℕ) (cell : Cell) → HasString count cell → HasAmount (content_of strings cell)
+amount_seen strings count (cells.EmptyCell s) h = tt
+amount_seen strings count (cells.BooleanCell v s) h = tt
+amount_seen strings count (cells.NumberCell v s) h = h
+amount_seen strings count (cells.ErrorCell e s) h = tt
+amount_seen strings count (cells.SharedString i s) h = tt
+amount_seen strings count (cells.CellFormula f s v) h = tt
+amount_seen strings count (cells.ArrayFormula kind f s r v) h = tt
+amount_seen strings count (cells.SpillCell s a v) h = tt
 
 cells_seen : (strings : List (List ℕ)) (pool : List Formula) (es : List (CellPlace × Cell))
     → core_cells pool (map (λ (e : CellPlace × Cell). let read : Entry = (e.0, content_of strings e.1) in read) es) ≡ cells_of pool es

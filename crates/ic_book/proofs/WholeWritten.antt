@@ -1,6 +1,5 @@
 -- A formula that is written into a cell, as the whole machine writes it.
-use Rattle.std.proofs.Common.{◌≡◌, ℕ, zero, suc, pos, ◌<◌, ◌≤◌, ◌⊎◌, inl, inr, List, [], ◌∷◌, ◌++◌, Bool, true, false, not, length, Option, Some, None, is_some, option_map, Result, Ok, Err, refl, sym, ap, ap₂, subst, ◌∙◌, if◌then◌else◌, codes, IfSome, OnOk, OnErr, arith}
-use Rattle.std.specs.Prelude.{unwrap_or}
+use Rattle.std.proofs.Common.{◌≡◌, ℕ, pos, List, [], ◌∷◌, ◌++◌, Bool, true, false, not, length, Option, Some, None, is_some, option_map, Result, Ok, Err, refl, sym, ap, ap₂, subst, ◌∙◌, if◌then◌else◌, codes, IfSome, OnOk, OnErr}
 use Rattle.std.specs.List.{slice_get}
 use Rattle.std.proofs.lemmas.Option.{slice_get-map}
 use Rattle.ic_laws.proofs.core.Lists.{all_updated}
@@ -25,6 +24,7 @@ use Rattle.ic_grid.specs.Prepare.{written}
 use Rattle.ic_grid.specs.Shape.{celled}
 use Rattle.ic_machine.proofs.AlikeGrid.{is_fixed_at-seen, style_at-seen, written-seen}
 use Rattle.ic_machine.proofs.AlikeLemmas.{cells_are_contents}
+use Rattle.ic_machine.proofs.PlacedLemmas.{placed_index}
 use Rattle.ic_machine.proofs.WritingSteps.{text_good, write_stays}
 use Rattle.ic_machine.specs.Book as machine
 use Rattle.ic_machine.specs.Book.{Stepped, found_or, style_number_at, unless, with_sheet}
@@ -35,9 +35,6 @@ use Rattle.ic_machine.specs.Placed.{index_in_pool, is_dynamic, pool_with}
 use Rattle.ic_machine.specs.Refusal.{ArrayPart, Causes, InvalidColumn, InvalidRow, InvalidSheet, MergedPart, Refusal, first_refusal}
 use Rattle.ic_machine.specs.Styling.{Numbered, restyled}
 use Rattle.ic_machine.specs.subjects.Writing.{formula_at_place, formula_content, formula_written, place_causes, unquoted, with_content, with_written, write_causes}
-use Rattle.ic_pool.proofs.PlacedLemmas.{below_length, first_found, first_pushed}
-use Rattle.ic_pool.specs.Code.{code}
-use Rattle.ic_pool.specs.Pool.{IsFirstAt, IsPlaced, first_place}
 use Rattle.ic_sheets.specs.Sheet.{Sheet, formula_cell, with_cell_in}
 use Rattle.ic_sheets.specs.declared.sheet.FormulaKind.TheVariants as kinds_of
 use Rattle.ic_book.specs.Book.{Book, HasStrings, IsValidBook, ModelState, notations_in, whole_of, whole_sheet, whole_tab}
@@ -49,43 +46,6 @@ use Rattle.ic_book.specs.declared.error.BookError.{BookError}
 use Rattle.ic_book.proofs.GridLemmas.{strings_written}
 use Rattle.ic_book.proofs.WholeLemmas.{whole_core}
 use Rattle.ic_book.proofs.WrittenLemmas.{updated_alike}
-
--- what a formula's place in a pool is to the machine ----
-
-split_at : (m n : ℕ) → (m < n) ⊎ (n ≤ m)
-split_at m zero = inr (omega arith)
-split_at zero (suc n) = inl (omega arith)
-split_at (suc m) (suc n) = elim (split_at m n) [ inl lt ↦ inl (omega arith) | inr le ↦ inr (omega arith) ]
-
-got_in_front : {X : Type 0} (xs ys : List X) (at : ℕ) → at < length xs → slice_get (xs ++ ys) at ≡ slice_get xs at
-got_in_front [] ys at lt = absurd (omega arith)
-got_in_front (x ∷ xs) ys zero lt = refl
-got_in_front (x ∷ xs) ys (suc at) lt = got_in_front xs ys at (omega arith)
-
-pub placed_index : (formula : Formula) (at : ℕ) (before after : List Formula) → IsPlaced formula at before after → (index_in_pool formula before ≡ at) × (pool_with formula before ≡ after)
-placed_index formula at before after placed = at_first (first_place (code formula) before) refl
-  where
-    same_first : (k : ℕ) (xs : List Formula) → IsFirstAt formula k xs → IsFirstAt formula at xs → k ≡ at
-    same_first k xs one other =
-        elim (split_at k at) [
-          | inl less ↦ absurd (other.none_before k less one.here)
-          | inr le ↦ elim (split_at at k) [ inl more ↦ absurd (one.none_before at more other.here) | inr ge ↦ omega (arith, le, ge) ]
-        ]
-
-    at_first : (o : Option ℕ) → first_place (code formula) before ≡ o → (unwrap_or o (length before) ≡ at) × ((if is_some o then before else before ++ formula ∷ []) ≡ after)
-    at_first (Some k) e =
-        let first = first_found formula before k e in
-        let lt : k < length before = below_length formula k before first.here in
-        elim (split_at at (length before)) [
-          | inl lt ↦ (let same = placed.found lt in (same_first k before first (subst (IsFirstAt formula at) same placed.first), sym same))
-          | inr le ↦ (let pushed = placed.pushed le in absurd (placed.first.none_before k (omega (arith, lt, le)) (subst (λ xs. slice_get xs k ≡ Some formula) (sym pushed) (got_in_front before (formula ∷ []) k lt ∙ first.here))))
-        ]
-    at_first None e =
-        let pushed = first_pushed formula before e in
-        elim (split_at at (length before)) [
-          | inl lt ↦ absurd (let same = placed.found lt in pushed.none_before at lt (got_in_front before (formula ∷ []) at lt ∙ subst (λ xs. slice_get xs at ≡ Some formula) same placed.first.here))
-          | inr le ↦ (let same = placed.pushed le in (same_first (length before) (before ++ formula ∷ []) pushed (subst (IsFirstAt formula at) same placed.first), sym same))
-        ]
 
 -- the notation in force of a valid book ----
 
@@ -164,8 +124,8 @@ module _ (book : Book) (valid : IsValidBook book) (index : ℕ) (place : CellPla
       subst IsDone (sym (step_is ∙ ap (λ o. step_at (option_map seen o)) found.1 ∙ step_done found.0 found.2)) tt
 
   -- the whole book stays valid
-  served_stays : StaysValid (put_formula_step (whole_of book) index place body)
-  served_stays =
+  put_stays : StaysValid (put_formula_step (whole_of book) index place body)
+  put_stays =
       write_stays whole valid.whole index place (λ sheet. formula_written whole sheet (formula_at_place whole sheet place body))
       [] (λ sheet e r c. text_good whole valid.whole index sheet e place body)
 
@@ -234,7 +194,7 @@ module _ (book : Book) (valid : IsValidBook book) (index : ℕ) (place : CellPla
 
     pub written_valid : IsValidBook new
     written_valid = subst IsValidBook (sym w.is) (record {
-      whole = subst StaysValid left_done served_stays;
+      whole = subst StaysValid left_done put_stays;
       strings = all_updated (λ (s : Sheet). HasStrings (length book.strings) s.grid) put_in_sheet (λ s h. strings_written (length book.strings) place (kind_of kinds formula) w.at styled.number s.grid h) index book.sheets valid.strings;
     })
 

@@ -1,8 +1,9 @@
 -- The whole book, how the machine sees it, and what always holds of it.
-use Rattle.std.specs.Prelude.{◌≡◌, ◌<◌, ℕ, Bool, List, [], ◌∷◌, ◌++◌, length, map, not, Option, Some, is_none, codes}
+use Rattle.std.specs.Prelude.{◌≡◌, ◌<◌, ℕ, Bool, List, [], ◌∷◌, ◌++◌, length, map, true, not, Option, Some, is_none, codes}
 use Rattle.std.specs.FinMap as finite
 use Rattle.std.specs.List.{AllByRecursion}
 use Rattle.ic_tables.specs.Tables.{TableSet, language_of, locale_of, lists_zone}
+use Rattle.ic_laws.specs.Amount.{is_amount}
 use Rattle.ic_laws.specs.CoreBook.{CellPlace, CoreBook, Definition, scene_of}
 use Rattle.ic_laws.specs.Notations.{Notations}
 use Rattle.ic_laws.specs.Refusal.{Refusal, InvalidLocale, InvalidLanguage, InvalidTimezone, first_refusal}
@@ -108,15 +109,16 @@ scene_in book = scene_of (core_of book)
 
 -- What always holds of a book. ----
 
--- the shared string of a cell, if it is one, is one of so many
+-- the shared string of a cell, if it is one, is one of so many, and its number, if it is one, is an amount
 abbrev pub HasString : ℕ → Cell → Type 0
 HasString count (cells.SharedString index style) = index < count
+HasString count (cells.NumberCell amount style) = is_amount amount ≡ true
 HasString count cell = Unit {0}
 
 abbrev pub HasStrings : ℕ → Grid → Type 0
 HasStrings count grid = (place : CellPlace) (cell : Cell) → finite.get grid.cells place ≡ Some cell → HasString count cell
 
--- what always holds of its whole book, and that each shared string of a cell is one of the book's
+-- what always holds of its whole book, and that each shared string of a cell is one of the book's, each number an amount
 pub record IsValidBook (book : Book) : Type 0 where
   pub whole : valid.IsValidBook (whole_of book)
   pub strings : AllByRecursion (λ (sheet : Sheet). HasStrings (length book.strings) sheet.grid) book.sheets

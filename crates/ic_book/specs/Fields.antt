@@ -5,14 +5,13 @@ use Rattle.std.specs.declared.alloc.Global.{Global}
 use Rattle.std.specs.Global.{Vec}
 use Rattle.ic_cells.specs.Sheet.{state_word}
 pub use Rattle.ic_machine.specs.Fields.{fields_of_sheet, named_sheet_fields, no_fields, scope_field, sheets_fields, string_field, string_only, theme_field}
-use Rattle.ic_machine.specs.Reply.{Field, NumberField, TextField}
-use Rattle.ic_machine.specs.Styling.{color_text}
+use Rattle.ic_machine.specs.Reply.{ColorField, Field, NumberField, TextField}
 use Rattle.ic_sheets.specs.declared.sheet.Sheet.{Sheet as HeldSheet}
 use Rattle.ic_book.specs.Definitions.{Listed, listed}
 
 -- what is told of a sheet of the book: its name, the word of its state, its color and its id
 abbrev pub told_sheet : HeldSheet → List Field
-told_sheet sheet = TextField sheet.name ∷ TextField (state_word sheet.tab.state) ∷ TextField (color_text sheet.tab.color) ∷ NumberField (Some sheet.id) ∷ []
+told_sheet sheet = TextField sheet.name ∷ TextField (state_word sheet.tab.state) ∷ ColorField sheet.tab.color ∷ NumberField (Some sheet.id) ∷ []
 
 -- the name, the scope and the body of each definition that is listed
 abbrev pub fields_of_listed : Listed → List Field

@@ -159,14 +159,15 @@ HasFormulaAt pool place (Some index) = (index < length pool) × RefersInside pla
 abbrev pub HasFormulas : machine.Sheet → Type 0
 HasFormulas sheet = (place : CellPlace) (content : Content) → finite.get sheet.grid.contents place ≡ Some content → HasFormulaAt sheet.pool place (formula_index content)
 
--- the shared string of each cell that is one is among so many
+-- the shared string of each cell that is one is among so many, and each number is an amount
 abbrev pub HasStrings : ℕ → Worksheet → Type 0
 HasStrings count s = (place : CellPlace) (cell : Cell) → finite.get s.cells place ≡ Some cell → HasString count cell
 
 -- The conditions in the order in which they are asked for: how many sheets there are; their names; their ids; the names and
 -- the scopes of definitions; the texts of formulas; the places of cells; the formulas, the shared strings and the styles
 -- that are told by their indexes; arrays; merged cells; what stays in sight, and which rows and columns something was set
--- for. That no style stands twice is asked of no workbook, since it always holds of its list of styles.
+-- for. That no style stands twice is asked of no workbook, since it always holds of its list of styles, and that a number
+-- is an amount of none, since it always holds of a cell.
 pub data Condition : Type 0 where
   SheetCount : Condition
   SheetNames : Condition

@@ -23,7 +23,6 @@ pub mod Referring
 pub mod Refused
 pub mod Retyped
 pub mod Scene
-pub mod Served
 pub mod SheetNames
 pub mod Shown
 pub mod Sites

@@ -1,6 +1,7 @@
 -- What writing a value into a cell does to a whole book, and what refuses it.
 use Rattle.std.specs.Prelude.{◌≡◌, ◌<◌, ◌≤◌, ◌&&◌, ◌||◌, ℕ, ℤ, [], List, Bool, true, bytes_eq, chars, length, Option, Some, None, IfSome}
 use Rattle.std.specs.List.{slice_get}
+use Rattle.ic_laws.specs.Amount.{is_amount}
 use Rattle.ic_laws.specs.CoreBook.{CellPlace}
 use Rattle.ic_laws.specs.CoreStep.{updated_at}
 use Rattle.ic_cells.specs.Cell.{cell_formula_index, style_of}
@@ -37,6 +38,11 @@ value_content (values.Number amount) = λ style. NumContent amount style
 value_content (values.Error e) = λ style. ErrContent e style
 value_content (values.Text text) = λ style. TextContent (chars text.now) style
 
+-- the number of a value, if it is one, is an amount
+abbrev pub IsAmountValue : Value → Type 0
+IsAmountValue (values.Number amount) = is_amount amount ≡ true
+IsAmountValue value = Unit {0}
+
 -- its cell where these are the shared strings, and the shared strings then
 abbrev pub value_cell : List (List ℕ) → Value → ℕ → Cell
 value_cell strings values.Empty = λ style. cells.EmptyCell style
@@ -63,8 +69,8 @@ style_change (restyles.Code code) = λ style. unquoted (coded (Some (chars code.
 abbrev pub keeps_code : List ℕ → Style → Bool
 keeps_code code style = bytes_eq style.num_fmt code || (is_date_code code && is_date_code style.num_fmt)
 
--- A cell with any style may be written for a value: it is no part of an array of several cells, has no formula, and its
--- shared string, if it is one, is one of so many.
+-- A cell with any style may be written for a value: it is no part of an array of several cells, has no formula, its shared
+-- string, if it is one, is one of so many, and its number, if it is one, an amount.
 pub record IsValueCell (count : ℕ) (cell : ℕ → Cell) : Type 0 where
   pub loose : (style : ℕ) → is_loose (shape_of (cell style)) ≡ true
   pub style : (style : ℕ) → style_of (cell style) ≡ style

@@ -4,8 +4,7 @@
 //! them. What a command's call does is one clause, `does` (`specs/Does`): the step of the whole machine of `ic_machine` on
 //! the whole book (`specs/Whole`: `whole_of`), and the fields of its reply; or the refusal of that step, or want of memory,
 //! after which all is as it was. Beside it stand clauses for what becomes of mentions (`found`, `binds`, `dangles`:
-//! `specs/Mentioned`) and for which look-ups of formulas are there (`looks_up`: `specs/LookUps`). What is served of the
-//! machine is in `specs/Served`.
+//! `specs/Mentioned`) and for which look-ups of formulas are there (`looks_up`: `specs/LookUps`).
 #![tactic(auto)]
 
 mod about;

@@ -109,12 +109,17 @@ fn put_numbered(
     Ok(())
 }
 
-/// Whether the string of a cell, if it is one, is one of so many.
+/// Whether the string of a cell, if it is one, is one of so many. Its number, if it is one, is always an amount.
 fn is_string_below(cell: &Cell, count: usize) -> bool
     ensures { result ≡ is_string_below count cell.now }
 {
     match cell {
         Cell::SharedString { si, .. } => *si < count,
+        Cell::NumberCell { v, .. } => {
+            // What always holds of an amount is known from here on.
+            let _ = v.units();
+            true
+        }
         _ => true,
     }
 }

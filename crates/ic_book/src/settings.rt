@@ -1,10 +1,10 @@
 //! The formats of the locale in force, with an example of each.
-ghost use Rattle.std.specs.Prelude.{◌≡◌, ◌++◌, ◌∷◌, [], IfOk, OnOk, chars, flat_map, string_bytes};
+ghost use Rattle.std.specs.Prelude.{◌≡◌, ◌++◌, ◌∷◌, [], IfOk, OnOk, chars, flat_map, map, string_bytes};
 ghost use Rattle.ic_laws.specs.Character.{double_quote};
 ghost use Rattle.ic_machine.specs.Fields.{fields_of_settings};
 ghost use Rattle.ic_machine.specs.Format.{formatted};
 ghost use Rattle.ic_machine.specs.subjects.Notation as notation;
-ghost use Rattle.ic_machine.specs.subjects.Notation.{GetFmtSettings, as_code, currency_code, notation_step, settings_fields};
+ghost use Rattle.ic_machine.specs.subjects.Notation.{GetFmtSettings, as_code, currency_code, notation_step, plain_blank, settings_fields};
 ghost use Rattle.ic_book.specs.Does.{Does};
 
 use crate::{BookError, Model};
@@ -106,17 +106,40 @@ fn example_amount() -> Amount
     }
 }
 
-/// The locale's standard format of currencies, with the symbol in double quotes.
+/// The locale's standard format of currencies, with the symbol in double quotes, and then plain blanks for those at which
+/// no line breaks.
 fn currency_code(alloc: Global, locale: &Locale) -> Result<Text, OutOfMemory>
     ensures { IfOk result (λ text. text ≡ currency_code locale.now) }
 {
     let mut code = String::new(alloc);
     let format = locale.numbers.currency_formats.standard.as_str();
     push_code(&mut code, locale.currency.symbol.as_str(), format)?;
-    Ok(Text::from(code))
+    let mut plain = String::new(alloc);
+    push_plain(&mut plain, code.as_str())?;
+    Ok(Text::from(plain))
 }
 
-/// Appends a format of currencies as a code.
+/// Appends a text with plain blanks for those at which no line breaks.
+fn push_plain(plain: &mut String, text: &str) -> Result<(), OutOfMemory>
+    ensures { OnOk result (chars (string_bytes plain.new)
+        ≡ chars (string_bytes plain.old) ++ map plain_blank (chars text.now)) }
+{
+    let mut rest = text;
+    while let Some((c, after)) = first_char(rest) {
+        push_char(plain, plain_blank(c))?;
+        rest = after;
+    }
+    Ok(())
+}
+
+/// A plain blank for one at which no line breaks.
+fn plain_blank(c: char) -> char
+    ensures { result ≡ plain_blank c }
+{
+    if c == '\u{a0}' { ' ' } else { c }
+}
+
+/// Appends a format of currencies, with the symbol in double quotes for its sign.
 fn push_code(code: &mut String, symbol: &str, format: &str) -> Result<(), OutOfMemory>
     ensures { OnOk result (chars (string_bytes code.new)
         ≡ chars (string_bytes code.old) ++ flat_map (as_code (chars symbol.now))
@@ -130,15 +153,13 @@ fn push_code(code: &mut String, symbol: &str, format: &str) -> Result<(), OutOfM
     Ok(())
 }
 
-/// Appends a character of such a format: the symbol in double quotes for the sign that stands for it, and a plain blank
-/// for one at which no line breaks.
+/// Appends a character of such a format: the symbol in double quotes for the sign that stands for it.
 fn push_sign(code: &mut String, symbol: &str, c: char) -> Result<(), OutOfMemory>
     ensures { OnOk result (chars (string_bytes code.new)
         ≡ chars (string_bytes code.old) ++ as_code (chars symbol.now) c) }
 {
     match c {
         '\u{a4}' => push_quoted(code, symbol),
-        '\u{a0}' => push_char(code, ' '),
         _ => push_char(code, c),
     }
 }

@@ -10,6 +10,7 @@ ghost use Rattle.ic_machine.specs.subjects.Arrays.{SetUserArrayFormula};
 ghost use Rattle.ic_machine.specs.subjects.Definitions.{NewDefinedName, UpdateDefinedName, update_of};
 ghost use Rattle.ic_machine.specs.subjects.Sheets.{new_sheet_name};
 ghost use Rattle.ic_machine.specs.subjects.Writing.{SetUserInput, UpdateCellWithFormula};
+ghost use Rattle.ic_book.specs.Book.{IsValidBook};
 ghost use Rattle.ic_book.specs.Refused.{RefusesOnly, refusal_of};
 ghost use Rattle.ic_book.specs.Translated.{IsToldAsked, IsToldOf, IsToldWhere, IsWrittenIn, formula_own, notation_refusal, shown_in};
 ghost use Rattle.ic_book.specs.Whole.{whole_of};
@@ -44,6 +45,9 @@ impl<'a> Model<'a> {
         }) }
         ensures refused { RefusesOnly result (notation_refusal (chars locale_id.now)
             (chars language_id.now) self.now.book.tables) }
+
+        // What the laws on translation ask of the book.
+        ensures valid { IsValidBook self.now.book }
     {
         let tables = self.notation.tables();
         let Ok(locale) = tables.get_named_locale(locale_id) else {

@@ -12,7 +12,7 @@ ghost use Rattle.ic_book.specs.Book.{IsValidBook};
 ghost use Rattle.ic_book.specs.Does.{Does, DoesStep, Wanted};
 ghost use Rattle.ic_book.specs.Fields.{no_fields};
 ghost use Rattle.ic_book.specs.Refused.{TellsOnly};
-ghost use Rattle.ic_book.specs.Values.{Shows, keeps_code, put_step, style_change, value_causes, value_cell, value_content, value_refusal, value_strings, with_put};
+ghost use Rattle.ic_book.specs.Values.{IsAmountValue, Shows, keeps_code, put_step, style_change, value_causes, value_cell, value_content, value_refusal, value_strings, with_put};
 ghost use Rattle.ic_book.specs.Whole.{whole_of};
 ghost use Rattle.ic_book.specs.Written.{cell_causes};
 
@@ -184,6 +184,7 @@ fn new_cell(
         (restyled (style_change change.now) shown lists.old.styles).number) }
     ensures lists { OnOk result (lists.new ≡ with_put value.now
         (restyled (style_change change.now) shown lists.old.styles) lists.old) }
+    ensures amount { OnOk result (IsAmountValue value.now) }
     ensures err { OnErr result (lists.new ≡ lists.old) }
 {
     let count = lists.styles.len();
@@ -206,12 +207,17 @@ fn value_cell(
 ) -> Result<Cell, OutOfMemory>
     ensures cell { IfOk result (λ cell. cell ≡ value_cell strings.old value.now style) }
     ensures strings { OnOk result (strings.new ≡ value_strings value.now strings.old) }
+    ensures amount { OnOk result (IsAmountValue value.now) }
     ensures err { OnErr result (strings.new ≡ strings.old) }
 {
     match value {
         Value::Empty => Ok(Cell::EmptyCell { s: style }),
         Value::Boolean(truth) => Ok(Cell::new_boolean(*truth, style)),
-        Value::Number(amount) => Ok(Cell::new_number(*amount, style)),
+        Value::Number(amount) => {
+            // What always holds of an amount is known from here on.
+            let _ = amount.units();
+            Ok(Cell::new_number(*amount, style))
+        }
         Value::Error(error) => Ok(Cell::new_error(*error, style)),
         Value::Text(text) => text_cell(strings, text, style),
     }

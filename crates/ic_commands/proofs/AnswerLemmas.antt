@@ -8,7 +8,7 @@ use Rattle.ic_machine.specs.Book.{Stepped}
 use Rattle.ic_machine.specs.Command.{Command}
 use Rattle.ic_machine.specs.Readers.{is_reader}
 use Rattle.ic_machine.specs.Reply.{Field, Reply, reply_bytes, reply_text}
-use Rattle.ic_machine.specs.Step.{outcome_of}
+use Rattle.ic_machine.specs.Step.{command_step, outcome_of, step}
 use Rattle.ic_words.specs.Reply.{IsLineText}
 use Rattle.ic_words.proofs.ReplyLemmas.{refusal_line}
 use Rattle.ic_book.specs.Book.{ModelState}
@@ -17,7 +17,6 @@ use Rattle.ic_book.specs.declared.error.BookError.{BookError}
 use Rattle.ic_book.specs.declared.error.BookError.TheVariants as errors
 use Rattle.ic_commands.specs.Answered.{Answers, IsAnswered, Keeps, Stays, Tells, is_on_notation}
 use Rattle.ic_book.specs.Does.{DoesStep, Memory, Never, Refused, Wanted, WantedIn, WantedOr, WantedOrWhole, WantedWhere}
-use Rattle.ic_book.specs.Served.{served_command_step, served_step}
 use Rattle.ic_book.specs.Whole.{whole_of}
 
 -- every error but that memory ran out tells a refusal
@@ -36,11 +35,11 @@ refused_book (WantedWhere late) made old new None h = ap (λ (m : ModelState). m
 refused_book WantedIn made old new None h = h.1
 
 module _ {T : Type 0} (wants : Memory) (fields : T → List Field) (command : Command) (old new : ModelState) (before after : List ℕ) where
-  pub told_ok : (done : Result T BookError) (value : T) → done ≡ Ok value → DoesStep wants (served_step (whole_of old.book) command) fields done old new → Keeps command old new
+  pub told_ok : (done : Result T BookError) (value : T) → done ≡ Ok value → DoesStep wants (step (whole_of old.book) command) fields done old new → Keeps command old new
       → IsLineText (reply_text (Ok (fields value))) → after ≡ before ++ reply_bytes (Ok (fields value)) → IsAnswered command old new before after
   told_ok done value is d keeps line told =
-      let did = subst (λ r. DoesStep wants (served_step (whole_of old.book) command) fields r old new) is d in
-      let made : served_command_step (whole_of old.book) (Some command) ≡ (whole_of new.book, Ok (fields value)) = ap (outcome_of (whole_of old.book)) did.done in
+      let did = subst (λ r. DoesStep wants (step (whole_of old.book) command) fields r old new) is d in
+      let made : command_step (whole_of old.book) (Some command) ≡ (whole_of new.book, Ok (fields value)) = ap (outcome_of (whole_of old.book)) did.done in
       record {
         book = sym (ap (λ (s : machine.Book × Reply). s.0) made);
         reply = told ∙ ap (λ (s : machine.Book × Reply). before ++ reply_bytes s.1) (sym made);
@@ -50,12 +49,12 @@ module _ {T : Type 0} (wants : Memory) (fields : T → List Field) (command : Co
         valid_after = did.after;
       }
 
-  pub told_refusal : (done : Result T BookError) (e : BookError) → done ≡ Err e → DoesStep wants (served_step (whole_of old.book) command) fields done old new → (refusal : Refusal) → refusal_of e ≡ Some refusal
+  pub told_refusal : (done : Result T BookError) (e : BookError) → done ≡ Err e → DoesStep wants (step (whole_of old.book) command) fields done old new → (refusal : Refusal) → refusal_of e ≡ Some refusal
       → after ≡ before ++ reply_bytes (Err refusal) → IsAnswered command old new before after
   told_refusal done e is d refusal tells told =
-      let did = subst (λ r. DoesStep wants (served_step (whole_of old.book) command) fields r old new) is d in
-      let refused = subst (Refused wants (served_step (whole_of old.book) command) old new) tells did.done in
-      let made : served_command_step (whole_of old.book) (Some command) ≡ (whole_of old.book, Err refusal) = ap (outcome_of (whole_of old.book)) refused.0 in
+      let did = subst (λ r. DoesStep wants (step (whole_of old.book) command) fields r old new) is d in
+      let refused = subst (Refused wants (step (whole_of old.book) command) old new) tells did.done in
+      let made : command_step (whole_of old.book) (Some command) ≡ (whole_of old.book, Err refusal) = ap (outcome_of (whole_of old.book)) refused.0 in
       record {
         book = ap (λ (m : ModelState). whole_of m.book) refused.1 ∙ sym (ap (λ (s : machine.Book × Reply). s.0) made);
         reply = told ∙ ap (λ (s : machine.Book × Reply). before ++ reply_bytes s.1) (sym made);
@@ -93,13 +92,13 @@ is_short done named is good = short (chars (string_bytes named.0)) (subst (λ (d
     short name e = search (rules, arith)
 
 -- A call that changes the book takes no memory for its reply.
-module _ {T : Type 0} {fields : T → List Field} {memory : Bool} {wants : Memory} {made : Stepped machine.Book} {done : Result T BookError} {before : List ℕ} {result : Result (String Global) OutOfMemory} (command : Command) {old new : ModelState} (none : memory ≡ false) (told : Tells fields memory done before result) (did : DoesStep wants made fields done old new) (is : made ≡ served_step (whole_of old.book) command) where
+module _ {T : Type 0} {fields : T → List Field} {memory : Bool} {wants : Memory} {made : Stepped machine.Book} {done : Result T BookError} {before : List ℕ} {result : Result (String Global) OutOfMemory} (command : Command) {old new : ModelState} (none : memory ≡ false) (told : Tells fields memory done before result) (did : DoesStep wants made fields done old new) (is : made ≡ step (whole_of old.book) command) where
   answered : Keeps command old new → Answers command old new before result
   answered keeps =
       let does = subst (λ made. DoesStep wants made fields done old new) is did in
       record {
         ok = told.ok wants command old new does keeps;
-        err = told.err wants (served_step (whole_of old.book) command) old new none does;
+        err = told.err wants (step (whole_of old.book) command) old new none does;
       }
 
   pub changed : is_reader command ≡ false → is_on_notation command ≡ false → Answers command old new before result
@@ -117,7 +116,7 @@ module _ {T : Type 0} {fields : T → List Field} {memory : Bool} {wants : Memor
 
 -- One that only reads may.
 pub only_read : {T : Type 0} {fields : T → List Field} {memory : Bool} {wants : Memory} {made : Stepped machine.Book} {done : Result T BookError} {before : List ℕ} {result : Result (String Global) OutOfMemory} {command : Command} {state : ModelState}
-    → Tells fields memory done before result → DoesStep wants made fields done state state → made ≡ served_step (whole_of state.book) command → Answers command state state before result
+    → Tells fields memory done before result → DoesStep wants made fields done state state → made ≡ step (whole_of state.book) command → Answers command state state before result
 only_read {fields = fields} {wants = wants} {done = done} {result = result} {command = command} {state = state} told does is =
     record {
       ok = told.ok wants command state state (subst (λ made. DoesStep wants made fields done state state) is does) (record { reads = λ _. refl; looks_up = λ _. refl });

@@ -2,36 +2,17 @@
 use Rattle.std.specs.Prelude.{◌≡◌, ℕ, List, ◌++◌, Bool, false, true, Option, Some, None, String, Result, Ok, Err, IfOk, OnErr, string_bytes}
 use Rattle.std.specs.declared.alloc.Global.{Global}
 use Rattle.ic_laws.specs.declared.memory.OutOfMemory.{OutOfMemory}
-use Rattle.ic_tables.specs.Tables.{TableSet, english, error_words_in}
 use Rattle.ic_machine.specs.Book as machine
 use Rattle.ic_machine.specs.Book.{Stepped}
-use Rattle.ic_machine.specs.Command.{Command, OnNotation, OnWriting, command_in, served}
-use Rattle.ic_machine.specs.Core.{begins_with_sign, is_core_line}
+use Rattle.ic_machine.specs.Command.{Command, OnNotation, command_in, commands}
 use Rattle.ic_machine.specs.Readers.{is_reader}
 use Rattle.ic_machine.specs.Reply.{Field, Reply, reply_bytes, reply_text}
-use Rattle.ic_machine.specs.Step.{english_errors}
-use Rattle.ic_machine.specs.subjects.Writing.{UpdateCellWithFormula}
+use Rattle.ic_machine.specs.Step.{command_step, english_errors, line_step, step}
 use Rattle.ic_words.specs.Reply.{IsLineText}
-use Rattle.ic_book.specs.Book.{IsValidBook, ModelState}
+use Rattle.ic_book.specs.Book.{Book, IsValidBook, ModelState}
 use Rattle.ic_book.specs.declared.error.BookError.{BookError}
 use Rattle.ic_book.specs.Does.{DoesStep, Memory}
-use Rattle.ic_book.specs.Served.{served_command_step, served_line_step, served_step}
 use Rattle.ic_book.specs.Whole.{whole_of}
-
--- no text that is written as a formula begins with a sign
-abbrev pub HasNoSign : Command → Type 0
-HasNoSign (OnWriting (UpdateCellWithFormula sheet row column text)) = begins_with_sign text ≡ false
-HasNoSign command = Unit {0}
-
-abbrev pub WritesNoSign : Option Command → Type 0
-WritesNoSign (Some command) = HasNoSign command
-WritesNoSign None = Unit {0}
-
--- A line is a core line, by the tables of a book: it is no command that is served, or one that the core machine has, and it
--- writes no formula that begins with a sign, which the core machine doesn't know.
-abbrev pub IsCore : TableSet → List ℕ → Type 0
-IsCore tables line =
-    (is_core_line (error_words_in (english tables.languages)) line ≡ true) × WritesNoSign (command_in (error_words_in (english tables.languages)) served line)
 
 -- a command on the locale, the language and the zone
 abbrev pub is_on_notation : Command → Bool
@@ -52,26 +33,33 @@ Stays (Ok fields) command old new = Keeps command old new
 -- so does a line that is no command
 abbrev pub StaysAfter : Option Command → ModelState → ModelState → Type 0
 StaysAfter None old new = new ≡ old
-StaysAfter (Some command) old new = Stays (served_command_step (whole_of old.book) (Some command)).1 command old new
+StaysAfter (Some command) old new = Stays (command_step (whole_of old.book) (Some command)).1 command old new
 
--- A line left of the whole book what the machine that is served leaves, and this is its reply, which is one line. What
--- changes nothing left the model as it was.
+-- a command was done in a valid book, and left one
+abbrev pub AreValid : Option Command → Book → Book → Type 0
+AreValid None old new = Unit {0}
+AreValid (Some command) old new = IsValidBook old × IsValidBook new
+
+-- A line left of the whole book what the machine leaves, and this is its reply, which is one line. What changes nothing left
+-- the model as it was.
 pub record DoesLine (line : List ℕ) (old new : ModelState) (told : List ℕ) : Type 0 where
-  pub book : whole_of new.book ≡ (served_line_step (whole_of old.book) line).0
-  pub reply : told ≡ reply_bytes (served_line_step (whole_of old.book) line).1
-  pub is_line : IsLineText (reply_text (served_line_step (whole_of old.book) line).1)
-  pub stays : StaysAfter (command_in (english_errors (whole_of old.book)) served line) old new
+  pub book : whole_of new.book ≡ (line_step commands (whole_of old.book) line).0
+  pub reply : told ≡ reply_bytes (line_step commands (whole_of old.book) line).1
+  pub is_line : IsLineText (reply_text (line_step commands (whole_of old.book) line).1)
+  pub stays : StaysAfter (command_in (english_errors (whole_of old.book)) commands line) old new
+  pub valid : AreValid (command_in (english_errors (whole_of old.book)) commands line) old.book new.book
 
 -- the same without the reply
 pub record LeavesLine (line : List ℕ) (old new : ModelState) : Type 0 where
-  pub book : whole_of new.book ≡ (served_line_step (whole_of old.book) line).0
-  pub stays : StaysAfter (command_in (english_errors (whole_of old.book)) served line) old new
+  pub book : whole_of new.book ≡ (line_step commands (whole_of old.book) line).0
+  pub stays : StaysAfter (command_in (english_errors (whole_of old.book)) commands line) old new
+  pub valid : AreValid (command_in (english_errors (whole_of old.book)) commands line) old.book new.book
 
 -- The command made its step, and the step's reply, which is one line, was put behind a text.
 pub record IsAnswered (command : Command) (old new : ModelState) (before after : List ℕ) : Type 0 where
-  pub book : whole_of new.book ≡ (served_command_step (whole_of old.book) (Some command)).0
-  pub reply : after ≡ before ++ reply_bytes (served_command_step (whole_of old.book) (Some command)).1
-  pub line : IsLineText (reply_text (served_command_step (whole_of old.book) (Some command)).1)
+  pub book : whole_of new.book ≡ (command_step (whole_of old.book) (Some command)).0
+  pub reply : after ≡ before ++ reply_bytes (command_step (whole_of old.book) (Some command)).1
+  pub line : IsLineText (reply_text (command_step (whole_of old.book) (Some command)).1)
   pub stays : StaysAfter (Some command) old new
   pub valid_before : IsValidBook old.book
   pub valid_after : IsValidBook new.book
@@ -79,7 +67,7 @@ pub record IsAnswered (command : Command) (old new : ModelState) (before after :
 -- What a call did is told: whatever command it did is answered by it, and where the fields take no memory, there is no reply
 -- only where the call left the book as it was.
 pub record Tells {T : Type 0} (fields : T → List Field) (memory : Bool) (done : Result T BookError) (before : List ℕ) (result : Result (String Global) OutOfMemory) : Type 0 where
-  pub ok : (wants : Memory) (command : Command) (old new : ModelState) → DoesStep wants (served_step (whole_of old.book) command) fields done old new
+  pub ok : (wants : Memory) (command : Command) (old new : ModelState) → DoesStep wants (step (whole_of old.book) command) fields done old new
       → Keeps command old new → IfOk result (λ text. IsAnswered command old new before (string_bytes text))
   pub err : (wants : Memory) (made : Stepped machine.Book) (old new : ModelState) → memory ≡ false → DoesStep wants made fields done old new → OnErr result (new.book ≡ old.book)
 

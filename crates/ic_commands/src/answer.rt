@@ -1,17 +1,13 @@
 ghost use Rattle.std.specs.Prelude.{◌≡◌, ◌+◌, ◌≤◌, [], IfOk, OnErr, OnOk, chars, false, string_bytes, string_capacity, string_len};
-ghost use Rattle.ic_laws.specs.Lines.{line_step, reply_bytes, reply_text};
-ghost use Rattle.ic_machine.specs.Reply.{reply_text as told_text};
+ghost use Rattle.ic_machine.specs.Command.{commands};
+ghost use Rattle.ic_machine.specs.Reply.{reply_text};
 ghost use Rattle.ic_tables.specs.Words.{error_words};
-ghost use Rattle.ic_machine.specs.Step.{english_errors};
+ghost use Rattle.ic_machine.specs.Step.{english_errors, line_step};
 ghost use Rattle.ic_lines.specs.Reading.{has_line_feed};
 ghost use Rattle.ic_words.specs.Command.{command_meant};
-ghost use Rattle.ic_words.specs.Reply.{IsLineText, reply_room};
-ghost use Rattle.ic_words.specs.Served.{served};
-ghost use Rattle.ic_book.specs.Book.{StepsTo, core_of, notations_in};
-ghost use Rattle.ic_book.specs.Served.{served_line_step};
+ghost use Rattle.ic_words.specs.Reply.{reply_room};
 ghost use Rattle.ic_book.specs.Whole.{whole_of};
-ghost use Rattle.ic_commands.specs.Answered.{Answers, DoesLine, IsCore, LeavesLine};
-ghost use Rattle.ic_commands.specs.Plain.{IsPlainBook};
+ghost use Rattle.ic_commands.specs.Answered.{Answers, DoesLine, LeavesLine};
 
 mod arrays;
 mod definitions;
@@ -41,28 +37,11 @@ use styles::answer_styles;
 use tabs::answer_tabs;
 use writing::answer_writing;
 
-/// One step of the machine that is served: what a line does to the book, and its reply with the line feed at its end. For a
-/// core line, which is no command or one that the core machine has, that is the core machine's step, where no cells are
-/// merged and no array has several cells, which it knows nothing of; and that stays so. A line that is no
+/// One step of the machine: what a line does to the book, and its reply with the line feed at its end. A line that is no
 /// command, is refused or only asks leaves all that a model is, the formulas that sheets keep and their look-ups too; one
 /// on the locale or the language leaves the look-ups. For the others the whole book is as the command leaves it. Where
 /// memory runs out the book is as it was.
 pub fn reply_to(alloc: Global, model: &mut Model<'_>, line: &Line) -> Result<String, OutOfMemory>
-    ensures reply { IsPlainBook (whole_of model.old.book)
-        → IsCore model.old.book.tables line.now → IfOk result
-        (λ reply. string_bytes reply ≡ reply_bytes
-        (line_step (notations_in model.old.book) served (core_of model.old.book) line.now).1) }
-    ensures line { IsPlainBook (whole_of model.old.book)
-        → IsCore model.old.book.tables line.now → IfOk result
-        (λ _. IsLineText (reply_text
-        (line_step (notations_in model.old.book) served (core_of model.old.book) line.now).1)) }
-    ensures book { IsPlainBook (whole_of model.old.book)
-        → IsCore model.old.book.tables line.now → OnOk result
-        (StepsTo model.old.book model.new.book
-        (line_step (notations_in model.old.book) served (core_of model.old.book) line.now).0) }
-    ensures plain { IsPlainBook (whole_of model.old.book)
-        → IsCore model.old.book.tables line.now → OnOk result
-        (IsPlainBook (whole_of model.new.book)) }
     ensures whole { IfOk result
         (λ reply. DoesLine line.now model.old model.new (string_bytes reply)) }
     ensures err { OnErr result (model.new.book ≡ model.old.book) }
@@ -78,21 +57,6 @@ pub fn reply_in(
     line: &Line,
     last: String,
 ) -> Result<String, OutOfMemory>
-    ensures reply { IsPlainBook (whole_of model.old.book)
-        → IsCore model.old.book.tables line.now → IfOk result
-        (λ reply. string_bytes reply ≡ reply_bytes
-        (line_step (notations_in model.old.book) served (core_of model.old.book) line.now).1) }
-    ensures line { IsPlainBook (whole_of model.old.book)
-        → IsCore model.old.book.tables line.now → IfOk result
-        (λ _. IsLineText (reply_text
-        (line_step (notations_in model.old.book) served (core_of model.old.book) line.now).1)) }
-    ensures book { IsPlainBook (whole_of model.old.book)
-        → IsCore model.old.book.tables line.now → OnOk result
-        (StepsTo model.old.book model.new.book
-        (line_step (notations_in model.old.book) served (core_of model.old.book) line.now).0) }
-    ensures plain { IsPlainBook (whole_of model.old.book)
-        → IsCore model.old.book.tables line.now → OnOk result
-        (IsPlainBook (whole_of model.new.book)) }
     ensures whole { IfOk result
         (λ reply. DoesLine line.now model.old model.new (string_bytes reply)) }
     ensures err { OnErr result (model.new.book ≡ model.old.book) }
@@ -117,16 +81,8 @@ fn emptied(mut text: String) -> Result<String, OutOfMemory>
 
 /// The same, with the reply as a line: without the line feed at its end.
 pub fn answer_line(alloc: Global, model: &mut Model<'_>, line: &Line) -> Result<Line, OutOfMemory>
-    ensures reply { IsPlainBook (whole_of model.old.book)
-        → IsCore model.old.book.tables line.now → IfOk result
-        (λ reply. reply ≡ reply_text
-        (line_step (notations_in model.old.book) served (core_of model.old.book) line.now).1) }
-    ensures book { IsPlainBook (whole_of model.old.book)
-        → IsCore model.old.book.tables line.now → OnOk result
-        (StepsTo model.old.book model.new.book
-        (line_step (notations_in model.old.book) served (core_of model.old.book) line.now).0) }
     ensures told { IfOk result
-        (λ reply. reply ≡ told_text (served_line_step (whole_of model.old.book) line.now).1) }
+        (λ reply. reply ≡ reply_text (line_step commands (whole_of model.old.book) line.now).1) }
     ensures whole { OnOk result (LeavesLine line.now model.old model.new) }
     ensures err { OnErr result (model.new.book ≡ model.old.book) }
 {

@@ -7,6 +7,7 @@ use Rattle.ic_tables.specs.Sample.{american, european}
 use Rattle.ic_tables.specs.declared.language.Language.{Language}
 use Rattle.ic_input.specs.Amount.{signed_amount}
 use Rattle.ic_input.specs.Code.{number_code}
+use Rattle.ic_input.specs.Counted.{days_after, next_day}
 use Rattle.ic_input.specs.Date.{day_number, day_of, is_day}
 use Rattle.ic_input.specs.Formatted.{nearest, sign_text}
 use Rattle.ic_input.specs.Group.{in_threes}
@@ -68,6 +69,17 @@ last_of_all = refl
 
 pub no_leap_day : is_day 2025 2 29 ≡ false
 no_leap_day = refl
+
+-- the day after 28 February of a century, of a fourth century, and after 31 December
+pub no_leap_century : next_day (record { year = 1900; month = 2; day = 28 }) ≡ record { year = 1900; month = 3; day = 1 }
+no_leap_century = refl
+
+pub leap_century : next_day (record { year = 2000; month = 2; day = 28 }) ≡ record { year = 2000; month = 2; day = 29 }
+leap_century = refl
+
+pub new_year : days_after 2 ≡ record { year = 1900; month = 1; day = 1 }
+unfolding days_after
+new_year = refl
 
 -- half is rounded away from zero, and what is rounded to 0 has no minus
 pub half_away : nearest (10 ^ 7) 5000000 ≡ 1

@@ -1,6 +1,7 @@
 pub mod AgainLemmas
 pub mod CodeLaws
 pub mod CodeSteps
+pub mod CountedLemmas
 pub mod DateAgain
 pub mod DateLaws
 pub mod DateSteps

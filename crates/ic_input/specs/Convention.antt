@@ -1,6 +1,6 @@
 -- What of a locale tells how numbers and dates are typed and shown there.
-use Rattle.std.specs.Prelude.{ℕ, List, [], ◌∷◌, Bool, true, false, ◌&&◌, ◌||◌, ◌==◌, bytes_eq, codes, if◌then◌else◌}
-use Rattle.ic_laws.specs.Character.{blank, comma, dollar, dot, minus}
+use Rattle.std.specs.Prelude.{ℕ, List, [], ◌∷◌, Bool, true, false, ◌&&◌, ◌||◌, ◌==◌, bytes_eq}
+use Rattle.ic_laws.specs.Character.{blank, dollar, minus}
 use Rattle.ic_tables.specs.declared.locale.Locale.{Locale}
 
 abbrev pub first_or : ℕ → List ℕ → ℕ

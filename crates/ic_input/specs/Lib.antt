@@ -2,8 +2,10 @@ pub mod Again
 pub mod Amount
 pub mod Code
 pub mod Convention
+pub mod Counted
 pub mod Date
 pub mod Formatted
 pub mod Group
 pub mod Number
+pub mod Rules
 pub mod Typed

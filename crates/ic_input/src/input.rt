@@ -156,7 +156,7 @@ fn unless_number<'t>(text: &'t str, rest: &str, locale: &Locale) -> Option<&'t s
 /// Whether a text has to be typed after a quote to stay a text: whether it begins with `=`, `+` or `-`, or is typed as
 /// something else than a text or nothing. It never runs out of memory.
 pub fn value_needs_quoting(
-    _alloc: Global,
+    alloc: Global,
     text: &str,
     locale: &Locale,
     language: &Language,

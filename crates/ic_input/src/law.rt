@@ -7,7 +7,9 @@ ghost use Rattle.ic_input.specs.Again.{BooleansTypedAgain, ErrorsTypedAgain};
 ghost use Rattle.ic_input.specs.Again.{FormulasTypedAgain, QuotedTypedAgain, TextsTypedAgain};
 ghost use Rattle.ic_input.specs.Convention.{short_date};
 ghost use Rattle.ic_tables.specs.Formats.{decimal_separator};
+ghost use Rattle.ic_input.specs.Counted.{CountedIsNumbered, NumberedIsCounted, ShownIsCounted};
 ghost use Rattle.ic_input.specs.Date.{IsShownDay, iso_date};
+ghost use Rattle.ic_input.specs.Rules.{AnsweredIsRuled, RuledIsAnswered};
 ghost use Rattle.ic_input.specs.Typed.{amount_of_day, typed};
 ghost use Rattle.ic_input.specs.declared.input.Typed.TheVariants as kinds;
 
@@ -40,4 +42,21 @@ pub fn law_text_typed_again()
     ensures texts { TextsTypedAgain }
     ensures quoted { QuotedTypedAgain }
     ensures formulas { FormulasTypedAgain }
+{}
+
+/// By a locale of tables, every text is typed as the function says, which goes over the text once, exactly where it is
+/// typed so by the rules, which ask of the whole text whether each kind of input is it: what the rules say of a text, the
+/// function answers, and what it answers is what the rules say. So each text is typed as one thing and never as two.
+pub fn law_typed_by_rules()
+    ensures answered { RuledIsAnswered }
+    ensures ruled { AnsweredIsRuled }
+{}
+
+/// The day of the number n is 30 December 1899 and n days, counted one by one through the months and the leap years of the
+/// calendar, from 31 December 1899 to 31 December 9999: that day has this number, no other has it, and it is what is
+/// shown of the number by a code of dates.
+pub fn law_days_count_from()
+    ensures counted { CountedIsNumbered }
+    ensures only { NumberedIsCounted }
+    ensures shown { ShownIsCounted }
 {}

@@ -31,6 +31,7 @@ use Rattle.ic_machine.specs.Valid.{IsValidBook}
 use Rattle.ic_machine.specs.subjects.Arrays as arrays
 use Rattle.ic_machine.specs.subjects.Arrays.{array_causes, array_step, place_count, with_array}
 use Rattle.ic_machine.specs.subjects.Writing.{formula_at_place}
+use Rattle.ic_machine.proofs.BesideLemmas.{twin_valid}
 use Rattle.ic_machine.proofs.AlikeGrid.{has_in_as}
 use Rattle.ic_machine.proofs.BareGrid.{array_bare, bare, bared, no_columns, no_rows, seen_bare}
 use Rattle.ic_machine.proofs.FormulaSame.{IsAgain, formula_again}
@@ -86,7 +87,7 @@ ArrayStays book left other sheet block text locale language =
     IsWritable locale language book (OnArrays (arrays.SetUserArrayFormula sheet block text))
     → LeavesSame left (step other (OnArrays (arrays.SetUserArrayFormula sheet block (cell_text (in_notation locale language left) (first_place block) (array_formula book (arrays.SetUserArrayFormula sheet block text))))))
 
-module _ (b left c : Book) (valid : IsValidBook b) (valid_there : IsValidBook c) (same : IsSameBook b c) (fields : List Field) (index : ℕ) (block : Block) (text : List ℕ) where
+module _ (b left c : Book) (valid : IsValidBook b) (valid_there : IsValidBook (in_notation c.locale c.language b)) (same : IsSameBook b c) (fields : List Field) (index : ℕ) (block : Block) (text : List ℕ) where
   abbrev place : CellPlace
   place = first_place block
 
@@ -139,4 +140,4 @@ pub array_is_same : (locale language : List ℕ) → ArrayIsSame locale language
 array_is_same locale language book left other fields sheet block text beside e =
     subst (λ (l : List ℕ). ArrayStays book left other sheet block text l language) beside.locale_is
     (subst (λ (l : List ℕ). ArrayStays book left other sheet block text other.locale l) beside.language_is
-    (array_stays book left other beside.valid beside.valid_beside beside.same fields sheet block text e))
+    (array_stays book left other beside.valid (twin_valid locale language book other beside) beside.same fields sheet block text e))

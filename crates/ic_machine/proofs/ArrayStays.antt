@@ -52,7 +52,7 @@ module _ (n : Notations) (scene : Scene) (s : Sheet) (b : Block) where
   Stands count q x = IsStanding n scene s count q x
 
   more_stand : (count more : ℕ) → count ≤ more → (m : Contents Content) → AllHave held (Stands count) m → AllHave held (Stands more) m
-  more_stand count more le m stand q x e = let h = stand q x e in let lt = h.0 in (omega (arith, le, lt), h.1)
+  more_stand count more le m stand q x e = let h = stand q x e in let lt = h.0 in (omega (arith, le, lt), h.1, h.2)
 
   -- a number of a style that a place gets when it is written
   number_of : (m : Contents Content) (styles : List Style) (q : Place) → AreStyles styles → HasGridStyles (length styles) s.grid → AllHave held (Stands (length styles)) m
@@ -73,7 +73,7 @@ module _ (n : Notations) (scene : Scene) (s : Sheet) (b : Block) where
       let more = has.more in
       let below = has.below in
       let rest = blanks_written k (next_place b q) (finite.insert m q x) w.1 has.are (styles_more (length styles) (length w.1) more s.grid lines)
-      (all_put held (Stands (length w.1)) m q x (more_stand (length styles) (length w.1) more m stand) (below, tt)) in
+      (all_put held (Stands (length w.1)) m q x (more_stand (length styles) (length w.1) more m stand) (below, tt, tt)) in
       let further = rest.more in
       record { are = rest.are; more = omega (arith, more, further); stand = rest.stand }
 
@@ -88,7 +88,7 @@ module _ (n : Notations) (scene : Scene) (s : Sheet) (b : Block) where
       let more = has.more in
       let below = has.below in
       let kept = all_loosened held (Stands (length w.1)) (passed_on n scene s (length w.1)) b m (more_stand (length styles) (length w.1) more m stand) in
-      let rest = blanks_written k (next_place b a) (finite.insert between a x) w.1 has.are (styles_more (length styles) (length w.1) more s.grid lines) (all_put held (Stands (length w.1)) between a x kept (below, formula)) in
+      let rest = blanks_written k (next_place b a) (finite.insert between a x) w.1 has.are (styles_more (length styles) (length w.1) more s.grid lines) (all_put held (Stands (length w.1)) between a x kept (below, formula, tt)) in
       let further = rest.more in
       record { are = rest.are; more = omega (arith, more, further); stand = rest.stand }
 
@@ -137,7 +137,7 @@ module _ (b : Book) (valid : IsValidBook b) (index : ℕ) (s : Sheet) (e : slice
           let written : Contents Content × List Style = array_written held s.grid.rows s.grid.columns block k (index_in_pool f s.pool) s.grid.contents b.styles in
           let new : Sheet = record s { pool = pool; grid = record s.grid { contents = written.0 } } in
           let done = array_stands (notations_in b) (scene_in b) pooled block k (index_in_pool f s.pool) s.grid.contents b.styles valid.styles.styles h.styles
-          (λ q x g. (h.styles.contents q x g, lifted q (formula_index x) (h.formulas q x g))) formula_there in
+          (λ q x g. (h.styles.contents q x g, lifted q (formula_index x) (h.formulas q x g), h.amounts q x g)) formula_there in
           let whole = written_array_whole s.grid.rows s.grid.columns block s.grid.merges s.grid.contents k (index_in_pool f s.pool) b.styles area apart at (record { inside = h.inside; arrays = h.arrays; apart = h.merges }) in
           let lines = styles_more (length b.styles) (length written.1) done.more s.grid h.styles in
           put_valid b valid index s new e refl refl written.1 done.are done.more
@@ -149,6 +149,7 @@ module _ (b : Book) (valid : IsValidBook b) (index : ℕ) (s : Sheet) (e : slice
             arrays = whole.arrays;
             merges = whole.apart;
             layout = record { frozen = h.layout.frozen; lines = record { rows = h.layout.lines.rows; columns = h.layout.lines.columns } };
+            amounts = λ q x g. (done.stand q x g).2;
           })
         where
           same_formula : (m : Contents Content) (q : Place) (o : Option ℕ) → HasFormula (notations_in b) (scene_in b) pooled q o

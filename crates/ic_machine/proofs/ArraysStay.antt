@@ -42,11 +42,11 @@ module _ (n : Notations) (scene : Scene) (s : Sheet) (count : ℕ) where
 
   module _ (h : HoldsOf n scene count s) where
     pub all_stand : AllHave held (IsStanding n scene s count) s.grid.contents
-    all_stand q x e = (h.styles.contents q x e, h.formulas q x e)
+    all_stand q x e = (h.styles.contents q x e, h.formulas q x e, h.amounts q x e)
 
     of_spills : 0 < count → IsOfSpills held (IsStanding n scene s count) s.grid.rows s.grid.columns
     of_spills some m stand q a value =
-        (number_below count (record s.grid { contents = m }) q (record { contents = λ p x e. (stand p x e).0; rows = h.styles.rows; columns = h.styles.columns }) some, tt)
+        (number_below count (record s.grid { contents = m }) q (record { contents = λ p x e. (stand p x e).0; rows = h.styles.rows; columns = h.styles.columns }) some, tt, tt)
 
     pub is_whole : IsWhole s.grid.merges s.grid.contents
     is_whole = record { inside = h.inside; arrays = h.arrays; apart = h.merges }
@@ -64,6 +64,7 @@ module _ (n : Notations) (scene : Scene) (s : Sheet) (count : ℕ) where
       arrays = w.arrays;
       merges = w.apart;
       layout = record { frozen = h.layout.frozen; lines = record { rows = h.layout.lines.rows; columns = h.layout.lines.columns } };
+      amounts = λ q x e. (stand q x e).2;
     }
 
     holds_unless : (o : Option Refusal) (left : Grid) (fields : List Field) → (o ≡ None → HoldsOf n scene count (record s { grid = left })) → GridHolds (unless o left fields)

@@ -24,7 +24,7 @@ use Rattle.ic_grid.specs.Conditions.{AreArrays, AreInSheet, AreMerges}
 use Rattle.ic_machine.specs.Book.{Book, Sheet, core_of, core_sheet, notations_in, scene_in}
 use Rattle.ic_machine.specs.Changed.{with_kept_pool}
 use Rattle.ic_machine.specs.Content.{formula_in, formula_index, held}
-use Rattle.ic_machine.specs.Valid.{HasCellFormulas, HasFormula, HasGridStyles, HasLayout, IsKeptPool, IsValidBook}
+use Rattle.ic_machine.specs.Valid.{HasAmounts, HasCellFormulas, HasFormula, HasGridStyles, HasLayout, IsKeptPool, IsValidBook}
 use Rattle.ic_machine.proofs.CoreLemmas.{formula_in-map}
 use Rattle.ic_machine.proofs.CoreValid.{core_valid, map_twice}
 use Rattle.ic_machine.proofs.ValidLemmas.{HoldsOf, all_of}
@@ -67,6 +67,7 @@ module _ (n : Notations) (are : AreNotations n) (before after : Scene) (named : 
     arrays = h.arrays;
     merges = h.merges;
     layout = record { frozen = h.layout.frozen; lines = h.layout.lines };
+    amounts = h.amounts;
   }
 
   pub all_kept : (count : ℕ) (sheets : List Sheet) → AllByRecursion (HoldsOf n before count) sheets → AllByRecursion (HoldsOf n after count) (map keep_sheet sheets)
@@ -96,22 +97,23 @@ module _ (n : Notations) (before after : Scene) (alike : FindsAlike before after
     arrays = h.arrays;
     merges = h.merges;
     layout = h.layout;
+    amounts = h.amounts;
   }
 
 -- a valid book's sheets, each with all that holds of it ----
 
 each_holds : (n : Notations) (scene : Scene) (count : ℕ) (sheets : List Sheet) → AllByRecursion (IsKeptPool n scene) sheets → AllByRecursion (λ (s : Sheet). AreInSheet held s.grid.contents) sheets
     → AllByRecursion (HasCellFormulas n scene) sheets → AllByRecursion (λ (s : Sheet). HasGridStyles count s.grid) sheets → AllByRecursion (λ (s : Sheet). AreArrays held s.grid.contents) sheets
-    → AllByRecursion (λ (s : Sheet). AreMerges held s.grid.contents s.grid.merges) sheets → AllByRecursion HasLayout sheets → AllByRecursion (HoldsOf n scene count) sheets
-each_holds n scene count [] pools inside formulas styles arrays merges layout = tt
-each_holds n scene count (s ∷ sheets) pools inside formulas styles arrays merges layout = (
-  record { pool = pools.0; inside = inside.0; formulas = formulas.0; styles = styles.0; arrays = arrays.0; merges = merges.0; layout = layout.0 },
-  each_holds n scene count sheets pools.1 inside.1 formulas.1 styles.1 arrays.1 merges.1 layout.1,
+    → AllByRecursion (λ (s : Sheet). AreMerges held s.grid.contents s.grid.merges) sheets → AllByRecursion HasLayout sheets → AllByRecursion HasAmounts sheets → AllByRecursion (HoldsOf n scene count) sheets
+each_holds n scene count [] pools inside formulas styles arrays merges layout amounts = tt
+each_holds n scene count (s ∷ sheets) pools inside formulas styles arrays merges layout amounts = (
+  record { pool = pools.0; inside = inside.0; formulas = formulas.0; styles = styles.0; arrays = arrays.0; merges = merges.0; layout = layout.0; amounts = amounts.0 },
+  each_holds n scene count sheets pools.1 inside.1 formulas.1 styles.1 arrays.1 merges.1 layout.1 amounts.1,
 )
 
 pub all_hold : (b : Book) → IsValidBook b → AllByRecursion (HoldsOf (notations_in b) (scene_in b) (length b.styles)) b.sheets
 all_hold b valid =
-    each_holds (notations_in b) (scene_in b) (length b.styles) b.sheets valid.kept.pools valid.inside valid.formulas valid.styles.numbers valid.arrays valid.merges valid.layout
+    each_holds (notations_in b) (scene_in b) (length b.styles) b.sheets valid.kept.pools valid.inside valid.formulas valid.styles.numbers valid.arrays valid.merges valid.layout valid.amounts
 
 each_core : (n : Notations) (scene : Scene) (P : Sheet → Type 0) → ((s : Sheet) → IsValidSheet n scene (core_sheet s) → P s) → (sheets : List Sheet) → AllByRecursion (IsValidSheet n scene) (map core_sheet sheets)
     → AllByRecursion P sheets
@@ -177,6 +179,7 @@ module _ (b : Book) (valid : IsValidBook b) where
         arrays = all_of Holds (λ (s : Sheet). AreArrays held s.grid.contents) (λ s h. h.arrays) sheets holds;
         merges = all_of Holds (λ (s : Sheet). AreMerges held s.grid.contents s.grid.merges) (λ s h. h.merges) sheets holds;
         layout = all_of Holds HasLayout (λ s h. h.layout) sheets holds;
+        amounts = all_of Holds HasAmounts (λ s h. h.amounts) sheets holds;
         locale = core.locale;
         language = core.language;
         zone = valid.zone;

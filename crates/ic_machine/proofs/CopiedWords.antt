@@ -440,7 +440,7 @@ module _ (b : Book) (valid : IsValidBook b) (index : ℕ) (source : Sheet) (at :
       subst (AllZip (λ (d e : Definition). HasCopiedMentions (copying_of b index source) d.body e.body) copied) (map_twice (local_in id) (with_formula (formula_copied b index source)) copied)
       (zip_mapped IsCopied (λ (d e : Definition). HasCopiedMentions (copying_of b index source) d.body e.body) (λ d. with_formula (formula_copied b index source) (local_in id d)) (λ d h. kept_becomes d.scope h.0 d.body h.1) copied all_copied)
 
-got_inserted : {X : Type 0} (xs : List X) (i : ℕ) (x : X) → i ≤ length xs → slice_get (insert xs i x) i ≡ Some x
+pub got_inserted : {X : Type 0} (xs : List X) (i : ℕ) (x : X) → i ≤ length xs → slice_get (insert xs i x) i ≡ Some x
 got_inserted [] zero x le = refl
 got_inserted [] (suc i) x le = absurd (omega (arith, le))
 got_inserted (y ∷ xs) zero x le = refl

@@ -48,6 +48,7 @@ use Rattle.ic_machine.specs.TranslationLaws.{DefinitionIsSame, IsWritable, Leave
 use Rattle.ic_machine.specs.Valid.{IsValidBook}
 use Rattle.ic_machine.specs.subjects.Definitions as definitions
 use Rattle.ic_machine.specs.subjects.Definitions.{definition_step, new_definition_step, with_new_definition}
+use Rattle.ic_machine.proofs.BesideLemmas.{twin_valid}
 use Rattle.ic_machine.proofs.BodyAgain.{IsReferenceTo, body_kinds, is_lambda, lambda_again, reference_again}
 use Rattle.ic_machine.proofs.ChangedSame.{changed_same}
 use Rattle.ic_machine.proofs.ChangedStays.{kept_definitions, kept_sheets, seen_kept, spelled_kept}
@@ -109,9 +110,13 @@ all_last P (y ∷ xs) x h = all_last P xs x h.1
 
 -- The new definition. ----
 
-module _ (b c : Book) (valid : IsValidBook b) (valid_there : IsValidBook c) (same : IsSameBook b c) (name : List ℕ) (index : Option ℕ) (text : List ℕ) where
+module _ (b c : Book) (valid : IsValidBook b) (valid_there : IsValidBook (in_notation c.locale c.language b)) (same : IsSameBook b c) (name : List ℕ) (index : Option ℕ) (text : List ℕ) where
   abbrev n : Notations
   n = notations_in b
+
+  -- the book itself in the other notation
+  abbrev twin : Book
+  twin = in_notation c.locale c.language b
 
   abbrev scope : Option ℕ
   scope = scope_or_none (core_of b) index
@@ -151,14 +156,14 @@ module _ (b c : Book) (valid : IsValidBook b) (valid_there : IsValidBook c) (sam
       abbrev v : Spelled
       v = spelled (scene_in left) tree
 
-      fits : Fits (form left c valid_left valid_there same.tables) v
-      fits = fits_there left c valid_left valid_there same.tables scope tree kept free_left
+      fits : Fits (form left twin valid_left valid_there refl) v
+      fits = fits_there left twin valid_left valid_there refl scope tree kept free_left
 
-      reads : read_as (form left c valid_left valid_there same.tables) (printed (form left c valid_left valid_there same.tables) v) ≡ Some v
-      reads = reads_there left c valid_left valid_there same.tables scope tree kept free_left
+      reads : read_as (form left twin valid_left valid_there refl) (printed (form left twin valid_left valid_there refl) v) ≡ Some v
+      reads = reads_there left twin valid_left valid_there refl scope tree kept free_left
 
       abbrev d : DialectMeaning
-      d = form left c valid_left valid_there same.tables
+      d = form left twin valid_left valid_there refl
 
       abbrev body_there : Body
       body_there = record { has_equals = body.has_equals; tree = v }
@@ -183,7 +188,7 @@ module _ (b c : Book) (valid : IsValidBook b) (valid_there : IsValidBook c) (sam
           let settles = sheet_settles whole (book_named n (core_of b) (core_valid b valid)).differ sheet in
           let found : is_found (scene_in b) other ≡ true = meant_found (scene_in b) other meant.0 (settles ∙ meant.1) in
           let found_there : is_found (scene_of (core_of c)) other ≡ true = ap (λ (k : CoreBook). is_found (scene_of k) other) core_is ∙ found in
-          let read = reference_again n (core_of c) (form_there left c valid_left valid_there same.tables).lawful (references_there left c valid_left valid_there same.tables) other place can found_there in
+          let read = reference_again n (core_of c) (form_there left twin valid_left valid_there refl).lawful (references_there left twin valid_left valid_there refl) other place can found_there in
           ap (λ (has : Bool). body_of n (core_of c) (cond has (equals ∷ []) [] ++ printed d v)) is.2
           ∙ ap (λ (t : Spelled). body_of n (core_of c) (printed d t)) node_is ∙ read
           ∙ ap₂ (λ (has : Bool) (t : Spelled). let o : Option Body = Some (record { has_equals = has; tree = t }) in o) (sym is.2) (sym node_is)
@@ -196,7 +201,7 @@ module _ (b c : Book) (valid : IsValidBook b) (valid_there : IsValidBook c) (sam
           let node_is : v ≡ node (one.Lambda top.0 stays.0) = v_is ∙ ap (again (english_function n) whole scope) tree_is ∙ stays.1 in
           let fitting : Fits d (node (one.Lambda top.0 stays.0)) = subst (Fits d) node_is fits in
           let reading : read_as d (printed d (node (one.Lambda top.0 stays.0))) ≡ Some (node (one.Lambda top.0 stays.0)) = subst (λ (t : Spelled). read_as d (printed d t) ≡ Some t) node_is reads in
-          let read = lambda_again n (core_of c) (form_there left c valid_left valid_there same.tables).lawful (references_there left c valid_left valid_there same.tables) top.0 stays.0 fitting reading body.has_equals in
+          let read = lambda_again n (core_of c) (form_there left twin valid_left valid_there refl).lawful (references_there left twin valid_left valid_there refl) top.0 stays.0 fitting reading body.has_equals in
           ap (λ (t : Spelled). body_of n (core_of c) (cond body.has_equals (equals ∷ []) [] ++ printed d t)) node_is ∙ read
           ∙ ap (λ (t : Spelled). let o : Option Body = Some (record { has_equals = body.has_equals; tree = t }) in o) (sym node_is)
 
@@ -256,7 +261,7 @@ DefinitionStays book left other name scope body locale language =
     IsWritable locale language book (OnDefinitions (definitions.NewDefinedName name scope body))
     → LeavesSame left (step other (OnDefinitions (definitions.NewDefinedName name scope (body_text (in_notation locale language left) (defined book (definitions.NewDefinedName name scope body))))))
 
-module _ (b left c : Book) (valid : IsValidBook b) (valid_there : IsValidBook c) (same : IsSameBook b c) (fields : List Field) (name : List ℕ) (index : Option ℕ) (text : List ℕ)
+module _ (b left c : Book) (valid : IsValidBook b) (valid_there : IsValidBook (in_notation c.locale c.language b)) (same : IsSameBook b c) (fields : List Field) (name : List ℕ) (index : Option ℕ) (text : List ℕ)
     (e : step b (OnDefinitions (definitions.NewDefinedName name index text)) ≡ Ok (left, fields)) where
   definition_stays : DefinitionStays b left c name index text c.locale c.language
   unfolding new_definition_step core_step
@@ -282,4 +287,4 @@ pub definition_is_same : (locale language : List ℕ) → DefinitionIsSame local
 definition_is_same locale language book left other fields name scope body beside e =
     subst (λ (l : List ℕ). DefinitionStays book left other name scope body l language) beside.locale_is
     (subst (λ (l : List ℕ). DefinitionStays book left other name scope body other.locale l) beside.language_is
-    (definition_stays book left other beside.valid beside.valid_beside beside.same fields name scope body e))
+    (definition_stays book left other beside.valid (twin_valid locale language book other beside) beside.same fields name scope body e))

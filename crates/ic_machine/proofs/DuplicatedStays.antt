@@ -234,6 +234,7 @@ module _ (b : Book) (valid : IsValidBook b) (index : ℕ) (source : Sheet) (at :
         arrays = h.arrays;
         merges = h.merges;
         layout = record { frozen = h.layout.frozen; lines = h.layout.lines };
+        amounts = h.amounts;
       }
 
   definition_copied : (d : Definition) → IsValidDefinition n (scene_in b) d → IsValidDefinition n later (with_formula (formula_copied b index source) (local_in id d))

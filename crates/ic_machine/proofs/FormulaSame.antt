@@ -6,9 +6,8 @@ use Rattle.std.specs.List.{slice_get}
 use Rattle.std.specs.Prelude.{is_none, option_and_then, option_map, pos, unwrap_or}
 use Rattle.ic_laws.specs.Binding.{spelled}
 use Rattle.ic_laws.specs.Character.{equals}
-use Rattle.ic_laws.specs.Clash.{clashes_with}
-use Rattle.ic_laws.specs.CoreBook.{CellPlace}
-use Rattle.ic_laws.specs.FormulaReading.{shown_at}
+use Rattle.ic_laws.specs.CoreBook.{CellPlace, CoreBook}
+use Rattle.ic_laws.specs.FormulaReading.{cell_formula, shown_at}
 use Rattle.ic_laws.specs.Notations.{Notations, english, is_cell}
 use Rattle.ic_laws.specs.Reading.{printed}
 use Rattle.ic_laws.specs.Tree.{Bound}
@@ -18,11 +17,10 @@ use Rattle.ic_laws.specs.declared.tree.Formula.{Formula}
 use Rattle.ic_laws.specs.declared.tree.Formula.TheVariants as formulas
 use Rattle.ic_tables.specs.Tables.{TableSet, language_of, locale_of}
 use Rattle.ic_tables.specs.declared.language.FunctionKind.{FunctionKind}
-use Rattle.ic_tree.specs.LanguageWords.{is_boolean_word, is_function_word}
 use Rattle.ic_tree.specs.Notations.{notations_of}
 use Rattle.ic_cells.specs.declared.cell.ArrayKind.TheVariants as arrays
 use Rattle.ic_cells.specs.declared.value.FormulaValue.TheVariants as fvalues
-use Rattle.ic_input.specs.Typed.{typed}
+use Rattle.ic_input.specs.Typed.{formula_of, typed}
 use Rattle.ic_input.specs.declared.input.Typed.TheVariants as kinds
 use Rattle.ic_machine.specs.Book.{Book, Sheet, core_of, notations_in, scene_in}
 use Rattle.ic_machine.specs.Command.{OnWriting}
@@ -40,9 +38,10 @@ use Rattle.ic_machine.specs.Valid.{IsValidBook}
 use Rattle.ic_machine.specs.subjects.Reading.{formula_text}
 use Rattle.ic_machine.specs.subjects.Writing as writing
 use Rattle.ic_machine.specs.subjects.Writing.{formula_at_place, formula_content, formula_step, formula_written, with_written, write_step}
+use Rattle.ic_machine.proofs.BesideLemmas.{twin_valid}
 use Rattle.ic_machine.proofs.RetypedLemmas.{formula_told, read_again, some_shown}
 use Rattle.ic_machine.proofs.RetypedLemmas as retyped
-use Rattle.ic_machine.proofs.SameLemmas.{scene_same}
+use Rattle.ic_machine.proofs.SameLemmas.{core_same}
 use Rattle.ic_machine.proofs.SceneLemmas.{placed}
 use Rattle.ic_machine.proofs.WritingSame.{WritesSame, write_again}
 use Rattle.ic_machine.proofs.WritingSteps.{text_kept}
@@ -68,11 +67,11 @@ module _ (c left : Book) (tables : left.tables ≡ c.tables) where
   pub force_same : in_force target ≡ in_force c
   force_same = ap (λ (t : TableSet). all_there (locale_of t c.locale) (language_of t c.language) (language_of t english)) tables
 
-  pub clashes_there : (t : Bound) → clashes_in target t ≡ clashes_in c t
-  clashes_there t = ap (by_notation true (λ f. clashes_with (is_boolean_word f.language) (is_function_word f.language) t)) force_same
-
   pub typed_there : (text : List ℕ) → typed_in target text ≡ typed_in c text
   typed_there text = ap (by_notation (kinds.Text text) (λ f. typed f.locale f.language f.beside text)) force_same
+
+  pub told_there : (text : List ℕ) → formula_typed target text ≡ formula_typed c text
+  told_there text = ap (by_notation None (λ f. formula_of f.locale text)) force_same
 
   pub shown_there : scene_in left ≡ scene_in c → (place : CellPlace) (t : Bound)
       → formula_text target place (formulas.Tree t) ≡ equals ∷ printed (shown_at (notations_in c) (core_of c) place.0 place.1) (spelled (scene_in c) t)
@@ -89,27 +88,30 @@ pub record IsAgain (c left : Book) (t : Sheet) (place : CellPlace) (formula : Fo
   pub told : formula_typed c (equals ∷ shown) ≡ Some shown
   pub reads : formula_at_place c t place shown ≡ formula
 
-module _ (b c : Book) (valid : IsValidBook b) (valid_there : IsValidBook c) (same : IsSameBook b c) (left : Book) (tables : left.tables ≡ c.tables) (names : scene_in left ≡ scene_in b)
+module _ (b c : Book) (valid : IsValidBook b) (valid_there : IsValidBook (in_notation c.locale c.language b)) (same : IsSameBook b c) (left : Book) (tables : left.tables ≡ c.tables) (names : scene_in left ≡ scene_in b)
     (index : ℕ) (s t : Sheet) (at : slice_get b.sheets index ≡ Some s) (there : slice_get c.sheets index ≡ Some t) (sheets : IsSameSheet s t) where
+  -- a text in a cell there, and in the same cell of this book in that notation
+  at_place_there : (place : CellPlace) (shown : List ℕ) → formula_at_place c t place shown ≡ formula_at_place (in_notation c.locale c.language b) s place shown
+  at_place_there place shown =
+      ap (λ (n : Notations). cell_formula n (core_of c) t.id place.0 place.1 shown) (ap notations_of (sym same.tables))
+      ∙ ap₂ (λ (core : CoreBook) (id : ℕ). cell_formula (notations_in b) core id place.0 place.1 shown) (core_same b c same) (sym sheets.id)
+
   pub formula_again : (place : CellPlace) → is_cell place.0 place.1 ≡ true → (body : List ℕ) → why_not (in_notation c.locale c.language b) (formula_at_place b s place body) ≡ None
       → IsAgain c left t place (formula_at_place b s place body)
   formula_again place cell body writable =
       let tree = writable_tree (in_notation c.locale c.language b) (formula_at_place b s place body) writable in
       let u : Bound = tree.0 in
-      let free : clashes_in c u ≡ false = sym (clashes_there c b same.tables u) ∙ tree.2 in
-      let kept : IsKeptFormula (notations_in c) (scene_in c) (Some t.id) place.0 place.1 (formulas.Tree u) =
-      subst (λ (id : ℕ). IsKeptFormula (notations_in c) (scene_in c) (Some id) place.0 place.1 (formulas.Tree u)) sheets.id
-      (subst (λ (scene : Scene). IsKeptFormula (notations_in c) scene (Some s.id) place.0 place.1 (formulas.Tree u)) (sym (scene_same b c same))
-      (subst (λ (n : Notations). IsKeptFormula n (scene_in b) (Some s.id) place.0 place.1 (formulas.Tree u)) (ap notations_of same.tables)
-      (subst (IsKeptFormula (notations_in b) (scene_in b) (Some s.id) place.0 place.1) tree.1 (text_kept b valid index s at place body)))) in
-      let shown : List ℕ = printed (shown_at (notations_in c) (core_of c) place.0 place.1) (spelled (scene_in c) u) in
+      let twin : Book = in_notation c.locale c.language b in
+      let kept : IsKeptFormula (notations_in b) (scene_in b) (Some s.id) place.0 place.1 (formulas.Tree u) =
+      subst (IsKeptFormula (notations_in b) (scene_in b) (Some s.id) place.0 place.1) tree.1 (text_kept b valid index s at place body) in
+      let shown : List ℕ = printed (shown_at (notations_in twin) (core_of twin) place.0 place.1) (spelled (scene_in twin) u) in
       record {
         shown = shown;
-        some = some_shown c valid_there index t there place cell u kept free;
-        text = ap (λ (formula : Formula). formula_text (in_notation c.locale c.language left) place formula) tree.1 ∙ shown_there c left tables (names ∙ sym (scene_same b c same)) place u;
-        typed = retyped.formula_typed c valid_there index t there place cell u kept free;
-        told = formula_told c valid_there index t there place cell u kept free;
-        reads = read_again c valid_there index t there place cell u kept free ∙ sym tree.1;
+        some = some_shown twin valid_there (Some s.id) place cell u kept tree.2;
+        text = ap (λ (formula : Formula). formula_text (in_notation c.locale c.language left) place formula) tree.1 ∙ shown_there twin left (tables ∙ sym same.tables) names place u;
+        typed = sym (typed_there c b same.tables (equals ∷ shown)) ∙ retyped.formula_typed twin valid_there (Some s.id) place cell u kept tree.2;
+        told = sym (told_there c b same.tables (equals ∷ shown)) ∙ formula_told twin valid_there (Some s.id) place cell u kept tree.2;
+        reads = at_place_there place shown ∙ read_again twin valid_there index s at place cell u kept tree.2 ∙ sym tree.1;
       }
 
 -- the same formula is written, whatever its style
@@ -145,7 +147,7 @@ FormulaStays book left other sheet row column text locale language =
     IsWritable locale language book (OnWriting (writing.UpdateCellWithFormula sheet row column text))
     → LeavesSame left (step other (OnWriting (writing.UpdateCellWithFormula sheet row column (cell_text (in_notation locale language left) (row, column) (written_formula book (writing.UpdateCellWithFormula sheet row column text))))))
 
-module _ (b left c : Book) (valid : IsValidBook b) (valid_there : IsValidBook c) (same : IsSameBook b c) (fields : List Field) (index : ℕ) (row column : ℤ) (text : List ℕ)
+module _ (b left c : Book) (valid : IsValidBook b) (valid_there : IsValidBook (in_notation c.locale c.language b)) (same : IsSameBook b c) (fields : List Field) (index : ℕ) (row column : ℤ) (text : List ℕ)
     (e : step b (OnWriting (writing.UpdateCellWithFormula index row column text)) ≡ Ok (left, fields)) where
   formula_stays : FormulaStays b left c index row column text c.locale c.language
   unfolding formula_step
@@ -173,4 +175,4 @@ pub formula_is_same : (locale language : List ℕ) → FormulaIsSame locale lang
 formula_is_same locale language book left other fields sheet row column text beside e =
     subst (λ (l : List ℕ). FormulaStays book left other sheet row column text l language) beside.locale_is
     (subst (λ (l : List ℕ). FormulaStays book left other sheet row column text other.locale l) beside.language_is
-    (formula_stays book left other beside.valid beside.valid_beside beside.same fields sheet row column text e))
+    (formula_stays book left other beside.valid (twin_valid locale language book other beside) beside.same fields sheet row column text e))

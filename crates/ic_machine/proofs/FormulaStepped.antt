@@ -5,7 +5,7 @@ use Rattle.std.proofs.lemmas.Bool.{cases_Bool, eqb-true, lt-ltb, ltb-true, not-f
 use Rattle.std.proofs.lemmas.List.{length-map}
 use Rattle.std.proofs.lemmas.Option.{slice_get_cases}
 use Rattle.std.specs.List.{slice_get}
-use Rattle.std.specs.Prelude.{◌==◌, ◌||◌, nat_lt, not, is_none, is_some, option_map, unwrap_or, pos}
+use Rattle.std.specs.Prelude.{◌==◌, nat_lt, not, is_none, is_some, option_map, unwrap_or, pos}
 use Rattle.ic_laws.specs.Character.{equals}
 use Rattle.ic_laws.specs.Command as commands
 use Rattle.ic_laws.specs.CoreBook.{CellPlace, Cells, CoreBook}
@@ -181,20 +181,3 @@ formula_told b index place text takes plain =
     write_told b index place text (unwrap_or (formula_typed b text) []) takes.free
     (λ good. ap (λ (o : Option (List ℕ)). unwrap_or o []) read ∙ some_if (is_formula_text text) (without_equals text) [] good)
     (is_none (formula_typed b text)) (ap (λ (o : Option (List ℕ)). is_none o) read ∙ none_if (is_formula_text text) (without_equals text))
-
--- the command with each text, where one that begins with a sign is refused as no formula
-signed : (b : Book) (index : ℕ) (place : CellPlace) (text : List ℕ) (sign : Bool) → begins_with_sign text ≡ sign → TakesFormula b index place
-    → told_by (write_step b index place (λ s. formula_written b s (formula_at_place b s place (unwrap_or (formula_typed b text) []))) ((sign || is_none (formula_typed b text), NotAFormula) ∷ []))
-    ≡ told_by_core (core_step (notations_in b) (core_of b) (commands.UpdateCellWithFormula index place.0 place.1 text))
-unfolding formula_step
-signed b index place text true e takes =
-    write_told b index place text (unwrap_or (formula_typed b text) []) takes.free
-    (λ good. absurd (true≢false (sym good ∙ no_formula text e))) true (ap not (sym (no_formula text e)))
-signed b index place text false e takes = formula_told b index place text takes e
-
-pub served_formula_told : (b : Book) (index : ℕ) (place : CellPlace) (text : List ℕ) → TakesFormula b index place
-    → told_by
-    (write_step b index place (λ s. formula_written b s (formula_at_place b s place (unwrap_or (formula_typed b text) [])))
-    ((begins_with_sign text || is_none (formula_typed b text), NotAFormula) ∷ []))
-    ≡ told_by_core (core_step (notations_in b) (core_of b) (commands.UpdateCellWithFormula index place.0 place.1 text))
-served_formula_told b index place text takes = signed b index place text (begins_with_sign text) refl takes

@@ -4,7 +4,7 @@ use Rattle.std.proofs.lemmas.Bool.{cases_Bool, true≢false}
 use Rattle.ic_laws.specs.Command as core
 use Rattle.ic_laws.specs.CoreStep.{Outcome, core_step}
 use Rattle.ic_machine.specs.Book.{Book, Stepped, as_core, core_of, notations_in}
-use Rattle.ic_machine.specs.Command.{Command, OnNotation, command_in, served}
+use Rattle.ic_machine.specs.Command.{Command, OnNotation, command_in, commands}
 use Rattle.ic_machine.specs.Readers.{Leaves, LeavesIf, is_reader}
 use Rattle.ic_machine.specs.Same.{IsSameBook}
 use Rattle.ic_machine.specs.Step.{command_step, english_errors, outcome_of, step}
@@ -53,7 +53,7 @@ gone_command b command h = elim (cases_Bool (is_dropped command)) [
 ]
 
 pub gone_is_same : GoneIsSame
-gone_is_same b line h = by (command_in (english_errors b) served line) h
+gone_is_same b line h = by (command_in (english_errors b) commands line) h
   where
     by : (o : Option Command) → option_and_then (kept_command b) o ≡ None → IsSameBook (command_step b o).0 b
     by None h = itself b

@@ -20,15 +20,23 @@ use Rattle.ic_machine.specs.TranslationLaws.{InputIsSame, IsWritable, LeavesSame
 use Rattle.ic_machine.specs.Valid.{IsValidBook}
 use Rattle.ic_machine.specs.subjects.Writing as writing
 use Rattle.ic_machine.specs.subjects.Writing.{formula_at_place, formula_written, input_step, typed_written, with_content}
+use Rattle.ic_machine.proofs.BesideLemmas.{twin_valid}
 use Rattle.ic_machine.proofs.FormulaSame.{formula_again, target, texts_same, typed_there}
 use Rattle.ic_machine.proofs.RetypedLemmas.{empty_typed, number_told, quoted_typed, same_text}
 use Rattle.ic_machine.proofs.SceneLemmas.{placed}
 use Rattle.ic_machine.proofs.WritingSame.{WritesSame, write_again}
 
-module _ (b c : Book) (valid : IsValidBook b) (valid_there : IsValidBook c) (same : IsSameBook b c) (left : Book) (tables : left.tables ≡ c.tables) (names : scene_in left ≡ scene_in b)
+module _ (b c : Book) (valid : IsValidBook b) (valid_there : IsValidBook (in_notation c.locale c.language b)) (same : IsSameBook b c) (left : Book) (tables : left.tables ≡ c.tables) (names : scene_in left ≡ scene_in b)
     (index : ℕ) (s t : Sheet) (at : slice_get b.sheets index ≡ Some s) (there : slice_get c.sheets index ≡ Some t) (sheets : IsSameSheet s t) (place : CellPlace) (cell : is_cell place.0 place.1 ≡ true) (new : List ℕ) where
   abbrev Same : Typed → Typed → Type 0
   Same one other = WritesSame (typed_written b s place one) (typed_written c t place other)
+
+  -- the book itself in the other notation, where the same is typed
+  abbrev twin : Book
+  twin = in_notation c.locale c.language b
+
+  typed_c : (text : List ℕ) → typed_in twin text ≡ typed_in c text
+  typed_c text = typed_there c b same.tables text
 
   -- as the new text is typed
   retold : (one other : Typed) → typed_in c new ≡ other → Same one other → Same one (typed_in c new)
@@ -36,15 +44,15 @@ module _ (b c : Book) (valid : IsValidBook b) (valid_there : IsValidBook c) (sam
 
   -- a text with a quote before it, or without one
   words_same : (words : List ℕ) (test : Bool) → is_text (typed_in c words) ≡ test → Same (kinds.Text words) (typed_in c (cond test words (quote ∷ words)))
-  words_same words true e = subst (Same (kinds.Text words)) (sym (same_text c valid_there words e)) (record { content = λ m n. refl; pool = sheets.pool })
-  words_same words false e = subst (Same (kinds.Text words)) (sym (quoted_typed c valid_there words)) (record { content = λ m n. refl; pool = sheets.pool })
+  words_same words true e = subst (Same (kinds.Text words)) (sym (sym (typed_c words) ∙ same_text twin valid_there words (ap is_text (typed_c words) ∙ e))) (record { content = λ m n. refl; pool = sheets.pool })
+  words_same words false e = subst (Same (kinds.Text words)) (sym (sym (typed_c (quote ∷ words)) ∙ quoted_typed twin valid_there words)) (record { content = λ m n. refl; pool = sheets.pool })
 
   -- what the new text is, by what was typed
   pub typed_same : (typed : Typed) → option_and_then (why_not (in_notation c.locale c.language b)) (option_and_then (formula_in_cell b index place) (formula_of_typed typed)) ≡ None
       → IsTypedSo (target c left tables) place (option_and_then (formula_in_cell b index place) (formula_of_typed typed)) typed new → Same typed (typed_in c new)
-  typed_same kinds.Empty writable so = retold kinds.Empty kinds.Empty (ap (typed_in c) so ∙ empty_typed c valid_there) (record { content = λ m n. refl; pool = sheets.pool })
+  typed_same kinds.Empty writable so = retold kinds.Empty kinds.Empty (ap (typed_in c) so ∙ (sym (typed_c []) ∙ empty_typed twin valid_there)) (record { content = λ m n. refl; pool = sheets.pool })
   typed_same (kinds.Quoted text) writable so =
-      retold (kinds.Quoted text) (kinds.Quoted text) (ap (typed_in c) so ∙ quoted_typed c valid_there text) (record { content = λ m n. refl; pool = sheets.pool })
+      retold (kinds.Quoted text) (kinds.Quoted text) (ap (typed_in c) so ∙ (sym (typed_c (quote ∷ text)) ∙ quoted_typed twin valid_there text)) (record { content = λ m n. refl; pool = sheets.pool })
   typed_same (kinds.Formula body) writable so =
       let formula : Formula = formula_at_place b s place body in
       let is : formula_in_cell b index place body ≡ Some formula = ap (option_map (λ (sheet : Sheet). formula_at_place b sheet place body)) at in
@@ -69,7 +77,7 @@ InputStays book left other sheet row column text new locale language =
     → IsTypedSo (in_notation locale language left) (row, column) (written_formula book (writing.SetUserInput sheet row column text)) (typed_in book text) new
     → LeavesSame left (step other (OnWriting (writing.SetUserInput sheet row column new)))
 
-module _ (b left c : Book) (valid : IsValidBook b) (valid_there : IsValidBook c) (same : IsSameBook b c) (fields : List Field) (index : ℕ) (row column : ℤ) (text new : List ℕ)
+module _ (b left c : Book) (valid : IsValidBook b) (valid_there : IsValidBook (in_notation c.locale c.language b)) (same : IsSameBook b c) (fields : List Field) (index : ℕ) (row column : ℤ) (text new : List ℕ)
     (e : step b (OnWriting (writing.SetUserInput index row column text)) ≡ Ok (left, fields)) where
   input_stays : InputStays b left c index row column text new c.locale c.language
   unfolding input_step
@@ -86,4 +94,4 @@ pub input_is_same : (locale language : List ℕ) → InputIsSame locale language
 input_is_same locale language book left other fields sheet row column text new beside e =
     subst (λ (l : List ℕ). InputStays book left other sheet row column text new l language) beside.locale_is
     (subst (λ (l : List ℕ). InputStays book left other sheet row column text new other.locale l) beside.language_is
-    (input_stays book left other beside.valid beside.valid_beside beside.same fields sheet row column text new e))
+    (input_stays book left other beside.valid (twin_valid locale language book other beside) beside.same fields sheet row column text new e))

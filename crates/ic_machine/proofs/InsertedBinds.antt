@@ -80,6 +80,15 @@ accepted None left after said fields e =
     same : (p q : Book × List Field) → (let o : Stepped Book = Ok p in o ≡ Ok q) → p ≡ q
     same p q e = cc
 
+-- and answers what it says
+pub told : (refusal : Option Refusal) (left after : Book) (said fields : List Field) → unless refusal left said ≡ Ok (after, fields) → fields ≡ said
+told (Some r) left after said fields e = absurd cc
+told None left after said fields e =
+    let both : (left, said) ≡ (after, fields) = same (left, said) (after, fields) e in sym (ap (λ (p : Book × List Field). p.1) both)
+  where
+    same : (p q : Book × List Field) → (let o : Stepped Book = Ok p in o ≡ Ok q) → p ≡ q
+    same p q e = cc
+
 pub inserted_is_meant : InsertedIsMeant
 unfolding insert_sheet_step
 inserted_is_meant b after name index given id fields valid chosen e =

@@ -5,6 +5,7 @@ mod ArraySame
 pub mod ArrayStays
 pub mod ArraysStay
 mod BareGrid
+mod BesideLemmas
 pub mod BindsLemmas
 mod BodyAgain
 mod ChangedSame
@@ -14,10 +15,13 @@ pub mod CopiedWords
 pub mod CopyKeys
 pub mod CopyNames
 pub mod CoreLemmas
+pub mod CoreLines
 pub mod CoreValid
 mod DefinitionSame
 pub mod DuplicatedStays
 pub mod ExtendedLemmas
+mod FoldFusion
+pub mod FormatLemmas
 pub mod FormulaLemmas
 mod FormulaSame
 pub mod FormulaStepped
@@ -31,6 +35,12 @@ mod LineRead
 mod LineSame
 mod LineStays
 mod LinesAgain
+mod LostKept
+mod LostTokens
+mod LostTrees
+mod LostWell
+pub mod MetadataFree
+mod NamesFirst
 pub mod NamesStay
 pub mod NewNames
 mod NewSheetSame
@@ -38,13 +48,14 @@ pub mod NewSheetStays
 mod NotationStays
 pub mod NumberLemmas
 mod OthersSame
+pub mod PlacedLemmas
+mod PlainEnds
 pub mod ReaderLemmas
 pub mod RetypedLemmas
 mod SameLemmas
 mod SameSteps
 pub mod SceneLemmas
 pub mod SeenLemmas
-pub mod ServedLemmas
 mod SheetsSame
 pub mod SheetsStay
 mod SitesSame
@@ -53,9 +64,10 @@ pub mod SteppedLemmas
 pub mod StylesStay
 pub mod SubjectsStay
 mod TextEnds
-mod TranslationSame
+pub mod TranslationSame
 mod TreeAgain
 mod UpdateSame
+mod TypedAmounts
 pub mod UpdatedBinds
 pub mod UpdatedStays
 pub mod ValidLemmas

@@ -7,7 +7,7 @@ use Rattle.std.specs.Prelude.{bytes_eq, option_and_then, option_map, unwrap_or}
 use Rattle.ic_laws.proofs.binding.SceneLemmas.{found_passes}
 use Rattle.ic_laws.proofs.kept.Kept.{found_has}
 use Rattle.ic_laws.specs.Lines.{escaped, unescaped, word_texts, words_of}
-use Rattle.ic_machine.specs.Command.{Command, OnArrays, OnDefinitions, OnExtending, OnLayout, OnNotation, OnReading, OnSheets, OnStyles, OnTabs, OnWriting, command_in, commands, served}
+use Rattle.ic_machine.specs.Command.{Command, OnArrays, OnDefinitions, OnExtending, OnLayout, OnNotation, OnReading, OnSheets, OnStyles, OnTabs, OnWriting, command_in, commands}
 use Rattle.ic_machine.specs.Row.{Row, joined, row_in, spelled}
 use Rattle.ic_machine.specs.Word.{AllSaid, Done, OfText, Said, Then, Many, WordForm, Words, all_said, said, words_said}
 use Rattle.ic_machine.specs.Word as forms
@@ -22,7 +22,7 @@ use Rattle.ic_machine.specs.subjects.Styles as styles
 use Rattle.ic_machine.specs.subjects.Tabs as tabs
 use Rattle.ic_machine.specs.subjects.Writing as writing
 use Rattle.ic_machine.specs.Translation.{line_of, texts_of, with_last}
-use Rattle.ic_machine.proofs.CopyKeys.{all_appended, all_filtered}
+use Rattle.ic_machine.proofs.CopyKeys.{all_appended}
 use Rattle.ic_machine.proofs.LinesAgain.{text_again, texts_again, words_again}
 
 -- Rows whose last word is a text, and the same words with another text there. ----
@@ -187,20 +187,13 @@ holds_of_test : {A : Type 0} (p : A → Bool) (xs : List A) → list_all p xs �
 holds_of_test p [] h = tt
 holds_of_test p (x ∷ xs) h = let parts = and_parts (p x) (list_all p xs) h in (parts.0, holds_of_test p xs parts.1)
 
-pub served_all : (P : Row Command → Type 0) → AllByRecursion P commands → AllByRecursion P served
-unfolding served
-served_all P h = all_filtered _ P P (λ row e p. p) commands h
-
-served_take : AllByRecursion TakesText served
-served_take = served_all TakesText all_take
-
-served_plain : AllByRecursion (λ (row : Row Command). is_plain row ≡ true) served
-served_plain = served_all (λ (row : Row Command). is_plain row ≡ true) (holds_of_test is_plain commands all_plain)
+plain_rows : AllByRecursion (λ (row : Row Command). is_plain row ≡ true) commands
+plain_rows = holds_of_test is_plain commands all_plain
 
 -- A line that is a command: its words, its row, and the texts after its name. ----
 
 abbrev pub finds : List ℕ → Option (Row Command)
-finds name = find (λ row. bytes_eq row.name name) served
+finds name = find (λ row. bytes_eq row.name name) commands
 
 pub record IsRead (english : List (List ℕ)) (line : List ℕ) (command : Command) : Type 0 where
   pub name : List ℕ
@@ -219,7 +212,7 @@ made_of f None y e = absurd (cc)
 made_of f (Some x) y e = (x, refl, cc)
 
 module _ (english : List (List ℕ)) (line : List ℕ) (command : Command) where
-  pub is_read : command_in english served line ≡ Some command → IsRead english line command
+  pub is_read : command_in english commands line ≡ Some command → IsRead english line command
   is_read e = by_words (words_of line) refl e
     where
       by_texts : (name : List ℕ) (words : List (List ℕ)) → words_of line ≡ name ∷ words → (row : Row Command) → finds name ≡ Some row → (o : Option (List (List ℕ))) → word_texts words ≡ o
@@ -234,7 +227,7 @@ module _ (english : List (List ℕ)) (line : List ℕ) (command : Command) where
       by_row name words cut None found h = absurd (cc)
       by_row name words cut (Some row) found h = by_texts name words cut row found (word_texts words) refl h
 
-      by_words : (all : List (List ℕ)) → words_of line ≡ all → spelled english served all ≡ Some command → IsRead english line command
+      by_words : (all : List (List ℕ)) → words_of line ≡ all → spelled english commands all ≡ Some command → IsRead english line command
       by_words [] cut h = absurd (cc)
       by_words (name ∷ words) cut h = by_row name words cut (finds name) refl h
 
@@ -242,9 +235,9 @@ module _ (english : List (List ℕ)) (line : List ℕ) (command : Command) where
     -- its name is written as it is
     name_plain : escaped read.name ≡ read.name
     name_plain =
-        let same : read.row.name ≡ read.name = (bytes_eq-Decides read.row.name read.name).0 (found_passes (λ (row : Row Command). bytes_eq row.name read.name) served read.row read.found) in
+        let same : read.row.name ≡ read.name = (bytes_eq-Decides read.row.name read.name).0 (found_passes (λ (row : Row Command). bytes_eq row.name read.name) commands read.row read.found) in
         let plain : escaped read.row.name ≡ read.row.name =
-        (bytes_eq-Decides (escaped read.row.name) read.row.name).0 (found_has (λ (row : Row Command). is_plain row ≡ true) (λ (row : Row Command). bytes_eq row.name read.name) served served_plain read.row read.found) in
+        (bytes_eq-Decides (escaped read.row.name) read.row.name).0 (found_has (λ (row : Row Command). is_plain row ≡ true) (λ (row : Row Command). bytes_eq row.name read.name) commands plain_rows read.row read.found) in
         subst (λ (text : List ℕ). escaped text ≡ text) same plain
 
     texts_are : texts_of line ≡ read.name ∷ read.texts
@@ -254,33 +247,33 @@ module _ (english : List (List ℕ)) (line : List ℕ) (command : Command) where
         ∙ ap₂ (λ (o : Option (List ℕ)) (p : Option (List (List ℕ))). unwrap_or (option_and_then (λ t. option_map (λ ts. t ∷ ts) p) o) []) name_is read.spells
 
     -- what a line of the same name is
-    line_is : (texts : List (List ℕ)) → command_in english served (line_of (read.name ∷ texts)) ≡ option_map read.row.command (all_said english read.row.words texts)
+    line_is : (texts : List (List ℕ)) → command_in english commands (line_of (read.name ∷ texts)) ≡ option_map read.row.command (all_said english read.row.words texts)
     line_is texts =
-        ap (spelled english served) (words_again read.name texts)
-        ∙ ap (λ (name : List ℕ). spelled english served (name ∷ map escaped texts)) name_plain
+        ap (spelled english commands) (words_again read.name texts)
+        ∙ ap (λ (name : List ℕ). spelled english commands (name ∷ map escaped texts)) name_plain
         ∙ ap (λ (o : Option (Row Command)). joined (option_map (λ (row : Row Command). option_map row.command (words_said english row.words (map escaped texts))) o)) read.found
         ∙ ap (λ (o : Option (List (List ℕ))). option_map read.row.command (option_and_then (all_said english read.row.words) o)) (texts_again texts)
 
     -- the same texts are the same command
-    pub same_line : command_in english served (line_of (texts_of line)) ≡ Some command
-    same_line = ap (λ (texts : List (List ℕ)). command_in english served (line_of texts)) texts_are ∙ line_is read.texts ∙ ap (option_map read.row.command) read.says ∙ ap (λ (c : Command). let o : Option Command = Some c in o) read.is
+    pub same_line : command_in english commands (line_of (texts_of line)) ≡ Some command
+    same_line = ap (λ (texts : List (List ℕ)). command_in english commands (line_of texts)) texts_are ∙ line_is read.texts ∙ ap (option_map read.row.command) read.says ∙ ap (λ (c : Command). let o : Option Command = Some c in o) read.is
 
     -- and with another text at their end the command with that
-    pub last_line : (t : List ℕ) (other : Command) → with_text t command ≡ Some other → command_in english served (line_of (with_last t (texts_of line))) ≡ Some other
-    last_line t other e = elim (found_has TakesText (λ (row : Row Command). bytes_eq row.name read.name) served served_take read.row read.found) [
+    pub last_line : (t : List ℕ) (other : Command) → with_text t command ≡ Some other → command_in english commands (line_of (with_last t (texts_of line))) ≡ Some other
+    last_line t other e = elim (found_has TakesText (λ (row : Row Command). bytes_eq row.name read.name) commands all_take read.row read.found) [
       | inl none ↦ let no : None ≡ Some other = sym (none read.w t) ∙ ap (with_text t) read.is ∙ e in absurd (cc)
       | inr takes ↦
           let some : Some (read.row.command (put_text takes.0 t read.w)) ≡ Some other = sym (takes.1 read.w t) ∙ ap (with_text t) read.is ∙ e in
           let there = last_there english takes.0 read.texts read.w read.says in
           let put : with_last t (read.name ∷ read.texts) ≡ read.name ∷ with_last t read.texts =
           ap (λ (texts : List (List ℕ)). with_last t (read.name ∷ texts)) there.2 ∙ ap (λ (texts : List (List ℕ)). read.name ∷ with_last t texts) (sym there.2) in
-          ap (λ (texts : List (List ℕ)). command_in english served (line_of (with_last t texts))) texts_are ∙ ap (λ (texts : List (List ℕ)). command_in english served (line_of texts)) put
+          ap (λ (texts : List (List ℕ)). command_in english commands (line_of (with_last t texts))) texts_are ∙ ap (λ (texts : List (List ℕ)). command_in english commands (line_of texts)) put
           ∙ line_is (with_last t read.texts) ∙ ap (option_map read.row.command) (last_said english takes.0 read.texts read.w read.says t) ∙ some
     ]
 
 -- a new sheet that is added by a name
-pub sheet_line : (english : List (List ℕ)) (name : List ℕ) → command_in english served (line_of (codes "add_sheet" ∷ name ∷ [])) ≡ Some (OnSheets (sheets.AddSheet name))
-unfolding served commands
+pub sheet_line : (english : List (List ℕ)) (name : List ℕ) → command_in english commands (line_of (codes "add_sheet" ∷ name ∷ [])) ≡ Some (OnSheets (sheets.AddSheet name))
+unfolding commands
 sheet_line english name =
-    ap (spelled english served) (words_again (codes "add_sheet") (name ∷ []))
+    ap (spelled english commands) (words_again (codes "add_sheet") (name ∷ []))
     ∙ ap (λ (o : Option (List (List ℕ))). option_map (λ (w : AllSaid (forms.words_of (OfText ∷ []))). OnSheets (sheets.AddSheet w.0)) (option_and_then (all_said english (forms.words_of (OfText ∷ []))) o)) (texts_again (name ∷ []))

@@ -1,13 +1,14 @@
--- A book stays valid over each line: the ids that lines give are such that a word can say.
+-- A book stays valid over each line: the ids and the amounts that lines give are such as a word can say.
 use Rattle.std.proofs.Common.{◌≡◌, ℕ, List, [], ◌∷◌, map, Bool, true, false, cond, Option, Some, None, Ok, Err, codes, refl, sym, ap, subst, ◌∙◌, arith}
 use Rattle.std.proofs.lemmas.Bool.Decides.{nat_tests}
 use Rattle.std.specs.List.{AllByRecursion}
 use Rattle.std.specs.Prelude.{bytes_eq, nat_le, option_and_then, option_map}
 use Rattle.ic_laws.proofs.kept.Kept.{found_has}
+use Rattle.ic_laws.specs.Amount.{is_amount}
 use Rattle.ic_laws.specs.Command.{at_most, index_said, number_said, scope_said}
 use Rattle.ic_machine.specs.Book.{Book, Stepped}
-use Rattle.ic_machine.specs.Command.{Command, OnArrays, OnDefinitions, OnExtending, OnLayout, OnNotation, OnReading, OnSheets, OnStyles, OnTabs, OnWriting, command_in, served}
-use Rattle.ic_machine.specs.Kept.{StaysValid, StaysValidIf, gives_id, is_given_id}
+use Rattle.ic_machine.specs.Command.{Command, OnArrays, OnDefinitions, OnExtending, OnLayout, OnNotation, OnReading, OnSheets, OnStyles, OnTabs, OnWriting, command_in, commands}
+use Rattle.ic_machine.specs.Kept.{StaysValid, StaysValidIf, gives_amount, gives_id, is_given_id}
 use Rattle.ic_machine.specs.Row.{Row, row_in}
 use Rattle.ic_machine.specs.Step.{command_step, english_errors, outcome_of, step}
 use Rattle.ic_machine.specs.Translation.{left_after}
@@ -25,15 +26,17 @@ use Rattle.ic_machine.specs.subjects.Styles as styles
 use Rattle.ic_machine.specs.subjects.Tabs as tabs
 use Rattle.ic_machine.specs.subjects.Writing as writing
 use Rattle.ic_machine.proofs.ArraysStay.{arrays_stay}
-use Rattle.ic_machine.proofs.LineRead.{all_rows, both_said, is_read, served_all}
+use Rattle.ic_machine.proofs.LineRead.{all_rows, both_said, is_read}
 use Rattle.ic_machine.proofs.NamesStay.{definitions_stay, sheets_stay}
 use Rattle.ic_machine.proofs.StylesStay.{styles_stay}
 use Rattle.ic_machine.proofs.SubjectsStay.{extending_stays, layout_stays, notation_stays, reading_stays, tabs_are}
+use Rattle.ic_machine.proofs.TypedAmounts.{said_amount}
 use Rattle.ic_machine.proofs.WritingSteps.{writing_stays}
 
--- the ids that a command gives are such
+-- the id or the amount that a command gives is such
 abbrev given : Command → Bool
 given (OnSheets command) = gives_id command
+given (OnWriting command) = gives_amount command
 given command = true
 
 -- so is each that words say
@@ -99,19 +102,30 @@ module _ (english : List (List ℕ)) where
     ),
   )
 
-  all_give : AllByRecursion GivesIds served
-  all_give =
-      served_all GivesIds
-      (all_rows GivesIds sheets_give (others_give OnDefinitions (λ command. refl) definitions.definition_rows) (others_give OnNotation (λ command. refl) notation.notation_rows)
-      (others_give OnWriting (λ command. refl) writing.writing_rows) (others_give OnReading (λ command. refl) reading.reading_rows) (others_give OnExtending (λ command. refl) extending.extending_rows)
-      (others_give OnStyles (λ command. refl) styles.style_rows) (others_give OnLayout (λ command. refl) layout.layout_rows) (others_give OnTabs (λ command. refl) tabs.tab_rows)
-      (others_give OnArrays (λ command. refl) arrays.array_rows))
+  number_gives : (texts : List (List ℕ)) (w : AllSaid (forms.words_of (forms.OfIndex ∷ forms.OfPosition ∷ forms.OfPosition ∷ forms.OfAmount ∷ [])))
+      → all_said english (forms.words_of (forms.OfIndex ∷ forms.OfPosition ∷ forms.OfPosition ∷ forms.OfAmount ∷ [])) texts ≡ Some w → is_amount w.1.1.1.0 ≡ true
+  number_gives texts w e =
+      let sheet = first_said forms.OfIndex (forms.words_of (forms.OfPosition ∷ forms.OfPosition ∷ forms.OfAmount ∷ [])) texts w e in
+      let row = first_said forms.OfPosition (forms.words_of (forms.OfPosition ∷ forms.OfAmount ∷ [])) sheet.1 w.1 sheet.3 in
+      let column = first_said forms.OfPosition (forms.words_of (forms.OfAmount ∷ [])) row.1 w.1.1 row.3 in
+      let amount = first_said forms.OfAmount forms.Done column.1 w.1.1.1 column.3 in
+      said_amount amount.0 w.1.1.1.0 amount.2
 
-  -- the ids that the command of a line gives are such
-  line_gives : (line : List ℕ) (command : Command) → command_in english served line ≡ Some command → given command ≡ true
+  writing_give : AllByRecursion GivesIds (map (row_in OnWriting) writing.writing_rows)
+  writing_give = (λ texts w e. refl, (λ texts w e. refl, (λ texts w e. refl, (λ texts w e. refl, (number_gives, tt)))))
+
+  all_give : AllByRecursion GivesIds commands
+  all_give =
+      all_rows GivesIds sheets_give (others_give OnDefinitions (λ command. refl) definitions.definition_rows) (others_give OnNotation (λ command. refl) notation.notation_rows)
+      writing_give (others_give OnReading (λ command. refl) reading.reading_rows) (others_give OnExtending (λ command. refl) extending.extending_rows)
+      (others_give OnStyles (λ command. refl) styles.style_rows) (others_give OnLayout (λ command. refl) layout.layout_rows) (others_give OnTabs (λ command. refl) tabs.tab_rows)
+      (others_give OnArrays (λ command. refl) arrays.array_rows)
+
+  -- what the command of a line gives is such
+  line_gives : (line : List ℕ) (command : Command) → command_in english commands line ≡ Some command → given command ≡ true
   line_gives line command e =
       let read = is_read english line command e in
-      ap given (sym read.is) ∙ found_has GivesIds (λ (row : Row Command). bytes_eq row.name read.name) served all_give read.row read.found read.texts read.w read.says
+      ap given (sym read.is) ∙ found_has GivesIds (λ (row : Row Command). bytes_eq row.name read.name) commands all_give read.row read.found read.texts read.w read.says
 
 -- so a valid book stays valid over it
 module _ (b : Book) (valid : IsValidBook b) where
@@ -123,7 +137,7 @@ module _ (b : Book) (valid : IsValidBook b) where
   command_stays (OnSheets command) h = asked (gives_id command) (step b (OnSheets command)) h (sheets_stay b valid command)
   command_stays (OnDefinitions command) h = definitions_stay b valid command
   command_stays (OnNotation command) h = notation_stays b command valid
-  command_stays (OnWriting command) h = writing_stays b command valid
+  command_stays (OnWriting command) h = asked (gives_amount command) (step b (OnWriting command)) h (writing_stays b command valid)
   command_stays (OnReading command) h = reading_stays b command valid
   command_stays (OnExtending command) h = extending_stays b command valid
   command_stays (OnStyles command) h = styles_stay b command valid
@@ -136,8 +150,8 @@ module _ (b : Book) (valid : IsValidBook b) where
   outcome_stays (Err refusal) h = valid
 
   pub line_stays : (line : List ℕ) → IsValidBook (left_after b line)
-  line_stays line = by_command (command_in (english_errors b) served line) refl
+  line_stays line = by_command (command_in (english_errors b) commands line) refl
     where
-      by_command : (o : Option Command) → command_in (english_errors b) served line ≡ o → IsValidBook (command_step b o).0
+      by_command : (o : Option Command) → command_in (english_errors b) commands line ≡ o → IsValidBook (command_step b o).0
       by_command None e = valid
       by_command (Some command) e = outcome_stays (step b command) (command_stays command (line_gives (english_errors b) line command e))

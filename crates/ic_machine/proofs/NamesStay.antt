@@ -1,10 +1,10 @@
 -- The commands on sheets and on definitions keep what always holds of a book.
-use Rattle.std.proofs.Common.{true, false, Bool, ◌≡◌, ℕ, Option, refl}
+use Rattle.std.proofs.Common.{ℕ, Option, refl}
 use Rattle.std.specs.Prelude.{unwrap_or}
 use Rattle.ic_laws.specs.Command as core
 use Rattle.ic_laws.specs.CoreStep.{core_step, index_of_definition, index_of_id, index_of_name, scope_or_none}
 use Rattle.ic_laws.specs.FormulaReading.{body_of}
-use Rattle.ic_machine.specs.Book.{Book, Stepped, core_of, notations_in}
+use Rattle.ic_machine.specs.Book.{Book, core_of, notations_in}
 use Rattle.ic_machine.specs.Changed.{changed_by, with_removed_sheet, with_renamed_sheet, without_definition}
 use Rattle.ic_machine.specs.Command.{OnDefinitions, OnSheets}
 use Rattle.ic_machine.specs.Kept.{StaysValid, StaysValidIf, gives_id, is_given_id}
@@ -15,16 +15,13 @@ use Rattle.ic_machine.specs.subjects.Sheets as sheets
 use Rattle.ic_machine.specs.subjects.Sheets.{add_sheet_step, delete_by_id_step, delete_by_name_step, delete_sheet_step, move_sheet_step, rename_by_index_step, rename_sheet_step, sheet_step, with_new_sheet}
 use Rattle.ic_machine.proofs.ReaderLemmas.{readers_leave}
 use Rattle.ic_machine.proofs.UpdatedStays.{update_name_stays}
-use Rattle.ic_machine.proofs.ValidLemmas.{stays_leaving}
+use Rattle.ic_machine.proofs.ValidLemmas.{by_asking, stays_leaving}
 use Rattle.ic_machine.proofs.DuplicatedStays.{duplicate_stays}
 use Rattle.ic_machine.proofs.InsertedStays.{insert_stays}
 use Rattle.ic_machine.proofs.NewSheetStays.{new_sheet_stays}
 use Rattle.ic_machine.proofs.SheetsStay.{added_stays, move_stays, named_stays, removed_stays, renamed_stays, stays_lifted, undefined_stays}
 
 -- what is asked of a command where a test is passed
-by_asking : (t : Bool) (stepped : Stepped Book) → (t ≡ true → StaysValid stepped) → StaysValidIf t stepped
-by_asking true stepped h = h refl
-by_asking false stepped h = tt
 
 module _ (b : Book) (valid : IsValidBook b) where
   pub sheets_stay : (command : sheets.Sheets) → StaysValidIf (gives_id command) (sheet_step b command)

@@ -1,5 +1,6 @@
 -- The number in the name of a new sheet.
-use Rattle.std.proofs.Common.{ℕ, zero, suc, ◌+◌, ◌<◌, ◌≤◌, List, length, Bool, true, false, cond, Option, Some, arith}
+use Rattle.std.proofs.Common.{◌≡◌, ℕ, zero, suc, ◌+◌, ◌<◌, ◌≤◌, List, length, Bool, true, false, cond, Option, Some, refl, ap, ◌∙◌, arith, inl, inr}
+use Rattle.std.proofs.lemmas.Bool.{cases_Bool, cases_order}
 use Rattle.std.specs.List.{find, range_with_len}
 use Rattle.std.specs.Prelude.{not, unwrap_or}
 use Rattle.ic_laws.specs.CoreBook.{has_sheet}
@@ -24,3 +25,35 @@ small b name =
     let found : unwrap_or (find (λ n. not (has_sheet (core_of b) (name n))) (range_with_len 1 (suc (length b.sheets)))) (suc (length b.sheets)) < 1 + suc (length b.sheets) =
     found_below (λ n. not (has_sheet (core_of b) (name n))) 1 (suc (length b.sheets)) (suc (length b.sheets)) (omega (arith)) in
     omega (arith, found)
+
+-- The first that passes is the least that does. ----
+
+-- none before it passes
+before_first : (p : ℕ → Bool) (a k d m : ℕ) → d < a + k → a ≤ m → m < unwrap_or (find p (range_with_len a k)) d → p m ≡ false
+before_first p a zero d m fits from less = absurd (omega (arith, fits, from, less))
+before_first p a (suc k) d m fits from less = elim (cases_Bool (p a)) [
+  | inl t ↦ absurd (let here : m < a = rw t at less in omega (arith, here, from))
+  | inr f ↦ elim (cases_order m a) [
+    | inl same ↦ ap p same ∙ f
+    | inr (inl before) ↦ absurd (omega (arith, before, from))
+    | inr (inr behind) ↦ before_first p (a + 1) k d m (omega (arith, fits)) (omega (arith, behind)) (rw f at less)
+  ]
+]
+
+-- and it isn't smaller than a number that none of them is smaller than
+from_least : (p : ℕ → Bool) (least a k d : ℕ) → least ≤ a → least ≤ d → least ≤ unwrap_or (find p (range_with_len a k)) d
+from_least p least a zero d le more = more
+from_least p least a (suc k) d le more = elim (cases_Bool (p a)) [
+  | inl t ↦ rw t le
+  | inr f ↦ rw f (from_least p least (a + 1) k d (omega (arith, le)) more)
+]
+
+pub from_one : (b : Book) (name : ℕ → List ℕ) → 1 ≤ free_number b name
+from_one b name = from_least (λ n. not (has_sheet (core_of b) (name n))) 1 1 (suc (length b.sheets)) (suc (length b.sheets)) (omega (arith)) (omega (arith))
+
+pub smaller_taken : (b : Book) (name : ℕ → List ℕ) (n : ℕ) → 1 ≤ n → n < free_number b name → has_sheet (core_of b) (name n) ≡ true
+smaller_taken b name n from less = not_false (has_sheet (core_of b) (name n)) (before_first (λ m. not (has_sheet (core_of b) (name m))) 1 (suc (length b.sheets)) (suc (length b.sheets)) n (omega (arith)) from less)
+  where
+    not_false : (t : Bool) → not t ≡ false → t ≡ true
+    not_false true e = refl
+    not_false false e = cc

@@ -56,7 +56,7 @@ use Rattle.ic_machine.specs.Refusal.{Causes, InvalidSheet, Refusal, first_refusa
 use Rattle.ic_machine.specs.Reply.{Field, text_field}
 use Rattle.ic_machine.specs.Retyped.{HoldsThere, IsSameAs, IsSameAsAny, RetypedStays, SameFormula, clashes_in}
 use Rattle.ic_machine.specs.Styling.{restyled}
-use Rattle.ic_machine.specs.Valid.{HasFormula, IsValidBook}
+use Rattle.ic_machine.specs.Valid.{HasAmount, HasFormula, IsValidBook}
 use Rattle.ic_machine.specs.subjects.Reading.{content_step, format_of, formula_text, shown_content}
 use Rattle.ic_machine.specs.subjects.Writing.{Written, formula_at_place, formula_written, input_step, place_causes, typed_written, with_content, with_written, write_causes}
 use Rattle.ic_machine.proofs.CoreValid.{core_valid}
@@ -207,30 +207,24 @@ module _ (b : Book) (valid : IsValidBook b) where
       go false e = ap (λ (t : Typed). (typed_written b s place t).content style) (quoted_typed text)
       go true e = ap (λ (t : Typed). (typed_written b s place t).content style) (same_text text e)
 
-  -- a formula
-  module _ (index : ℕ) (s : Sheet) (at : slice_get b.sheets index ≡ Some s) (place : CellPlace) (cell : is_cell place.0 place.1 ≡ true) (t : Bound)
-      (kept : IsKept (notations_in b) (scene_in b) (Some s.id) place.0 place.1 t) (free : clashes_in b t ≡ false) where
+  -- a formula, whichever sheet its words are looked up from
+  module _ (scope : Option ℕ) (place : CellPlace) (cell : is_cell place.0 place.1 ≡ true) (t : Bound) (kept : IsKept (notations_in b) (scene_in b) scope place.0 place.1 t) (free : clashes_in b t ≡ false) where
     abbrev d : DialectMeaning
     d = shown_at (notations_in b) (core_of b) place.0 place.1
 
     abbrev shown : List ℕ
     shown = printed d (spelled (scene_in b) t)
 
-    reads : read_as d shown ≡ Some (spelled (scene_in b) t)
-    reads =
-        shown_reads_unless_clash b.tables valid.tables (core_of b) (core_valid b valid) f.language force.language_is (Some s.id) place.0 place.1 cell t kept
+    pub tree_reads : read_as d shown ≡ Some (spelled (scene_in b) t)
+    tree_reads =
+        shown_reads_unless_clash b.tables valid.tables (core_of b) (core_valid b valid) f.language force.language_is scope place.0 place.1 cell t kept
         (sym (by_force true (λ (g : InForce). clashes_with (is_boolean_word g.language) (is_function_word g.language) t)) ∙ free)
 
     pub some_shown : shown ≢ []
-    some_shown e = no_tree (sym (empty_reads d) ∙ ap (read_as d) (sym e) ∙ reads)
+    some_shown e = no_tree (sym (empty_reads d) ∙ ap (read_as d) (sym e) ∙ tree_reads)
       where
         no_tree : {A : Type 0} {x : A} → None ≡ Some x → ⊥
         no_tree h = cc
-
-    pub read_again : formula_at_place b s place shown ≡ formulas.Tree t
-    read_again =
-        ap (λ (o : Option Spelled). tree_or_raw (λ u. formulas.Tree (bound (english_function (notations_in b)) (scene_in b) (Some s.id) u)) shown (option_or o (read_as d (shown ++ codes ")")))) reads
-        ∙ ap (λ (u : Bound). formulas.Tree u) kept.settled
 
     pub formula_typed : typed_in b (equals ∷ shown) ≡ kinds.Formula shown
     formula_typed = typed_is (equals ∷ shown) ∙ formulas_again f.locale f.language f.beside shown some_shown
@@ -238,10 +232,25 @@ module _ (b : Book) (valid : IsValidBook b) where
     pub formula_told : in_force_words.formula_typed b (equals ∷ shown) ≡ Some shown
     formula_told = by_force None (λ (g : InForce). formula_of g.locale (equals ∷ shown)) ∙ (formula_exactly f.locale (tells_texts b.tables f.locale of_tables.formats) (equals ∷ shown) shown).0 (inl (refl, some_shown))
 
-    held_again : (w : Written) → w ≡ typed_written b s place (typed_in b (equals ∷ shown)) → (k : ℕ) → option_map (formula_in w.pool) (formula_index (w.content k)) ≡ Some (formulas.Tree t)
+  -- in a cell of a sheet
+  module _ (index : ℕ) (s : Sheet) (at : slice_get b.sheets index ≡ Some s) (place : CellPlace) (cell : is_cell place.0 place.1 ≡ true) (t : Bound)
+      (kept : IsKept (notations_in b) (scene_in b) (Some s.id) place.0 place.1 t) (free : clashes_in b t ≡ false) where
+    abbrev there_shown : List ℕ
+    there_shown = printed (shown_at (notations_in b) (core_of b) place.0 place.1) (spelled (scene_in b) t)
+
+    pub read_again : formula_at_place b s place there_shown ≡ formulas.Tree t
+    read_again =
+        ap
+        (λ (o : Option Spelled).
+        tree_or_raw (λ u. formulas.Tree (bound (english_function (notations_in b)) (scene_in b) (Some s.id) u)) there_shown
+        (option_or o (read_as (shown_at (notations_in b) (core_of b) place.0 place.1) (there_shown ++ codes ")"))))
+        (tree_reads (Some s.id) place cell t kept free)
+        ∙ ap (λ (u : Bound). formulas.Tree u) kept.settled
+
+    held_again : (w : Written) → w ≡ typed_written b s place (typed_in b (equals ∷ there_shown)) → (k : ℕ) → option_map (formula_in w.pool) (formula_index (w.content k)) ≡ Some (formulas.Tree t)
     held_again w is k =
         ap (λ (x : Written). option_map (formula_in x.pool) (formula_index (x.content k)))
-        (is ∙ ap (typed_written b s place) formula_typed ∙ ap (formula_written b s) read_again)
+        (is ∙ ap (typed_written b s place) (formula_typed (Some s.id) place cell t kept free) ∙ ap (formula_written b s) read_again)
         ∙ ap (option_map (formula_in (formula_written b s (formulas.Tree t)).pool)) (indexed (is_dynamic b.tables.kinds (formulas.Tree t)) (index_in_pool (formulas.Tree t) s.pool) k)
         ∙ ap (λ (g : Formula). Some g) (formula_placed (formulas.Tree t) s.pool)
 
@@ -267,18 +276,18 @@ module _ (b : Book) (valid : IsValidBook b) where
     same_formula (formulas.Raw text) cell kept k = tt
     same_formula (formulas.Tree t) cell kept k = λ free. held_again index s at place cell t kept free (again (formula_text b place (formulas.Tree t))) refl k
 
-    same_as : (was : Content) → is_cell place.0 place.1 ≡ true → HasFormula (notations_in b) (scene_in b) s place (formula_index was) → (k : ℕ)
+    same_as : (was : Content) → is_cell place.0 place.1 ≡ true → HasFormula (notations_in b) (scene_in b) s place (formula_index was) → HasAmount was → (k : ℕ)
         → IsSameAs b s (left (again (shown_content b s place was)) k) was ((again (shown_content b s place was)).content k)
-    same_as (EmptyContent style) cell has k = put (λ j. EmptyContent j) (λ j. refl) _ k (nothing k)
-    same_as (BoolContent truth style) cell has k = put (λ j. BoolContent truth j) (λ j. refl) _ k (told (boolean_in b truth) (kinds.Boolean truth) k (boolean_typed truth))
-    same_as (NumContent amount style) cell has k = λ good.
+    same_as (EmptyContent style) cell has good k = put (λ j. EmptyContent j) (λ j. refl) _ k (nothing k)
+    same_as (BoolContent truth style) cell has good k = put (λ j. BoolContent truth j) (λ j. refl) _ k (told (boolean_in b truth) (kinds.Boolean truth) k (boolean_typed truth))
+    same_as (NumContent amount style) cell has good k =
         let t = number_typed (format_of b (NumContent amount style)) amount good in
         put (λ j. NumContent amount j) (λ j. refl) _ k (told (shown_number b (format_of b (NumContent amount style)) amount) (kinds.Number amount t.0) k t.1)
-    same_as (ErrContent e style) cell has k = put (λ j. ErrContent e j) (λ j. refl) _ k (told (error_in b e) (kinds.Error e) k (error_typed e))
-    same_as (TextContent text style) cell has k = put (λ j. TextContent text j) (λ j. refl) _ k (words_written s place text k)
-    same_as (FormulaContent i value style) cell has k = same_formula (formula_in s.pool i) cell has.1 k
-    same_as (AnchorContent i area kind value style) cell has k = same_formula (formula_in s.pool i) cell has.1 k
-    same_as (SpillContent anchor value style) cell has k = tt
+    same_as (ErrContent e style) cell has good k = put (λ j. ErrContent e j) (λ j. refl) _ k (told (error_in b e) (kinds.Error e) k (error_typed e))
+    same_as (TextContent text style) cell has good k = put (λ j. TextContent text j) (λ j. refl) _ k (words_written s place text k)
+    same_as (FormulaContent i value style) cell has good k = same_formula (formula_in s.pool i) cell has.1 k
+    same_as (AnchorContent i area kind value style) cell has good k = same_formula (formula_in s.pool i) cell has.1 k
+    same_as (SpillContent anchor value style) cell has good k = tt
 
     -- what the place shows
     abbrev shown_at_place : Option Content → List ℕ
@@ -288,7 +297,7 @@ module _ (b : Book) (valid : IsValidBook b) where
     same_any None e k = put (λ j. EmptyContent j) (λ j. refl) _ k (nothing k)
     same_any (Some was) e k =
         let holds = holds_at b valid index s at in
-        same_as was (holds.inside place was e) (holds.formulas place was e) k
+        same_as was (holds.inside place was e) (holds.formulas place was e) (holds.amounts place was e) k
 
     -- the sheet that is left stands at the index, and the content at the place
     sheet_there : (new : Sheet) (i : ℕ) (xs : List Sheet) (old : Sheet) → slice_get xs i ≡ Some old → slice_get (updated_at (λ x. new) i xs) i ≡ Some new

@@ -78,6 +78,7 @@ nothing_holds n scene count id name = record {
     frozen = record { some_rows = omega (arith, ints); few_rows = omega (arith, ints); some_columns = omega (arith, ints); few_columns = omega (arith, ints) };
     lines = record { rows = λ row props e. nothing_set _ row props e; columns = λ column props e. nothing_set _ column props e };
   };
+  amounts = λ place content e. nothing_at _ place content e;
 }
 
 -- a sheet in the list that is put at another place ----
@@ -131,7 +132,7 @@ module _ (b : Book) (valid : IsValidBook b) where
       ∙ sym (updated_seen seen (called name) (named_so name) (λ s. refl) index b.sheets))
       (spelled_kept b valid later same_keys))
       (all_updated (Holds later) (called name)
-      (λ s h. record { pool = h.pool; inside = h.inside; formulas = h.formulas; styles = h.styles; arrays = h.arrays; merges = h.merges; layout = record { frozen = h.layout.frozen; lines = h.layout.lines } }) index kept)
+      (λ s h. record { pool = h.pool; inside = h.inside; formulas = h.formulas; styles = h.styles; arrays = h.arrays; merges = h.merges; layout = record { frozen = h.layout.frozen; lines = h.layout.lines }; amounts = h.amounts }) index kept)
       core
 
   -- one sheet less

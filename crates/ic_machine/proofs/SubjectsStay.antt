@@ -33,7 +33,7 @@ use Rattle.ic_machine.proofs.ReaderLemmas.{readers_leave}
 use Rattle.ic_machine.proofs.ValidLemmas.{AreLines, HasNewLines, LinesStay, TabStays, column_put, grids_stay, row_put, stays_leaving, stays_unless, tabs_stay}
 
 -- what a book holds beside its notation, its zone, its theme and its name
-with_notation : (b : Book) (locale language zone theme : List ℕ) → IsValidBook b → (notations_in b).knows_locale locale ≡ true → (notations_in b).knows_language language ≡ true → lists_zone b.tables zone ≡ true
+pub with_notation : (b : Book) (locale language zone theme : List ℕ) → IsValidBook b → (notations_in b).knows_locale locale ≡ true → (notations_in b).knows_language language ≡ true → lists_zone b.tables zone ≡ true
     → IsValidBook (record b { locale = locale; language = language; zone = zone; theme = theme })
 with_notation b locale language zone theme valid l g z = record {
   sheets = record { some = valid.sheets.some; few = valid.sheets.few };
@@ -47,6 +47,7 @@ with_notation b locale language zone theme valid l g z = record {
   arrays = valid.arrays;
   merges = valid.merges;
   layout = valid.layout;
+  amounts = valid.amounts;
   locale = l;
   language = g;
   zone = z;

@@ -39,10 +39,11 @@ use Rattle.ic_machine.specs.Retyped.{clashes_in}
 use Rattle.ic_machine.specs.Same.{IsSameBook}
 use Rattle.ic_machine.specs.Step.{step}
 use Rattle.ic_machine.specs.Translation.{body_text, defined, in_notation, updated_definition, why_not}
-use Rattle.ic_machine.specs.TranslationLaws.{ErrorsEndPlain, IsWritable, LeavesSame, UpdateIsSame}
+use Rattle.ic_machine.specs.TranslationLaws.{BodyEndsPlain, ErrorsEndPlain, IsBeside, IsWritable, LeavesSame, UpdateIsSame}
 use Rattle.ic_machine.specs.Valid.{IsValidBook}
 use Rattle.ic_machine.specs.subjects.Definitions as definitions
 use Rattle.ic_machine.specs.subjects.Definitions.{Update, captures, keys_of_update, meets_other, new_key, new_scope_id, old_key, old_scope, scene_updated, update_body, update_causes, update_name_step, update_sites, updated_book, updated_index, with_body, with_update}
+use Rattle.ic_machine.proofs.BesideLemmas.{twin_valid}
 use Rattle.ic_machine.proofs.ChangedSame.{changed_same}
 use Rattle.ic_machine.proofs.ChangedStays.{kept_definitions, kept_sheets, seen_kept, spelled_kept}
 use Rattle.ic_machine.proofs.ChangedStays as changed
@@ -52,7 +53,8 @@ use Rattle.ic_machine.proofs.InsertedStays.{none_holds}
 use Rattle.ic_machine.proofs.NamesStay.{definitions_stay}
 use Rattle.ic_machine.proofs.SameLemmas.{core_same, scene_same}
 use Rattle.ic_machine.proofs.SitesSame.{sites_same}
-use Rattle.ic_machine.proofs.TextEnds.{EndsSolid, equals_front, no_equals, printed_tight, tight_front, trimmed_tight, without_equals_front}
+use Rattle.ic_machine.proofs.PlainEnds.{begins_front, ends_plain, tight_unless}
+use Rattle.ic_machine.proofs.TextEnds.{EndsSolid, equals_front, no_equals, printed_begins, printed_tight, tight_front, trimmed_tight, without_equals_front}
 use Rattle.ic_machine.proofs.TreeAgain.{error_there, fits_there, form, form_there, reads_there, references_there}
 use Rattle.ic_machine.proofs.UpdatedStays.{new, none_passes_at, passes_at, some_of}
 
@@ -66,9 +68,13 @@ none_refuses : (causes : Causes) → AllByRecursion (λ (cause : Bool × Refusal
 none_refuses [] h = refl
 none_refuses (cause ∷ causes) h = ap (λ (b : Bool). cond b (Some cause.1) (first_refusal causes)) h.0 ∙ none_refuses causes h.1
 
-module _ (b c : Book) (valid : IsValidBook b) (valid_there : IsValidBook c) (same : IsSameBook b c) (u : Update) (given : List ℕ) where
+module _ (b c : Book) (valid : IsValidBook b) (valid_there : IsValidBook (in_notation c.locale c.language b)) (same : IsSameBook b c) (u : Update) (given : List ℕ) where
   abbrev n : Notations
   n = notations_in b
+
+  -- the book itself in the other notation
+  abbrev twin : Book
+  twin = in_notation c.locale c.language b
 
   abbrev u' : Update
   u' = record u { body = given }
@@ -137,7 +143,7 @@ module _ (b c : Book) (valid : IsValidBook b) (valid_there : IsValidBook c) (sam
         ∙ ap (updated_at (λ m. spelling_of made) index) (spelled_kept b valid later (keys_of_update b u)) ∙ sym (updated_seen spelling_of (λ d. plain) (λ m. spelling_of plain) (λ d. refl) index b.definitions))
         ∙ ap (λ (o : Option ℕ). scene_in (with_update b u false (formulas.Raw []) o b)) (sym found)
 
-    module _ (valid_left : IsValidBook left) (free : clashes_in (in_notation c.locale c.language b) tree ≡ false) (plain_ends : ErrorsEndPlain c) where
+    module _ (valid_left : IsValidBook left) (free : clashes_in (in_notation c.locale c.language b) tree ≡ false) where
       kept : IsKept (notations_in left) (scene_in left) (new_scope_id b u) (pos 1) (pos 1) tree
       kept =
           let at = passes_at (is_named u.name (old_scope b u)) b.definitions index found in
@@ -145,24 +151,24 @@ module _ (b c : Book) (valid : IsValidBook b) (valid_there : IsValidBook c) (sam
           put_holds (IsKeptBody (notations_in left) (scene_in left)) (kept_in_body n (scene_in b) later (keys_of_update b u)) made index b.definitions at.0 at.1 valid_left.kept.bodies
 
       abbrev d : DialectMeaning
-      d = form left c valid_left valid_there same.tables
+      d = form left twin valid_left valid_there refl
 
       abbrev v : Spelled
       v = spelled (scene_in left) tree
 
       fits : Fits d v
-      fits = fits_there left c valid_left valid_there same.tables (new_scope_id b u) tree kept free
+      fits = fits_there left twin valid_left valid_there refl (new_scope_id b u) tree kept free
 
       reads : read_as d (printed d v) ≡ Some v
-      reads = reads_there left c valid_left valid_there same.tables (new_scope_id b u) tree kept free
+      reads = reads_there left twin valid_left valid_there refl (new_scope_id b u) tree kept free
 
-      ends : EndsSolid d
-      ends = record {
+      ends : ErrorsEndPlain c → EndsSolid d
+      ends plain_ends = record {
         errors = λ e.
             ap (λ (word : List ℕ). first_is is_blank (reverse word))
-            (error_there left c valid_left valid_there same.tables e ∙ ap (by_notation [] (λ (f : InForce). error_word f.language e)) (force_same c left same.tables))
+            (error_there left twin valid_left valid_there refl e ∙ ap (by_notation [] (λ (f : InForce). error_word f.language e)) (force_same c left same.tables))
             ∙ plain_ends e;
-        references = references_there left c valid_left valid_there same.tables;
+        references = references_there left twin valid_left valid_there refl;
       }
 
       abbrev body_there : Body
@@ -172,11 +178,17 @@ module _ (b c : Book) (valid : IsValidBook b) (valid_there : IsValidBook c) (sam
       abbrev text_there : List ℕ
       text_there = cond body.has_equals (equals ∷ []) [] ++ printed d v
 
-      read_there : update_body n (core_of c) text_there ≡ Some body_there
-      read_there =
-          let lawful = (form_there left c valid_left valid_there same.tables).lawful in
+      -- where no error word ends with a blank, it doesn't
+      text_plain : ErrorsEndPlain c → first_is is_blank (reverse text_there) ≡ false
+      text_plain plain_ends =
+          let lawful = (form_there left twin valid_left valid_there refl).lawful in
+          ends_plain text_there (tight_front body.has_equals (printed d v) (printed_tight d lawful v fits reads (ends plain_ends)))
+
+      read_there : first_is is_blank (reverse text_there) ≡ false → update_body n (core_of c) text_there ≡ Some body_there
+      read_there plain =
+          let lawful = (form_there left twin valid_left valid_there refl).lawful in
           let bare = no_equals d lawful v fits reads in
-          let tight = tight_front body.has_equals (printed d v) (printed_tight d lawful v fits reads ends) in
+          let tight = tight_unless text_there (begins_front body.has_equals (printed d v) (printed_begins d lawful v fits reads)) plain in
           let trims : trimmed text_there ≡ text_there = trimmed_tight text_there tight in
           let strips : without_equals (trimmed text_there) ≡ printed d v = ap without_equals trims ∙ without_equals_front body.has_equals (printed d v) bare in
           let has : first_is (λ c. c == equals) (trimmed text_there) ≡ body.has_equals = ap (first_is (λ c. c == equals)) trims ∙ equals_front body.has_equals (printed d v) bare in
@@ -189,9 +201,9 @@ module _ (b c : Book) (valid : IsValidBook b) (valid_there : IsValidBook c) (sam
       settled = ap (λ (scene : Scene). bound (english_function n) scene (new_scope_id b u) v) (sym scene_left) ∙ kept.settled
 
       -- by each text that is this one
-      module _ (given_is : given ≡ text_there) (clear : AllByRecursion (λ (cause : Bool × Refusal). cause.0 ≡ false) (update_causes b u)) (left_is : updated_book b u ≡ left) where
+      module _ (given_is : given ≡ text_there) (plain_end : first_is is_blank (reverse given) ≡ false) (clear : AllByRecursion (λ (cause : Bool × Refusal). cause.0 ≡ false) (update_causes b u)) (left_is : updated_book b u ≡ left) where
         body_is : update_body (notations_in c) (core_of c) given ≡ Some body_there
-        body_is = ap (λ (t : TableSet). update_body (notations_of t) (core_of c) given) (sym same.tables) ∙ ap (update_body n (core_of c)) given_is ∙ read_there
+        body_is = ap (λ (t : TableSet). update_body (notations_of t) (core_of c) given) (sym same.tables) ∙ ap (update_body n (core_of c)) given_is ∙ read_there (subst (λ (text : List ℕ). first_is is_blank (reverse text) ≡ false) given_is plain_end)
 
         abbrev formula_there : Formula
         formula_there = formulas.Tree (bound (english_function (notations_in c)) (scene_updated c u') (new_scope_id c u') v)
@@ -253,9 +265,11 @@ module _ (b c : Book) (valid : IsValidBook b) (valid_there : IsValidBook c) (sam
 abbrev UpdateStays : (book left other : Book) (update : Update) (locale language : List ℕ) → Type 0
 UpdateStays book left other update locale language =
     IsWritable locale language book (OnDefinitions (definitions.UpdateDefinedName update))
-    → LeavesSame left (step other (OnDefinitions (definitions.UpdateDefinedName (record update { body = body_text (in_notation locale language left) (defined book (definitions.UpdateDefinedName update)) }))))
+    → (ErrorsEndPlain other → BodyEndsPlain book (in_notation locale language left) (OnDefinitions (definitions.UpdateDefinedName update)))
+    × (BodyEndsPlain book (in_notation locale language left) (OnDefinitions (definitions.UpdateDefinedName update))
+    → LeavesSame left (step other (OnDefinitions (definitions.UpdateDefinedName (record update { body = body_text (in_notation locale language left) (defined book (definitions.UpdateDefinedName update)) })))))
 
-module _ (b left c : Book) (valid : IsValidBook b) (valid_there : IsValidBook c) (same : IsSameBook b c) (plain_ends : ErrorsEndPlain c) (fields : List Field) (u : Update)
+module _ (b left c : Book) (valid : IsValidBook b) (valid_there : IsValidBook (in_notation c.locale c.language b)) (same : IsSameBook b c) (fields : List Field) (u : Update)
     (e : step b (OnDefinitions (definitions.UpdateDefinedName u)) ≡ Ok (left, fields)) where
   update_stays : UpdateStays b left c u c.locale c.language
   unfolding update_name_step
@@ -273,16 +287,30 @@ module _ (b left c : Book) (valid : IsValidBook b) (valid_there : IsValidBook c)
       let is : defined b (definitions.UpdateDefinedName u) ≡ Some (updated_definition b u body.0) = ap (option_map (updated_definition b u)) body.1 in
       let free = tree_unclashed (in_notation c.locale c.language b) tree (ap (λ (o : Option Definition). option_and_then (why_not (in_notation c.locale c.language b)) (option_map (λ (d : Definition). d.body) o)) (sym is) ∙ writable) in
       let given : List ℕ = body_text (in_notation c.locale c.language left) (defined b (definitions.UpdateDefinedName u)) in
-      subst (λ (x : Book). LeavesSame x (step c (OnDefinitions (definitions.UpdateDefinedName (record u { body = given }))))) (sym done.1)
-      (update_left b c valid valid_there same u given body.0 index.0 index.1 (subst IsValidBook (done.1 ∙ left_is) left_valid) free plain_ends
-      (ap₂ (λ (x : Book) (o : Option Definition). body_text (in_notation c.locale c.language x) o) (done.1 ∙ left_is) is) clear left_is)
+      let valid_whole : IsValidBook whole = subst IsValidBook (done.1 ∙ left_is) left_valid in
+      let given_is = ap₂ (λ (x : Book) (o : Option Definition). body_text (in_notation c.locale c.language x) o) (done.1 ∙ left_is) is in (
+        λ plain_ends. ap (λ (text : List ℕ). first_is is_blank (reverse text)) given_is ∙ text_plain b c valid valid_there same u given body.0 index.0 index.1 valid_whole free plain_ends,
+        λ plain_end.
+            subst (λ (x : Book). LeavesSame x (step c (OnDefinitions (definitions.UpdateDefinedName (record u { body = given }))))) (sym done.1)
+            (update_left b c valid valid_there same u given body.0 index.0 index.1 valid_whole free given_is plain_end clear left_is),
+      )
     where
       index_there : (o : Option ℕ) → updated_index b u ≡ o → has_definition (core_of b) u.name (old_scope b u) ≡ true → (index : ℕ) × (updated_index b u ≡ Some index)
       index_there None found has = let none = none_passes_at (is_named u.name (old_scope b u)) b.definitions found in absurd (true≢false (sym has ∙ none))
       index_there (Some index) found has = (index, found)
 
-pub update_is_same : (locale language : List ℕ) → UpdateIsSame locale language
-update_is_same locale language book left other fields update beside plain_ends e =
+told_by : (locale language : List ℕ) (book left other : Book) (fields : List Field) (update : Update) → IsBeside locale language book other
+    → step book (OnDefinitions (definitions.UpdateDefinedName update)) ≡ Ok (left, fields) → UpdateStays book left other update locale language
+told_by locale language book left other fields update beside e =
     subst (λ (l : List ℕ). UpdateStays book left other update l language) beside.locale_is
     (subst (λ (l : List ℕ). UpdateStays book left other update other.locale l) beside.language_is
-    (update_stays book left other beside.valid beside.valid_beside beside.same plain_ends fields update e))
+    (update_stays book left other beside.valid (twin_valid locale language book other beside) beside.same fields update e))
+
+pub update_is_same : (locale language : List ℕ) → UpdateIsSame locale language
+update_is_same locale language book left other fields update beside e writable plain = (told_by locale language book left other fields update beside e writable).1 plain
+
+-- where no error word ends with a blank, no body does that an update leaves
+pub update_ends_plain : (locale language : List ℕ) (book left other : Book) (fields : List Field) (update : Update) → IsBeside locale language book other
+    → step book (OnDefinitions (definitions.UpdateDefinedName update)) ≡ Ok (left, fields) → IsWritable locale language book (OnDefinitions (definitions.UpdateDefinedName update)) → ErrorsEndPlain other
+    → BodyEndsPlain book (in_notation locale language left) (OnDefinitions (definitions.UpdateDefinedName update))
+update_ends_plain locale language book left other fields update beside e writable plain_ends = (told_by locale language book left other fields update beside e writable).0 plain_ends

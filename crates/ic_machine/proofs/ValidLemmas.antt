@@ -1,6 +1,6 @@
 -- What always holds of a book holds of it with another sheet in the place of one, and after the commands that leave
 -- contents, pools and names.
-use Rattle.std.proofs.Common.{◌≡◌, ℕ, ℤ, zero, suc, ◌<◌, ◌≤◌, List, [], ◌∷◌, map, length, Bool, true, cond, Option, Some, None, Ok, Err, refl, sym, ap, subst, ◌∙◌, arith, inl, inr}
+use Rattle.std.proofs.Common.{◌≡◌, ℕ, ℤ, zero, suc, ◌<◌, ◌≤◌, List, [], ◌∷◌, map, length, Bool, true, false, cond, Option, Some, None, Ok, Err, refl, sym, ap, subst, ◌∙◌, arith, inl, inr}
 use mathlib.Core.Bool.{true≢false}
 use Rattle.std.proofs.lemmas.Bool.{cases_Bool}
 use Rattle.std.specs.Cmp.{int_cmp_total}
@@ -27,11 +27,11 @@ use Rattle.ic_grid.specs.Conditions.{AreArrays, AreInSheet, AreMerges}
 use Rattle.ic_grid.specs.Style.{Columns, Rows}
 use Rattle.ic_machine.specs.Book.{Book, Grid, Sheet, Stepped, Tab, as_core, found_or, notations_in, on_grid, on_tab, put_in, scene_in, unless, with_sheet}
 use Rattle.ic_machine.specs.Content.{held}
-use Rattle.ic_machine.specs.Kept.{StaysValid}
+use Rattle.ic_machine.specs.Kept.{StaysValid, StaysValidIf}
 use Rattle.ic_machine.specs.Readers.{Leaves}
 use Rattle.ic_machine.specs.Refusal.{InvalidSheet, Refusal}
 use Rattle.ic_machine.specs.Reply.{Field}
-use Rattle.ic_machine.specs.Valid.{HasCellFormulas, HasGridStyles, HasLayout, HasLines, IsFrozen, IsKeptPool, IsStyleNumber, IsValidBook}
+use Rattle.ic_machine.specs.Valid.{HasAmounts, HasCellFormulas, HasGridStyles, HasLayout, HasLines, IsFrozen, IsKeptPool, IsStyleNumber, IsValidBook}
 use Rattle.ic_machine.proofs.SceneLemmas.{placed}
 
 -- one item in the place of another ----
@@ -65,6 +65,7 @@ pub record HoldsOf (n : Notations) (scene : Scene) (count : ℕ) (sheet : Sheet)
   pub arrays : AreArrays held sheet.grid.contents
   pub merges : AreMerges held sheet.grid.contents sheet.grid.merges
   pub layout : HasLayout sheet
+  pub amounts : HasAmounts sheet
 
 pub holds_at : (b : Book) → IsValidBook b → (index : ℕ) (s : Sheet) → slice_get b.sheets index ≡ Some s → HoldsOf (notations_in b) (scene_in b) (length b.styles) s
 holds_at b valid index s e = record {
@@ -75,6 +76,7 @@ holds_at b valid index s e = record {
   arrays = all_at (λ (sheet : Sheet). AreArrays held sheet.grid.contents) index b.sheets s valid.arrays e;
   merges = all_at (λ (sheet : Sheet). AreMerges held sheet.grid.contents sheet.grid.merges) index b.sheets s valid.merges e;
   layout = all_at HasLayout index b.sheets s valid.layout e;
+  amounts = all_at HasAmounts index b.sheets s valid.amounts e;
 }
 
 -- more styles ----
@@ -135,6 +137,7 @@ module _ (b : Book) (valid : IsValidBook b) (index : ℕ) (old new : Sheet) (at 
     arrays = all_put (λ (s : Sheet). AreArrays held s.grid.contents) index b.sheets new valid.arrays holds.arrays;
     merges = all_put (λ (s : Sheet). AreMerges held s.grid.contents s.grid.merges) index b.sheets new valid.merges holds.merges;
     layout = all_put HasLayout index b.sheets new valid.layout holds.layout;
+    amounts = all_put HasAmounts index b.sheets new valid.amounts holds.amounts;
     locale = valid.locale;
     language = valid.language;
     zone = valid.zone;
@@ -146,6 +149,11 @@ module _ (b : Book) (valid : IsValidBook b) (index : ℕ) (old new : Sheet) (at 
 pub stays_unless : (o : Option Refusal) (left : Book) (fields : List Field) → (o ≡ None → IsValidBook left) → StaysValid (unless o left fields)
 stays_unless None left fields h = h refl
 stays_unless (Some refusal) left fields h = tt
+
+-- where it is asked of a command
+pub by_asking : (t : Bool) (stepped : Stepped Book) → (t ≡ true → StaysValid stepped) → StaysValidIf t stepped
+by_asking true stepped h = h refl
+by_asking false stepped h = tt
 
 pub stays_leaving : (b : Book) → IsValidBook b → (stepped : Stepped Book) → Leaves b stepped → StaysValid stepped
 stays_leaving b valid (Ok done) h = subst IsValidBook (sym h) valid
@@ -205,6 +213,7 @@ module _ (b : Book) (valid : IsValidBook b) where
         arrays = holds.arrays;
         merges = holds.merges;
         layout = record { frozen = h; lines = holds.layout.lines };
+        amounts = holds.amounts;
       })
 
   pub tabs_stay : (index : ℕ) (f : Tab → Stepped Tab) → ((tab : Tab) → IsFrozen tab → TabStays (f tab)) → StaysValid (on_tab b index f)
@@ -221,6 +230,7 @@ module _ (b : Book) (valid : IsValidBook b) where
     arrays = holds.arrays;
     merges = holds.merges;
     layout = record { frozen = holds.layout.frozen; lines = record { rows = lines.rows_inside; columns = lines.columns_inside } };
+    amounts = holds.amounts;
   }
 
   grid_put : (index : ℕ) (s : Sheet) → slice_get b.sheets index ≡ Some s → (stepped : Stepped Grid) → LinesStay (length b.styles) s.grid stepped

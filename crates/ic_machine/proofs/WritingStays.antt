@@ -16,6 +16,7 @@ use Rattle.ic_grid.specs.Contents.{Contents}
 use Rattle.ic_grid.specs.Prepare.{anchor_reset, prepared, released, released_if, unspilled, without_spill, written}
 use Rattle.ic_grid.specs.Shape.{is_loose, is_spill_of}
 use Rattle.ic_machine.specs.Content.{AnchorContent, BoolContent, Content, EmptyContent, ErrContent, FormulaContent, NumContent, SpillContent, TextContent, formula_index, held, shape_of, style_of}
+use Rattle.ic_machine.specs.Valid.{HasAmount}
 use Rattle.ic_machine.proofs.FormulaLemmas.{reset_formula, unspilled_formula}
 
 cond_true : {A : Type 0} (t : Bool) (x y : A) → t ≡ true → cond t x y ≡ x
@@ -118,18 +119,41 @@ index_reset : (t : Bool) (x : Content) → formula_index (reset_at t x) ≡ form
 index_reset true x = reset_formula x
 index_reset false x = refl
 
+-- a number that stays is an amount as before
+amount_reset : (x : Content) → HasAmount x → HasAmount (anchor_reset held x)
+amount_reset (EmptyContent style) h = tt
+amount_reset (BoolContent truth style) h = tt
+amount_reset (NumContent amount style) h = h
+amount_reset (ErrContent error_value style) h = tt
+amount_reset (TextContent text style) h = tt
+amount_reset (FormulaContent index value style) h = tt
+amount_reset (AnchorContent index area kind value style) h = tt
+amount_reset (SpillContent anchor value style) h = tt
+
+amount_released : (a q : CellPlace) (x : Content) → HasAmount x → HasAmount (released_one a q x)
+amount_released a q x h = reset (same_place q a) (unspilled held a x) (kept (is_spill_of a (shape_of x)))
+  where
+    kept : (t : Bool) → HasAmount (cond t (EmptyContent (style_of x)) x)
+    kept true = tt
+    kept false = h
+
+    reset : (t : Bool) (y : Content) → HasAmount y → HasAmount (reset_at t y)
+    reset true y g = amount_reset y g
+    reset false y g = g
+
 -- Contents after a place is prepared, and after it is written. ----
 
 abbrev pub begins_at : Option CellPlace → CellPlace → Bool
 begins_at None b = false
 begins_at (Some a) b = same_place a b
 
--- what is there was there, with the same style
+-- what is there was there, with the same style, and a number is an amount where it was one
 pub record Was (m : Contents Content) (q : CellPlace) (x : Content) : Type 0 where
   pub old : Content
   pub at : finite.get m q ≡ Some old
   pub style : style_of x ≡ style_of old
   pub index : formula_index x ≡ formula_index old
+  pub amount : HasAmount old → HasAmount x
 
 module _ (m : Contents Content) where
   pub kept_at : (o : Option CellPlace) (q b : CellPlace) → anchor_at held m q ≡ Some b → begins_at o b ≡ false → finite.get (released_if held o m) q ≡ finite.get m q
@@ -150,7 +174,7 @@ module _ (m : Contents Content) where
       subst (λ (z : Content). is_loose (shape_of z) ≡ true) same (loose_one a q y.0 (λ b f. h b (anchor_there q y.0 y.1 ∙ f)))
 
   pub was_at : (o : Option CellPlace) (q : CellPlace) (x : Content) → finite.get (released_if held o m) q ≡ Some x → Was m q x
-  was_at None q x e = record { old = x; at = e; style = refl; index = refl }
+  was_at None q x e = record { old = x; at = e; style = refl; index = refl; amount = λ h. h }
   was_at (Some a) q x e =
       let y = there (λ z. Some (released_one a q z)) (finite.get m q) x (sym (get_released a m q) ∙ e) in
       let some : Some (released_one a q y.0) ≡ Some x = y.2 in
@@ -160,6 +184,7 @@ module _ (m : Contents Content) where
         at = y.1;
         style = ap style_of (sym same) ∙ style_released a q y.0;
         index = ap formula_index (sym same) ∙ index_reset (same_place q a) (unspilled held a y.0) ∙ unspilled_formula a y.0;
+        amount = λ h. subst HasAmount same (amount_released a q y.0 h);
       }
 
   module _ (p : CellPlace) (x : Content) where

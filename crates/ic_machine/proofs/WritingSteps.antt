@@ -1,5 +1,5 @@
 -- Each command that writes a cell keeps what always holds of a book.
-use Rattle.std.proofs.Common.{◌≡◌, ℕ, pos, ◌+◌, ◌<◌, ◌≤◌, List, [], ◌∷◌, ◌++◌, length, Bool, true, false, cond, Option, Some, None, refl, sym, ap, subst, ◌∙◌, arith, inl, inr, length-append, codes}
+use Rattle.std.proofs.Common.{◌≡◌, ℕ, ℤ, pos, ◌+◌, ◌<◌, ◌≤◌, List, [], ◌∷◌, ◌++◌, length, Bool, true, false, cond, Option, Some, None, refl, sym, ap, subst, ◌∙◌, arith, inl, inr, length-append, codes}
 use Rattle.std.proofs.lemmas.Bool.{and_from}
 use Rattle.std.proofs.lemmas.Option.{slice_get_within}
 use Rattle.std.specs.FinMap as finite
@@ -10,6 +10,7 @@ use Rattle.ic_laws.proofs.core.Lists.{all_pushed}
 use Rattle.ic_laws.proofs.core.Named.{book_named}
 use Rattle.ic_laws.proofs.kept.Kept.{kept_where_less}
 use Rattle.ic_laws.proofs.kept.TreeFacts.{tree_facts}
+use Rattle.ic_laws.specs.Amount.{is_amount}
 use Rattle.ic_laws.specs.CoreBook.{CellPlace}
 use Rattle.ic_laws.specs.FormulaReading.{shown_at, tree_or_raw}
 use Rattle.ic_laws.specs.Binding.{bound}
@@ -43,24 +44,25 @@ use Rattle.ic_grid.specs.Style.{first_style}
 use Rattle.ic_machine.specs.Book.{Book, Grid, Sheet, core_of, notations_in, scene_in, style_number_at}
 use Rattle.ic_machine.specs.Content.{AnchorContent, BoolContent, Content, FormulaContent, NumContent, formula_in, formula_index, held, shape_of, style_of}
 use Rattle.ic_machine.specs.InForce.{formula_typed, typed_in}
-use Rattle.ic_machine.specs.Kept.{StaysValid}
+use Rattle.ic_machine.specs.Kept.{StaysValid, StaysValidIf, gives_amount}
 use Rattle.ic_machine.specs.Placed.{index_in_pool, is_dynamic, pool_with}
 use Rattle.ic_machine.specs.Refusal.{Causes, InvalidColumn, InvalidRow, NotAFormula, first_refusal}
 use Rattle.ic_machine.specs.Styling.{numbered, restyled}
-use Rattle.ic_machine.specs.Valid.{HasFormula, HasGridStyles, IsStyleNumber, IsValidBook}
+use Rattle.ic_machine.specs.Valid.{HasAmount, HasFormula, HasGridStyles, IsStyleNumber, IsValidBook}
 use Rattle.ic_machine.specs.subjects.Writing as writing
 use Rattle.ic_machine.specs.subjects.Writing.{Writing, Written, bool_step, formula_at_place, formula_step, formula_written, input_step, number_step, place_causes, text_step, text_written, typed_written, unquoted, value_written, with_content, write_causes, write_step, writing_step}
 use Rattle.ic_machine.proofs.CoreValid.{core_valid}
 use Rattle.ic_machine.proofs.FormulaLemmas.{formula_placed, formula_stays}
 use Rattle.ic_machine.proofs.StylesStay.{HasNumber, has_number}
-use Rattle.ic_machine.proofs.ValidLemmas.{HoldsOf, holds_at, put_valid, stays_found, stays_unless, styles_more}
+use Rattle.ic_machine.proofs.TypedAmounts.{typed_in_amount}
+use Rattle.ic_machine.proofs.ValidLemmas.{HoldsOf, by_asking, holds_at, put_valid, stays_found, stays_unless, styles_more}
 use Rattle.ic_machine.proofs.WritingStays.{begins_at, stands, was_at, written_inside, written_loosens}
 
 -- a sheet with another content at a place, and more formulas ----
 
 module _ (n : Notations) (scene : Scene) (s : Sheet) (p : CellPlace) (w : Written) where
-  -- what a write puts there is no part of an array, has the style that it is given, and its formula, if it has one, is
-  -- kept and in the pool, where all others stay
+  -- what a write puts there is no part of an array, has the style that it is given, its formula, if it has one, is kept and in
+  -- the pool, where all others stay, and its number, if it is one, is an amount
   pub record IsGood : Type 0 where
     pub loose : (k : ℕ) → is_loose (shape_of (w.content k)) ≡ true
     pub style : (k : ℕ) → style_of (w.content k) ≡ k
@@ -68,6 +70,7 @@ module _ (n : Notations) (scene : Scene) (s : Sheet) (p : CellPlace) (w : Writte
     pub longer : length s.pool ≤ length w.pool
     pub stays : (i : ℕ) → i < length s.pool → formula_in w.pool i ≡ formula_in s.pool i
     pub formula : (k : ℕ) → HasFormula n scene (record s { pool = w.pool }) p (formula_index (w.content k))
+    pub amount : (k : ℕ) → HasAmount (w.content k)
 
   module _ (good : IsGood) (count more number : ℕ) (holds : HoldsOf n scene count s) (le : count ≤ more) (below : number < more) (here : is_in_sheet p ≡ true) where
     abbrev new : Sheet
@@ -107,6 +110,10 @@ module _ (n : Notations) (scene : Scene) (s : Sheet) (p : CellPlace) (w : Writte
           arrays = loosened_arrays held s.grid.contents (written held p (w.content number) s.grid.contents) (begins_at (anchor_at held s.grid.contents p)) loosens holds.arrays inside;
           merges = loosened_merges held s.grid.contents (written held p (w.content number) s.grid.contents) (begins_at (anchor_at held s.grid.contents p)) loosens s.grid.merges holds.merges;
           layout = record { frozen = holds.layout.frozen; lines = record { rows = holds.layout.lines.rows; columns = holds.layout.lines.columns } };
+          amounts = λ q y e. elim (stands s.grid.contents p (w.content number) q y e) [
+            | inl x ↦ subst HasAmount (sym x.1) (good.amount number)
+            | inr x ↦ let was = was_at s.grid.contents (anchor_at held s.grid.contents p) q y x.1 in was.amount (holds.amounts q was.old was.at)
+          ];
         }
 
 -- the number of a style ----
@@ -164,15 +171,16 @@ module _ (b : Book) (valid : IsValidBook b) where
 
   -- a value
   module _ (index : ℕ) (s : Sheet) (e : slice_get b.sheets index ≡ Some s) (p : CellPlace) where
-    plain : (content : ℕ → Content) (change : Style → Style) → ((k : ℕ) → is_loose (shape_of (content k)) ≡ true) → ((k : ℕ) → style_of (content k) ≡ k) → ((k : ℕ) → formula_index (content k) ≡ None)
+    plain : (content : ℕ → Content) (change : Style → Style) → ((k : ℕ) → is_loose (shape_of (content k)) ≡ true) → ((k : ℕ) → style_of (content k) ≡ k) → ((k : ℕ) → formula_index (content k) ≡ None) → ((k : ℕ) → HasAmount (content k))
         → IsGood (notations_in b) (scene_in b) s p (record { content = content; change = change; pool = s.pool })
-    plain content change loose style none = record {
+    plain content change loose style none amount = record {
       loose = loose;
       style = style;
       pool = (holds_at b valid index s e).pool;
       longer = omega (arith);
       stays = λ i lt. refl;
       formula = λ k. subst (HasFormula (notations_in b) (scene_in b) s p) (sym (none k)) tt;
+      amount = amount;
     }
 
     -- a formula
@@ -187,6 +195,10 @@ module _ (b : Book) (valid : IsValidBook b) where
     dynamic_index : (t : Bool) (at k : ℕ) → formula_index (cond t (AnchorContent at (pos 1, pos 1) arrays.Dynamic fvalues.Unevaluated k) (FormulaContent at fvalues.Unevaluated k)) ≡ Some at
     dynamic_index true at k = refl
     dynamic_index false at k = refl
+
+    dynamic_amount : (t : Bool) (at k : ℕ) → HasAmount (cond t (AnchorContent at (pos 1, pos 1) arrays.Dynamic fvalues.Unevaluated k) (FormulaContent at fvalues.Unevaluated k))
+    dynamic_amount true at k = tt
+    dynamic_amount false at k = tt
 
     pool_by : (f : Formula) (t : Bool) → IsPooled (notations_in b) (scene_in b) (Some s.id) f → AllByRecursion (IsPooled (notations_in b) (scene_in b) (Some s.id)) (cond t s.pool (s.pool ++ f ∷ []))
     pool_by f true h = (holds_at b valid index s e).pool
@@ -213,6 +225,7 @@ module _ (b : Book) (valid : IsValidBook b) where
       stays = λ i lt. formula_stays f s.pool i lt;
       formula = λ k. subst (HasFormula (notations_in b) (scene_in b) (record s { pool = pool_with f s.pool }) p) (sym (dynamic_index (is_dynamic b.tables.kinds f) (index_in_pool f s.pool) k))
           (index_by f (first_place (code f) s.pool) refl, subst (λ (g : Formula). IsKeptFormula (notations_in b) (scene_in b) (Some s.id) p.0 p.1 g) (sym (formula_placed f s.pool)) kept);
+      amount = λ k. dynamic_amount (is_dynamic b.tables.kinds f) (index_in_pool f s.pool) k;
     }
 
     -- the formula of a text is kept
@@ -232,28 +245,33 @@ module _ (b : Book) (valid : IsValidBook b) where
     pub text_good : (text : List ℕ) → IsGood (notations_in b) (scene_in b) s p (formula_written b s (formula_at_place b s p text))
     text_good text = formula_good (formula_at_place b s p text) (text_kept text)
 
-    typed_good : (t : Typed) → IsGood (notations_in b) (scene_in b) s p (typed_written b s p t)
-    typed_good kinds.Empty = plain _ _ (λ k. refl) (λ k. refl) (λ k. refl)
-    typed_good (kinds.Quoted text) = plain _ _ (λ k. refl) (λ k. refl) (λ k. refl)
-    typed_good (kinds.Formula text) = text_good text
-    typed_good (kinds.Number amount format) = plain _ _ (λ k. refl) (λ k. refl) (λ k. refl)
-    typed_good (kinds.Boolean truth) = plain _ _ (λ k. refl) (λ k. refl) (λ k. refl)
-    typed_good (kinds.Error e) = plain _ _ (λ k. refl) (λ k. refl) (λ k. refl)
-    typed_good (kinds.Text text) = plain _ _ (λ k. refl) (λ k. refl) (λ k. refl)
+    typed_good : (t : Typed) → ((v : ℤ) (code : Option (List ℕ)) → t ≡ kinds.Number v code → is_amount v ≡ true) → IsGood (notations_in b) (scene_in b) s p (typed_written b s p t)
+    typed_good kinds.Empty h = plain _ _ (λ k. refl) (λ k. refl) (λ k. refl) (λ k. tt)
+    typed_good (kinds.Quoted text) h = plain _ _ (λ k. refl) (λ k. refl) (λ k. refl) (λ k. tt)
+    typed_good (kinds.Formula text) h = text_good text
+    typed_good (kinds.Number amount format) h = plain _ _ (λ k. refl) (λ k. refl) (λ k. refl) (λ k. h amount format refl)
+    typed_good (kinds.Boolean truth) h = plain _ _ (λ k. refl) (λ k. refl) (λ k. refl) (λ k. tt)
+    typed_good (kinds.Error e) h = plain _ _ (λ k. refl) (λ k. refl) (λ k. refl) (λ k. tt)
+    typed_good (kinds.Text text) h = plain _ _ (λ k. refl) (λ k. refl) (λ k. refl) (λ k. tt)
 
-pub writing_stays : (b : Book) (command : Writing) → IsValidBook b → StaysValid (writing_step b command)
-unfolding input_step text_step formula_step bool_step number_step
+-- a number that is given is an amount
+number_stays : (b : Book) (valid : IsValidBook b) (sheet : ℕ) (p : CellPlace) (amount : ℤ) → is_amount amount ≡ true → StaysValid (number_step sheet p amount b)
+unfolding number_step
+number_stays b valid sheet p amount is =
+    write_stays b valid sheet p (λ s. value_written s (λ style. NumContent amount style)) []
+    (λ s e r c. plain b valid sheet s e p (λ style. NumContent amount style) unquoted (λ k. refl) (λ k. refl) (λ k. refl) (λ k. is))
+
+pub writing_stays : (b : Book) (command : Writing) → IsValidBook b → StaysValidIf (gives_amount command) (writing_step b command)
+unfolding input_step text_step formula_step bool_step
 writing_stays b (writing.SetUserInput sheet row column text) valid =
-    write_stays b valid sheet (row, column) (λ s. typed_written b s (row, column) (typed_in b text)) [] (λ s e r c. typed_good b valid sheet s e (row, column) (typed_in b text))
+    write_stays b valid sheet (row, column) (λ s. typed_written b s (row, column) (typed_in b text)) [] (λ s e r c. typed_good b valid sheet s e (row, column) (typed_in b text) (typed_in_amount b valid text))
 writing_stays b (writing.UpdateCellWithText sheet row column text) valid =
     write_stays b valid sheet (row, column) (λ s. text_written b s text) []
-    (λ s e r c. plain b valid sheet s e (row, column) (text_written b s text).content (text_written b s text).change (λ k. refl) (λ k. refl) (λ k. refl))
+    (λ s e r c. plain b valid sheet s e (row, column) (text_written b s text).content (text_written b s text).change (λ k. refl) (λ k. refl) (λ k. refl) (λ k. tt))
 writing_stays b (writing.UpdateCellWithFormula sheet row column text) valid =
     write_stays b valid sheet (row, column) (λ s. formula_written b s (formula_at_place b s (row, column) (unwrap_or (formula_typed b text) []))) ((is_none (formula_typed b text), NotAFormula) ∷ [])
     (λ s e r c. text_good b valid sheet s e (row, column) (unwrap_or (formula_typed b text) []))
 writing_stays b (writing.UpdateCellWithBool sheet row column truth) valid =
     write_stays b valid sheet (row, column) (λ s. value_written s (λ style. BoolContent truth style)) []
-    (λ s e r c. plain b valid sheet s e (row, column) (λ style. BoolContent truth style) unquoted (λ k. refl) (λ k. refl) (λ k. refl))
-writing_stays b (writing.UpdateCellWithNumber sheet row column amount) valid =
-    write_stays b valid sheet (row, column) (λ s. value_written s (λ style. NumContent amount style)) []
-    (λ s e r c. plain b valid sheet s e (row, column) (λ style. NumContent amount style) unquoted (λ k. refl) (λ k. refl) (λ k. refl))
+    (λ s e r c. plain b valid sheet s e (row, column) (λ style. BoolContent truth style) unquoted (λ k. refl) (λ k. refl) (λ k. refl) (λ k. tt))
+writing_stays b (writing.UpdateCellWithNumber sheet row column amount) valid = by_asking (is_amount amount) _ (number_stays b valid sheet (row, column) amount)

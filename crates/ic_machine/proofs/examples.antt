@@ -7,6 +7,7 @@ mod ClearExamples
 mod CopiedDefinitions
 mod CopyExamples
 mod CopySession
+mod CurrencyExamples
 mod DefinitionExamples
 mod DefinitionSession
 mod Formulas

@@ -9,7 +9,7 @@ use Rattle.ic_input.specs.Convention.{is_sign}
 use Rattle.ic_grid.specs.Arrays.{is_fixed_at}
 use Rattle.ic_grid.specs.Merges.{is_covered}
 use Rattle.ic_machine.specs.Book.{Book, Sheet, Stepped, core_of, notations_in}
-use Rattle.ic_machine.specs.Command.{Command, OnDefinitions, OnNotation, OnReading, OnSheets, OnWriting, command_in, served}
+use Rattle.ic_machine.specs.Command.{Command, OnDefinitions, OnNotation, OnReading, OnSheets, OnWriting, command_in, commands}
 use Rattle.ic_machine.specs.Content.{Content, formula_index, held}
 use Rattle.ic_machine.specs.InForce.{in_force}
 use Rattle.ic_machine.specs.Refusal.{OfCore, Refusal}
@@ -71,14 +71,13 @@ abbrev pub counterpart : Command → Option core.Command
 counterpart (OnWriting command) = core_writing command
 counterpart command = core_command command
 
--- A line is a core line, by the English words of the error values: it is no command that is served, or one that the core
--- machine has.
+-- A line is a core line, by the English words of the error values: it is no command, or one that the core machine has.
 abbrev pub is_core : Option Command → Bool
 is_core None = true
 is_core (Some command) = is_some (counterpart command)
 
 abbrev pub is_core_line : List (List ℕ) → List ℕ → Bool
-is_core_line english line = is_core (command_in english served line)
+is_core_line english line = is_core (command_in english commands line)
 
 -- the other way: the command that one of the core machine is
 abbrev pub whole_command : core.Command → Command

@@ -10,8 +10,8 @@ use Rattle.ic_cells.specs.declared.style.Style.{Style}
 use Rattle.ic_cells.specs.declared.value.CellType.{CellType}
 use Rattle.ic_cells.specs.declared.workbook.FmtSettings.{FmtSettings}
 use Rattle.ic_cells.specs.declared.workbook.Theme.{Theme}
-use Rattle.ic_machine.specs.Reply.{Field, NumberField, PositionField, TextField, optional_text_field, text_field}
-use Rattle.ic_machine.specs.Styling.{color_text, style_fields}
+use Rattle.ic_machine.specs.Reply.{ColorField, Field, NumberField, PositionField, TextField, optional_text_field, text_field}
+use Rattle.ic_machine.specs.Styling.{style_fields}
 use Rattle.ic_machine.specs.subjects.Reading.{type_name}
 use Rattle.ic_machine.specs.subjects.Sheets.{named_fields}
 
@@ -44,7 +44,7 @@ definitions_fields names = flat_map fields_of_definition names.items
 
 -- what is told of each sheet: its name, the word of its state, its color and its id
 abbrev pub fields_of_sheet : SheetProperties → List Field
-fields_of_sheet sheet = TextField sheet.name ∷ TextField sheet.state ∷ TextField (color_text sheet.color) ∷ NumberField (Some sheet.sheet_id) ∷ []
+fields_of_sheet sheet = TextField sheet.name ∷ TextField sheet.state ∷ ColorField sheet.color ∷ NumberField (Some sheet.sheet_id) ∷ []
 
 abbrev pub sheets_fields : Vec SheetProperties → List Field
 sheets_fields sheets = flat_map fields_of_sheet sheets.items

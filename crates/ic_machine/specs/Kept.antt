@@ -1,5 +1,6 @@
 -- A step keeps what always holds of a book.
 use Rattle.std.specs.Prelude.{◌≡◌, ℕ, List, Bool, true, false, not, nat_lt, Option, Some, None, Ok, Err}
+use Rattle.ic_laws.specs.Amount.{is_amount}
 use Rattle.ic_laws.specs.Command as core
 use Rattle.ic_laws.specs.CoreBook.{last_id}
 use Rattle.ic_laws.specs.ValidCore.{IsValidCore}
@@ -11,6 +12,8 @@ use Rattle.ic_machine.specs.Step.{step}
 use Rattle.ic_machine.specs.Valid.{IsValidBook}
 use Rattle.ic_machine.specs.subjects.Sheets as sheets
 use Rattle.ic_machine.specs.subjects.Sheets.{Sheets}
+use Rattle.ic_machine.specs.subjects.Writing as writing
+use Rattle.ic_machine.specs.subjects.Writing.{Writing}
 
 -- what a step leaves, if it isn't refused, is a valid book
 abbrev pub StaysValid : Stepped Book → Type 0
@@ -38,6 +41,11 @@ is_given_id (Some id) = not (nat_lt last_id id)
 abbrev pub gives_id : Sheets → Bool
 gives_id (sheets.InsertSheet name index id) = is_given_id id
 gives_id command = true
+
+-- the commands that write a cell whose number, where one is given, is an amount, as each is that a word can say
+abbrev pub gives_amount : Writing → Bool
+gives_amount (writing.UpdateCellWithNumber sheet row column amount) = is_amount amount
+gives_amount command = true
 
 -- the core of a valid book is a valid book of the core machine
 abbrev pub CoreIsValid : Type 0

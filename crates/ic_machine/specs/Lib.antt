@@ -9,10 +9,12 @@ pub mod Core
 pub mod Extended
 pub mod Fields
 pub mod Format
+pub mod FormattedLaws
 pub mod InForce
 pub mod Kept
 pub mod Laws
 pub mod Line
+pub mod Lost
 pub mod Parsed
 pub mod Placed
 pub mod Readers

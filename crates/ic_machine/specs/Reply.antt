@@ -5,10 +5,12 @@ use Rattle.ic_laws.specs.Amount.{amount_text}
 use Rattle.ic_laws.specs.Character.{dot, line_feed, minus, tab}
 use Rattle.ic_laws.specs.Command as core
 use Rattle.ic_laws.specs.Lines.{escaped}
+use Rattle.ic_cells.specs.declared.style.Color.{Color}
+use Rattle.ic_cells.specs.declared.style.Color.TheVariants as colors
 use Rattle.ic_machine.specs.Refusal.{Refusal, refusal_name}
 
 -- a text; a number, or a minus where there is none; a number that may be below 0; an amount, with a dot before its
--- decimals; true or false; a flag, which is 1 or 0
+-- decimals; true or false; a flag, which is 1 or 0; a color, or none
 pub data Field : Type 0 where
   TextField : (text : List ℕ) → Field
   NumberField : (number : Option ℕ) → Field
@@ -16,11 +18,17 @@ pub data Field : Type 0 where
   AmountField : (amount : ℤ) → Field
   BoolField : (truth : Bool) → Field
   FlagField : (flag : Bool) → Field
+  ColorField : (color : Color) → Field
 
 -- a number that may be below 0 in digits
 abbrev pub position_text : ℤ → List ℕ
 position_text (pos n) = decimal n
 position_text (negsuc n) = minus ∷ decimal (suc n)
+
+-- a color in a reply: its text, or a minus for none
+abbrev pub color_text : Color → List ℕ
+color_text colors.None = codes "-"
+color_text (colors.Rgb text) = text
 
 -- how a field is written, before escapes
 abbrev pub field_text : Field → List ℕ
@@ -33,6 +41,7 @@ field_text (BoolField true) = codes "true"
 field_text (BoolField false) = codes "false"
 field_text (FlagField true) = codes "1"
 field_text (FlagField false) = codes "0"
+field_text (ColorField color) = color_text color
 
 -- a field of the core machine's replies
 abbrev pub of_core_field : core.Field → Field

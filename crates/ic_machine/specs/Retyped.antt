@@ -1,6 +1,5 @@
 -- What a cell shows, typed into it again, leaves what it held: a value of the same kind, or a formula with the same tree.
 use Rattle.std.specs.Prelude.{◌≡◌, ℕ, List, Bool, true, false, Option, Some, None, Ok, slice_get}
-use Rattle.ic_laws.specs.Amount.{is_amount}
 use Rattle.ic_laws.specs.Clash.{clashes_with}
 use Rattle.ic_laws.specs.CoreBook.{CellPlace}
 use Rattle.ic_laws.specs.Tree.{Bound}
@@ -28,12 +27,11 @@ SameFormula book after now (formulas.Raw text) = Unit {0}
 SameFormula book after now (formulas.Tree t) = clashes_in book t ≡ false → formula_held after now ≡ Some (formulas.Tree t)
 
 -- The content is what another was, in a style that may be new: nothing, or the same boolean, number, error value or text.
--- In the place of a formula stands one with the same tree, which has no value yet. A number is an amount, as that of each
--- cell is; and nothing is said of a cell of a spill.
+-- In the place of a formula stands one with the same tree, which has no value yet. Nothing is said of a cell of a spill.
 abbrev pub IsSameAs : Book → Sheet → Sheet → Content → Content → Type 0
 IsSameAs book before after (EmptyContent style) now = now ≡ EmptyContent (style_of now)
 IsSameAs book before after (BoolContent truth style) now = now ≡ BoolContent truth (style_of now)
-IsSameAs book before after (NumContent amount style) now = is_amount amount ≡ true → now ≡ NumContent amount (style_of now)
+IsSameAs book before after (NumContent amount style) now = now ≡ NumContent amount (style_of now)
 IsSameAs book before after (ErrContent e style) now = now ≡ ErrContent e (style_of now)
 IsSameAs book before after (TextContent text style) now = now ≡ TextContent text (style_of now)
 IsSameAs book before after (FormulaContent index value style) now = SameFormula book after now (formula_in before.pool index)

@@ -1,6 +1,6 @@
 -- The table of one subject, and how the tables of all subjects are one.
 use Rattle.std.specs.Prelude.{ℕ, List, [], ◌∷◌, bytes_eq, Option, Some, None, option_map}
-use Rattle.std.specs.List.{filter, find, list_any}
+use Rattle.std.specs.List.{find}
 use Rattle.ic_machine.specs.Word.{AllSaid, Words, words_said}
 
 -- a command of a subject: its name, what its words are, and what they make
@@ -12,10 +12,6 @@ pub record Row (C : Type 0) : Type 0 where
 -- the same command among those of all subjects
 abbrev pub row_in : {C D : Type 0} → (C → D) → Row C → Row D
 row_in subject row = record { name = row.name; words = row.words; command = λ said. subject (row.command said) }
-
--- the rows with these names
-abbrev pub rows_named : {C : Type 0} → List (List ℕ) → List (Row C) → List (Row C)
-rows_named names rows = filter (λ row. list_any (bytes_eq row.name) names) rows
 
 abbrev pub joined : {C : Type 0} → Option (Option C) → Option C
 joined None = None

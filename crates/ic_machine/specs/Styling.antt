@@ -1,10 +1,8 @@
 -- Numbers of styles in a book's list, and styles as replies show them.
-use Rattle.std.specs.Prelude.{ℕ, List, [], ◌∷◌, codes, if◌then◌else◌}
+use Rattle.std.specs.Prelude.{ℕ, List, [], ◌∷◌, if◌then◌else◌}
 use Rattle.ic_cells.specs.Style.{is_style, style_at, style_number, with_style_in}
-use Rattle.ic_cells.specs.declared.style.Color.{Color}
-use Rattle.ic_cells.specs.declared.style.Color.TheVariants as colors
 use Rattle.ic_cells.specs.declared.style.Style.{Style}
-use Rattle.ic_machine.specs.Reply.{Field, FlagField, TextField}
+use Rattle.ic_machine.specs.Reply.{ColorField, Field, FlagField, TextField}
 
 -- the number of a style, and the list that has it: that of the first equal one, or a new one at the end
 pub record Numbered : Type 0 where
@@ -20,11 +18,6 @@ restyled change number styles =
     if is_style (change (style_at styles number)) (style_at styles number) then record { number = number; styles = styles }
     else numbered (change (style_at styles number)) styles
 
--- a color, or a minus for none
-abbrev pub color_text : Color → List ℕ
-color_text colors.None = codes "-"
-color_text (colors.Rgb text) = text
-
 -- the code, the quote flag, the bold flag and the fill of a style
 abbrev pub style_fields : Style → List Field
-style_fields style = TextField style.num_fmt ∷ FlagField style.quote_prefix ∷ FlagField style.bold ∷ TextField (color_text style.fill) ∷ []
+style_fields style = TextField style.num_fmt ∷ FlagField style.quote_prefix ∷ FlagField style.bold ∷ ColorField style.fill ∷ []

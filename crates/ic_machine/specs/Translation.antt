@@ -16,7 +16,7 @@ use Rattle.ic_input.specs.declared.input.Typed.{Typed}
 use Rattle.ic_input.specs.declared.input.Typed.TheVariants as kinds
 use Rattle.ic_grid.specs.Block.{first_place}
 use Rattle.ic_machine.specs.Book.{Book, Stepped, core_of, notations_in}
-use Rattle.ic_machine.specs.Command.{Command, OnArrays, OnDefinitions, OnNotation, OnSheets, OnWriting, command_in, served}
+use Rattle.ic_machine.specs.Command.{Command, OnArrays, OnDefinitions, OnNotation, OnSheets, OnWriting, command_in, commands}
 use Rattle.ic_machine.specs.InForce.{formula_typed, is_number, shown_words, typed_in}
 use Rattle.ic_machine.specs.Readers.{is_reader}
 use Rattle.ic_machine.specs.Retyped.{clashes_in}
@@ -110,7 +110,7 @@ kept_command book command = if is_dropped command then None else option_map (λ 
 
 -- of a line: none where it is no command
 abbrev pub kept_in : Book → List ℕ → Option (Command × Book)
-kept_in book line = option_and_then (kept_command book) (command_in (english_errors book) served line)
+kept_in book line = option_and_then (kept_command book) (command_in (english_errors book) commands line)
 
 -- What a line becomes. It is told in the book before the line and in the target: the book that the line leaves, in the
 -- notation that is asked for. ----
@@ -191,7 +191,7 @@ IsTranslatedLine book target command line new = (texts : List (List ℕ)) × (Ar
 
 -- what a line leaves
 abbrev pub left_after : Book → List ℕ → Book
-left_after book line = (line_step served book line).0
+left_after book line = (line_step commands book line).0
 
 -- the first line, if there is one that can't be translated, comes before the others
 abbrev pub first_of : ℕ → Option Why → Option (ℕ × Why) → Option (ℕ × Why)
@@ -227,6 +227,6 @@ module _ (locale language : List ℕ) where
   -- translated, counted from 1, and why, and leaves the book after those before it.
   abbrev pub IsTranslation : Book → List (List ℕ) → Result (List (List ℕ)) (ℕ × Why) → Book → Type 0
   IsTranslation book lines (Ok new) left =
-      (first_hindered 1 book lines ≡ None) × AreTranslated book lines new × (left ≡ after (machine served) book lines)
+      (first_hindered 1 book lines ≡ None) × AreTranslated book lines new × (left ≡ after (machine commands) book lines)
   IsTranslation book lines (Err cannot) left =
-      (first_hindered 1 book lines ≡ Some cannot) × (left ≡ after (machine served) book (take (cannot.0 - 1) lines))
+      (first_hindered 1 book lines ≡ Some cannot) × (left ≡ after (machine commands) book (take (cannot.0 - 1) lines))

@@ -5,8 +5,8 @@ use Rattle.ic_laws.specs.Scan.{first_is, is_blank}
 use Rattle.ic_laws.specs.declared.tree.Error.{Error}
 use Rattle.ic_grid.specs.declared.block.Block.{Block}
 use Rattle.ic_grid.specs.Block.{first_place}
-use Rattle.ic_machine.specs.Book.{Book, Stepped}
-use Rattle.ic_machine.specs.Command.{Command, OnArrays, OnDefinitions, OnSheets, OnWriting, served}
+use Rattle.ic_machine.specs.Book.{Book, Stepped, notations_in}
+use Rattle.ic_machine.specs.Command.{Command, OnArrays, OnDefinitions, OnSheets, OnWriting, commands}
 use Rattle.ic_machine.specs.InForce.{error_in, typed_in}
 use Rattle.ic_machine.specs.Reply.{Field}
 use Rattle.ic_machine.specs.Run.{after}
@@ -20,18 +20,26 @@ use Rattle.ic_machine.specs.subjects.Definitions.{Update}
 use Rattle.ic_machine.specs.subjects.Sheets as sheets
 use Rattle.ic_machine.specs.subjects.Writing as writing
 
--- another book is the same as one, and has this notation
+-- Another book is the same as a valid one, and has this notation, which is one of their tables. Nothing else is asked of the
+-- other, and so not that it is valid: its styles and their numbers may be any.
 pub record IsBeside (locale language : List ℕ) (book other : Book) : Type 0 where
   pub valid : IsValidBook book
-  pub valid_beside : IsValidBook other
+  pub known_locale : (notations_in book).knows_locale locale ≡ true
+  pub known_language : (notations_in book).knows_language language ≡ true
   pub same : IsSameBook book other
   pub locale_is : other.locale ≡ locale
   pub language_is : other.language ≡ language
 
--- In the notation in force no word of an error value ends with a blank. What an update of a definition is given loses the
--- blanks at its ends, so that no body could be given that ends with such a word.
+-- in the notation in force no word of an error value ends with a blank
 abbrev pub ErrorsEndPlain : Book → Type 0
 ErrorsEndPlain book = (e : Error) → first_is is_blank (reverse (error_in book e)) ≡ false
+
+-- Where a command updates a definition, its new body, as it is written in the target, doesn't end with a blank. An update
+-- drops the blanks at both ends of the body that it is given, and so the last blank of an error word that has one.
+abbrev pub BodyEndsPlain : Book → Book → Command → Type 0
+BodyEndsPlain book target (OnDefinitions (definitions.UpdateDefinedName update)) =
+    first_is is_blank (reverse (body_text target (defined book (definitions.UpdateDefinedName update)))) ≡ false
+BodyEndsPlain book target command = Unit {0}
 
 -- a step is accepted, and leaves a book that is the same as this one
 abbrev pub LeavesSame : Book → Stepped Book → Type 0
@@ -54,7 +62,7 @@ GoneIsSame = (book : Book) (line : List ℕ) → kept_in book line ≡ None → 
 -- each line is accepted in its turn
 abbrev pub AreAccepted : Book → List (List ℕ) → Type 0
 AreAccepted book [] = Unit {0}
-AreAccepted book (line ∷ lines) = ((fields : List Field) × ((line_step served book line).1 ≡ Ok fields)) × AreAccepted (left_after book line) lines
+AreAccepted book (line ∷ lines) = ((fields : List Field) × ((line_step commands book line).1 ≡ Ok fields)) × AreAccepted (left_after book line) lines
 
 module _ (locale language : List ℕ) where
   -- The commands that look at the notation. ----
@@ -95,8 +103,9 @@ module _ (locale language : List ℕ) where
 
   abbrev pub UpdateIsSame : Type 0
   UpdateIsSame =
-      (book left other : Book) (fields : List Field) (update : Update) → IsBeside locale language book other → ErrorsEndPlain other
+      (book left other : Book) (fields : List Field) (update : Update) → IsBeside locale language book other
       → step book (OnDefinitions (definitions.UpdateDefinedName update)) ≡ Ok (left, fields) → IsWritable book (OnDefinitions (definitions.UpdateDefinedName update))
+      → BodyEndsPlain book (in_notation locale language left) (OnDefinitions (definitions.UpdateDefinedName update))
       → LeavesSame left (step other (OnDefinitions (definitions.UpdateDefinedName (record update { body = body_text (in_notation locale language left) (defined book (definitions.UpdateDefinedName update)) }))))
 
   -- All others, lines that are kept, and lists. ----
@@ -109,11 +118,26 @@ module _ (locale language : List ℕ) where
   -- what a line becomes is a command that leaves the same
   abbrev pub LineIsSame : Type 0
   LineIsSame =
-      (book left other : Book) (command : Command) (line new : List ℕ) → IsBeside locale language book other → ErrorsEndPlain other → kept_in book line ≡ Some (command, left)
-      → why_line_not locale language book line ≡ None → IsKeptLine locale language book line (command, left) new
-      → (fields : List Field) × ((line_step served other new).1 ≡ Ok fields) × IsSameBook left (line_step served other new).0
+      (book left other : Book) (command : Command) (line new : List ℕ) → IsBeside locale language book other → kept_in book line ≡ Some (command, left)
+      → BodyEndsPlain book (in_notation locale language left) command → why_line_not locale language book line ≡ None → IsKeptLine locale language book line (command, left) new
+      → (fields : List Field) × ((line_step commands other new).1 ≡ Ok fields) × IsSameBook left (line_step commands other new).0
+
+  -- that holds of what a line is kept as, and of each line of a list that is kept
+  abbrev pub KeptEndsPlain : Book → Option (Command × Book) → Type 0
+  KeptEndsPlain book None = Unit {0}
+  KeptEndsPlain book (Some kept) = BodyEndsPlain book (in_notation locale language kept.1) kept.0
+
+  abbrev pub BodiesEndPlain : Book → List (List ℕ) → Type 0
+  BodiesEndPlain book [] = Unit {0}
+  BodiesEndPlain book (line ∷ lines) = KeptEndsPlain book (kept_in book line) × BodiesEndPlain (left_after book line) lines
 
   abbrev pub TranslationKeepsBook : Type 0
   TranslationKeepsBook =
+      (book other : Book) (lines new : List (List ℕ)) → IsBeside locale language book other → BodiesEndPlain book lines
+      → first_hindered locale language 1 book lines ≡ None → AreTranslated locale language book lines new → AreAccepted other new × IsSameBook (after (machine commands) book lines) (after (machine commands) other new)
+
+  -- where no error word ends with a blank, no body of a translated list does
+  abbrev pub PlainErrorsEndBodies : Type 0
+  PlainErrorsEndBodies =
       (book other : Book) (lines new : List (List ℕ)) → IsBeside locale language book other → ErrorsEndPlain other
-      → first_hindered locale language 1 book lines ≡ None → AreTranslated locale language book lines new → AreAccepted other new × IsSameBook (after (machine served) book lines) (after (machine served) other new)
+      → first_hindered locale language 1 book lines ≡ None → AreTranslated locale language book lines new → BodiesEndPlain book lines

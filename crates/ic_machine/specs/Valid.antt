@@ -1,9 +1,10 @@
--- What always holds of a book: twelve conditions, in the order in which a workbook that is handed in is asked for them, and
--- that its notation and its zone are of its tables. Of the eighth, that each cell's text is among the shared strings,
--- nothing is left here: a text stands in its content as itself.
+-- What always holds of a book: twelve conditions, in the order in which a workbook that is handed in is asked for them, that
+-- each number in a cell is an amount, and that its notation and its zone are of its tables. Of the eighth, that each cell's
+-- text is among the shared strings, nothing is left here: a text stands in its content as itself.
 use Rattle.std.specs.Prelude.{◌≡◌, ℕ, ℤ, pos, ◌<◌, ◌≤◌, ◌≤ℤ◌, ◌<ℤ◌, map, length, true, Option, Some, None, nat_eq}
 use Rattle.std.specs.FinMap as finite
 use Rattle.std.specs.List.{AllByRecursion, IsDistinct}
+use Rattle.ic_laws.specs.Amount.{is_amount}
 use Rattle.ic_laws.specs.CoreBook.{Definition, IsId, last_id, spelling_of}
 use Rattle.ic_laws.specs.Name.{agrees, is_identifier, is_sheet_name}
 use Rattle.ic_laws.specs.Notations.{Notations}
@@ -19,7 +20,7 @@ use Rattle.ic_cells.specs.declared.layout.RowProps.{RowProps}
 use Rattle.ic_grid.specs.Block.{Place}
 use Rattle.ic_grid.specs.Conditions.{AreArrays, AreInSheet, AreMerges}
 use Rattle.ic_machine.specs.Book.{Book, Grid, Sheet, Tab, notations_in, scene_in}
-use Rattle.ic_machine.specs.Content.{Content, formula_in, formula_index, held, style_of}
+use Rattle.ic_machine.specs.Content.{Content, NumContent, formula_in, formula_index, held, style_of}
 
 -- 1: there is a sheet, and there are no more than ids
 pub record HasSheets (book : Book) : Type 0 where
@@ -105,7 +106,15 @@ pub record HasLayout (sheet : Sheet) : Type 0 where
   pub frozen : IsFrozen sheet.tab
   pub lines : HasLines sheet.grid
 
--- all of them, and the notation, the zone and the tables
+-- the number that a place holds is an amount
+abbrev pub HasAmount : Content → Type 0
+HasAmount (NumContent amount style) = is_amount amount ≡ true
+HasAmount content = Unit {0}
+
+abbrev pub HasAmounts : Sheet → Type 0
+HasAmounts sheet = (place : Place) (content : Content) → finite.get sheet.grid.contents place ≡ Some content → HasAmount content
+
+-- all of them, and the amounts, the notation, the zone and the tables
 pub record IsValidBook (book : Book) : Type 0 where
   pub sheets : HasSheets book
   pub sheet_names : HasSheetNames book
@@ -118,6 +127,7 @@ pub record IsValidBook (book : Book) : Type 0 where
   pub arrays : HasArrays book
   pub merges : HasMerges book
   pub layout : AllByRecursion HasLayout book.sheets
+  pub amounts : AllByRecursion HasAmounts book.sheets
   pub locale : (notations_in book).knows_locale book.locale ≡ true
   pub language : (notations_in book).knows_language book.language ≡ true
   pub zone : lists_zone book.tables book.zone ≡ true

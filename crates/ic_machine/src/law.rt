@@ -9,17 +9,21 @@ ghost use Rattle.ic_machine.specs.Book.{Book};
 ghost use Rattle.ic_machine.specs.Command.{Command};
 ghost use Rattle.ic_machine.specs.Content.{content_of, held};
 ghost use Rattle.ic_machine.specs.Core.{FormulaIsStepped, IsSteppedAs, core_command};
-ghost use Rattle.ic_machine.specs.Extended.{ExtendedIsSame};
+ghost use Rattle.ic_machine.specs.Extended.{CopiedIsOver, CopiedTextStays, ReferenceIsWritten};
+ghost use Rattle.ic_machine.specs.Extended.{ExtendedIsSame, ExtendedIsTyped, ExtendedIsWritten};
+ghost use Rattle.ic_machine.specs.FormattedLaws.{DateIsCounted, FormattedIsRuled, RuledIsFormatted};
 ghost use Rattle.ic_machine.specs.Kept.{CoreIsValid, CoreStaysValid, KeepsValid, KeepsValidIf};
-ghost use Rattle.ic_machine.specs.Kept.{gives_id};
+ghost use Rattle.ic_machine.specs.Kept.{gives_amount, gives_id};
 ghost use Rattle.ic_machine.specs.Laws.{BadLineStays, CounterpartsAreBack, NumbersAreSmall};
-ghost use Rattle.ic_machine.specs.Laws.{CoreIsServed, RefusedStays, ServedIsCore};
+ghost use Rattle.ic_machine.specs.Laws.{CopyIsNamedFirst, CoreIsRead, CoreLinesAreCore};
+ghost use Rattle.ic_machine.specs.Laws.{NewIsNamedFirst, RefusedStays};
 ghost use Rattle.ic_machine.specs.Laws.{RunsLeaveSame, RunsTellSame};
+ghost use Rattle.ic_machine.specs.Placed.{FormulaIsPlaced, PlacedAlone};
 ghost use Rattle.ic_machine.specs.Readers.{LeavesIf, is_reader};
 ghost use Rattle.ic_machine.specs.Retyped.{RetypedStays};
 ghost use Rattle.ic_machine.specs.Scene.{KeepsSceneIf, leaves_names};
 ghost use Rattle.ic_machine.specs.Step.{step};
-ghost use Rattle.ic_machine.specs.TranslationLaws.{TranslationKeepsBook};
+ghost use Rattle.ic_machine.specs.TranslationLaws.{PlainErrorsEndBodies, TranslationKeepsBook};
 ghost use Rattle.ic_machine.specs.subjects.Arrays.{arrays_step};
 ghost use Rattle.ic_machine.specs.subjects.Definitions.{definition_step};
 ghost use Rattle.ic_machine.specs.subjects.Extending.{extending_step};
@@ -58,6 +62,20 @@ pub fn law_numbers_are_small()
     ensures { NumbersAreSmall }
 {}
 
+/// The index of a formula that is written is the first place of an equal one in the pool with it: where the pool has an equal
+/// one it stays as it is, and else the formula is put at its end. No other index and no other pool are that.
+pub fn law_formula_is_placed()
+    ensures placed { FormulaIsPlaced }
+    ensures alone { PlacedAlone }
+{}
+
+/// In a valid book the number in the name that a new sheet or a copy gets is the least from 1 that gives a free name: no
+/// sheet had that name, and with each smaller number the name agrees with that of some sheet.
+pub fn law_names_are_first_free()
+    ensures new { NewIsNamedFirst }
+    ensures copy { CopyIsNamedFirst }
+{}
+
 /// A cell, with the texts of the shared strings, is a content: of the same shape and style, and emptied, with another value
 /// or area, as a cell of a spill and as the formula of an array it is the content that was so changed or made.
 pub fn law_cells_are_contents()
@@ -76,12 +94,11 @@ pub fn law_runs_shared()
     ensures told { RunsTellSame }
 {}
 
-/// The command that a core line is, of those that are served, is the core machine's, and none where the core machine has
-/// none. Each line that is a command of the core machine is a core line, and so is each that is no command; which further
-/// commands are served doesn't matter.
-pub fn law_served_is_core()
-    ensures served { ServedIsCore }
-    ensures all { CoreIsServed }
+/// The command that a core line is by the table of all commands is the core machine's, and none where the core machine has
+/// none. Each line that is a command of the core machine is that command, and so a core line; and no two of these are one.
+pub fn law_core_lines_are_core()
+    ensures lines { CoreLinesAreCore }
+    ensures all { CoreIsRead }
     ensures back { CounterpartsAreBack }
 {}
 
@@ -90,11 +107,11 @@ pub fn law_formula_is_stepped()
     ensures { FormulaIsStepped }
 {}
 
-/// A step of each command keeps what always holds of a book. The id that a sheet is inserted with, where one is given, is one
-/// that a word can say.
+/// A step of each command keeps what always holds of a book. The id that a sheet is inserted with, where one is given, and
+/// the number that is written into a cell are such as a word can say.
 pub fn law_book_stays_valid()
     ensures notation { KeepsValid notation_step }
-    ensures writing { KeepsValid writing_step }
+    ensures writing { KeepsValidIf gives_amount writing_step }
     ensures reading { KeepsValid reading_step }
     ensures extending { KeepsValid extending_step }
     ensures styles { KeepsValid style_step }
@@ -139,16 +156,45 @@ pub fn law_retyped_stays()
     ensures { RetypedStays }
 {}
 
-/// A cell's formula that is extended to another cell is typed there as the same tree, with the same offsets and the same
-/// fixed positions, unless a reference leaves the sheet or a name is a word of the language in force.
+/// A cell's formula that is extended to another cell is written there as it is, with the word for a lost reference in the
+/// place of each reference that leaves the sheet there. It is typed there as that tree, with the same offsets and the same
+/// fixed positions, and so as the same tree where no reference leaves the sheet, unless a name is a word of the language
+/// in force.
 pub fn law_extended_is_same()
-    ensures { ExtendedIsSame }
+    ensures same { ExtendedIsSame }
+    ensures written { ExtendedIsWritten }
+    ensures typed { ExtendedIsTyped }
+{}
+
+/// What is written of a reference in a cell, whatever the other references of its formula do: where it lies in the sheet, it
+/// is read as the same reference; where it leaves the sheet, it is the word of the error value REF.
+pub fn law_reference_is_written()
+    ensures { ReferenceIsWritten }
+{}
+
+/// A formula that was copied from a cell reads there as a tree. What it is extended to is written of that tree, bound and
+/// spelled, with its lost references, and reads so at the target, unless a name is a word of the language in force. A
+/// copied text that is no formula stays.
+pub fn law_copied_is_extended()
+    ensures formula { CopiedIsOver }
+    ensures text { CopiedTextStays }
 {}
 
 /// Lines that are translated are each accepted in their turn by every book that is the same as the one before and has the
 /// notation that is asked for, and leave a book that is the same as the one after the lines that they were translated
-/// from. None of these can't be translated, both books are valid, and in the notation that is asked for no word of an error
-/// value ends with a blank.
+/// from. None of these can't be translated, the book that they were translated from is valid, its tables have the notation,
+/// and no definition is updated to a body that ends with a blank in it. Only an error word that ends with a blank can be at
+/// the end of such a body.
 pub fn law_translation_keeps_book()
-    ensures { (locale language : List ℕ) → TranslationKeepsBook locale language }
+    ensures keeps { (locale language : List ℕ) → TranslationKeepsBook locale language }
+    ensures plain { (locale language : List ℕ) → PlainErrorsEndBodies locale language }
+{}
+
+/// By any locale and any code, what an amount is shown as by the machine, which tries the kinds of codes one after another,
+/// is what shows it by the rules, and nothing else is. The date that is shown of day n is 30 December 1899 and n days,
+/// counted one by one.
+pub fn law_formatted_by_rules()
+    ensures answered { RuledIsFormatted }
+    ensures ruled { FormattedIsRuled }
+    ensures dates { DateIsCounted }
 {}

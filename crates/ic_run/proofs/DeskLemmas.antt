@@ -1,5 +1,5 @@
 -- The program's words, its start and its statuses.
-use Rattle.std.proofs.Common.{String, ◌≡◌, ℕ, List, [], ◌∷◌, get_or, Option, Some, None, Result, Ok, Err, IfOk, IfErr, OnOk, bytes_eq, codes, string_bytes, refl, arith, length, ◌==◌, true, false, option_map, sym, subst, ◌∙◌, ap}
+use Rattle.std.proofs.Common.{String, ◌≡◌, ℕ, List, [], ◌∷◌, get_or, Option, Some, None, Result, Ok, Err, IfOk, IfErr, OnOk, bytes_eq, codes, string_bytes, refl, arith, length, take, ◌+◌, ◌==◌, true, false, option_map, sym, subst, ◌∙◌, ap}
 use Rattle.std.proofs.lemmas.Bool.{eqb-true}
 use Rattle.std.specs.Str.{chars}
 use Rattle.std.specs.declared.alloc.Global.{Global}
@@ -7,17 +7,18 @@ use Rattle.ic_lines.specs.declared.error.RunError.{RunError}
 use Rattle.ic_lines.specs.declared.error.RunError.TheVariants as run
 use Rattle.ic_lines.proofs.ToldLemmas.{IfTold-weaker}
 use Rattle.ic_lines.specs.Bytes.{IfTold}
-use Rattle.ic_book.specs.Book.{Book, core_of, first_sheet_name_in, new_book}
+use Rattle.ic_book.specs.Book.{Book, core_of, first_sheet_name_in, new_book, notations_in}
 use Rattle.ic_run.specs.Desk.{Setting, setting_of, run_status, texts}
 use Rattle.ic_run.specs.Make.{made_setting}
-use Rattle.ic_run.specs.Run.{Leaves, LeavesReplies, LeavesServed, LeavesServedFrom, TakesAll}
+use Rattle.ic_run.specs.Core.{AreCore, IsPlainBook, identity_machine, whole_machine}
+use Rattle.ic_run.specs.Run.{HasPartlyReplied, HasReplied, Leaves, LeavesReplies, LeavesRun, LeavesWhole, RunsAnswered, RunsPartly, TakesAll}
 use Rattle.ic_laws.specs.CoreBook.{CellPlace, CoreBook}
+use Rattle.ic_laws.specs.Lines.{texts_of}
 use Rattle.ic_cells.specs.declared.cell.Cell.{Cell}
 use Rattle.std.specs.FinMap as finite
 use Rattle.ic_machine.proofs.AlikeGrid.{entries-empty, get-seen}
 use Rattle.ic_machine.specs.Content.{content_of}
 use Rattle.ic_book.specs.Whole.{whole_of}
-use Rattle.ic_commands.specs.Plain.{IsPlainBook}
 use Rattle.ic_sheets.specs.Sheet.{cells_of}
 use Rattle.ic_tables.specs.Tables.{TableSet}
 
@@ -130,32 +131,41 @@ at_error_status (Err run.OutOfMemory) run.WriteFault P same h = absurd (omega (a
 at_error_status (Err run.OutOfMemory) run.TooManyTurns P same h = absurd (omega (arith, same))
 at_error_status (Err run.OutOfMemory) run.OutOfMemory P same h = h
 
--- what an error leaves of the replies alone
-leaves_replies : (e : RunError) (old new : Book) (bytes left : List ℕ) (before now : Option (List ℕ)) → IsPlainBook (whole_of old) → Leaves e old new bytes left before now
-    → LeavesReplies e old.tables (core_of old) bytes left before now
-leaves_replies run.ReadFault old new bytes left before now plain h = (h.0, h.2, h.1.replied plain)
-leaves_replies run.TooManyTurns old new bytes left before now plain h = (h.0, h.2, h.1.replied plain)
-leaves_replies run.OutOfMemory old new bytes left before now plain h = (h.0, h.1.read, h.1.replied plain)
-leaves_replies run.WriteFault old new bytes left before now plain h = (h.0, h.1.read, h.1.replied plain)
+-- what is so of what an error leaves
+leaves_weaker : (P Q R S : ℕ → Type 0) (e : RunError) (bytes left : List ℕ) → ((n : ℕ) → P n → R n) → ((n : ℕ) → Q n → S n) → Leaves P Q e bytes left → Leaves R S e bytes left
+leaves_weaker P Q R S run.ReadFault bytes left p q h = (h.0, h.1, p h.0 h.2)
+leaves_weaker P Q R S run.TooManyTurns bytes left p q h = (h.0, h.1, p h.0 h.2)
+leaves_weaker P Q R S run.OutOfMemory bytes left p q h = (h.0, h.1, p h.0 h.2)
+leaves_weaker P Q R S run.WriteFault bytes left p q h = (h.0, h.1, q h.0 h.2)
 
-pub leaves_replies_told : (r : Result ℕ RunError) (e : RunError) (old new : Book) (source left before now : Option (List ℕ)) → IsPlainBook (whole_of old) → run_status r ≡ run_status (Err e)
-    → IfErr r (λ x. IfTold source left (λ bytes rest. Leaves x old new bytes rest before now))
-    → IfTold source left (λ bytes rest. LeavesReplies e old.tables (core_of old) bytes rest before now)
-leaves_replies_told r e old new source left before now plain same h =
-    IfTold-weaker source left (λ bytes rest. Leaves e old new bytes rest before now) (λ bytes rest. LeavesReplies e old.tables (core_of old) bytes rest before now)
-    (λ bytes rest p. leaves_replies e old new bytes rest before now plain p)
-    (at_error_status r e (λ x. IfTold source left (λ bytes rest. Leaves x old new bytes rest before now)) same h)
+-- the replies alone, to core lines by the core machine
+leaves_core : (e : RunError) (old new : Book) (bytes left : List ℕ) (before now : Option (List ℕ)) → IsPlainBook (whole_of old) → LeavesRun e old new bytes left before now
+    → LeavesReplies (identity_machine (notations_in old)) (core_of old) (AreCore old.tables) e bytes left before now
+leaves_core e old new bytes left before now plain h =
+    leaves_weaker (RunsAnswered old new (texts_of bytes) before now) (RunsPartly old new (texts_of bytes) before now)
+    (λ count. AreCore old.tables (take count (texts_of bytes)) → IfTold before now (HasReplied (identity_machine (notations_in old)) (core_of old) count (texts_of bytes)))
+    (λ count. AreCore old.tables (take (count + 1) (texts_of bytes)) → IfTold before now (HasPartlyReplied (identity_machine (notations_in old)) (core_of old) count (texts_of bytes)))
+    e bytes left (λ n done are. (done.core plain are).told) (λ n done are. (done.core plain are).told) h
 
--- and of those of the machine that is served
-leaves_served : (e : RunError) (old new : Book) (bytes left : List ℕ) (before now : Option (List ℕ)) → Leaves e old new bytes left before now → LeavesServed e old bytes left before now
-leaves_served run.ReadFault old new bytes left before now h = (h.0, h.2, h.1.told)
-leaves_served run.TooManyTurns old new bytes left before now h = (h.0, h.2, h.1.told)
-leaves_served run.OutOfMemory old new bytes left before now h = (h.0, h.1.read, h.1.told)
-leaves_served run.WriteFault old new bytes left before now h = (h.0, h.1.read, h.1.told)
+pub leaves_core_told : (r : Result ℕ RunError) (e : RunError) (old new : Book) (source left before now : Option (List ℕ)) → IsPlainBook (whole_of old) → run_status r ≡ run_status (Err e)
+    → IfErr r (λ x. IfTold source left (λ bytes rest. LeavesRun x old new bytes rest before now))
+    → IfTold source left (λ bytes rest. LeavesReplies (identity_machine (notations_in old)) (core_of old) (AreCore old.tables) e bytes rest before now)
+leaves_core_told r e old new source left before now plain same h =
+    IfTold-weaker source left (λ bytes rest. LeavesRun e old new bytes rest before now) (λ bytes rest. LeavesReplies (identity_machine (notations_in old)) (core_of old) (AreCore old.tables) e bytes rest before now)
+    (λ bytes rest p. leaves_core e old new bytes rest before now plain p)
+    (at_error_status r e (λ x. IfTold source left (λ bytes rest. LeavesRun x old new bytes rest before now)) same h)
 
-pub leaves_served_told : (r : Result ℕ RunError) (e : RunError) (old new : Book) (start : List ℕ → Book) (created : List ℕ) (source left before now : Option (List ℕ)) → old ≡ start created → run_status r ≡ run_status (Err e)
-    → IfErr r (λ x. IfTold source left (λ bytes rest. Leaves x old new bytes rest before now)) → IfTold source left (λ bytes rest. LeavesServedFrom e start bytes rest before now)
-leaves_served_told r e old new start created source left before now is same h =
-    IfTold-weaker source left (λ bytes rest. Leaves e old new bytes rest before now) (λ bytes rest. LeavesServedFrom e start bytes rest before now)
-    (λ bytes rest p. (created, subst (λ (b : Book). LeavesServed e b bytes rest before now) is (leaves_served e old new bytes rest before now p)))
-    (at_error_status r e (λ x. IfTold source left (λ bytes rest. Leaves x old new bytes rest before now)) same h)
+-- and to all lines by the whole machine
+leaves_whole : (e : RunError) (old new : Book) (bytes left : List ℕ) (before now : Option (List ℕ)) → LeavesRun e old new bytes left before now
+    → LeavesReplies whole_machine (whole_of old) (λ lines. Unit {0}) e bytes left before now
+leaves_whole e old new bytes left before now h =
+    leaves_weaker (RunsAnswered old new (texts_of bytes) before now) (RunsPartly old new (texts_of bytes) before now)
+    (λ count. Unit {0} → IfTold before now (HasReplied whole_machine (whole_of old) count (texts_of bytes)))
+    (λ count. Unit {0} → IfTold before now (HasPartlyReplied whole_machine (whole_of old) count (texts_of bytes))) e bytes left (λ n done any. done.whole.told) (λ n done any. done.whole.told) h
+
+pub leaves_whole_told : (r : Result ℕ RunError) (e : RunError) (old new : Book) (start : List ℕ → Book) (created : List ℕ) (source left before now : Option (List ℕ)) → old ≡ start created → run_status r ≡ run_status (Err e)
+    → IfErr r (λ x. IfTold source left (λ bytes rest. LeavesRun x old new bytes rest before now)) → IfTold source left (λ bytes rest. LeavesWhole e start bytes rest before now)
+leaves_whole_told r e old new start created source left before now is same h =
+    IfTold-weaker source left (λ bytes rest. LeavesRun e old new bytes rest before now) (λ bytes rest. LeavesWhole e start bytes rest before now)
+    (λ bytes rest p. (created, subst (λ (b : Book). LeavesReplies whole_machine (whole_of b) (λ lines. Unit {0}) e bytes rest before now) is (leaves_whole e old new bytes rest before now p)))
+    (at_error_status r e (λ x. IfTold source left (λ bytes rest. LeavesRun x old new bytes rest before now)) same h)

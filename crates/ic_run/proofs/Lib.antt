@@ -1,11 +1,16 @@
+pub mod AcceptedLemmas
+pub mod CoreLemmas
+pub mod CoreLineLemmas
+pub mod CoreSteps
 pub mod CountLemmas
 pub mod DeskLemmas
+pub mod LeftLemmas
 pub mod MadeLemmas
 pub mod MakeLemmas
+pub mod PlainLemmas
 pub mod ProgressLemmas
 pub mod RetoldLemmas
 pub mod RunLemmas
-pub mod ServedLemmas
 pub mod TablesStay
 pub mod TranslationLemmas
 pub mod TurnLemmas

@@ -12,8 +12,10 @@ use Rattle.ic_laws.specs.Command.{at_most}
 use Rattle.ic_words.proofs.NumberLemmas.{digits_ascii, without_digits}
 use Rattle.ic_machine.specs.Book.{Book}
 use Rattle.ic_machine.specs.Reply.{reply_text}
+use Rattle.ic_machine.specs.Command.{commands}
 use Rattle.ic_machine.specs.Run.{after}
-use Rattle.ic_book.specs.Served.{served_line_step, served_machine}
+use Rattle.ic_machine.specs.Step.{line_step}
+use Rattle.ic_run.specs.Core.{whole_machine}
 use Rattle.ic_run.specs.Desk.{texts}
 use Rattle.ic_run.specs.Make.{count_said, made_command, made_from, made_text, making_of, making_said, seed_said, told_replies}
 use Rattle.ic_run.specs.declared.make.Making.{Making}
@@ -22,17 +24,17 @@ use Rattle.ic_run.proofs.DeskLemmas.{word_text}
 -- From a book on some lines were answered by these texts; others are left, from a book that they left.
 pub record IsHalfway (start : Book) (lines : List (List ℕ)) (book : Book) (left : List (List ℕ)) (texts : List (List ℕ)) : Type 0 where
   pub told : map reply_text (told_replies start lines) ≡ texts ++ map reply_text (told_replies book left)
-  pub leaves : after served_machine start lines ≡ after served_machine book left
+  pub leaves : after whole_machine start lines ≡ after whole_machine book left
 
 pub answered_next : (start : Book) (lines : List (List ℕ)) (book new : Book) (line : List ℕ) (left : List (List ℕ)) (texts more : List (List ℕ)) (text : List ℕ) → IsHalfway start lines book (line ∷ left) texts
-    → new ≡ (served_line_step book line).0 → text ≡ reply_text (served_line_step book line).1 → more ≡ texts ++ text ∷ [] → IsHalfway start lines new left more
+    → new ≡ (line_step commands book line).0 → text ≡ reply_text (line_step commands book line).1 → more ≡ texts ++ text ∷ [] → IsHalfway start lines new left more
 answered_next start lines book new line left texts more text so_far step tells pushed =
     let rest : Book → List (List ℕ) = λ b. map reply_text (told_replies b left) in
     record {
       told =
-          so_far.told ∙ ap (λ (t : List ℕ). texts ++ t ∷ rest (served_line_step book line).0) (sym tells) ∙ sym (append_assoc texts (text ∷ []) (rest (served_line_step book line).0))
-          ∙ ap (λ (front : List (List ℕ)). front ++ rest (served_line_step book line).0) (sym pushed) ∙ ap (λ (b : Book). more ++ rest b) (sym step);
-      leaves = so_far.leaves ∙ ap (λ (b : Book). after served_machine b left) (sym step);
+          so_far.told ∙ ap (λ (t : List ℕ). texts ++ t ∷ rest (line_step commands book line).0) (sym tells) ∙ sym (append_assoc texts (text ∷ []) (rest (line_step commands book line).0))
+          ∙ ap (λ (front : List (List ℕ)). front ++ rest (line_step commands book line).0) (sym pushed) ∙ ap (λ (b : Book). more ++ rest b) (sym step);
+      leaves = so_far.leaves ∙ ap (λ (b : Book). after whole_machine b left) (sym step);
     }
 
 -- so many lines are one and the others

@@ -7,6 +7,7 @@ use Rattle.std.proofs.lemmas.List.{take-append-drop}
 use Rattle.ic_laws.specs.Lines.{texts_of}
 use Rattle.ic_tables.specs.Tables.{TableSet}
 use Rattle.ic_machine.specs.Book as machine
+use Rattle.ic_machine.specs.Run.{Machine, replies}
 use Rattle.ic_lines.specs.Bytes.{AppendsFront, IfTold}
 use Rattle.ic_lines.specs.Reading.{GivesHeld, GivesLine, HasToAsk, Reading, TakesLine, has_line_feed, line_feeds, unread}
 use Rattle.ic_lines.specs.declared.error.RunError.{RunError}
@@ -14,19 +15,19 @@ use Rattle.ic_lines.specs.declared.error.RunError.TheVariants as errors
 use Rattle.ic_lines.proofs.FeedLemmas.{line_feeds-append, line_feeds-next}
 use Rattle.ic_lines.proofs.ToldLemmas.{IfTold-join, IfTold-weaker}
 use Rattle.ic_book.specs.Book.{Book, ModelState, core_of, notations_in}
-use Rattle.ic_book.specs.Served.{served_machine}
 use Rattle.ic_book.specs.Whole.{whole_of}
-use Rattle.ic_commands.specs.Plain.{IsPlainBook}
-use Rattle.ic_run.specs.Run.{AppendsReplies, AppendsServed, AreCore, AreRead, HasAnswered, HasPartlyAnswered, HasPartlyReplied, HasReplied, IsAfterLines, Leaves, LineDoes, LinesDo, TakesAll, replies_core, replies_served}
+use Rattle.ic_commands.specs.Answered.{LeavesLine}
+use Rattle.ic_run.specs.Core.{AreCore, IsPlainBook, identity_machine, whole_machine}
+use Rattle.ic_run.specs.Run.{AppendsReplies, AreRead, HasPartlyReplied, HasReplied, LeavesRun, LinesDo, RunsAnswered, RunsPartly, TakesAll}
+use Rattle.ic_run.proofs.LeftLemmas.{core_left, lines_leave, replies_same}
 use Rattle.ic_run.proofs.RunLemmas.{next_rest, next_taken, next_within, replies-append}
-use Rattle.ic_run.proofs.ServedLemmas.{core_left, lines_leave, replies_same}
 
 -- so many of the lines were answered, and the others are still to be given
 pub record Progress (old new : ModelState) (count : ℕ) (reader : Reading) (before now : Option (List ℕ)) (bytes left : List ℕ) : Type 0 where
   pub within : count ≤ length (texts_of bytes)
   pub did : LinesDo (take count (texts_of bytes)) old new
   pub rest : texts_of (unread reader left) ≡ drop count (texts_of bytes)
-  pub told : IfTold before now (HasReplied (replies_served old.book) count (texts_of bytes))
+  pub told : IfTold before now (HasReplied whole_machine (whole_of old.book) count (texts_of bytes))
   pub ends : reader.ended ≡ true → left ≡ []
   pub feeds : reader.ended ≡ false → count + line_feeds (reader.held ++ left) ≡ line_feeds bytes
 
@@ -75,29 +76,24 @@ next_told line old asked new a b t g gives ends =
       open_before = λ still. was_open old asked a b t (sym g.ended ∙ still);
     }) three
 
--- what was answered so far, of the book and of the replies
+-- what was answered so far
 module _ (old new : ModelState) (count : ℕ) (lines : List (List ℕ)) (did : LinesDo (take count lines) old new) where
-  is_after : count ≤ length lines → IsAfterLines old.book new.book count lines
-  is_after within = record { within = within; whole = lines_leave (take count lines) old new did; book = core_left (take count lines) old new did }
-
-  core_told : (before now : Option (List ℕ)) → IfTold before now (HasReplied (replies_served old.book) count lines) → IsPlainBook (whole_of old.book) → AreCore old.book.tables (take count lines)
-      → IfTold before now (HasReplied (replies_core (notations_in old.book) (core_of old.book)) count lines)
+  core_told : (before now : Option (List ℕ)) → IfTold before now (HasReplied whole_machine (whole_of old.book) count lines) → IsPlainBook (whole_of old.book) → AreCore old.book.tables (take count lines)
+      → IfTold before now (HasReplied (identity_machine (notations_in old.book)) (core_of old.book) count lines)
   core_told before now told plain are =
-      IfTold-weaker before now (HasReplied (replies_served old.book) count lines) (HasReplied (replies_core (notations_in old.book) (core_of old.book)) count lines)
+      IfTold-weaker before now (HasReplied whole_machine (whole_of old.book) count lines) (HasReplied (identity_machine (notations_in old.book)) (core_of old.book) count lines)
       (λ x y q. q ∙ ap (λ v. x ++ v) (replies_same (take count lines) old new did plain are)) told
 
-has_answered : (old new : ModelState) (count : ℕ) (bytes left : List ℕ) (before now : Option (List ℕ)) → AreRead count bytes left → count ≤ length (texts_of bytes) → LinesDo (take count (texts_of bytes)) old new
-    → IfTold before now (HasReplied (replies_served old.book) count (texts_of bytes)) → HasAnswered old.book new.book count bytes left before now
-has_answered old new count bytes left before now read within did told = record {
-  read = read;
-  book = is_after old new count (texts_of bytes) did within;
-  told = told;
-  replied = core_told old new count (texts_of bytes) did before now told;
-}
+  runs_answered : (before now : Option (List ℕ)) → count ≤ length lines → IfTold before now (HasReplied whole_machine (whole_of old.book) count lines) → RunsAnswered old.book new.book lines before now count
+  runs_answered before now within told = record {
+    within = within;
+    whole = record { left = lines_leave (take count lines) old new did; told = told };
+    core = λ plain are. record { left = core_left (take count lines) old new did plain are; told = core_told before now told plain are };
+  }
 
 -- one line after others
-lines_do-append : (lines : List (List ℕ)) (line : List ℕ) (old mid new : ModelState) → LinesDo lines old mid → LineDoes line mid new → LinesDo (lines ++ line ∷ []) old new
-lines_do-append [] line old mid new did does = (new, subst (λ m. LineDoes line m new) did does, refl)
+lines_do-append : (lines : List (List ℕ)) (line : List ℕ) (old mid new : ModelState) → LinesDo lines old mid → LeavesLine line mid new → LinesDo (lines ++ line ∷ []) old new
+lines_do-append [] line old mid new did does = (new, subst (λ m. LeavesLine line m new) did does, refl)
 lines_do-append (first ∷ lines) line old mid new did does = (did.0, did.1, lines_do-append lines line did.0 mid new did.2 does)
 
 -- the first of core lines are core lines
@@ -105,10 +101,10 @@ first_core : (tables : TableSet) (lines others : List (List ℕ)) → AreCore ta
 first_core tables [] others are = tt
 first_core tables (line ∷ lines) others are = (are.0, first_core tables lines others are.1)
 
--- what was replied in part, where lines are replied the same
-partly_same : (told same : List (List ℕ) → List ℕ) (count : ℕ) (lines : List (List ℕ)) (before now : List ℕ) → told (take count lines) ≡ same (take count lines) → told (take (count + 1) lines) ≡ same (take (count + 1) lines)
-    → HasPartlyReplied told count lines before now → HasPartlyReplied same count lines before now
-partly_same told same count lines before now less more h = record {
+-- what was replied in part, where two machines reply the same to lines
+partly_same : {S T : Type 0} (one : Machine S) (x : S) (other : Machine T) (y : T) (count : ℕ) (lines : List (List ℕ)) (before now : List ℕ) → replies one x (take count lines) ≡ replies other y (take count lines)
+    → replies one x (take (count + 1) lines) ≡ replies other y (take (count + 1) lines) → HasPartlyReplied one x count lines before now → HasPartlyReplied other y count lines before now
+partly_same one x other y count lines before now less more h = record {
   bytes = h.bytes;
   whole = subst (λ (v : List ℕ). length v ≤ h.bytes) less h.whole;
   part = subst (λ (v : List ℕ). h.bytes < length v) more h.part;
@@ -142,40 +138,40 @@ module _ (old mid : ModelState) (count : ℕ) (reader new_reader : Reading) (bef
   within_after : count + 1 ≤ length (texts_of bytes)
   within_after = omega (arith, next_within (texts_of bytes) count line (texts_of (unread new_reader b)) next)
 
-  did_after : (new : ModelState) → LineDoes line mid new → LinesDo (take (count + 1) (texts_of bytes)) old new
+  did_after : (new : ModelState) → LeavesLine line mid new → LinesDo (take (count + 1) (texts_of bytes)) old new
   did_after new does = subst (λ ls. LinesDo ls old new) (sym taken) (lines_do-append (take count (texts_of bytes)) line old mid new p.did does)
 
   abbrev reply : List ℕ
-  reply = (served_machine (whole_of mid.book) line).1
+  reply = (whole_machine (whole_of mid.book) line).1
 
   -- the replies to the lines up to this one
-  replies_after : replies_served old.book (take (count + 1) (texts_of bytes)) ≡ replies_served old.book (take count (texts_of bytes)) ++ reply
+  replies_after : replies whole_machine (whole_of old.book) (take (count + 1) (texts_of bytes)) ≡ replies whole_machine (whole_of old.book) (take count (texts_of bytes)) ++ reply
   replies_after =
-      ap (replies_served old.book) taken ∙ replies-append served_machine (whole_of old.book) (take count (texts_of bytes)) line
-      ∙ ap (λ (whole : machine.Book). replies_served old.book (take count (texts_of bytes)) ++ (served_machine whole line).1) (sym (lines_leave (take count (texts_of bytes)) old mid p.did))
+      ap (replies whole_machine (whole_of old.book)) taken ∙ replies-append whole_machine (whole_of old.book) (take count (texts_of bytes)) line
+      ∙ ap (λ (whole : machine.Book). replies whole_machine (whole_of old.book) (take count (texts_of bytes)) ++ (whole_machine whole line).1) (sym (lines_leave (take count (texts_of bytes)) old mid p.did))
 
-  pub Progress-step : (new : ModelState) (written : Option (List ℕ)) → LineDoes line mid new → IfTold now written (λ x y. y ≡ x ++ reply) → Progress old new (count + 1) new_reader before written bytes b
+  pub Progress-step : (new : ModelState) (written : Option (List ℕ)) → LeavesLine line mid new → IfTold now written (λ x y. y ≡ x ++ reply) → Progress old new (count + 1) new_reader before written bytes b
   Progress-step new written does replied = record {
     within = within_after;
     did = did_after new does;
     rest = next_rest (texts_of bytes) count line (texts_of (unread new_reader b)) next;
-    told = IfTold-join before now written (HasReplied (replies_served old.book) count (texts_of bytes)) (λ x y. y ≡ x ++ reply) (HasReplied (replies_served old.book) (count + 1) (texts_of bytes))
-        (λ w x y q r. r ∙ ap (λ v. v ++ reply) q ∙ append_assoc w (replies_served old.book (take count (texts_of bytes))) reply ∙ ap (λ v. w ++ v) (sym replies_after)) p.told replied;
+    told = IfTold-join before now written (HasReplied whole_machine (whole_of old.book) count (texts_of bytes)) (λ x y. y ≡ x ++ reply) (HasReplied whole_machine (whole_of old.book) (count + 1) (texts_of bytes))
+        (λ w x y q r. r ∙ ap (λ v. v ++ reply) q ∙ append_assoc w (replies whole_machine (whole_of old.book) (take count (texts_of bytes))) reply ∙ ap (λ v. w ++ v) (sym replies_after)) p.told replied;
     ends = ends_after;
     feeds = feeds_after;
   }
 
   -- memory ran out before the line was answered
-  leaves_no_memory : HasAnswered old.book mid.book count bytes b before now
-  leaves_no_memory = has_answered old mid count bytes b before now read_before p.within p.did p.told
+  leaves_no_memory : RunsAnswered old.book mid.book (texts_of bytes) before now count
+  leaves_no_memory = runs_answered old mid count (texts_of bytes) p.did before now p.within p.told
 
   -- a write of its reply failed
-  leaves_write_fault : (new : ModelState) (written : Option (List ℕ)) → LineDoes line mid new → IfTold now written (AppendsFront reply) → HasPartlyAnswered old.book new.book count bytes b before written
+  leaves_write_fault : (new : ModelState) (written : Option (List ℕ)) → LeavesLine line mid new → IfTold now written (AppendsFront reply) → RunsPartly old.book new.book (texts_of bytes) before written count
   leaves_write_fault new written does part =
-      let told : IfTold before written (HasPartlyReplied (replies_served old.book) count (texts_of bytes)) =
-      IfTold-join before now written (HasReplied (replies_served old.book) count (texts_of bytes)) (AppendsFront reply) (HasPartlyReplied (replies_served old.book) count (texts_of bytes))
+      let told : IfTold before written (HasPartlyReplied whole_machine (whole_of old.book) count (texts_of bytes)) =
+      IfTold-join before now written (HasReplied whole_machine (whole_of old.book) count (texts_of bytes)) (AppendsFront reply) (HasPartlyReplied whole_machine (whole_of old.book) count (texts_of bytes))
       (λ w x y q r.
-      let done : List ℕ = replies_served old.book (take count (texts_of bytes)) in
+      let done : List ℕ = replies whole_machine (whole_of old.book) (take count (texts_of bytes)) in
       record {
         bytes = length done + r.0;
         whole = omega arith;
@@ -184,32 +180,36 @@ module _ (old mid : ModelState) (count : ℕ) (reader new_reader : Reading) (bef
             ∙ ap (λ v. w ++ v) (sym (take-append-add done reply r.0)) ∙ ap (λ v. w ++ take (length done + r.0) v) (sym replies_after);
       }) p.told part in
       record {
-        read = read_after;
-        book = is_after old new (count + 1) (texts_of bytes) (did_after new does) within_after;
-        told = told;
-        replied = λ plain are.
+        within = within_after;
+        whole = record { left = lines_leave (take (count + 1) (texts_of bytes)) old new (did_after new does); told = told };
+        core = λ plain are.
             let first = first_core old.book.tables (take count (texts_of bytes)) (line ∷ []) (subst (AreCore old.book.tables) taken are) in
-            IfTold-weaker before written (HasPartlyReplied (replies_served old.book) count (texts_of bytes)) (HasPartlyReplied (replies_core (notations_in old.book) (core_of old.book)) count (texts_of bytes))
-            (λ x y q. partly_same (replies_served old.book) (replies_core (notations_in old.book) (core_of old.book)) count (texts_of bytes) x y (replies_same (take count (texts_of bytes)) old mid p.did plain first) (replies_same (take (count + 1) (texts_of bytes)) old new (did_after new does) plain are) q)
-            told;
+            record {
+              left = core_left (take (count + 1) (texts_of bytes)) old new (did_after new does) plain are;
+              told = IfTold-weaker before written (HasPartlyReplied whole_machine (whole_of old.book) count (texts_of bytes)) (HasPartlyReplied (identity_machine (notations_in old.book)) (core_of old.book) count (texts_of bytes))
+                  (λ x y q. partly_same whole_machine (whole_of old.book) (identity_machine (notations_in old.book)) (core_of old.book) count (texts_of bytes) x y (replies_same (take count (texts_of bytes)) old mid p.did plain first)
+                  (replies_same (take (count + 1) (texts_of bytes)) old new (did_after new does) plain are) q)
+                  told;
+            };
       }
 
 -- an error at a line, over a source that tells its bytes: memory ran out before the book changed, or a write failed
 pub leaves_at_line : (old mid new : ModelState) (count : ℕ) (reader new_reader : Reading) (before now written : Option (List ℕ)) (first a b : Option (List ℕ)) (line : List ℕ) (e : RunError)
     → IfTold first a (Progress old mid count reader before now) → IfTold a b (Next line reader new_reader) → (e ≡ errors.OutOfMemory) ⊎ (e ≡ errors.WriteFault)
     → (e ≡ errors.OutOfMemory → (new.book ≡ mid.book) × (written ≡ now))
-    → (e ≡ errors.WriteFault → LineDoes line mid new × IfTold now written (AppendsFront (served_machine (whole_of mid.book) line).1))
-    → IfTold first b (λ bytes left. Leaves e old.book new.book bytes left before written)
+    → (e ≡ errors.WriteFault → LeavesLine line mid new × IfTold now written (AppendsFront (whole_machine (whole_of mid.book) line).1))
+    → IfTold first b (λ bytes left. LeavesRun e old.book new.book bytes left before written)
 leaves_at_line old mid new count reader new_reader before now written first a b line e p n which no_memory write_fault =
-    IfTold-join first a b (Progress old mid count reader before now) (Next line reader new_reader) (λ bytes left. Leaves e old.book new.book bytes left before written)
+    IfTold-join first a b (Progress old mid count reader before now) (Next line reader new_reader) (λ bytes left. LeavesRun e old.book new.book bytes left before written)
     (λ bytes x y q k. elim which [
       | inl is ↦ let h = no_memory is in
-          let answered : HasAnswered old.book new.book count bytes y before written =
-          subst (λ (m : Book). HasAnswered old.book m count bytes y before written) (sym h.0)
-          (subst (λ w. HasAnswered old.book mid.book count bytes y before w) (sym h.1) (leaves_no_memory old mid count reader new_reader before now bytes x y line q k)) in
-          subst (λ e. Leaves e old.book new.book bytes y before written) (sym is) (count, answered)
+          let answered : RunsAnswered old.book new.book (texts_of bytes) before written count =
+          subst (λ (m : Book). RunsAnswered old.book m (texts_of bytes) before written count) (sym h.0)
+          (subst (λ w. RunsAnswered old.book mid.book (texts_of bytes) before w count) (sym h.1) (leaves_no_memory old mid count reader new_reader before now bytes x y line q k)) in
+          subst (λ e. LeavesRun e old.book new.book bytes y before written) (sym is) (count, read_before old mid count reader new_reader before now bytes x y line q k, answered)
       | inr is ↦ let h = write_fault is in
-          subst (λ e. Leaves e old.book new.book bytes y before written) (sym is) (count, leaves_write_fault old mid count reader new_reader before now bytes x y line q k new written h.0 h.1)
+          subst (λ e. LeavesRun e old.book new.book bytes y before written) (sym is)
+          (count, read_after old mid count reader new_reader before now bytes x y line q k, leaves_write_fault old mid count reader new_reader before now bytes x y line q k new written h.0 h.1)
     ]) p n
 
 no_feeds : (bytes : List ℕ) → has_line_feed bytes ≡ false → line_feeds bytes ≡ 0
@@ -228,32 +228,33 @@ module _ (old mid : ModelState) (count : ℕ) (reader new_reader : Reading) (bef
       ap (λ v. line_feeds (reader.held ++ v)) took ∙ ap line_feeds (sym (append_assoc reader.held got b)) ∙ ap (λ v. line_feeds (v ++ b)) (sym held) in
       omega (arith, p.feeds still, all, line_feeds-append new_reader.held b)
 
-  answered : HasAnswered old.book mid.book count bytes b before now
-  answered =
-      let read : AreRead count bytes b =
+  read : AreRead count bytes b
+  read =
       elim (cases_Bool reader.ended) [
         | inl ended ↦ inl (nothing_after got b (sym took ∙ p.ends ended))
         | inr still ↦ inr (omega (arith, open_feeds still))
-      ] in
-      has_answered old mid count bytes b before now read p.within p.did p.told
+      ]
+
+  answered : RunsAnswered old.book mid.book (texts_of bytes) before now count
+  answered = runs_answered old mid count (texts_of bytes) p.did before now p.within p.told
 
   all_lines : HasToAsk new_reader → reader.ended ≡ false → count + line_feeds b ≡ line_feeds bytes
   all_lines asks still = omega (arith, open_feeds still, no_feeds new_reader.held asks.no_line)
 
-  leaves_by_reader : (e : RunError) → ((e ≡ errors.ReadFault) ⊎ (e ≡ errors.TooManyTurns) → HasToAsk new_reader × (reader.ended ≡ false)) → (e ≡ errors.WriteFault → ⊥) → Leaves e old.book mid.book bytes b before now
-  leaves_by_reader errors.ReadFault asks no_write = let h = asks (inl refl) in (count, answered, all_lines h.0 h.1)
-  leaves_by_reader errors.TooManyTurns asks no_write = let h = asks (inr refl) in (count, answered, all_lines h.0 h.1)
-  leaves_by_reader errors.OutOfMemory asks no_write = (count, answered)
+  leaves_by_reader : (e : RunError) → ((e ≡ errors.ReadFault) ⊎ (e ≡ errors.TooManyTurns) → HasToAsk new_reader × (reader.ended ≡ false)) → (e ≡ errors.WriteFault → ⊥) → LeavesRun e old.book mid.book bytes b before now
+  leaves_by_reader errors.ReadFault asks no_write = let h = asks (inl refl) in (count, all_lines h.0 h.1, answered)
+  leaves_by_reader errors.TooManyTurns asks no_write = let h = asks (inr refl) in (count, all_lines h.0 h.1, answered)
+  leaves_by_reader errors.OutOfMemory asks no_write = (count, read, answered)
   leaves_by_reader errors.WriteFault asks no_write = absurd (no_write refl)
 
 -- an error of the reader, over a source that tells its bytes
 pub leaves_at_reader : (old mid : ModelState) (count : ℕ) (reader asked new_reader : Reading) (before now : Option (List ℕ)) (first a b : Option (List ℕ)) (e : RunError)
     → IfTold first a (Progress old mid count reader before now) → TakesLine reader asked a b → new_reader ≡ asked
-    → ((e ≡ errors.ReadFault) ⊎ (e ≡ errors.TooManyTurns) → HasToAsk new_reader) → (e ≡ errors.WriteFault → ⊥) → IfTold first b (λ bytes left. Leaves e old.book mid.book bytes left before now)
+    → ((e ≡ errors.ReadFault) ⊎ (e ≡ errors.TooManyTurns) → HasToAsk new_reader) → (e ≡ errors.WriteFault → ⊥) → IfTold first b (λ bytes left. LeavesRun e old.book mid.book bytes left before now)
 leaves_at_reader old mid count reader asked new_reader before now first a b e p t same asks no_write =
     let got : List ℕ = t.front ++ t.last in
     let held : new_reader.held ≡ reader.held ++ got = ap (λ (r : Reading). r.held) same ∙ t.taken.held in
-    IfTold-join first a b (Progress old mid count reader before now) (λ x y. x ≡ got ++ y) (λ bytes left. Leaves e old.book mid.book bytes left before now)
+    IfTold-join first a b (Progress old mid count reader before now) (λ x y. x ≡ got ++ y) (λ bytes left. LeavesRun e old.book mid.book bytes left before now)
     (λ bytes x y q took. leaves_by_reader old mid count reader new_reader before now bytes x y q got held took e
     (λ which. let h = asks which in (h, was_open reader asked a b t (ap (λ (r : Reading). r.ended) (sym same) ∙ h.still_open))) no_write)
     p t.taken.told
@@ -283,14 +284,14 @@ module _ (old new : ModelState) (count : ℕ) (reader : Reading) (before now : O
     book = core_left (texts_of bytes) old new all_do;
   }
 
-  all_served : IfTold before now (AppendsServed (whole_of old.book) bytes)
-  all_served =
-      IfTold-weaker before now (HasReplied (replies_served old.book) count (texts_of bytes)) (AppendsServed (whole_of old.book) bytes) (λ x y q. q ∙ ap (λ v. x ++ replies_served old.book v) all_taken) p.told
+  all_appended : IfTold before now (AppendsReplies whole_machine (whole_of old.book) bytes)
+  all_appended =
+      IfTold-weaker before now (HasReplied whole_machine (whole_of old.book) count (texts_of bytes)) (AppendsReplies whole_machine (whole_of old.book) bytes) (λ x y q. q ∙ ap (λ v. x ++ replies whole_machine (whole_of old.book) v) all_taken) p.told
 
-  all_replied : IsPlainBook (whole_of old.book) → AreCore old.book.tables (texts_of bytes) → IfTold before now (AppendsReplies (notations_in old.book) (core_of old.book) bytes)
+  all_replied : IsPlainBook (whole_of old.book) → AreCore old.book.tables (texts_of bytes) → IfTold before now (AppendsReplies (identity_machine (notations_in old.book)) (core_of old.book) bytes)
   all_replied plain are =
-      IfTold-weaker before now (AppendsServed (whole_of old.book) bytes) (AppendsReplies (notations_in old.book) (core_of old.book) bytes)
-      (λ x y q. q ∙ ap (λ v. x ++ v) (replies_same (texts_of bytes) old new all_do plain are)) all_served
+      IfTold-weaker before now (AppendsReplies whole_machine (whole_of old.book) bytes) (AppendsReplies (identity_machine (notations_in old.book)) (core_of old.book) bytes)
+      (λ x y q. q ∙ ap (λ v. x ++ v) (replies_same (texts_of bytes) old new all_do plain are)) all_appended
 
 -- the end, over a source that tells its bytes
 module _ (old new : ModelState) (count : ℕ) (reader asked new_reader : Reading) (before now : Option (List ℕ)) (first a b : Option (List ℕ)) (p : IfTold first a (Progress old new count reader before now)) (t : TakesLine reader asked a b) (gives : IfTold a b (λ x y. GivesLine None (unread reader x) (unread new_reader y))) where
@@ -306,14 +307,14 @@ module _ (old new : ModelState) (count : ℕ) (reader asked new_reader : Reading
   pub takes_all_told : IfTold first b (TakesAll old.book new.book count)
   takes_all_told = at_end (TakesAll old.book new.book count) (λ bytes x y q none took. takes_all old new count reader before now bytes x y q (t.front ++ t.last) none took)
 
-  pub all_replied_told : IfTold first b (λ bytes _. IsPlainBook (whole_of old.book) → AreCore old.book.tables (texts_of bytes) → IfTold before now (AppendsReplies (notations_in old.book) (core_of old.book) bytes))
+  pub all_replied_told : IfTold first b (λ bytes _. IsPlainBook (whole_of old.book) → AreCore old.book.tables (texts_of bytes) → IfTold before now (AppendsReplies (identity_machine (notations_in old.book)) (core_of old.book) bytes))
   all_replied_told =
-      at_end (λ bytes _. IsPlainBook (whole_of old.book) → AreCore old.book.tables (texts_of bytes) → IfTold before now (AppendsReplies (notations_in old.book) (core_of old.book) bytes))
+      at_end (λ bytes _. IsPlainBook (whole_of old.book) → AreCore old.book.tables (texts_of bytes) → IfTold before now (AppendsReplies (identity_machine (notations_in old.book)) (core_of old.book) bytes))
       (λ bytes x y q none took. all_replied old new count reader before now bytes x y q (t.front ++ t.last) none took)
 
-  pub all_served_told : IfTold first b (λ bytes _. IfTold before now (AppendsServed (whole_of old.book) bytes))
-  all_served_told =
-      at_end (λ bytes _. IfTold before now (AppendsServed (whole_of old.book) bytes)) (λ bytes x y q none took. all_served old new count reader before now bytes x y q (t.front ++ t.last) none took)
+  pub all_appended_told : IfTold first b (λ bytes _. IfTold before now (AppendsReplies whole_machine (whole_of old.book) bytes))
+  all_appended_told =
+      at_end (λ bytes _. IfTold before now (AppendsReplies whole_machine (whole_of old.book) bytes)) (λ bytes x y q none took. all_appended old new count reader before now bytes x y q (t.front ++ t.last) none took)
 
   pub all_do_told : IfTold first b (λ bytes _. LinesDo (texts_of bytes) old new)
   all_do_told = at_end (λ bytes _. LinesDo (texts_of bytes) old new) (λ bytes x y q none took. all_do old new count reader before now bytes x y q (t.front ++ t.last) none took)

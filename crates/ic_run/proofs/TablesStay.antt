@@ -7,7 +7,7 @@ use Rattle.ic_laws.specs.declared.tree.Formula.{Formula}
 use Rattle.ic_machine.proofs.ReaderLemmas.{readers_leave}
 use Rattle.ic_machine.specs.Book.{Book, Grid, Sheet, Stepped, Tab, as_core, core_of, found_or, notations_in, on_grid, on_tab, put_in, unless, with_sheet}
 use Rattle.ic_machine.specs.Changed.{changed_by, without_definition}
-use Rattle.ic_machine.specs.Command.{Command, OnArrays, OnDefinitions, OnExtending, OnLayout, OnNotation, OnReading, OnSheets, OnStyles, OnTabs, OnWriting, command_in, served}
+use Rattle.ic_machine.specs.Command.{Command, OnArrays, OnDefinitions, OnExtending, OnLayout, OnNotation, OnReading, OnSheets, OnStyles, OnTabs, OnWriting, command_in, commands}
 use Rattle.ic_machine.specs.Readers.{Leaves}
 use Rattle.ic_machine.specs.Refusal.{InvalidSheet, Refusal}
 use Rattle.ic_machine.specs.Reply.{Field}
@@ -191,8 +191,8 @@ module _ (b : Book) where
 
   -- and so has what a line leaves
   pub tables_stay : (line : List ℕ) → (left_after b line).tables ≡ b.tables
-  tables_stay line = by_command (command_in (english_errors b) served line) refl
+  tables_stay line = by_command (command_in (english_errors b) commands line) refl
     where
-      by_command : (o : Option Command) → command_in (english_errors b) served line ≡ o → (left_after b line).tables ≡ b.tables
+      by_command : (o : Option Command) → command_in (english_errors b) commands line ≡ o → (left_after b line).tables ≡ b.tables
       by_command None e = ap (λ (o : Option Command). (command_step b o).0.tables) e
       by_command (Some command) e = ap (λ (o : Option Command). (command_step b o).0.tables) e ∙ left_stays (step b command) (step_stays command)

@@ -4,14 +4,13 @@ use Rattle.std.specs.Prelude.{option_and_then}
 use Rattle.std.proofs.Math.Seq.{drop-length}
 use Rattle.ic_machine.proofs.ReaderLemmas.{readers_leave}
 use Rattle.ic_machine.specs.Book.{Book, Stepped}
-use Rattle.ic_machine.specs.Command.{Command, command_in, served}
+use Rattle.ic_machine.specs.Command.{Command, command_in, commands}
 use Rattle.ic_machine.specs.Readers.{LeavesIf, is_reader}
 use Rattle.ic_machine.specs.Reply.{Reply, reply_text}
 use Rattle.ic_machine.specs.Run.{after}
-use Rattle.ic_machine.specs.Step.{command_step, english_errors, machine, outcome_of, step}
+use Rattle.ic_machine.specs.Step.{command_step, english_errors, line_step, machine, outcome_of, step}
 use Rattle.ic_machine.specs.Translation.{AreTranslated, AreTranslatedTexts, IsTranslation, StandsBefore, Why, first_hindered, first_of, in_notation, is_dropped, is_switch, kept_command, kept_in, left_after, left_by, line_of, own_formula, texts_of, why_line_not, why_not}
 use Rattle.ic_book.specs.Book.{NotationState}
-use Rattle.ic_book.specs.Served.{served_line_step}
 use Rattle.ic_book.specs.Translated.{IsIn, IsToldOf, IsToldWhere, formula_owned, why_meant}
 use Rattle.ic_book.specs.declared.own_text.OwnText.{OwnText}
 use Rattle.ic_book.specs.declared.own_text.Why as code
@@ -45,14 +44,14 @@ stays_refused book (Err refusal) e = refl
 
 -- A line with its command. ----
 
-module _ (old : Book) (line : List ℕ) (command : Command) (is : command_in (english_errors old) served line ≡ Some command) where
+module _ (old : Book) (line : List ℕ) (command : Command) (is : command_in (english_errors old) commands line ≡ Some command) where
   kept_is : kept_in old line ≡ kept_command old command
   kept_is = ap (option_and_then (kept_command old)) is
 
   left_is : left_after old line ≡ (outcome_of old (step old command)).0
   left_is = ap (λ (o : Option Command). (command_step old o).0) is
 
-  told_is : (served_line_step old line).1 ≡ (outcome_of old (step old command)).1
+  told_is : (line_step commands old line).1 ≡ (outcome_of old (step old command)).1
   told_is = ap (λ (o : Option Command). (command_step old o).1) is
 
   abbrev by_drop_of : Bool → Option (Command × Book)
@@ -89,11 +88,11 @@ module _ (old : Book) (line : List ℕ) (command : Command) (is : command_in (en
       either false = refl
 
   -- one that was run and refused
-  pub goes_refused : (locale language : List ℕ) (new : Book) → false ≡ is_ok (served_line_step old line).1 → new ≡ left_after old line → IsTurn locale language old line new turns.Goes
+  pub goes_refused : (locale language : List ℕ) (new : Book) → false ≡ is_ok (line_step commands old line).1 → new ≡ left_after old line → IsTurn locale language old line new turns.Goes
   goes_refused locale language new e left = (refused (left_refused old (step old command) (e ∙ ap is_ok told_is)), left)
 
   -- one that was run and accepted, and doesn't go
-  module _ (stays : is_dropped command ≡ false) (new : Book) (e : true ≡ is_ok (served_line_step old line).1) (left : new ≡ left_after old line) where
+  module _ (stays : is_dropped command ≡ false) (new : Book) (e : true ≡ is_ok (line_step commands old line).1) (left : new ≡ left_after old line) where
     kept_there : kept_in old line ≡ Some (command, left_after old line)
     kept_there =
         kept_is ∙ ap by_drop_of stays
@@ -146,20 +145,20 @@ module _ (old : Book) (line : List ℕ) (command : Command) (is : command_in (en
       accepted (Err refusal) e = let none : IsSome {T = Book} None = subst IsSome (ap left_by e) it_does in cc
 
 -- what is no command goes
-pub goes_bad : (locale language : List ℕ) (old : Book) (line : List ℕ) → command_in (english_errors old) served line ≡ None → IsTurn locale language old line old turns.Goes
+pub goes_bad : (locale language : List ℕ) (old : Book) (line : List ℕ) → command_in (english_errors old) commands line ≡ None → IsTurn locale language old line old turns.Goes
 goes_bad locale language old line e = (ap (option_and_then (kept_command old)) e, sym (ap (λ (o : Option Command). (command_step old o).0) e))
 
 -- Lines one after another. ----
 
-after_more : (start : Book) (lines : List (List ℕ)) (line : List ℕ) → after (machine served) start (lines ++ line ∷ []) ≡ left_after (after (machine served) start lines) line
+after_more : (start : Book) (lines : List (List ℕ)) (line : List ℕ) → after (machine commands) start (lines ++ line ∷ []) ≡ left_after (after (machine commands) start lines) line
 after_more start [] line = refl
-after_more start (first ∷ lines) line = after_more (machine served start first).0 lines line
+after_more start (first ∷ lines) line = after_more (machine commands start first).0 lines line
 
 module _ (locale language : List ℕ) where
   -- So many of the first lines ran: the book that they left, and what they became.
   pub record IsSoFar (start : Book) (lines : List (List ℕ)) (count : ℕ) (book : Book) (made : List (List ℕ)) : Type 0 where
     pub hindered : first_hindered locale language 1 start lines ≡ first_hindered locale language (count + 1) book (drop count lines)
-    pub left : book ≡ after (machine served) start (take count lines)
+    pub left : book ≡ after (machine commands) start (take count lines)
     pub becomes : (rest : List (List ℕ)) → AreTranslated locale language book (drop count lines) rest → AreTranslated locale language start lines (made ++ rest)
     pub tables : book.tables ≡ start.tables
 
@@ -173,8 +172,8 @@ module _ (locale language : List ℕ) where
     taken : take (count + 1) lines ≡ take count lines ++ line ∷ []
     taken = next_taken lines count line more next
 
-    pub left_so : left_after book line ≡ after (machine served) start (take (count + 1) lines)
-    left_so = ap (λ (b : Book). left_after b line) so_far.left ∙ sym (after_more start (take count lines) line) ∙ ap (after (machine served) start) (sym taken)
+    pub left_so : left_after book line ≡ after (machine commands) start (take (count + 1) lines)
+    left_so = ap (λ (b : Book). left_after b line) so_far.left ∙ sym (after_more start (take count lines) line) ∙ ap (after (machine commands) start) (sym taken)
 
     hindered_so : (new : Book) → why_line_not locale language book line ≡ None → new ≡ left_after book line → first_hindered locale language 1 start lines ≡ first_hindered locale language (count + 1 + 1) new more
     hindered_so new can left =
@@ -215,7 +214,7 @@ module _ (locale language : List ℕ) where
         let less : count + 1 - 1 ≡ count = omega arith in (
           so_far.hindered ∙ ap (first_hindered locale language (count + 1) book) next
               ∙ ap (λ (o : Option Why). first_of (count + 1) o (first_hindered locale language (count + 1 + 1) (left_after book line) more)) turn.0,
-          turn.1 ∙ so_far.left ∙ ap (λ (n : ℕ). after (machine served) start (take n lines)) (sym less),
+          turn.1 ∙ so_far.left ∙ ap (λ (n : ℕ). after (machine commands) start (take n lines)) (sym less),
         )
 
     -- memory ran out in this line
@@ -229,7 +228,7 @@ module _ (locale language : List ℕ) where
       let none : drop count lines ≡ [] = ap (λ (n : ℕ). drop n lines) e ∙ drop-length lines in (
         so_far.hindered ∙ ap (first_hindered locale language (count + 1) book) none,
         subst (AreTranslated locale language start lines) (append-nil made) (so_far.becomes [] (subst (λ (ls : List (List ℕ)). AreTranslated locale language book ls []) (sym none) refl)),
-        so_far.left ∙ ap (after (machine served) start) (ap (λ (n : ℕ). take n lines) e ∙ whole lines),
+        so_far.left ∙ ap (after (machine commands) start) (ap (λ (n : ℕ). take n lines) e ∙ whole lines),
       )
     where
       whole : (xs : List (List ℕ)) → take (length xs) xs ≡ xs

@@ -1,3 +1,4 @@
+pub mod Core
 pub mod Counts
 pub mod Desk
 pub mod Make

@@ -10,9 +10,11 @@ use Rattle.ic_lines.specs.Reading.{has_line_feed}
 use Rattle.ic_machine.specs.Book.{Book, core_of}
 use Rattle.ic_machine.specs.Refusal.{refusal_name}
 use Rattle.ic_machine.specs.Reply.{Reply}
+use Rattle.ic_machine.specs.Command.{commands}
 use Rattle.ic_machine.specs.Run.{after}
-use Rattle.ic_book.specs.Served.{served_line_step, served_machine}
+use Rattle.ic_machine.specs.Step.{line_step}
 use Rattle.ic_book.specs.Whole.{whole_of}
+use Rattle.ic_run.specs.Core.{whole_machine}
 use Rattle.ic_run.specs.Desk.{Setting, start_book}
 use Rattle.ic_run.specs.declared.made.MadeCommand.{MadeCommand}
 use Rattle.ic_run.specs.declared.made.MadeCommand.TheVariants as made
@@ -110,10 +112,10 @@ made_setting = record { locale = codes "en"; language = codes "en"; zone = codes
 
 -- What is told. ----
 
--- the replies of the machine that is served to lines, from a book on
+-- the replies of the machine to lines, from a book on
 abbrev pub told_replies : Book → List (List ℕ) → List Reply
 told_replies book [] = []
-told_replies book (line ∷ lines) = (served_line_step book line).1 ∷ told_replies (served_line_step book line).0 lines
+told_replies book (line ∷ lines) = (line_step commands book line).1 ∷ told_replies (line_step commands book line).0 lines
 
 -- a reply without a refusal, and one with the refusal of this name
 abbrev pub is_ok : Reply → Bool
@@ -164,7 +166,7 @@ summary count replies book =
 
 -- what is told of the lines of a making, from a book on
 abbrev pub summary_of : Making → Book → List ℕ
-summary_of making book = summary making.count (told_replies book (made_lines making)) (after served_machine book (made_lines making))
+summary_of making book = summary making.count (told_replies book (made_lines making)) (after whole_machine book (made_lines making))
 
 -- the book that they begin with, which was made at this moment
 abbrev pub made_start : List ℕ → TableSet → Book

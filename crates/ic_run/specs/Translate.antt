@@ -1,5 +1,5 @@
 -- Command lines in another notation: what a translation answers and leaves, and what `desk` writes of it.
-use Rattle.std.specs.Prelude.{◌≡◌, ◌⊎◌, ◌≤◌, ℕ, List, [], ◌∷◌, ◌++◌, false, true, Option, Some, None, Result, Ok, Err, chars, codes, bytes_eq, flat_map, length, option_and_then, option_map, string_bytes, take, encode_utf8_all, if◌then◌else◌}
+use Rattle.std.specs.Prelude.{◌≡◌, ◌⊎◌, ◌≤◌, ℕ, List, [], ◌∷◌, ◌++◌, false, true, Option, Some, None, Result, Ok, Err, chars, codes, bytes_eq, flat_map, length, option_and_then, option_map, string_bytes, take, encode_utf8_all, if◌then◌else◌, is_some}
 use Rattle.std.specs.Fmt.{decimal}
 use Rattle.std.specs.Global.{Vec}
 use Rattle.ic_laws.specs.Character.{line_feed, tab}
@@ -8,12 +8,14 @@ use Rattle.ic_laws.specs.Refusal.{InvalidLanguage, InvalidLocale, Refusal}
 use Rattle.ic_tables.specs.Tables.{TableSet}
 use Rattle.ic_lines.specs.Bytes.{AppendsFront}
 use Rattle.ic_machine.specs.Book.{Book}
-use Rattle.ic_machine.specs.Command.{Command, OnSheets, served}
+use Rattle.ic_machine.specs.Command.{Command, OnSheets, commands}
 use Rattle.ic_machine.specs.Readers.{is_reader}
 use Rattle.ic_machine.specs.Run.{after}
+use Rattle.ic_machine.specs.Same.{IsSameBook}
 use Rattle.ic_machine.specs.Step.{machine, step}
 use Rattle.ic_machine.specs.Translation as translation
-use Rattle.ic_machine.specs.Translation.{AreTranslatedTexts, IsKeptLine, IsTranslation, is_dropped, is_switch, kept_in, left_after, left_by, own_formula, why_line_not, with_last}
+use Rattle.ic_machine.specs.Translation.{AreTranslatedTexts, IsKeptLine, IsTranslation, first_hindered, is_dropped, is_switch, kept_in, left_after, left_by, own_formula, why_line_not, with_last}
+use Rattle.ic_machine.specs.TranslationLaws.{AreAccepted, BodiesEndPlain}
 use Rattle.ic_machine.specs.subjects.Sheets.{NewSheet, new_sheet_name}
 use Rattle.ic_book.specs.Book.{NotationState}
 use Rattle.ic_book.specs.Translated.{IsToldWhere, notation_refusal, why_meant}
@@ -61,7 +63,7 @@ module _ (locale language : List ℕ) where
   pub record HasRunSome (old : Book) (lines : List (List ℕ)) (new : Book) : Type 0 where
     pub count : ℕ
     pub within : count ≤ length lines
-    pub left : new ≡ after (machine served) old (take count lines)
+    pub left : new ≡ after (machine commands) old (take count lines)
 
   -- What a translation answered of lines, and what is left of the book: after Ok and `Cannot` what is said of all lines; where
   -- the locale or the language is unknown, the book as it was; where memory ran out, what some of the first lines leave.
@@ -70,6 +72,14 @@ module _ (locale language : List ℕ) where
   HasTranslated old lines (Err (errors.Cannot line why)) left = IsTranslation locale language old lines (Err (line, why_meant why)) left
   HasTranslated old lines (Err errors.OutOfMemory) left = HasRunSome old lines left
   HasTranslated old lines (Err e) left = left ≡ old
+
+  -- Every other book that is the same as the old one, apart from the notation and the styles, and has the notation that is
+  -- asked for, accepts the new lines in their turn, and they leave there what is the same as what is left here; if no
+  -- definition is updated to a body that ends with a blank in that notation.
+  abbrev pub AreAcceptedBeside : Book → List (List ℕ) → Book → List (List ℕ) → Type 0
+  AreAcceptedBeside old lines left new =
+      (other : Book) → IsSameBook old other → other.locale ≡ locale → other.language ≡ language → BodiesEndPlain locale language old lines
+      → AreAccepted other new × IsSameBook left (after (machine commands) other new)
 
 -- what of the notation is told to be unknown
 abbrev pub unknown_told : {T : Type 0} → Result T TranslateError → Option Refusal
@@ -128,6 +138,7 @@ pub record AppendsTold (target : Target) (book : Book) (lines : List (List ℕ))
   pub is : IsTranslation target.locale target.language book lines answer left
   pub tells : translation_status answer ≡ status
   pub written : now ≡ before ++ told_bytes target answer
+  pub accepted : (new : List (List ℕ)) → answer ≡ Ok new → AreAcceptedBeside target.locale target.language book lines left new
 
 -- a front of that, which isn't all of it
 pub record AppendsToldFront (target : Target) (book : Book) (lines : List (List ℕ)) (before now : List ℕ) : Type 0 where
@@ -142,6 +153,14 @@ AppendsTranslated target tables status bytes before now = (created : List ℕ) �
 
 abbrev pub AppendsTranslatedFront : Target → TableSet → List ℕ → List ℕ → List ℕ → Type 0
 AppendsTranslatedFront target tables bytes before now = (created : List ℕ) × AppendsToldFront target (whole_of (start_book made_setting created tables)) (texts_of bytes) before now
+
+-- the status that lines ask for, from a whole book: 7 where one of them can't be translated, and 0 where each can
+abbrev pub due_status : Target → Book → List (List ℕ) → ℕ
+due_status target book lines = if is_some (first_hindered target.locale target.language 1 book lines) then 7 else 0
+
+-- the lines of these bytes ask for this status, from the new book, whenever that was made
+abbrev pub IsDue : Target → TableSet → ℕ → List ℕ → Type 0
+IsDue target tables status bytes = (created : List ℕ) → due_status target (whole_of (start_book made_setting created tables)) (texts_of bytes) ≡ status
 
 -- What the program begins with, by its words: the setting of a new book; the notation that lines are asked for in, if they
 -- are translated

@@ -2,10 +2,10 @@ ghost use Rattle.std.specs.Prelude.{◌≡◌, ◌⊎◌, ◌+◌, ◌++◌, ◌
 ghost use Rattle.ic_laws.specs.Lines.{texts_of};
 ghost use Rattle.ic_lines.specs.Bytes.{AppendsFront, HasFault, IfTold};
 ghost use Rattle.ic_book.specs.Book.{core_of, notations_in};
-ghost use Rattle.ic_book.specs.Served.{served_machine};
 ghost use Rattle.ic_book.specs.Whole.{whole_of};
-ghost use Rattle.ic_commands.specs.Plain.{IsPlainBook};
-ghost use Rattle.ic_run.specs.Run.{AppendsReplies, AppendsServed, AreCore, HasCause, IsServed, Leaves, LineDoes, LinesDo, TakesAll};
+ghost use Rattle.ic_commands.specs.Answered.{LeavesLine};
+ghost use Rattle.ic_run.specs.Core.{AreCore, CoreLinesAreDone, IsPlainBook, identity_machine, whole_machine};
+ghost use Rattle.ic_run.specs.Run.{AppendsReplies, HasCause, IsAfterAll, LeavesRun, LinesDo, TakesAll};
 
 use ic_book::Model;
 use ic_commands::reply_in;
@@ -32,15 +32,15 @@ pub fn run<S: Source, K: Sink>(
         (TakesAll model.old.book model.new.book count)) }
     ensures replies { OnOk result (IfTold (S.left source.old) (S.left source.new) (λ bytes _.
         IsPlainBook (whole_of model.old.book) → AreCore model.old.book.tables (texts_of bytes)
-        → IfTold (K.written sink.old) (K.written sink.new)
-        (AppendsReplies (notations_in model.old.book) (core_of model.old.book) bytes))) }
+        → IfTold (K.written sink.old) (K.written sink.new) (AppendsReplies
+        (identity_machine (notations_in model.old.book)) (core_of model.old.book) bytes))) }
 
-    // For all lines it is so with the whole book, by the machine that is served, and with its replies.
+    // For all lines it is so with the whole book, by the whole machine, and with its replies.
     ensures whole { OnOk result
-        (IfTold (S.left source.old) (S.left source.new) (IsServed model.old.book model.new.book)) }
-    ensures served { OnOk result (IfTold (S.left source.old) (S.left source.new) (λ bytes _.
+        (IfTold (S.left source.old) (S.left source.new) (IsAfterAll model.old.book model.new.book)) }
+    ensures all_replies { OnOk result (IfTold (S.left source.old) (S.left source.new) (λ bytes _.
         IfTold (K.written sink.old) (K.written sink.new)
-        (AppendsServed (whole_of model.old.book) bytes))) }
+        (AppendsReplies whole_machine (whole_of model.old.book) bytes))) }
 
     // Each line did so; one that is no command, is refused or only asks left all that a model is as it was, the look-ups
     // of its formulas too.
@@ -62,7 +62,7 @@ pub fn run<S: Source, K: Sink>(
 
     // After an error the book is as some of the first lines leave it, and their replies were appended.
     ensures front { IfErr result (λ e. IfTold (S.left source.old) (S.left source.new)
-        (λ bytes left. Leaves e model.old.book model.new.book bytes left (K.written sink.old)
+        (λ bytes left. LeavesRun e model.old.book model.new.book bytes left (K.written sink.old)
         (K.written sink.new))) }
 
     ensures source_counted { S.faults source.old ≤ S.faults source.new }
@@ -93,16 +93,16 @@ fn answer_to<K: Sink>(
     sink: &mut K,
 ) -> Result<(), RunError>
     ensures reply { OnOk result (IfTold (K.written sink.old) (K.written sink.new)
-        (λ before now. now ≡ before ++ (served_machine (whole_of model.old.book) line.now).1)) }
-    ensures does { OnOk result (LineDoes line.now model.old model.new) }
+        (λ before now. now ≡ before ++ (whole_machine (whole_of model.old.book) line.now).1)) }
+    ensures does { OnOk result (LeavesLine line.now model.old model.new) }
     ensures which { IfErr result (λ e. (e ≡ RunError.OutOfMemory) ⊎ (e ≡ RunError.WriteFault)) }
     ensures no_memory { result ≡ Err RunError.OutOfMemory → (model.new.book ≡ model.old.book)
         × (sink.new ≡ sink.old) }
     ensures write_fault { result ≡ Err RunError.WriteFault → HasFault (K.faults sink.old)
         (K.faults sink.new)
-        × LineDoes line.now model.old model.new
+        × LeavesLine line.now model.old model.new
         × IfTold (K.written sink.old) (K.written sink.new)
-        (AppendsFront (served_machine (whole_of model.old.book) line.now).1) }
+        (AppendsFront (whole_machine (whole_of model.old.book) line.now).1) }
     ensures counted { K.faults sink.old ≤ K.faults sink.new }
     ensures quiet { OnOk result (K.faults sink.new ≡ K.faults sink.old) }
 {
@@ -110,3 +110,10 @@ fn answer_to<K: Sink>(
     *room = reply;
     write_all(sink, room.as_bytes())
 }
+
+/// A core line that left of the whole book what the whole machine leaves left of its core what the core machine leaves, and
+/// has its reply, where no cells are merged and no array has several cells, which the core machine knows nothing of; and
+/// that stays so.
+pub fn law_core_lines_are_done()
+    ensures { CoreLinesAreDone }
+{}

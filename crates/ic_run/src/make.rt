@@ -3,8 +3,8 @@ ghost use Rattle.std.specs.Prelude.{◌≡◌, ◌≢◌, ◌⊎◌, ◌↔◌, 
 ghost use Rattle.ic_lines.specs.Bytes.{AppendsFront, HasFault, IfTold};
 ghost use Rattle.ic_machine.specs.Reply.{reply_text};
 ghost use Rattle.ic_machine.specs.Run.{after};
-ghost use Rattle.ic_book.specs.Served.{served_machine};
 ghost use Rattle.ic_book.specs.Whole.{whole_of};
+ghost use Rattle.ic_run.specs.Core.{whole_machine};
 ghost use Rattle.ic_run.specs.Desk.{start_refusal, texts};
 ghost use Rattle.ic_run.specs.Make.{AppendsSummary, AppendsSummaryFront, made_lines, made_setting, making_of, seed_said, summary_of, told_replies};
 
@@ -131,7 +131,7 @@ fn replies_to_made(
     ensures replies { IfOk result (λ replies. replies.items
         ≡ map reply_text (told_replies (whole_of model.old.book) (made_lines making.now))) }
     ensures book { OnOk result (whole_of model.new.book
-        ≡ after served_machine (whole_of model.old.book) (made_lines making.now)) }
+        ≡ after whole_machine (whole_of model.old.book) (made_lines making.now)) }
 {
     let mut generator = Generator { state: making.seed };
     let mut replies = Vec::new(alloc);

@@ -4,8 +4,9 @@ ghost use Rattle.ic_lines.specs.Bytes.{IfTold, HasFault};
 ghost use Rattle.ic_run.specs.Desk.{setting_of, start, start_book, start_refusal, run_status, texts};
 ghost use Rattle.ic_run.specs.Make.{AppendsSummary, AppendsSummaryFront, made_setting, making_of};
 ghost use Rattle.ic_run.specs.Start.{making_in, setting, setting_in, target_in};
-ghost use Rattle.ic_run.specs.Run.{AppendsReplies, AppendsServedFrom, AreCore, LeavesReplies, LeavesServedFrom};
-ghost use Rattle.ic_run.specs.Translate.{AppendsTranslated, AppendsTranslatedFront, beginning_of, beginning_refusal, target_of};
+ghost use Rattle.ic_run.specs.Core.{AreCore, identity_machine};
+ghost use Rattle.ic_run.specs.Run.{AppendsReplies, AppendsWhole, LeavesReplies, LeavesWhole};
+ghost use Rattle.ic_run.specs.Translate.{AppendsTranslated, AppendsTranslatedFront, IsDue, beginning_of, beginning_refusal, target_of};
 ghost use Rattle.ic_tree.specs.Notations.{notations_of};
 
 use crate::lines::run;
@@ -48,15 +49,15 @@ pub fn desk<S: Source, K: Sink>(
     ensures replies { result ≡ 0 → IfSome (setting_of (texts words.now))
         (λ setting. IfTold (S.left source.old) (S.left source.new) (λ bytes _.
         AreCore tables.now (texts_of bytes) → IfTold (K.written sink.old) (K.written sink.new)
-        (AppendsReplies (notations_of tables.now) (start setting) bytes))) }
+        (AppendsReplies (identity_machine (notations_of tables.now)) (start setting) bytes))) }
 
-    // For all lines those of the machine that is served were, from the whole book.
-    ensures served { result ≡ 0 → IfSome (setting_of (texts words.now))
+    // For all lines those of the whole machine were, from the whole book.
+    ensures all_replies { result ≡ 0 → IfSome (setting_of (texts words.now))
         (λ setting. IfTold (S.left source.old) (S.left source.new) (λ bytes _.
         IfTold (K.written sink.old) (K.written sink.new)
-        (AppendsServedFrom (λ created. start_book setting created tables.now) bytes))) }
+        (AppendsWhole (λ created. start_book setting created tables.now) bytes))) }
 
-    // Of made lines all is told what became of them, by the machine that is served; with 4 a front of that was written, and
+    // Of made lines all is told what became of them, by the whole machine; with 4 a front of that was written, and
     // with 6 nothing. The source stays as it is.
     ensures made { result ≡ 0 → IfSome (making_of (texts words.now))
         (λ making. IfTold (K.written sink.old) (K.written sink.new)
@@ -87,6 +88,11 @@ pub fn desk<S: Source, K: Sink>(
         → IsSome (target_of (texts words.now)) → sink.new ≡ sink.old }
     ensures cannot { result ≡ 7 → IsSome (target_of (texts words.now)) }
 
+    // Whatever the sink tells, 7 comes where one of these lines can't be written so, and 0 where each can.
+    ensures translated_due { (result ≡ 0) ⊎ (result ≡ 7) → IfSome (target_of (texts words.now))
+        (λ target. IfTold (S.left source.old) (S.left source.new) (λ bytes _.
+        IsDue target tables.now result bytes)) }
+
     // Each other status has its cause; that memory ran out may come in place of all but 1 and 2.
     ensures usage { (result ≡ 1) ↔ IsNone (beginning_of (texts words.now)) }
     ensures unknown { (result ≡ 2) ↔ IsSomeAnd (beginning_of (texts words.now))
@@ -107,14 +113,14 @@ pub fn desk<S: Source, K: Sink>(
     ensures stopped { (e : RunError) → result ≡ run_status (Err e) → IfSome
         (setting_of (texts words.now)) (λ setting.
         IfTold (S.left source.old) (S.left source.new) (λ bytes left.
-        LeavesReplies e tables.now (start setting) bytes left (K.written sink.old)
-        (K.written sink.new))) }
+        LeavesReplies (identity_machine (notations_of tables.now)) (start setting)
+        (AreCore tables.now) e bytes left (K.written sink.old) (K.written sink.new))) }
 
-    // Those to all lines are the ones that this error leaves of the machine that is served, from the whole book.
-    ensures stopped_served { (e : RunError) → result ≡ run_status (Err e) → IfSome
+    // Those to all lines are the ones that this error leaves of the whole machine, from the whole book.
+    ensures stopped_whole { (e : RunError) → result ≡ run_status (Err e) → IfSome
         (setting_of (texts words.now)) (λ setting.
         IfTold (S.left source.old) (S.left source.new) (λ bytes left.
-        LeavesServedFrom e (λ created. start_book setting created tables.now) bytes left
+        LeavesWhole e (λ created. start_book setting created tables.now) bytes left
         (K.written sink.old) (K.written sink.new))) }
 
     // Where there is no fault, and the source holds fewer than 2^32 bytes or isn't read, only that memory runs out is left
@@ -189,9 +195,10 @@ fn run_from<S: Source, K: Sink>(
         (λ bytes left. left ≡ []) }
     ensures replies { result ≡ 0 → IfTold (S.left source.old) (S.left source.new) (λ bytes _.
         AreCore tables.now (texts_of bytes) → IfTold (K.written sink.old) (K.written sink.new)
-        (AppendsReplies (notations_of tables.now) (start (setting first.now)) bytes)) }
-    ensures served { result ≡ 0 → IfTold (S.left source.old) (S.left source.new) (λ bytes _.
-        IfTold (K.written sink.old) (K.written sink.new) (AppendsServedFrom
+        (AppendsReplies (identity_machine (notations_of tables.now)) (start (setting first.now))
+        bytes)) }
+    ensures all_replies { result ≡ 0 → IfTold (S.left source.old) (S.left source.new) (λ bytes _.
+        IfTold (K.written sink.old) (K.written sink.new) (AppendsWhole
         (λ created. start_book (setting first.now) created tables.now) bytes)) }
     ensures known { result ≢ 1 }
     ensures unknown { (result ≡ 2) ↔ IsSome (start_refusal (setting first.now) tables.now) }
@@ -204,10 +211,10 @@ fn run_from<S: Source, K: Sink>(
     ensures most { result ≤ 6 }
     ensures stopped { (e : RunError) → result ≡ run_status (Err e)
         → IfTold (S.left source.old) (S.left source.new) (λ bytes left.
-        LeavesReplies e tables.now (start (setting first.now)) bytes left (K.written sink.old)
-        (K.written sink.new)) }
-    ensures stopped_served { (e : RunError) → result ≡ run_status (Err e)
-        → IfTold (S.left source.old) (S.left source.new) (λ bytes left. LeavesServedFrom e
+        LeavesReplies (identity_machine (notations_of tables.now)) (start (setting first.now))
+        (AreCore tables.now) e bytes left (K.written sink.old) (K.written sink.new)) }
+    ensures stopped_whole { (e : RunError) → result ≡ run_status (Err e)
+        → IfTold (S.left source.old) (S.left source.new) (λ bytes left. LeavesWhole e
         (λ created. start_book (setting first.now) created tables.now) bytes left
         (K.written sink.old) (K.written sink.new)) }
     ensures completes { IsNone (start_refusal (setting first.now) tables.now)

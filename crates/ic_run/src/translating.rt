@@ -1,16 +1,16 @@
 //! Command lines in another notation, so that they leave the same book.
 ghost use Rattle.std.specs.Prelude.{List, ℕ, true, Err, IfErr, ◌≡◌, ◌⊎◌, IfOk, IsSome, None, OnErr, OnOk, Some, chars, false};
 ghost use Rattle.ic_machine.specs.Book as machine;
-ghost use Rattle.ic_machine.specs.Command.{Command, OnSheets, command_in, served};
-ghost use Rattle.ic_machine.specs.Step.{english_errors};
+ghost use Rattle.ic_machine.specs.Command.{Command, OnSheets, command_in, commands};
+ghost use Rattle.ic_machine.specs.Step.{english_errors, line_step};
 ghost use Rattle.ic_machine.specs.Translation.{is_dropped, is_switch, left_after};
 ghost use Rattle.ic_machine.specs.subjects.Sheets.{NewSheet, new_sheet_name};
-ghost use Rattle.ic_book.specs.Served.{served_line_step};
+ghost use Rattle.ic_book.specs.Book.{IsValidBook};
 ghost use Rattle.ic_book.specs.Translated.{IsToldWhere, notation_refusal};
 ghost use Rattle.ic_book.specs.Whole.{whole_of};
 ghost use Rattle.ic_run.specs.Counts.{begins_with_o};
 ghost use Rattle.ic_run.specs.Make.{is_ok};
-ghost use Rattle.ic_run.specs.Translate.{HasTranslated, IsPlan, IsTurn, StaysSo, unknown_told};
+ghost use Rattle.ic_run.specs.Translate.{AreAcceptedBeside, HasTranslated, IsPlan, IsTurn, StaysSo, unknown_told};
 
 use crate::counts::is_ok;
 use crate::plan::{Plan, plan_of};
@@ -71,6 +71,10 @@ impl From<AllocFailed<Line>> for TranslateError {
 /// exactly where the own formula of a line that would become one doesn't read (`Raw`), or has a name that is a word of the
 /// language (`Clash`): it names the first such line, and the book is as the lines before that one leave it. `OutOfMemory`
 /// leaves the book as some of the first lines do.
+///
+/// Every book that is the same as the one before, apart from its notation and its styles, and has that notation, accepts the
+/// answered lines in their turn and is then the same as the one after, unless a definition is updated to a body that ends
+/// with a blank in that notation.
 pub fn translate(
     alloc: Global,
     model: &mut Model<'_>,
@@ -82,6 +86,9 @@ pub fn translate(
         (whole_of model.old.book) lines.now result (whole_of model.new.book) }
     ensures unknown { unknown_told result ≡ notation_refusal (chars locale_id.now)
         (chars language_id.now) model.old.book.tables }
+    ensures accepted { IfOk result (λ new. AreAcceptedBeside (chars locale_id.now)
+        (chars language_id.now) (whole_of model.old.book) lines.now
+        (whole_of model.new.book) new.items) }
 {
     let target = target_named(model, locale_id, language_id)?;
     let mut translated = Vec::new(alloc);
@@ -112,7 +119,10 @@ fn target_named<'a>(
         (chars language_id.now) model.now.book.tables }
     ensures err { IfErr result (λ e. (locale language : List ℕ) (book : machine.Book)
         (lines : List (List ℕ)) → HasTranslated locale language book lines (Err e) book) }
+    ensures valid { IsValidBook model.now.book }
 {
+    // What always holds of a model is known from here on.
+    let _ = model.parsed_formula(0, 0);
     match model.notation_named(locale_id, language_id) {
         Ok(target) => Ok(target),
         Err(BookError::InvalidLocale) => Err(TranslateError::InvalidLocale),
@@ -163,7 +173,7 @@ fn do_plan(
 ) -> Result<Turn, OutOfMemory>
     requires tables { target.now.tables ≡ model.old.book.tables }
     requires plan { (command : Command) × (command_in (english_errors (whole_of model.old.book))
-        served line.now ≡ Some command)
+        commands line.now ≡ Some command)
         × IsPlan target.now (whole_of model.old.book) command plan.now }
     ensures turn { IfOk result (IsTurn target.now.locale target.now.language
         (whole_of model.old.book) line.now (whole_of model.new.book)) }
@@ -181,7 +191,7 @@ fn do_plan(
 
 /// Runs a line that goes.
 fn run_alone(alloc: Global, model: &mut Model<'_>, line: &Line) -> Result<Turn, OutOfMemory>
-    requires { (command : Command) × (command_in (english_errors (whole_of model.old.book)) served
+    requires { (command : Command) × (command_in (english_errors (whole_of model.old.book)) commands
         line.now ≡ Some command) × (is_switch command ≡ true) }
     ensures turn { (locale language : List ℕ) → IfOk result (IsTurn locale language
         (whole_of model.old.book) line.now (whole_of model.new.book)) }
@@ -193,7 +203,7 @@ fn run_alone(alloc: Global, model: &mut Model<'_>, line: &Line) -> Result<Turn, 
 
 /// Runs a line that becomes one with the same texts.
 fn run_staying(alloc: Global, model: &mut Model<'_>, line: &Line) -> Result<Turn, OutOfMemory>
-    requires { (command : Command) × (command_in (english_errors (whole_of model.old.book)) served
+    requires { (command : Command) × (command_in (english_errors (whole_of model.old.book)) commands
         line.now ≡ Some command) × StaysSo (whole_of model.old.book) command }
     ensures turn { (locale language : List ℕ) → IfOk result (IsTurn locale language
         (whole_of model.old.book) line.now (whole_of model.new.book)) }
@@ -213,7 +223,7 @@ fn run_adding(
     line: &Line,
     name: &str,
 ) -> Result<Turn, OutOfMemory>
-    requires command { command_in (english_errors (whole_of model.old.book)) served line.now
+    requires command { command_in (english_errors (whole_of model.old.book)) commands line.now
         ≡ Some (OnSheets NewSheet) }
     requires name { chars name.now ≡ new_sheet_name (whole_of model.old.book) }
     ensures turn { (locale language : List ℕ) → IfOk result (IsTurn locale language
@@ -237,7 +247,7 @@ fn run_writing(
 ) -> Result<Turn, OutOfMemory>
     requires tables { target.now.tables ≡ model.old.book.tables }
     requires own { (command : Command) × (command_in (english_errors (whole_of model.old.book))
-        served line.now ≡ Some command) × (is_dropped command ≡ false)
+        commands line.now ≡ Some command) × (is_dropped command ≡ false)
         × IsToldWhere target.now (whole_of model.old.book) command (Some own.now) }
     ensures turn { IfOk result (IsTurn target.now.locale target.now.language
         (whole_of model.old.book) line.now (whole_of model.new.book)) }
@@ -257,7 +267,7 @@ fn run_writing(
 /// Runs a line on a book, and answers whether it is accepted.
 fn is_accepted(alloc: Global, model: &mut Model<'_>, line: &Line) -> Result<bool, OutOfMemory>
     ensures accepted { IfOk result (λ b. b
-        ≡ is_ok (served_line_step (whole_of model.old.book) line.now).1) }
+        ≡ is_ok (line_step commands (whole_of model.old.book) line.now).1) }
     ensures left { OnOk result (whole_of model.new.book
         ≡ left_after (whole_of model.old.book) line.now) }
     ensures tables { OnOk result (model.new.book.tables ≡ model.old.book.tables) }

@@ -7,7 +7,7 @@ ghost use Rattle.ic_book.specs.Whole.{whole_of};
 ghost use Rattle.ic_run.specs.Desk.{run_status, start_refusal, texts};
 ghost use Rattle.ic_run.specs.Make.{made_setting};
 ghost use Rattle.ic_run.specs.Start.{target};
-ghost use Rattle.ic_run.specs.Translate.{AppendsTold, AppendsToldFront, AppendsTranslated, AppendsTranslatedFront, ended_line, switches, target_of, target_refusal, told_bytes, told_cannot, why_name};
+ghost use Rattle.ic_run.specs.Translate.{AppendsTold, AppendsToldFront, AppendsTranslated, AppendsTranslatedFront, IsDue, due_status, ended_line, switches, target_of, target_refusal, told_bytes, told_cannot, why_name};
 
 use crate::make::written;
 use crate::start::{english_start, first_book};
@@ -59,6 +59,9 @@ pub fn translation<S: Source, K: Sink>(
         → IfTold (S.left source.old) (S.left source.new) (λ bytes _.
         IfTold (K.written sink.old) (K.written sink.new)
         (AppendsTranslated (target wanted.now) tables.now result bytes)) }
+    ensures due { (result ≡ 0) ⊎ (result ≡ 7)
+        → IfTold (S.left source.old) (S.left source.new) (λ bytes _.
+        IsDue (target wanted.now) tables.now result bytes) }
     ensures front { result ≡ 4 → IfTold (S.left source.old) (S.left source.new) (λ bytes _.
         IfTold (K.written sink.old) (K.written sink.new)
         (AppendsTranslatedFront (target wanted.now) tables.now bytes)) }
@@ -112,6 +115,9 @@ fn from_book<S: Source, K: Sink>(
         → IfTold (S.left source.old) (S.left source.new) (λ bytes _.
         IfTold (K.written sink.old) (K.written sink.new)
         (AppendsTold (target wanted.now) (whole_of model.old.book) (texts_of bytes) result)) }
+    ensures due { (result ≡ 0) ⊎ (result ≡ 7)
+        → IfTold (S.left source.old) (S.left source.new) (λ bytes _.
+        due_status (target wanted.now) (whole_of model.old.book) (texts_of bytes) ≡ result) }
     ensures front { result ≡ 4 → IfTold (S.left source.old) (S.left source.new) (λ bytes _.
         IfTold (K.written sink.old) (K.written sink.new)
         (AppendsToldFront (target wanted.now) (whole_of model.old.book) (texts_of bytes))) }
@@ -160,6 +166,8 @@ fn write_translated<K: Sink>(
     requires { IsNone (target_refusal (target wanted.now) model.old.book.tables) }
     ensures told { (result ≡ 0) ⊎ (result ≡ 7) → IfTold (K.written sink.old) (K.written sink.new)
         (AppendsTold (target wanted.now) (whole_of model.old.book) lines.now result) }
+    ensures due { (result ≡ 0) ⊎ (result ≡ 7)
+        → due_status (target wanted.now) (whole_of model.old.book) lines.now ≡ result }
     ensures front { result ≡ 4 → IfTold (K.written sink.old) (K.written sink.new)
         (AppendsToldFront (target wanted.now) (whole_of model.old.book) lines.now) }
     ensures nothing { result ≡ 6 → sink.new ≡ sink.old }

@@ -1,11 +1,11 @@
--- The table of all served commands, one subject after another.
-use Rattle.std.proofs.Common.{◌≡◌, ◌≢◌, ℕ, List, [], ◌∷◌, ◌++◌, Bool, true, false, ◌&&◌, ◌||◌, Option, Some, None, IsUtf8, bytes_eq, chars, codes, option_map, option_and_then, refl, ap, sym, subst, ◌∙◌, inl, inr}
+-- The table of all commands, one subject after another.
+use Rattle.std.proofs.Common.{◌≡◌, ◌≢◌, ℕ, List, [], ◌∷◌, ◌++◌, map, Bool, true, false, ◌&&◌, ◌||◌, Option, Some, None, IsUtf8, bytes_eq, chars, codes, option_map, option_and_then, refl, ap, sym, subst, ◌∙◌, inl, inr}
 use Rattle.std.specs.List.{AllByRecursion, list_all}
 use Rattle.std.proofs.lemmas.Bool.{and_parts, cases_Bool, false_from_ne_true}
 use Rattle.std.proofs.lemmas.Slice.Eq.{bytes_eq-Decides}
 use Rattle.ic_laws.specs.Lines.{word_texts}
-use Rattle.ic_machine.specs.Command.{Command, OnArrays, OnDefinitions, OnExtending, OnLayout, OnNotation, OnReading, OnSheets, OnStyles, OnTabs, OnWriting, commands, served}
-use Rattle.ic_machine.specs.Row.{Row, joined, named}
+use Rattle.ic_machine.specs.Command.{Command, OnArrays, OnDefinitions, OnExtending, OnLayout, OnNotation, OnReading, OnSheets, OnStyles, OnTabs, OnWriting, commands}
+use Rattle.ic_machine.specs.Row.{Row, joined, named, row_in}
 use Rattle.ic_machine.specs.Word.{Done, Many, OfAmount, OfBool, OfColor, OfFlag, OfIndex, OfPosition, OfScope, OfSpill, OfState, OfText, OfValue, Then, WordForm, Words, all_said, each_said, said, some_said, words_of, words_said}
 use Rattle.ic_machine.specs.subjects.Arrays.{PutFormulaValue, PutSpill, array_rows, block_said}
 use Rattle.ic_machine.specs.subjects.Definitions.{definition_rows}
@@ -17,7 +17,7 @@ use Rattle.ic_machine.specs.subjects.Sheets.{sheet_rows}
 use Rattle.ic_machine.specs.subjects.Styles.{style_rows}
 use Rattle.ic_machine.specs.subjects.Tabs.{tab_rows}
 use Rattle.ic_machine.specs.subjects.Writing.{writing_rows}
-use Rattle.ic_words.specs.Kinds.{IsKind, kind_said, served_of}
+use Rattle.ic_words.specs.Kinds.{IsKind, kind_said}
 use Rattle.ic_words.specs.Words.{copies_values}
 use Rattle.ic_words.specs.subjects.Arrays.{spill_put_said, value_put_said}
 use Rattle.ic_words.specs.declared.command.kind.Kind.{Kind}
@@ -101,47 +101,47 @@ module _ (english : List (List ℕ)) (name : List ℕ) (words : List (List ℕ))
 
 -- Names are ASCII, so it is the same to find them by bytes or by characters. ----
 
-served_ascii : has_ascii_names (λ (row : Row Command). row.name) served ≡ true
-unfolding commands served
-served_ascii = refl
+ascii_names : has_ascii_names (λ (row : Row Command). row.name) commands ≡ true
+unfolding commands
+ascii_names = refl
 
-found_same_named : (english : List (List ℕ)) (name : List ℕ) (words : List (List ℕ)) → IsUtf8 name → named english served (chars name) words ≡ named english served name words
-found_same_named english name words u = ap (λ (o : Option (Row Command)). option_map (λ (row : Row Command). option_map row.command (words_said english row.words words)) o) (found_same (λ (row : Row Command). row.name) served name u served_ascii)
+found_same_named : (english : List (List ℕ)) (name : List ℕ) (words : List (List ℕ)) → IsUtf8 name → named english commands (chars name) words ≡ named english commands name words
+found_same_named english name words u = ap (λ (o : Option (Row Command)). option_map (λ (row : Row Command). option_map row.command (words_said english row.words words)) o) (found_same (λ (row : Row Command). row.name) commands name u ascii_names)
 
--- The served rows are those of the subjects, one after another ----
+-- The rows are those of the subjects, one after another ----
 
 abbrev pub from_arrays : List (Row Command)
-from_arrays = served_of OnArrays array_rows
+from_arrays = map (row_in OnArrays) array_rows
 
 abbrev pub from_tabs : List (Row Command)
-from_tabs = served_of OnTabs tab_rows ++ from_arrays
+from_tabs = map (row_in OnTabs) tab_rows ++ from_arrays
 
 abbrev pub from_layout : List (Row Command)
-from_layout = served_of OnLayout layout_rows ++ from_tabs
+from_layout = map (row_in OnLayout) layout_rows ++ from_tabs
 
 abbrev pub from_styles : List (Row Command)
-from_styles = served_of OnStyles style_rows ++ from_layout
+from_styles = map (row_in OnStyles) style_rows ++ from_layout
 
 abbrev pub from_extending : List (Row Command)
-from_extending = served_of OnExtending extending_rows ++ from_styles
+from_extending = map (row_in OnExtending) extending_rows ++ from_styles
 
 abbrev pub from_reading : List (Row Command)
-from_reading = served_of OnReading reading_rows ++ from_extending
+from_reading = map (row_in OnReading) reading_rows ++ from_extending
 
 abbrev pub from_writing : List (Row Command)
-from_writing = served_of OnWriting writing_rows ++ from_reading
+from_writing = map (row_in OnWriting) writing_rows ++ from_reading
 
 abbrev pub from_notation : List (Row Command)
-from_notation = served_of OnNotation notation_rows ++ from_writing
+from_notation = map (row_in OnNotation) notation_rows ++ from_writing
 
 abbrev pub from_definitions : List (Row Command)
-from_definitions = served_of OnDefinitions definition_rows ++ from_notation
+from_definitions = map (row_in OnDefinitions) definition_rows ++ from_notation
 
-by_rows : served ≡ served_of OnSheets sheet_rows ++ from_definitions
-unfolding commands served
+by_rows : commands ≡ map (row_in OnSheets) sheet_rows ++ from_definitions
+unfolding commands
 by_rows = refl
 
-pub by_subjects : (english : List (List ℕ)) (name : List ℕ) (words : List (List ℕ)) → IsUtf8 name → named english served (chars name) words ≡ named english (served_of OnSheets sheet_rows ++ from_definitions) name words
+pub by_subjects : (english : List (List ℕ)) (name : List ℕ) (words : List (List ℕ)) → IsUtf8 name → named english commands (chars name) words ≡ named english (map (row_in OnSheets) sheet_rows ++ from_definitions) name words
 by_subjects english name words u = found_same_named english name words u ∙ ap (λ rows. named english rows name words) by_rows
 
 -- what the code has of the subject that is next: the kind of the name, or none
@@ -169,8 +169,8 @@ module _ (english : List (List ℕ)) (name : List ℕ) (words : List (List ℕ))
 pub named_so : {C : Type 0} (subject : C → Command) (rows : List (Row C)) (name literal : List ℕ) (kind : Option Kind) → name ≡ literal → IsKind subject rows literal kind → IsKind subject rows name kind
 named_so subject rows name literal kind is known = subst (λ n. IsKind subject rows n kind) (sym is) known
 
-pub unserved : {C : Type 0} (subject : C → Command) (rows : List (Row C)) (name : List ℕ) → AllByRecursion (λ (row : Row Command). name ≢ row.name) (served_of subject rows) → IsKind subject rows name None
-unserved subject rows name h words = rw (not_found (λ (row : Row Command). row.name) (served_of subject rows) name h) refl
+pub unnamed : {C : Type 0} (subject : C → Command) (rows : List (Row C)) (name : List ℕ) → AllByRecursion (λ (row : Row Command). name ≢ row.name) (map (row_in subject) rows) → IsKind subject rows name None
+unnamed subject rows name h words = rw (not_found (λ (row : Row Command). row.name) (map (row_in subject) rows) name h) refl
 
 -- The two commands whose words are values ----
 
@@ -189,18 +189,18 @@ map_map f g None = refl
 map_map f g (Some x) = refl
 
 module _ (english : List (List ℕ)) (words : List (List ℕ)) where
-  value_row : option_map OnArrays (value_put_said english words) ≡ joined (named english served (codes "put_formula_value") words)
-  unfolding commands served
+  value_row : option_map OnArrays (value_put_said english words) ≡ joined (named english commands (codes "put_formula_value") words)
+  unfolding commands
   value_row = sym (map_map (λ w. PutFormulaValue w.0 (w.1.0, w.1.1.0) w.1.1.1.0) OnArrays (words_said english (words_of (OfIndex ∷ OfPosition ∷ OfPosition ∷ OfValue ∷ [])) words))
 
-  spill_row : option_map OnArrays (spill_put_said english words) ≡ joined (named english served (codes "put_spill") words)
-  unfolding commands served
+  spill_row : option_map OnArrays (spill_put_said english words) ≡ joined (named english commands (codes "put_spill") words)
+  unfolding commands
   spill_row =
       sym (map_map (λ w. PutSpill w.0 (block_said w.1.0 w.1.1.0 w.1.1.1.0 w.1.1.1.1.0) w.1.1.1.1.1) OnArrays
       (words_said english (Then OfIndex (Then OfPosition (Then OfPosition (Then OfPosition (Then OfPosition (Many OfSpill)))))) words))
 
-  pub value_named : (name : List ℕ) → IsUtf8 name → name ≡ codes "put_formula_value" → option_map OnArrays (value_put_said english words) ≡ joined (named english served (chars name) words)
-  value_named name u is = value_row ∙ ap (λ n. joined (named english served n words)) (sym is) ∙ sym (ap joined (found_same_named english name words u))
+  pub value_named : (name : List ℕ) → IsUtf8 name → name ≡ codes "put_formula_value" → option_map OnArrays (value_put_said english words) ≡ joined (named english commands (chars name) words)
+  value_named name u is = value_row ∙ ap (λ n. joined (named english commands n words)) (sym is) ∙ sym (ap joined (found_same_named english name words u))
 
-  pub spill_named : (name : List ℕ) → IsUtf8 name → name ≡ codes "put_spill" → option_map OnArrays (spill_put_said english words) ≡ joined (named english served (chars name) words)
-  spill_named name u is = spill_row ∙ ap (λ n. joined (named english served n words)) (sym is) ∙ sym (ap joined (found_same_named english name words u))
+  pub spill_named : (name : List ℕ) → IsUtf8 name → name ≡ codes "put_spill" → option_map OnArrays (spill_put_said english words) ≡ joined (named english commands (chars name) words)
+  spill_named name u is = spill_row ∙ ap (λ n. joined (named english commands n words)) (sym is) ∙ sym (ap joined (found_same_named english name words u))

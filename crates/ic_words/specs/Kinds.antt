@@ -1,10 +1,10 @@
--- The served commands by what their words are, and what each makes of what they say.
+-- The commands by what their words are, and what each makes of what they say.
 use Rattle.std.specs.Prelude.{◌≡◌, ℕ, ℤ, List, [], ◌∷◌, map, Bool, Option, option_map}
 use Rattle.ic_cells.specs.declared.sheet.SheetState.{SheetState}
 use Rattle.ic_cells.specs.declared.style.Color.{Color}
 use Rattle.ic_cells.specs.declared.style.Style.{Style}
-use Rattle.ic_machine.specs.Command.{Command, OnArrays, OnDefinitions, OnExtending, OnLayout, OnNotation, OnReading, OnSheets, OnStyles, OnTabs, OnWriting, served, served_names}
-use Rattle.ic_machine.specs.Row.{Row, named, row_in, rows_named}
+use Rattle.ic_machine.specs.Command.{Command, OnArrays, OnDefinitions, OnExtending, OnLayout, OnNotation, OnReading, OnSheets, OnStyles, OnTabs, OnWriting, commands}
+use Rattle.ic_machine.specs.Row.{Row, named, row_in}
 use Rattle.ic_machine.specs.Word.{OfAmount, OfBool, OfColor, OfFlag, OfIndex, OfPosition, OfScope, OfState, OfText, words_of}
 use Rattle.ic_machine.specs.subjects.Sheets as sheets
 use Rattle.ic_machine.specs.subjects.Definitions as definitions
@@ -215,17 +215,13 @@ kind_said (kinds.ColoredSheet kind) words = option_map (λ w. color_said kind w.
 kind_said (kinds.SheetInState kind) words = option_map (λ w. state_said kind w.0 w.1.0) (words_said (words_of (OfIndex ∷ OfState ∷ [])) words)
 kind_said (kinds.SwitchedSheet kind) words = option_map (λ w. switch_said kind w.0 w.1.0) (words_said (words_of (OfIndex ∷ OfBool ∷ [])) words)
 
--- the served rows of a subject, as rows of all commands
-abbrev pub served_of : {C : Type 0} → (C → Command) → List (Row C) → List (Row Command)
-served_of subject rows = map (row_in subject) (rows_named served_names rows)
-
--- What words after a name are by the served rows of a subject, they are as a command of this kind; without a kind the
--- subject doesn't serve the name.
+-- What words after a name are by the rows of a subject, they are as a command of this kind; without a kind the subject
+-- lacks the name.
 abbrev pub IsKind : {C : Type 0} → (C → Command) → List (Row C) → List ℕ → Option Kind → Type 0
 IsKind subject rows name kind =
-    (words : List (List ℕ)) → option_map (λ k. kind_said k words) kind ≡ named [] (served_of subject rows) name words
+    (words : List (List ℕ)) → option_map (λ k. kind_said k words) kind ≡ named [] (map (row_in subject) rows) name words
 
 -- the same by the rows of all subjects, by whatever English words of the error values
-abbrev pub IsServedKind : List ℕ → Option Kind → Type 0
-IsServedKind name kind =
-    (english words : List (List ℕ)) → option_map (λ k. kind_said k words) kind ≡ named english served name words
+abbrev pub IsCommandKind : List ℕ → Option Kind → Type 0
+IsCommandKind name kind =
+    (english words : List (List ℕ)) → option_map (λ k. kind_said k words) kind ≡ named english commands name words

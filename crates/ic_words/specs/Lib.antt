@@ -1,7 +1,6 @@
 pub mod Command
 pub mod Kinds
 pub mod Reply
-pub mod Served
 pub mod Styling
 pub mod Words
 pub mod subjects

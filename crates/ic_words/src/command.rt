@@ -1,10 +1,10 @@
 ghost use Rattle.std.specs.Prelude.{◌≡◌, ◌⊎◌, IfOk, OnErr, chars, false, option_map, true};
 ghost use Rattle.ic_laws.specs.Lines.{words_of};
 ghost use Rattle.ic_tables.specs.Words.{error_words};
-ghost use Rattle.ic_machine.specs.Command.{command_in, served};
+ghost use Rattle.ic_machine.specs.Command.{command_in, commands};
 ghost use Rattle.ic_machine.specs.Row.{joined, named};
 ghost use Rattle.ic_words.specs.Command.{command_meant};
-ghost use Rattle.ic_words.specs.Kinds.{IsServedKind};
+ghost use Rattle.ic_words.specs.Kinds.{IsCommandKind};
 ghost use Rattle.ic_words.specs.Words.{CopyValues, HaveEscape, copies_values, words_left};
 
 pub mod arrays;
@@ -37,9 +37,8 @@ use styles::{Styles, styles_named};
 use tabs::{Tabs, tabs_named};
 use writing::{Writing, writing_named};
 
-/// A command that is served, by its subject. Sheets are told by their index from 0 in the order of the book, or by name
-/// or id; rows and columns count from 1. The scope of a definition is the index of a sheet, or None where it is the whole
-/// book.
+/// A command, by its subject. Sheets are told by their index from 0 in the order of the book, or by name or id; rows and
+/// columns count from 1. The scope of a definition is the index of a sheet, or None where it is the whole book.
 #[derive(Drop)]
 pub enum Command<'l> {
     Sheets(Sheets<'l>),
@@ -54,7 +53,7 @@ pub enum Command<'l> {
     Arrays(Arrays<'l>),
 }
 
-/// The command that a line is, where this is the language `en`; None where it is none that is served: another name, fewer or
+/// The command that a line is, where this is the language `en`; None where it is none: another name, fewer or
 /// more words, a number that isn't one of its type, a value that is none, or a wrong escape. Memory is asked for only for a
 /// text with an escape, and for values.
 pub fn command_in<'l>(
@@ -63,7 +62,7 @@ pub fn command_in<'l>(
     line: &'l str,
 ) -> Result<Option<Command<'l>>, OutOfMemory>
     ensures exact { IfOk result (λ command. option_map command_meant command
-        ≡ command_in (error_words english.now) served (chars line.now)) }
+        ≡ command_in (error_words english.now) commands (chars line.now)) }
     ensures memory { OnErr result
         (HaveEscape (words_of (chars line.now)) ⊎ CopyValues (words_of (chars line.now))) }
 {
@@ -80,7 +79,7 @@ fn command_named<'l>(
 ) -> Result<Option<Command<'l>>, OutOfMemory>
     ensures exact { IfOk result
         (λ command. option_map command_meant command ≡ joined
-        (named (error_words english.now) served (chars name.now) (words_left rest.entry))) }
+        (named (error_words english.now) commands (chars name.now) (words_left rest.entry))) }
     ensures memory { OnErr result
         (HaveEscape (words_left rest.entry) ⊎ (copies_values (chars name.now) ≡ true)) }
 {
@@ -96,7 +95,7 @@ fn command_named<'l>(
 
 /// The kind of the command of this name, where its words aren't values: that of the one subject that has the name.
 fn kind_named(name: &str) -> Option<Kind>
-    ensures { copies_values name.now ≡ false → IsServedKind (chars name.now) result }
+    ensures { copies_values name.now ≡ false → IsCommandKind (chars name.now) result }
 {
     if let Some(kind) = sheets_named(name) {
         return Some(kind);

@@ -3,15 +3,14 @@ ghost use Rattle.std.specs.Prelude.{◌≡◌, ◌++◌, Bool, List, OnErr, OnOk
 ghost use Rattle.ic_machine.specs.Fields.{definitions_fields, fields_of_definition, fields_of_sheet, no_fields, scope_field};
 ghost use Rattle.ic_machine.specs.Fields.{sheets_fields, string_field, string_only, theme_field};
 ghost use Rattle.ic_machine.specs.Reply.{Field, bool_field, field_word, number_field, position_field};
-ghost use Rattle.ic_machine.specs.Styling.{color_text};
 ghost use Rattle.ic_words.specs.Reply.{AreTexts};
 
 mod cells;
 mod settings;
 mod styles;
 
-use crate::reply::{push_field, push_index, push_number, push_position, push_truth};
-use ic_cells::{Color, SheetProperties, Theme};
+use crate::reply::{push_color, push_field, push_index, push_number, push_position, push_truth};
+use ic_cells::{SheetProperties, Theme};
 use ic_laws::OutOfMemory;
 
 /// An answer that a reply shows by its fields.
@@ -177,16 +176,6 @@ fn push_sheet(reply: &mut String, sheet: &SheetProperties) -> Result<(), OutOfMe
 {
     push_field(reply, sheet.name.as_str())?;
     push_field(reply, sheet.state.as_str())?;
-    push_field(reply, color_text(&sheet.color))?;
+    push_color(reply, &sheet.color)?;
     push_number(reply, Some(sheet.sheet_id))
-}
-
-/// The text of a color, or `-` for none.
-pub(crate) fn color_text(color: &Color) -> &str
-    ensures { chars result.now ≡ color_text color.now }
-{
-    match color {
-        Color::None => "-",
-        Color::Rgb(text) => text.as_str(),
-    }
 }

@@ -5,13 +5,14 @@ ghost use Rattle.std.specs.Fmt.{decimal};
 ghost use Rattle.ic_laws.specs.Character.{line_feed};
 ghost use Rattle.ic_laws.specs.Lines.{escape_of, escaped};
 ghost use Rattle.ic_machine.specs.Refusal.{Refusal, refusal_name};
-ghost use Rattle.ic_machine.specs.Reply.{AmountField, BoolField, FlagField, NumberField, PositionField};
-ghost use Rattle.ic_machine.specs.Reply.{TextField, field_text, field_word};
+ghost use Rattle.ic_machine.specs.Reply.{AmountField, BoolField, ColorField, FlagField, NumberField, PositionField};
+ghost use Rattle.ic_machine.specs.Reply.{TextField, color_text, field_text, field_word};
 ghost use Rattle.ic_machine.specs.Reply.{position_text, reply_bytes, reply_text};
 ghost use Rattle.ic_machine.specs.subjects.Sheets.{named_fields};
 ghost use Rattle.ic_words.specs.Reply.{IsLineText, reply_room};
 
 use crate::fields::Fields;
+use ic_cells::Color;
 use ic_laws::scan::{first_char, push_char};
 use ic_laws::{Amount, OutOfMemory, amount_spelling};
 use ic_lines::push_escaped;
@@ -152,6 +153,25 @@ pub(crate) fn push_flag(reply: &mut String, flag: bool) -> Result<(), OutOfMemor
         push_field(reply, "1")
     } else {
         push_field(reply, "0")
+    }
+}
+
+/// Appends a field that is a color: a tab, and its text with escapes, or a minus where there is none.
+pub(crate) fn push_color(reply: &mut String, color: &Color) -> Result<(), OutOfMemory>
+    ensures ok { OnOk result (chars (string_bytes reply.new) ≡ chars (string_bytes reply.old)
+        ++ field_word (ColorField color.now)) }
+    ensures text { scalars (field_text (ColorField color.now)) ≡ true }
+{
+    push_field(reply, color_text(color))
+}
+
+/// The text of a color, or `-` for none.
+fn color_text(color: &Color) -> &str
+    ensures { chars result.now ≡ color_text color.now }
+{
+    match color {
+        Color::None => "-",
+        Color::Rgb(text) => text.as_str(),
     }
 }
 

@@ -15,11 +15,11 @@ def row_in(subject, row):
 
 COMMANDS = [row_in(subject, row) for subject, module in SUBJECTS for row in module.ROWS]
 
-SERVED_NAMES = ("add_sheet", "rename_sheet", "rename_sheet_by_index", "move_sheet", "delete_sheet", "delete_sheet_by_name",
-                "delete_sheet_by_sheet_id", "new_defined_name", "delete_defined_name", "is_valid_defined_name",
-                "get_defined_name_list", "get_new_sheet_id", "set_locale", "set_language", "update_cell_with_formula",
-                "get_cell_formula")
-SERVED = [row for row in COMMANDS if row[0] in SERVED_NAMES]
+CORE_NAMES = ("add_sheet", "rename_sheet", "rename_sheet_by_index", "move_sheet", "delete_sheet", "delete_sheet_by_name",
+              "delete_sheet_by_sheet_id", "new_defined_name", "delete_defined_name", "is_valid_defined_name",
+              "get_defined_name_list", "get_new_sheet_id", "set_locale", "set_language", "update_cell_with_formula",
+              "get_cell_formula")
+CORE_COMMANDS = [row for row in COMMANDS if row[0] in CORE_NAMES]
 
 
 def command_in(english, rows, line):

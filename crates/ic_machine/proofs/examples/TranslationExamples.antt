@@ -23,7 +23,7 @@ use Rattle.ic_laws.proofs.binding.Again.{bound_node, spelled-node}
 use Rattle.ic_laws.proofs.parsing.Nodes.{yield-node}
 use Rattle.ic_tree.specs.LanguageWords.{boolean_of}
 use Rattle.ic_tree.specs.Notations.{notations_of}
-use Rattle.ic_machine.specs.Command.{commands, served}
+use Rattle.ic_machine.specs.Command.{commands}
 use Rattle.ic_machine.specs.InForce.{shown_words, typed_in}
 use Rattle.ic_machine.specs.Retyped.{clashes_in}
 use Rattle.ic_machine.specs.Translation.{AreTranslated, Clash, Raw, cell_text, first_hindered, in_notation, line_of, texts_of, why_not, with_last}
@@ -45,16 +45,16 @@ last = refl
 
 -- the second sheet is named in the language of its line
 sheets : AreTranslated (codes "es") (codes "es") start (codes "add_sheet\tA" ∷ codes "new_sheet" ∷ []) (codes "add_sheet\tA" ∷ codes "add_sheet\tSheet2" ∷ [])
-unfolding served commands caseless core_step add_sheet_step new_sheet_step digits
+unfolding commands caseless core_step add_sheet_step new_sheet_step digits
 sheets = ((codes "add_sheet" ∷ codes "A" ∷ [], (refl, refl)), ((codes "add_sheet" ∷ codes "Sheet2" ∷ [], (refl, refl)), refl))
 
 -- a switch of the language goes, and so do a reader, a refused line and what is no command
 gone : AreTranslated (codes "en") (codes "en") start (codes "set_language\tes" ∷ codes "get_language" ∷ codes "add_sheet\tSHEET1" ∷ codes "" ∷ codes "new_sheet" ∷ []) (codes "add_sheet\tHoja1" ∷ [])
-unfolding served commands caseless core_step add_sheet_step new_sheet_step get_language_step notations_of set_language_step digits
+unfolding commands caseless core_step add_sheet_step new_sheet_step get_language_step notations_of set_language_step digits
 gone = ((codes "add_sheet" ∷ codes "Hoja1" ∷ [], (refl, refl)), refl)
 
 none_hindered : first_hindered (codes "es") (codes "es") 1 start (codes "add_sheet\tA" ∷ codes "new_sheet" ∷ []) ≡ None
-unfolding served commands caseless core_step add_sheet_step new_sheet_step digits
+unfolding commands caseless core_step add_sheet_step new_sheet_step digits
 none_hindered = refl
 
 -- what is typed in Spanish

@@ -1,5 +1,5 @@
 -- The commands on the locale, the language, the zone, and the formats that they give.
-use Rattle.std.specs.Prelude.{ℕ, ℤ, pos, ◌*◌, ◌^◌, List, [], ◌∷◌, ◌++◌, flat_map, not, ◌==◌, codes, if◌then◌else◌}
+use Rattle.std.specs.Prelude.{ℕ, ℤ, pos, ◌*◌, ◌^◌, List, [], ◌∷◌, ◌++◌, flat_map, map, not, ◌==◌, codes, if◌then◌else◌}
 use Rattle.ic_laws.specs.Amount.{units_of_one}
 use Rattle.ic_laws.specs.Character.{blank, double_quote}
 use Rattle.ic_laws.specs.Command as core
@@ -61,12 +61,17 @@ currency_sign = 164
 abbrev pub firm_blank : ℕ
 firm_blank = 160
 
--- the format of currencies as a code: with the symbol in double quotes for its sign, and a plain blank for a firm one
+-- a character of a format of currencies, with the symbol in double quotes for its sign
 abbrev pub as_code : List ℕ → ℕ → List ℕ
-as_code symbol c = if c == currency_sign then double_quote ∷ (symbol ++ double_quote ∷ []) else if c == firm_blank then blank ∷ [] else c ∷ []
+as_code symbol c = if c == currency_sign then double_quote ∷ (symbol ++ double_quote ∷ []) else c ∷ []
 
+-- a plain blank for a firm one
+abbrev pub plain_blank : ℕ → ℕ
+plain_blank c = if c == firm_blank then blank else c
+
+-- the format of currencies as a code: the symbol is put in first, so its own firm blanks become plain ones, too
 abbrev pub currency_code : Locale → List ℕ
-currency_code l = flat_map (as_code l.currency.symbol) l.numbers.currency_formats.standard
+currency_code l = map plain_blank (flat_map (as_code l.currency.symbol) l.numbers.currency_formats.standard)
 
 -- 15 December 2025, and the amount 1234.567
 abbrev pub example_day : ℤ

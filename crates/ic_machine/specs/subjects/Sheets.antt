@@ -16,9 +16,8 @@ use Rattle.ic_cells.specs.Sheet.{state_word}
 use Rattle.ic_machine.specs.Book.{Book, Sheet, Stepped, as_core, core_of, empty_sheet, found_or, notations_in, scene_in, unless_refused}
 use Rattle.ic_machine.specs.Changed.{changed_by, with_moved_sheet, with_removed_sheet, with_renamed_sheet}
 use Rattle.ic_machine.specs.Refusal.{Causes, IdLive, IdsUsedUp, InvalidSheet, InvalidSheetName, OutOfRange, SheetExists}
-use Rattle.ic_machine.specs.Reply.{Field, NumberField, TextField}
+use Rattle.ic_machine.specs.Reply.{ColorField, Field, NumberField, TextField}
 use Rattle.ic_machine.specs.Row.{Row}
-use Rattle.ic_machine.specs.Styling.{color_text}
 use Rattle.ic_machine.specs.Word.{OfIndex, OfScope, OfText, words_of}
 pub use Rattle.ic_keep.specs.Copy.{copied_formula, copy_spelling}
 
@@ -221,7 +220,7 @@ new_sheet_id_step book = lifted book core.GetNewSheetId book
 
 -- a sheet's name, state, color and id
 abbrev pub property_fields : Sheet → List Field
-property_fields sheet = TextField sheet.name ∷ TextField (state_word sheet.tab.state) ∷ TextField (color_text sheet.tab.color) ∷ NumberField (Some sheet.id) ∷ []
+property_fields sheet = TextField sheet.name ∷ TextField (state_word sheet.tab.state) ∷ ColorField sheet.tab.color ∷ NumberField (Some sheet.id) ∷ []
 
 unfoldable pub properties_step : Book → Stepped Book
 properties_step book = unless_refused [] book (flat_map property_fields book.sheets)

@@ -1,4 +1,4 @@
--- The served commands on arrays, spills and clearing, as the code has them.
+-- The commands on arrays, spills and clearing, as the code has them.
 use Rattle.std.specs.Prelude.{ℕ, List, [], ◌∷◌, Option, option_map}
 use Rattle.ic_machine.specs.Word.{Many, OfIndex, OfPosition, OfSpill, OfValue, Then, words_of, words_said}
 use Rattle.ic_machine.specs.subjects.Arrays as laws

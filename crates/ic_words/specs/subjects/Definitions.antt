@@ -1,4 +1,4 @@
--- The served commands on definitions, as the code has them.
+-- The commands on definitions, as the code has them.
 use Rattle.ic_machine.specs.subjects.Definitions as laws
 use Rattle.ic_machine.specs.subjects.Definitions.{update_of}
 use Rattle.ic_words.specs.declared.command.definitions.DefinitionUpdate.{DefinitionUpdate}

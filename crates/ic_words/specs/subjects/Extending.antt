@@ -1,4 +1,4 @@
--- The served commands that write a formula out for another cell, and the one that reads the name of a cell, as the code has
+-- The commands that write a formula out for another cell, and the one that reads the name of a cell, as the code has
 -- them.
 use Rattle.ic_refs.specs.declared.reference.CellReferenceIndex.{CellReferenceIndex}
 use Rattle.ic_machine.specs.subjects.Extending as laws

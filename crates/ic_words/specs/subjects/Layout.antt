@@ -1,4 +1,4 @@
--- The served commands on the layout of rows and columns, as the code has them.
+-- The commands on the layout of rows and columns, as the code has them.
 use Rattle.ic_machine.specs.subjects.Layout as laws
 use Rattle.ic_words.specs.declared.command.layout.Layout.{Layout}
 use Rattle.ic_words.specs.declared.command.layout.Layout.TheVariants as commands

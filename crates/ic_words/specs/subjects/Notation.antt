@@ -1,4 +1,4 @@
--- The served commands on the locale, the language and the time zone, as the code has them.
+-- The commands on the locale, the language and the time zone, as the code has them.
 use Rattle.ic_machine.specs.subjects.Notation as laws
 use Rattle.ic_words.specs.declared.command.notation.Notation.{Notation}
 use Rattle.ic_words.specs.declared.command.notation.Notation.TheVariants as commands

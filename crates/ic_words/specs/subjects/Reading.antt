@@ -1,4 +1,4 @@
--- The served commands that read cells, as the code has them.
+-- The commands that read cells, as the code has them.
 use Rattle.ic_machine.specs.subjects.Reading as laws
 use Rattle.ic_words.specs.declared.command.reading.Reading.{Reading}
 use Rattle.ic_words.specs.declared.command.reading.Reading.TheVariants as commands

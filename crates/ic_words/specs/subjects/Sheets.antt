@@ -1,4 +1,4 @@
--- The served commands on the list of sheets, as the code has them.
+-- The commands on the list of sheets, as the code has them.
 use Rattle.ic_machine.specs.subjects.Sheets as laws
 use Rattle.ic_words.specs.declared.command.sheets.Sheets.{Sheets}
 use Rattle.ic_words.specs.declared.command.sheets.Sheets.TheVariants as commands

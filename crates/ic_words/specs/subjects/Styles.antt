@@ -1,4 +1,4 @@
--- The served commands on styles, as the code has them.
+-- The commands on styles, as the code has them.
 use Rattle.ic_machine.specs.subjects.Styles as laws
 use Rattle.ic_words.specs.Styling.{style_meant}
 use Rattle.ic_words.specs.declared.command.styles.Styles.{Styles}

@@ -1,4 +1,4 @@
--- The served commands on tabs and on the theme, as the code has them.
+-- The commands on tabs and on the theme, as the code has them.
 use Rattle.ic_machine.specs.subjects.Tabs as laws
 use Rattle.ic_words.specs.Words.{color_meant}
 use Rattle.ic_words.specs.declared.command.tabs.Tabs.{Tabs}

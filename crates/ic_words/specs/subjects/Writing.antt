@@ -1,4 +1,4 @@
--- The served commands that write a cell, as the code has them.
+-- The commands that write a cell, as the code has them.
 use Rattle.ic_machine.specs.subjects.Writing as laws
 use Rattle.ic_words.specs.declared.command.writing.Writing.{Writing}
 use Rattle.ic_words.specs.declared.command.writing.Writing.TheVariants as commands

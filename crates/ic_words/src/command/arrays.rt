@@ -17,7 +17,7 @@ use ic_refs::Area;
 use ic_tables::Language;
 use std::alloc::Global;
 
-/// A served command on arrays, spills and clearing.
+/// A command on arrays, spills and clearing.
 #[derive(Drop)]
 pub enum Arrays<'l> {
     SetUserArrayFormula {
@@ -50,7 +50,7 @@ pub enum Arrays<'l> {
     },
 }
 
-/// The kind of the served command on arrays, spills and clearing of this name, but for those whose words are values.
+/// The kind of the command on arrays, spills and clearing of this name, but for those whose words are values.
 pub(crate) fn arrays_named(name: &str) -> Option<Kind>
     ensures { copies_values name.now ≡ false → IsKind OnArrays array_rows name.now result }
 {

@@ -30,7 +30,7 @@ impl Drop for DefinitionUpdate<'_> {
     }
 }
 
-/// A served command on definitions.
+/// A command on definitions.
 #[derive(Drop)]
 pub enum Definitions<'l> {
     NewDefinedName {
@@ -56,7 +56,7 @@ pub enum Definitions<'l> {
     GetDefinedNameList,
 }
 
-/// The kind of the served command on definitions of this name.
+/// The kind of the command on definitions of this name.
 pub(crate) fn definitions_named(name: &str) -> Option<Kind>
     ensures { IsKind OnDefinitions definition_rows name.now result }
 {

@@ -7,7 +7,7 @@ use crate::command::kind::{InArea, Kind, OneText, TextBetweenCells};
 use crate::text::WordText;
 use ic_refs::CellReferenceIndex;
 
-/// A served command that writes a formula out for another cell, or the one that reads the name of a cell.
+/// A command that writes a formula out for another cell, or the one that reads the name of a cell.
 #[derive(Drop)]
 pub enum Extending<'l> {
     ExtendTo {
@@ -27,7 +27,7 @@ pub enum Extending<'l> {
     },
 }
 
-/// The kind of the served command of this name that writes a formula out for another cell or reads the name of a cell.
+/// The kind of the command of this name that writes a formula out for another cell or reads the name of a cell.
 pub(crate) fn extending_named(name: &str) -> Option<Kind>
     ensures { IsKind OnExtending extending_rows name.now result }
 {

@@ -1,6 +1,6 @@
-//! Served commands by what their words are.
+//! Commands by what their words are.
 
-/// A served command, by what its words are.
+/// A command, by what its words are.
 #[derive(Clone, Copy)]
 pub(crate) enum Kind {
     Wordless(Wordless),

@@ -4,7 +4,7 @@ ghost use Rattle.ic_words.specs.Kinds.{IsKind};
 
 use crate::command::kind::{HiddenLine, Kind, OnLine, SizedLine};
 
-/// A served command on the widths of columns, the heights of rows, and which of them are hidden. Widths and heights are in
+/// A command on the widths of columns, the heights of rows, and which of them are hidden. Widths and heights are in
 /// hundredths.
 #[derive(Drop)]
 pub enum Layout {
@@ -46,7 +46,7 @@ pub enum Layout {
     },
 }
 
-/// The kind of the served command on the layout of rows and columns of this name.
+/// The kind of the command on the layout of rows and columns of this name.
 pub(crate) fn layout_named(name: &str) -> Option<Kind>
     ensures { IsKind OnLayout layout_rows name.now result }
 {

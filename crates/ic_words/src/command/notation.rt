@@ -5,7 +5,7 @@ ghost use Rattle.ic_words.specs.Kinds.{IsKind};
 use crate::command::kind::{Kind, OneText, Wordless};
 use crate::text::WordText;
 
-/// A served command on the locale, the language and the time zone.
+/// A command on the locale, the language and the time zone.
 #[derive(Drop)]
 pub enum Notation<'l> {
     SetLocale { id: WordText<'l> },
@@ -17,7 +17,7 @@ pub enum Notation<'l> {
     GetFmtSettings,
 }
 
-/// The kind of the served command on the locale, the language and the time zone of this name.
+/// The kind of the command on the locale, the language and the time zone of this name.
 pub(crate) fn notation_named(name: &str) -> Option<Kind>
     ensures { IsKind OnNotation notation_rows name.now result }
 {

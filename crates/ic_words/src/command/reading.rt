@@ -5,7 +5,7 @@ ghost use Rattle.ic_words.specs.Kinds.{IsKind};
 use crate::command::kind::{InCell, Kind, OneIndex, OneText, Wordless};
 use crate::text::WordText;
 
-/// A served command that reads cells.
+/// A command that reads cells.
 #[derive(Drop)]
 pub enum Reading<'l> {
     GetCellFormula { sheet: u32, row: i32, column: i32 },
@@ -19,7 +19,7 @@ pub enum Reading<'l> {
     GetSheetMarkup { sheet: u32 },
 }
 
-/// The kind of the served command that reads cells of this name.
+/// The kind of the command that reads cells of this name.
 pub(crate) fn reading_named(name: &str) -> Option<Kind>
     ensures { IsKind OnReading reading_rows name.now result }
 {

@@ -7,7 +7,7 @@ use crate::command::kind::{
 };
 use crate::text::WordText;
 
-/// A served command on the list of sheets. An id is None where the sheet gets a fresh one.
+/// A command on the list of sheets. An id is None where the sheet gets a fresh one.
 #[derive(Drop)]
 pub enum Sheets<'l> {
     AddSheet {
@@ -47,7 +47,7 @@ pub enum Sheets<'l> {
     GetWorksheetsProperties,
 }
 
-/// The kind of the served command on the list of sheets of this name.
+/// The kind of the command on the list of sheets of this name.
 pub(crate) fn sheets_named(name: &str) -> Option<Kind>
     ensures { IsKind OnSheets sheet_rows name.now result }
 {

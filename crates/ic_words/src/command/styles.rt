@@ -5,7 +5,7 @@ ghost use Rattle.ic_words.specs.Kinds.{IsKind};
 use crate::command::kind::{InCell, Kind, OnLine, StyledLine};
 use crate::styling::StyleWords;
 
-/// A served command on the styles of cells, rows and columns.
+/// A command on the styles of cells, rows and columns.
 #[derive(Drop)]
 pub enum Styles<'l> {
     GetCellStyleIndex {
@@ -51,7 +51,7 @@ pub enum Styles<'l> {
     },
 }
 
-/// The kind of the served command on styles of this name.
+/// The kind of the command on styles of this name.
 pub(crate) fn styles_named(name: &str) -> Option<Kind>
     ensures { IsKind OnStyles style_rows name.now result }
 {

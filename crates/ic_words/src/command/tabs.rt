@@ -8,7 +8,7 @@ use crate::command::kind::{
 use crate::text::WordText;
 use ic_cells::SheetState;
 
-/// A served command on the tabs of sheets, on what stays in sight there, and on the theme. A color is a text, or None for
+/// A command on the tabs of sheets, on what stays in sight there, and on the theme. A color is a text, or None for
 /// no color.
 #[derive(Drop)]
 pub enum Tabs<'l> {
@@ -44,7 +44,7 @@ pub enum Tabs<'l> {
     },
 }
 
-/// The kind of the served command on tabs or the theme of this name.
+/// The kind of the command on tabs or the theme of this name.
 pub(crate) fn tabs_named(name: &str) -> Option<Kind>
     ensures { IsKind OnTabs tab_rows name.now result }
 {

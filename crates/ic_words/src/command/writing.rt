@@ -6,7 +6,7 @@ use crate::command::kind::{AmountInCell, Kind, TextInCell, TruthInCell};
 use crate::text::WordText;
 use ic_laws::Amount;
 
-/// A served command that writes a cell.
+/// A command that writes a cell.
 #[derive(Drop)]
 pub enum Writing<'l> {
     SetUserInput {
@@ -41,7 +41,7 @@ pub enum Writing<'l> {
     },
 }
 
-/// The kind of the served command that writes a cell of this name.
+/// The kind of the command that writes a cell of this name.
 pub(crate) fn writing_named(name: &str) -> Option<Kind>
     ensures { IsKind OnWriting writing_rows name.now result }
 {

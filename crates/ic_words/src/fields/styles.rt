@@ -3,8 +3,8 @@ ghost use Rattle.ic_machine.specs.Fields.{optional_style_fields};
 ghost use Rattle.ic_machine.specs.Styling.{style_fields};
 ghost use Rattle.std.specs.Prelude.{true};
 
-use crate::fields::{Fields, color_text};
-use crate::reply::{push_field, push_flag};
+use crate::fields::Fields;
+use crate::reply::{push_color, push_field, push_flag};
 use ic_cells::Style;
 use ic_laws::OutOfMemory;
 
@@ -19,7 +19,7 @@ impl Fields for Style {
         push_field(reply, self.num_fmt.as_str())?;
         push_flag(reply, self.quote_prefix)?;
         push_flag(reply, self.bold)?;
-        push_field(reply, color_text(&self.fill))
+        push_color(reply, &self.fill)
     }
 }
 

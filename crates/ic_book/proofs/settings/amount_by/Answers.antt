@@ -1,6 +1,6 @@
 use Rattle.std.proofs.lemmas.Result.{IfOk-weaker}
 use Rattle.std.proofs.Common.{chars}
-use Rattle.ic_book.proofs.FormatLemmas.{formatted_is}
+use Rattle.ic_machine.proofs.FormatLemmas.{formatted_is}
 use Rattle.ic_book.proofs.settings.amount_by.Goals as goal
 
 pub returns : goal.returns

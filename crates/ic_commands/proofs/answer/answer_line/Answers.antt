@@ -1,16 +1,14 @@
 use Rattle.std.proofs.Common.{◌≡◌, ◌∙◌, encode_utf8_all, length, string_bytes, string_len}
-use Rattle.ic_laws.specs.Lines as lines
+use Rattle.ic_machine.specs.Command.{commands}
 use Rattle.ic_machine.specs.Reply.{reply_text}
-use Rattle.ic_words.specs.Served.{served}
-use Rattle.ic_book.specs.Book.{core_of, notations_in}
-use Rattle.ic_book.specs.Served.{served_line_step}
+use Rattle.ic_machine.specs.Step.{line_step}
 use Rattle.ic_book.specs.Whole.{whole_of}
 use Rattle.ic_commands.proofs.ReplyLemmas.{cut_is_line, cut_reply, last_byte, some_byte}
 use Rattle.ic_commands.proofs.answer.answer_line.Goals as goal
 
 pub whole-requires : goal.whole-requires
 whole-requires c =
-    let text = reply_text (served_line_step (whole_of c.args.model.now.book) c.args.line.now).1 in
+    let text = reply_text (line_step commands (whole_of c.args.model.now.book) c.args.line.now).1 in
     let reply = c.in_ok-reply.reply in
     let does = c.in_ok-reply.ensures.whole in
     let front = encode_utf8_all text in
@@ -18,21 +16,9 @@ whole-requires c =
     cut_is_line text (string_bytes reply) _ (string_len reply) does.is_line does.reply is_len
     (c.pop.ensures.ascii_bytes (some_byte front _ _ does.reply is_len) (last_byte front _ _ does.reply is_len))
 
-pub returns-clause-reply : goal.returns-clause-reply
-returns-clause-reply c plain core =
-    let book = c.args.model.now.book in
-    let text = lines.reply_text (lines.line_step (notations_in book) served (core_of book) c.args.line.now).1 in
-    let reply = c.in_ok-reply.reply in
-    let told = c.in_ok-reply.ensures.reply plain core in
-    let front = encode_utf8_all text in
-    let is_len : string_len reply ≡ length (string_bytes reply) = reply.bytes.ok.0 in
-    c.whole.ensures
-    ∙ cut_reply text (string_bytes reply) _ (string_len reply) (c.in_ok-reply.ensures.line plain core) told is_len
-    (c.pop.ensures.ascii_bytes (some_byte front _ _ told is_len) (last_byte front _ _ told is_len))
-
 pub returns-clause-told : goal.returns-clause-told
 returns-clause-told c =
-    let text = reply_text (served_line_step (whole_of c.args.model.now.book) c.args.line.now).1 in
+    let text = reply_text (line_step commands (whole_of c.args.model.now.book) c.args.line.now).1 in
     let reply = c.in_ok-reply.reply in
     let does = c.in_ok-reply.ensures.whole in
     let front = encode_utf8_all text in
@@ -42,4 +28,4 @@ returns-clause-told c =
     (c.pop.ensures.ascii_bytes (some_byte front _ _ does.reply is_len) (last_byte front _ _ does.reply is_len))
 
 pub returns-clause-whole : goal.returns-clause-whole
-returns-clause-whole c = record { book = c.in_ok-reply.ensures.whole.book; stays = c.in_ok-reply.ensures.whole.stays }
+returns-clause-whole c = record { book = c.in_ok-reply.ensures.whole.book; stays = c.in_ok-reply.ensures.whole.stays; valid = c.in_ok-reply.ensures.whole.valid }

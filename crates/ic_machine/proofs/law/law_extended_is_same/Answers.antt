@@ -1,5 +1,5 @@
-use Rattle.ic_machine.proofs.ExtendedLemmas.{extended_is_same}
+use Rattle.ic_machine.proofs.ExtendedLemmas.{extended_is_same, extended_is_typed, extended_is_written}
 use Rattle.ic_machine.proofs.law.law_extended_is_same.Goals as goal
 
 pub returns : goal.returns
-returns c = extended_is_same
+returns c = record { same = extended_is_same; written = extended_is_written; typed = extended_is_typed }

@@ -3,10 +3,10 @@ use Rattle.ic_lines.specs.Bytes.{IfTold}
 use Rattle.ic_lines.specs.Reading.{GivesHeld, GivesLine, unread}
 use Rattle.ic_lines.proofs.TakeLemmas.{SeesEnd-join}
 use Rattle.ic_lines.proofs.ToldLemmas.{IfTold-join}
-use Rattle.ic_run.specs.Run.{Leaves}
-use Rattle.ic_run.proofs.ProgressLemmas.{Next, Progress, Progress-step, all_do_told, all_replied_told, all_served_told, leaves_at_line, leaves_at_reader, next_told, takes_all_told}
+use Rattle.ic_run.specs.Run.{LeavesRun}
+use Rattle.ic_run.proofs.ProgressLemmas.{Next, Progress, Progress-step, all_do_told, all_replied_told, all_appended_told, leaves_at_line, leaves_at_reader, next_told, takes_all_told}
 use Rattle.ic_run.proofs.RunLemmas.{IfErr-given, IsSome-is}
-use Rattle.ic_run.proofs.ServedLemmas.{is_served}
+use Rattle.ic_run.proofs.LeftLemmas.{is_after_all}
 use Rattle.ic_run.proofs.lines.run.Goals as goal
 
 pub returns-in_err-line-clause-front : goal.returns-in_err-line-clause-front
@@ -19,7 +19,7 @@ returns-in_err-line-clause-front g c =
     let given = leaves_at_reader c.args.model.now c.lines.model c.lines.count c.lines.reader t.0 c.next_line.new.self (written c.args.sink.now) (written c.lines.sink) _ _ _ e
     c.lines.invariant.done t.1 t.2 (λ which. elim which [ inl p ↦ (h.read_fault (ap Err p)).1 | inr p ↦ (h.too_many (ap Err p)).1 ]) (λ p. h.no_write (ap Err p)) in
     IfErr-given c.from_residual.result e
-    (λ x. IfTold (left c.args.source.now) (left c.next_line.new.source) (λ bytes b. Leaves x c.args.model.now.book c.lines.model.book bytes b (written c.args.sink.now) (written c.lines.sink)))
+    (λ x. IfTold (left c.args.source.now) (left c.next_line.new.source) (λ bytes b. LeavesRun x c.args.model.now.book c.lines.model.book bytes b (written c.args.sink.now) (written c.lines.sink)))
     c.from_residual.ensures.1 given
 
 pub returns-in_err-answer_to-clause-front : goal.returns-in_err-answer_to-clause-front
@@ -43,7 +43,7 @@ returns-in_err-answer_to-clause-front g c =
     c.lines.invariant.done (next_told line before t.0 after _ _ t.1 held gives reads.ends) h.which
     (λ p. let k = h.no_memory (ap Err p) in (k.0, ap written k.1)) (λ p. let k = h.write_fault (ap Err p) in (k.1, k.2)) in
     IfErr-given c.from_residual-in_err-answer_to.result e
-    (λ x. IfTold (left c.args.source.now) (left c.next_line.new.source) (λ bytes b. Leaves x old.book new.book bytes b (written c.args.sink.now) (written c.answer_to.new.sink)))
+    (λ x. IfTold (left c.args.source.now) (left c.next_line.new.source) (λ bytes b. LeavesRun x old.book new.book bytes b (written c.args.sink.now) (written c.answer_to.new.sink)))
     c.from_residual-in_err-answer_to.ensures.1 given
 
 pub lines-preserved : goal.lines-preserved
@@ -94,13 +94,13 @@ returns-clause-replies g c =
     all_replied_told c.args.model.now c.lines.model c.lines.count before h.taken.0 after (g.K.Sink.written c.args.sink.now) (g.K.Sink.written c.lines.sink) _ _ _ c.lines.invariant.done h.taken.1
     (subst (λ o. IfTold (left c.lines.source) (left c.next_line.new.source) (λ a b. GivesLine o (unread before a) (unread after b))) c.in_default.is h.line)
 
-pub returns-clause-served : goal.returns-clause-served
-returns-clause-served g c =
+pub returns-clause-all_replies : goal.returns-clause-all_replies
+returns-clause-all_replies g c =
     let left = g.S.Source.left in
     let before = c.lines.reader in
     let after = c.next_line.new.self in
     let h = c.in_ok-line.ensures in
-    all_served_told c.args.model.now c.lines.model c.lines.count before h.taken.0 after (g.K.Sink.written c.args.sink.now) (g.K.Sink.written c.lines.sink) _ _ _ c.lines.invariant.done h.taken.1
+    all_appended_told c.args.model.now c.lines.model c.lines.count before h.taken.0 after (g.K.Sink.written c.args.sink.now) (g.K.Sink.written c.lines.sink) _ _ _ c.lines.invariant.done h.taken.1
     (subst (λ o. IfTold (left c.lines.source) (left c.next_line.new.source) (λ a b. GivesLine o (unread before a) (unread after b))) c.in_default.is h.line)
 
 pub returns-clause-does : goal.returns-clause-does
@@ -118,6 +118,6 @@ returns-clause-whole g c =
     let before = c.lines.reader in
     let after = c.next_line.new.self in
     let h = c.in_ok-line.ensures in
-    is_served (left c.args.source.now) (left c.next_line.new.source) c.args.model.now c.lines.model
+    is_after_all (left c.args.source.now) (left c.next_line.new.source) c.args.model.now c.lines.model
     (all_do_told c.args.model.now c.lines.model c.lines.count before h.taken.0 after (g.K.Sink.written c.args.sink.now) (g.K.Sink.written c.lines.sink) _ _ _ c.lines.invariant.done h.taken.1
     (subst (λ o. IfTold (left c.lines.source) (left c.next_line.new.source) (λ a b. GivesLine o (unread before a) (unread after b))) c.in_default.is h.line))

@@ -1,5 +1,5 @@
 use Rattle.std.proofs.Common.{◌∙◌}
-use Rattle.ic_run.proofs.ServedLemmas.{workbook}
+use Rattle.ic_run.proofs.LeftLemmas.{workbook}
 use Rattle.ic_run.proofs.start.first_book.Goals as goal
 
 pub returns-in-Ok-clause-start : goal.returns-in-Ok-clause-start

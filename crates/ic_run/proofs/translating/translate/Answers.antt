@@ -5,6 +5,7 @@ use Rattle.ic_book.specs.Book.{NotationState}
 use Rattle.ic_book.specs.Whole.{whole_of}
 use Rattle.ic_run.specs.Translate.{HasTranslated, IsTurn}
 use Rattle.ic_run.specs.declared.translating.TranslateError.TheVariants as errors
+use Rattle.ic_run.proofs.AcceptedLemmas.{accepted_beside}
 use Rattle.ic_run.proofs.TurnLemmas.{IsSoFar, all_done, at_error, becomes_next, goes_next, memory_here}
 use Rattle.ic_run.proofs.translating.translate.Goals as goal
 use Rattle.ic_run.proofs.translating.translate.Goals.{in-Goes, in-Becomes+in_ok-push-in-Becomes}
@@ -76,3 +77,8 @@ returns-clause-translated c =
     let all : c.loop-line.line-index ≡ length lines = omega (arith, c.loop-line-test.false, c.loop-line.auto.line-index-end) in
     subst (λ (n : NotationState). IsTranslation n.locale n.language old lines (Ok c.loop-line.translated.items) book) c.in_ok-target.ensures.named
     (all_done target.locale target.language old lines c.loop-line.line-index book c.loop-line.translated.items c.loop-line.invariant.so_far all)
+
+pub returns-clause-accepted : goal.returns-clause-accepted
+returns-clause-accepted c =
+    let old = whole_of c.args.model.now.book in
+    accepted_beside (chars c.args.locale_id.now) (chars c.args.language_id.now) old (whole_of c.loop-line.model.book) c.args.lines.now c.loop-line.translated.items c.in_ok-target.ensures.valid.whole c.in_ok-target.ensures.unknown (returns-clause-translated c)

@@ -13,7 +13,7 @@ use Rattle.ic_book.specs.Inside.{held_state, with_lists, with_sheets}
 use Rattle.ic_book.specs.Refused.{refusal_of}
 use Rattle.ic_book.specs.Values.{Shows, put_step, style_change, value_content, value_refusal}
 use Rattle.ic_book.proofs.CellReads.{of_error}
-use Rattle.ic_book.proofs.SharedLemmas.{held_as_before, put_done, put_held, put_look_ups, state_again, taken_away, value_is}
+use Rattle.ic_book.proofs.SharedLemmas.{held_as_before, put_done, put_held, put_look_ups, state_again, taken_away, value_loose}
 use Rattle.ic_book.proofs.ValueLemmas.{is_within, refusal_there, shows_there, style_within, takes_there, value_refused, value_wants}
 use Rattle.ic_book.proofs.NameIndexLemmas.{indexed_updated}
 use Rattle.ic_book.specs.Names.{IsIndexed}
@@ -47,7 +47,7 @@ write_cell-requires-clause-takes c =
 
 pub write_cell-requires-clause-loose : goal.write_cell-requires-clause-loose
 write_cell-requires-clause-loose c =
-    subst (λ x. is_loose (shape_of x) ≡ true) (sym c.in_ok-cell.ensures.cell) ((value_is c.args.value.now c.self.inside.lists.strings).loose _)
+    subst (λ x. is_loose (shape_of x) ≡ true) (sym c.in_ok-cell.ensures.cell) (value_loose c.args.value.now c.self.inside.lists.strings _)
 
 pub invariant_of-self-in-Ok : goal.invariant_of-self-in-Ok
 invariant_of-self-in-Ok c =
@@ -61,7 +61,7 @@ invariant_of-self-in-Ok c =
     c.in-Ok.ensures.ok
     ∙ ap (λ (p : CellPlace). updated_at (λ (s : HeldSheet). record s { grid = with_cell_in p c.in_ok-cell.cell s.grid }) sheet c.self.inside.contents.sheets) stored in
     record {
-      book = put_held c.self.inside c.self.invariant.book sheet row column none c.in_ok-shown.shown shows c.args.value.now (style_change c.args.change.now) c.in_ok-cell.cell c.new_cell.new.lists c.write_cell.new.self c.in_ok-cell.ensures.cell c.in_ok-cell.ensures.lists put;
+      book = put_held c.self.inside c.self.invariant.book sheet row column none c.in_ok-shown.shown shows c.args.value.now (style_change c.args.change.now) c.in_ok-cell.ensures.amount c.in_ok-cell.cell c.new_cell.new.lists c.write_cell.new.self c.in_ok-cell.ensures.cell c.in_ok-cell.ensures.lists put;
       names = indexed_updated c.self.inside.names c.self.inside.contents.sheets _ c.self.inside.contents.definitions c.self.invariant.names _ c.args.sheet c.in-Ok.ensures.ok (λ s. refl);
     }
 
@@ -78,7 +78,7 @@ returns-in-Ok-clause-does c =
     ∙ ap (λ (p : CellPlace). updated_at (λ (s : HeldSheet). record s { grid = with_cell_in p c.in_ok-cell.cell s.grid }) sheet c.self.inside.contents.sheets) stored in
     let now = held_state (with_lists c.new_cell.new.lists (with_sheets c.write_cell.new.self c.self.inside)) in
     subst (λ (m : ModelState). DoesStep Wanted (put_step (whole_of m.book) sheet row column (style_change c.args.change.now) (value_content c.args.value.now)) no_fields (Ok tt) m now) c.self.view_is
-    (put_done c.self.inside c.self.invariant.book sheet row column none c.in_ok-shown.shown shows c.args.value.now (style_change c.args.change.now) c.in_ok-cell.cell c.new_cell.new.lists c.write_cell.new.self c.in_ok-cell.ensures.cell c.in_ok-cell.ensures.lists put)
+    (put_done c.self.inside c.self.invariant.book sheet row column none c.in_ok-shown.shown shows c.args.value.now (style_change c.args.change.now) c.in_ok-cell.ensures.amount c.in_ok-cell.cell c.new_cell.new.lists c.write_cell.new.self c.in_ok-cell.ensures.cell c.in_ok-cell.ensures.lists put)
 
 pub returns-in-Ok-clause-looks_up : goal.returns-in-Ok-clause-looks_up
 returns-in-Ok-clause-looks_up c =
@@ -91,7 +91,7 @@ returns-in-Ok-clause-looks_up c =
     let put =
     c.in-Ok.ensures.ok
     ∙ ap (λ (p : CellPlace). updated_at (λ (s : HeldSheet). record s { grid = with_cell_in p c.in_ok-cell.cell s.grid }) sheet c.self.inside.contents.sheets) stored in
-    put_look_ups c.self.inside c.self.invariant.book sheet row column none c.in_ok-shown.shown shows c.args.value.now (style_change c.args.change.now) c.in_ok-cell.cell c.new_cell.new.lists c.write_cell.new.self c.in_ok-cell.ensures.cell c.in_ok-cell.ensures.lists put ∙ ap (λ (m : ModelState). m.has_all) c.self.view_is
+    put_look_ups c.self.inside c.self.invariant.book sheet row column none c.in_ok-shown.shown shows c.args.value.now (style_change c.args.change.now) c.in_ok-cell.ensures.amount c.in_ok-cell.cell c.new_cell.new.lists c.write_cell.new.self c.in_ok-cell.ensures.cell c.in_ok-cell.ensures.lists put ∙ ap (λ (m : ModelState). m.has_all) c.self.view_is
 
 pub invariant_of-self-in-Err : goal.invariant_of-self-in-Err
 invariant_of-self-in-Err c =

@@ -6,7 +6,7 @@ use Rattle.ic_words.specs.declared.command.kind.ScopedBody.TheVariants as scoped
 use Rattle.ic_words.specs.declared.command.kind.ScopedName.TheVariants as scoped_name
 use Rattle.ic_words.specs.declared.command.kind.UpdatedBody.TheVariants as updated_body
 use Rattle.ic_words.specs.declared.command.kind.Wordless.TheVariants as wordless
-use Rattle.ic_words.proofs.SubjectLemmas.{named_so, unserved}
+use Rattle.ic_words.proofs.SubjectLemmas.{named_so, unnamed}
 use Rattle.ic_words.proofs.command.definitions.definitions_named.Goals as goal
 
 pub returns-in-new_defined_name : goal.returns-in-new_defined_name
@@ -28,4 +28,4 @@ pub returns-in-get_defined_name_list : goal.returns-in-get_defined_name_list
 returns-in-get_defined_name_list c = named_so OnDefinitions definition_rows c.args.name.now (codes "get_defined_name_list") (Some (kinds.Wordless wordless.GetDefinedNameList)) c.in-get_defined_name_list.is (λ words. refl)
 
 pub returns-in_default : goal.returns-in_default
-returns-in_default c = unserved OnDefinitions definition_rows c.args.name.now (c.in_default.not-new_defined_name, (c.in_default.not-delete_defined_name, (c.in_default.not-update_defined_name, (c.in_default.not-would_capture, (c.in_default.not-is_valid_defined_name, (c.in_default.not-get_defined_name_list, tt))))))
+returns-in_default c = unnamed OnDefinitions definition_rows c.args.name.now (c.in_default.not-new_defined_name, (c.in_default.not-delete_defined_name, (c.in_default.not-update_defined_name, (c.in_default.not-would_capture, (c.in_default.not-is_valid_defined_name, (c.in_default.not-get_defined_name_list, tt))))))

@@ -5,7 +5,7 @@ use Rattle.ic_words.specs.declared.command.kind.Kind.TheVariants as kinds
 use Rattle.ic_words.specs.declared.command.kind.InArea.TheVariants as in_area
 use Rattle.ic_words.specs.declared.command.kind.OneText.TheVariants as one_text
 use Rattle.ic_words.specs.declared.command.kind.TextBetweenCells.TheVariants as text_between_cells
-use Rattle.ic_words.proofs.SubjectLemmas.{named_so, unserved}
+use Rattle.ic_words.proofs.SubjectLemmas.{named_so, unnamed}
 use Rattle.ic_words.proofs.command.extending.extending_named.Goals as goal
 
 pub returns-in-extend_to : goal.returns-in-extend_to
@@ -18,4 +18,4 @@ pub returns-in-parse_reference : goal.returns-in-parse_reference
 returns-in-parse_reference c = named_so OnExtending extending_rows c.args.name.now (codes "parse_reference") (Some (kinds.OneText one_text.ParseReference)) c.in-parse_reference.is (λ words. refl)
 
 pub returns-in_default : goal.returns-in_default
-returns-in_default c = unserved OnExtending extending_rows c.args.name.now (c.in_default.not-extend_to, (c.in_default.not-extend_copied_value, (c.in_default.not-parse_reference, tt)))
+returns-in_default c = unnamed OnExtending extending_rows c.args.name.now (c.in_default.not-extend_to, (c.in_default.not-extend_copied_value, (c.in_default.not-parse_reference, tt)))

@@ -5,7 +5,7 @@ use Rattle.ic_words.specs.declared.command.kind.Kind.TheVariants as kinds
 use Rattle.ic_words.specs.declared.command.kind.HiddenLine.TheVariants as hidden_line
 use Rattle.ic_words.specs.declared.command.kind.OnLine.TheVariants as on_line
 use Rattle.ic_words.specs.declared.command.kind.SizedLine.TheVariants as sized_line
-use Rattle.ic_words.proofs.SubjectLemmas.{named_so, unserved}
+use Rattle.ic_words.proofs.SubjectLemmas.{named_so, unnamed}
 use Rattle.ic_words.proofs.command.layout.layout_named.Goals as goal
 
 pub returns-in-set_column_width : goal.returns-in-set_column_width
@@ -33,4 +33,4 @@ pub returns-in-is_row_hidden : goal.returns-in-is_row_hidden
 returns-in-is_row_hidden c = named_so OnLayout layout_rows c.args.name.now (codes "is_row_hidden") (Some (kinds.OnLine on_line.IsRowHidden)) c.in-is_row_hidden.is (λ words. refl)
 
 pub returns-in_default : goal.returns-in_default
-returns-in_default c = unserved OnLayout layout_rows c.args.name.now (c.in_default.not-set_column_width, (c.in_default.not-set_row_height, (c.in_default.not-get_column_width, (c.in_default.not-get_row_height, (c.in_default.not-set_column_hidden, (c.in_default.not-set_row_hidden, (c.in_default.not-is_column_hidden, (c.in_default.not-is_row_hidden, tt))))))))
+returns-in_default c = unnamed OnLayout layout_rows c.args.name.now (c.in_default.not-set_column_width, (c.in_default.not-set_row_height, (c.in_default.not-get_column_width, (c.in_default.not-get_row_height, (c.in_default.not-set_column_hidden, (c.in_default.not-set_row_hidden, (c.in_default.not-is_column_hidden, (c.in_default.not-is_row_hidden, tt))))))))

@@ -4,7 +4,7 @@ use Rattle.ic_machine.specs.subjects.Notation.{notation_rows}
 use Rattle.ic_words.specs.declared.command.kind.Kind.TheVariants as kinds
 use Rattle.ic_words.specs.declared.command.kind.OneText.TheVariants as one_text
 use Rattle.ic_words.specs.declared.command.kind.Wordless.TheVariants as wordless
-use Rattle.ic_words.proofs.SubjectLemmas.{named_so, unserved}
+use Rattle.ic_words.proofs.SubjectLemmas.{named_so, unnamed}
 use Rattle.ic_words.proofs.command.notation.notation_named.Goals as goal
 
 pub returns-in-set_locale : goal.returns-in-set_locale
@@ -29,4 +29,4 @@ pub returns-in-get_fmt_settings : goal.returns-in-get_fmt_settings
 returns-in-get_fmt_settings c = named_so OnNotation notation_rows c.args.name.now (codes "get_fmt_settings") (Some (kinds.Wordless wordless.GetFmtSettings)) c.in-get_fmt_settings.is (λ words. refl)
 
 pub returns-in_default : goal.returns-in_default
-returns-in_default c = unserved OnNotation notation_rows c.args.name.now (c.in_default.not-set_locale, (c.in_default.not-set_language, (c.in_default.not-set_timezone, (c.in_default.not-get_locale, (c.in_default.not-get_language, (c.in_default.not-get_timezone, (c.in_default.not-get_fmt_settings, tt)))))))
+returns-in_default c = unnamed OnNotation notation_rows c.args.name.now (c.in_default.not-set_locale, (c.in_default.not-set_language, (c.in_default.not-set_timezone, (c.in_default.not-get_locale, (c.in_default.not-get_language, (c.in_default.not-get_timezone, (c.in_default.not-get_fmt_settings, tt)))))))

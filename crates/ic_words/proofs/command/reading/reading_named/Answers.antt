@@ -6,7 +6,7 @@ use Rattle.ic_words.specs.declared.command.kind.InCell.TheVariants as in_cell
 use Rattle.ic_words.specs.declared.command.kind.OneIndex.TheVariants as one_index
 use Rattle.ic_words.specs.declared.command.kind.OneText.TheVariants as one_text
 use Rattle.ic_words.specs.declared.command.kind.Wordless.TheVariants as wordless
-use Rattle.ic_words.proofs.SubjectLemmas.{named_so, unserved}
+use Rattle.ic_words.proofs.SubjectLemmas.{named_so, unnamed}
 use Rattle.ic_words.proofs.command.reading.reading_named.Goals as goal
 
 pub returns-in-get_cell_formula : goal.returns-in-get_cell_formula
@@ -37,4 +37,4 @@ pub returns-in-get_sheet_markup : goal.returns-in-get_sheet_markup
 returns-in-get_sheet_markup c = named_so OnReading reading_rows c.args.name.now (codes "get_sheet_markup") (Some (kinds.OneIndex one_index.GetSheetMarkup)) c.in-get_sheet_markup.is (λ words. refl)
 
 pub returns-in_default : goal.returns-in_default
-returns-in_default c = unserved OnReading reading_rows c.args.name.now (c.in_default.not-get_cell_formula, (c.in_default.not-get_localized_cell_content, (c.in_default.not-get_formatted_cell_value, (c.in_default.not-get_cell_value_by_index, (c.in_default.not-get_cell_value_by_ref, (c.in_default.not-get_cell_type, (c.in_default.not-is_empty_cell, (c.in_default.not-get_all_cells, (c.in_default.not-get_sheet_markup, tt)))))))))
+returns-in_default c = unnamed OnReading reading_rows c.args.name.now (c.in_default.not-get_cell_formula, (c.in_default.not-get_localized_cell_content, (c.in_default.not-get_formatted_cell_value, (c.in_default.not-get_cell_value_by_index, (c.in_default.not-get_cell_value_by_ref, (c.in_default.not-get_cell_type, (c.in_default.not-is_empty_cell, (c.in_default.not-get_all_cells, (c.in_default.not-get_sheet_markup, tt)))))))))

@@ -9,7 +9,7 @@ use Rattle.ic_words.specs.declared.command.kind.PlacedName.TheVariants as placed
 use Rattle.ic_words.specs.declared.command.kind.TwoIndexes.TheVariants as two_indexes
 use Rattle.ic_words.specs.declared.command.kind.TwoTexts.TheVariants as two_texts
 use Rattle.ic_words.specs.declared.command.kind.Wordless.TheVariants as wordless
-use Rattle.ic_words.proofs.SubjectLemmas.{named_so, unserved}
+use Rattle.ic_words.proofs.SubjectLemmas.{named_so, unnamed}
 use Rattle.ic_words.proofs.command.sheets.sheets_named.Goals as goal
 
 pub returns-in-add_sheet : goal.returns-in-add_sheet
@@ -49,4 +49,4 @@ pub returns-in-get_worksheets_properties : goal.returns-in-get_worksheets_proper
 returns-in-get_worksheets_properties c = named_so OnSheets sheet_rows c.args.name.now (codes "get_worksheets_properties") (Some (kinds.Wordless wordless.GetWorksheetsProperties)) c.in-get_worksheets_properties.is (λ words. refl)
 
 pub returns-in_default : goal.returns-in_default
-returns-in_default c = unserved OnSheets sheet_rows c.args.name.now (c.in_default.not-add_sheet, (c.in_default.not-insert_sheet, (c.in_default.not-new_sheet, (c.in_default.not-duplicate_sheet, (c.in_default.not-rename_sheet, (c.in_default.not-rename_sheet_by_index, (c.in_default.not-move_sheet, (c.in_default.not-delete_sheet, (c.in_default.not-delete_sheet_by_name, (c.in_default.not-delete_sheet_by_sheet_id, (c.in_default.not-get_new_sheet_id, (c.in_default.not-get_worksheets_properties, tt))))))))))))
+returns-in_default c = unnamed OnSheets sheet_rows c.args.name.now (c.in_default.not-add_sheet, (c.in_default.not-insert_sheet, (c.in_default.not-new_sheet, (c.in_default.not-duplicate_sheet, (c.in_default.not-rename_sheet, (c.in_default.not-rename_sheet_by_index, (c.in_default.not-move_sheet, (c.in_default.not-delete_sheet, (c.in_default.not-delete_sheet_by_name, (c.in_default.not-delete_sheet_by_sheet_id, (c.in_default.not-get_new_sheet_id, (c.in_default.not-get_worksheets_properties, tt))))))))))))

@@ -5,7 +5,7 @@ use Rattle.ic_words.specs.declared.command.kind.Kind.TheVariants as kinds
 use Rattle.ic_words.specs.declared.command.kind.InCell.TheVariants as in_cell
 use Rattle.ic_words.specs.declared.command.kind.OnLine.TheVariants as on_line
 use Rattle.ic_words.specs.declared.command.kind.StyledLine.TheVariants as styled_line
-use Rattle.ic_words.proofs.SubjectLemmas.{named_so, unserved}
+use Rattle.ic_words.proofs.SubjectLemmas.{named_so, unnamed}
 use Rattle.ic_words.proofs.command.styles.styles_named.Goals as goal
 
 pub returns-in-get_cell_style_index : goal.returns-in-get_cell_style_index
@@ -36,4 +36,4 @@ pub returns-in-delete_row_style : goal.returns-in-delete_row_style
 returns-in-delete_row_style c = named_so OnStyles style_rows c.args.name.now (codes "delete_row_style") (Some (kinds.OnLine on_line.DeleteRowStyle)) c.in-delete_row_style.is (λ words. refl)
 
 pub returns-in_default : goal.returns-in_default
-returns-in_default c = unserved OnStyles style_rows c.args.name.now (c.in_default.not-get_cell_style_index, (c.in_default.not-get_style_for_cell, (c.in_default.not-get_cell_style_or_none, (c.in_default.not-set_column_style, (c.in_default.not-set_row_style, (c.in_default.not-get_column_style, (c.in_default.not-get_row_style, (c.in_default.not-delete_column_style, (c.in_default.not-delete_row_style, tt)))))))))
+returns-in_default c = unnamed OnStyles style_rows c.args.name.now (c.in_default.not-get_cell_style_index, (c.in_default.not-get_style_for_cell, (c.in_default.not-get_cell_style_or_none, (c.in_default.not-set_column_style, (c.in_default.not-set_row_style, (c.in_default.not-get_column_style, (c.in_default.not-get_row_style, (c.in_default.not-delete_column_style, (c.in_default.not-delete_row_style, tt)))))))))

@@ -9,7 +9,7 @@ use Rattle.ic_words.specs.declared.command.kind.OneText.TheVariants as one_text
 use Rattle.ic_words.specs.declared.command.kind.SheetInState.TheVariants as sheet_in_state
 use Rattle.ic_words.specs.declared.command.kind.SwitchedSheet.TheVariants as switched_sheet
 use Rattle.ic_words.specs.declared.command.kind.Wordless.TheVariants as wordless
-use Rattle.ic_words.proofs.SubjectLemmas.{named_so, unserved}
+use Rattle.ic_words.proofs.SubjectLemmas.{named_so, unnamed}
 use Rattle.ic_words.proofs.command.tabs.tabs_named.Goals as goal
 
 pub returns-in-set_theme : goal.returns-in-set_theme
@@ -40,4 +40,4 @@ pub returns-in-set_show_grid_lines : goal.returns-in-set_show_grid_lines
 returns-in-set_show_grid_lines c = named_so OnTabs tab_rows c.args.name.now (codes "set_show_grid_lines") (Some (kinds.SwitchedSheet switched_sheet.SetShowGridLines)) c.in-set_show_grid_lines.is (λ words. refl)
 
 pub returns-in_default : goal.returns-in_default
-returns-in_default c = unserved OnTabs tab_rows c.args.name.now (c.in_default.not-set_theme, (c.in_default.not-get_theme, (c.in_default.not-set_frozen_rows, (c.in_default.not-set_frozen_columns, (c.in_default.not-get_frozen_rows_count, (c.in_default.not-get_frozen_columns_count, (c.in_default.not-set_sheet_color, (c.in_default.not-set_sheet_state, (c.in_default.not-set_show_grid_lines, tt)))))))))
+returns-in_default c = unnamed OnTabs tab_rows c.args.name.now (c.in_default.not-set_theme, (c.in_default.not-get_theme, (c.in_default.not-set_frozen_rows, (c.in_default.not-set_frozen_columns, (c.in_default.not-get_frozen_rows_count, (c.in_default.not-get_frozen_columns_count, (c.in_default.not-set_sheet_color, (c.in_default.not-set_sheet_state, (c.in_default.not-set_show_grid_lines, tt)))))))))

@@ -5,7 +5,7 @@ use Rattle.ic_words.specs.declared.command.kind.Kind.TheVariants as kinds
 use Rattle.ic_words.specs.declared.command.kind.AmountInCell.TheVariants as amount_in_cell
 use Rattle.ic_words.specs.declared.command.kind.TextInCell.TheVariants as text_in_cell
 use Rattle.ic_words.specs.declared.command.kind.TruthInCell.TheVariants as truth_in_cell
-use Rattle.ic_words.proofs.SubjectLemmas.{named_so, unserved}
+use Rattle.ic_words.proofs.SubjectLemmas.{named_so, unnamed}
 use Rattle.ic_words.proofs.command.writing.writing_named.Goals as goal
 
 pub returns-in-set_user_input : goal.returns-in-set_user_input
@@ -24,4 +24,4 @@ pub returns-in-update_cell_with_number : goal.returns-in-update_cell_with_number
 returns-in-update_cell_with_number c = named_so OnWriting writing_rows c.args.name.now (codes "update_cell_with_number") (Some (kinds.AmountInCell amount_in_cell.UpdateCellWithNumber)) c.in-update_cell_with_number.is (λ words. refl)
 
 pub returns-in_default : goal.returns-in_default
-returns-in_default c = unserved OnWriting writing_rows c.args.name.now (c.in_default.not-set_user_input, (c.in_default.not-update_cell_with_text, (c.in_default.not-update_cell_with_formula, (c.in_default.not-update_cell_with_bool, (c.in_default.not-update_cell_with_number, tt)))))
+returns-in_default c = unnamed OnWriting writing_rows c.args.name.now (c.in_default.not-set_user_input, (c.in_default.not-update_cell_with_text, (c.in_default.not-update_cell_with_formula, (c.in_default.not-update_cell_with_bool, (c.in_default.not-update_cell_with_number, tt)))))

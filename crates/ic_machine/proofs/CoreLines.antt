@@ -1,19 +1,19 @@
--- The command that a line is by the rows which are served is the one that it is by those of the core machine.
+-- The command that a core line is by the table of all commands is the one that it is by the core machine's.
 use Rattle.std.proofs.Common.{◌≡◌, ℕ, List, [], ◌∷◌, ◌++◌, map, Bool, true, false, cond, Option, Some, None, is_some, refl, sym, ap, ap₂, subst, ◌∙◌, codes, inl, inr, rules}
 use mathlib.Core.Bool.{true≢false}
 use Rattle.std.specs.Prelude.{◌||◌, bytes_eq, drop, option_and_then, option_map, take}
-use Rattle.std.specs.List.{AllByRecursion, find, list_any}
+use Rattle.std.specs.List.{AllByRecursion, filter, find, list_any}
 use Rattle.std.proofs.lemmas.Bool.{cases_Bool}
-use Rattle.std.proofs.lemmas.List.Folds.{list_any-append}
 use Rattle.std.proofs.lemmas.Iterator.Adapters.{option_map_id}
 use Rattle.std.proofs.lemmas.Slice.Eq.{bytes_eq-Decides}
 use Rattle.ic_laws.specs.Command as core
 use Rattle.ic_laws.specs.Command.{CommandRow}
 use Rattle.ic_laws.specs.Lines as lines
 use Rattle.ic_laws.specs.Lines.{word_texts}
-use Rattle.ic_machine.specs.Command.{Command, command_in, commands, core_names, more_names, served}
-use Rattle.ic_machine.specs.Core.{counterpart, is_core, is_core_line, whole_command}
-use Rattle.ic_machine.specs.Row.{Row, joined, rows_named, spelled}
+use Rattle.ic_machine.specs.Command.{Command, commands}
+use Rattle.ic_machine.specs.Core.{counterpart, is_core, whole_command}
+use Rattle.ic_machine.specs.Laws.{CoreIsRead, CoreLinesAreCore}
+use Rattle.ic_machine.specs.Row.{Row, joined, spelled}
 use Rattle.ic_machine.specs.Word.{AllSaid, OfIndex, OfPosition, OfScope, OfText, Said, WordForm, Words, all_said, said, words_of, words_said}
 
 -- a row of the core machine as one of the whole ----
@@ -144,23 +144,28 @@ find-after text (row ∷ front) one other e = ap (λ (o : Option CommandRow). co
 
 -- both tables ----
 
-abbrev in_core : List CommandRow
-in_core = core.rows_named core_names
+-- the names of the core machine's commands
+abbrev core_names : List (List ℕ)
+core_names = map (λ (row : CommandRow). row.name) core.commands
+
+-- the rows with some names
+abbrev rows_named : List (List ℕ) → List (Row Command) → List (Row Command)
+rows_named names rows = filter (λ row. list_any (bytes_eq row.name) names) rows
 
 -- its first rows, those on definitions, the one that asks for a new id, and the rest
 abbrev front : List CommandRow
-front = take 7 in_core
+front = take 7 core.commands
 
 abbrev middle : List CommandRow
-middle = take 4 (drop 7 in_core)
+middle = take 4 (drop 7 core.commands)
 
 abbrev last : List CommandRow
-last = drop 12 in_core
+last = drop 12 core.commands
 
 abbrev asks : CommandRow
 asks = record { name = codes "get_new_sheet_id"; forms = []; command = λ w. core.GetNewSheetId }
 
-in_parts : in_core ≡ front ++ (middle ++ asks ∷ last)
+in_parts : core.commands ≡ front ++ (middle ++ asks ∷ last)
 unfolding core.commands
 in_parts = refl
 
@@ -178,7 +183,7 @@ spelled_by one other [] same = refl
 spelled_by one other (name ∷ words) same =
     ap (λ (o : Option CommandRow). option_and_then (λ texts. option_and_then (λ row. option_map row.command (core.all_said row.forms texts)) o) (word_texts words)) (same name)
 
-core_words : (english : List (List ℕ)) (words : List (List ℕ)) → spelled english (rows_named core_names commands) words ≡ option_map whole_command (lines.spelled_command in_core words)
+core_words : (english : List (List ℕ)) (words : List (List ℕ)) → spelled english (rows_named core_names commands) words ≡ option_map whole_command (lines.spelled_command core.commands words)
 core_words english words =
     ap (λ (rows : List (Row Command)). spelled english rows words) core-whole
     ∙ spelled_alike english (front ++ (asks ∷ middle ++ last)) words
@@ -220,7 +225,7 @@ abbrev IsOther : Row Command → Type 0
 IsOther row = cond (list_any (bytes_eq row.name) core_names) (Unit {0}) ((w : AllSaid row.words) → counterpart (row.command w) ≡ None)
 
 all_other : AllByRecursion IsOther commands
-unfolding commands
+unfolding core.commands commands
 all_other = search rules
 
 module _ (english : List (List ℕ)) (name : List ℕ) (words : List (List ℕ)) where
@@ -244,44 +249,29 @@ module _ (english : List (List ℕ)) (name : List ℕ) (words : List (List ℕ))
         | inr e ↦ rw e (other_made rows all.1 apart (rw e at h))
       ]
 
-  other_kept : (b : Bool) → list_any (bytes_eq name) core_names ≡ false → is_core (made_by (cond b (find (λ row. bytes_eq row.name name) commands) None)) ≡ true
-      → made_by (cond b (find (λ row. bytes_eq row.name name) commands) None) ≡ None
-  other_kept true apart h = other_made commands all_other apart h
-  other_kept false apart h = refl
+-- The command that a line is. ----
 
--- What is served, whatever further names are. ----
+abbrev core_rows : List (Row Command)
+core_rows = rows_named core_names commands
 
-module _ (english : List (List ℕ)) (more : List (List ℕ)) where
-  abbrev rows_with : List (Row Command)
-  rows_with = rows_named (core_names ++ more) commands
+found_core : (name : List ℕ) → list_any (bytes_eq name) core_names ≡ true → find (λ row. bytes_eq row.name name) commands ≡ find (λ row. bytes_eq row.name name) core_rows
+found_core name e = sym (found_named core_names name commands ∙ ap (λ b. cond b (find (λ row. bytes_eq row.name name) commands) None) e)
 
-  abbrev core_rows : List (Row Command)
-  core_rows = rows_named core_names commands
+none_core : (name : List ℕ) → list_any (bytes_eq name) core_names ≡ false → find (λ row. bytes_eq row.name name) core_rows ≡ None
+none_core name e = found_named core_names name commands ∙ ap (λ b. cond b (find (λ row. bytes_eq row.name name) commands) None) e
 
-  any_with : (name : List ℕ) → list_any (bytes_eq name) core_names ≡ true → list_any (bytes_eq name) (core_names ++ more) ≡ true
-  any_with name e = list_any-append (bytes_eq name) core_names more ∙ ap (λ b. b || list_any (bytes_eq name) more) e
-
-  found_core : (name : List ℕ) → list_any (bytes_eq name) core_names ≡ true → find (λ row. bytes_eq row.name name) rows_with ≡ find (λ row. bytes_eq row.name name) core_rows
-  found_core name e =
-      found_named (core_names ++ more) name commands ∙ ap (λ b. cond b (find (λ row. bytes_eq row.name name) commands) None) (any_with name e ∙ sym e) ∙ sym (found_named core_names name commands)
-
-  none_core : (name : List ℕ) → list_any (bytes_eq name) core_names ≡ false → find (λ row. bytes_eq row.name name) core_rows ≡ None
-  none_core name e = found_named core_names name commands ∙ ap (λ b. cond b (find (λ row. bytes_eq row.name name) commands) None) e
-
+module _ (english : List (List ℕ)) where
   -- a core line
-  same_command : (words : List (List ℕ)) → is_core (spelled english rows_with words) ≡ true → spelled english rows_with words ≡ spelled english core_rows words
+  same_command : (words : List (List ℕ)) → is_core (spelled english commands words) ≡ true → spelled english commands words ≡ spelled english core_rows words
   same_command [] h = refl
   same_command (name ∷ words) h =
       elim (cases_Bool (list_any (bytes_eq name) core_names)) [
         | inl e ↦ ap (made_by english name words) (found_core name e)
-        | inr e ↦
-            subst (λ o. is_core (made_by english name words o) ≡ true → made_by english name words o ≡ None) (sym (found_named (core_names ++ more) name commands))
-            (other_kept english name words (list_any (bytes_eq name) (core_names ++ more)) e) h
-            ∙ sym (ap (made_by english name words) (none_core name e))
+        | inr e ↦ other_made english name words commands all_other e h ∙ sym (ap (made_by english name words) (none_core name e))
       ]
 
   -- a command of the core machine
-  core_command : (words : List (List ℕ)) (command : Command) → spelled english core_rows words ≡ Some command → spelled english rows_with words ≡ Some command
+  core_command : (words : List (List ℕ)) (command : Command) → spelled english core_rows words ≡ Some command → spelled english commands words ≡ Some command
   core_command [] command h = cc
   core_command (name ∷ words) command h =
       elim (cases_Bool (list_any (bytes_eq name) core_names)) [
@@ -289,14 +279,12 @@ module _ (english : List (List ℕ)) (more : List (List ℕ)) where
         | inr e ↦ let no : None ≡ Some command = sym (ap (made_by english name words) (none_core name e)) ∙ h in absurd (cc)
       ]
 
-pub served_is : (english : List (List ℕ)) (line : List ℕ) → is_core_line english line ≡ true → command_in english served line ≡ option_map whole_command (lines.command_of in_core line)
-unfolding served
-served_is english line is = same_command english more_names (lines.words_of line) is ∙ core_words english (lines.words_of line)
+pub core_lines_are : CoreLinesAreCore
+core_lines_are english line is = same_command english (lines.words_of line) is ∙ core_words english (lines.words_of line)
 
-pub core_served : (english : List (List ℕ)) (line : List ℕ) (command : core.Command) → lines.command_of in_core line ≡ Some command → command_in english served line ≡ Some (whole_command command)
-unfolding served
-core_served english line command is =
-    core_command english more_names (lines.words_of line) (whole_command command) (core_words english (lines.words_of line) ∙ ap (option_map whole_command) is)
+pub core_is_read : CoreIsRead
+core_is_read english line command is =
+    core_command english (lines.words_of line) (whole_command command) (core_words english (lines.words_of line) ∙ ap (option_map whole_command) is)
 
 pub back : (command : core.Command) → counterpart (whole_command command) ≡ Some command
 back (core.AddSheet name) = refl

@@ -1,6 +1,6 @@
 -- A step of the whole machine is seen by its core, and leaves beside it what stands beside.
 use Rattle.std.proofs.Common.{◌≡◌, ℕ, List, [], ◌∷◌, ◌++◌, flat_map, Option, Some, None, Result, Ok, Err, option_map, slice_get, unwrap_or, refl, ap, ap₂, ◌∙◌}
-use Rattle.std.specs.Prelude.{is_none, ◌||◌}
+use Rattle.std.specs.Prelude.{is_none}
 use Rattle.ic_laws.specs.Character.{tab}
 use Rattle.ic_laws.specs.Command as core
 use Rattle.ic_laws.specs.CoreBook.{CoreBook}
@@ -13,14 +13,13 @@ use Rattle.ic_machine.specs.Changed.{changed_by, with_moved_sheet, with_removed_
 use Rattle.ic_machine.specs.Core.{told_by, told_by_core, whole_command}
 use Rattle.ic_machine.specs.Refusal.{InvalidSheet, NotAFormula, Refusal, first_refusal}
 use Rattle.ic_machine.specs.Reply.{Field, field_word, of_core_field, of_core_fields, reply_text}
-use Rattle.ic_machine.specs.Step.{outcome_of}
+use Rattle.ic_machine.specs.Step.{outcome_of, step}
 use Rattle.ic_machine.specs.InForce.{formula_typed}
 use Rattle.ic_machine.specs.subjects.Writing.{formula_at_place, formula_step, formula_written, place_causes, with_written, write_causes}
 use Rattle.ic_machine.specs.subjects.Definitions.{delete_definition_step, list_step, new_definition_step, valid_definition_step, with_new_definition}
 use Rattle.ic_machine.specs.subjects.Notation.{set_language_step, set_locale_step}
 use Rattle.ic_machine.specs.subjects.Reading.{cell_formula_step}
 use Rattle.ic_machine.specs.subjects.Sheets.{with_new_sheet, add_sheet_step, delete_by_id_step, delete_by_name_step, delete_sheet_step, move_sheet_step, new_sheet_id_step, rename_by_index_step, rename_sheet_step}
-use Rattle.ic_book.specs.Served.{served_step}
 
 -- Replies of both machines ----
 
@@ -98,27 +97,27 @@ module _ (b : Book) where
   found_stands refusal None step h = stands b
   found_stands refusal (Some s) step h = h s
 
-  -- a served command leaves what stands beside the core
-  pub served_stands : (k : core.Command) → StandsBeside b (outcome_of b (served_step b (whole_command k))).0
+  -- a command of the core machine leaves what stands beside the core
+  pub stands_beside : (k : core.Command) → StandsBeside b (outcome_of b (step b (whole_command k))).0
   unfolding add_sheet_step rename_sheet_step rename_by_index_step move_sheet_step delete_sheet_step delete_by_name_step delete_by_id_step new_sheet_id_step new_definition_step delete_definition_step valid_definition_step list_step set_locale_step set_language_step cell_formula_step formula_step
-  served_stands (core.AddSheet name) = core_stands (core_step (notations_in b) (core_of b) (core.AddSheet name)) (changed_by (with_new_sheet name) b) (record { name = refl; zone = refl; theme = refl; metadata = refl; tables = refl })
-  served_stands (core.RenameSheet old new) = core_stands (core_step (notations_in b) (core_of b) (core.RenameSheet old new)) (changed_by (with_renamed_sheet (unwrap_or (index_of_name (core_of b) old) 0) new) b) (record { name = refl; zone = refl; theme = refl; metadata = refl; tables = refl })
-  served_stands (core.RenameSheetByIndex sheet name) = core_stands (core_step (notations_in b) (core_of b) (core.RenameSheetByIndex sheet name)) (changed_by (with_renamed_sheet sheet name) b) (record { name = refl; zone = refl; theme = refl; metadata = refl; tables = refl })
-  served_stands (core.MoveSheet sheet to) = core_stands (core_step (notations_in b) (core_of b) (core.MoveSheet sheet to)) (with_moved_sheet sheet to b) (record { name = refl; zone = refl; theme = refl; metadata = refl; tables = refl })
-  served_stands (core.DeleteSheet sheet) = core_stands (core_step (notations_in b) (core_of b) (core.DeleteSheet sheet)) (changed_by (with_removed_sheet sheet) b) (record { name = refl; zone = refl; theme = refl; metadata = refl; tables = refl })
-  served_stands (core.DeleteSheetByName name) = core_stands (core_step (notations_in b) (core_of b) (core.DeleteSheetByName name)) (changed_by (with_removed_sheet (unwrap_or (index_of_name (core_of b) name) 0)) b) (record { name = refl; zone = refl; theme = refl; metadata = refl; tables = refl })
-  served_stands (core.DeleteSheetBySheetId id) = core_stands (core_step (notations_in b) (core_of b) (core.DeleteSheetBySheetId id)) (changed_by (with_removed_sheet (unwrap_or (index_of_id (core_of b) id) 0)) b) (record { name = refl; zone = refl; theme = refl; metadata = refl; tables = refl })
-  served_stands (core.SetLocale id) = core_stands (core_step (notations_in b) (core_of b) (core.SetLocale id)) (record b { locale = id }) (record { name = refl; zone = refl; theme = refl; metadata = refl; tables = refl })
-  served_stands (core.SetLanguage id) = core_stands (core_step (notations_in b) (core_of b) (core.SetLanguage id)) (record b { language = id }) (record { name = refl; zone = refl; theme = refl; metadata = refl; tables = refl })
-  served_stands (core.NewDefinedName name scope body) =
+  stands_beside (core.AddSheet name) = core_stands (core_step (notations_in b) (core_of b) (core.AddSheet name)) (changed_by (with_new_sheet name) b) (record { name = refl; zone = refl; theme = refl; metadata = refl; tables = refl })
+  stands_beside (core.RenameSheet old new) = core_stands (core_step (notations_in b) (core_of b) (core.RenameSheet old new)) (changed_by (with_renamed_sheet (unwrap_or (index_of_name (core_of b) old) 0) new) b) (record { name = refl; zone = refl; theme = refl; metadata = refl; tables = refl })
+  stands_beside (core.RenameSheetByIndex sheet name) = core_stands (core_step (notations_in b) (core_of b) (core.RenameSheetByIndex sheet name)) (changed_by (with_renamed_sheet sheet name) b) (record { name = refl; zone = refl; theme = refl; metadata = refl; tables = refl })
+  stands_beside (core.MoveSheet sheet to) = core_stands (core_step (notations_in b) (core_of b) (core.MoveSheet sheet to)) (with_moved_sheet sheet to b) (record { name = refl; zone = refl; theme = refl; metadata = refl; tables = refl })
+  stands_beside (core.DeleteSheet sheet) = core_stands (core_step (notations_in b) (core_of b) (core.DeleteSheet sheet)) (changed_by (with_removed_sheet sheet) b) (record { name = refl; zone = refl; theme = refl; metadata = refl; tables = refl })
+  stands_beside (core.DeleteSheetByName name) = core_stands (core_step (notations_in b) (core_of b) (core.DeleteSheetByName name)) (changed_by (with_removed_sheet (unwrap_or (index_of_name (core_of b) name) 0)) b) (record { name = refl; zone = refl; theme = refl; metadata = refl; tables = refl })
+  stands_beside (core.DeleteSheetBySheetId id) = core_stands (core_step (notations_in b) (core_of b) (core.DeleteSheetBySheetId id)) (changed_by (with_removed_sheet (unwrap_or (index_of_id (core_of b) id) 0)) b) (record { name = refl; zone = refl; theme = refl; metadata = refl; tables = refl })
+  stands_beside (core.SetLocale id) = core_stands (core_step (notations_in b) (core_of b) (core.SetLocale id)) (record b { locale = id }) (record { name = refl; zone = refl; theme = refl; metadata = refl; tables = refl })
+  stands_beside (core.SetLanguage id) = core_stands (core_step (notations_in b) (core_of b) (core.SetLanguage id)) (record b { language = id }) (record { name = refl; zone = refl; theme = refl; metadata = refl; tables = refl })
+  stands_beside (core.NewDefinedName name scope body) =
       core_stands (core_step (notations_in b) (core_of b) (core.NewDefinedName name scope body)) (with_new_definition b name (scope_or_none (core_of b) scope) (body_of (notations_in b) (core_of b) body)) (defined name (scope_or_none (core_of b) scope) (body_of (notations_in b) (core_of b) body))
-  served_stands (core.DeleteDefinedName name scope) =
+  stands_beside (core.DeleteDefinedName name scope) =
       core_stands (core_step (notations_in b) (core_of b) (core.DeleteDefinedName name scope)) (changed_by (without_definition (index_of_definition (core_of b) name (scope_or_none (core_of b) scope))) b) (undefined (index_of_definition (core_of b) name (scope_or_none (core_of b) scope)))
-  served_stands (core.IsValidDefinedName name scope body) = core_stands (core_step (notations_in b) (core_of b) (core.IsValidDefinedName name scope body)) b (stands b)
-  served_stands core.GetDefinedNameList = core_stands (core_step (notations_in b) (core_of b) core.GetDefinedNameList) b (stands b)
-  served_stands core.GetNewSheetId = core_stands (core_step (notations_in b) (core_of b) core.GetNewSheetId) b (stands b)
-  served_stands (core.GetCellFormula sheet row column) = core_stands (core_step (notations_in b) (core_of b) (core.GetCellFormula sheet row column)) b (stands b)
-  served_stands (core.UpdateCellWithFormula sheet row column text) =
+  stands_beside (core.IsValidDefinedName name scope body) = core_stands (core_step (notations_in b) (core_of b) (core.IsValidDefinedName name scope body)) b (stands b)
+  stands_beside core.GetDefinedNameList = core_stands (core_step (notations_in b) (core_of b) core.GetDefinedNameList) b (stands b)
+  stands_beside core.GetNewSheetId = core_stands (core_step (notations_in b) (core_of b) core.GetNewSheetId) b (stands b)
+  stands_beside (core.GetCellFormula sheet row column) = core_stands (core_step (notations_in b) (core_of b) (core.GetCellFormula sheet row column)) b (stands b)
+  stands_beside (core.UpdateCellWithFormula sheet row column text) =
       let w = λ (s : Sheet). formula_written b s (formula_at_place b s (row, column) (unwrap_or (formula_typed b text) [])) in
       let causes = λ (s : Sheet). place_causes (row, column) ++ (write_causes s (row, column) ++ (is_none (formula_typed b text), NotAFormula) ∷ []) in
       let left = λ (s : Sheet). with_written b sheet s (row, column) (w s) in

@@ -1,4 +1,4 @@
--- What is served is, seen by the core of a model's whole book, what the core machine does.
+-- A step of the core machine's commands is, seen by the core of a model's whole book, what the core machine does.
 use Rattle.std.proofs.Common.{◌≡◌, ℕ, ◌<◌, length, Option, Some, None, is_some, ap, subst}
 use Rattle.ic_laws.specs.Command as core
 use Rattle.ic_laws.specs.CoreBook.{CellPlace, CoreBook}
@@ -9,18 +9,16 @@ use Rattle.ic_grid.specs.Merges.{is_covered}
 use Rattle.ic_machine.specs.Book as machine
 use Rattle.ic_machine.specs.Content.{formula_index}
 use Rattle.ic_machine.specs.Core.{IsFree, TakesFormula, told_by, told_by_core, whole_command}
+use Rattle.ic_machine.specs.Step.{step}
 use Rattle.ic_machine.specs.Valid.{HasCellFormulas, HasFormula}
 use Rattle.ic_machine.proofs.ValidLemmas.{all_at}
 use Rattle.ic_machine.proofs.FormulaStepped.{formula_told}
 use Rattle.ic_machine.proofs.SteppedLemmas.{stepped}
-use Rattle.ic_sheets.specs.Sheet.{Sheet}
 use Rattle.ic_book.specs.Book.{Book, IsValidBook, core_of, notations_in, whole_of}
-use Rattle.ic_book.specs.Served.{served_step}
-use Rattle.ic_commands.specs.Answered.{HasNoSign}
-use Rattle.ic_commands.specs.Plain.{IsPlain, IsPlainBook}
-use Rattle.ic_commands.proofs.PlainLemmas.{none_fixed}
 use Rattle.ic_book.proofs.WholeLemmas.{whole_core}
 use Rattle.ic_book.proofs.WholeWritten.{in_force_there}
+use Rattle.ic_run.specs.Core.{HasNoSign, IsPlain, IsPlainBook}
+use Rattle.ic_run.proofs.PlainLemmas.{none_fixed}
 
 -- no merged cells and no array of a plain sheet forbid to write a cell, and each formula of a cell is one of the pool
 pooled : (n : Notations) (scene : Scene) (sheet : machine.Sheet) (place : CellPlace) (o : Option ℕ) (index : ℕ) → o ≡ Some index → HasFormula n scene sheet place o → index < length sheet.pool
@@ -42,7 +40,7 @@ takes b v plain index place = record {
 }
 
 -- of the whole book's own core
-by_whole : (b : Book) → IsValidBook b → IsPlainBook (whole_of b) → (k : core.Command) → HasNoSign (whole_command k) → told_by (served_step (whole_of b) (whole_command k)) ≡ told_by_core (core_step (notations_in b) (machine.core_of (whole_of b)) k)
+by_whole : (b : Book) → IsValidBook b → IsPlainBook (whole_of b) → (k : core.Command) → HasNoSign (whole_command k) → told_by (step (whole_of b) (whole_command k)) ≡ told_by_core (core_step (notations_in b) (machine.core_of (whole_of b)) k)
 by_whole b v plain (core.UpdateCellWithFormula sheet row column text) unsigned = formula_told (whole_of b) sheet (row, column) text (takes b v plain sheet (row, column)) unsigned
 by_whole b v plain (core.AddSheet name) unsigned = stepped (whole_of b) (whole_command (core.AddSheet name))
 by_whole b v plain (core.RenameSheet old new) unsigned = stepped (whole_of b) (whole_command (core.RenameSheet old new))
@@ -60,6 +58,6 @@ by_whole b v plain (core.SetLocale id) unsigned = stepped (whole_of b) (whole_co
 by_whole b v plain (core.SetLanguage id) unsigned = stepped (whole_of b) (whole_command (core.SetLanguage id))
 by_whole b v plain (core.GetCellFormula sheet row column) unsigned = stepped (whole_of b) (whole_command (core.GetCellFormula sheet row column))
 
-pub served_core : (b : Book) → IsValidBook b → IsPlainBook (whole_of b) → (k : core.Command) → HasNoSign (whole_command k) → told_by (served_step (whole_of b) (whole_command k)) ≡ told_by_core (core_step (notations_in b) (core_of b) k)
-served_core b v plain k unsigned =
-    subst (λ (c : CoreBook). told_by (served_step (whole_of b) (whole_command k)) ≡ told_by_core (core_step (notations_in b) c k)) (whole_core b) (by_whole b v plain k unsigned)
+pub told_as_core : (b : Book) → IsValidBook b → IsPlainBook (whole_of b) → (k : core.Command) → HasNoSign (whole_command k) → told_by (step (whole_of b) (whole_command k)) ≡ told_by_core (core_step (notations_in b) (core_of b) k)
+told_as_core b v plain k unsigned =
+    subst (λ (c : CoreBook). told_by (step (whole_of b) (whole_command k)) ≡ told_by_core (core_step (notations_in b) c k)) (whole_core b) (by_whole b v plain k unsigned)

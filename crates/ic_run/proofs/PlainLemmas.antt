@@ -30,15 +30,14 @@ use Rattle.ic_machine.specs.InForce.{formula_typed}
 use Rattle.ic_machine.specs.Refusal.{InvalidSheet, NotAFormula, Refusal, first_refusal}
 use Rattle.ic_machine.specs.Reply.{Field}
 use Rattle.ic_machine.specs.Placed.{index_in_pool, is_dynamic}
-use Rattle.ic_machine.specs.Step.{outcome_of}
+use Rattle.ic_machine.specs.Step.{outcome_of, step}
 use Rattle.ic_machine.specs.Styling.{restyled}
 use Rattle.ic_machine.specs.subjects.Definitions.{delete_definition_step, list_step, new_definition_step, valid_definition_step, with_new_definition}
 use Rattle.ic_machine.specs.subjects.Notation.{set_language_step, set_locale_step}
 use Rattle.ic_machine.specs.subjects.Reading.{cell_formula_step}
 use Rattle.ic_machine.specs.subjects.Sheets.{add_sheet_step, delete_by_id_step, delete_by_name_step, delete_sheet_step, move_sheet_step, new_sheet_id_step, rename_by_index_step, rename_sheet_step, with_new_sheet}
 use Rattle.ic_machine.specs.subjects.Writing.{Written, formula_at_place, formula_step, formula_written, place_causes, with_content, with_written, write_causes}
-use Rattle.ic_book.specs.Served.{served_step}
-use Rattle.ic_commands.specs.Plain.{IsPlain, IsPlainBook}
+use Rattle.ic_run.specs.Core.{IsPlain, IsPlainBook}
 
 -- No array is fixed. ----
 
@@ -175,26 +174,26 @@ module _ (b : Book) (plain : IsPlainBook b) where
       loose_formula false index style = refl
 
   -- each command of the core machine leaves such a book
-  pub served_plain : (k : core.Command) → IsPlainBook (outcome_of b (served_step b (whole_command k))).0
+  pub stays_plain : (k : core.Command) → IsPlainBook (outcome_of b (step b (whole_command k))).0
   unfolding add_sheet_step rename_sheet_step rename_by_index_step move_sheet_step delete_sheet_step delete_by_name_step delete_by_id_step new_sheet_id_step new_definition_step delete_definition_step valid_definition_step list_step set_locale_step set_language_step cell_formula_step formula_step
-  served_plain (core.AddSheet name) = core_plain (core_step (notations_in b) (core_of b) (core.AddSheet name)) (changed_by (with_new_sheet name) b) (added name)
-  served_plain (core.RenameSheet old new) = core_plain (core_step (notations_in b) (core_of b) (core.RenameSheet old new)) (changed_by (with_renamed_sheet (unwrap_or (index_of_name (core_of b) old) 0) new) b) (renamed (unwrap_or (index_of_name (core_of b) old) 0) new)
-  served_plain (core.RenameSheetByIndex sheet name) = core_plain (core_step (notations_in b) (core_of b) (core.RenameSheetByIndex sheet name)) (changed_by (with_renamed_sheet sheet name) b) (renamed sheet name)
-  served_plain (core.MoveSheet sheet to) = core_plain (core_step (notations_in b) (core_of b) (core.MoveSheet sheet to)) (with_moved_sheet sheet to b) (all_moved (λ (s : Sheet). IsPlain s.grid) sheet to b.sheets plain)
-  served_plain (core.DeleteSheet sheet) = core_plain (core_step (notations_in b) (core_of b) (core.DeleteSheet sheet)) (changed_by (with_removed_sheet sheet) b) (removed sheet)
-  served_plain (core.DeleteSheetByName name) = core_plain (core_step (notations_in b) (core_of b) (core.DeleteSheetByName name)) (changed_by (with_removed_sheet (unwrap_or (index_of_name (core_of b) name) 0)) b) (removed (unwrap_or (index_of_name (core_of b) name) 0))
-  served_plain (core.DeleteSheetBySheetId id) = core_plain (core_step (notations_in b) (core_of b) (core.DeleteSheetBySheetId id)) (changed_by (with_removed_sheet (unwrap_or (index_of_id (core_of b) id) 0)) b) (removed (unwrap_or (index_of_id (core_of b) id) 0))
-  served_plain (core.SetLocale id) = core_plain (core_step (notations_in b) (core_of b) (core.SetLocale id)) (record b { locale = id }) plain
-  served_plain (core.SetLanguage id) = core_plain (core_step (notations_in b) (core_of b) (core.SetLanguage id)) (record b { language = id }) plain
-  served_plain (core.NewDefinedName name scope body) =
+  stays_plain (core.AddSheet name) = core_plain (core_step (notations_in b) (core_of b) (core.AddSheet name)) (changed_by (with_new_sheet name) b) (added name)
+  stays_plain (core.RenameSheet old new) = core_plain (core_step (notations_in b) (core_of b) (core.RenameSheet old new)) (changed_by (with_renamed_sheet (unwrap_or (index_of_name (core_of b) old) 0) new) b) (renamed (unwrap_or (index_of_name (core_of b) old) 0) new)
+  stays_plain (core.RenameSheetByIndex sheet name) = core_plain (core_step (notations_in b) (core_of b) (core.RenameSheetByIndex sheet name)) (changed_by (with_renamed_sheet sheet name) b) (renamed sheet name)
+  stays_plain (core.MoveSheet sheet to) = core_plain (core_step (notations_in b) (core_of b) (core.MoveSheet sheet to)) (with_moved_sheet sheet to b) (all_moved (λ (s : Sheet). IsPlain s.grid) sheet to b.sheets plain)
+  stays_plain (core.DeleteSheet sheet) = core_plain (core_step (notations_in b) (core_of b) (core.DeleteSheet sheet)) (changed_by (with_removed_sheet sheet) b) (removed sheet)
+  stays_plain (core.DeleteSheetByName name) = core_plain (core_step (notations_in b) (core_of b) (core.DeleteSheetByName name)) (changed_by (with_removed_sheet (unwrap_or (index_of_name (core_of b) name) 0)) b) (removed (unwrap_or (index_of_name (core_of b) name) 0))
+  stays_plain (core.DeleteSheetBySheetId id) = core_plain (core_step (notations_in b) (core_of b) (core.DeleteSheetBySheetId id)) (changed_by (with_removed_sheet (unwrap_or (index_of_id (core_of b) id) 0)) b) (removed (unwrap_or (index_of_id (core_of b) id) 0))
+  stays_plain (core.SetLocale id) = core_plain (core_step (notations_in b) (core_of b) (core.SetLocale id)) (record b { locale = id }) plain
+  stays_plain (core.SetLanguage id) = core_plain (core_step (notations_in b) (core_of b) (core.SetLanguage id)) (record b { language = id }) plain
+  stays_plain (core.NewDefinedName name scope body) =
       core_plain (core_step (notations_in b) (core_of b) (core.NewDefinedName name scope body)) (with_new_definition b name (scope_or_none (core_of b) scope) (body_of (notations_in b) (core_of b) body)) (defined name (scope_or_none (core_of b) scope) (body_of (notations_in b) (core_of b) body))
-  served_plain (core.DeleteDefinedName name scope) =
+  stays_plain (core.DeleteDefinedName name scope) =
       core_plain (core_step (notations_in b) (core_of b) (core.DeleteDefinedName name scope)) (changed_by (without_definition (index_of_definition (core_of b) name (scope_or_none (core_of b) scope))) b) (undefined (index_of_definition (core_of b) name (scope_or_none (core_of b) scope)))
-  served_plain (core.IsValidDefinedName name scope body) = core_plain (core_step (notations_in b) (core_of b) (core.IsValidDefinedName name scope body)) b plain
-  served_plain core.GetDefinedNameList = core_plain (core_step (notations_in b) (core_of b) core.GetDefinedNameList) b plain
-  served_plain core.GetNewSheetId = core_plain (core_step (notations_in b) (core_of b) core.GetNewSheetId) b plain
-  served_plain (core.GetCellFormula sheet row column) = core_plain (core_step (notations_in b) (core_of b) (core.GetCellFormula sheet row column)) b plain
-  served_plain (core.UpdateCellWithFormula sheet row column text) =
+  stays_plain (core.IsValidDefinedName name scope body) = core_plain (core_step (notations_in b) (core_of b) (core.IsValidDefinedName name scope body)) b plain
+  stays_plain core.GetDefinedNameList = core_plain (core_step (notations_in b) (core_of b) core.GetDefinedNameList) b plain
+  stays_plain core.GetNewSheetId = core_plain (core_step (notations_in b) (core_of b) core.GetNewSheetId) b plain
+  stays_plain (core.GetCellFormula sheet row column) = core_plain (core_step (notations_in b) (core_of b) (core.GetCellFormula sheet row column)) b plain
+  stays_plain (core.UpdateCellWithFormula sheet row column text) =
       let body : List ℕ = unwrap_or (formula_typed b text) [] in
       let w = λ (s : Sheet). formula_written b s (formula_at_place b s (row, column) body) in
       let causes = λ (s : Sheet). place_causes (row, column) ++ (write_causes s (row, column) ++ (is_none (formula_typed b text), NotAFormula) ∷ []) in

@@ -1,29 +1,23 @@
 -- What is shown of an amount by a code is what the machine's function gives, and so is the date of a day number.
-use Rattle.std.proofs.Common.{◌≡◌, ℕ, zero, suc, ℤ, pos, negsuc, ◌+◌, ◌-◌, ◌*◌, ◌/◌, ◌%◌, ◌<◌, ◌≤◌, ◌+ℤ◌, List, true, false, ◌&&◌, ◌==◌, nat_le, nat_lt, Option, Some, None, inl, inr, if◌then◌else◌, refl, sym, ap, subst, ◌∙◌, arith, rules}
+use Rattle.std.proofs.Common.{◌≡◌, ℕ, zero, suc, ℤ, pos, negsuc, ◌+◌, ◌-◌, ◌*◌, ◌/◌, ◌%◌, ◌<◌, ◌≤◌, List, true, false, ◌&&◌, ◌⊎◌, ◌==◌, nat_le, nat_lt, Option, Some, None, inl, inr, if◌then◌else◌, refl, sym, ap, subst, ◌∙◌, arith, rules}
 use Rattle.std.proofs.lemmas.Bool.{and_parts, cases_Bool, le-leb, leb-true}
 use Rattle.jiff_core.specs.Calendar.{day_count, days_from_civil, days_in_month, days_in_year, days_of_months, days_of_years}
-use Rattle.jiff_core.proofs.CalendarLemmas.{day_count-day, day_count-day_of_year, day_count-end, day_count-later_year, day_count-next_month, day_count-next_year, days_from_civil-day_count, days_of_months_all}
+use Rattle.jiff_core.proofs.CalendarLemmas.{day_count-day, day_count-end, day_count-later_year, day_count-next_month, days_from_civil-day_count}
 use Rattle.jiff_core.proofs.SignedLemmas.{signed_arith}
-use borrow.Author.Differences.{up, down}
 use Rattle.ic_laws.specs.Amount.{amount_text, units_of_one}
 use Rattle.ic_tables.specs.Formats.{decimal_separator}
 use Rattle.ic_tables.specs.declared.locale.Locale.{Locale}
 use Rattle.ic_input.proofs.CodeLaws.{code_complete, code_sound}
+use Rattle.ic_input.proofs.CountedLemmas.{before, less, next_year, not_less, number_of_count, numbered_counted, year_end}
 use Rattle.ic_input.proofs.DateSteps.{day-from_parts, from_epoch}
 use Rattle.ic_input.proofs.DayLemmas.{same_day}
 use Rattle.ic_input.specs.Code.{CodeParts, IsNumberCode, is_date_code, number_code}
 use Rattle.ic_input.specs.Date.{IsDay, last_day}
-use Rattle.ic_input.specs.Formatted.{IsDateShown, IsFormatted, IsNoDate, IsWholeDay}
+use Rattle.ic_input.specs.Formatted.{IsDateShown, IsFormatted, IsNoDate, IsWholeDay, number_text}
+use Rattle.ic_machine.specs.FormattedLaws.{DateIsCounted, FormattedIsRuled, RuledIsFormatted}
 use Rattle.ic_machine.specs.Format.{date_in, date_of_day, formatted, month_of, shown_as_date, shown_by, whole_day, year_of}
 
 -- The date of a day number. ----
-
--- the days before a year
-abbrev before : ℕ → ℕ
-before year = day_count (pos year) 1 1
-
-next : (year : ℕ) → before (year + 1) ≡ before year + days_in_year (pos year)
-next year = day_count-next_year (pos year) (pos (year + 1)) (omega (arith, signed_arith)) (omega (arith, signed_arith))
 
 -- What the year of some days is: as many days lie before them, and the rest lies in it.
 record IsYearOf (year days : ℕ) (r : ℕ × ℕ) : Type 0 where
@@ -38,15 +32,9 @@ year_so (suc more) year days h =
       | false ↦ λ e.
           let long : days_in_year (pos year) ≤ days = not_less days (days_in_year (pos year)) e in
           let later : year + 1 + more ≡ year + suc more = omega arith in
-          let rest = year_so more (year + 1) (days - days_in_year (pos year)) (subst (λ k. before (year + 1) + (days - days_in_year (pos year)) < before k) (sym later) (omega (arith, next year, long, h))) in
-          record { same = omega (arith, rest.same, next year, long); within = rest.within }
+          let rest = year_so more (year + 1) (days - days_in_year (pos year)) (subst (λ k. before (year + 1) + (days - days_in_year (pos year)) < before k) (sym later) (omega (arith, next_year year, long, h))) in
+          record { same = omega (arith, rest.same, next_year year, long); within = rest.within }
     ] refl
-  where
-    less : (m k : ℕ) → nat_lt m k ≡ true → m < k
-    less m k e = search (rules, arith)
-
-    not_less : (m k : ℕ) → nat_lt m k ≡ false → k ≤ m
-    not_less m k e = search (rules, arith)
 
 -- What the month and the day of some days after a month's first are.
 record IsMonthOf (year month days : ℕ) (r : ℕ × ℕ) : Type 0 where
@@ -75,12 +63,6 @@ month_so (suc more) year month days e low h =
           let rest = month_so more year (month + 1) (days - days_in_month (pos year) month) (omega (arith, e)) (omega arith) (omega (arith, after, long, h)) in
           record { first = rest.first; last = rest.last; some = rest.some; few = rest.few; same = omega (arith, rest.same, after, long) }
     ] refl
-  where
-    less : (m k : ℕ) → nat_lt m k ≡ true → m < k
-    less m k e = search (rules, arith)
-
-    not_less : (m k : ℕ) → nat_lt m k ≡ false → k ≤ m
-    not_less m k e = search (rules, arith)
 
 -- the days before 1899, and those before the years by which the search ends
 first_of_1899 : before 1899 ≡ 4346021
@@ -93,22 +75,15 @@ far = omega (arith, day_count-end, day_count-later_year (pos 10000) (pos 10099) 
     long : 0 < days_in_year (pos 10000)
     long = omega arith
 
--- the end of a year
-year_end : (year : ℕ) → day_count (pos year) 13 1 ≡ before year + days_in_year (pos year)
-year_end year = omega (arith, day_count-day_of_year (pos year) 13 1 (omega arith), days_of_months_all (pos year))
-
 day_in : (n : ℕ) → 1 ≤ n → n ≤ last_day → (r : ℕ × ℕ) → IsYearOf 1899 (n + 363) r → IsDay (date_in r).year (date_in r).month (date_in r).day n
 day_in n low high r h =
     let m = month_so 12 r.0 1 r.1 refl (omega arith) (omega (arith, year_end r.0, h.within)) in
     record {
       there = day-from_parts r.0 (month_of 12 r.0 1 r.1).0 (month_of 12 r.0 1 r.1).1 m.first m.last m.some m.few;
-      number = sym (from_epoch r.0 (month_of 12 r.0 1 r.1).0 (month_of 12 r.0 1 r.1).1) ∙ counted (days_from_civil (pos r.0) (month_of 12 r.0 1 r.1).0 (month_of 12 r.0 1 r.1).1) (day_count (pos r.0) (month_of 12 r.0 1 r.1).0 (month_of 12 r.0 1 r.1).1) (days_from_civil-day_count (pos r.0) (month_of 12 r.0 1 r.1).0 (month_of 12 r.0 1 r.1).1) (omega (arith, m.same, h.same, first_of_1899));
+      number = sym (from_epoch r.0 (month_of 12 r.0 1 r.1).0 (month_of 12 r.0 1 r.1).1) ∙ number_of_count (days_from_civil (pos r.0) (month_of 12 r.0 1 r.1).0 (month_of 12 r.0 1 r.1).1) (day_count (pos r.0) (month_of 12 r.0 1 r.1).0 (month_of 12 r.0 1 r.1).1) n (days_from_civil-day_count (pos r.0) (month_of 12 r.0 1 r.1).0 (month_of 12 r.0 1 r.1).1) (omega (arith, m.same, h.same, first_of_1899));
       first = low;
       last = high;
     }
-  where
-    counted : (z : ℤ) (count : ℕ) → up z + 4_371_953 ≡ down z + count → count ≡ 4346384 + n → z +ℤ pos 25569 ≡ pos n
-    counted z count e is = omega (arith, signed_arith, e, is)
 
 date_right : (n : ℕ) → 1 ≤ n → n ≤ last_day → IsDay (date_of_day n).year (date_of_day n).month (date_of_day n).day n
 unfolding date_of_day
@@ -179,3 +154,45 @@ pub formatted_is : (l : Locale) (code : List ℕ) (v : ℤ) (text : List ℕ) �
 formatted_is l code v text (inl h) = h.1.1 ∙ sym (by_function l code v (Some h.0) (code_complete code h.0 h.1.0))
 formatted_is l code v text (inr (none, inl date)) = date_shown l code text v date ∙ sym (by_function l code v None (no_code code none))
 formatted_is l code v text (inr (none, inr other)) = other.1 ∙ not_shown l code v other.0 ∙ sym (by_function l code v None (no_code code none))
+
+-- and the other way round
+numbers : (l : Locale) (code : List ℕ) (v : ℤ) (c : CodeParts) → number_code code ≡ Some c → IsFormatted l code v (number_text l c v)
+numbers l code v c e = inl (c, (code_sound code c e, refl))
+
+others : (l : Locale) (code : List ℕ) (v : ℤ) → number_code code ≡ None → (IsDateShown code v (shown_by l code v None)) ⊎ ((IsNoDate code v) × (shown_by l code v None ≡ amount_text (decimal_separator l) v))
+others l code v none =
+    elim (is_date_code code) as (λ b. is_date_code code ≡ b → (IsDateShown code v (if b then shown_as_date l code v (whole_day v) else amount_text (decimal_separator l) v)) ⊎ ((IsNoDate code v) × ((if b then shown_as_date l code v (whole_day v) else amount_text (decimal_separator l) v) ≡ amount_text (decimal_separator l) v))) [
+      | true ↦ λ e. dates e (whole_day v) refl
+      | false ↦ λ e. inr (inl e, refl)
+    ] refl
+  where
+    no_day : whole_day v ≡ None → (n : ℕ) → ¬ (IsWholeDay v n)
+    no_day w n h = let some = whole_right v n h in cc
+
+    dates : is_date_code code ≡ true → (o : Option ℕ) → whole_day v ≡ o → (IsDateShown code v (shown_as_date l code v o)) ⊎ ((IsNoDate code v) × (shown_as_date l code v o ≡ amount_text (decimal_separator l) v))
+    dates e None w = inr (inr (no_day w), refl)
+    dates e (Some n) w =
+        let whole = whole_sound v n w in
+        let d = date_of_day n in
+        inl (e, (n, (whole, record { year = d.year; month = d.month; day = d.day; there = date_right n whole.1 whole.2; spelled = refl })))
+
+no_parts : (code : List ℕ) → number_code code ≡ None → (c : CodeParts) → ¬ (IsNumberCode code c)
+no_parts code none c h = let some = code_complete code c h in cc
+
+formatted_so : (l : Locale) (code : List ℕ) (v : ℤ) → IsFormatted l code v (formatted l code v)
+formatted_so l code v = at (number_code code) refl
+  where
+    at : (o : Option CodeParts) → number_code code ≡ o → IsFormatted l code v (formatted l code v)
+    at (Some c) e = subst (IsFormatted l code v) (sym (by_function l code v (Some c) e)) (numbers l code v c e)
+    at None e = subst (IsFormatted l code v) (sym (by_function l code v None e)) (inr (no_parts code e, others l code v e))
+
+pub ruled_formatted : RuledIsFormatted
+ruled_formatted l code v text h = sym (formatted_is l code v text h)
+
+pub formatted_ruled : FormattedIsRuled
+formatted_ruled l code v text e = subst (IsFormatted l code v) e (formatted_so l code v)
+
+pub date_counted : DateIsCounted
+date_counted n low high =
+    let d = date_of_day n in
+    numbered_counted d.year d.month d.day n (date_right n low high)

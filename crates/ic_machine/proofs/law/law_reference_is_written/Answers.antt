@@ -1,0 +1,5 @@
+use Rattle.ic_machine.proofs.ExtendedLemmas.{reference_is_written}
+use Rattle.ic_machine.proofs.law.law_reference_is_written.Goals as goal
+
+pub returns : goal.returns
+returns c = reference_is_written
