@@ -17,7 +17,7 @@ use std::alloc::Global;
 ///
 /// `NoSuchSheet` exactly where no sheet stands at the index; `OutOfMemory` only where one does.
 pub fn mentions_of_sheet(
-    _alloc: Global,
+    alloc: Global,
     model: &Model<'_>,
     sheet: u32,
 ) -> Result<Vec<MentionSite>, AuditError>
@@ -44,7 +44,7 @@ pub fn mentions_of_sheet(
 /// `NoSuchName` exactly where no sheet stands at the index, or there is no such definition; `OutOfMemory` only where neither
 /// holds.
 pub fn mentions_of_name(
-    _alloc: Global,
+    alloc: Global,
     model: &Model<'_>,
     name: &str,
     scope: Option<u32>,

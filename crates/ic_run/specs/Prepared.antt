@@ -5,13 +5,13 @@ use Rattle.ic_tables.specs.Tables.{TableSet}
 use Rattle.ic_machine.specs.Book.{Book}
 use Rattle.ic_machine.specs.Run.{after}
 use Rattle.ic_book.specs.Book as model
-use Rattle.ic_book.specs.Served.{served_machine}
+use Rattle.ic_run.specs.Core.{whole_machine}
 use Rattle.ic_book.specs.Whole.{whole_of}
 use Rattle.ic_run.specs.Make.{made_start}
 
 -- the whole book after the lines of these bytes, from the new one that was made at this moment
 abbrev pub book_after : TableSet → List ℕ → List ℕ → Book
-book_after tables created bytes = after served_machine (made_start created tables) (texts_of bytes)
+book_after tables created bytes = after whole_machine (made_start created tables) (texts_of bytes)
 
 -- a book is that, from a new one that was made at some moment
 abbrev pub IsBookAfter : TableSet → model.Book → List ℕ → List ℕ → Type 0

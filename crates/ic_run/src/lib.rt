@@ -2,10 +2,10 @@
 //!
 //! `run` carries the main promise: where it answers Ok over core lines, the replies that it appended are those of the
 //! identity machine of `ic_laws`, and the book is the one that the machine leaves. For all lines it says the same of the
-//! machine that is served. `desk` gives that for the program's words; for the words `make SEED COUNT` it answers lines that
-//! are made from the seed, and writes what the machine that is served makes of them; for `translate LOCALE LANGUAGE` it
-//! writes what lines become in another notation, which is `translate`'s answer. `book_after` reads all lines and answers them
-//! with no replies kept, for programs that look at the book.
+//! whole machine. `desk` gives that for the program's words; for the words `make SEED COUNT` it answers lines that are made
+//! from the seed, and writes what the whole machine makes of them; for `translate LOCALE LANGUAGE` it writes what lines
+//! become in another notation, which is `translate`'s answer. `book_after` reads all lines and answers them with no replies
+//! kept, for programs that look at the book.
 #![tactic(auto)]
 
 mod counts;
@@ -21,7 +21,7 @@ mod translating;
 mod translation;
 
 pub use ic_book::Why;
-pub use lines::run;
+pub use lines::{law_core_lines_are_done, run};
 pub use make::written;
 pub use prepared::book_after;
 pub use program::desk;

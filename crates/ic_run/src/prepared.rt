@@ -4,7 +4,7 @@ ghost use Rattle.std.specs.Prelude.{◌≡◌, ◌≢◌, ◌⊎◌, ◌↔◌, 
 ghost use Rattle.ic_laws.specs.Lines.{texts_of};
 ghost use Rattle.ic_lines.specs.Bytes.{HasFault, IfTold};
 ghost use Rattle.ic_machine.specs.Run.{after};
-ghost use Rattle.ic_book.specs.Served.{served_machine};
+ghost use Rattle.ic_run.specs.Core.{whole_machine};
 ghost use Rattle.ic_book.specs.Whole.{whole_of};
 ghost use Rattle.ic_run.specs.Desk.{start_refusal};
 ghost use Rattle.ic_run.specs.Make.{made_setting};
@@ -70,7 +70,7 @@ fn answer_all<S: Source>(
 ) -> Result<(), RunError>
     ensures book { OnOk result (IfTold (S.left source.old) (S.left source.new) (λ bytes _.
         whole_of model.new.book
-        ≡ after served_machine (whole_of model.old.book) (texts_of bytes))) }
+        ≡ after whole_machine (whole_of model.old.book) (texts_of bytes))) }
     ensures end { OnOk result (S.ended source.new ≡ true) }
     ensures taken { OnOk result (IfTold (S.left source.old) (S.left source.new)
         (λ bytes left. left ≡ [])) }
@@ -94,7 +94,7 @@ fn answer_all<S: Source>(
 /// Answers lines on a book, and drops their replies.
 fn answer_lines(alloc: Global, model: &mut Model<'_>, lines: &[Line]) -> Result<(), OutOfMemory>
     ensures { OnOk result (whole_of model.new.book
-        ≡ after served_machine (whole_of model.old.book) lines.now) }
+        ≡ after whole_machine (whole_of model.old.book) lines.now) }
 {
     for line in lines {
         let _reply = answer_line(alloc, model, line)?;

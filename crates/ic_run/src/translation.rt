@@ -144,7 +144,7 @@ fn from_book<S: Source, K: Sink>(
 }
 
 /// The status where the lines couldn't be read.
-pub fn status_of_error(e: &RunError) -> u8
+pub(crate) fn status_of_error(e: &RunError) -> u8
     ensures { result ≡ run_status (Err e.now) }
 {
     match e {

@@ -1,9 +1,9 @@
 use Rattle.std.proofs.Common.{◌≡◌, ap, ◌∙◌}
-use Rattle.ic_book.specs.Served.{served_machine}
 use Rattle.ic_book.specs.Whole.{whole_of}
 use Rattle.ic_laws.specs.Lines.{texts_of}
 use Rattle.ic_lines.proofs.ToldLemmas.{IfTold-weaker}
 use Rattle.ic_machine.specs.Run.{after}
+use Rattle.ic_run.specs.Core.{whole_machine}
 use Rattle.ic_run.specs.Desk.{start_book}
 use Rattle.ic_run.specs.Make.{made_setting}
 use Rattle.ic_run.specs.Prepared.{IsBookAfter}
@@ -17,5 +17,5 @@ returns-in-Ok-clause-book g c =
     let new = c.answer_all.new.model.book in
     let created = old.metadata.created in
     let is : old ≡ start_book made_setting created tables = c.in_ok-model.ensures.start in
-    IfTold-weaker (left c.args.source.now) (left c.answer_all.new.source) (λ bytes _. whole_of new ≡ after served_machine (whole_of old) (texts_of bytes)) (IsBookAfter tables new)
-    (λ bytes rest made. (created, made ∙ ap (λ b. after served_machine (whole_of b) (texts_of bytes)) is)) c.in-Ok.ensures.book
+    IfTold-weaker (left c.args.source.now) (left c.answer_all.new.source) (λ bytes _. whole_of new ≡ after whole_machine (whole_of old) (texts_of bytes)) (IsBookAfter tables new)
+    (λ bytes rest made. (created, made ∙ ap (λ b. after whole_machine (whole_of b) (texts_of bytes)) is)) c.in-Ok.ensures.book
