@@ -1,4 +1,4 @@
-use Rattle.std.proofs.Common.{chars, Some, ap, option_map, sym, ◌∙◌}
+use Rattle.std.proofs.Common.{chars, ap, option_map, sym, ◌∙◌}
 use Rattle.ic_audit.specs.Asked.{OfName}
 use Rattle.ic_audit.proofs.AskedLemmas.{of_name, other_kind_of_three}
 use Rattle.ic_audit.proofs.asked.name_asked.Goals as goal

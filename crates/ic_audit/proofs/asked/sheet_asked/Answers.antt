@@ -1,4 +1,4 @@
-use Rattle.std.proofs.Common.{chars, sym, ◌∙◌}
+use Rattle.std.proofs.Common.{chars, sym}
 use Rattle.ic_audit.proofs.AskedLemmas.{of_sheet, other_kind}
 use Rattle.ic_audit.proofs.asked.sheet_asked.Goals as goal
 
