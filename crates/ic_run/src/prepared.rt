@@ -10,7 +10,7 @@ ghost use Rattle.ic_run.specs.Desk.{start_refusal};
 ghost use Rattle.ic_run.specs.Make.{made_setting};
 ghost use Rattle.ic_run.specs.Prepared.{IsBookAfter};
 
-use crate::start::{english_start, first_book};
+use crate::start::english_book;
 use crate::translation::status_of_error;
 use ic_book::Model;
 use ic_commands::answer_line;
@@ -55,7 +55,7 @@ pub fn book_after<'a, S: Source>(
         → ¬ HasFault (S.faults source.old) (S.faults source.new)
         → IfErr result (λ status. status ≡ 6) }
 {
-    let mut model = first_book(alloc, &english_start(), tables, moment)?;
+    let mut model = english_book(alloc, tables, moment)?;
     match answer_all(alloc, &mut model, source) {
         Ok(()) => Ok(model),
         Err(e) => Err(status_of_error(&e)),

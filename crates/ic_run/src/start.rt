@@ -77,6 +77,20 @@ pub fn first_book<'a>(
     }
 }
 
+/// The new book in en, en and UTC; or the status where there is none.
+pub fn english_book<'a>(
+    alloc: Global,
+    tables: &'a Tables,
+    moment: Timestamp,
+) -> Result<Model<'a>, u8>
+    ensures start { IfOk result (λ m. m.book
+        ≡ start_book made_setting m.book.metadata.created tables.now) }
+    ensures unknown { (result ≡ Err 2) ↔ IsSome (start_refusal made_setting tables.now) }
+    ensures which { IfErr result (λ status. (status ≡ 2) ⊎ (status ≡ 6)) }
+{
+    first_book(alloc, &english_start(), tables, moment)
+}
+
 /// The status where there is no book to begin with.
 fn status_without_book(e: &BookError) -> u8
     ensures status { result ≡ start_status e.now }
