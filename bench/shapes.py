@@ -215,6 +215,13 @@ def mentioned_first(count):
         yield put(900_001 + 2 * i, f"Late{i}!$A$2+{i}")
 
 
+def some_of_sheet(count, many, sheet, other):
+    """Formulas of which as many as are told, spread evenly, mention one sheet, and all others another one."""
+    apart = count // many
+    for i in range(1, count + 1):
+        yield put(i, f"SUM({sheet if i % apart == 0 else other}!$A${i % 1000 + 1}:$B$2)*{i}")
+
+
 def dangling(count, sheet):
     """So many sheets, one of which mentions a sheet that isn't there and doesn't come."""
     yield from sheets(count)

@@ -1,6 +1,7 @@
-//! Whole runs over bytes in memory: the program's, by its words, and that of the book.
+//! Whole runs over bytes in memory: those of the programs, by their words, and that of the book.
 use crate::books::Books;
 use crate::row::Row;
+use ic_audit::audit_desk;
 use ic_book::Model;
 use ic_lines::{MemorySink, MemorySource, Sink, Source, SteadySink, SteadySource};
 use ic_run::{desk, run};
@@ -8,12 +9,13 @@ use jiff::Timestamp;
 
 /// `desk`, the program's words with `|` between two, the input, the most bytes of a read, the number of the read that
 /// fails, the room of the sink, and the number of the write that fails, 0 for none: the status, and what was written.
+/// `audit`, likewise of `audit_desk`.
 /// `run`, the same without words, on the book of the last `new_empty`: `ok` and the number of lines or the error, and
 /// what was written. `steady`, the input and the room of the sink: a run on that book over a source and a sink that fail at
 /// no read and no write.
 pub fn call(row: &mut Row<'_>, books: &mut Books<'_>) {
     match row.name {
-        "desk" => {
+        "desk" | "audit" => {
             let words = words_in(row, row.word(1));
             row.skip(2);
             with_source(row, books, words.as_slice());
@@ -87,7 +89,7 @@ fn put_steady(row: &mut Row<'_>, books: &mut Books<'_>) {
     }
 }
 
-/// What `desk` or `run` answers.
+/// What `desk`, `audit_desk` or `run` answers.
 fn put_answered(
     row: &mut Row<'_>,
     books: &mut Books<'_>,
@@ -95,22 +97,19 @@ fn put_answered(
     source: &mut MemorySource,
     sink: &mut MemorySink,
 ) {
-    if row.name == "desk" {
-        let status = desk(
-            row.alloc,
-            words,
-            row.tables,
-            Timestamp::UNIX_EPOCH,
-            source,
-            sink,
-        );
-        row.put_number(i128::from(status));
-    } else {
-        match &mut books.book {
+    let (alloc, tables, moment) = (row.alloc, row.tables, Timestamp::UNIX_EPOCH);
+    match row.name {
+        "desk" => put_status(row, desk(alloc, words, tables, moment, source, sink)),
+        "audit" => put_status(row, audit_desk(alloc, words, tables, moment, source, sink)),
+        _ => match &mut books.book {
             Some(model) => put_run(row, model, source, sink),
             None => row.bad(),
-        }
+        },
     }
+}
+
+fn put_status(row: &mut Row<'_>, status: u8) {
+    row.put_number(i128::from(status));
 }
 
 fn put_run<S: Source, K: Sink>(

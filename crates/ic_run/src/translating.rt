@@ -121,8 +121,6 @@ fn target_named<'a>(
         (lines : List (List ℕ)) → HasTranslated locale language book lines (Err e) book) }
     ensures valid { IsValidBook model.now.book }
 {
-    // What always holds of a model is known from here on.
-    let _ = model.parsed_formula(0, 0);
     match model.notation_named(locale_id, language_id) {
         Ok(target) => Ok(target),
         Err(BookError::InvalidLocale) => Err(TranslateError::InvalidLocale),
