@@ -1,0 +1,6 @@
+pub mod Lines
+pub mod Passing
+pub mod Rebuilds
+pub mod Refused
+pub mod Skeleton
+pub mod Told

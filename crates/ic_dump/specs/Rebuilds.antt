@@ -1,0 +1,22 @@
+-- What the lines of a dump do: run from a new book in en, en and UTC, each is accepted in its turn, and what they leave is the
+-- same skeleton.
+use Rattle.std.specs.Prelude.{ℕ, List, IsNone}
+use Rattle.ic_laws.specs.CoreBook.{CoreBook}
+use Rattle.ic_tables.specs.Tables.{TableSet}
+use Rattle.ic_machine.specs.Book.{Book, core_of}
+use Rattle.ic_machine.specs.Command.{commands}
+use Rattle.ic_machine.specs.Run.{after}
+use Rattle.ic_machine.specs.Step.{machine}
+use Rattle.ic_machine.specs.TranslationLaws.{AreAccepted}
+use Rattle.ic_run.specs.Desk.{start_refusal}
+use Rattle.ic_run.specs.Make.{made_setting, made_start}
+use Rattle.ic_dump.specs.Skeleton.{IsSameSkeleton}
+
+-- lines do so from a book
+pub record RebuildsFrom (start : Book) (lines : List (List ℕ)) (book : CoreBook) : Type 0 where
+  pub accepted : AreAccepted start lines
+  pub same : IsSameSkeleton book (core_of (after (machine commands) start lines))
+
+-- and from each new one with these tables, whenever it was made, where there is one
+abbrev pub Rebuilds : TableSet → List (List ℕ) → CoreBook → Type 0
+Rebuilds tables lines book = IsNone (start_refusal made_setting tables) → (created : List ℕ) → RebuildsFrom (made_start created tables) lines book

@@ -1,0 +1,74 @@
+//! English, by the tables of a book, whatever notation is in force.
+ghost use Rattle.std.specs.Prelude.{◌≡◌, IfOk, chars, codes, string_bytes};
+ghost use Rattle.ic_book.specs.Book.{core_of, notations_in};
+ghost use Rattle.ic_dump.specs.Lines.{english_formula};
+ghost use Rattle.ic_dump.specs.Refused.{is_read};
+
+use ic_book::{Model, Notation};
+use ic_book::OwnText;
+use ic_laws::{Formula, OutOfMemory};
+use ic_pool::copy_formula;
+use ic_tree::{Shown, read};
+use std::alloc::Global;
+
+/// The notation of the locale `en` and the language `en`, which the tables have.
+pub(crate) fn english<'a>(model: &Model<'a>) -> Notation<'a>
+    ensures { result ≡ record {
+      tables = model.now.book.tables;
+      locale = codes "en";
+      language = codes "en";
+    } }
+{
+    match model.notation_named("en", "en") {
+        Ok(notation) => notation,
+        Err(_) => unreachable!(),
+    }
+}
+
+/// `=` and a formula in English, as it is written in the cell at a row and a column. Only memory can be missing.
+pub(crate) fn english_formula(
+    alloc: Global,
+    model: &Model<'_>,
+    english: &Notation<'_>,
+    row: i32,
+    column: i32,
+    formula: &Formula,
+) -> Result<String, OutOfMemory>
+    requires { english.now ≡ record {
+      tables = model.now.book.tables;
+      locale = codes "en";
+      language = codes "en";
+    } }
+    ensures { IfOk result (λ text. chars (string_bytes text) ≡ english_formula
+        (notations_in model.now.book) (core_of model.now.book) (row, column) formula.now) }
+{
+    let formula = copy_formula(alloc, formula)?;
+    let own = OwnText::Formula {
+        row,
+        column,
+        formula,
+    };
+    model.own_text(&own, english)
+}
+
+/// Whether a text that is written after `=` into the cell at a row and a column, in English, isn't kept as it is: nothing
+/// stands there, or it reads, or does with a `)`. Only memory can be missing.
+pub(crate) fn is_read(
+    alloc: Global,
+    english: &Notation<'_>,
+    row: i32,
+    column: i32,
+    text: &str,
+) -> Result<bool, OutOfMemory> {
+    if text.is_empty() {
+        return Ok(true);
+    }
+    let locale = &english.locale().locale;
+    let shown = Shown::new(english.tables(), locale, english.language(), row, column);
+    if read(alloc, &shown, text)?.is_some() {
+        return Ok(true);
+    }
+    let mut closed = String::from_str(alloc, text)?;
+    closed.push_str(")")?;
+    Ok(read(alloc, &shown, closed.as_str())?.is_some())
+}
