@@ -3,4 +3,5 @@ pub mod Passing
 pub mod Rebuilds
 pub mod Refused
 pub mod Skeleton
+pub mod Stages
 pub mod Told

@@ -7,7 +7,7 @@ ghost use Rattle.ic_run.specs.Make.{made_setting};
 ghost use Rattle.ic_dump.specs.Told.{AppendsCannot, AppendsDump, AppendsToldFront, TellsCannot, TellsDump, told_cannot, told_lines, told_of};
 
 use crate::DumpError;
-use crate::dump::dump;
+use crate::dumping::dump;
 use crate::told::told;
 use ic_book::Model;
 use ic_laws::OutOfMemory;

@@ -7,7 +7,7 @@
 #![tactic(auto)]
 
 mod desk;
-mod dump;
+mod dumping;
 mod english;
 mod error;
 mod lines;
@@ -19,7 +19,7 @@ mod told;
 mod unfound;
 
 pub use desk::dump_desk;
-pub use dump::dump;
+pub use dumping::dump;
 pub use error::DumpError;
 pub use ic_book::MentionSite;
 pub use ic_laws::NameKey;
