@@ -1,6 +1,8 @@
+pub mod English
 pub mod Lines
 pub mod Passing
 pub mod Rebuilds
+pub mod Records
 pub mod Refused
 pub mod Skeleton
 pub mod Stages

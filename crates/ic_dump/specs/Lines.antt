@@ -3,9 +3,10 @@ use Rattle.std.specs.Prelude.{ℕ, ◌+◌, suc, List, [], ◌∷◌, ◌++◌, 
 use Rattle.std.specs.Fmt.{decimal, signed_decimal}
 use Rattle.std.specs.List.{range_with_len}
 use Rattle.ic_laws.specs.Character.{equals}
-use Rattle.ic_laws.specs.CoreBook.{CellPlace, CoreBook, Definition, Sheet}
+use Rattle.ic_laws.specs.CoreBook.{CellPlace, Cells, CoreBook, Definition, Sheet, spelling_of}
 use Rattle.ic_laws.specs.FormulaReading.{shown_body, shown_formula}
 use Rattle.ic_laws.specs.Notations.{Notations, english}
+use Rattle.ic_laws.specs.declared.scene.NameSpelling.{NameSpelling}
 use Rattle.ic_laws.specs.declared.scene.SheetName.{SheetName}
 use Rattle.ic_laws.specs.declared.tree.Formula.{Formula}
 use Rattle.ic_machine.specs.Translation.{line_of}
@@ -48,35 +49,35 @@ inserting_lines book = inserting_lines_from 0 (standing_sheets book)
 
 -- The definitions. ----
 
--- the index of the sheet with this id, while the passing sheets stand
-abbrev pub index_standing : CoreBook → ℕ → ℕ
-index_standing book id = unwrap_or (position (λ (s : SheetName). nat_eq s.id id) (standing_sheets book)) 0
+-- the index of the sheet with this id among those that stand
+abbrev pub index_standing : List SheetName → ℕ → ℕ
+index_standing sheets id = unwrap_or (position (λ (s : SheetName). nat_eq s.id id) sheets) 0
 
 -- the word for the sheet that a definition is local to, or for none
-abbrev pub scope_word : CoreBook → Option ℕ → List ℕ
-scope_word book None = codes "-"
-scope_word book (Some id) = decimal (index_standing book id)
+abbrev pub scope_word : List SheetName → Option ℕ → List ℕ
+scope_word sheets None = codes "-"
+scope_word sheets (Some id) = decimal (index_standing sheets id)
 
 -- each is made with a body that mentions nothing, so that all names are there before the first body is bound
 abbrev pub plain_body : List ℕ
 plain_body = codes "LAMBDA(1)"
 
-abbrev pub defining_line : CoreBook → Definition → Text
-defining_line book definition = line_of (codes "new_defined_name" ∷ definition.name ∷ scope_word book definition.scope ∷ plain_body ∷ [])
+abbrev pub defining_line : List SheetName → NameSpelling → Text
+defining_line sheets d = line_of (codes "new_defined_name" ∷ d.name ∷ scope_word sheets d.scope ∷ plain_body ∷ [])
 
 abbrev pub defining_lines : CoreBook → List Text
-defining_lines book = map (defining_line book) book.definitions
+defining_lines book = map (λ d. defining_line (standing_sheets book) (spelling_of d)) book.definitions
 
 -- the bodies are set by updates that keep name and scope, since they may be what a new definition can't have
 abbrev pub english_body : Notations → CoreBook → Definition → List ℕ
 english_body n book definition = shown_body n (in_english book) definition.has_equals definition.body
 
-abbrev pub body_line : Notations → CoreBook → Definition → Text
-body_line n book definition =
-    line_of (codes "update_defined_name" ∷ definition.name ∷ scope_word book definition.scope ∷ definition.name ∷ scope_word book definition.scope ∷ english_body n book definition ∷ [])
+abbrev pub body_line : List SheetName → NameSpelling → List ℕ → Text
+body_line sheets d body =
+    line_of (codes "update_defined_name" ∷ d.name ∷ scope_word sheets d.scope ∷ d.name ∷ scope_word sheets d.scope ∷ body ∷ [])
 
 abbrev pub body_lines : Notations → CoreBook → List Text
-body_lines n book = map (body_line n book) book.definitions
+body_lines n book = map (λ d. body_line (standing_sheets book) (spelling_of d) (english_body n book d)) book.definitions
 
 -- The passing sheets go, from the end. ----
 
@@ -91,13 +92,15 @@ deleting_lines book = map deleting_line (reverse (range_with_len (length book.sh
 abbrev pub english_formula : Notations → CoreBook → CellPlace → Formula → List ℕ
 english_formula n book place formula = equals ∷ shown_formula n (in_english book) place.0 place.1 formula
 
-abbrev pub cell_line : Notations → CoreBook → ℕ → CellPlace × Formula → Text
-cell_line n book index cell =
-    line_of (codes "update_cell_with_formula" ∷ decimal index ∷ signed_decimal cell.0.0 ∷ signed_decimal cell.0.1 ∷ english_formula n book cell.0 cell.1 ∷ [])
+abbrev pub cell_line : ℕ → CellPlace → List ℕ → Text
+cell_line index place text = line_of (codes "update_cell_with_formula" ∷ decimal index ∷ signed_decimal place.0 ∷ signed_decimal place.1 ∷ text ∷ [])
+
+abbrev pub lines_of_cells : Notations → CoreBook → ℕ → Cells → List Text
+lines_of_cells n book index cells = map (λ (cell : CellPlace × Formula). cell_line index cell.0 (english_formula n book cell.0 cell.1)) cells
 
 abbrev pub cell_lines_from : Notations → CoreBook → ℕ → List Sheet → List Text
 cell_lines_from n book index [] = []
-cell_lines_from n book index (sheet ∷ sheets) = map (cell_line n book index) sheet.cells ++ cell_lines_from n book (suc index) sheets
+cell_lines_from n book index (sheet ∷ sheets) = lines_of_cells n book index sheet.cells ++ cell_lines_from n book (suc index) sheets
 
 abbrev pub cell_lines : Notations → CoreBook → List Text
 cell_lines n book = cell_lines_from n book 0 book.sheets

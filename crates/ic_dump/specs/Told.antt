@@ -24,10 +24,10 @@ abbrev pub lines_of_book : Book → List (List ℕ)
 lines_of_book book = dump_lines (notations_in book) (core_of book)
 
 -- the lines that rebuild a book were written behind what was before
-pub record TellsDump (tables : TableSet) (book : Book) (before now : List ℕ) : Type 0 where
+pub record TellsDump (book : Book) (before now : List ℕ) : Type 0 where
   pub none : cause_of (notations_in book) (core_of book) ≡ None
   pub written : now ≡ before ++ told_lines (lines_of_book book)
-  pub rebuilds : Rebuilds tables (lines_of_book book) (core_of book)
+  pub rebuilds : Rebuilds book.tables (lines_of_book book) (core_of book)
 
 -- a cell's text would read, and that was written
 pub record TellsCannot (book : Book) (before now : List ℕ) : Type 0 where
@@ -46,7 +46,7 @@ told_of book = told_by (cause_of (notations_in book) (core_of book)) book
 -- Of the book after the lines of some bytes, from a new one that was made at some moment. ----
 
 abbrev pub AppendsDump : TableSet → List ℕ → List ℕ → List ℕ → Type 0
-AppendsDump tables bytes before now = (created : List ℕ) × TellsDump tables (book_after tables created bytes) before now
+AppendsDump tables bytes before now = (created : List ℕ) × TellsDump (book_after tables created bytes) before now
 
 abbrev pub AppendsCannot : TableSet → List ℕ → List ℕ → List ℕ → Type 0
 AppendsCannot tables bytes before now = (created : List ℕ) × TellsCannot (book_after tables created bytes) before now

@@ -86,7 +86,17 @@ pub fn dump_desk<S: Source, K: Sink>(
 
 /// Writes the lines that rebuild a book. The status: 0, 4 where the sink had a fault, 6 where memory ran out before, 7 where a
 /// cell's text would read, and that is written.
-fn tell<K: Sink>(alloc: Global, model: &Model<'_>, sink: &mut K) -> u8 {
+fn tell<K: Sink>(alloc: Global, model: &Model<'_>, sink: &mut K) -> u8
+    ensures dumped { result ≡ 0 → IfTold (K.written sink.old) (K.written sink.new)
+        (TellsDump (whole_of model.now.book)) }
+    ensures cannot { result ≡ 7 → IfTold (K.written sink.old) (K.written sink.new)
+        (TellsCannot (whole_of model.now.book)) }
+    ensures front { result ≡ 4 → IfTold (K.written sink.old) (K.written sink.new)
+        (AppendsFront (told_of (whole_of model.now.book))) }
+    ensures nothing { result ≡ 6 → sink.new ≡ sink.old }
+    ensures write_fault { result ≡ 4 → HasFault (K.faults sink.old) (K.faults sink.new) }
+    ensures which { (result ≡ 0) ⊎ ((result ≡ 4) ⊎ ((result ≡ 6) ⊎ (result ≡ 7))) }
+{
     match dump(alloc, model) {
         Ok(lines) => write_lines(alloc, &lines, sink),
         Err(DumpError::Rereads(_)) => written(sink, "cannot\tRereads\n".as_bytes(), 7),

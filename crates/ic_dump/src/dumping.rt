@@ -1,6 +1,8 @@
 //! A book as command lines.
-ghost use Rattle.std.specs.Prelude.{◌≡◌, IfOk};
+ghost use Rattle.std.specs.Prelude.{◌≡◌, IfOk, None};
 ghost use Rattle.ic_book.specs.Book.{core_of, notations_in};
+ghost use Rattle.ic_book.specs.Workbook.{workbook_of};
+ghost use Rattle.ic_dump.specs.English.{IsEnglish};
 ghost use Rattle.ic_dump.specs.Lines.{dump_lines};
 ghost use Rattle.ic_dump.specs.Rebuilds.{Rebuilds};
 ghost use Rattle.ic_dump.specs.Refused.{Tells, cause_of};
@@ -50,7 +52,11 @@ fn refuse(
     model: &Model<'_>,
     english: &Notation<'_>,
     workbook: &Workbook,
-) -> Result<(), DumpError> {
+) -> Result<(), DumpError>
+    requires english { IsEnglish model.now.book english.now }
+    requires records { workbook.now ≡ workbook_of model.now.book }
+    ensures { Tells result (cause_of (notations_in model.now.book) (core_of model.now.book)) }
+{
     match raw_body(alloc, model, workbook.defined_names.as_slice()) {
         Ok(None) => {}
         Ok(Some(key)) => return Err(DumpError::RawBody(key)),
@@ -69,7 +75,13 @@ fn lines_of(
     model: &Model<'_>,
     english: &Notation<'_>,
     workbook: &Workbook,
-) -> Result<Vec<Line>, OutOfMemory> {
+) -> Result<Vec<Line>, OutOfMemory>
+    requires english { IsEnglish model.now.book english.now }
+    requires records { workbook.now ≡ workbook_of model.now.book }
+    requires none { cause_of (notations_in model.now.book) (core_of model.now.book) ≡ None }
+    ensures { IfOk result (λ lines. lines.items
+        ≡ dump_lines (notations_in model.now.book) (core_of model.now.book)) }
+{
     let worksheets = workbook.worksheets.as_slice();
     let definitions = workbook.defined_names.as_slice();
     let standing = standing_sheets(alloc, model, workbook)?;

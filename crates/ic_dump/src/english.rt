@@ -1,11 +1,11 @@
 //! English, by the tables of a book, whatever notation is in force.
-ghost use Rattle.std.specs.Prelude.{◌≡◌, IfOk, chars, codes, string_bytes};
-ghost use Rattle.ic_book.specs.Book.{core_of, notations_in};
+ghost use Rattle.std.specs.Prelude.{◌≡◌, IfOk, chars, string_bytes};
+ghost use Rattle.ic_book.specs.Book.{Book, core_of, notations_in};
+ghost use Rattle.ic_dump.specs.English.{IsEnglish};
 ghost use Rattle.ic_dump.specs.Lines.{english_formula};
 ghost use Rattle.ic_dump.specs.Refused.{is_read};
 
-use ic_book::{Model, Notation};
-use ic_book::OwnText;
+use ic_book::{Model, Notation, OwnText};
 use ic_laws::{Formula, OutOfMemory};
 use ic_pool::copy_formula;
 use ic_tree::{Shown, read};
@@ -13,11 +13,7 @@ use std::alloc::Global;
 
 /// The notation of the locale `en` and the language `en`, which the tables have.
 pub(crate) fn english<'a>(model: &Model<'a>) -> Notation<'a>
-    ensures { result ≡ record {
-      tables = model.now.book.tables;
-      locale = codes "en";
-      language = codes "en";
-    } }
+    ensures { IsEnglish model.now.book result }
 {
     match model.notation_named("en", "en") {
         Ok(notation) => notation,
@@ -34,11 +30,7 @@ pub(crate) fn english_formula(
     column: i32,
     formula: &Formula,
 ) -> Result<String, OutOfMemory>
-    requires { english.now ≡ record {
-      tables = model.now.book.tables;
-      locale = codes "en";
-      language = codes "en";
-    } }
+    requires { IsEnglish model.now.book english.now }
     ensures { IfOk result (λ text. chars (string_bytes text) ≡ english_formula
         (notations_in model.now.book) (core_of model.now.book) (row, column) formula.now) }
 {
@@ -59,7 +51,10 @@ pub(crate) fn is_read(
     row: i32,
     column: i32,
     text: &str,
-) -> Result<bool, OutOfMemory> {
+) -> Result<bool, OutOfMemory>
+    ensures { (book : Book) → IsEnglish book english.now → IfOk result (λ reads. reads
+        ≡ is_read (notations_in book) (row, column) (chars text.now)) }
+{
     if text.is_empty() {
         return Ok(true);
     }

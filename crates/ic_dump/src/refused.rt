@@ -1,8 +1,17 @@
 //! Why a book has no lines.
-ghost use Rattle.std.specs.Prelude.{◌≡◌, IfOk, option_map};
+ghost use Rattle.std.specs.Prelude.{◌≡◌, IfOk, Some, false, map, option_map};
+ghost use Rattle.std.specs.List.{list_any, slice_get};
+ghost use Rattle.std.specs.Option.{option_map_or};
+ghost use Rattle.ic_laws.specs.CoreBook.{CellPlace};
+ghost use Rattle.ic_laws.specs.Scene.{key_of};
+ghost use Rattle.ic_laws.specs.declared.tree.Formula as core;
+ghost use Rattle.ic_sheets.specs.Sheet.{Sheet, cell_of};
 ghost use Rattle.ic_book.specs.Book.{core_of, notations_in};
 ghost use Rattle.ic_book.specs.Sites.{site_of};
-ghost use Rattle.ic_dump.specs.Refused.{raw_body, rereading};
+ghost use Rattle.ic_book.specs.Workbook.{defined_name_of, worksheet_of};
+ghost use Rattle.ic_dump.specs.English.{IsEnglish};
+ghost use Rattle.ic_dump.specs.Records.{name_seen};
+ghost use Rattle.ic_dump.specs.Refused.{is_raw, raw_body, rereading, rereads};
 
 use crate::english::is_read;
 use caseless::default_case_fold_str;
@@ -17,6 +26,8 @@ pub(crate) fn raw_body(
     model: &Model<'_>,
     definitions: &[DefinedName],
 ) -> Result<Option<NameKey>, OutOfMemory>
+    requires { definitions.now
+        ≡ map (defined_name_of model.now.book) model.now.book.definitions }
     ensures { IfOk result (λ key. key ≡ raw_body (core_of model.now.book)) }
 {
     for (index, definition) in definitions.iter().enumerate() {
@@ -28,7 +39,9 @@ pub(crate) fn raw_body(
 }
 
 /// Whether a formula is a text that doesn't read.
-fn is_raw(formula: Option<&Formula>) -> bool {
+fn is_raw(formula: Option<&Formula>) -> bool
+    ensures { result ≡ option_map_or is_raw (option_map (λ f. f.now) formula) false }
+{
     match formula {
         Some(Formula::Raw(_)) => true,
         _ => false,
@@ -36,7 +49,9 @@ fn is_raw(formula: Option<&Formula>) -> bool {
 }
 
 /// The key of a definition.
-fn key_of(alloc: Global, definition: &DefinedName) -> Result<NameKey, OutOfMemory> {
+fn key_of(alloc: Global, definition: &DefinedName) -> Result<NameKey, OutOfMemory>
+    ensures { IfOk result (λ key. key ≡ key_of (name_seen definition.now)) }
+{
     let name = Text::from(default_case_fold_str(alloc, definition.name.as_str())?);
     Ok(NameKey {
         name,
@@ -52,6 +67,9 @@ pub(crate) fn rereading(
     english: &Notation<'_>,
     worksheets: &[Worksheet],
 ) -> Result<Option<MentionSite>, OutOfMemory>
+    requires english { IsEnglish model.now.book english.now }
+    requires worksheets { worksheets.now ≡ map (worksheet_of model.now.book)
+        model.now.book.sheets }
     ensures { IfOk result (λ site. option_map site_of site
         ≡ rereading (notations_in model.now.book) (core_of model.now.book)) }
 {
@@ -93,7 +111,12 @@ fn rereads(
     row: i32,
     column: i32,
     cell: &Cell,
-) -> Result<bool, OutOfMemory> {
+) -> Result<bool, OutOfMemory>
+    requires { IsEnglish model.now.book english.now }
+    ensures { (s : Sheet) → slice_get model.now.book.sheets sheet ≡ Some s → IfOk result
+        (λ is. is ≡ list_any (λ (c : CellPlace × core.Formula). rereads
+        (notations_in model.now.book) c.0 c.1) (cell_of s.pool ((row, column), cell.now))) }
+{
     let Some(index) = cell.get_formula() else {
         return Ok(false);
     };

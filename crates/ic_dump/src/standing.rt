@@ -1,7 +1,9 @@
 //! The sheets that stand while a book is rebuilt.
 ghost use Rattle.std.specs.Prelude.{◌≡◌, IfOk};
 ghost use Rattle.ic_book.specs.Book.{core_of};
+ghost use Rattle.ic_book.specs.Workbook.{workbook_of};
 ghost use Rattle.ic_dump.specs.Passing.{standing_sheets};
+ghost use Rattle.ic_dump.specs.Records.{AreFound};
 
 use crate::passing::free_numerals;
 use crate::unfound::{Names, push_unfound_of};
@@ -24,8 +26,11 @@ pub(crate) fn standing_sheets(
     model: &Model<'_>,
     workbook: &Workbook,
 ) -> Result<Standing, OutOfMemory>
-    ensures { IfOk result (λ standing. standing.sheets.items
+    requires { workbook.now ≡ workbook_of model.now.book }
+    ensures sheets { IfOk result (λ standing. standing.sheets.items
         ≡ standing_sheets (core_of model.now.book)) }
+    ensures found { IfOk result (λ standing.
+        AreFound standing.indexes standing.sheets.items) }
 {
     let mut standing = own_sheets(alloc, workbook.worksheets.as_slice())?;
     let ids = passing_ids(alloc, &mut standing.indexes, workbook.defined_names.as_slice())?;
