@@ -8,7 +8,7 @@ ghost use Rattle.ic_dump.specs.Rebuilds.{Rebuilds};
 ghost use Rattle.ic_dump.specs.Refused.{Tells, cause_of};
 
 use crate::DumpError;
-use crate::english::english;
+use crate::english::english_of;
 use crate::refused::{raw_body, rereading};
 use crate::stages::{
     push_bodies, push_cells, push_defining, push_deleting, push_inserting, push_naming,
@@ -38,7 +38,7 @@ pub fn dump(alloc: Global, model: &Model<'_>) -> Result<Vec<Line>, DumpError>
     let Ok(workbook) = model.workbook() else {
         return Err(DumpError::OutOfMemory);
     };
-    let english = english(model);
+    let english = english_of(model);
     refuse(alloc, model, &english, &workbook)?;
     match lines_of(alloc, model, &english, &workbook) {
         Ok(lines) => Ok(lines),

@@ -1,18 +1,20 @@
 //! English, by the tables of a book, whatever notation is in force.
 ghost use Rattle.std.specs.Prelude.{◌≡◌, IfOk, chars, string_bytes};
+ghost use Rattle.ic_laws.specs.Notations.{english};
+ghost use Rattle.ic_tree.specs.Notations.{notations_of};
 ghost use Rattle.ic_book.specs.Book.{Book, core_of, notations_in};
 ghost use Rattle.ic_dump.specs.English.{IsEnglish};
 ghost use Rattle.ic_dump.specs.Lines.{english_formula};
 ghost use Rattle.ic_dump.specs.Refused.{is_read};
 
 use ic_book::{Model, Notation, OwnText};
-use ic_laws::{Formula, OutOfMemory};
+use ic_laws::{Dialect, Formula, OutOfMemory};
 use ic_pool::copy_formula;
 use ic_tree::{Shown, read};
 use std::alloc::Global;
 
 /// The notation of the locale `en` and the language `en`, which the tables have.
-pub(crate) fn english<'a>(model: &Model<'a>) -> Notation<'a>
+pub(crate) fn english_of<'a>(model: &Model<'a>) -> Notation<'a>
     ensures { IsEnglish model.now.book result }
 {
     match model.notation_named("en", "en") {
@@ -58,12 +60,21 @@ pub(crate) fn is_read(
     if text.is_empty() {
         return Ok(true);
     }
-    let locale = &english.locale().locale;
-    let shown = Shown::new(english.tables(), locale, english.language(), row, column);
+    let shown = english_at(english, row, column);
     if read(alloc, &shown, text)?.is_some() {
         return Ok(true);
     }
     let mut closed = String::from_str(alloc, text)?;
     closed.push_str(")")?;
     Ok(read(alloc, &shown, closed.as_str())?.is_some())
+}
+
+/// How formulas are written in English in the cell at a row and a column, by the tables of a notation.
+fn english_at<'n>(notation: &Notation<'n>, row: i32, column: i32) -> Shown<'n>
+    ensures { ⟦<Shown<'n> as Dialect>⟧.meaning result ≡ (notations_of notation.now.tables).shown
+        english english row column }
+{
+    let locale = notation.get_default_locale();
+    let language = notation.get_default_language();
+    Shown::new(notation.tables(), locale, language, row, column)
 }

@@ -22,7 +22,7 @@ pub(crate) fn free_numerals(
 {
     let folded = folded_names(alloc, taken)?;
     let mut names = Vec::new(alloc);
-    for number in 1..=count as u64 + taken.len() as u64 {
+    for number in 1..u64::MAX {
         if names.len() == count {
             break;
         }

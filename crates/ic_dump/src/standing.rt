@@ -132,12 +132,10 @@ fn push_named(
     ids: &[u32],
     names: Vec<Text>,
 ) -> Result<(), OutOfMemory> {
-    let mut index = 0;
-    for name in names {
+    for (index, name) in names.into_iter().enumerate() {
         if let Some(id) = ids.get(index) {
             sheets.push(SheetName { id: *id, name })?;
         }
-        index += 1;
     }
     Ok(())
 }
