@@ -1,9 +1,18 @@
 -- English is there, and what is written in it.
-use Rattle.std.proofs.Common.{◌≡◌, ℕ, List, None, codes, false, refl}
+use Rattle.std.proofs.Common.{◌≡◌, ◌∷◌, ◌∙◌, ap, ℕ, List, None, codes, false, refl}
 use Rattle.std.specs.Prelude.{is_none, is_some, Bool, Option, Some, true}
 use Rattle.ic_tables.specs.Tables.{IsWellFormed, TableSet, language_of, locale_of}
 use Rattle.ic_laws.specs.Refusal.{Refusal}
-use Rattle.ic_book.specs.Book.{Book, IsValidBook}
+use Rattle.ic_laws.specs.Character.{equals}
+use Rattle.ic_laws.specs.CoreBook.{CellPlace, CoreBook}
+use Rattle.ic_laws.specs.FormulaReading.{shown_formula}
+use Rattle.ic_laws.specs.declared.tree.Formula.{Formula}
+use Rattle.ic_machine.specs.Translation.{in_notation}
+use Rattle.ic_machine.specs.subjects.Reading.{formula_text}
+use Rattle.ic_book.proofs.WholeLemmas.{whole_core}
+use Rattle.ic_book.specs.Book.{Book, IsValidBook, NotationState, core_of, notations_in, whole_of}
+use Rattle.ic_dump.specs.English.{IsEnglish}
+use Rattle.ic_dump.specs.Lines.{english_formula, in_english}
 use Rattle.ic_book.specs.Refused.{TellsCore}
 use Rattle.ic_book.specs.Translated.{notation_refusal}
 use Rattle.ic_book.specs.declared.error.BookError.{BookError}
@@ -21,3 +30,9 @@ english_is_there tables h =
 -- so that the notation is never refused
 pub refused_never : (book : Book) → IsValidBook book → (e : BookError) → ((told : Refusal) × TellsCore e (Some told) × (notation_refusal (codes "en") (codes "en") book.tables ≡ Some told)) → ⊥
 refused_never book valid e h = cc (h.1.1, english_is_there book.tables valid.whole.tables)
+
+-- what is written in a notation that is English is written in English
+pub written_english : (book : Book) (target : NotationState) → IsEnglish book target → (place : CellPlace) (f : Formula) → formula_text (in_notation target.locale target.language (whole_of book)) place f ≡ english_formula (notations_in book) (core_of book) place f
+written_english book target e place f =
+    ap (λ (t : NotationState). formula_text (in_notation t.locale t.language (whole_of book)) place f) e
+    ∙ ap (λ (core : CoreBook). equals ∷ shown_formula (notations_in book) (in_english core) place.0 place.1 f) (whole_core book)

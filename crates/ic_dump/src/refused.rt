@@ -1,7 +1,6 @@
 //! Why a book has no lines.
-ghost use Rattle.std.specs.Prelude.{◌≡◌, IfOk, Some, false, map, option_map};
+ghost use Rattle.std.specs.Prelude.{◌≡◌, IfOk, Some, map, option_map};
 ghost use Rattle.std.specs.List.{list_any, slice_get};
-ghost use Rattle.std.specs.Option.{option_map_or};
 ghost use Rattle.ic_laws.specs.CoreBook.{CellPlace};
 ghost use Rattle.ic_laws.specs.Scene.{key_of};
 ghost use Rattle.ic_laws.specs.declared.tree.Formula as core;
@@ -11,7 +10,7 @@ ghost use Rattle.ic_book.specs.Sites.{site_of};
 ghost use Rattle.ic_book.specs.Workbook.{defined_name_of, worksheet_of};
 ghost use Rattle.ic_dump.specs.English.{IsEnglish};
 ghost use Rattle.ic_dump.specs.Records.{name_seen};
-ghost use Rattle.ic_dump.specs.Refused.{is_raw, raw_body, rereading, rereads};
+ghost use Rattle.ic_dump.specs.Refused.{raw_body, rereading, rereads};
 
 use crate::english::is_read;
 use caseless::default_case_fold_str;
@@ -31,21 +30,12 @@ pub(crate) fn raw_body(
     ensures { IfOk result (λ key. key ≡ raw_body (core_of model.now.book)) }
 {
     for (index, definition) in definitions.iter().enumerate() {
-        if is_raw(model.parsed_definition(index)) {
-            return Ok(Some(key_of(alloc, definition)?));
+        match model.parsed_definition(index) {
+            Some(Formula::Raw(_)) => return Ok(Some(key_of(alloc, definition)?)),
+            _ => {}
         }
     }
     Ok(None)
-}
-
-/// Whether a formula is a text that doesn't read.
-fn is_raw(formula: Option<&Formula>) -> bool
-    ensures { result ≡ option_map_or is_raw (option_map (λ f. f.now) formula) false }
-{
-    match formula {
-        Some(Formula::Raw(_)) => true,
-        _ => false,
-    }
 }
 
 /// The key of a definition.

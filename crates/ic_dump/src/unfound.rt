@@ -57,7 +57,8 @@ fn push_unfound<'f>(names: &mut Names<'f>, tree: &'f Bound) -> Result<(), OutOfM
 #[cycle(push_unfound)]
 fn push_all<'f>(names: &mut Names<'f>, trees: &'f [Bound]) -> Result<(), OutOfMemory>
     ensures { OnOk result (map (λ name. name.now) names.new.items
-        ≡ map (λ name. name.now) names.old.items ++ flat_map unfound_in trees.now) }
+        ≡ map (λ name. name.now) names.old.items
+        ++ flat_map (λ ns. ns) (map unfound_in trees.now)) }
 {
     for tree in trees {
         push_unfound(names, tree)?;
@@ -73,7 +74,7 @@ fn push_values<'f>(
 ) -> Result<(), OutOfMemory>
     ensures { OnOk result (map (λ name. name.now) names.new.items
         ≡ map (λ name. name.now) names.old.items
-        ++ flat_map (λ pair. unfound_in pair.value) pairs.now) }
+        ++ flat_map (λ ns. ns) (map (λ pair. unfound_in pair.value) pairs.now)) }
 {
     for pair in pairs {
         push_unfound(names, &pair.value)?;

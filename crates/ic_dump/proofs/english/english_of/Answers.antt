@@ -1,6 +1,11 @@
-use Rattle.std.proofs.Common.{◌∙◌, sym}
+use Rattle.std.specs.Str.{chars}
 use Rattle.ic_dump.proofs.EnglishLemmas.{refused_never}
 use Rattle.ic_dump.proofs.english.english_of.Goals as goal
 
 pub unreachable-requires : goal.unreachable-requires
-unreachable-requires c = refused_never c.args.model.now.book c.notation_named.ensures.valid _ c.in-Err.ensures.refused
+unfolding chars
+unreachable-requires c = refused_never c.args.model.now.book c.in-Err.ensures.valid c.in-Err.field-0 c.in-Err.ensures.refused
+
+pub returns : goal.returns
+unfolding chars
+returns c = c.in-Ok.ensures.named

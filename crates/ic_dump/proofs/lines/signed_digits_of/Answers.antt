@@ -1,4 +1,4 @@
-use Rattle.std.proofs.Common.{◌++◌, ap, ◌∙◌, arith}
+use Rattle.std.proofs.Common.{◌++◌, ap, ◌∙◌, arith, string_bytes}
 use Rattle.std.specs.Fmt.{signed_decimal}
 use Rattle.std.specs.Str.{chars}
 use Rattle.std.proofs.lemmas.Fmt.{IsAscii-signed}
@@ -9,6 +9,7 @@ use Rattle.ic_dump.proofs.lines.signed_digits_of.Goals as goal
 
 pub returns : goal.returns
 returns c =
-    ap chars (c.in_ok-write.ensures.bytes ∙ ap (λ b. b ++ _) c.new-text.ensures.bytes)
-    ∙ ap (λ z. chars (signed_decimal z)) (to_z-of_z w32 c.args.number c.ranges.number)
+    ap chars c.in_ok-write.ensures.bytes
+    ∙ ap (λ z. chars (string_bytes c.new-text.result ++ signed_decimal z)) (to_z-of_z w32 c.args.number c.ranges.number)
+    ∙ ap (λ b. chars (b ++ signed_decimal c.args.number)) c.new-text.ensures.bytes
     ∙ chars-IsAscii (signed_decimal c.args.number) (IsAscii-signed c.args.number (omega (arith, ints)))
