@@ -16,7 +16,10 @@ use Rattle.ic_dump.specs.Lines.{english_formula, in_english}
 use Rattle.ic_book.specs.Refused.{TellsCore}
 use Rattle.ic_book.specs.Translated.{notation_refusal}
 use Rattle.ic_book.specs.declared.error.BookError.{BookError}
-use Rattle.ic_tree.proofs.NotationLaws.{notations_are}
+use Rattle.ic_tables.proofs.Lookups.{is_some-find}
+use Rattle.ic_tables.proofs.WellFormed.{has_english}
+use Rattle.ic_tables.specs.declared.language.Language.{Language}
+use Rattle.ic_tables.specs.declared.locale.NamedLocale.{NamedLocale}
 
 some_there : {A : Type 0} (o : Option A) → is_some o ≡ true → is_none o ≡ false
 some_there None h = cc
@@ -25,11 +28,13 @@ some_there (Some x) h = refl
 -- the tables lack neither the locale nor the language
 pub english_is_there : (tables : TableSet) → IsWellFormed tables → notation_refusal (codes "en") (codes "en") tables ≡ None
 english_is_there tables h =
-    rw (some_there (locale_of tables (codes "en")) (notations_are tables h).english_locale, some_there (language_of tables (codes "en")) (notations_are tables h).english_language) refl
+    rw
+    (some_there (locale_of tables (codes "en")) (is_some-find (λ (l : NamedLocale). l.id) (codes "en") tables.locales ∙ (has_english tables h).1),
+    some_there (language_of tables (codes "en")) (is_some-find (λ (l : Language). l.code) (codes "en") tables.languages ∙ (has_english tables h).0)) refl
 
 -- so that the notation is never refused
 pub refused_never : (book : Book) → IsValidBook book → (e : BookError) → ((told : Refusal) × TellsCore e (Some told) × (notation_refusal (codes "en") (codes "en") book.tables ≡ Some told)) → ⊥
-refused_never book valid e h = cc (h.1.1, english_is_there book.tables valid.whole.tables)
+refused_never book valid e h = cc (h.2, english_is_there book.tables valid.whole.tables)
 
 -- what is written in a notation that is English is written in English
 pub written_english : (book : Book) (target : NotationState) → IsEnglish book target → (place : CellPlace) (f : Formula) → formula_text (in_notation target.locale target.language (whole_of book)) place f ≡ english_formula (notations_in book) (core_of book) place f

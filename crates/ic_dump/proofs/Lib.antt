@@ -1,1 +1,5 @@
 pub mod EnglishLemmas
+pub mod ReadLemmas
+pub mod StageLemmas
+pub mod ToldLemmas
+pub mod UnfoundLemmas

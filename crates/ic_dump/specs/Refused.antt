@@ -1,5 +1,5 @@
 -- Why a book has no such lines, and what the errors tell.
-use Rattle.std.specs.Prelude.{◌≡◌, ℕ, List, [], ◌∷◌, ◌==◌, find, flat_map, length, Bool, true, false, ◌||◌, Option, Some, None, Result, Ok, Err, is_some, option_map, slice_get, if◌then◌else◌}
+use Rattle.std.specs.Prelude.{◌≡◌, ℕ, List, [], ◌∷◌, find, flat_map, length, Bool, true, false, ◌||◌, Option, Some, None, Result, Ok, Err, is_some, nat_eq, option_map, slice_get, if◌then◌else◌}
 use Rattle.std.specs.Option.{option_or}
 use Rattle.ic_laws.specs.CoreBook.{CellPlace, CoreBook, Definition, Sheet, spelling_of}
 use Rattle.ic_laws.specs.FormulaReading.{cell_tree}
@@ -30,7 +30,7 @@ raw_body book = option_map (λ d. key_of (spelling_of d)) (find (λ (d : Definit
 
 -- a text, written into a cell after `=` in English, isn't kept as it is: nothing stands there, or it reads, or does with a `)`
 abbrev pub is_read : Notations → CellPlace → List ℕ → Bool
-is_read n place text = (length text == 0) || is_some (cell_tree (n.shown english english place.0 place.1) text)
+is_read n place text = nat_eq (length text) 0 || is_some (cell_tree (n.shown english english place.0 place.1) text)
 
 abbrev pub rereads : Notations → CellPlace → Formula → Bool
 rereads n place (formulas.Raw text) = is_read n place text

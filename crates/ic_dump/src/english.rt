@@ -1,6 +1,7 @@
 //! English, by the tables of a book, whatever notation is in force.
-ghost use Rattle.std.specs.Prelude.{◌≡◌, IfOk, chars, string_bytes};
+ghost use Rattle.std.specs.Prelude.{◌≡◌, ◌++◌, IfOk, chars, codes, is_some, string_bytes};
 ghost use Rattle.ic_laws.specs.Notations.{english};
+ghost use Rattle.ic_laws.specs.ReadAs.{read_as};
 ghost use Rattle.ic_tree.specs.Notations.{notations_of};
 ghost use Rattle.ic_book.specs.Book.{Book, core_of, notations_in};
 ghost use Rattle.ic_dump.specs.English.{IsEnglish};
@@ -8,6 +9,7 @@ ghost use Rattle.ic_dump.specs.Lines.{english_formula};
 ghost use Rattle.ic_dump.specs.Refused.{is_read};
 
 use ic_book::{Model, Notation, OwnText};
+use ic_laws::scan::{is_nothing, push_char, push_text};
 use ic_laws::{Dialect, Formula, OutOfMemory};
 use ic_pool::copy_formula;
 use ic_tree::{Shown, read};
@@ -57,16 +59,34 @@ pub(crate) fn is_read(
     ensures { (book : Book) → IsEnglish book english.now → IfOk result (λ reads. reads
         ≡ is_read (notations_in book) (row, column) (chars text.now)) }
 {
-    if text.is_empty() {
+    if is_nothing(text) {
         return Ok(true);
     }
     let shown = english_at(english, row, column);
-    if read(alloc, &shown, text)?.is_some() {
+    let is_plain = reads(alloc, &shown, text)?;
+    if is_plain {
         return Ok(true);
     }
-    let mut closed = String::from_str(alloc, text)?;
-    closed.push_str(")")?;
-    Ok(read(alloc, &shown, closed.as_str())?.is_some())
+    reads_closed(alloc, &shown, text)
+}
+
+/// Whether a text reads. Only memory can be missing.
+fn reads<D: Dialect>(alloc: Global, d: &D, text: &str) -> Result<bool, OutOfMemory>
+    ensures { IfOk result (λ reads. reads
+        ≡ is_some (read_as (D.meaning d.now) (chars text.now))) }
+{
+    Ok(read(alloc, d, text)?.is_some())
+}
+
+/// The same with a `)` added.
+fn reads_closed<D: Dialect>(alloc: Global, d: &D, text: &str) -> Result<bool, OutOfMemory>
+    ensures { IfOk result (λ reads. reads
+        ≡ is_some (read_as (D.meaning d.now) (chars text.now ++ codes ")"))) }
+{
+    let mut closed = String::with_capacity(alloc, text.len())?;
+    push_text(&mut closed, text)?;
+    push_char(&mut closed, ')')?;
+    reads(alloc, d, closed.as_str())
 }
 
 /// How formulas are written in English in the cell at a row and a column, by the tables of a notation.
