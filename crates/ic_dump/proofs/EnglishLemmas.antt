@@ -28,9 +28,10 @@ some_there (Some x) h = refl
 -- the tables lack neither the locale nor the language
 pub english_is_there : (tables : TableSet) → IsWellFormed tables → notation_refusal (codes "en") (codes "en") tables ≡ None
 english_is_there tables h =
-    rw
-    (some_there (locale_of tables (codes "en")) (is_some-find (λ (l : NamedLocale). l.id) (codes "en") tables.locales ∙ (has_english tables h).1),
-    some_there (language_of tables (codes "en")) (is_some-find (λ (l : Language). l.code) (codes "en") tables.languages ∙ (has_english tables h).0)) refl
+    rw (
+      some_there (locale_of tables (codes "en")) (is_some-find (λ (l : NamedLocale). l.id) (codes "en") tables.locales ∙ (has_english tables h).1),
+      some_there (language_of tables (codes "en")) (is_some-find (λ (l : Language). l.code) (codes "en") tables.languages ∙ (has_english tables h).0),
+    ) refl
 
 -- so that the notation is never refused
 pub refused_never : (book : Book) → IsValidBook book → (e : BookError) → ((told : Refusal) × TellsCore e (Some told) × (notation_refusal (codes "en") (codes "en") book.tables ≡ Some told)) → ⊥

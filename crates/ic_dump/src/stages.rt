@@ -35,10 +35,7 @@ pub(crate) fn push_naming(
 {
     for sheet in sheets {
         if sheet.id == FIRST_ID {
-            lines.push(line_of(
-                alloc,
-                &["rename_sheet_by_index", "0", sheet.name.as_str()],
-            )?)?;
+            lines.push(line_of(alloc, &["rename_sheet_by_index", "0", sheet.name.as_str()])?)?;
         }
     }
     Ok(())
@@ -69,7 +66,12 @@ fn inserting_line(alloc: Global, index: usize, sheet: &SheetName) -> Result<Line
     let id = digits_of(alloc, sheet.id as u64)?;
     line_of(
         alloc,
-        &["insert_sheet", sheet.name.as_str(), index.as_str(), id.as_str()],
+        &[
+            "insert_sheet",
+            sheet.name.as_str(),
+            index.as_str(),
+            id.as_str(),
+        ],
     )
 }
 

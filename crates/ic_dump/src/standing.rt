@@ -33,7 +33,11 @@ pub(crate) fn standing_sheets(
         AreFound standing.indexes standing.sheets.items) }
 {
     let mut standing = own_sheets(alloc, workbook.worksheets.as_slice())?;
-    let ids = passing_ids(alloc, &mut standing.indexes, workbook.defined_names.as_slice())?;
+    let ids = passing_ids(
+        alloc,
+        &mut standing.indexes,
+        workbook.defined_names.as_slice(),
+    )?;
     if ids.is_empty() {
         return Ok(standing);
     }
