@@ -1,4 +1,5 @@
 pub mod EnglishLemmas
+pub mod PassingLemmas
 pub mod ReadLemmas
 pub mod StageLemmas
 pub mod ToldLemmas
