@@ -1,6 +1,6 @@
 //! A book as command lines.
 ghost use Rattle.std.specs.Prelude.{◌≡◌, IfOk, None};
-ghost use Rattle.ic_book.specs.Book.{core_of, notations_in};
+ghost use Rattle.ic_book.specs.Book.{IsValidBook, core_of, notations_in};
 ghost use Rattle.ic_book.specs.Workbook.{workbook_of};
 ghost use Rattle.ic_dump.specs.English.{IsEnglish};
 ghost use Rattle.ic_dump.specs.Lines.{dump_lines};
@@ -9,10 +9,9 @@ ghost use Rattle.ic_dump.specs.Refused.{Tells, cause_of};
 
 use crate::DumpError;
 use crate::english::english_of;
+use crate::formulas::push_cells;
 use crate::refused::{raw_body, rereading};
-use crate::stages::{
-    push_bodies, push_cells, push_defining, push_deleting, push_inserting, push_naming,
-};
+use crate::stages::{push_bodies, push_defining, push_deleting, push_inserting, push_naming};
 use crate::standing::standing_sheets;
 use ic_book::{Model, Notation};
 use ic_cells::Workbook;
@@ -55,6 +54,7 @@ fn refuse(
 ) -> Result<(), DumpError>
     requires english { IsEnglish model.now.book english.now }
     requires records { workbook.now ≡ workbook_of model.now.book }
+    requires valid { IsValidBook model.now.book }
     ensures { Tells result (cause_of (notations_in model.now.book) (core_of model.now.book)) }
 {
     match raw_body(alloc, model, workbook.defined_names.as_slice()) {
@@ -78,6 +78,7 @@ fn lines_of(
 ) -> Result<Vec<Line>, OutOfMemory>
     requires english { IsEnglish model.now.book english.now }
     requires records { workbook.now ≡ workbook_of model.now.book }
+    requires valid { IsValidBook model.now.book }
     requires none { cause_of (notations_in model.now.book) (core_of model.now.book) ≡ None }
     ensures { IfOk result (λ lines. lines.items
         ≡ dump_lines (notations_in model.now.book) (core_of model.now.book)) }
