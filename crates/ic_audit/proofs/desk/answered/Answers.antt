@@ -1,11 +1,11 @@
-use Rattle.std.proofs.Common.{ap, subst, sym, ◌∙◌}
+use Rattle.std.proofs.Common.{IsSome, ap, subst, sym, ◌∙◌}
 use Rattle.ic_book.specs.Whole.{whole_of}
 use Rattle.ic_lines.proofs.ToldLemmas.{IfTold-weaker}
 use Rattle.ic_lines.specs.Bytes.{IfTold}
 use Rattle.ic_machine.specs.Book.{Book}
 use Rattle.ic_run.specs.Prepared.{IsBookAfter}
 use Rattle.ic_audit.specs.Asked.{question, sites_asked}
-use Rattle.ic_audit.specs.Listed.{AppendsSites, AppendsSitesFront, FindsNothing, TellsSites, TellsSitesFront}
+use Rattle.ic_audit.specs.Listed.{AppendsSites, AppendsSitesFront, FindsNothing, FindsSome, TellsSites, TellsSitesFront}
 use Rattle.ic_audit.proofs.desk.answered.Goals as goal
 
 pub returns-in-Ok-clause-listed : goal.returns-in-Ok-clause-listed
@@ -37,3 +37,12 @@ returns-in-Ok-clause-none g c at_8 =
     let tables = c.args.tables.now in
     let book = c.in-Ok.model.book in
     IfTold-weaker (left c.args.source.now) (left c.book_after.new.source) (IsBookAfter tables book) (FindsNothing q tables) (λ bytes rest is. (is.0, ap (sites_asked q) (sym is.1) ∙ c.tell-status.ensures.none at_8)) c.in-Ok.ensures.book
+
+pub returns-in-Ok-clause-found : goal.returns-in-Ok-clause-found
+returns-in-Ok-clause-found g c at =
+    let left = g.S.Source.left in
+    let q = question c.args.asked.now in
+    let tables = c.args.tables.now in
+    let book = c.in-Ok.model.book in
+    IfTold-weaker (left c.args.source.now) (left c.book_after.new.source) (IsBookAfter tables book) (FindsSome q tables)
+    (λ bytes rest is. (is.0, subst (λ (b : Book). IsSome (sites_asked q b)) is.1 (c.tell-status.ensures.found at))) c.in-Ok.ensures.book
