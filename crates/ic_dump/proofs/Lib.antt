@@ -1,7 +1,10 @@
+pub mod CellLemmas
 pub mod EnglishLemmas
 pub mod PassingLemmas
 pub mod ReadLemmas
+pub mod RefusedLemmas
 pub mod StageLemmas
 pub mod StandingLemmas
+pub mod TakenLemmas
 pub mod ToldLemmas
 pub mod UnfoundLemmas

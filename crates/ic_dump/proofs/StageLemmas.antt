@@ -1,11 +1,11 @@
 -- What stands at an index, and the lines of what is left.
-use Rattle.std.proofs.Common.{◌≡◌, ◌×◌, ◌++◌, ◌∷◌, [], ◌∙◌, ℕ, ◌+◌, ◌-◌, ◌<◌, ◌≤◌, zero, suc, List, Bool, true, false, cond, ap, append_assoc, drop, filter, get_or, length, map, refl, reverse, subst, sym, arith}
+use Rattle.std.proofs.Common.{◌≡◌, ◌++◌, ◌∷◌, [], ◌∙◌, ℕ, ◌+◌, ◌-◌, ◌<◌, ◌≤◌, zero, suc, List, Bool, true, false, cond, ap, append_assoc, append-nil, drop, drop_all, filter, get_or, length, map, refl, reverse, subst, sym, arith}
 use Rattle.std.proofs.lemmas.List.{drop_more, reverse-append}
 use Rattle.std.proofs.Math.Numerals.{add-one}
 use Rattle.std.specs.List.{range_with_len}
-use Rattle.std.specs.Prelude.{flat_map}
+use Rattle.std.specs.Prelude.{flat_map, nat_eq}
 use Rattle.ic_laws.specs.declared.scene.SheetName.{SheetName}
-use Rattle.ic_dump.specs.Lines.{Text, deleting_line, inserting_line, inserting_lines_from, is_first, naming_line}
+use Rattle.ic_dump.specs.Lines.{Text, deleting_line, first_id, inserting_line, inserting_lines_from, is_first, naming_line}
 
 -- what is left begins with what stands there
 pub left_of : {X : Type 0} (xs : List X) (i : ℕ) (x : X) → i < length xs → x ≡ get_or xs i x → drop i xs ≡ x ∷ drop (i + 1) xs
@@ -17,17 +17,23 @@ next_of f xs i x items new all below item so_far put =
     ap (λ v. v ++ flat_map f (drop (i + 1) xs)) put ∙ append_assoc items (f x) (flat_map f (drop (i + 1) xs))
     ∙ ap (λ ys. items ++ flat_map f ys) (sym (left_of xs i x below item)) ∙ so_far
 
+pub done_of : {X Y : Type 0} (f : X → List Y) (xs : List X) (i : ℕ) (items all : List Y) → length xs ≤ i → items ++ flat_map f (drop i xs) ≡ all → items ≡ all
+done_of f xs i items all end so_far = sym (append-nil items) ∙ ap (λ ys. items ++ flat_map f ys) (sym (drop_all i xs end)) ∙ so_far
+
 -- the line of the sheet of a new book
 abbrev pub naming_of : SheetName → List Text
 naming_of s = cond (is_first s) (naming_line s ∷ []) []
 
+pub named_first : (s : SheetName) (lines new : List Text) → s.id ≡ first_id → new ≡ lines ++ naming_line s ∷ [] → new ≡ lines ++ naming_of s
+named_first s lines new e put = put ∙ ap (λ id. lines ++ cond (nat_eq id first_id) (naming_line s ∷ []) []) (sym e)
+
 pub naming_each : (sheets : List SheetName) → map naming_line (filter is_first sheets) ≡ flat_map naming_of sheets
 naming_each [] = refl
-naming_each (s ∷ sheets) = by_test (is_first s) refl
+naming_each (s ∷ sheets) = by_test (is_first s) refl (naming_each sheets)
   where
-    by_test : (b : Bool) → is_first s ≡ b → map naming_line (filter is_first (s ∷ sheets)) ≡ naming_of s ++ flat_map naming_of sheets
-    by_test true e = rw e (ap (λ rest. naming_line s ∷ rest) (naming_each sheets))
-    by_test false e = rw e (naming_each sheets)
+    by_test : (b : Bool) → is_first s ≡ b → map naming_line (filter is_first sheets) ≡ flat_map naming_of sheets → map naming_line (filter is_first (s ∷ sheets)) ≡ naming_of s ++ flat_map naming_of sheets
+    by_test true e more = rw e (ap (λ rest. naming_line s ∷ rest) more)
+    by_test false e more = rw e more
 
 -- the line of each other, with its index
 pub inserting_next : (sheets : List SheetName) (i : ℕ) (s : SheetName) (lines new all : List Text) → i < length sheets → s ≡ get_or sheets i s → lines ++ inserting_lines_from i (drop i sheets) ≡ all → new ≡ lines ++ cond (is_first s) [] (inserting_line i s ∷ []) → new ++ inserting_lines_from (i + 1) (drop (i + 1) sheets) ≡ all

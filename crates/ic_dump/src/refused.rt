@@ -4,7 +4,7 @@ ghost use Rattle.std.specs.List.{slice_get};
 ghost use Rattle.std.specs.Option.{option_map_or};
 ghost use Rattle.ic_laws.specs.Scene.{key_of};
 ghost use Rattle.ic_sheets.specs.Sheet.{Sheet, sheet_core};
-ghost use Rattle.ic_book.specs.Book.{Book, IsValidBook, core_of, notations_in};
+ghost use Rattle.ic_book.specs.Book.{IsValidBook, core_of, notations_in};
 ghost use Rattle.ic_book.specs.Sites.{site_of};
 ghost use Rattle.ic_book.specs.Workbook.{defined_name_of, worksheet_of};
 ghost use Rattle.ic_dump.specs.English.{IsEnglish};
@@ -99,22 +99,23 @@ fn rereading_in(
         (rereading_cell (notations_in model.now.book) s.id) (sheet_core s).cells) 0) }
 {
     let cells = cells_in(alloc, model, sheet, worksheet)?;
-    rereading_among(alloc, english, worksheet.sheet_id, cells.as_slice())
+    rereading_among(alloc, model, english, worksheet.sheet_id, cells.as_slice())
 }
 
 /// The first of these cells of the sheet with this id.
 fn rereading_among(
     alloc: Global,
+    model: &Model<'_>,
     english: &Notation<'_>,
     id: u32,
     cells: &[Placed<'_>],
 ) -> Result<Option<MentionSite>, OutOfMemory>
-    ensures { (book : Book) → IsEnglish book english.now → IfOk result (λ site.
-        option_map site_of site ≡ slice_get (flat_map
-        (rereading_cell (notations_in book) id) (map cell_seen cells.now)) 0) }
+    requires { IsEnglish model.now.book english.now }
+    ensures { IfOk result (λ site. option_map site_of site ≡ slice_get (flat_map
+        (rereading_cell (notations_in model.now.book) id) (map cell_seen cells.now)) 0) }
 {
     for cell in cells {
-        if rereads(alloc, english, cell)? {
+        if rereads(alloc, model, english, cell)? {
             return Ok(Some(MentionSite::Cell {
                 sheet_id: id,
                 row: cell.row,
@@ -126,9 +127,15 @@ fn rereading_among(
 }
 
 /// Whether a cell is one.
-fn rereads(alloc: Global, english: &Notation<'_>, cell: &Placed<'_>) -> Result<bool, OutOfMemory>
-    ensures { (book : Book) → IsEnglish book english.now → IfOk result (λ is. is
-        ≡ rereads (notations_in book) (cell_seen cell.now).0 (cell_seen cell.now).1) }
+fn rereads(
+    alloc: Global,
+    model: &Model<'_>,
+    english: &Notation<'_>,
+    cell: &Placed<'_>,
+) -> Result<bool, OutOfMemory>
+    requires { IsEnglish model.now.book english.now }
+    ensures { IfOk result (λ is. is ≡ rereads (notations_in model.now.book)
+        (cell_seen cell.now).0 (cell_seen cell.now).1) }
 {
     match cell.formula {
         Formula::Raw(text) => is_read(alloc, english, cell.row, cell.column, text.as_str()),

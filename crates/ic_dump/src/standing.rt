@@ -1,7 +1,7 @@
 //! The sheets that stand while a book is rebuilt.
 ghost use Rattle.std.specs.Prelude.{◌≡◌, ◌++◌, [], ◌∷◌, ℕ, IfOk, OnOk, Some, cond, map, nat_eq, option_map, zip};
 ghost use Rattle.std.specs.BTreeMap.{get};
-ghost use Rattle.std.specs.Option.{option_or, option_to_list};
+ghost use Rattle.std.specs.Option.{option_copied, option_or, option_to_list};
 ghost use Rattle.std.specs.Ordering.{nat_cmp};
 ghost use Rattle.ic_book.specs.Book.{IsValidBook, core_of};
 ghost use Rattle.ic_book.specs.Workbook.{workbook_of};
@@ -105,7 +105,7 @@ fn push_if_named(
 ) -> Result<(), OutOfMemory>
     requires { AreFound standing.old.indexes standing.old.sheets.items }
     ensures sheets { OnOk result (standing.new.sheets.items ≡ standing.old.sheets.items
-        ++ option_to_list (option_map (λ n. sheet_named (id, n.now)) name)) }
+        ++ option_to_list (option_map (λ n. sheet_named (id, n)) (option_copied name.entry))) }
     ensures found { OnOk result
         (AreFound standing.new.indexes standing.new.sheets.items) }
 {
