@@ -1,4 +1,5 @@
 pub mod CellLemmas
+pub mod DumpLemmas
 pub mod EnglishLemmas
 pub mod PassingLemmas
 pub mod ReadLemmas

@@ -1,6 +1,7 @@
 //! The sheets that stand while a book is rebuilt.
 ghost use Rattle.std.specs.Prelude.{◌≡◌, ◌++◌, [], ◌∷◌, ℕ, IfOk, OnOk, Some, cond, map, nat_eq, option_map, zip};
 ghost use Rattle.std.specs.BTreeMap.{get};
+ghost use Rattle.std.specs.List.{slice_get};
 ghost use Rattle.std.specs.Option.{option_copied, option_or, option_to_list};
 ghost use Rattle.std.specs.Ordering.{nat_cmp};
 ghost use Rattle.ic_book.specs.Book.{IsValidBook, core_of};
@@ -91,9 +92,16 @@ fn push_named(
         (AreFound standing.new.indexes standing.new.sheets.items) }
 {
     for (index, id) in ids.iter().enumerate() {
-        push_if_named(alloc, standing, *id, names.get(index))?;
+        push_if_named(alloc, standing, *id, name_at(names, index))?;
     }
     Ok(())
+}
+
+/// The name at an index. None past the end.
+fn name_at(names: &[Text], index: usize) -> Option<&Text>
+    ensures { option_copied result ≡ slice_get names.now index }
+{
+    names.get(index)
 }
 
 /// Puts a sheet with this id at the end, where there is a name for it.
