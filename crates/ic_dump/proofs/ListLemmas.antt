@@ -3,11 +3,15 @@ use Rattle.std.proofs.Common.{◌≡◌, ℕ, zero, suc, ◌+◌, ◌<◌, ◌�
 use Rattle.std.proofs.lemmas.Bool.{and_parts, cases_Bool, or_parts}
 use Rattle.std.proofs.lemmas.List.{reverse-append}
 use Rattle.std.proofs.lemmas.List.Filters.{length-filter_both}
-use Rattle.std.proofs.lemmas.Map.Keys.{IsDistinct-cons, IsDistinct-head, IsDistinct-tail}
+use Rattle.std.proofs.lemmas.Map.Keys.{IsDistinct-cons, sorted_head, sorted_tail}
 use Rattle.std.proofs.lemmas.Map.Made.{is_member-filter, length-le_from_is_member}
 use Rattle.std.specs.Cmp.{IsEquivalence}
 use Rattle.std.specs.List.{AllByRecursion, IsDistinct, find, insert, list_any, range_with_len, remove, slice_get, zip}
+use Rattle.std.specs.List.Sorted.{IsStrictlySortedBy}
 use Rattle.std.specs.Set.{is_member}
+use Rattle.std.specs.declared.cmp.Ordering.{Ordering}
+use Rattle.std.specs.declared.cmp.Ordering.TheVariants.{Less}
+use Rattle.ic_laws.specs.CoreStep.{updated_at}
 
 -- What holds of all of a list. ----
 
@@ -49,6 +53,12 @@ mapped_holds f P (x ∷ xs) h = (h.0, mapped_holds f P xs h.1)
 pub weaker_holds : {A : Type 0} (P Q : A → Type 0) → ((x : A) → P x → Q x) → (xs : List A) → AllByRecursion P xs → AllByRecursion Q xs
 weaker_holds P Q more [] h = tt
 weaker_holds P Q more (x ∷ xs) h = (more x h.0, weaker_holds P Q more xs h.1)
+
+-- what holds of each of two lists, the other way round
+pub flipped_holds : {A B : Type 0} (R : A → B → Type 0) (xs : List A) (ys : List B) → AllByRecursion (λ x. AllByRecursion (R x) ys) xs → AllByRecursion (λ y. AllByRecursion (λ x. R x y) xs) ys
+flipped_holds R xs [] h = tt
+flipped_holds R xs (y ∷ ys) h =
+    (weaker_holds (λ x. AllByRecursion (R x) (y ∷ ys)) (λ x. R x y) (λ x g. g.0) xs h, flipped_holds R xs ys (weaker_holds (λ x. AllByRecursion (R x) (y ∷ ys)) (λ x. AllByRecursion (R x) ys) (λ x g. g.1) xs h))
 
 -- none of a list passes a test
 pub none_any : {A : Type 0} (p : A → Bool) (xs : List A) → AllByRecursion (λ x. p x ≡ false) xs → list_any p xs ≡ false
@@ -101,6 +111,11 @@ module _ {K : Type 0} {same : K → K → Bool} (laws : IsEquivalence same) wher
       (both_hold (λ y. same x y ≡ false) xs ys d.0 (weaker_holds P (λ y. same x y ≡ false) (λ y n. laws.symm x y ∙ (or_parts (same y x) (is_member same xs y) n).0) ys h))
       (joined_differ xs ys d.1 e (weaker_holds P (λ y. is_member same xs y ≡ false) (λ y n. (or_parts (same y x) (is_member same xs y) n).1) ys h))
 
+  pub front_differs : (xs ys : List K) → IsDistinct same (xs ++ ys) → IsDistinct same xs
+  unfolding IsDistinct
+  front_differs [] ys d = tt
+  front_differs (x ∷ xs) ys d = IsDistinct-cons same x xs (front_holds (λ y. same x y ≡ false) xs ys d.0) (front_differs xs ys d.1)
+
   -- a key in the middle is in neither part
   pub middle_differs : (xs : List K) (x : K) (ys : List K) → IsDistinct same (xs ++ x ∷ ys) → (is_member same xs x ≡ false) × (is_member same ys x ≡ false)
   unfolding IsDistinct
@@ -120,6 +135,10 @@ insert_seam (z ∷ xs) ys x = ap (λ rest. z ∷ rest) (insert_seam xs ys x)
 pub remove_seam : {A : Type 0} (xs : List A) (x : A) (ys : List A) → remove (xs ++ x ∷ ys) (length xs) ≡ xs ++ ys
 remove_seam [] x ys = refl
 remove_seam (z ∷ xs) x ys = ap (λ rest. z ∷ rest) (remove_seam xs x ys)
+
+pub updated_seam : {A : Type 0} (f : A → A) (xs : List A) (x : A) (ys : List A) → updated_at f (length xs) (xs ++ x ∷ ys) ≡ xs ++ f x ∷ ys
+updated_seam f [] x ys = refl
+updated_seam f (z ∷ xs) x ys = ap (λ rest. z ∷ rest) (updated_seam f xs x ys)
 
 pub got_seam : {A : Type 0} (xs : List A) (x : A) (ys : List A) → slice_get (xs ++ x ∷ ys) (length xs) ≡ Some x
 got_seam [] x ys = refl
@@ -155,3 +174,11 @@ only_one p key same apart (x ∷ xs) d e = elim (cases_Bool (p x)) [
       let rest = only_one p key same apart xs d.1 (rw f at e) in
       record { it = rest.it; alone = rw f rest.alone; passes = rest.passes }
 ]
+
+-- In a list in order all before an item are less. ----
+
+pub sorted_before : {A K : Type 0} (key : A → K) (cmp : K → K → Ordering) (xs : List A) (x : A) (ys : List A) → IsStrictlySortedBy cmp (map key (xs ++ x ∷ ys)) → AllByRecursion (λ y. cmp (key y) (key x) ≡ Less) xs
+sorted_before key cmp [] x ys h = tt
+sorted_before key cmp (z ∷ xs) x ys h =
+    let later = sorted_head cmp (key z) (map key (xs ++ x ∷ ys)) h in
+    ((back_holds (λ y. cmp (key z) (key y) ≡ Less) xs (x ∷ ys) (unmapped_holds key (λ k. cmp (key z) k ≡ Less) (xs ++ x ∷ ys) later)).0, sorted_before key cmp xs x ys (sorted_tail cmp (key z) (map key (xs ++ x ∷ ys)) h))
