@@ -1,13 +1,15 @@
 -- Lists that are put together, filtered, cut and looked through.
-use Rattle.std.proofs.Common.{◌≡◌, ℕ, zero, suc, ◌+◌, ◌<◌, ◌≤◌, List, [], ◌∷◌, ◌++◌, filter, length, map, take, reverse, Bool, true, false, cond, not, ◌&&◌, ◌||◌, Option, None, Some, refl, sym, ap, ap₂, subst, ◌∙◌, arith, inl, inr, nat_eq}
+use Rattle.std.proofs.Common.{◌≡◌, ℕ, zero, suc, ◌+◌, ◌<◌, ◌≤◌, List, [], ◌∷◌, ◌++◌, filter, length, map, take, reverse, Bool, true, false, cond, not, ◌&&◌, ◌||◌, Option, None, Some, refl, sym, ap, ap₂, subst, ◌∙◌, arith, inl, inr, length-append, nat_eq}
 use Rattle.std.proofs.lemmas.Bool.{and_parts, cases_Bool, or_parts}
+use Rattle.std.proofs.lemmas.Bool.Decides.{nat_tests}
 use Rattle.std.proofs.lemmas.List.{reverse-append}
 use Rattle.std.proofs.lemmas.List.Filters.{length-filter_both}
 use Rattle.std.proofs.lemmas.Map.Keys.{IsDistinct-cons, sorted_head, sorted_tail}
 use Rattle.std.proofs.lemmas.Map.Made.{is_member-filter, length-le_from_is_member}
 use Rattle.std.specs.Cmp.{IsEquivalence}
-use Rattle.std.specs.List.{AllByRecursion, IsDistinct, find, insert, list_any, range_with_len, remove, slice_get, zip}
+use Rattle.std.specs.List.{AllByRecursion, IsDistinct, insert, list_any, position_or_len, range_with_len, remove, slice_get, zip}
 use Rattle.std.specs.List.Sorted.{IsStrictlySortedBy}
+use Rattle.std.specs.Prelude.{nat_lt, position}
 use Rattle.std.specs.Set.{is_member}
 use Rattle.std.specs.declared.cmp.Ordering.{Ordering}
 use Rattle.std.specs.declared.cmp.Ordering.TheVariants.{Less}
@@ -53,6 +55,11 @@ mapped_holds f P (x ∷ xs) h = (h.0, mapped_holds f P xs h.1)
 pub weaker_holds : {A : Type 0} (P Q : A → Type 0) → ((x : A) → P x → Q x) → (xs : List A) → AllByRecursion P xs → AllByRecursion Q xs
 weaker_holds P Q more [] h = tt
 weaker_holds P Q more (x ∷ xs) h = (more x h.0, weaker_holds P Q more xs h.1)
+
+-- two facts of each give a third
+pub both_of_each : {A : Type 0} (P Q R : A → Type 0) → ((x : A) → P x → Q x → R x) → (xs : List A) → AllByRecursion P xs → AllByRecursion Q xs → AllByRecursion R xs
+both_of_each P Q R give [] h g = tt
+both_of_each P Q R give (x ∷ xs) h g = (give x h.0 g.0, both_of_each P Q R give xs h.1 g.1)
 
 -- what holds of each of two lists, the other way round
 pub flipped_holds : {A B : Type 0} (R : A → B → Type 0) (xs : List A) (ys : List B) → AllByRecursion (λ x. AllByRecursion (R x) ys) xs → AllByRecursion (λ y. AllByRecursion (λ x. R x y) xs) ys
@@ -143,6 +150,29 @@ updated_seam f (z ∷ xs) x ys = ap (λ rest. z ∷ rest) (updated_seam f xs x y
 pub got_seam : {A : Type 0} (xs : List A) (x : A) (ys : List A) → slice_get (xs ++ x ∷ ys) (length xs) ≡ Some x
 got_seam [] x ys = refl
 got_seam (z ∷ xs) x ys = got_seam xs x ys
+
+-- where the first of a list stands that passes a test
+pub position_seam : {A : Type 0} (p : A → Bool) (xs : List A) (x : A) (ys : List A) → AllByRecursion (λ y. p y ≡ false) xs → p x ≡ true → position p (xs ++ x ∷ ys) ≡ Some (length xs)
+position_seam {A} p xs x ys none here =
+    let place : position_or_len p (xs ++ x ∷ ys) ≡ length xs = first_at xs none in
+    let long : length (xs ++ x ∷ ys) ≡ length xs + suc (length ys) = length-append xs (x ∷ ys) in
+    let within : nat_lt (length xs) (length (xs ++ x ∷ ys)) ≡ true = grind (arith, nat_tests) in
+    ap (λ (n : ℕ). cond (nat_lt n (length (xs ++ x ∷ ys))) (Some n) None) place ∙ ap (λ (b : Bool). cond b (Some (length xs)) None) within
+  where
+    first_at : (zs : List A) → AllByRecursion (λ y. p y ≡ false) zs → position_or_len p (zs ++ x ∷ ys) ≡ length zs
+    first_at [] h = ap (λ (b : Bool). cond (not b) (1 + position_or_len p ys) 0) here
+    first_at (z ∷ zs) h = ap₂ (λ (b : Bool) (n : ℕ). cond (not b) (1 + n) 0) h.0 (first_at zs h.1) ∙ one_more (length zs)
+      where
+        one_more : (n : ℕ) → 1 + n ≡ suc n
+        one_more n = omega arith
+
+pub any_seam : {A : Type 0} (p : A → Bool) (xs : List A) (x : A) (ys : List A) → p x ≡ true → list_any p (xs ++ x ∷ ys) ≡ true
+any_seam p [] x ys h = ap (λ (b : Bool). b || list_any p ys) h
+any_seam p (z ∷ xs) x ys h = ap (λ (b : Bool). p z || b) (any_seam p xs x ys h) ∙ or_true (p z)
+  where
+    or_true : (b : Bool) → (b || true) ≡ true
+    or_true true = refl
+    or_true false = refl
 
 pub range_from_end : (a n : ℕ) → reverse (range_with_len a (suc n)) ≡ reverse (range_with_len (a + 1) n) ++ a ∷ []
 range_from_end a n = reverse-append (a ∷ []) (range_with_len (a + 1) n)

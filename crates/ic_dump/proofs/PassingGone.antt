@@ -37,7 +37,7 @@ use Rattle.ic_dump.specs.Stages.{DeletesPassing, IsRebuilt, Leads, bare_sheet, w
 use Rattle.ic_dump.proofs.ApartLemmas.{IsNoName, with_sheets}
 use Rattle.ic_dump.proofs.BareBooks.{kept_same_bare, scene_bare}
 use Rattle.ic_dump.proofs.BodiesApart.{body_stays, passing_apart}
-use Rattle.ic_dump.proofs.ListLemmas.{front_differs, front_holds, range_from_end, remove_seam, weaker_holds}
+use Rattle.ic_dump.proofs.ListLemmas.{both_of_each, front_differs, front_holds, range_from_end, remove_seam, weaker_holds}
 use Rattle.ic_dump.proofs.RunLemmas.{leads_both, leads_line, leads_nowhere, leads_there}
 use Rattle.ic_dump.proofs.StandLemmas.{Stands, name_of, stands}
 use Rattle.ic_dump.proofs.TextsRead.{deleting_read}
@@ -112,11 +112,6 @@ module _ (n : Notations) (are : AreNotations n) (core : CoreBook) (valid_core : 
         (λ d g. weaker_holds (IsNoName (first ++ rest)) (IsNoName first) (λ name k. front_holds (λ (s : SheetName). agrees s.name name ≡ false) first rest k) (unfound_of d.body) g) core.definitions h.bodies;
   }
 
-  -- two facts of each definition
-  both : (P Q R : Definition → Type 0) → ((d : Definition) → P d → Q d → R d) → (ds : List Definition) → AllByRecursion P ds → AllByRecursion Q ds → AllByRecursion R ds
-  both P Q R give [] h g = tt
-  both P Q R give (d ∷ ds) h g = (give d h.0 g.0, both P Q R give ds h.1 g.1)
-
   some_own : 0 < length own
   some_own = let some = valid_core.some_sheet in let long : length own ≡ length core.sheets = length-map core.sheets mentioned in omega (arith, some, long)
 
@@ -137,9 +132,9 @@ module _ (n : Notations) (are : AreNotations n) (core : CoreBook) (valid_core : 
           let NoBefore : Definition → Type 0 = λ d. AllByRecursion (IsNoName (first ++ x ∷ [])) (unfound_of d.body) in
           let NoAfter : Definition → Type 0 = λ d. AllByRecursion (IsNoName first) (unfound_of d.body) in
           let Fine : Definition → Type 0 = λ d. IsKeptBody n (scene_of core) d × NoBefore d in
-          both Fine NoAfter (λ d. kept_in_body n (with_sheets (scene_of core) (first ++ x ∷ [])) (with_sheets (scene_of core) first) same_keys d ≡ d)
+          both_of_each Fine NoAfter (λ d. kept_in_body n (with_sheets (scene_of core) (first ++ x ∷ [])) (with_sheets (scene_of core) first) same_keys d ≡ d)
           (λ d h g. body_stays n are (scene_of core) (first ++ x ∷ []) first apart.differ less.differ d h.0 h.1 g) core.definitions
-          (both (IsValidDefinition n (scene_of core)) NoBefore Fine (λ d h g. (h.body, g)) core.definitions valid_core.definitions apart.bodies) less.bodies
+          (both_of_each (IsValidDefinition n (scene_of core)) NoBefore Fine (λ d h g. (h.body, g)) core.definitions valid_core.definitions apart.bodies) less.bodies
 
       -- what formulas can mention before and after it
       scenes_are : (first : List SheetName) (x : SheetName)

@@ -10,7 +10,7 @@ use Rattle.ic_machine.specs.Book.{Book, Sheet, core_of, empty_sheet, notations_i
 use Rattle.ic_machine.specs.Command.{commands}
 use Rattle.ic_machine.specs.Run.{after}
 use Rattle.ic_machine.specs.Step.{machine}
-use Rattle.ic_machine.specs.TranslationLaws.{AreAccepted}
+use Rattle.ic_machine.specs.TranslationLaws.{AreAccepted, ErrorsEndPlain}
 use Rattle.ic_machine.specs.Valid.{IsValidBook}
 use Rattle.ic_dump.specs.Lines.{body_lines, cell_lines, defining_lines, deleting_lines, first_id, in_english, inserting_lines, is_first, naming_lines, plain_body}
 use Rattle.ic_dump.specs.Passing.{passing_ids, standing_sheets, taken_names}
@@ -62,7 +62,8 @@ book_deleted book start = with_bare (scene_of (core_of book)).sheets book.defini
 abbrev pub HasFewNames : CoreBook → Type 0
 HasFewNames core = length (passing_ids core) + length (taken_names core) < 2 ^ 64
 
--- a valid book has lines, and the one that it is rebuilt from is English and has the same tables
+-- A valid book has lines, and the one that it is rebuilt from is English, has the same tables, and none of the English words for
+-- error values ends with a blank. An update drops the blanks at both ends of the body that it is given, and so that of such a word.
 pub record IsRebuilt (book start : Book) : Type 0 where
   pub valid : IsValidBook book
   pub none : cause_of (notations_in book) (core_of book) ≡ None
@@ -70,6 +71,7 @@ pub record IsRebuilt (book start : Book) : Type 0 where
   pub tables : start.tables ≡ book.tables
   pub locale : start.locale ≡ english
   pub language : start.language ≡ english
+  pub errors : ErrorsEndPlain start
 
 -- each line is accepted in its turn, and they leave this book, which is valid
 pub record Leads (old : Book) (lines : List (List ℕ)) (new : Book) : Type 0 where
