@@ -7,7 +7,7 @@ use Rattle.ic_machine.specs.Book.{Book, core_of}
 use Rattle.ic_machine.specs.Command.{commands}
 use Rattle.ic_machine.specs.Run.{after}
 use Rattle.ic_machine.specs.Step.{machine}
-use Rattle.ic_machine.specs.TranslationLaws.{AreAccepted}
+use Rattle.ic_machine.specs.TranslationLaws.{AreAccepted, ErrorsEndPlain}
 use Rattle.ic_run.specs.Desk.{start_refusal}
 use Rattle.ic_run.specs.Make.{made_setting, made_start}
 use Rattle.ic_dump.specs.Skeleton.{IsSameSkeleton}
@@ -17,6 +17,8 @@ pub record RebuildsFrom (start : Book) (lines : List (List ℕ)) (book : CoreBoo
   pub accepted : AreAccepted start lines
   pub same : IsSameSkeleton book (core_of (after (machine commands) start lines))
 
--- and from each new one with these tables, whenever it was made, where there is one
+-- And from each new one with these tables, whenever it was made, where there is one, and none of the English words for error values
+-- ends with a blank. An update of a definition drops the blanks at both ends of the body that it is given, and so that of such a word.
 abbrev pub Rebuilds : TableSet → List (List ℕ) → CoreBook → Type 0
-Rebuilds tables lines book = IsNone (start_refusal made_setting tables) → (created : List ℕ) → RebuildsFrom (made_start created tables) lines book
+Rebuilds tables lines book =
+    IsNone (start_refusal made_setting tables) → (created : List ℕ) → ErrorsEndPlain (made_start created tables) → RebuildsFrom (made_start created tables) lines book

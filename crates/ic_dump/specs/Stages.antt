@@ -1,100 +1,108 @@
--- What the lines of each stage leave, by the core of the book: from the new book, the sheets as they stand without cells, then the
--- definitions with a body that mentions nothing, then with their own, then without the passing sheets, then with the cells.
-use Rattle.std.specs.Prelude.{◌≡◌, ℕ, pos, List, [], ◌∷◌, ◌++◌, codes, false, filter, map, IsNone, None}
-use Rattle.ic_laws.specs.CoreBook.{CoreBook, Definition, Sheet}
+-- What the lines of each stage leave: from the new book, the sheets as they stand, which hold nothing, then definitions with a body
+-- that mentions nothing, then with their own, then without the passing sheets, then the formulas of the cells.
+use Rattle.std.specs.Prelude.{◌≡◌, ℕ, pos, ◌+◌, ◌<◌, ◌^◌, List, [], ◌∷◌, codes, false, filter, length, map, IsNone, None}
+use Rattle.ic_laws.specs.CoreBook.{CoreBook, Definition, scene_of}
 use Rattle.ic_laws.specs.FormulaReading.{cell_formula}
 use Rattle.ic_laws.specs.Notations.{Notations, english}
 use Rattle.ic_laws.specs.declared.scene.SheetName.{SheetName}
 use Rattle.ic_laws.specs.declared.tree.Formula.{Formula}
-use Rattle.ic_machine.specs.Book.{Book, core_of, notations_in}
+use Rattle.ic_machine.specs.Book.{Book, Sheet, core_of, empty_sheet, notations_in}
 use Rattle.ic_machine.specs.Command.{commands}
 use Rattle.ic_machine.specs.Run.{after}
 use Rattle.ic_machine.specs.Step.{machine}
-use Rattle.ic_machine.specs.TranslationLaws.{AreAccepted}
+use Rattle.ic_machine.specs.TranslationLaws.{AreAccepted, ErrorsEndPlain}
 use Rattle.ic_machine.specs.Valid.{IsValidBook}
-use Rattle.ic_dump.specs.Lines.{body_lines, cell_lines, defining_lines, deleting_lines, in_english, inserting_lines, is_first, naming_lines, plain_body}
-use Rattle.ic_dump.specs.Passing.{standing_sheets}
+use Rattle.ic_dump.specs.Lines.{body_lines, cell_lines, defining_lines, deleting_lines, first_id, in_english, inserting_lines, is_first, naming_lines, plain_body}
+use Rattle.ic_dump.specs.Passing.{passing_ids, standing_sheets, taken_names}
 use Rattle.ic_dump.specs.Refused.{cause_of}
 
--- The cores between the stages. ----
+-- The books between the stages. ----
 
--- a core in English with these sheets and definitions
-abbrev pub english_core : List Sheet → List Definition → CoreBook
-english_core sheets definitions = record { sheets = sheets; definitions = definitions; locale = english; language = english }
-
--- a sheet without cells
+-- a sheet that holds nothing
 abbrev pub bare_sheet : SheetName → Sheet
-bare_sheet s = record { id = s.id; name = s.name; cells = [] }
+bare_sheet s = empty_sheet s.id s.name
 
-abbrev pub without_cells : Sheet → Sheet
-without_cells s = record s { cells = [] }
+-- a book with such sheets, and these definitions; all else is as it is
+abbrev pub with_bare : List SheetName → List Definition → Book → Book
+with_bare sheets definitions start = record start { sheets = map bare_sheet sheets; definitions = definitions }
 
 -- what is kept of the body that mentions nothing
 abbrev pub plain_formula : Notations → Formula
-plain_formula n = cell_formula n (english_core [] []) 0 (pos 1) (pos 1) plain_body
+plain_formula n = cell_formula n (record { sheets = []; definitions = []; locale = english; language = english }) 0 (pos 1) (pos 1) plain_body
 
 abbrev pub plain_definition : Notations → Definition → Definition
 plain_definition n d = record d { has_equals = false; body = plain_formula n }
 
--- the new book
-abbrev pub core_started : CoreBook
-core_started = english_core (record { id = 1; name = codes "Sheet1"; cells = [] } ∷ []) []
+-- the one sheet of a new book
+abbrev pub first_sheet : SheetName
+first_sheet = record { id = first_id; name = codes "Sheet1" }
 
-abbrev pub core_named : CoreBook → CoreBook
-core_named book = english_core (map bare_sheet (filter is_first (standing_sheets book))) []
+-- each is told by the book that is rebuilt, and by the one that it begins with
+abbrev pub book_started : Book → Book → Book
+book_started book start = with_bare (first_sheet ∷ []) [] start
 
-abbrev pub core_inserted : CoreBook → CoreBook
-core_inserted book = english_core (map bare_sheet (standing_sheets book)) []
+abbrev pub book_named : Book → Book → Book
+book_named book start = with_bare (filter is_first (standing_sheets (core_of book))) [] start
 
-abbrev pub core_defined : Notations → CoreBook → CoreBook
-core_defined n book = english_core (map bare_sheet (standing_sheets book)) (map (plain_definition n) book.definitions)
+abbrev pub book_inserted : Book → Book → Book
+book_inserted book start = with_bare (standing_sheets (core_of book)) [] start
 
-abbrev pub core_embodied : CoreBook → CoreBook
-core_embodied book = english_core (map bare_sheet (standing_sheets book)) book.definitions
+abbrev pub book_defined : Book → Book → Book
+book_defined book start = with_bare (standing_sheets (core_of book)) (map (plain_definition (notations_in book)) book.definitions) start
 
-abbrev pub core_deleted : CoreBook → CoreBook
-core_deleted book = english_core (map without_cells book.sheets) book.definitions
+abbrev pub book_embodied : Book → Book → Book
+book_embodied book start = with_bare (standing_sheets (core_of book)) book.definitions start
+
+abbrev pub book_deleted : Book → Book → Book
+book_deleted book start = with_bare (scene_of (core_of book)).sheets book.definitions start
 
 -- What each stage promises. ----
 
--- from a valid book with this core, each of these lines is accepted in its turn, and what they leave has that core and is valid
-pub record Leads (old new : CoreBook) (lines : List (List ℕ)) (start : Book) : Type 0 where
-  pub accepted : AreAccepted start lines
-  pub core : core_of (after (machine commands) start lines) ≡ new
-  pub valid : IsValidBook (after (machine commands) start lines)
+-- the numerals that are tried for passing sheets are below 2 ^ 64
+abbrev pub HasFewNames : CoreBook → Type 0
+HasFewNames core = length (passing_ids core) + length (taken_names core) < 2 ^ 64
 
-abbrev pub LeadsFrom : (Book → CoreBook → Type 0) → (CoreBook → CoreBook) → (CoreBook → CoreBook) → (CoreBook → List (List ℕ)) → Type 0
-LeadsFrom Given old new lines =
-    (book start : Book) → IsValidBook book → Given start (core_of book) → IsValidBook start → start.tables ≡ book.tables → core_of start ≡ old (core_of book)
-    → Leads (old (core_of book)) (new (core_of book)) (lines (core_of book)) start
+-- A valid book has lines, and the one that it is rebuilt from is English, has the same tables, and none of the English words for
+-- error values ends with a blank. An update drops the blanks at both ends of the body that it is given, and so that of such a word.
+pub record IsRebuilt (book start : Book) : Type 0 where
+  pub valid : IsValidBook book
+  pub none : cause_of (notations_in book) (core_of book) ≡ None
+  pub few : HasFewNames (core_of book)
+  pub tables : start.tables ≡ book.tables
+  pub locale : start.locale ≡ english
+  pub language : start.language ≡ english
+  pub errors : ErrorsEndPlain start
 
--- nothing is given beside
-abbrev pub Anyway : Book → CoreBook → Type 0
-Anyway start book = Unit {0}
+-- each line is accepted in its turn, and they leave this book, which is valid
+pub record Leads (old : Book) (lines : List (List ℕ)) (new : Book) : Type 0 where
+  pub accepted : AreAccepted old lines
+  pub left : after (machine commands) old lines ≡ new
+  pub valid : IsValidBook new
 
--- the book has lines
-abbrev pub HasLines : Book → CoreBook → Type 0
-HasLines start book = cause_of (notations_in start) book ≡ None
+abbrev pub LeadsOver : (Book → Book → Book) → (Book → List (List ℕ)) → (Book → Book → Book) → Type 0
+LeadsOver old lines new = (book start : Book) → IsRebuilt book start → IsValidBook (old book start) → Leads (old book start) (lines book) (new book start)
 
 abbrev pub NamesFirst : Type 0
-NamesFirst = LeadsFrom Anyway (λ book. core_started) core_named naming_lines
+NamesFirst = LeadsOver book_started (λ book. naming_lines (core_of book)) book_named
 
 abbrev pub InsertsOthers : Type 0
-InsertsOthers = LeadsFrom Anyway core_named core_inserted inserting_lines
+InsertsOthers = LeadsOver book_named (λ book. inserting_lines (core_of book)) book_inserted
+
+abbrev pub Defines : Type 0
+Defines = LeadsOver book_inserted (λ book. defining_lines (core_of book)) book_defined
+
+abbrev pub SetsBodies : Type 0
+SetsBodies = LeadsOver book_defined (λ book. body_lines (notations_in book) (core_of book)) book_embodied
 
 abbrev pub DeletesPassing : Type 0
-DeletesPassing = LeadsFrom HasLines core_embodied core_deleted deleting_lines
+DeletesPassing = LeadsOver book_embodied (λ book. deleting_lines (core_of book)) book_deleted
 
--- those that look at the tables
-module _ (n : Notations) where
-  abbrev pub HasTables : Book → CoreBook → Type 0
-  HasTables start book = (notations_in start ≡ n) × (cause_of n book ≡ None)
+-- The cells come last. What they leave is told by its core: the pools, the styles and the values are the book's own.
+pub record Fills (old : Book) (lines : List (List ℕ)) (new : CoreBook) : Type 0 where
+  pub accepted : AreAccepted old lines
+  pub core : core_of (after (machine commands) old lines) ≡ new
 
-  abbrev pub Defines : Type 0
-  Defines = LeadsFrom HasTables core_inserted (core_defined n) defining_lines
-
-  abbrev pub SetsBodies : Type 0
-  SetsBodies = LeadsFrom HasTables (core_defined n) core_embodied (body_lines n)
-
-  abbrev pub WritesCells : Type 0
-  WritesCells = LeadsFrom HasTables core_deleted in_english (cell_lines n)
+abbrev pub WritesCells : Type 0
+WritesCells =
+    (book start : Book) → IsRebuilt book start → IsValidBook (book_deleted book start)
+    → Fills (book_deleted book start) (cell_lines (notations_in book) (core_of book)) (in_english (core_of book))
