@@ -1,8 +1,8 @@
 -- The formulas of cells, and sheets one after another, by their records.
-use Rattle.std.proofs.Common.{tt, arith, length-map, ◌≡◌, ◌++◌, ◌∷◌, [], ◌∙◌, ℕ, ◌+◌, ◌<◌, ◌≤◌, zero, suc, List, Option, Some, None, ap, ap₂, append_assoc, append-nil, drop, get_or, length, map, option_and_then, option_map, refl, slice_get, sym, unwrap_or}
+use Rattle.std.proofs.Common.{tt, arith, ◌≡◌, ◌++◌, ◌∷◌, [], ◌∙◌, ℕ, ◌+◌, ◌<◌, ◌≤◌, zero, suc, List, Option, Some, None, ap, ap₂, append_assoc, append-nil, drop, get_or, length, map, option_and_then, option_map, refl, slice_get, sym, unwrap_or}
 use Rattle.std.proofs.Math.Numerals.{add-one}
 use Rattle.std.proofs.lemmas.Grind.{flat_map-append}
-use Rattle.std.proofs.lemmas.List.{drop_all}
+use Rattle.std.proofs.lemmas.List.{drop_all, length-map}
 use Rattle.std.proofs.lemmas.Option.{slice_get-get_or, slice_get-map, slice_get_past, slice_get_read}
 use Rattle.std.specs.BTreeMap as tree
 use Rattle.std.specs.BTreeMap.{BTreeMap}
@@ -104,17 +104,17 @@ lines_next n book sheets i s lines new all there so_far put =
 
 -- there are as many records as sheets, and no more than ids
 pub records_all : (b : Book) (ws : List Worksheet) → ws ≡ map (worksheet_of b) b.sheets → length ws ≡ length b.sheets
-records_all b ws are = ap length are ∙ length-map (worksheet_of b) b.sheets
+records_all b ws are = ap length are ∙ length-map b.sheets (worksheet_of b)
 
 pub few_records : (b : Book) (ws : List Worksheet) → IsValidBook b → ws ≡ map (worksheet_of b) b.sheets → length ws ≤ last_id
 few_records b ws valid are =
     let all : length ws ≡ length b.sheets = records_all b ws are in
-    let seen : length (map (whole_sheet b.strings) b.sheets) ≡ length b.sheets = length-map (whole_sheet b.strings) b.sheets in
+    let seen : length (map (whole_sheet b.strings) b.sheets) ≡ length b.sheets = length-map b.sheets (whole_sheet b.strings) in
     let few : length (map (whole_sheet b.strings) b.sheets) ≤ last_id = valid.whole.sheets.few in
     omega arith
 
 pub none_left : (b : Book) (ws : List Worksheet) (i : ℕ) → ws ≡ map (worksheet_of b) b.sheets → length ws ≤ i → drop i (map sheet_core b.sheets) ≡ []
 none_left b ws i are end =
     let all : length ws ≡ length b.sheets = records_all b ws are in
-    let seen : length (map sheet_core b.sheets) ≡ length b.sheets = length-map sheet_core b.sheets in
+    let seen : length (map sheet_core b.sheets) ≡ length b.sheets = length-map b.sheets sheet_core in
     drop_all i (map sheet_core b.sheets) (omega arith)

@@ -1,18 +1,28 @@
 -- The cause that a book has no lines, and the parts of its lines.
-use Rattle.std.proofs.Common.{◌≡◌, ◌++◌, ◌∷◌, [], ◌∙◌, ℕ, ◌+◌, ◌-◌, pos, Bool, true, false, cond, List, Option, Some, None, ap, ap₂, append_assoc, find, length, map, option_map, refl, sym, zip}
+use Rattle.std.proofs.Common.{◌≡◌, ◌++◌, ◌∷◌, [], ◌∙◌, ℕ, ◌+◌, ◌-◌, pos, Bool, true, false, cond, List, Option, Some, None, ap, ap₂, append_assoc, find, length, length-append, map, min, option_map, refl, reverse, subst, sym, zip, arith}
+use Rattle.std.proofs.lemmas.List.{length-map}
+use Rattle.std.proofs.lemmas.Slice.Zip.{length-zip}
+use Rattle.std.specs.List.{range_with_len}
 use Rattle.std.specs.Option.{option_or}
-use Rattle.ic_laws.specs.CoreBook.{CoreBook, Definition}
+use Rattle.ic_laws.specs.CoreBook.{CoreBook, Definition, scene_of}
 use Rattle.ic_laws.specs.Notations.{Notations}
 use Rattle.ic_laws.specs.declared.scene.SheetName.{SheetName}
 use Rattle.ic_laws.specs.declared.tree.Formula.{Formula}
 use Rattle.ic_laws.specs.declared.tree.Formula.TheVariants as formulas
 use Rattle.ic_laws.specs.declared.tree.NameKey.{NameKey}
 use Rattle.ic_machine.specs.Refusal.{Site}
-use Rattle.ic_book.specs.Book.{Book, core_of, notations_in}
+use Rattle.ic_machine.specs.Book as machine
+use Rattle.ic_book.proofs.WholeLemmas.{whole_core}
+use Rattle.ic_book.specs.Book.{Book, IsValidBook, core_of, notations_in, whole_of}
+use Rattle.ic_sheets.specs.Sheet.{sheet_core}
 use Rattle.ic_book.specs.Workbook.{body_text, defined_name_of}
-use Rattle.ic_dump.specs.Lines.{Text, body_line, body_lines, defining_line, defining_lines, english_body}
-use Rattle.ic_dump.specs.Passing.{standing_sheets}
+use Rattle.ic_dump.specs.Lines.{Text, body_line, body_lines, defining_line, defining_lines, deleting_line, deleting_lines, dump_lines, english_body}
+use Rattle.ic_dump.specs.Passing.{free_numerals, passing_ids, passing_sheets, sheet_named, standing_sheets, taken_names}
+use Rattle.ic_dump.specs.Rebuilds.{Rebuilds}
 use Rattle.ic_dump.specs.Records.{name_seen}
+use Rattle.ic_dump.specs.Stages.{HasFewNames}
+use Rattle.ic_dump.proofs.Rebuilt.{rebuilds}
+use Rattle.ic_dump.proofs.StandLemmas.{free_many}
 use Rattle.ic_dump.specs.Refused.{Cause, RawBody, Rereads, cause_of, is_raw, raw_body, rereading}
 
 -- ---- the cause
@@ -66,3 +76,38 @@ module _ (b : Book) where
 
   pub definitions_told : map (λ d. defining_line (standing_sheets (core_of b)) (name_seen d)) (map (defined_name_of b) b.definitions) ≡ defining_lines (core_of b)
   definitions_told = defined_same (standing_sheets (core_of b)) b.definitions
+
+-- ---- the passing sheets, and all stages
+
+pub many_passing : (core : CoreBook) → HasFewNames core → length (passing_sheets core) ≡ length (passing_ids core)
+many_passing core few =
+    let ids : List ℕ = passing_ids core in
+    let names : List (List ℕ) = free_numerals (length (passing_ids core)) (taken_names core) in
+    let many : length names ≡ length ids = free_many (length (passing_ids core)) (taken_names core) few in
+    let both : length (zip ids names) ≡ min (length ids) (length names) = length-zip ids names in
+    length-map (zip ids names) sheet_named ∙ omega (arith, both, many)
+
+pub many_standing : (b : Book) → HasFewNames (core_of b) → length (standing_sheets (core_of b)) ≡ length b.sheets + length (passing_ids (core_of b))
+many_standing b few =
+    length-append (scene_of (core_of b)).sheets (passing_sheets (core_of b))
+    ∙ ap₂ (λ (m n : ℕ). m + n) (length-map (core_of b).sheets _ ∙ length-map b.sheets sheet_core) (many_passing (core_of b) few)
+
+pub deleted_told : (b : Book) (own count : ℕ) → HasFewNames (core_of b) → own ≡ length b.sheets → count ≡ length (standing_sheets (core_of b)) → map deleting_line (reverse (range_with_len own (count - own))) ≡ deleting_lines (core_of b)
+deleted_told b own count few own_is count_is =
+    let all = many_standing b few in
+    let rest : count - own ≡ length (passing_ids (core_of b)) = omega (arith, all, own_is, count_is) in
+    let sheets : length (core_of b).sheets ≡ length b.sheets = length-map b.sheets sheet_core in
+    ap₂ (λ (m n : ℕ). map deleting_line (reverse (range_with_len m n))) (own_is ∙ sym sheets) rest
+
+pub six_parts : {X : Type 0} (a b c d e f l0 l1 l2 l3 l4 l5 l6 : List X) → l0 ≡ [] → l1 ≡ l0 ++ a → l2 ≡ l1 ++ b → l3 ≡ l2 ++ c → l4 ≡ l3 ++ d → l5 ≡ l4 ++ e → l6 ≡ l5 ++ f → l6 ≡ a ++ (b ++ (c ++ (d ++ (e ++ f))))
+six_parts a b c d e f l0 l1 l2 l3 l4 l5 l6 h0 h1 h2 h3 h4 h5 h6 =
+    let all : l6 ≡ ((((([] ++ a) ++ b) ++ c) ++ d) ++ e) ++ f = cc in all ∙ simp append_assoc
+
+-- ---- what the lines do
+
+pub lines_rebuild : (b : Book) (lines : List Text) → IsValidBook b → cause_of (notations_in b) (core_of b) ≡ None → HasFewNames (core_of b) → lines ≡ dump_lines (notations_in b) (core_of b) → Rebuilds b.tables lines (core_of b)
+lines_rebuild b lines valid none few are =
+    let seen : machine.core_of (whole_of b) ≡ core_of b = whole_core b in
+    let all : Rebuilds b.tables (dump_lines (notations_in b) (machine.core_of (whole_of b))) (machine.core_of (whole_of b)) =
+    rebuilds (whole_of b) valid.whole (ap (cause_of (notations_in b)) seen ∙ none) (subst HasFewNames (sym seen) few) in
+    subst (λ ls. Rebuilds b.tables ls (core_of b)) (sym are) (subst (λ (c : CoreBook). Rebuilds b.tables (dump_lines (notations_in b) c) c) seen all)

@@ -19,6 +19,7 @@ pub mod PassingLemmas
 pub mod PlainBody
 pub mod ReadLemmas
 pub mod Rebuilt
+pub mod RecordLemmas
 pub mod RefusedLemmas
 pub mod RunLemmas
 pub mod SaidAgain

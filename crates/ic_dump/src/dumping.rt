@@ -1,11 +1,12 @@
 //! A book as command lines.
-ghost use Rattle.std.specs.Prelude.{◌≡◌, IfOk, None, map};
+ghost use Rattle.std.specs.Prelude.{◌≡◌, IfOk, None, OnOk, map};
 ghost use Rattle.ic_book.specs.Book.{IsValidBook, core_of, notations_in};
 ghost use Rattle.ic_book.specs.Workbook.{workbook_of, worksheet_of};
 ghost use Rattle.ic_dump.specs.English.{IsEnglish};
 ghost use Rattle.ic_dump.specs.Lines.{dump_lines};
 ghost use Rattle.ic_dump.specs.Rebuilds.{Rebuilds};
 ghost use Rattle.ic_dump.specs.Refused.{Tells, cause_of, raw_body};
+ghost use Rattle.ic_dump.specs.Stages.{HasFewNames};
 
 use crate::DumpError;
 use crate::english::english_of;
@@ -96,8 +97,11 @@ fn lines_of(
     requires records { workbook.now ≡ workbook_of model.now.book }
     requires valid { IsValidBook model.now.book }
     requires none { cause_of (notations_in model.now.book) (core_of model.now.book) ≡ None }
-    ensures { IfOk result (λ lines. lines.items
+    ensures lines { IfOk result (λ lines. lines.items
         ≡ dump_lines (notations_in model.now.book) (core_of model.now.book)) }
+
+    // What the law on these lines asks of the names.
+    ensures few { OnOk result (HasFewNames (core_of model.now.book)) }
 {
     let worksheets = workbook.worksheets.as_slice();
     let definitions = workbook.defined_names.as_slice();

@@ -1,5 +1,5 @@
 //! Names that nothing in a book means.
-ghost use Rattle.std.specs.Prelude.{◌≡◌, ◌<◌, ◌^◌, ◌++◌, [], ◌∷◌, List, ℕ, IfOk, OnOk, cond, map};
+ghost use Rattle.std.specs.Prelude.{◌≡◌, ◌<◌, ◌+◌, ◌^◌, ◌++◌, [], ◌∷◌, List, ℕ, IfOk, OnOk, cond, length, map};
 ghost use Rattle.std.specs.Fmt.{decimal};
 ghost use Rattle.ic_dump.specs.Passing.{free_numerals, is_free};
 ghost use Rattle.ic_dump.specs.Records.{FindsNames};
@@ -17,8 +17,11 @@ pub(crate) fn free_numerals(
     taken: &[&Text],
 ) -> Result<Vec<Text>, OutOfMemory>
     requires { count < 2 ^ 62 }
-    ensures { IfOk result (λ names. names.items
+    ensures names { IfOk result (λ names. names.items
         ≡ free_numerals count (map (λ t. t.now) taken.now)) }
+
+    // Taken names are in memory.
+    ensures few { OnOk result (count + length taken.now < 2 ^ 64) }
 {
     let folded = folded_names(alloc, taken)?;
     let end = count + taken.len() + 1;

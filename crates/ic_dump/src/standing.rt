@@ -8,6 +8,7 @@ ghost use Rattle.ic_book.specs.Book.{IsValidBook, core_of};
 ghost use Rattle.ic_book.specs.Workbook.{workbook_of};
 ghost use Rattle.ic_dump.specs.Passing.{sheet_named, standing_sheets};
 ghost use Rattle.ic_dump.specs.Records.{AreFound, sheet_seen};
+ghost use Rattle.ic_dump.specs.Stages.{HasFewNames};
 
 use crate::passing::free_numerals;
 use crate::scopes::passing_ids;
@@ -37,6 +38,9 @@ pub(crate) fn standing_sheets(
         ≡ standing_sheets (core_of model.now.book)) }
     ensures found { IfOk result (λ standing.
         AreFound standing.indexes standing.sheets.items) }
+
+    // What the law on these lines asks of the names.
+    ensures few { OnOk result (HasFewNames (core_of model.now.book)) }
 {
     let worksheets = workbook.worksheets.as_slice();
     let ids = passing_ids(alloc, worksheets, workbook.defined_names.as_slice())?;
