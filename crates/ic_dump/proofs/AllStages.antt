@@ -1,5 +1,5 @@
 -- All stages, one after another: from the new book to the formulas of the book.
-use Rattle.std.proofs.Common.{◌≡◌, ℕ, List, ◌++◌, sym, ap, subst, ◌∙◌}
+use Rattle.std.proofs.Common.{ℕ, List, ◌++◌, sym, ap, subst, ◌∙◌}
 use Rattle.ic_laws.specs.CoreBook.{CoreBook}
 use Rattle.ic_machine.specs.Book.{Book, core_of, notations_in}
 use Rattle.ic_machine.specs.TranslationLaws.{AreAccepted}

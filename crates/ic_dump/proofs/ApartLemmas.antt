@@ -1,8 +1,8 @@
 -- A kept formula stays itself where sheets come behind those of its scene, under names that it doesn't mean.
-use Rattle.std.proofs.Common.{◌≡◌, ℕ, List, [], ◌∷◌, ◌++◌, map, Bool, true, false, Option, None, Some, refl, sym, ap, subst, ◌∙◌, nat_eq}
+use Rattle.std.proofs.Common.{◌≡◌, ℕ, List, [], ◌∷◌, ◌++◌, Bool, false, Option, None, Some, refl, sym, ap, subst, ◌∙◌, nat_eq}
 use Rattle.std.proofs.lemmas.List.Folds.{find-append}
 use Rattle.std.specs.Fmt.{decimal}
-use Rattle.std.specs.List.{AllByRecursion, find, list_any}
+use Rattle.std.specs.List.{AllByRecursion, find}
 use Rattle.std.specs.Option.{option_or}
 use Rattle.std.specs.Prelude.{option_map, unwrap_or}
 use Rattle.ic_laws.proofs.binding.Again.{BoundKind, FindAgain, bound_again, mapped_same}
@@ -13,7 +13,7 @@ use Rattle.ic_laws.proofs.keeping.Holds.{settled_holds}
 use Rattle.ic_laws.proofs.keeping.Kept.{kept_same}
 use Rattle.ic_laws.proofs.keeping.Sheets.{nothing_found}
 use Rattle.ic_laws.proofs.kept.Everywhere.{every_both}
-use Rattle.ic_laws.specs.Binding.{IsSettled, RespectsFolding, bound, bound_local, bound_sheet, name_or_dangling, sheet_or_dangling, spelled, spelled_sheet, spelled_with, spelled_word}
+use Rattle.ic_laws.specs.Binding.{IsSettled, RespectsFolding, bound, bound_local, bound_sheet, name_or_dangling, sheet_or_dangling, spelled, spelled_sheet, spelled_word}
 use Rattle.ic_laws.specs.Changes.{LocalHolds, SheetHolds, WordHolds}
 use Rattle.ic_laws.specs.Keeping.{kept, same_keys}
 use Rattle.ic_laws.specs.Mentions.{AllMentions, LocalMention, OfMentions, mapped}

@@ -1,21 +1,13 @@
 -- Books whose sheets hold nothing: what their cores are, and what becomes of them when their sheets change.
-use Rattle.std.proofs.Common.{◌≡◌, ℕ, zero, suc, ◌+◌, ◌<◌, ◌≤◌, List, [], ◌∷◌, ◌++◌, length, map, Bool, true, false, cond, not, ◌||◌, Option, None, Some, Ok, refl, sym, ap, ap₂, subst, ◌∙◌, arith, nat_eq}
-use Rattle.std.proofs.lemmas.Bool.Decides.{nat_tests}
-use Rattle.std.proofs.lemmas.List.{length-map, map-append}
-use Rattle.std.specs.FinMap as finite
-use Rattle.std.specs.List.{AllByRecursion, list_any}
-use Rattle.std.specs.Prelude.{insert, nat_lt, remove}
-use Rattle.ic_laws.specs.Command as core
+use Rattle.std.proofs.Common.{◌≡◌, ℕ, List, [], ◌∷◌, map, false, Option, None, Ok, refl, ap, ap₂, ◌∙◌}
+use Rattle.std.specs.List.{AllByRecursion}
 use Rattle.ic_laws.specs.CoreBook as core_book
 use Rattle.ic_laws.specs.CoreBook.{CoreBook, Definition, ids_of, last_id, names_of, spelling_of}
-use Rattle.ic_laws.specs.CoreStep.{core_step}
-use Rattle.ic_laws.specs.Keeping.{KeyChange, kept_in_body, same_keys}
-use Rattle.ic_laws.specs.Name.{agrees, is_sheet_name}
+use Rattle.ic_laws.specs.Keeping.{KeyChange, kept_in_body}
 use Rattle.ic_laws.specs.Notations.{Notations}
-use Rattle.ic_laws.specs.declared.scene.NameSpelling.{NameSpelling}
 use Rattle.ic_laws.specs.declared.scene.Scene.{Scene}
 use Rattle.ic_laws.specs.declared.scene.SheetName.{SheetName}
-use Rattle.ic_machine.specs.Book.{Book, Entry, Sheet, Stepped, core_cells, core_of, core_sheet, empty_sheet, notations_in, scene_in, unless, unless_refused}
+use Rattle.ic_machine.specs.Book.{Book, Entry, Sheet, core_cells, core_of, core_sheet, scene_in, unless, unless_refused}
 use Rattle.ic_machine.specs.Changed.{with_kept_formulas, with_kept_pool}
 use Rattle.ic_machine.specs.Refusal.{Causes, Refusal, first_refusal}
 use Rattle.ic_machine.specs.Reply.{Field}

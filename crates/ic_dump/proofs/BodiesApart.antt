@@ -1,9 +1,9 @@
 -- No passing sheet has a name that a definition's body means, so that bodies stay while such sheets come and go.
-use Rattle.std.proofs.Common.{◌≡◌, ℕ, List, [], ◌∷◌, ◌++◌, flat_map, map, Bool, false, Option, refl, sym, ap, subst, ◌∙◌}
+use Rattle.std.proofs.Common.{◌≡◌, ℕ, List, [], ◌∷◌, flat_map, map, false, Option, refl, ap, subst}
 use Rattle.std.proofs.lemmas.Grind.{flat_map-append}
 use Rattle.std.specs.List.{AllByRecursion, list_any}
 use Rattle.ic_laws.proofs.kept.Kept.{english_by_fold}
-use Rattle.ic_laws.specs.CoreBook.{CellPlace, CoreBook, Definition, Sheet, names_of, scene_of}
+use Rattle.ic_laws.specs.CoreBook.{CellPlace, CoreBook, Definition, Sheet, names_of}
 use Rattle.ic_laws.specs.Keeping.{kept_formula, kept_in_body, same_keys}
 use Rattle.ic_laws.specs.Name.{agrees}
 use Rattle.ic_laws.specs.Notations.{AreNotations, Notations, english_function}
@@ -14,10 +14,12 @@ use Rattle.ic_laws.specs.declared.scene.SheetName.{SheetName}
 use Rattle.ic_laws.specs.declared.tree.Formula.{Formula}
 use Rattle.ic_laws.specs.declared.tree.Formula.TheVariants as formulas
 use Rattle.std.specs.Prelude.{pos}
+use Rattle.ic_machine.proofs.ValidLemmas.{all_of}
+use Rattle.ic_laws.proofs.core.Lists.{none_passes}
 use Rattle.ic_dump.specs.Passing.{formulas_in, passing_sheets, taken_names, unfound_of}
 use Rattle.ic_dump.proofs.ApartLemmas.{IsNoName, stays_over, with_sheets}
 use Rattle.ic_dump.proofs.LackedNames.{of_mentions}
-use Rattle.ic_dump.proofs.ListLemmas.{any_none, back_holds, flipped_holds, front_holds, weaker_holds}
+use Rattle.ic_dump.proofs.ListLemmas.{back_holds, flipped_holds, front_holds}
 use Rattle.ic_dump.proofs.StandLemmas.{Stands}
 
 -- what holds of all names that a passing sheet can't have holds of those that each body lacks
@@ -40,8 +42,8 @@ pub passing_apart : (core : CoreBook) → Stands core → AllByRecursion (λ (d 
 passing_apart core all =
     bodies_lack (IsNoName (passing_sheets core)) core
     (flipped_holds (λ (s : SheetName) (name : List ℕ). agrees s.name name ≡ false) (passing_sheets core) (taken_names core)
-    (weaker_holds (λ (s : SheetName). list_any (agrees s.name) (taken_names core) ≡ false) (λ (s : SheetName). AllByRecursion (λ (name : List ℕ). agrees s.name name ≡ false) (taken_names core))
-    (λ s h. any_none (agrees s.name) (taken_names core) h) (passing_sheets core) all.apart))
+    (all_of (λ (s : SheetName). list_any (agrees s.name) (taken_names core) ≡ false) (λ (s : SheetName). AllByRecursion (λ (name : List ℕ). agrees s.name name ≡ false) (taken_names core))
+    (λ s h. none_passes (agrees s.name) (taken_names core) h) (passing_sheets core) all.apart))
 
 -- a body stays where such sheets stood before, and where they stand after
 module _ (n : Notations) (are : AreNotations n) (scene : Scene) (before after : List SheetName) (differ_before : SheetsDiffer (with_sheets scene before)) (differ_after : SheetsDiffer (with_sheets scene after)) where

@@ -1,7 +1,6 @@
 -- The lines that set the bodies are accepted, and leave each definition with its own.
-use Rattle.std.proofs.Common.{◌≡◌, ℕ, pos, zero, suc, ◌+◌, ◌≤◌, List, [], ◌∷◌, ◌++◌, length, map, reverse, Bool, true, false, cond, ◌==◌, Option, None, Some, codes, refl, sym, ap, ap₂, subst, ◌∙◌, append_assoc, arith}
-use Rattle.std.proofs.lemmas.Bool.{cases_Bool}
-use Rattle.std.proofs.lemmas.List.{append-nil, length-map, map-append}
+use Rattle.std.proofs.Common.{◌≡◌, ℕ, pos, ◌≤◌, List, [], ◌∷◌, ◌++◌, length, map, reverse, Bool, true, false, cond, ◌==◌, Option, None, Some, refl, sym, ap, ap₂, subst, ◌∙◌, append_assoc, arith}
+use Rattle.std.proofs.lemmas.List.{length-map, map-append}
 use Rattle.std.specs.List.{AllByRecursion, find}
 use Rattle.std.specs.Option.{option_or}
 use Rattle.std.specs.Prelude.{option_map}
@@ -24,10 +23,8 @@ use Rattle.ic_laws.specs.declared.scene.Scene.{Scene}
 use Rattle.ic_laws.specs.declared.scene.SheetName.{SheetName}
 use Rattle.ic_laws.specs.declared.tree.Formula.{Formula}
 use Rattle.ic_laws.specs.declared.tree.Formula.TheVariants as formulas
-use Rattle.ic_laws.specs.declared.tree.NameKey.{NameKey}
 use Rattle.ic_cells.specs.Value.{error_word}
 use Rattle.ic_tables.specs.Tables.{TableSet, language_of, locale_of}
-use Rattle.ic_tables.specs.declared.language.Language.{Language}
 use Rattle.ic_tree.proofs.EnglishLemmas.{english_free}
 use Rattle.ic_tree.proofs.NotationLaws.{notations_are}
 use Rattle.ic_tree.specs.LanguageWords.{is_boolean_word, is_function_word}
@@ -44,16 +41,16 @@ use Rattle.ic_machine.specs.subjects.Definitions.{update_body, update_of}
 use Rattle.ic_machine.proofs.CoreValid.{core_valid}
 use Rattle.ic_machine.proofs.TextEnds.{EndsSolid, equals_front, no_equals, printed_tight, tight_front, trimmed_tight, without_equals_front}
 use Rattle.ic_machine.proofs.TreeAgain.{error_there, fits_there, force_there, form_there, language, reads_there, references_there}
-use Rattle.ic_dump.specs.Lines.{body_line, body_lines, english_body, in_english, scope_word}
+use Rattle.ic_dump.specs.Lines.{body_line, english_body, in_english}
 use Rattle.ic_dump.specs.Passing.{passing_sheets, standing_sheets, unfound_of}
-use Rattle.ic_dump.specs.Refused.{Cause, RawBody, is_raw, raw_body}
+use Rattle.ic_dump.specs.Refused.{RawBody, is_raw, raw_body}
 use Rattle.ic_dump.specs.Stages.{IsRebuilt, Leads, SetsBodies, bare_sheet, plain_definition, plain_formula, with_bare}
 use Rattle.ic_dump.proofs.ApartLemmas.{IsNoName, again_there, with_sheets}
 use Rattle.ic_dump.proofs.BareBooks.{scene_bare}
 use Rattle.ic_dump.proofs.BodiesApart.{passing_apart}
 use Rattle.ic_dump.proofs.DefinitionUpdated.{updated, updated_valid}
 use Rattle.ic_dump.proofs.LackedNames.{of_mentions}
-use Rattle.ic_dump.proofs.ListLemmas.{both_of_each, weaker_holds}
+use Rattle.ic_dump.proofs.ListLemmas.{both_of_each}
 use Rattle.ic_dump.proofs.RunLemmas.{leads_both, leads_line, leads_nowhere, leads_there}
 use Rattle.ic_dump.proofs.ScopeWords.{index_of_scope, scope_there, word_said}
 use Rattle.ic_dump.proofs.StandLemmas.{HasPlace, Stands, stands}

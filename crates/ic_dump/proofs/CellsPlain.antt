@@ -1,27 +1,24 @@
 -- A sheet into which nothing but formulas was written: no place is covered, and none is part of an array of several cells.
-use Rattle.std.proofs.Common.{◌≡◌, ℕ, ℤ, pos, List, [], ◌∷◌, ◌++◌, Bool, true, false, cond, ◌&&◌, Option, None, Some, Ok, Err, refl, sym, ap, ap₂, subst, ◌∙◌}
+use Rattle.std.proofs.Common.{◌≡◌, ℕ, pos, List, [], ◌∷◌, ◌++◌, Bool, true, false, cond, ◌&&◌, Option, None, Some, Ok, refl, sym, ap, subst, ◌∙◌}
 use Rattle.std.specs.FinMap as finite
 use Rattle.std.specs.List.{AllByRecursion, slice_get}
 use Rattle.std.specs.Prelude.{is_none, not, option_and_then, option_map, unwrap_or}
 use Rattle.ic_laws.specs.CoreBook.{CellPlace}
-use Rattle.ic_laws.specs.CoreStep.{updated_at}
 use Rattle.ic_laws.specs.declared.tree.Formula.{Formula}
-use Rattle.ic_tables.specs.Tables.{TableSet}
 use Rattle.ic_cells.specs.Maps.{place_cmp}
 use Rattle.ic_cells.specs.declared.cell.ArrayKind.TheVariants as arrays
-use Rattle.ic_cells.specs.declared.layout.Merge.{Merge}
 use Rattle.ic_cells.specs.declared.value.FormulaValue.TheVariants as fvalues
 use Rattle.ic_grid.specs.Arrays.{anchor_at, array_from, array_of, is_fixed, is_fixed_at}
 use Rattle.ic_grid.specs.Block.{Place, is_single, block_at, same_place}
 use Rattle.ic_grid.specs.Contents.{Contents}
 use Rattle.ic_grid.specs.Prepare.{anchor_reset, prepared, released, released_if, unspilled, without_spill, written}
 use Rattle.ic_grid.specs.Shape.{is_cse}
-use Rattle.ic_machine.specs.Book.{Book, Sheet, Stepped, empty_grid, found_or, unless, with_sheet}
+use Rattle.ic_machine.specs.Book.{Book, Sheet, empty_grid, found_or, unless}
 use Rattle.ic_machine.specs.Content.{AnchorContent, BoolContent, Content, EmptyContent, ErrContent, FormulaContent, NumContent, SpillContent, TextContent, held}
 use Rattle.ic_machine.specs.InForce.{formula_typed}
-use Rattle.ic_machine.specs.Refusal.{Causes, InvalidSheet, NotAFormula, first_refusal}
+use Rattle.ic_machine.specs.Refusal.{InvalidSheet, NotAFormula, first_refusal}
 use Rattle.ic_machine.specs.Reply.{Field}
-use Rattle.ic_machine.specs.subjects.Writing.{Written, formula_at_place, formula_content, formula_step, formula_written, place_causes, with_written, write_causes, write_step}
+use Rattle.ic_machine.specs.subjects.Writing.{formula_at_place, formula_step, formula_written, place_causes, with_written, write_causes}
 use Rattle.ic_machine.proofs.HaveLemmas.{AllHave, all_put, all_remade}
 use Rattle.ic_machine.proofs.InsertedBinds.{accepted}
 use Rattle.ic_machine.proofs.ValidLemmas.{all_at, all_put as all_replaced}

@@ -1,23 +1,22 @@
 -- The lines that write the cells are accepted, and leave the formulas of the book.
-use Rattle.std.proofs.Common.{◌≡◌, ℕ, ℤ, pos, negsuc, zero, suc, ◌+◌, ◌<◌, ◌≤◌, List, [], ◌∷◌, ◌++◌, length, map, flat_map, Bool, true, false, cond, not, ◌&&◌, ◌||◌, Option, None, Some, Ok, Err, codes, refl, sym, ap, ap₂, subst, ◌∙◌, append_assoc, arith, inl, inr, length-append, nat_eq}
+use Rattle.std.proofs.Common.{◌≡◌, ℕ, ℤ, pos, negsuc, suc, ◌+◌, ◌≤◌, List, [], ◌∷◌, ◌++◌, length, map, flat_map, true, false, not, Option, None, Some, Ok, Err, codes, refl, sym, ap, ap₂, subst, ◌∙◌, append_assoc, arith, inl, inr, length-append, nat_eq}
 use Rattle.std.proofs.lemmas.Bool.{and_parts, cases_Bool, or_parts}
 use Rattle.std.proofs.lemmas.Bool.Decides.{nat_tests}
 use Rattle.std.proofs.lemmas.List.{append-nil, map-append}
 use Rattle.std.specs.BTreeMap.{insert_entry}
 use Rattle.std.specs.Cmp.{IsTotalOrder}
-use Rattle.std.specs.FinMap as finite
 use Rattle.std.specs.Fmt.{signed_decimal}
 use Rattle.std.specs.List.{AllByRecursion, slice_get}
 use Rattle.std.specs.List.Sorted.{IsStrictlySortedBy}
 use Rattle.std.specs.Option.{option_or}
-use Rattle.std.specs.Ordering.{int_cmp, match_ordering, ordering_reverse}
-use Rattle.std.specs.Prelude.{int_le, is_none, is_some, nat_lt, option_map}
+use Rattle.std.specs.Ordering.{match_ordering, ordering_reverse}
+use Rattle.std.specs.Prelude.{int_le, is_some, nat_lt, option_map}
 use Rattle.std.specs.declared.cmp.Ordering.{Ordering}
-use Rattle.std.specs.declared.cmp.Ordering.TheVariants.{Equal, Greater, Less}
+use Rattle.std.specs.declared.cmp.Ordering.TheVariants.{Greater, Less}
 use Rattle.ic_laws.proofs.core.CellWritten.{place_cmp_total}
 use Rattle.ic_laws.proofs.core.KeptBook.{mentioned}
 use Rattle.ic_laws.proofs.keeping.Accepted.{none_refuses}
-use Rattle.ic_laws.specs.Binding.{bound, spelled}
+use Rattle.ic_laws.specs.Binding.{bound}
 use Rattle.ic_laws.specs.Character.{equals}
 use Rattle.ic_laws.specs.Command as core_commands
 use Rattle.ic_laws.specs.Command.{position_said}
@@ -26,21 +25,19 @@ use Rattle.ic_laws.specs.CoreBook.{CellPlace, Cells, CoreBook, Definition, last_
 use Rattle.ic_laws.specs.CoreStep as core
 use Rattle.ic_laws.specs.CoreStep.{core_step, updated_at}
 use Rattle.ic_laws.specs.Dialect.{DialectMeaning}
-use Rattle.ic_laws.specs.FormulaReading.{cell_formula, cell_tree, is_formula_text, shown_formula, tree_or_raw, without_equals}
-use Rattle.ic_laws.specs.Notations.{Notations, english, english_function, is_cell}
+use Rattle.ic_laws.specs.FormulaReading.{cell_formula, cell_tree, is_formula_text, shown_formula, tree_or_raw}
+use Rattle.ic_laws.specs.Notations.{Notations, english, english_function}
 use Rattle.ic_laws.specs.Position.{is_column, is_row}
 use Rattle.ic_laws.specs.ReadAs.{read_as}
-use Rattle.ic_laws.specs.Reading.{printed}
 use Rattle.ic_laws.specs.Refusal as core_refusal
-use Rattle.ic_laws.specs.Tree.{Bound, Spelled}
-use Rattle.ic_laws.specs.ValidCore.{IsKeptCell, IsKeptFormula, IsValidCore, IsValidSheet}
+use Rattle.ic_laws.specs.Tree.{Spelled}
+use Rattle.ic_laws.specs.ValidCore.{IsKeptCell, IsValidCore, IsValidSheet}
 use Rattle.ic_laws.specs.declared.reference.TheConstants.{LAST_COLUMN, LAST_ROW}
-use Rattle.ic_laws.specs.declared.scene.NameSpelling.{NameSpelling}
 use Rattle.ic_laws.specs.declared.scene.Scene.{Scene}
 use Rattle.ic_laws.specs.declared.scene.SheetName.{SheetName}
 use Rattle.ic_laws.specs.declared.tree.Formula.{Formula}
 use Rattle.ic_laws.specs.declared.tree.Formula.TheVariants as formulas
-use Rattle.ic_tables.specs.Tables.{TableSet, language_of, locale_of}
+use Rattle.ic_tables.specs.Tables.{language_of, locale_of}
 use Rattle.ic_tree.proofs.ClashLemmas.{english_binds, there}
 use Rattle.ic_tree.proofs.NotationLaws.{knows_language_is, knows_locale_is, notations_are}
 use Rattle.ic_tree.specs.Notations.{notations_of}
@@ -48,11 +45,9 @@ use Rattle.ic_cells.specs.declared.layout.Merge.{Merge}
 use Rattle.ic_grid.specs.Merges.{is_covered}
 use Rattle.ic_machine.specs.Book.{Book, Sheet, Stepped, core_of, notations_in, scene_in}
 use Rattle.ic_machine.specs.Command.{OnWriting}
-use Rattle.ic_machine.specs.Content.{Content, formula_index}
 use Rattle.ic_machine.specs.Core.{HasPooled, IsFree, TakesFormula, Told, told_by, told_by_core}
 use Rattle.ic_machine.specs.InForce.{in_force}
 use Rattle.ic_machine.specs.Kept.{StaysValid}
-use Rattle.ic_machine.specs.Refusal.{Refusal}
 use Rattle.ic_machine.specs.Reply.{Field}
 use Rattle.ic_machine.specs.Step.{english_errors}
 use Rattle.ic_machine.specs.TranslationLaws.{AreAccepted}
@@ -64,12 +59,12 @@ use Rattle.ic_machine.proofs.FormulaStepped.{formula_told}
 use Rattle.ic_machine.proofs.RetypedLemmas.{empty_reads, in_force_is}
 use Rattle.ic_machine.proofs.ValidLemmas.{all_at}
 use Rattle.ic_machine.proofs.WritingSteps.{writing_stays}
-use Rattle.ic_dump.specs.Lines.{cell_line, cell_lines, cell_lines_from, english_formula, in_english, lines_of_cells}
-use Rattle.ic_dump.specs.Refused.{cause_of, is_read, rereading, rereading_cell, rereading_cells, rereads}
-use Rattle.ic_dump.specs.Stages.{Fills, IsRebuilt, WritesCells, bare_sheet, with_bare}
+use Rattle.ic_dump.specs.Lines.{cell_line, cell_lines_from, english_formula, in_english, lines_of_cells}
+use Rattle.ic_dump.specs.Refused.{rereading, rereading_cell, rereading_cells, rereads}
+use Rattle.ic_dump.specs.Stages.{WritesCells, bare_sheet, with_bare}
 use Rattle.ic_dump.proofs.BareBooks.{bare_core, core_bare}
 use Rattle.ic_dump.proofs.CellsPlain.{IsPlainSheet, empty_plain, formula_plain, plain_loose}
-use Rattle.ic_dump.proofs.ListLemmas.{back_holds, sorted_before, updated_seam}
+use Rattle.ic_dump.proofs.ListLemmas.{sorted_before, updated_seam}
 use Rattle.ic_dump.proofs.RunLemmas.{accepted_both, line_accepted, line_leaves, run, run_both}
 use Rattle.ic_dump.proofs.SaidAgain.{position_again}
 use Rattle.ic_dump.proofs.TextsRead.{cell_read}
@@ -336,7 +331,7 @@ module _ (n : Notations) where
   cells_unread id [] e = tt
   cells_unread id (c ∷ cells) e =
       let parts = parts_empty (rereading_cell n id c) (flat_map (rereading_cell n id) cells) e in
-      (elim (cases_Bool (rereads n c.0 c.1)) [ | inl t ↦ absurd (let no = parts.0 in let some = rw t at no in cc) | inr f ↦ f ], cells_unread id cells parts.1)
+      (elim (cases_Bool (rereads n c.0 c.1)) [ inl t ↦ absurd (let no = parts.0 in let some = rw t at no in cc) | inr f ↦ f ], cells_unread id cells parts.1)
 
   sheets_unread : (sheets : List core_book.Sheet) → flat_map (λ (s : core_book.Sheet). flat_map (rereading_cell n s.id) s.cells) sheets ≡ [] → AllByRecursion (λ (s : core_book.Sheet). AllByRecursion (λ (c : CellPlace × Formula). rereads n c.0 c.1 ≡ false) s.cells) sheets
   sheets_unread [] e = tt

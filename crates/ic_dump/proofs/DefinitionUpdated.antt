@@ -1,12 +1,11 @@
 -- An update of a definition that keeps its name and scope, in a book whose sheets hold nothing: it is accepted, captures nothing, and
 -- leaves the definition with its new body in the place of the old one.
 use mathlib.Core.Path.{fun_ext}
-use Rattle.std.proofs.Common.{◌≡◌, ℕ, zero, suc, ◌+◌, List, [], ◌∷◌, ◌++◌, flat_map, length, map, Bool, true, false, cond, not, ◌&&◌, ◌||◌, Option, None, Some, Ok, refl, sym, ap, ap₂, subst, ◌∙◌, inl, inr}
-use Rattle.std.proofs.lemmas.Bool.{and_right, cases_Bool}
+use Rattle.std.proofs.Common.{◌≡◌, ℕ, List, [], ◌∷◌, ◌++◌, flat_map, length, map, Bool, true, false, cond, not, ◌&&◌, ◌||◌, Option, None, Some, Ok, refl, sym, ap, ap₂, subst, ◌∙◌}
+use Rattle.std.proofs.lemmas.Bool.{and_right}
 use Rattle.std.proofs.lemmas.List.{map-append}
-use Rattle.std.specs.FinMap as finite
 use Rattle.std.specs.List.{AllByRecursion, IsDistinct, list_any, zip}
-use Rattle.std.specs.Prelude.{is_none, option_map, pos, position, unwrap_or}
+use Rattle.std.specs.Prelude.{is_none, pos, position, unwrap_or}
 use Rattle.ic_laws.proofs.core.Defined.{same_key_equiv}
 use Rattle.ic_laws.proofs.core.Named.{book_named}
 use Rattle.ic_laws.proofs.keeping.Holds.{settled_holds}
@@ -14,12 +13,12 @@ use Rattle.ic_laws.proofs.keeping.Kept.{kept_same}
 use Rattle.ic_laws.proofs.keeping.NameChanges.{key_itself, same_key_from}
 use Rattle.ic_laws.proofs.kept.Kept.{english_by_fold}
 use Rattle.ic_laws.specs.Binding.{bound}
-use Rattle.ic_laws.specs.CoreBook.{CellPlace, CoreBook, Definition, spelling_of}
-use Rattle.ic_laws.specs.CoreStep.{has_definition, is_named, scope_of, scope_or_none, updated_at}
+use Rattle.ic_laws.specs.CoreBook.{Definition, spelling_of}
+use Rattle.ic_laws.specs.CoreStep.{has_definition, is_named, scope_of, updated_at}
 use Rattle.ic_laws.specs.FormulaReading.{Body}
 use Rattle.ic_laws.specs.Keeping.{KeyChange, changed_key, kept_formula, kept_in_body, same_keys}
 use Rattle.ic_laws.specs.Name.{agrees, is_identifier}
-use Rattle.ic_laws.specs.Notations.{AreNotations, Notations, english_function}
+use Rattle.ic_laws.specs.Notations.{Notations, english_function}
 use Rattle.ic_laws.specs.Scene.{SheetsDiffer, key_of, same_key, same_scope}
 use Rattle.ic_laws.specs.ValidCore.{IsKeptBody, IsKeptFormula}
 use Rattle.ic_laws.specs.declared.scene.NameSpelling.{NameSpelling}
@@ -31,10 +30,9 @@ use Rattle.ic_laws.specs.declared.tree.NameKey.{NameKey}
 use Rattle.ic_laws.specs.declared.tree.NameMention.{NameMention}
 use Rattle.ic_laws.specs.declared.tree.NameMention.TheVariants as names
 use Rattle.ic_tree.proofs.NotationLaws.{notations_are}
-use Rattle.ic_machine.specs.Book.{Book, Entry, Sheet, Stepped, core_of, notations_in, scene_in}
-use Rattle.ic_machine.specs.Capture.{captured, captured_at, captured_body, captured_cells, captured_formula, captured_sites, has_sites, is_captured, words_in}
+use Rattle.ic_machine.specs.Book.{Book, Entry, Stepped, core_of, notations_in, scene_in}
+use Rattle.ic_machine.specs.Capture.{captured_at, captured_body, captured_cells, captured_formula, captured_sites, has_sites, is_captured, words_in}
 use Rattle.ic_machine.specs.Changed.{changed_with, with_kept_formulas}
-use Rattle.ic_machine.specs.Command.{OnDefinitions}
 use Rattle.ic_machine.specs.Content.{formula_index}
 use Rattle.ic_machine.specs.Kept.{StaysValid}
 use Rattle.ic_machine.specs.Refusal.{DefinitionSite, Site}
@@ -44,9 +42,11 @@ use Rattle.ic_machine.specs.subjects.Definitions.{Update, captures, keys_of_upda
 use Rattle.ic_machine.proofs.CoreLemmas.{no_cells}
 use Rattle.ic_machine.proofs.CoreValid.{core_valid}
 use Rattle.ic_machine.proofs.NamesStay.{definitions_stay}
+use Rattle.ic_machine.proofs.ValidLemmas.{all_of}
+use Rattle.ic_laws.proofs.core.Lists.{none_passes}
 use Rattle.ic_dump.specs.Stages.{bare_sheet, with_bare}
 use Rattle.ic_dump.proofs.BareBooks.{kept_same_bare, scene_bare, unrefused}
-use Rattle.ic_dump.proofs.ListLemmas.{any_none, any_seam, back_holds, middle_differs, position_seam, unmapped_holds, updated_seam, weaker_holds}
+use Rattle.ic_dump.proofs.ListLemmas.{any_seam, back_holds, middle_differs, position_seam, unmapped_holds, updated_seam}
 
 abbrev key : Definition → NameKey
 key d = key_of (spelling_of d)
@@ -106,7 +106,7 @@ module _ (b : Book) (valid : IsValidBook b) where
 
   bodies_stay : AllByRecursion (λ (d : Definition). kept_in_body (notations_in b) (scene_in b) (scene_in b) same_keys d ≡ d) b.definitions
   bodies_stay =
-      weaker_holds (IsKeptBody (notations_in b) (scene_in b)) (λ (d : Definition). kept_in_body (notations_in b) (scene_in b) (scene_in b) same_keys d ≡ d)
+      all_of (IsKeptBody (notations_in b) (scene_in b)) (λ (d : Definition). kept_in_body (notations_in b) (scene_in b) (scene_in b) same_keys d ≡ d)
       (λ d kept. ap (λ (f : Formula). record d { body = f }) (formula_stays d.scope d.body kept)) b.definitions valid.kept.bodies
 
 -- The update. ----
@@ -136,8 +136,8 @@ module _ (start : Book) (sheets : List SheetName) (done : List Definition) (d : 
     apart : AllByRecursion (λ (x : Definition). is_named d.name d.scope x ≡ false) done
     apart =
         let parts = middle_differs same_key_equiv (map key done) (key p) (map key rest) (subst (IsDistinct same_key) (map-append key done (p ∷ rest)) valid.definitions.differ) in
-        weaker_holds (λ (x : Definition). same_key (key p) (key x) ≡ false) (λ (x : Definition). is_named d.name d.scope x ≡ false) (λ x e. same_key_equiv.symm (key x) (key p) ∙ e) done
-        (unmapped_holds key (λ (k : NameKey). same_key (key p) k ≡ false) done (any_none (same_key (key p)) (map key done) parts.0))
+        all_of (λ (x : Definition). same_key (key p) (key x) ≡ false) (λ (x : Definition). is_named d.name d.scope x ≡ false) (λ x e. same_key_equiv.symm (key x) (key p) ∙ e) done
+        (unmapped_holds key (λ (k : NameKey). same_key (key p) k ≡ false) done (none_passes (same_key (key p)) (map key done) parts.0))
 
     itself : is_named d.name d.scope p ≡ true
     itself = key_itself (key d)

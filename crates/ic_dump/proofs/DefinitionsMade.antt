@@ -1,17 +1,17 @@
 -- The lines that make the definitions are accepted, and leave each with the body that mentions nothing.
-use Rattle.std.proofs.Common.{◌≡◌, ℕ, pos, zero, suc, ◌+◌, ◌≤◌, List, [], ◌∷◌, ◌++◌, length, map, reverse, Bool, true, false, cond, not, ◌||◌, Option, None, Some, Ok, codes, refl, sym, ap, ap₂, subst, ◌∙◌, append_assoc, arith}
+use Rattle.std.proofs.Common.{◌≡◌, ℕ, pos, List, [], ◌∷◌, ◌++◌, map, reverse, Bool, true, false, not, ◌||◌, Option, None, Some, Ok, codes, refl, sym, ap, ap₂, subst, ◌∙◌, append_assoc, arith}
 use Rattle.std.proofs.lemmas.List.{append-nil, length-map, map-append}
 use Rattle.std.specs.List.{AllByRecursion, IsDistinct, list_any}
 use Rattle.std.specs.Option.{option_or}
-use Rattle.std.specs.Prelude.{is_none, option_map, unwrap_or}
+use Rattle.std.specs.Prelude.{is_none, unwrap_or}
 use Rattle.ic_laws.proofs.core.Defined.{same_key_equiv}
 use Rattle.ic_laws.proofs.keeping.Accepted.{none_refuses}
 use Rattle.ic_laws.specs.Binding.{bound}
-use Rattle.ic_laws.specs.CoreBook.{CoreBook, Definition, last_id, scene_of, spelling_of}
+use Rattle.ic_laws.specs.CoreBook.{CoreBook, Definition, scene_of, spelling_of}
 use Rattle.ic_laws.specs.CoreStep as core
 use Rattle.ic_laws.specs.CoreStep.{core_step, has_definition, is_named, new_definition, scene_with_definition, scope_of, scope_or_none}
 use Rattle.ic_laws.specs.Dialect.{DialectMeaning, IsLawful}
-use Rattle.ic_laws.specs.FormulaReading.{Body, body_of, shown_at, tree_or_raw}
+use Rattle.ic_laws.specs.FormulaReading.{Body, body_of, tree_or_raw}
 use Rattle.ic_laws.specs.Keeping.{kept_in_body, same_keys}
 use Rattle.ic_laws.specs.Name.{is_identifier}
 use Rattle.ic_laws.specs.Notations.{Notations, english, english_function}
@@ -28,7 +28,7 @@ use Rattle.ic_laws.specs.declared.scene.SheetName.{SheetName}
 use Rattle.ic_laws.specs.declared.tree.Formula.{Formula}
 use Rattle.ic_laws.specs.declared.tree.Formula.TheVariants as formulas
 use Rattle.ic_laws.specs.declared.tree.NameKey.{NameKey}
-use Rattle.ic_tables.specs.Tables.{TableSet, language_of}
+use Rattle.ic_tables.specs.Tables.{language_of}
 use Rattle.ic_tree.proofs.ClashLemmas.{there}
 use Rattle.ic_tree.proofs.NotationLaws.{knows_language_is, notations_are}
 use Rattle.ic_tree.specs.Notations.{notations_of}
@@ -44,14 +44,15 @@ use Rattle.ic_machine.proofs.BodyAgain.{lambda_again, references_end}
 use Rattle.ic_machine.proofs.CoreValid.{core_valid}
 use Rattle.ic_machine.proofs.NamesStay.{definitions_stay}
 use Rattle.ic_machine.proofs.TextEnds.{is_solid}
-use Rattle.ic_dump.specs.Lines.{defining_line, defining_lines, plain_body}
+use Rattle.ic_laws.proofs.core.Lists.{none_passes}
+use Rattle.ic_dump.specs.Lines.{defining_line, plain_body}
 use Rattle.ic_dump.specs.Passing.{standing_sheets}
 use Rattle.ic_dump.specs.Stages.{Defines, IsRebuilt, Leads, bare_sheet, plain_definition, plain_formula, with_bare}
 use Rattle.ic_dump.proofs.BareBooks.{kept_same_bare}
 use Rattle.ic_dump.proofs.EnglishForm.{english_lambda}
-use Rattle.ic_dump.proofs.ListLemmas.{back_holds, middle_differs, none_any, any_none, both_of_each, weaker_holds}
+use Rattle.ic_dump.proofs.ListLemmas.{middle_differs, both_of_each}
 use Rattle.ic_dump.proofs.PlainBody.{plain_binds, plain_bound, plain_fits, plain_inner, plain_kept, plain_reads, plain_spelled, plain_text}
-use Rattle.ic_dump.proofs.RunLemmas.{leads_both, leads_line, leads_nowhere, leads_there}
+use Rattle.ic_dump.proofs.RunLemmas.{leads_both, leads_line, leads_nowhere}
 use Rattle.ic_dump.proofs.ScopeWords.{index_of_scope, scope_there, word_said}
 use Rattle.ic_dump.proofs.StandLemmas.{HasPlace, Stands, stands}
 use Rattle.ic_dump.proofs.TextsRead.{defining_read}
@@ -201,7 +202,7 @@ module _ (book start : Book) (is : IsRebuilt book start) where
       let line : Definition → List ℕ = λ x. defining_line sheets (spelling_of x) in
       let joined : (done ++ d ∷ []) ++ rest ≡ done ++ d ∷ rest = append_assoc done (d ∷ []) rest in
       let parts = middle_differs same_key_equiv (map key done) (key d) (map key rest) (subst (IsDistinct same_key) (map-append key done (d ∷ rest)) differ) in
-      let one : Leads (state done) (line d ∷ []) (state (done ++ d ∷ [])) = one_made done d valid fresh.0.named fresh.0.place (apart done (any_none (same_key (key d)) (map key done) parts.0)) in
+      let one : Leads (state done) (line d ∷ []) (state (done ++ d ∷ [])) = one_made done d valid fresh.0.named fresh.0.place (apart done (none_passes (same_key (key d)) (map key done) parts.0)) in
       let others : Leads (state (done ++ d ∷ [])) (map line rest) (state ((done ++ d ∷ []) ++ rest)) =
       all_made (done ++ d ∷ []) rest (subst (λ (ds : List Definition). IsDistinct same_key (map key ds)) (sym joined) differ) fresh.1 one.valid in
       subst (λ (ds : List Definition). Leads (state done) (line d ∷ map line rest) (state ds)) joined (leads_both (state done) (state (done ++ d ∷ [])) (state ((done ++ d ∷ []) ++ rest)) (line d ∷ []) (map line rest) one others)

@@ -1,21 +1,19 @@
 -- LAMBDA is called so where formulas are written in English.
-use Rattle.std.proofs.Common.{◌≡◌, ℕ, ℤ, List, Bool, true, Option, Some, None, codes, sym, ap, subst, ◌∙◌}
+use Rattle.std.proofs.Common.{◌≡◌, ℕ, ℤ, List, [], true, Option, Some, None, codes, sym, subst, ◌∙◌}
 use Rattle.std.proofs.lemmas.Bool.{and_parts}
 use Rattle.std.proofs.lemmas.Slice.Eq.{bytes_eq-Decides}
 use Rattle.std.specs.List.{slice_get}
-use Rattle.std.specs.Prelude.{bytes_eq, unwrap_or}
+use Rattle.std.specs.Prelude.{unwrap_or}
 use Rattle.ic_laws.specs.Dialect.{DialectMeaning, word_text}
 use Rattle.ic_laws.specs.Notations.{english}
 use Rattle.ic_laws.specs.declared.dialect.WordKind.TheVariants as kinds
 use Rattle.ic_tables.proofs.WellFormed.{english_words}
-use Rattle.ic_tables.specs.Formats.{decimal_separator}
 use Rattle.ic_tables.specs.Tables.{IsWellFormed, TableSet, language_of, locale_of}
 use Rattle.ic_tables.specs.Words.{has_stored_booleans, has_stored_functions, has_stored_words, is_text}
 use Rattle.ic_tables.specs.declared.language.Language.{Language}
 use Rattle.ic_tree.proofs.ClashLemmas.{shown_as, there}
 use Rattle.ic_tree.proofs.NotationLaws.{knows_language_is, knows_locale_is, notations_are}
 use Rattle.ic_tree.specs.Notations.{notations_of}
-use Rattle.ic_tree.specs.Shown.{list_separator, shown_meaning}
 
 text_is : (o : Option (List ℕ)) (text : List ℕ) → is_text o text ≡ true → unwrap_or o [] ≡ text
 text_is None text e = absurd (cc)

@@ -1,6 +1,6 @@
 -- What holds of each name of a sheet that a formula lacks holds of those of each of its mentions.
 use mathlib.Core.Path.{fun_ext}
-use Rattle.std.proofs.Common.{◌≡◌, ℕ, List, [], ◌∷◌, ◌++◌, map, flat_map, refl, sym, ap, subst, ◌∙◌}
+use Rattle.std.proofs.Common.{◌≡◌, ℕ, List, [], ◌∷◌, map, flat_map, refl, ap, subst, ◌∙◌}
 use Rattle.std.specs.List.{AllByRecursion}
 use Rattle.ic_laws.proofs.binding.Again.{BoundKind, bound_node}
 use Rattle.ic_laws.proofs.binding.Induction.{EveryPair, OfChildren, by_nodes, every_made}

@@ -1,5 +1,5 @@
 -- Lists that are put together, filtered, cut and looked through.
-use Rattle.std.proofs.Common.{◌≡◌, ℕ, zero, suc, ◌+◌, ◌<◌, ◌≤◌, List, [], ◌∷◌, ◌++◌, filter, length, map, take, reverse, Bool, true, false, cond, not, ◌&&◌, ◌||◌, Option, None, Some, refl, sym, ap, ap₂, subst, ◌∙◌, arith, inl, inr, length-append, nat_eq}
+use Rattle.std.proofs.Common.{◌≡◌, ℕ, zero, suc, ◌+◌, ◌≤◌, List, [], ◌∷◌, ◌++◌, filter, length, map, take, reverse, Bool, true, false, cond, not, ◌||◌, None, Some, refl, sym, ap, ap₂, ◌∙◌, arith, inl, inr, length-append}
 use Rattle.std.proofs.lemmas.Bool.{and_parts, cases_Bool, or_parts}
 use Rattle.std.proofs.lemmas.Bool.Decides.{nat_tests}
 use Rattle.std.proofs.lemmas.List.{reverse-append}
@@ -7,13 +7,15 @@ use Rattle.std.proofs.lemmas.List.Filters.{length-filter_both}
 use Rattle.std.proofs.lemmas.Map.Keys.{IsDistinct-cons, sorted_head, sorted_tail}
 use Rattle.std.proofs.lemmas.Map.Made.{is_member-filter, length-le_from_is_member}
 use Rattle.std.specs.Cmp.{IsEquivalence}
-use Rattle.std.specs.List.{AllByRecursion, IsDistinct, insert, list_any, position_or_len, range_with_len, remove, slice_get, zip}
+use Rattle.std.specs.List.{AllByRecursion, IsDistinct, insert, list_any, position_or_len, range_with_len, remove, zip}
 use Rattle.std.specs.List.Sorted.{IsStrictlySortedBy}
 use Rattle.std.specs.Prelude.{nat_lt, position}
 use Rattle.std.specs.Set.{is_member}
 use Rattle.std.specs.declared.cmp.Ordering.{Ordering}
 use Rattle.std.specs.declared.cmp.Ordering.TheVariants.{Less}
 use Rattle.ic_laws.specs.CoreStep.{updated_at}
+use Rattle.ic_machine.proofs.ValidLemmas.{all_of}
+use Rattle.ic_machine.proofs.CopyKeys.{all_appended}
 
 -- What holds of all of a list. ----
 
@@ -25,10 +27,6 @@ module _ {A : Type 0} (P : A → Type 0) where
   pub back_holds : (xs ys : List A) → AllByRecursion P (xs ++ ys) → AllByRecursion P ys
   back_holds [] ys h = h
   back_holds (x ∷ xs) ys h = back_holds xs ys h.1
-
-  pub both_hold : (xs ys : List A) → AllByRecursion P xs → AllByRecursion P ys → AllByRecursion P (xs ++ ys)
-  both_hold [] ys h g = g
-  both_hold (x ∷ xs) ys h g = (h.0, both_hold xs ys h.1 g)
 
   pub cut_holds : (n : ℕ) (xs : List A) → AllByRecursion P xs → AllByRecursion P (take n xs)
   cut_holds zero xs h = tt
@@ -48,14 +46,6 @@ pub unmapped_holds : {A B : Type 0} (f : A → B) (P : B → Type 0) (xs : List 
 unmapped_holds f P [] h = tt
 unmapped_holds f P (x ∷ xs) h = (h.0, unmapped_holds f P xs h.1)
 
-pub mapped_holds : {A B : Type 0} (f : A → B) (P : B → Type 0) (xs : List A) → AllByRecursion (λ x. P (f x)) xs → AllByRecursion P (map f xs)
-mapped_holds f P [] h = tt
-mapped_holds f P (x ∷ xs) h = (h.0, mapped_holds f P xs h.1)
-
-pub weaker_holds : {A : Type 0} (P Q : A → Type 0) → ((x : A) → P x → Q x) → (xs : List A) → AllByRecursion P xs → AllByRecursion Q xs
-weaker_holds P Q more [] h = tt
-weaker_holds P Q more (x ∷ xs) h = (more x h.0, weaker_holds P Q more xs h.1)
-
 -- two facts of each give a third
 pub both_of_each : {A : Type 0} (P Q R : A → Type 0) → ((x : A) → P x → Q x → R x) → (xs : List A) → AllByRecursion P xs → AllByRecursion Q xs → AllByRecursion R xs
 both_of_each P Q R give [] h g = tt
@@ -65,16 +55,12 @@ both_of_each P Q R give (x ∷ xs) h g = (give x h.0 g.0, both_of_each P Q R giv
 pub flipped_holds : {A B : Type 0} (R : A → B → Type 0) (xs : List A) (ys : List B) → AllByRecursion (λ x. AllByRecursion (R x) ys) xs → AllByRecursion (λ y. AllByRecursion (λ x. R x y) xs) ys
 flipped_holds R xs [] h = tt
 flipped_holds R xs (y ∷ ys) h =
-    (weaker_holds (λ x. AllByRecursion (R x) (y ∷ ys)) (λ x. R x y) (λ x g. g.0) xs h, flipped_holds R xs ys (weaker_holds (λ x. AllByRecursion (R x) (y ∷ ys)) (λ x. AllByRecursion (R x) ys) (λ x g. g.1) xs h))
+    (all_of (λ x. AllByRecursion (R x) (y ∷ ys)) (λ x. R x y) (λ x g. g.0) xs h, flipped_holds R xs ys (all_of (λ x. AllByRecursion (R x) (y ∷ ys)) (λ x. AllByRecursion (R x) ys) (λ x g. g.1) xs h))
 
 -- none of a list passes a test
 pub none_any : {A : Type 0} (p : A → Bool) (xs : List A) → AllByRecursion (λ x. p x ≡ false) xs → list_any p xs ≡ false
 none_any p [] h = refl
 none_any p (x ∷ xs) h = rw (h.0, none_any p xs h.1) refl
-
-pub any_none : {A : Type 0} (p : A → Bool) (xs : List A) → list_any p xs ≡ false → AllByRecursion (λ x. p x ≡ false) xs
-any_none p [] e = tt
-any_none p (x ∷ xs) e = let parts = or_parts (p x) (list_any p xs) e in (parts.0, any_none p xs parts.1)
 
 -- Keys that differ. ----
 
@@ -89,7 +75,7 @@ module _ {K : Type 0} {same : K → K → Bool} (laws : IsEquivalence same) wher
   filtered_differ p (x ∷ xs) d = by_test (p x) (filtered_differ p xs d.1)
     where
       by_test : (t : Bool) → IsDistinct same (filter p xs) → IsDistinct same (cond t (x ∷ filter p xs) (filter p xs))
-      by_test true rest = IsDistinct-cons same x (filter p xs) (filtered_holds (λ y. same x y ≡ false) p xs (weaker_holds (λ y. same x y ≡ false) (λ y. p y ≡ true → same x y ≡ false) (λ y h e. h) xs d.0)) rest
+      by_test true rest = IsDistinct-cons same x (filter p xs) (filtered_holds (λ y. same x y ≡ false) p xs (all_of (λ y. same x y ≡ false) (λ y. p y ≡ true → same x y ≡ false) (λ y h e. h) xs d.0)) rest
       by_test false rest = rest
 
   pub cut_differ : (n : ℕ) (xs : List K) → IsDistinct same xs → IsDistinct same (take n xs)
@@ -115,8 +101,8 @@ module _ {K : Type 0} {same : K → K → Bool} (laws : IsEquivalence same) wher
   joined_differ (x ∷ xs) ys d e h =
       let P : K → Type 0 = λ y. is_member same (x ∷ xs) y ≡ false in
       IsDistinct-cons same x (xs ++ ys)
-      (both_hold (λ y. same x y ≡ false) xs ys d.0 (weaker_holds P (λ y. same x y ≡ false) (λ y n. laws.symm x y ∙ (or_parts (same y x) (is_member same xs y) n).0) ys h))
-      (joined_differ xs ys d.1 e (weaker_holds P (λ y. is_member same xs y ≡ false) (λ y n. (or_parts (same y x) (is_member same xs y) n).1) ys h))
+      (all_appended (λ y. same x y ≡ false) xs ys d.0 (all_of P (λ y. same x y ≡ false) (λ y n. laws.symm x y ∙ (or_parts (same y x) (is_member same xs y) n).0) ys h))
+      (joined_differ xs ys d.1 e (all_of P (λ y. is_member same xs y ≡ false) (λ y n. (or_parts (same y x) (is_member same xs y) n).1) ys h))
 
   pub front_differs : (xs ys : List K) → IsDistinct same (xs ++ ys) → IsDistinct same xs
   unfolding IsDistinct
@@ -146,10 +132,6 @@ remove_seam (z ∷ xs) x ys = ap (λ rest. z ∷ rest) (remove_seam xs x ys)
 pub updated_seam : {A : Type 0} (f : A → A) (xs : List A) (x : A) (ys : List A) → updated_at f (length xs) (xs ++ x ∷ ys) ≡ xs ++ f x ∷ ys
 updated_seam f [] x ys = refl
 updated_seam f (z ∷ xs) x ys = ap (λ rest. z ∷ rest) (updated_seam f xs x ys)
-
-pub got_seam : {A : Type 0} (xs : List A) (x : A) (ys : List A) → slice_get (xs ++ x ∷ ys) (length xs) ≡ Some x
-got_seam [] x ys = refl
-got_seam (z ∷ xs) x ys = got_seam xs x ys
 
 -- where the first of a list stands that passes a test
 pub position_seam : {A : Type 0} (p : A → Bool) (xs : List A) (x : A) (ys : List A) → AllByRecursion (λ y. p y ≡ false) xs → p x ≡ true → position p (xs ++ x ∷ ys) ≡ Some (length xs)
@@ -198,7 +180,7 @@ unfolding IsDistinct
 only_one p key same apart [] d e = absurd (cc)
 only_one p key same apart (x ∷ xs) d e = elim (cases_Bool (p x)) [
   | inl t ↦
-      let others : AllByRecursion (λ y. p y ≡ false) xs = weaker_holds (λ y. same (key x) (key y) ≡ false) (λ y. p y ≡ false) (λ y h. apart x y t h) xs (unmapped_holds key (λ k. same (key x) k ≡ false) xs d.0) in
+      let others : AllByRecursion (λ y. p y ≡ false) xs = all_of (λ y. same (key x) (key y) ≡ false) (λ y. p y ≡ false) (λ y h. apart x y t h) xs (unmapped_holds key (λ k. same (key x) k ≡ false) xs d.0) in
       record { it = x; alone = rw t (ap (λ rest. x ∷ rest) (none_filtered p xs others)); passes = t }
   | inr f ↦
       let rest = only_one p key same apart xs d.1 (rw f at e) in

@@ -1,14 +1,14 @@
 -- The lines that delete the passing sheets, from the end, are accepted, and leave the book's own with all bodies.
-use Rattle.std.proofs.Common.{◌≡◌, ℕ, zero, suc, ◌+◌, ◌<◌, ◌≤◌, List, [], ◌∷◌, ◌++◌, length, map, reverse, Bool, true, false, not, ◌==◌, Option, None, Some, Ok, refl, sym, ap, ap₂, subst, ◌∙◌, append_assoc, arith, length-append}
+use Rattle.std.proofs.Common.{◌≡◌, ℕ, suc, ◌+◌, ◌<◌, List, [], ◌∷◌, ◌++◌, length, map, reverse, false, not, ◌==◌, Option, None, Ok, refl, sym, ap, ap₂, subst, ◌∙◌, append_assoc, arith, length-append}
 use Rattle.std.proofs.lemmas.Bool.Decides.{nat_tests}
 use Rattle.std.proofs.lemmas.List.{append-nil, length-map, map-append}
 use Rattle.std.specs.List.{AllByRecursion, IsDistinct, range_with_len}
-use Rattle.std.specs.Prelude.{nat_lt, remove}
+use Rattle.std.specs.Prelude.{nat_lt}
 use Rattle.ic_laws.proofs.CoreLemmas.{agrees_equiv}
 use Rattle.ic_laws.proofs.core.KeptBook.{mentioned}
 use Rattle.ic_laws.proofs.core.Lists.{removed_seen}
 use Rattle.ic_laws.proofs.keeping.Accepted.{none_refuses}
-use Rattle.ic_laws.specs.CoreBook.{CoreBook, Definition, last_id, scene_of, spelling_of}
+use Rattle.ic_laws.specs.CoreBook.{CoreBook, Definition, scene_of, spelling_of}
 use Rattle.ic_laws.specs.CoreStep as core_step
 use Rattle.ic_laws.specs.CoreStep.{core_step}
 use Rattle.ic_laws.specs.Keeping.{kept_in_body, same_keys}
@@ -20,7 +20,6 @@ use Rattle.ic_laws.specs.declared.scene.Scene.{Scene}
 use Rattle.ic_laws.specs.declared.scene.SheetName.{SheetName}
 use Rattle.ic_tree.proofs.NotationLaws.{notations_are}
 use Rattle.ic_tree.specs.Notations.{notations_of}
-use Rattle.ic_tables.specs.Tables.{TableSet}
 use Rattle.ic_machine.specs.Book.{Book, Sheet, Stepped, as_core, core_of, notations_in, scene_in}
 use Rattle.ic_machine.specs.Changed.{changed_by, with_removed_sheet}
 use Rattle.ic_machine.specs.Command.{OnSheets}
@@ -31,13 +30,14 @@ use Rattle.ic_machine.specs.subjects.Sheets as sheets
 use Rattle.ic_machine.specs.subjects.Sheets.{delete_sheet_step}
 use Rattle.ic_machine.proofs.CoreValid.{core_valid}
 use Rattle.ic_machine.proofs.NamesStay.{sheets_stay}
+use Rattle.ic_machine.proofs.ValidLemmas.{all_of}
 use Rattle.ic_dump.specs.Lines.{deleting_line, deleting_lines}
-use Rattle.ic_dump.specs.Passing.{passing_ids, passing_sheets, unfound_of}
-use Rattle.ic_dump.specs.Stages.{DeletesPassing, IsRebuilt, Leads, bare_sheet, with_bare}
+use Rattle.ic_dump.specs.Passing.{passing_sheets, unfound_of}
+use Rattle.ic_dump.specs.Stages.{DeletesPassing, Leads, bare_sheet, with_bare}
 use Rattle.ic_dump.proofs.ApartLemmas.{IsNoName, with_sheets}
 use Rattle.ic_dump.proofs.BareBooks.{kept_same_bare, scene_bare}
 use Rattle.ic_dump.proofs.BodiesApart.{body_stays, passing_apart}
-use Rattle.ic_dump.proofs.ListLemmas.{both_of_each, front_differs, front_holds, range_from_end, remove_seam, weaker_holds}
+use Rattle.ic_dump.proofs.ListLemmas.{both_of_each, front_differs, front_holds, range_from_end, remove_seam}
 use Rattle.ic_dump.proofs.RunLemmas.{leads_both, leads_line, leads_nowhere, leads_there}
 use Rattle.ic_dump.proofs.StandLemmas.{Stands, name_of, stands}
 use Rattle.ic_dump.proofs.TextsRead.{deleting_read}
@@ -108,8 +108,8 @@ module _ (n : Notations) (are : AreNotations n) (core : CoreBook) (valid_core : 
         front_differs agrees_equiv (map name_of (own ++ first)) (map name_of rest)
         (subst (IsDistinct agrees) (ap (map name_of) (sym (append_assoc own first rest)) ∙ map-append name_of (own ++ first) rest) h.differ);
     bodies =
-        weaker_holds (λ (d : Definition). AllByRecursion (IsNoName (first ++ rest)) (unfound_of d.body)) (λ (d : Definition). AllByRecursion (IsNoName first) (unfound_of d.body))
-        (λ d g. weaker_holds (IsNoName (first ++ rest)) (IsNoName first) (λ name k. front_holds (λ (s : SheetName). agrees s.name name ≡ false) first rest k) (unfound_of d.body) g) core.definitions h.bodies;
+        all_of (λ (d : Definition). AllByRecursion (IsNoName (first ++ rest)) (unfound_of d.body)) (λ (d : Definition). AllByRecursion (IsNoName first) (unfound_of d.body))
+        (λ d g. all_of (IsNoName (first ++ rest)) (IsNoName first) (λ name k. front_holds (λ (s : SheetName). agrees s.name name ≡ false) first rest k) (unfound_of d.body) g) core.definitions h.bodies;
   }
 
   some_own : 0 < length own

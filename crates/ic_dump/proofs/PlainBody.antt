@@ -1,8 +1,8 @@
 -- The body that mentions nothing: how it is written where LAMBDA is called so, what reads as it, and that it is bound alike everywhere.
-use Rattle.std.proofs.Common.{◌≡◌, ℕ, pos, List, [], ◌∷◌, ◌++◌, map, Option, Some, codes, refl, sym, ap, subst, ◌∙◌, arith}
+use Rattle.std.proofs.Common.{◌≡◌, ℕ, pos, List, [], ◌∷◌, ◌++◌, Option, Some, codes, refl, ap, ◌∙◌, arith}
 use Rattle.std.specs.Fmt.{digits}
 use Rattle.ic_laws.proofs.binding.Again.{BoundKind, bound-node, bound_node, spelled-node}
-use Rattle.ic_laws.proofs.parsing.Nodes.{Every, WellKind, brackets-node, empty-node, height-node, made_of, well_made, yield-node}
+use Rattle.ic_laws.proofs.parsing.Nodes.{WellKind, brackets-node, empty-node, height-node, made_of, well_made, yield-node}
 use Rattle.ic_laws.proofs.parsing.ReadAs.{read_as_complete}
 use Rattle.ic_laws.proofs.printing.Trees.{printed_reads}
 use Rattle.ic_laws.specs.Amount.{fraction_digits}
@@ -13,7 +13,7 @@ use Rattle.ic_laws.specs.Keeping.{KeyChange, kept}
 use Rattle.ic_laws.specs.Parse.{SpelledKind, node}
 use Rattle.ic_laws.specs.ReadAs.{read_as}
 use Rattle.ic_laws.specs.Reading.{Fits, FitsKind, FitsPair, IsWell, printed}
-use Rattle.ic_laws.specs.Token.{Close, FunHead, Num, Token}
+use Rattle.ic_laws.specs.Token.{Close, FunHead, Num}
 use Rattle.ic_laws.specs.Tree.{Bound, Spelled}
 use Rattle.ic_laws.specs.Yield.{yield}
 use Rattle.ic_laws.specs.declared.dialect.WordKind.TheVariants as kinds

@@ -1,5 +1,5 @@
 -- Lines that are accepted one after another, and what they leave.
-use Rattle.std.proofs.Common.{◌≡◌, ℕ, List, [], ◌∷◌, ◌++◌, Option, Some, Ok, refl, sym, ap, subst, ◌∙◌}
+use Rattle.std.proofs.Common.{◌≡◌, ℕ, List, [], ◌∷◌, ◌++◌, Some, Ok, refl, sym, ap, subst, ◌∙◌}
 use Rattle.ic_machine.specs.Book.{Book}
 use Rattle.ic_machine.specs.Command.{Command, command_in, commands}
 use Rattle.ic_machine.specs.Reply.{Field, Reply}

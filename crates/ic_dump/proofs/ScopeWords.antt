@@ -1,7 +1,6 @@
 -- The words for the sheets that definitions are local to say the indexes of these sheets among those that stand.
-use Rattle.std.proofs.Common.{◌≡◌, ℕ, zero, suc, ◌<◌, ◌≤◌, List, [], ◌∷◌, length, map, Bool, true, false, Option, None, Some, codes, refl, sym, ap, subst, ◌∙◌, arith, nat_eq}
+use Rattle.std.proofs.Common.{◌≡◌, ℕ, ◌<◌, ◌≤◌, List, length, map, true, Option, None, Some, refl, ap, ◌∙◌, arith, nat_eq}
 use Rattle.std.proofs.lemmas.Bool.{eqb-true}
-use Rattle.std.proofs.lemmas.List.{length-map}
 use Rattle.std.proofs.lemmas.Option.{slice_get-map, slice_get_within}
 use Rattle.std.specs.List.{list_any, slice_get}
 use Rattle.std.specs.Prelude.{option_map, position, unwrap_or}
@@ -10,7 +9,7 @@ use Rattle.ic_laws.specs.CoreBook as core_book
 use Rattle.ic_laws.specs.CoreBook.{Definition, last_id}
 use Rattle.ic_laws.specs.CoreStep.{scope_of}
 use Rattle.ic_laws.specs.declared.scene.SheetName.{SheetName}
-use Rattle.ic_machine.specs.Book.{Book, Sheet, core_of, core_sheet}
+use Rattle.ic_machine.specs.Book.{Book, core_of, core_sheet}
 use Rattle.ic_machine.proofs.UpdatedStays.{none_passes_at, passes_at}
 use Rattle.ic_dump.specs.Lines.{index_standing, scope_word}
 use Rattle.ic_dump.specs.Stages.{bare_sheet, with_bare}

@@ -1,5 +1,5 @@
 -- The lines that name the first sheet and put in the others are accepted, and leave the sheets as they stand.
-use Rattle.std.proofs.Common.{◌≡◌, ℕ, zero, suc, ◌+◌, ◌<◌, ◌≤◌, List, [], ◌∷◌, ◌++◌, filter, length, map, Bool, true, false, cond, not, ◌||◌, Option, None, Some, Ok, refl, sym, ap, ap₂, subst, ◌∙◌, append_assoc, arith, length-append, nat_eq}
+use Rattle.std.proofs.Common.{◌≡◌, ℕ, suc, ◌+◌, List, [], ◌∷◌, ◌++◌, filter, length, map, Bool, true, false, cond, not, ◌||◌, Option, None, Some, Ok, refl, sym, ap, ap₂, subst, ◌∙◌, append_assoc, arith, length-append, nat_eq}
 use Rattle.std.proofs.lemmas.Bool.{eqb-true}
 use Rattle.std.proofs.lemmas.Bool.Decides.{nat_tests}
 use Rattle.std.proofs.lemmas.List.{length-map, map-append}
@@ -9,7 +9,7 @@ use Rattle.std.specs.List.{AllByRecursion, IsDistinct, list_any}
 use Rattle.std.specs.Prelude.{nat_lt}
 use Rattle.ic_laws.proofs.CoreLemmas.{agrees_equiv}
 use Rattle.ic_laws.proofs.keeping.Accepted.{none_refuses}
-use Rattle.ic_laws.specs.CoreBook.{CoreBook, has_sheet, ids_of, last_id, scene_of}
+use Rattle.ic_laws.specs.CoreBook.{ids_of}
 use Rattle.ic_laws.specs.CoreStep as core_step
 use Rattle.ic_laws.specs.CoreStep.{core_step}
 use Rattle.ic_laws.specs.Keeping.{same_keys}
@@ -20,8 +20,7 @@ use Rattle.ic_machine.specs.Book.{Book, Sheet, Stepped, as_core, core_of, notati
 use Rattle.ic_machine.specs.Changed.{changed_by, with_renamed_sheet}
 use Rattle.ic_machine.specs.Command.{OnSheets}
 use Rattle.ic_machine.specs.Kept.{StaysValid, is_given_id}
-use Rattle.ic_machine.specs.Reply.{Field}
-use Rattle.ic_machine.specs.Step.{english_errors, step}
+use Rattle.ic_machine.specs.Step.{english_errors}
 use Rattle.ic_machine.specs.Valid.{IsValidBook}
 use Rattle.ic_machine.specs.subjects.Sheets as sheets
 use Rattle.ic_machine.specs.subjects.Sheets.{insert_causes, insert_sheet_step, rename_by_index_step, with_inserted_sheet}
@@ -29,11 +28,14 @@ use Rattle.ic_machine.proofs.CoreLemmas.{insert-map}
 use Rattle.ic_machine.proofs.CoreValid.{core_valid}
 use Rattle.ic_machine.proofs.InsertedStays.{insert_stays}
 use Rattle.ic_machine.proofs.NamesStay.{sheets_stay}
+use Rattle.ic_machine.proofs.ValidLemmas.{all_of}
+use Rattle.ic_machine.proofs.CopyKeys.{all_in_map}
+use Rattle.ic_laws.proofs.core.Lists.{none_passes}
 use Rattle.ic_dump.specs.Lines.{first_id, inserting_line, inserting_lines_from, is_first, naming_line}
 use Rattle.ic_dump.specs.Passing.{standing_sheets}
-use Rattle.ic_dump.specs.Stages.{InsertsOthers, IsRebuilt, Leads, NamesFirst, bare_sheet, first_sheet, with_bare}
+use Rattle.ic_dump.specs.Stages.{InsertsOthers, Leads, NamesFirst, bare_sheet, first_sheet, with_bare}
 use Rattle.ic_dump.proofs.BareBooks.{ids_bare, kept_bare, names_bare, unrefused}
-use Rattle.ic_dump.proofs.ListLemmas.{IsOnly, any_none, back_holds, filtered_holds, insert_seam, mapped_holds, middle_differs, none_any, unmapped_holds, weaker_holds}
+use Rattle.ic_dump.proofs.ListLemmas.{IsOnly, filtered_holds, insert_seam, middle_differs, none_any, unmapped_holds}
 use Rattle.ic_dump.proofs.RunLemmas.{leads_both, leads_line, leads_nowhere, leads_there}
 use Rattle.ic_dump.proofs.StandLemmas.{IsGood, Stands, id_of, name_of, stands}
 use Rattle.ic_dump.proofs.TextsRead.{inserting_read, naming_read}
@@ -70,7 +72,7 @@ names_first book start is valid =
   where
     it_is_good : (xs : List SheetName) → AllByRecursion IsGood xs → (only : IsOnly is_first xs) → is_sheet_name only.it.name ≡ true
     it_is_good xs h only =
-        let filtered : AllByRecursion IsGood (filter is_first xs) = filtered_holds IsGood is_first xs (weaker_holds IsGood (λ s. is_first s ≡ true → IsGood s) (λ s g e. g) xs h) in
+        let filtered : AllByRecursion IsGood (filter is_first xs) = filtered_holds IsGood is_first xs (all_of IsGood (λ s. is_first s ≡ true → IsGood s) (λ s g e. g) xs h) in
         (subst (AllByRecursion IsGood) only.alone filtered).0.name
 
 -- Another is put in. ----
@@ -124,7 +126,7 @@ apart_in {K} same laws f pre x rest d =
     let parts = middle_differs laws (map f pre) (f x) (map f rest) (subst (IsDistinct same) (map-append f pre (x ∷ rest)) d) in
     let later : list_any (same (f x)) (map f (filter is_first rest)) ≡ false =
     none_any (same (f x)) (map f (filter is_first rest))
-    (mapped_holds f P (filter is_first rest) (filtered_holds (λ s. P (f s)) is_first rest (weaker_holds (λ s. P (f s)) (λ s. is_first s ≡ true → P (f s)) (λ s h e. h) rest (unmapped_holds f P rest (any_none (same (f x)) (map f rest) parts.1))))) in
+    (all_in_map f P (filter is_first rest) (filtered_holds (λ s. P (f s)) is_first rest (all_of (λ s. P (f s)) (λ s. is_first s ≡ true → P (f s)) (λ s h e. h) rest (unmapped_holds f P rest (none_passes (same (f x)) (map f rest) parts.1))))) in
     ap (list_any (same (f x))) (map-append f pre (filter is_first rest)) ∙ list_any-append (same (f x)) (map f pre) (map f (filter is_first rest)) ∙ ap₂ (λ (a b : Bool). a || b) parts.0 later
 
 pub inserts : (start : Book) (pre rest : List SheetName) → IsDistinct nat_eq (map id_of (pre ++ rest)) → IsDistinct agrees (map name_of (pre ++ rest)) → AllByRecursion IsGood rest

@@ -1,36 +1,32 @@
 -- The sheets that stand while a book is rebuilt: they have ids and names, all different, one of them is the first, and each
 -- definition is local to one of them, or to none.
-use Rattle.std.proofs.Common.{◌≡◌, ℕ, zero, suc, ◌+◌, ◌<◌, ◌≤◌, ◌^◌, List, [], ◌∷◌, ◌++◌, filter, flat_map, length, map, take, Bool, true, false, cond, not, ◌||◌, Option, None, Some, refl, sym, ap, ap₂, subst, ◌∙◌, arith, inl, inr, nat_eq}
-use Rattle.std.proofs.lemmas.Bool.{cases_Bool, eq-eqb, eqb-true, or_parts}
+use Rattle.std.proofs.Common.{◌≡◌, ℕ, ◌+◌, ◌<◌, ◌^◌, List, [], ◌∷◌, ◌++◌, filter, flat_map, length, map, Bool, true, false, cond, ◌||◌, Option, None, Some, refl, sym, ap, ap₂, subst, ◌∙◌, arith, inl, inr, nat_eq}
+use Rattle.std.proofs.lemmas.Bool.{cases_Bool, eq-eqb, eqb-true, not-true, or_parts}
 use Rattle.std.proofs.lemmas.List.{length-map, length-take-le, map-append}
 use Rattle.std.proofs.lemmas.List.FromFn.{length-map-range_with_len}
 use Rattle.std.proofs.lemmas.List.Folds.{list_any-append}
 use Rattle.std.proofs.lemmas.Map.Keys.{IsDistinct-cons}
 use Rattle.std.proofs.lemmas.Simd.{map-map}
-use Rattle.std.proofs.lemmas.Slice.Zip.{length-zip}
 use Rattle.std.specs.Cmp.{nat_eq_equiv}
 use Rattle.std.specs.Fmt.{decimal}
 use Rattle.std.specs.List.{AllByRecursion, IsDistinct, list_any, range_with_len, zip}
 use Rattle.std.specs.Option.{option_to_list}
 use Rattle.ic_laws.proofs.CoreLemmas.{agrees_equiv}
 use Rattle.ic_laws.proofs.core.KeptBook.{mentioned}
-use Rattle.ic_laws.specs.CoreBook.{CoreBook, Definition, IsId, Sheet, ids_of, last_id, names_of, scene_of}
+use Rattle.ic_laws.specs.CoreBook.{CoreBook, Definition, IsId, Sheet, ids_of, names_of, scene_of}
 use Rattle.ic_laws.specs.Name.{agrees, is_sheet_name}
 use Rattle.ic_laws.specs.Notations.{Notations}
 use Rattle.ic_laws.specs.ValidCore.{IsScope, IsValidCore, IsValidDefinition, IsValidSheet}
-use Rattle.ic_laws.specs.declared.scene.Scene.{Scene}
 use Rattle.ic_laws.specs.declared.scene.SheetName.{SheetName}
+use Rattle.ic_machine.proofs.ValidLemmas.{all_of}
+use Rattle.ic_machine.proofs.CopyKeys.{all_appended, all_in_map}
 use Rattle.ic_dump.specs.Lines.{first_id, is_first}
 use Rattle.ic_dump.specs.Passing.{free_numerals, is_free, other_ids, passing_ids, passing_sheets, scopes_of, sheet_named, standing_sheets, taken_names}
 use Rattle.ic_dump.specs.Stages.{HasFewNames, HasNumerals}
-use Rattle.ic_dump.proofs.ListLemmas.{IsOnly, any_none, back_holds, both_hold, cut_differ, cut_holds, enough_left, filtered_differ, filtered_holds, front_holds, ids_of_zip, joined_differ, mapped_holds, only_one, unmapped_holds, weaker_holds}
+use Rattle.ic_dump.proofs.ListLemmas.{IsOnly, back_holds, cut_differ, cut_holds, enough_left, filtered_differ, filtered_holds, front_holds, ids_of_zip, joined_differ, only_one, unmapped_holds}
 use Rattle.ic_dump.proofs.NumeralLemmas.{decimals_differ, decimals_good}
 
 -- The names. ----
-
-not_true : (t : Bool) → not t ≡ true → t ≡ false
-not_true true e = cc
-not_true false e = refl
 
 none_differ : IsDistinct agrees []
 unfolding IsDistinct
@@ -69,7 +65,7 @@ module _ (count : ℕ) (taken : List (List ℕ)) (few : HasNumerals count taken)
         let Good : List ℕ → Type 0 = λ name. is_sheet_name name ≡ true in
         cut_holds Good count (filter (is_free taken) numerals)
         (filtered_holds Good (is_free taken) numerals
-        (weaker_holds Good (λ name. is_free taken name ≡ true → Good name) (λ name h e. h) numerals (decimals_good 1 (count + length taken) (omega (arith, small)))))
+        (all_of Good (λ name. is_free taken name ≡ true → Good name) (λ name h e. h) numerals (decimals_good 1 (count + length taken) (omega (arith, small)))))
   ]
 
   each : {A : Type 0} (P : A → Type 0) → ((x : A) → P x) → (xs : List A) → AllByRecursion P xs
@@ -80,7 +76,7 @@ module _ (count : ℕ) (taken : List (List ℕ)) (few : HasNumerals count taken)
   free_are =
       let Free : List ℕ → Type 0 = λ name. list_any (agrees name) taken ≡ false in
       cut_holds Free count (filter (is_free taken) numerals)
-      (filtered_holds Free (is_free taken) numerals (each (λ name. is_free taken name ≡ true → Free name) (λ name e. not_true (list_any (agrees name) taken) e) numerals))
+      (filtered_holds Free (is_free taken) numerals (each (λ name. is_free taken name ≡ true → Free name) (λ name e. not-true (list_any (agrees name) taken) e) numerals))
 
 -- The ids. ----
 
@@ -95,7 +91,7 @@ others_apart seen (id ∷ ids) = by_test (list_any (nat_eq id) seen) refl (other
         → AllByRecursion (λ i. list_any (nat_eq i) seen ≡ false) (cond t (other_ids seen ids) (id ∷ other_ids (id ∷ seen) ids))
     by_test true e old new = old
     by_test false e old new =
-        (e, weaker_holds (λ i. list_any (nat_eq i) (id ∷ seen) ≡ false) (λ i. list_any (nat_eq i) seen ≡ false) (λ i h. (or_parts (nat_eq i id) (list_any (nat_eq i) seen) h).1) (other_ids (id ∷ seen) ids) new)
+        (e, all_of (λ i. list_any (nat_eq i) (id ∷ seen) ≡ false) (λ i. list_any (nat_eq i) seen ≡ false) (λ i h. (or_parts (nat_eq i id) (list_any (nat_eq i) seen) h).1) (other_ids (id ∷ seen) ids) new)
 
 pub others_differ : (seen ids : List ℕ) → IsDistinct nat_eq (other_ids seen ids)
 unfolding IsDistinct
@@ -106,7 +102,7 @@ others_differ seen (id ∷ ids) = by_test (list_any (nat_eq id) seen) (others_di
     by_test true old new = old
     by_test false old new =
         IsDistinct-cons nat_eq id (other_ids (id ∷ seen) ids)
-        (weaker_holds (λ i. list_any (nat_eq i) (id ∷ seen) ≡ false) (λ i. nat_eq id i ≡ false) (λ i h. nat_eq_equiv.symm id i ∙ (or_parts (nat_eq i id) (list_any (nat_eq i) seen) h).0) (other_ids (id ∷ seen) ids) (others_apart (id ∷ seen) ids)) new
+        (all_of (λ i. list_any (nat_eq i) (id ∷ seen) ≡ false) (λ i. nat_eq id i ≡ false) (λ i h. nat_eq_equiv.symm id i ∙ (or_parts (nat_eq i id) (list_any (nat_eq i) seen) h).0) (other_ids (id ∷ seen) ids) (others_apart (id ∷ seen) ids)) new
 
 pub others_hold : (P : ℕ → Type 0) (seen ids : List ℕ) → AllByRecursion P ids → AllByRecursion P (other_ids seen ids)
 others_hold P seen [] h = tt
@@ -136,7 +132,7 @@ others_among seen (id ∷ ids) = by_test (list_any (nat_eq id) seen) refl (other
     by_test false e old new =
         let rest : List ℕ = other_ids (id ∷ seen) ids in (
           rw (e, eq-eqb id id refl) refl,
-          weaker_holds (IsAmong (id ∷ seen) rest) (IsAmong seen (id ∷ rest)) (λ i h. swapped (nat_eq i id) (list_any (nat_eq i) seen) (list_any (nat_eq i) rest) h) ids new,
+          all_of (IsAmong (id ∷ seen) rest) (IsAmong seen (id ∷ rest)) (λ i h. swapped (nat_eq i id) (list_any (nat_eq i) seen) (list_any (nat_eq i) rest) h) ids new,
         )
 
 -- All of them. ----
@@ -168,7 +164,7 @@ pub record Stands (core : CoreBook) : Type 0 where
 
 scopes_hold : (P : ℕ → Type 0) (ds : List Definition) → AllByRecursion (λ (d : Definition). AllByRecursion P (option_to_list d.scope)) ds → AllByRecursion P (flat_map (λ (d : Definition). option_to_list d.scope) ds)
 scopes_hold P [] h = tt
-scopes_hold P (d ∷ ds) h = both_hold P (option_to_list d.scope) (flat_map (λ (x : Definition). option_to_list x.scope) ds) h.0 (scopes_hold P ds h.1)
+scopes_hold P (d ∷ ds) h = all_appended P (option_to_list d.scope) (flat_map (λ (x : Definition). option_to_list x.scope) ds) h.0 (scopes_hold P ds h.1)
 
 hold_scopes : (P : ℕ → Type 0) (ds : List Definition) → AllByRecursion P (flat_map (λ (d : Definition). option_to_list d.scope) ds) → AllByRecursion (λ (d : Definition). AllByRecursion P (option_to_list d.scope)) ds
 hold_scopes P [] h = tt
@@ -224,20 +220,20 @@ module _ (n : Notations) (core : CoreBook) (valid : IsValidCore n core) (few : H
   scopes_are : AllByRecursion IsId (scopes_of core)
   scopes_are =
       scopes_hold IsId core.definitions
-      (weaker_holds (IsValidDefinition n (scene_of core)) (λ (d : Definition). AllByRecursion IsId (option_to_list d.scope)) (λ d h. one d.scope h.scope) core.definitions valid.definitions)
+      (all_of (IsValidDefinition n (scene_of core)) (λ (d : Definition). AllByRecursion IsId (option_to_list d.scope)) (λ d h. one d.scope h.scope) core.definitions valid.definitions)
     where
       one : (o : Option ℕ) → IsScope o → AllByRecursion IsId (option_to_list o)
       one None h = tt
       one (Some id) h = (h, tt)
 
   passing_are : AllByRecursion IsId ids
-  passing_are = others_hold IsId (ids_of core) (scopes_of core ++ 1 ∷ []) (both_hold IsId (scopes_of core) (1 ∷ []) scopes_are ((omega (arith), omega (arith)), tt))
+  passing_are = others_hold IsId (ids_of core) (scopes_of core ++ 1 ∷ []) (all_appended IsId (scopes_of core) (1 ∷ []) scopes_are ((omega (arith), omega (arith)), tt))
 
   all_good : AllByRecursion IsGood (standing_sheets core)
   all_good =
-      both_hold IsGood own (passing_sheets core)
-      (mapped_holds mentioned IsGood core.sheets
-      (weaker_holds (IsValidSheet n (scene_of core)) (λ (s : Sheet). IsGood (mentioned s)) (λ s h. record { id = h.id; name = h.name }) core.sheets valid.sheets))
+      all_appended IsGood own (passing_sheets core)
+      (all_in_map mentioned IsGood core.sheets
+      (all_of (IsValidSheet n (scene_of core)) (λ (s : Sheet). IsGood (mentioned s)) (λ s h. record { id = h.id; name = h.name }) core.sheets valid.sheets))
       (pairs_good (passing_sheets core) (subst (AllByRecursion IsId) (sym passing_id) passing_are) (subst (AllByRecursion (λ name. is_sheet_name name ≡ true)) (sym passing_name) (free_good (length ids) (taken_names core) few)))
     where
       pairs_good : (ss : List SheetName) → AllByRecursion IsId (map id_of ss) → AllByRecursion (λ name. is_sheet_name name ≡ true) (map name_of ss) → AllByRecursion IsGood ss
@@ -247,13 +243,13 @@ module _ (n : Notations) (core : CoreBook) (valid : IsValidCore n core) (few : H
   -- no passing name is that of a sheet
   others_named : AllByRecursion (λ name. list_any (agrees name) (names_of core) ≡ false) names
   others_named =
-      weaker_holds (λ name. list_any (agrees name) (taken_names core) ≡ false) (λ name. list_any (agrees name) (names_of core) ≡ false)
+      all_of (λ name. list_any (agrees name) (taken_names core) ≡ false) (λ name. list_any (agrees name) (names_of core) ≡ false)
       (λ name h. (or_parts (list_any (agrees name) (names_of core)) _ (sym (list_any-append (agrees name) (names_of core) _) ∙ h)).0) names apart_names
 
   -- every id that is asked for is there
   asked_there : AllByRecursion (λ id. list_any (λ (s : SheetName). nat_eq s.id id) (standing_sheets core) ≡ true) (scopes_of core ++ 1 ∷ [])
   asked_there =
-      weaker_holds (IsAmong (ids_of core) ids) (λ id. list_any (λ (s : SheetName). nat_eq s.id id) (standing_sheets core) ≡ true)
+      all_of (IsAmong (ids_of core) ids) (λ id. list_any (λ (s : SheetName). nat_eq s.id id) (standing_sheets core) ≡ true)
       (λ id h. sym (any_flipped id (standing_sheets core)) ∙ ap (list_any (nat_eq id)) all_id ∙ list_any-append (nat_eq id) (ids_of core) ids ∙ h) (scopes_of core ++ 1 ∷ [])
       (others_among (ids_of core) (scopes_of core ++ 1 ∷ []))
 
@@ -264,7 +260,7 @@ module _ (n : Notations) (core : CoreBook) (valid : IsValidCore n core) (few : H
     good = all_good;
     first = only_first;
     scopes =
-        weaker_holds (λ (d : Definition). AllByRecursion (λ id. list_any (λ (s : SheetName). nat_eq s.id id) (standing_sheets core) ≡ true) (option_to_list d.scope)) (λ (d : Definition). HasPlace (standing_sheets core) d.scope)
+        all_of (λ (d : Definition). AllByRecursion (λ id. list_any (λ (s : SheetName). nat_eq s.id id) (standing_sheets core) ≡ true) (option_to_list d.scope)) (λ (d : Definition). HasPlace (standing_sheets core) d.scope)
         (λ d h. one d.scope h) core.definitions
         (hold_scopes (λ id. list_any (λ (s : SheetName). nat_eq s.id id) (standing_sheets core) ≡ true) core.definitions (front_holds _ (scopes_of core) (1 ∷ []) asked_there));
     many = length-map pairs sheet_named ∙ sym (length-map pairs (λ (p : ℕ × List ℕ). p.0)) ∙ ap length parts.0;

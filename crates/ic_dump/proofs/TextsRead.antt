@@ -1,11 +1,11 @@
 -- Which command each line of a dump is.
-use Rattle.std.proofs.Common.{◌≡◌, ℕ, ℤ, pos, ◌≤◌, List, [], ◌∷◌, Option, None, Some, codes, refl, sym, ap, ap₂, ◌∙◌}
+use Rattle.std.proofs.Common.{◌≡◌, ℕ, ℤ, ◌≤◌, List, [], ◌∷◌, Option, Some, codes, ap, ap₂, ◌∙◌}
 use Rattle.std.specs.Fmt.{decimal, signed_decimal}
 use Rattle.std.specs.Prelude.{option_and_then, option_map}
-use Rattle.ic_laws.specs.Command.{index_said, position_said, scope_said}
+use Rattle.ic_laws.specs.Command.{position_said, scope_said}
 use Rattle.ic_laws.specs.declared.scene.NameSpelling.{NameSpelling}
 use Rattle.ic_laws.specs.declared.scene.SheetName.{SheetName}
-use Rattle.ic_machine.specs.Command.{Command, OnDefinitions, OnSheets, OnWriting, command_in, commands}
+use Rattle.ic_machine.specs.Command.{OnDefinitions, OnSheets, OnWriting, command_in, commands}
 use Rattle.ic_machine.specs.Row.{spelled}
 use Rattle.ic_machine.specs.Word.{AllSaid, OfIndex, OfPosition, OfScope, OfText, WordForm, all_said}
 use Rattle.ic_machine.specs.Word as forms

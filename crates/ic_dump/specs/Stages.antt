@@ -1,6 +1,6 @@
 -- What the lines of each stage leave: from the new book, the sheets as they stand, which hold nothing, then definitions with a body
 -- that mentions nothing, then with their own, then without the passing sheets, then the formulas of the cells.
-use Rattle.std.specs.Prelude.{◌≡◌, ◌⊎◌, ℕ, pos, ◌+◌, ◌<◌, ◌^◌, List, [], ◌∷◌, codes, false, filter, length, map, IsNone, None}
+use Rattle.std.specs.Prelude.{◌≡◌, ◌⊎◌, ℕ, pos, ◌+◌, ◌<◌, ◌^◌, List, [], ◌∷◌, codes, false, filter, length, map, None}
 use Rattle.ic_laws.specs.CoreBook.{CoreBook, Definition, scene_of}
 use Rattle.ic_laws.specs.FormulaReading.{cell_formula}
 use Rattle.ic_laws.specs.Notations.{Notations, english}
