@@ -1,5 +1,5 @@
 -- The formulas of cells, and sheets one after another, by their records.
-use Rattle.std.proofs.Common.{tt, arith, ◌≡◌, ◌++◌, ◌∷◌, [], ◌∙◌, ℕ, ◌+◌, ◌<◌, ◌≤◌, zero, suc, List, Option, Some, None, ap, ap₂, append_assoc, append-nil, drop, get_or, length, map, option_and_then, option_map, refl, slice_get, sym, unwrap_or}
+use Rattle.std.proofs.Common.{arith, ◌≡◌, ◌++◌, ◌∷◌, [], ◌∙◌, ℕ, ◌+◌, ◌<◌, ◌≤◌, zero, suc, List, Option, Some, None, ap, ap₂, append_assoc, append-nil, drop, get_or, length, map, option_and_then, option_map, refl, slice_get, sym, unwrap_or}
 use Rattle.std.proofs.Math.Numerals.{add-one}
 use Rattle.std.proofs.lemmas.Grind.{flat_map-append}
 use Rattle.std.proofs.lemmas.List.{drop_all, length-map}

@@ -13,6 +13,7 @@ pub mod EnglishForm
 pub mod EnglishLemmas
 pub mod LackedNames
 pub mod ListLemmas
+pub mod MomentLemmas
 pub mod NumeralLemmas
 pub mod PassingGone
 pub mod PassingLemmas

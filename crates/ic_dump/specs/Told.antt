@@ -43,13 +43,13 @@ told_by cause book = told_lines (lines_of_book book)
 abbrev pub told_of : Book → List ℕ
 told_of book = told_by (cause_of (notations_in book) (core_of book)) book
 
--- Of the book after the lines of some bytes, from a new one that was made at some moment. ----
+-- Of the book after the lines of some bytes, from a new one, whenever that was made. ----
 
 abbrev pub AppendsDump : TableSet → List ℕ → List ℕ → List ℕ → Type 0
-AppendsDump tables bytes before now = (created : List ℕ) × TellsDump (book_after tables created bytes) before now
+AppendsDump tables bytes before now = (created : List ℕ) → TellsDump (book_after tables created bytes) before now
 
 abbrev pub AppendsCannot : TableSet → List ℕ → List ℕ → List ℕ → Type 0
-AppendsCannot tables bytes before now = (created : List ℕ) × TellsCannot (book_after tables created bytes) before now
+AppendsCannot tables bytes before now = (created : List ℕ) → TellsCannot (book_after tables created bytes) before now
 
 abbrev pub AppendsToldFront : TableSet → List ℕ → List ℕ → List ℕ → Type 0
-AppendsToldFront tables bytes before now = (created : List ℕ) × AppendsFront (told_of (book_after tables created bytes)) before now
+AppendsToldFront tables bytes before now = (created : List ℕ) → AppendsFront (told_of (book_after tables created bytes)) before now

@@ -1,10 +1,9 @@
-use Rattle.std.proofs.Common.{subst}
 use Rattle.ic_book.specs.Whole.{whole_of}
 use Rattle.ic_lines.proofs.ToldLemmas.{IfTold-weaker}
 use Rattle.ic_lines.specs.Bytes.{AppendsFront, IfTold}
-use Rattle.ic_machine.specs.Book.{Book}
 use Rattle.ic_run.specs.Prepared.{IsBookAfter}
 use Rattle.ic_dump.specs.Told.{AppendsCannot, AppendsDump, AppendsToldFront, TellsCannot, TellsDump, told_of}
+use Rattle.ic_dump.proofs.MomentLemmas.{cannot_anytime, dump_anytime, front_anytime}
 use Rattle.ic_dump.proofs.desk.dump_desk.Goals as goal
 
 pub returns-in-Ok-clause-dumped : goal.returns-in-Ok-clause-dumped
@@ -15,7 +14,7 @@ returns-in-Ok-clause-dumped g c at_0 =
     let book = c.in-Ok.model.book in
     IfTold-weaker (left c.args.source.now) (left c.book_after.new.source) (IsBookAfter tables book) (λ bytes _. IfTold (written c.args.sink.now) (written c.tell-status.new.sink) (AppendsDump tables bytes))
     (λ bytes rest is. IfTold-weaker (written c.args.sink.now) (written c.tell-status.new.sink) (TellsDump (whole_of book)) (AppendsDump tables bytes)
-    (λ before now told. (is.0, subst (λ (b : Book). TellsDump b before now) is.1 told)) (c.tell-status.ensures.dumped at_0)) c.in-Ok.ensures.book
+    (λ before now told. dump_anytime before now tables bytes book is told) (c.tell-status.ensures.dumped at_0)) c.in-Ok.ensures.book
 
 pub returns-in-Ok-clause-cannot : goal.returns-in-Ok-clause-cannot
 returns-in-Ok-clause-cannot g c at_7 =
@@ -25,7 +24,7 @@ returns-in-Ok-clause-cannot g c at_7 =
     let book = c.in-Ok.model.book in
     IfTold-weaker (left c.args.source.now) (left c.book_after.new.source) (IsBookAfter tables book) (λ bytes _. IfTold (written c.args.sink.now) (written c.tell-status.new.sink) (AppendsCannot tables bytes))
     (λ bytes rest is. IfTold-weaker (written c.args.sink.now) (written c.tell-status.new.sink) (TellsCannot (whole_of book)) (AppendsCannot tables bytes)
-    (λ before now told. (is.0, subst (λ (b : Book). TellsCannot b before now) is.1 told)) (c.tell-status.ensures.cannot at_7)) c.in-Ok.ensures.book
+    (λ before now told. cannot_anytime before now tables bytes book is told) (c.tell-status.ensures.cannot at_7)) c.in-Ok.ensures.book
 
 pub returns-in-Ok-clause-front : goal.returns-in-Ok-clause-front
 returns-in-Ok-clause-front g c at_4 =
@@ -35,4 +34,4 @@ returns-in-Ok-clause-front g c at_4 =
     let book = c.in-Ok.model.book in
     IfTold-weaker (left c.args.source.now) (left c.book_after.new.source) (IsBookAfter tables book) (λ bytes _. IfTold (written c.args.sink.now) (written c.tell-status.new.sink) (AppendsToldFront tables bytes))
     (λ bytes rest is. IfTold-weaker (written c.args.sink.now) (written c.tell-status.new.sink) (AppendsFront (told_of (whole_of book))) (AppendsToldFront tables bytes)
-    (λ before now told. (is.0, subst (λ (b : Book). AppendsFront (told_of b) before now) is.1 told)) (c.tell-status.ensures.front at_4)) c.in-Ok.ensures.book
+    (λ before now told. front_anytime before now tables bytes book is told) (c.tell-status.ensures.front at_4)) c.in-Ok.ensures.book
