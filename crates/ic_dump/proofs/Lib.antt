@@ -3,6 +3,7 @@ pub mod ApartLemmas
 pub mod BareBooks
 pub mod BodiesApart
 pub mod BodiesSet
+pub mod BodyTrees
 pub mod CellsPlain
 pub mod CellsWritten
 pub mod DefinitionUpdated
