@@ -12,6 +12,7 @@ pub mod EnglishForm
 pub mod EnglishLemmas
 pub mod LackedNames
 pub mod ListLemmas
+pub mod NeverRaw
 pub mod NumeralLemmas
 pub mod PassingGone
 pub mod PlainBody

@@ -1,6 +1,6 @@
 -- The sheets that stand while a book is rebuilt: they have ids and names, all different, one of them is the first, and each
 -- definition is local to one of them, or to none.
-use Rattle.std.proofs.Common.{◌≡◌, ℕ, ◌+◌, ◌<◌, ◌^◌, List, [], ◌∷◌, ◌++◌, filter, flat_map, length, map, Bool, true, false, cond, ◌||◌, Option, None, Some, refl, sym, ap, ap₂, subst, ◌∙◌, arith, inl, inr, nat_eq}
+use Rattle.std.proofs.Common.{◌≡◌, ℕ, ◌+◌, ◌<◌, ◌^◌, List, [], ◌∷◌, ◌++◌, filter, flat_map, take, length, map, Bool, true, false, cond, ◌||◌, Option, None, Some, refl, sym, ap, ap₂, subst, ◌∙◌, arith, inl, inr, nat_eq}
 use Rattle.std.proofs.lemmas.Bool.{cases_Bool, eq-eqb, eqb-true, not-true, or_parts}
 use Rattle.std.proofs.lemmas.List.{length-map, length-take-le, map-append}
 use Rattle.std.proofs.lemmas.List.FromFn.{length-map-range_with_len}
@@ -22,34 +22,51 @@ use Rattle.ic_machine.proofs.ValidLemmas.{all_of}
 use Rattle.ic_machine.proofs.CopyKeys.{all_appended, all_in_map}
 use Rattle.ic_dump.specs.Lines.{first_id, is_first}
 use Rattle.ic_dump.specs.Passing.{free_numerals, is_free, other_ids, passing_ids, passing_sheets, scopes_of, sheet_named, standing_sheets, taken_names}
-use Rattle.ic_dump.specs.Stages.{HasFewNames}
+use Rattle.ic_dump.specs.Stages.{HasFewNames, HasNumerals}
 use Rattle.ic_dump.proofs.ListLemmas.{IsOnly, back_holds, cut_differ, cut_holds, enough_left, filtered_differ, filtered_holds, front_holds, ids_of_zip, joined_differ, only_one, unmapped_holds}
 use Rattle.ic_dump.proofs.NumeralLemmas.{decimals_differ, decimals_good}
 
 -- The names. ----
 
-module _ (count : ℕ) (taken : List (List ℕ)) (few : count + length taken < 2 ^ 64) where
+none_differ : IsDistinct agrees []
+unfolding IsDistinct
+none_differ = tt
+
+-- where none are asked for there are none
+none_free : (count : ℕ) (taken : List (List ℕ)) → count ≡ 0 → free_numerals count taken ≡ []
+none_free count taken e = ap (λ (n : ℕ). take n (filter (is_free taken) (map decimal (range_with_len 1 (count + length taken))))) e
+
+module _ (count : ℕ) (taken : List (List ℕ)) (few : HasNumerals count taken) where
   abbrev numerals : List (List ℕ)
   numerals = map decimal (range_with_len 1 (count + length taken))
 
-  differ : IsDistinct agrees numerals
-  differ = decimals_differ 1 (count + length taken) (omega (arith, few))
+  differ : count + length taken < 2 ^ 64 → IsDistinct agrees numerals
+  differ small = decimals_differ 1 (count + length taken) (omega (arith, small))
 
   pub free_many : length (free_numerals count taken) ≡ count
-  free_many =
-      let left = enough_left agrees_equiv numerals taken differ in
-      let all : length numerals ≡ count + length taken = length-map-range_with_len decimal 1 (count + length taken) in
-      length-take-le count (filter (is_free taken) numerals) (omega (arith, left, all))
+  free_many = elim few [
+    | inl none ↦ ap length (none_free count taken none) ∙ sym none
+    | inr small ↦
+        let left = enough_left agrees_equiv numerals taken (differ small) in
+        let all : length numerals ≡ count + length taken = length-map-range_with_len decimal 1 (count + length taken) in
+        length-take-le count (filter (is_free taken) numerals) (omega (arith, left, all))
+  ]
 
   pub free_differ : IsDistinct agrees (free_numerals count taken)
-  free_differ = cut_differ agrees_equiv count (filter (is_free taken) numerals) (filtered_differ agrees_equiv (is_free taken) numerals differ)
+  free_differ = elim few [
+    | inl none ↦ subst (IsDistinct agrees) (sym (none_free count taken none)) none_differ
+    | inr small ↦ cut_differ agrees_equiv count (filter (is_free taken) numerals) (filtered_differ agrees_equiv (is_free taken) numerals (differ small))
+  ]
 
   pub free_good : AllByRecursion (λ name. is_sheet_name name ≡ true) (free_numerals count taken)
-  free_good =
-      let Good : List ℕ → Type 0 = λ name. is_sheet_name name ≡ true in
-      cut_holds Good count (filter (is_free taken) numerals)
-      (filtered_holds Good (is_free taken) numerals
-      (all_of Good (λ name. is_free taken name ≡ true → Good name) (λ name h e. h) numerals (decimals_good 1 (count + length taken) (omega (arith, few)))))
+  free_good = elim few [
+    | inl none ↦ subst (AllByRecursion (λ name. is_sheet_name name ≡ true)) (sym (none_free count taken none)) tt
+    | inr small ↦
+        let Good : List ℕ → Type 0 = λ name. is_sheet_name name ≡ true in
+        cut_holds Good count (filter (is_free taken) numerals)
+        (filtered_holds Good (is_free taken) numerals
+        (all_of Good (λ name. is_free taken name ≡ true → Good name) (λ name h e. h) numerals (decimals_good 1 (count + length taken) (omega (arith, small)))))
+  ]
 
   each : {A : Type 0} (P : A → Type 0) → ((x : A) → P x) → (xs : List A) → AllByRecursion P xs
   each P h [] = tt

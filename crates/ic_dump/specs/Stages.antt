@@ -1,6 +1,6 @@
 -- What the lines of each stage leave: from the new book, the sheets as they stand, which hold nothing, then definitions with a body
 -- that mentions nothing, then with their own, then without the passing sheets, then the formulas of the cells.
-use Rattle.std.specs.Prelude.{◌≡◌, ℕ, pos, ◌+◌, ◌<◌, ◌^◌, List, [], ◌∷◌, codes, false, filter, length, map, None}
+use Rattle.std.specs.Prelude.{◌≡◌, ◌⊎◌, ℕ, pos, ◌+◌, ◌<◌, ◌^◌, List, [], ◌∷◌, codes, false, filter, length, map, None}
 use Rattle.ic_laws.specs.CoreBook.{CoreBook, Definition, scene_of}
 use Rattle.ic_laws.specs.FormulaReading.{cell_formula}
 use Rattle.ic_laws.specs.Notations.{Notations, english}
@@ -58,9 +58,13 @@ book_deleted book start = with_bare (scene_of (core_of book)).sheets book.defini
 
 -- What each stage promises. ----
 
--- the numerals that are tried for passing sheets are below 2 ^ 64
+-- the numerals that are tried for so many names are below 2 ^ 64, where any are
+abbrev pub HasNumerals : ℕ → List (List ℕ) → Type 0
+HasNumerals count taken = (count ≡ 0) ⊎ (count + length taken < 2 ^ 64)
+
+-- so are those for passing sheets
 abbrev pub HasFewNames : CoreBook → Type 0
-HasFewNames core = length (passing_ids core) + length (taken_names core) < 2 ^ 64
+HasFewNames core = HasNumerals (length (passing_ids core)) (taken_names core)
 
 -- A valid book has lines, and the one that it is rebuilt from is English, has the same tables, and none of the English words for
 -- error values ends with a blank. An update drops the blanks at both ends of the body that it is given, and so that of such a word.
