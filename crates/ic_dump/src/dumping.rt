@@ -1,21 +1,21 @@
 //! A book as command lines.
-ghost use Rattle.std.specs.Prelude.{◌≡◌, IfOk, None};
-ghost use Rattle.ic_book.specs.Book.{core_of, notations_in};
-ghost use Rattle.ic_book.specs.Workbook.{workbook_of};
+ghost use Rattle.std.specs.Prelude.{◌≡◌, IfOk, None, OnOk, map};
+ghost use Rattle.ic_book.specs.Book.{IsValidBook, core_of, notations_in};
+ghost use Rattle.ic_book.specs.Workbook.{workbook_of, worksheet_of};
 ghost use Rattle.ic_dump.specs.English.{IsEnglish};
 ghost use Rattle.ic_dump.specs.Lines.{dump_lines};
 ghost use Rattle.ic_dump.specs.Rebuilds.{Rebuilds};
-ghost use Rattle.ic_dump.specs.Refused.{Tells, cause_of};
+ghost use Rattle.ic_dump.specs.Refused.{Tells, cause_of, raw_body};
+ghost use Rattle.ic_dump.specs.Stages.{HasFewNames};
 
 use crate::DumpError;
 use crate::english::english_of;
+use crate::formulas::push_cells;
 use crate::refused::{raw_body, rereading};
-use crate::stages::{
-    push_bodies, push_cells, push_defining, push_deleting, push_inserting, push_naming,
-};
+use crate::stages::{push_bodies, push_defining, push_deleting, push_inserting, push_naming};
 use crate::standing::standing_sheets;
 use ic_book::{Model, Notation};
-use ic_cells::Workbook;
+use ic_cells::{Workbook, Worksheet};
 use ic_laws::OutOfMemory;
 use ic_lines::Line;
 use std::alloc::Global;
@@ -55,14 +55,31 @@ fn refuse(
 ) -> Result<(), DumpError>
     requires english { IsEnglish model.now.book english.now }
     requires records { workbook.now ≡ workbook_of model.now.book }
+    requires valid { IsValidBook model.now.book }
     ensures { Tells result (cause_of (notations_in model.now.book) (core_of model.now.book)) }
 {
     match raw_body(alloc, model, workbook.defined_names.as_slice()) {
-        Ok(None) => {}
-        Ok(Some(key)) => return Err(DumpError::RawBody(key)),
-        Err(OutOfMemory) => return Err(DumpError::OutOfMemory),
+        Ok(None) => refuse_cells(alloc, model, english, workbook.worksheets.as_slice()),
+        Ok(Some(key)) => Err(DumpError::RawBody(key)),
+        Err(OutOfMemory) => Err(DumpError::OutOfMemory),
     }
-    match rereading(alloc, model, english, workbook.worksheets.as_slice()) {
+}
+
+/// The same where no body is a text that doesn't read.
+fn refuse_cells(
+    alloc: Global,
+    model: &Model<'_>,
+    english: &Notation<'_>,
+    worksheets: &[Worksheet],
+) -> Result<(), DumpError>
+    requires english { IsEnglish model.now.book english.now }
+    requires worksheets { worksheets.now ≡ map (worksheet_of model.now.book)
+        model.now.book.sheets }
+    requires valid { IsValidBook model.now.book }
+    requires none { raw_body (core_of model.now.book) ≡ None }
+    ensures { Tells result (cause_of (notations_in model.now.book) (core_of model.now.book)) }
+{
+    match rereading(alloc, model, english, worksheets) {
         Ok(None) => Ok(()),
         Ok(Some(site)) => Err(DumpError::Rereads(site)),
         Err(OutOfMemory) => Err(DumpError::OutOfMemory),
@@ -78,9 +95,13 @@ fn lines_of(
 ) -> Result<Vec<Line>, OutOfMemory>
     requires english { IsEnglish model.now.book english.now }
     requires records { workbook.now ≡ workbook_of model.now.book }
+    requires valid { IsValidBook model.now.book }
     requires none { cause_of (notations_in model.now.book) (core_of model.now.book) ≡ None }
-    ensures { IfOk result (λ lines. lines.items
+    ensures lines { IfOk result (λ lines. lines.items
         ≡ dump_lines (notations_in model.now.book) (core_of model.now.book)) }
+
+    // What the law on these lines asks of the names.
+    ensures few { OnOk result (HasFewNames (core_of model.now.book)) }
 {
     let worksheets = workbook.worksheets.as_slice();
     let definitions = workbook.defined_names.as_slice();

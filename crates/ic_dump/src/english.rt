@@ -3,7 +3,7 @@ ghost use Rattle.std.specs.Prelude.{◌≡◌, ◌++◌, IfOk, chars, codes, is_
 ghost use Rattle.ic_laws.specs.Notations.{english};
 ghost use Rattle.ic_laws.specs.ReadAs.{read_as};
 ghost use Rattle.ic_tree.specs.Notations.{notations_of};
-ghost use Rattle.ic_book.specs.Book.{Book, core_of, notations_in};
+ghost use Rattle.ic_book.specs.Book.{Book, IsValidBook, core_of, notations_in};
 ghost use Rattle.ic_dump.specs.English.{IsEnglish};
 ghost use Rattle.ic_dump.specs.Lines.{english_formula};
 ghost use Rattle.ic_dump.specs.Refused.{is_read};
@@ -17,7 +17,8 @@ use std::alloc::Global;
 
 /// The notation of the locale `en` and the language `en`, which the tables have.
 pub(crate) fn english_of<'a>(model: &Model<'a>) -> Notation<'a>
-    ensures { IsEnglish model.now.book result }
+    ensures named { IsEnglish model.now.book result }
+    ensures valid { IsValidBook model.now.book }
 {
     match model.notation_named("en", "en") {
         Ok(notation) => notation,

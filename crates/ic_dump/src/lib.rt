@@ -6,15 +6,19 @@
 //! program does with its words.
 #![tactic(auto)]
 
+mod cells;
 mod desk;
 mod dumping;
 mod english;
 mod error;
+mod formulas;
 mod lines;
 mod passing;
 mod refused;
+mod scopes;
 mod stages;
 mod standing;
+mod taken;
 mod told;
 mod unfound;
 

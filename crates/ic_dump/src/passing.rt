@@ -1,9 +1,8 @@
 //! Names that nothing in a book means.
-ghost use Rattle.std.specs.Prelude.{◌≡◌, ◌≤◌, ◌+◌, ℕ, List, IfOk, bytes_eq, chars, length, map, encode_utf8_all, is_some};
-ghost use Rattle.std.specs.BTreeMap as tree;
-ghost use Rattle.std.specs.List.{list_any};
-ghost use Rattle.ic_laws.specs.Name.{agrees, fold};
+ghost use Rattle.std.specs.Prelude.{◌≡◌, ◌<◌, ◌+◌, ◌^◌, ◌++◌, [], ◌∷◌, List, ℕ, IfOk, OnOk, cond, length, map};
+ghost use Rattle.std.specs.Fmt.{decimal};
 ghost use Rattle.ic_dump.specs.Passing.{free_numerals, is_free};
+ghost use Rattle.ic_dump.specs.Records.{FindsNames};
 
 use crate::lines::digits_of;
 use caseless::default_case_fold_str;
@@ -17,28 +16,60 @@ pub(crate) fn free_numerals(
     count: usize,
     taken: &[&Text],
 ) -> Result<Vec<Text>, OutOfMemory>
-    ensures { IfOk result (λ names. names.items
+    requires { count < 2 ^ 62 }
+    ensures names { IfOk result (λ names. names.items
         ≡ free_numerals count (map (λ t. t.now) taken.now)) }
+
+    // Taken names are in memory.
+    ensures few { OnOk result (count + length taken.now < 2 ^ 64) }
 {
     let folded = folded_names(alloc, taken)?;
+    let end = count + taken.len() + 1;
     let mut names = Vec::new(alloc);
-    for number in 1..u64::MAX {
+    for number in 1..end {
         if names.len() == count {
             break;
         }
-        let numeral = digits_of(alloc, number)?;
-        if !folded.contains(numeral.as_str()) {
-            names.push(Text::from(numeral))?;
-        }
+        push_if_free(alloc, &mut names, &folded, number as u64)?;
     }
     Ok(names)
 }
 
+/// Puts a numeral at the end if it agrees with none of these names, which are folded.
+fn push_if_free(
+    alloc: Global,
+    names: &mut Vec<Text>,
+    folded: &BTreeSet<String>,
+    number: u64,
+) -> Result<(), OutOfMemory>
+    ensures { (taken : List (List ℕ)) → FindsNames folded.now taken → OnOk result
+        (names.new.items ≡ names.old.items
+        ++ cond (is_free taken (decimal number)) (decimal number ∷ []) []) }
+{
+    let numeral = digits_of(alloc, number)?;
+    if !folded.contains(numeral.as_str()) {
+        names.push(Text::from(numeral))?;
+    }
+    Ok(())
+}
+
 /// The names, folded.
-fn folded_names(alloc: Global, names: &[&Text]) -> Result<BTreeSet<String>, OutOfMemory> {
+fn folded_names(alloc: Global, names: &[&Text]) -> Result<BTreeSet<String>, OutOfMemory>
+    ensures { IfOk result (λ folded. FindsNames folded (map (λ t. t.now) names.now)) }
+{
     let mut folded = BTreeSet::new(alloc);
     for name in names {
-        folded.insert(default_case_fold_str(alloc, name.as_str())?)?;
+        put_folded(alloc, &mut folded, name)?;
     }
     Ok(folded)
+}
+
+/// Puts a name in, folded.
+fn put_folded(alloc: Global, folded: &mut BTreeSet<String>, name: &Text) -> Result<(), OutOfMemory>
+    ensures { (taken : List (List ℕ)) → FindsNames folded.old taken → OnOk result
+        (FindsNames folded.new (taken ++ name.now ∷ [])) }
+{
+    let text = default_case_fold_str(alloc, name.as_str())?;
+    folded.insert(text)?;
+    Ok(())
 }

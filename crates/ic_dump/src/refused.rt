@@ -1,21 +1,21 @@
 //! Why a book has no lines.
-ghost use Rattle.std.specs.Prelude.{◌≡◌, IfOk, Some, map, option_map};
-ghost use Rattle.std.specs.List.{list_any, slice_get};
-ghost use Rattle.ic_laws.specs.CoreBook.{CellPlace};
+ghost use Rattle.std.specs.Prelude.{◌≡◌, IfOk, Some, false, flat_map, map, option_map};
+ghost use Rattle.std.specs.List.{slice_get};
+ghost use Rattle.std.specs.Option.{option_map_or};
 ghost use Rattle.ic_laws.specs.Scene.{key_of};
-ghost use Rattle.ic_laws.specs.declared.tree.Formula as core;
-ghost use Rattle.ic_sheets.specs.Sheet.{Sheet, cell_of};
-ghost use Rattle.ic_book.specs.Book.{core_of, notations_in};
+ghost use Rattle.ic_sheets.specs.Sheet.{Sheet, sheet_core};
+ghost use Rattle.ic_book.specs.Book.{IsValidBook, core_of, notations_in};
 ghost use Rattle.ic_book.specs.Sites.{site_of};
 ghost use Rattle.ic_book.specs.Workbook.{defined_name_of, worksheet_of};
 ghost use Rattle.ic_dump.specs.English.{IsEnglish};
-ghost use Rattle.ic_dump.specs.Records.{name_seen};
-ghost use Rattle.ic_dump.specs.Refused.{raw_body, rereading, rereads};
+ghost use Rattle.ic_dump.specs.Records.{cell_seen, name_seen};
+ghost use Rattle.ic_dump.specs.Refused.{is_raw, raw_body, rereading, rereading_cell, rereads};
 
+use crate::cells::{Placed, cells_in};
 use crate::english::is_read;
 use caseless::default_case_fold_str;
 use ic_book::{MentionSite, Model, Notation};
-use ic_cells::{Cell, DefinedName, Worksheet};
+use ic_cells::{DefinedName, Worksheet};
 use ic_laws::{Formula, NameKey, OutOfMemory, Text};
 use std::alloc::Global;
 
@@ -30,12 +30,22 @@ pub(crate) fn raw_body(
     ensures { IfOk result (λ key. key ≡ raw_body (core_of model.now.book)) }
 {
     for (index, definition) in definitions.iter().enumerate() {
-        match model.parsed_definition(index) {
-            Some(Formula::Raw(_)) => return Ok(Some(key_of(alloc, definition)?)),
-            _ => {}
+        if is_raw_at(model, index) {
+            return Ok(Some(key_of(alloc, definition)?));
         }
     }
     Ok(None)
+}
+
+/// Whether the body of the definition at an index is a text that doesn't read.
+fn is_raw_at(model: &Model<'_>, index: usize) -> bool
+    ensures { result ≡ option_map_or (λ d. is_raw d.body)
+        (slice_get model.now.book.definitions index) false }
+{
+    match model.parsed_definition(index) {
+        Some(Formula::Raw(_)) => true,
+        _ => false,
+    }
 }
 
 /// The key of a definition.
@@ -60,11 +70,12 @@ pub(crate) fn rereading(
     requires english { IsEnglish model.now.book english.now }
     requires worksheets { worksheets.now ≡ map (worksheet_of model.now.book)
         model.now.book.sheets }
+    requires valid { IsValidBook model.now.book }
     ensures { IfOk result (λ site. option_map site_of site
         ≡ rereading (notations_in model.now.book) (core_of model.now.book)) }
 {
     for (index, worksheet) in worksheets.iter().enumerate() {
-        if let Some(site) = rereading_cell(alloc, model, english, index as u32, worksheet)? {
+        if let Some(site) = rereading_in(alloc, model, english, index as u32, worksheet)? {
             return Ok(Some(site));
         }
     }
@@ -72,20 +83,43 @@ pub(crate) fn rereading(
 }
 
 /// The first such cell of a sheet.
-fn rereading_cell(
+fn rereading_in(
     alloc: Global,
     model: &Model<'_>,
     english: &Notation<'_>,
     sheet: u32,
     worksheet: &Worksheet,
-) -> Result<Option<MentionSite>, OutOfMemory> {
-    for (place, cell) in worksheet.cells.as_map().iter() {
-        let (row, column) = *place;
-        if rereads(alloc, model, english, sheet, row, column, cell)? {
+) -> Result<Option<MentionSite>, OutOfMemory>
+    requires english { IsEnglish model.now.book english.now }
+    requires sheet { option_map (worksheet_of model.now.book)
+        (slice_get model.now.book.sheets sheet) ≡ Some worksheet.now }
+    requires valid { IsValidBook model.now.book }
+    ensures { (s : Sheet) → slice_get model.now.book.sheets sheet ≡ Some s → IfOk result
+        (λ site. option_map site_of site ≡ slice_get (flat_map
+        (rereading_cell (notations_in model.now.book) s.id) (sheet_core s).cells) 0) }
+{
+    let cells = cells_in(alloc, model, sheet, worksheet)?;
+    rereading_among(alloc, model, english, worksheet.sheet_id, cells.as_slice())
+}
+
+/// The first of these cells of the sheet with this id.
+fn rereading_among(
+    alloc: Global,
+    model: &Model<'_>,
+    english: &Notation<'_>,
+    id: u32,
+    cells: &[Placed<'_>],
+) -> Result<Option<MentionSite>, OutOfMemory>
+    requires { IsEnglish model.now.book english.now }
+    ensures { IfOk result (λ site. option_map site_of site ≡ slice_get (flat_map
+        (rereading_cell (notations_in model.now.book) id) (map cell_seen cells.now)) 0) }
+{
+    for cell in cells {
+        if rereads(alloc, model, english, cell)? {
             return Ok(Some(MentionSite::Cell {
-                sheet_id: worksheet.sheet_id,
-                row,
-                column,
+                sheet_id: id,
+                row: cell.row,
+                column: cell.column,
             }));
         }
     }
@@ -97,21 +131,14 @@ fn rereads(
     alloc: Global,
     model: &Model<'_>,
     english: &Notation<'_>,
-    sheet: u32,
-    row: i32,
-    column: i32,
-    cell: &Cell,
+    cell: &Placed<'_>,
 ) -> Result<bool, OutOfMemory>
     requires { IsEnglish model.now.book english.now }
-    ensures { (s : Sheet) → slice_get model.now.book.sheets sheet ≡ Some s → IfOk result
-        (λ is. is ≡ list_any (λ (c : CellPlace × core.Formula). rereads
-        (notations_in model.now.book) c.0 c.1) (cell_of s.pool ((row, column), cell.now))) }
+    ensures { IfOk result (λ is. is ≡ rereads (notations_in model.now.book)
+        (cell_seen cell.now).0 (cell_seen cell.now).1) }
 {
-    let Some(index) = cell.get_formula() else {
-        return Ok(false);
-    };
-    match model.parsed_formula(sheet, index) {
-        Some(Formula::Raw(text)) => is_read(alloc, english, row, column, text.as_str()),
-        _ => Ok(false),
+    match cell.formula {
+        Formula::Raw(text) => is_read(alloc, english, cell.row, cell.column, text.as_str()),
+        Formula::Tree(_) => Ok(false),
     }
 }

@@ -1,21 +1,15 @@
 //! The lines of a dump, stage by stage.
-ghost use Rattle.std.specs.Prelude.{◌≡◌, ◌≤◌, ◌++◌, ◌-◌, ℕ, List, IfOk, IfSome, OnOk, Some, chars, filter, map, option_map, reverse, string_bytes, unwrap_or};
+ghost use Rattle.std.specs.Prelude.{◌≡◌, ◌≤◌, ◌++◌, ◌-◌, [], ◌∷◌, List, IfOk, OnOk, chars, cond, filter, map, reverse, string_bytes, unwrap_or};
 ghost use Rattle.std.specs.BTreeMap.{get};
-ghost use Rattle.std.specs.Fmt.{decimal};
-ghost use Rattle.std.specs.List.{range_with_len, slice_get};
+ghost use Rattle.std.specs.List.{range_with_len};
 ghost use Rattle.std.specs.Ordering.{nat_cmp};
 ghost use Rattle.ic_laws.specs.declared.scene.SheetName.{SheetName};
-ghost use Rattle.ic_book.specs.Book.{core_of, notations_in};
-ghost use Rattle.ic_book.specs.Workbook.{worksheet_of};
-ghost use Rattle.ic_dump.specs.English.{IsEnglish};
-ghost use Rattle.ic_dump.specs.Lines.{body_line, cell_line, cell_lines, defining_line, deleting_line, inserting_line, inserting_lines_from, is_first, lines_of_cells, naming_line, scope_word};
+ghost use Rattle.ic_dump.specs.Lines.{body_line, defining_line, deleting_line, inserting_line, inserting_lines_from, is_first, naming_line, scope_word};
 ghost use Rattle.ic_dump.specs.Records.{AreFound, name_seen};
 
-use crate::english::english_formula;
-use crate::lines::{digits_of, line_of, signed_digits_of};
+use crate::lines::{digits_of, line_of};
 use crate::standing::Standing;
-use ic_book::{Model, Notation};
-use ic_cells::{DefinedName, Worksheet};
+use ic_cells::DefinedName;
 use ic_laws::{OutOfMemory, SheetName};
 use ic_lines::Line;
 use std::alloc::Global;
@@ -34,11 +28,28 @@ pub(crate) fn push_naming(
         ≡ lines.old.items ++ map naming_line (filter is_first sheets.now)) }
 {
     for sheet in sheets {
-        if sheet.id == FIRST_ID {
-            lines.push(line_of(alloc, &["rename_sheet_by_index", "0", sheet.name.as_str()])?)?;
-        }
+        push_if_first(alloc, lines, sheet)?;
     }
     Ok(())
+}
+
+/// Puts it at the end where this is the sheet.
+fn push_if_first(alloc: Global, lines: &mut Vec<Line>, sheet: &SheetName) -> Result<(), OutOfMemory>
+    ensures { OnOk result (lines.new.items ≡ lines.old.items
+        ++ cond (is_first sheet.now) (naming_line sheet.now ∷ []) []) }
+{
+    if sheet.id == FIRST_ID {
+        lines.push(naming_line(alloc, sheet.name.as_str())?)?;
+    }
+    Ok(())
+}
+
+/// The line that gives the sheet of a new book this name.
+fn naming_line(alloc: Global, name: &str) -> Result<Line, OutOfMemory>
+    ensures { (sheet : SheetName) → chars name.now ≡ sheet.name → IfOk result (λ line. line
+        ≡ naming_line sheet) }
+{
+    line_of(alloc, &["rename_sheet_by_index", "0", name])
 }
 
 /// Puts the lines at the end that put the other sheets in.
@@ -51,9 +62,23 @@ pub(crate) fn push_inserting(
         ≡ lines.old.items ++ inserting_lines_from 0 sheets.now) }
 {
     for (index, sheet) in sheets.iter().enumerate() {
-        if sheet.id != FIRST_ID {
-            lines.push(inserting_line(alloc, index, sheet)?)?;
-        }
+        push_if_other(alloc, lines, index, sheet)?;
+    }
+    Ok(())
+}
+
+/// Puts the line at the end that puts a sheet in at an index, where it isn't that of a new book.
+fn push_if_other(
+    alloc: Global,
+    lines: &mut Vec<Line>,
+    index: usize,
+    sheet: &SheetName,
+) -> Result<(), OutOfMemory>
+    ensures { OnOk result (lines.new.items ≡ lines.old.items
+        ++ cond (is_first sheet.now) [] (inserting_line index sheet.now ∷ [])) }
+{
+    if sheet.id != FIRST_ID {
+        lines.push(inserting_line(alloc, index, sheet)?)?;
     }
     Ok(())
 }
@@ -193,83 +218,16 @@ pub(crate) fn push_deleting(
     ensures { OnOk result (lines.new.items ≡ lines.old.items
         ++ map deleting_line (reverse (range_with_len own (count - own)))) }
 {
-    for index in (own..count).rev() {
-        let index = digits_of(alloc, index as u64)?;
-        lines.push(line_of(alloc, &["delete_sheet", index.as_str()])?)?;
+    for gone in 0..count - own {
+        lines.push(deleting_line(alloc, count - gone - 1)?)?;
     }
     Ok(())
 }
 
-/// Puts the lines at the end that write the formulas of cells.
-pub(crate) fn push_cells(
-    alloc: Global,
-    lines: &mut Vec<Line>,
-    model: &Model<'_>,
-    english: &Notation<'_>,
-    worksheets: &[Worksheet],
-) -> Result<(), OutOfMemory>
-    requires english { IsEnglish model.now.book english.now }
-    requires worksheets { worksheets.now ≡ map (worksheet_of model.now.book)
-        model.now.book.sheets }
-    ensures { OnOk result (lines.new.items ≡ lines.old.items
-        ++ cell_lines (notations_in model.now.book) (core_of model.now.book)) }
+/// The line that deletes the sheet at an index.
+fn deleting_line(alloc: Global, index: usize) -> Result<Line, OutOfMemory>
+    ensures { IfOk result (λ line. line ≡ deleting_line index) }
 {
-    for (index, worksheet) in worksheets.iter().enumerate() {
-        push_cells_of(alloc, lines, model, english, index as u32, worksheet)?;
-    }
-    Ok(())
-}
-
-/// Those of a sheet.
-fn push_cells_of(
-    alloc: Global,
-    lines: &mut Vec<Line>,
-    model: &Model<'_>,
-    english: &Notation<'_>,
-    sheet: u32,
-    worksheet: &Worksheet,
-) -> Result<(), OutOfMemory>
-    requires english { IsEnglish model.now.book english.now }
-    requires worksheet { option_map (worksheet_of model.now.book)
-        (slice_get model.now.book.sheets sheet) ≡ Some worksheet.now }
-    ensures { OnOk result (IfSome (slice_get (core_of model.now.book).sheets sheet) (λ s.
-        lines.new.items ≡ lines.old.items ++ lines_of_cells (notations_in model.now.book)
-        (core_of model.now.book) sheet s.cells)) }
-{
-    let index = digits_of(alloc, sheet as u64)?;
-    for (place, cell) in worksheet.cells.as_map().iter() {
-        if let Some(at) = cell.get_formula() {
-            if let Some(formula) = model.parsed_formula(sheet, at) {
-                let (row, column) = *place;
-                let text = english_formula(alloc, model, english, row, column, formula)?;
-                lines.push(cell_line(alloc, index.as_str(), row, column, text.as_str())?)?;
-            }
-        }
-    }
-    Ok(())
-}
-
-/// The line that writes a text into a cell.
-fn cell_line(
-    alloc: Global,
-    sheet: &str,
-    row: i32,
-    column: i32,
-    text: &str,
-) -> Result<Line, OutOfMemory>
-    ensures { (index : ℕ) → chars sheet.now ≡ decimal index → IfOk result (λ line. line
-        ≡ cell_line index (row, column) (chars text.now)) }
-{
-    let row = signed_digits_of(alloc, row)?;
-    let column = signed_digits_of(alloc, column)?;
-    line_of(
-        alloc,
-        &[
-            "update_cell_with_formula",
-            sheet,
-            row.as_str(),
-            column.as_str(),
-            text,
-        ],
-    )
+    let index = digits_of(alloc, index as u64)?;
+    line_of(alloc, &["delete_sheet", index.as_str()])
 }

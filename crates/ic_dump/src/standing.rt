@@ -1,14 +1,20 @@
 //! The sheets that stand while a book is rebuilt.
-ghost use Rattle.std.specs.Prelude.{◌≡◌, IfOk};
-ghost use Rattle.ic_book.specs.Book.{core_of};
+ghost use Rattle.std.specs.Prelude.{◌≡◌, ◌++◌, [], ◌∷◌, ℕ, IfOk, OnOk, Some, cond, map, nat_eq, option_map, zip};
+ghost use Rattle.std.specs.BTreeMap.{get};
+ghost use Rattle.std.specs.List.{slice_get};
+ghost use Rattle.std.specs.Option.{option_copied, option_or, option_to_list};
+ghost use Rattle.std.specs.Ordering.{nat_cmp};
+ghost use Rattle.ic_book.specs.Book.{IsValidBook, core_of};
 ghost use Rattle.ic_book.specs.Workbook.{workbook_of};
-ghost use Rattle.ic_dump.specs.Passing.{standing_sheets};
-ghost use Rattle.ic_dump.specs.Records.{AreFound};
+ghost use Rattle.ic_dump.specs.Passing.{sheet_named, standing_sheets};
+ghost use Rattle.ic_dump.specs.Records.{AreFound, sheet_seen};
+ghost use Rattle.ic_dump.specs.Stages.{HasFewNames};
 
 use crate::passing::free_numerals;
-use crate::unfound::{Names, push_unfound_of};
+use crate::scopes::passing_ids;
+use crate::taken::taken_names;
 use ic_book::Model;
-use ic_cells::{DefinedName, Workbook, Worksheet};
+use ic_cells::{Workbook, Worksheet};
 use ic_laws::{OutOfMemory, SheetName, Text};
 use std::alloc::Global;
 use std::collections::BTreeMap;
@@ -26,120 +32,116 @@ pub(crate) fn standing_sheets(
     model: &Model<'_>,
     workbook: &Workbook,
 ) -> Result<Standing, OutOfMemory>
-    requires { workbook.now ≡ workbook_of model.now.book }
+    requires records { workbook.now ≡ workbook_of model.now.book }
+    requires valid { IsValidBook model.now.book }
     ensures sheets { IfOk result (λ standing. standing.sheets.items
         ≡ standing_sheets (core_of model.now.book)) }
     ensures found { IfOk result (λ standing.
         AreFound standing.indexes standing.sheets.items) }
+
+    // What the law on these lines asks of the names.
+    ensures few { OnOk result (HasFewNames (core_of model.now.book)) }
 {
-    let mut standing = own_sheets(alloc, workbook.worksheets.as_slice())?;
-    let ids = passing_ids(
-        alloc,
-        &mut standing.indexes,
-        workbook.defined_names.as_slice(),
-    )?;
+    let worksheets = workbook.worksheets.as_slice();
+    let ids = passing_ids(alloc, worksheets, workbook.defined_names.as_slice())?;
+    let mut standing = own_sheets(alloc, worksheets)?;
     if ids.is_empty() {
         return Ok(standing);
     }
     let taken = taken_names(alloc, model, workbook)?;
     let names = free_numerals(alloc, ids.len(), taken.as_slice())?;
-    push_named(&mut standing.sheets, ids.as_slice(), names)?;
+    push_named(alloc, &mut standing, ids.as_slice(), names.as_slice())?;
     Ok(standing)
 }
 
 /// The sheets of a book.
-fn own_sheets(alloc: Global, worksheets: &[Worksheet]) -> Result<Standing, OutOfMemory> {
-    let mut sheets = Vec::new(alloc);
-    let mut indexes = BTreeMap::new(alloc);
-    for (index, worksheet) in worksheets.iter().enumerate() {
-        sheets.push(SheetName {
-            id: worksheet.sheet_id,
-            name: Text::from_str(alloc, worksheet.name.as_str())?,
-        })?;
-        indexes.insert(worksheet.sheet_id, index)?;
+fn own_sheets(alloc: Global, worksheets: &[Worksheet]) -> Result<Standing, OutOfMemory>
+    ensures sheets { IfOk result (λ standing.
+        standing.sheets.items ≡ map sheet_seen worksheets.now) }
+    ensures found { IfOk result (λ standing.
+        AreFound standing.indexes standing.sheets.items) }
+{
+    let mut standing = Standing {
+        sheets: Vec::new(alloc),
+        indexes: BTreeMap::new(alloc),
+    };
+    for worksheet in worksheets {
+        push_sheet(alloc, &mut standing, worksheet.sheet_id, &worksheet.name)?;
     }
-    Ok(Standing { sheets, indexes })
+    Ok(standing)
 }
 
-/// The ids that definitions are local to and that have no index yet, and 1 where it has none. Each gets the next index.
-fn passing_ids(
-    alloc: Global,
-    indexes: &mut BTreeMap<u32, usize>,
-    definitions: &[DefinedName],
-) -> Result<Vec<u32>, OutOfMemory> {
-    let mut ids = Vec::new(alloc);
-    for definition in definitions {
-        if let Some(id) = definition.sheet_id {
-            push_new(&mut ids, indexes, id)?;
-        }
-    }
-    push_new(&mut ids, indexes, 1)?;
-    Ok(ids)
-}
-
-/// Puts an id at the end, and gives it the next index, where it has none.
-fn push_new(
-    ids: &mut Vec<u32>,
-    indexes: &mut BTreeMap<u32, usize>,
-    id: u32,
-) -> Result<(), OutOfMemory> {
-    if indexes.contains_key(&id) {
-        return Ok(());
-    }
-    let index = indexes.len();
-    indexes.insert(id, index)?;
-    ids.push(id)?;
-    Ok(())
-}
-
-/// The names that a passing sheet can't have.
-fn taken_names<'b>(
-    alloc: Global,
-    model: &'b Model<'_>,
-    workbook: &'b Workbook,
-) -> Result<Names<'b>, OutOfMemory> {
-    let mut names = Vec::new(alloc);
-    for worksheet in workbook.worksheets.as_slice() {
-        names.push(&worksheet.name)?;
-    }
-    for (sheet, worksheet) in workbook.worksheets.as_slice().iter().enumerate() {
-        push_unfound_in(&mut names, model, sheet as u32, worksheet)?;
-    }
-    for index in 0..workbook.defined_names.len() {
-        if let Some(body) = model.parsed_definition(index) {
-            push_unfound_of(&mut names, body)?;
-        }
-    }
-    Ok(names)
-}
-
-/// Puts the names of sheets that the formulas of a sheet's cells name and that weren't found at the end.
-fn push_unfound_in<'b>(
-    names: &mut Names<'b>,
-    model: &'b Model<'_>,
-    sheet: u32,
-    worksheet: &'b Worksheet,
-) -> Result<(), OutOfMemory> {
-    for (_, cell) in worksheet.cells.as_map().iter() {
-        if let Some(index) = cell.get_formula() {
-            if let Some(formula) = model.parsed_formula(sheet, index) {
-                push_unfound_of(names, formula)?;
-            }
-        }
+/// Gives an id this index, where it has none.
+fn put_index(indexes: &mut BTreeMap<u32, usize>, id: u32, index: usize) -> Result<(), OutOfMemory>
+    ensures { OnOk result ((other : ℕ) → get nat_cmp indexes.new other
+        ≡ option_or (get nat_cmp indexes.old other) (cond (nat_eq id other) (Some index) None)) }
+{
+    if !indexes.contains_key(&id) {
+        indexes.insert(id, index)?;
     }
     Ok(())
 }
 
-/// Puts sheets with these ids and names at the end.
+/// Puts sheets with these ids and names at the end, as many as there are of both.
 fn push_named(
-    sheets: &mut Vec<SheetName>,
+    alloc: Global,
+    standing: &mut Standing,
     ids: &[u32],
-    names: Vec<Text>,
-) -> Result<(), OutOfMemory> {
-    for (index, name) in names.into_iter().enumerate() {
-        if let Some(id) = ids.get(index) {
-            sheets.push(SheetName { id: *id, name })?;
-        }
+    names: &[Text],
+) -> Result<(), OutOfMemory>
+    requires { AreFound standing.old.indexes standing.old.sheets.items }
+    ensures sheets { OnOk result (standing.new.sheets.items
+        ≡ standing.old.sheets.items ++ map sheet_named (zip ids.now names.now)) }
+    ensures found { OnOk result
+        (AreFound standing.new.indexes standing.new.sheets.items) }
+{
+    for (index, id) in ids.iter().enumerate() {
+        push_if_named(alloc, standing, *id, name_at(names, index))?;
     }
+    Ok(())
+}
+
+/// The name at an index. None past the end.
+fn name_at(names: &[Text], index: usize) -> Option<&Text>
+    ensures { option_copied result ≡ slice_get names.now index }
+{
+    names.get(index)
+}
+
+/// Puts a sheet with this id at the end, where there is a name for it.
+fn push_if_named(
+    alloc: Global,
+    standing: &mut Standing,
+    id: u32,
+    name: Option<&Text>,
+) -> Result<(), OutOfMemory>
+    requires { AreFound standing.old.indexes standing.old.sheets.items }
+    ensures sheets { OnOk result (standing.new.sheets.items ≡ standing.old.sheets.items
+        ++ option_to_list (option_map (λ n. sheet_named (id, n)) (option_copied name.entry))) }
+    ensures found { OnOk result
+        (AreFound standing.new.indexes standing.new.sheets.items) }
+{
+    match name {
+        Some(name) => push_sheet(alloc, standing, id, name),
+        None => Ok(()),
+    }
+}
+
+/// Puts a sheet with this id and this name at the end.
+fn push_sheet(
+    alloc: Global,
+    standing: &mut Standing,
+    id: u32,
+    name: &Text,
+) -> Result<(), OutOfMemory>
+    requires { AreFound standing.old.indexes standing.old.sheets.items }
+    ensures sheets { OnOk result (standing.new.sheets.items
+        ≡ standing.old.sheets.items ++ sheet_named (id, name.now) ∷ []) }
+    ensures found { OnOk result
+        (AreFound standing.new.indexes standing.new.sheets.items) }
+{
+    let name = Text::from_str(alloc, name.as_str())?;
+    put_index(&mut standing.indexes, id, standing.sheets.len())?;
+    standing.sheets.push(SheetName { id, name })?;
     Ok(())
 }

@@ -23,7 +23,6 @@ pub(crate) fn push_unfound_of<'f>(
 
 /// Those of a tree.
 #[cycle(push_unfound)]
-#[tactic(auto, using(crate::proofs::UnfoundLemmas::two_parts))]
 fn push_unfound<'f>(names: &mut Names<'f>, tree: &'f Bound) -> Result<(), OutOfMemory>
     ensures { OnOk result (map (λ name. name.now) names.new.items
         ≡ map (λ name. name.now) names.old.items ++ unfound_in tree.now) }

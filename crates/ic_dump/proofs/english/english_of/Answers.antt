@@ -6,6 +6,6 @@ pub unreachable-requires : goal.unreachable-requires
 unfolding chars
 unreachable-requires c = refused_never c.args.model.now.book c.in-Err.ensures.valid c.in-Err.field-0 c.in-Err.ensures.refused
 
-pub returns : goal.returns
+pub returns-clause-named : goal.returns-clause-named
 unfolding chars
-returns c = c.in-Ok.ensures.named
+returns-clause-named c = c.in-Ok.ensures.named

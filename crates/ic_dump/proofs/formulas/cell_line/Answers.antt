@@ -5,7 +5,7 @@ use Rattle.std.specs.Fmt.{decimal, signed_decimal}
 use Rattle.std.specs.Str.{chars}
 use mir.Syntax.{w32}
 use Rattle.ic_machine.specs.Translation.{line_of}
-use Rattle.ic_dump.proofs.stages.cell_line.Goals as goal
+use Rattle.ic_dump.proofs.formulas.cell_line.Goals as goal
 
 pub returns : goal.returns
 unfolding chars

@@ -1,0 +1,28 @@
+-- The names that a passing sheet can't have, part by part.
+use Rattle.std.proofs.Common.{◌≡◌, ◌++◌, ◌∷◌, [], ◌∙◌, ℕ, List, Option, Some, None, ap, ap₂, append_assoc, map, refl, sym}
+use Rattle.std.proofs.lemmas.Grind.{flat_map-append}
+use Rattle.std.specs.Prelude.{flat_map}
+use Rattle.ic_laws.specs.CoreBook.{CellPlace, CoreBook, Sheet, names_of}
+use Rattle.ic_laws.specs.declared.tree.Formula.{Formula}
+use Rattle.ic_dump.specs.Passing.{formulas_in, taken_names, unfound_of}
+
+-- those that the formulas of a sheet's cells name
+abbrev pub unfound_at : Sheet → List (List ℕ)
+unfound_at s = flat_map unfound_of (map (λ (cell : CellPlace × Formula). cell.1) s.cells)
+
+pub unfound_each : (sheets : List Sheet) → flat_map unfound_of (flat_map (λ (s : Sheet). map (λ (cell : CellPlace × Formula). cell.1) s.cells) sheets) ≡ flat_map unfound_at sheets
+unfound_each [] = refl
+unfound_each (s ∷ sheets) =
+    flat_map-append unfound_of (map (λ (cell : CellPlace × Formula). cell.1) s.cells) (flat_map (λ (s : Sheet). map (λ (cell : CellPlace × Formula). cell.1) s.cells) sheets)
+    ∙ ap (λ rest. unfound_at s ++ rest) (unfound_each sheets)
+
+-- the names of sheets, what cells name, and what bodies name
+pub taken_parts : (book : CoreBook) (own cells all : List (List ℕ)) → own ≡ names_of book → cells ≡ own ++ flat_map unfound_of (flat_map (λ (s : Sheet). map (λ (cell : CellPlace × Formula). cell.1) s.cells) book.sheets)
+    → all ≡ cells ++ flat_map unfound_of (map (λ d. d.body) book.definitions) → all ≡ taken_names book
+taken_parts book own cells all first then_cells then_bodies =
+    let of_cells : List Formula = flat_map (λ (s : Sheet). map (λ (cell : CellPlace × Formula). cell.1) s.cells) book.sheets in
+    let bodies : List Formula = map (λ d. d.body) book.definitions in
+    then_bodies
+    ∙ ap (λ front. front ++ flat_map unfound_of bodies) (then_cells ∙ ap (λ front. front ++ flat_map unfound_of of_cells) first)
+    ∙ append_assoc (names_of book) (flat_map unfound_of of_cells) (flat_map unfound_of bodies)
+    ∙ ap (λ rest. names_of book ++ rest) (sym (flat_map-append unfound_of of_cells bodies))
