@@ -3,6 +3,7 @@ pub mod ApartLemmas
 pub mod BareBooks
 pub mod BodiesApart
 pub mod BodiesSet
+pub mod BodyTrees
 pub mod CellLemmas
 pub mod CellsPlain
 pub mod CellsWritten
@@ -14,6 +15,7 @@ pub mod EnglishLemmas
 pub mod LackedNames
 pub mod ListLemmas
 pub mod MomentLemmas
+pub mod NeverRaw
 pub mod NumeralLemmas
 pub mod PassingGone
 pub mod PassingLemmas

@@ -1,6 +1,6 @@
 -- The sheets that stand while a book is rebuilt: they have ids and names, all different, one of them is the first, and each
 -- definition is local to one of them, or to none.
-use Rattle.std.proofs.Common.{◌≡◌, ℕ, ◌+◌, ◌<◌, ◌^◌, List, [], ◌∷◌, ◌++◌, filter, flat_map, length, map, Bool, true, false, cond, ◌||◌, Option, None, Some, refl, sym, ap, ap₂, subst, ◌∙◌, arith, inl, inr, nat_eq}
+use Rattle.std.proofs.Common.{◌≡◌, ℕ, ◌+◌, ◌<◌, ◌^◌, List, [], ◌∷◌, ◌++◌, filter, flat_map, take, length, map, Bool, true, false, cond, ◌||◌, Option, None, Some, refl, sym, ap, ap₂, subst, ◌∙◌, arith, inl, inr, nat_eq}
 use Rattle.std.proofs.lemmas.Bool.{cases_Bool, eq-eqb, eqb-true, not-true, or_parts}
 use Rattle.std.proofs.lemmas.List.{length-map, length-take-le, map-append}
 use Rattle.std.proofs.lemmas.List.FromFn.{length-map-range_with_len}
