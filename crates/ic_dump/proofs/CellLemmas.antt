@@ -1,8 +1,8 @@
 -- The formulas of cells, and sheets one after another, by their records.
-use Rattle.std.proofs.Common.{arith, ◌≡◌, ◌++◌, ◌∷◌, [], ◌∙◌, ℕ, ◌+◌, ◌<◌, ◌≤◌, zero, suc, List, Option, Some, None, ap, ap₂, append_assoc, append-nil, drop, get_or, length, map, option_and_then, option_map, refl, slice_get, sym, unwrap_or}
+use Rattle.std.proofs.Common.{arith, ◌≡◌, ◌++◌, ◌∷◌, [], ◌∙◌, ℕ, ◌+◌, ◌<◌, ◌≤◌, zero, suc, List, Option, Some, None, ap, ap₂, append_assoc, append-nil, drop, get_or, length, map, option_and_then, option_map, refl, slice_get, sym, take, unwrap_or}
 use Rattle.std.proofs.Math.Numerals.{add-one}
 use Rattle.std.proofs.lemmas.Grind.{flat_map-append}
-use Rattle.std.proofs.lemmas.List.{drop_all, length-map}
+use Rattle.std.proofs.lemmas.List.{drop_all, length-map, map-append, take_more}
 use Rattle.std.proofs.lemmas.Option.{slice_get-get_or, slice_get-map, slice_get_past, slice_get_read}
 use Rattle.std.specs.BTreeMap as tree
 use Rattle.std.specs.BTreeMap.{BTreeMap}
@@ -32,10 +32,16 @@ use Rattle.ic_dump.specs.Records.{kept_at}
 
 -- ---- a sheet by its record
 
--- the record at an index is that of the sheet at that index
+-- the record at an index is that of what stands at that index
+pub record_at : {A B : Type 0} (f : A → B) (xs : List A) (ys : List B) (i : ℕ) (y : B) → ys ≡ map f xs → i < length ys → y ≡ get_or ys i y → option_map f (slice_get xs i) ≡ Some y
+record_at {A} {B} f xs ys i y are below item =
+    sym (slice_get-map f xs i) ∙ ap (λ (l : List B). slice_get l i) (sym are) ∙ slice_get_read ys (length ys) i y refl below item
+
+pub record_is : {A B : Type 0} (f : A → B) (o : Option A) (x : A) (y : B) → o ≡ Some x → option_map f o ≡ Some y → y ≡ f x
+record_is f o x y there is = let both : Some (f x) ≡ Some y = sym (ap (option_map f) there) ∙ is in cc
+
 pub sheet_at : (b : Book) (ws : List Worksheet) (i : ℕ) (w : Worksheet) → ws ≡ map (worksheet_of b) b.sheets → i < length ws → w ≡ get_or ws i w → option_map (worksheet_of b) (slice_get b.sheets i) ≡ Some w
-sheet_at b ws i w are below item =
-    sym (slice_get-map (worksheet_of b) b.sheets i) ∙ ap (λ (l : List Worksheet). slice_get l i) (sym are) ∙ slice_get_read ws (length ws) i w refl below item
+sheet_at b ws i w are below item = record_at (worksheet_of b) b.sheets ws i w are below item
 
 -- so there is a sheet
 pub one_there : {A B : Type 0} (f : A → B) (o : Option A) (y : B) → option_map f o ≡ Some y → (x : A) × (o ≡ Some x)
@@ -118,3 +124,20 @@ none_left b ws i are end =
     let all : length ws ≡ length b.sheets = records_all b ws are in
     let seen : length (map sheet_core b.sheets) ≡ length b.sheets = length-map b.sheets sheet_core in
     drop_all i (map sheet_core b.sheets) (omega arith)
+
+-- what is made of each, one more
+pub mapped_more : {X Y Z : Type 0} (g : Y → Z) (h : X → Y) (xs : List X) (i : ℕ) (x : X) (old items new : List Z) → i < length xs → x ≡ get_or xs i x → items ≡ old ++ map g (map h (take i xs)) → new ≡ items ++ g (h x) ∷ [] → new ≡ old ++ map g (map h (take (i + 1) xs))
+mapped_more g h xs i x old items new below item so_far put =
+    put ∙ ap (λ zs. zs ++ g (h x) ∷ []) so_far ∙ append_assoc old (map g (map h (take i xs))) (g (h x) ∷ [])
+    ∙ ap (λ zs. old ++ zs)
+    (sym (ap (λ ys. map g (map h ys)) (take_more xs i x below ∙ ap (λ y. take i xs ++ y ∷ []) (sym item)) ∙ ap (map g) (map-append h (take i xs) (x ∷ [])) ∙ map-append g (map h (take i xs)) (h x ∷ [])))
+
+-- one more of a list, where there is one
+pub one_taken : {X : Type 0} (xs : List X) (i : ℕ) → take (i + 1) xs ≡ take i xs ++ option_to_list (slice_get xs i)
+one_taken xs i = ap (λ k. take k xs) (add-one i) ∙ by_index xs i
+  where
+    by_index : {X : Type 0} (xs : List X) (i : ℕ) → take (suc i) xs ≡ take i xs ++ option_to_list (slice_get xs i)
+    by_index [] zero = refl
+    by_index [] (suc i) = refl
+    by_index (x ∷ xs) zero = refl
+    by_index (x ∷ xs) (suc i) = ap (λ rest. x ∷ rest) (by_index xs i)

@@ -3,6 +3,7 @@ ghost use Rattle.std.specs.Prelude.{◌≡◌, IfOk, Some, false, flat_map, map,
 ghost use Rattle.std.specs.List.{slice_get};
 ghost use Rattle.std.specs.Option.{option_map_or};
 ghost use Rattle.ic_laws.specs.Scene.{key_of};
+ghost use Rattle.ic_machine.specs.Refusal.{CellSite};
 ghost use Rattle.ic_sheets.specs.Sheet.{Sheet, sheet_core};
 ghost use Rattle.ic_book.specs.Book.{IsValidBook, core_of, notations_in};
 ghost use Rattle.ic_book.specs.Sites.{site_of};
@@ -116,14 +117,21 @@ fn rereading_among(
 {
     for cell in cells {
         if rereads(alloc, model, english, cell)? {
-            return Ok(Some(MentionSite::Cell {
-                sheet_id: id,
-                row: cell.row,
-                column: cell.column,
-            }));
+            return Ok(Some(cell_site(id, cell.row, cell.column)));
         }
     }
     Ok(None)
+}
+
+/// The cell at a row and a column of the sheet with this id.
+fn cell_site(id: u32, row: i32, column: i32) -> MentionSite
+    ensures { site_of result ≡ CellSite id (row, column) }
+{
+    MentionSite::Cell {
+        sheet_id: id,
+        row,
+        column,
+    }
 }
 
 /// Whether a cell is one.

@@ -1,6 +1,7 @@
 //! The names that a passing sheet can't have.
 ghost use Rattle.std.specs.Prelude.{◌≡◌, ◌≤◌, ◌++◌, IfOk, OnOk, Some, flat_map, length, map, option_map};
 ghost use Rattle.std.specs.List.{slice_get};
+ghost use Rattle.std.specs.Option.{option_to_list};
 ghost use Rattle.ic_sheets.specs.Sheet.{Sheet, sheet_core};
 ghost use Rattle.ic_book.specs.Book.{IsValidBook, core_of};
 ghost use Rattle.ic_book.specs.Workbook.{workbook_of, worksheet_of};
@@ -108,9 +109,23 @@ fn push_unfound_by<'b>(
         ++ flat_map unfound_of (map (λ d. d.body) model.now.book.definitions)) }
 {
     for index in 0..count {
-        if let Some(body) = model.parsed_definition(index) {
-            push_unfound_of(names, body)?;
-        }
+        push_body(names, model, index)?;
     }
     Ok(())
+}
+
+/// Those of the body of the definition at an index, where there is one.
+fn push_body<'b>(
+    names: &mut Names<'b>,
+    model: &'b Model<'_>,
+    index: usize,
+) -> Result<(), OutOfMemory>
+    ensures { OnOk result (map (λ name. name.now) names.new.items
+        ≡ map (λ name. name.now) names.old.items ++ flat_map unfound_of
+        (option_to_list (option_map (λ d. d.body) (slice_get model.now.book.definitions index)))) }
+{
+    match model.parsed_definition(index) {
+        Some(body) => push_unfound_of(names, body),
+        None => Ok(()),
+    }
 }

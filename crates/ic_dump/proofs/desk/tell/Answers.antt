@@ -1,16 +1,27 @@
-use Rattle.std.proofs.Common.{◌≡◌, ◌∙◌, ◌++◌, ap, subst, sym}
-use Rattle.ic_book.specs.Whole.{whole_of}
+use Rattle.std.proofs.Common.{◌≡◌, ◌∙◌, ◌++◌, Some, ap, subst, sym}
 use Rattle.ic_lines.proofs.ToldLemmas.{IfTold-weaker}
 use Rattle.ic_lines.specs.Bytes.{AppendsFront, IfTold}
+use Rattle.ic_book.specs.Sites.{site_of}
+use Rattle.ic_book.specs.Whole.{whole_of}
 use Rattle.ic_dump.specs.Told.{TellsCannot, TellsDump, told_cannot, told_lines, told_of}
 use Rattle.ic_dump.proofs.ToldLemmas.{fronts_cannot, fronts_dump, tells_cannot, tells_dump}
 use Rattle.ic_dump.proofs.desk.tell.Goals as goal
 
 pub returns-in-Ok-clause-dumped : goal.returns-in-Ok-clause-dumped
-returns-in-Ok-clause-dumped g c at_0 = ?
+returns-in-Ok-clause-dumped g c at_0 =
+    let written = g.K.Sink.written in
+    let b = c.args.model.now.book in
+    let lines = c.in-Ok.lines.items in
+    IfTold-weaker (written c.args.sink.now) (written c.write_lines.new.sink) (λ before now. now ≡ before ++ told_lines c.deref.result.now) (TellsDump (whole_of b))
+    (λ before now w. tells_dump b before now lines c.in-Ok.ensures.refused c.in-Ok.ensures.lines c.in-Ok.ensures.rebuilds (w ∙ ap (λ ls. before ++ told_lines ls) c.deref.ensures.value)) (c.write_lines.ensures.ok at_0)
 
 pub returns-in-Ok-clause-front : goal.returns-in-Ok-clause-front
-returns-in-Ok-clause-front g c at_4 = ?
+returns-in-Ok-clause-front g c at_4 =
+    let written = g.K.Sink.written in
+    let b = c.args.model.now.book in
+    let lines = c.in-Ok.lines.items in
+    IfTold-weaker (written c.args.sink.now) (written c.write_lines.new.sink) (AppendsFront (told_lines c.deref.result.now)) (AppendsFront (told_of (whole_of b)))
+    (λ before now w. fronts_dump b before now lines c.in-Ok.ensures.refused c.in-Ok.ensures.lines (subst (λ ls. AppendsFront (told_lines ls) before now) c.deref.ensures.value w)) (c.write_lines.ensures.front at_4)
 
 pub returns-in-Err-Rereads-clause-cannot : goal.returns-in-Err-Rereads-clause-cannot
 returns-in-Err-Rereads-clause-cannot g c at_7 = ?
