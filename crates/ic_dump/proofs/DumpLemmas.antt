@@ -1,5 +1,5 @@
 -- The cause that a book has no lines, and the parts of its lines.
-use Rattle.std.proofs.Common.{◌≡◌, ◌++◌, ◌∷◌, [], ◌∙◌, ℕ, ◌+◌, ◌-◌, pos, Bool, true, false, cond, List, Option, Some, None, ap, ap₂, append_assoc, find, length, length-append, map, min, option_map, refl, reverse, subst, sym, zip, arith}
+use Rattle.std.proofs.Common.{◌≡◌, ◌++◌, ◌∷◌, [], ◌∙◌, ℕ, ◌+◌, ◌-◌, pos, Bool, true, false, cond, List, Option, Some, None, ap, ap₂, append_assoc, find, length, length-append, map, min, option_map, refl, reverse, sym, zip, arith}
 use Rattle.std.proofs.lemmas.List.{length-map}
 use Rattle.std.proofs.lemmas.Slice.Zip.{length-zip}
 use Rattle.std.specs.List.{range_with_len}
@@ -11,17 +11,13 @@ use Rattle.ic_laws.specs.declared.tree.Formula.{Formula}
 use Rattle.ic_laws.specs.declared.tree.Formula.TheVariants as formulas
 use Rattle.ic_laws.specs.declared.tree.NameKey.{NameKey}
 use Rattle.ic_machine.specs.Refusal.{Site}
-use Rattle.ic_machine.specs.Book as machine
-use Rattle.ic_book.proofs.WholeLemmas.{whole_core}
-use Rattle.ic_book.specs.Book.{Book, IsValidBook, core_of, notations_in, whole_of}
+use Rattle.ic_book.specs.Book.{Book, core_of, notations_in}
 use Rattle.ic_sheets.specs.Sheet.{sheet_core}
 use Rattle.ic_book.specs.Workbook.{body_text, defined_name_of}
-use Rattle.ic_dump.specs.Lines.{Text, body_line, body_lines, defining_line, defining_lines, deleting_line, deleting_lines, dump_lines, english_body}
+use Rattle.ic_dump.specs.Lines.{Text, body_line, body_lines, defining_line, defining_lines, deleting_line, deleting_lines, english_body}
 use Rattle.ic_dump.specs.Passing.{free_numerals, passing_ids, passing_sheets, sheet_named, standing_sheets, taken_names}
-use Rattle.ic_dump.specs.Rebuilds.{Rebuilds}
 use Rattle.ic_dump.specs.Records.{name_seen}
 use Rattle.ic_dump.specs.Stages.{HasFewNames}
-use Rattle.ic_dump.proofs.Rebuilt.{rebuilds}
 use Rattle.ic_dump.proofs.StandLemmas.{free_many}
 use Rattle.ic_dump.specs.Refused.{Cause, RawBody, Rereads, cause_of, is_raw, raw_body, rereading}
 
@@ -102,12 +98,3 @@ deleted_told b own count few own_is count_is =
 pub six_parts : {X : Type 0} (a b c d e f l0 l1 l2 l3 l4 l5 l6 : List X) → l0 ≡ [] → l1 ≡ l0 ++ a → l2 ≡ l1 ++ b → l3 ≡ l2 ++ c → l4 ≡ l3 ++ d → l5 ≡ l4 ++ e → l6 ≡ l5 ++ f → l6 ≡ a ++ (b ++ (c ++ (d ++ (e ++ f))))
 six_parts a b c d e f l0 l1 l2 l3 l4 l5 l6 h0 h1 h2 h3 h4 h5 h6 =
     let all : l6 ≡ ((((([] ++ a) ++ b) ++ c) ++ d) ++ e) ++ f = cc in all ∙ simp append_assoc
-
--- ---- what the lines do
-
-pub lines_rebuild : (b : Book) (lines : List Text) → IsValidBook b → cause_of (notations_in b) (core_of b) ≡ None → HasFewNames (core_of b) → lines ≡ dump_lines (notations_in b) (core_of b) → Rebuilds b.tables lines (core_of b)
-lines_rebuild b lines valid none few are =
-    let seen : machine.core_of (whole_of b) ≡ core_of b = whole_core b in
-    let all : Rebuilds b.tables (dump_lines (notations_in b) (machine.core_of (whole_of b))) (machine.core_of (whole_of b)) =
-    rebuilds (whole_of b) valid.whole (ap (cause_of (notations_in b)) seen ∙ none) (subst HasFewNames (sym seen) few) in
-    subst (λ ls. Rebuilds b.tables ls (core_of b)) (sym are) (subst (λ (c : CoreBook). Rebuilds b.tables (dump_lines (notations_in b) c) c) seen all)

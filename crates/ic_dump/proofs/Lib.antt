@@ -21,6 +21,7 @@ pub mod PassingGone
 pub mod PassingLemmas
 pub mod PlainBody
 pub mod ReadLemmas
+pub mod RebuildLemmas
 pub mod Rebuilt
 pub mod RecordLemmas
 pub mod RefusedLemmas

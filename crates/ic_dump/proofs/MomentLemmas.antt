@@ -1,10 +1,10 @@
 -- What is told doesn't hang on the moment when the book was made.
-use Rattle.std.proofs.Common.{◌≡◌, ℕ, List, [], ◌∷◌, refl, subst, sym, ap, ◌∙◌}
+use Rattle.std.proofs.Common.{◌≡◌, ℕ, List, [], ◌∷◌, Option, None, Some, refl, subst, sym, ap, ◌∙◌}
 use Rattle.ic_laws.specs.Lines.{texts_of}
 use Rattle.ic_lines.specs.Bytes.{AppendsFront}
 use Rattle.ic_tables.specs.Tables.{TableSet}
 use Rattle.ic_cells.specs.declared.workbook.Metadata.{Metadata}
-use Rattle.ic_machine.specs.Book.{Book}
+use Rattle.ic_machine.specs.Book.{Book, core_of, notations_in}
 use Rattle.ic_machine.specs.Run.{after}
 use Rattle.ic_machine.specs.Translation.{left_after}
 use Rattle.ic_machine.proofs.MetadataFree.{left_same, with_metadata}
@@ -14,7 +14,8 @@ use Rattle.ic_book.specs.Whole.{whole_of}
 use Rattle.ic_run.specs.Core.{whole_machine}
 use Rattle.ic_run.specs.Make.{made_start}
 use Rattle.ic_run.specs.Prepared.{IsBookAfter, book_after}
-use Rattle.ic_dump.specs.Told.{TellsCannot, TellsDump, told_of}
+use Rattle.ic_dump.specs.Refused.{Cause, RawBody, Rereads, cause_of}
+use Rattle.ic_dump.specs.Told.{TellsCannot, TellsDump, told_by, told_of}
 
 after_anytime : (m : Metadata) (book : Book) (lines : List (List ℕ)) → after whole_machine (with_metadata m book) lines ≡ with_metadata m (after whole_machine book lines)
 after_anytime m book [] = refl
@@ -26,6 +27,14 @@ anytime P free tables bytes book is told other =
     subst P (sym (after_anytime (metadata_made other) (made_start is.0 tables) (texts_of bytes)))
     (free (metadata_made other) (book_after tables is.0 bytes) (subst P is.1 told))
 
+told_free : (m : Metadata) (b : Book) → told_of b ≡ told_of (with_metadata m b)
+told_free m b = by_cause (cause_of (notations_in b) (core_of b))
+  where
+    by_cause : (cause : Option Cause) → told_by cause b ≡ told_by cause (with_metadata m b)
+    by_cause None = refl
+    by_cause (Some (RawBody key)) = refl
+    by_cause (Some (Rereads site)) = refl
+
 module _ (before now : List ℕ) where
   pub dump_anytime : (tables : TableSet) (bytes : List ℕ) (book : held.Book) → IsBookAfter tables book bytes [] → TellsDump (whole_of book) before now → (other : List ℕ) → TellsDump (book_after tables other bytes) before now
   dump_anytime = anytime (λ b. TellsDump b before now) (λ m b t. record { none = t.none; written = t.written; rebuilds = t.rebuilds })
@@ -34,4 +43,4 @@ module _ (before now : List ℕ) where
   cannot_anytime = anytime (λ b. TellsCannot b before now) (λ m b t. record { site = t.site; cause = t.cause; written = t.written })
 
   pub front_anytime : (tables : TableSet) (bytes : List ℕ) (book : held.Book) → IsBookAfter tables book bytes [] → AppendsFront (told_of (whole_of book)) before now → (other : List ℕ) → AppendsFront (told_of (book_after tables other bytes)) before now
-  front_anytime = anytime (λ b. AppendsFront (told_of b) before now) (λ m b t. t)
+  front_anytime = anytime (λ b. AppendsFront (told_of b) before now) (λ m b t. subst (λ (text : List ℕ). AppendsFront text before now) (told_free m b) t)

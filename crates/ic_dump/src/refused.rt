@@ -117,20 +117,20 @@ fn rereading_among(
 {
     for cell in cells {
         if rereads(alloc, model, english, cell)? {
-            return Ok(Some(cell_site(id, cell.row, cell.column)));
+            return Ok(Some(cell_site(id, cell)));
         }
     }
     Ok(None)
 }
 
-/// The cell at a row and a column of the sheet with this id.
-fn cell_site(id: u32, row: i32, column: i32) -> MentionSite
-    ensures { site_of result ≡ CellSite id (row, column) }
+/// Where it stands, in the sheet with this id.
+fn cell_site(id: u32, cell: &Placed<'_>) -> MentionSite
+    ensures { site_of result ≡ CellSite id (cell_seen cell.now).0 }
 {
     MentionSite::Cell {
         sheet_id: id,
-        row,
-        column,
+        row: cell.row,
+        column: cell.column,
     }
 }
 

@@ -1,4 +1,4 @@
-use Rattle.ic_dump.proofs.DumpLemmas.{lines_rebuild}
+use Rattle.ic_dump.proofs.RebuildLemmas.{lines_rebuild}
 use Rattle.ic_dump.proofs.dumping.dump.Goals as goal
 
 pub returns-in-Ok-clause-rebuilds : goal.returns-in-Ok-clause-rebuilds

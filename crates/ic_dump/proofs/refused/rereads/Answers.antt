@@ -1,5 +1,6 @@
 use Rattle.std.proofs.Common.{◌∙◌, ap, sym}
 use Rattle.std.proofs.lemmas.Result.{IfOk-weaker}
+use Rattle.ic_laws.specs.CoreBook.{CellPlace}
 use Rattle.ic_book.specs.Book.{notations_in}
 use Rattle.ic_dump.specs.Refused.{is_read, rereads}
 use Rattle.ic_dump.proofs.refused.rereads.Goals as goal
@@ -7,7 +8,7 @@ use Rattle.ic_dump.proofs.refused.rereads.Goals as goal
 pub returns-in-Raw : goal.returns-in-Raw
 returns-in-Raw c =
     let n = notations_in c.args.model.now.book in
-    let place = (c.args.cell.now.row, c.args.cell.now.column) in
+    let place : CellPlace = (c.args.cell.now.row, c.args.cell.now.column) in
     IfOk-weaker c.is_read.result _ _
     (λ r is. is ∙ ap (is_read n place) c.as_str.ensures.characters ∙ ap (rereads n place) (sym c.in-Raw.is))
     (c.is_read.ensures c.args.model.now.book c.requires)
