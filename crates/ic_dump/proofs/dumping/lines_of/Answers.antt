@@ -48,5 +48,5 @@ returns-clause-lines c =
     (c.in_ok-push_inserting.ensures ∙ ap (λ ss. l1 ++ inserting_lines_from 0 ss) sheets_are)
     (c.in_ok-push_defining.ensures ∙ ap₂ (λ ss xs. l2 ++ map (λ d. defining_line ss (name_seen d)) xs) standing_are ds_are ∙ ap (λ ls. l2 ++ ls) (definitions_told b))
     (c.in_ok-push_bodies.ensures ∙ ap₂ (λ ss xs. l3 ++ map (λ d. body_line ss (name_seen d) d.formula) xs) standing_are ds_are ∙ ap (λ ls. l3 ++ ls) (bodies_told b c.requires.none))
-    (c.in_ok-push_deleting.ensures ∙ ap (λ ls. l4 ++ ls) (deleted_told b _ _ c.in_ok-standing.ensures.few (c.len.ensures ∙ own) (c.len-2.ensures ∙ ap length sheets_are)))
+    (c.in_ok-push_deleting.ensures ∙ ap (λ ls. l4 ++ ls) (deleted_told b _ _ c.in_ok-standing.ensures.few own (ap length sheets_are)))
     c.in_ok-push_cells.ensures
