@@ -1,0 +1,3 @@
+pub mod LeaveOut
+pub mod Shared
+pub mod Users
