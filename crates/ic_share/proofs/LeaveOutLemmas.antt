@@ -21,7 +21,7 @@ use Rattle.ic_machine.specs.subjects.Notation as notation
 use Rattle.ic_machine.specs.subjects.Notation.{set_language_step}
 use Rattle.ic_run.proofs.TablesStay.{tables_stay}
 use Rattle.ic_share.specs.LeaveOut.{IsQuietIfBy, IsSameBut, LeavesNoTrace, is_by, is_line_of, is_quiet, told_each, without_user}
-use Rattle.ic_share.specs.Shared.{Languages, SharedBook, done_for, in_language, language_of, languages_left, left_for, sent_step, share_machine, with_choice}
+use Rattle.ic_share.specs.Shared.{Languages, SharedBook, done_for, in_language, language_of, languages_left, sent_step, share_machine, with_choice}
 use Rattle.ic_share.specs.Users.{Sent, sent_in}
 
 -- a quiet command, in a book with another language, leaves the book but for that
@@ -142,7 +142,7 @@ module _ (user : List ℕ) where
   replied one other same None by = refl
   replied one other same (Some sent) by = ap (λ (d : Book × Reply). d.1) (done_same one other same sent (by_other sent by))
 
-  keeps : (List ℕ × List ℕ) → Bool
+  abbrev keeps : (List ℕ × List ℕ) → Bool
   keeps told = not (is_line_of user told.0)
 
   -- all lines of a run, from two books that are the same but for the user's language
@@ -170,16 +170,20 @@ module _ (user : List ℕ) where
     rest.left,
   )
 
+  by_line : (one other : SharedBook) (line : List ℕ) (lines : List (List ℕ)) → IsSameBut user one other → IsQuietIfBy (english_errors one.book) user (sent_in line)
+      → ((rest : SharedBook) → IsSameBut user (share_machine one line).0 rest → Same (share_machine one line).0 rest lines)
+      → (b : Bool) → is_line_of user line ≡ b → SameAfter b (share_machine one line).0 other (line, (share_machine one line).1) lines
+  by_line one other line lines same quiet all true e =
+      after_skipped (share_machine one line).0 other (line, (share_machine one line).1) lines (all other (skipped one other same (sent_in line) e quiet))
+  by_line one other line lines same quiet all false e =
+      after_both one other line lines (replied one other same (sent_in line) e) (all (share_machine other line).0 (both one other same (sent_in line) e))
+
   all_same : (lines : List (List ℕ)) (one other : SharedBook) → IsSameBut user one other → AllByRecursion (λ line. IsQuietIfBy (english_errors one.book) user (sent_in line)) lines → Same one other lines
   all_same [] one other same quiet = record { replies = refl; left = same }
-  all_same (line ∷ lines) one other same quiet = let all = go (is_line_of user line) refl in record { replies = all.0; left = all.1 }
-    where
-      later : AllByRecursion (λ l. IsQuietIfBy (english_errors (share_machine one line).0.book) user (sent_in l)) lines
-      later = quiet_words _ _ (sym (words_stay one (sent_in line))) lines quiet.1
-
-      go : (b : Bool) → is_line_of user line ≡ b → SameAfter b (share_machine one line).0 other (line, (share_machine one line).1) lines
-      go true e = after_skipped (share_machine one line).0 other (line, (share_machine one line).1) lines (all_same lines (share_machine one line).0 other (skipped one other same (sent_in line) e quiet.0) later)
-      go false e = after_both one other line lines (replied one other same (sent_in line) e) (all_same lines (share_machine one line).0 (share_machine other line).0 (both one other same (sent_in line) e) later)
+  all_same (line ∷ lines) one other same quiet =
+      let later = quiet_words _ _ (sym (words_stay one (sent_in line))) lines quiet.1 in
+      let all = by_line one other line lines same quiet.0 (λ rest h. all_same lines (share_machine one line).0 rest h later) (is_line_of user line) refl in
+      record { replies = all.0; left = all.1 }
 
 pub leaves_no_trace : (user : List ℕ) (shared : SharedBook) (lines : List (List ℕ)) → AllByRecursion (λ line. IsQuietIfBy (english_errors shared.book) user (sent_in line)) lines → LeavesNoTrace user shared lines
 leaves_no_trace user shared lines quiet =
