@@ -1,5 +1,5 @@
 -- Whose a line is: a user's word stands before its first tab, and their command line behind it.
-use Rattle.std.specs.Prelude.{ℕ, List, [], ◌∷◌, Bool, ◌==◌, Option, None, option_map, if◌then◌else◌}
+use Rattle.std.specs.Prelude.{ℕ, List, [], ◌∷◌, Bool, ◌==◌, Option, Some, None, option_and_then, option_map, if◌then◌else◌}
 use Rattle.std.specs.List.{after_first, before_first, list_any}
 use Rattle.ic_laws.specs.Character.{tab}
 use Rattle.ic_laws.specs.Lines.{unescaped}
@@ -17,7 +17,14 @@ user_of (c ∷ cs) = unescaped (c ∷ cs)
 abbrev pub is_tab : ℕ → Bool
 is_tab c = c == tab
 
--- Who sent a line, and which command line. Only the first tab counts. A line without a tab is nobody's, and so is one whose
--- first word spells no user.
+-- what stands before the first tab of a line, and what stands behind it; none where it has no tab
+abbrev pub parts_of : List ℕ → Option (List ℕ × List ℕ)
+parts_of line = if list_any is_tab line then Some (before_first is_tab line, after_first is_tab line) else None
+
+-- a command line, sent by the user of a word, if it spells one
+abbrev pub sent_by : List ℕ → List ℕ → Option Sent
+sent_by word command = option_map (λ user. record { user = user; command = command }) (user_of word)
+
+-- Who sent a line, and which command line. A line without a tab is nobody's, and so is one whose first word spells no user.
 abbrev pub sent_in : List ℕ → Option Sent
-sent_in line = if list_any is_tab line then option_map (λ user. record { user = user; command = after_first is_tab line }) (user_of (before_first is_tab line)) else None
+sent_in line = option_and_then (λ parts. sent_by parts.0 parts.1) (parts_of line)
