@@ -1,1 +1,2 @@
 pub mod LeaveOutLemmas
+pub mod UsersLemmas

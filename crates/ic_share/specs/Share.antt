@@ -1,6 +1,7 @@
 -- What a run of lines of many users leaves and writes, at its end and after an error.
-use Rattle.std.specs.Prelude.{◌≡◌, ℕ, ◌+◌, ◌≤◌, List, [], String, Bool, true, chars, length, map, option_map, string_bytes, unwrap_or, Option, Some}
+use Rattle.std.specs.Prelude.{◌≡◌, refl, ℕ, ◌+◌, ◌≤◌, List, [], String, Bool, true, chars, length, map, option_map, string_bytes, unwrap_or, Option, Some}
 use Rattle.std.specs.declared.alloc.Global.{Global}
+use Rattle.std.specs.Coded.{Coded, code_by, coded_list, coded×, coded_ℕ}
 use Rattle.std.specs.FinMap as finite
 use Rattle.ic_laws.specs.Lines.{texts_of}
 use Rattle.ic_lines.specs.declared.error.RunError.{RunError}
@@ -17,6 +18,11 @@ use Rattle.ic_share.specs.Shared.{Languages, SharedBook, share_machine, shared_f
 pub record UsersState : Type 0 where
   pub own : List ℕ
   pub languages : Languages
+
+-- they are stored as the pair of both
+abbrev pub users_code : Coded UsersState
+users_code =
+    code_by (List ℕ × Languages) (coded× (coded_list coded_ℕ) (finite.code (coded_list coded_ℕ) (coded_list coded_ℕ))) (λ s. (s.own, s.languages)) (λ p. record { own = p.0; languages = p.1 }) (λ _. refl)
 
 -- users and languages as texts
 abbrev pub languages_held : List (String Global × String Global) → Languages

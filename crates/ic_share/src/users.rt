@@ -37,9 +37,11 @@ impl Drop for Users {
 
 impl marker::Model for Users {
     ghost use Rattle.std.specs.Prelude.{chars, string_bytes};
-    ghost use Rattle.ic_share.specs.Share.{UsersState, languages_held};
+    ghost use Rattle.ic_share.specs.Share.{UsersState, languages_held, users_code};
 
     ghost Value = { UsersState };
+
+    ghost coded = { users_code };
 
     ghost view = { λ u. record { own = chars (string_bytes u.own); languages = languages_held u.languages.entries } };
 }
